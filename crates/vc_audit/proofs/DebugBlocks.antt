@@ -16,10 +16,6 @@ use Rattle.vc_audit.specs.DebugGuard.{HasGuards}
 eqb-plus : (m n k : ℕ) → eqb (m + k) (n + k) ≡ eqb m n
 eqb-plus m n k = grind (arith, nat_tests)
 
--- every number is the address of its place
-pub address-place_of : (a : ℕ) → address (place_of a) ≡ a
-address-place_of a = omega arith
-
 module _ {L : Type 0} where
   pub is_at-user : (p : ℕ × ℕ) (b : Block L) → is_at (user_place p) (user_block b) ≡ is_at p b
   is_at-user p b = ap (λ v. eqb b.seg p.0 && v) (eqb-plus b.off p.1 32)

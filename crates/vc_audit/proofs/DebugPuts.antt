@@ -13,13 +13,14 @@ use Rattle.vc_model.specs.Discipline.{Terms}
 use Rattle.vc_model.specs.Resize.{best_resize, can_stay}
 use Rattle.vc_model.specs.Sound.{IsSound}
 use Rattle.vc_model.specs.Touch.{HasBlock, change_block, find_block, rewritten_block}
+use Rattle.vc_model.proofs.Owned.{address-place_of}
 use Rattle.vc_seg.specs.Answer.{IsPut, IsRefusal}
 use Rattle.vc_seg.specs.declared.fault.RegionFault.{RegionFault}
 use Rattle.vc_seg.specs.declared.fault.RegionFault.TheVariants as code
 use Rattle.vc_audit.specs.Debug.{Debug, debug_resize, guarded_place, outcome_by, put_with_mark, stays_debug, user_block, user_place, user_size, with_guards, with_zeros}
 use Rattle.vc_audit.specs.DebugMark.{moved_marks}
 use Rattle.vc_audit.specs.DebugGuard.{HasGuards}
-use Rattle.vc_audit.proofs.DebugBlocks.{UserAt, address-place_of, at_user, guarded-at, below-end, found-at, live-down, without-at}
+use Rattle.vc_audit.proofs.DebugBlocks.{UserAt, at_user, guarded-at, below-end, found-at, live-down, without-at}
 use Rattle.vc_audit.proofs.DebugFills.{found-written, guards-with, guards-without, guards-written, label-user, live-written}
 
 -- a block that is found has the address of its place

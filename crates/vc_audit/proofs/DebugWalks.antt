@@ -17,6 +17,7 @@ use Rattle.vc_model.specs.Touch.{HasBlock, find_block}
 use Rattle.vc_model.specs.Walk.{block_at, holds_byte, next_block}
 use Rattle.vc_model.proofs.Pairs.{AllPairs-head, AllPairs-tail, all-recursion}
 use Rattle.vc_model.proofs.Places.{among-find, found-there, own-places}
+use Rattle.vc_base.proofs.Places.{span-least}
 use Rattle.vc_audit.specs.Debug.{user_block}
 use Rattle.vc_audit.specs.DebugGuard.{HasGuards}
 use Rattle.vc_audit.proofs.DebugBlocks.{address-user, live-down}
@@ -112,9 +113,6 @@ holds at b h =
     let range = from-true b.off at.1 b.size both.1 in
     record { seg = eqb-true b.seg at.0 both.0; from = range.0; to = range.1 }
 
-long-enough : (size : ℕ) → size + 16 ≤ span size
-long-enough size = omega arith
-
 not-both-before : (at : ℕ × ℕ) (b c : Block ℕ) → Holds at b → Holds at c → EndsBefore (footprint b) (footprint c) → ⊥
 not-both-before at b c hb hc before =
     let sb = hb.seg in
@@ -122,7 +120,7 @@ not-both-before at b c hb hc before =
     let to = hb.to in
     let from = hc.from in
     let first = hb.from in
-    let long = long-enough b.size in
+    let long = span-least b.size in
     ⊎_elim (λ u. omega (arith, u, sb, sc)) (λ u. let le = u.1 in omega (arith, le, to, from, first, long)) before
 
 find-passes : (test : Block ℕ → Bool) (bs : List (Block ℕ)) (b : Block ℕ) → find test bs ≡ Some b → test b ≡ true

@@ -13,6 +13,8 @@ use Rattle.vc_model.specs.Layout.{Block, Layout, address_of, relabel_block, with
 use Rattle.vc_model.specs.Outcome.{Outcome, Put}
 use Rattle.vc_model.specs.Touch.{HasBlock}
 use Rattle.vc_model.proofs.Relabel.{best_alloc-relabel, relabel_outcome}
+use Rattle.vc_base.proofs.Quantifiers.{all-weaken, all-both, all-map}
+use Rattle.vc_base.proofs.Texts.{own_bytes}
 use Rattle.vc_seg.specs.Answer.{IsPut, IsRefusal}
 use Rattle.vc_seg.specs.declared.fault.RegionFault.{RegionFault}
 use Rattle.vc_audit.specs.Profile.{Profile, profile_after, profile_alloc, site_blocks, site_bytes, with_site}
@@ -24,9 +26,9 @@ use Rattle.vc_audit.proofs.ProfileBare.{IsKept, bare, bare-layout, kept-layout}
 use Rattle.vc_audit.proofs.ProfileCounts.{blocks-total, bytes-few, bytes-total, one, size_at, total-with}
 use Rattle.vc_audit.proofs.ProfileFree.{profile}
 use Rattle.vc_audit.proofs.ProfileHeld.{held-put, other-site, row-any}
-use Rattle.vc_audit.proofs.ProfileLists.{all-both, all-map, all-weaken, all-with}
+use Rattle.vc_audit.proofs.ProfileLists.{all-with}
 use Rattle.vc_audit.proofs.ProfilePuts.{HasOneMore, WithSites, alloc-blocks, put-profile, refusal-with, with-sites}
-use Rattle.vc_audit.proofs.ProfileRows.{IsRowWith, own_site, peak-with, peaks-put, put-own, rows-put}
+use Rattle.vc_audit.proofs.ProfileRows.{IsRowWith, peak-with, peaks-put, put-own, rows-put}
 
 pub some-of : {A : Type 0} (o : Option A) (d : A) → IsSome o → o ≡ Some (unwrap_or o d)
 some-of None d h = absurd (cc)
@@ -52,7 +54,7 @@ pub few-bytes : {r : Layout ℕ} {t : List Sited} {es : Rows} (site : List ℕ) 
 few-bytes {r} {t} {es} site v counted is =
     let S = map (with_its_site t) r.blocks in
     let row = subst (λ x. IsRow S (site, x)) (sym is) (row-any t es site r.blocks counted.held counted.counted) in
-    let sizes : AllByRecursion (λ (b : Block (ℕ × List ℕ)). b.size ≤ 16777216) S = all-map (with_its_site t) (λ (b : Block (ℕ × List ℕ)). b.size ≤ 16777216) r.blocks (all-weaken (IsHeld t es) (λ b. b.size ≤ 16777216) r.blocks (λ b h. h.most) counted.held) in
+    let sizes : AllByRecursion (λ (b : Block (ℕ × List ℕ)). b.size ≤ 16777216) S = all-map (λ (b : Block (ℕ × List ℕ)). b.size ≤ 16777216) (with_its_site t) r.blocks (all-weaken (IsHeld t es) (λ b. b.size ≤ 16777216) r.blocks (λ b h. h.most) counted.held) in
     omega (arith, bytes-few site S sizes, row.blocks_are, row.bytes_are, row.few)
 
 -- a block is put at an address that none has, with a site that has the row and room for one more
@@ -104,7 +106,7 @@ module _ {r : Layout ℕ} {t t' : List Sited} {es : Rows} {a size : ℕ} {site :
 
   old-kept : AllByRecursion (IsKept t') S
   old-kept =
-      all-map (with_its_site t) (IsKept t') r.blocks
+      all-map (IsKept t') (with_its_site t) r.blocks
       (all-both (IsHeld t es) (λ b. address_of b ≢ a) (λ b. IsKept t' (with_its_site t b)) r.blocks (λ b h other. kept-other (address_of b) other ∙ some-of (site_at (address_of b) t) [] h.kept) new.counted.held elsewhere)
 
   all-kept : AllByRecursion (IsKept t') q.blocks
@@ -123,10 +125,10 @@ module _ {r : Layout ℕ} {t t' : List Sited} {es : Rows} {a size : ℕ} {site :
   row-is = subst (λ x. IsRow S (site, x)) (sym new.row) (row-any t es site r.blocks new.counted.held new.counted.counted)
 
   own-one : one site z ≡ 1
-  own-one = ap (λ v. cond v 1 0) (own_site site)
+  own-one = ap (λ v. cond v 1 0) (own_bytes site)
 
   own-size : size_at site z ≡ size
-  own-size = ap (λ v. cond v size 0) (own_site site)
+  own-size = ap (λ v. cond v size 0) (own_bytes site)
 
   same : (x : List ℕ) → bytes_eq site x ≡ false → (site_blocks x q.blocks ≡ site_blocks x S) × (site_bytes x q.blocks ≡ site_bytes x S)
   same x e =
@@ -151,14 +153,14 @@ module _ {r : Layout ℕ} {t t' : List Sited} {es : Rows} {a size : ℕ} {site :
 
   old-held : AllByRecursion (λ (c : Block (ℕ × List ℕ)). IsHeld t' es' (relabel_block bare c)) S
   old-held =
-      all-map (with_its_site t) (λ (c : Block (ℕ × List ℕ)). IsHeld t' es' (relabel_block bare c)) r.blocks
+      all-map (λ (c : Block (ℕ × List ℕ)). IsHeld t' es' (relabel_block bare c)) (with_its_site t) r.blocks
       (all-both (IsHeld t es) (λ b. address_of b ≢ a) (IsHeld t' es') r.blocks (λ b h other. held-put t t' es site w b h (kept-other (address_of b) other)) new.counted.held elsewhere)
 
   pub counted-put : IsCounted r' t' es'
   counted-put = record {
     held =
         subst (λ (l : Layout ℕ). AllByRecursion (IsHeld t' es') l.blocks) (sym put.layout)
-        (all-map (relabel_block bare) (IsHeld t' es') q.blocks
+        (all-map (IsHeld t' es') (relabel_block bare) q.blocks
         (subst (AllByRecursion (λ (c : Block (ℕ × List ℕ)). IsHeld t' es' (relabel_block bare c))) (sym put.holds) (all-with (λ (c : Block (ℕ × List ℕ)). IsHeld t' es' (relabel_block bare c)) z S z-held old-held)));
     counted = subst (λ (l : Layout (ℕ × List ℕ)). AllByRecursion (IsRow l.blocks) es') (sym layout-is) (rows-put S q.blocks site w w-is same es new.distinct new.counted.counted);
   }

@@ -10,6 +10,8 @@ use Rattle.vc_model.specs.Best.{without_block_at}
 use Rattle.vc_model.specs.Layout.{Block, Layout, address_of, without_block}
 use Rattle.vc_model.specs.Sound.{HaveOwnPlaces}
 use Rattle.vc_model.specs.Touch.{find_block}
+use Rattle.vc_base.proofs.Quantifiers.{all-weaken, all-both}
+use Rattle.vc_base.proofs.Texts.{own_bytes}
 use Rattle.vc_audit.specs.Profile.{Profile, rows_with_peaks, profile_free, site_blocks, site_bytes}
 use Rattle.vc_audit.specs.ProfileSites.{site_at}
 use Rattle.vc_audit.specs.ProfileSums.{IsCounted, IsHeld, IsRow, Rows, peaks_of, row_for, site_of, with_sites, with_its_site}
@@ -18,8 +20,8 @@ use Rattle.vc_audit.specs.declared.profile.sites.Sited.{Sited}
 use Rattle.vc_audit.proofs.ProfileBare.{layout, sited-alike, sited-find, sited-without}
 use Rattle.vc_audit.proofs.ProfileCounts.{blocks-total, bytes-total, one, size_at, total-without}
 use Rattle.vc_audit.proofs.ProfileHeld.{TheBlock, held-put, other-site, row-any, told-block, told-is}
-use Rattle.vc_audit.proofs.ProfileLists.{all-both, all-found, all-weaken, all-without, others-apart}
-use Rattle.vc_audit.proofs.ProfileRows.{IsRowWith, own_site, peak-with, peaks-put, rows-put, site-there}
+use Rattle.vc_audit.proofs.ProfileLists.{all-found, all-without, others-apart}
+use Rattle.vc_audit.proofs.ProfileRows.{IsRowWith, peak-with, peaks-put, rows-put, site-there}
 
 -- a profile by its parts
 abbrev pub profile : List Sited → Layout ℕ → Rows → Profile ℕ
@@ -76,10 +78,10 @@ module _ {r : Layout ℕ} {t : List Sited} {es : Rows} {a size : ℕ} {site : Li
   row-is = subst (λ x. IsRow S (site, x)) (sym at.row) (row-any t es site r.blocks at.counted.held at.counted.counted)
 
   pub own-one : one site own ≡ 1
-  own-one = ap (λ x. cond x 1 0) (ap (bytes_eq site) own-is ∙ own_site site)
+  own-one = ap (λ x. cond x 1 0) (ap (bytes_eq site) own-is ∙ own_bytes site)
 
   pub own-size : size_at site own ≡ size
-  own-size = ap (λ x. cond x b.size 0) (ap (bytes_eq site) own-is ∙ own_site site) ∙ at.sized
+  own-size = ap (λ x. cond x b.size 0) (ap (bytes_eq site) own-is ∙ own_bytes site) ∙ at.sized
 
   pub other-one : (x : List ℕ) → bytes_eq site x ≡ false → one x own ≡ 0
   other-one x e = ap (λ y. cond y 1 0) (ap (bytes_eq x) own-is ∙ other-site site x e)

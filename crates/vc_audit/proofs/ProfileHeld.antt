@@ -10,17 +10,15 @@ use Rattle.indexmap.specs.IndexMap.{insert_entry}
 use Rattle.vc_model.specs.Addr.{address, place_of}
 use Rattle.vc_model.specs.Layout.{Block, address_of, is_at}
 use Rattle.vc_model.specs.Touch.{find_block}
+use Rattle.vc_model.proofs.Owned.{address-place_of}
+use Rattle.vc_base.proofs.Texts.{same_bytes, own_bytes}
 use Rattle.vc_audit.specs.Profile.{has_site}
 use Rattle.vc_audit.specs.ProfileSites.{site_at}
 use Rattle.vc_audit.specs.ProfileSums.{IsHeld, IsRow, Rows, new_row, row_for, site_of, with_its_site}
 use Rattle.vc_audit.specs.declared.profile.rows.Row.{Row}
 use Rattle.vc_audit.specs.declared.profile.sites.Sited.{Sited}
 use Rattle.vc_audit.proofs.ProfileCounts.{blocks-total, bytes-total, one, size_at, total}
-use Rattle.vc_audit.proofs.ProfileRows.{own_site, put-keeps, same_site}
-
--- an address tells its place, which tells the address
-pub address-place : (a : ℕ) → address (place_of a) ≡ a
-address-place a = omega arith
+use Rattle.vc_audit.proofs.ProfileRows.{put-keeps}
 
 -- the block at an address
 pub record TheBlock {L : Type 0} (bs : List (Block L)) (a : ℕ) : Type 0 where
@@ -39,7 +37,7 @@ found-passes p (c ∷ cs) b e =
 pub at-address : {L : Type 0} (a : ℕ) (b : Block L) → is_at (place_of a) b ≡ true → address_of b ≡ a
 at-address a b e =
     let both = and_parts (eqb b.seg (place_of a).0) (eqb b.off (place_of a).1) e in
-    ap (λ s. address (s, b.off)) (eqb-true b.seg (place_of a).0 both.0) ∙ (ap (λ o. address ((place_of a).0, o)) (eqb-true b.off (place_of a).1 both.1) ∙ address-place a)
+    ap (λ s. address (s, b.off)) (eqb-true b.seg (place_of a).0 both.0) ∙ (ap (λ o. address ((place_of a).0, o)) (eqb-true b.off (place_of a).1 both.1) ∙ address-place_of a)
 
 pub found-block : {L : Type 0} (bs : List (Block L)) (a : ℕ) (b : Block L) → find_block (place_of a) bs ≡ Some b → TheBlock bs a
 found-block bs a b e = record { block = b; found = e; address = at-address a b (found-passes (place_of a) bs b e) }
@@ -68,7 +66,7 @@ held-put t t' es site w b h same =
 pub other-site : (site x : List ℕ) → bytes_eq site x ≡ false → bytes_eq x site ≡ false
 other-site site x e =
     ⊎_elim
-    (λ t. absurd (cc (e, sym (own_site x) ∙ ap (λ y. bytes_eq y x) (same_site x site t))))
+    (λ t. absurd (cc (e, sym (own_bytes x) ∙ ap (λ y. bytes_eq y x) (same_bytes x site t))))
     (λ t. t)
     (cases_Bool (bytes_eq x site))
 
@@ -77,7 +75,7 @@ module _ (t : List Sited) (es : Rows) (site : List ℕ) (none : lookup (bytes_eq
   unlike : (b : Block ℕ) → IsHeld t es b → has_site site (with_its_site t b) ≡ false
   unlike b h =
       ⊎_elim
-      (λ e. absurd (cc (none, h.row, ap (λ x. lookup (bytes_eq x) es) (same_site site (site_of t b) e))))
+      (λ e. absurd (cc (none, h.row, ap (λ x. lookup (bytes_eq x) es) (same_bytes site (site_of t b) e))))
       (λ e. e)
       (cases_Bool (bytes_eq site (site_of t b)))
 
@@ -95,7 +93,7 @@ row-found bs site w (k ∷ es) all e =
     ⊎_elim
     (λ t.
     let is : k.1 ≡ w = same_Some k.1 w (sym (ap (λ v. cond v (Some k.1) (lookup (bytes_eq site) es)) t) ∙ e) in
-    subst (λ x. IsRow bs (x, w)) (sym (same_site site k.0 t)) (subst (λ v. IsRow bs (k.0, v)) is all.0))
+    subst (λ x. IsRow bs (x, w)) (sym (same_bytes site k.0 t)) (subst (λ v. IsRow bs (k.0, v)) is all.0))
     (λ t. row-found bs site w es all.1 (sym (ap (λ v. cond v (Some k.1) (lookup (bytes_eq site) es)) t) ∙ e))
     (cases_Bool (bytes_eq site k.0))
 

@@ -7,22 +7,7 @@ use Rattle.vc_model.specs.Layout.{Block, address_of, is_at, lies_before, with_bl
 use Rattle.vc_model.specs.Sound.{HaveOwnPlaces}
 use Rattle.vc_model.specs.Touch.{change_block, find_block}
 use Rattle.vc_model.proofs.Pairs.{AllPairs-head, AllPairs-tail, all-recursion}
-
-pub all-weaken : {A : Type 0} (P Q : A → Type 0) (xs : List A) → ((x : A) → P x → Q x) → AllByRecursion P xs → AllByRecursion Q xs
-all-weaken P Q [] f all = tt
-all-weaken P Q (x ∷ xs) f all = (f x all.0, all-weaken P Q xs f all.1)
-
-pub all-both : {A : Type 0} (P Q R : A → Type 0) (xs : List A) → ((x : A) → P x → Q x → R x) → AllByRecursion P xs → AllByRecursion Q xs → AllByRecursion R xs
-all-both P Q R [] f all other = tt
-all-both P Q R (x ∷ xs) f all other = (f x all.0 other.0, all-both P Q R xs f all.1 other.1)
-
-pub all-map : {A B : Type 0} (f : A → B) (P : B → Type 0) (xs : List A) → AllByRecursion (λ x. P (f x)) xs → AllByRecursion P (map f xs)
-all-map f P [] all = tt
-all-map f P (x ∷ xs) all = (all.0, all-map f P xs all.1)
-
-pub all-unmap : {A B : Type 0} (f : A → B) (P : B → Type 0) (xs : List A) → AllByRecursion P (map f xs) → AllByRecursion (λ x. P (f x)) xs
-all-unmap f P [] all = tt
-all-unmap f P (x ∷ xs) all = (all.0, all-unmap f P xs all.1)
+use Rattle.vc_base.proofs.Quantifiers.{all-weaken}
 
 module _ {L : Type 0} where
   -- what holds of blocks holds where one more is among them, or one is changed

@@ -15,6 +15,8 @@ use Rattle.vc_model.specs.Resize.{best_resize}
 use Rattle.vc_model.specs.Sound.{HaveOwnPlaces}
 use Rattle.vc_model.specs.Touch.{HasBlock, find_block}
 use Rattle.vc_model.proofs.Relabel.{best_resize-relabel, relabel_outcome}
+use Rattle.vc_base.proofs.Quantifiers.{all-weaken, all-both, all-map, all-unmap}
+use Rattle.vc_base.proofs.Texts.{own_bytes}
 use Rattle.vc_seg.specs.Answer.{IsPut, IsRefusal}
 use Rattle.vc_seg.specs.declared.fault.RegionFault.{RegionFault}
 use Rattle.vc_audit.specs.Profile.{Profile, rows_with_peaks, profile_after, profile_resize, site_blocks, site_bytes}
@@ -28,9 +30,9 @@ use Rattle.vc_audit.proofs.ProfileCounts.{blocks-total, bytes-total, one, size_a
 use Rattle.vc_audit.proofs.ProfileFree as free
 use Rattle.vc_audit.proofs.ProfileFree.{IsAtSite, profile}
 use Rattle.vc_audit.proofs.ProfileHeld.{TheBlock, held-put, other-site}
-use Rattle.vc_audit.proofs.ProfileLists.{all-both, all-found, all-join, all-map, all-unmap, all-weaken, all-without, others-apart, first_at, later_at}
+use Rattle.vc_audit.proofs.ProfileLists.{all-found, all-join, all-without, others-apart, first_at, later_at}
 use Rattle.vc_audit.proofs.ProfilePuts.{Keeps, WithSites, put-profile, refusal-with, resize-all, with-sites}
-use Rattle.vc_audit.proofs.ProfileRows.{IsRowWith, own_site, peak-with, peaks-put, put-own, rows-put, site-there}
+use Rattle.vc_audit.proofs.ProfileRows.{IsRowWith, peak-with, peaks-put, put-own, rows-put, site-there}
 
 -- the block that is found stands there
 has-found : (p : ℕ × ℕ) (a : ℕ) (b : Block ℕ) (bs : List (Block ℕ)) → find_block p bs ≡ Some b → address_of b ≡ a → HasBlock bs a
@@ -97,7 +99,7 @@ module _ {r : Layout ℕ} {t : List Sited} {es : Rows} {a was : ℕ} {site : Lis
 
   old-kept : AllByRecursion P S
   old-kept =
-      all-map (with_its_site t) P r.blocks
+      all-map P (with_its_site t) r.blocks
       (all-join p at.the.block (λ c. P (with_its_site t c)) r.blocks at.the.found
       ((λ e. ap (λ n. site_at n t') (at.the.address ∙ e at.the.address) ∙ (moved.kept ∙ ap (λ x. Some x) (sym (free.own-is at)))), (free.own-held at).most)
       (all-both (IsHeld t es) (λ c. site_at (address_of c) t' ≡ site_at (address_of c) t) (λ c. P (with_its_site t c)) (without_block p r.blocks) (λ c h same. ((λ e. same ∙ site-kept c h), h.most))
@@ -129,7 +131,7 @@ module _ {r : Layout ℕ} {t : List Sited} {es : Rows} {a was : ℕ} {site : Lis
       (subst (AllByRecursion (λ (c : Block ℕ). address_of c ≡ a → a ≡ to)) (sym moved.others) (all-weaken (λ c. address_of c ≢ a) (λ c. address_of c ≡ a → a ≡ to) (without_block p r.blocks) (λ c away e. absurd (away e)) away_a))
 
   gone-q : AllByRecursion (λ (c : Block (ℕ × List ℕ)). address_of c ≡ a → a ≡ to) q.blocks
-  gone-q = all-unmap (relabel_block bare) (λ c. address_of c ≡ a → a ≡ to) q.blocks (subst (λ (l : Layout ℕ). AllByRecursion (λ c. address_of c ≡ a → a ≡ to) l.blocks) put.layout gone)
+  gone-q = all-unmap (λ c. address_of c ≡ a → a ≡ to) (relabel_block bare) q.blocks (subst (λ (l : Layout ℕ). AllByRecursion (λ c. address_of c ≡ a → a ≡ to) l.blocks) put.layout gone)
 
   layout-is : with_sites t' r' ≡ q
   layout-is =
@@ -139,7 +141,7 @@ module _ {r : Layout ℕ} {t : List Sited} {es : Rows} {a was : ℕ} {site : Lis
   sizes : AllByRecursion (λ c. c.size ≤ 16777216) r'.blocks
   sizes =
       subst (λ (l : Layout ℕ). AllByRecursion (λ c. c.size ≤ 16777216) l.blocks) (sym put.layout)
-      (all-map (relabel_block bare) (λ c. c.size ≤ 16777216) q.blocks (all-weaken P (λ c. c.size ≤ 16777216) q.blocks (λ c h. h.1) new-kept))
+      (all-map (λ c. c.size ≤ 16777216) (relabel_block bare) q.blocks (all-weaken P (λ c. c.size ≤ 16777216) q.blocks (λ c h. h.1) new-kept))
 
   pub size-most : b.size ≤ 16777216
   size-most = all-found (place_of to) b (λ c. c.size ≤ 16777216) r'.blocks moved.the.found sizes
@@ -181,10 +183,10 @@ module _ {r : Layout ℕ} {t : List Sited} {es : Rows} {a was : ℕ} {site : Lis
       ∙ ap (λ n. size_at x own + n) (sym (bytes-total x (without_block (place_of to) S')) ∙ ap (site_bytes x) rest-is))
 
   own-one : one site own ≡ 1
-  own-one = ap (λ v. cond v 1 0) (ap (bytes_eq site) own-is ∙ own_site site)
+  own-one = ap (λ v. cond v 1 0) (ap (bytes_eq site) own-is ∙ own_bytes site)
 
   own-size : size_at site own ≡ now
-  own-size = ap (λ v. cond v b.size 0) (ap (bytes_eq site) own-is ∙ own_site site) ∙ moved.sized
+  own-size = ap (λ v. cond v b.size 0) (ap (bytes_eq site) own-is ∙ own_bytes site) ∙ moved.sized
 
   same : (x : List ℕ) → bytes_eq site x ≡ false → (site_blocks x S' ≡ site_blocks x S) × (site_bytes x S' ≡ site_bytes x S)
   same x e =

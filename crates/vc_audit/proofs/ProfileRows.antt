@@ -9,15 +9,10 @@ use Rattle.std.proofs.lemmas.Map.Keys.{IsDistinct-head, IsDistinct-tail}
 use Rattle.std.proofs.lemmas.Slice.Eq.{bytes_eq-Decides}
 use Rattle.indexmap.specs.IndexMap.{insert_entry}
 use Rattle.vc_model.specs.Layout.{Block}
+use Rattle.vc_base.proofs.Texts.{same_bytes, own_bytes}
 use Rattle.vc_audit.specs.Profile.{rows_with_peaks, site_blocks, site_bytes, with_site}
 use Rattle.vc_audit.specs.ProfileSums.{IsRow, Rows, new_row, peaks_of, row_for}
 use Rattle.vc_audit.specs.declared.profile.rows.Row.{Row}
-
-pub same_site : (x y : List ℕ) → bytes_eq x y ≡ true → x ≡ y
-same_site x y e = (bytes_eq-Decides x y).0 e
-
-pub own_site : (x : List ℕ) → bytes_eq x x ≡ true
-own_site x = (bytes_eq-Decides x x).1 refl
 
 -- a peak that is no less than the bytes stays
 kept-peak : (bytes now peak : ℕ) → bytes ≡ now → bytes ≤ peak → max peak now ≡ peak
@@ -50,7 +45,7 @@ site-there site (e ∷ es) there =
 
 -- the row that is put is there, and every other one
 pub put-own : (site : List ℕ) (w : Row) (es : Rows) → IsSome (lookup (bytes_eq site) (insert_entry bytes_eq es site w))
-put-own site w [] = ap (λ v. is_some (cond v (Some w) None)) (own_site site)
+put-own site w [] = ap (λ v. is_some (cond v (Some w) None)) (own_bytes site)
 put-own site w (e ∷ es) =
     ⊎_elim
     (λ t. rw t (ap (λ v. is_some (cond v (Some w) (lookup (bytes_eq site) es))) t))
@@ -87,13 +82,13 @@ module _ (bs bs' : List (Block (ℕ × List ℕ))) (site : List ℕ) (w : Row) (
   -- those behind the row of the site
   behind : (e : List ℕ × Row) (es : Rows) → IsDistinct bytes_eq (keys_of (e ∷ es)) → bytes_eq site e.0 ≡ true → AllByRecursion (IsRow bs) es → AllByRecursion (IsRow bs') es
   behind e es distinct t all =
-      rest-same es all (subst (λ x. AllByRecursion (λ k. bytes_eq x k ≡ false) (keys_of es)) (sym (same_site site e.0 t)) (IsDistinct-head bytes_eq e.0 (keys_of es) distinct))
+      rest-same es all (subst (λ x. AllByRecursion (λ k. bytes_eq x k ≡ false) (keys_of es)) (sym (same_bytes site e.0 t)) (IsDistinct-head bytes_eq e.0 (keys_of es) distinct))
 
   pub rows-put : (es : Rows) → IsDistinct bytes_eq (keys_of es) → AllByRecursion (IsRow bs) es → AllByRecursion (IsRow bs') (insert_entry bytes_eq es site w)
   rows-put [] distinct all = (own, tt)
   rows-put (e ∷ es) distinct all =
       ⊎_elim
-      (λ t. rw t (subst (λ x. IsRow bs' (x, w)) (same_site site e.0 t) own, behind e es distinct t all.1))
+      (λ t. rw t (subst (λ x. IsRow bs' (x, w)) (same_bytes site e.0 t) own, behind e es distinct t all.1))
       (λ t. rw t (row-same bs bs' e (same e.0 t) all.0, rows-put es (IsDistinct-tail bytes_eq e.0 (keys_of es) distinct) all.1))
       (cases_Bool (bytes_eq site e.0))
 
@@ -107,7 +102,7 @@ module _ (bs bs' : List (Block (ℕ × List ℕ))) (site : List ℕ) (w : Row) (
       (λ t.
       let peak : w.peak ≡ max e.1.peak (site_bytes e.0 bs') =
       is ∙ (ap (λ v. max (unwrap_or (cond v (Some e.1) (lookup (bytes_eq site) es)) new_row).peak w.bytes) t
-      ∙ ap (λ n. max e.1.peak n) (now ∙ ap (λ x. site_bytes x bs') (same_site site e.0 t))) in
+      ∙ ap (λ n. max e.1.peak n) (now ∙ ap (λ x. site_bytes x bs') (same_bytes site e.0 t))) in
       rw t (ap (λ n. (e.0, n) ∷ peaks_of es) peak ∙ ap (λ ps. (e.0, max e.1.peak (site_bytes e.0 bs')) ∷ ps) (sym (peaks-stay bs' es (behind e es distinct t all.1)))))
       (λ t.
       let row = row-same bs bs' e (same e.0 t) all.0 in

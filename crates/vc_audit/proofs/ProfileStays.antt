@@ -5,6 +5,7 @@ use Rattle.vc_model.specs.Compact.{compacted_layout}
 use Rattle.vc_model.specs.Layout.{Block, Layout, address_of}
 use Rattle.vc_model.specs.Touch.{change_block, rewritten_block, with_bytes_at}
 use Rattle.vc_model.proofs.Relabel.{change_block-relabel, compacted-relabel}
+use Rattle.vc_base.proofs.Quantifiers.{all-weaken, all-map}
 use Rattle.vc_audit.specs.Profile.{Profile, profile_compact, profile_write, site_blocks, site_bytes}
 use Rattle.vc_audit.specs.ProfileSites.{site_at}
 use Rattle.vc_audit.specs.ProfileSums.{IsCounted, IsHeld, IsRow, Rows, peaks_of, with_sites, with_its_site}
@@ -13,7 +14,7 @@ use Rattle.vc_audit.proofs.ProfileAlloc.{some-of}
 use Rattle.vc_audit.proofs.ProfileBare.{IsKept, bare, bare-layout, kept-layout, layout}
 use Rattle.vc_audit.proofs.ProfileCounts.{blocks-total, bytes-total, one, size_at, total-change}
 use Rattle.vc_audit.proofs.ProfileFree.{profile}
-use Rattle.vc_audit.proofs.ProfileLists.{all-change, all-map, all-weaken}
+use Rattle.vc_audit.proofs.ProfileLists.{all-change}
 use Rattle.vc_audit.proofs.ProfileRows.{peaks-stay, rows-same}
 
 module _ (r : Layout ℕ) (t : List Sited) (es : Rows) (counted : IsCounted r t es) where
@@ -21,7 +22,7 @@ module _ (r : Layout ℕ) (t : List Sited) (es : Rows) (counted : IsCounted r t 
   S = map (with_its_site t) r.blocks
 
   kept : AllByRecursion (IsKept t) S
-  kept = all-map (with_its_site t) (IsKept t) r.blocks (all-weaken (IsHeld t es) (λ b. IsKept t (with_its_site t b)) r.blocks (λ b h. some-of (site_at (address_of b) t) [] h.kept) counted.held)
+  kept = all-map (IsKept t) (with_its_site t) r.blocks (all-weaken (IsHeld t es) (λ b. IsKept t (with_its_site t b)) r.blocks (λ b h. some-of (site_at (address_of b) t) [] h.kept) counted.held)
 
   abbrev with : Layout (ℕ × List ℕ) → List (List ℕ × ℕ) → Profile ℕ
   with l ps = record { layout = l; peaks = ps }

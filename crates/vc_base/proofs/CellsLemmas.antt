@@ -1,27 +1,20 @@
 -- What words, and the blocks of cells, keep of one another.
-use Rattle.std.proofs.Common.{◌≡◌, ◌≢◌, ℕ, ◌+◌, ◌*◌, ◌<◌, ◌≤◌, ◌^◌, List, [], ◌++◌, length, take, drop, refl, sym, ap, ◌∙◌, arith, Some, IsSome, is_some, w64, length-append, length-drop, append_assoc, unwrap_or, cond, inl, inr, subst}
+use Rattle.std.proofs.Common.{◌≡◌, ◌≢◌, ℕ, ◌+◌, ◌*◌, ◌<◌, ◌≤◌, ◌^◌, List, [], ◌++◌, length, take, drop, refl, sym, ap, ◌∙◌, arith, Some, IsSome, is_some, w64, length-append, append_assoc, unwrap_or, cond, inl, inr, subst}
 use Rattle.std.proofs.lemmas.Bool.Decides.{eqb_tells}
 use Rattle.std.specs.Int.{to_le_bytes, from_le_bytes}
-use Rattle.std.proofs.lemmas.List.{length-take, length-take-le, take-append-le, drop-take}
+use Rattle.std.proofs.lemmas.List.{length-take, length-take-le, take-append-le, drop-take, take-take}
 use Rattle.std.proofs.lemmas.Slice.{drop-append-drop}
 use Rattle.std.proofs.lemmas.Bool.{eq-eqb, ne_eqb, cases_lt}
 use Rattle.std.proofs.Math.Seq.{drop-append_seam, take-append_seam}
 use Rattle.std.proofs.lemmas.Nat.{from_le_bytes-to_le_bytes_8}
-use Rattle.std.proofs.lemmas.Grind.{common_steps}
 use Rattle.vc_model.specs.Bytes.{with_bytes}
+use Rattle.vc_base.proofs.Overwrites.{length-with_bytes}
 use Rattle.vc_base.specs.Cells.{Blocks, HasBytes, body_of, bytes_at, put, with_word, word, with_number, WordsWritten, WordWritten}
-
-take_less : (m n : ℕ) (xs : List ℕ) → m ≤ n → take m (take n xs) ≡ take m xs
-take_less m n xs h = grind (arith, common_steps)
 
 drop_front : (n : ℕ) (xs ys : List ℕ) → length xs ≡ n → drop n (xs ++ ys) ≡ ys
 drop_front n xs ys e = rw (← e) (drop-append_seam xs ys)
 
--- bytes written over others keep the length
-pub length-with_bytes : (off : ℕ) (src bytes : List ℕ) → off + length src ≤ length bytes → length (with_bytes off src bytes) ≡ length bytes
-length-with_bytes off src bytes h = simp (length-append, length-take, length-drop) (omega arith)
-
--- they are read back
+-- bytes written over others are read back
 pub window_same : (off : ℕ) (src bytes : List ℕ) → off ≤ length bytes → take (length src) (drop off (with_bytes off src bytes)) ≡ src
 window_same off src bytes h =
     let behind = drop (off + length src) bytes in
@@ -36,7 +29,7 @@ window_before off n at src bytes h in' =
     let long : at + n ≤ length (take off bytes) = rw (length-take-le off bytes in') h in
     let e : take (at + n) (with_bytes off src bytes) ≡ take (at + n) bytes =
     ap (take (at + n)) (append_assoc (take off bytes) src behind)
-    ∙ take-append-le (at + n) (take off bytes) (src ++ behind) long ∙ take_less (at + n) off bytes h in
+    ∙ take-append-le (at + n) (take off bytes) (src ++ behind) long ∙ take-take (at + n) off bytes h in
     sym (drop-take at n (with_bytes off src bytes)) ∙ ap (drop at) e ∙ drop-take at n bytes
 
 -- and what stands behind them
@@ -86,7 +79,7 @@ at_other : (a at : ℕ) (bytes : List ℕ) (blocks : Blocks) → a ≢ at → by
 at_other a at bytes blocks ne = ap (λ o. unwrap_or o []) (put_other a at bytes blocks ne)
 
 -- what holds at the block that was put and at every other holds at each
-each : (P : ℕ → Type 0) (at : ℕ) → P at → ((a : ℕ) → a ≢ at → P a) → (a : ℕ) → P a
+pub each : (P : ℕ → Type 0) (at : ℕ) → P at → ((a : ℕ) → a ≢ at → P a) → (a : ℕ) → P a
 each P at here there a = elim (eqb_tells a at) as (λ _. P a) [
   | inl same ↦ subst P (sym same.1) here
   | inr apart ↦ there a apart.1

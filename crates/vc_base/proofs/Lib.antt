@@ -1,3 +1,13 @@
+pub mod Booleans
 pub mod CellsLemmas
+pub mod Lists
+pub mod Members
+pub mod Methods
 pub mod NameLemmas
+pub mod Options
+pub mod Orders
+pub mod Overwrites
+pub mod Places
+pub mod Quantifiers
 pub mod StepsWalks
+pub mod Texts

@@ -7,14 +7,13 @@ use Rattle.std.proofs.lemmas.List.Kept.{AllPairs-cons}
 use Rattle.vc_model.specs.Layout.{Block, footprint, lies_before, with_block}
 use Rattle.vc_model.specs.Segments.{span}
 use Rattle.vc_model.specs.Sound.{EndsBefore, IsApart}
+use Rattle.vc_model.proofs.Pairs.{AllPairs-head, AllPairs-tail}
+use Rattle.vc_base.proofs.Places.{span-least}
 use Rattle.vc_seg.proofs.Rounding.{round_up-least}
 use Rattle.vc_layouts.specs.InOrder.{in_order}
 use Rattle.vc_layouts.proofs.Blocks.{All-with}
 use Rattle.vc_layouts.proofs.InOrder.{All-in_order}
-use Rattle.vc_layouts.proofs.Lists.{AllPairs-head, AllPairs-nil, AllPairs-tail}
-
-pub span-least : (size : ℕ) → size + 16 ≤ span size
-span-least size = round_up-least (size + 16) 32 (omega arith)
+use Rattle.vc_layouts.proofs.Lists.{AllPairs-nil}
 
 -- one block stands before another and doesn't overlap it
 abbrev pub Before : Block ℕ → Block ℕ → Type 0

@@ -9,13 +9,13 @@ use Rattle.vc_model.specs.Layout.{Layout, with_grant}
 use Rattle.vc_model.specs.Outcome.{Outcome, Put}
 use Rattle.vc_model.specs.Segments.{Grant, Granted, ask}
 use Rattle.vc_base.specs.declared.addr.Addr.{Addr}
+use Rattle.vc_model.proofs.Owned.{address-place_of}
 use Rattle.vc_seg.specs.declared.fault.RegionFault.{RegionFault}
 use Rattle.vc_seg.specs.declared.fault.RegionFault.TheVariants as code
 use Rattle.vc_seg.specs.Answer.{Answers, Asks, IsPut}
 use Rattle.vc_seg.specs.Lend.{IsNoGrant}
 use Rattle.vc_layouts.proofs.Segments.{Served-lent}
 use Rattle.vc_best.specs.Standing.{IsPutByAsking, IsPutInGap}
-use Rattle.vc_best.proofs.Outs.{own-address}
 
 -- nothing was asked for
 pub Served-unasked : (d : Discipline) (segments segments' : List (ℕ × ℕ)) (size : ℕ) → segments' ≡ segments → Served d d segments segments' size
@@ -44,7 +44,7 @@ IsPutByAsking-same old mid new terms label size align result same h = subst (λ 
 -- a block was put in a gap
 module _ (old new : Layout ℕ) (label size align : ℕ) (a : Addr) (p : IsPutInGap old new label size align a.0) where
   kept : IsPut (put_at old label size None (place_of a.0)) a.0 new
-  kept = (sym (own-address a.0), refl, p.layout)
+  kept = (sym (address-place_of a.0), refl, p.layout)
 
   pub Answers-in_gap : (terms : Terms) → Answers (best_alloc terms old label size align) (Ok a) old new
   Answers-in_gap terms = subst (λ (o : Option (ℕ × ℕ)). IsPut (put_or_ask terms old label size align false o) a.0 new) (sym p.place) kept
@@ -62,7 +62,7 @@ module _ (old new : Layout ℕ) (terms : Terms) (label size align : ℕ) (none :
   Answers-granted g granted a p =
       subst (λ (o : Outcome (Put (Layout ℕ))). IsPut o a.0 new)
       (sym (asked false ∙ ap (put_in_new old label size align) granted ∙ ap (put (with_grant old g) label size (Some g)) p.place))
-      (sym (own-address a.0), refl, p.layout)
+      (sym (address-place_of a.0), refl, p.layout)
 
   pub Answers-fault : (e : RegionFault) → IsNoGrant terms (best_need terms size align) old.segments e → new ≡ old → Answers (best_alloc terms old label size align) (Err e) old new
   Answers-fault code.TooManySegments why same = (asked false ∙ ap (put_in_new old label size align) why, same)

@@ -5,11 +5,11 @@ use Rattle.std.proofs.lemmas.Bool.{and_from, and_parts, cases_Bool, eq-eqb, le-l
 use Rattle.vc_model.specs.Addr.{address, place_of}
 use Rattle.vc_model.specs.Layout.{Block, address_of, place_of_block}
 use Rattle.vc_model.specs.Walk.{block_at, holds_byte}
+use Rattle.vc_model.proofs.Owned.{address-place_of}
 use Rattle.vc_seg.specs.Segment.{Bytes, pair_of}
 use Rattle.vc_extent.specs.Tiling.{extents_of, size_of, tiling}
 use Rattle.vc_extent.specs.Extent.{Extent}
 use Rattle.vc_best.specs.Blocks.{block_of, busy_in, is_busy}
-use Rattle.vc_best.proofs.Resizes.{address-place_of}
 
 pub find-here : (n off : ℕ) (e : Extent) (ys : List Extent) → e.off ≤ off → off < e.off + e.size → find (holds_byte (n, off)) (busy_in (n, e ∷ ys)) ≡ Some (block_of n e)
 find-here n off e ys low high =

@@ -86,12 +86,6 @@ module _ (segs new : List Bytes) (n : ℕ) (s : Bytes) (h : AreSegments segs) (a
   pub out-gone : (rest : List (ℕ × ℕ)) → without_last (pair_of s) (rest ++ map pair_of segs) ≡ rest ++ map pair_of new
   out-gone rest = without_last-own pair_of segs among.0 s among.1 at h.distinct rest ∙ ap (λ (ss : List Bytes). rest ++ map pair_of ss) gone
 
--- a test that shows no value
-pub none-of : {A : Type 0} (o : Option A) (r : Bool) → is_some o ≡ not r → r ≡ true → o ≡ None
-none-of None r e t = refl
-none-of (Some x) true e t = absurd (cc)
-none-of (Some x) false e t = absurd (cc)
-
 pub some-of : {A : Type 0} (o : Option A) (r : Bool) → is_some o ≡ not r → r ≡ false → IsSome o
 some-of None true e t = absurd (cc)
 some-of None false e t = absurd (cc)

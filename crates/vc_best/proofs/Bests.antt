@@ -1,6 +1,7 @@
 -- The gap that the tree answers, as the least free run that holds a block.
 use Rattle.std.proofs.Common.{◌≡◌, ℕ, ◌+◌, List, Option, Some, None, filter, option_map, refl, ap, sym, subst, ◌∙◌, arith}
 use Rattle.vc_base.specs.declared.addr.Addr.{Addr}
+use Rattle.vc_model.proofs.Owned.{address-place_of}
 use Rattle.vc_model.specs.Addr.{address, place_of}
 use Rattle.vc_model.specs.Gap.{Run}
 use Rattle.vc_model.specs.Place.{holds, least}
@@ -13,7 +14,6 @@ use Rattle.vc_gaps.specs.GapLaws.{span-stays}
 use Rattle.vc_gaps.proofs.Named.{extent_in-off}
 use Rattle.vc_best.specs.Free.{free_runs}
 use Rattle.vc_best.proofs.FreeRuns.{IsGap, gap-is}
-use Rattle.vc_best.proofs.Outs.{own-address}
 use Rattle.vc_best.proofs.Plain.{runs-by, runs-stay}
 
 -- the least of them in both words
@@ -57,7 +57,7 @@ module _ (segs : List Bytes) (index : List ℕ) (k : ∥ AreExtents segs index �
       omega (arith, o, low)
 
   pub best-address : a ≡ address ((run_at (tiling segs) a).seg, (run_at (tiling segs) a).from + 16)
-  best-address = sym (own-address a) ∙ ap (λ (n : ℕ). address ((place_of a).0, n)) (sym best-from)
+  best-address = sym (address-place_of a) ∙ ap (λ (n : ℕ). address ((place_of a).0, n)) (sym best-from)
 
   pub best-free : IsFree (tiling segs) a
   best-free = subst (IsFree (tiling segs)) (sym best-address) gap.free

@@ -2,7 +2,7 @@
 use Rattle.std.proofs.Common.{◌≡◌, ℕ, zero, suc, ◌+◌, ◌-◌, ◌<◌, ◌≤◌, List, [], ◌∷◌, true, false, not, eqb, ltb, Option, Some, length, take, refl, ap, sym, ◌∙◌, ⊎_elim, arith}
 use Rattle.std.specs.Prelude.{◌&&◌}
 use Rattle.std.proofs.lemmas.Bool.{cases_Bool, and_from, eq-eqb, eqb-false, ltb-false, ne_eqb, lt-ltb, le-ltb}
-use Rattle.std.proofs.lemmas.List.{length-take-le}
+use Rattle.std.proofs.lemmas.List.{length-take-le, take-take}
 use Rattle.vc_model.specs.Addr.{address, place_of}
 use Rattle.vc_model.specs.Segments.{span}
 use Rattle.vc_layouts.proofs.Blocks.{place_of-address}
@@ -29,12 +29,6 @@ free-free o y e free = rw e (let no : is_busy y ≡ false = le-ltb 0 y.size (ome
 -- a smaller span is that of a smaller size
 less-size : (size own : ℕ) → span size < span own → size < own
 less-size size own h = omega arith
-
-take-less : (k n : ℕ) (xs : List ℕ) → k ≤ n → take k (take n xs) ≡ take k xs
-take-less zero n xs le = refl
-take-less (suc k) zero xs le = absurd (omega arith)
-take-less (suc k) (suc n) [] le = refl
-take-less (suc k) (suc n) (x ∷ xs) le = ap (λ zs. x ∷ zs) (take-less k n xs (omega arith))
 
 module _ (t : List (ℕ × List Extent)) (a size : ℕ) (c : IsCut t a) where
   -- the same span
@@ -143,7 +137,7 @@ module _ (t : List (ℕ × List Extent)) (a size : ℕ) (c : IsCut t a) where
       shrunk-len = let le = own-size in ap length shrunk-body ∙ length-take-le size (extent_of t a).body le
 
       pub shrunk-kept : (k : ℕ) → k ≤ size → take k (extent_of t2 a).body ≡ take k (extent_of t a).body
-      shrunk-kept k le = ap (take k) shrunk-body ∙ take-less k size (extent_of t a).body le
+      shrunk-kept k le = ap (take k) shrunk-body ∙ take-take k size (extent_of t a).body le
 
 -- the blocks behind it stay
 rest-busy : (n size : ℕ) (e : Extent) (ys : List Extent) → e.span < span size → span size ≤ e.span + free_bytes (first_of ys) → busy_in (n, stretch_rest size e ys) ≡ busy_in (n, ys)

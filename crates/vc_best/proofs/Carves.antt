@@ -16,16 +16,16 @@ use Rattle.vc_extent.specs.Change.{change_at, extent_in, mark_busy, split, write
 use Rattle.vc_extent.specs.Tiling.{AreExtents, IsFree, change_extent, extent_of, tiling}
 use Rattle.vc_base.specs.Holders.{contains}
 use Rattle.vc_base.specs.declared.addr.Addr.{Addr}
+use Rattle.vc_base.proofs.Members.{within-head}
+use Rattle.vc_base.proofs.Places.{span-least}
 use Rattle.vc_seg.specs.Segment.{Bytes}
 use Rattle.vc_gaps.specs.ButLinks.{Tiling, plain}
 use Rattle.vc_gaps.specs.GapTree.{CanLinkGap, HasGaps}
-use Rattle.vc_gaps.proofs.Ascending.{contains-head}
 use Rattle.vc_gaps.proofs.GapTrees.{can_link-out}
 use Rattle.vc_best.specs.Beside.{some_name}
 use Rattle.vc_best.specs.Changes.{carve, cut_back, cut_front, free_part, lay_zeros}
 use Rattle.vc_best.specs.Standing.{CanPutBlock}
 use Rattle.vc_best.proofs.Cuts.{change_at-here, change_at-skip, extent_in-here, extent_in-skip}
-use Rattle.vc_best.proofs.Apart.{span-least}
 use Rattle.vc_best.proofs.Plain.{free-stays}
 use Rattle.vc_best.proofs.Sets.{tiling-set}
 use Rattle.vc_best.proofs.Walks.{named-end}
@@ -329,7 +329,7 @@ module _ (segs : List Bytes) (index : List ℕ) (k : ∥ AreExtents segs index �
           where
             can : (o : Option Addr) → IfSome o (λ f. (f.0 ≡ a) × ((place_of a).1 < off)) → HasGaps t3 root (some_name o ++ some_name rest) → IfSome o (λ f. CanLinkGap t3 root f.0)
             can None e h = tt
-            can (Some f) e h = can_link-out t3 root (f.0 ∷ some_name rest) f.0 h (contains-head f.0 (some_name rest)) (first-free f.0 e.0 e.1)
+            can (Some f) e h = can_link-out t3 root (f.0 ∷ some_name rest) f.0 h (within-head f.0 (some_name rest)) (first-free f.0 e.0 e.1)
 
         pub front-apart : IfSome front (λ f. contains (some_name rest) f.0 ≡ false)
         front-apart = apart front rest first last
@@ -349,4 +349,4 @@ module _ (segs : List Bytes) (index : List ℕ) (k : ∥ AreExtents segs index �
           where
             can : (o : Option Addr) → IfSome o (λ b. (b.0 ≡ address ((place_of to).0, (place_of to).1 + span size)) × (span size < (extent_of t1 to).span)) → HasGaps t4 root4 (some_name o) → IfSome o (λ b. CanLinkGap t4 root4 b.0)
             can None e h = tt
-            can (Some b) e h = can_link-out t4 root4 (b.0 ∷ []) b.0 h (contains-head b.0 []) (free-stays t3 t4 same b.0 (last-free b.0 e.0 e.1))
+            can (Some b) e h = can_link-out t4 root4 (b.0 ∷ []) b.0 h (within-head b.0 []) (free-stays t3 t4 same b.0 (last-free b.0 e.0 e.1))

@@ -5,7 +5,9 @@ use Rattle.std.proofs.Math.Bridge.{le_prop}
 use Rattle.std.proofs.Math.Nat.{ℕ_set}
 use Rattle.std.proofs.lemmas.Bool.{cases_Bool, cases_eq, eq-eqb, le-ltb, lt-ltb, ltb-false, ltb-true, ne_eqb}
 use Rattle.std.proofs.lemmas.List.Elements.{All-cons, All-head, All-tail}
+use Rattle.std.proofs.Math.Bool.{and-false}
 use Rattle.vc_base.specs.Holders.{contains}
+use Rattle.vc_model.proofs.Owned.{address-place_of}
 use Rattle.vc_model.specs.Addr.{address, place_of}
 use Rattle.vc_model.specs.Order.{put_by}
 use Rattle.vc_seg.specs.Segment.{Bytes}
@@ -25,7 +27,6 @@ use Rattle.vc_best.specs.GapsChange.{HasGapsBelow}
 use Rattle.vc_best.proofs.Clears.{AreFree}
 use Rattle.vc_best.proofs.Known.{cut-of, segment-of}
 use Rattle.vc_best.proofs.Lies.{Lies}
-use Rattle.vc_best.proofs.Outs.{own-address}
 use Rattle.vc_best.proofs.Plain.{plain-one_free, one_free-plain}
 use Rattle.vc_best.proofs.Walks.{start}
 
@@ -64,7 +65,7 @@ module _ (segs : List Bytes) (index : List ℕ) (n : ℕ) (k : ∥ AreExtents se
         let s = start segs index n a h there value in
         let seg = s.seg in
         let off = s.off in
-        sym (own-address a) ∙ ap (λ (m : ℕ). address (m, (place_of a).1)) seg ∙ ap (λ (m : ℕ). address (n, m)) off)
+        sym (address-place_of a) ∙ ap (λ (m : ℕ). address (m, (place_of a).1)) seg ∙ ap (λ (m : ℕ). address (n, m)) off)
 
 -- the extents of a segment that changes, and of one that isn't there
 changed-here : (n : ℕ) (f : List Extent → List Extent) (segs : List Bytes) → IsThere n segs → extents_of n (change_in n f (tiling segs)) ≡ f (extents_of n (tiling segs))
@@ -80,14 +81,6 @@ extents-not n [] h = refl
 extents-not n (s ∷ ss) h =
     let P : ℕ × List Extent → Type 0 = λ q. q.0 ≢ n in
     rw (ne_eqb s.0 n (All-head P s ss h)) (extents-not n ss (All-tail P s ss h))
-
-and-false : (b : Bool) → b && false ≡ false
-and-false true = refl
-and-false false = refl
-
-and-true : (b : Bool) → b && true ≡ b
-and-true true = refl
-and-true false = refl
 
 same-below : (m n : ℕ) → m ≢ n → ltb m n ≡ ltb m (n + 1)
 same-below m n ne =
@@ -165,7 +158,7 @@ module _ (segs : List Bytes) (index : List ℕ) (n root : ℕ) (k : ∥ AreExten
       let named : is_free mid b ≡ true = subst (λ z. is_free mid z ≡ true) e (free-bool mid a free) in
       ap (λ z. z || contains h.names b) (eq-eqb a b e) ∙ sym (ap (λ z. z && ltb (place_of b).0 (n + 1)) named ∙ yes))
       (λ (e : a ≡ b → ⊥).
-      let off : 32 ≢ (place_of b).1 = λ z. e (ap (λ (m : ℕ). address (m, 32)) (sym q) ∙ ap (λ (m : ℕ). address ((place_of b).0, m)) z ∙ own-address b) in
+      let off : 32 ≢ (place_of b).1 = λ z. e (ap (λ (m : ℕ). address (m, 32)) (sym q) ∙ ap (λ (m : ℕ). address ((place_of b).0, m)) z ∙ address-place_of b) in
       let span : (extent_of mid b).span ≡ 0 =
       ap (λ (x : Extent). x.span) (ap (λ (m : ℕ). extent_in (place_of b).1 (extents_of m mid)) q ∙ ap (extent_in (place_of b).1) own ∙ ap (λ z. cond z one (free_extent (place_of b).1 0 no_links)) (ne_eqb 32 (place_of b).1 off)) in
       let no : is_free mid b ≡ false = ap (λ z. ltb 0 z && eqb (extent_of mid b).size 0) span in

@@ -6,8 +6,9 @@ use Rattle.std.proofs.Math.Bridge.{le_prop}
 use Rattle.std.proofs.Math.Logic.{∥∥₁_elim}
 use Rattle.std.proofs.lemmas.Bool.{cases_Bool, eqb-true, eqb-false, ne_eqb}
 use Rattle.std.proofs.lemmas.List.Elements.{All-head, All-tail, All-nil, All-cons, All-map}
-use Rattle.vc_layouts.proofs.Lists.{AllPairs-head, AllPairs-map, AllPairs-tail}
+use Rattle.vc_layouts.proofs.Lists.{AllPairs-map}
 use Rattle.vc_model.specs.Compact.{cleared_layout}
+use Rattle.vc_model.proofs.Pairs.{AllPairs-head, AllPairs-tail}
 use Rattle.vc_seg.specs.Segment.{AreSegments, Bytes, pair_of}
 use Rattle.vc_extent.specs.Extent.{Extent, extents}
 use Rattle.vc_extent.specs.Change.{IsOneFree, one_free}

@@ -13,15 +13,16 @@ use Rattle.vc_model.specs.Layout.{Block, address_of}
 use Rattle.vc_model.specs.Touch.{HasBlock}
 use Rattle.vc_model.specs.Walk.{holds_byte, next_block}
 use Rattle.vc_base.specs.declared.addr.Addr.{Addr}
+use Rattle.vc_base.proofs.Places.{span-least}
+use Rattle.vc_model.proofs.Pairs.{AllPairs-head, AllPairs-tail}
 use Rattle.vc_seg.specs.Segment.{Bytes}
-use Rattle.vc_layouts.proofs.Lists.{AllPairs-head, AllPairs-tail}
 use Rattle.vc_layouts.specs.InOrder.{in_order}
 use Rattle.vc_layouts.proofs.InOrder.{All-in_order}
 use Rattle.vc_extent.specs.Extent.{Extent}
 use Rattle.vc_extent.specs.Tiling.{AreExtents, IsBusy, IsNamed, extent_of, extents_of, next_of, tiling}
 use Rattle.vc_best.specs.Blocks.{all_busy, block_of, busy_in, layout_by}
 use Rattle.vc_best.specs.Next.{IsFirst}
-use Rattle.vc_best.proofs.Apart.{Before, order-before, span-least}
+use Rattle.vc_best.proofs.Apart.{Before, order-before}
 use Rattle.vc_best.proofs.Found.{has-of}
 use Rattle.vc_best.proofs.Frees.{own-blocks}
 use Rattle.vc_best.proofs.Known.{IsCut, cut-of, off-of}

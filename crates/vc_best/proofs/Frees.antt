@@ -10,8 +10,8 @@ use Rattle.vc_model.specs.Layout.{Block, footprint, footprints, lies_before, wit
 use Rattle.vc_model.specs.Numbers.{gaps_of}
 use Rattle.vc_model.specs.Segments.{span}
 use Rattle.vc_model.specs.Sound.{IsApart}
+use Rattle.vc_model.proofs.Pairs.{AllPairs-head, AllPairs-tail}
 use Rattle.vc_seg.specs.Segment.{Bytes, pair_of}
-use Rattle.vc_layouts.proofs.Lists.{AllPairs-head, AllPairs-tail}
 use Rattle.vc_layouts.specs.InOrder.{in_order}
 use Rattle.vc_extent.specs.Extent.{Extent, extents}
 use Rattle.vc_extent.specs.Tiles.{IsTiled}

@@ -9,10 +9,10 @@ use Rattle.vc_model.specs.Layout.{Block, Layout, footprint, footprints}
 use Rattle.vc_model.specs.Place.{holds, least, lesser}
 use Rattle.vc_model.specs.Segments.{span}
 use Rattle.vc_model.specs.Sound.{IsUsable}
+use Rattle.vc_base.proofs.Places.{span-least}
 use Rattle.vc_layouts.proofs.Segments.{only-one}
 use Rattle.vc_best.proofs.LeftGaps.{best_left, gaps_left, gaps_left_in}
 use Rattle.vc_best.proofs.HaveHeads.{HaveHeads}
-use Rattle.vc_best.proofs.Apart.{span-least}
 
 -- a run of the usable part of a segment
 pub record IsOf (s : ℕ × ℕ) (f : Run) : Type 0 where

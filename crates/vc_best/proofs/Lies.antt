@@ -2,6 +2,7 @@
 use Rattle.std.proofs.Common.{◌≡◌, ℕ, ◌+◌, ◌-◌, ◌%◌, ◌≤◌, List, [], ◌∷◌, All, length, take, drop, ap, ◌∙◌, arith}
 use Rattle.std.proofs.lemmas.List.{length-drop, length-take}
 use Rattle.std.proofs.lemmas.List.Elements.{All-cons, All-nil, All-weaker}
+use Rattle.vc_base.proofs.Lists.{length-part}
 use Rattle.vc_extent.specs.Extent.{Extent, extents}
 use Rattle.vc_extent.specs.Tiles.{IsLegal, IsTiled, Tiles}
 use Rattle.vc_extent.proofs.Tiled.{body-at, inside, off-at, tiles-lt}
@@ -17,10 +18,6 @@ pub record IsAt (stop at : ℕ) (e : Extent) : Type 0 where
 abbrev pub Lies : ℕ → ℕ → List Extent → Type 0
 Lies stop at [] = at ≡ stop
 Lies stop at (e ∷ es) = IsAt stop at e × Lies stop (at + e.span) es
-
--- bytes that are taken from within a list
-length-part : (b : List ℕ) (at n : ℕ) → at + n ≤ length b → length (take n (drop at b)) ≡ n
-length-part b at n le = omega (arith, length-take n (drop at b), length-drop at b)
 
 lies-tiles : (b : List ℕ) (stop p at : ℕ) (es : List Extent) → stop ≤ length b → Tiles b stop p at es → Lies stop at es
 lies-tiles b stop p at [] le h = h

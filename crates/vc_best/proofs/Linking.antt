@@ -4,6 +4,7 @@ use Rattle.std.proofs.Math.Bridge.{le_prop}
 use Rattle.std.proofs.Math.Logic.{∥∥₁_elim}
 use Rattle.std.proofs.Math.Nat.{ℕ_set}
 use Rattle.std.proofs.lemmas.Bool.{cases_Bool, lt-ltb, ne_eqb}
+use Rattle.std.proofs.Math.Bool.{or-false}
 use Rattle.vc_base.specs.Holders.{contains}
 use Rattle.vc_model.specs.Addr.{address, place_of}
 use Rattle.vc_seg.specs.Segment.{Bytes}
@@ -92,11 +93,6 @@ module _ (segs : List Bytes) (index : List ℕ) (k : ∥ AreExtents segs index �
 -- a free extent that isn't out is in the tree
 pub in-tree : (t : Tiling) (root : ℕ) (out : List ℕ) (b : ℕ) → HasGaps t root out → IsNamed t b → (extent_of t b).size ≡ 0 → contains out b ≡ false → IsInGaps t root b
 in-tree t root out b h named free apart = in_gaps-of t root out b h (free-bool t b (record { named = named; free = free })) apart
-
--- nothing besides is out
-or-false : (b : Bool) → b || false ≡ b
-or-false true = refl
-or-false false = refl
 
 pub gaps-whole : (t : Tiling) (root : ℕ) (xs : List ℕ) → HasGaps t root (xs ++ []) → HasGaps t root xs
 gaps-whole t root xs h = gaps-same t root (xs ++ []) xs (λ a. sym (contains-append xs [] a ∙ or-false (contains xs a))) h

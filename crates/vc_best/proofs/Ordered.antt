@@ -10,9 +10,11 @@ use Rattle.vc_model.specs.Order.{least_above, lesser_by, put_by, sorted_by}
 use Rattle.vc_model.specs.Place.{best_gap, holds, least}
 use Rattle.vc_model.specs.Segments.{span}
 use Rattle.vc_model.specs.Sound.{EndsBefore}
-use Rattle.vc_layouts.proofs.Lists.{AllPairs-head, AllPairs-map, AllPairs-tail}
+use Rattle.vc_model.proofs.Pairs.{AllPairs-head, AllPairs-tail}
+use Rattle.vc_base.proofs.Places.{span-least}
+use Rattle.vc_layouts.proofs.Lists.{AllPairs-map}
 use Rattle.vc_best.proofs.LeftGaps.{best_left, gaps_left, gaps_left_in}
-use Rattle.vc_best.proofs.Apart.{Before, span-least}
+use Rattle.vc_best.proofs.Apart.{Before}
 
 module _ {A : Type 0} (key : A → ℕ) where
   -- one key is below another

@@ -3,6 +3,7 @@ use Rattle.std.proofs.Common.{◌≡◌, ℕ, ◌+◌, ◌-◌, ◌/◌, ◌%◌
 use Rattle.std.proofs.Math.Logic.{∥∥₁_elim}
 use Rattle.std.proofs.lemmas.Bool.{cases_Bool}
 use Rattle.vc_base.specs.Holders.{contains}
+use Rattle.vc_base.proofs.Booleans.{or-swap}
 use Rattle.vc_model.specs.Addr.{address, place_of}
 use Rattle.vc_model.specs.Bytes.{with_bytes}
 use Rattle.vc_seg.specs.Segment.{Bytes}
@@ -24,10 +25,6 @@ use Rattle.vc_best.proofs.Known.{cut-of, then-behind}
 use Rattle.vc_best.proofs.Sets.{bytes-set}
 use Rattle.vc_best.proofs.Walks.{named-end}
 
--- an address is that of its place
-pub own-address : (a : ℕ) → address (place_of a) ≡ a
-own-address a = omega arith
-
 -- lists of names one behind the other
 pub contains-append : (xs ys : List ℕ) (a : ℕ) → contains (xs ++ ys) a ≡ contains xs a || contains ys a
 contains-append [] ys a = refl
@@ -36,11 +33,6 @@ contains-append (x ∷ xs) ys a =
     (λ (t : eqb x a ≡ true). rw t refl)
     (λ (t : eqb x a ≡ false). rw t (contains-append xs ys a))
     (cases_Bool (eqb x a))
-
-or-swap : (p q r : Bool) → p || (q || r) ≡ q || (p || r)
-or-swap true true r = refl
-or-swap true false r = refl
-or-swap false q r = refl
 
 pub gaps-swap : (t : Tiling) (root : ℕ) (xs ys out : List ℕ) → HasGaps t root (xs ++ (ys ++ out)) → HasGaps t root (ys ++ (xs ++ out))
 gaps-swap t root xs ys out h =

@@ -9,6 +9,7 @@ use Rattle.vc_model.specs.Gap.{Run}
 use Rattle.vc_model.specs.Layout.{Block, Layout, is_at}
 use Rattle.vc_model.specs.Place.{holds, least, lowest_offset}
 use Rattle.vc_model.specs.Segments.{round_up, span}
+use Rattle.vc_base.proofs.Places.{span-least}
 use Rattle.vc_seg.proofs.Rounding.{round_up-least, round_up-mod_32}
 use Rattle.vc_seg.specs.Segment.{Bytes, pair_of}
 use Rattle.vc_extent.specs.Tiling.{AreExtents, IsFree, change_extent, extent_of, tiling}
@@ -21,7 +22,6 @@ use Rattle.vc_best.specs.Blocks.{layout_by}
 use Rattle.vc_best.specs.Changes.{carve}
 use Rattle.vc_best.specs.Free.{IsMerged, free_runs}
 use Rattle.vc_best.specs.Standing.{CanPutBlock, IsLeastOut, IsPutInGap}
-use Rattle.vc_best.proofs.Apart.{span-least}
 use Rattle.vc_best.proofs.Bests.{best-address, best-free, best-from, least-by}
 use Rattle.vc_best.proofs.Carving.{carve-busy, merged-carved}
 use Rattle.vc_best.proofs.FreeRuns.{IsGap, gap-holds, gap-is}

@@ -3,6 +3,7 @@ use Rattle.std.proofs.Common.{◌≡◌, ◌≢◌, ℕ, ◌+◌, ◌-◌, ◌%�
 use Rattle.std.specs.Prelude.{◌&&◌}
 use Rattle.std.proofs.lemmas.Bool.{cases_Bool, eq-eqb, ne_eqb, lt-ltb, le-ltb, and_parts, and_from}
 use Rattle.vc_model.specs.Addr.{address, place_of}
+use Rattle.vc_model.proofs.Owned.{address-place_of}
 use Rattle.vc_layouts.proofs.Blocks.{place_of-address}
 use Rattle.vc_extent.specs.Extent.{Extent, free_extent, no_links}
 use Rattle.vc_extent.specs.Change.{behind, change_at, extent_in, first_of, last_before, mark_free}
@@ -19,7 +20,6 @@ use Rattle.vc_best.proofs.Known.{IsCut, now-none, now-same, off-of, then-behind,
 use Rattle.vc_best.proofs.Nexts.{none-first, some-first}
 use Rattle.vc_best.proofs.Layouts.{behind_of}
 use Rattle.vc_best.proofs.Lies.{Lies}
-use Rattle.vc_best.proofs.Outs.{own-address}
 use Rattle.vc_best.proofs.Merges.{merged-any, merged-at, merged-change, merged-weaker}
 
 -- an extent stands before the one of an offset
@@ -289,7 +289,7 @@ module _ (t t1 t2 : List (ℕ × List Extent)) (a : ℕ) (c : IsCut t a) (is1 : 
           then-behind t t2 b b f d rebased refl (omega arith)
           ∙ (behind-here (place_of b).1 (extent_of t b) (change_at (place_of a).1 freed (behind_of t b)) (off-of t b d) ∙ changed) in
           let own : free_next t2 b ≡ free_name (place_of b).0 (first_of zs) = ap (λ (ws : List Extent). free_name (place_of b).0 (first_of ws)) same in
-          let name : address ((place_of b).0, e.off) ≡ a = ap (λ (n : ℕ). address (n, e.off)) seg ∙ ap (λ (n : ℕ). address ((place_of a).0, n)) (off-of t a c) ∙ own-address a in
+          let name : address ((place_of b).0, e.off) ≡ a = ap (λ (n : ℕ). address (n, e.off)) seg ∙ ap (λ (n : ℕ). address ((place_of a).0, n)) (off-of t a c) ∙ address-place_of a in
           own ∙ absorbed-name (place_of b).0 (free_extent e.off e.span no_links) (behind_of t a) refl ∙ ap (λ (n : ℕ). n ∷ []) name
 
       pub merged-busy : IsMerged t → 0 < (extent_of t2 b).size → IsMerged t2

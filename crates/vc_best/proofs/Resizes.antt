@@ -12,20 +12,12 @@ use Rattle.vc_model.specs.Outcome.{Outcome, Done, Refused, Put, Fault, Fixed}
 use Rattle.vc_model.specs.Best.{best_alloc, best_need, without_block_at, place_in, put, put_at, put_in_new, put_or_ask, zeros}
 use Rattle.vc_model.specs.Resize.{best_resize, can_stay, outcome_of_move, resize_found, resize_there}
 use Rattle.vc_model.specs.Addr.{address, place_of}
+use Rattle.vc_base.proofs.Lists.{find-passes}
+use Rattle.vc_base.proofs.Places.{at-place}
+use Rattle.vc_model.proofs.Owned.{address-place_of}
 use Rattle.vc_seg.specs.declared.fault.RegionFault.{RegionFault}
 use Rattle.vc_seg.specs.declared.fault.RegionFault.TheVariants as code
 use Rattle.vc_seg.specs.Answer.{IsPut, IsRefusal}
-use Rattle.vc_layouts.proofs.Lists.{find-passes}
-
--- every number is the address of its place
-pub address-place_of : (a : ℕ) → address (place_of a) ≡ a
-address-place_of a = omega arith
-
-pub at-place : (at : ℕ × ℕ) (b : Block ℕ) → is_at at b ≡ true → (b.seg, b.off) ≡ at
-at-place at b e =
-    let both = and_parts (eqb b.seg at.0) (eqb b.off at.1) e in
-    let pair : ℕ → ℕ → ℕ × ℕ = λ m n. (m, n) in
-    ap (λ m. pair m b.off) (eqb-true b.seg at.0 both.0) ∙ ap (pair at.0) (eqb-true b.off at.1 both.1)
 
 -- one block more
 find_with-other : (at : ℕ × ℕ) (b : Block ℕ) (bs : List (Block ℕ)) → is_at at b ≡ false → find_block at (with_block b bs) ≡ find_block at bs

@@ -7,13 +7,14 @@ use Rattle.std.proofs.Math.Logic.{∥∥₁_elim}
 use Rattle.std.proofs.lemmas.Bool.{cases_Bool, and_from, and_parts, and_left, and_right, or_left, or_right, eqb-true, eqb-false, eq-eqb, ne_eqb, le-ltb, lt-ltb, ltb-true, le-leb, lt-leb, leb-true, leb-false}
 use Rattle.std.proofs.lemmas.List.Folds.{list_any-append}
 use Rattle.std.proofs.lemmas.List.Elements.{All-append, All-cons, All-head, All-nil, All-tail, All-weaker}
+use Rattle.std.proofs.Math.Bool.{or-false}
 use Rattle.vc_model.specs.Addr.{place_of}
 use Rattle.vc_model.specs.Gap.{Run}
 use Rattle.vc_model.specs.Layout.{Block, footprint, is_at}
 use Rattle.vc_model.specs.Resize.{can_stay, is_usable, meets, sized_block}
 use Rattle.vc_model.specs.Segments.{span}
+use Rattle.vc_model.proofs.Pairs.{AllPairs-head, AllPairs-tail}
 use Rattle.vc_seg.specs.Segment.{Bytes, pair_of}
-use Rattle.vc_layouts.proofs.Lists.{AllPairs-head, AllPairs-tail}
 use Rattle.vc_layouts.specs.InOrder.{in_order}
 use Rattle.vc_layouts.proofs.InOrder.{All-in_order, any-order, own-place}
 use Rattle.vc_extent.specs.Change.{extent_in, first_of}
@@ -48,10 +49,6 @@ not-usable f [] h = refl
 not-usable f (s ∷ ss) h =
     let R : Bytes → Type 0 = λ b. f.seg ≢ b.number in
     rw (ne_eqb f.seg s.number (All-head R s ss h)) (not-usable f ss (All-tail R s ss h))
-
-or-false : (x : Bool) → (x || false) ≡ x
-or-false true = refl
-or-false false = refl
 
 record Own (segs : List Bytes) (f : Run) : Type 0 where
   bytes : List ℕ

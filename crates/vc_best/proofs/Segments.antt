@@ -11,8 +11,8 @@ use Rattle.std.proofs.lemmas.List.Elements.{All-append, All-head, All-map, All-n
 use Rattle.vc_model.specs.Compact.{is_occupied}
 use Rattle.vc_model.specs.Layout.{Block, with_grant}
 use Rattle.vc_model.specs.Segments.{new_segment}
+use Rattle.vc_model.proofs.Pairs.{AllPairs-head, AllPairs-tail}
 use Rattle.vc_seg.specs.Segment.{Bytes, pair_of}
-use Rattle.vc_layouts.proofs.Lists.{AllPairs-head, AllPairs-tail}
 use Rattle.vc_layouts.specs.InOrder.{in_order}
 use Rattle.vc_layouts.proofs.InOrder.{All-in_order, any-order}
 use Rattle.vc_extent.specs.Change.{IsOneFree}

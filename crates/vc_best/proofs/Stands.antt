@@ -8,13 +8,11 @@ use Rattle.std.proofs.lemmas.List.Elements.{All-cons, All-head, All-nil, All-tai
 use Rattle.vc_model.specs.Addr.{place_of}
 use Rattle.vc_model.specs.Layout.{Block, Layout, address_of, is_at, lies_before, with_block, without_block}
 use Rattle.vc_model.specs.Touch.{HasBlock}
-use Rattle.vc_layouts.proofs.Lists.{AllPairs-head, AllPairs-tail}
+use Rattle.vc_model.proofs.Pairs.{AllPairs-head, AllPairs-tail}
+use Rattle.vc_base.proofs.Places.{at-itself, span-least}
 use Rattle.vc_layouts.proofs.Blocks.{All-without, place_of-address}
 use Rattle.vc_best.proofs.HaveHeads.{AreApart, HasHead, HaveHeads}
-use Rattle.vc_best.proofs.Apart.{Before, span-least}
-
-here : (b : Block ℕ) → is_at (b.seg, b.off) b ≡ true
-here b = and_from (eqb b.seg b.seg) (eqb b.off b.off) (eq-eqb b.seg b.seg refl) (eq-eqb b.off b.off refl)
+use Rattle.vc_best.proofs.Apart.{Before}
 
 -- two blocks that don't overlap are at two places
 not_at : (b c : Block ℕ) (at : ℕ × ℕ) → Before b c → is_at at b ≡ true → is_at at c ≡ true → ⊥
@@ -29,12 +27,12 @@ not_at b c at before e u =
 -- of blocks that don't overlap, the one at a place is the one that goes
 without_block-remove : (bs : List (Block ℕ)) (i : ℕ) (d : Block ℕ) → AreApart bs → i < length bs → without_block ((get_or bs i d).seg, (get_or bs i d).off) bs ≡ remove bs i
 without_block-remove [] i d h lt = absurd (omega (arith, lt))
-without_block-remove (b ∷ bs) zero d h lt = rw (here b) refl
+without_block-remove (b ∷ bs) zero d h lt = rw (at-itself b) refl
 without_block-remove (b ∷ bs) (suc i) d h lt =
     let c : Block ℕ = get_or bs i d in
     let within : i < length bs = omega (arith, lt) in
     ⊎_elim
-    (λ e. absurd (not_at b c (c.seg, c.off) (AllPairs-head Before b bs h i d within) e (here c)))
+    (λ e. absurd (not_at b c (c.seg, c.off) (AllPairs-head Before b bs h i d within) e (at-itself c)))
     (λ e. rw e (ap (λ cs. b ∷ cs) (without_block-remove bs i d (AllPairs-tail Before b bs h) within)))
     (cases_Bool (is_at (c.seg, c.off) b))
 
@@ -68,12 +66,12 @@ alone b (c ∷ cs) h =
     let apart : AreApart (b ∷ c ∷ cs) = rw t at h in
     λ k d lt.
     let e : Block ℕ = get_or (c ∷ cs) k d in
-    ⊎_elim (λ u. absurd (not_at b e (b.seg, b.off) (AllPairs-head Before b (c ∷ cs) apart k d lt) (here b) u)) (λ u. u) (cases_Bool (is_at (b.seg, b.off) e)))
+    ⊎_elim (λ u. absurd (not_at b e (b.seg, b.off) (AllPairs-head Before b (c ∷ cs) apart k d lt) (at-itself b) u)) (λ u. u) (cases_Bool (is_at (b.seg, b.off) e)))
     (λ (t : lies_before b c ≡ false).
     let apart : AreApart (c ∷ with_block b cs) = rw t at h in
     let before : Before c b = with-own (Before c) b cs (AllPairs-head Before c (with_block b cs) apart) in
     All-cons (λ (d : Block ℕ). is_at (b.seg, b.off) d ≡ false) c cs
-    (⊎_elim (λ u. absurd (not_at c b (b.seg, b.off) before u (here b))) (λ u. u) (cases_Bool (is_at (b.seg, b.off) c)))
+    (⊎_elim (λ u. absurd (not_at c b (b.seg, b.off) before u (at-itself b))) (λ u. u) (cases_Bool (is_at (b.seg, b.off) c)))
     (alone b cs (AllPairs-tail Before c (with_block b cs) apart)))
     (cases_Bool (lies_before b c))
 
@@ -107,7 +105,7 @@ at-none : (segments : List (ℕ × ℕ)) (bs : List (Block ℕ)) (a : ℕ) → A
 at-none segments bs a h none live =
     let s = stands segments bs a h live in
     let other : is_at (place_of a) s.block ≡ false = subst (λ (b : Block ℕ). is_at (place_of a) b ≡ false) s.at (none s.index s.block s.within) in
-    let own : is_at (place_of a) s.block ≡ true = subst (λ (p : ℕ × ℕ). is_at p s.block ≡ true) s.place (here s.block) in
+    let own : is_at (place_of a) s.block ≡ true = subst (λ (p : ℕ × ℕ). is_at p s.block ≡ true) s.place (at-itself s.block) in
     let no : true ≡ false = sym own ∙ other in
     cc
 

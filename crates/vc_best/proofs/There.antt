@@ -10,10 +10,12 @@ use Rattle.vc_model.specs.Layout.{Block, Layout, is_at, without_block}
 use Rattle.vc_model.specs.Resize.{sized_block}
 use Rattle.vc_model.specs.Touch.{HasBlock, change_block, find_block, rewritten_block, with_bytes_at}
 use Rattle.vc_base.specs.declared.addr.Addr.{Addr}
+use Rattle.vc_base.proofs.Places.{at-place}
+use Rattle.vc_model.proofs.Owned.{address-place_of}
 use Rattle.vc_seg.specs.declared.fault.RegionFault.{RegionFault}
 use Rattle.vc_best.specs.Standing.{IsPutByAsking, IsPutInGap}
 use Rattle.vc_best.proofs.Asking.{Answers-in_gap}
-use Rattle.vc_best.proofs.Resizes.{address-place_of, at-place, new-found}
+use Rattle.vc_best.proofs.Resizes.{new-found}
 
 abbrev label_of : Option (Block ℕ) → Option ℕ
 label_of o = option_map (λ b. b.label) o

@@ -5,6 +5,7 @@ use Rattle.std.specs.List.{AllByRecursion, list_any}
 use Rattle.std.proofs.lemmas.List.{length-append, take-append-le, take_all}
 use Rattle.slab.specs.Slab.{slab_len}
 use Rattle.vc_base.specs.Cells.{Blocks}
+use Rattle.vc_base.proofs.Texts.{bytes_eq-swapped}
 use Rattle.vc_model.specs.Discipline.{Discipline, HasOut, TookBack}
 use Rattle.vc_region.specs.Region.{Region, blocks_of, keeps_freed, region_clear, region_with_labels, segments_of}
 use Rattle.vc_model.specs.Sound.{HaveOwnPlaces}
@@ -16,7 +17,7 @@ use Rattle.vc_commands.specs.Home.{Label}
 use Rattle.vc_commands.specs.Whole.{kept_cleared, with_label, with_labels}
 use Rattle.vc_commands.specs.Labels.{AreLabels, kept_of, line_left, name_of, tag_of}
 use Rattle.vc_commands.specs.Blocks.{is_block, is_name_of}
-use Rattle.vc_commands.proofs.FreedNames.{IsByName, by-name-among, by-name-with, line-with, same-kept, swapped}
+use Rattle.vc_commands.proofs.FreedNames.{IsByName, by-name-among, by-name-with, line-with, same-kept}
 use Rattle.vc_commands.specs.Held.{Held, IsChange, IsLive, IsNamed, home_of, tag_count}
 
 -- a region without blocks is the same under all names
@@ -92,7 +93,7 @@ named-blocks r r' labels same keeps n =
 
 line-label : (x : List ℕ) (l : Label) (line : ℕ) (k : FreedNames) → line_of x (with_label l line k) ≡ cond (is_name_of x l) (Some line) (line_of x k)
 line-label x None line k = refl
-line-label x (Some y) line k = line-with x y line k ∙ ap (λ b. cond b (Some line) (line_of x k)) (swapped x y)
+line-label x (Some y) line k = line-with x y line k ∙ ap (λ b. cond b (Some line) (line_of x k)) (bytes_eq-swapped x y)
 
 either : (a b : Bool) (line : ℕ) (o : Option ℕ) → cond a (Some line) (cond b (Some line) o) ≡ cond (a || b) (Some line) o
 either true b line o = refl

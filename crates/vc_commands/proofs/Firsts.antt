@@ -4,6 +4,11 @@ use Rattle.std.specs.Prelude.{find, slice_get}
 use Rattle.std.specs.List.{list_any}
 use Rattle.std.proofs.lemmas.List.{take-map}
 use Rattle.std.proofs.lemmas.Option.{same_Some, none-some}
+use Rattle.std.proofs.Math.Bool.{or-true}
+use Rattle.std.proofs.lemmas.Bool.{or_parts}
+use Rattle.std.proofs.lemmas.Map.Keys.{any_passes_from_place}
+use Rattle.vc_base.proofs.Quantifiers.{any-map}
+use Rattle.vc_base.proofs.Lists.{slice_get-set}
 
 -- the first place of a list that passes a test
 pub record IsFirst {A : Type 0} (test : A → Bool) (xs : List A) (i : ℕ) : Type 0 where
@@ -12,15 +17,11 @@ pub record IsFirst {A : Type 0} (test : A → Bool) (xs : List A) (i : ℕ) : Ty
   pub passes : test item ≡ true
   pub before : list_any test (take i xs) ≡ false
 
-pub or-false : (a b : Bool) → (a || b) ≡ false → (a ≡ false) × (b ≡ false)
-or-false true b h = absurd cc
-or-false false b h = (refl, h)
-
 any-take_suc : {A B : Type 0} (test : B → Bool) (f : A → B) (xs : List A) (i : ℕ) (x : A) → i < length xs → x ≡ get_or xs i x → list_any test (take i (map f xs)) ≡ false → test (f x) ≡ false → list_any test (take (suc i) (map f xs)) ≡ false
 any-take_suc test f [] i x within at none fails = absurd (omega arith)
 any-take_suc test f (y ∷ ys) zero x within at none fails = ap (λ (z : _). test (f z) || false) (sym at) ∙ ap (λ b. b || false) fails
 any-take_suc test f (y ∷ ys) (suc i) x within at none fails =
-    let parts = or-false (test (f y)) (list_any test (take i (map f ys))) none in
+    let parts = or_parts (test (f y)) (list_any test (take i (map f ys))) none in
     ap (λ b. b || list_any test (take (suc i) (map f ys))) parts.0 ∙ any-take_suc test f ys i x (omega arith) at parts.1 fails
 
 -- one more item that fails
@@ -33,7 +34,7 @@ find-at test (y ∷ ys) zero x at passes none =
     let same : y ≡ x = same_Some y x at in
     ap (λ b. cond b (Some y) (find test ys)) (ap test same ∙ passes) ∙ ap (λ (z : _). Some z) same
 find-at test (y ∷ ys) (suc i) x at passes none =
-    let parts = or-false (test y) (list_any test (take i ys)) none in
+    let parts = or_parts (test y) (list_any test (take i ys)) none in
     ap (λ b. cond b (Some y) (find test ys)) parts.0 ∙ find-at test ys i x at passes parts.1
 
 -- the first item is the one that is found
@@ -44,12 +45,8 @@ find-first test xs i f = find-at test xs i f.item f.at f.passes f.before
 pub find-none : {A : Type 0} (test : A → Bool) (xs : List A) → list_any test xs ≡ false → find test xs ≡ None
 find-none test [] none = refl
 find-none test (y ∷ ys) none =
-    let parts = or-false (test y) (list_any test ys) none in
+    let parts = or_parts (test y) (list_any test ys) none in
     ap (λ b. cond b (Some y) (find test ys)) parts.0 ∙ find-none test ys parts.1
-
-pub any-unmap : {A B : Type 0} (test : B → Bool) (f : A → B) (xs : List A) → list_any test (map f xs) ≡ list_any (λ x. test (f x)) xs
-any-unmap test f [] = refl
-any-unmap test f (x ∷ xs) = ap (λ b. test (f x) || b) (any-unmap test f xs)
 
 unmap-at : {A B : Type 0} (f : A → B) (xs : List A) (i : ℕ) (y : B) → slice_get (map f xs) i ≡ Some y → (x : A) × (slice_get xs i ≡ Some x) × (f x ≡ y)
 unmap-at f [] i y at = absurd (none-some y at)
@@ -64,24 +61,15 @@ first-unmap test f xs i first =
       item = p.0;
       at = p.1;
       passes = ap test p.2 ∙ first.passes;
-      before = sym (any-unmap test f (take i xs)) ∙ (ap (list_any test) (sym (take-map f i xs)) ∙ first.before);
+      before = sym (any-map f test (take i xs)) ∙ (ap (list_any test) (sym (take-map f i xs)) ∙ first.before);
     }
 
 pub none-unmap : {A B : Type 0} (test : B → Bool) (f : A → B) (xs : List A) → list_any test (map f xs) ≡ false → list_any (λ x. test (f x)) xs ≡ false
-none-unmap test f xs none = sym (any-unmap test f xs) ∙ none
-
-or-true : (b : Bool) → (b || true) ≡ true
-or-true true = refl
-or-true false = refl
-
-any-at : {A : Type 0} (test : A → Bool) (xs : List A) (i : ℕ) (x : A) → slice_get xs i ≡ Some x → test x ≡ true → list_any test xs ≡ true
-any-at test [] i x at passes = absurd (none-some x at)
-any-at test (y ∷ ys) zero x at passes = ap (λ b. b || list_any test ys) (ap test (same_Some y x at) ∙ passes)
-any-at test (y ∷ ys) (suc i) x at passes = ap (λ b. test y || b) (any-at test ys i x at passes) ∙ or-true (test y)
+none-unmap test f xs none = sym (any-map f test xs) ∙ none
 
 -- where a first item is, some item passes
 pub any-first : {A : Type 0} (test : A → Bool) (xs : List A) (i : ℕ) → IsFirst test xs i → list_any test xs ≡ true
-any-first test xs i f = any-at test xs i f.item f.at f.passes
+any-first test xs i f = any_passes_from_place test xs i f.item f.at f.passes
 
 take-set : {A : Type 0} (xs : List A) (i : ℕ) (y : A) → take i (set xs i y) ≡ take i xs
 take-set [] zero y = refl
@@ -89,11 +77,6 @@ take-set [] (suc i) y = refl
 take-set (x ∷ xs) zero y = refl
 take-set (x ∷ xs) (suc i) y = ap (λ ys. x ∷ ys) (take-set xs i y)
 
-get-set : {A : Type 0} (xs : List A) (i : ℕ) (x y : A) → slice_get xs i ≡ Some x → slice_get (set xs i y) i ≡ Some y
-get-set [] i x y at = absurd (none-some x at)
-get-set (z ∷ zs) zero x y at = refl
-get-set (z ∷ zs) (suc i) x y at = get-set zs i x y at
-
 -- another item that passes in the first one's place
 pub find-set : {A : Type 0} (test : A → Bool) (xs : List A) (i : ℕ) (x y : A) → slice_get xs i ≡ Some x → list_any test (take i xs) ≡ false → test y ≡ true → find test (set xs i y) ≡ Some y
-find-set test xs i x y at none passes = find-at test (set xs i y) i y (get-set xs i x y at) passes (ap (list_any test) (take-set xs i y) ∙ none)
+find-set test xs i x y at none passes = find-at test (set xs i y) i y (slice_get-set xs i x y at) passes (ap (list_any test) (take-set xs i y) ∙ none)

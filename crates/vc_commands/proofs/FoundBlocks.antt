@@ -11,6 +11,7 @@ use Rattle.vc_region.specs.Region.{Region, blocks_of, region_with_labels}
 use Rattle.vc_model.specs.Place.{IsAlign}
 use Rattle.vc_model.specs.Touch.{HasBlock, find_block}
 use Rattle.vc_base.specs.declared.addr.Addr.{Addr}
+use Rattle.vc_base.proofs.Texts.{same_bytes}
 use Rattle.vc_region.specs.Cells.{rest_in}
 use Rattle.vc_region.specs.Parts.{region_of}
 use Rattle.vc_region.specs.declared.region.Region.{Region as Open}
@@ -32,7 +33,7 @@ use Rattle.vc_commands.specs.RegionRun.{GivesRegion}
 use Rattle.vc_commands.proofs.Answers.{gives-unchanged}
 use Rattle.vc_commands.proofs.Firsts.{find-none}
 use Rattle.vc_commands.proofs.Lists.{Passes, contains-among, found-any}
-use Rattle.vc_commands.proofs.Names.{has-label-any, name-first, name-here, named_by, same_bytes}
+use Rattle.vc_commands.proofs.Names.{has-label-any, name-first, name-here, named_by}
 
 -- no block has the name
 pub on_block-none : (h : Held) (x : List ℕ) (act : Block home.Label → Changed) → IsNamed h.region h.labels → tag_of h.labels x ≡ None → on_block (home_of h) x act ≡ refusal_alone (home_of h) (no_block (line_of x (kept_of h.labels)))

@@ -6,10 +6,10 @@ use Rattle.std.proofs.lemmas.Bool.Decides.{eqb_tells}
 use Rattle.vc_base.specs.declared.addr.Addr.{Addr}
 use Rattle.vc_base.specs.Cells.{Blocks, HasBytes}
 use Rattle.vc_base.specs.Holders.{contains, some_address}
+use Rattle.vc_base.proofs.Members.{within-head, within-tail}
 use Rattle.vc_dtdisc.specs.Objects.{Object, bytes_of, first_with, has_key}
 use Rattle.vc_dtdisc.specs.Rules.{Rules}
 use Rattle.vc_dtlist.specs.Linked.{number_of}
-use Rattle.vc_dtlist.proofs.KeptLemmas.{within-head, within-tail}
 use Rattle.vc_dict.specs.declared.dict.Dict.{Dict}
 use Rattle.vc_dict.specs.Listed.{holders_of}
 use Rattle.vc_dict.proofs.OwnLemmas.{holder-address, holder-there}

@@ -8,11 +8,11 @@ use Rattle.std.specs.Cmp.Lexicographic.{nat_list_cmp_total, texts_ties}
 use Rattle.std.specs.FinMap.Entries.{find-put, find-where_key, is_sorted, is_sorted-put, is_sorted-where_key, length-put, length_without, same_entries}
 use Rattle.std.proofs.lemmas.Bool.{cases_Bool}
 use Rattle.std.proofs.lemmas.Map.Lookups.{exact_bytes}
+use Rattle.vc_base.proofs.Texts.{bytes_eq-swapped, same_bytes}
 use Rattle.vc_commands.specs.FreedNames.{FreedNames, by_name, line_of, with_line, without_name}
 use Rattle.vc_commands.specs.Labels.{kept_among, kept_with, line_in}
 use Rattle.vc_commands.specs.declared.region.labels.Known.{Known}
 use Rattle.vc_commands.specs.declared.region.labels.Known.TheVariants.{Live, Freed}
-use Rattle.vc_commands.proofs.Names.{same_bytes}
 
 abbrev pub IsByName : FreedNames → Type 0
 IsByName kept = T (is_sorted by_name kept)
@@ -49,19 +49,12 @@ pub by-name-among : (es : List (List ℕ × Known)) → IsByName (kept_among es)
 by-name-among [] = tt
 by-name-among (e ∷ es) = by-name-by e.0 e.1 (kept_among es) (by-name-among es)
 
-pub swapped : (x y : List ℕ) → bytes_eq x y ≡ bytes_eq y x
-swapped x y =
-    ⊎_elim
-    (λ e. ap (λ z. bytes_eq x z) (sym (same_bytes x y e)) ∙ ap (λ z. bytes_eq z x) (same_bytes x y e))
-    (λ e. ⊎_elim (λ f. ap (λ z. bytes_eq x z) (same_bytes y x f) ∙ ap (λ z. bytes_eq z x) (sym (same_bytes y x f))) (λ f. e ∙ sym f) (cases_Bool (bytes_eq y x)))
-    (cases_Bool (bytes_eq x y))
-
 pick : (b : Bool) (known : Known) (o : Option Known) → cond b (line_in (Some known)) (line_in o) ≡ line_in (cond b (Some known) o)
 pick true known o = refl
 pick false known o = refl
 
 line-by : (q x : List ℕ) (known : Known) (k : FreedNames) → line_of q (kept_with x known k) ≡ cond (bytes_eq q x) (line_in (Some known)) (line_of q k)
-line-by q x (Live tag) k = line-without q x k ∙ ap (λ b. cond b None (line_of q k)) (swapped x q)
+line-by q x (Live tag) k = line-without q x k ∙ ap (λ b. cond b None (line_of q k)) (bytes_eq-swapped x q)
 line-by q x (Freed line) k = line-with q x line k
 
 -- and tell the line of each
@@ -95,7 +88,7 @@ module _ (es fs : List (List ℕ × Known)) (x : List ℕ) where
       same-kept (kept_among fs) (with_line x line (kept_among es)) (by-name-among fs) (by-name-with x line (kept_among es) (by-name-among es))
       (λ q.
       updated (Some (Freed line)) same q
-      ∙ sym (line-with q x line (kept_among es) ∙ ap (λ b. cond b (Some line) (line_of q (kept_among es))) (swapped q x)))
+      ∙ sym (line-with q x line (kept_among es) ∙ ap (λ b. cond b (Some line) (line_of q (kept_among es))) (bytes_eq-swapped q x)))
 
   -- a name that is put or taken out is not
   pub kept-other : (w : Option Known) → line_in w ≡ None → ((q : List ℕ) → lookup (bytes_eq q) fs ≡ cond (bytes_eq x q) w (lookup (bytes_eq q) es)) → kept_among fs ≡ without_name x (kept_among es)

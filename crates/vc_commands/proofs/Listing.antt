@@ -18,6 +18,7 @@ use Rattle.vc_region.proofs.Relabel.{blocks-relabelled}
 use Rattle.vc_region.proofs.RestFound.{rest-next, rest-own}
 use Rattle.vc_region.proofs.Sound.{own_places}
 use Rattle.vc_model.proofs.Sorting as sorting
+use Rattle.vc_base.proofs.Options.{option_map-None}
 use Rattle.vc_script.specs.declared.place.Place.{Place}
 use Rattle.vc_script.specs.declared.reply.Reply.TheVariants.{AddrIn, AddrNone}
 use Rattle.vc_commands.specs.declared.region.labels.Labels.{Labels}
@@ -35,10 +36,6 @@ pub from_some : {A B : Type 0} (f : A → B) (o : Option A) (y : B) → option_m
 from_some f None y e = absurd (none-some y e)
 from_some f (Some x) y e = record { from = x; was = refl; to = same_Some (f x) y e }
 
-pub from_none : {A B : Type 0} (f : A → B) (o : Option A) → option_map f o ≡ None → o ≡ None
-from_none f None e = refl
-from_none f (Some x) e = absurd (none-some (f x) (sym e))
-
 -- where a block is, and the offset in it
 abbrev pub told_at : Block ℕ × ℕ → ℕ × ℕ
 told_at f = (address_of f.0, f.1)
@@ -48,7 +45,7 @@ pub addr-none : (r : Region ℕ) (labels : Labels) (at : ℕ × ℕ) → option_
 addr-none r labels at e =
     ap (λ bs. addr_reply (block_at at bs)) (blocks-relabelled (name_of labels) r)
     ∙ (ap addr_reply (block_at-relabel (name_of labels) at (blocks_of r))
-    ∙ ap (λ (o : Option (Block ℕ × ℕ)). addr_reply (option_map {U = Block Label × ℕ} (λ g. (relabel_block (name_of labels) g.0, g.1)) o)) (from_none told_at (block_at at (blocks_of r)) e))
+    ∙ ap (λ (o : Option (Block ℕ × ℕ)). addr_reply (option_map {U = Block Label × ℕ} (λ g. (relabel_block (name_of labels) g.0, g.1)) o)) (option_map-None told_at (block_at at (blocks_of r)) e))
 
 -- one block does
 pub addr-some :
@@ -110,7 +107,7 @@ fewer-above bs after a places next =
     omega (arith, e)
 
 pub none-above : (bs : List (Block ℕ)) (after : ℕ) → HaveOwnPlaces bs → option_map address_of (next_block after bs) ≡ None → blocks_above after bs ≡ []
-none-above bs after places next = blocks-end after bs places (from_none address_of (next_block after bs) next)
+none-above bs after places next = blocks-end after bs places (option_map-None address_of (next_block after bs) next)
 
 -- in an open region, but for the bytes in its cells
 module _ {I : Type 0} {V : I → Type 0} (r : Open I V) where

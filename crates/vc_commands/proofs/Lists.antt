@@ -10,21 +10,13 @@ use Rattle.vc_model.specs.Sound.{HaveOwnPlaces}
 use Rattle.vc_model.specs.Touch.{change_block, find_block}
 use Rattle.vc_model.proofs.Pairs.{AllPairs-head, AllPairs-tail, all-recursion}
 use Rattle.vc_model.proofs.Places.{Among}
-
-pub or-swap : (a b c : Bool) → (a || (b || c)) ≡ (b || (a || c))
-or-swap true true c = refl
-or-swap true false c = refl
-or-swap false true c = refl
-or-swap false false c = refl
+use Rattle.vc_base.proofs.Booleans.{or-swap}
+use Rattle.vc_base.proofs.Quantifiers.{all-weaken}
 
 pub count-cons : {A : Type 0} (test : A → Bool) (x : A) (xs : List A) → count_by test (x ∷ xs) ≡ cond (test x) 1 0 + count_by test xs
 count-cons test x xs =
     let first : 0 + cond (test x) 1 0 ≡ cond (test x) 1 0 = omega arith in
     sum_by-append (λ y. cond (test y) 1 0) (x ∷ []) xs ∙ ap (λ n. n + count_by test xs) first
-
-pub all-map : {A : Type 0} (P Q : A → Type 0) (xs : List A) → ((x : A) → P x → Q x) → AllByRecursion P xs → AllByRecursion Q xs
-all-map P Q [] f all = tt
-all-map P Q (x ∷ xs) f all = (f x all.0, all-map P Q xs f all.1)
 
 pub any-alike : {A : Type 0} (test other : A → Bool) (xs : List A) → AllByRecursion (λ x. test x ≡ other x) xs → list_any test xs ≡ list_any other xs
 any-alike test other [] same = refl
@@ -136,7 +128,7 @@ module _ (p : ℕ × ℕ) (b : Block ℕ) where
       ⊎_elim
       (λ t.
       subst (AllByRecursion Q) (sym (without-here c cs t))
-      (all-map (R c) Q cs (λ d differs same. differs (ap address_of (first_at c cs e t) ∙ sym same)) head))
+      (all-weaken (R c) Q cs (λ d differs same. differs (ap address_of (first_at c cs e t) ∙ sym same)) head))
       (λ t.
       let later = later_at c cs e t in
       subst (AllByRecursion Q) (sym (without-later c cs t))

@@ -12,6 +12,7 @@ use Rattle.vc_model.specs.Layout.{Block, address_of, without_block}
 use Rattle.vc_region.specs.Region.{Region, blocks_of, keeps_freed, region_with_labels}
 use Rattle.vc_model.specs.Sound.{HaveOwnPlaces}
 use Rattle.vc_model.specs.Touch.{find_block}
+use Rattle.vc_base.proofs.Texts.{same_bytes}
 use Rattle.vc_region.proofs.Relabel.{relabelled-alike}
 use Rattle.vc_commands.specs.Blocks.{is_name_of}
 use Rattle.vc_commands.specs.declared.region.labels.Label.{Label}
@@ -21,7 +22,7 @@ use Rattle.vc_commands.specs.Labels.{AreLabels, MovesLabel, WithLabel, WithoutLa
 use Rattle.vc_commands.specs.Held.{IsLive, IsNamed, tag_count}
 use Rattle.vc_commands.proofs.FoundBlocks.{TheBlock}
 use Rattle.vc_commands.proofs.Lists.{all-join, all-without, any-alike, any-split, count-split, others-apart}
-use Rattle.vc_commands.proofs.Names.{has-label-any, name-alike, name-here, name-none, named_by, other_bytes, same_bytes}
+use Rattle.vc_commands.proofs.Names.{has-label-any, name-alike, name-here, name-none, named_by, other_bytes}
 
 zero-or : (n : ℕ) → (n ≡ 0) ⊎ (1 ≤ n)
 zero-or zero = inl refl

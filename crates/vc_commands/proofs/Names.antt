@@ -8,6 +8,7 @@ use Rattle.std.proofs.lemmas.Bool.Decides.{nat_tests}
 use Rattle.std.proofs.lemmas.Option.{none-some}
 use Rattle.std.proofs.lemmas.Slice.Eq.{bytes_eq-Decides}
 use Rattle.vc_model.specs.Layout.{Block, relabel_block}
+use Rattle.vc_base.proofs.Quantifiers.{any-map}
 use Rattle.vc_region.specs.Region.{Region, blocks_of, region_with_labels}
 use Rattle.vc_region.proofs.Relabel.{blocks-relabelled, relabelled-alike}
 use Rattle.vc_commands.specs.Home as home
@@ -16,12 +17,7 @@ use Rattle.vc_commands.specs.declared.region.labels.Label.{Label}
 use Rattle.vc_commands.specs.declared.region.labels.Labels.{Labels}
 use Rattle.vc_commands.specs.Labels.{AreLabels, SameLabels, label_at, name_of}
 use Rattle.vc_commands.specs.Held.{IsLive, IsNamed, tag_count}
-use Rattle.vc_commands.proofs.Firsts.{any-unmap}
 use Rattle.vc_commands.proofs.Lists.{count-cons}
-
--- two texts are equal, or they differ
-pub same_bytes : (x y : List ℕ) → bytes_eq x y ≡ true → x ≡ y
-same_bytes x y e = (bytes_eq-Decides x y).0 e
 
 pub other_bytes : (x y : List ℕ) → bytes_eq x y ≡ false → x ≢ y
 other_bytes x y differ e = false≢true (sym differ ∙ (bytes_eq-Decides x y).1 e)
@@ -31,7 +27,7 @@ abbrev pub named_by : (ℕ → home.Label) → List ℕ → Block ℕ → Bool
 named_by f x b = is_name_of x (f b.label)
 
 pub has-label-any : (f : ℕ → home.Label) (x : List ℕ) (r : Region ℕ) → has_label x (region_with_labels f r) ≡ list_any (named_by f x) (blocks_of r)
-has-label-any f x r = ap (list_any (is_block x)) (blocks-relabelled f r) ∙ any-unmap (is_block x) (relabel_block f) (blocks_of r)
+has-label-any f x r = ap (list_any (is_block x)) (blocks-relabelled f r) ∙ any-map (relabel_block f) (is_block x) (blocks_of r)
 
 -- the name of a tag in use, and of none
 pub name-here : (labels : Labels) (tag : ℕ) (l : Label) → 1 ≤ tag → label_at labels tag ≡ Some l → name_of labels tag ≡ Some l.name

@@ -7,6 +7,7 @@ use Rattle.std.proofs.lemmas.Bool.Decides.{nat_tests}
 use Rattle.std.proofs.lemmas.Option.{none-some}
 use Rattle.vc_base.specs.declared.addr.Addr.{Addr}
 use Rattle.vc_base.specs.Cells.{Blocks}
+use Rattle.vc_base.proofs.Options.{none_of}
 use Rattle.vc_model.specs.Addr.{address, place_of}
 use Rattle.vc_model.specs.Best.{zeros}
 use Rattle.vc_model.specs.Discipline.{Discipline, HasOut, Unserved}
@@ -79,13 +80,9 @@ unless-new : (named : Bool) (o : Option Refusal) → cond named (Some why.BlockE
 unless-new true o e = absurd (none-some why.BlockExists (sym e))
 unless-new false o e = refl
 
-none-of-some : {A : Type 0} (o : Option A) → is_some o ≡ false → o ≡ None
-none-of-some None e = refl
-none-of-some (Some x) e = absurd cc
-
 -- a block that isn't refused has a new name
 pub new-name : (labels : Labels) (x : List ℕ) (legal : Option Refusal) → new_refused labels x legal ≡ None → tag_of labels x ≡ None
-new-name labels x legal is = none-of-some (tag_of labels x) (unless-new (is_some (tag_of labels x)) (new_refused_by labels x legal) is)
+new-name labels x legal is = none_of (tag_of labels x) (unless-new (is_some (tag_of labels x)) (new_refused_by labels x legal) is)
 
 pub gives-put : (h : Home) (x : List ℕ) (kept : FreedNames) (watch : Option ℕ) (f : ℕ → home.Label) (o : Outcome (Put (Region ℕ))) (a : ℕ) (r' : Region ℕ) → IsPut o a r' → GivesRegion (put_in h x kept watch (outcome_as (region_with_labels f) o)) (region_with_labels f r', kept) (at_place x (place_of a) watch)
 gives-put h x kept watch f (Done p) a r' is = record { region_after = ap (region_with_labels f) (sym is.2); kept_after = refl; replied = ap (λ q. at_place x q watch) is.1 }

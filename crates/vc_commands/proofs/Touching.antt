@@ -3,6 +3,7 @@ use Rattle.std.proofs.Common.{◌≡◌, ℕ, ◌+◌, ◌<◌, ◌≤◌, Bool,
 use Rattle.std.specs.Prelude.{nat_le}
 use Rattle.std.proofs.lemmas.Bool.Decides.{nat_tests}
 use Rattle.std.proofs.lemmas.Option.{same_Some}
+use Rattle.std.proofs.lemmas.Bool.{and_right}
 use Rattle.vc_base.specs.declared.addr.Addr.{Addr}
 use Rattle.vc_model.specs.Addr.{address, place_of}
 use Rattle.vc_model.specs.Layout.{Block, address_of, without_block}
@@ -37,19 +38,15 @@ range-within off len size some few within =
     ap (λ b. (b && nat_le len 4096) && nat_le (off + len) size) (le-within 1 len some)
     ∙ (ap (λ b. b && nat_le (off + len) size) (le-within len 4096 few) ∙ le-within (off + len) size within)
 
-and-false : (a b : Bool) → b ≡ false → (a && b) ≡ false
-and-false true b e = e
-and-false false b e = refl
-
 pub range-none : (off len size : ℕ) → len ≡ 0 → ((nat_le 1 len && nat_le len 4096) && nat_le (off + len) size) ≡ false
 range-none off len size none = ap (λ b. (b && nat_le len 4096) && nat_le (off + len) size) (le-beyond 1 len (omega (arith, none)))
 
 pub range-many : (off len size : ℕ) → 4096 < len → ((nat_le 1 len && nat_le len 4096) && nat_le (off + len) size) ≡ false
 range-many off len size many =
-    ap (λ b. b && nat_le (off + len) size) (and-false (nat_le 1 len) (nat_le len 4096) (le-beyond len 4096 many))
+    ap (λ b. b && nat_le (off + len) size) (and_right (nat_le 1 len) (nat_le len 4096) (le-beyond len 4096 many))
 
 pub range-beyond : (off len size : ℕ) → size < off + len → ((nat_le 1 len && nat_le len 4096) && nat_le (off + len) size) ≡ false
-range-beyond off len size over = and-false (nat_le 1 len && nat_le len 4096) (nat_le (off + len) size) (le-beyond (off + len) size over)
+range-beyond off len size over = and_right (nat_le 1 len && nat_le len 4096) (nat_le (off + len) size) (le-beyond (off + len) size over)
 
 module _ (h : Held) {x : List ℕ} {addr : Addr} (has : HasName h.region h.labels x addr) where
   abbrev pub b : TheBlock h.region h.labels x has.tag addr.0

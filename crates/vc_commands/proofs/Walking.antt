@@ -6,6 +6,7 @@ use Rattle.std.specs.Prelude.{IfSome, IsSome, if◌then◌else◌}
 use Rattle.std.proofs.lemmas.Bool.{or_right}
 use Rattle.std.proofs.lemmas.List.{append-nil, length-map, map-append}
 use Rattle.vc_base.specs.declared.addr.Addr.{Addr}
+use Rattle.vc_base.proofs.Quantifiers.{all-middle, any-middle}
 use Rattle.vc_dtdisc.specs.Finding.{before_first_from, behind_last, first_of, last_from}
 use Rattle.vc_dtdisc.specs.Objects.{has_key}
 use Rattle.vc_dtdisc.specs.Rules.{Rules}
@@ -145,10 +146,6 @@ pub record IsHere (all : Layered) (links : Links) (d : ℕ) (p : ℕ × Addr) (i
   pub place : numbers_of p ≡ place_of one
   pub meant : IsMeant all d (Some p) (Some one)
 
-all-middle : {A : Type 0} (P : A → Type 0) (front : List A) (x : A) (back : List A) → AllByRecursion P (front ++ x ∷ back) → P x
-all-middle P [] x back h = h.0
-all-middle P (y ∷ ys) x back h = all-middle P ys x back h.1
-
 here-of : (all : Layered) (links : Links) (d : ℕ) (p : ℕ × Addr) (items : List (List ℕ)) (front back : List (Seen ℕ)) → AreLayers all → IsPath all links d
     → visible_of all links d ≡ front ++ back → items ≡ map seen_bytes front → Answers (Some p) (first_of back) → IsHere all links d p items
 here-of all links d p items front [] lawful on whole told h = absurd (none-some (numbers_of p) (sym h))
@@ -167,11 +164,6 @@ here-of all links d p items front (x ∷ back) lawful on whole told h =
 pub walked-here : (all : Layered) (links : Links) (d : ℕ) (at : Option (ℕ × Addr)) (p : ℕ × Addr) (items : List (List ℕ)) → AreLayers all → IsPath all links d → at ≡ Some p → Walked all links d at items → IsHere all links d p items
 walked-here all links d at p items lawful on is w =
     here-of all links d p items w.front w.back lawful on w.whole w.told (subst (λ z. Answers z (first_of w.back)) is w.here)
-
--- it is seen there
-any-middle : {A : Type 0} (test : A → Bool) (front : List A) (x : A) (back : List A) → test x ≡ true → list_any test (front ++ x ∷ back) ≡ true
-any-middle test [] x back h = rw h refl
-any-middle test (y ∷ ys) x back h = or_right (test y) (list_any test (ys ++ x ∷ back)) (any-middle test ys x back h)
 
 pub here-visible : (all : Layered) (links : Links) (d : ℕ) (p : ℕ × Addr) (items : List (List ℕ)) → IsHere all links d p items → IsVisible all links d (numbers_of p)
 here-visible all links d p items w =

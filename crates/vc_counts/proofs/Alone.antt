@@ -5,15 +5,14 @@ use Rattle.std.specs.List.{AllByRecursion, IsDistinct}
 use Rattle.std.specs.Map.{keys_of}
 use Rattle.std.specs.Str.{bytes_eq}
 use Rattle.std.proofs.lemmas.Map.Keys.{IsDistinct-head, IsDistinct-tail}
-use Rattle.vc_commands.proofs.Names.{same_bytes}
 use Rattle.vc_commands.specs.Held.{Held, home_of}
 use Rattle.vc_commands.specs.Home.{Home, is_home}
 use Rattle.vc_commands.specs.declared.region.home.HomeEntry.{HomeEntry}
 use Rattle.vc_commands.specs.declared.region.labels.Labels.{Labels}
 use Rattle.vc_dtdisc.specs.Finding.{without_first}
 use Rattle.vc_model.specs.Discipline.{Discipline}
+use Rattle.vc_base.proofs.Texts.{same_bytes, bytes_eq-swapped}
 use Rattle.vc_steps.proofs.DictsStay.{Entry, Vs}
-use Rattle.vc_steps.proofs.Helds.{swapped}
 use Rattle.vc_steps.specs.DictHomes.{dicts_in}
 use Rattle.vc_steps.specs.Dicts.{without_dict}
 use Rattle.vc_steps.specs.Homes.{held_all}
@@ -29,7 +28,7 @@ module _ {A : Type 0} (named : A → List ℕ) where
 
   none-named : (r : List ℕ) (xs : List A) → AllByRecursion (λ n. bytes_eq r n ≡ false) (map named xs) → find (has_name r) xs ≡ None
   none-named r [] all = refl
-  none-named r (x ∷ xs) all = ap (λ b. cond b (Some x) (find (has_name r) xs)) (swapped (named x) r ∙ all.0) ∙ none-named r xs all.1
+  none-named r (x ∷ xs) all = ap (λ b. cond b (Some x) (find (has_name r) xs)) (bytes_eq-swapped (named x) r ∙ all.0) ∙ none-named r xs all.1
 
   alone-by : (r : List ℕ) (b : Bool) (x : A) (xs left : List A) → b ≡ has_name r x → (has_name r x ≡ true → find (has_name r) xs ≡ None) → find (has_name r) left ≡ None → find (has_name r) (cond b xs (x ∷ left)) ≡ None
   alone-by r true x xs left is here there = here (sym is)

@@ -62,20 +62,6 @@ free-leaves (OfLast l) at = free-latest l at (latest l)
 free-leaves (OfDebug d) at = refl
 free-leaves (OfProfile p) at = refl
 
-pub write-leaves : {L : Type 0} (r : Region L) (at : ℕ × ℕ) (off : ℕ) (src : List ℕ) → segments_of (region_write r at off src) ≡ segments_of r
-write-leaves (OfBest l) at off src = refl
-write-leaves (OfPool p) at off src = refl
-write-leaves (OfLast l) at off src = refl
-write-leaves (OfDebug d) at off src = refl
-write-leaves (OfProfile p) at off src = refl
-
-pub clear-leaves : {L : Type 0} (r : Region L) → segments_of (region_clear r) ≡ segments_of r
-clear-leaves (OfBest l) = refl
-clear-leaves (OfPool p) = refl
-clear-leaves (OfLast l) = refl
-clear-leaves (OfDebug d) = refl
-clear-leaves (OfProfile p) = refl
-
 pub poke-leaves : {L : Type 0} (r : Region L) (at : ℕ × ℕ) (off : ℤ) (byte : ℕ) → segments_of (region_poke r at off byte) ≡ segments_of r
 poke-leaves (OfBest l) at off byte = refl
 poke-leaves (OfPool p) at off byte = refl

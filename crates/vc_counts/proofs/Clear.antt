@@ -18,18 +18,12 @@ use Rattle.vc_model.specs.Outcome.{Outcome, Done, Put, Refused}
 use Rattle.vc_model.specs.Place.{best_gap, holds, lowest_offset}
 use Rattle.vc_model.specs.Segments.{Asked, Granted, TooMany, NotLent, ask, lowest_unused, numbers, segment_limit, span, unused_from}
 use Rattle.vc_model.specs.Sound.{HaveOwnNumbers, IsUsable}
+use Rattle.vc_base.proofs.Places.{some-span}
+use Rattle.vc_base.proofs.Options.{option_map-Some}
 use Rattle.vc_seg.proofs.Rounding.{round_up-least}
 use Rattle.vc_seg.proofs.Unused.{is_among, lowest_unused-unused}
 use Rattle.vc_counts.proofs.RegionLends.{either}
 use Rattle.vc_counts.proofs.Sized.{HasSized, IsClear, sized-more}
-
-some-span : (size : ℕ) → 1 ≤ span size
-some-span size = omega arith
-
--- what an item is mapped to that is found
-found-map : {A B : Type 0} (f : A → B) (o : Option A) (y : B) → option_map f o ≡ Some y → (x : A) × (o ≡ Some x) × (f x ≡ y)
-found-map f None y e = absurd (none-some y e)
-found-map f (Some x) y e = (x, refl, same_Some (f x) y e)
 
 module _ {L : Type 0} where
   covers : (at : ℕ × ℕ) (b : Block L) → is_at at b ≡ true → Covers (footprint b) (at.0, at.1 - 16)
@@ -65,7 +59,7 @@ module _ {L : Type 0} where
         let all : List Run = gaps r.segments (footprints r.blocks) in
         let test : Run → Bool = holds (span size) align in
         let P : Run → Type 0 = λ g. IsClear (place_at g) r.blocks in
-        let found = found-map place_at (best_gap r.segments (footprints r.blocks) size align) at e in
+        let found = option_map-Some place_at (best_gap r.segments (footprints r.blocks) size align) at e in
         let each : All P (filter test all) =
         λ k d lt. clear-gap (get_or (filter test all) k d) (All-filter test (Contains all) all (All-contains_itself all) k d lt) (filter_passes test all k d lt) in
         subst (λ p. IsClear p r.blocks) found.2 (least-from P None (filter test all) found.0 (λ c q. absurd (none-some c q)) each found.1)

@@ -3,6 +3,7 @@ use Rattle.std.proofs.Common.{ℕ, ◌+◌, ℤ, Bool, ◌&&◌, List, [], ◌�
 use Rattle.std.specs.Prelude.{find, nat_le}
 use Rattle.vc_model.specs.Layout.{Block}
 use Rattle.vc_model.specs.Outcome.{Outcome, Done, Put, Refused}
+use Rattle.vc_region.proofs.Clearing.{written-segments, cleared-segments}
 use Rattle.vc_objects.specs.Objects.{option_list}
 use Rattle.vc_region.specs.Region.{Region, blocks_of, is_debug, is_profile, region_align, region_alloc, region_free, region_resize, region_write, segments_of, watch_at}
 use Rattle.vc_script.specs.declared.command.Command.{Command}
@@ -15,7 +16,7 @@ use Rattle.vc_commands.specs.Blocks.{align_refused, free_block, free_in, change_
 use Rattle.vc_commands.specs.Home.{Changed, Home, Label, refusal_alone}
 use Rattle.vc_commands.specs.FreedNames.{FreedNames, without_name}
 use Rattle.vc_commands.specs.RegionCommands.{in_region, is_for_block}
-use Rattle.vc_counts.proofs.CallLends.{LeavesIn, align-puts, alloc-puts, clear-leaves, compact-lends, free-leaves, poke-leaves, resize-puts, watch-leaves, write-leaves}
+use Rattle.vc_counts.proofs.CallLends.{LeavesIn, align-puts, alloc-puts, compact-lends, free-leaves, poke-leaves, resize-puts, watch-leaves}
 use Rattle.vc_counts.proofs.Lending.{Lends, lends-more, lends-same}
 use Rattle.vc_counts.proofs.RegionLends.{PutsIn, either}
 
@@ -65,7 +66,7 @@ write-changes : (h : Home) (x : List ℕ) (off : ℕ) (bytes : List ℕ) → Cha
 write-changes h x off bytes =
     on-named h x (find (is_block x) (blocks_of h.region)) (write_block h x off bytes)
     (λ b. either (Changes h) (nat_le (off + length bytes) b.size) _ (refusal_alone h why.Range)
-    (lends-same (segments_of h.region) (segments_of (region_write h.region (b.seg, b.off) off bytes)) (write-leaves h.region (b.seg, b.off) off bytes))
+    (lends-same (segments_of h.region) (segments_of (region_write h.region (b.seg, b.off) off bytes)) (written-segments h.region (b.seg, b.off) off bytes))
     (same h))
 
 read-changes : (h : Home) (x : List ℕ) (off len : ℕ) → Changes h (read_in h x off len)
@@ -91,7 +92,7 @@ watch-changes h line x =
 
 -- a command in a region changes its segments by what it is granted
 pub command-changes : (h : Home) (line : ℕ) (command : Command) (need : Need) → Changes h (in_region h line command need)
-command-changes h line (ClearRegion r) need = lends-same (segments_of h.region) _ (clear-leaves h.region)
+command-changes h line (ClearRegion r) need = lends-same (segments_of h.region) _ (cleared-segments h.region)
 command-changes h line (Compact r) need = compact-lends h.region
 command-changes h line (Alloc r x size site) need =
     new-changes h x (size_refused size) (region_alloc h.terms h.region (Some x) (site_of site) size (is_for_block need))

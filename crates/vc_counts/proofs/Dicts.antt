@@ -3,7 +3,7 @@ use Rattle.std.proofs.Common.{◌≡◌, ℕ, Bool, true, false, cond, List, [],
 use Rattle.std.specs.List.{list_any}
 use Rattle.std.proofs.lemmas.Bool.{or_parts}
 use Rattle.std.proofs.lemmas.Option.{none-some, same_Some}
-use Rattle.vc_commands.proofs.Names.{same_bytes}
+use Rattle.vc_base.proofs.Texts.{same_bytes}
 use Rattle.vc_objects.specs.Objects.{Dictionary}
 use Rattle.vc_steps.specs.Dicts.{with_dict}
 use Rattle.vc_views.specs.Views.{DictHome, dict_named, is_dict}

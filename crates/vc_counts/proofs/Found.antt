@@ -14,6 +14,7 @@ use Rattle.vc_commands.specs.declared.dict.entry.DictEntry.{DictEntry}
 use Rattle.vc_commands.specs.declared.region.home.HomeEntry.{HomeEntry}
 use Rattle.vc_commands.specs.declared.region.labels.Labels.{Labels}
 use Rattle.vc_model.specs.Discipline.{Discipline}
+use Rattle.vc_base.proofs.Texts.{bytes_eq-swapped}
 use Rattle.vc_dtdisc.specs.Rules.{Rules}
 use Rattle.vc_objects.specs.Objects.{Dictionary, slots_of, table_size}
 use Rattle.vc_objects.specs.Parts.{dictionary_of, table_of}
@@ -25,7 +26,7 @@ use Rattle.vc_region.specs.Region.{segments_of}
 use Rattle.vc_region.specs.Stat.{stat_of}
 use Rattle.vc_script.specs.declared.command.Command.{Command}
 use Rattle.vc_seg.specs.declared.stat.Stat.{Stat}
-use Rattle.vc_steps.proofs.Helds.{any-named, swapped}
+use Rattle.vc_steps.proofs.Helds.{any-named}
 use Rattle.vc_steps.proofs.RegionAt.{RegionAt, region-named, region_at, stored_at}
 use Rattle.vc_steps.proofs.DictRegions.{dicts-to, held_seen, over-seen, regions-held}
 use Rattle.vc_steps.specs.DictHomes.{cells_named, dict_home, dicts_in}
@@ -71,7 +72,7 @@ module _ (hs : List Held) (views : ℕ → Option (List ℕ)) {A : Type 0} (told
 
   dict-told : (es : List (List ℕ × DictEntry)) → option_map told (dict_named d (dicts_in hs views es)) ≡ option_map by_entry (lookup (bytes_eq d) es)
   dict-told [] = refl
-  dict-told (e ∷ es) = told-if (bytes_eq e.0 d) (bytes_eq d e.0) e (dict_named d (dicts_in hs views es)) (lookup (bytes_eq d) es) (swapped e.0 d) (dict-told es)
+  dict-told (e ∷ es) = told-if (bytes_eq e.0 d) (bytes_eq d e.0) e (dict_named d (dicts_in hs views es)) (lookup (bytes_eq d) es) (bytes_eq-swapped e.0 d) (dict-told es)
 
 -- the region of a command on a dictionary is that of its entry, where the session has one
 pub dict-worked : {I : Type 0} {V : I → Type 0} {D : Type 0} (meaning : (x : I) × V x → Discipline) (session : Session D I V) (command : Command) (d : List ℕ) (o : Option DictEntry) → dict_of command ≡ Some d → o ≡ lookup (bytes_eq d) session.dicts.entries → option_map (λ (e : DictEntry). e.home) o ≡ region_worked (open_state meaning session) command

@@ -14,13 +14,15 @@ use Rattle.vc_commands.specs.Labels.{AreLabels, label_at, name_of, tag_of}
 use Rattle.vc_commands.specs.Sizes.{size_named}
 use Rattle.vc_commands.specs.declared.region.labels.Label.{Label}
 use Rattle.vc_commands.specs.declared.region.labels.Labels.{Labels}
-use Rattle.vc_commands.proofs.Names.{name-first, name-here, same_bytes}
+use Rattle.vc_commands.proofs.Names.{name-first, name-here}
 use Rattle.vc_model.specs.Addr.{address, place_of}
 use Rattle.vc_model.specs.Discipline.{Discipline}
 use Rattle.vc_model.specs.Layout.{Block, address_of, is_at, relabel_block}
 use Rattle.vc_model.specs.Sound.{HaveOwnPlaces}
 use Rattle.vc_model.proofs.Pairs.{AllPairs-head, AllPairs-tail, all-recursion}
 use Rattle.vc_model.proofs.Places.{Among, among-all, among-find, found-there}
+use Rattle.vc_base.proofs.Texts.{same_bytes}
+use Rattle.vc_base.proofs.Lists.{find-passes}
 use Rattle.vc_region.specs.Region.{blocks_of}
 use Rattle.vc_region.proofs.Relabel.{blocks-relabelled}
 use Rattle.vc_steps.specs.Account.{IsSession}
@@ -109,14 +111,6 @@ module _ (labels : Labels) (agree : AreLabels labels) (x : List ℕ) where
       let later : found (find (is_block x) (map named (b ∷ bs))) ≡ found (find (is_block x) (map named bs)) = ap (λ v. found (cond v (Some (named b)) (find (is_block x) (map named bs)))) f in
       omega (arith, rest, here, later))
       (cases_Bool (is_block x (named b)))
-
-find-passes : {A : Type 0} (test : A → Bool) (xs : List A) (x : A) → find test xs ≡ Some x → test x ≡ true
-find-passes test [] x e = absurd (none-some x e)
-find-passes test (y ∷ ys) x e =
-    ⊎_elim
-    (λ t. ap test (sym (same_Some y x (sym (ap (λ v. cond v (Some y) (find test ys)) t) ∙ e))) ∙ t)
-    (λ f. find-passes test ys x (sym (ap (λ v. cond v (Some y) (find test ys)) f) ∙ e))
-    (cases_Bool (test y))
 
 -- a block at the place of the one that has a name has it, too
 module _ (all : List (Block home.Label)) (places : HaveOwnPlaces all) (x : List ℕ) (b : Block home.Label) (at : find (is_block x) all ≡ Some b) where

@@ -9,6 +9,8 @@ use Rattle.std.proofs.lemmas.List.{length-drop}
 use Rattle.std.proofs.lemmas.Option.{none-some, same_Some}
 use Rattle.vc_base.specs.Cells.{Blocks, HasBytes, bytes_at}
 use Rattle.vc_base.specs.Holders.{AreDistinct, contains}
+use Rattle.vc_base.proofs.Lists.{find-map}
+use Rattle.vc_base.proofs.Members.{within-head, within-tail}
 use Rattle.vc_best.specs.Cells.{cells_of, block_shown}
 use Rattle.vc_best.specs.Parts.{layout_of}
 use Rattle.vc_best.proofs.CellBytes.{cell, cell-length}
@@ -21,10 +23,8 @@ use Rattle.vc_commands.specs.declared.region.labels.Labels.{Labels}
 use Rattle.vc_dict.specs.Listed.{holders_of}
 use Rattle.vc_dict.specs.declared.dict.Dict.{Dict}
 use Rattle.vc_dict.proofs.OwnLemmas.{Stands-table, holder-there, holders-distinct, table-apart}
-use Rattle.vc_dtdisc.proofs.FindingLemmas.{find-map}
 use Rattle.vc_dtdisc.specs.Finds.{object_at}
 use Rattle.vc_dtdisc.specs.Rules.{Rules}
-use Rattle.vc_dtlist.proofs.KeptLemmas.{within-head, within-tail}
 use Rattle.vc_laws.specs.Maximal.{AreLawful}
 use Rattle.vc_laws.proofs.Layouts.{AreLawful-from_sound}
 use Rattle.vc_model.specs.Addr.{place_of}

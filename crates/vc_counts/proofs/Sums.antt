@@ -3,12 +3,12 @@ use Rattle.std.proofs.Common.{◌≡◌, ℕ, ◌+◌, Bool, true, false, cond, 
 use Rattle.std.specs.Prelude.{sum}
 use Rattle.std.proofs.lemmas.Option.{same_Some, none-some}
 use Rattle.std.proofs.lemmas.List.Sums.{sum-map, sum_by-cons, sum_by_push}
+use Rattle.vc_base.proofs.Texts.{same_bytes}
 use Rattle.vc_commands.specs.Home.{Home, Label, is_home}
 use Rattle.vc_commands.specs.FreedNames.{FreedNames}
 use Rattle.vc_region.specs.Region.{Region}
 use Rattle.vc_region.specs.Stat.{stat_of}
 use Rattle.vc_steps.specs.State.{home_named, with_region, without_home}
-use Rattle.vc_commands.proofs.Names.{same_bytes}
 use Rattle.vc_counts.specs.Working.{busy_home}
 
 -- the bytes of the blocks of regions

@@ -7,6 +7,7 @@ use Rattle.std.specs.Option.{option_map}
 use Rattle.vc_base.specs.Cells.{Blocks, HasBytes}
 use Rattle.vc_base.specs.Holders.{AreDistinct, contains, first_in, next_in}
 use Rattle.vc_base.specs.declared.addr.Addr.{Addr}
+use Rattle.vc_base.proofs.Members.{within-head, within-tail}
 use Rattle.vc_dict.specs.Listed.{holders_of}
 use Rattle.vc_dict.specs.Stands.{IsIn}
 use Rattle.vc_dict.specs.declared.dict.Dict.{Dict}
@@ -14,7 +15,6 @@ use Rattle.vc_dict.proofs.OwnLemmas.{count-fits, holder-there, holders-distinct}
 use Rattle.vc_dtdisc.specs.Finds.{object_at}
 use Rattle.vc_dtdisc.specs.Rules.{IsObject, Rules}
 use Rattle.vc_dtlist.specs.Linked.{number_of}
-use Rattle.vc_dtlist.proofs.KeptLemmas.{within-head, within-tail}
 use Rattle.vc_objects.specs.Objects.{holder_size}
 use Rattle.vc_objects.specs.Parts.{IsWhole, object_of}
 use Rattle.vc_objects.proofs.Owning.{each-object}

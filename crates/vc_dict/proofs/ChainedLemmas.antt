@@ -8,13 +8,14 @@ use Rattle.std.proofs.lemmas.List.Elements.{All-nil}
 use Rattle.vc_base.specs.declared.addr.Addr.{Addr}
 use Rattle.vc_base.specs.Cells.{Blocks}
 use Rattle.vc_base.specs.Holders.{contains}
+use Rattle.vc_base.proofs.Members.{apart-head, apart-tail, apart-cons, within-head, within-tail}
+use Rattle.vc_dthash.proofs.ChainLemmas.{chain-same}
 use Rattle.vc_dtdisc.specs.Finds.{find_key, object_at}
 use Rattle.vc_dtdisc.specs.Rules.{Rules}
 use Rattle.vc_dtlist.specs.declared.dt_list.DtList.{DtList}
 use Rattle.vc_dtlist.specs.Kept.{KeepsTables}
 use Rattle.vc_dtlist.specs.Linked.{CanAdd, IsPlain, StandsFor, Turned, number_of}
-use Rattle.vc_dtlist.proofs.HolderLemmas.{apart-cons, apart-head, apart-tail}
-use Rattle.vc_dtlist.proofs.KeptLemmas.{KeepsTables-but, StandsFor-kept, StandsFor-same, within-head, within-tail}
+use Rattle.vc_dtlist.proofs.KeptLemmas.{KeepsTables-but, StandsFor-kept, StandsFor-same}
 use Rattle.vc_dtlist.proofs.TurnLemmas.{StandsFor-unique}
 use Rattle.vc_dthash.specs.declared.dt_hash.DtHash.{DtHash}
 use Rattle.vc_dthash.specs.Chained.{chain_of, hash_at}
@@ -48,13 +49,6 @@ KeepsTables-step tables holders within a b c j k w = record {
   bodies = λ x t. k.bodies x t ∙ j.bodies x t;
   others = λ x t h. k.others x t (w x h) ∙ j.others x t h;
 }
-
--- a chain by another way to tell the hashes
-chain-same : (hash hash' : ℕ → ℕ) (slots k : ℕ) (xs : List ℕ) → ((a : ℕ) → contains xs a ≡ true → hash' a ≡ hash a) → chain_of hash' slots k xs ≡ chain_of hash slots k xs
-chain-same hash hash' slots k [] e = refl
-chain-same hash hash' slots k (x ∷ xs) e =
-    ap (λ h. cond (h % slots == k) (x ∷ chain_of hash' slots k xs) (chain_of hash' slots k xs)) (e x (within-head x xs))
-    ∙ ap (λ z. cond (hash x % slots == k) (x ∷ z) z) (chain-same hash hash' slots k xs (λ a h. e a (within-tail x xs a h)))
 
 fewer_by : (steps' steps found chain left rest all : ℕ) → steps' ≤ steps + found → found ≡ chain → left ≡ chain + rest → steps + left ≤ all → steps' + rest ≤ all
 fewer_by steps' steps found chain left rest all f e n h = omega (arith, f, e, n, h)

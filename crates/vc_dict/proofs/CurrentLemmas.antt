@@ -3,13 +3,14 @@ use Rattle.std.proofs.Common.{◌≡◌, ◌≢◌, ℕ, List, [], ◌∷◌, �
 use Rattle.std.specs.Prelude.{◌==◌, if◌then◌else◌}
 use Rattle.std.proofs.lemmas.Bool.{true≢false, eq-eqb, eqb-true, ne_eqb}
 use Rattle.std.proofs.lemmas.Bool.Decides.{eqb_tells}
+use Rattle.std.proofs.lemmas.Iterator.Adapters.{option_map_id}
 use Rattle.vc_base.specs.declared.dict_method.DictMethod.{DictMethod}
 use Rattle.vc_base.specs.declared.dict_method.DictMethod.TheVariants.{DtSet, DtBag, DtOset, DtObag, DtList, DtStack, DtQueue}
 use Rattle.vc_base.specs.Cells.{Blocks}
 use Rattle.vc_base.specs.Holders.{contains, first_in, next_in, some_address, without}
+use Rattle.vc_base.proofs.Members.{apart-head, apart-tail, apart-cons, within-head, within-tail}
 use Rattle.vc_dtdisc.specs.Rules.{Rules}
-use Rattle.vc_dtlist.proofs.HolderLemmas.{apart-append, apart-cons, apart-head, apart-tail}
-use Rattle.vc_dtlist.proofs.KeptLemmas.{within-head, within-tail}
+use Rattle.vc_dtlist.proofs.HolderLemmas.{apart-append}
 use Rattle.vc_dtdisc.specs.Finding.{put_before, put_behind}
 use Rattle.vc_dtdisc.specs.Objects as objects
 use Rattle.vc_dtdisc.specs.Objects.{behind_object}
@@ -127,13 +128,8 @@ within-next : (at : ℕ) (xs : List ℕ) → contains (0 ∷ without at xs) (unw
 within-next at [] = refl
 within-next at (x ∷ xs) = next_by (x == at) at x xs (within-next at xs)
 
--- which one is current then
-no_map : (o : Option ℕ) → option_map (λ a. a) o ≡ o
-no_map None = refl
-no_map (Some a) = refl
-
 is_same : (t : Bool) (at current : ℕ) (xs : List ℕ) → unwrap_or (if t then option_map (λ a. a) (behind_object (λ a. a) at xs) else Some current) 0 ≡ (if t then unwrap_or (next_in at xs) 0 else current)
-is_same true at current xs = ap (λ o. unwrap_or o 0) (no_map (behind_object (λ a. a) at xs) ∙ behind_object-next_in at xs)
+is_same true at current xs = ap (λ o. unwrap_or o 0) (option_map_id (behind_object (λ a. a) at xs) ∙ behind_object-next_in at xs)
 is_same false at current xs = refl
 
 is_none : (t : Bool) (at current : ℕ) (xs : List ℕ) → unwrap_or (objects.current_without (λ a. a) at (if t then None else Some current) xs) 0 ≡ (if t then 0 else if current == at then unwrap_or (next_in at xs) 0 else current)

@@ -9,7 +9,6 @@ use Rattle.vc_dtdisc.specs.Rules.{Rules}
 use Rattle.vc_dtlist.specs.declared.dt_list.DtList.{DtList}
 use Rattle.vc_dtlist.specs.Kept.{KeepsTables}
 use Rattle.vc_dtlist.specs.Linked.{StandsFor, number_of}
-use Rattle.vc_dtlist.proofs.HolderLemmas.{apart-cons}
 use Rattle.vc_dtlist.proofs.KeptLemmas.{KeepsTables-but}
 use Rattle.vc_dthash.specs.declared.dt_hash.DtHash.{DtHash}
 use Rattle.vc_dthash.specs.Hashed.{HashFor, HashTurned}
@@ -17,6 +16,7 @@ use Rattle.vc_dtord.specs.declared.dt_ord.DtOrd.{DtOrd}
 use Rattle.vc_dtord.specs.Ordered.{OrdFor}
 use Rattle.vc_dict.specs.declared.dict.Dict.{Dict}
 use Rattle.vc_base.specs.Methods.{has_table, is_ordered}
+use Rattle.vc_base.proofs.Members.{apart-cons}
 use Rattle.vc_dict.specs.Stands.{Became, HeadsFor, IsMember, Stands, hash_of, heads_of}
 use Rattle.vc_dict.proofs.HeadLemmas.{heads-hash, heads-links, heads-order, ordered_plain}
 use Rattle.vc_dict.proofs.OwnLemmas.{count-fits, holders-told}

@@ -10,7 +10,6 @@ use Rattle.vc_dtdisc.specs.Rules.{Rules}
 use Rattle.vc_dtlist.specs.declared.dt_list.DtList.{DtList}
 use Rattle.vc_dtlist.specs.Linked.{CanAdd, Chain, IsIn as InList, LinksFor, StandsFor}
 use Rattle.vc_dtlist.proofs.AddressLemmas.{AreHolders, LinksFor-holders}
-use Rattle.vc_dtlist.proofs.HolderLemmas.{apart-tail}
 use Rattle.vc_dtlist.proofs.KeptLemmas.{StandsFor-same}
 use Rattle.vc_dthash.specs.Chained.{chain_of, hash_at}
 use Rattle.vc_dthash.specs.Hashed.{CanLink as HashLink, HashFor, IsLinked as InHash}
@@ -24,6 +23,7 @@ use Rattle.vc_dict.specs.declared.heads.Heads.{Heads}
 use Rattle.vc_dict.specs.declared.heads.Heads.TheVariants.{Hash, Links, Order}
 use Rattle.vc_dict.specs.Listed.{holders_from}
 use Rattle.vc_base.specs.Methods.{has_table, is_ordered}
+use Rattle.vc_base.proofs.Members.{apart-tail}
 use Rattle.vc_dict.specs.Stands.{CanLink, HeadsFor, IsMember, Stands, compares_by, hash_of, heads_of, list_of, ord_of}
 
 -- no method has both a table and an order, by which a method that has one hasn't the other

@@ -4,11 +4,12 @@ use Rattle.std.specs.Prelude.{if◌then◌else◌}
 use Rattle.std.specs.Cmp.{IsTotalOrder}
 use Rattle.vc_base.specs.Cells.{Blocks}
 use Rattle.vc_base.specs.Holders.{KeepsBut, contains}
+use Rattle.vc_base.proofs.Members.{apart-head, apart-cons, within-tail}
 use Rattle.vc_dtdisc.specs.Rules.{Rules}
 use Rattle.vc_dtlist.specs.declared.dt_list.DtList.{DtList}
 use Rattle.vc_dtlist.specs.Linked.{StandsFor}
-use Rattle.vc_dtlist.proofs.HolderLemmas.{apart-append, apart-cons, apart-head}
-use Rattle.vc_dtlist.proofs.KeptLemmas.{KeepsBut-none, StandsFor-kept, within-tail}
+use Rattle.vc_dtlist.proofs.HolderLemmas.{apart-append}
+use Rattle.vc_dtlist.proofs.KeptLemmas.{KeepsBut-none, StandsFor-kept}
 use Rattle.vc_dtord.specs.Ordered.{IsSorted}
 use Rattle.vc_dict.specs.declared.weeded.Weeded.{Weeded}
 use Rattle.vc_dict.specs.Orders.{dropped_holders, has_match, kept_holders}

@@ -6,11 +6,11 @@ use Rattle.vc_base.specs.Holders.{AreDistinct, contains}
 use Rattle.vc_dtdisc.specs.Finds.{object_at}
 use Rattle.vc_dtdisc.specs.Rules.{Rules}
 use Rattle.vc_dtlist.proofs.AddressLemmas.{AreHolders, few-holders, no-holder}
-use Rattle.vc_dtlist.proofs.KeptLemmas.{within-head, within-tail}
 use Rattle.vc_dthash.specs.Hashed.{HasTable}
 use Rattle.vc_dict.specs.declared.dict.Dict.{Dict}
 use Rattle.vc_dict.specs.Listed.{holders_of}
 use Rattle.vc_base.specs.Methods.{has_table}
+use Rattle.vc_base.proofs.Members.{within-head, within-tail}
 use Rattle.vc_dict.specs.Stands.{Stands, heads_of}
 use Rattle.vc_dict.proofs.HeadLemmas.{HeadsFor-holders, Stands-stays, as_hash, heads-told}
 

@@ -4,6 +4,7 @@ use Rattle.std.specs.Prelude.{◌==◌, ◌&&◌, not, if◌then◌else◌}
 use Rattle.std.specs.Cmp.{IsTotalOrder}
 use Rattle.std.proofs.lemmas.Bool.{true≢false, eq-eqb}
 use Rattle.std.proofs.lemmas.Bool.Decides.{eqb_tells}
+use Rattle.std.proofs.lemmas.List.{nil_from_length}
 use Rattle.vc_base.specs.declared.addr.Addr.{Addr}
 use Rattle.vc_base.specs.declared.dict_method.DictMethod.{DictMethod}
 use Rattle.vc_base.specs.Cells.{Blocks}
@@ -12,7 +13,6 @@ use Rattle.vc_dtdisc.specs.Rules.{Rules}
 use Rattle.vc_dtdisc.specs.Finds.{object_at}
 use Rattle.vc_dtlist.specs.declared.dt_list.DtList.{DtList}
 use Rattle.vc_dtlist.specs.Linked.{StandsFor}
-use Rattle.vc_dtlist.proofs.HolderLemmas.{apart-cons, apart-head, apart-tail}
 use Rattle.vc_dtlist.proofs.KeptLemmas.{StandsFor-kept}
 use Rattle.vc_dthash.specs.declared.dt_hash.DtHash.{DtHash}
 use Rattle.vc_dthash.specs.Hashed.{CanChain, HasTable, HashFor, IsTable}
@@ -22,6 +22,7 @@ use Rattle.vc_dtord.specs.Ordered.{OrdFor}
 use Rattle.vc_dtord.proofs.SortedLemmas.{IsSorted-same}
 use Rattle.vc_dict.specs.declared.dict.Dict.{Dict}
 use Rattle.vc_base.specs.Methods.{has_table, is_ordered}
+use Rattle.vc_base.proofs.Members.{apart-head, apart-tail, apart-cons}
 use Rattle.vc_dict.specs.Methods.{slots_between}
 use Rattle.vc_dict.specs.Orders.{dropped_by, kept_by, ordered_by}
 use Rattle.vc_dict.specs.Planting.{IsInOrder, Planted}
@@ -84,10 +85,6 @@ empty_by rules d b method block size holders true e r s h zero =
 empty_by rules d b method block size holders false e r s h zero =
     let new : block ≡ 0 = sym (ap (λ z. if z && has_table d.method then d.table.0 else block) h ∙ ap (λ z. if z then d.table.0 else block) e) ∙ zero in
     absurd (need_block (has_table method) (has_table d.method) block size (slots_for d.count) h e r.needs new)
-
-no_more : (xs : List ℕ) → length xs ≡ 0 → xs ≡ []
-no_more [] h = refl
-no_more (x ∷ xs) h = absurd (omega (arith, h))
 
 -- its heads by the method, and that it has no table where the method has none
 made_by : (t u : Bool) (rules : Rules) (new : Dict) (b : Blocks) (xs : List ℕ) → has_table new.method ≡ t → is_ordered new.method ≡ u → (has_table new.method ≡ true → HashFor rules (hash_of new) b xs) → (has_table new.method ≡ false → is_ordered new.method ≡ false → StandsFor (list_of new) b xs) → (is_ordered new.method ≡ true → OrdFor rules (ord_of new) b xs) → HeadsFor rules (heads_by t u new) b xs
@@ -171,7 +168,7 @@ module _ {rules : Rules} {method : DictMethod} {d : Dict} {b b1 : Blocks} {block
     table = table-now;
     empty = λ zero.
         let none = empty_by rules d b method block size holders (has_table d.method) refl r s h (sym te ∙ zero) in
-        no_more xs (long ∙ none);
+        nil_from_length xs (long ∙ none);
   }
 
   pub can-settle : CanSettle rules method (hash_of turned) b1

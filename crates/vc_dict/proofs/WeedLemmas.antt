@@ -3,15 +3,17 @@ use Rattle.std.proofs.Common.{◌≡◌, ◌≢◌, ℕ, ◌+◌, ◌≤◌, Lis
 use Rattle.std.specs.Prelude.{if◌then◌else◌}
 use Rattle.std.specs.Option.{option_map}
 use Rattle.std.specs.Ordering.{is_eq}
+use Rattle.std.proofs.lemmas.List.{nil_from_length}
 use Rattle.vc_base.specs.declared.addr.Addr.{Addr}
 use Rattle.vc_base.specs.Cells.{Blocks}
 use Rattle.vc_base.specs.Holders.{KeepsBut, contains, last_of}
+use Rattle.vc_base.proofs.Members.{apart-head, apart-tail, apart-cons, apart-front, apart-rest, within-head, within-tail}
 use Rattle.vc_dtdisc.specs.Finds.{find_key, has_key, object_at}
 use Rattle.vc_dtdisc.specs.Rules.{Rules}
 use Rattle.vc_dtlist.specs.declared.dt_list.DtList.{DtList}
 use Rattle.vc_dtlist.specs.Linked.{Turned, number_of}
-use Rattle.vc_dtlist.proofs.HolderLemmas.{apart-append, apart-cons, apart-front, apart-head, apart-rest, apart-tail, last-differs}
-use Rattle.vc_dtlist.proofs.KeptLemmas.{StandsFor-kept, within-head, within-tail}
+use Rattle.vc_dtlist.proofs.HolderLemmas.{apart-append, last-differs}
+use Rattle.vc_dtlist.proofs.KeptLemmas.{StandsFor-kept}
 use Rattle.vc_dict.specs.declared.weeded.Weeded.{Weeded}
 use Rattle.vc_dict.specs.Orders.{dropped_holders, has_match, kept_holders}
 use Rattle.vc_dict.specs.Passes.{AreApart}
@@ -166,14 +168,10 @@ Weeding-start rules b holders = record {
   gone_within = λ a h. refl;
 }
 
-no_rest : (xs : List ℕ) → length xs ≡ 0 → xs ≡ []
-no_rest [] h = refl
-no_rest (x ∷ xs) h = absurd (omega (arith, h))
-
 pub all-kept : (rules : Rules) (start : Blocks) (holders : List ℕ) (passed : ℕ) (done gone rest : List ℕ) → Weeding rules start holders passed done gone rest → length holders ≤ passed → done ≡ kept_holders rules start [] holders
 all-kept rules start holders passed done gone rest s h =
-    ap (kept_holders rules start done) (sym (no_rest rest (omega (arith, h, s.count)))) ∙ s.whole_kept
+    ap (kept_holders rules start done) (sym (nil_from_length rest (omega (arith, h, s.count)))) ∙ s.whole_kept
 
 pub all-dropped : (rules : Rules) (start : Blocks) (holders : List ℕ) (passed : ℕ) (done gone rest : List ℕ) → Weeding rules start holders passed done gone rest → length holders ≤ passed → gone ≡ dropped_holders rules start [] holders
 all-dropped rules start holders passed done gone rest s h =
-    sym (append-nil gone) ∙ ap (λ z. gone ++ dropped_holders rules start done z) (sym (no_rest rest (omega (arith, h, s.count)))) ∙ s.whole_dropped
+    sym (append-nil gone) ∙ ap (λ z. gone ++ dropped_holders rules start done z) (sym (nil_from_length rest (omega (arith, h, s.count)))) ∙ s.whole_dropped

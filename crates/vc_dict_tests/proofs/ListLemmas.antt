@@ -6,8 +6,9 @@ use Rattle.std.proofs.lemmas.Bool.Decides.{eqb_tells}
 use Rattle.vc_base.specs.declared.dict_method.DictMethod.TheVariants.{DtObag}
 use Rattle.vc_base.specs.Cells.{Blocks}
 use Rattle.vc_base.specs.Holders.{KeepsBut, contains}
+use Rattle.vc_base.proofs.Members.{within-tail}
 use Rattle.vc_dtdisc.specs.Rules.{Rules}
-use Rattle.vc_dtlist.proofs.KeptLemmas.{KeepsTables-but, within-tail}
+use Rattle.vc_dtlist.proofs.KeptLemmas.{KeepsTables-but}
 use Rattle.vc_dthash.specs.declared.dt_hash.DtHash.{DtHash}
 use Rattle.vc_dthash.specs.Hashed.{HashFor}
 use Rattle.vc_dtdisc.specs.Finding.{put_before}

@@ -3,13 +3,14 @@ use Rattle.std.proofs.Common.{◌≡◌, ℕ, ◌<◌, zero, suc, Bool, true, fa
 use Rattle.std.specs.Prelude.{IfErr, IfOk, ◌==◌}
 use Rattle.std.specs.List.{AllByRecursion, list_any}
 use Rattle.std.specs.Result.{result_err}
-use Rattle.std.proofs.lemmas.Bool.{cases_Bool, or_left, or_right, true≢false}
+use Rattle.std.proofs.lemmas.Bool.{cases_Bool, or_left, or_right, true≢false, and_parts}
 use Rattle.std.proofs.lemmas.Bool.Decides.{Decides-eqb, eqb_tells}
 use Rattle.std.proofs.lemmas.Option.{none-some, same_Some}
 use Rattle.vc_base.specs.declared.addr.Addr.{Addr}
 use Rattle.vc_base.specs.declared.dict_method.DictMethod.{DictMethod}
 use Rattle.vc_base.specs.declared.dict_method.DictMethod.TheVariants.{DtSet, DtBag, DtOset, DtObag, DtList, DtStack, DtQueue}
 use Rattle.vc_base.specs.Methods.{method_number}
+use Rattle.vc_base.proofs.Methods.{same-method}
 use Rattle.vc_dtdisc.specs.Finding.{behind_last, first_of}
 use Rattle.vc_paths.specs.declared.fault.ViewFault.{ViewFault}
 use Rattle.vc_paths.specs.declared.fault.ViewFault.TheVariants.{Differs}
@@ -43,21 +44,6 @@ module _ (method : DictMethod) (links : Links) (joined : AreJoined method links)
   unfolding Along
   path-joined within = record { number = within; alike = along path_limit d (record { there = within; method = refl; kind = refl }) }
 
--- methods of one number are one
-pub same-method : (a b : DictMethod) → (method_number a == method_number b) ≡ true → a ≡ b
-same-method DtSet DtSet h = refl
-same-method DtBag DtBag h = refl
-same-method DtOset DtOset h = refl
-same-method DtObag DtObag h = refl
-same-method DtList DtList h = refl
-same-method DtStack DtStack h = refl
-same-method DtQueue DtQueue h = refl
-same-method a b h = absurd (true≢false (sym h))
-
-and-parts : (a b : Bool) → (a && b) ≡ true → (a ≡ true) × (b ≡ true)
-and-parts true b h = (refl, h)
-and-parts false b h = absurd (true≢false (sym h))
-
 -- dictionaries that may view one another are alike
 alike-unless : (t : Bool) (rest : Option ViewFault) → cond (not t) (Some Differs) rest ≡ None → t ≡ true
 alike-unless true rest h = refl
@@ -66,7 +52,7 @@ alike-unless false rest h = absurd (none-some Differs (sym h))
 module _ (method : DictMethod) (links : Links) (d e : ℕ) (joined : AreJoined method links) where
   alike-both : e < numbers → view_fault (layers_in method) links d e ≡ None → IsAlike (layers_in method) d e
   alike-both within none =
-      let parts = and-parts (method_number (method_in method d) == method_number (method_in method e)) (kind_in d == kind_in e) (alike-unless (are_alike (layers_in method) d e) _ none) in
+      let parts = and_parts (method_number (method_in method d) == method_number (method_in method e)) (kind_in d == kind_in e) (alike-unless (are_alike (layers_in method) d e) _ none) in
       record {
         there = within;
         method = sym (same-method (method_in method d) (method_in method e) parts.0);

@@ -8,11 +8,12 @@ use Rattle.vc_base.specs.declared.dict_method.DictMethod.{DictMethod}
 use Rattle.vc_base.specs.declared.dict_method.DictMethod.TheVariants.{DtSet, DtBag, DtOset, DtObag, DtList, DtStack, DtQueue}
 use Rattle.vc_base.specs.Cells.{Blocks, IsHolder, bytes_at}
 use Rattle.vc_base.specs.Holders.{contains, first_in, last_in, last_of, next_in, previous_in}
+use Rattle.vc_base.proofs.Members.{apart-cons, within-head, within-tail, within-last}
+use Rattle.vc_dict.proofs.WeedLemmas.{key_same}
 use Rattle.vc_dtdisc.specs.Finds.{find_key, has_key, object_at}
 use Rattle.vc_dtdisc.specs.Rules.{Rules}
 use Rattle.vc_dtlist.specs.Kept.{KeepsTables}
-use Rattle.vc_dtlist.proofs.HolderLemmas.{apart-cons, apart-without}
-use Rattle.vc_dtlist.proofs.KeptLemmas.{within-head, within-tail}
+use Rattle.vc_dtlist.proofs.HolderLemmas.{apart-without}
 use Rattle.vc_dthash.specs.Hashed.{IsTable}
 use Rattle.vc_dict.specs.declared.dict.Dict.{Dict}
 use Rattle.vc_dict.specs.declared.dict.Dropped.{Dropped}
@@ -133,13 +134,6 @@ table-fits rules d b n table r least most few = record {
   apart = r.fresh table (omega (arith, r.few));
 }
 
--- what has no match has none after a find
-find-same : (rules : Rules) (b b' : Blocks) (key : List ℕ) (xs : List ℕ) → ((a : ℕ) → contains xs a ≡ true → object_at b' a ≡ object_at b a) → find_key rules b' key xs ≡ find_key rules b key xs
-find-same rules b b' key [] e = refl
-find-same rules b b' key (x ∷ xs) e =
-    ap (λ o. if is_eq (rules.compare (rules.key o) key) then Some x else find_key rules b' key xs) (e x (within-head x xs))
-    ∙ ap (λ r. if has_key rules b key x then Some x else r) (find-same rules b b' key xs (λ a h. e a (within-tail x xs a h)))
-
 no_table : (table a : ℕ) (xs : List ℕ) → contains xs table ≡ false → contains xs a ≡ true → contains (table ∷ []) a ≡ false
 no_table table a xs apart h = apart-cons table [] a (λ e. absurd (true≢false (sym h ∙ subst (λ z. contains xs z ≡ false) e apart))) refl
 
@@ -148,7 +142,7 @@ lone-kept rules d d' b b' xs others at key s k ne e none =
     let apart = table-apart rules d b xs s in
     ap (λ o. find_key rules b' (rules.key o) xs) (k.bodies at (apart-cons d.table.0 [] at ne refl))
     ∙ ap (λ z. find_key rules b' z xs) (sym e)
-    ∙ find-same rules b b' key xs (λ a h. k.bodies a (no_table d.table.0 a xs apart h))
+    ∙ key_same rules b b' key xs (λ a h. k.bodies a (no_table d.table.0 a xs apart h))
     ∙ none
 
 -- one that is an end of a list, or a neighbour in it, is in it
@@ -156,13 +150,9 @@ pub in-first : (xs : List ℕ) (x : ℕ) → first_in xs ≡ Some x → contains
 in-first [] x e = cc
 in-first (y ∷ ys) x e = let same : y ≡ x = cc in rw (eq-eqb y x same) refl
 
-in-last_of : (y : ℕ) (ys : List ℕ) → contains (y ∷ ys) (last_of y ys) ≡ true
-in-last_of y [] = within-head y []
-in-last_of y (z ∷ zs) = within-tail y (z ∷ zs) (last_of z zs) (in-last_of z zs)
-
 pub in-last : (xs : List ℕ) (x : ℕ) → last_in xs ≡ Some x → contains xs x ≡ true
 in-last [] x e = cc
-in-last (y ∷ ys) x e = let same : last_of y ys ≡ x = cc in subst (λ z. contains (y ∷ ys) z ≡ true) same (in-last_of y ys)
+in-last (y ∷ ys) x e = let same : last_of y ys ≡ x = cc in subst (λ z. contains (y ∷ ys) z ≡ true) same (within-last y ys)
 
 next_by : (t : Bool) (at : ℕ) (ys : List ℕ) (x : ℕ) → (next_in at ys ≡ Some x → contains ys x ≡ true) → (if t then first_in ys else next_in at ys) ≡ Some x → contains ys x ≡ true
 next_by true at ys x h e = in-first ys x e

@@ -2,6 +2,7 @@
 use Rattle.std.proofs.Common.{◌≡◌, List, [], ◌∷◌, Bool, true, false, Option, Some, None, map, not, option_map, refl, ap, ◌∙◌}
 use Rattle.std.specs.Prelude.{◌&&◌, ◌||◌, if◌then◌else◌}
 use Rattle.std.specs.List.{find, list_any}
+use Rattle.vc_base.proofs.Quantifiers.{any-map}
 use Rattle.vc_dtdisc.specs.Finding.{before_first, before_first_from, behind_first, behind_last, first_of, last_from, last_of, put_before, put_behind, without_first}
 
 -- a choice between what two lists are mapped to, or two that there may be
@@ -14,15 +15,6 @@ pub option_by : {A B : Type 0} (h : A → B) (t : Bool) (o p : Option A) (u v : 
     → u ≡ option_map h o → v ≡ option_map h p → (if t then u else v) ≡ option_map h (if t then o else p)
 option_by h true o p u v e f = e
 option_by h false o p u v e f = f
-
-pub list_any-map : {A B : Type 0} (h : A → B) (test : B → Bool) (xs : List A) → list_any test (map h xs) ≡ list_any (λ x. test (h x)) xs
-list_any-map h test [] = refl
-list_any-map h test (x ∷ xs) = ap (λ t. test (h x) || t) (list_any-map h test xs)
-
-pub find-map : {A B : Type 0} (h : A → B) (test : B → Bool) (xs : List A) → find test (map h xs) ≡ option_map h (find (λ x. test (h x)) xs)
-find-map h test [] = refl
-find-map h test (x ∷ xs) =
-    option_by h (test (h x)) (Some x) (find (λ y. test (h y)) xs) (Some (h x)) (find test (map h xs)) refl (find-map h test xs)
 
 pub first_of-map : {A B : Type 0} (h : A → B) (xs : List A) → first_of (map h xs) ≡ option_map h (first_of xs)
 first_of-map h [] = refl
@@ -44,7 +36,7 @@ behind_first-map h test (x ∷ xs) =
 pub behind_last-map : {A B : Type 0} (h : A → B) (test : B → Bool) (xs : List A) → behind_last test (map h xs) ≡ option_map h (behind_last (λ x. test (h x)) xs)
 behind_last-map h test [] = refl
 behind_last-map h test (x ∷ xs) =
-    ap (λ t. if test (h x) && not t then first_of (map h xs) else behind_last test (map h xs)) (list_any-map h test xs)
+    ap (λ t. if test (h x) && not t then first_of (map h xs) else behind_last test (map h xs)) (any-map h test xs)
     ∙ option_by h (test (h x) && not (list_any (λ y. test (h y)) xs)) (first_of xs) (behind_last (λ y. test (h y)) xs) (first_of (map h xs)) (behind_last test (map h xs))
     (first_of-map h xs) (behind_last-map h test xs)
 

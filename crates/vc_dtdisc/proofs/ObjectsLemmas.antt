@@ -6,18 +6,17 @@ use Rattle.std.proofs.lemmas.List.{map-append}
 use Rattle.vc_base.specs.declared.dict_method.DictMethod.{DictMethod}
 use Rattle.vc_base.specs.declared.dict_method.DictMethod.TheVariants.{DtSet, DtBag, DtOset, DtObag, DtList, DtStack, DtQueue}
 use Rattle.vc_base.specs.Methods.{is_ordered, is_set}
+use Rattle.vc_base.proofs.Quantifiers.{any-map}
+use Rattle.vc_base.proofs.Lists.{find-map}
+use Rattle.vc_base.proofs.Options.{is_some-map}
 use Rattle.vc_dtdisc.specs.Objects.{IsSorted, before_current, before_key, behind_current, behind_key, behind_object, current_without, dropped_behind, dropped_by, first_with, has_key, has_match, inserted_among, is_greater, kept_behind, kept_by, linked_among, ordered_by, placed_among, placed_each, without_object}
 use Rattle.vc_dtdisc.specs.Rules.{Rules}
-use Rattle.vc_dtdisc.proofs.FindingLemmas.{before_first-map, behind_first-map, behind_last-map, find-map, list_any-map, list_by, put_before-map, put_behind-map, without_first-map}
+use Rattle.vc_dtdisc.proofs.FindingLemmas.{before_first-map, behind_first-map, behind_last-map, list_by, put_before-map, put_behind-map, without_first-map}
 
 -- the address of one that is mapped
 pub option_map-map : {A B C : Type 0} (g : B → C) (h : A → B) (o : Option A) → option_map g (option_map h o) ≡ option_map (λ x. g (h x)) o
 option_map-map g h None = refl
 option_map-map g h (Some x) = refl
-
-is_some-map : {A B : Type 0} (h : A → B) (o : Option A) → is_some (option_map h o) ≡ is_some o
-is_some-map h None = refl
-is_some-map h (Some x) = refl
 
 last-map : {A B : Type 0} (h : A → B) (xs : List A) (o : A) → map h xs ++ h o ∷ [] ≡ map h (xs ++ o ∷ [])
 last-map h xs o = sym (map-append h xs (o ∷ []))
@@ -78,7 +77,7 @@ module _ {A B : Type 0} (h : A → B) (bytes : B → List ℕ) where
   pub IsSorted-map : (rules : Rules) (xs : List A) → IsSorted bytes rules (map h xs) ≡ IsSorted (λ x. bytes (h x)) rules xs
   IsSorted-map rules [] = refl
   IsSorted-map rules (x ∷ xs) =
-      ap (λ t. (t ≡ false) × IsSorted bytes rules (map h xs)) (list_any-map h (λ y. is_greater rules (bytes (h x)) (bytes y)) xs)
+      ap (λ t. (t ≡ false) × IsSorted bytes rules (map h xs)) (any-map h (λ y. is_greater rules (bytes (h x)) (bytes y)) xs)
       ∙ ap (λ S. (list_any (λ y. is_greater rules (bytes (h x)) (bytes (h y))) xs ≡ false) × S) (IsSorted-map rules xs)
 
 -- by the addresses of their holders: beside the current one, and without one

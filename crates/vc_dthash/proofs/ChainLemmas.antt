@@ -6,28 +6,12 @@ use Rattle.std.proofs.lemmas.Bool.Decides.{eqb_tells}
 use Rattle.std.proofs.lemmas.List.Elements.{filter-append}
 use Rattle.vc_base.specs.Cells.{Blocks, IsAddress, word, word_at}
 use Rattle.vc_base.specs.Holders.{AreDistinct, contains, last_of, without}
-use Rattle.vc_dtlist.proofs.HolderLemmas.{Split, apart-front, distinct-front, last-differs, without-split}
-use Rattle.vc_dtlist.proofs.KeptLemmas.{within-head, within-tail}
+use Rattle.vc_base.proofs.Members.{apart-front, without-split, within-head, within-tail, within-front, within-rest, differs}
+use Rattle.vc_dtlist.proofs.HolderLemmas.{Split, distinct-front, last-differs}
 use Rattle.vc_dtlist.proofs.LinkLemmas.{not_last}
 use Rattle.vc_dthash.specs.Chained.{AreChained, Leads, chain_of}
 use Rattle.vc_dthash.specs.Written.{Fronted}
 use Rattle.vc_dthash.proofs.FilterLemmas.{filter-distinct, filter-less, filter-refuses, filter-test, filter-within, filter-without_in, filter-without_out, front-apart}
-
--- an address in a list isn't one that isn't in it
-pub differs : (xs : List ℕ) (a x : ℕ) → contains xs a ≡ true → contains xs x ≡ false → a ≢ x
-differs xs a x h k e = true≢false (sym h ∙ ap (contains xs) e ∙ k)
-
--- what is in one of two lists is in both together
-pub in-front : (xs ys : List ℕ) (a : ℕ) → contains xs a ≡ true → contains (xs ++ ys) a ≡ true
-in-front [] ys a h = absurd (true≢false (sym h))
-in-front (x ∷ xs) ys a h = elim (eqb_tells x a) as (λ _. contains (x ∷ xs ++ ys) a ≡ true) [
-  | inl same ↦ rw same.0 refl
-  | inr apart ↦ within-tail x (xs ++ ys) a (in-front xs ys a (rw apart.0 at h))
-]
-
-pub in-behind : (xs ys : List ℕ) (a : ℕ) → contains ys a ≡ true → contains (xs ++ ys) a ≡ true
-in-behind [] ys a h = h
-in-behind (x ∷ xs) ys a h = within-tail x (xs ++ ys) a (in-behind xs ys a h)
 
 -- a chain stays where it begins at the same address and the second words of its holders stay
 pub Leads-same : (b b' : Blocks) (at at' : ℕ) (xs : List ℕ) (behind : ℕ) → at' ≡ at → ((a : ℕ) → contains xs a ≡ true → word_at b' a 2 ≡ word_at b a 2) → Leads b at xs behind → Leads b' at' xs behind
@@ -124,7 +108,7 @@ chains-parted hash b b' table slots s before at xs c se small p e d none r =
     let within : (a : ℕ) → contains (p.front ++ at ∷ p.rest) a ≡ true → contains xs a ≡ true =
     λ a h. filter-within test xs a (subst (λ z. contains z a ≡ true) (sym p.whole) h) in
     let out : contains (p.front ++ at ∷ p.rest) 0 ≡ false = subst (λ z. contains z 0 ≡ false) p.whole (filter-less test xs 0 none) in
-    let in_front : (a : ℕ) → contains p.front a ≡ true → contains xs a ≡ true = λ a h. within a (in-front p.front (at ∷ p.rest) a h) in
+    let in_front : (a : ℕ) → contains p.front a ≡ true → contains xs a ≡ true = λ a h. within a (within-front p.front (at ∷ p.rest) a h) in
     let in_rest : (a : ℕ) → contains p.rest a ≡ true → contains (at ∷ p.rest) a ≡ true = λ a h. within-tail at p.rest a h in
     let parts = Leads-split b (word_at b table s) p.front at p.rest 0 (subst (λ z. Leads b (word_at b table s) z 0) p.whole (c s small)) in
     let moved : Leads b' (word_at b' table s) p.front (word_at b at 2) =
@@ -132,7 +116,7 @@ chains-parted hash b b' table slots s before at xs c se small p e d none r =
     let rest : Leads b' (word_at b at 2) p.rest 0 =
     Leads-same b b' (word_at b at 2) (word_at b at 2) p.rest 0 refl
     (λ a h.
-    let here : contains xs a ≡ true = within a (in-behind p.front (at ∷ p.rest) a (in_rest a h)) in
+    let here : contains xs a ≡ true = within a (within-rest p.front (at ∷ p.rest) a (in_rest a h)) in
     r.others a here (λ q. not_last p.front a (front-apart p.front (at ∷ p.rest) a apart (in_rest a h)) (differs xs a 0 here none) (q ∙ e)))
     parts.1 in
     let whole : Leads b' (word_at b' table s) (p.front ++ p.rest) 0 = Leads-append b' (word_at b' table s) p.front (word_at b at 2) p.rest 0 moved rest in

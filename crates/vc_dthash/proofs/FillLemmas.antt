@@ -3,17 +3,18 @@ use Rattle.std.proofs.Common.{◌≡◌, ◌≢◌, ℕ, ◌+◌, ◌*◌, ◌%�
 use Rattle.std.proofs.lemmas.Bool.Decides.{eqb_tells}
 use Rattle.vc_base.specs.Cells.{Blocks, HasBytes, word_at}
 use Rattle.vc_base.specs.Holders.{AreDistinct, contains, last_of}
+use Rattle.vc_base.proofs.Members.{apart-head, apart-cons, apart-rest, within-head, within-rest, differs}
 use Rattle.vc_dtlist.specs.declared.dt_list.DtList.{DtList}
 use Rattle.vc_dtlist.specs.Kept.{KeepsTables}
 use Rattle.vc_dtlist.specs.Linked.{Chain, LinksFor}
 use Rattle.vc_dtlist.proofs.AddressLemmas.{LinksFor-holders}
 use Rattle.vc_dtlist.proofs.ChainLemmas.{Chain-front}
-use Rattle.vc_dtlist.proofs.HolderLemmas.{apart-cons, apart-head, apart-rest, distinct-rest}
-use Rattle.vc_dtlist.proofs.KeptLemmas.{KeepsBut-none, KeepsTables-but, LinksFor-same, within-head}
+use Rattle.vc_dtlist.proofs.HolderLemmas.{distinct-rest}
+use Rattle.vc_dtlist.proofs.KeptLemmas.{KeepsBut-none, KeepsTables-but, LinksFor-same}
 use Rattle.vc_dtlist.proofs.TurnLemmas.{fewer, last_fits, previous_word}
 use Rattle.vc_dthash.specs.Chained.{AreChained}
 use Rattle.vc_dthash.specs.Written.{CanFront, Cleared, Filled, Fronted, SlotWritten}
-use Rattle.vc_dthash.proofs.ChainLemmas.{chains-fronted, differs, in-behind}
+use Rattle.vc_dthash.proofs.ChainLemmas.{chains-fronted}
 use Rattle.vc_dthash.proofs.WriteLemmas.{body-same}
 
 -- a block that isn't the one table
@@ -105,7 +106,7 @@ due b0 b table slots xs passed at w h =
     due_by xs w.front w.rest at w.whole w.next (ending w.front (omega (arith, h, w.count)))
 
 due_within : (xs rest : List ℕ) (at : ℕ) (d : Due xs rest at) → contains xs at ≡ true
-due_within xs rest at d = subst (λ z. contains z at ≡ true) (sym d.whole) (in-behind d.front (at ∷ rest) at (within-head at rest))
+due_within xs rest at d = subst (λ z. contains z at ≡ true) (sym d.whole) (within-rest d.front (at ∷ rest) at (within-head at rest))
 
 -- it can be put there
 pub Filling-front : (list : DtList) (b0 b : Blocks) (table slots : ℕ) (xs : List ℕ) (passed at : ℕ) → LinksFor list b0 xs → contains xs table ≡ false → HasBytes b0 table (8 * slots) → 1 ≤ slots → Filling b0 b table slots xs passed at → passed < length xs → CanFront b table slots at

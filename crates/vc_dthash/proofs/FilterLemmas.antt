@@ -6,8 +6,7 @@ use Rattle.std.proofs.lemmas.Bool.{true≢false}
 use Rattle.std.proofs.lemmas.Bool.Decides.{eqb_tells}
 use Rattle.std.proofs.lemmas.List.Sums.{count_by-le-length, length-filter}
 use Rattle.vc_base.specs.Holders.{AreDistinct, contains, without}
-use Rattle.vc_dtlist.proofs.HolderLemmas.{apart-cons, apart-head, apart-rest, apart-tail}
-use Rattle.vc_dtlist.proofs.KeptLemmas.{within-tail}
+use Rattle.vc_base.proofs.Members.{apart-head, apart-tail, apart-cons, apart-rest, within-tail}
 
 -- each of them is in the list, and passes
 within_by : (t : Bool) (x : ℕ) (xs ys : List ℕ) (a : ℕ) → (contains ys a ≡ true → contains xs a ≡ true) → contains (cond t (x ∷ ys) ys) a ≡ true → contains (x ∷ xs) a ≡ true

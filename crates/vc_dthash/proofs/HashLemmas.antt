@@ -7,13 +7,14 @@ use Rattle.std.proofs.lemmas.Nat.{pow_pos}
 use Rattle.vc_base.specs.declared.addr.Addr.{Addr}
 use Rattle.vc_base.specs.Cells.{Blocks, IsAddress, IsHolder, WordWritten, body_of, bytes_at, word_at}
 use Rattle.vc_base.specs.Holders.{contains, last_of, without}
+use Rattle.vc_base.proofs.Members.{apart-head, apart-tail, apart-cons, within-head, within-tail, within-front, within-rest, differs, within-last}
 use Rattle.vc_dtdisc.specs.Finds.{object_at}
 use Rattle.vc_dtdisc.specs.Rules.{Rules}
 use Rattle.vc_dtlist.specs.Kept.{KeepsTables}
 use Rattle.vc_dtlist.specs.Linked.{LinksFor, Relinked}
 use Rattle.vc_dtlist.proofs.AddressLemmas.{AreHolders, LinksFor-holders, few-holders, no-holder}
-use Rattle.vc_dtlist.proofs.HolderLemmas.{Split, apart-append, apart-cons, apart-head, apart-tail, apart-without, length-without, split}
-use Rattle.vc_dtlist.proofs.KeptLemmas.{KeepsTables-but, LinksFor-kept, LinksFor-same, within-head, within-tail}
+use Rattle.vc_dtlist.proofs.HolderLemmas.{Split, apart-append, apart-without, length-without, split}
+use Rattle.vc_dtlist.proofs.KeptLemmas.{KeepsTables-but, LinksFor-kept, LinksFor-same}
 use Rattle.vc_dtlist.proofs.LinkLemmas.{not_last}
 use Rattle.vc_dtlist.proofs.TurnLemmas.{LinksFor-unique, fewer}
 use Rattle.vc_dtlist.proofs.WordLemmas.{word-kept, word-other_block}
@@ -22,7 +23,7 @@ use Rattle.vc_dthash.specs.Chained.{AreChained, IsHashed, Leads, chain_of, hash_
 use Rattle.vc_dthash.specs.Hashed.{ChainedUp, HasTable, HashFor, HashTurned, IsTable, list_of}
 use Rattle.vc_dthash.specs.Slots.{IsSlots, most_slots, slots_for, wanted_slots}
 use Rattle.vc_dthash.specs.Written.{CanPoint, Cleared, Filled, IsChain, IsPlace, Marked, Pointed}
-use Rattle.vc_dthash.proofs.ChainLemmas.{Leads-fits, Leads-split, Redirects, chains-hash, chains-joined, chains-parted, chains-same, differs, in-behind, in-front}
+use Rattle.vc_dthash.proofs.ChainLemmas.{Leads-fits, Leads-split, Redirects, chains-hash, chains-joined, chains-parted, chains-same}
 use Rattle.vc_dthash.proofs.FilterLemmas.{filter-less, filter-passes, filter-shorter, filter-within}
 use Rattle.vc_dthash.proofs.WriteLemmas.{word-same}
 
@@ -180,15 +181,11 @@ pub next-fits : (rules : Rules) (hash : DtHash) (b : Blocks) (xs : List ℕ) (k 
 next-fits rules hash b xs k at s small p =
     let chain = chain-is rules hash b xs k s small in
     let parts = Leads-split b (word_at b hash.table.0 k) p.front at p.rest 0 (subst (λ z. Leads b (word_at b hash.table.0 k) z 0) p.whole chain.leads) in
-    Leads-fits b (word_at b at 2) p.rest (λ a h. chain.addresses a (subst (λ z. contains z a ≡ true) (sym p.whole) (in-behind p.front (at ∷ p.rest) a (within-tail at p.rest a h)))) parts.1
-
-last-in : (x : ℕ) (xs : List ℕ) → contains (x ∷ xs) (last_of x xs) ≡ true
-last-in x [] = within-head x []
-last-in x (y ∷ ys) = within-tail x (y ∷ ys) (last_of y ys) (last-in y ys)
+    Leads-fits b (word_at b at 2) p.rest (λ a h. chain.addresses a (subst (λ z. contains z a ≡ true) (sym p.whole) (within-rest p.front (at ∷ p.rest) a (within-tail at p.rest a h)))) parts.1
 
 last_within : (front xs : List ℕ) (before : ℕ) → before ≡ last_of 0 front → before ≢ 0 → ((a : ℕ) → contains front a ≡ true → contains xs a ≡ true) → contains xs before ≡ true
 last_within [] xs before e some within = absurd (some e)
-last_within (x ∷ ys) xs before e some within = subst (λ z. contains xs z ≡ true) (sym e) (within (last_of x ys) (last-in x ys))
+last_within (x ∷ ys) xs before e some within = subst (λ z. contains xs z ≡ true) (sym e) (within (last_of x ys) (within-last x ys))
 
 -- the last of some of its holders, if any, is a holder, and not the table
 pub last-points : (rules : Rules) (hash : DtHash) (b : Blocks) (xs front : List ℕ) (k before : ℕ) → HashFor rules hash b xs → k < hash.slots → ((a : ℕ) → contains front a ≡ true → contains xs a ≡ true) → before ≡ last_of 0 front → CanPoint b hash.table.0 k before
@@ -432,7 +429,7 @@ module _ {rules : Rules} {old : DtHash} {b0 : Blocks} {at s before : ℕ} {xs : 
   no_table a h = differs xs a old.table.0 h was.apart
 
   front-in : (a : ℕ) → contains pl.front a ≡ true → contains xs a ≡ true
-  front-in a h = filter-within (λ z. hash_at rules b0 z % old.slots == s) xs a (subst (λ z. contains z a ≡ true) (sym pl.whole) (in-front pl.front (at ∷ pl.rest) a h))
+  front-in a h = filter-within (λ z. hash_at rules b0 z % old.slots == s) xs a (subst (λ z. contains z a ≡ true) (sym pl.whole) (within-front pl.front (at ∷ pl.rest) a h))
 
   pub parted-point : CanPoint b0 old.table.0 s before
   parted-point = last-points rules old b0 xs pl.front s before stands small front-in be

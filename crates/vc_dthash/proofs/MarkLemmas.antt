@@ -6,16 +6,16 @@ use Rattle.std.proofs.lemmas.Bool.Decides.{eqb_tells}
 use Rattle.std.proofs.lemmas.List.Elements.{All-cons, All-nil}
 use Rattle.vc_base.specs.Cells.{Blocks, HasBytes, WordsWritten, word_at}
 use Rattle.vc_base.specs.Holders.{KeepsBut, contains, first_of}
+use Rattle.vc_base.proofs.Members.{apart-cons, within-head, within-tail, within-rest, differs}
 use Rattle.vc_dtlist.specs.declared.dt_list.DtList.{DtList}
 use Rattle.vc_dtlist.specs.Linked.{Chain, LinksFor}
 use Rattle.vc_dtlist.proofs.AddressLemmas.{LinksFor-holders}
 use Rattle.vc_dtlist.proofs.ChainLemmas.{Chain-rest}
-use Rattle.vc_dtlist.proofs.HolderLemmas.{apart-append, apart-cons}
-use Rattle.vc_dtlist.proofs.KeptLemmas.{KeepsBut-none, LinksFor-kept, within-head, within-tail}
+use Rattle.vc_dtlist.proofs.HolderLemmas.{apart-append}
+use Rattle.vc_dtlist.proofs.KeptLemmas.{KeepsBut-none, LinksFor-kept}
 use Rattle.vc_dtlist.proofs.TurnLemmas.{fewer, first_fits, next_word}
 use Rattle.vc_dtlist.proofs.WordLemmas.{word-other_block}
 use Rattle.vc_dthash.specs.Written.{Marked}
-use Rattle.vc_dthash.proofs.ChainLemmas.{differs, in-behind}
 
 -- so many holders were written, and the next one is at that address
 pub record Marking (P : Blocks → ℕ → Type 0) (b0 b : Blocks) (holders : List ℕ) (passed at : ℕ) : Type 0 where
@@ -53,7 +53,7 @@ going_by : (list : DtList) (b0 b : Blocks) (xs front rest : List ℕ) (at : ℕ)
 going_by list b0 b xs front [] at l whole e k h = absurd (omega (arith, h))
 going_by list b0 b xs front (y ∷ ys) at l whole e k h =
     let split : xs ≡ front ++ at ∷ ys = whole ∙ ap (λ z. front ++ z ∷ ys) (sym e) in
-    let within : contains xs at ≡ true = subst (λ z. contains z at ≡ true) (sym split) (in-behind front (at ∷ ys) at (within-head at ys)) in
+    let within : contains xs at ≡ true = subst (λ z. contains z at ≡ true) (sym split) (within-rest front (at ∷ ys) at (within-head at ys)) in
     let chain : Chain b0 0 (front ++ at ∷ ys) 0 = subst (λ z. Chain b0 0 z 0) split l.chain in
     let holder = fewer b0 at ((LinksFor-holders list b0 xs l).there at within) in
     let tail = (Chain-rest b0 0 front (at ∷ ys) 0 chain).1 in

@@ -6,17 +6,19 @@ use Rattle.std.specs.Ordering.{is_eq}
 use Rattle.std.specs.declared.cmp.Ordering.{Ordering}
 use Rattle.std.specs.declared.cmp.Ordering.TheVariants.{Equal, Greater, Less}
 use Rattle.std.proofs.lemmas.Bool.{true≢false, eq-eqb, eqb-false, eqb-true}
+use Rattle.std.proofs.lemmas.List.{nil_from_length}
 use Rattle.vc_base.specs.declared.addr.Addr.{Addr}
 use Rattle.vc_base.specs.Cells.{Blocks, HasBytes, IsAddress, IsHolder, word_at}
 use Rattle.vc_base.specs.Holders.{contains, first_of, last_of}
+use Rattle.vc_base.proofs.Members.{apart-head, apart-rest, within-head, within-tail, within-rest}
+use Rattle.vc_base.proofs.Orders.{is-equal}
 use Rattle.vc_dtdisc.specs.Finds.{find_key, has_key, object_at}
 use Rattle.vc_dtdisc.specs.Rules.{AreLawful, Rules}
-use Rattle.vc_dtlist.proofs.HolderLemmas.{apart-head, apart-rest, last_of-append}
-use Rattle.vc_dtlist.proofs.KeptLemmas.{within-head, within-tail}
+use Rattle.vc_dtlist.proofs.HolderLemmas.{last_of-append}
 use Rattle.vc_dtlist.proofs.TurnLemmas.{fewer}
 use Rattle.vc_dthash.specs.Chained.{FindsInSlot, Leads, chain_of, hash_at}
 use Rattle.vc_dthash.specs.Written.{IsChain, IsPlace}
-use Rattle.vc_dthash.proofs.ChainLemmas.{Leads-fits, in-behind}
+use Rattle.vc_dthash.proofs.ChainLemmas.{Leads-fits}
 use Rattle.vc_dthash.proofs.FilterLemmas.{filter-find}
 
 -- so many holders before a place were passed, the last of which is named, and the next stands at that address
@@ -51,14 +53,10 @@ pub Passing-met : (b : Blocks) (table k count stop : ℕ) (front rest : List ℕ
 Passing-met b table k count stop front rest passed at before p w e =
     all_passed front w.done w.left before w.whole w.last (none_left b front w.done w.left rest at stop w.whole w.leads p.apart e)
 
-short : (xs : List ℕ) → length xs ≡ 0 → xs ≡ []
-short [] e = refl
-short (x ∷ xs) e = absurd (omega (arith, e))
-
 pub Passing-over : (b : Blocks) (table k count stop : ℕ) (front rest : List ℕ) (passed at before : ℕ) → IsPlace b table k count stop front rest → Passing b front rest passed at before → count ≤ passed → before ≡ last_of 0 front
 Passing-over b table k count stop front rest passed at before p w h =
     let long : length front ≡ length w.done + length w.left = ap length w.whole ∙ length-append w.done w.left in
-    all_passed front w.done w.left before w.whole w.last (short w.left (omega (arith, h, p.few, w.count)))
+    all_passed front w.done w.left before w.whole w.last (nil_from_length w.left (omega (arith, h, p.few, w.count)))
 
 -- else there is a holder
 pub record Further (b : Blocks) (front rest : List ℕ) (passed at : ℕ) : Type 0 where
@@ -75,7 +73,7 @@ further_by b table k count stop front rest passed at before done [] p whole many
 further_by b table k count stop front rest passed at before done (y ∷ ys) p whole many l ne =
     let chain : front ++ rest ≡ done ++ (y ∷ ys ++ rest) = ap (λ z. z ++ rest) whole ∙ append_assoc done (y ∷ ys) rest in
     let within : (a : ℕ) → contains (y ∷ ys ++ rest) a ≡ true → contains (front ++ rest) a ≡ true =
-    λ a h. subst (λ z. contains z a ≡ true) (sym chain) (in-behind done (y ∷ ys ++ rest) a h) in
+    λ a h. subst (λ z. contains z a ≡ true) (sym chain) (within-rest done (y ∷ ys ++ rest) a h) in
     let holder : IsHolder b y = p.chain.holders y (within y (within-head y (ys ++ rest))) in
     record {
       words = subst (λ z. HasBytes b z 32) (sym l.0) (fewer b y holder);
@@ -124,7 +122,7 @@ Walked-end b test table k chain passed at start now c w e = sym (w.none ∙ at_e
 
 pub Walked-over : (b : Blocks) (test : ℕ → Bool) (chain : List ℕ) (passed at start now : ℕ) → Walked b test chain passed at start now → length chain ≤ passed → None ≡ find test chain
 Walked-over b test chain passed at start now w h =
-    sym (w.none ∙ ap (find test) (short w.rest (omega (arith, h, w.count))))
+    sym (w.none ∙ ap (find test) (nil_from_length w.rest (omega (arith, h, w.count))))
 
 -- a holder of it
 pub record Next (b : Blocks) (test : ℕ → Bool) (chain : List ℕ) (passed at start now : ℕ) : Type 0 where
@@ -161,14 +159,8 @@ pub Walked-next : (b : Blocks) (test : ℕ → Bool) (table k : ℕ) (chain : Li
 Walked-next b test table k chain passed at start now c w some =
     next_by b test table k chain passed at start now w.rest c w.count w.within w.leads w.none w.steps some
 
--- equal keys have equal hashes, so the first of a list with a key is the first of its chain
-equal_by : (o : Ordering) → is_eq o ≡ true → o ≡ Equal
-equal_by Less e = absurd (true≢false (sym e))
-equal_by Equal e = refl
-equal_by Greater e = absurd (true≢false (sym e))
-
 pub hash-found : (rules : Rules) (b : Blocks) (key : List ℕ) (at : ℕ) → AreLawful rules → has_key rules b key at ≡ true → hash_at rules b at ≡ rules.hash key
-hash-found rules b key at law h = law.hashes (rules.key (object_at b at)) key (equal_by (rules.compare (rules.key (object_at b at)) key) h)
+hash-found rules b key at law h = law.hashes (rules.key (object_at b at)) key (is-equal (rules.compare (rules.key (object_at b at)) key) h)
 
 other_by : (rules : Rules) (b : Blocks) (key : List ℕ) (at : ℕ) (t : Bool) → AreLawful rules → has_key rules b key at ≡ t → hash_at rules b at ≢ rules.hash key → has_key rules b key at ≡ false
 other_by rules b key at true law e ne = absurd (ne (hash-found rules b key at law e))

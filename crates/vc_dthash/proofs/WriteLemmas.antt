@@ -2,7 +2,7 @@
 use Rattle.std.proofs.Common.{◌≡◌, ◌≢◌, ℕ, ◌+◌, ◌*◌, ◌<◌, ◌^◌, [], inl, inr, IsSome, is_some, length, unwrap_or, sym, ap, ◌∙◌, subst}
 use Rattle.std.proofs.lemmas.Bool.Decides.{eqb_tells}
 use Rattle.vc_base.specs.Cells.{Blocks, HasBytes, WordWritten, body_of, bytes_at, put, with_number, with_word, word, word_at}
-use Rattle.vc_base.proofs.CellsLemmas.{length-with_word, put_other, put_same, word-with_word_other, word-with_word_same}
+use Rattle.vc_base.proofs.CellsLemmas.{length-with_word, put_other, put_same, word-with_word_other, word-with_word_same, each}
 use Rattle.vc_dtlist.proofs.WordLemmas.{word-kept, word-other_block}
 use Rattle.vc_dthash.specs.Written.{Fronted, Pointed, SlotWritten}
 
@@ -12,12 +12,6 @@ word-same b b' a j e = ap (λ o. word j (unwrap_or o [])) e
 
 pub body-same : (b b' : Blocks) (a : ℕ) → b' a ≡ b a → body_of (bytes_at b' a) ≡ body_of (bytes_at b a)
 body-same b b' a e = ap (λ o. body_of (unwrap_or o [])) e
-
-each : (P : ℕ → Type 0) (at : ℕ) → P at → ((a : ℕ) → a ≢ at → P a) → (a : ℕ) → P a
-each P at here there a = elim (eqb_tells a at) as (λ _. P a) [
-  | inl same ↦ subst P (sym same.1) here
-  | inr apart ↦ there a apart.1
-]
 
 -- a stored slot
 pub SlotWritten-store : (old new : Blocks) (table k value : ℕ) → value < 2 ^ 64 → HasBytes old table (8 * k + 8) → new ≡ with_number table k value old → SlotWritten old new table k value

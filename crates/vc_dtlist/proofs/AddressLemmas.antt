@@ -7,10 +7,9 @@ use Rattle.std.proofs.lemmas.Bool.Decides.{eqb_tells}
 use Rattle.std.proofs.lemmas.Map.Steps.{length-le_from_distinct_below}
 use Rattle.vc_base.specs.Cells.{Blocks, IsAddress, IsHolder}
 use Rattle.vc_base.specs.Holders.{AreDistinct, contains}
+use Rattle.vc_base.proofs.Members.{apart-head, apart-tail, within-tail}
 use Rattle.vc_dtlist.specs.declared.dt_list.DtList.{DtList}
 use Rattle.vc_dtlist.specs.Linked.{Chain, LinksFor}
-use Rattle.vc_dtlist.proofs.HolderLemmas.{apart-head, apart-tail}
-use Rattle.vc_dtlist.proofs.KeptLemmas.{within-tail}
 
 -- each of them is a holder at an address, and no address stands twice
 pub record AreHolders (blocks : Blocks) (holders : List ℕ) : Type 0 where

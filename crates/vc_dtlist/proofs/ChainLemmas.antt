@@ -2,10 +2,11 @@
 use Rattle.std.proofs.Common.{◌≡◌, ◌≢◌, ℕ, List, [], ◌∷◌, ◌++◌, false, refl, ◌∙◌, arith}
 use Rattle.vc_base.specs.Cells.{Blocks, WordWritten, WordsWritten}
 use Rattle.vc_base.specs.Holders.{AreDistinct, contains, first_of, last_of}
+use Rattle.vc_base.proofs.Members.{apart-head, apart-tail, apart-cons}
 use Rattle.vc_dtlist.specs.declared.dt_list.DtList.{DtList}
 use Rattle.vc_dtlist.specs.Linked.{Chain, HasLinks, LinksFor}
 use Rattle.vc_dtlist.proofs.WordLemmas.{HasBytes-written, word-other_block}
-use Rattle.vc_dtlist.proofs.HolderLemmas.{apart-head, apart-tail, apart-cons, last-differs, first_of-append}
+use Rattle.vc_dtlist.proofs.HolderLemmas.{last-differs, first_of-append}
 
 -- the links of another block stay
 pub HasLinks-other : (old new : Blocks) (a x p n : ℕ) → WordsWritten old new a → x ≢ a → HasLinks old x p n → HasLinks new x p n

@@ -3,28 +3,7 @@ use Rattle.std.proofs.Common.{◌≡◌, ◌≢◌, ℕ, ◌+◌, length, arith,
 use Rattle.std.proofs.lemmas.Bool.{eq-eqb, ne_eqb, true≢false}
 use Rattle.std.proofs.lemmas.Bool.Decides.{eqb_tells}
 use Rattle.vc_base.specs.Holders.{AreDistinct, contains, first_of, inserted_after, first_in, inserted_before, last_in, last_of, next_in, previous_in, some_address, without}
-
--- an address that isn't in a list is neither its first nor in the rest
-pub apart-head : (x : ℕ) (xs : List ℕ) (a : ℕ) → contains (x ∷ xs) a ≡ false → x ≢ a
-apart-head x xs a h e = true≢false (rw (eq-eqb x a e) at h)
-
-pub apart-tail : (x : ℕ) (xs : List ℕ) (a : ℕ) → contains (x ∷ xs) a ≡ false → contains xs a ≡ false
-apart-tail x xs a h = elim (eqb_tells x a) as (λ _. contains xs a ≡ false) [
-  | inl same ↦ absurd (true≢false (rw same.0 at h))
-  | inr apart ↦ rw apart.0 at h
-]
-
-pub apart-cons : (x : ℕ) (xs : List ℕ) (a : ℕ) → x ≢ a → contains xs a ≡ false → contains (x ∷ xs) a ≡ false
-apart-cons x xs a ne h = rw (ne_eqb x a ne) h
-
--- in two lists one after another
-pub apart-front : (xs ys : List ℕ) (a : ℕ) → contains (xs ++ ys) a ≡ false → contains xs a ≡ false
-apart-front [] ys a h = refl
-apart-front (x ∷ xs) ys a h = apart-cons x xs a (apart-head x (xs ++ ys) a h) (apart-front xs ys a (apart-tail x (xs ++ ys) a h))
-
-pub apart-rest : (xs ys : List ℕ) (a : ℕ) → contains (xs ++ ys) a ≡ false → contains ys a ≡ false
-apart-rest [] ys a h = h
-apart-rest (x ∷ xs) ys a h = apart-rest xs ys a (apart-tail x (xs ++ ys) a h)
+use Rattle.vc_base.proofs.Members.{apart-head, apart-tail, apart-cons, apart-front, apart-rest, apart-removed, previous_in-behind}
 
 pub apart-append : (xs ys : List ℕ) (a : ℕ) → contains xs a ≡ false → contains ys a ≡ false → contains (xs ++ ys) a ≡ false
 apart-append [] ys a h k = k
@@ -54,12 +33,6 @@ distinct-remove [] ys a d = d.1
 distinct-remove (x ∷ xs) ys a d =
     (apart-append xs ys x (apart-front xs (a ∷ ys) x d.0) (apart-tail a ys x (apart-rest xs (a ∷ ys) x d.0)), distinct-remove xs ys a d.1)
 
-pub apart-removed : (xs ys : List ℕ) (a : ℕ) → AreDistinct (xs ++ a ∷ ys) → contains (xs ++ ys) a ≡ false
-apart-removed [] ys a d = d.0
-apart-removed (x ∷ xs) ys a d =
-    let back : a ≢ x = apart-head a ys x (apart-rest xs (a ∷ ys) x d.0) in
-    apart-cons x (xs ++ ys) a (λ e. back (sym e)) (apart-removed xs ys a d.1)
-
 -- the last of a list isn't in one behind it, and no address that is
 pub last-apart : (x : ℕ) (xs ys : List ℕ) → AreDistinct (x ∷ xs ++ ys) → contains ys (last_of x xs) ≡ false
 last-apart x [] ys d = d.0
@@ -69,10 +42,6 @@ last-apart x (y ∷ xs) ys d = last-apart y xs ys d.1
 pub last-differs : (x y : ℕ) (xs : List ℕ) → contains (y ∷ xs) x ≡ false → x ≢ last_of y xs
 last-differs x y [] h e = apart-head y [] x h (sym e)
 last-differs x y (z ∷ xs) h e = last-differs x z xs (apart-tail y (z ∷ xs) x h) e
-
--- the first of a list isn't in one before it
-pub first-apart : (xs : List ℕ) (y : ℕ) (ys : List ℕ) → AreDistinct (xs ++ y ∷ ys) → contains xs y ≡ false
-first-apart xs y ys d = apart-front xs ys y (apart-removed xs ys y d)
 
 -- the ends of two lists one after another
 pub first_of-append : (xs ys : List ℕ) (other : ℕ) → first_of (xs ++ ys) other ≡ first_of xs (first_of ys other)
@@ -115,23 +84,6 @@ pub inserted_after-split : (front : List ℕ) (mark : ℕ) (rest : List ℕ) (at
 inserted_after-split [] mark rest at h = rw (eq-eqb mark mark refl) refl
 inserted_after-split (x ∷ xs) mark rest at h =
     rw (ne_eqb x mark (apart-head x xs mark h)) (ap (λ z. x ∷ z) (inserted_after-split xs mark rest at (apart-tail x xs mark h)))
-
-pub without-split : (front : List ℕ) (at : ℕ) (rest : List ℕ) → contains front at ≡ false → without at (front ++ at ∷ rest) ≡ front ++ rest
-without-split [] at rest h = rw (eq-eqb at at refl) refl
-without-split (x ∷ xs) at rest h =
-    rw (ne_eqb x at (apart-head x xs at h)) (ap (λ z. x ∷ z) (without-split xs at rest (apart-tail x xs at h)))
-
-pub next_in-split : (front : List ℕ) (at : ℕ) (rest : List ℕ) → contains front at ≡ false → next_in at (front ++ at ∷ rest) ≡ first_in rest
-next_in-split [] at rest h = rw (eq-eqb at at refl) refl
-next_in-split (x ∷ xs) at rest h = rw (ne_eqb x at (apart-head x xs at h)) (next_in-split xs at rest (apart-tail x xs at h))
-
-previous_in-behind : (x : ℕ) (front : List ℕ) (at : ℕ) (rest : List ℕ) → contains front at ≡ false → previous_in (Some x) at (front ++ at ∷ rest) ≡ Some (last_of x front)
-previous_in-behind x [] at rest h = rw (eq-eqb at at refl) refl
-previous_in-behind x (y ∷ ys) at rest h = rw (ne_eqb y at (apart-head y ys at h)) (previous_in-behind y ys at rest (apart-tail y ys at h))
-
-pub previous_in-split : (front : List ℕ) (at : ℕ) (rest : List ℕ) → contains front at ≡ false → previous_in None at (front ++ at ∷ rest) ≡ last_in front
-previous_in-split [] at rest h = rw (eq-eqb at at refl) refl
-previous_in-split (x ∷ xs) at rest h = rw (ne_eqb x at (apart-head x xs at h)) (previous_in-behind x xs at rest (apart-tail x xs at h))
 
 -- an end of a list without 0 is none where there is none
 pub some-first : (xs : List ℕ) → contains xs 0 ≡ false → some_address (first_of xs 0) ≡ first_in xs

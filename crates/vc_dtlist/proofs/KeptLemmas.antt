@@ -6,19 +6,10 @@ use Rattle.std.proofs.lemmas.Bool.Decides.{eqb_tells}
 use Rattle.std.proofs.lemmas.List.Elements.{All-cons, All-head, All-nil, All-tail}
 use Rattle.vc_base.specs.Cells.{Blocks, HasBytes, bytes_at, word, word_at}
 use Rattle.vc_base.specs.Holders.{KeepsBut, contains, first_of}
+use Rattle.vc_base.proofs.Members.{within-head, within-tail}
 use Rattle.vc_dtlist.specs.declared.dt_list.DtList.{DtList}
 use Rattle.vc_dtlist.specs.Kept.{KeepsTables}
 use Rattle.vc_dtlist.specs.Linked.{Chain, HasLinks, IsPlain, LinksFor, StandsFor}
-
--- the first of a list is in it, and so is one of the rest
-pub within-head : (x : ℕ) (xs : List ℕ) → contains (x ∷ xs) x ≡ true
-within-head x xs = rw (eq-eqb x x refl) refl
-
-pub within-tail : (x : ℕ) (xs : List ℕ) (a : ℕ) → contains xs a ≡ true → contains (x ∷ xs) a ≡ true
-within-tail x xs a h = elim (eqb_tells x a) as (λ _. contains (x ∷ xs) a ≡ true) [
-  | inl same ↦ rw same.0 refl
-  | inr apart ↦ rw apart.0 h
-]
 
 -- the bytes of one block stay
 pub HasBytes-same : (old new : Blocks) (a n : ℕ) → new a ≡ old a → HasBytes old a n → HasBytes new a n

@@ -5,8 +5,9 @@ use Rattle.std.proofs.lemmas.Bool.{true≢false, ne_eqb}
 use Rattle.std.proofs.lemmas.Bool.Decides.{eqb_tells}
 use Rattle.vc_base.specs.Cells.{Blocks, WordWritten}
 use Rattle.vc_base.specs.Holders.{AreDistinct, KeepsBut, contains, first_of, last_of}
+use Rattle.vc_base.proofs.Members.{apart-head, apart-front, apart-rest, first-apart}
 use Rattle.vc_dtlist.specs.Linked.{Chain, HasLinks}
-use Rattle.vc_dtlist.proofs.HolderLemmas.{apart-head, apart-front, apart-rest, distinct-front, distinct-rest, last-apart, last-differs, first-apart, last_of-append}
+use Rattle.vc_dtlist.proofs.HolderLemmas.{distinct-front, distinct-rest, last-apart, last-differs, last_of-append}
 use Rattle.vc_dtlist.proofs.ChainLemmas.{HasLinks-other, Chain-other, Chain-next, Chain-previous, Chain-none}
 
 -- an address that is no last one and not 0 differs from the last one or 0, and likewise from the first

@@ -5,9 +5,9 @@ use Rattle.std.proofs.lemmas.Bool.Decides.{eqb_tells}
 use Rattle.std.proofs.lemmas.List.Elements.{All-cons, All-head, All-nil, All-tail, All-weaker}
 use Rattle.vc_base.specs.Cells.{Blocks, WordsWritten, word_at}
 use Rattle.vc_base.specs.Holders.{contains, without}
+use Rattle.vc_base.proofs.Members.{apart-head, apart-tail}
 use Rattle.vc_dtlist.specs.Linked.{IsPlain}
 use Rattle.vc_dtlist.proofs.WordLemmas.{word-other_block}
-use Rattle.vc_dtlist.proofs.HolderLemmas.{apart-head, apart-tail}
 
 -- one of another block stays plain
 IsPlain-other : (old new : Blocks) (a x : ℕ) → WordsWritten old new a → x ≢ a → IsPlain old x → IsPlain new x

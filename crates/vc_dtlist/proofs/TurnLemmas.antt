@@ -3,10 +3,11 @@ use Rattle.std.proofs.Common.{◌≡◌, ◌≢◌, ℕ, ◌<◌, ◌≤◌, ◌
 use Rattle.std.specs.Prelude.{All, ◌==◌, if◌then◌else◌}
 use Rattle.vc_base.specs.Cells.{Blocks, HasBytes, IsAddress, IsHolder, WordWritten, WordsWritten, word_at}
 use Rattle.vc_base.specs.Holders.{contains, first_of, last_of, next_in, previous_in, some_address, without}
+use Rattle.vc_base.proofs.Members.{apart-head, apart-tail, apart-front, apart-rest, without-split, next_in-split, previous_in-split}
 use Rattle.vc_dtlist.specs.declared.dt_list.DtList.{DtList}
 use Rattle.vc_dtlist.specs.Linked.{CanAdd, Chain, HasLinks, IsIn, IsJoined, IsPlain, LinksFor, Relinked, StandsFor, Turned}
 use Rattle.vc_dtlist.proofs.WordLemmas.{HasBytes-written, word-kept}
-use Rattle.vc_dtlist.proofs.HolderLemmas.{Split, apart-head, apart-tail, apart-append, apart-front, apart-rest, distinct-insert, distinct-remove, last_of-append, next_in-split, previous_in-split, some-first, some-last, split, without-split}
+use Rattle.vc_dtlist.proofs.HolderLemmas.{Split, apart-append, distinct-insert, distinct-remove, last_of-append, some-first, some-last, split}
 use Rattle.vc_dtlist.proofs.ChainLemmas.{Chain-other, Chain-front, Chain-rest, Chain-append, Chain-none}
 use Rattle.vc_dtlist.proofs.PlainLemmas.{All-inserted, All-without, plain-kept, plain-other}
 use Rattle.vc_dtlist.proofs.LinkLemmas.{first-joined, last-joined, last-parted, links_stay, neighbours, neighbours_keep}

@@ -4,7 +4,7 @@ use Rattle.std.specs.List.{list_any}
 use Rattle.std.proofs.lemmas.Bool.{true≢false}
 use Rattle.std.proofs.lemmas.Bool.Decides.{eqb_tells}
 use Rattle.vc_base.specs.Holders.{contains, without}
-use Rattle.vc_dtlist.proofs.KeptLemmas.{within-head, within-tail}
+use Rattle.vc_base.proofs.Members.{within-head, within-tail}
 
 head_by : (p : ℕ → Bool) (x : ℕ) (xs : List ℕ) (t : Bool) → p x ≡ t → list_any p (x ∷ xs) ≡ false → p x ≡ false
 head_by p x xs true e h = absurd (true≢false (rw e at h))

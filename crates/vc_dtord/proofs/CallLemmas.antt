@@ -2,14 +2,14 @@
 use Rattle.std.proofs.Common.{◌≡◌, ℕ, ◌+◌, ◌≤◌, Bool, true, false, cond, List, [], ◌∷◌, length, sym, ap, ◌∙◌, subst}
 use Rattle.std.specs.Prelude.{All}
 use Rattle.std.specs.Cmp.{IsTotalOrder}
-use Rattle.std.proofs.lemmas.Bool.{true≢false}
+use Rattle.std.proofs.lemmas.Bool.{true≢false, and_from}
 use Rattle.std.proofs.lemmas.List.Elements.{All-cons, All-head, All-tail}
 use Rattle.vc_base.specs.Cells.{Blocks}
 use Rattle.vc_base.specs.Holders.{contains, without}
+use Rattle.vc_base.proofs.Members.{apart-head}
 use Rattle.vc_dtdisc.specs.Finding.{put_before}
 use Rattle.vc_dtdisc.specs.Finds.{object_at}
 use Rattle.vc_dtdisc.specs.Rules.{Rules}
-use Rattle.vc_dtlist.proofs.HolderLemmas.{apart-head}
 use Rattle.vc_dtlist.proofs.PlainLemmas.{All-without}
 use Rattle.vc_splay.specs.Guide as guide
 use Rattle.vc_splay.specs.Guide.{CanFind, Rises, order_with_name}
@@ -22,7 +22,6 @@ use Rattle.vc_dtord.specs.Written.{IsCleared}
 use Rattle.vc_dtord.proofs.SortedLemmas.{IsSorted-placed, IsSorted-rises, IsSorted-same, IsSorted-without, less-same, linked-placed}
 use Rattle.vc_dtord.proofs.TreeLemmas.{OrdFor-node, OrdFor-one, OrdFor-same, tree-beside, tree-beside_root}
 use Rattle.vc_dtord.proofs.TurnLemmas.{turned}
-use Rattle.vc_dtord.proofs.WrittenLemmas.{and-both}
 
 All-placed : (P : ℕ → Type 0) (test : ℕ → Bool) (at : ℕ) (xs : List ℕ) → All P xs → P at → All P (put_before test at xs)
 All-placed P test at [] h p = All-cons P at [] p h
@@ -51,7 +50,7 @@ module _ (rules : Rules) (order : IsTotalOrder rules.compare) (ord : DtOrd) (b b
         tree = s.tree;
         is_tree = tree-cleared c.holders c.stands;
         rises = subst (λ ys. Rises (stands_to_holder rules b' at) ys) (sym s.list) (IsSorted-rises rules order b' (rules.key (object_at b' at)) c.holders s.sorted);
-        held = and-both (is_node b' at) (is_node b' at) w.node w.node;
+        held = and_from (is_node b' at) (is_node b' at) w.node w.node;
         apart = ap (λ ys. contains ys at) s.list ∙ c.apart;
       }
 

@@ -2,13 +2,11 @@
 use Rattle.std.proofs.Common.{◌≡◌, ℕ, List, [], ◌∷◌, Bool, true, false, Some, unwrap_or, refl, ap, subst}
 use Rattle.std.specs.List.{find}
 use Rattle.vc_base.specs.Holders.{contains}
-use Rattle.vc_dtlist.proofs.KeptLemmas.{within-head, within-tail}
-
-some_same : (x m : ℕ) → Some x ≡ Some m → x ≡ m
-some_same x m e = ap (λ o. unwrap_or o 0) e
+use Rattle.vc_base.proofs.Members.{within-head, within-tail}
+use Rattle.vc_base.proofs.Options.{some_same}
 
 within_by : (test : ℕ → Bool) (x : ℕ) (xs : List ℕ) (m : ℕ) (t : Bool) → test x ≡ t → (find test xs ≡ Some m → contains xs m ≡ true) → find test (x ∷ xs) ≡ Some m → contains (x ∷ xs) m ≡ true
-within_by test x xs m true t rest e = let h : Some x ≡ Some m = rw t at e in subst (λ z. contains (x ∷ xs) z ≡ true) (some_same x m h) (within-head x xs)
+within_by test x xs m true t rest e = let h : Some x ≡ Some m = rw t at e in subst (λ z. contains (x ∷ xs) z ≡ true) (some_same h) (within-head x xs)
 within_by test x xs m false t rest e = within-tail x xs m (rest (rw t at e))
 
 -- it is in the list

@@ -10,11 +10,12 @@ use Rattle.std.proofs.lemmas.Cmp.{upto}
 use Rattle.std.proofs.lemmas.Bool.Decides.{eqb_tells}
 use Rattle.vc_base.specs.Cells.{Blocks}
 use Rattle.vc_base.specs.Holders.{contains, without}
+use Rattle.vc_base.proofs.Members.{within-head, within-tail}
+use Rattle.vc_base.proofs.Orders.{reversed}
 use Rattle.vc_dtdisc.specs.Finding.{put_before}
 use Rattle.vc_dtdisc.specs.Finds.{object_at}
 use Rattle.vc_dtdisc.specs.Rules.{Rules}
 use Rattle.vc_splay.specs.Guide.{Rises, RisesFrom, order_with_name}
-use Rattle.vc_dtlist.proofs.KeptLemmas.{within-head, within-tail}
 use Rattle.vc_dtord.specs.Nodes.{stands_to}
 use Rattle.vc_dtord.specs.Ordered.{IsSorted, is_less, order_with}
 use Rattle.vc_dtord.proofs.AnyLemmas.{any-at, any-cons, any-head, any-less, any-tail, any-without}
@@ -38,12 +39,6 @@ IsSorted-without rules b (x ∷ xs) at s = elim (eqb_tells x at) as (λ _. IsSor
   | inl same ↦ rw same.0 s.1
   | inr apart ↦ rw apart.0 (any-without (λ y. is_less rules b y x) xs at s.0, IsSorted-without rules b xs at s.1)
 ]
-
--- of two only one is less
-reversed : (o : Ordering) → is_gt o ≡ true → is_gt (ordering_reverse o) ≡ false
-reversed Less e = absurd (true≢false (sym e))
-reversed Equal e = refl
-reversed Greater e = refl
 
 less-one : (rules : Rules) (b : Blocks) (x y : ℕ) → IsTotalOrder rules.compare → is_less rules b x y ≡ true → is_less rules b y x ≡ false
 less-one rules b x y order e =

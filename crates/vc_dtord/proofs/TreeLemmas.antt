@@ -1,14 +1,14 @@
 -- Trees of holders: over blocks in which their holders stay, and beside another holder.
 use Rattle.std.proofs.Common.{◌≡◌, ℕ, zero, suc, ◌≤◌, true, false, cond, List, [], ◌∷◌, ◌++◌, length, Option, Some, None, is_some, unwrap_or, inl, inr, refl, sym, ap, ◌∙◌, subst, arith, length-append}
 use Rattle.std.specs.Prelude.{All}
-use Rattle.std.proofs.lemmas.Bool.{ne_eqb, true≢false}
+use Rattle.std.proofs.lemmas.Bool.{ne_eqb, true≢false, and_from}
 use Rattle.std.proofs.lemmas.Bool.Decides.{eqb_tells}
 use Rattle.std.proofs.lemmas.List.Elements.{All-cons, All-head, All-nil, All-tail}
 use Rattle.vc_base.specs.Cells.{Blocks, body_of, word, word_at}
 use Rattle.vc_base.specs.Holders.{AreDistinct, contains}
+use Rattle.vc_base.proofs.Members.{within-head, within-tail, within-front, within-rest}
 use Rattle.vc_dtdisc.specs.Rules.{Rules}
 use Rattle.vc_dtlist.proofs.AddressLemmas.{AreHolders}
-use Rattle.vc_dtlist.proofs.KeptLemmas.{within-head, within-tail}
 use Rattle.vc_splay.specs.Stands.{IsTree, Stands}
 use Rattle.vc_splay.specs.Store.{SameLinks, Store}
 use Rattle.vc_splay.specs.Tree.{Tree, Leaf, Node, names, name_of}
@@ -18,19 +18,6 @@ use Rattle.vc_dtord.specs.Nodes.{beside, is_node, is_node_of, node_store}
 use Rattle.vc_dtord.specs.NodeLaws.{IsNodeAt, and-right, node-is, node-none}
 use Rattle.vc_dtord.specs.Ordered.{IsPlain, OrdFor, in_order}
 use Rattle.vc_dtord.proofs.SortedLemmas.{IsSorted-same}
-use Rattle.vc_dtord.proofs.WrittenLemmas.{and-both}
-
--- an address of one of two lists is in both together
-within-front : (xs ys : List ℕ) (a : ℕ) → contains xs a ≡ true → contains (xs ++ ys) a ≡ true
-within-front [] ys a h = absurd (true≢false (sym h))
-within-front (x ∷ xs) ys a h = elim (eqb_tells x a) as (λ _. contains (x ∷ (xs ++ ys)) a ≡ true) [
-  | inl same ↦ rw same.0 refl
-  | inr apart ↦ rw apart.0 (within-front xs ys a (rw apart.0 at h))
-]
-
-pub within-rest : (xs ys : List ℕ) (a : ℕ) → contains ys a ≡ true → contains (xs ++ ys) a ≡ true
-within-rest [] ys a h = h
-within-rest (x ∷ xs) ys a h = within-tail x (xs ++ ys) a (within-rest xs ys a h)
 
 -- a tree stands in another store where its names are there and keep their links
 Stands-same : (s s' : Store) (up : ℕ) (t : Tree) → ((n : ℕ) → contains (names t) n ≡ true → s.has n ≡ true → s'.has n ≡ true) → ((n : ℕ) → contains (names t) n ≡ true → SameLinks s s' n) → Stands s up t → Stands s' up t
@@ -71,7 +58,7 @@ Stands-there s up (Node l m r) n h w =
 -- beside a holder that is there, and without it
 pub tree-beside : (b : Blocks) (mark root : ℕ) (t : Tree) → is_node b mark ≡ true → IsTree (node_store b) root t → IsTree (beside mark (node_store b)) root t
 tree-beside b mark root t there h =
-    IsTree-same (node_store b) (beside mark (node_store b)) root t (λ n w k. and-both (is_node b mark) (is_node b n) there k) (λ n w. record { kid = λ d. refl; parent = refl }) h
+    IsTree-same (node_store b) (beside mark (node_store b)) root t (λ n w k. and_from (is_node b mark) (is_node b n) there k) (λ n w. record { kid = λ d. refl; parent = refl }) h
 
 pub tree-alone : (b : Blocks) (mark root : ℕ) (t : Tree) → IsTree (beside mark (node_store b)) root t → IsTree (node_store b) root t
 tree-alone b mark root t h =

@@ -3,7 +3,7 @@ use Rattle.std.proofs.Common.{◌≡◌, ◌≢◌, ℕ, ◌+◌, ◌*◌, ◌<�
 use Rattle.std.specs.Int.{to_le_bytes}
 use Rattle.std.specs.Prelude.{nat_lt}
 use Rattle.std.specs.Str.{bytes_eq}
-use Rattle.std.proofs.lemmas.Bool.{cases_lt, lt-ltb, ltb-true, true≢false}
+use Rattle.std.proofs.lemmas.Bool.{cases_lt, lt-ltb, ltb-true, true≢false, and_from}
 use Rattle.std.proofs.lemmas.Bool.Decides.{eqb_tells}
 use Rattle.std.proofs.lemmas.Slice.Eq.{bytes_eq-Decides}
 use Rattle.vc_model.specs.Bytes.{with_bytes}
@@ -15,10 +15,6 @@ use Rattle.vc_splay.proofs.StoreLemmas.{with_kid-is, with_parent-is}
 use Rattle.vc_dtord.specs.Nodes.{StaysButLinks, beside, is_link, is_node, is_node_of, node_store, word_bytes}
 use Rattle.vc_dtord.specs.NodeLaws.{IsNodeAt, and-left, node-is}
 use Rattle.vc_dtord.specs.Written.{IsCleared, NumberWritten}
-
-pub and-both : (a b : Bool) → a ≡ true → b ≡ true → a && b ≡ true
-and-both true b h k = k
-and-both false b h k = absurd (true≢false (sym h))
 
 -- the bytes of the word that was written, and those of others
 bytes-here : (k value : ℕ) (bytes : List ℕ) → 8 * k + 8 ≤ length bytes → word_bytes k (with_word k value bytes) ≡ to_le_bytes w64 value
@@ -44,7 +40,7 @@ link-here k value bytes fits h =
     let after = with_word k value bytes in
     let w : word k after ≡ value = word-with_word_same k value bytes (omega arith) h in
     let e : word_bytes k after ≡ to_le_bytes w64 (word k after) = bytes-here k value bytes h ∙ ap (to_le_bytes w64) (sym w) in
-    and-both (nat_lt (word k after) 4294967296) (bytes_eq (word_bytes k after) (to_le_bytes w64 (word k after)))
+    and_from (nat_lt (word k after) 4294967296) (bytes_eq (word_bytes k after) (to_le_bytes w64 (word k after)))
     (lt-ltb (word k after) 4294967296 (omega arith))
     ((bytes_eq-Decides (word_bytes k after) (to_le_bytes w64 (word k after))).1 e)
 
@@ -81,10 +77,10 @@ node-by blocks a address long first second third =
     let fits = nat_lt a 4294967296 in
     let least : 0 < a = address.some in
     let most : a < 4294967296 = address.fits in
-    let h3 = and-both t0 (t1 && t2) first (and-both t1 t2 second third) in
-    let h2 = and-both enough (t0 && (t1 && t2)) (lt-ltb 32 (length bytes) long) h3 in
-    let h1 = and-both fits (enough && (t0 && (t1 && t2))) (lt-ltb a 4294967296 most) h2 in
-    and-both (nat_lt 0 a) (fits && (enough && (t0 && (t1 && t2)))) (lt-ltb 0 a least) h1
+    let h3 = and_from t0 (t1 && t2) first (and_from t1 t2 second third) in
+    let h2 = and_from enough (t0 && (t1 && t2)) (lt-ltb 32 (length bytes) long) h3 in
+    let h1 = and_from fits (enough && (t0 && (t1 && t2))) (lt-ltb a 4294967296 most) h2 in
+    and_from (nat_lt 0 a) (fits && (enough && (t0 && (t1 && t2)))) (lt-ltb 0 a least) h1
 
 -- a holder whose four words were written one by one
 pub IsCleared-by : (b0 b1 b2 b3 b4 : Blocks) (at : ℕ) → IsAddress at → IsHolder b0 at → NumberWritten b0 b1 at 0 0 → NumberWritten b1 b2 at 1 0 → NumberWritten b2 b3 at 2 0 → NumberWritten b3 b4 at 3 0 → IsCleared b0 b4 at

@@ -3,6 +3,7 @@ use Rattle.std.proofs.Common.{◌≡◌, ℕ, zero, suc, ◌+◌, ◌-◌, ◌*�
 use Rattle.std.proofs.lemmas.Bool.{eq-eqb}
 use Rattle.std.proofs.lemmas.List.{drop-append-le, drop-drop, drop-take, length-append, length-drop, length-take-le, take-take}
 use Rattle.vc_model.specs.Bytes.{with_bytes}
+use Rattle.vc_base.proofs.Overwrites.{part-written}
 use Rattle.vc_seg.specs.Segment.{Bytes}
 use Rattle.vc_extent.specs.Extent.{Extent, busy_extent, extent_at, extents, free_extent, links_at, no_links}
 use Rattle.vc_extent.specs.Change.{Changes, behind, extent_in, link_in, set_link, with_link, write}
@@ -17,27 +18,6 @@ take-past : (n k : ℕ) (xs ys : List ℕ) → n ≡ length xs + k → take n (x
 take-past n k [] ys e = ap (λ j. take j ys) (omega arith)
 take-past zero k (x ∷ xs) ys e = absurd (omega arith)
 take-past (suc n) k (x ∷ xs) ys e = ap (λ (zs : List ℕ). x ∷ zs) (take-past n k xs ys (omega arith))
-
--- a part of bytes after a write within the part
-pub part-written : (from size off : ℕ) (src b : List ℕ) → off + length src ≤ size → from + size ≤ length b → take size (drop from (with_bytes (from + off) src b)) ≡ with_bytes off src (take size (drop from b))
-part-written from size off src b within fits =
-    let y : List ℕ = drop from b in
-    let long : length y ≡ length b - from = length-drop from b in
-    let front : length (take (from + off) b) ≡ from + off = length-take-le (from + off) b (omega arith) in
-    let both : length (take (from + off) b ++ src) ≡ from + off + length src = length-append (take (from + off) b) src ∙ ap (λ k. k + length src) front in
-    let rest : drop (from + off + length src) b ≡ drop (off + length src) y = ap (λ k. drop k b) (omega arith) ∙ sym (drop-drop (off + length src) from b) in
-    let one : drop from (with_bytes (from + off) src b) ≡ (take off y ++ src) ++ drop (off + length src) y =
-    drop-append-le from (take (from + off) b ++ src) (drop (from + off + length src) b) (omega arith)
-    ∙ (ap (λ (zs : List ℕ). zs ++ drop (from + off + length src) b) (drop-append-le from (take (from + off) b) src (omega arith) ∙ ap (λ (zs : List ℕ). zs ++ src) (drop-take from off b))
-    ∙ ap (λ (zs : List ℕ). (take off y ++ src) ++ zs) rest) in
-    let head : length (take off y ++ src) ≡ off + length src = length-append (take off y) src ∙ ap (λ k. k + length src) (length-take-le off y (omega arith)) in
-    let k : ℕ = size - (off + length src) in
-    let whole : off + length src + (size - (off + length src)) ≡ size = omega arith in
-    let two : take size ((take off y ++ src) ++ drop (off + length src) y) ≡ (take off y ++ src) ++ take (size - (off + length src)) (drop (off + length src) y) =
-    take-past size (size - (off + length src)) (take off y ++ src) (drop (off + length src) y) (omega arith) in
-    let three : take (size - (off + length src)) (drop (off + length src) y) ≡ drop (off + length src) (take size y) = sym (drop-take (off + length src) (size - (off + length src)) y) ∙ ap (λ j. drop (off + length src) (take j y)) whole in
-    let four : take off y ≡ take off (take size y) = sym (take-take off size y (omega arith)) in
-    ap (take size) one ∙ (two ∙ (ap (λ (zs : List ℕ). (take off y ++ src) ++ zs) three ∙ ap (λ (zs : List ℕ). (zs ++ src) ++ drop (off + length src) (take size y)) four))
 
 -- a segment after a write into a busy extent
 pub body-changed : (o n : Bytes) (at off : ℕ) (src : List ℕ) → IsTiled o.bytes → 0 < (extent_in (at + 16) (extents o.bytes)).span → 0 < (extent_in (at + 16) (extents o.bytes)).size → off + length src ≤ (extent_in (at + 16) (extents o.bytes)).size →

@@ -1,6 +1,7 @@
 -- A copy of a range of one segment in another.
 use Rattle.std.proofs.Common.{◌≡◌, ℕ, ◌<◌, List, length, get_or, take, drop, ap, sym, ◌∙◌, arith, ◌+◌, ◌≤◌, refl, subst}
 use Rattle.vc_model.specs.Bytes.{with_bytes}
+use Rattle.vc_base.proofs.Lists.{length-part}
 use Rattle.vc_seg.specs.Memory.{with_copy_of}
 use Rattle.vc_seg.specs.Segment.{Bytes}
 use Rattle.std.proofs.lemmas.List.{take-take}
@@ -9,7 +10,6 @@ use Rattle.vc_extent.specs.Change.{Changes, extent_in, write}
 use Rattle.vc_extent.specs.Tiling.{IsFound, extent_of, tiling}
 use Rattle.vc_extent.proofs.Bodies.{body-changed}
 use Rattle.vc_extent.proofs.Changed.{within}
-use Rattle.vc_extent.proofs.Marked.{part-length}
 
 -- the front of one busy extent copied into another
 module _ (segs : List Bytes) (from to i j at place len : ℕ) (f : IsFound from segs i at) (g : IsFound to segs j place) (busy : 0 < (extent_of (tiling segs) to).size) (inside : len ≤ (extent_of (tiling segs) from).size) (fits : len ≤ (extent_of (tiling segs) to).size) where
@@ -35,7 +35,7 @@ module _ (segs : List Bytes) (from to i j at place len : ℕ) (f : IsFound from 
       let inside' : len ≤ e.size = subst (λ (x : Extent). len ≤ x.size) (sym same) inside in
       let src : take len (drop (at + 16) (get_or segs i d).bytes) ≡ take len (extent_of (tiling segs) from).body =
       sym (take-take len e.size (drop (at + 16) (get_or segs i d).bytes) inside') ∙ (ap (take len) (sym w.body) ∙ ap (λ (x : Extent). take len x.body) same) in
-      let long : length (take len (extent_of (tiling segs) from).body) ≡ len = ap length (sym src) ∙ part-length (get_or segs i d).bytes (at + 16) len (source-fits d) in
+      let long : length (take len (extent_of (tiling segs) from).body) ≡ len = ap length (sym src) ∙ length-part (get_or segs i d).bytes (at + 16) len (source-fits d) in
       let there : extent_in (place + 16) (extents (get_or segs j d).bytes) ≡ extent_of (tiling segs) to = g.extent d in
       let none : place + 16 ≡ place + 16 + 0 = omega arith in
       let size = ap (λ (x : Extent). x.size) there in

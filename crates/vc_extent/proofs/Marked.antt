@@ -6,9 +6,6 @@ use Rattle.vc_seg.specs.Segment.{Bytes}
 use Rattle.vc_extent.specs.Extent.{Extent, busy_extent, free_extent, no_links}
 use Rattle.vc_extent.specs.Tiles.{Tiles}
 
-pub part-length : (b : List ℕ) (at size : ℕ) → at + size ≤ length b → length (take size (drop at b)) ≡ size
-part-length b at size h = length-take-le size (drop at b) (omega (arith, length-drop at b))
-
 -- a busy extent before the free rest of a whole, by what was written
 pub cut-tiles : (a n : Bytes) (p at bytes whole size tag : ℕ) (e : Extent) (body : List ℕ) (es : List Extent) → e.off ≡ at + 16 → whole ≡ e.span → bytes ≡ span size → tag ≡ e.tag → take size (drop (at + 16) a.bytes) ≡ body →
     Tiles n.bytes (length n.bytes - 16) p at (busy_extent (at + 16) bytes size tag (take size (drop (at + 16) a.bytes)) ∷ free_extent (at + 16 + bytes) (whole - bytes) no_links ∷ es) →

@@ -3,6 +3,7 @@ use Rattle.std.proofs.Common.{◌≡◌, ◌≢◌, ℕ, ◌+◌, ◌-◌, ◌<�
 use Rattle.std.proofs.lemmas.Bool.{eq-eqb, ne_eqb}
 use Rattle.std.proofs.lemmas.List.{take-take}
 use Rattle.vc_model.specs.Segments.{span}
+use Rattle.vc_base.proofs.Lists.{length-part}
 use Rattle.vc_seg.specs.Segment.{Bytes}
 use Rattle.vc_extent.specs.Extent.{Extent, busy_extent, extents, free_extent, no_links}
 use Rattle.vc_extent.specs.Change.{Changes, behind, extent_in, first_of, stretch}
@@ -12,7 +13,6 @@ use Rattle.vc_extent.specs.Stretch.{IsStretched}
 use Rattle.vc_extent.specs.Tiles.{IsTiled, Tiles}
 use Rattle.vc_seg.proofs.Frames.{lower, part-front, then-below}
 use Rattle.vc_extent.proofs.Changed.{IsWithin, changed, renamed, within}
-use Rattle.vc_extent.proofs.Marked.{part-length}
 
 module _ (o a n : Bytes) (at first second size tag : ℕ) (body : List ℕ) (e : Extent) (off : e.off ≡ at + 16) (whole : first ≡ e.span) (tagged : tag ≡ e.tag) (boundary : field_at (at + 12) a.bytes ≡ field_at (at + 12) o.bytes) where
   -- the free extent is used up
@@ -65,7 +65,7 @@ stretched o a n at size t named busy some above fits s u made =
     ap (λ (x : Extent). x.body) (renamed o n at (stretch size (take size (drop (at + 16) a.bytes))) (busy_extent e.off (span size) size e.tag (take size (drop (at + 16) a.bytes))) head.0 t named ch head.1 w.off) in
     record {
       change = subst (λ (b : List ℕ). Changes (at + 16) (stretch size b) o n) (sym is) ch;
-      len = ap length is ∙ part-length a.bytes (at + 16) size (omega (arith, s.len));
+      len = ap length is ∙ length-part a.bytes (at + 16) size (omega (arith, s.len));
       kept =
           ap (take e.size) is
           ∙ (take-take e.size size (drop (at + 16) a.bytes) (omega arith) ∙ (part-front o.bytes a.bytes (at + span size) s.below (at + 16) e.size (omega arith) ∙ sym w.body));

@@ -3,6 +3,7 @@ use Rattle.std.proofs.Common.{◌≡◌, ◌≢◌, ℕ, ◌+◌, ◌*◌, ◌/�
 use Rattle.std.proofs.lemmas.Bool.{cases_Bool, cases_eq, eqb-true, eq-eqb, ne_eqb, true≢false}
 use Rattle.vc_model.specs.Addr.{address, place_of}
 use Rattle.vc_base.specs.Holders.{contains}
+use Rattle.vc_base.proofs.Members.{apart-head, within-head}
 use Rattle.vc_seg.specs.Segment.{Bytes}
 use Rattle.vc_extent.specs.Extent.{Extent, free_extent, no_links}
 use Rattle.vc_extent.specs.Change.{extent_in}
@@ -10,8 +11,7 @@ use Rattle.vc_extent.specs.Tiling.{IsFree, IsThere, extent_of, extents_of, tilin
 use Rattle.vc_gaps.specs.ButLinks.{Tiling}
 use Rattle.vc_gaps.specs.GapStore.{is_free}
 use Rattle.vc_gaps.specs.GapTree.{HasGaps}
-use Rattle.vc_splay.proofs.NeighbourLemmas.{apart_here}
-use Rattle.vc_gaps.proofs.Ascending.{contains-cases, contains-head}
+use Rattle.vc_gaps.proofs.Ascending.{contains-cases}
 use Rattle.vc_gaps.proofs.Carried.{gaps-touched}
 use Rattle.vc_gaps.proofs.Marked.{contains-there, none-of, out-of}
 
@@ -76,7 +76,7 @@ module _ (old new : Tiling) (n : ℕ) (same : (m : ℕ) → m ≢ n → extents_
       → HasGaps old root out → HasGaps new root after
   gaps-one root out after named before then h =
       gaps-touched old new root (address (n, 32) ∷ []) out after
-      (λ b apart. let ne : b ≢ address (n, 32) = λ q. apart_here (address (n, 32)) [] b apart (sym q) in (other-extent b ne, named b ne))
+      (λ b apart. let ne : b ≢ address (n, 32) = λ q. apart-head (address (n, 32)) [] b apart (sym q) in (other-extent b ne, named b ne))
       (λ b touched.
       ⊎_elim
       (λ (q : address (n, 32) ≡ b). (subst (λ z. (is_free old z && not (contains out z)) ≡ false) q before, subst (λ z. (is_free new z && not (contains after z)) ≡ false) q then))
@@ -102,7 +102,7 @@ gaps-added segs new root n span out none e h =
     root out (address (n, 32) ∷ out)
     (λ b ne. contains-there (address (n, 32)) b out ne)
     (none-of (tiling segs) (address (n, 32)) out (not-free (tiling segs) n (extents-none n segs none)))
-    (out-of new (address (n, 32)) (address (n, 32) ∷ out) (contains-head (address (n, 32)) out))
+    (out-of new (address (n, 32)) (address (n, 32) ∷ out) (within-head (address (n, 32)) out))
     h
 
 -- it is free
@@ -124,6 +124,6 @@ gaps-removed old new root n x out only off e h =
     (λ to ne. ap (extent_in to) own ∙ sym (ap (extent_in to) only ∙ ap (λ z. cond z x (free_extent to 0 no_links)) (ne_eqb x.off to (λ z. ne (sym z ∙ off)))))
     root (address (n, 32) ∷ out) out
     (λ b ne. sym (contains-there (address (n, 32)) b out ne))
-    (out-of old (address (n, 32)) (address (n, 32) ∷ out) (contains-head (address (n, 32)) out))
+    (out-of old (address (n, 32)) (address (n, 32) ∷ out) (within-head (address (n, 32)) out))
     (none-of new (address (n, 32)) out (not-free new n own))
     h

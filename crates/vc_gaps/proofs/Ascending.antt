@@ -5,15 +5,9 @@ use Rattle.std.specs.Ordering.{is_ge, is_gt, nat_cmp, ordering_index}
 use Rattle.std.proofs.lemmas.Bool.{cases_Bool, eqb-true, eqb-false, eq-eqb, ne_eqb, lt-ltb, le-ltb, ltb-true, ltb-false, true≢false}
 use Rattle.vc_model.specs.Order.{put_by}
 use Rattle.vc_base.specs.Holders.{AreDistinct, contains, without}
+use Rattle.vc_base.proofs.Members.{within-head, within-tail}
 use Rattle.vc_splay.specs.Guide.{RisesFrom, order_with_name}
 use Rattle.vc_gaps.specs.GapTree.{AscendFrom}
-
--- a name of a list is its first one or one of the others
-pub contains-head : (x : ℕ) (xs : List ℕ) → contains (x ∷ xs) x ≡ true
-contains-head x xs = rw (eq-eqb x x refl) refl
-
-pub contains-tail : (x : ℕ) (xs : List ℕ) (n : ℕ) → contains xs n ≡ true → contains (x ∷ xs) n ≡ true
-contains-tail x xs n h = elim (eqb x n) as (λ z. (z || contains xs n) ≡ true) [ true ↦ refl | false ↦ h ]
 
 pub contains-cases : (x : ℕ) (xs : List ℕ) (n : ℕ) → contains (x ∷ xs) n ≡ true → (x ≡ n) ⊎ (contains xs n ≡ true)
 contains-cases x xs n h =
@@ -52,8 +46,8 @@ module _ (key : ℕ → ℕ) where
       (λ (t : nat_lt (key a) (key x) ≡ true). let lt = ltb-true (key a) (key x) t in rw t (l, (let k = lt in omega arith, h.1)))
       (λ (t : nat_lt (key a) (key x) ≡ false).
       let le = ltb-false (key a) (key x) t in
-      let other = ne x (contains-head x xs) in
-      rw t (h.0, ascend-put (key x + 1) a xs h.1 (omega arith) (λ n w. ne n (contains-tail x xs n w))))
+      let other = ne x (within-head x xs) in
+      rw t (h.0, ascend-put (key x + 1) a xs h.1 (omega arith) (λ n w. ne n (within-tail x xs n w))))
       (cases_Bool (nat_lt (key a) (key x)))
 
   -- in the order of their keys, where they stand to one never falls
@@ -115,9 +109,9 @@ module _ (key : ℕ → ℕ) where
 pub ascend-same : (old new : ℕ → ℕ) (low : ℕ) (xs : List ℕ) → ((n : ℕ) → contains xs n ≡ true → new n ≡ old n) → AscendFrom old low xs → AscendFrom new low xs
 ascend-same old new low [] same h = tt
 ascend-same old new low (x ∷ xs) same h =
-    let e = same x (contains-head x xs) in (
+    let e = same x (within-head x xs) in (
       subst (λ z. low ≤ z) (sym e) h.0,
-      ascend-same old new (new x + 1) xs (λ n w. same n (contains-tail x xs n w)) (subst (λ z. AscendFrom old (z + 1) xs) (sym e) h.1),
+      ascend-same old new (new x + 1) xs (λ n w. same n (within-tail x xs n w)) (subst (λ z. AscendFrom old (z + 1) xs) (sym e) h.1),
     )
 
 -- what a list without one name has
@@ -146,7 +140,7 @@ contains-without a (x ∷ xs) n d =
 -- two tests that agree on a list find the same
 pub find-same : (p q : ℕ → Bool) (xs : List ℕ) → ((n : ℕ) → contains xs n ≡ true → p n ≡ q n) → find p xs ≡ find q xs
 find-same p q [] same = refl
-find-same p q (x ∷ xs) same = ap (λ z. cond z (Some x) (find p xs)) (same x (contains-head x xs)) ∙ ap (cond (q x) (Some x)) (find-same p q xs (λ n w. same n (contains-tail x xs n w)))
+find-same p q (x ∷ xs) same = ap (λ z. cond z (Some x) (find p xs)) (same x (within-head x xs)) ∙ ap (cond (q x) (Some x)) (find-same p q xs (λ n w. same n (within-tail x xs n w)))
 
 -- what is found is in the list and passes, and each other one that passes has no lesser key
 pub record IsLeast (key : ℕ → ℕ) (p : ℕ → Bool) (xs : List ℕ) (n : ℕ) : Type 0 where
@@ -162,7 +156,7 @@ find-least key p low (x ∷ xs) n h e =
     let f : Some x ≡ Some n = rw t at e in
     let same : x ≡ n = cc in
     record {
-      within = subst (λ z. contains (x ∷ xs) z ≡ true) same (contains-head x xs);
+      within = subst (λ z. contains (x ∷ xs) z ≡ true) same (within-head x xs);
       passes = subst (λ z. p z ≡ true) same t;
       least = λ m w q.
           ⊎_elim
@@ -173,7 +167,7 @@ find-least key p low (x ∷ xs) n h e =
     (λ (t : p x ≡ false).
     let r : IsLeast key p xs n = find-least key p (key x + 1) xs n h.1 (rw t at e) in
     record {
-      within = contains-tail x xs n r.within;
+      within = within-tail x xs n r.within;
       passes = r.passes;
       least = λ m w q.
           ⊎_elim

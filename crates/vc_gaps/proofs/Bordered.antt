@@ -4,14 +4,14 @@ use Rattle.std.proofs.lemmas.Bool.{eq-eqb, ne_eqb, true≢false}
 use Rattle.vc_model.specs.Addr.{address, place_of}
 use Rattle.vc_model.specs.Segments.{span}
 use Rattle.vc_base.specs.Holders.{contains}
-use Rattle.vc_splay.proofs.NeighbourLemmas.{apart_here, apart_on}
+use Rattle.vc_base.proofs.Members.{apart-head, apart-tail, within-head}
 use Rattle.vc_extent.specs.Extent.{Extent, busy_extent, free_extent, no_links}
 use Rattle.vc_extent.specs.Change.{extent_in, shrink, stretch}
 use Rattle.vc_extent.specs.Tiling.{IsBusy, change_extent, extent_of, extents_of, next_of}
 use Rattle.vc_gaps.specs.ButLinks.{Tiling}
 use Rattle.vc_gaps.specs.GapStore.{is_free}
 use Rattle.vc_gaps.specs.GapTree.{HasGaps}
-use Rattle.vc_gaps.proofs.Ascending.{contains-cases, contains-head}
+use Rattle.vc_gaps.proofs.Ascending.{contains-cases}
 use Rattle.vc_gaps.proofs.Carried.{gaps-touched}
 use Rattle.vc_gaps.proofs.Joined.{first-cons}
 use Rattle.vc_gaps.proofs.Marked.{busy-none, contains-there, none-of, out-of}
@@ -35,8 +35,8 @@ module _ (old new : Tiling) (root a size : ℕ) (out : List ℕ) (busy : IsBusy 
       let now : extent_of new a ≡ front = extent_of-here old new a (shrink size) e front (tail ∷ behind_of old a) busy.named own refl in
       gaps-touched old new root (a ∷ c ∷ []) out (c ∷ out)
       (λ b apart.
-      let ne : b ≢ a = λ q. apart_here a (c ∷ []) b apart (sym q) in
-      let other : b ≢ c = λ q. apart_here c [] b (apart_on a (c ∷ []) b apart) (sym q) in (
+      let ne : b ≢ a = λ q. apart-head a (c ∷ []) b apart (sym q) in
+      let other : b ≢ c = λ q. apart-head c [] b (apart-tail a (c ∷ []) b apart) (sym q) in (
         extent_of-other old new a (shrink size) e b ne
             (λ q.
             let differs : (place_of b).1 ≢ (place_of a).1 = off-differs a b ne q in
@@ -50,7 +50,7 @@ module _ (old new : Tiling) (root a size : ℕ) (out : List ℕ) (busy : IsBusy 
       (λ (q : a ≡ b). subst P q (none-of old a out (busy-none old a busy.busy), none-of new a (c ∷ out) (busy-none new a (subst (λ (z : Extent). 0 < z.size) (sym now) (omega arith)))))
       (λ (k : contains (c ∷ []) b ≡ true).
       ⊎_elim
-      (λ (q : c ≡ b). subst P q (none-of old c out none, out-of new c (c ∷ out) (contains-head c out)))
+      (λ (q : c ≡ b). subst P q (none-of old c out none, out-of new c (c ∷ out) (within-head c out)))
       (λ (j : contains [] b ≡ true). absurd (true≢false (sym j)))
       (contains-cases c [] b k))
       (contains-cases a (c ∷ []) b touched))
@@ -98,10 +98,10 @@ module _ (old new : Tiling) (root a size : ℕ) (out : List ℕ) (busy : IsBusy 
         let P : ℕ → Type 0 = λ z. ((is_free old z && not (contains (b ∷ out) z)) ≡ false) × ((is_free new z && not (contains (c ∷ out) z)) ≡ false) in
         gaps-touched old new root (a ∷ b ∷ c ∷ []) (b ∷ out) (c ∷ out)
         (λ d apart.
-        let na : d ≢ a = λ q. apart_here a (b ∷ c ∷ []) d apart (sym q) in
-        let on : contains (b ∷ c ∷ []) d ≡ false = apart_on a (b ∷ c ∷ []) d apart in
-        let nb : d ≢ b = λ q. apart_here b (c ∷ []) d on (sym q) in
-        let nc : d ≢ c = λ q. apart_here c [] d (apart_on b (c ∷ []) d on) (sym q) in (
+        let na : d ≢ a = λ q. apart-head a (b ∷ c ∷ []) d apart (sym q) in
+        let on : contains (b ∷ c ∷ []) d ≡ false = apart-tail a (b ∷ c ∷ []) d apart in
+        let nb : d ≢ b = λ q. apart-head b (c ∷ []) d on (sym q) in
+        let nc : d ≢ c = λ q. apart-head c [] d (apart-tail b (c ∷ []) d on) (sym q) in (
           grown-other d (tail ∷ ys) na nb (ap (λ z. cond z ys (tail ∷ ys)) (ne_eqb ((extent_of old a).span + y.span) (span size) more))
               (λ q. past tail ys (place_of d).1 (λ z. nc (let o = own in omega arith))),
           contains-there c d out nc ∙ sym (contains-there b d out nb),
@@ -111,10 +111,10 @@ module _ (old new : Tiling) (root a size : ℕ) (out : List ℕ) (busy : IsBusy 
         (λ (q : a ≡ d). subst P q (none-of old a (b ∷ out) (busy-none old a busy.busy), none-of new a (c ∷ out) grown-busy))
         (λ (k : contains (b ∷ c ∷ []) d ≡ true).
         ⊎_elim
-        (λ (q : b ≡ d). subst P q (out-of old b (b ∷ out) (contains-head b out), none-of new b (c ∷ out) gone))
+        (λ (q : b ≡ d). subst P q (out-of old b (b ∷ out) (within-head b out), none-of new b (c ∷ out) gone))
         (λ (j : contains (c ∷ []) d ≡ true).
         ⊎_elim
-        (λ (q : c ≡ d). subst P q (none-of old c (b ∷ out) none, out-of new c (c ∷ out) (contains-head c out)))
+        (λ (q : c ≡ d). subst P q (none-of old c (b ∷ out) none, out-of new c (c ∷ out) (within-head c out)))
         (λ (i : contains [] d ≡ true). absurd (true≢false (sym i)))
         (contains-cases c [] d j))
         (contains-cases b (c ∷ []) d k))
@@ -126,8 +126,8 @@ module _ (old new : Tiling) (root a size : ℕ) (out : List ℕ) (busy : IsBusy 
         let P : ℕ → Type 0 = λ z. ((is_free old z && not (contains (b ∷ out) z)) ≡ false) × ((is_free new z && not (contains out z)) ≡ false) in
         gaps-touched old new root (a ∷ b ∷ []) (b ∷ out) out
         (λ d apart.
-        let na : d ≢ a = λ q. apart_here a (b ∷ []) d apart (sym q) in
-        let nb : d ≢ b = λ q. apart_here b [] d (apart_on a (b ∷ []) d apart) (sym q) in (
+        let na : d ≢ a = λ q. apart-head a (b ∷ []) d apart (sym q) in
+        let nb : d ≢ b = λ q. apart-head b [] d (apart-tail a (b ∷ []) d apart) (sym q) in (
           grown-other d ys na nb (ap (λ z. cond z ys (tail ∷ ys)) (eq-eqb ((extent_of old a).span + y.span) (span size) whole)) (λ q. refl),
           sym (contains-there b d out nb),
         ))
@@ -136,7 +136,7 @@ module _ (old new : Tiling) (root a size : ℕ) (out : List ℕ) (busy : IsBusy 
         (λ (q : a ≡ d). subst P q (none-of old a (b ∷ out) (busy-none old a busy.busy), none-of new a out grown-busy))
         (λ (k : contains (b ∷ []) d ≡ true).
         ⊎_elim
-        (λ (q : b ≡ d). subst P q (out-of old b (b ∷ out) (contains-head b out), none-of new b out gone))
+        (λ (q : b ≡ d). subst P q (out-of old b (b ∷ out) (within-head b out), none-of new b out gone))
         (λ (i : contains [] d ≡ true). absurd (true≢false (sym i)))
         (contains-cases b [] d k))
         (contains-cases a (b ∷ []) d touched))

@@ -2,6 +2,7 @@
 use Rattle.std.proofs.Common.{◌≡◌, ℕ, List, [], ◌∷◌, ◌++◌, Bool, true, false, not, eqb, ltb, ◌&&◌, refl, ap, sym, subst, ◌∙◌, ⊎_elim}
 use Rattle.std.proofs.lemmas.Bool.{cases_Bool, true≢false}
 use Rattle.vc_base.specs.Holders.{contains}
+use Rattle.vc_base.proofs.Members.{within-head, within-tail, within-front, within-rest}
 use Rattle.vc_splay.specs.Stands.{IsNode, Stands}
 use Rattle.vc_splay.specs.Tree.{Tree, Leaf, Node, name_of, names}
 use Rattle.vc_extent.specs.Extent.{Extent}
@@ -9,20 +10,8 @@ use Rattle.vc_extent.specs.Tiling.{extent_of}
 use Rattle.vc_gaps.specs.ButLinks.{Tiling}
 use Rattle.vc_gaps.specs.GapStore.{gap_key, gap_store, is_free, key_of}
 use Rattle.vc_gaps.specs.GapTree.{HasGapTree, HasGaps}
-use Rattle.vc_gaps.proofs.Ascending.{ascend-same, contains-head, contains-tail}
+use Rattle.vc_gaps.proofs.Ascending.{ascend-same}
 use Rattle.vc_gaps.proofs.GapTrees.{tree-free}
-
-contains-front : (xs ys : List ℕ) (n : ℕ) → contains xs n ≡ true → contains (xs ++ ys) n ≡ true
-contains-front [] ys n h = absurd (true≢false (sym h))
-contains-front (x ∷ xs) ys n h =
-    ⊎_elim
-    (λ (t : eqb x n ≡ true). rw t refl)
-    (λ (t : eqb x n ≡ false). rw t (contains-front xs ys n (rw t at h)))
-    (cases_Bool (eqb x n))
-
-contains-back : (xs ys : List ℕ) (n : ℕ) → contains ys n ≡ true → contains (xs ++ ys) n ≡ true
-contains-back [] ys n h = h
-contains-back (x ∷ xs) ys n h = contains-tail x (xs ++ ys) n (contains-back xs ys n h)
 
 module _ (old new : Tiling) where
   node-carried : (up n l r : ℕ) → extent_of new n ≡ extent_of old n → IsNode (gap_store old) up n l r → IsNode (gap_store new) up n l r
@@ -36,9 +25,9 @@ module _ (old new : Tiling) where
   stands-carried : (up : ℕ) (u : Tree) → ((n : ℕ) → contains (names u) n ≡ true → extent_of new n ≡ extent_of old n) → Stands (gap_store old) up u → Stands (gap_store new) up u
   stands-carried up Leaf same h = tt
   stands-carried up (Node l m r) same h = (
-    node-carried up m (name_of l) (name_of r) (same m (contains-back (names l) (m ∷ names r) m (contains-head m (names r)))) h.0,
-    stands-carried m l (λ n w. same n (contains-front (names l) (m ∷ names r) n w)) h.1,
-    stands-carried m r (λ n w. same n (contains-back (names l) (m ∷ names r) n (contains-tail m (names r) n w))) h.2,
+    node-carried up m (name_of l) (name_of r) (same m (within-rest (names l) (m ∷ names r) m (within-head m (names r)))) h.0,
+    stands-carried m l (λ n w. same n (within-front (names l) (m ∷ names r) n w)) h.1,
+    stands-carried m r (λ n w. same n (within-rest (names l) (m ∷ names r) n (within-tail m (names r) n w))) h.2,
   )
 
   pub tree-carried : (root : ℕ) (xs : List ℕ) → ((a : ℕ) → contains xs a ≡ true → extent_of new a ≡ extent_of old a) → HasGapTree old root xs → HasGapTree new root xs

@@ -5,6 +5,7 @@ use Rattle.std.proofs.Math.Nat.{ℕ_set}
 use Rattle.std.proofs.lemmas.Bool.{cases_Bool, eqb-true, eqb-false, ne_eqb, true≢false}
 use Rattle.vc_model.specs.Addr.{address, place_of}
 use Rattle.vc_base.specs.Holders.{contains}
+use Rattle.vc_base.proofs.Members.{apart-head, apart-tail, within-head, within-tail}
 use Rattle.vc_seg.specs.Segment.{Bytes}
 use Rattle.vc_extent.specs.Extent.{Extent, extents, free_extent, no_links}
 use Rattle.vc_extent.specs.Change.{extent_in, first_of, join}
@@ -15,8 +16,7 @@ use Rattle.vc_extent.proofs.Tiled.{named-above, off-at}
 use Rattle.vc_gaps.specs.ButLinks.{Tiling}
 use Rattle.vc_gaps.specs.GapStore.{is_free}
 use Rattle.vc_gaps.specs.GapTree.{HasGaps}
-use Rattle.vc_splay.proofs.NeighbourLemmas.{apart_here, apart_on}
-use Rattle.vc_gaps.proofs.Ascending.{contains-cases, contains-head, contains-tail}
+use Rattle.vc_gaps.proofs.Ascending.{contains-cases}
 use Rattle.vc_gaps.proofs.Carried.{gaps-touched}
 use Rattle.vc_gaps.proofs.Named.{extent_in-off}
 use Rattle.vc_gaps.proofs.Marked.{contains-there, none-of, out-of}
@@ -86,8 +86,8 @@ gaps-joined old new root a b y out e next is none h =
     let P : ℕ → Type 0 = λ z. ((is_free old z && not (contains (a ∷ b ∷ out) z)) ≡ false) × ((is_free new z && not (contains (a ∷ out) z)) ≡ false) in
     gaps-touched old new root (a ∷ b ∷ []) (a ∷ b ∷ out) (a ∷ out)
     (λ c apart.
-    let ne : c ≢ a = λ q. apart_here a (b ∷ []) c apart (sym q) in
-    let other : c ≢ b = λ q. apart_here b [] c (apart_on a (b ∷ []) c apart) (sym q) in (
+    let ne : c ≢ a = λ q. apart-head a (b ∷ []) c apart (sym q) in
+    let other : c ≢ b = λ q. apart-head b [] c (apart-tail a (b ∷ []) c apart) (sym q) in (
       extent_of-other old new a join e c ne
           (λ q.
           let differs : (place_of c).1 ≢ (place_of a).1 = off-differs a c ne q in
@@ -96,10 +96,10 @@ gaps-joined old new root a b y out e next is none h =
     ))
     (λ c touched.
     ⊎_elim
-    (λ (q : a ≡ c). subst P q (out-of old a (a ∷ b ∷ out) (contains-head a (b ∷ out)), out-of new a (a ∷ out) (contains-head a out)))
+    (λ (q : a ≡ c). subst P q (out-of old a (a ∷ b ∷ out) (within-head a (b ∷ out)), out-of new a (a ∷ out) (within-head a out)))
     (λ (k : contains (b ∷ []) c ≡ true).
     ⊎_elim
-    (λ (q : b ≡ c). subst P q (out-of old b (a ∷ b ∷ out) (contains-tail a (b ∷ out) b (contains-head b out)), none-of new b (a ∷ out) none))
+    (λ (q : b ≡ c). subst P q (out-of old b (a ∷ b ∷ out) (within-tail a (b ∷ out) b (within-head b out)), none-of new b (a ∷ out) none))
     (λ (j : contains [] c ≡ true). absurd (true≢false (sym j)))
     (contains-cases b [] c k))
     (contains-cases a (b ∷ []) c touched))

@@ -1,22 +1,19 @@
 -- A tree of gaps where an extent that isn't in it changes, or a segment is added.
 use Rattle.std.proofs.Common.{◌≡◌, ◌≢◌, ℕ, ◌+◌, ◌-◌, ◌<◌, ◌≤◌, List, [], ◌∷◌, Bool, true, false, not, cond, eqb, ltb, ◌&&◌, ◌||◌, refl, ap, sym, subst, ◌∙◌, ⊎_elim, arith}
 use Rattle.std.proofs.lemmas.Bool.{eq-eqb, ne_eqb, true≢false}
+use Rattle.std.proofs.Math.Bool.{and-false}
 use Rattle.vc_model.specs.Addr.{address, place_of}
 use Rattle.vc_base.specs.Holders.{contains}
+use Rattle.vc_base.proofs.Members.{apart-head, apart-tail, within-head}
 use Rattle.vc_extent.specs.Extent.{Extent, free_extent, no_links}
 use Rattle.vc_extent.specs.Change.{extent_in, mark_busy, mark_free, split}
 use Rattle.vc_extent.specs.Tiling.{IsBusy, change_extent, extent_of, extents_of}
 use Rattle.vc_gaps.specs.ButLinks.{Tiling}
 use Rattle.vc_gaps.specs.GapStore.{is_free}
 use Rattle.vc_gaps.specs.GapTree.{HasGaps}
-use Rattle.vc_splay.proofs.NeighbourLemmas.{apart_here, apart_on}
 use Rattle.vc_gaps.proofs.Ascending.{contains-cases}
 use Rattle.vc_gaps.proofs.Carried.{gaps-touched}
 use Rattle.vc_gaps.proofs.Named.{behind_of, extent_in-off, extent_of-here, extent_of-other, extent_of-single, off-differs}
-
-and-false : (b : Bool) → b && false ≡ false
-and-false true = refl
-and-false false = refl
 
 -- an address that is out, and one that names no free extent
 pub out-of : (t : Tiling) (a : ℕ) (out : List ℕ) → contains out a ≡ true → (is_free t a && not (contains out a)) ≡ false
@@ -28,9 +25,6 @@ none-of t a out h = ap (λ z. z && not (contains out a)) h
 pub busy-none : (t : Tiling) (a : ℕ) → 0 < (extent_of t a).size → is_free t a ≡ false
 busy-none t a h = ap (λ z. ltb 0 (extent_of t a).span && z) (ne_eqb (extent_of t a).size 0 (λ z. omega arith)) ∙ and-false (ltb 0 (extent_of t a).span)
 
-contains-here : (a : ℕ) (out : List ℕ) → contains (a ∷ out) a ≡ true
-contains-here a out = ap (λ z. z || contains out a) (eq-eqb a a refl)
-
 pub contains-there : (a b : ℕ) (out : List ℕ) → b ≢ a → contains (a ∷ out) b ≡ contains out b
 contains-there a b out ne = ap (λ z. z || contains out b) (ne_eqb a b (λ z. ne (sym z)))
 
@@ -40,7 +34,7 @@ module _ (old new : Tiling) (a : ℕ) (change : Extent → List Extent → List 
     pub gaps-single : (root : ℕ) (out after : List ℕ) → ((b : ℕ) → b ≢ a → contains after b ≡ contains out b) → (is_free old a && not (contains out a)) ≡ false → (is_free new a && not (contains after a)) ≡ false → HasGaps old root out → HasGaps new root after
     gaps-single root out after same before then h =
         gaps-touched old new root (a ∷ []) out after
-        (λ b apart. let ne : b ≢ a = λ q. apart_here a [] b apart (sym q) in (extent_of-single old new a change e x off made b ne, same b ne))
+        (λ b apart. let ne : b ≢ a = λ q. apart-head a [] b apart (sym q) in (extent_of-single old new a change e x off made b ne, same b ne))
         (λ b touched.
         ⊎_elim
         (λ (q : a ≡ b). (subst (λ z. (is_free old z && not (contains out z)) ≡ false) q before, subst (λ z. (is_free new z && not (contains after z)) ≡ false) q then))
@@ -57,7 +51,7 @@ module _ (old new : Tiling) (root a : ℕ) (out : List ℕ) where
       let now : extent_of new a ≡ x = extent_of-here old new a (mark_busy size tag body) e x (behind_of old a) named off refl in
       gaps-single old new a (mark_busy size tag body) e x off refl root (a ∷ out) out
       (λ b ne. sym (contains-there a b out ne))
-      (out-of old a (a ∷ out) (contains-here a out))
+      (out-of old a (a ∷ out) (within-head a out))
       (none-of new a out (busy-none new a (subst (λ (z : Extent). 0 < z.size) (sym now) (omega arith))))
       h
 
@@ -68,7 +62,7 @@ module _ (old new : Tiling) (root a : ℕ) (out : List ℕ) where
       gaps-single old new a mark_free e x (extent_in-off (place_of a).1 (extents_of (place_of a).0 old)) refl root out (a ∷ out)
       (λ b ne. contains-there a b out ne)
       (none-of old a out (busy-none old a busy.busy))
-      (out-of new a (a ∷ out) (contains-here a out))
+      (out-of new a (a ∷ out) (within-head a out))
       h
 
   -- a busy extent stays busy, with its place
@@ -88,8 +82,8 @@ module _ (old new : Tiling) (root a : ℕ) (out : List ℕ) where
       let own : (extent_of old a).off ≡ (place_of a).1 = extent_in-off (place_of a).1 (extents_of (place_of a).0 old) in
       gaps-touched old new root (a ∷ b ∷ []) (a ∷ out) (a ∷ b ∷ out)
       (λ c apart.
-      let ne : c ≢ a = λ q. apart_here a (b ∷ []) c apart (sym q) in
-      let other : c ≢ b = λ q. apart_here b [] c (apart_on a (b ∷ []) c apart) (sym q) in (
+      let ne : c ≢ a = λ q. apart-head a (b ∷ []) c apart (sym q) in
+      let other : c ≢ b = λ q. apart-head b [] c (apart-tail a (b ∷ []) c apart) (sym q) in (
         extent_of-other old new a (split span) e c ne
             (λ q.
             let differs : (place_of c).1 ≢ (place_of a).1 = off-differs a c ne q in
@@ -101,7 +95,7 @@ module _ (old new : Tiling) (root a : ℕ) (out : List ℕ) where
       ))
       (λ c touched.
       ⊎_elim
-      (λ (q : a ≡ c). subst (λ z. ((is_free old z && not (contains (a ∷ out) z)) ≡ false) × ((is_free new z && not (contains (a ∷ b ∷ out) z)) ≡ false)) q (out-of old a (a ∷ out) (contains-here a out), out-of new a (a ∷ b ∷ out) (contains-here a (b ∷ out))))
+      (λ (q : a ≡ c). subst (λ z. ((is_free old z && not (contains (a ∷ out) z)) ≡ false) × ((is_free new z && not (contains (a ∷ b ∷ out) z)) ≡ false)) q (out-of old a (a ∷ out) (within-head a out), out-of new a (a ∷ b ∷ out) (within-head a (b ∷ out))))
       (λ (k : contains (b ∷ []) c ≡ true).
       ⊎_elim
       (λ (q : b ≡ c).
@@ -113,4 +107,4 @@ module _ (old new : Tiling) (root a : ℕ) (out : List ℕ) where
       h
     where
       second-here : (a b : ℕ) (out : List ℕ) → contains (a ∷ b ∷ out) b ≡ true
-      second-here a b out = elim (eqb a b) as (λ z. (z || contains (b ∷ out) b) ≡ true) [ true ↦ refl | false ↦ contains-here b out ]
+      second-here a b out = elim (eqb a b) as (λ z. (z || contains (b ∷ out) b) ≡ true) [ true ↦ refl | false ↦ within-head b out ]

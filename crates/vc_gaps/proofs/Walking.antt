@@ -3,10 +3,10 @@ use Rattle.std.proofs.Common.{◌≡◌, ◌≢◌, ℕ, ◌+◌, ◌<◌, ◌�
 use Rattle.std.specs.List.{find}
 use Rattle.std.proofs.lemmas.Bool.{cases_Bool, eqb-true, eqb-false, eq-eqb, ne_eqb, true≢false}
 use Rattle.vc_base.specs.Holders.{AreDistinct, contains, first_in, next_in, some_address}
+use Rattle.vc_base.proofs.Members.{apart-head, apart-tail, within-head, within-tail}
 use Rattle.vc_gaps.specs.Fits.{from_on}
 use Rattle.vc_gaps.specs.GapTree.{AscendFrom}
-use Rattle.vc_splay.proofs.NeighbourLemmas.{apart_here, apart_on}
-use Rattle.vc_gaps.proofs.Ascending.{ascend-least, contains-head, contains-tail}
+use Rattle.vc_gaps.proofs.Ascending.{ascend-least}
 
 -- an address that is one, and one that is none
 some-is : (a x : ℕ) → some_address a ≡ Some x → a ≡ x
@@ -25,7 +25,7 @@ none-is a e =
 
 pub from_on-none : (a : ℕ) (xs : List ℕ) → contains xs a ≡ false → from_on a xs ≡ []
 from_on-none a [] h = refl
-from_on-none a (x ∷ xs) h = rw (ne_eqb x a (apart_here x xs a h)) (from_on-none a xs (apart_on x xs a h))
+from_on-none a (x ∷ xs) h = rw (ne_eqb x a (apart-head x xs a h)) (from_on-none a xs (apart-tail x xs a h))
 
 -- from a name on, a list begins with it, and is no longer
 pub from_on-length : (a : ℕ) (xs : List ℕ) → length (from_on a xs) ≤ length xs
@@ -63,9 +63,9 @@ next-first x b [] some apart e =
     (rw (ne_eqb x b (λ q. some (q ∙ zero))) refl, λ ne. absurd (ne zero))
 next-first x b (y ∷ ys) some apart e =
     let same : b ≡ y = some-is b y e in
-    let other : y ≢ x = apart_here y ys x apart in (
+    let other : y ≢ x = apart-head y ys x apart in (
       rw (ne_eqb x b (λ q. other (sym (q ∙ same))), eq-eqb y b (sym same)) refl,
-      λ ne. contains-tail x (y ∷ ys) b (subst (λ z. contains (y ∷ ys) z ≡ true) (sym same) (contains-head y ys)),
+      λ ne. within-tail x (y ∷ ys) b (subst (λ z. contains (y ∷ ys) z ≡ true) (sym same) (within-head y ys)),
     )
 
 pub is_next : (xs : List ℕ) (a b : ℕ) → AreDistinct xs → contains xs 0 ≡ false → contains xs a ≡ true → some_address b ≡ next_in a xs → IsNext xs a b
@@ -74,18 +74,18 @@ is_next (x ∷ xs) a b d none h e =
     ⊎_elim
     (λ (t : eqb x a ≡ true).
     let same = eqb-true x a t in
-    let n = next-first x b xs (apart_here x xs 0 none) d.0 (rw t at e) in
+    let n = next-first x b xs (apart-head x xs 0 none) d.0 (rw t at e) in
     record { rest = rw t (ap (λ z. z ∷ xs) same ∙ ap (λ ys. a ∷ ys) (sym n.0)); within = n.1 })
     (λ (t : eqb x a ≡ false).
-    let r : IsNext xs a b = is_next xs a b d.1 (apart_on x xs 0 none) (rw t at h) (rw t at e) in
+    let r : IsNext xs a b = is_next xs a b d.1 (apart-tail x xs 0 none) (rw t at h) (rw t at e) in
     let other : x ≢ b = λ q.
     ⊎_elim
-    (λ (z : eqb b 0 ≡ true). apart_here x xs 0 none (q ∙ eqb-true b 0 z))
+    (λ (z : eqb b 0 ≡ true). apart-head x xs 0 none (q ∙ eqb-true b 0 z))
     (λ (z : eqb b 0 ≡ false). true≢false (sym (r.within (eqb-false b 0 z)) ∙ ap (contains xs) (sym q) ∙ d.0))
     (cases_Bool (eqb b 0)) in
     record {
       rest = rw (t, ne_eqb x b other) r.rest;
-      within = λ ne. contains-tail x xs b (r.within ne);
+      within = λ ne. within-tail x xs b (r.within ne);
     })
     (cases_Bool (eqb x a))
 
@@ -107,13 +107,13 @@ find-from p q (x ∷ xs) first none weaker e =
     let f : some_address first ≡ find q xs = rw t at e in
     let fails : p x ≡ false =
     ⊎_elim
-    (λ (u : p x ≡ true). absurd (true≢false (sym (weaker x (contains-head x xs) u) ∙ t)))
+    (λ (u : p x ≡ true). absurd (true≢false (sym (weaker x (within-head x xs) u) ∙ t)))
     (λ (u : p x ≡ false). u)
     (cases_Bool (p x)) in
-    let r = find-from p q xs first (apart_on x xs 0 none) (λ n w. weaker n (contains-tail x xs n w)) f in
+    let r = find-from p q xs first (apart-tail x xs 0 none) (λ n w. weaker n (within-tail x xs n w)) f in
     let other : x ≢ first = λ z.
     ⊎_elim
-    (λ (u : eqb first 0 ≡ true). apart_here x xs 0 none (z ∙ eqb-true first 0 u))
+    (λ (u : eqb first 0 ≡ true). apart-head x xs 0 none (z ∙ eqb-true first 0 u))
     (λ (u : eqb first 0 ≡ false).
     let g : Some first ≡ find q xs = rw u at f in
     true≢false (sym (passes q xs first (sym g)) ∙ ap q (sym z) ∙ t))
@@ -134,8 +134,8 @@ pub find-some : (q : ℕ → Bool) (xs : List ℕ) (first : ℕ) → first ≢ 0
 find-some q [] first some e = absurd (some (none-is first e))
 find-some q (x ∷ xs) first some e =
     ⊎_elim
-    (λ (t : q x ≡ true). subst (λ z. contains (x ∷ xs) z ≡ true) (sym (some-is first x (rw t at e))) (contains-head x xs))
-    (λ (t : q x ≡ false). contains-tail x xs first (find-some q xs first some (rw t at e)))
+    (λ (t : q x ≡ true). subst (λ z. contains (x ∷ xs) z ≡ true) (sym (some-is first x (rw t at e))) (within-head x xs))
+    (λ (t : q x ≡ false). within-tail x xs first (find-some q xs first some (rw t at e)))
     (cases_Bool (q x))
 
 -- what a search for the first that passes has come to: none before it passes

@@ -6,6 +6,7 @@ use Rattle.std.proofs.lemmas.Bool.{and_from, cases_Bool, cases_eq}
 use Rattle.std.proofs.lemmas.Fmt.{decimal_injective}
 use Rattle.std.proofs.lemmas.List.{get_or-replicate, length-replicate}
 use Rattle.std.proofs.lemmas.Slice.Eq.{bytes_eq-Decides}
+use Rattle.vc_base.proofs.Texts.{own_bytes}
 use Rattle.vc_script.specs.declared.command.Command.TheVariants.{Free, Resize}
 use Rattle.vc_script.specs.declared.tool.Tool.TheVariants.{Vmreplay}
 use Rattle.vc_generate.specs.Generated.{block_command, block_commands, block_of, closing, commands_of_seed, is_resize, is_taken, is_taken_after, none_taken, place_of, taken_after}
@@ -15,9 +16,6 @@ use Rattle.vc_generate.specs.Words.{words_of}
 -- the block of a place
 abbrev block_at : ℕ → List ℕ
 block_at place = codes "x" ++ decimal place
-
-same_block : (block : List ℕ) → bytes_eq block block ≡ true
-same_block block = (bytes_eq-Decides block block).1 refl
 
 other_block : (p q : ℕ) → p < 256 → q < 256 → (q ≡ p → ⊥) → bytes_eq (block_at p) (block_at q) ≡ false
 other_block p q p_small q_small other =
@@ -32,7 +30,7 @@ other_block p q p_small q_small other =
 resized_or_freed : (resize : Bool) (region block : List ℕ) (size : ℕ) →
     stands_after block true (cond resize (Resize region block size true) (Free region block)) ≡ resize
 resized_or_freed true region block size = refl
-resized_or_freed false region block size = rw (same_block block) refl
+resized_or_freed false region block size = rw (own_bytes block) refl
 
 others_stay : (resize stood : Bool) (region block other : List ℕ) (size : ℕ) → bytes_eq block other ≡ false →
     stands_after other stood (cond resize (Resize region block size true) (Free region block)) ≡ stood
@@ -46,7 +44,7 @@ fits_both false stands region block size stood = stood
 
 -- the block of a word's place behind its command
 after_same : (taken : Bool) (word : ℕ) → stands_after (block_of word) taken (block_command taken word) ≡ is_taken_after taken word
-after_same false word = rw (same_block (block_of word)) refl
+after_same false word = rw (own_bytes (block_of word)) refl
 after_same true word = resized_or_freed (is_resize word) _ _ _
 
 -- every other block

@@ -2,8 +2,9 @@
 use Rattle.std.proofs.Common.{◌≡◌, ℕ, ◌%◌, ◌^◌, ◌<◌, ◌≤◌, Bool, true, false, cond, leb, eqb, ltb, ◌||◌, List, [], ◌∷◌, ◌++◌, length, map, lit<, refl, arith}
 use Rattle.std.specs.Prelude.{decimal}
 use Rattle.std.specs.List.{AllByRecursion, list_all}
-use Rattle.std.proofs.lemmas.Bool.{and_from, and_parts, le-leb}
+use Rattle.std.proofs.lemmas.Bool.{and_from, and_parts, le-leb, or_left, or_right}
 use Rattle.std.proofs.lemmas.Fmt.{length-decimal-le}
+use Rattle.vc_script.proofs.Heads.{digit-name}
 use Rattle.vc_script.proofs.Newlines.{list_all-decimal}
 use Rattle.vc_script.specs.Proper.{IsName, IsProperCommand}
 use Rattle.vc_script.specs.Words.{is_digit, is_letter, is_name_byte}
@@ -13,28 +14,13 @@ use Rattle.vc_script.specs.declared.tool.Tool.TheVariants.{Dtrun, Vmreplay}
 use Rattle.vc_generate.specs.Generated.{block_command, block_commands, block_of, closing, commands_of_seed, is_resize, is_taken, none_taken, object_command, opening, place_of, taken_after}
 use Rattle.vc_generate.specs.Words.{words_of}
 
-or_true : (a b : Bool) → a ≡ true → (b || a) ≡ true
-or_true a true is = refl
-or_true a false is = is
-
-or_left : (a b : Bool) → a ≡ true → (a || b) ≡ true
-or_left a b is = rw is refl
-
--- digits stand in names
-name_bytes : (bytes : List ℕ) → list_all is_digit bytes ≡ true → list_all is_name_byte bytes ≡ true
-name_bytes [] each = refl
-name_bytes (b ∷ bs) each =
-    let parts = and_parts (is_digit b) (list_all is_digit bs) each in
-    and_from (is_name_byte b) (list_all is_name_byte bs)
-    (or_true _ (is_letter b) (or_left (is_digit b) _ parts.0)) (name_bytes bs parts.1)
-
 block_is_name : (word : ℕ) → IsName (block_of word)
 block_is_name word =
     let digits = decimal (place_of word) in
     let small : place_of word < 10 ^ 3 = omega arith in
     let short : length digits ≤ 31 =
     let at_most : length digits ≤ 3 = length-decimal-le 3 (place_of word) (omega arith) small (omega arith) in omega arith in
-    and_from (list_all is_name_byte digits) (leb (length digits) 31) (name_bytes digits (list_all-decimal (place_of word))) (le-leb _ _ short)
+    and_from (list_all is_name_byte digits) (leb (length digits) 31) (digit-name digits (list_all-decimal (place_of word))) (le-leb _ _ short)
 
 taken_proper : (resize : Bool) (moved freed : Command) → IsProperCommand moved → IsProperCommand freed → IsProperCommand (cond resize moved freed)
 taken_proper true moved freed first second = first

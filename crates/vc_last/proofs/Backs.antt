@@ -5,6 +5,7 @@ use Rattle.std.proofs.lemmas.List.{append-nil, length-map, map-append, map_push}
 use Rattle.std.proofs.lemmas.List.Elements.{All-map}
 use Rattle.vc_model.specs.Gap.{Run, bytes_of, gaps_between, run_of}
 use Rattle.vc_model.specs.Layout.{Block, footprint, footprints}
+use Rattle.vc_base.proofs.Places.{span-least}
 use Rattle.vc_seg.specs.Segment.{AreSegments, Bytes, pair_of}
 use Rattle.vc_seg.proofs.BytesByNumber.{bytes_of_number-most}
 use Rattle.vc_layouts.specs.Tally.{HasRoom, tally_of}
@@ -14,7 +15,6 @@ use Rattle.vc_last.specs.Gaps.{below, own_runs, run_sizes, sizes_above}
 use Rattle.vc_last.specs.Head.{before_of, block_of}
 use Rattle.vc_last.proofs.Chains.{back-most, chain-heads, latest-none, latest-some}
 use Rattle.vc_last.proofs.Folds.{filter-push}
-use Rattle.vc_last.proofs.Places.{span-least}
 
 abbrev pub sizes_back : List Bytes → ℕ → List ℕ
 sizes_back segs q = map (λ b. b.size) (blocks_from segs q)

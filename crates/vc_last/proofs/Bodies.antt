@@ -7,18 +7,18 @@ use Rattle.vc_model.specs.Bytes.{with_bytes}
 use Rattle.vc_model.specs.Layout.{Block, Layout, address_of, is_at}
 use Rattle.vc_model.specs.Segments.{span}
 use Rattle.vc_model.specs.Touch.{HasBlock, change_block, rewritten_block, with_bytes_at}
+use Rattle.vc_model.proofs.Pairs.{AllPairs-head, AllPairs-tail}
+use Rattle.vc_base.proofs.Places.{at-place, span-least}
 use Rattle.vc_seg.specs.Segment.{Bytes, pair_of}
 use Rattle.vc_seg.specs.Memory.{bytes_of_number}
 use Rattle.vc_seg.proofs.Overwrites.{range-around}
 use Rattle.vc_seg.specs.Field.{field_at}
 use Rattle.vc_seg.proofs.Frames.{field-front}
-use Rattle.vc_layouts.proofs.Lists.{AllPairs-head, AllPairs-tail}
 use Rattle.vc_last.specs.Row.{EndsFirst, IsRow}
 use Rattle.vc_last.specs.Head.{HasHead, StaysBut, before_of, block_of, bytes_at}
 use Rattle.vc_last.specs.Chain.{IsChain, IsLast, IsLastOf, LiesLower, blocks_from}
 use Rattle.vc_last.specs.Read.{layout_by}
-use Rattle.vc_last.proofs.Latest.{at-own, at-place, ends-elsewhere}
-use Rattle.vc_last.proofs.Places.{span-least}
+use Rattle.vc_last.proofs.Latest.{at-own, ends-elsewhere}
 use Rattle.vc_last.proofs.Rows.{AllPairs-change, IsRow-written, row}
 use Rattle.vc_last.proofs.Chains.{chain-heads, head-exact, last-from}
 use Rattle.vc_last.proofs.Writes.{LiesClear, chain-stays, head-made, head-says, head-stays, rising-same, segments-same, size-same}

@@ -12,6 +12,7 @@ use Rattle.vc_model.specs.Outcome.{Done, Outcome, Put, Refused, Fixed, NotLast}
 use Rattle.vc_model.specs.Resize.{is_usable, resize_there, sized_block, stays}
 use Rattle.vc_model.specs.Touch.{HasBlock, find_block}
 use Rattle.vc_base.specs.declared.addr.Addr.{Addr}
+use Rattle.vc_base.proofs.Places.{at-place}
 use Rattle.vc_seg.specs.Answer.{IsPut}
 use Rattle.vc_seg.specs.declared.fault.RegionFault.{RegionFault}
 use Rattle.vc_seg.specs.declared.fault.RegionFault.TheVariants as code
@@ -21,7 +22,7 @@ use Rattle.vc_seg.specs.Segment.{Bytes, pair_of}
 use Rattle.vc_last.specs.Chain.{IsLast, blocks_from}
 use Rattle.vc_last.specs.Head.{before_of, block_of}
 use Rattle.vc_last.specs.Read.{layout_by}
-use Rattle.vc_last.proofs.Latest.{IsExact-front, IsLatestAt, at-place, call-latest, call-other, freed-latest, none-there, without-latest}
+use Rattle.vc_last.proofs.Latest.{IsExact-front, IsLatestAt, call-latest, call-other, freed-latest, none-there, without-latest}
 use Rattle.vc_last.proofs.Resizes.{others-sized, there-latest, there-sized}
 use Rattle.vc_last.proofs.Rows.{row}
 use Rattle.vc_last.proofs.Chains.{chain-heads, head-exact, latest-some}

@@ -6,9 +6,10 @@ use Rattle.std.proofs.lemmas.List.Elements.{All-head, All-tail, All-nil, All-con
 use Rattle.std.proofs.lemmas.List.Quantifiers.{all_pairs_push}
 use Rattle.vc_model.specs.Addr.{place_of}
 use Rattle.vc_model.specs.Layout.{Block, address_of}
+use Rattle.vc_model.proofs.Pairs.{AllPairs-head, AllPairs-tail}
 use Rattle.vc_seg.specs.Segment.{AreSegments, Bytes}
 use Rattle.vc_extent.specs.Tiling.{index_from}
-use Rattle.vc_layouts.proofs.Lists.{AllPairs-head, AllPairs-nil, AllPairs-tail}
+use Rattle.vc_layouts.proofs.Lists.{AllPairs-nil}
 use Rattle.vc_last.specs.Row.{EndsFirst}
 use Rattle.vc_last.specs.Head.{HasHead, before_of, block_of}
 use Rattle.vc_last.specs.Chain.{IsChain, IsLast, IsLastOf, LiesLower, blocks_back, blocks_from, most_blocks, rank}

@@ -6,6 +6,7 @@ use Rattle.vc_model.specs.Layout.{Block, Layout, address_of, footprint, is_at, w
 use Rattle.vc_model.specs.Resize.{is_usable, resize_there, sized_block}
 use Rattle.vc_model.specs.Segments.{span}
 use Rattle.vc_model.specs.Touch.{change_block}
+use Rattle.vc_base.proofs.Places.{span-least}
 use Rattle.vc_seg.specs.Segment.{Bytes, pair_of}
 use Rattle.vc_seg.specs.Memory.{bytes_of_number}
 use Rattle.vc_seg.specs.Field.{field_at}
@@ -17,7 +18,6 @@ use Rattle.vc_last.specs.Place.{IsPlace}
 use Rattle.vc_last.specs.Read.{layout_by}
 use Rattle.vc_last.proofs.Lists.{All-front, AllPairs-last}
 use Rattle.vc_last.proofs.Latest.{at-own, change-last, ends-elsewhere, without-last}
-use Rattle.vc_last.proofs.Places.{span-least}
 use Rattle.vc_last.proofs.Resizes.{usable-any}
 use Rattle.vc_last.proofs.Rows.{row}
 use Rattle.vc_last.proofs.Chains.{HasLatest, chain-heads, chain-last, head-exact, last-from, last-front, last-push, latest-some}

@@ -10,6 +10,7 @@ use Rattle.vc_model.specs.Layout.{Block, address_of, is_at}
 use Rattle.vc_model.specs.Segments.{span}
 use Rattle.vc_model.specs.Sound.{IsSound}
 use Rattle.vc_model.specs.Touch.{HasBlock, find_block}
+use Rattle.vc_base.proofs.Places.{at-place, span-least}
 use Rattle.vc_seg.specs.Segment.{Bytes, pair_of}
 use Rattle.vc_seg.proofs.Backs.{Apart}
 use Rattle.vc_seg.specs.Memory.{bytes_of_number}
@@ -23,9 +24,9 @@ use Rattle.vc_last.specs.Chain.{IsLast, IsLastOf, LiesLower, blocks_from, rank}
 use Rattle.vc_last.specs.Place.{IsPlace}
 use Rattle.vc_last.specs.Read.{layout_by}
 use Rattle.vc_last.proofs.Lists.{get_or-last}
-use Rattle.vc_last.proofs.Latest.{at-place, at-own}
+use Rattle.vc_last.proofs.Latest.{at-own}
 use Rattle.vc_last.proofs.Rows.{IsSound-row, row}
-use Rattle.vc_last.proofs.Places.{place-behind, span-least}
+use Rattle.vc_last.proofs.Places.{place-behind}
 use Rattle.vc_last.proofs.Chains.{chain-heads, head-exact, last-is, last-push}
 use Rattle.vc_last.proofs.Writes.{LiesClear, head-made, last-stays, rank-same, size-same}
 

@@ -10,18 +10,10 @@ use Rattle.vc_model.specs.Layout.{Block, Layout, address_of, is_at, without_bloc
 use Rattle.vc_model.specs.Outcome.{Outcome, NotLast, Refused}
 use Rattle.vc_model.specs.Segments.{span}
 use Rattle.vc_model.specs.Touch.{HasBlock, change_block, find_block}
+use Rattle.vc_base.proofs.Places.{some-span, at-place}
 use Rattle.vc_last.specs.Row.{EndsFirst, IsRow, is_latest, is_one_at}
 use Rattle.vc_last.proofs.Lists.{All-front, AllPairs-last, last_of-split, remove-last}
 use Rattle.vc_last.proofs.Rows.{IsExact}
-
-pub span-some : (size : ℕ) → 1 ≤ span size
-span-some size = omega arith
-
-pub at-place : (at : ℕ × ℕ) (b : Block ℕ) → is_at at b ≡ true → (b.seg, b.off) ≡ at
-at-place at b e =
-    let both = and_parts (eqb b.seg at.0) (eqb b.off at.1) e in
-    let pair : ℕ → ℕ → ℕ × ℕ = λ m n. (m, n) in
-    ap (λ m. pair m b.off) (eqb-true b.seg at.0 both.0) ∙ ap (pair at.0) (eqb-true b.off at.1 both.1)
 
 pub at-own : (at : ℕ × ℕ) (b : Block ℕ) → (b.seg, b.off) ≡ at → is_at at b ≡ true
 at-own at b e = and_from (eqb b.seg at.0) (eqb b.off at.1) (eq-eqb b.seg at.0 (ap (λ (p : ℕ × ℕ). p.0) e)) (eq-eqb b.off at.1 (ap (λ (p : ℕ × ℕ). p.1) e))
@@ -64,7 +56,7 @@ module _ (at : ℕ × ℕ) where
       (λ (t : is_at at c ≡ true).
       let same : (c.seg, c.off) ≡ (b.seg, b.off) = at-place at c t ∙ sym (at-place at b here) in
       let le = first (ap (λ (p : ℕ × ℕ). p.0) same) in
-      absurd (omega (arith, le, ap (λ (p : ℕ × ℕ). p.1) same, span-some c.size)))
+      absurd (omega (arith, le, ap (λ (p : ℕ × ℕ). p.1) same, some-span c.size)))
       (λ (t : is_at at c ≡ false). t)
       (cases_Bool (is_at at c))
 

@@ -6,7 +6,7 @@ use Rattle.std.proofs.lemmas.Option.{same_Some, none-some}
 use Rattle.std.proofs.lemmas.List.{length_push, get_or_append_left}
 use Rattle.std.proofs.lemmas.List.Elements.{All-head, All-tail, All-nil, All-cons}
 use Rattle.vc_model.specs.Last.{last_of}
-use Rattle.vc_layouts.proofs.Lists.{AllPairs-head, AllPairs-tail}
+use Rattle.vc_model.proofs.Pairs.{AllPairs-head, AllPairs-tail}
 
 pub All-front : {A : Type 0} (P : A → Type 0) (xs : List A) (x : A) → All P (xs ++ x ∷ []) → All P xs
 All-front P xs x h = λ k d lt. subst P (get_or_append_left xs (x ∷ []) d k lt) (h k d (omega (arith, lt, length_push xs x)))

@@ -4,12 +4,13 @@ use Rattle.std.specs.Prelude.{◌||◌}
 use Rattle.std.proofs.lemmas.Bool.{cases_Bool, cases_eq, eq-eqb, ne_eqb}
 use Rattle.std.proofs.lemmas.List.{get_or-set_same, get_or-set_other}
 use Rattle.std.proofs.lemmas.List.Elements.{All-head, All-nil, All-tail}
+use Rattle.std.proofs.Math.Bool.{or-true, or-false}
 use Rattle.vc_model.specs.Compact.{compacted_layout, is_occupied}
 use Rattle.vc_model.specs.Discipline.{Discipline, TookBack}
 use Rattle.vc_model.specs.Layout.{Block, empty_layout}
+use Rattle.vc_base.proofs.Lists.{filter-map}
 use Rattle.vc_seg.specs.Segment.{AreSegments, Bytes, IsRegionSegment, pair_of}
 use Rattle.vc_seg.proofs.Backs.{Apart}
-use Rattle.vc_seg.proofs.Filters.{filter-map}
 use Rattle.vc_seg.specs.Memory.{bytes_of_number}
 use Rattle.vc_layouts.proofs.Lists.{AllPairs-nil}
 use Rattle.vc_last.specs.Head.{HasHead}
@@ -30,14 +31,6 @@ number-most n (s ∷ ss) h some =
 
 pub head-number : (segs : List Bytes) (b : Block ℕ) → AreSegments segs → HasHead segs b → b.seg ≤ 1023
 head-number segs b h l = let within = l.within in let first = l.first in number-most b.seg segs h.legal (omega (arith, within, first))
-
-or-false : (b : Bool) → (b || false) ≡ b
-or-false true = refl
-or-false false = refl
-
-or-true : (b : Bool) → (b || true) ≡ true
-or-true true = refl
-or-true false = refl
 
 occupied-push : (bs : List (Block ℕ)) (b : Block ℕ) (n : ℕ) → is_occupied (bs ++ b ∷ []) n ≡ (is_occupied bs n || eqb b.seg n)
 occupied-push [] b n = or-false (eqb b.seg n)

@@ -10,6 +10,7 @@ use Rattle.vc_model.specs.Last.{can_end, last_alloc, last_resize, latest, resize
 use Rattle.vc_model.specs.Layout.{Block, Layout, address_of, footprint, is_at}
 use Rattle.vc_model.specs.Resize.{is_usable, outcome_of_move, sized_block}
 use Rattle.vc_model.specs.Touch.{HasBlock, change_block, find_block, rewritten_block, with_bytes_at}
+use Rattle.vc_base.proofs.Places.{at-place}
 use Rattle.vc_seg.specs.Answer.{IsRefusal}
 use Rattle.vc_seg.specs.Segment.{Bytes, pair_of}
 use Rattle.vc_seg.specs.declared.fault.RegionFault.{RegionFault}
@@ -20,7 +21,7 @@ use Rattle.vc_last.specs.Head.{before_of, block_of}
 use Rattle.vc_last.specs.Read.{layout_by}
 use Rattle.vc_last.proofs.Lists.{get_or-last, last_of-push}
 use Rattle.vc_last.proofs.Allocs.{IsNew, new-among, new-found, old-among}
-use Rattle.vc_last.proofs.Latest.{IsLatestAt, call-latest, at-place, change-last, latest-at}
+use Rattle.vc_last.proofs.Latest.{IsLatestAt, call-latest, change-last, latest-at}
 use Rattle.vc_last.proofs.Rows.{row}
 use Rattle.vc_last.proofs.Chains.{head-some, latest-none, latest-some}
 use Rattle.vc_last.proofs.Changes.{before-is, elsewhere-latest, here-latest}

@@ -11,14 +11,12 @@ use Rattle.vc_model.specs.Last.{last_place, newest, next_offset, place_behind}
 use Rattle.vc_model.specs.Layout.{Block, Layout, is_at, with_segment}
 use Rattle.vc_model.specs.Segments.{span}
 use Rattle.vc_model.specs.Touch.{HasBlock}
+use Rattle.vc_base.proofs.Places.{some-span, at-place}
 use Rattle.vc_last.specs.Row.{EndsFirst, IsRow}
 use Rattle.vc_last.specs.Place.{EndBefore, IsPlace}
 use Rattle.vc_last.proofs.Lists.{get_or-last, last_of-split}
-use Rattle.vc_last.proofs.Latest.{AreElsewhere, at-place, none-there, span-some}
+use Rattle.vc_last.proofs.Latest.{AreElsewhere, none-there}
 use Rattle.vc_last.proofs.Rows.{IsExact}
-
-pub span-least : (size : ℕ) → size + 16 ≤ span size
-span-least size = omega arith
 
 pub span-multiple : (size : ℕ) → span size % 32 ≡ 0
 span-multiple size = omega arith
@@ -113,7 +111,7 @@ module _ (r : Layout ℕ) (size : ℕ) (at : ℕ × ℕ) (some : 1 ≤ size) (p 
       (λ (t : is_at at c ≡ true).
       let same = at-place at c t in
       let end = p.behind k d lt (ap (λ (q : ℕ × ℕ). q.0) same) in
-      absurd (omega (arith, end, ap (λ (q : ℕ × ℕ). q.1) same, span-some c.size)))
+      absurd (omega (arith, end, ap (λ (q : ℕ × ℕ). q.1) same, some-span c.size)))
       (λ (t : is_at at c ≡ false). t)
       (cases_Bool (is_at at c))
 

@@ -9,6 +9,7 @@ use Rattle.vc_model.specs.Discipline.{Discipline, Lent, Served, Terms, Unserved}
 use Rattle.vc_model.specs.Last.{last_alloc, last_need, last_place, newest, put_in_newest, put_or_lend}
 use Rattle.vc_model.specs.Layout.{Block, Layout, with_segment}
 use Rattle.vc_model.specs.Segments.{Asked, Granted, NotLent, TooMany, ask, span}
+use Rattle.vc_base.proofs.Places.{span-least}
 use Rattle.vc_seg.specs.Segment.{AreSegments, Bytes, pair_of, zero_segment}
 use Rattle.vc_seg.specs.Answer.{Asks, IsPut, IsRefusal}
 use Rattle.vc_seg.specs.declared.fault.RegionFault.{RegionFault}
@@ -22,7 +23,7 @@ use Rattle.vc_last.specs.Chain.{IsLast, IsLastOf, blocks_from}
 use Rattle.vc_last.specs.Place.{IsPlace, with_latest}
 use Rattle.vc_last.specs.Read.{layout_by}
 use Rattle.vc_last.proofs.Lists.{last_of-push}
-use Rattle.vc_last.proofs.Places.{place-new, span-least}
+use Rattle.vc_last.proofs.Places.{place-new}
 use Rattle.vc_last.proofs.Rows.{row}
 use Rattle.vc_last.proofs.Chains.{last-from}
 use Rattle.vc_last.proofs.Kept.{bytes-any, layout-from, layout-is, lower-newest, put-last, row-by}

@@ -4,6 +4,8 @@ use Rattle.std.specs.Prelude.{option_map}
 use Rattle.vc_model.specs.Addr.{place_of}
 use Rattle.vc_model.specs.Layout.{Block}
 use Rattle.vc_model.specs.Touch.{HasBlock, HasRange, find_block}
+use Rattle.vc_base.proofs.Overwrites.{part-of-part}
+use Rattle.vc_base.proofs.Places.{span-least}
 use Rattle.vc_seg.specs.Segment.{Bytes}
 use Rattle.vc_seg.proofs.BytesByNumber.{bytes_of_number-most}
 use Rattle.vc_seg.proofs.Overwrites.{range-part}
@@ -11,7 +13,6 @@ use Rattle.vc_last.specs.Chain.{IsLast}
 use Rattle.vc_last.specs.Head.{block_of, bytes_at}
 use Rattle.vc_last.specs.Read.{layout_by}
 use Rattle.vc_last.proofs.Moves.{found-by, found-layout}
-use Rattle.vc_last.proofs.Places.{span-least}
 
 -- the range lies in the segment of its block
 pub record RangeIn (o : List Bytes) (a off len : ℕ) : Type 0 where
@@ -36,4 +37,4 @@ module _ (o : List Bytes) (q a off len : ℕ) (h : IsLast o q) (live : HasBlock 
       }
 
   pub read-in : option_map (λ b. take len (drop off b.bytes)) (find_block (place_of a) (layout_by o q).blocks) ≡ Some (take len (drop ((place_of a).1 + off) (bytes_at o a)))
-  read-in = ap (option_map (λ (b : Block ℕ). take len (drop off b.bytes))) (found-layout o q a h live) ∙ ap Some (sym (range-part (bytes_at o a) (place_of a).1 (block_of o a).size off len range-in.fits))
+  read-in = ap (option_map (λ (b : Block ℕ). take len (drop off b.bytes))) (found-layout o q a h live) ∙ ap Some (sym (part-of-part (bytes_at o a) (place_of a).1 (block_of o a).size off len range-in.fits))

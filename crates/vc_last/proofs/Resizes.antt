@@ -13,9 +13,10 @@ use Rattle.vc_model.specs.Outcome.{Done, Outcome, Put, Refused}
 use Rattle.vc_model.specs.Resize.{is_usable, outcome_of_move, sized_block}
 use Rattle.vc_model.specs.Sound.{IsUsable}
 use Rattle.vc_model.specs.Touch.{HasBlock, change_block, find_block, rewritten_block, with_bytes_at}
+use Rattle.vc_base.proofs.Places.{at-place}
 use Rattle.vc_seg.specs.Answer.{IsPut}
 use Rattle.vc_last.proofs.Allocs.{IsNew, new-elsewhere}
-use Rattle.vc_last.proofs.Latest.{AreElsewhere, IsLatestAt, at-own, at-place, call-latest, change-last, find-before, find-last, without-last, without-latest}
+use Rattle.vc_last.proofs.Latest.{AreElsewhere, IsLatestAt, at-own, call-latest, change-last, find-before, find-last, without-last, without-latest}
 use Rattle.vc_last.proofs.Lists.{All-front}
 
 -- a run that is usable by the test is so

@@ -9,7 +9,7 @@ use Rattle.vc_model.specs.Best.{without_block_at}
 use Rattle.vc_model.specs.Layout.{Block, Layout, address_of, footprint, is_at, without_block}
 use Rattle.vc_model.specs.Sound.{IsApart, IsSound, IsUsable}
 use Rattle.vc_model.specs.Touch.{change_block, rewritten_block, with_bytes_at}
-use Rattle.vc_layouts.proofs.Lists.{AllPairs-head, AllPairs-tail}
+use Rattle.vc_model.proofs.Pairs.{AllPairs-head, AllPairs-tail}
 use Rattle.vc_layouts.proofs.Blocks.{apart_by_seg}
 use Rattle.vc_last.specs.Row.{EndsFirst, IsRow}
 

@@ -9,9 +9,10 @@ use Rattle.vc_model.specs.Gap.{Run, bytes_of, run_of, gaps, gaps_between, runs_i
 use Rattle.vc_model.specs.Layout.{Block, Layout, footprint, footprints}
 use Rattle.vc_model.specs.Numbers.{gap_sizes}
 use Rattle.vc_model.specs.Order.{put_by, sorted_by}
+use Rattle.vc_model.proofs.Pairs.{AllPairs-head, AllPairs-tail}
 use Rattle.vc_seg.specs.Segment.{AreSegments, Bytes, pair_of}
 use Rattle.vc_layouts.specs.Tally.{HasRoom, tally_of}
-use Rattle.vc_layouts.proofs.Lists.{AllPairs-head, AllPairs-map, AllPairs-tail}
+use Rattle.vc_layouts.proofs.Lists.{AllPairs-map}
 use Rattle.vc_last.specs.Row.{IsRow}
 use Rattle.vc_last.specs.Gaps.{gaps_left, gaps_left_in}
 

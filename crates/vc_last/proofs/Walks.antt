@@ -8,6 +8,7 @@ use Rattle.vc_model.specs.Layout.{Block, Layout, address_of}
 use Rattle.vc_model.specs.Order.{lesser_by}
 use Rattle.vc_model.specs.Walk.{block_at, holds_byte, next_block}
 use Rattle.vc_model.specs.Touch.{HasBlock}
+use Rattle.vc_base.proofs.Places.{span-least}
 use Rattle.vc_seg.specs.Segment.{Bytes}
 use Rattle.vc_layouts.proofs.Walks.{least_above-among, least_above-key}
 use Rattle.vc_last.specs.Chain.{IsLast, blocks_from}
@@ -17,7 +18,6 @@ use Rattle.vc_last.proofs.Chains.{chain-heads, latest-none, latest-some}
 use Rattle.vc_last.proofs.Changes.{behind-latest}
 use Rattle.vc_last.proofs.Folds.{find-last-none, find-last-one, least-last}
 use Rattle.vc_last.proofs.Kept.{layout-from}
-use Rattle.vc_last.proofs.Places.{span-least}
 
 -- the walk comes to its end
 pub shorter : (segs : List Bytes) (q : ℕ) → IsLast segs q → q ≢ 0 → length (blocks_from segs (before_of segs q)) < length (blocks_from segs q)

@@ -6,6 +6,7 @@ use Rattle.std.proofs.lemmas.Bool.{cases_Bool, and_parts, and_from, or_cases, or
 use Rattle.std.proofs.lemmas.List.Elements.{All-head, All-tail}
 use Rattle.vc_model.specs.Layout.{Block, is_at, lies_before, place_of_block, with_block, without_block}
 use Rattle.vc_model.specs.Touch.{change_block, find_block}
+use Rattle.vc_base.proofs.Booleans.{or-swap}
 use Rattle.vc_layouts.specs.InOrder.{in_order}
 use Rattle.vc_layouts.proofs.Blocks.{All-with}
 
@@ -100,20 +101,13 @@ pub All-in_order : (P : Block ℕ → Type 0) (bs : List (Block ℕ)) → All P 
 All-in_order P [] h = h
 All-in_order P (b ∷ bs) h = All-with P b (in_order bs) (All-head P b bs h) (All-in_order P bs (All-tail P b bs h))
 
--- one of them passes a test where one does in whichever order they are put
-or-turn : (x y z : Bool) → (y || (x || z)) ≡ (x || (y || z))
-or-turn true true z = refl
-or-turn true false z = refl
-or-turn false true z = refl
-or-turn false false z = refl
-
 module _ (p : Block ℕ → Bool) where
   any-with : (b : Block ℕ) (bs : List (Block ℕ)) → list_any p (with_block b bs) ≡ (p b || list_any p bs)
   any-with b [] = refl
   any-with b (c ∷ cs) =
       ⊎_elim
       (λ (t : lies_before b c ≡ true). rw t refl)
-      (λ (t : lies_before b c ≡ false). rw t (ap (λ r. p c || r) (any-with b cs) ∙ or-turn (p b) (p c) (list_any p cs)))
+      (λ (t : lies_before b c ≡ false). rw t (ap (λ r. p c || r) (any-with b cs) ∙ or-swap (p c) (p b) (list_any p cs)))
       (cases_Bool (lies_before b c))
 
   pub any-order : (bs : List (Block ℕ)) → list_any p (in_order bs) ≡ list_any p bs

@@ -10,6 +10,7 @@ use Rattle.vc_model.specs.Bytes.{with_bytes}
 use Rattle.vc_model.specs.Discipline.{Discipline, Lent, Served, TookBack}
 use Rattle.vc_model.proofs.Keeping.{Kept-same}
 use Rattle.vc_model.specs.Sound.{HaveOwnNumbers}
+use Rattle.vc_base.proofs.Overwrites.{length-with_bytes}
 use Rattle.vc_seg.specs.Answer.{Asks}
 use Rattle.vc_seg.specs.Segment.{AreSegments, Bytes, pair_of}
 use Rattle.vc_seg.specs.declared.fault.RegionFault.{RegionFault}

@@ -3,7 +3,7 @@ use Rattle.std.proofs.Common.{Contains, List, None, Option, Some, [], ap, arith,
 use Rattle.std.proofs.lemmas.Bool.{cases_Bool}
 use Rattle.std.specs.Prelude.{option_map}
 use Rattle.vc_model.specs.Order.{least_above, lesser_by}
-use Rattle.vc_seg.proofs.Filters.{filter-map}
+use Rattle.vc_base.proofs.Lists.{filter-map}
 
 -- the least of some numbers above one is one of them
 lesser-either : (o : Option ℕ) (y : ℕ) (ys : List ℕ) (x : ℕ) → lesser_by (λ a. a) o y ≡ Some x → (o ≡ Some x) ⊎ Contains (y ∷ ys) x

@@ -10,10 +10,10 @@ use Rattle.vc_base.specs.declared.addr.Addr.{Addr}
 use Rattle.vc_base.specs.Cells.{Blocks, body_of}
 use Rattle.vc_base.specs.Holders.{contains, some_address}
 use Rattle.vc_base.proofs.CellsLemmas.{put_other, put_same}
+use Rattle.vc_base.proofs.Members.{apart-cons}
 use Rattle.vc_dtdisc.specs.Finds.{object_at}
 use Rattle.vc_dtdisc.specs.Objects.{Object}
 use Rattle.vc_dtdisc.specs.Rules.{IsObject, Rules}
-use Rattle.vc_dtlist.proofs.HolderLemmas.{apart-cons}
 use Rattle.vc_dict.specs.Listed.{holders_of}
 use Rattle.vc_dict.specs.Stands.{Adopted, CanAdopt, Stands}
 use Rattle.vc_dict.specs.declared.dict.Dict.{Dict}

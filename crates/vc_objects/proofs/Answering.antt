@@ -5,6 +5,7 @@ use Rattle.std.proofs.lemmas.Option.{none-some, same_Some}
 use Rattle.vc_model.specs.Layout.{Layout}
 use Rattle.vc_base.specs.Holders.{contains}
 use Rattle.vc_base.specs.declared.fault.OutOfMemory.{OutOfMemory}
+use Rattle.vc_base.proofs.Members.{apart-front, apart-rest}
 use Rattle.vc_model.specs.Best.{best_need}
 use Rattle.vc_model.specs.Discipline.{Discipline, Terms, Unserved}
 use Rattle.vc_model.specs.Outcome as model
@@ -13,7 +14,7 @@ use Rattle.vc_dict.specs.Methods.{wanted_by}
 use Rattle.vc_dict.specs.declared.dict.Dict.{Dict}
 use Rattle.vc_dtdisc.specs.Objects.{Object}
 use Rattle.vc_dtdisc.specs.Rules.{Rules}
-use Rattle.vc_dtlist.proofs.HolderLemmas.{apart-append, apart-front, apart-rest}
+use Rattle.vc_dtlist.proofs.HolderLemmas.{apart-append}
 use Rattle.vc_seg.specs.Answer.{Asks, IsPut, IsRefusal}
 use Rattle.vc_seg.specs.declared.fault.RegionFault.{RegionFault}
 use Rattle.vc_seg.specs.declared.fault.RegionFault.TheVariants as code

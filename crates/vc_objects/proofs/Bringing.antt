@@ -12,12 +12,12 @@ use Rattle.vc_base.specs.Holders.{contains}
 use Rattle.vc_base.proofs.CellsLemmas.{put_other, put_same}
 use Rattle.vc_dtdisc.specs.Objects.{Object}
 use Rattle.vc_dtdisc.specs.Rules.{IsObject, Rules}
-use Rattle.vc_dtlist.proofs.KeptLemmas.{within-tail}
 use Rattle.vc_dthash.specs.Hashed.{IsTable}
 use Rattle.vc_dthash.specs.Slots.{IsSlots, most_slots, slots_for}
 use Rattle.vc_dict.specs.declared.dict.Dict.{Dict}
 use Rattle.vc_dict.specs.Listed.{holders_of}
 use Rattle.vc_base.specs.Methods.{has_table}
+use Rattle.vc_base.proofs.Members.{within-tail}
 use Rattle.vc_dict.specs.Methods.{slots_between}
 use Rattle.vc_dict.specs.Stands.{Stands}
 use Rattle.vc_dict.proofs.OwnLemmas.{Stands-own, Stands-table, holder-address, holder-there, holders-told}

@@ -19,6 +19,7 @@ use Rattle.vc_objects.specs.Objects.{Dictionary, Table}
 use Rattle.vc_objects.specs.Parts.{table_of}
 use Rattle.vc_objects.specs.Remove.{bytes_of, freed_all}
 use Rattle.vc_base.specs.Methods.{method_number}
+use Rattle.vc_base.proofs.Methods.{other-method}
 use Rattle.vc_objects.specs.Turn.{Brought, Turned, bring, bring_of, turn_with, objects_dropped, table_left, turn, turned_to, turned_with}
 use Rattle.vc_objects.specs.Promises.{Brings}
 use Rattle.vc_objects.specs.Unlabelled.{MakesCell}
@@ -74,9 +75,6 @@ method-back DtList = refl
 method-back DtStack = refl
 method-back DtQueue = refl
 
-pub other-number : (m n : DictMethod) → m ≢ n → (method_number m == method_number n) ≡ false
-other-number m n ne = ne_eqb (method_number m) (method_number n) (λ e. ne (sym (method-back m) ∙ (ap method_of e ∙ method-back n)))
-
 module _ (rules : Rules) (terms : Terms) (method : DictMethod) (r : Layout ℕ) (d : Dictionary) (count : ℕ) (other : method ≢ d.method) (counts : length d.objects ≡ count) where
   abbrev stays : Outcome (Turned ℕ)
   stays = Done (record { region = r; dict = d; gone = []; granted = [] })
@@ -97,14 +95,14 @@ module _ (rules : Rules) (terms : Terms) (method : DictMethod) (r : Layout ℕ) 
       → r2 ≡ without_table (freed_all r1 (objects_dropped rules method d1)) (table_left d1 method) → d2 ≡ turned_to rules method d1 (table_of t s)
       → gone' ≡ told_each (bytes_of (objects_dropped rules method d1)) gone → GivesTurned (turn rules terms r 0 d method false) r2 d2 gone gone'
   gives-turned r1 r2 d1 d2 t s gone gone' same h e f k =
-      subst (λ z. GivesTurned (if z then stays else turned_with rules method d (bring terms r 0 d method false)) r2 d2 gone gone') (sym (other-number method d.method other))
+      subst (λ z. GivesTurned (if z then stays else turned_with rules method d (bring terms r 0 d method false)) r2 d2 gone gone') (sym (other-method method d.method other))
       (given (bring terms r 0 d method false) r1 r2 d1 d2 t s gone gone' same
       (subst (λ n. HasBrought (bring_of terms r 0 false (slots_between d.method method n)) r1 t s) (sym counts) h) e f k)
 
   -- without it nothing is
   pub refuses-turned : (why : RegionFault) → IsRefusal (λ refused. bring_of terms r 0 refused (slots_between d.method method count)) why → IsRefusal (turn rules terms r 0 d method) why
   refuses-turned why h =
-      subst (λ z. IsRefusal (λ (t : Bool). if z then stays else turned_with rules method d (bring terms r 0 d method t)) why) (sym (other-number method d.method other))
+      subst (λ z. IsRefusal (λ (t : Bool). if z then stays else turned_with rules method d (bring terms r 0 d method t)) why) (sym (other-method method d.method other))
       (refusal-kept (λ (t : Bool). bring terms r 0 d method t) (λ (t : Bool). turned_with rules method d (bring terms r 0 d method t)) (λ refused fault e. ap (turned_with rules method d) e) why
       (subst (λ n. IsRefusal (λ (t : Bool). bring_of terms r 0 t (slots_between d.method method n)) why) (sym counts) h))
 

@@ -3,10 +3,10 @@ use Rattle.std.proofs.Common.{◌≡◌, ℕ, ◌+◌, ◌<◌, ◌≤◌, List,
 use Rattle.vc_model.specs.Layout.{Layout}
 use Rattle.vc_base.specs.Cells.{Blocks, IsHolder, body_of}
 use Rattle.vc_base.specs.Holders.{AreDistinct, contains}
+use Rattle.vc_base.proofs.Members.{apart-head, apart-tail, within-head, within-tail}
 use Rattle.vc_dtdisc.specs.Finds.{object_at}
 use Rattle.vc_dtdisc.specs.Rules.{Gone, gone_after}
-use Rattle.vc_dtlist.proofs.HolderLemmas.{apart-head, apart-tail}
-use Rattle.vc_dtlist.proofs.KeptLemmas.{HasBytes-same, within-head, within-tail}
+use Rattle.vc_dtlist.proofs.KeptLemmas.{HasBytes-same}
 use Rattle.vc_dict.proofs.PassLemmas.{differs}
 use Rattle.vc_dict.specs.Turned.{AreDropped, behind_dropped}
 use Rattle.vc_best.specs.Cells.{without_cell}

@@ -6,12 +6,12 @@ use Rattle.std.proofs.lemmas.Bool.Decides.{eqb_tells}
 use Rattle.vc_model.specs.Layout.{Layout}
 use Rattle.vc_base.specs.Cells.{Blocks}
 use Rattle.vc_base.specs.Holders.{contains, some_address}
+use Rattle.vc_base.proofs.Members.{apart-cons, apart-front, within-head, differs}
 use Rattle.vc_model.specs.Discipline.{Discipline}
 use Rattle.vc_dtdisc.specs.Objects.{Object, address_of, without_object}
 use Rattle.vc_dtdisc.specs.Finding.{first_of}
 use Rattle.vc_dtdisc.specs.Rules.{Gone, Rules, gone_after}
-use Rattle.vc_dtlist.proofs.HolderLemmas.{apart-append, apart-cons, apart-front}
-use Rattle.vc_dtlist.proofs.KeptLemmas.{within-head}
+use Rattle.vc_dtlist.proofs.HolderLemmas.{apart-append}
 use Rattle.vc_dict.specs.Listed.{holders_of}
 use Rattle.vc_dict.specs.declared.dict.Dict.{Dict}
 use Rattle.vc_best.specs.Cells.{cells_in, rest_in}
@@ -26,7 +26,7 @@ use Rattle.vc_objects.specs.Promises.{Empties}
 use Rattle.vc_objects.specs.Remove.{all_out, bytes_of, without_objects, first_out, freed_all, remove_first}
 use Rattle.vc_objects.proofs.Leaving.{keeps-same, leaves-self, leaves-trans}
 use Rattle.vc_objects.proofs.Owning.{owned-within}
-use Rattle.vc_objects.proofs.Taken.{differs, fewer-owned}
+use Rattle.vc_objects.proofs.Taken.{fewer-owned}
 use Rattle.vc_objects.proofs.Unlabelled.{left-cell}
 
 -- a dictionary with other objects

@@ -14,11 +14,10 @@ use Rattle.vc_dtdisc.specs.Finds.{find_key, object_at}
 use Rattle.vc_dtdisc.specs.Objects.{Object, address_of, bytes_of, first_with, linked_among}
 use Rattle.vc_dtdisc.specs.Rules.{IsObject, Rules}
 use Rattle.vc_dtdisc.proofs.ObjectsLemmas.{first_with-map, linked_among-map}
-use Rattle.vc_dtlist.proofs.HolderLemmas.{apart-cons}
-use Rattle.vc_dtlist.proofs.KeptLemmas.{within-tail}
 use Rattle.vc_dict.specs.Changes as changes
 use Rattle.vc_dict.specs.Listed.{holders_of}
 use Rattle.vc_base.specs.Methods.{has_table, is_list, is_set}
+use Rattle.vc_base.proofs.Members.{apart-cons, within-tail}
 use Rattle.vc_dict.specs.Stands.{Became, CanLink, Stands}
 use Rattle.vc_dict.specs.declared.dict.Dict.{Dict}
 use Rattle.vc_dict.proofs.CurrentLemmas.{apart-linked, within-linked}

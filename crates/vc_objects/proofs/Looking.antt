@@ -9,9 +9,9 @@ use Rattle.vc_base.specs.Holders.{contains, some_address}
 use Rattle.vc_model.specs.Discipline.{Discipline}
 use Rattle.vc_dtdisc.specs.Objects.{Object}
 use Rattle.vc_dtdisc.specs.Rules.{IsObject, Rules}
-use Rattle.vc_dtlist.proofs.HolderLemmas.{apart-cons, apart-head, apart-tail}
 use Rattle.vc_dict.specs.Listed.{holders_of}
 use Rattle.vc_base.specs.Methods.{has_table}
+use Rattle.vc_base.proofs.Members.{apart-head, apart-tail, apart-cons}
 use Rattle.vc_dict.specs.Stands.{Became, Stands}
 use Rattle.vc_dict.specs.declared.dict.Dict.{Dict}
 use Rattle.vc_dict.proofs.OwnLemmas.{holders-told, table-apart}

@@ -3,8 +3,10 @@ use Rattle.std.proofs.Common.{◌≡◌, ℕ, List, [], ◌∷◌, Bool, true, f
 use Rattle.std.specs.Prelude.{◌==◌, if◌then◌else◌}
 use Rattle.std.proofs.lemmas.Bool.{true≢false, ne_eqb}
 use Rattle.std.proofs.lemmas.Bool.Decides.{eqb_tells}
+use Rattle.std.proofs.lemmas.Iterator.Adapters.{option_map_id}
 use Rattle.vc_base.specs.Cells.{Blocks}
 use Rattle.vc_base.specs.Holders.{contains, first_in, some_address, without}
+use Rattle.vc_base.proofs.Members.{within-head, within-tail}
 use Rattle.vc_dtdisc.specs.Finding.{first_of}
 use Rattle.vc_dtdisc.specs.Finds.{find_key, has_key, object_at}
 use Rattle.vc_dtdisc.specs.Objects as objects
@@ -13,7 +15,6 @@ use Rattle.vc_dtdisc.specs.Rules.{Rules}
 use Rattle.vc_dtdisc.proofs.AddressLemmas.{first_of-first_in, without_object-without}
 use Rattle.vc_dtdisc.proofs.FindingLemmas.{first_of-map}
 use Rattle.vc_dtdisc.proofs.ObjectsLemmas.{current_without-map, without_object-map}
-use Rattle.vc_dtlist.proofs.KeptLemmas.{within-head, within-tail}
 use Rattle.vc_dtord.proofs.FirstLemmas as first_lemmas
 use Rattle.vc_dict.specs.Changes.{current_without}
 use Rattle.vc_objects.specs.Parts.{object_of}
@@ -31,13 +32,8 @@ behind-within : (at : ℕ) (xs : List ℕ) (n : ℕ) → behind_object (λ a. a)
 behind-within at [] n e = cc
 behind-within at (x ∷ xs) n e = behind_by (x == at) at x xs n (behind-within at xs n) e
 
--- so the current one stands at no address 0 where no holder does
-no_map : (o : Option ℕ) → option_map (λ a. a) o ≡ o
-no_map None = refl
-no_map (Some x) = refl
-
 zero_by : (t : Bool) (at current : ℕ) (xs : List ℕ) → contains xs 0 ≡ false → (current ≡ 0 → ⊥) → (if t then option_map (λ a. a) (behind_object (λ a. a) at xs) else Some current) ≡ Some 0 → ⊥
-zero_by true at current xs zero some e = true≢false (sym (behind-within at xs 0 (sym (no_map (behind_object (λ a. a) at xs)) ∙ e)) ∙ zero)
+zero_by true at current xs zero some e = true≢false (sym (behind-within at xs 0 (sym (option_map_id (behind_object (λ a. a) at xs)) ∙ e)) ∙ zero)
 zero_by false at current xs zero some e = some (ap (λ o. unwrap_or o 0) e)
 
 current-some : (at current : ℕ) (xs : List ℕ) → contains xs 0 ≡ false → objects.current_without (λ a. a) at (some_address current) xs ≡ Some 0 → ⊥

@@ -7,18 +7,13 @@ use Rattle.vc_base.specs.declared.dict_method.DictMethod.{DictMethod}
 use Rattle.vc_base.specs.Cells.{Blocks}
 use Rattle.vc_base.specs.Holders.{AreDistinct, contains}
 use Rattle.vc_dtdisc.specs.Rules.{Rules}
-use Rattle.vc_dtlist.proofs.HolderLemmas.{apart-append, apart-cons, apart-front, apart-head, apart-removed, apart-rest, apart-tail, distinct-remove}
-use Rattle.vc_dtlist.proofs.KeptLemmas.{within-head, within-tail}
+use Rattle.vc_dtlist.proofs.HolderLemmas.{apart-append, distinct-remove}
 use Rattle.vc_dtord.specs.Ordered.{is_less, order_with}
 use Rattle.vc_base.specs.Methods.{is_ordered, is_set}
+use Rattle.vc_base.proofs.Members.{apart-head, apart-tail, apart-cons, apart-front, apart-rest, apart-removed, within-head, within-tail, apart-either}
 use Rattle.vc_dict.specs.Orders.{dropped_holders, dropped_by, has_match, kept_holders, kept_by, ordered_by, placed_each}
 use Rattle.vc_dict.proofs.PassLemmas.{apart-placed, differs}
-use Rattle.vc_dict.proofs.TurnedLemmas.{length-ordered, within_kept_by, within_ordered}
-
--- either of two lists
-either_apart : (t : Bool) (xs ys : List ℕ) (a : ℕ) → contains xs a ≡ false → contains ys a ≡ false → contains (if t then xs else ys) a ≡ false
-either_apart true xs ys a h k = h
-either_apart false xs ys a h k = k
+use Rattle.vc_dict.proofs.TurnedLemmas.{length-ordered, within_kept_by, within_ordered, within_dropped}
 
 either_distinct : (t : Bool) (xs ys : List ℕ) → AreDistinct xs → AreDistinct ys → AreDistinct (if t then xs else ys)
 either_distinct true xs ys h k = h
@@ -40,19 +35,11 @@ distinct_each rules b done (x ∷ xs) d e apart =
 distinct_ordered : (method : DictMethod) (rules : Rules) (b : Blocks) (xs : List ℕ) → AreDistinct xs → AreDistinct (ordered_by method rules b xs)
 distinct_ordered method rules b xs d = either_distinct (is_ordered method) (placed_each rules b [] xs) xs (distinct_each rules b [] xs tt d (λ a h. refl)) d
 
--- the dropped ones
-apart_dropped : (rules : Rules) (b : Blocks) (done xs : List ℕ) (a : ℕ) → contains xs a ≡ false → contains (dropped_holders rules b done xs) a ≡ false
-apart_dropped rules b done [] a h = refl
-apart_dropped rules b done (x ∷ xs) a h =
-    either_apart (has_match rules b done x) (x ∷ dropped_holders rules b done xs) (dropped_holders rules b (done ++ x ∷ []) xs) a
-    (apart-cons x (dropped_holders rules b done xs) a (apart-head x xs a h) (apart_dropped rules b done xs a (apart-tail x xs a h)))
-    (apart_dropped rules b (done ++ x ∷ []) xs a (apart-tail x xs a h))
-
 distinct_dropped : (rules : Rules) (b : Blocks) (done xs : List ℕ) → AreDistinct xs → AreDistinct (dropped_holders rules b done xs)
 distinct_dropped rules b done [] d = tt
 distinct_dropped rules b done (x ∷ xs) d =
     either_distinct (has_match rules b done x) (x ∷ dropped_holders rules b done xs) (dropped_holders rules b (done ++ x ∷ []) xs)
-    (apart_dropped rules b done xs x d.0, distinct_dropped rules b done xs d.1) (distinct_dropped rules b (done ++ x ∷ []) xs d.1)
+    (within_dropped rules b done xs x d.0, distinct_dropped rules b done xs d.1) (distinct_dropped rules b (done ++ x ∷ []) xs d.1)
 
 -- the kept ones
 apart_kept : (rules : Rules) (b : Blocks) (done xs : List ℕ) (a : ℕ) → contains (done ++ xs) a ≡ false → contains (kept_holders rules b done xs) a ≡ false
@@ -61,7 +48,7 @@ apart_kept rules b done (x ∷ xs) a h =
     let front = apart-front done (x ∷ xs) a h in
     let rest = apart-rest done (x ∷ xs) a h in
     let one : contains (x ∷ []) a ≡ false = apart-cons x [] a (apart-head x xs a rest) refl in
-    either_apart (has_match rules b done x) (kept_holders rules b done xs) (kept_holders rules b (done ++ x ∷ []) xs) a
+    apart-either (has_match rules b done x) (kept_holders rules b done xs) (kept_holders rules b (done ++ x ∷ []) xs) a
     (apart_kept rules b done xs a (apart-append done xs a front (apart-tail x xs a rest)))
     (apart_kept rules b (done ++ x ∷ []) xs a (apart-append (done ++ x ∷ []) xs a (apart-append done (x ∷ []) a front one) (apart-tail x xs a rest)))
 
@@ -128,8 +115,8 @@ module _ (method : DictMethod) (rules : Rules) (b : Blocks) (xs : List ℕ) wher
 
   pub apart-drops : (a : ℕ) → contains xs a ≡ false → contains drops a ≡ false
   apart-drops a h =
-      either_apart (is_set method) (dropped_holders rules b [] (ordered_by method rules b xs)) [] a
-      (apart_dropped rules b [] (ordered_by method rules b xs) a (within_ordered method rules b xs a h)) refl
+      apart-either (is_set method) (dropped_holders rules b [] (ordered_by method rules b xs)) [] a
+      (within_dropped rules b [] (ordered_by method rules b xs) a (within_ordered method rules b xs a h)) refl
 
   pub within-keeps : (a : ℕ) → contains keeps a ≡ true → contains xs a ≡ true
   within-keeps a h = in_by (contains keeps) (contains xs) a (contains xs a) refl (apart-keeps a) h

@@ -9,12 +9,12 @@ use Rattle.vc_base.specs.declared.dict_method.DictMethod.{DictMethod}
 use Rattle.vc_base.specs.Cells.{Blocks}
 use Rattle.vc_base.specs.Holders.{contains}
 use Rattle.vc_dtdisc.specs.Rules.{Rules}
-use Rattle.vc_dtlist.proofs.HolderLemmas.{apart-head, apart-tail}
 use Rattle.vc_dthash.specs.Slots.{slots_for}
 use Rattle.vc_model.specs.Discipline.{Discipline}
 use Rattle.vc_dict.specs.declared.dict.Dict.{Dict}
 use Rattle.vc_dict.specs.Listed.{holders_of}
 use Rattle.vc_base.specs.Methods.{has_table}
+use Rattle.vc_base.proofs.Members.{apart-head, apart-tail}
 use Rattle.vc_dict.specs.Methods.{slots_between}
 use Rattle.vc_best.specs.Cells.{cells_in, labelled_blocks, rest_in}
 use Rattle.vc_best.specs.Parts.{disc_in, segments_in}

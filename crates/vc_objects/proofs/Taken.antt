@@ -11,11 +11,11 @@ use Rattle.vc_model.specs.Discipline.{Discipline}
 use Rattle.vc_dtdisc.specs.Finds.{object_at}
 use Rattle.vc_dtdisc.specs.Objects.{Object, address_of, without_object}
 use Rattle.vc_dtdisc.specs.Rules.{Gone, IsObject, Rules}
-use Rattle.vc_dtlist.proofs.HolderLemmas.{apart-append, apart-cons, apart-front, apart-head, apart-rest, apart-tail, apart-without}
-use Rattle.vc_dtlist.proofs.KeptLemmas.{within-head}
+use Rattle.vc_dtlist.proofs.HolderLemmas.{apart-append, apart-without}
 use Rattle.vc_dict.specs.Changes as changes
 use Rattle.vc_dict.specs.Listed.{holders_of}
 use Rattle.vc_base.specs.Methods.{has_table}
+use Rattle.vc_base.proofs.Members.{apart-head, apart-tail, apart-cons, apart-front, apart-rest, within-head, differs}
 use Rattle.vc_dict.specs.Stands.{Became, Stands}
 use Rattle.vc_dict.specs.declared.dict.Dict.{Dict}
 use Rattle.vc_dict.proofs.CurrentLemmas.{current-removed}
@@ -37,10 +37,6 @@ use Rattle.vc_objects.proofs.Looking.{IsWhole-told, apart-table, dictionary-same
 use Rattle.vc_objects.proofs.Mapped.{current-mapped, objects-kept, without-mapped}
 use Rattle.vc_objects.proofs.Owning.{each-object, owned-within}
 use Rattle.vc_objects.proofs.Unlabelled.{left-cell}
-
--- two addresses of which one alone is in a list differ
-pub differs : (xs : List ℕ) (x a : ℕ) → contains xs x ≡ true → contains xs a ≡ false → x ≢ a
-differs xs x a h k e = true≢false (sym h ∙ ap (contains xs) e ∙ k)
 
 -- a holder that goes is none of those that are left, which were there before
 gone-apart : (at : ℕ) (xs : List ℕ) → AreDistinct xs → contains (without at xs) at ≡ false

@@ -12,12 +12,12 @@ use Rattle.vc_dtdisc.specs.Finds.{object_at}
 use Rattle.vc_dtdisc.specs.Objects.{Object, bytes_of, dropped_by, kept_by, ordered_by}
 use Rattle.vc_dtdisc.specs.Rules.{Gone, IsObject, Rules}
 use Rattle.vc_dtdisc.proofs.ObjectsLemmas.{dropped_by-map, kept_by-map, ordered_by-map}
-use Rattle.vc_dtlist.proofs.HolderLemmas.{apart-cons}
 use Rattle.vc_dthash.specs.Slots.{slots_for}
 use Rattle.vc_dict.specs.declared.dict.Dict.{Dict}
 use Rattle.vc_dict.specs.declared.dict.Dropped.{Dropped}
 use Rattle.vc_dict.specs.Listed.{holders_of}
 use Rattle.vc_base.specs.Methods.{has_table}
+use Rattle.vc_base.proofs.Members.{apart-cons}
 use Rattle.vc_dict.specs.Orders as orders
 use Rattle.vc_dict.specs.Stands.{Stands}
 use Rattle.vc_dict.specs.Turned.{CanRemethod, Remethoded}

@@ -20,11 +20,6 @@ use Rattle.vc_paths.proofs.OrderedLemmas.{layer_sorted, visible_ordered}
 use Rattle.vc_paths.proofs.SeekLemmas.{path-first}
 use Rattle.vc_paths.proofs.SortedLemmas.{AreSorted, IsUpto, placed_last}
 
--- what is none
-pub none_is : {A : Type 0} (o : Option A) (t : Bool) → is_some o ≡ not t → t ≡ true → o ≡ None
-none_is None t h g = refl
-none_is (Some x) t h g = absurd (true≢false (h ∙ ap not g))
-
 all_middle : (P : Seen ℕ → Type 0) (xs : List (Seen ℕ)) (y : Seen ℕ) (ys : List (Seen ℕ)) → AllByRecursion P (xs ++ y ∷ ys) → P y
 all_middle P [] y ys h = h.0
 all_middle P (x ∷ xs) y ys h = all_middle P xs y ys h.1

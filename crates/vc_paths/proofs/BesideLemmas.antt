@@ -4,11 +4,12 @@ use Rattle.std.specs.Prelude.{not, ◌||◌}
 use Rattle.std.specs.List.{AllByRecursion, filter, list_any}
 use Rattle.std.specs.Option.{option_or}
 use Rattle.std.proofs.lemmas.Bool.{true≢false, cases_Bool}
+use Rattle.vc_base.proofs.Quantifiers.{all-weaken}
 use Rattle.vc_dtdisc.specs.Rules.{Rules}
 use Rattle.vc_dtdisc.specs.Finding.{before_first, before_first_from, behind_last, first_of, last_from, last_of}
 use Rattle.vc_paths.specs.Ordered.{is_before, is_behind, is_level}
 use Rattle.vc_paths.specs.Visible.{Seen}
-use Rattle.vc_paths.proofs.OrderLemmas.{AreOrdered, all_weaker, filter_none, up}
+use Rattle.vc_paths.proofs.OrderLemmas.{AreOrdered, filter_none, up}
 use Rattle.vc_paths.proofs.SortedLemmas.{AreSorted, IsUpto}
 
 -- what passes the test matches the object
@@ -29,7 +30,7 @@ before_apart rules laws x y h = fails (is_level rules x y) (not (is_before rules
 
 -- behind one that is greater all are
 pub all_behind_one : (rules : Rules) → AreOrdered rules → (x y : Seen ℕ) (ys : List (Seen ℕ)) → is_behind rules (Some x) y ≡ true → AreSorted rules (y ∷ ys) → AllByRecursion (λ z. is_behind rules (Some x) z ≡ true) (y ∷ ys)
-all_behind_one rules laws x y ys t s = (t, all_weaker (IsUpto rules y) (λ z. is_behind rules (Some x) z ≡ true) (λ z h. up rules y.bytes z.bytes x.bytes laws t h) ys s.0)
+all_behind_one rules laws x y ys t s = (t, all-weaken (IsUpto rules y) (λ z. is_behind rules (Some x) z ≡ true) ys (λ z h. up rules y.bytes z.bytes x.bytes laws t h) s.0)
 
 -- and none of them passes the test
 both_all : (rules : Rules) → AreOrdered rules → (x : Seen ℕ) (test : Seen ℕ → Bool) (ys : List (Seen ℕ)) → AreLevel rules x test ys → AllByRecursion (λ z. is_behind rules (Some x) z ≡ true) ys → list_any test ys ≡ false
@@ -49,7 +50,7 @@ first_beside : (rules : Rules) → AreOrdered rules → (x : Seen ℕ) (ys : Lis
 first_beside rules laws x [] s h = refl
 first_beside rules laws x (y ∷ ys) s h = elim (cases_Bool (is_behind rules (Some x) y)) as (λ _. Some y ≡ option_or (first_of (filter (is_level rules x) (y ∷ ys))) (first_of (filter (is_behind rules (Some x)) (y ∷ ys)))) [
   | inl t ↦
-      let none = filter_none (is_level rules x) (y ∷ ys) (all_weaker (λ z. is_behind rules (Some x) z ≡ true) (λ z. is_level rules x z ≡ false) (λ z g. behind_apart rules laws x z g) (y ∷ ys) (all_behind_one rules laws x y ys t s)) in
+      let none = filter_none (is_level rules x) (y ∷ ys) (all-weaken (λ z. is_behind rules (Some x) z ≡ true) (λ z. is_level rules x z ≡ false) (y ∷ ys) (λ z g. behind_apart rules laws x z g) (all_behind_one rules laws x y ys t s)) in
       rw (none, t) refl
   | inr t ↦
       let m : is_level rules x y ≡ true = laws.tied y.bytes x.bytes t h.0 in
@@ -75,7 +76,7 @@ behind_beside rules laws x test (y ∷ ys) s l h =
             elim (cases_Bool (test y)) as (λ _. behind_last test (y ∷ ys) ≡ option_or (behind_last test (filter (is_level rules x) (y ∷ ys))) (first_of (filter (is_behind rules (Some x)) (y ∷ ys)))) [
               | inl v ↦ elim (cases_Bool (list_any test ys)) as (λ _. behind_last test (y ∷ ys) ≡ option_or (behind_last test (filter (is_level rules x) (y ∷ ys))) (first_of (filter (is_behind rules (Some x)) (y ∷ ys)))) [
                 | inl u ↦ rw (m, t, same, v, u) (rest u)
-                | inr u ↦ rw (m, t, same, v, u) (first_beside rules laws x ys s.1 (all_weaker (IsUpto rules y) (IsUpto rules x) (λ z g. laws.upto x.bytes y.bytes z.bytes w g) ys s.0))
+                | inr u ↦ rw (m, t, same, v, u) (first_beside rules laws x ys s.1 (all-weaken (IsUpto rules y) (IsUpto rules x) ys (λ z g. laws.upto x.bytes y.bytes z.bytes w g) s.0))
               ]
               | inr v ↦ rw (m, t, v) (rest (rw v at h))
             ]
@@ -113,7 +114,7 @@ before_from rules laws x test before (y ∷ ys) s l h = elim (cases_Bool (is_beh
         rw (fail, apart, w) (before_from rules laws x test (Some y) ys s.1 l.1 (rw fail at h))
     | inr w ↦
         let m : is_level rules x y ≡ true = laws.tied y.bytes x.bytes t w in
-        let upper = all_weaker (IsUpto rules y) (IsUpto rules x) (λ z g. laws.upto x.bytes y.bytes z.bytes w g) ys s.0 in
+        let upper = all-weaken (IsUpto rules y) (IsUpto rules x) ys (λ z g. laws.upto x.bytes y.bytes z.bytes w g) s.0 in
         let none = filter_none (is_before rules (Some x)) ys upper in
         elim (cases_Bool (test y)) as (λ _. before_first_from before test (y ∷ ys) ≡ option_or (before_first_from None test (filter (is_level rules x) (y ∷ ys))) (last_from before (filter (is_before rules (Some x)) (y ∷ ys)))) [
           | inl v ↦ rw (m, w, v, none) refl

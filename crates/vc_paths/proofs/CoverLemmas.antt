@@ -6,6 +6,7 @@ use Rattle.std.proofs.lemmas.Bool.{cases_Bool, eq-eqb, ne_eqb}
 use Rattle.vc_base.specs.declared.addr.Addr.{Addr}
 use Rattle.vc_dtdisc.specs.Objects.{Object, has_key, is_match}
 use Rattle.vc_base.specs.Address.{number_of}
+use Rattle.vc_base.proofs.Options.{is_some-map}
 use Rattle.vc_paths.specs.Layers.{AreLayers, Layered, bytes_there, place_with, Same, Layer}
 use Rattle.vc_paths.specs.Links.{ArePaths, Links, below}
 use Rattle.vc_paths.specs.Path.{IsAlike}
@@ -20,17 +21,13 @@ found-any t (x ∷ xs) = elim (cases_Bool (t x)) as (λ _. is_some (find t (x �
   | inr h ↦ rw h (found-any t xs)
 ]
 
-mapped-some : {A B : Type 0} (f : A → B) (o : Option A) → is_some (option_map f o) ≡ is_some o
-mapped-some f None = refl
-mapped-some f (Some x) = refl
-
 -- a match is found where a dictionary has one
 pub like-found : (all : Layered) (u : ℕ) (bytes : List ℕ) (r : Option Addr) → option_map number_of r ≡ place_with (all.layer u).rules ((all.layer u).rules.key bytes) (all.layer u).objects → is_some r ≡ has_match all u bytes u
 like-found all u bytes r e =
     let rules = (all.layer u).rules in
-    sym (mapped-some number_of r)
+    sym (is_some-map number_of r)
     ∙ ap is_some e
-    ∙ mapped-some (λ o. o.at) (find (λ o. has_key rules (rules.key bytes) o.bytes) (all.layer u).objects)
+    ∙ is_some-map (λ o. o.at) (find (λ o. has_key rules (rules.key bytes) o.bytes) (all.layer u).objects)
     ∙ found-any (λ o. has_key rules (rules.key bytes) o.bytes) (all.layer u).objects
 
 -- like dictionaries have the same rules

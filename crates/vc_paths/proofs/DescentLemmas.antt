@@ -21,10 +21,6 @@ pub or-mapped : {A B : Type 0} (f : A → B) (r o : Option A) → option_map f (
 or-mapped f None o = refl
 or-mapped f (Some x) o = refl
 
-pub some-mapped : {A B : Type 0} (f : A → B) (r : Option A) → is_some (option_map f r) ≡ is_some r
-some-mapped f None = refl
-some-mapped f (Some x) = refl
-
 module _ {A : Type 0} (shows : ℕ → List A) {links : Links} (p : ArePaths links) where
   first-step : {at : Option ℕ} {e : ℕ} {next : Option ℕ} {r : Option A} → at ≡ Some e → next ≡ below links e → r ≡ first_of (shows e)
       → first_of (flat_map shows (down links at)) ≡ option_or r (first_of (flat_map shows (down links next)))

@@ -4,6 +4,8 @@ use Rattle.std.specs.List.{filter, flat_map, list_any}
 use Rattle.std.specs.Option.{option_map, option_or}
 use Rattle.std.proofs.lemmas.Bool.{cases_Bool, or_from, or_parts, or_right, true≢false}
 use Rattle.std.proofs.lemmas.List.Folds.{list_any-append}
+use Rattle.vc_base.proofs.Quantifiers.{any-map, any-middle}
+use Rattle.vc_dtdisc.proofs.FindingLemmas.{first_of-map}
 use Rattle.vc_dtdisc.specs.Finding.{before_first_from, behind_last, first_of, last_from, last_of}
 
 -- the ends of joined lists
@@ -22,44 +24,6 @@ last-some o x (y ∷ ys) = last-some o y ys
 pub last-or : {A : Type 0} (o : Option A) (xs : List A) → last_from o xs ≡ option_or (last_of xs) o
 last-or o [] = refl
 last-or o (x ∷ xs) = last-some o x xs
-
--- the ends of a mapped list, and the neighbours there
-pub first-map : {A B : Type 0} (f : A → B) (xs : List A) → first_of (map f xs) ≡ option_map f (first_of xs)
-first-map f [] = refl
-first-map f (x ∷ xs) = refl
-
-pub last-map : {A B : Type 0} (f : A → B) (o : Option A) (xs : List A) → last_from (option_map f o) (map f xs) ≡ option_map f (last_from o xs)
-last-map f o [] = refl
-last-map f o (x ∷ xs) = last-map f (Some x) xs
-
-pub any-map : {A B : Type 0} (f : A → B) (t : B → Bool) (xs : List A) → list_any t (map f xs) ≡ list_any (λ x. t (f x)) xs
-any-map f t [] = refl
-any-map f t (x ∷ xs) = ap (λ z. t (f x) || z) (any-map f t xs)
-
-pub before-map : {A B : Type 0} (f : A → B) (o : Option A) (t : B → Bool) (xs : List A) → before_first_from (option_map f o) t (map f xs) ≡ option_map f (before_first_from o (λ x. t (f x)) xs)
-before-map f o t [] = refl
-before-map f o t (x ∷ xs) = elim (cases_Bool (t (f x))) as (λ _. before_first_from (option_map f o) t (map f (x ∷ xs)) ≡ option_map f (before_first_from o (λ y. t (f y)) (x ∷ xs))) [
-  | inl h ↦ rw h refl
-  | inr h ↦ rw h (before-map f (Some x) t xs)
-]
-
-pub behind-map : {A B : Type 0} (f : A → B) (t : B → Bool) (xs : List A) → behind_last t (map f xs) ≡ option_map f (behind_last (λ x. t (f x)) xs)
-behind-map f t [] = refl
-behind-map f t (x ∷ xs) = elim (cases_Bool (t (f x))) as (λ _. behind_last t (map f (x ∷ xs)) ≡ option_map f (behind_last (λ y. t (f y)) (x ∷ xs))) [
-  | inl h ↦ elim (cases_Bool (list_any (λ y. t (f y)) xs)) as (λ _. behind_last t (map f (x ∷ xs)) ≡ option_map f (behind_last (λ y. t (f y)) (x ∷ xs))) [
-    | inl k ↦ rw (h, any-map f t xs, k) (behind-map f t xs)
-    | inr k ↦ rw (h, any-map f t xs, k) (first-map f xs)
-  ]
-  | inr h ↦ rw h (behind-map f t xs)
-]
-
--- what a filter keeps of a mapped list, and what another one keeps that agrees
-pub filter-map : {A B : Type 0} (f : A → B) (t : B → Bool) (xs : List A) → filter t (map f xs) ≡ map f (filter (λ x. t (f x)) xs)
-filter-map f t [] = refl
-filter-map f t (x ∷ xs) = elim (cases_Bool (t (f x))) as (λ _. filter t (map f (x ∷ xs)) ≡ map f (filter (λ y. t (f y)) (x ∷ xs))) [
-  | inl h ↦ rw h (ap (λ z. f x ∷ z) (filter-map f t xs))
-  | inr h ↦ rw h (filter-map f t xs)
-]
 
 pub filter-same : {A : Type 0} (t s : A → Bool) (xs : List A) → ((x : A) → t x ≡ s x) → filter t xs ≡ filter s xs
 filter-same t s [] same = refl
@@ -81,11 +45,6 @@ any-filter t p (x ∷ xs) h =
       | inl k ↦ rw (k, w.0) (any-filter t p xs w.1)
       | inr k ↦ rw k (any-filter t p xs w.1)
     ]
-
--- some passes among joined lists where one in the middle does
-any-middle : {A : Type 0} (t : A → Bool) (front : List A) (x : A) (back : List A) → t x ≡ true → list_any t (front ++ x ∷ back) ≡ true
-any-middle t [] x back h = rw h refl
-any-middle t (y ∷ ys) x back h = or_right (t y) (list_any t (ys ++ x ∷ back)) (any-middle t ys x back h)
 
 -- the neighbours of the last that passes, and of the first
 pub behind-at : {A : Type 0} (t : A → Bool) (front : List A) (x : A) (back : List A) → t x ≡ true → list_any t back ≡ false → behind_last t (front ++ x ∷ back) ≡ first_of back

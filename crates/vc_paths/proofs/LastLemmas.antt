@@ -4,12 +4,13 @@ use Rattle.std.specs.Prelude.{not, ◌||◌, map, if◌then◌else◌}
 use Rattle.std.specs.List.{AllByRecursion, filter, list_any}
 use Rattle.std.proofs.lemmas.Bool.{true≢false, cases_Bool, or_right}
 use Rattle.std.proofs.lemmas.List.Folds.{list_any-append}
+use Rattle.vc_base.proofs.Quantifiers.{all-append, all-weaken}
 use Rattle.vc_dtdisc.specs.Objects.{is_greater, is_match, placed_among, placed_each}
 use Rattle.vc_dtdisc.specs.Rules.{Rules}
 use Rattle.vc_dtdisc.specs.Finding.{last_from, last_of}
 use Rattle.vc_paths.specs.Ordered.{greater, is_behind}
 use Rattle.vc_paths.specs.Visible.{Seen, is_hidden, seen_bytes, stacked_objects}
-use Rattle.vc_paths.proofs.OrderLemmas.{AreOrdered, all_append, all_kept, all_weaker, any_more, any_none, up}
+use Rattle.vc_paths.proofs.OrderLemmas.{AreOrdered, all_kept, any_more, any_none, up}
 use Rattle.vc_paths.proofs.SortedLemmas.{AreSorted, IsUpto, filter_sorted, filter_stacked, itself, layers_filter, placed_sorted}
 
 -- whether the greatest so far stays behind an object
@@ -66,7 +67,7 @@ last_placed rules laws o [] s = refl
 last_placed rules laws o (x ∷ xs) s = elim (cases_Bool (is_greater rules x.bytes o.bytes)) as (λ _. last_of (placed_among seen_bytes rules o (x ∷ xs)) ≡ later rules (last_of (x ∷ xs)) o) [
   | inl t ↦
       let some = some_last x xs in
-      let far = all_last (λ y. is_greater rules y.bytes o.bytes ≡ true) x xs some.0 t (all_weaker (IsUpto rules x) (λ y. is_greater rules y.bytes o.bytes ≡ true) (λ y h. up rules x.bytes y.bytes o.bytes laws t h) xs s.0) some.1 in
+      let far = all_last (λ y. is_greater rules y.bytes o.bytes ≡ true) x xs some.0 t (all-weaken (IsUpto rules x) (λ y. is_greater rules y.bytes o.bytes ≡ true) xs (λ y h. up rules x.bytes y.bytes o.bytes laws t h) s.0) some.1 in
       rw (t, some.1, far) refl
   | inr t ↦ rw t (last_of_placed rules (Some x) None o xs ∙ last_placed rules laws o xs s.1 ∙ last_more rules x o xs t)
 ]
@@ -150,10 +151,10 @@ greatest_layer rules laws best above (x ∷ xs) h s =
     let b = some.0 in
     elim (cases_Bool (is_behind rules best b)) as (λ _. greatest rules best (filter p (x ∷ xs)) ≡ greater rules best (last_from (Some x) xs)) [
       | inl t ↦
-          let seen : is_hidden rules above b ≡ false = any_none (λ u. is_match rules b.bytes u.bytes) above (all_weaker (λ u. is_behind rules best u ≡ false) (λ u. is_match rules b.bytes u.bytes ≡ false) (λ u g. behind_apart rules laws best b u t g) above h.0) in
+          let seen : is_hidden rules above b ≡ false = any_none (λ u. is_match rules b.bytes u.bytes) above (all-weaken (λ u. is_behind rules best u ≡ false) (λ u. is_match rules b.bytes u.bytes ≡ false) above (λ u g. behind_apart rules laws best b u t g) h.0) in
           rw (some.1, t) (keeps_last rules laws p best x xs b s some.1 (ap not seen) (behind_stays rules laws best b t))
       | inr t ↦
-          let less = all_weaker (λ y. is_greater rules y.bytes b.bytes ≡ false) (λ y. is_behind rules best y ≡ false) (λ y g. behind_upto rules laws best y b t g) (x ∷ xs) (upto_last rules laws x xs b s some.1) in
+          let less = all-weaken (λ y. is_greater rules y.bytes b.bytes ≡ false) (λ y. is_behind rules best y ≡ false) (x ∷ xs) (λ y g. behind_upto rules laws best y b t g) (upto_last rules laws x xs b s some.1) in
           rw (some.1, t) (greatest_stays rules best (filter p (x ∷ xs)) (all_kept (λ y. is_behind rules best y ≡ false) (λ y. stays rules best y ≡ true) p (λ y g n. seen_stays rules laws best above y h.1 g n) (x ∷ xs) less))
     ]
 
@@ -175,21 +176,21 @@ last_among rules laws x (y ∷ ys) b e = elim (cases_Bool (is_match rules b.byte
 
 -- and no object of the layer and of those above goes behind it
 top_layer : (rules : Rules) → AreOrdered rules → (best : Option (Seen ℕ)) (above layer : List (Seen ℕ)) → IsTop rules best above → AreSorted rules layer → IsTop rules (greater rules best (last_of layer)) (above ++ layer)
-top_layer rules laws best above [] h s = (all_append (λ y. is_behind rules best y ≡ false) above [] h.0 tt, among_more rules best above [] h.1)
+top_layer rules laws best above [] h s = (all-append (λ y. is_behind rules best y ≡ false) above [] h.0 tt, among_more rules best above [] h.1)
 top_layer rules laws best above (x ∷ xs) h s =
     let some = some_last x xs in
     let b = some.0 in
     let under = upto_last rules laws x xs b s some.1 in
     elim (cases_Bool (is_behind rules best b)) as (λ _. IsTop rules (greater rules best (last_from (Some x) xs)) (above ++ x ∷ xs)) [
       | inl t ↦
-          let upper = all_weaker (λ u. is_behind rules best u ≡ false) (λ y. is_greater rules y.bytes b.bytes ≡ false) (λ u g. behind_less rules laws best b u t g) above h.0 in
+          let upper = all-weaken (λ u. is_behind rules best u ≡ false) (λ y. is_greater rules y.bytes b.bytes ≡ false) above (λ u g. behind_less rules laws best b u t g) h.0 in
           rw (some.1, t) (
-            all_append (λ y. is_greater rules y.bytes b.bytes ≡ false) above (x ∷ xs) upper under,
+            all-append (λ y. is_greater rules y.bytes b.bytes ≡ false) above (x ∷ xs) upper under,
             list_any-append (λ u. is_match rules b.bytes u.bytes) above (x ∷ xs) ∙ or_right (list_any (λ u. is_match rules b.bytes u.bytes) above) (list_any (λ u. is_match rules b.bytes u.bytes) (x ∷ xs)) (last_among rules laws x xs b some.1),
           )
       | inr t ↦
-          let less = all_weaker (λ y. is_greater rules y.bytes b.bytes ≡ false) (λ y. is_behind rules best y ≡ false) (λ y g. behind_upto rules laws best y b t g) (x ∷ xs) under in
-          rw (some.1, t) (all_append (λ y. is_behind rules best y ≡ false) above (x ∷ xs) h.0 less, among_more rules best above (x ∷ xs) h.1)
+          let less = all-weaken (λ y. is_greater rules y.bytes b.bytes ≡ false) (λ y. is_behind rules best y ≡ false) (x ∷ xs) (λ y g. behind_upto rules laws best y b t g) under in
+          rw (some.1, t) (all-append (λ y. is_behind rules best y ≡ false) above (x ∷ xs) h.0 less, among_more rules best above (x ∷ xs) h.1)
     ]
 
 -- the greatest of the layers is the greatest of their lasts

@@ -3,12 +3,13 @@ use Rattle.std.proofs.Common.{◌≡◌, ℕ, List, [], ◌∷◌, ◌++◌, Boo
 use Rattle.std.specs.Prelude.{not, map}
 use Rattle.std.specs.List.{AllByRecursion, filter}
 use Rattle.std.proofs.lemmas.Bool.{true≢false, cases_Bool}
+use Rattle.vc_base.proofs.Quantifiers.{all-append, all-weaken}
 use Rattle.vc_dtdisc.specs.Objects.{is_greater, is_match, placed_among, placed_each}
 use Rattle.vc_dtdisc.specs.Rules.{Rules}
 use Rattle.vc_dtdisc.specs.Finding.{first_of}
 use Rattle.vc_paths.specs.Ordered.{is_before, lesser}
 use Rattle.vc_paths.specs.Visible.{Seen, is_hidden, seen_bytes, stacked_objects}
-use Rattle.vc_paths.proofs.OrderLemmas.{AreOrdered, all_append, all_filter, all_weaker, any_none}
+use Rattle.vc_paths.proofs.OrderLemmas.{AreOrdered, all_filter, any_none}
 use Rattle.vc_paths.proofs.SortedLemmas.{AreSorted, IsUpto, filter_sorted, filter_stacked, itself, layers_filter}
 
 -- the earliest least of a list, or the least so far
@@ -69,23 +70,23 @@ least_layer rules laws best above (x ∷ xs) h s =
     let p : Seen ℕ → Bool = λ o. not (is_hidden rules above o) in
     elim (cases_Bool (is_before rules best x)) as (λ _. least rules best (filter p (x ∷ xs)) ≡ lesser rules best (Some x)) [
       | inl t ↦
-          let seen : is_hidden rules above x ≡ false = any_none (λ u. is_match rules x.bytes u.bytes) above (all_weaker (λ u. is_before rules best u ≡ false) (λ u. is_match rules x.bytes u.bytes ≡ false) (λ u g. before_apart rules laws best x u t g) above h) in
+          let seen : is_hidden rules above x ≡ false = any_none (λ u. is_match rules x.bytes u.bytes) above (all-weaken (λ u. is_before rules best u ≡ false) (λ u. is_match rules x.bytes u.bytes ≡ false) above (λ u g. before_apart rules laws best x u t g) h) in
           rw (seen, t) (least_kept rules (Some x) (filter p xs) (all_filter (IsUpto rules x) p xs s.0))
       | inr t ↦
-          let rest = all_weaker (IsUpto rules x) (λ y. is_before rules best y ≡ false) (λ y g. before_upto rules laws best x y t g) xs s.0 in
+          let rest = all-weaken (IsUpto rules x) (λ y. is_before rules best y ≡ false) xs (λ y g. before_upto rules laws best x y t g) s.0 in
           rw t (least_kept rules best (filter p (x ∷ xs)) (all_filter (λ y. is_before rules best y ≡ false) p (x ∷ xs) (t, rest)))
     ]
 
 -- and no object of the layer and of those above goes before it
 before_layer : (rules : Rules) → AreOrdered rules → (best : Option (Seen ℕ)) (above layer : List (Seen ℕ)) → NoneBefore rules best above → AreSorted rules layer → NoneBefore rules (lesser rules best (first_of layer)) (above ++ layer)
-before_layer rules laws best above [] h s = all_append (λ y. is_before rules best y ≡ false) above [] h tt
+before_layer rules laws best above [] h s = all-append (λ y. is_before rules best y ≡ false) above [] h tt
 before_layer rules laws best above (x ∷ xs) h s = elim (cases_Bool (is_before rules best x)) as (λ _. NoneBefore rules (lesser rules best (Some x)) (above ++ x ∷ xs)) [
   | inl t ↦
-      let upper = all_weaker (λ u. is_before rules best u ≡ false) (IsUpto rules x) (λ u g. before_less rules laws best x u t g) above h in
-      rw t (all_append (IsUpto rules x) above (x ∷ xs) upper (itself rules laws x, s.0))
+      let upper = all-weaken (λ u. is_before rules best u ≡ false) (IsUpto rules x) above (λ u g. before_less rules laws best x u t g) h in
+      rw t (all-append (IsUpto rules x) above (x ∷ xs) upper (itself rules laws x, s.0))
   | inr t ↦
-      let rest = all_weaker (IsUpto rules x) (λ y. is_before rules best y ≡ false) (λ y g. before_upto rules laws best x y t g) xs s.0 in
-      rw t (all_append (λ y. is_before rules best y ≡ false) above (x ∷ xs) h (t, rest))
+      let rest = all-weaken (IsUpto rules x) (λ y. is_before rules best y ≡ false) xs (λ y g. before_upto rules laws best x y t g) s.0 in
+      rw t (all-append (λ y. is_before rules best y ≡ false) above (x ∷ xs) h (t, rest))
 ]
 
 -- the least of the layers is the least of their firsts

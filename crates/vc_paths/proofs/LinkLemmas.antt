@@ -33,7 +33,7 @@ pub below-past : (links : Links) (x : ℕ) → length links ≤ x → below link
 below-past links x h = ap link_at (slice_get_past links x h)
 
 -- a path of one dictionary
-none-short : (links : Links) (x : ℕ) → below links x ≡ None → is_too_long links x ≡ false
+pub none-short : (links : Links) (x : ℕ) → below links x ≡ None → is_too_long links x ≡ false
 none-short links x e = rw e refl
 
 below-no_links : (n x : ℕ) → below (replicate n None) x ≡ None

@@ -11,6 +11,9 @@ use Rattle.std.proofs.lemmas.List.Elements.{filter-append}
 use Rattle.std.proofs.lemmas.Option.{none-some}
 use Rattle.vc_base.specs.Holders.{AreDistinct}
 use Rattle.vc_base.specs.Methods.{is_ordered}
+use Rattle.vc_base.proofs.Quantifiers.{all-weaken}
+use Rattle.vc_base.proofs.Lists.{filter-map}
+use Rattle.vc_dtdisc.proofs.FindingLemmas.{last_from-map}
 use Rattle.vc_dtdisc.specs.Objects.{Object, has_key, is_match, placed_each}
 use Rattle.vc_dtdisc.specs.Rules.{AreLawful, Rules}
 use Rattle.vc_dtdisc.specs.Finding.{before_first, behind_last, first_of, last_from, last_of}
@@ -20,8 +23,8 @@ use Rattle.vc_paths.specs.Path.{IsPath, is_at, objects_of, place_of, seen_in, vi
 use Rattle.vc_paths.specs.Seek.{has_key_in}
 use Rattle.vc_paths.specs.Shown.{IsPlaceIn, objects_from}
 use Rattle.vc_paths.specs.Visible.{Seen, seen_bytes, stacked_objects}
-use Rattle.vc_paths.proofs.EndLemmas.{last-append, last-map, last-or, filter-map, filter-same}
-use Rattle.vc_paths.proofs.OrderLemmas.{all_filter, all_weaker, filter_kept, ordered, tied_keys}
+use Rattle.vc_paths.proofs.EndLemmas.{last-append, last-or, filter-same}
+use Rattle.vc_paths.proofs.OrderLemmas.{all_filter, filter_kept, ordered, tied_keys}
 use Rattle.vc_paths.proofs.PlaceLemmas.{Standing, behind-here, from-first, from-here, place-first, standing, there}
 use Rattle.vc_paths.proofs.SameLemmas.{Agree, Implies, first-same, last-same}
 use Rattle.vc_paths.proofs.SeekLemmas.{alike-rules, path-first}
@@ -164,8 +167,8 @@ at-place (Some x) p h = record { one = x; is = refl; here = let same : p ≡ pla
 -- the places of what has the key of an object are those of what has the key
 implies : (all : Layered) (d : ℕ) (key : List ℕ) (x : Seen ℕ) (xs : List (Seen ℕ)) → IsThere all d x → has_key_in all d key x ≡ true → AllByRecursion (IsThere all d) xs → AllByRecursion (Implies (has_key_in all d key) (is_at (place_of x))) xs
 implies all d key x xs t h a =
-    all_weaker (IsThere all d) (Implies (has_key_in all d key) (is_at (place_of x)))
-    (λ o there at. ap (has_key (all.layer d).rules key) (one-there all d x o t there at) ∙ h) xs a
+    all-weaken (IsThere all d) (Implies (has_key_in all d key) (is_at (place_of x)))
+    xs (λ o there at. ap (has_key (all.layer d).rules key) (one-there all d x o t there at) ∙ h) a
 
 -- a place has an object that is seen, and before it stands the one before the first that has a key
 abbrev pub IsFirstWith : Layered → Links → ℕ → List ℕ → ℕ × ℕ → Type 0
@@ -224,7 +227,7 @@ last-key all links d key x lawful is_path t k h =
     let laws = lawful.lawful d there in
     ap last_of (key-layer all links d key x laws h)
     ∙ ap last_of (filter-map (seen_in x.dict) (has_key_in all d key) objects)
-    ∙ last-map (seen_in x.dict) None (filter (λ o. has_key (all.layer d).rules key o.bytes) objects)
+    ∙ last_from-map (seen_in x.dict) None (filter (λ o. has_key (all.layer d).rules key o.bytes) objects)
     ∙ ap (λ z. option_map (seen_in x.dict) (last_of z)) (sym (filter-same (λ o. is_match (all.layer x.dict).rules x.bytes o.bytes) (λ o. has_key (all.layer d).rules key o.bytes) objects
     (λ o. ap (λ z. is_match z x.bytes o.bytes) rules ∙ match-key (all.layer d).rules key x.bytes laws k o.bytes)))
 

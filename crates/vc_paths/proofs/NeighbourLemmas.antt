@@ -12,6 +12,8 @@ use Rattle.vc_base.specs.Methods.{is_ordered}
 use Rattle.vc_dtdisc.specs.Objects.{Object, is_greater, is_match, placed_each}
 use Rattle.vc_dtdisc.specs.Rules.{Rules}
 use Rattle.vc_base.specs.Address.{number_of}
+use Rattle.vc_base.proofs.Quantifiers.{all-append, all-weaken, all-both, any-map}
+use Rattle.vc_dtdisc.proofs.FindingLemmas.{before_first_from-map, behind_last-map}
 use Rattle.vc_dtdisc.specs.Finding.{before_first, before_first_from, behind_last, first_of, last_of}
 use Rattle.vc_paths.specs.Layers.{AreLayers, Layered, bytes_there, place_before, place_behind, stands_at}
 use Rattle.vc_paths.specs.Links.{Links, path}
@@ -19,9 +21,8 @@ use Rattle.vc_paths.specs.Ordered.{Stands, if_level, is_before, is_behind, is_le
 use Rattle.vc_paths.specs.Path.{Answers, IsAlike, IsPath, IsVisible, is_at, numbers_of, objects_of, place_of, seen_in, visible_of}
 use Rattle.vc_paths.specs.Visible.{Seen, is_hidden, seen_bytes, stacked_objects}
 use Rattle.vc_paths.proofs.BesideLemmas.{AreLevel, any_level, before_apart, before_beside, behind_apart, behind_beside, fails}
-use Rattle.vc_paths.proofs.EndLemmas.{any-map, before-map, behind-map}
 use Rattle.vc_paths.proofs.LayerLemmas.{next_shown, previous_shown}
-use Rattle.vc_paths.proofs.OrderLemmas.{AreOrdered, all_append, all_both, all_filter, all_none, all_weaker, any_more, any_none, filter_kept, filter_none, ordered}
+use Rattle.vc_paths.proofs.OrderLemmas.{AreOrdered, all_filter, all_none, any_more, any_none, filter_kept, filter_none, ordered}
 use Rattle.vc_paths.proofs.OrderedLemmas.{layer_sorted, visible_ordered}
 use Rattle.vc_paths.proofs.SightLemmas.{IsThere, each-there, layers-there, visible-there, all-last}
 use Rattle.vc_paths.proofs.SeekLemmas.{path-first}
@@ -45,10 +46,10 @@ level_shared rules laws x o u m h = laws.tied u.bytes x.bytes
 level_hidden : (rules : Rules) → AreOrdered rules → (x : Seen ℕ) (above : List (Seen ℕ)) (layers : List (List (Seen ℕ))) → list_any (is_level rules x) above ≡ true → AllByRecursion (λ y. is_level rules x y ≡ false) (stacked_objects rules above layers)
 level_hidden rules laws x above [] h = tt
 level_hidden rules laws x above (layer ∷ lower) h =
-    all_append (λ y. is_level rules x y ≡ false) (filter (λ o. not (is_hidden rules above o)) layer) (stacked_objects rules (above ++ layer) lower)
-    (all_weaker (λ y. not (is_hidden rules above y) ≡ true) (λ y. is_level rules x y ≡ false) (λ y n.
-    fails (is_level rules x y) (is_hidden rules above y) (λ m. any_more (is_level rules x) (λ u. is_match rules y.bytes u.bytes) (λ u w. level_both rules laws x y u m w) above h) (not-true (is_hidden rules above y) n))
-    (filter (λ o. not (is_hidden rules above o)) layer) (filter_kept (λ o. not (is_hidden rules above o)) layer))
+    all-append (λ y. is_level rules x y ≡ false) (filter (λ o. not (is_hidden rules above o)) layer) (stacked_objects rules (above ++ layer) lower)
+    (all-weaken (λ y. not (is_hidden rules above y) ≡ true) (λ y. is_level rules x y ≡ false) (filter (λ o. not (is_hidden rules above o)) layer)
+    (λ y n.
+    fails (is_level rules x y) (is_hidden rules above y) (λ m. any_more (is_level rules x) (λ u. is_match rules y.bytes u.bytes) (λ u w. level_both rules laws x y u m w) above h) (not-true (is_hidden rules above y) n)) (filter_kept (λ o. not (is_hidden rules above o)) layer))
     (level_hidden rules laws x (above ++ layer) lower (list_any-append (is_level rules x) above layer ∙ or_left (list_any (is_level rules x) above) (list_any (is_level rules x) layer) h))
 
 pub none_hidden : (rules : Rules) (xs : List (Seen ℕ)) → filter (λ o. not (is_hidden rules [] o)) xs ≡ xs
@@ -69,7 +70,7 @@ at_elsewhere e f a (x ∷ xs) h = (ap (λ z. z && (x.at == a)) h, at_elsewhere e
 
 -- a test that none of the matching objects passes
 none_at : (rules : Rules) (x : Seen ℕ) (test : Seen ℕ → Bool) (ys : List (Seen ℕ)) → AreLevel rules x test ys → AllByRecursion (λ y. is_level rules x y ≡ false) ys → list_any test ys ≡ false
-none_at rules x test ys l h = any_none test ys (all_both (λ y. test y ≡ true → is_level rules x y ≡ true) (λ y. is_level rules x y ≡ false) (λ y. test y ≡ false) (λ y f g. fails (test y) (is_level rules x y) f g) ys l h)
+none_at rules x test ys l h = any_none test ys (all-both (λ y. test y ≡ true → is_level rules x y ≡ true) (λ y. is_level rules x y ≡ false) (λ y. test y ≡ false) ys (λ y f g. fails (test y) (is_level rules x y) f g) l h)
 
 -- an object that is seen in a layer, and a test that only it and others that match it pass
 pub record Seeks (rules : Rules) (all : Layered) (e a : ℕ) (x : Seen ℕ) : Type 0 where
@@ -106,7 +107,7 @@ level_stacked rules all e a x above (f ∷ es) s l h any =
                 absurd (true≢false (sym more ∙ none_at rules x (is_at (e, a)) lower levels hidden))
             | inr w ↦
                 let apart = all_none (is_level rules x) layer w in
-                let rest = level_stacked rules all e a x (above ++ layer) es s l.1 (all_append (λ u. is_level rules x u ≡ false) above layer h apart) more in
+                let rest = level_stacked rules all e a x (above ++ layer) es s l.1 (all-append (λ u. is_level rules x u ≡ false) above layer h apart) more in
                 parts
                 ∙ ap (λ z. z ++ filter (is_level rules x) lower) (filter_none (is_level rules x) seen (all_filter (λ u. is_level rules x u ≡ false) (λ o. not (is_hidden rules above o)) layer apart))
                 ∙ rest
@@ -187,7 +188,7 @@ visited_in rules laws all d p x es here layers layer layer_sorted any =
     let test = is_at (numbers_of p) in
     let heap = stacked_objects rules [] (map (objects_of all) es) in
     let level_of : (ys : List (Seen ℕ)) → AllByRecursion (IsThere all d) ys → AreLevel rules x test ys =
-    λ ys h. all_weaker (IsThere all d) (λ y. test y ≡ true → is_level rules x y ≡ true) (λ y inner. in_level rules laws all d p x here y inner) ys h in
+    λ ys h. all-weaken (IsThere all d) (λ y. test y ≡ true → is_level rules x y ≡ true) ys (λ y inner. in_level rules laws all d p x here y inner) h in
     let in_heap = all_stacked rules (IsThere all d) [] (map (objects_of all) es) layers in
     let in_seen = all_sorted rules (IsThere all d) [] heap tt in_heap in
     let same = kept_sorted rules laws (is_level rules x) (λ y u h g. level_upto rules laws x y u h g) heap in
@@ -196,7 +197,7 @@ visited_in rules laws all d p x es here layers layer layer_sorted any =
     let layer_level = level_of (objects_of all p.0) layer in
     let layer_any = found_at p.0 p.1.0 (all.layer p.0).objects (ap is_some here) in
     let seeks : Seeks rules all p.0 p.1.0 x = record { laws = laws; present = any_along rules x test (objects_of all p.0) layer_level layer_any } in
-    let levels = all_weaker (AllByRecursion (IsThere all d)) (AreLevel rules x test) level_of (map (objects_of all) es) layers in
+    let levels = all-weaken (AllByRecursion (IsThere all d)) (AreLevel rules x test) (map (objects_of all) es) level_of layers in
     record {
       laws = laws;
       sorted = onto_sorted rules laws [] heap tt;
@@ -266,11 +267,11 @@ pub any_map : (e a : ℕ) (xs : List Object) → list_any (is_at (e, a)) (map (s
 any_map e a xs = any-map (seen_in e) (is_at (e, a)) xs ∙ ap (λ t. list_any (λ (o : Object). t && stands_at a o) xs) (eq-eqb e e refl)
 
 pub behind_map : (e a : ℕ) (xs : List Object) → behind_last (is_at (e, a)) (map (seen_in e) xs) ≡ option_map (seen_in e) (behind_last (stands_at a) xs)
-behind_map e a xs = behind-map (seen_in e) (is_at (e, a)) xs ∙ ap (λ t. option_map (seen_in e) (behind_last (λ (o : Object). t && stands_at a o) xs)) (eq-eqb e e refl)
+behind_map e a xs = behind_last-map (seen_in e) (is_at (e, a)) xs ∙ ap (λ t. option_map (seen_in e) (behind_last (λ (o : Object). t && stands_at a o) xs)) (eq-eqb e e refl)
 
 pub before_map : (e a : ℕ) (before : Option Object) (xs : List Object) → before_first_from (option_map (seen_in e) before) (is_at (e, a)) (map (seen_in e) xs) ≡ option_map (seen_in e) (before_first_from before (stands_at a) xs)
 before_map e a before xs =
-    before-map (seen_in e) before (is_at (e, a)) xs
+    before_first_from-map (seen_in e) before (is_at (e, a)) xs
     ∙ ap (λ t. option_map (seen_in e) (before_first_from before (λ (o : Object). t && stands_at a o) xs)) (eq-eqb e e refl)
 
 -- what is known of the object at a visible place

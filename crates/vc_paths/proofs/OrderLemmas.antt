@@ -7,6 +7,8 @@ use Rattle.std.specs.declared.cmp.Ordering.{Ordering}
 use Rattle.std.specs.declared.cmp.Ordering.TheVariants.{Less, Equal, Greater}
 use Rattle.std.proofs.lemmas.Bool.{true≢false, cases_Bool}
 use Rattle.std.proofs.lemmas.Cmp.{upto}
+use Rattle.vc_base.proofs.Orders.{reversed}
+use Rattle.vc_base.proofs.Quantifiers.{all-both}
 use Rattle.vc_dtdisc.specs.Objects.{has_key, is_greater, is_match}
 use Rattle.vc_dtdisc.specs.Rules.{Rules}
 
@@ -19,11 +21,6 @@ pub record AreOrdered (rules : Rules) : Type 0 where
   pub left : (a b : List ℕ) → is_match rules b a ≡ true → is_greater rules a b ≡ false
   pub right : (a b : List ℕ) → is_match rules b a ≡ true → is_greater rules b a ≡ false
   pub tied : (a b : List ℕ) → is_greater rules a b ≡ false → is_greater rules b a ≡ false → is_match rules b a ≡ true
-
-reversed : (o : Ordering) → is_gt o ≡ true → is_gt (ordering_reverse o) ≡ false
-reversed Less e = absurd (true≢false (sym e))
-reversed Equal e = refl
-reversed Greater e = refl
 
 eq_not_gt : (o : Ordering) → is_eq o ≡ true → is_gt o ≡ false
 eq_not_gt Less e = refl
@@ -62,30 +59,12 @@ down rules x y o laws h g = elim (cases_Bool (is_greater rules x y)) as (λ _. i
   | inr t ↦ absurd (true≢false (sym h ∙ laws.upto x y o t g))
 ]
 
--- what holds of each of a list
-pub all_weaker : {A : Type 0} (P Q : A → Type 0) → ((x : A) → P x → Q x) → (xs : List A) → AllByRecursion P xs → AllByRecursion Q xs
-all_weaker P Q f [] h = tt
-all_weaker P Q f (x ∷ xs) h = (f x h.0, all_weaker P Q f xs h.1)
-
-pub all_both : {A : Type 0} (P Q R : A → Type 0) → ((x : A) → P x → Q x → R x) → (xs : List A) → AllByRecursion P xs → AllByRecursion Q xs → AllByRecursion R xs
-all_both P Q R f [] h g = tt
-all_both P Q R f (x ∷ xs) h g = (f x h.0 g.0, all_both P Q R f xs h.1 g.1)
-
-pub all_append : {A : Type 0} (P : A → Type 0) (xs ys : List A) → AllByRecursion P xs → AllByRecursion P ys → AllByRecursion P (xs ++ ys)
-all_append P [] ys h g = g
-all_append P (x ∷ xs) ys h g = (h.0, all_append P xs ys h.1 g)
-
 pub all_filter : {A : Type 0} (P : A → Type 0) (p : A → Bool) (xs : List A) → AllByRecursion P xs → AllByRecursion P (filter p xs)
 all_filter P p [] h = tt
 all_filter P p (x ∷ xs) h = elim (cases_Bool (p x)) as (λ _. AllByRecursion P (filter p (x ∷ xs))) [
   | inl t ↦ rw t (h.0, all_filter P p xs h.1)
   | inr t ↦ rw t (all_filter P p xs h.1)
 ]
-
--- a filter keeps all, or none
-pub filter_all : {A : Type 0} (p : A → Bool) (xs : List A) → AllByRecursion (λ x. p x ≡ true) xs → filter p xs ≡ xs
-filter_all p [] h = refl
-filter_all p (x ∷ xs) h = rw h.0 (ap (λ z. x ∷ z) (filter_all p xs h.1))
 
 pub filter_none : {A : Type 0} (p : A → Bool) (xs : List A) → AllByRecursion (λ x. p x ≡ false) xs → filter p xs ≡ []
 filter_none p [] h = refl
@@ -123,7 +102,7 @@ filter_kept p (x ∷ xs) = elim (cases_Bool (p x)) as (λ _. AllByRecursion (λ 
 ]
 
 pub all_kept : {A : Type 0} (P Q : A → Type 0) (p : A → Bool) → ((x : A) → P x → p x ≡ true → Q x) → (xs : List A) → AllByRecursion P xs → AllByRecursion Q (filter p xs)
-all_kept P Q p f xs h = all_both P (λ x. p x ≡ true) Q f (filter p xs) (all_filter P p xs h) (filter_kept p xs)
+all_kept P Q p f xs h = all-both P (λ x. p x ≡ true) Q (filter p xs) f (all_filter P p xs h) (filter_kept p xs)
 
 -- of two that have one key none is greater
 pub tied_keys : (rules : Rules) → IsTotalOrder rules.compare → (key a b : List ℕ) → has_key rules key a ≡ true → has_key rules key b ≡ true → is_greater rules a b ≡ false

@@ -6,6 +6,7 @@ use Rattle.std.specs.Option.{option_map}
 use Rattle.std.proofs.lemmas.Bool.{true≢false}
 use Rattle.vc_base.specs.declared.addr.Addr.{Addr}
 use Rattle.vc_base.specs.Methods.{is_ordered}
+use Rattle.vc_base.proofs.Quantifiers.{all-map}
 use Rattle.vc_dtdisc.specs.Objects.{IsSorted, Object, bytes_of, is_greater, is_match, placed_each}
 use Rattle.vc_dtdisc.specs.Rules.{Rules}
 use Rattle.vc_dtdisc.specs.Finding.{first_of, last_of}
@@ -22,14 +23,10 @@ use Rattle.vc_paths.proofs.OrderLemmas.{AreOrdered, all_none, down as less, orde
 use Rattle.vc_paths.proofs.SeekLemmas.{alike-rules, path-first}
 use Rattle.vc_paths.proofs.SortedLemmas.{AreSorted, IsUpto}
 
-pub all_map : {A B : Type 0} (P : B → Type 0) (f : A → B) (xs : List A) → AllByRecursion (λ x. P (f x)) xs → AllByRecursion P (map f xs)
-all_map P f [] h = tt
-all_map P f (x ∷ xs) h = (h.0, all_map P f xs h.1)
-
 pub objects_sorted : (rules : Rules) (e : ℕ) (xs : List Object) → IsSorted bytes_of rules xs → AreSorted rules (map (seen_in e) xs)
 objects_sorted rules e [] s = tt
 objects_sorted rules e (x ∷ xs) s = (
-  all_map (IsUpto rules (seen_in e x)) (seen_in e) xs (all_none (λ y. is_greater rules x.bytes y.bytes) xs s.0),
+  all-map (IsUpto rules (seen_in e x)) (seen_in e) xs (all_none (λ y. is_greater rules x.bytes y.bytes) xs s.0),
   objects_sorted rules e xs s.1,
 )
 

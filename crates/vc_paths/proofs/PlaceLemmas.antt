@@ -6,11 +6,12 @@ use Rattle.std.specs.Option.{option_map}
 use Rattle.std.proofs.lemmas.Bool.{cases_Bool, eq-eqb, eqb-true, ne_eqb, or_from, or_parts, true≢false}
 use Rattle.std.proofs.lemmas.Option.{none-some, same_Some}
 use Rattle.vc_base.specs.Holders.{AreDistinct, contains}
+use Rattle.vc_base.proofs.Quantifiers.{any-map}
 use Rattle.vc_dtdisc.specs.Finding.{before_first, behind_last, first_of, last_of}
 use Rattle.vc_dtdisc.specs.Objects.{Object}
 use Rattle.vc_paths.specs.Layers.{bytes_there, place_before, place_behind, place_in, stands_at}
 use Rattle.vc_paths.specs.Shown.{IsPlaceIn, from_at, objects_from, objects_up_to, up_to}
-use Rattle.vc_paths.proofs.EndLemmas.{any-map, before-at, behind-at, last-append, parted}
+use Rattle.vc_paths.proofs.EndLemmas.{before-at, behind-at, last-append, parted}
 
 -- numbers that are distinct stand just once
 pub apart-once : (xs : List ℕ) (y : ℕ) (ys : List ℕ) → AreDistinct (xs ++ y ∷ ys) → (contains xs y ≡ false) × (contains ys y ≡ false)

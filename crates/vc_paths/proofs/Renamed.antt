@@ -4,16 +4,18 @@ use Rattle.std.specs.List.{filter}
 use Rattle.std.proofs.lemmas.List.{map-append}
 use Rattle.vc_base.specs.declared.dict_method.DictMethod.{DictMethod}
 use Rattle.vc_base.specs.Methods.{is_ordered}
+use Rattle.vc_base.proofs.Quantifiers.{any-map}
+use Rattle.vc_base.proofs.Lists.{filter-map}
 use Rattle.vc_dtdisc.specs.Objects.{is_match, placed_each}
 use Rattle.vc_dtdisc.specs.Rules.{Rules}
-use Rattle.vc_dtdisc.proofs.FindingLemmas.{list_any-map, list_by}
+use Rattle.vc_dtdisc.proofs.FindingLemmas.{list_by}
 use Rattle.vc_dtdisc.proofs.ObjectsLemmas.{placed_each-map}
 use Rattle.vc_paths.specs.Visible.{Seen, is_hidden, rename, seen_bytes, stacked_objects, visible_objects}
-use Rattle.vc_paths.proofs.EndLemmas.{filter-map, filter-same}
+use Rattle.vc_paths.proofs.EndLemmas.{filter-same}
 
 module _ {N M : Type 0} (r : N → M) (rules : Rules) where
   pub is_hidden-renamed : (above : List (Seen N)) (o : Seen N) → is_hidden rules (map (rename r) above) (rename r o) ≡ is_hidden rules above o
-  is_hidden-renamed above o = list_any-map (rename r) (λ u. is_match rules o.bytes u.bytes) above
+  is_hidden-renamed above o = any-map (rename r) (λ u. is_match rules o.bytes u.bytes) above
 
   shown-renamed : (above layer : List (Seen N))
       → filter (λ o. not (is_hidden rules (map (rename r) above) o)) (map (rename r) layer) ≡ map (rename r) (filter (λ o. not (is_hidden rules above o)) layer)

@@ -4,6 +4,7 @@ use Rattle.std.specs.List.{find, list_any}
 use Rattle.std.specs.Option.{option_map, option_or}
 use Rattle.std.proofs.lemmas.Bool.{cases_Bool}
 use Rattle.vc_base.specs.Methods.{is_ordered}
+use Rattle.vc_base.proofs.Lists.{find-map}
 use Rattle.vc_dtdisc.specs.Objects.{Object, has_key, placed_each}
 use Rattle.vc_dtdisc.specs.Rules.{AreLawful, Rules}
 use Rattle.vc_paths.specs.Layers.{AreLayers, Layer, Layered, Same, place_in, place_with}
@@ -57,14 +58,6 @@ found-visible all links d key lawful =
     found-ordered (is_ordered (all.layer d).method) rules key (stacked_objects rules [] layers) lawful
     ∙ stacked-found rules key layers lawful
     ∙ found-having all (has_key_in all d key) (path links d)
-
--- what is found among a dictionary's objects, as it is seen
-find-map : {A B : Type 0} (f : A → B) (test : B → Bool) (xs : List A) → find test (map f xs) ≡ option_map f (find (λ x. test (f x)) xs)
-find-map f test [] = refl
-find-map f test (x ∷ xs) = elim (cases_Bool (test (f x))) as (λ _. find test (map f (x ∷ xs)) ≡ option_map f (find (λ y. test (f y)) (x ∷ xs))) [
-  | inl t ↦ rw t refl
-  | inr t ↦ rw t (find-map f test xs)
-]
 
 -- where it stands
 place-map : (e : ℕ) (o : Option Object) → option_map place_of (option_map (seen_in e) o) ≡ option_map (λ a. (e, a)) (place_in o)

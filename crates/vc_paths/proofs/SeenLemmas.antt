@@ -5,13 +5,14 @@ use Rattle.std.specs.Option.{option_map}
 use Rattle.std.proofs.lemmas.List.{append-nil}
 use Rattle.std.proofs.lemmas.List.Elements.{filter-append}
 use Rattle.vc_base.specs.Holders.{AreDistinct}
+use Rattle.vc_dtdisc.proofs.FindingLemmas.{first_of-map, last_from-map}
 use Rattle.vc_dtdisc.specs.Finding.{first_of, last_of}
 use Rattle.vc_dtdisc.specs.Objects.{Object}
 use Rattle.vc_paths.specs.Layers.{AreLayers, Layered, bytes_there, place_before, place_behind, place_in, Same, Layer}
 use Rattle.vc_paths.specs.Links.{Links}
 use Rattle.vc_paths.specs.Path.{IsAlike}
 use Rattle.vc_paths.specs.Shown.{IsPlaceIn, is_covered, objects_from, objects_up_to, places, unhidden_objects}
-use Rattle.vc_paths.proofs.EndLemmas.{first-map, last-append, last-map}
+use Rattle.vc_paths.proofs.EndLemmas.{last-append}
 use Rattle.vc_paths.proofs.PlaceLemmas.{Standing, before-here, behind-here, from-first, from-here, place-first, place-last, standing, there, up_to-here, up_to-last}
 use Rattle.vc_paths.proofs.StayLemmas.{covered-kept, same-over}
 
@@ -176,7 +177,7 @@ place-told e None = refl
 place-told e (Some x) = refl
 
 pub first-place : (e : ℕ) (xs : List Object) → option_map {U = ℕ × ℕ} (λ a. (e, a)) (place_in (first_of xs)) ≡ first_of (places e xs)
-first-place e xs = place-told e (first_of xs) ∙ sym (first-map {B = ℕ × ℕ} (λ x. (e, x.at)) xs)
+first-place e xs = place-told e (first_of xs) ∙ sym (first_of-map {B = ℕ × ℕ} (λ x. (e, x.at)) xs)
 
 pub last-place : (e : ℕ) (xs : List Object) → option_map {U = ℕ × ℕ} (λ a. (e, a)) (place_in (last_of xs)) ≡ last_of (places e xs)
-last-place e xs = place-told e (last_of xs) ∙ sym (last-map {B = ℕ × ℕ} (λ x. (e, x.at)) None xs)
+last-place e xs = place-told e (last_of xs) ∙ sym (last_from-map {B = ℕ × ℕ} (λ x. (e, x.at)) None xs)

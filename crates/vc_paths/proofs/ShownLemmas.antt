@@ -6,6 +6,8 @@ use Rattle.std.proofs.lemmas.List.{append-nil, map-append}
 use Rattle.std.proofs.lemmas.List.Elements.{filter_agree}
 use Rattle.vc_base.specs.Holders.{AreDistinct, contains}
 use Rattle.vc_base.specs.Methods.{is_ordered}
+use Rattle.vc_base.proofs.Quantifiers.{any-map, any-agree}
+use Rattle.vc_base.proofs.Lists.{filter-map}
 use Rattle.vc_dtdisc.specs.Objects.{Object, is_match}
 use Rattle.vc_dtdisc.specs.Rules.{Rules}
 use Rattle.vc_paths.specs.Layers.{Layered}
@@ -14,9 +16,8 @@ use Rattle.vc_paths.specs.Path.{objects_of, place_of, seen_in, visible_of}
 use Rattle.vc_paths.specs.Shown.{above, down, has_match, is_covered, places, shown_in}
 use Rattle.vc_paths.specs.Visible.{Seen, is_hidden, stacked_objects}
 use Rattle.vc_paths.proofs.DownLemmas.{above-on, above-stop}
-use Rattle.vc_paths.proofs.EndLemmas.{any-flat_map, any-map, filter-map}
+use Rattle.vc_paths.proofs.EndLemmas.{any-flat_map}
 use Rattle.vc_paths.proofs.PathLemmas.{path-distinct}
-use Rattle.vc_paths.proofs.StackedLemmas.{any-agree}
 
 -- maps that agree on a list
 pub flat-agree : {A : Type 0} (f g : ℕ → List A) (xs : List ℕ) → ((e : ℕ) → contains xs e ≡ true → f e ≡ g e) → flat_map f xs ≡ flat_map g xs

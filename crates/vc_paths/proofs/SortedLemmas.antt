@@ -7,9 +7,10 @@ use Rattle.std.proofs.lemmas.List.Elements.{filter-append}
 use Rattle.vc_dtdisc.specs.Objects.{has_key, is_greater, is_match, placed_among, placed_each}
 use Rattle.vc_dtdisc.specs.Rules.{Rules}
 use Rattle.std.specs.Cmp.{IsTotalOrder}
+use Rattle.vc_base.proofs.Quantifiers.{all-append, all-weaken}
 use Rattle.vc_dtdisc.specs.Finding.{first_of}
 use Rattle.vc_paths.specs.Visible.{Seen, is_hidden, seen_bytes, stacked_objects}
-use Rattle.vc_paths.proofs.OrderLemmas.{AreOrdered, all_append, all_filter, all_weaker, filter_kept, ordered, tied_keys, up}
+use Rattle.vc_paths.proofs.OrderLemmas.{AreOrdered, all_filter, filter_kept, ordered, tied_keys, up}
 
 -- one isn't greater than the other
 abbrev pub IsUpto : Rules → Seen ℕ → Seen ℕ → Type 0
@@ -42,7 +43,7 @@ all_sorted rules P sorted (x ∷ xs) h g = all_sorted rules P (placed_among seen
 pub all_stacked : (rules : Rules) (P : Seen ℕ → Type 0) (above : List (Seen ℕ)) (layers : List (List (Seen ℕ))) → AllByRecursion (AllByRecursion P) layers → AllByRecursion P (stacked_objects rules above layers)
 all_stacked rules P above [] h = tt
 all_stacked rules P above (layer ∷ lower) h =
-    all_append P (filter (λ o. not (is_hidden rules above o)) layer) (stacked_objects rules (above ++ layer) lower)
+    all-append P (filter (λ o. not (is_hidden rules above o)) layer) (stacked_objects rules (above ++ layer) lower)
     (all_filter P (λ o. not (is_hidden rules above o)) layer h.0) (all_stacked rules P (above ++ layer) lower h.1)
 
 -- they stay sorted
@@ -51,7 +52,7 @@ placed_sorted rules laws o [] s = (tt, tt)
 placed_sorted rules laws o (x ∷ xs) s = elim (cases_Bool (is_greater rules x.bytes o.bytes)) as (λ _. AreSorted rules (placed_among seen_bytes rules o (x ∷ xs))) [
   | inl t ↦
       let back = laws.one x.bytes o.bytes t in
-      rw t ((back, all_weaker (IsUpto rules x) (IsUpto rules o) (λ y h. laws.upto o.bytes x.bytes y.bytes back h) xs s.0), s)
+      rw t ((back, all-weaken (IsUpto rules x) (IsUpto rules o) xs (λ y h. laws.upto o.bytes x.bytes y.bytes back h) s.0), s)
   | inr t ↦ rw t (all_placed rules (IsUpto rules x) o xs t s.0, placed_sorted rules laws o xs s.1)
 ]
 
@@ -72,7 +73,7 @@ filter_placed rules laws p o [] s = elim (cases_Bool (p o)) as (λ _. filter p (
 ]
 filter_placed rules laws p o (x ∷ xs) s = elim (cases_Bool (is_greater rules x.bytes o.bytes)) as (λ _. filter p (placed_among seen_bytes rules o (x ∷ xs)) ≡ cond (p o) (placed_among seen_bytes rules o (filter p (x ∷ xs))) (filter p (x ∷ xs))) [
   | inl t ↦
-      let far : AllByRecursion (λ y. is_greater rules y.bytes o.bytes ≡ true) (x ∷ xs) = (t, all_weaker (IsUpto rules x) (λ y. is_greater rules y.bytes o.bytes ≡ true) (λ y h. up rules x.bytes y.bytes o.bytes laws t h) xs s.0) in
+      let far : AllByRecursion (λ y. is_greater rules y.bytes o.bytes ≡ true) (x ∷ xs) = (t, all-weaken (IsUpto rules x) (λ y. is_greater rules y.bytes o.bytes ≡ true) xs (λ y h. up rules x.bytes y.bytes o.bytes laws t h) s.0) in
       rw (placed_first rules o (x ∷ xs) far, placed_first rules o (filter p (x ∷ xs)) (all_filter (λ y. is_greater rules y.bytes o.bytes ≡ true) p (x ∷ xs) far)) refl
   | inr t ↦ elim (cases_Bool (p x)) as (λ _. filter p (placed_among seen_bytes rules o (x ∷ xs)) ≡ cond (p o) (placed_among seen_bytes rules o (filter p (x ∷ xs))) (filter p (x ∷ xs))) [
     | inl w ↦ elim (cases_Bool (p o)) as (λ _. filter p (placed_among seen_bytes rules o (x ∷ xs)) ≡ cond (p o) (placed_among seen_bytes rules o (filter p (x ∷ xs))) (filter p (x ∷ xs))) [
@@ -102,8 +103,8 @@ placed_last rules o (x ∷ xs) h = rw h.0 (ap (λ z. x ∷ z) (placed_last rules
 onto_tied : (rules : Rules) (q : Seen ℕ → Bool) → ((x y : Seen ℕ) → q x ≡ true → q y ≡ true → is_greater rules x.bytes y.bytes ≡ false) → (sorted xs : List (Seen ℕ)) → AllByRecursion (λ x. q x ≡ true) sorted → AllByRecursion (λ x. q x ≡ true) xs → placed_each seen_bytes rules sorted xs ≡ sorted ++ xs
 onto_tied rules q tied sorted [] h g = sym (append-nil sorted)
 onto_tied rules q tied sorted (x ∷ xs) h g =
-    let last = placed_last rules x sorted (all_weaker (λ y. q y ≡ true) (λ y. is_greater rules y.bytes x.bytes ≡ false) (λ y k. tied y x k g.0) sorted h) in
-    let more = all_append (λ y. q y ≡ true) sorted (x ∷ []) h (g.0, tt) in
+    let last = placed_last rules x sorted (all-weaken (λ y. q y ≡ true) (λ y. is_greater rules y.bytes x.bytes ≡ false) sorted (λ y k. tied y x k g.0) h) in
+    let more = all-append (λ y. q y ≡ true) sorted (x ∷ []) h (g.0, tt) in
     ap (λ z. placed_each seen_bytes rules z xs) last ∙ onto_tied rules q tied (sorted ++ x ∷ []) xs more g.1 ∙ append_assoc sorted (x ∷ []) xs
 
 -- of objects in order of keys a test on the key keeps the same ones, in the same order

@@ -10,6 +10,8 @@ use Rattle.std.proofs.lemmas.List.Elements.{filter-append}
 use Rattle.std.proofs.lemmas.List.Folds.{list_any-append}
 use Rattle.vc_base.specs.Holders.{AreDistinct, contains}
 use Rattle.vc_base.specs.Methods.{is_ordered}
+use Rattle.vc_base.proofs.Quantifiers.{any-map}
+use Rattle.vc_dtdisc.proofs.FindingLemmas.{before_first_from-map, behind_last-map}
 use Rattle.vc_dtdisc.specs.Finding.{before_first, behind_last, first_of, last_of}
 use Rattle.vc_dtdisc.specs.Objects.{Object}
 use Rattle.vc_paths.specs.Layers.{AreLayers, Layered, bytes_there, place_before, place_behind, place_in, stands_at}
@@ -17,7 +19,7 @@ use Rattle.vc_paths.specs.Links.{ArePaths, Links, below}
 use Rattle.vc_paths.specs.Path.{IsAlike, IsPath, IsVisible, is_at, place_of, visible_of, is_place}
 use Rattle.vc_paths.specs.Shown.{IsOnPath, above, down, is_covered, objects_from, objects_up_to, places, unhidden_objects, shown_in}
 use Rattle.vc_paths.proofs.DownLemmas.{above-on, above-stop, on-head, on-next, on-start, parted-at}
-use Rattle.vc_paths.proofs.EndLemmas.{any-filter, any-flat_map, any-map, before-at, before-map, behind-at, behind-map, first-append, last-append, last-or, parted}
+use Rattle.vc_paths.proofs.EndLemmas.{any-filter, any-flat_map, before-at, behind-at, first-append, last-append, last-or, parted}
 use Rattle.vc_paths.proofs.PathLemmas.{path-distinct}
 use Rattle.vc_paths.proofs.PlaceLemmas.{Standing, apart-once, standing-any, there}
 use Rattle.vc_paths.proofs.SeenLemmas.{first-place, from-next, last-place, up_to-previous}
@@ -226,7 +228,7 @@ module _ {all : Layered} {links : Links} {d e a : ℕ} (s : Spot all links d e a
       → option_map place_of (behind_last (is_at (e, a)) (visible_of all links d)) ≡ option_or (option_map {U = ℕ × ℕ} (λ x. (e, x)) r) (first_of (flat_map (shown_in all links d) (down links (below links e))))
   walked-next at found =
       let rest = first_of (flat_map (shown_in all links d) (down links (below links e))) in
-      sym (behind-map place_of (is_place (e, a)) (visible_of all links d))
+      sym (behind_last-map place_of (is_place (e, a)) (visible_of all links d))
       ∙ ap (behind_last (is_place (e, a))) s.visible
       ∙ spot-next
       ∙ ap (λ z. option_or z rest) (sym (ap (option_map {U = ℕ × ℕ} (λ x. (e, x))) (found ∙ ap (λ z. place_in (first_of (unhidden_objects all links d e z))) (from-next s.apart s.around at))
@@ -236,7 +238,7 @@ module _ {all : Layered} {links : Links} {d e a : ℕ} (s : Spot all links d e a
       → option_map place_of (before_first (is_at (e, a)) (visible_of all links d)) ≡ option_or (option_map {U = ℕ × ℕ} (λ x. (e, x)) r) (last_of (flat_map (shown_in all links d) (above (Some e) (down links (Some d)))))
   walked-previous at found =
       let rest = last_of (flat_map (shown_in all links d) (above (Some e) (down links (Some d)))) in
-      sym (before-map place_of None (is_place (e, a)) (visible_of all links d))
+      sym (before_first_from-map place_of None (is_place (e, a)) (visible_of all links d))
       ∙ ap (before_first (is_place (e, a))) s.visible
       ∙ spot-previous
       ∙ ap (λ z. option_or z rest) (sym (ap (option_map {U = ℕ × ℕ} (λ x. (e, x))) (found ∙ ap (λ z. place_in (last_of (unhidden_objects all links d e z))) (up_to-previous s.apart s.around at))

@@ -8,6 +8,7 @@ use Rattle.std.proofs.lemmas.Cmp.{alike_right}
 use Rattle.std.proofs.lemmas.List.{append-nil}
 use Rattle.std.proofs.lemmas.List.Elements.{filter-append}
 use Rattle.std.proofs.lemmas.List.Folds.{list_any-append}
+use Rattle.vc_base.proofs.Quantifiers.{any-agree}
 use Rattle.vc_dtdisc.specs.Objects.{has_key, is_match}
 use Rattle.vc_dtdisc.specs.Rules.{AreLawful, Rules}
 use Rattle.vc_dtdisc.specs.Finding.{first_of}
@@ -21,11 +22,6 @@ first_having test (xs ∷ lower) = cond (list_any test xs) xs (first_having test
 -- whether an object has a key
 abbrev pub with_key : {N : Type 0} → Rules → List ℕ → Seen N → Bool
 with_key rules key o = has_key rules key o.bytes
-
--- tests that agree
-pub any-agree : {A : Type 0} (p q : A → Bool) (xs : List A) → ((x : A) → p x ≡ q x) → list_any p xs ≡ list_any q xs
-any-agree p q [] e = refl
-any-agree p q (x ∷ xs) e = ap (λ z. z || list_any p xs) (e x) ∙ ap (λ z. q x || z) (any-agree p q xs e)
 
 -- what is found first is the first that passes
 pub find-filter : {A : Type 0} (t : A → Bool) (xs : List A) → find t xs ≡ first_of (filter t xs)

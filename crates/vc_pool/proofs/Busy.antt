@@ -5,6 +5,7 @@ use Rattle.std.specs.List.{flat_map, list_any}
 use Rattle.std.proofs.lemmas.Bool.{cases_Bool, eqb-true, eqb-false, lt-ltb, le-ltb}
 use Rattle.std.proofs.lemmas.List.Elements.{All-head, All-tail}
 use Rattle.std.proofs.lemmas.List.Folds.{list_any-append}
+use Rattle.std.proofs.Math.Bool.{and-false, or-false, and-true}
 use Rattle.vc_model.specs.Compact.{is_occupied}
 use Rattle.vc_model.specs.Layout.{Block}
 use Rattle.vc_layouts.proofs.InOrder.{any-order}
@@ -16,18 +17,6 @@ and-or : (a x y : Bool) → ((a && x) || (a && y)) ≡ (a && (x || y))
 and-or true x y = refl
 and-or false x y = refl
 
-and-false : (a : Bool) → (a && false) ≡ false
-and-false true = refl
-and-false false = refl
-
-or-none : (a : Bool) → (a || false) ≡ a
-or-none true = refl
-or-none false = refl
-
-and-one : (a : Bool) → (a && true) ≡ a
-and-one true = refl
-and-one false = refl
-
 occupied-one : (n m off : ℕ) (bytes : List ℕ) (c : ℕ × ℕ) → is_occupied (block_in m bytes off c) n ≡ (eqb m n && ltb 0 c.0)
 occupied-one n m off bytes c =
     ⊎_elim
@@ -36,7 +25,7 @@ occupied-one n m off bytes c =
     rw t (sym (ap (λ b. eqb m n && b) none ∙ and-false (eqb m n))))
     (λ (t : eqb c.0 0 ≡ false).
     let some : ltb 0 c.0 ≡ true = let e = eqb-false c.0 0 t in lt-ltb 0 c.0 (omega (arith, e)) in
-    rw t (or-none (eqb m n) ∙ sym (ap (λ b. eqb m n && b) some ∙ and-one (eqb m n))))
+    rw t (or-false (eqb m n) ∙ sym (ap (λ b. eqb m n && b) some ∙ and-true (eqb m n))))
     (cases_Bool (eqb c.0 0))
 
 occupied-run : (n m cell off : ℕ) (bytes : List ℕ) (cs : List (ℕ × ℕ)) → is_occupied (blocks_from m bytes cell off cs) n ≡ (eqb m n && list_any (λ (c : ℕ × ℕ). ltb 0 c.0) cs)

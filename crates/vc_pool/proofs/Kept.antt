@@ -10,9 +10,10 @@ use Rattle.vc_model.specs.Compact.{compacted_layout, is_occupied}
 use Rattle.vc_model.specs.Discipline.{Discipline, TookBack}
 use Rattle.vc_model.specs.Layout.{Layout}
 use Rattle.vc_model.specs.Pool.{cell_for}
+use Rattle.vc_base.proofs.Lists.{filter-map}
 use Rattle.vc_seg.specs.Segment.{AreSegments, Bytes}
 use Rattle.vc_seg.proofs.Backs.{AreSegments-filter}
-use Rattle.vc_seg.proofs.Filters.{filter-filter, filter-map}
+use Rattle.vc_seg.proofs.Filters.{filter-filter}
 use Rattle.vc_layouts.specs.InOrder.{in_order}
 use Rattle.vc_pool_cells.specs.Blocks.{blocks_of, carved_by, layout_by, pair_of}
 use Rattle.vc_pool_cells.specs.Cells.{Cells, cells_of, pair_at}

@@ -6,6 +6,7 @@ use Rattle.std.proofs.lemmas.List.{get_or-map, length-map}
 use Rattle.std.proofs.lemmas.List.Elements.{All-contains, All-map, All-nil}
 use Rattle.std.proofs.Math.Nat.{mul-le-mul_right}
 use Rattle.vc_base.specs.declared.addr.Addr.{Addr}
+use Rattle.vc_base.proofs.Quantifiers.{All-unmap}
 use Rattle.vc_model.specs.Addr.{address}
 use Rattle.vc_model.specs.Layout.{Block, address_of}
 use Rattle.vc_model.specs.Order.{least_above}
@@ -182,11 +183,8 @@ bare-none m segs other =
     let some : 1 ≤ length (cells_at m segs).pairs = omega (arith, lt) in
     absurd (at-number (λ (s : Cells). s.number ≢ m) m segs other some (own-number m segs some))
 
-unmapped : {A B : Type 0} (P : B → Type 0) (f : A → B) (xs : List A) → All P (map f xs) → All (λ x. P (f x)) xs
-unmapped P f xs h = λ k d lt. subst P (get_or-map f xs k d (f d) lt) (h k (f d) (omega (arith, lt, length-map xs f)))
-
 by-number : (P : ℕ → Type 0) (segs : List Cells) → All P (map (λ s. s.0) (map pair_of segs)) → All (λ s. P s.number) segs
-by-number P segs h = unmapped (λ (s : ℕ × ℕ). P s.0) pair_of segs (unmapped P (λ (s : ℕ × ℕ). s.0) (map pair_of segs) h)
+by-number P segs h = All-unmap (λ (s : ℕ × ℕ). P s.0) pair_of segs (All-unmap P (λ (s : ℕ × ℕ). s.0) (map pair_of segs) h)
 
 module _ (after : ℕ) (segs : List Cells) where
   least-number : (o : Option (ℕ × ℕ)) → next_segment after (map pair_of segs) ≡ o → least_above (λ x. x) after (map (λ s. s.0) (map pair_of segs)) ≡ option_map (λ s. s.0) o

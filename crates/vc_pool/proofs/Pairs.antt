@@ -7,7 +7,8 @@ use Rattle.std.proofs.lemmas.List.Kept.{AllPairs-cons}
 use Rattle.vc_model.specs.Layout.{Block, lies_before, with_block}
 use Rattle.vc_model.specs.Pool.{cell_run}
 use Rattle.vc_model.specs.Sound.{IsApart}
-use Rattle.vc_layouts.proofs.Lists.{AllPairs-append, AllPairs-head, AllPairs-nil, AllPairs-tail}
+use Rattle.vc_model.proofs.Pairs.{AllPairs-head, AllPairs-tail}
+use Rattle.vc_layouts.proofs.Lists.{AllPairs-append, AllPairs-nil}
 use Rattle.vc_layouts.proofs.Blocks.{apart_by_seg}
 use Rattle.vc_layouts.proofs.Blocks.{All-with}
 use Rattle.vc_layouts.specs.InOrder.{in_order}

@@ -3,7 +3,7 @@ use Rattle.std.proofs.Common.{◌≡◌, ◌≢◌, ℕ, zero, suc, ◌+◌, ◌
 use Rattle.std.proofs.lemmas.Bool.{cases_Bool, eq-eqb, le-ltb, lt-ltb, ltb-false, ltb-true, ne_eqb}
 use Rattle.std.proofs.lemmas.List.Elements.{All-head, All-tail}
 use Rattle.vc_model.specs.Pool.{carve, carved_in}
-use Rattle.vc_layouts.proofs.Lists.{AllPairs-head, AllPairs-tail}
+use Rattle.vc_model.proofs.Pairs.{AllPairs-head, AllPairs-tail}
 use Rattle.vc_pool_cells.specs.Blocks.{carved_by}
 use Rattle.vc_pool_cells.specs.Cells.{Cells}
 use Rattle.vc_pool_cells.specs.Kept.{IsFront}

@@ -11,8 +11,8 @@ use Rattle.vc_model.specs.Discipline.{IsSegmentSize}
 use Rattle.vc_model.specs.Layout.{Block, address_of}
 use Rattle.vc_model.specs.Pool.{cell_for, cell_offset}
 use Rattle.vc_model.specs.Touch.{HasBlock}
+use Rattle.vc_model.proofs.Pairs.{AllPairs-head, AllPairs-tail}
 use Rattle.vc_seg.specs.Segment.{AreSegments, IsRegionSegment}
-use Rattle.vc_layouts.proofs.Lists.{AllPairs-head, AllPairs-tail}
 use Rattle.vc_layouts.proofs.Blocks.{place_of-address}
 use Rattle.vc_layouts.proofs.InOrder.{All-in_order}
 use Rattle.vc_pool_cells.specs.Blocks.{block_in, blocks_from, blocks_of, layout_by}

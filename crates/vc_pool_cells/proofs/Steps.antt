@@ -6,6 +6,7 @@ use Rattle.vc_model.specs.Layout.{Block}
 use Rattle.vc_model.specs.Pool.{cell_for, cell_offset}
 use Rattle.vc_model.specs.Resize.{resize_there}
 use Rattle.vc_model.specs.Touch.{HasBlock, HasRange, find_block, with_bytes_at}
+use Rattle.vc_base.proofs.Overwrites.{part-of-part}
 use Rattle.vc_pool_cells.specs.Blocks.{layout_by}
 use Rattle.vc_pool_cells.specs.Call.{Becomes, IsPutBack, IsReused}
 use Rattle.vc_pool_cells.specs.Cells.{Cells, cells_of, with_zeros_in, link_in, pair_at, with_free_cell, with_cell_size, with_cell_bytes}
@@ -15,7 +16,6 @@ use Rattle.vc_pool_cells.specs.Place.{IsCellAt, cells_in}
 use Rattle.vc_pool_cells.specs.declared.segment.PoolSegment.{PoolSegment}
 use Rattle.vc_pool_cells.proofs.Calls.{link-is, link-small, live-found, live-target, put-back-of, resize-of, reuse-of, write-of}
 use Rattle.vc_pool_cells.proofs.Lists.{cells-get, cells-put}
-use Rattle.vc_pool_cells.proofs.Writes.{read-there}
 
 module _ (element a i index cell : ℕ) (segs : List PoolSegment) (d : PoolSegment) (same : cell ≡ cell_for element) (within : i < length segs) (there : IsCellAt (cell_for element) (cells_in segs) (place_of a) i index) (is : d ≡ get_or segs i d) where
   -- the segment that a call reads is the one at its place
@@ -86,7 +86,7 @@ module _ (element a i index cell : ℕ) (segs : List PoolSegment) (d : PoolSegme
         option_map (λ b. take len (drop off b.bytes)) (find_block (place_of a) (layout_by (cell_for element) (cells_in segs)).blocks) ≡ Some bytes
     bytes-there off len bytes range e =
         ap (option_map (λ (b : Block ℕ). take len (drop off b.bytes))) found-there
-        ∙ ap Some (sym (e ∙ (ap (λ n. take len (drop (cell_offset n index + off) (cells_of d).bytes)) same ∙ read-there (cell_offset (cell_for element) index) off len (pair_at index (cells_of d)).0 (cells_of d).bytes range)))
+        ∙ ap Some (sym (e ∙ (ap (λ n. take len (drop (cell_offset n index + off) (cells_of d).bytes)) same ∙ part-of-part (cells_of d).bytes (cell_offset (cell_for element) index) (pair_at index (cells_of d)).0 off len range)))
 
     pub written-there : (x : PoolSegment) (last off : ℕ) (src : List ℕ) → HasRange (layout_by (cell_for element) (cells_in segs)).blocks a off (length src) → cells_of x ≡ with_cell_bytes cell index off src (cells_of d) → IsPool element (cells_in segs) last →
         Becomes element (cells_in segs) (cells_in (set segs i x)) last (with_bytes_at (layout_by (cell_for element) (cells_in segs)) (place_of a) off src)

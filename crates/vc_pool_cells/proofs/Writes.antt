@@ -10,6 +10,7 @@ use Rattle.vc_model.specs.Layout.{Block}
 use Rattle.vc_model.specs.Pool.{cell_offset}
 use Rattle.vc_model.specs.Resize.{fitted_bytes, sized_block}
 use Rattle.vc_model.specs.Touch.{rewritten_block}
+use Rattle.vc_base.proofs.Overwrites.{part-written}
 use Rattle.vc_seg.proofs.Frames.{drop-back, take-front, written-above, written-below, written-length, written-part}
 use Rattle.vc_pool_cells.specs.Blocks.{block_in}
 use Rattle.vc_pool_cells.specs.Cells.{Cells, HasCell, with_zeros_in, pair_at, with_free_cell, with_cell_size, with_cell_bytes}
@@ -74,16 +75,6 @@ zeros-laid off cell size b within fits =
 zeros-behind : (off old size : ℕ) (b : List ℕ) → off + old ≤ length b → off + size ≤ length b → take size (drop off (with_bytes (off + old) (replicate (size - old) 0) b)) ≡ fitted_bytes size (take old (drop off b))
 zeros-behind off old size b within fits = same_lists _ _ (grind (arith, places)) (λ k d lt. grind (arith, places))
 
-written-there : (off at size : ℕ) (src b : List ℕ) → off + size ≤ length b → at + length src ≤ size → take size (drop off (with_bytes (off + at) src b)) ≡ with_bytes at src (take size (drop off b))
-written-there off at size src b within fits = same_lists _ _ (grind (arith, places)) (λ k d lt. grind (arith, places))
-
-pub read-there : (off at len size : ℕ) (b : List ℕ) → at + len ≤ size → take len (drop (off + at) b) ≡ take len (drop at (take size (drop off b)))
-read-there off at len size b fits =
-    let e : at + (size - at) ≡ size = omega (arith, fits) in
-    ap (take len) (sym (drop-drop at off b))
-    ∙ (sym (take-take len (size - at) (drop at (drop off b)) (omega (arith, fits)))
-    ∙ ap (take len) (sym (drop-take at (size - at) (drop off b)) ∙ ap (λ k. drop at (take k (drop off b))) e))
-
 module _ (n cell index : ℕ) (o : Cells) (h : HasCell cell index o) where
   -- a block of zeros
   pub block-laid : (size tag : ℕ) → 1 ≤ size → size ≤ cell → block_in n (with_zeros_in cell index size tag o).bytes (cell_offset cell index) (size, tag) ≡ zeros tag size (n, cell_offset cell index) ∷ []
@@ -109,7 +100,7 @@ module _ (n cell index : ℕ) (o : Cells) (h : HasCell cell index o) where
       let inside = h.inside in
       let next = next-cell cell index in
       block-of-bytes n (cell_offset cell index) (with_cell_bytes cell index off src o).bytes _ (pair_at index o) some
-      (written-there (cell_offset cell index) off (pair_at index o).0 src o.bytes (omega (arith, inside, next, fitted_bytes)) range)
+      (part-written (cell_offset cell index) (pair_at index o).0 off src o.bytes range (omega (arith, inside, next, fitted_bytes)))
 
   -- the link that is written into a cell is the one that stands there
   pub word-released : (link : ℕ) → link < 2 ^ 64 → 8 ≤ cell → word_at (cell_offset cell index) (with_free_cell cell index link o).bytes ≡ link

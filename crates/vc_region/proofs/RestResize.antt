@@ -12,6 +12,7 @@ use Rattle.vc_model.specs.Resize.{best_resize, can_stay, outcome_of_move, resize
 use Rattle.vc_model.specs.Segments.{Asked, Granted, TooMany, NotLent, ask}
 use Rattle.vc_model.specs.Touch.{change_block, find_block, rewritten_block}
 use Rattle.vc_model.proofs.Owned.{found-is}
+use Rattle.vc_base.proofs.Places.{at-itself}
 use Rattle.vc_audit.specs.Debug.{debug_resize}
 use Rattle.vc_audit.specs.Profile.{profile_resize}
 use Rattle.vc_best.specs.Cells.{zeroed_layout}
@@ -48,9 +49,6 @@ at-is at b e =
     let first : ℕ → ℕ × ℕ = λ s. (s, at.1) in
     let second : ℕ → ℕ × ℕ = λ o. (b.seg, o) in
     ap first (sym (eqb-true b.seg at.0 both.0)) ∙ ap second (sym (eqb-true b.off at.1 both.1))
-
-here : (b : Block ℕ) → is_at (b.seg, b.off) b ≡ true
-here b = and_from (eqb b.seg b.seg) (eqb b.off b.off) (eq-eqb b.seg b.seg refl) (eq-eqb b.off b.off refl)
 
 -- the first of some blocks is at a place, or else it is looked for among the others
 find-first : (x : ℕ × ℕ) (b : Block ℕ) (bs : List (Block ℕ)) (v : Bool) → is_at x b ≡ v → find_block x (b ∷ bs) ≡ cond v (Some b) (find_block x bs)
@@ -106,7 +104,7 @@ module _ (size : ℕ) (b : Block ℕ) (bs : List (Block ℕ)) (found : find_bloc
       (λ h. ap (λ (d : Block ℕ). d.label) (same_Some c b (sym h ∙ (ap (λ q. find_block q bs) (at-is p.at b t) ∙ found))))
       (find-with p.at (zeros b.label size p.at) bs c (sym (ap (find_block p.at) adds) ∙ e)))
       (λ (t : is_at p.at b ≡ false).
-      let ne : p.at ≢ (b.seg, b.off) = λ s. true≢false (sym (subst (λ q. is_at q b ≡ true) (sym s) (here b)) ∙ t) in
+      let ne : p.at ≢ (b.seg, b.off) = λ s. true≢false (sym (subst (λ q. is_at q b ≡ true) (sym s) (at-itself b)) ∙ t) in
       let after = change_block (rewritten_block 0 src) p.at p.region.blocks in
       same_Some c.label b.label
       (sym (ap label (find-gone p.at (b.seg, b.off) ne after) ∙ ap label (find-written 0 src p.at p.region.blocks ∙ ap (option_map (rewritten_block 0 src)) e)) ∙ there))

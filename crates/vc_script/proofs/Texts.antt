@@ -1,7 +1,7 @@
 -- The lines of a printed text, and the needs that they show.
 use Rattle.std.proofs.Common.{◌≡◌, ℕ, ◌<◌, Bool, true, false, not, cond, eqb, List, [], ◌∷◌, ◌++◌, map, refl, sym, ap, subst, ◌∙◌, arith}
 use Rattle.std.specs.List.{list_all, AllByRecursion}
-use Rattle.std.proofs.lemmas.Bool.{and_parts, eq-eqb, false≢true}
+use Rattle.std.proofs.lemmas.Bool.{and_parts, eq-eqb, false≢true, not-true}
 use Rattle.std.proofs.lemmas.Bool.Decides.{nat_tests}
 use Rattle.std.proofs.lemmas.List.{append-nil, append_assoc}
 use Rattle.vc_script.specs.declared.reply.Reply.{Reply}
@@ -12,16 +12,12 @@ use Rattle.vc_script.specs.Print.{line_of, printed, text}
 use Rattle.vc_script.proofs.Newlines.{OneLine, stays, line-printed}
 use Rattle.vc_script.proofs.Heads.{need_of-printed}
 
-not_true : (t : Bool) → not t ≡ true → t ≡ false
-not_true true is_false = absurd (false≢true is_false)
-not_true false is_true = refl
-
 -- a line without newlines is cut where the newline behind it stands
 lines_after-whole : (begun xs rest : List ℕ) → OneLine xs → lines_after begun (xs ++ 10 ∷ rest) ≡ (begun ++ xs) ∷ lines rest
 lines_after-whole begun [] rest each = ap (λ bs. bs ∷ lines rest) (sym (append-nil begun))
 lines_after-whole begun (x ∷ xs) rest each =
     let parts = and_parts (stays x) (list_all stays xs) each in
-    ap (λ t. cond t (begun ∷ lines (xs ++ 10 ∷ rest)) (lines_after (begun ++ x ∷ []) (xs ++ 10 ∷ rest))) (not_true (eqb x 10) parts.0)
+    ap (λ t. cond t (begun ∷ lines (xs ++ 10 ∷ rest)) (lines_after (begun ++ x ∷ []) (xs ++ 10 ∷ rest))) (not-true (eqb x 10) parts.0)
     ∙ (lines_after-whole (begun ++ x ∷ []) xs rest parts.1
     ∙ ap (λ bs. bs ∷ lines rest) (append_assoc begun (x ∷ []) xs))
 
@@ -38,7 +34,7 @@ ended_after-whole : (begun xs rest : List ℕ) → OneLine xs → ended_after be
 ended_after-whole begun [] rest each = ap (λ bs. bs ∷ ended_lines rest) (sym (append-nil begun))
 ended_after-whole begun (x ∷ xs) rest each =
     let parts = and_parts (stays x) (list_all stays xs) each in
-    ap (λ t. cond t (begun ∷ ended_lines (xs ++ 10 ∷ rest)) (ended_after (begun ++ x ∷ []) (xs ++ 10 ∷ rest))) (not_true (eqb x 10) parts.0)
+    ap (λ t. cond t (begun ∷ ended_lines (xs ++ 10 ∷ rest)) (ended_after (begun ++ x ∷ []) (xs ++ 10 ∷ rest))) (not-true (eqb x 10) parts.0)
     ∙ (ended_after-whole (begun ++ x ∷ []) xs rest parts.1
     ∙ ap (λ bs. bs ∷ ended_lines rest) (append_assoc begun (x ∷ []) xs))
 

@@ -3,6 +3,7 @@ use Rattle.std.proofs.Common.{◌≡◌, ℕ, ◌+◌, ◌<◌, ◌≤◌, Bool,
 use Rattle.std.specs.Prelude.{Ok, Err}
 use Rattle.std.proofs.lemmas.List.{at_drop_more, at_drop_all}
 use Rattle.std.proofs.lemmas.List.Sums.{position_or_len_is}
+use Rattle.std.proofs.Math.Bool.{and-false}
 use Rattle.vc_script.specs.declared.line_fault.LineFault.TheVariants.{BadAddress}
 use Rattle.vc_script.specs.Words.{begins_with_byte, digits_value, is_between, is_escaped, is_number}
 use Rattle.vc_script.specs.Forms.{address_of, address_of_parts, is_colon}
@@ -40,10 +41,6 @@ pub ruleset escape_steps = (is_escaped-other, is_escaped-escape, is_escaped-bare
 pub address_of-colon : (xs : List ℕ) (i : ℕ) → i < length xs → ((k : ℕ) → k < i → is_colon (get_or xs k 0) ≡ false) → get_or xs i 0 ≡ 58 → address_of xs ≡ address_of_parts (take i xs) (drop (i + 1) xs)
 address_of-colon xs i within before colon =
     ap (λ k. address_of_parts (take k xs) (drop (k + 1) xs)) (position_or_len_is is_colon xs i 0 (omega arith) before (λ _. ap is_colon colon))
-
-and-false : (test : Bool) → (test && false) ≡ false
-and-false true = refl
-and-false false = refl
 
 -- an offset has a digit
 address_of_parts-no_offset : (seg : List ℕ) → address_of_parts seg [] ≡ Err BadAddress

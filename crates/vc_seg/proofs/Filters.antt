@@ -34,12 +34,3 @@ filter-agree_on {A = A} p q (x ∷ xs) h =
     (λ e. rw e (ap (λ ys. x ∷ ys) rest))
     (λ e. rw e rest)
     (cases_Bool (q x)))
-
--- a filter of what a function gives
-pub filter-map : {A B : Type 0} (f : A → B) (p : B → Bool) (xs : List A) → filter p (map f xs) ≡ map f (filter (λ x. p (f x)) xs)
-filter-map f p [] = refl
-filter-map f p (x ∷ xs) =
-    ⊎_elim
-    (λ e. rw e (ap (λ ys. f x ∷ ys) (filter-map f p xs)))
-    (λ e. rw e (filter-map f p xs))
-    (cases_Bool (p (f x)))

@@ -13,6 +13,7 @@ use Rattle.vc_commands.specs.declared.region.labels.Labels.{Labels}
 use Rattle.vc_commands.specs.Labels.{name_of}
 use Rattle.vc_counts.specs.declared.counts.Counts.{Counts}
 use Rattle.vc_model.specs.Discipline.{Discipline}
+use Rattle.vc_base.proofs.Quantifiers.{all-append}
 use Rattle.vc_region.specs.Cells.{rest_in}
 use Rattle.vc_region.specs.Parts.{region_of}
 use Rattle.vc_region.specs.Stat.{stat_of}
@@ -26,7 +27,7 @@ use Rattle.vc_script.specs.Judged.{judged_lines}
 use Rattle.vc_script.specs.Lines.{ended_lines}
 use Rattle.vc_script.specs.Print.{line_of, printed}
 use Rattle.vc_script.specs.Proper.{IsName}
-use Rattle.vc_script.proofs.Newlines.{OneLine, line-printed, stays}
+use Rattle.vc_script.proofs.Newlines.{OneLine, line-printed, stays, line-both, line-decimal, line-name}
 use Rattle.vc_seg.specs.declared.stat.Stat.{Stat}
 use Rattle.vc_steps.specs.Homes.{held_all}
 use Rattle.vc_steps.specs.Moment.{Moment, moment_at_end, over_sink}
@@ -38,18 +39,12 @@ use Rattle.vc_session.specs.Run.{script}
 use Rattle.vc_session.specs.SoFar.{AtEnd}
 use Rattle.vc_session.specs.Streams.{Flows}
 use Rattle.vc_session.specs.Text.{body_of, counts_of, good_lines, is_quiet, lines_text, stat_line, stat_text, stats_by, summary, summary_by, tail_lines, text_of}
-use Rattle.vc_session.proofs.Progress.{all-append, progress-end, told-more}
-use Rattle.vc_session.proofs.ShownNeeds.{IsUnnumbered, NoLine, line-both, none-unnumbered}
+use Rattle.vc_session.proofs.Progress.{progress-end, told-more}
+use Rattle.vc_session.proofs.ShownNeeds.{IsUnnumbered, NoLine, none-unnumbered}
 use Rattle.vc_words.specs.declared.words.Words.{Words}
-
-line-decimal : (n : ℕ) → OneLine (decimal n)
-line-decimal n = line-printed (Number n) tt
 
 line-front : (xs ys : List ℕ) → OneLine (xs ++ ys) → OneLine xs
 line-front xs ys whole = (and_parts (list_all stays xs) (list_all stays ys) (sym (list_all-append stays xs ys) ∙ whole)).0
-
-line-name : (name : List ℕ) → IsName name → OneLine name
-line-name name proper = line-front name (codes " shut") (line-printed (ShutDown name) proper)
 
 labelled : (label : List ℕ) (n : ℕ) → OneLine label → OneLine (label ++ decimal n)
 labelled label n first = line-both label (decimal n) first (line-decimal n)

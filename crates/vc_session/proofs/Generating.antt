@@ -6,6 +6,8 @@ use Rattle.std.proofs.lemmas.Bool.{and_parts}
 use Rattle.std.specs.List.{AllByRecursion}
 use Rattle.std.proofs.lemmas.List.{append_assoc, append-nil, length-append}
 use Rattle.std.proofs.lemmas.Option.{same_Some}
+use Rattle.std.proofs.Math.Bool.{or-true}
+use Rattle.vc_base.proofs.Quantifiers.{all-middle}
 use Rattle.vc_counts.specs.declared.counts.Counts.{Counts}
 use Rattle.vc_generate.specs.Generated.{commands_of_seed}
 use Rattle.vc_generate.specs.Next.{IsNext}
@@ -39,11 +41,6 @@ on_lines-push n (d ∷ ds) c =
     (on_lines-push (n + 1) ds c
     ∙ ap (λ (k : ℕ). on_lines (n + 1) ds ++ (k, c) ∷ []) (omega arith))
 
--- a fact of an item of a list
-all-item : {A : Type 0} (P : A → Type 0) (xs : List A) (x : A) (ys : List A) → AllByRecursion P (xs ++ x ∷ ys) → P x
-all-item P [] x ys each = each.0
-all-item P (y ∷ xs) x ys each = all-item P xs x ys each.1
-
 -- before the first command
 pub generating-start : (start : Moment) (told : Option (List ℕ)) (counts : Counts) (gathered : List ℕ) (commands : List Command) → IsProperState start.state → counts ≡ counts_of (nothing_ran start.state) → gathered ≡ [] → Generating start start told told counts gathered 0 commands commands
 generating-start start told counts gathered commands proper zero none = record {
@@ -72,7 +69,7 @@ module _ {start now : Moment} {told told' : Option (List ℕ)} {before : Counts}
   generating-step {next} {counts} {gathered'} c left' is proper i =
       let all : g.done ++ c ∷ left' ≡ commands = subst (λ cs. g.done ++ cs ≡ commands) is g.all in
       let pushed : (g.done ++ c ∷ []) ++ left' ≡ commands = append_assoc g.done (c ∷ []) left' ∙ all in
-      let here : IsProperCommand c = all-item IsProperCommand g.done c left' (subst (AllByRecursion IsProperCommand) (sym all) proper) in
+      let here : IsProperCommand c = all-middle IsProperCommand g.done c left' (subst (AllByRecursion IsProperCommand) (sym all) proper) in
       let gathers : gathered' ≡ gathered ++ line_by true (line + 1, i.reply) = same_Some gathered' (gathered ++ line_by true (line + 1, i.reply)) i.told in
       let below : line < line + 1 = omega arith in
       let behind : Progress true (over_sink start told) (over_sink next told') counts ((g.written ++ gathered) ++ line_by true (line + 1, i.reply)) (line + 1) (on_lines 1 g.done ++ (line + 1, c) ∷ []) =
@@ -129,10 +126,6 @@ generated-most Dtrun n seed most = omega (arith, length-generated Dtrun n seed)
 
 pub generated-few : (tool : Tool) (n seed : ℕ) → n ≤ 1000000 → length (commands_of_seed tool n seed) < 2 ^ 31
 generated-few tool n seed most = omega (arith, generated-most tool n seed most)
-
-or-true : (b : Bool) → (b || true) ≡ true
-or-true true = refl
-or-true false = refl
 
 -- generated commands are run quietly
 quiet-generated : (w : Words) (n : ℕ) → w.generate ≡ Some n → is_quiet w ≡ true

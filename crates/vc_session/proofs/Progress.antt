@@ -5,6 +5,7 @@ use Rattle.std.specs.List.{AllByRecursion}
 use Rattle.std.proofs.lemmas.List.{append_assoc, append-nil, length-append, map-append}
 use Rattle.std.proofs.lemmas.Grind.{flat_map-append}
 use Rattle.std.proofs.lemmas.List.Sums.{sum_by-append, sum_by_push}
+use Rattle.vc_base.proofs.Quantifiers.{all-push, all-weaken}
 use Rattle.vc_counts.specs.Counts.{busy_in, counts_with_step}
 use Rattle.vc_counts.specs.declared.counts.Counts.{Counts}
 use Rattle.vc_script.specs.declared.command.Command.{Command}
@@ -42,22 +43,9 @@ told-more None now after front piece p q = tt
 told-more (Some w) now after front piece p q =
     subst (λ (o : Option (List ℕ)). Told o after piece) p q ∙ ap Some (append_assoc w front piece)
 
--- facts of each item
-pub all-push : {A : Type 0} (P : A → Type 0) (xs : List A) (x : A) → AllByRecursion P xs → P x → AllByRecursion P (xs ++ x ∷ [])
-all-push P [] x each last = (last, tt)
-all-push P (y ∷ ys) x each last = (each.0, all-push P ys x each.1 last)
-
 all-front : {A : Type 0} (P : A → Type 0) (xs : List A) (x : A) → AllByRecursion P (xs ++ x ∷ []) → AllByRecursion P xs × P x
 all-front P [] x each = (tt, each.0)
 all-front P (y ∷ ys) x each = let behind = all-front P ys x each.1 in ((each.0, behind.0), behind.1)
-
-all-each : {A : Type 0} (P Q : A → Type 0) (xs : List A) → ((x : A) → P x → Q x) → AllByRecursion P xs → AllByRecursion Q xs
-all-each P Q [] f each = tt
-all-each P Q (x ∷ xs) f each = (f x each.0, all-each P Q xs f each.1)
-
-pub all-append : {A : Type 0} (P : A → Type 0) (xs ys : List A) → AllByRecursion P xs → AllByRecursion P ys → AllByRecursion P (xs ++ ys)
-all-append P [] ys each behind = behind
-all-append P (x ∷ xs) ys each behind = (each.0, all-append P xs ys each.1 behind)
 
 -- no command was run
 pub progress-start : (quiet : Bool) (start : Moment) (counts : Counts) → IsProperState start.state → (IsTrue quiet → counts ≡ counts_of (nothing_ran start.state)) → Progress quiet start start counts [] 0 []
@@ -133,10 +121,10 @@ body-push quiet replies r =
 
 module _ {quiet : Bool} {start now : Moment} {before : Counts} {text : List ℕ} {count : ℕ} {done : List (ℕ × Command)} (n : ℕ) (below : count < n) (p : Progress quiet start now before text count done) where
   within-next : AllByRecursion (λ m. m ≤ n) (lines_of done)
-  within-next = all-each (λ m. m ≤ count) (λ m. m ≤ n) (lines_of done) (λ m le. omega (arith, le, below)) p.within
+  within-next = all-weaken (λ m. m ≤ count) (λ m. m ≤ n) (lines_of done) (λ m le. omega (arith, le, below)) p.within
 
   below-next : AllByRecursion (λ m. m < n) (lines_of done)
-  below-next = all-each (λ m. m ≤ count) (λ m. m < n) (lines_of done) (λ m le. omega (arith, le, below)) p.within
+  below-next = all-weaken (λ m. m ≤ count) (λ m. m < n) (lines_of done) (λ m le. omega (arith, le, below)) p.within
 
   -- a line that asks for nothing
   pub progress-blank : Progress quiet start now before text n done
@@ -238,7 +226,7 @@ module _ {quiet : Bool} {start now : Moment} {counts : Counts} {text : List ℕ}
   few_lines : count < 2 ^ 64 → AllByRecursion (λ n. n < 2 ^ 64) (map (λ (r : ℕ × Reply). r.0) p.ran.replies)
   few_lines few =
       subst (AllByRecursion (λ n. n < 2 ^ 64)) p.lines
-      (all-each (λ n. n ≤ count) (λ n. n < 2 ^ 64) (lines_of done) (λ n le. omega (arith, le, few)) p.within)
+      (all-weaken (λ n. n ≤ count) (λ n. n < 2 ^ 64) (lines_of done) (λ n le. omega (arith, le, few)) p.within)
 
   -- the text shows the needs of its replies
   shows : (tail : List ℕ) → count < 2 ^ 64 → (quiet ≡ true → (n : ℕ) → n < 2 ^ 64 → NoLine n (ended_lines tail)) → ShowsNeeds (needs_by quiet (lines_of done) (text ++ tail)) p.ran.replies

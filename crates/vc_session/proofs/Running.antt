@@ -3,6 +3,7 @@ use Rattle.std.proofs.Common.{Ok, ◌≡◌, ℕ, ◌+◌, Bool, List, [], ◌�
 use Rattle.std.specs.Prelude.{IsTrue}
 use Rattle.std.proofs.lemmas.List.{append_assoc, length_push}
 use Rattle.std.proofs.lemmas.Option.{none-some, same_Some}
+use Rattle.vc_base.proofs.Quantifiers.{all-push}
 use Rattle.vc_counts.specs.declared.counts.Counts.{Counts}
 use Rattle.vc_script.specs.declared.command.Command.{Command}
 use Rattle.vc_script.specs.declared.line_answer.LineAnswer.{LineAnswer}
@@ -19,7 +20,7 @@ use Rattle.vc_session.specs.Replay.{Told}
 use Rattle.vc_session.specs.Run.{command_then, commands, fault_in, fault_then, nothing_ran}
 use Rattle.vc_session.specs.SoFar.{Found, Running}
 use Rattle.vc_session.specs.Text.{counts_of}
-use Rattle.vc_session.proofs.Progress.{all-push, progress-blank, progress-over, progress-same, progress-start, progress-step}
+use Rattle.vc_session.proofs.Progress.{progress-blank, progress-over, progress-same, progress-start, progress-step}
 
 pub running-start : (tool : Tool) (quiet : Bool) (start : Moment) (counts : Counts) → IsProperState start.state → (IsTrue quiet → counts ≡ counts_of (nothing_ran start.state)) → Running tool quiet start start counts [] 0 []
 running-start tool quiet start counts all none = record {

@@ -2,7 +2,7 @@
 use Rattle.std.proofs.Common.{◌≡◌, ◌≢◌, ℕ, ◌<◌, ◌^◌, Bool, true, false, not, cond, eqb, ◌||◌, List, [], ◌∷◌, ◌++◌, length, map, refl, sym, ap, subst, ◌∙◌, arith, codes, decimal}
 use Rattle.std.specs.List.{list_all, list_any, AllByRecursion, flat_map}
 use Rattle.std.specs.Str.{bytes_eq}
-use Rattle.std.proofs.lemmas.Bool.{and_parts, false≢true, false_from_ne_true, cases_Bool}
+use Rattle.std.proofs.lemmas.Bool.{and_parts, false≢true, false_from_ne_true, cases_Bool, not-true}
 use Rattle.std.proofs.lemmas.Fmt.{decimal_injective, decimal_nonempty}
 use Rattle.std.proofs.lemmas.List.{append-nil, append_assoc}
 use Rattle.std.proofs.lemmas.List.Folds.{list_any-append}
@@ -17,21 +17,9 @@ use Rattle.vc_script.specs.Print.{line_of, printed}
 use Rattle.vc_script.specs.ProperReply.{IsProperReply}
 use Rattle.vc_script.specs.Words.{is_digit}
 use Rattle.vc_script.proofs.Heads.{need_of-printed}
-use Rattle.vc_script.proofs.Newlines.{OneLine, list_all-decimal, line-printed, stays}
-use Rattle.vc_script.proofs.Texts.{needs_shown, shows-needs_shown}
+use Rattle.vc_script.proofs.Newlines.{OneLine, list_all-decimal, line-printed, stays, line-both}
+use Rattle.vc_script.proofs.Texts.{needs_shown, shows-needs_shown, ended_after-whole}
 use Rattle.vc_session.specs.QuietText.{body_by, has_line, line_by, needs_by, numbered_line, quiet_need}
-
-not_true : (t : Bool) → not t ≡ true → t ≡ false
-not_true true is_false = absurd (false≢true is_false)
-not_true false is_true = refl
-
-ended_after-whole : (begun xs rest : List ℕ) → OneLine xs → ended_after begun (xs ++ 10 ∷ rest) ≡ (begun ++ xs) ∷ ended_lines rest
-ended_after-whole begun [] rest each = ap (λ bs. bs ∷ ended_lines rest) (sym (append-nil begun))
-ended_after-whole begun (x ∷ xs) rest each =
-    let parts = and_parts (stays x) (list_all stays xs) each in
-    ap (λ t. cond t (begun ∷ ended_lines (xs ++ 10 ∷ rest)) (ended_after (begun ++ x ∷ []) (xs ++ 10 ∷ rest))) (not_true (eqb x 10) parts.0)
-    ∙ (ended_after-whole (begun ++ x ∷ []) xs rest parts.1
-    ∙ ap (λ bs. bs ∷ ended_lines rest) (append_assoc begun (x ∷ []) xs))
 
 -- a line is cut where the newline behind it stands
 ended-line : (xs rest : List ℕ) → OneLine xs → ended_lines ((xs ++ 10 ∷ []) ++ rest) ≡ xs ∷ ended_lines rest
@@ -127,11 +115,6 @@ shown_by n reply need = (decimal n ++ 32 ∷ printed reply) ∷ []
 
 abbrev shown : ℕ × Reply → List (List ℕ)
 shown r = shown_by r.0 r.1 (need_shown r.1)
-
--- a line of two parts
-pub line-both : (xs ys : List ℕ) → OneLine xs → OneLine ys → OneLine (xs ++ ys)
-line-both [] ys first second = second
-line-both (x ∷ xs) ys first second = grind (arith, first, second, line-both xs ys)
 
 line-numbered : (n : ℕ) (r : Reply) → IsProperReply r → OneLine (decimal n ++ 32 ∷ printed r)
 line-numbered n r proper = line-both (decimal n) (32 ∷ printed r) (line-printed (Number n) tt) (line-printed r proper)

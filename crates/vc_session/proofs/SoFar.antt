@@ -7,6 +7,7 @@ use Rattle.std.proofs.lemmas.List.{append_assoc, append-nil, drop_all, length-ta
 use Rattle.std.proofs.lemmas.Option.{none-some, same_Some}
 use Rattle.vc_counts.specs.declared.counts.Counts.{Counts}
 use Rattle.vc_model.specs.Stream.{Reads, Takes}
+use Rattle.vc_base.proofs.Quantifiers.{all-append}
 use Rattle.vc_script.specs.declared.line_fault.LineFault.{LineFault}
 use Rattle.vc_script.specs.declared.cutter.Cut.{Cut}
 use Rattle.vc_script.specs.declared.cutter.Cut.TheVariants.{Whole, More, Bad}
@@ -27,7 +28,7 @@ use Rattle.vc_session.specs.Run.{commands, fault_in, nothing_ran, script, wholly
 use Rattle.vc_session.specs.SoFar.{AtEnd, Found, Reading, Running, SoFar, ended_rest, fuel, judged_rest}
 use Rattle.vc_session.specs.Text.{body_of, counts_of}
 use Rattle.vc_session.proofs.Feeds.{Feeds, fed-feeds}
-use Rattle.vc_session.proofs.Progress.{all-append, progress-end, progress-over}
+use Rattle.vc_session.proofs.Progress.{progress-end, progress-over}
 use Rattle.vc_session.proofs.Running.{bad-line, running-line, running-over, running-same, running-start}
 
 if_some : (o : Option (List ℕ)) (P Q : List ℕ → Type 0) → ((x : List ℕ) → P x → Q x) → IfSome o P → IfSome o Q

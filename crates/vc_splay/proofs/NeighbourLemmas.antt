@@ -3,6 +3,7 @@ use Rattle.std.proofs.Common.{◌≡◌, ◌≢◌, ℕ, ◌==◌, List, [], ◌
 use Rattle.std.proofs.lemmas.Bool.{cases_lt, true≢false, eq-eqb, ne_eqb}
 use Rattle.std.proofs.lemmas.Bool.Decides.{eqb_tells}
 use Rattle.vc_base.specs.Holders.{AreDistinct, contains, first_in, first_of, last_in, last_of, next_in, previous_in, some_address}
+use Rattle.vc_base.proofs.Members.{apart-head, apart-tail, next_in-split, previous_in-behind, previous_in-split, first-apart}
 use Rattle.vc_splay.specs.Tree.{Tree, Leaf, Node, names, name_of}
 use Rattle.vc_splay.specs.Store.{Store}
 use Rattle.vc_splay.specs.Stands.{HasTree, IsTree, IsWithin, Stands}
@@ -64,21 +65,12 @@ tip-last : (t : Tree) (other : ℕ) → tip false other t ≡ last_of other (nam
 tip-last Leaf other = refl
 tip-last (Node l n r) other = tip-last r n ∙ sym (last-rest other (names l) (names r) n)
 
-pub apart_here : (x : ℕ) (xs : List ℕ) (a : ℕ) → contains (x ∷ xs) a ≡ false → x ≢ a
-apart_here x xs a h e = true≢false (rw (eq-eqb x a e) at h)
-
-pub apart_on : (x : ℕ) (xs : List ℕ) (a : ℕ) → contains (x ∷ xs) a ≡ false → contains xs a ≡ false
-apart_on x xs a h = elim (eqb_tells x a) as (λ _. contains xs a ≡ false) [
-  | inl same ↦ absurd (true≢false (rw same.0 at h))
-  | inr apart ↦ rw apart.0 at h
-]
-
 some_first : (x : ℕ) (xs : List ℕ) (other : ℕ) → contains (x ∷ xs) 0 ≡ false → some_address (first_of (x ∷ xs) other) ≡ Some x
-some_first x xs other h = rw (ne_eqb x 0 (apart_here x xs 0 h)) refl
+some_first x xs other h = rw (ne_eqb x 0 (apart-head x xs 0 h)) refl
 
 last_some : (x : ℕ) (xs : List ℕ) → contains (x ∷ xs) 0 ≡ false → last_of x xs ≢ 0
-last_some x [] h = apart_here x [] 0 h
-last_some x (y ∷ xs) h = last_some y xs (apart_on x (y ∷ xs) 0 h)
+last_some x [] h = apart-head x [] 0 h
+last_some x (y ∷ xs) h = last_some y xs (apart-tail x (y ∷ xs) 0 h)
 
 some_last : (x : ℕ) (xs : List ℕ) (other : ℕ) → contains (x ∷ xs) 0 ≡ false → some_address (last_of other (x ∷ xs)) ≡ Some (last_of x xs)
 some_last x xs other h = rw (ne_eqb (last_of x xs) 0 (last_some x xs h)) refl
@@ -144,29 +136,13 @@ beyond-before Top h = refl
 beyond-before (Under true n sibling c) h = beyond-before c h
 beyond-before (Under false n sibling c) h =
     let e = apart_rest (names sibling) (n ∷ []) (apart_rest (before c) (names sibling ++ n ∷ []) h) in
-    rw (ne_eqb n 0 (apart_here n [] 0 e)) (sym (ap last_in (sym (append_assoc (before c) (names sibling) (n ∷ []))) ∙ last-push (before c ++ names sibling) n))
+    rw (ne_eqb n 0 (apart-head n [] 0 e)) (sym (ap last_in (sym (append_assoc (before c) (names sibling) (n ∷ []))) ∙ last-push (before c ++ names sibling) n))
 
 pub beyond-behind : (c : Context) → contains (behind c) 0 ≡ false → some_address (beyond false c) ≡ first_in (behind c)
 unfolding behind
 beyond-behind Top h = refl
-beyond-behind (Under true n sibling c) h = rw (ne_eqb n 0 (apart_here n (names sibling ++ behind c) 0 h)) refl
+beyond-behind (Under true n sibling c) h = rw (ne_eqb n 0 (apart-head n (names sibling ++ behind c) 0 h)) refl
 beyond-behind (Under false n sibling c) h = beyond-behind c h
-
--- the neighbours of a name that stands once
-next-split : (xs : List ℕ) (at : ℕ) (ys : List ℕ) → contains xs at ≡ false → next_in at (xs ++ at ∷ ys) ≡ first_in ys
-next-split [] at ys h = rw (eq-eqb at at refl) refl
-next-split (x ∷ xs) at ys h = rw (ne_eqb x at (apart_here x xs at h)) (next-split xs at ys (apart_on x xs at h))
-
-previous-on : (x : ℕ) (xs : List ℕ) (at : ℕ) (ys : List ℕ) → contains xs at ≡ false → previous_in (Some x) at (xs ++ at ∷ ys) ≡ Some (last_of x xs)
-previous-on x [] at ys h = rw (eq-eqb at at refl) refl
-previous-on x (y ∷ xs) at ys h = rw (ne_eqb y at (apart_here y xs at h)) (previous-on y xs at ys (apart_on y xs at h))
-
-previous-split : (xs : List ℕ) (at : ℕ) (ys : List ℕ) → contains xs at ≡ false → previous_in None at (xs ++ at ∷ ys) ≡ last_in xs
-previous-split [] at ys h = rw (eq-eqb at at refl) refl
-previous-split (x ∷ xs) at ys h = rw (ne_eqb x at (apart_here x xs at h)) (previous-on x xs at ys (apart_on x xs at h))
-
-pub once_before : (xs : List ℕ) (at : ℕ) (ys : List ℕ) → AreDistinct (xs ++ at ∷ ys) → contains xs at ≡ false
-once_before xs at ys d = apart-count at xs (let a = distinct-count at (xs ++ at ∷ ys) d in let b = count-append at xs (at ∷ ys) in let e = one-same at at refl in omega arith)
 
 first-some : (xs ys : List ℕ) (x : ℕ) → first_in ((xs ++ x ∷ []) ++ ys) ≡ Some (first_of xs x)
 first-some [] ys x = refl
@@ -212,11 +188,11 @@ next_by s root at t result none h within k =
     let ys = names p.right ++ behind p.context in
     let list : names t ≡ xs ++ at ∷ ys = ap names back ∙ names_round p.context p.left at p.right in
     let free : contains (xs ++ at ∷ ys) 0 ≡ false = subst (λ z. contains z 0 ≡ false) list (no_zero s 0 t none h.stands) in
-    let rest : contains ys 0 ≡ false = apart_on at ys 0 (apart_rest xs (at ∷ ys) free) in
-    let once : contains xs at ≡ false = once_before xs at ys (subst AreDistinct list h.distinct) in
+    let rest : contains ys 0 ≡ false = apart-tail at ys 0 (apart_rest xs (at ∷ ys) free) in
+    let once : contains xs at ≡ false = first-apart xs at ys (subst AreDistinct list h.distinct) in
     ap some_address (k p.context p.left p.right part)
     ∙ behind_by p.context p.right rest (apart_first (names p.right) (behind p.context) rest)
-    ∙ sym (ap (next_in at) list ∙ next-split xs at ys once)
+    ∙ sym (ap (next_in at) list ∙ next_in-split xs at ys once)
 
 pub previous_by : (s : Store) (root at : ℕ) (t : Tree) (result : ℕ) → s.has 0 ≡ false → IsTree s root t → contains (names t) at ≡ true
     → ((c : Context) (l r : Tree) → IsPart s c (Node l at r) → result ≡ neighbour true c l r) → some_address result ≡ previous_in None at (names t)
@@ -232,10 +208,10 @@ previous_by s root at t result none h within k =
     let list : names t ≡ xs ++ at ∷ ys = ap names back ∙ names_round p.context p.left at p.right in
     let free : contains (xs ++ at ∷ ys) 0 ≡ false = subst (λ z. contains z 0 ≡ false) list (no_zero s 0 t none h.stands) in
     let front : contains xs 0 ≡ false = apart_first xs (at ∷ ys) free in
-    let once : contains xs at ≡ false = once_before xs at ys (subst AreDistinct list h.distinct) in
+    let once : contains xs at ≡ false = first-apart xs at ys (subst AreDistinct list h.distinct) in
     ap some_address (k p.context p.left p.right part)
     ∙ before_by p.context p.left front (apart_rest (before p.context) (names p.left) front)
-    ∙ sym (ap (previous_in None at) list ∙ previous-split xs at ys once)
+    ∙ sym (ap (previous_in None at) list ∙ previous_in-split xs at ys once)
 
 -- what a step to a neighbour knows of the place
 at_place : (s : Store) (c : Context) (l : Tree) (at : ℕ) (r : Tree) → IsPart s c (Node l at r) → Stands s (name_at c) (Node l at r)

@@ -2,12 +2,9 @@
 use Rattle.std.proofs.Common.{◌≡◌, ◌≢◌, ℕ, Bool, true, false, not, cond, ◌&&◌, ◌==◌, refl, sym, ◌∙◌, subst, inl, inr}
 use Rattle.std.proofs.lemmas.Bool.{eq-eqb, ne_eqb, true≢false}
 use Rattle.std.proofs.lemmas.Bool.Decides.{eqb_tells}
+use Rattle.std.proofs.Math.Bool.{and-false}
 use Rattle.vc_splay.specs.Store.{Store, with_kid, with_parent, is_same}
 use Rattle.vc_splay.specs.Writes.{with_kid_of, with_parent_of}
-
-pub not_not : (d : Bool) → not (not d) ≡ d
-not_not true = refl
-not_not false = refl
 
 is_same-self : (d : Bool) → is_same d d ≡ true
 is_same-self true = refl
@@ -20,10 +17,6 @@ is_same-not false = refl
 is_same-back : (d : Bool) → is_same (not d) d ≡ false
 is_same-back true = refl
 is_same-back false = refl
-
-and-false : (b : Bool) → b && false ≡ false
-and-false true = refl
-and-false false = refl
 
 pub kid-here : (d : Bool) (n v : ℕ) (s : Store) → (with_kid d n v s).kid d n ≡ v
 unfolding with_kid

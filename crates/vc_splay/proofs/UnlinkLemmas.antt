@@ -2,6 +2,8 @@
 use Rattle.std.proofs.Common.{◌≡◌, ◌≢◌, ℕ, ◌+◌, ◌≤◌, Bool, true, false, cond, List, [], ◌∷◌, ◌++◌, Some, None, refl, sym, ap, ◌∙◌, arith, subst, append_assoc, ◌==◌}
 use Rattle.std.proofs.lemmas.Bool.{eq-eqb, ne_eqb}
 use Rattle.vc_base.specs.Holders.{AreDistinct, contains, last_in, last_of, some_address, without}
+use Rattle.vc_base.proofs.Members.{apart-head, apart-tail, first-apart, without-split}
+use Rattle.vc_base.proofs.Options.{some_same}
 use Rattle.vc_splay.specs.Tree.{Tree, Leaf, Node, names, name_of}
 use Rattle.vc_splay.specs.Store.{Store, SameLinks, with_kid, with_parent}
 use Rattle.vc_splay.specs.Stands.{IsNode, IsTree, Stands, TreeAfter}
@@ -10,7 +12,7 @@ use Rattle.vc_splay.specs.Searches.{IsPair}
 use Rattle.vc_splay.specs.Writes.{with_parent_of}
 use Rattle.vc_splay.proofs.HangLemmas.{SameLinks-on, SameLinks-same}
 use Rattle.vc_splay.proofs.LinkLemmas.{apart_tally, parents_kid}
-use Rattle.vc_splay.proofs.NeighbourLemmas.{apart_here, apart_on, last_both, once_before}
+use Rattle.vc_splay.proofs.NeighbourLemmas.{last_both}
 use Rattle.vc_splay.proofs.SearchLemmas.{search_leaf}
 use Rattle.vc_splay.proofs.SplayLemmas.{tally-apart, tally-once, tally-within}
 use Rattle.vc_splay.proofs.StandsLemmas.{Stands-kept, Stands-moved, some_held}
@@ -87,10 +89,6 @@ join_front s left right a b none p e =
       list = append_none (names a) ∙ ap (λ z. names a ++ names z) (sym leaf);
       others = λ n h. SameLinks-same s n;
     }
-
--- the last of a list
-some_same : {x y : ℕ} → Some x ≡ Some y → x ≡ y
-some_same h = cc
 
 some_is : (t : Bool) (r m : ℕ) → cond t None (Some r) ≡ Some m → r ≡ m
 some_is true r m k = cc
@@ -220,10 +218,6 @@ join_both old s left right top end a b none has p left_some right_some e same af
           (kept n (λ z. let f : 1 ≤ tally n a = subst (λ y. 1 ≤ tally y a) (sym z) top_in in absurd (omega arith)) (λ z. let f : 1 ≤ tally n b = subst (λ y. 1 ≤ tally y b) (sym z) right_in in absurd (omega arith)));
     }
 
-without-split : (xs : List ℕ) (at : ℕ) (ys : List ℕ) → contains xs at ≡ false → without at (xs ++ at ∷ ys) ≡ xs ++ ys
-without-split [] at ys h = rw (eq-eqb at at refl) refl
-without-split (x ∷ xs) at ys h = rw (ne_eqb x at (apart_here x xs at h)) (ap (λ z. x ∷ z) (without-split xs at ys (apart_on x xs at h)))
-
 -- once the root is out, its subtrees are two trees
 pub record Split (old s new : Store) (at left right : ℕ) (t : Tree) : Type 0 where
   pub front : Tree
@@ -259,7 +253,7 @@ split_at old s at left right t none distinct k =
         back_top = k.hand.right_cut.top_is;
         distinct = count-distinct (names front ++ names back) (λ n. let a = once n in let b = w n in let c = parts_count n front back in omega arith);
       };
-      list = ap (without at) list ∙ without-split (names front) at (names back) (once_before (names front) at (names back) (subst AreDistinct list distinct));
+      list = ap (without at) list ∙ without-split (names front) at (names back) (first-apart (names front) at (names back) (subst AreDistinct list distinct));
       others = λ n i.
           SameLinks-on old s new n (k.others n i)
           (other_parents s left 0 n (λ f z. let g = left_in f in let q : 1 ≤ tally n front = subst (λ y. 1 ≤ tally y front) (sym z) g in let a = tally-apart n t i in let b = w n in absurd (omega arith)));

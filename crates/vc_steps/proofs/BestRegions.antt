@@ -18,11 +18,3 @@ best-is (OfProfile profile) best = absurd (true≢false (sym best))
 -- a layout of other labels is that of a best region
 pub best-named : {L M : Type 0} (f : L → M) (r : Region L) (l : Layout L) → is_best r ≡ true → l ≡ layout_in r → OfBest (relabel_layout f l) ≡ region_with_labels f r
 best-named f r l best same = ap (λ (q : Layout _). OfBest (relabel_layout f q)) same ∙ ap (region_with_labels f) (sym (best-is r best))
-
--- a region that is a best one is no other
-pub no-other : {I : Type 0} {V : I → Type 0} (r : code.Region I V) → is_best (rest_in r) ≡ true → ((b : best.Best I V) → r ≡ Best b → ⊥) → ⊥
-no-other (Best b) is never = never b refl
-no-other (Pool p) is never = absurd (true≢false (sym is))
-no-other (Last l) is never = absurd (true≢false (sym is))
-no-other (Debug d) is never = absurd (true≢false (sym is))
-no-other (Profile p) is never = absurd (true≢false (sym is))

@@ -5,11 +5,6 @@ use Rattle.std.proofs.lemmas.Bool.Decides.{nat_tests}
 use Rattle.vc_model.specs.Numbered.{at_number}
 use Rattle.std.proofs.lemmas.Option.{same_Some, none-some, slice_get-map}
 
-pub slice_get-set_same : {A : Type 0} (xs : List A) (k : ℕ) (x y : A) → slice_get xs k ≡ Some x → slice_get (set xs k y) k ≡ Some y
-slice_get-set_same [] k x y at = absurd (none-some x at)
-slice_get-set_same (z ∷ zs) zero x y at = refl
-slice_get-set_same (z ∷ zs) (suc k) x y at = slice_get-set_same zs k x y at
-
 pub slice_get-set_other : {A : Type 0} (xs : List A) (k j : ℕ) (y : A) → j ≢ k → slice_get (set xs k y) j ≡ slice_get xs j
 slice_get-set_other [] k j y other = refl
 slice_get-set_other (z ∷ zs) zero zero y other = absurd (other refl)

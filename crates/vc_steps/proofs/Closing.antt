@@ -4,6 +4,7 @@ use Rattle.std.specs.Prelude.{remove, slice_get}
 use Rattle.std.specs.List.{AllByRecursion, list_any}
 use Rattle.std.proofs.lemmas.List.{append-nil, map-set, set_comm}
 use Rattle.std.proofs.lemmas.Option.{none-some, same_Some, slice_get-map}
+use Rattle.std.proofs.lemmas.Bool.{or_parts}
 use Rattle.vc_model.specs.Discipline.{Discipline, TookBack, HasOut}
 use Rattle.vc_region.specs.Region.{segments_of}
 use Rattle.vc_model.specs.Numbered.{at_number}
@@ -19,7 +20,7 @@ use Rattle.vc_steps.specs.Account.{Account, IsSession, account, accounts, accoun
 use Rattle.vc_commands.specs.Held.{Held, home_of}
 use Rattle.vc_views.proofs.LinkLists.{all-remove}
 use Rattle.vc_steps.proofs.Cells.{at_number-from_one, at_number-zero, at_number_some, map-remove, slice_get-set_other}
-use Rattle.vc_commands.proofs.Firsts.{IsFirst, find-first, or-false}
+use Rattle.vc_commands.proofs.Firsts.{IsFirst, find-first}
 use Rattle.vc_steps.proofs.Settle.{IsApart, away-at, low-at}
 use Rattle.vc_seg.specs.Shelf.{place_at, standing}
 use Rattle.vc_seg.specs.declared.shelf.ShelfPlace.TheVariants.{Taken}
@@ -95,7 +96,7 @@ without_home-at : (r : List ℕ) (hs : List Home) (i : ℕ) (h : Home) → slice
 without_home-at r [] i h at passes none = absurd (none-some h at)
 without_home-at r (g ∷ hs) zero h at passes none = ap (λ b. cond b hs (g ∷ without_home r hs)) (ap (is_home r) (same_Some g h at) ∙ passes)
 without_home-at r (g ∷ hs) (suc i) h at passes none =
-    let parts = or-false (is_home r g) (list_any (is_home r) (take i hs)) none in
+    let parts = or_parts (is_home r g) (list_any (is_home r) (take i hs)) none in
     ap (λ b. cond b hs (g ∷ without_home r hs)) parts.0 ∙ ap (λ ks. g ∷ ks) (without_home-at r hs i h at passes parts.1)
 
 -- a region in which a dictionary lies is not closed

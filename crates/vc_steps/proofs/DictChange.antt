@@ -6,6 +6,7 @@ use Rattle.std.specs.Str.{bytes_eq}
 use Rattle.std.proofs.lemmas.Bool.{cases_Bool, false_from_ne_true, false≢true}
 use Rattle.std.proofs.lemmas.Option.{none-some, same_Some}
 use Rattle.vc_base.specs.Holders.{contains}
+use Rattle.vc_base.proofs.Texts.{bytes_eq-swapped, same_bytes}
 use Rattle.vc_dtdisc.specs.Rules.{Rules}
 use Rattle.vc_objects.specs.Objects.{Dictionary, own_blocks}
 use Rattle.vc_objects.specs.Parts.{IsWhole, dictionary_of}
@@ -17,8 +18,6 @@ use Rattle.vc_views.proofs.LinkLists.{all-remove, found-set}
 use Rattle.vc_steps.proofs.DictsStay.{Entry, Vs, home_of_entry}
 use Rattle.vc_views.proofs.Kept.{dictionary-kept, owned-there, whole-kept}
 use Rattle.vc_commands.proofs.Firsts.{IsFirst, find-first, find-set}
-use Rattle.vc_commands.proofs.FreedNames.{swapped}
-use Rattle.vc_commands.proofs.Names.{same_bytes}
 
 -- a region keeps its name and its cells, but for the blocks at these addresses before and at those after, and what is new was no cell
 pub record Touches (h g : Held) (mine mine' : List ℕ) : Type 0 where
@@ -154,7 +153,7 @@ module _ (kinds : List Rules) (hs : List Held) (j : ℕ) (h g : Held) (mine mine
     new-behind : (f : Entry) → IsDictOf kinds hs f → IsClear hs h.name mine f → AreApart gs f n
     new-behind f df cf = λ here a m.
         false_from_ne_true (contains (own_blocks (dict_over gs n)) a)
-        (λ m'. false≢true (sym (new-before f df cf (swapped n.1.home f.1.home ∙ here) a m') ∙ m))
+        (λ m'. false≢true (sym (new-before f df cf (bytes_eq-swapped n.1.home f.1.home ∙ here) a m') ∙ m))
 
     new-apart : (es : List Entry) → AreDicts kinds hs es → AllByRecursion (IsClear hs h.name mine) es → AllByRecursion (AreApart gs n) es
     new-apart [] ds cs = tt
@@ -224,7 +223,7 @@ module _ (kinds : List Rules) (hs : List Held) where
         false_from_ne_true (contains (own_blocks (dict_over hs f)) a)
         (λ own.
         false≢true
-        (sym (apart (swapped f.1.home e.1.home ∙ (ap (λ n. bytes_eq n f.1.home) (sym (same_bytes r e.1.home lies)) ∙ here)) a own) ∙ m))
+        (sym (apart (bytes_eq-swapped f.1.home e.1.home ∙ (ap (λ n. bytes_eq n f.1.home) (sym (same_bytes r e.1.home lies)) ∙ here)) a own) ∙ m))
 
     clear-all : (es : List Entry) → AllByRecursion (AreApart hs e) es → AllByRecursion (IsClear hs r (own_blocks (dict_over hs e))) es
     clear-all [] ps = tt

@@ -4,9 +4,10 @@ use Rattle.std.specs.Prelude.{slice_get}
 use Rattle.std.specs.List.{list_any, position}
 use Rattle.std.specs.Str.{bytes_eq}
 use Rattle.std.specs.Map.{keys_of, lookup, values_of}
-use Rattle.std.proofs.lemmas.Bool.{cases_Bool}
+use Rattle.std.proofs.lemmas.Bool.{cases_Bool, or_parts}
 use Rattle.std.proofs.lemmas.List.Quantifiers.{position-Some}
 use Rattle.std.proofs.lemmas.Option.{none-some, same_Some}
+use Rattle.vc_base.proofs.Texts.{bytes_eq-swapped, same_bytes}
 use Rattle.indexmap.specs.IndexMap.{set_value_at}
 use Rattle.vc_objects.specs.Objects.{Dictionary}
 use Rattle.vc_commands.specs.Held.{Held}
@@ -14,9 +15,7 @@ use Rattle.vc_steps.specs.DictHomes.{dict_home, dicts_in}
 use Rattle.vc_steps.specs.Dicts.{with_dict}
 use Rattle.vc_views.specs.Views.{dict_named, is_dict, DictHome}
 use Rattle.vc_steps.proofs.DictsStay.{Entry, Vs}
-use Rattle.vc_commands.proofs.Firsts.{IsFirst, find-first, find-none, first-unmap, or-false}
-use Rattle.vc_commands.proofs.FreedNames.{swapped}
-use Rattle.vc_commands.proofs.Names.{same_bytes}
+use Rattle.vc_commands.proofs.Firsts.{IsFirst, find-first, find-none, first-unmap}
 
 dict-set_at : (d : List ℕ) (dict : Dictionary) (ks : List DictHome) (i : ℕ) (k : DictHome) → slice_get ks i ≡ Some k → is_dict d k ≡ true → list_any (is_dict d) (take i ks) ≡ false → with_dict d dict ks ≡ set ks i (record k { dict = dict })
 dict-set_at d dict [] i k at passes none = absurd (none-some k at)
@@ -25,7 +24,7 @@ dict-set_at d dict (l ∷ ks) zero k at passes none =
     ap (λ b. cond b ((record l { dict = dict }) ∷ ks) (l ∷ with_dict d dict ks)) (ap (is_dict d) same ∙ passes)
     ∙ ap (λ (z : DictHome). (record z { dict = dict }) ∷ ks) same
 dict-set_at d dict (l ∷ ks) (suc i) k at passes none =
-    let parts = or-false (is_dict d l) (list_any (is_dict d) (take i ks)) none in
+    let parts = or_parts (is_dict d l) (list_any (is_dict d) (take i ks)) none in
     ap (λ b. cond b ((record l { dict = dict }) ∷ ks) (l ∷ with_dict d dict ks)) parts.0
     ∙ ap (λ zs. l ∷ zs) (dict-set_at d dict ks i k at passes parts.1)
 
@@ -57,7 +56,7 @@ none-of r [] zero none = refl
 none-of r [] (suc i) none = refl
 none-of r (x ∷ xs) zero none = refl
 none-of r (x ∷ xs) (suc i) none =
-    ap (λ b. b || list_any (λ n. bytes_eq n r) (take i xs)) (swapped x r ∙ none 0 (omega arith))
+    ap (λ b. b || list_any (λ n. bytes_eq n r) (take i xs)) (bytes_eq-swapped x r ∙ none 0 (omega arith))
     ∙ none-of r xs i (λ k lt. none (suc k) (omega (arith, lt)))
 
 module _ (hs : List Held) (vs : Vs) where
@@ -69,7 +68,7 @@ module _ (hs : List Held) (vs : Vs) where
   pub any-dict : (es : List Entry) (d : List ℕ) → list_any (is_dict d) (dicts_in hs vs es) ≡ is_some (lookup (bytes_eq d) es)
   any-dict [] d = refl
   any-dict (e ∷ es) d =
-      ap (λ b. b || list_any (is_dict d) (dicts_in hs vs es)) (swapped e.0 d)
+      ap (λ b. b || list_any (is_dict d) (dicts_in hs vs es)) (bytes_eq-swapped e.0 d)
       ∙ (ap (λ b. bytes_eq d e.0 || b) (any-dict es d)
       ∙ ⊎_elim
       (λ y. ap (λ b. b || is_some (lookup (bytes_eq d) es)) y ∙ sym (ap (λ b. is_some (cond b (Some e.1) (lookup (bytes_eq d) es))) y))
@@ -87,7 +86,7 @@ module _ (hs : List Held) (vs : Vs) where
       let first : IsFirst (λ n. bytes_eq n d) (keys_of es) i = record {
         item = get_or (keys_of es) i [];
         at = key-get (keys_of es) i p.0;
-        passes = swapped (get_or (keys_of es) i []) d ∙ p.1;
+        passes = bytes_eq-swapped (get_or (keys_of es) i []) d ∙ p.1;
         before = none-of d (keys_of es) i p.2;
       } in
       first-unmap (λ n. bytes_eq n d) (λ (k : DictHome). k.name) (dicts_in hs vs es) i

@@ -3,9 +3,10 @@ use Rattle.std.proofs.Common.{◌≡◌, ℕ, List, [], ◌∷◌, Option, Some,
 use Rattle.std.specs.List.{AllByRecursion}
 use Rattle.std.specs.Str.{bytes_eq}
 use Rattle.vc_base.specs.Holders.{contains}
+use Rattle.vc_base.proofs.Lists.{find-map}
+use Rattle.vc_base.proofs.Options.{option_map-Some}
 use Rattle.vc_model.specs.Discipline.{Discipline}
 use Rattle.vc_dtdisc.specs.Rules.{Rules}
-use Rattle.vc_dtdisc.proofs.FindingLemmas.{find-map}
 use Rattle.vc_objects.specs.Objects.{Dictionary, own_blocks}
 use Rattle.vc_objects.specs.Parts.{IsWhole, dictionary_of}
 use Rattle.vc_region.specs.Region.{is_best}
@@ -18,7 +19,6 @@ use Rattle.vc_steps.specs.Homes.{held_all}
 use Rattle.vc_steps.proofs.DictsStay.{Entry}
 use Rattle.vc_views.specs.Dicts.{AreApartOver, AreDictsOver, DictRegion, IsDictOver, dictionary_over, region_named, region_seen}
 use Rattle.vc_views.specs.Dicts as views
-use Rattle.vc_views.proofs.LinkLists.{some-map}
 
 -- an open region as dictionaries see it
 abbrev pub held_seen : Held → DictRegion
@@ -61,7 +61,7 @@ module _ (hs : List Held) where
 
     dict-from : (e : Entry) → IsDictOver kinds seen e → IsDictOf kinds hs e
     dict-from e is =
-        let h = some-map held_seen (held_named hs (Some e.1.home)) is.home (sym (region-found e.1.home) ∙ is.found) in
+        let h = option_map-Some held_seen (held_named hs (Some e.1.home)) is.home (sym (region-found e.1.home) ∙ is.found) in
         record {
           home = h.0;
           found = h.1;

@@ -4,10 +4,11 @@ use Rattle.std.specs.Prelude.{remove, slice_get}
 use Rattle.std.specs.List.{AllByRecursion, list_any}
 use Rattle.std.specs.Map.{lookup}
 use Rattle.std.specs.Str.{bytes_eq}
-use Rattle.std.proofs.lemmas.Bool.{cases_Bool}
+use Rattle.std.proofs.lemmas.Bool.{cases_Bool, or_parts}
 use Rattle.std.proofs.lemmas.Option.{none-some, same_Some}
 use Rattle.std.proofs.lemmas.Slice.Eq.{bytes_eq-Decides}
 use Rattle.vc_base.specs.Cells.{Blocks}
+use Rattle.vc_base.proofs.Texts.{bytes_eq-swapped}
 use Rattle.vc_dtdisc.specs.Rules.{Rules}
 use Rattle.vc_model.specs.Layout.{Layout}
 use Rattle.vc_region.specs.Region.{OfBest, layout_in, region_with_labels}
@@ -30,8 +31,6 @@ use Rattle.vc_steps.proofs.Changing.{homes-change, session-change, settled-same}
 use Rattle.vc_steps.proofs.DictChange.{IsClear, Touches, clear-others, dicts-kept, dicts-remove, homes-kept}
 use Rattle.vc_steps.proofs.DictNamed.{home-at}
 use Rattle.vc_steps.proofs.DictsStay.{Entry, Vs}
-use Rattle.vc_commands.proofs.Firsts.{or-false}
-use Rattle.vc_commands.proofs.FreedNames.{swapped}
 use Rattle.vc_steps.proofs.Sessions.{Slots, held-at}
 use Rattle.vc_best.specs.Cells.{cells_in, rest_in}
 use Rattle.vc_best.specs.Parts.{disc_in}
@@ -55,7 +54,7 @@ without-at : (d : List ℕ) (ks : List DictHome) (i : ℕ) (k : DictHome) → sl
 without-at d [] i k at passes none = absurd (none-some k at)
 without-at d (l ∷ ks) zero k at passes none = ap (λ b. cond b ks (l ∷ without_dict d ks)) (ap (is_dict d) (same_Some l k at) ∙ passes)
 without-at d (l ∷ ks) (suc i) k at passes none =
-    let parts = or-false (is_dict d l) (list_any (is_dict d) (take i ks)) none in
+    let parts = or_parts (is_dict d l) (list_any (is_dict d) (take i ks)) none in
     ap (λ b. cond b ks (l ∷ without_dict d ks)) parts.0 ∙ ap (λ zs. l ∷ zs) (without-at d ks i k at passes parts.1)
 
 -- no other one has the name, where none that is left has it
@@ -67,7 +66,7 @@ none-left hs vs (e ∷ es) d (suc i) none =
     ⊎_elim
     (λ is. absurd (none-some e.1 (sym none ∙ ap (λ b. cond b (Some e.1) (lookup (bytes_eq d) (remove es i))) is)))
     (λ is.
-    ap (λ b. b || list_any (is_dict d) (take i (dicts_in hs vs es))) (swapped e.0 d ∙ is)
+    ap (λ b. b || list_any (is_dict d) (take i (dicts_in hs vs es))) (bytes_eq-swapped e.0 d ∙ is)
     ∙ none-left hs vs es d i (sym (ap (λ b. cond b (Some e.1) (lookup (bytes_eq d) (remove es i))) is) ∙ none))
     (cases_Bool (bytes_eq d e.0))
 

@@ -1,6 +1,6 @@
 -- The four reasons for which no dictionary is opened before its table is asked for.
 use Rattle.std.proofs.Common.{◌≡◌, ◌<◌, ℕ, Bool, true, false, ◌≤◌, ◌&&◌, cond, List, Option, Some, None, length, refl, sym, subst, arith}
-use Rattle.std.proofs.lemmas.Bool.{false≢true}
+use Rattle.std.proofs.lemmas.Bool.{false≢true, and_parts}
 use Rattle.std.proofs.lemmas.Bool.Decides.{nat_tests}
 use Rattle.std.specs.Prelude.{nat_le, not}
 use Rattle.std.specs.List.{list_any}
@@ -72,13 +72,9 @@ refused-none s h d k is =
     let parts = allowed (list_any (is_dict d) s.dicts) (is_kind s k) (is_best h.region) (nat_le dict_limit (length s.dicts)) is in
     record { new = parts.0; kind = parts.1; best = parts.2; few = parts.3 }
 
-both : (a b : Bool) → (a && b) ≡ true → (a ≡ true) × (b ≡ true)
-both true b is = (refl, is)
-both false b is = absurd (false≢true is)
-
 pub kind-within : (k n : ℕ) → (nat_le 1 k && nat_le k n) ≡ true → (1 ≤ k) × (k ≤ n)
 kind-within k n is =
-    let parts = both (nat_le 1 k) (nat_le k n) is in
+    let parts = and_parts (nat_le 1 k) (nat_le k n) is in
     (let low : 1 ≤ k = grind (arith, nat_tests, parts.0) in low, let high : k ≤ n = grind (arith, nat_tests, parts.1) in high)
 
 pub few-within : (n : ℕ) → nat_le dict_limit n ≡ false → n < 256

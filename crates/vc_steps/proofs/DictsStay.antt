@@ -3,9 +3,11 @@ use Rattle.std.proofs.Common.{◌≡◌, ℕ, true, false, List, [], ◌∷◌, 
 use Rattle.std.specs.Prelude.{remove, slice_get}
 use Rattle.std.specs.List.{AllByRecursion, list_any}
 use Rattle.std.specs.Str.{bytes_eq}
-use Rattle.std.proofs.lemmas.Bool.{cases_Bool}
+use Rattle.std.proofs.lemmas.Bool.{cases_Bool, or_parts}
 use Rattle.std.proofs.lemmas.Option.{same_Some}
 use Rattle.vc_base.specs.Holders.{contains}
+use Rattle.vc_base.proofs.Quantifiers.{any-map}
+use Rattle.vc_base.proofs.Texts.{bytes_eq-swapped, same_bytes}
 use Rattle.vc_dtdisc.specs.Rules.{Rules}
 use Rattle.vc_objects.specs.Objects.{Dictionary, own_blocks}
 use Rattle.vc_objects.specs.Parts.{IsWhole, dictionary_of}
@@ -17,9 +19,7 @@ use Rattle.vc_steps.specs.DictHomes.{AreApart, AreDicts, IsDictOf, cells_held, d
 use Rattle.vc_views.specs.Views.{DictHome}
 use Rattle.vc_views.proofs.LinkLists.{found-push, found-remove, found-set}
 use Rattle.vc_commands.specs.Home.{is_home}
-use Rattle.vc_commands.proofs.Firsts.{IsFirst, any-unmap, find-first, find-set, first-unmap, or-false}
-use Rattle.vc_commands.proofs.FreedNames.{swapped}
-use Rattle.vc_commands.proofs.Names.{same_bytes}
+use Rattle.vc_commands.proofs.Firsts.{IsFirst, find-first, find-set, first-unmap}
 
 abbrev pub Entry : Type 0
 Entry = List ℕ × DictEntry
@@ -106,16 +106,16 @@ stays-push kinds hs g e =
 pub stays-remove : (kinds : List Rules) (hs : List Held) (i : ℕ) (h : Held) → slice_get hs i ≡ Some h → (e : Entry) → bytes_eq e.1.home h.name ≡ false → Stays kinds hs (remove hs i) e
 stays-remove kinds hs i h at e other =
     stays-found kinds hs (remove hs i) e
-    (λ k found. found-remove (λ k. bytes_eq k.name e.1.home) hs i h at (swapped h.name e.1.home ∙ other) ∙ found)
+    (λ k found. found-remove (λ k. bytes_eq k.name e.1.home) hs i h at (bytes_eq-swapped h.name e.1.home ∙ other) ∙ found)
 
 -- whether a dictionary lies in a region
 pub busy-lies : (hs : List Held) (vs : Vs) (es : List Entry) (r : List ℕ) → list_any (λ (d : DictHome). bytes_eq d.home r) (dicts_in hs vs es) ≡ lies_in r es
-busy-lies hs vs es r = any-unmap (λ (d : DictHome). bytes_eq d.home r) (dict_home hs vs) es
+busy-lies hs vs es r = any-map (λ (d : DictHome). bytes_eq d.home r) (dict_home hs vs) es
 
 pub all-other : (kinds : List Rules) (before after : List Held) (r : List ℕ) → ((e : Entry) → bytes_eq e.1.home r ≡ false → Stays kinds before after e) → (es : List Entry) → lies_in r es ≡ false → AllByRecursion (Stays kinds before after) es
 all-other kinds before after r each [] none = tt
 all-other kinds before after r each (e ∷ es) none =
-    let parts = or-false (bytes_eq e.1.home r) (lies_in r es) none in
+    let parts = or_parts (bytes_eq e.1.home r) (lies_in r es) none in
     (each e parts.0, all-other kinds before after r each es parts.1)
 
 -- the first region of a name changes
@@ -123,7 +123,7 @@ module _ (hs : List Held) (i : ℕ) (h g : Held) (at : slice_get hs i ≡ Some h
   -- the dictionaries of the others stay
   pub stays-elsewhere : (kinds : List Rules) (e : Entry) → bytes_eq e.1.home h.name ≡ false → Stays kinds hs (set hs i g) e
   stays-elsewhere kinds e other =
-      let fails : bytes_eq h.name e.1.home ≡ false = swapped h.name e.1.home ∙ other in
+      let fails : bytes_eq h.name e.1.home ≡ false = bytes_eq-swapped h.name e.1.home ∙ other in
       stays-found kinds hs (set hs i g) e
       (λ k found. found-set (λ k. bytes_eq k.name e.1.home) hs i h g at fails (ap (λ n. bytes_eq n e.1.home) name ∙ fails) ∙ found)
 

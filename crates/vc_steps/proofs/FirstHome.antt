@@ -3,11 +3,12 @@ use Rattle.std.proofs.Common.{◌≡◌, ℕ, zero, suc, true, false, cond, List
 use Rattle.std.specs.Prelude.{slice_get}
 use Rattle.std.specs.List.{list_any}
 use Rattle.std.proofs.lemmas.Option.{same_Some, none-some}
+use Rattle.std.proofs.lemmas.Bool.{or_parts}
 use Rattle.vc_region.specs.Region.{Region}
 use Rattle.vc_commands.specs.FreedNames.{FreedNames}
 use Rattle.vc_commands.specs.Home.{Home, Label, is_home}
 use Rattle.vc_steps.specs.State.{with_region}
-use Rattle.vc_commands.proofs.Firsts.{IsFirst, or-false}
+use Rattle.vc_commands.proofs.Firsts.{IsFirst}
 
 with_region-at : (r : List ℕ) (region : Region Label) (kept : FreedNames) (hs : List Home) (i : ℕ) (h : Home) → slice_get hs i ≡ Some h → is_home r h ≡ true → list_any (is_home r) (take i hs) ≡ false → with_region r region kept hs ≡ set hs i (record h { region = region; kept = kept })
 with_region-at r region kept [] i h at passes none = absurd (none-some h at)
@@ -17,7 +18,7 @@ with_region-at r region kept (g ∷ hs) zero h at passes none =
     ap (λ b. cond b ((record g { region = region; kept = kept }) ∷ hs) (g ∷ with_region r region kept hs)) named_r
     ∙ ap (λ (k : Home). (record k { region = region; kept = kept }) ∷ hs) same
 with_region-at r region kept (g ∷ hs) (suc i) h at passes none =
-    let parts = or-false (is_home r g) (list_any (is_home r) (take i hs)) none in
+    let parts = or_parts (is_home r g) (list_any (is_home r) (take i hs)) none in
     ap (λ b. cond b ((record g { region = region; kept = kept }) ∷ hs) (g ∷ with_region r region kept hs)) parts.0
     ∙ ap (λ ks. g ∷ ks) (with_region-at r region kept hs i h at passes parts.1)
 

@@ -10,6 +10,7 @@ use Rattle.std.proofs.lemmas.Option.{same_Some, none-some}
 use Rattle.std.proofs.lemmas.Slice.Eq.{bytes_eq-Decides}
 use Rattle.indexmap.specs.IndexMap.{set_value_at}
 use Rattle.vc_model.specs.Discipline.{Discipline}
+use Rattle.vc_base.proofs.Texts.{same_bytes, bytes_eq-swapped}
 use Rattle.vc_commands.specs.declared.region.home.HomeEntry.{HomeEntry}
 use Rattle.vc_commands.specs.declared.region.labels.Labels.{Labels}
 use Rattle.vc_commands.specs.Home.{Home, is_home}
@@ -17,14 +18,7 @@ use Rattle.vc_commands.specs.Held.{home_of}
 use Rattle.vc_commands.specs.RegionRun.{held_of}
 use Rattle.vc_steps.specs.Homes.{held_all}
 use Rattle.vc_commands.proofs.Firsts.{IsFirst, first-unmap}
-use Rattle.vc_commands.proofs.Names.{other_bytes, same_bytes}
-
-pub swapped : (x y : List ℕ) → bytes_eq x y ≡ bytes_eq y x
-swapped x y =
-    ⊎_elim
-    (λ e. e ∙ sym ((bytes_eq-Decides y x).1 (sym (same_bytes x y e))))
-    (λ e. e ∙ sym (⊎_elim (λ f. absurd (other_bytes x y e (sym (same_bytes y x f)))) (λ f. f) (cases_Bool (bytes_eq y x))))
-    (cases_Bool (bytes_eq x y))
+use Rattle.vc_commands.proofs.Names.{other_bytes}
 
 -- what stands at an index of a list
 pub slice-or : {A : Type 0} (xs : List A) (i : ℕ) (x : A) → i < length xs → x ≡ get_or xs i x → slice_get xs i ≡ Some x
@@ -51,7 +45,7 @@ module _ {I : Type 0} {V : I → Type 0} (meaning : (x : I) × V x → Disciplin
   any-named [] labels r same = refl
   any-named (e ∷ es) [] r same = absurd (omega (arith, same))
   any-named (e ∷ es) (l ∷ ls) r same =
-      ap (λ b. b || list_any (is_home r) (map home_of (held_all meaning es ls))) (swapped e.0 r)
+      ap (λ b. b || list_any (is_home r) (map home_of (held_all meaning es ls))) (bytes_eq-swapped e.0 r)
       ∙ (ap (λ b. bytes_eq r e.0 || b) (any-named es ls r (omega (arith, same)))
       ∙ ⊎_elim
       (λ y. ap (λ b. b || is_some (lookup (bytes_eq r) es)) y ∙ sym (ap (λ b. is_some (cond b (Some e.1) (lookup (bytes_eq r) es))) y))
@@ -68,7 +62,7 @@ module _ {I : Type 0} {V : I → Type 0} (meaning : (x : I) × V x → Disciplin
   none-before r [] (suc i) none = refl
   none-before r (x ∷ xs) zero none = refl
   none-before r (x ∷ xs) (suc i) none =
-      ap (λ b. b || list_any (λ n. bytes_eq n r) (take i xs)) (swapped x r ∙ none 0 (omega arith))
+      ap (λ b. b || list_any (λ n. bytes_eq n r) (take i xs)) (bytes_eq-swapped x r ∙ none 0 (omega arith))
       ∙ none-before r xs i (λ k lt. none (suc k) (omega (arith, lt)))
 
   slice_get_at : (xs : List (List ℕ)) (k : ℕ) → k < length xs → slice_get xs k ≡ Some (get_or xs k [])
@@ -83,7 +77,7 @@ module _ {I : Type 0} {V : I → Type 0} (meaning : (x : I) × V x → Disciplin
       let first : IsFirst (λ n. bytes_eq n r) (keys_of homes) i = record {
         item = get_or (keys_of homes) i [];
         at = slice_get_at (keys_of homes) i p.0;
-        passes = swapped (get_or (keys_of homes) i []) r ∙ p.1;
+        passes = bytes_eq-swapped (get_or (keys_of homes) i []) r ∙ p.1;
         before = none-before r (keys_of homes) i p.2;
       } in
       first-unmap (λ n. bytes_eq n r) (λ (k : Home). k.name) (map home_of (held_all meaning homes labels)) i
@@ -141,8 +135,3 @@ module _ {I : Type 0} {V : I → Type 0} (meaning : (x : I) × V x → Disciplin
   held-remove (e ∷ es) [] i same = absurd (omega (arith, same))
   held-remove (e ∷ es) (k ∷ ks) zero same = refl
   held-remove (e ∷ es) (k ∷ ks) (suc i) same = ap (λ hs. held_of meaning e.0 e.1 k ∷ hs) (held-remove es ks i (omega (arith, same)))
-
--- where no key passes, none is found
-pub none_of : {A : Type 0} (o : Option A) → is_some o ≡ false → o ≡ None
-none_of None e = refl
-none_of (Some x) e = absurd cc

@@ -2,6 +2,7 @@
 use Rattle.std.proofs.Common.{◌≡◌, ℕ, ◌&&◌, Bool, true, false, List, Some, Result, Ok, Err, IfOk, OnErr, map, set, refl, sym, ap, ◌∙◌}
 use Rattle.std.specs.Prelude.{slice_get}
 use Rattle.std.specs.List.{AllByRecursion}
+use Rattle.vc_base.proofs.Texts.{same_bytes}
 use Rattle.vc_dtdisc.specs.Rules.{Rules}
 use Rattle.vc_script.specs.Needs.{need_shown}
 use Rattle.vc_script.specs.declared.command.Command.{Command}
@@ -25,16 +26,11 @@ use Rattle.vc_steps.proofs.BestStays.{region-best, relabelled-best}
 use Rattle.vc_steps.proofs.DictsStay.{Entry, Stays, all-other, all-stay, its-name, stays-elsewhere, stays-set_cells}
 use Rattle.vc_commands.proofs.Firsts.{IsFirst}
 use Rattle.vc_commands.proofs.Grants.{IsPlain}
-use Rattle.vc_commands.proofs.Names.{same_bytes}
 
 -- a fact of each answer follows from another
 pub if_ok_at : {T E : Type 0} (r : Result T E) (P Q : T → Type 0) → ((x : T) → r ≡ Ok x → P x → Q x) → IfOk r P → IfOk r Q
 if_ok_at (Ok x) P Q f p = f x refl p
 if_ok_at (Err e) P Q f p = tt
-
-pub both-true : (a b : Bool) → (a && b) ≡ true → (a ≡ true) × (b ≡ true)
-both-true true b e = (refl, e)
-both-true false b e = absurd cc
 
 pub clear-is : (command : Command) → is_clear command ≡ true → (x : List ℕ) × (command ≡ ClearRegion x)
 clear-is (ClearRegion x) e = (x, refl)

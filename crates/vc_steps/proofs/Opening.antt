@@ -5,6 +5,7 @@ use Rattle.std.specs.List.{AllByRecursion, list_any}
 use Rattle.std.proofs.lemmas.List.{append-nil, map-append, map-set, set-set}
 use Rattle.std.proofs.lemmas.Option.{slice_get-map}
 use Rattle.vc_base.specs.Cells.{Blocks}
+use Rattle.vc_base.proofs.Lists.{slice_get-set}
 use Rattle.vc_model.specs.Numbered.{at_number}
 use Rattle.vc_model.specs.Discipline.{Discipline}
 use Rattle.vc_model.specs.Layout.{Block}
@@ -28,7 +29,7 @@ use Rattle.vc_commands.specs.Labels.{AreLabels, kept_of, name_of, tag_of}
 use Rattle.vc_steps.specs.Account.{Account, IsSession, account, accounts, account_after, settled_accounts, state_of}
 use Rattle.vc_commands.specs.Held.{Held, IsLive, IsNamed, home_of, tag_count}
 use Rattle.vc_steps.specs.State.{not_here as why_not}
-use Rattle.vc_steps.proofs.Cells.{at_number-from_one, at_number_some, slice_get-set_same, at_number-map, set_same}
+use Rattle.vc_steps.proofs.Cells.{at_number-from_one, at_number_some, at_number-map, set_same}
 use Rattle.vc_commands.proofs.Answers.{front-out}
 use Rattle.vc_commands.proofs.Names.{has-label-any, named_by}
 use Rattle.vc_steps.proofs.Settle.{settled-push, settled-set, settled-keeps, off-apart, Off}
@@ -119,7 +120,7 @@ module _ (slots : Slots) (hs : List Held) (name : List ℕ) (n : ℕ) (d : Disci
       let low = (at_number_some slots n (Some d) at).0 in
       session-push slots (n - 1) (Some d) hs (fresh name n d region cells labels) there session (away-session slots n d hs at session)
       (record {
-        place = at_number-from_one (set slots (n - 1) None) n low ∙ slice_get-set_same slots (n - 1) (Some d) None there;
+        place = at_number-from_one (set slots (n - 1) None) n low ∙ slice_get-set slots (n - 1) (Some d) None there;
         lent = (d.out, sym (append-nil d.out) ∙ ap (λ s. d.out ++ s) (sym segments));
         names = none-named region labels none (ap (λ r. blocks_of r) is ∙ opened-blocks m);
       })

@@ -5,6 +5,7 @@ use Rattle.std.specs.List.{AllByRecursion}
 use Rattle.std.proofs.lemmas.Option.{none-some, same_Some}
 use Rattle.std.proofs.lemmas.Simd.{map-map}
 use Rattle.vc_base.specs.declared.dict_method.DictMethod.{DictMethod}
+use Rattle.vc_base.proofs.Lists.{head-same, tail-same}
 use Rattle.vc_model.specs.Discipline.{Discipline}
 use Rattle.vc_seg.specs.Boxed.{disc_in_box}
 use Rattle.vc_region.specs.Cells.{cells_in}
@@ -30,12 +31,6 @@ AllRest [] [] = Unit {0}
 AllRest [] (g ∷ gs) = ⊥
 AllRest (h ∷ hs) [] = ⊥
 AllRest (h ∷ hs) (g ∷ gs) = SameRest h g × AllRest hs gs
-
-head-same : {X : Type 0} (x y : X) (xs ys : List X) → x ∷ xs ≡ y ∷ ys → x ≡ y
-head-same x y xs ys e = cc
-
-tail-same : {X : Type 0} (x y : X) (xs ys : List X) → x ∷ xs ≡ y ∷ ys → xs ≡ ys
-tail-same x y xs ys e = cc
 
 module _ {I : Type 0} {V : I → Type 0} (meaning : (x : I) × V x → Discipline) where
   rest-one : (e f : List ℕ × HomeEntry I V) (l : Labels) → home_rest f ≡ home_rest e → SameRest (held_entry meaning (e, l)) (held_entry meaning (f, l))

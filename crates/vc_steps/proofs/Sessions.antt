@@ -6,9 +6,10 @@ use Rattle.std.specs.List.{AllByRecursion}
 use Rattle.std.proofs.lemmas.Option.{same_Some, none-some}
 use Rattle.vc_model.specs.Numbered.{at_number}
 use Rattle.vc_model.specs.Discipline.{Discipline}
+use Rattle.vc_base.proofs.Lists.{slice_get-set}
 use Rattle.vc_commands.specs.Held.{Held}
 use Rattle.vc_steps.specs.Account.{IsHeld, IsSession}
-use Rattle.vc_steps.proofs.Cells.{at_number-from_one, at_number_some, slice_get-set_same, slice_get-set_other}
+use Rattle.vc_steps.proofs.Cells.{at_number-from_one, at_number_some, slice_get-set_other}
 use Rattle.vc_steps.proofs.Settle.{IsApart}
 
 abbrev pub Slots : Type 0
@@ -29,7 +30,7 @@ taken_stays : (slots : Slots) (k : ℕ) (o : Option Discipline) (p : ℕ) → sl
 taken_stays slots k o p there at =
     let found = at_number_some slots p None at in
     at_number-from_one (set slots k None) p found.0 ∙ ⊎_elim
-    (λ e. ap (slice_get (set slots k None)) e ∙ slice_get-set_same slots k o None there)
+    (λ e. ap (slice_get (set slots k None)) e ∙ slice_get-set slots k o None there)
     (λ other. slice_get-set_other slots k (p - 1) None other ∙ found.1)
     (cases_eq (p - 1) k)
 

@@ -4,7 +4,8 @@ use Rattle.std.specs.Prelude.{slice_get, ⊤}
 use Rattle.std.specs.List.{AllByRecursion}
 use Rattle.std.proofs.lemmas.List.{set_comm, set-set}
 use Rattle.std.proofs.lemmas.Option.{same_Some, none-some}
-use Rattle.vc_steps.proofs.Cells.{slice_get-set_same, slice_get-set_other}
+use Rattle.vc_base.proofs.Lists.{slice_get-set}
+use Rattle.vc_steps.proofs.Cells.{slice_get-set_other}
 use Rattle.vc_steps.specs.Account.{Account, account_after, settled_accounts}
 use Rattle.vc_commands.specs.Held.{Held}
 
@@ -69,7 +70,7 @@ settled-at shelf (f ∷ hs) zero h o at there apart =
     let same : f ≡ h = same_Some f h at in
     subst (λ (x : Held). slice_get (settled_accounts (set shelf (f.place - 1) (Some (account_after f))) hs) (x.place - 1) ≡ Some (Some (account_after x))) same
     (settled-keeps (set shelf (f.place - 1) (Some (account_after f))) (f.place - 1) hs (off-apart f.place hs apart.0 apart.1 apart.2)
-    ∙ slice_get-set_same shelf (f.place - 1) o (Some (account_after f)) (subst (λ (x : Held). slice_get shelf (x.place - 1) ≡ Some o) (sym same) there))
+    ∙ slice_get-set shelf (f.place - 1) o (Some (account_after f)) (subst (λ (x : Held). slice_get shelf (x.place - 1) ≡ Some o) (sym same) there))
 settled-at shelf (f ∷ hs) (suc i) h o at there apart =
     let other : h.place ≢ f.place = away-at f.place hs i h at apart.1 in
     let low : 1 ≤ h.place = low-at hs i h at apart.2 in

@@ -5,8 +5,9 @@ use Rattle.std.specs.Prelude.{count_by, ◌==◌}
 use Rattle.std.proofs.lemmas.List.Sums.{sum_by-append}
 use Rattle.vc_model.specs.Count.{Rose}
 use Rattle.vc_model.specs.Numbered.{at_number}
+use Rattle.vc_base.proofs.Lists.{slice_get-set}
 use Rattle.vc_views.proofs.LinkLists.{map-set_same}
-use Rattle.vc_steps.proofs.Cells.{slice_get-set_same, slice_get-set_other, at_number-from_one, at_number-zero, at_number_some}
+use Rattle.vc_steps.proofs.Cells.{slice_get-set_other, at_number-from_one, at_number-zero, at_number_some}
 use Rattle.vc_steps.specs.Account.{Account, CountsFaults, KeepsAccounts, faults_of, RoseBy, Settles, without_faults}
 
 rose_by-trans : (m n a b c : ℕ) → RoseBy m a b → RoseBy n b c → RoseBy (m + n) a c
@@ -80,7 +81,7 @@ module _ (shelf : List (Option Account)) (place n : ℕ) (a b : Account) (refusa
   at_place =
       let found = at_number_some shelf place (Some a) at in
       at_number-from_one (set shelf (place - 1) (Some b)) place found.0
-      ∙ slice_get-set_same shelf (place - 1) (Some a) (Some b) found.1
+      ∙ slice_get-set shelf (place - 1) (Some a) (Some b) found.1
 
   counts_here : (q : ℕ) → q ≡ place → CountsFaults (count_by (λ p. p == q) refusals) (faults_of (at_number shelf q)) (faults_of (at_number after q))
   counts_here q e =

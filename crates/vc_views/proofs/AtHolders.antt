@@ -5,12 +5,13 @@ use Rattle.std.specs.List.{list_any}
 use Rattle.std.proofs.lemmas.Bool.Decides.{eqb_tells}
 use Rattle.vc_base.specs.Cells.{Blocks}
 use Rattle.vc_base.specs.Holders.{AreDistinct, contains, first_in, last_in, next_in, previous_in}
+use Rattle.vc_base.proofs.Quantifiers.{any-map}
 use Rattle.vc_dtdisc.specs.Finding.{before_first, first_of, last_of}
 use Rattle.vc_dtdisc.specs.Finds.{find_key, object_at}
 use Rattle.vc_dtdisc.specs.Objects.{bytes_of}
 use Rattle.vc_dtdisc.specs.Rules.{Rules}
 use Rattle.vc_dtdisc.proofs.AddressLemmas.{before_first-previous_in, last_of-last_in}
-use Rattle.vc_dtdisc.proofs.FindingLemmas.{before_first-map, last_of-map, list_any-map}
+use Rattle.vc_dtdisc.proofs.FindingLemmas.{before_first-map, last_of-map}
 use Rattle.vc_dtdisc.proofs.ObjectsLemmas.{first_with-map}
 use Rattle.vc_objects.specs.Parts.{object_of}
 use Rattle.vc_objects.proofs.Mapped.{address-mapped, first-mapped}
@@ -24,7 +25,7 @@ module _ (b : Blocks) where
   last-place xs = ap place_in (last_of-map (object_of b) xs) ∙ address-mapped b (last_of xs) ∙ last_of-last_in xs
 
   any-there : (at : ℕ) (xs : List ℕ) → list_any (stands_at at) (map (object_of b) xs) ≡ contains xs at
-  any-there at xs = list_any-map (object_of b) (stands_at at) xs
+  any-there at xs = any-map (object_of b) (stands_at at) xs
 
   pub behind-place : (at : ℕ) (xs : List ℕ) → AreDistinct xs → place_behind at (map (object_of b) xs) ≡ next_in at xs
   behind-place at [] d = refl

@@ -8,6 +8,7 @@ use Rattle.std.proofs.lemmas.List.{length-map}
 use Rattle.std.proofs.lemmas.Bool.{cases_Bool, eq-eqb, eqb-true, ne_eqb, true≢false}
 use Rattle.std.proofs.lemmas.Bool.Decides.{eqb_tells}
 use Rattle.std.proofs.lemmas.Option.{none-some, same_Some, slice_get-map}
+use Rattle.std.proofs.Math.Bool.{or-true}
 use Rattle.vc_base.specs.declared.addr.Addr.{Addr}
 use Rattle.vc_base.specs.Holders.{AreDistinct, contains, some_address}
 use Rattle.vc_dtdisc.specs.Finding.{before_first_from, behind_last, first_of}
@@ -81,10 +82,6 @@ module _ (all : Layered) (links : Links) (d : ℕ) (lawful : AreLayers all) (pat
 
   pub own-there : own_place (λ e. e == d) (look_found rules command (visible_of all links d)) ≡ Some a → IsSome (bytes_there a (all.layer d).objects)
   own-there e = look-one (is_askable command) e
-
-or-true : (b : Bool) → (b || true) ≡ true
-or-true true = refl
-or-true false = refl
 
 numbers-seen : (regions : List DictRegion) (es : List Entry) → map (λ (s : DictSeen). s.number) (map (dict_seen regions) es) ≡ map number_in es
 numbers-seen regions [] = refl

@@ -6,10 +6,12 @@ use Rattle.std.specs.Map.{keys_of, lookup, values_of}
 use Rattle.std.specs.Str.{bytes_eq}
 use Rattle.std.proofs.lemmas.Bool.{true≢false}
 use Rattle.std.proofs.lemmas.List.Quantifiers.{position-Some}
-use Rattle.std.proofs.lemmas.Option.{none-some, same_Some}
+use Rattle.std.proofs.lemmas.Option.{none-some, same_Some, slice_get-get_or}
 use Rattle.indexmap.specs.IndexMap.{set_value_at}
 use Rattle.vc_base.specs.Cells.{Blocks}
-use Rattle.vc_dtdisc.proofs.FindingLemmas.{find-map}
+use Rattle.vc_base.proofs.Lists.{find-map}
+use Rattle.vc_base.proofs.Texts.{bytes_eq-swapped}
+use Rattle.vc_base.proofs.Quantifiers.{any-agree}
 use Rattle.vc_best.specs.declared.best.Best as best
 use Rattle.vc_region.specs.Cells.{cells_in, rest_in}
 use Rattle.vc_region.specs.Region.{is_best}
@@ -17,7 +19,6 @@ use Rattle.vc_region.specs.declared.region.Region as code
 use Rattle.vc_region.specs.declared.region.Region.TheVariants.{Best, Pool, Last, Debug, Profile}
 use Rattle.vc_commands.specs.declared.region.home.HomeEntry.{HomeEntry}
 use Rattle.vc_commands.proofs.Firsts.{IsFirst, first-unmap}
-use Rattle.vc_commands.proofs.FreedNames.{swapped}
 use Rattle.vc_views.specs.Dicts.{DictRegion, entry_numbered, is_numbered, region_named, region_seen}
 use Rattle.vc_commands.specs.declared.dict.entry.DictEntry.{DictEntry}
 use Rattle.vc_views.specs.LayerLaws.{Entry, some-there}
@@ -28,11 +29,6 @@ none-before test [] (suc i) d none within = refl
 none-before test (x ∷ xs) (suc i) d none within =
     ap (λ b. b || list_any test (take i xs)) (none 0 (omega arith)) ∙ none-before test xs i d (λ k lt. none (suc k) (omega (arith, lt))) (omega (arith, within))
 
-get-there : {A : Type 0} (xs : List A) (i : ℕ) (d : A) → i < length xs → slice_get xs i ≡ Some (get_or xs i d)
-get-there [] i d within = absurd (omega (arith, within))
-get-there (x ∷ xs) zero d within = refl
-get-there (x ∷ xs) (suc i) d within = get-there xs i d (omega (arith, within))
-
 -- the first place that passes a test
 pub first-at : {A : Type 0} (test : A → Bool) (xs : List A) (i : ℕ) → position test xs ≡ Some i → IsFirst test xs i
 first-at test [] i at = absurd (none-some i at)
@@ -40,7 +36,7 @@ first-at test (x ∷ xs) i at =
     let p = position-Some test (x ∷ xs) i x at in
     record {
       item = get_or (x ∷ xs) i x;
-      at = get-there (x ∷ xs) i x p.0;
+      at = slice_get-get_or (x ∷ xs) i x p.0;
       passes = p.1;
       before = none-before test (x ∷ xs) i x p.2 p.0;
     }
@@ -52,11 +48,6 @@ drop-find test [] (suc i) h = cc
 drop-find test (x ∷ xs) zero h = (x, refl, refl)
 drop-find test (x ∷ xs) (suc i) h = drop-find test xs i h
 
-pub within-some : {A : Type 0} (xs : List A) (i : ℕ) (x : A) → slice_get xs i ≡ Some x → i < length xs
-within-some [] i x at = absurd (none-some x at)
-within-some (y ∷ ys) zero x at = omega arith
-within-some (y ∷ ys) (suc i) x at = omega (arith, within-some ys i x at)
-
 pub value-read : {A : Type 0} (es : List (List ℕ × A)) (i : ℕ) (e : List ℕ × A) (v : A) → slice_get es i ≡ Some e → slice_get (values_of es) i ≡ Some v → e.1 ≡ v
 value-read [] i e v at read = absurd (none-some e at)
 value-read (x ∷ es) zero e v at read = ap (λ (p : List ℕ × _). p.1) (sym (same_Some x e at)) ∙ same_Some x.1 v read
@@ -66,10 +57,6 @@ pub value-set : {A : Type 0} (es : List (List ℕ × A)) (i : ℕ) (e : List ℕ
 value-set [] i e y at = absurd (none-some e at)
 value-set (x ∷ es) zero e y at = ap (λ (p : List ℕ × _). (p.0, y) ∷ es) (same_Some x e at)
 value-set (x ∷ es) (suc i) e y at = ap (λ zs. x ∷ zs) (value-set es i e y at)
-
-any-same : {A : Type 0} (f g : A → Bool) (xs : List A) → ((x : A) → f x ≡ g x) → list_any f xs ≡ list_any g xs
-any-same f g [] same = refl
-any-same f g (x ∷ xs) same = ap (λ b. b || list_any f xs) (same x) ∙ ap (λ b. g x || b) (any-same f g xs same)
 
 -- what a dictionary needs of its region
 abbrev part_seen : DictRegion → Bool × Blocks
@@ -90,7 +77,7 @@ module _ {I : Type 0} {V : I → Type 0} where
   pub named-looked : (es : List (List ℕ × HomeEntry I V)) (r : List ℕ) → option_map part_seen (region_named (map region_seen es) r) ≡ option_map part_of (lookup (bytes_eq r) es)
   named-looked [] r = refl
   named-looked (e ∷ es) r =
-      ap (λ t. option_map part_seen (cond t (Some (region_seen e)) (region_named (map region_seen es) r))) (swapped e.0 r)
+      ap (λ t. option_map part_seen (cond t (Some (region_seen e)) (region_named (map region_seen es) r))) (bytes_eq-swapped e.0 r)
       ∙ option-choice part_seen part_of (bytes_eq r e.0) (Some (region_seen e)) (region_named (map region_seen es) r) (Some e.1) (lookup (bytes_eq r) es) refl (named-looked es r)
 
   named-none : (o : Option DictRegion) (p : Option (HomeEntry I V)) (h : DictRegion) → option_map part_seen o ≡ option_map part_of p → o ≡ Some h → false ≡ is_some p → ⊥
@@ -111,8 +98,8 @@ module _ {I : Type 0} {V : I → Type 0} where
       record {
         item = f.item;
         at = f.at;
-        passes = swapped f.item.0 r ∙ f.passes;
-        before = any-same (λ e. bytes_eq e.0 r) (λ e. bytes_eq r e.0) (take j es) (λ e. swapped e.0 r) ∙ f.before;
+        passes = bytes_eq-swapped f.item.0 r ∙ f.passes;
+        before = any-agree (λ e. bytes_eq e.0 r) (λ e. bytes_eq r e.0) (take j es) (λ e. bytes_eq-swapped e.0 r) ∙ f.before;
       }
 
 -- a region that is a best one is no other

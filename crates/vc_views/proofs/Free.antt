@@ -2,10 +2,9 @@
 use Rattle.std.proofs.Common.{◌≡◌, ◌≢◌, ◌<◌, ◌≤◌, ◌||◌, ℕ, zero, suc, true, false, cond, List, [], ◌∷◌, Some, None, length, map, refl, sym, ap, ◌∙◌, ⊎_elim, arith}
 use Rattle.std.specs.Prelude.{◌==◌}
 use Rattle.std.specs.List.{find}
-use Rattle.std.proofs.lemmas.Bool.{cases_Bool, false≢true, ne_eqb}
+use Rattle.std.proofs.lemmas.Bool.{cases_Bool, false≢true, ne_eqb, or_parts}
 use Rattle.std.proofs.lemmas.Bool.Decides.{Decides-eqb}
 use Rattle.vc_base.specs.Holders.{contains}
-use Rattle.vc_commands.proofs.Firsts.{or-false}
 
 -- without the first that is this one
 abbrev pub without : ℕ → List ℕ → List ℕ
@@ -47,5 +46,5 @@ no-fewer (suc n) xs all =
 pub find-nothing : {A : Type 0} (f : A → ℕ) (n : ℕ) (xs : List A) → contains (map f xs) n ≡ false → find (λ x. f x == n) xs ≡ None
 find-nothing f n [] none = refl
 find-nothing f n (x ∷ xs) none =
-    let parts = or-false (f x == n) (contains (map f xs) n) none in
+    let parts = or_parts (f x == n) (contains (map f xs) n) none in
     ap (λ b. cond b (Some x) (find (λ y. f y == n) xs)) parts.0 ∙ find-nothing f n xs parts.1

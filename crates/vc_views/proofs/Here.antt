@@ -5,6 +5,7 @@ use Rattle.std.proofs.lemmas.Option.{none-some, same_Some}
 use Rattle.vc_model.specs.Numbered.{at_number}
 use Rattle.vc_base.specs.Cells.{Blocks, HasBytes}
 use Rattle.vc_base.specs.Holders.{contains, first_in, last_in, next_in, previous_in}
+use Rattle.vc_base.proofs.Options.{is_some-map}
 use Rattle.vc_dtdisc.specs.Finding.{first_of, last_of}
 use Rattle.vc_dtdisc.specs.Finds.{object_at}
 use Rattle.vc_dtdisc.specs.Rules.{IsObject, Rules}
@@ -121,13 +122,9 @@ module _ (kinds : List Rules) (regions : List DictRegion) (es : List Entry) (d :
       let same : object_at b a ≡ bytes = same_Some (object_at b a) bytes (sym (bytes-here b a xs within) ∙ ap (bytes_there a) (sym objects) ∙ at) in
       subst (λ z. length z ≤ 1024) same (each-object IsObject b xs f.is.whole.objects a within).most
 
-some-mapped : {A B : Type 0} (f : A → B) (o : Option A) → is_some (option_map f o) ≡ is_some o
-some-mapped f None = refl
-some-mapped f (Some x) = refl
-
 -- a number that is in use stays in use where what is seen stays
 pub still-there : (old new : List DictRegion) (es es' : List Entry) (d : ℕ) → map (dict_seen new) es' ≡ map (dict_seen old) es → IsSome (entry_numbered d es) → IsSome (entry_numbered d es')
 still-there old new es es' d same there =
-    sym (some-mapped (dict_seen new) (entry_numbered d es'))
+    sym (is_some-map (dict_seen new) (entry_numbered d es'))
     ∙ ap is_some (sym (seen-found [] new d es') ∙ ap (find (has_number d)) same ∙ seen-found [] old d es)
-    ∙ some-mapped (dict_seen old) (entry_numbered d es) ∙ there
+    ∙ is_some-map (dict_seen old) (entry_numbered d es) ∙ there

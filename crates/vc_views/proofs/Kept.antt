@@ -3,8 +3,10 @@ use Rattle.std.proofs.Common.{◌≡◌, ◌≢◌, ℕ, List, [], ◌∷◌, Bo
 use Rattle.std.specs.Prelude.{◌==◌}
 use Rattle.std.specs.List.{AllByRecursion}
 use Rattle.std.proofs.lemmas.Bool.Decides.{eqb_tells}
+use Rattle.std.proofs.Math.Bool.{or-true}
 use Rattle.vc_base.specs.Cells.{Blocks, IsAddress, body_of}
 use Rattle.vc_base.specs.Holders.{contains}
+use Rattle.vc_base.proofs.Members.{within-tail}
 use Rattle.vc_dtdisc.specs.Finds.{object_at}
 use Rattle.vc_dtdisc.specs.Rules.{IsObject, Rules}
 use Rattle.vc_dict.specs.Listed.{holders_of}
@@ -15,13 +17,6 @@ use Rattle.vc_objects.specs.Objects.{Dictionary, own_blocks}
 use Rattle.vc_objects.specs.Parts.{IsWhole, dictionary_of, object_of}
 use Rattle.vc_objects.proofs.Mapped.{objects-kept}
 use Rattle.vc_objects.proofs.Owning.{owned-within, owned-zero}
-
-or-true : (t : Bool) → (t || true) ≡ true
-or-true true = refl
-or-true false = refl
-
-tail-within : (x : ℕ) (xs : List ℕ) (a : ℕ) → contains xs a ≡ true → contains (x ∷ xs) a ≡ true
-tail-within x xs a h = ap (λ t. (x == a) || t) h ∙ or-true (x == a)
 
 module _ (rules : Rules) (d : Dict) (b : Blocks) (whole : IsWhole rules d b) where
   abbrev xs : List ℕ
@@ -60,7 +55,7 @@ module _ (rules : Rules) (d : Dict) (b : Blocks) (whole : IsWhole rules d b) whe
     object-new a h =
         let address : IsAddress a = holder-address rules d b xs a whole.stands h in
         let some : a ≢ 0 = λ e. absurd (omega (arith, address.some, e)) in
-        ap (λ o. body_of (unwrap_or o [])) (own-same a some (tail-within d.table.0 xs a h))
+        ap (λ o. body_of (unwrap_or o [])) (own-same a some (within-tail d.table.0 xs a h))
 
     objects-new : map (object_of new) (holders_of d new) ≡ map (object_of b) xs
     objects-new = ap (map (object_of new)) holders-new ∙ objects-kept b new xs object-new

@@ -3,22 +3,23 @@ use Rattle.std.proofs.Common.{◌≡◌, ◌≢◌, ℕ, ◌<◌, ◌||◌, ⊎_
 use Rattle.std.specs.Prelude.{remove, slice_get, slice_set, ◌==◌}
 use Rattle.std.specs.List.{AllByRecursion, find, list_any}
 use Rattle.std.specs.Option.{option_and_then}
-use Rattle.std.proofs.lemmas.Bool.{cases_Bool, true≢false}
+use Rattle.std.proofs.lemmas.Bool.{cases_Bool, true≢false, or_parts}
 use Rattle.std.proofs.lemmas.Bool.Decides.{Decides-eqb, eqb_tells}
 use Rattle.std.proofs.lemmas.Option.{none-some, same_Some}
 use Rattle.std.proofs.lemmas.Simd.{map-map}
 use Rattle.vc_base.specs.declared.dict_method.DictMethod.{DictMethod}
 use Rattle.vc_base.specs.Holders.{AreDistinct, contains}
+use Rattle.vc_base.proofs.Lists.{find-map}
+use Rattle.vc_base.proofs.Quantifiers.{any-map, all-push, all-map, all-unmap}
+use Rattle.vc_base.proofs.Options.{option_map-Some}
 use Rattle.vc_dict.specs.declared.dict.Dict.{Dict}
-use Rattle.vc_dtdisc.proofs.FindingLemmas.{find-map}
 use Rattle.vc_objects.specs.Objects.{Dictionary}
 use Rattle.vc_paths.specs.Links.{Links, below, is_viewed, links_with, numbers}
 use Rattle.vc_paths.proofs.LinkLemmas.{below-linked, below-other}
-use Rattle.vc_commands.proofs.Firsts.{any-unmap, or-false}
 use Rattle.vc_views.specs.Dicts.{AreNumbered, entry_numbered, number_in}
 use Rattle.vc_views.specs.Numbers.{AreLinked, IsLinked, home_by, name_numbered, views_by}
 use Rattle.vc_views.proofs.LinkLemmas.{others-same, viewed-by, viewer, views-none}
-use Rattle.vc_views.proofs.LinkLists.{all-map, all-push, all-remove, all-unmap, any-remove, found-push, found-remove, found-set, map-set_same, none-found, some-map}
+use Rattle.vc_views.proofs.LinkLists.{all-remove, any-remove, found-push, found-remove, found-set, map-set_same, none-found}
 use Rattle.vc_views.proofs.NamedEntries.{Entry, other-number}
 
 -- what tells links, a number, a method and a kind, and what tells views by name, a name and a number
@@ -53,13 +54,13 @@ numbered-alike es fs same numbered = record {
 contains-push : (es : List Entry) (new : Entry) (n : ℕ) → contains (map number_in es) n ≡ false → (number_in new == n) ≡ false → contains (map number_in (es ++ new ∷ [])) n ≡ false
 contains-push [] new n none other = rw other refl
 contains-push (f ∷ fs) new n none other =
-    let parts = or-false (number_in f == n) (contains (map number_in fs) n) none in
+    let parts = or_parts (number_in f == n) (contains (map number_in fs) n) none in
     rw parts.0 (contains-push fs new n parts.1 other)
 
 distinct-push : (es : List Entry) (new : Entry) → AreDistinct (map number_in es) → list_any (λ e. number_in e == number_in new) es ≡ false → AreDistinct (map number_in (es ++ new ∷ []))
 distinct-push [] new distinct none = (refl, tt)
 distinct-push (f ∷ fs) new distinct none =
-    let parts = or-false (number_in f == number_in new) (list_any (λ e. number_in e == number_in new) fs) none in
+    let parts = or_parts (number_in f == number_in new) (list_any (λ e. number_in e == number_in new) fs) none in
     let apart : number_in new ≢ number_in f = λ is. true≢false (sym ((Decides-eqb (number_in f) (number_in new)).1 (sym is)) ∙ parts.0) in
     (contains-push fs new (number_in f) distinct.0 (not-equal (number_in new) (number_in f) apart), distinct-push fs new distinct.1 parts.1)
 
@@ -72,8 +73,8 @@ numbered-push es new numbered free within = record {
 -- where one ends
 contains-remove : (es : List Entry) (i n : ℕ) → contains (map number_in es) n ≡ false → contains (map number_in (remove es i)) n ≡ false
 contains-remove es i n none =
-    any-unmap (λ x. x == n) number_in (remove es i)
-    ∙ any-remove (λ e. number_in e == n) es i (sym (any-unmap (λ x. x == n) number_in es) ∙ none)
+    any-map (λ x. x == n) number_in (remove es i)
+    ∙ any-remove (λ e. number_in e == n) es i (sym (any-map (λ x. x == n) number_in es) ∙ none)
 
 distinct-remove : (es : List Entry) (i : ℕ) → AreDistinct (map number_in es) → AreDistinct (map number_in (remove es i))
 distinct-remove [] zero distinct = tt
@@ -94,7 +95,7 @@ module _ (links : Links) (es fs : List Entry) (same : map link_part fs ≡ map l
 
   found-same : (n : ℕ) (e : Entry) → entry_numbered n es ≡ Some e → (f : Entry) × (entry_numbered n fs ≡ Some f) × (link_part f ≡ link_part e)
   found-same n e found =
-      some-map link_part (entry_numbered n fs) (link_part e)
+      option_map-Some link_part (entry_numbered n fs) (link_part e)
       (sym (find-map link_part (λ p. p.0 == n) fs) ∙ ap (find (λ p. p.0 == n)) same ∙ find-map link_part (λ p. p.0 == n) es ∙ ap (option_map link_part) found)
 
   -- links stay between them

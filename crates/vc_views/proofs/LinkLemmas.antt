@@ -5,20 +5,20 @@ use Rattle.std.specs.List.{IsDistinct, list_any}
 use Rattle.std.specs.Map.{keys_of}
 use Rattle.std.specs.Option.{option_and_then}
 use Rattle.std.specs.Str.{bytes_eq}
-use Rattle.std.proofs.lemmas.Bool.{true≢false}
+use Rattle.std.proofs.lemmas.Bool.{true≢false, or_parts}
 use Rattle.std.proofs.lemmas.Bool.Decides.{Decides-eqb}
-use Rattle.std.proofs.lemmas.Map.Keys.{IsDistinct-head, IsDistinct-tail}
+use Rattle.std.proofs.lemmas.Map.Keys.{IsDistinct-head, IsDistinct-tail, any_passes_from_place}
 use Rattle.std.proofs.lemmas.Option.{none-some, same_Some}
 use Rattle.std.proofs.lemmas.Slice.Eq.{bytes_eq-Decides}
 use Rattle.vc_base.specs.Holders.{AreDistinct, contains}
+use Rattle.vc_base.proofs.Quantifiers.{any-map}
 use Rattle.vc_objects.specs.Objects.{Dictionary}
 use Rattle.vc_paths.specs.Links.{ArePaths, Links, below, is_link_to, is_viewed, link_at, links_with, numbers}
 use Rattle.vc_paths.proofs.LinkLemmas.{below-linked, below-other}
-use Rattle.vc_commands.proofs.Firsts.{any-unmap, or-false}
 use Rattle.vc_views.specs.Dicts.{AreNumbered, entry_numbered, number_in}
 use Rattle.vc_views.specs.Numbers.{AreLinked, home_by, name_numbered, views_by}
 use Rattle.vc_views.specs.Views.{DictHome, is_linked_in, is_name_of, is_viewed_in, views_it, with_view}
-use Rattle.vc_views.proofs.LinkLists.{any-stands, same-test, stands-any}
+use Rattle.vc_views.proofs.LinkLists.{same-test, stands-any}
 use Rattle.vc_views.proofs.NamedEntries.{Entry, by-number, find-stands, found-number, other-name, other-number, same-named}
 use Rattle.vc_views.proofs.NumbersToNames.{all-at, home, homes}
 
@@ -28,7 +28,7 @@ link-there None m is = absurd (none-some m is)
 link-there (Some link) m is = ap (λ l. Some l) is
 
 pub viewed-by : (links : Links) (n m : ℕ) → below links n ≡ Some m → is_viewed links m ≡ true
-viewed-by links n m b = any-stands (is_link_to m) links n (Some m) (link-there (slice_get links n) m b) ((Decides-eqb m m).1 refl)
+viewed-by links n m b = any_passes_from_place (is_link_to m) links n (Some m) (link-there (slice_get links n) m b) ((Decides-eqb m m).1 refl)
 
 link-is : (m : ℕ) (o : Option ℕ) → is_link_to m o ≡ true → o ≡ Some m
 link-is m None is = absurd (true≢false (sym is))
@@ -46,7 +46,7 @@ none-of (Some m) none = absurd (true≢false none)
 
 pub unlinked : (links : Links) (n : ℕ) → (is_viewed links n || is_some (below links n)) ≡ false → (is_viewed links n ≡ false) × (below links n ≡ None)
 unlinked links n none =
-    let parts = or-false (is_viewed links n) (is_some (below links n)) none in
+    let parts = or_parts (is_viewed links n) (is_some (below links n)) none in
     (parts.0, none-of (below links n) parts.1)
 
 -- the number of a dictionary is one of those of links
@@ -91,7 +91,7 @@ module _ (over : Entry → Dictionary) (links : Links) (entries : List Entry) (n
         let v = viewer links (number_in e) is in
         let link = linked.linked v.0 (number_in e) v.1 in
         let there = find-stands (λ f. number_in f == v.0) entries link.upper link.upper_is in
-        any-stands (λ f. views_it e.0 (home over links entries f)) entries there.0 link.upper there.1
+        any_passes_from_place (λ f. views_it e.0 (home over links entries f)) entries there.0 link.upper there.1
         (ap (λ n. is_name_of e.0 (views_by links entries n)) (found-number entries v.0 link.upper link.upper_is)
         ∙ ap (is_name_of e.0) (views-some links entries v.0 (number_in e) e v.1 found)
         ∙ (bytes_eq-Decides e.0 e.0).1 refl)
@@ -99,7 +99,7 @@ module _ (over : Entry → Dictionary) (links : Links) (entries : List Entry) (n
     -- a dictionary is viewed where its number is
     pub viewed-named : is_viewed_in (homes over links entries) e.0 ≡ is_viewed links (number_in e)
     viewed-named =
-        any-unmap (views_it e.0) (home over links entries) entries
+        any-map (views_it e.0) (home over links entries) entries
         ∙ same-test (list_any (λ f. views_it e.0 (home over links entries f)) entries) (is_viewed links (number_in e)) forth back
 
     -- and is viewed or views one where its number is, or has a link
@@ -111,7 +111,7 @@ module _ (over : Entry → Dictionary) (views views' : ℕ → Option (List ℕ)
   pub others-same : (es : List Entry) → contains (map number_in es) (number_in d) ≡ false → map (home_by over views) es ≡ map (home_by over views') es
   others-same [] none = refl
   others-same (f ∷ fs) none =
-      let parts = or-false (number_in f == number_in d) (contains (map number_in fs) (number_in d)) none in
+      let parts = or_parts (number_in f == number_in d) (contains (map number_in fs) (number_in d)) none in
       let apart : number_in f ≢ number_in d = λ is. true≢false (sym ((Decides-eqb (number_in f) (number_in d)).1 is) ∙ parts.0) in
       ap₂ (λ (o : Option (List ℕ)) (hs : List DictHome). (let h : DictHome = record { name = f.0; home = f.1.home; kind = f.1.dict.kind; views = o; dict = over f } in h) ∷ hs)
       (sym (others (number_in f) apart)) (others-same fs parts.1)

@@ -2,9 +2,8 @@
 use Rattle.std.proofs.Common.{◌≡◌, ℕ, zero, suc, Bool, true, false, cond, ◌||◌, List, [], ◌∷◌, ◌++◌, Option, Some, None, map, option_map, refl, sym, ap, ap₂, ◌∙◌, ⊎_elim}
 use Rattle.std.specs.Prelude.{remove, slice_get, slice_set}
 use Rattle.std.specs.List.{AllByRecursion, find, list_any}
-use Rattle.std.proofs.lemmas.Bool.{cases_Bool, or_left, or_right, true≢false}
+use Rattle.std.proofs.lemmas.Bool.{cases_Bool, or_left, or_right, true≢false, or_parts}
 use Rattle.std.proofs.lemmas.Option.{none-some, same_Some}
-use Rattle.vc_commands.proofs.Firsts.{or-false}
 use Rattle.vc_views.proofs.NamedEntries.{Stands}
 
 -- two tests are equal where each follows from the other
@@ -12,12 +11,6 @@ pub same-test : (a b : Bool) → (a ≡ true → b ≡ true) → (b ≡ true →
 same-test true b forth back = sym (forth refl)
 same-test false true forth back = absurd (true≢false (sym (back refl)))
 same-test false false forth back = refl
-
--- some item passes a test where one at an index does
-pub any-stands : {A : Type 0} (test : A → Bool) (xs : List A) (i : ℕ) (x : A) → slice_get xs i ≡ Some x → test x ≡ true → list_any test xs ≡ true
-any-stands test [] i x at passes = absurd (none-some x at)
-any-stands test (y ∷ ys) zero x at passes = or_left (test y) (list_any test ys) (ap test (same_Some y x at) ∙ passes)
-any-stands test (y ∷ ys) (suc i) x at passes = or_right (test y) (list_any test ys) (any-stands test ys i x at passes)
 
 -- and where some item passes, one at an index does
 any-here : {A : Type 0} (test : A → Bool) (y : A) (ys : List A) (t : Bool) → test y ≡ t → (t || list_any test ys) ≡ true
@@ -58,24 +51,11 @@ all-remove P [] (suc i) all = tt
 all-remove P (x ∷ xs) zero all = all.1
 all-remove P (x ∷ xs) (suc i) all = (all.0, all-remove P xs i all.1)
 
-pub all-push : {A : Type 0} (P : A → Type 0) (xs : List A) (y : A) → AllByRecursion P xs → P y → AllByRecursion P (xs ++ y ∷ [])
-all-push P [] y all it = (it, tt)
-all-push P (x ∷ xs) y all it = (all.0, all-push P xs y all.1 it)
-
 -- an item with the same answer in its place leaves the answers
 pub map-set_same : {A B : Type 0} (f : A → B) (xs : List A) (i : ℕ) (x y : A) → slice_get xs i ≡ Some x → f y ≡ f x → map f (slice_set xs i y) ≡ map f xs
 map-set_same f [] i x y at same = refl
 map-set_same f (z ∷ zs) zero x y at same = ap (λ b. b ∷ map f zs) (same ∙ ap f (sym (same_Some z x at)))
 map-set_same f (z ∷ zs) (suc i) x y at same = ap (λ bs. f z ∷ bs) (map-set_same f zs i x y at same)
-
--- what is so of what items are mapped to is so of them, and the other way round
-pub all-map : {A B : Type 0} (P : B → Type 0) (f : A → B) (xs : List A) → AllByRecursion (λ x. P (f x)) xs → AllByRecursion P (map f xs)
-all-map P f [] all = tt
-all-map P f (x ∷ xs) all = (all.0, all-map P f xs all.1)
-
-pub all-unmap : {A B : Type 0} (P : B → Type 0) (f : A → B) (xs : List A) → AllByRecursion P (map f xs) → AllByRecursion (λ x. P (f x)) xs
-all-unmap P f [] all = tt
-all-unmap P f (x ∷ xs) all = (all.0, all-unmap P f xs all.1)
 
 -- none passes where none is found, and none without the one at an index
 pub none-found : {A : Type 0} (test : A → Bool) (xs : List A) → find test xs ≡ None → list_any test xs ≡ false
@@ -89,15 +69,10 @@ none-found test (x ∷ xs) none =
 pub any-remove : {A : Type 0} (test : A → Bool) (xs : List A) (i : ℕ) → list_any test xs ≡ false → list_any test (remove xs i) ≡ false
 any-remove test [] zero none = refl
 any-remove test [] (suc i) none = refl
-any-remove test (x ∷ xs) zero none = (or-false (test x) (list_any test xs) none).1
+any-remove test (x ∷ xs) zero none = (or_parts (test x) (list_any test xs) none).1
 any-remove test (x ∷ xs) (suc i) none =
-    let parts = or-false (test x) (list_any test xs) none in
+    let parts = or_parts (test x) (list_any test xs) none in
     ap (λ b. b || list_any test (remove xs i)) parts.0 ∙ any-remove test xs i parts.1
-
--- an answer for an item that there may be is that for one that there is
-pub some-map : {A B : Type 0} (f : A → B) (o : Option A) (y : B) → option_map f o ≡ Some y → (x : A) × (o ≡ Some x) × (f x ≡ y)
-some-map f None y is = absurd (none-some y is)
-some-map f (Some x) y is = (x, refl, same_Some (f x) y is)
 
 -- what each item tells is the same where it follows from what is the same of them, or differs at one index in what doesn't tell it
 module _ {A B C : Type 0} (g : B → C) (h : A → C) where

@@ -8,25 +8,27 @@ use Rattle.std.proofs.lemmas.Bool.{and_parts, cases_Bool, true≢false}
 use Rattle.std.proofs.lemmas.Bool.Decides.{Decides-eqb}
 use Rattle.std.proofs.lemmas.Option.{none-some, same_Some}
 use Rattle.std.proofs.lemmas.Slice.Eq.{bytes_eq-Decides}
+use Rattle.std.proofs.lemmas.Map.Keys.{any_passes_from_place}
 use Rattle.vc_base.specs.declared.dict_method.DictMethod.{DictMethod}
 use Rattle.vc_base.specs.declared.dict_method.DictMethod.TheVariants.{DtBag, DtList, DtObag, DtOset, DtQueue, DtSet, DtStack}
 use Rattle.vc_base.specs.Holders.{contains}
 use Rattle.vc_base.specs.Methods.{method_number}
+use Rattle.vc_base.proofs.Quantifiers.{any-map}
+use Rattle.vc_base.proofs.Methods.{same-method}
 use Rattle.vc_objects.specs.Objects.{Dictionary}
 use Rattle.vc_paths.specs.declared.fault.ViewFault.{ViewFault}
 use Rattle.vc_paths.specs.declared.fault.ViewFault.TheVariants.{Cycle, Differs, TooDeep}
 use Rattle.vc_paths.specs.Layers.{Layered}
 use Rattle.vc_paths.specs.Links.{ArePaths, Links, are_too_long, below, is_too_long, links_with, numbers, onward, path, path_limit, path_of}
 use Rattle.vc_paths.specs.View.{are_alike, view_fault}
-use Rattle.vc_paths.proofs.LinkLemmas.{none-any, some-any}
+use Rattle.vc_paths.proofs.LinkLemmas.{none-any, some-any, none-short}
 use Rattle.vc_script.specs.declared.refusal.Refusal.TheVariants.{ViewCycle, ViewDiffers, ViewTooDeep}
-use Rattle.vc_commands.proofs.Firsts.{any-unmap}
 use Rattle.vc_views.specs.Dicts.{entry_numbered, number_in}
 use Rattle.vc_views.specs.Numbers.{AreLinked, IsLinked}
 use Rattle.vc_views.specs.Views.{are_like, is_dict, is_too_deep, path_in, path_to, refusal_of, view_refusal, with_view}
 use Rattle.vc_views.proofs.LinkChanges.{linked-set}
 use Rattle.vc_views.proofs.LinkLemmas.{number-within, view-some}
-use Rattle.vc_views.proofs.LinkLists.{any-stands, same-test, stands-any}
+use Rattle.vc_views.proofs.LinkLists.{same-test, stands-any}
 use Rattle.vc_views.proofs.NamedEntries.{Entry, by-number, find-stands, same-named}
 use Rattle.vc_views.proofs.NumbersToNames.{AreLayersIn, all-at, home, homes, path-each, path_to-each}
 
@@ -44,13 +46,6 @@ method-back DtObag = refl
 method-back DtList = refl
 method-back DtStack = refl
 method-back DtQueue = refl
-
-pub same-method : (m n : DictMethod) → (method_number m == method_number n) ≡ true → m ≡ n
-same-method m n is = sym (method-back m) ∙ ap method_of ((Decides-eqb (method_number m) (method_number n)).0 is) ∙ method-back n
-
--- a number without a link has no path that is too long
-none-long : (links : Links) (n : ℕ) → below links n ≡ None → is_too_long links n ≡ false
-none-long links n none = ap (λ o. nat_lt path_limit (length (n ∷ onward (path_of path_limit links) o))) none
 
 length-each : {A B C : Type 0} (f : A → C) (g : B → C) (xs : List A) (ys : List B) → map f xs ≡ map g ys → length xs ≡ length ys
 length-each f g xs ys same = sym (counted f xs) ∙ ap length same ∙ counted g ys
@@ -70,13 +65,13 @@ module _ (over : Entry → Dictionary) (links : Links) (entries : List Entry) (n
       (path_to-each over links entries names are (λ h. true) (λ x. true) (λ x f there. refl) (suc path_limit) n e found))
 
   long-none : list_any is_deep entries ≡ false → (n : ℕ) (o : Option ℕ) → below links n ≡ o → is_too_long links n ≡ false
-  long-none none n None b = none-long links n b
+  long-none none n None b = none-short links n b
   long-none none n (Some m) b =
       let link = are.linked n m b in
       let there = find-stands (λ f. number_in f == n) entries link.upper link.upper_is in
       sym (deep-each n link.upper link.upper_is)
       ∙ ⊎_elim
-      (λ is. absurd (true≢false (sym (any-stands is_deep entries there.0 link.upper there.1 is) ∙ none)))
+      (λ is. absurd (true≢false (sym (any_passes_from_place is_deep entries there.0 link.upper there.1 is) ∙ none)))
       (λ is. is)
       (cases_Bool (is_deep link.upper))
 
@@ -96,7 +91,7 @@ module _ (over : Entry → Dictionary) (links : Links) (entries : List Entry) (n
   -- some path by names is too deep where one by numbers is too long
   pub deep-named : is_too_deep (homes over links entries) ≡ are_too_long links
   deep-named =
-      any-unmap (λ d. nat_lt path_limit (length (path_to (suc path_limit) (homes over links entries) d))) (home over links entries) entries
+      any-map (λ d. nat_lt path_limit (length (path_to (suc path_limit) (homes over links entries) d))) (home over links entries) entries
       ∙ sym (long-test (list_any is_deep entries) refl)
 
 -- a refusal by three tests is that of a fault by the same, the last of which counts for dictionaries that are alike
@@ -137,9 +132,9 @@ module _ (over : Entry → Dictionary) (all : Layered) (links : Links) (entries 
 
   cycle-named : list_any (is_dict d.0) (path_in (homes over links entries) (home over links entries e)) ≡ contains (path links (number_in e)) (number_in d)
   cycle-named =
-      sym (any-unmap (λ b. b) (is_dict d.0) (path_in (homes over links entries) (home over links entries e)))
+      sym (any-map (λ b. b) (is_dict d.0) (path_in (homes over links entries) (home over links entries e)))
       ∙ ap (list_any (λ b. b)) (path-each over links entries names are (is_dict d.0) (λ n. n == number_in d) named-each j e there)
-      ∙ any-unmap (λ b. b) (λ n. n == number_in d) (path links (number_in e))
+      ∙ any-map (λ b. b) (λ n. n == number_in d) (path links (number_in e))
 
   -- dictionaries that are alike may be linked
   linked-alike : are_alike all (number_in d) (number_in e) ≡ true → IsLinked entries (number_in d) (number_in e)

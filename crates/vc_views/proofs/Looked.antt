@@ -12,6 +12,7 @@ use Rattle.vc_model.specs.Discipline.{Discipline}
 use Rattle.vc_model.specs.Layout.{Layout}
 use Rattle.vc_model.specs.Numbered.{at_number}
 use Rattle.vc_base.specs.Holders.{contains}
+use Rattle.vc_base.proofs.Texts.{bytes_eq-swapped, same_bytes}
 use Rattle.vc_dtdisc.specs.Rules.{Rules}
 use Rattle.vc_dict.specs.Listed.{holders_of}
 use Rattle.vc_dict.specs.Stands.{Became}
@@ -27,8 +28,6 @@ use Rattle.vc_objects.proofs.Looking.{Looks-became}
 use Rattle.vc_commands.specs.declared.dict.entry.DictEntry.{DictEntry}
 use Rattle.vc_commands.specs.declared.region.home.HomeEntry.{HomeEntry}
 use Rattle.vc_commands.proofs.Firsts.{IsFirst, find-first, find-set}
-use Rattle.vc_commands.proofs.FreedNames.{swapped}
-use Rattle.vc_commands.proofs.Names.{same_bytes}
 use Rattle.vc_views.specs.Dicts.{AreDictsOver, DictRegion, DictSeen, HomeRest, IsDictOver, cells_held, dict_seen, dictionary_over, home_rest, region_named, region_seen}
 use Rattle.vc_views.specs.LayerLaws.{Entry}
 use Rattle.vc_views.specs.Leaves.{LooksAt}
@@ -78,7 +77,7 @@ module _ {I : Type 0} {V : I → Type 0} (es : List (List ℕ × HomeEntry I V))
 
     other-named : (q : List ℕ) → bytes_eq q r ≡ false → region_named (map region_seen after) q ≡ region_named (map region_seen es) q
     other-named q away =
-        let fails : bytes_eq name q ≡ false = ap (λ n. bytes_eq n q) name-is ∙ swapped r q ∙ away in
+        let fails : bytes_eq name q ≡ false = ap (λ n. bytes_eq n q) name-is ∙ bytes_eq-swapped r q ∙ away in
         ap (λ z. region_named (map region_seen z) q) after-is ∙ named-found (set es j (name, entry_of c)) q
         ∙ ap (option_map region_seen) (found-set (λ e. bytes_eq e.0 q) es j first.item (name, entry_of c) first.at fails fails) ∙ sym (named-found es q)
 

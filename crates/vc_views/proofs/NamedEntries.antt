@@ -8,9 +8,9 @@ use Rattle.std.proofs.lemmas.Bool.Decides.{Decides-eqb, nat_tests}
 use Rattle.std.proofs.lemmas.Map.Keys.{IsDistinct-head, IsDistinct-tail}
 use Rattle.std.proofs.lemmas.Option.{none-some, same_Some}
 use Rattle.std.proofs.lemmas.Slice.Eq.{bytes_eq-Decides}
+use Rattle.std.proofs.lemmas.Bool.{or_parts}
 use Rattle.vc_base.specs.Holders.{AreDistinct, contains}
 use Rattle.vc_commands.specs.declared.dict.entry.DictEntry.{DictEntry}
-use Rattle.vc_commands.proofs.Firsts.{or-false}
 use Rattle.vc_views.specs.Dicts.{entry_numbered, number_in}
 
 abbrev pub Entry : Type 0
@@ -39,10 +39,10 @@ found-number es n e found = (Decides-eqb (number_in e) n).0 (find-stands (λ f. 
 pub other-number : (n : ℕ) (es : List Entry) (i : ℕ) (e : Entry) → contains (map number_in es) n ≡ false → slice_get es i ≡ Some e → (n == number_in e) ≡ false
 other-number n [] i e none at = absurd (none-some e at)
 other-number n (f ∷ fs) zero e none at =
-    let differ : (number_in f == n) ≡ false = (or-false (number_in f == n) (contains (map number_in fs) n) none).0 in
+    let differ : (number_in f == n) ≡ false = (or_parts (number_in f == n) (contains (map number_in fs) n) none).0 in
     let turned : (n == number_in f) ≡ false = grind (arith, nat_tests, differ) in
     subst (λ (g : Entry). (n == number_in g) ≡ false) (same_Some f e at) turned
-other-number n (f ∷ fs) (suc i) e none at = other-number n fs i e (or-false (number_in f == n) (contains (map number_in fs) n) none).1 at
+other-number n (f ∷ fs) (suc i) e none at = other-number n fs i e (or_parts (number_in f == n) (contains (map number_in fs) n) none).1 at
 
 -- the dictionary at an index is the one of its number
 pub by-number : (es : List Entry) (i : ℕ) (e : Entry) → AreDistinct (map number_in es) → slice_get es i ≡ Some e → entry_numbered (number_in e) es ≡ Some e

@@ -1,8 +1,8 @@
 -- The open dictionaries over their regions are the layers of their numbers.
 use Rattle.std.proofs.Common.{◌≡◌, ℕ, List, Some, is_some, option_map, refl, sym, ap, ◌∙◌}
 use Rattle.vc_model.specs.Numbered.{at_number}
+use Rattle.vc_base.proofs.Lists.{find-map}
 use Rattle.vc_dtdisc.specs.Rules.{Rules}
-use Rattle.vc_dtdisc.proofs.FindingLemmas.{find-map}
 use Rattle.vc_views.specs.Dicts.{AreDictsOver, DictRegion, dict_seen, dictionary_over, entry_numbered, has_number, layer_of, layer_seen, layered_by, rules_or}
 use Rattle.vc_views.proofs.NamedEntries.{Entry}
 use Rattle.vc_views.proofs.NumbersToNames.{AreLayersIn}

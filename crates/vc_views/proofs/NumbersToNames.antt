@@ -6,7 +6,7 @@ use Rattle.std.specs.Map.{keys_of}
 use Rattle.std.specs.Option.{option_and_then}
 use Rattle.std.specs.Str.{bytes_eq}
 use Rattle.std.proofs.lemmas.Option.{none-some, same_Some}
-use Rattle.vc_dtdisc.proofs.FindingLemmas.{find-map}
+use Rattle.vc_base.proofs.Lists.{find-map}
 use Rattle.vc_objects.specs.Objects.{Dictionary}
 use Rattle.vc_paths.specs.Layers.{Layered}
 use Rattle.vc_paths.specs.Links.{Links, below, numbers, onward, path, path_limit, path_of}

@@ -6,11 +6,10 @@ use Rattle.std.specs.Str.{bytes_eq}
 use Rattle.std.proofs.lemmas.Bool.{cases_Bool, false_from_ne_true, false≢true}
 use Rattle.std.proofs.lemmas.Option.{none-some, same_Some}
 use Rattle.vc_base.specs.Holders.{contains}
+use Rattle.vc_base.proofs.Texts.{bytes_eq-swapped, same_bytes}
 use Rattle.vc_dtdisc.specs.Rules.{Rules}
 use Rattle.vc_objects.specs.Objects.{Dictionary, own_blocks}
 use Rattle.vc_objects.specs.Parts.{IsWhole, dictionary_of}
-use Rattle.vc_commands.proofs.FreedNames.{swapped}
-use Rattle.vc_commands.proofs.Names.{same_bytes}
 use Rattle.vc_views.specs.Dicts.{AreApartOver, AreDictsOver, DictRegion, DictSeen, IsDictOver, cells_held, dict_seen, dictionary_over, number_in, region_named}
 use Rattle.vc_views.specs.LayerLaws.{Entry}
 use Rattle.vc_views.specs.Leaves.{IsTouched}
@@ -62,7 +61,7 @@ module _ (kinds : List Rules) (regions : List DictRegion) (e : Entry) where
   clear-before : (f : Entry) → AreApartOver regions f e → IsClear regions e.1.home mine f
   clear-before f apart = λ here a m.
       false_from_ne_true (contains (own_blocks (dictionary_over regions f)) a)
-      (λ own. false≢true (sym (apart (swapped f.1.home e.1.home ∙ here) a own) ∙ m))
+      (λ own. false≢true (sym (apart (bytes_eq-swapped f.1.home e.1.home ∙ here) a own) ∙ m))
 
   -- all others have none of the blocks of one
   pub clear-others : (es : List Entry) (i : ℕ) → slice_get es i ≡ Some e → AreDictsOver kinds regions es → AllByRecursion (IsClear regions e.1.home mine) (remove es i)
@@ -90,7 +89,7 @@ module _ (kinds : List Rules) (r mine : List ℕ) (old new : List DictRegion) (t
       cells-same a own =
           t.others a
           (false_from_ne_true (contains mine a)
-          (λ m. false≢true (sym (subst (λ (x : Dictionary). contains (own_blocks x) a ≡ false) over-was (clear (swapped r f.1.home ∙ here) a m)) ∙ own)))
+          (λ m. false≢true (sym (subst (λ (x : Dictionary). contains (own_blocks x) a ≡ false) over-was (clear (bytes_eq-swapped r f.1.home ∙ here) a m)) ∙ own)))
 
       here-same : dictionary_over new f ≡ dictionary_over old f
       here-same =

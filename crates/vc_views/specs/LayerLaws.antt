@@ -9,9 +9,9 @@ use Rattle.vc_base.specs.declared.dict_method.DictMethod.TheVariants.{DtSet, DtB
 use Rattle.vc_base.specs.Cells.{Blocks}
 use Rattle.vc_base.specs.Holders.{AreDistinct}
 use Rattle.vc_base.specs.Methods.{has_table, is_ordered}
+use Rattle.vc_base.proofs.Lists.{find-map}
 use Rattle.vc_dtdisc.specs.Objects.{IsSorted, bytes_of}
 use Rattle.vc_dtdisc.specs.Rules.{AreLawful, Rules}
-use Rattle.vc_dtdisc.proofs.FindingLemmas.{find-map}
 use Rattle.vc_dtdisc.proofs.ObjectsLemmas.{IsSorted-map}
 use Rattle.vc_dict.specs.Listed.{holders_of}
 use Rattle.vc_dict.specs.Stands.{Stands}

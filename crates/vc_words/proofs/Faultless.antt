@@ -4,6 +4,7 @@ use Rattle.std.specs.Prelude.{encode_utf8, slice_get}
 use Rattle.std.specs.List.{list_all}
 use Rattle.std.specs.Option.{option_map_or}
 use Rattle.std.specs.Str.{bytes_eq, chars}
+use Rattle.std.proofs.lemmas.Bool.{and_from}
 use Rattle.clap.specs.Facts.{unwrap_or_range}
 use Rattle.clap.specs.Faults.{action_fault, bundle_step_fault, flag_word_fault, flags_fault, long_fault, option_fault, other_fault, positional_fault, react_fault, repeat_fault, settle_fault, short_fault, step_fault, stray_fault, turn_fault, use_fault, values_fault, walk_fault, word_fault}
 use Rattle.clap.specs.Kinds.{Kinds, or_else, range_kinds, value_kinds, values_kinds}
@@ -29,10 +30,6 @@ pub none_of_both : (a b : Kinds) → or_else a b ≡ [] → (a ≡ []) × (b ≡
 none_of_both [] b e = (refl, e)
 none_of_both (k ∷ ks) b e = fault_stays k ks e
 
-pub both_hold : (a b : Bool) → a ≡ true → b ≡ true → (a && b) ≡ true
-both_hold true b p q = q
-both_hold false b p q = p
-
 holds : (b : Bool) (k : ErrorKind) → cond b [] (k ∷ []) ≡ [] → b ≡ true
 holds true k e = refl
 holds false k e = fault_stays k [] e
@@ -52,7 +49,7 @@ values_hold : (i : Bool) (p : ValueParser) (vs : List Text) → values_kinds i p
 values_hold i p [] e = refl
 values_hold i p (v ∷ vs) e =
     let parts = none_of_both (value_kinds i p v) (values_kinds i p vs) e in
-    both_hold (accepts i p v) (list_all (accepts i p) vs) (holds (accepts i p v) (refused_kind p) parts.0) (values_hold i p vs parts.1)
+    and_from (accepts i p v) (list_all (accepts i p) vs) (holds (accepts i p v) (refused_kind p) parts.0) (values_hold i p vs parts.1)
 
 range_holds : (least most n : ℕ) → range_kinds least most n ≡ [] → (nat_le least n ≡ true) × (nat_le n most ≡ true)
 range_holds least most n e = go _ _ _ _ (nat_lt 0 least && n == 0) (least == most) (least == n) (nat_lt n least) (nat_lt most n) refl refl refl refl e
@@ -77,7 +74,7 @@ set_holds : (again : Bool) (a : Rule) (values : List Text) (rows : List Row) →
     → ((not (has_row a.id rows) || again) && values_pass a values) ≡ true
 set_holds again a values rows e =
     let parts = none_of_both (repeat_fault again a.id rows) (values_fault a values) e in
-    both_hold _ _ (allowed (has_row a.id rows) again _ _ parts.0) (values_hold _ _ values parts.1)
+    and_from _ _ (allowed (has_row a.id rows) again _ _ parts.0) (values_hold _ _ values parts.1)
 
 action_holds : (x : ArgAction) (again : Bool) (a : Rule) (values : List Text) (rows : List Row) → action_fault x again a values rows ≡ []
     → action_passes x again a values rows ≡ true
@@ -96,7 +93,7 @@ use_holds : (again : Bool) (a : Rule) (values : List Text) (rows : List Row) →
 use_holds again a values rows e =
     let parts = none_of_both (range_kinds (unwrap_or_range a.range).start_inclusive (most_values a) (length values)) _ e in
     let range = range_holds (unwrap_or_range a.range).start_inclusive (most_values a) (length values) parts.0 in
-    both_hold _ _ range.0 (both_hold _ _ range.1 (action_holds (action_of a) again a (values_or_missing a values) rows parts.1))
+    and_from _ _ range.0 (and_from _ _ range.1 (action_holds (action_of a) again a (values_or_missing a values) rows parts.1))
 
 -- ---- the walk
 
@@ -117,7 +114,7 @@ settle_holds c again h e = go h.pending e
 react_holds : (c : List Rule) (again : Bool) (a : Rule) (values : List Text) (h : Held) → react_fault c again a values h ≡ [] → react_passes c again a values h ≡ true
 react_holds c again a values h e =
     let parts = none_of_both (settle_fault c again h) _ e in
-    both_hold _ _ (settle_holds c again h parts.0) (use_holds again a values (settled c h).rows parts.1)
+    and_from _ _ (settle_holds c again h parts.0) (use_holds again a values (settled c h).rows parts.1)
 
 option_holds : (c : List Rule) (again : Bool) (a : Rule) (v : Option Text) (h : Held) → option_fault c again a v h ≡ [] → option_passes c again a v h ≡ true
 option_holds c again a (Some v) h e = react_holds c again a (v ∷ []) h e
@@ -145,7 +142,7 @@ short_holds c again (Some a) rest h faults passes more e = go (takes_values a) e
     go true e = option_holds c again a (attached_value rest) h e
     go false e =
         let parts = none_of_both (react_fault c again a [] h) _ e in
-        both_hold _ _ (react_holds c again a [] h parts.0) (more (reacted c a [] h) parts.1)
+        and_from _ _ (react_holds c again a [] h parts.0) (more (reacted c a [] h) parts.1)
 
 bundle_holds : (c : List Rule) (again : Bool) (first : Option ℕ) (flags : Text) (skip : ℕ) (h : Held) (faults : Text → ℕ → Held → Kinds) (passes : Text → ℕ → Held → Bool)
     → ((rest : Text) (less : ℕ) (now : Held) → faults rest less now ≡ [] → passes rest less now ≡ true)
@@ -205,11 +202,11 @@ turn_holds s names w word e =
     let met = word_met s.rules names w.is_trailing w.waiting w.position word w.held in
     unless (is_some w.stopped) _ _ (λ none.
     let parts = none_of_both (word_fault s names w.is_trailing w.waiting word w.held) _ none in
-    both_hold _ _ (word_holds s names w.is_trailing w.waiting word w.held parts.0) (step_holds s w.position met.0 met.1 parts.1)) e
+    and_from _ _ (word_holds s names w.is_trailing w.waiting word w.held parts.0) (step_holds s w.position met.0 met.1 parts.1)) e
 
 pub walk_holds : (s : Shape) (names : Names) (w : Walk) (words : List Text) → walk_fault s names w words ≡ [] → walk_passes s names w words ≡ true
 unfolding walk_fault walk_passes
 walk_holds s names w [] e = refl
 walk_holds s names w (word ∷ rest) e =
     let parts = none_of_both (turn_fault s names w word) _ e in
-    both_hold _ _ (turn_holds s names w word parts.0) (walk_holds s names (walked s.rules names w word) rest parts.1)
+    and_from _ _ (turn_holds s names w word parts.0) (walk_holds s names (walked s.rules names w word) rest parts.1)

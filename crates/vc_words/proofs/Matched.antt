@@ -3,6 +3,7 @@ use Rattle.std.proofs.Common.{◌≡◌, ◌∙◌, ℕ, Bool, true, false, refl
 use Rattle.std.specs.Prelude.{option_and_then}
 use Rattle.std.specs.Borrow.{Bor}
 use Rattle.std.specs.List.{list_all}
+use Rattle.std.proofs.lemmas.Bool.{and_from}
 use Rattle.clap.proofs.FaultLemmas.{leaf_fault}
 use Rattle.clap.proofs.TakesLemmas.{leaf_takes}
 use Rattle.clap.specs.Faults.{settle_fault, walk_fault}
@@ -15,7 +16,7 @@ use Rattle.clap.specs.Walk.{finished, nothing_held, walk, walk_from}
 use Rattle.clap.specs.Words.{Row, Text, fault_of, first_of, is_simple, is_simple_and_free, matches_of, rows_of, takes}
 use Rattle.clap.specs.declared.parser.matches.Found.{Found}
 use Rattle.vc_words.specs.Words.{asked, command, count_of, has_flag, read_if_given, spelled, words_of}
-use Rattle.vc_words.proofs.Faultless.{both_hold, none_of_both, settle_holds, walk_holds}
+use Rattle.vc_words.proofs.Faultless.{none_of_both, settle_holds, walk_holds}
 use Rattle.vc_words.specs.declared.words.Words.{Words}
 
 pub is_command_simple : is_simple command ≡ true
@@ -41,10 +42,10 @@ takes_faultless words e =
     let level = sym (leaf_fault (built command) nothing_held words refl) ∙ e in
     let walked = none_of_both (walk_fault s [] (walk_from nothing_held) words) _ level in
     let settled = none_of_both (settle_fault s.rules s.args_override_self end) _ walked.1 in
-    let level_holds = both_hold _ _ (walk_holds s [] (walk_from nothing_held) words walked.0)
-    (both_hold _ _ (settle_holds s.rules s.args_override_self end settled.0)
-    (both_hold _ _ defaults_pass (rows_are_valid (finished s.rules end)))) in
-    both_hold _ _ is_command_simple (leaf_takes (built command) nothing_held words refl level_holds)
+    let level_holds = and_from _ _ (walk_holds s [] (walk_from nothing_held) words walked.0)
+    (and_from _ _ (settle_holds s.rules s.args_override_self end settled.0)
+    (and_from _ _ defaults_pass (rows_are_valid (finished s.rules end)))) in
+    and_from _ _ is_command_simple (leaf_takes (built command) nothing_held words refl level_holds)
 
 -- what is read of a text that stands among the matches
 pub read_rows : (read : Text → Option ℕ) (name : Text) (f : Found) (text : Option (Bor Text)) (r : Option (Option ℕ))

@@ -1,4 +1,5 @@
 use Rattle.std.proofs.Common.{◌≡◌, ◌≢◌, ℕ, List, All, Bool, IsSome, Option, true, false, not, refl, ap, sym, subst, ◌∙◌}
+use Rattle.std.proofs.Math.Bool.{not-not}
 use Rattle.vc_extent.specs.Change.{one_free}
 use Rattle.vc_extent.specs.Extent.{Extent}
 use Rattle.vc_extent.specs.Tiling.{IsThere, tiling}
@@ -10,10 +11,6 @@ use Rattle.vc_best.proofs.Clears.{change-none, no-value, none-there}
 use Rattle.vc_best.proofs.compact.clear_one.Given.{Over}
 use Rattle.vc_best.proofs.compact.clear_one.Goals as goal
 use Rattle.vc_best.proofs.compact.clear_one.Goals.{Else-is_some, Then-is_some}
-
-not-not : (b : Bool) → not (not b) ≡ b
-not-not true = refl
-not-not false = refl
 
 none : (g : Over) (c : Else-is_some g) → All (λ (s : ℕ × List Extent). s.0 ≢ c.args.number) (tiling c.args.extents.now.segs.items)
 none g c = none-there c.args.number c.args.extents.now.segs.items (sym c.has.ensures ∙ no-value c.has.result c.is_some.result (sym c.is_some.ensures) c.if-is_some.false)

@@ -6,6 +6,7 @@ use Rattle.vc_model.specs.Compact.{is_occupied}
 use Rattle.vc_model.specs.Addr.{address}
 use Rattle.vc_model.specs.Discipline.{HasOut, without_last}
 use Rattle.vc_model.specs.Layout.{Layout}
+use Rattle.vc_base.proofs.Options.{none_where}
 use Rattle.vc_seg.specs.Segment.{pair_of}
 use Rattle.vc_seg.proofs.Backs.{Contains-ends, Contains-own}
 use Rattle.vc_extent.specs.Extent.{Extent}
@@ -15,7 +16,7 @@ use Rattle.vc_gaps.specs.GapTree.{HasGaps}
 use Rattle.vc_gaps.proofs.Added.{gaps-removed}
 use Rattle.vc_best.specs.Blocks.{layout_by}
 use Rattle.vc_best.specs.Free.{IsMerged, is_merged}
-use Rattle.vc_best.proofs.Backs.{none-of, one-gone, out-gone, some-of, stays-gone, stays-kept, stays-none}
+use Rattle.vc_best.proofs.Backs.{one-gone, out-gone, some-of, stays-gone, stays-kept, stays-none}
 use Rattle.vc_best.proofs.Cleared.{first-off, one-first, start-address}
 use Rattle.vc_best.proofs.Layouts.{behind_of}
 use Rattle.vc_best.proofs.Linking.{in-tree}
@@ -31,7 +32,7 @@ pub returns-then-is_none-clause-given : goal.returns-then-is_none-clause-given
 returns-then-is_none-clause-given g c =
     let segs = c.args.extents.now.segs.items in
     record {
-      segments = sym (stays-none (is_occupied (layout_by segs).blocks) c.args.number (map pair_of segs) (sym c.has.ensures ∙ none-of c.has.result c.is_none.result c.is_none.ensures c.if-is_none.true));
+      segments = sym (stays-none (is_occupied (layout_by segs).blocks) c.args.number (map pair_of segs) (sym c.has.ensures ∙ none_where c.has.result c.is_none.result c.is_none.ensures c.if-is_none.true));
       blocks = refl;
       count = omega arith;
     }

@@ -2,11 +2,11 @@ use Rattle.std.proofs.Common.{ℕ, List, [], ◌∷◌, ◌++◌, refl, ap, sym,
 use Rattle.vc_model.specs.Addr.{place_of}
 use Rattle.vc_model.specs.Best.{without_block_at}
 use Rattle.vc_model.specs.Layout.{Layout}
+use Rattle.vc_base.proofs.Members.{within-head}
 use Rattle.vc_extent.specs.Tiling.{tiling}
 use Rattle.vc_gaps.specs.ButLinks.{StaysButLinks}
 use Rattle.vc_gaps.specs.GapLaws.{but_links_twice}
 use Rattle.vc_gaps.specs.GapTree.{HasGaps}
-use Rattle.vc_gaps.proofs.Ascending.{contains-head}
 use Rattle.vc_gaps.proofs.GapTrees.{can_link-out}
 use Rattle.vc_best.specs.Beside.{free_before, free_next}
 use Rattle.vc_best.proofs.Linking.{gaps-none_more}
@@ -53,7 +53,7 @@ freed g c =
 pub link_gap-requires : goal.link_gap-requires
 link_gap-requires g c =
     let a = c.release-freed.result.0 in
-    can_link-out (tiling c.release-freed.new.extents.segs.items) c.unlink_before.new.root.0 (a ∷ []) a (freed g (goal.at.link_gap-requires g c).After-release-freed) (contains-head a []) c.release-freed.ensures.free
+    can_link-out (tiling c.release-freed.new.extents.segs.items) c.unlink_before.new.root.0 (a ∷ []) a (freed g (goal.at.link_gap-requires g c).After-release-freed) (within-head a []) c.release-freed.ensures.free
 
 pub returns-clause-layout : goal.returns-clause-layout
 returns-clause-layout g c =

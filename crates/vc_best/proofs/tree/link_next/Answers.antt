@@ -1,8 +1,8 @@
 use Rattle.std.proofs.Common.{◌≡◌, ℕ, List, [], ◌∷◌, true, refl, sym, subst}
 use Rattle.vc_base.specs.Holders.{contains}
+use Rattle.vc_base.proofs.Members.{within-head}
 use Rattle.vc_extent.specs.Tiling.{extent_of, tiling}
 use Rattle.vc_gaps.specs.GapTree.{HasGaps}
-use Rattle.vc_gaps.proofs.Ascending.{contains-head}
 use Rattle.vc_gaps.proofs.GapTrees.{can_link-out}
 use Rattle.vc_best.specs.Beside.{free_next}
 use Rattle.vc_best.proofs.Linking.{next-not, next-one}
@@ -24,7 +24,7 @@ link_gap-requires g c =
     let t = tiling e.segs.items in
     let b = c.in-Some.next.0 in
     can_link-out t c.args.root.now.0 (free_next t c.args.a.0) b c.requires.gaps
-    (subst (λ (ns : List ℕ). contains ns b ≡ true) (sym (free g (goal.at.link_gap-requires g c).Then-not-is_busy)) (contains-head b []))
+    (subst (λ (ns : List ℕ). contains ns b ≡ true) (sym (free g (goal.at.link_gap-requires g c).Then-not-is_busy)) (within-head b []))
     (record { named = c.in-Some.ensures.named; free = not-busy c.is_busy.result (extent_of (tiling e.segs.items) b).size c.is_busy.ensures.1 c.if-not-is_busy.true })
 
 pub returns-then-not-is_busy-clause-gaps : goal.returns-then-not-is_busy-clause-gaps

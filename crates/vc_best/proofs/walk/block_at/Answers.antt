@@ -1,6 +1,7 @@
 use Rattle.std.proofs.Common.{ℕ, ◌-◌, List, Option, Some, ap, subst, sym, ◌∙◌}
 use Rattle.std.specs.Prelude.{find}
 use Rattle.vc_base.specs.declared.addr.Addr.{Addr}
+use Rattle.vc_base.proofs.Options.{none_where}
 use Rattle.vc_seg.specs.OneBlock.{IsBlockAt}
 use Rattle.vc_model.specs.Addr.{place_of}
 use Rattle.vc_model.specs.Walk.{holds_byte}
@@ -8,7 +9,6 @@ use Rattle.vc_extent.specs.Extent.{Extent}
 use Rattle.vc_extent.specs.Tiling.{extents_of, tiling}
 use Rattle.vc_best.specs.Blocks.{busy_in, layout_by}
 use Rattle.vc_best.proofs.AtBytes.{at-found, at-none, found-place, none-extents, none-found}
-use Rattle.vc_best.proofs.Backs.{none-of}
 use Rattle.vc_best.proofs.Firsts.{block_at-there}
 use Rattle.vc_best.proofs.Found.{has-of}
 use Rattle.vc_best.proofs.walk.block_at.Goals as goal
@@ -16,7 +16,7 @@ use Rattle.vc_best.proofs.walk.block_at.Goals as goal
 pub returns-then-is_none : goal.returns-then-is_none
 returns-then-is_none c =
     let e = c.args.extents.now in
-    let none = sym c.has.ensures ∙ none-of c.has.result c.is_none.result c.is_none.ensures c.if-is_none.true in
+    let none = sym c.has.ensures ∙ none_where c.has.result c.is_none.result c.is_none.ensures c.if-is_none.true in
     record {
       value = sym (at-none c.args.seg c.args.off (layout_by e.segs.items).blocks (block_at-there e.segs.items e.index.items e.kept c.args.seg c.args.off ∙ ap (λ (es : List Extent). find (holds_byte (c.args.seg, c.args.off)) (busy_in (c.args.seg, es))) (none-extents c.args.seg e.segs.items none)));
       live = tt;

@@ -3,19 +3,20 @@ use Rattle.std.specs.Prelude.{option_map}
 use Rattle.std.proofs.lemmas.List.Elements.{All-nil}
 use Rattle.vc_model.specs.Addr.{address, place_of}
 use Rattle.vc_model.specs.Layout.{Block, address_of}
+use Rattle.vc_base.proofs.Options.{none_where}
 use Rattle.vc_extent.specs.Extent.{Extent}
 use Rattle.vc_extent.specs.Tiling.{extents_of, tiling}
 use Rattle.vc_best.specs.Blocks.{busy_in}
 use Rattle.vc_best.specs.Next.{IsFirst}
 use Rattle.vc_best.proofs.Ahead.{blocks-low, first-lower, start-address}
 use Rattle.vc_best.proofs.AtBytes.{none-extents}
-use Rattle.vc_best.proofs.Backs.{none-of, some-of}
+use Rattle.vc_best.proofs.Backs.{some-of}
 use Rattle.vc_best.proofs.Walks.{start-named, start-seg}
 use Rattle.vc_best.proofs.walk.first_in.Goals as goal
 
 pub returns-then-is_none-clause-first : goal.returns-then-is_none-clause-first
 returns-then-is_none-clause-first c =
-    let none = none-extents c.args.number c.args.extents.now.segs.items (sym c.has.ensures ∙ none-of c.has.result c.is_none.result c.is_none.ensures c.if-is_none.true) in
+    let none = none-extents c.args.number c.args.extents.now.segs.items (sym c.has.ensures ∙ none_where c.has.result c.is_none.result c.is_none.ensures c.if-is_none.true) in
     subst (λ (es : List Extent). All (λ b. address_of b < address (c.args.number, 0)) (busy_in (c.args.number, es))) (sym none) (All-nil (λ (b : Block ℕ). address_of b < address (c.args.number, 0)))
 
 pub first_busy-requires : goal.first_busy-requires

@@ -1,11 +1,11 @@
 use Rattle.std.proofs.Common.{◌≡◌, ℕ, List, ◌+◌, ◌-◌, ◌∷◌, length, take, drop, refl, ap, sym, subst, ◌∙◌, arith}
+use Rattle.vc_base.proofs.Lists.{length-part}
 use Rattle.vc_seg.specs.Segment.{Bytes}
 use Rattle.vc_extent.specs.Extent.{Extent, extents, busy_extent}
 use Rattle.vc_extent.specs.Change.{Changes, behind, extent_in, mark_busy}
 use Rattle.vc_seg.specs.Field.{field_at}
 use Rattle.vc_extent.specs.Tiles.{Tiles}
 use Rattle.vc_extent.proofs.Changed.{changed, here, within, renamed}
-use Rattle.vc_extent.proofs.Marked.{part-length}
 use Rattle.vc_extent.proofs.edit.mark_busy_in.Goals as goal
 use Rattle.vc_extent.proofs.edit.mark_busy_in.Goals.{After-lay_busy}
 
@@ -48,4 +48,4 @@ returns-clause-len c =
     let h = (goal.at.returns-clause-len c).After-lay_busy in
     let w = within c.args.seg.now.bytes c.args.at c.requires.tiled c.requires.named in
     let end = w.end in
-    ap length (is h) ∙ part-length c.args.seg.now.bytes (c.args.at + 16) c.args.size (omega (arith, c.requires.span))
+    ap length (is h) ∙ length-part c.args.seg.now.bytes (c.args.at + 16) c.args.size (omega (arith, c.requires.span))

@@ -2,11 +2,11 @@ use Rattle.std.proofs.Common.{◌≡◌, ℕ, ◌+◌, ◌-◌, List, get_or, le
 use Rattle.vc_seg.specs.Memory.{bytes_of_number}
 use Rattle.vc_model.specs.Addr.{place_of}
 use Rattle.vc_model.specs.Resize.{fitted_bytes}
+use Rattle.vc_base.proofs.Places.{span-least}
 use Rattle.vc_seg.specs.Field.{field_at}
 use Rattle.vc_seg.specs.Frame.{StaysOutside}
 use Rattle.vc_last.specs.Head.{block_of, bytes_at}
 use Rattle.vc_last.proofs.Lifts.{IsThere, new-bytes, own-bytes, stays-set}
-use Rattle.vc_last.proofs.Places.{span-least}
 use Rattle.vc_last.proofs.head.set_size.Goals as goal
 use Rattle.vc_last.proofs.head.set_size.Goals.{After-index-segs-place, After-size_in}
 

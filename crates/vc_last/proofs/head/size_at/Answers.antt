@@ -1,7 +1,7 @@
 use Rattle.std.proofs.Common.{◌≡◌, arith}
+use Rattle.vc_base.proofs.Places.{span-least}
 use Rattle.vc_seg.proofs.BytesByNumber.{bytes_of_number-most}
 use Rattle.vc_last.specs.Head.{block_of}
-use Rattle.vc_last.proofs.Places.{span-least}
 use Rattle.vc_last.proofs.head.size_at.Goals as goal
 
 pub returns-clause-most : goal.returns-clause-most

@@ -2,6 +2,7 @@ use Rattle.std.proofs.Common.{◌≡◌, ◌≢◌, ℕ, suc, ◌+◌, ◌≤◌
 use Rattle.std.specs.Prelude.{◌||◌}
 use Rattle.std.proofs.lemmas.Bool.{cases_eq, eq-eqb, ne_eqb, le-leb, lt-leb}
 use Rattle.std.proofs.lemmas.List.Elements.{All-head, All-tail}
+use Rattle.std.proofs.Math.Bool.{or-false}
 use Rattle.vc_model.specs.Gap.{Run}
 use Rattle.vc_model.specs.Layout.{Block, footprint}
 use Rattle.vc_model.specs.Resize.{is_usable, sized_block}
@@ -18,10 +19,6 @@ usable-none f [] h = refl
 usable-none f (s ∷ ss) h =
     let other : f.seg ≢ s.number = λ e. All-head (λ (t : Bytes). t.number ≢ f.seg) s ss h (sym e) in
     rw (ne_eqb f.seg s.number other) (usable-none f ss (All-tail (λ (t : Bytes). t.number ≢ f.seg) s ss h))
-
-or-false : (b : Bool) → (b || false) ≡ b
-or-false true = refl
-or-false false = refl
 
 -- one of the segment of its number is usable where it ends in it
 usable-is : (f : Run) (segs : List Bytes) → AllPairs Apart segs → 16 ≤ f.from → is_usable (map pair_of segs) f ≡ leb (f.to + 16) (length (bytes_of_number f.seg segs))

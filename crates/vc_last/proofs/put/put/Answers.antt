@@ -2,12 +2,13 @@ use Rattle.std.proofs.Common.{◌≡◌, ◌+◌, ◌-◌, ℕ, List, ◌++◌, 
 use Rattle.std.proofs.lemmas.List.{with_items_is}
 use Rattle.vc_model.specs.Addr.{address}
 use Rattle.vc_model.specs.Layout.{Layout}
+use Rattle.vc_base.proofs.Places.{span-least}
 use Rattle.vc_seg.specs.Segment.{Bytes}
 use Rattle.vc_last.specs.Chain.{IsLast}
 use Rattle.vc_last.specs.Head.{StaysBut}
 use Rattle.vc_last.specs.Read.{layout_by}
 use Rattle.vc_last.proofs.Kept.{layout-from, row-by}
-use Rattle.vc_last.proofs.Places.{place-fresh, span-least}
+use Rattle.vc_last.proofs.Places.{place-fresh}
 use Rattle.vc_last.proofs.Puts.{IsInside, place-inside, put-kept, put-layout}
 use Rattle.vc_last.proofs.put.put.Goals as goal
 use Rattle.vc_last.proofs.put.put.Goals.{After-deref_mut, After-lay}

@@ -7,12 +7,12 @@ use Rattle.vc_last.specs.Chain.{IsLast, blocks_from}
 use Rattle.vc_last.specs.Head.{block_of, bytes_at}
 use Rattle.vc_last.specs.Read.{layout_by}
 use Rattle.vc_model.specs.Touch.{HasBlock, with_bytes_at}
+use Rattle.vc_base.proofs.Places.{span-least}
 use Rattle.vc_seg.specs.Memory.{write_segment}
 use Rattle.std.proofs.lemmas.List.{length-drop, length-take-le, same_lists, places}
 use Rattle.vc_layouts.proofs.Segments.{bytes_of_number-write}
 use Rattle.vc_last.proofs.Bodies.{layout-written}
 use Rattle.vc_last.proofs.Kept.{StandsAt, layout-from, stands-at}
-use Rattle.vc_last.proofs.Places.{span-least}
 use Rattle.vc_last.proofs.Writes.{stays-written}
 use Rattle.vc_last.proofs.resize.copy_front.Goals as goal
 use Rattle.vc_last.proofs.resize.copy_front.Goals.{After-min-kept, After-copy_in}

@@ -1,13 +1,13 @@
 use Rattle.std.proofs.Common.{◌≡◌, List, ◌++◌, length, map, take, drop, refl, ap, sym, ◌∙◌, subst, arith}
 use Rattle.std.proofs.lemmas.List.{with_items_is}
 use Rattle.vc_model.specs.Addr.{place_of}
+use Rattle.vc_base.proofs.Places.{span-least}
 use Rattle.vc_seg.specs.Segment.{Bytes, pair_of}
 use Rattle.vc_last.specs.Chain.{IsLast, blocks_from}
 use Rattle.vc_last.specs.Head.{before_of}
 use Rattle.vc_last.specs.Read.{layout_by}
 use Rattle.vc_last.proofs.Chains.{latest-some}
 use Rattle.vc_last.proofs.Changes.{sized-kept, sized-layout, sized-place}
-use Rattle.vc_last.proofs.Places.{span-least}
 use Rattle.vc_last.proofs.Puts.{place-inside}
 use Rattle.vc_last.proofs.Rows.{row}
 use Rattle.vc_last.proofs.resize.resize_there.Goals as goal

@@ -1,8 +1,8 @@
 use Rattle.std.proofs.Common.{ap, sym, ◌∙◌}
+use Rattle.vc_dtdisc.proofs.FindingLemmas.{first_of-map}
 use Rattle.vc_dtdisc.specs.Finding.{first_of}
 use Rattle.vc_paths.specs.Path.{place_of, visible_of}
 use Rattle.vc_paths.proofs.DownLemmas.{on-start}
-use Rattle.vc_paths.proofs.EndLemmas.{first-map}
 use Rattle.vc_paths.proofs.ShownLemmas.{visible-places}
 use Rattle.vc_paths.proofs.plain.first.Goals as goal
 
@@ -18,4 +18,4 @@ returns-clause-found g c =
     let links = c.args.paths.now in
     c.first_below.ensures.found
     ∙ ap first_of (sym (visible-places all links c.args.d c.show_invariant.ensures c.requires.method))
-    ∙ first-map place_of (visible_of all links c.args.d)
+    ∙ first_of-map place_of (visible_of all links c.args.d)

@@ -1,9 +1,10 @@
 use Rattle.std.proofs.Common.{◌≡◌, ap, refl, sym, ◌∙◌}
 use Rattle.std.specs.Option.{option_map}
+use Rattle.vc_base.proofs.Options.{is_some-map}
 use Rattle.vc_dtdisc.specs.Finding.{first_of}
 use Rattle.vc_paths.specs.Path.{numbers_of}
 use Rattle.vc_paths.specs.Shown.{shown_in}
-use Rattle.vc_paths.proofs.DescentLemmas.{below-end, below-found, below-past, some-mapped}
+use Rattle.vc_paths.proofs.DescentLemmas.{below-end, below-found, below-past}
 use Rattle.vc_paths.proofs.DownLemmas.{down-next, on-head, on-next}
 use Rattle.vc_paths.proofs.StayLemmas.{same-itself, same-over, alike-kept, on-kept, shown-kept}
 use Rattle.vc_paths.proofs.plain.first_below.Given.{Over}
@@ -36,7 +37,7 @@ pub returns-then-is_some : goal.returns-then-is_some
 returns-then-is_some g c =
     let i = c.loop-layer.invariant in
     let after = (goal.at.returns-then-is_some g c).After-first_in-found in
-    let some = some-mapped numbers_of c.first_in-found.result ∙ sym c.is_some.ensures ∙ c.if-is_some.true in
+    let some = is_some-map numbers_of c.first_in-found.result ∙ sym c.is_some.ensures ∙ c.if-is_some.true in
     let shows = shown_in (g.Y.Layers.layered c.args.layers.now) c.args.paths.now c.args.d in
     record {
       found = below-found shows c.show_invariant.ensures c.in-Some.is (first g after) some ∙ sym i.answer;
@@ -55,7 +56,7 @@ loop-layer-preserved g c =
     let i = c.loop-layer.invariant in
     let paths = c.show_invariant.ensures in
     let after = (goal.at.loop-layer-preserved g c).After-first_in-found in
-    let none = some-mapped numbers_of c.first_in-found.result ∙ sym c.is_some.ensures ∙ c.if-is_some.false in
+    let none = is_some-map numbers_of c.first_in-found.result ∙ sym c.is_some.ensures ∙ c.if-is_some.false in
     record {
       same = same-over i.same c.first_in-found.ensures.layers;
       stays = stays g after;

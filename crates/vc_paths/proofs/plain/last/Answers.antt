@@ -1,10 +1,10 @@
 use Rattle.std.proofs.Common.{None, Some, ap, sym, ◌∙◌}
 use Rattle.std.specs.List.{flat_map}
+use Rattle.vc_dtdisc.proofs.FindingLemmas.{last_from-map}
 use Rattle.vc_dtdisc.specs.Finding.{last_of}
 use Rattle.vc_paths.specs.Path.{place_of, visible_of}
 use Rattle.vc_paths.specs.Shown.{down, shown_in}
 use Rattle.vc_paths.proofs.DownLemmas.{above-none, on-start}
-use Rattle.vc_paths.proofs.EndLemmas.{last-map}
 use Rattle.vc_paths.proofs.ShownLemmas.{visible-places}
 use Rattle.vc_paths.proofs.plain.last.Goals as goal
 
@@ -19,4 +19,4 @@ returns-clause-found g c =
     c.last_above.ensures.found
     ∙ ap (λ z. last_of (flat_map (shown_in all links d) z)) (above-none (down links (Some d)))
     ∙ ap last_of (sym (visible-places all links d c.show_invariant.ensures c.requires.method))
-    ∙ last-map place_of None (visible_of all links d)
+    ∙ last_from-map place_of None (visible_of all links d)

@@ -1,15 +1,16 @@
 use Rattle.std.proofs.Common.{◌≡◌, None, sym, ◌∙◌}
+use Rattle.vc_base.proofs.Options.{none_where}
 use Rattle.vc_paths.specs.Links.{below}
-use Rattle.vc_paths.proofs.AloneLemmas.{alone_next, alone_there, none_is}
+use Rattle.vc_paths.proofs.AloneLemmas.{alone_next, alone_there}
 use Rattle.vc_paths.proofs.views.walk_next.Goals as goal
 
 pub next-requires-clause-place : goal.next-requires-clause-place
 next-requires-clause-place g c =
-    let none : below c.args.paths.now c.args.d ≡ None = sym c.below.ensures ∙ none_is c.below.result c.is_none.result c.is_none.ensures c.if-is_none.true in
+    let none : below c.args.paths.now c.args.d ≡ None = sym c.below.ensures ∙ none_where c.below.result c.is_none.result c.is_none.ensures c.if-is_none.true in
     alone_there (g.Y.Layers.layered c.args.layers.now) c.args.paths.now c.args.d c.args.from (g.met.Y.Layers.lawful c.args.layers.now) c.requires.path none c.requires.place
 
 pub returns-then-is_none-clause-found : goal.returns-then-is_none-clause-found
 returns-then-is_none-clause-found g c =
-    let none : below c.args.paths.now c.args.d ≡ None = sym c.below.ensures ∙ none_is c.below.result c.is_none.result c.is_none.ensures c.if-is_none.true in
+    let none : below c.args.paths.now c.args.d ≡ None = sym c.below.ensures ∙ none_where c.below.result c.is_none.result c.is_none.ensures c.if-is_none.true in
     alone_next (g.Y.Layers.layered c.args.layers.now) c.args.paths.now c.args.d c.args.from c.next.result c.placed.result (g.met.Y.Layers.lawful c.args.layers.now)
     c.requires.path none c.requires.place c.next.ensures c.placed.ensures

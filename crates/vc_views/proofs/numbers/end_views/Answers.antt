@@ -1,6 +1,7 @@
 use Rattle.std.proofs.Common.{◌≡◌, ◌<◌, ◌≤◌, ◌∙◌, ⊎_elim, ◌+◌, ℕ, None, length, ap, suc, arith}
 use Rattle.std.proofs.lemmas.Bool.{cases_lt}
 use Rattle.std.proofs.lemmas.Option.{slice_get_past}
+use Rattle.vc_paths.proofs.LinkLemmas.{below-past}
 use Rattle.vc_paths.specs.Links.{Links, below, link_at, links_with}
 use Rattle.vc_views.proofs.LinkChanges.{ended-more}
 use Rattle.vc_views.proofs.numbers.end_views.Goals as goal
@@ -16,14 +17,11 @@ loop-number-preserved c =
     let fits = c.loop-number.auto in
     more c.loop-number.paths c.end.new.self c.loop-number.number (let is = all.all in omega (arith, is, fits)) c.end.ensures c.loop-number.invariant
 
-past : (links : Links) (n : ℕ) → length links ≤ n → below links n ≡ None
-past links n far = ap link_at (slice_get_past links n far)
-
 pub returns : goal.returns
 returns c n =
     let end = c.loop-number-test.false in
     let all = c.show_invariant-2.ensures.all in
     ⊎_elim
     (λ before. c.loop-number.invariant n (omega (arith, before, end)))
-    (λ far. past c.loop-number.paths n (omega (arith, far, all)))
+    (λ far. below-past c.loop-number.paths n (omega (arith, far, all)))
     (cases_lt n 256)

@@ -4,8 +4,8 @@ use Rattle.std.specs.Map.{values_of}
 use Rattle.std.specs.Map.Iter.{TakesFirst, deref}
 use Rattle.std.proofs.lemmas.Iterator.{YieldsList}
 use Rattle.std.proofs.lemmas.Iterator.Search.{any_from_yields_List}
+use Rattle.vc_base.proofs.Quantifiers.{any-map}
 use Rattle.vc_commands.specs.declared.dict.entry.DictEntry.{DictEntry}
-use Rattle.vc_commands.proofs.Firsts.{any-unmap}
 use Rattle.vc_views.specs.Dicts.{number_in}
 use Rattle.vc_views.proofs.Values.{values-yield}
 use Rattle.vc_views.proofs.numbers.has_number.Goals as goal
@@ -18,4 +18,4 @@ returns c =
     let chain : YieldsList (TakesFirst (deref {X = DictEntry})) (λ (y : Bor DictEntry). y.now) c.values.result (values_of es) =
     record { runs = subst (λ s. AlwaysYields (TakesFirst (deref {X = DictEntry})) (λ (y : Bor DictEntry). y.now) s (values_of es)) (sym c.values.ensures.rest) (values-yield (values_of es)) } in
     any_from_yields_List {v = λ (y : Bor DictEntry). y.now} (λ (e : DictEntry). e.number == n) _ _ c.any.result c.any.ensures.ran chain (λ x b q k. search (rules, tests))
-    ∙ any-unmap (λ (e : DictEntry). e.number == n) (λ e. e.1) es ∙ sym (any-unmap (λ m. m == n) number_in es)
+    ∙ any-map (λ (e : DictEntry). e.number == n) (λ e. e.1) es ∙ sym (any-map (λ m. m == n) number_in es)

@@ -3,10 +3,11 @@ use Rattle.vc_model.specs.Addr.{place_of}
 use Rattle.vc_model.specs.Best.{without_block_at}
 use Rattle.vc_model.specs.Layout.{Layout}
 use Rattle.vc_model.specs.Touch.{HasBlock}
+use Rattle.vc_model.proofs.Owned.{address-place_of}
 use Rattle.vc_best.specs.Parts.{layout_of}
 use Rattle.vc_audit.specs.DebugMark.{without_mark}
 use Rattle.vc_audit.specs.Debug.{Debug, guarded_place}
-use Rattle.vc_audit.proofs.DebugBlocks.{UserAt, address-place_of, guarded-at, live-down}
+use Rattle.vc_audit.proofs.DebugBlocks.{UserAt, guarded-at, live-down}
 use Rattle.vc_audit.proofs.DebugFills.{guards-without}
 use Rattle.vc_audit.proofs.DebugFrees.{freed-user}
 use Rattle.vc_audit.proofs.DebugUser.{user_in}

@@ -4,12 +4,12 @@ use Rattle.std.specs.List.{cons_option}
 use Rattle.std.specs.Int.{w64}
 use Rattle.std.proofs.lemmas.Int.{to_z-of_z}
 use Rattle.vc_model.specs.Layout.{Block, address_of}
+use Rattle.vc_base.proofs.Options.{option_map-None}
 use Rattle.vc_region.proofs.Sound.{own_places}
 use Rattle.vc_region.specs.Cells.{rest_in}
 use Rattle.vc_region.specs.Parts.{region_of}
 use Rattle.vc_region.specs.Region.{next_damaged_in}
 use Rattle.vc_commands.proofs.Auditing.{NextDamage, between, damage-told, damaged-all, damaged-end, damaged_behind, found_items, list-damage}
-use Rattle.vc_commands.proofs.Listing.{from_none}
 use Rattle.vc_region.proofs.Rest.{rest-damaged, rest-debug}
 use Rattle.vc_commands.proofs.region.audit.damage_items.Given.{Over}
 use Rattle.vc_commands.proofs.region.audit.damage_items.Goals as goal
@@ -46,7 +46,7 @@ returns g c =
     let r = c.args.region.now in
     let labels = c.args.labels.now in
     let at : Block ℕ × ℤ → ℕ × ℤ = λ f. (address_of f.0, f.1) in
-    let none = from_none at (next_damaged_in c.loop-block.after.0 (region_of r)) (sym c.in_default.ensures.value) in
+    let none = option_map-None at (next_damaged_in c.loop-block.after.0 (region_of r)) (sym c.in_default.ensures.value) in
     sym (append-nil c.loop-block.items.items)
     ∙ (ap (λ fs. c.loop-block.items.items ++ found_items labels fs) (sym (damaged-end r c.loop-block.after.0 none))
     ∙ (c.loop-block.invariant.items

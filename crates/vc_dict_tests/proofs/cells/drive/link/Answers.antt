@@ -1,7 +1,7 @@
 use Rattle.std.proofs.Common.{◌≡◌, ◌≢◌, ◌≤◌, ◌∙◌, sym, true, ap, arith, rules}
 use Rattle.vc_base.specs.declared.addr.Addr.{Addr}
+use Rattle.vc_base.proofs.Members.{apart-cons}
 use Rattle.vc_dtdisc.specs.Finds.{object_at}
-use Rattle.vc_dtlist.proofs.HolderLemmas.{apart-cons}
 use Rattle.vc_dict_tests.specs.Ready.{IsReady}
 use Rattle.vc_dict_tests.proofs.ReadyLemmas.{lone-kept, none-by, ready-found, ready-linked}
 use Rattle.vc_dict_tests.proofs.cells.drive.link.Goals as goal

@@ -1,6 +1,6 @@
 use Rattle.std.proofs.Common.{◌≡◌, ◌≢◌, [], ◌∷◌, None, refl, ap, ◌∙◌, arith}
 use Rattle.vc_base.specs.declared.addr.Addr.{Addr}
-use Rattle.vc_dtlist.proofs.HolderLemmas.{apart-cons}
+use Rattle.vc_base.proofs.Members.{apart-cons}
 use Rattle.vc_dict_tests.proofs.ListLemmas.{none-at}
 use Rattle.vc_dict_tests.proofs.ReadyLemmas.{sized-kept}
 use Rattle.vc_dict_tests.proofs.cells.hashes.made.Goals as goal

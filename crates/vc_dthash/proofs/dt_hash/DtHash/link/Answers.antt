@@ -1,6 +1,6 @@
 use Rattle.std.proofs.Common.{◌≡◌, [], ◌∷◌, false, arith, refl}
 use Rattle.vc_base.specs.Holders.{contains}
-use Rattle.vc_dtlist.proofs.HolderLemmas.{apart-tail}
+use Rattle.vc_base.proofs.Members.{apart-tail}
 use Rattle.vc_dtlist.proofs.TurnLemmas.{fewer}
 use Rattle.vc_dtlist.proofs.WordLemmas.{HasBytes-written}
 use Rattle.vc_dthash.specs.Chained.{chain_of, hash_at}

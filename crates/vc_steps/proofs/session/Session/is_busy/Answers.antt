@@ -5,8 +5,8 @@ use Rattle.std.specs.Map.Iter.{TakesFirst, deref}
 use Rattle.std.specs.Str.{bytes_eq}
 use Rattle.std.proofs.lemmas.Iterator.{YieldsList}
 use Rattle.std.proofs.lemmas.Iterator.Search.{any_from_yields_List}
+use Rattle.vc_base.proofs.Quantifiers.{any-map}
 use Rattle.vc_commands.specs.declared.dict.entry.DictEntry.{DictEntry}
-use Rattle.vc_commands.proofs.Firsts.{any-unmap}
 use Rattle.vc_views.proofs.Values.{values-yield}
 use Rattle.vc_steps.proofs.session.Session.is_busy.Goals as goal
 use borrow.Author.Tests.{tests}
@@ -18,4 +18,4 @@ returns g c =
     let chain : YieldsList (TakesFirst (deref {X = DictEntry})) (λ (y : Bor DictEntry). y.now) c.values.result (values_of es) =
     record { runs = subst (λ s. AlwaysYields (TakesFirst (deref {X = DictEntry})) (λ (y : Bor DictEntry). y.now) s (values_of es)) (sym c.values.ensures.rest) (values-yield (values_of es)) } in
     any_from_yields_List {v = λ (y : Bor DictEntry). y.now} (λ (e : DictEntry). bytes_eq e.home r) _ _ c.any.result c.any.ensures.ran chain (λ x b q k. search (rules, tests))
-    ∙ any-unmap (λ (e : DictEntry). bytes_eq e.home r) (λ e. e.1) es
+    ∙ any-map (λ (e : DictEntry). bytes_eq e.home r) (λ e. e.1) es

@@ -1,8 +1,8 @@
 use Rattle.std.proofs.Common.{refl, sym, subst}
+use Rattle.std.proofs.lemmas.Option.{slice_get_within}
 use Rattle.vc_model.specs.Discipline.{Discipline}
 use Rattle.vc_paths.specs.Path.{IsPath}
 use Rattle.vc_views.specs.Promises.{layered_over}
-use Rattle.vc_views.proofs.Firsts.{within-some}
 use Rattle.vc_steps.proofs.LookSteps.{dicts-looked, linked-looked, named-looked, session-looked, settled-looked, steps-looked}
 use Rattle.vc_steps.proofs.SeenEntry.{entry-named, number-named}
 use Rattle.vc_steps.proofs.SessionLayers.{are-over, path-here}
@@ -27,7 +27,7 @@ look_at-requires g c =
     record {
       dicts = are-over (meaning g) all.kinds all.homes all.labels all.es all.named all.dicts;
       numbers = all.are.numbered;
-      index = within-some all.es c.args.i (name, entry.0) entry.1;
+      index = slice_get_within all.es c.args.i (name, entry.0) entry.1;
       path =
           subst (IsPath (layered_over all.kinds all.homes all.es) all.links) (sym (number-named all.es name c.args.i c.requires.index))
           (path-here (meaning g) all.kinds all.homes all.labels all.es all.named all.dicts all.links all.are c.args.i (name, entry.0) entry.1);

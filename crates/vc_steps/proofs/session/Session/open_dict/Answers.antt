@@ -6,6 +6,8 @@ use Rattle.std.proofs.lemmas.List.{length-map}
 use Rattle.std.proofs.lemmas.Option.{slice_get-map}
 use Rattle.indexmap.proofs.CallerLemmas.{insert_entry-new}
 use Rattle.vc_model.specs.Discipline.{Discipline}
+use Rattle.vc_base.proofs.Options.{none_of}
+use Rattle.vc_views.proofs.Firsts.{no-other}
 use Rattle.vc_region.specs.Cells.{rest_in}
 use Rattle.vc_script.specs.Needs.{NoNeed, need_shown}
 use Rattle.vc_script.specs.declared.reply.Reply.TheVariants.{Refused}
@@ -22,7 +24,6 @@ use Rattle.vc_commands.specs.Labels.{name_of}
 use Rattle.vc_commands.specs.Home.{is_home}
 use Rattle.vc_steps.specs.Told.{gone_in, rules_in}
 use Rattle.vc_commands.proofs.Agreeing.{from_ok}
-use Rattle.vc_steps.proofs.BestRegions.{no-other}
 use Rattle.vc_steps.proofs.Cells.{at_number-from_one}
 use Rattle.vc_steps.proofs.DictNamed.{any-dict}
 use Rattle.vc_steps.proofs.DictOpening.{OpensIn, open-none, open-refused}
@@ -31,7 +32,7 @@ use Rattle.vc_steps.proofs.DictRegion.{best_at}
 use Rattle.vc_steps.proofs.DictWhy.{IsAllowed, few-within, kind-within, lacks-early, refused-early, refused-none, settles-early}
 use Rattle.vc_steps.proofs.Ending.{if_some-at}
 use Rattle.vc_commands.proofs.Firsts.{find-none}
-use Rattle.vc_steps.proofs.Helds.{any-named, none_of, slice-or}
+use Rattle.vc_steps.proofs.Helds.{any-named, slice-or}
 use Rattle.vc_steps.proofs.OpensHere.{DictOpened, dicts-new, dicts-unopened, linked-new, linked-unopened, named-opened, session-opened, steps-opened, steps-unopened}
 use Rattle.vc_steps.proofs.RegionAt.{RegionAt, found_at, region-stands, region_at, stored_at}
 use Rattle.vc_steps.proofs.SessionHere.{SessionHere, helds, session_here, state_here, views}

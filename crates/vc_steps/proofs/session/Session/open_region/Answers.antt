@@ -5,6 +5,7 @@ use Rattle.std.proofs.lemmas.Bool.{false≢true}
 use Rattle.std.proofs.lemmas.List.{set-set}
 use Rattle.indexmap.proofs.CallerLemmas.{insert_entry-new}
 use Rattle.vc_model.specs.Discipline.{Discipline}
+use Rattle.vc_base.proofs.Options.{none_of}
 use Rattle.vc_seg.specs.Shelf.{place_at, slots_of}
 use Rattle.vc_script.specs.declared.reply.Reply.TheVariants.{Opened, Refused}
 use Rattle.vc_script.specs.declared.refusal.Refusal.TheVariants.{RegionExists}
@@ -17,7 +18,7 @@ use Rattle.vc_steps.specs.State.{not_here}
 use Rattle.vc_steps.specs.State.{step_with_reply}
 use Rattle.vc_commands.proofs.Agreeing.{from_ok}
 use Rattle.vc_steps.proofs.Cells.{at_number_some, set_same}
-use Rattle.vc_steps.proofs.Helds.{any-named, none_of}
+use Rattle.vc_steps.proofs.Helds.{any-named}
 use Rattle.vc_steps.proofs.Newest.{IsNewest, newest-dicts, newest-named, newest-session, newest-settled, newest-step}
 use Rattle.vc_steps.proofs.Granted.{open-granted}
 use Rattle.vc_steps.proofs.SameLists.{keeps-lists, settled-lists, state-lists}

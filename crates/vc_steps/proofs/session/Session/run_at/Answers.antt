@@ -6,12 +6,12 @@ use Rattle.std.specs.List.{position}
 use Rattle.std.specs.Map.{keys_of}
 use Rattle.std.specs.Str.{bytes_eq}
 use Rattle.vc_model.specs.Discipline.{Discipline}
+use Rattle.vc_views.proofs.Firsts.{no-other}
 use Rattle.vc_commands.specs.declared.dict.entry.DictEntry.{DictEntry}
 use Rattle.vc_views.specs.Numbers.{is_barred}
 use Rattle.vc_steps.proofs.DictsStay.{Entry}
 use Rattle.vc_steps.proofs.Ending.{if_some-at}
 use Rattle.vc_steps.specs.Told.{gone_in, rules_in}
-use Rattle.vc_steps.proofs.BestRegions.{no-other}
 use Rattle.vc_views.proofs.LinkLists.{map-set_same}
 use Rattle.vc_steps.proofs.DictRegion.{best_at, best_entry}
 use Rattle.vc_steps.proofs.DictRun.{CommandRan, DictRan, dicts-ran, linked-ran, named-ran, session-ran, steps-ran, whole-by}

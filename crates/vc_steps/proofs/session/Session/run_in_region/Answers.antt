@@ -1,4 +1,5 @@
 use Rattle.std.proofs.Common.{Some, map, refl, ◌∙◌, subst, sym}
+use Rattle.std.proofs.lemmas.Bool.{and_parts}
 use Rattle.vc_model.specs.Discipline.{Discipline}
 use Rattle.vc_commands.specs.Held.{home_of}
 use Rattle.vc_views.specs.Numbers.{views_by}
@@ -13,7 +14,7 @@ use Rattle.vc_steps.proofs.Changing.{session-change, step-busy, step-none}
 use Rattle.vc_steps.proofs.DictsStay.{busy-lies}
 use Rattle.vc_commands.proofs.Firsts.{find-first, find-none}
 use Rattle.vc_steps.proofs.Helds.{any-named, first-named}
-use Rattle.vc_steps.proofs.InRegion.{both-true, clear-free, clear-is, if_ok_at}
+use Rattle.vc_steps.proofs.InRegion.{clear-free, clear-is, if_ok_at}
 use Rattle.vc_steps.proofs.RegionAt.{RegionAt, helds-put, label-read, named-put, region-first, region-stands, region_at}
 use Rattle.vc_steps.proofs.RegionSteps.{moment_over, region-ran}
 use Rattle.vc_steps.proofs.Sessions.{held-at}
@@ -60,7 +61,7 @@ returns-then-clears_busy-clause-steps g c = λ kinds gone dicts.
     let r = c.args.name.now in
     let command = c.args.command.now in
     let first = first-named M session.homes.entries session.labels.items r c.in-Some.i c.requires.regions.named (sym c.in-Some.ensures.index) in
-    let both = both-true (is_clear command) (lies_in r es) (sym c.if-clears_busy.ensures) in
+    let both = and_parts (is_clear command) (lies_in r es) (sym c.if-clears_busy.ensures) in
     let is = clear-is command both.0 in
     record {
       gives =

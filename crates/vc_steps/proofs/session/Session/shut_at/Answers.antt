@@ -4,6 +4,7 @@ use Rattle.std.proofs.lemmas.List.{map-set}
 use Rattle.std.proofs.lemmas.Option.{same_Some}
 use Rattle.indexmap.specs.IndexMap.{set_value_at}
 use Rattle.vc_model.specs.Discipline.{Discipline}
+use Rattle.vc_views.proofs.Firsts.{no-other}
 use Rattle.vc_objects.specs.Objects.{Dictionary}
 use Rattle.vc_objects.specs.Parts.{IsWhole}
 use Rattle.vc_objects.specs.Remove.{bytes_of}
@@ -16,7 +17,6 @@ use Rattle.vc_steps.specs.Homes.{held_all, held_in, slots_on}
 use Rattle.vc_steps.specs.Moment.{moment}
 use Rattle.vc_steps.specs.Steps.{Shuts}
 use Rattle.vc_steps.specs.Told.{gone_in, rules_in, tell}
-use Rattle.vc_steps.proofs.BestRegions.{no-other}
 use Rattle.vc_views.proofs.LinkLists.{map-set_same}
 use Rattle.vc_steps.proofs.DictRegion.{best_entry}
 use Rattle.vc_steps.proofs.DictShut.{DictEnded, below-ended, dicts-ended, linked-ended, named-ended, session-ended, settled-ended, state-ended}
