@@ -12,15 +12,6 @@ use Rattle.vc_model.proofs.Walking.{IsRow, filter-all, filter-next, filter-none}
 use Rattle.vc_audit.specs.Debug.{Debug, damage, damage_of, damaged_blocks, next_damaged, user_block}
 use Rattle.vc_audit.proofs.DebugBlocks.{address-user}
 
-on : (k a b : ℕ) → ltb k a ≡ true → ltb a b ≡ true → ltb k b ≡ true
-on k a b p q = grind (arith, nat_tests)
-
-self : (a : ℕ) → ltb a a ≡ false
-self a = grind (arith, nat_tests)
-
-back : (k a b : ℕ) → ltb k a ≡ false → ltb k b ≡ true → ltb b a ≡ false
-back k a b p q = grind (arith, nat_tests)
-
 both-next : (m n : ℕ) → ltb m n ≡ true → ltb (m + 1) (n + 1) ≡ true
 both-next m n e = grind (arith, nat_tests)
 
@@ -60,7 +51,7 @@ damaged-row d places = row (by_address d.best.blocks) (sorting.row-sorted_by add
 -- those behind an address are the next one and those behind it
 pub next-passes : (d : Debug ℕ) (after : ℕ) (x : Block ℕ × ℤ) → HaveOwnPlaces d.best.blocks → next_damaged after d ≡ Some x → filter (behind after) (damaged_blocks d) ≡ x ∷ filter (behind (address_in x)) (damaged_blocks d)
 next-passes d after x places e =
-    filter-next behind address_in (λ k a b p q. on k (address_in a) (address_in b) p q) (λ a. self (address_in a)) (λ k a b p q. back k (address_in a) (address_in b) p q)
+    filter-next behind address_in (λ k a b p q. sorting.above-on k (address_in a) (address_in b) p q) (λ a. sorting.above-self (address_in a)) (λ k a b p q. sorting.above-back k (address_in a) (address_in b) p q)
     after (damaged_blocks d) x (damaged-row d places) e
 
 -- where there is no next one, there are none

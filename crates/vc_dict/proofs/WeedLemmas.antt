@@ -71,7 +71,7 @@ Added-kept w b b' at done gone list n p d g t e =
     }
 
 -- a match is the same over blocks with the same objects
-key_same : (rules : Rules) (b b' : Blocks) (key : List ℕ) (xs : List ℕ) → ((a : ℕ) → contains xs a ≡ true → object_at b' a ≡ object_at b a) → find_key rules b' key xs ≡ find_key rules b key xs
+pub key_same : (rules : Rules) (b b' : Blocks) (key : List ℕ) (xs : List ℕ) → ((a : ℕ) → contains xs a ≡ true → object_at b' a ≡ object_at b a) → find_key rules b' key xs ≡ find_key rules b key xs
 key_same rules b b' key [] e = refl
 key_same rules b b' key (x ∷ xs) e =
     ap (λ o. if is_eq (rules.compare (rules.key o) key) then Some x else find_key rules b' key xs) (e x (within-head x xs))

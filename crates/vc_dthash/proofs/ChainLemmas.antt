@@ -157,7 +157,7 @@ chains-fronted hash b b' table slots s at xs c se out apart f =
     ]
 
 -- chains by another way to tell the hashes, and over blocks of which the table and the holders stay
-chain-same : (hash hash' : ℕ → ℕ) (slots k : ℕ) (xs : List ℕ) → ((a : ℕ) → contains xs a ≡ true → hash' a ≡ hash a) → chain_of hash' slots k xs ≡ chain_of hash slots k xs
+pub chain-same : (hash hash' : ℕ → ℕ) (slots k : ℕ) (xs : List ℕ) → ((a : ℕ) → contains xs a ≡ true → hash' a ≡ hash a) → chain_of hash' slots k xs ≡ chain_of hash slots k xs
 chain-same hash hash' slots k [] e = refl
 chain-same hash hash' slots k (x ∷ xs) e =
     ap (λ h. cond (h % slots == k) (x ∷ chain_of hash' slots k xs) (chain_of hash' slots k xs)) (e x (within-head x xs))

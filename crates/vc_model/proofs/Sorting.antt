@@ -8,13 +8,13 @@ use Rattle.vc_model.specs.Order.{least_above, lesser_by, put_by, sorted_by}
 use Rattle.vc_model.proofs.Pairs.{AllPairs-head, AllPairs-tail, all-recursion}
 use Rattle.vc_model.proofs.Walking.{IsRow, filter-all, filter-next, filter-none}
 
-above-on : (k a b : ℕ) → ltb k a ≡ true → ltb a b ≡ true → ltb k b ≡ true
+pub above-on : (k a b : ℕ) → ltb k a ≡ true → ltb a b ≡ true → ltb k b ≡ true
 above-on k a b p q = grind (arith, nat_tests)
 
-above-self : (a : ℕ) → ltb a a ≡ false
+pub above-self : (a : ℕ) → ltb a a ≡ false
 above-self a = grind (arith, nat_tests)
 
-above-back : (k a b : ℕ) → ltb k a ≡ false → ltb k b ≡ true → ltb b a ≡ false
+pub above-back : (k a b : ℕ) → ltb k a ≡ false → ltb k b ≡ true → ltb b a ≡ false
 above-back k a b p q = grind (arith, nat_tests)
 
 less-not : (a b c : ℕ) → ltb a b ≡ false → ltb b c ≡ false → ltb a c ≡ false

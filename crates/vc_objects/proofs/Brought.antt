@@ -4,7 +4,6 @@ use Rattle.std.specs.Prelude.{Ok, Option, ◌==◌, if◌then◌else◌}
 use Rattle.std.proofs.lemmas.Bool.{eq-eqb, ne_eqb}
 use Rattle.vc_model.specs.Layout.{Layout}
 use Rattle.vc_base.specs.declared.dict_method.DictMethod.{DictMethod}
-use Rattle.vc_base.specs.declared.dict_method.DictMethod.TheVariants.{DtSet, DtBag, DtOset, DtObag, DtList, DtStack, DtQueue}
 use Rattle.vc_base.specs.Cells.{Blocks}
 use Rattle.vc_model.specs.Discipline.{Discipline, Terms}
 use Rattle.vc_model.specs.Outcome.{Outcome, Done, Refused, Put}
@@ -59,21 +58,6 @@ brings-none meaning best wanted none =
       labelled = refl;
       asked = refl;
     })
-
--- the methods are told by their numbers
-method_of : ℕ → DictMethod
-method_of n =
-    if n == 0 then DtSet else (if n == 1 then DtBag else (if n == 2 then DtOset else (if n == 3 then DtObag else (if n == 4 then DtList else (if n == 5 then DtStack else DtQueue)))))
-
-method-back : (m : DictMethod) → method_of (method_number m) ≡ m
-unfolding method_of
-method-back DtSet = refl
-method-back DtBag = refl
-method-back DtOset = refl
-method-back DtObag = refl
-method-back DtList = refl
-method-back DtStack = refl
-method-back DtQueue = refl
 
 module _ (rules : Rules) (terms : Terms) (method : DictMethod) (r : Layout ℕ) (d : Dictionary) (count : ℕ) (other : method ≢ d.method) (counts : length d.objects ≡ count) where
   abbrev stays : Outcome (Turned ℕ)

@@ -48,7 +48,7 @@ first_other-none (x ∷ xs) each =
     let parts = and_parts (is_name_byte x) (list_all is_name_byte xs) each in
     rw parts.0 (first_other-none xs parts.1)
 
-digit-name : (xs : List ℕ) → list_all is_digit xs ≡ true → list_all is_name_byte xs ≡ true
+pub digit-name : (xs : List ℕ) → list_all is_digit xs ≡ true → list_all is_name_byte xs ≡ true
 digit-name [] each = refl
 digit-name (x ∷ xs) each =
     let parts = and_parts (is_digit x) (list_all is_digit xs) each in

@@ -48,12 +48,12 @@ line-kind kind newline (x ∷ xs) each =
     let parts = and_parts (kind x) (list_all kind xs) each in
     and_from (stays x) (list_all stays xs) (stays-kind kind x newline parts.0) (line-kind kind newline xs parts.1)
 
-both : (xs ys : List ℕ) → OneLine xs → OneLine ys → OneLine (xs ++ ys)
-both xs ys first second = list_all-append stays xs ys ∙ and_from (list_all stays xs) (list_all stays ys) first second
+pub line-both : (xs ys : List ℕ) → OneLine xs → OneLine ys → OneLine (xs ++ ys)
+line-both xs ys first second = list_all-append stays xs ys ∙ and_from (list_all stays xs) (list_all stays ys) first second
 
 line-flat_map : {X : Type 0} (f : X → List ℕ) (P : X → Type 0) → ((x : X) → P x → OneLine (f x)) → (xs : List X) → AllByRecursion P xs → OneLine (flat_map f xs)
 line-flat_map f P each [] all = refl
-line-flat_map f P each (x ∷ xs) all = both (f x) (flat_map f xs) (each x all.0) (line-flat_map f P each xs all.1)
+line-flat_map f P each (x ∷ xs) all = line-both (f x) (flat_map f xs) (each x all.0) (line-flat_map f P each xs all.1)
 
 all-of : {X : Type 0} (xs : List X) → AllByRecursion (λ x. Unit {0}) xs
 all-of [] = tt
@@ -78,7 +78,7 @@ pub list_all-decimal : (n : ℕ) → list_all is_digit (decimal n) ≡ true
 unfolding digits
 list_all-decimal n = list_all-digits_onto 64 n [] refl
 
-line-decimal : (n : ℕ) → OneLine (decimal n)
+pub line-decimal : (n : ℕ) → OneLine (decimal n)
 line-decimal n = line-kind is_digit refl (decimal n) (list_all-decimal n)
 
 line-signed : (z : ℤ) → OneLine (signed_decimal z)
@@ -93,7 +93,7 @@ list_all-name (b ∷ bs) proper =
     let rest = and_parts (list_all is_name_byte bs) (leb (length bs) 31) parts.1 in
     and_from (is_name_byte b) (list_all is_name_byte bs) (ap (λ t. t || (is_digit b || (eqb b 95 || eqb b 46))) parts.0) rest.0
 
-line-name : (name : List ℕ) → IsName name → OneLine name
+pub line-name : (name : List ℕ) → IsName name → OneLine name
 line-name name proper = line-kind is_name_byte refl name (list_all-name name proper)
 
 line-label : (label : Option (List ℕ)) → IsSite label → OneLine (label_text label)
@@ -106,7 +106,7 @@ line-viewed (Some name) proper = line-name name proper
 
 line-watch : (line : Option ℕ) → OneLine (watch_text line)
 line-watch None = refl
-line-watch (Some line) = both (codes " watched ") (decimal line) refl (line-decimal line)
+line-watch (Some line) = line-both (codes " watched ") (decimal line) refl (line-decimal line)
 
 line-method : (method : DictMethod) → OneLine (method_word method)
 line-method DtSet = refl
@@ -119,7 +119,7 @@ line-method DtQueue = refl
 
 -- the clause of the line is named, so that the others are checked for each refusal
 line-refusal : (why : Refusal) → OneLine (refusal_text why)
-line-refusal (FreedAt line) = both (codes "freed at line ") (decimal line) refl (line-decimal line)
+line-refusal (FreedAt line) = line-both (codes "freed at line ") (decimal line) refl (line-decimal line)
 line-refusal why = refl
 
 -- a digit of a table without newlines
@@ -162,21 +162,21 @@ line-shown bytes = line-flat_map shown_byte (λ b. Unit {0}) (λ b any. line-sho
 
 -- a text, a word and a number
 labelled : (xs label : List ℕ) (n : ℕ) → OneLine xs → OneLine label → OneLine (xs ++ label ++ decimal n)
-labelled xs label n first second = both (xs ++ label) (decimal n) (both xs label first second) (line-decimal n)
+labelled xs label n first second = line-both (xs ++ label) (decimal n) (line-both xs label first second) (line-decimal n)
 
 line-segment : (s : ℕ × ℕ) → OneLine (segment_text s)
-line-segment s = labelled (codes " " ++ decimal s.0) (codes ":") s.1 (both (codes " ") (decimal s.0) refl (line-decimal s.0)) refl
+line-segment s = labelled (codes " " ++ decimal s.0) (codes ":") s.1 (line-both (codes " ") (decimal s.0) refl (line-decimal s.0)) refl
 
 line-block : (b : Option (List ℕ) × Place × ℕ) → IsSite b.0 → OneLine (block_text b)
 line-block b proper =
     labelled (codes " " ++ label_text b.0 ++ codes "@" ++ decimal b.1.seg ++ codes ":" ++ decimal b.1.off) (codes "+") b.2
     (labelled (codes " " ++ label_text b.0 ++ codes "@" ++ decimal b.1.seg) (codes ":") b.1.off
-    (labelled (codes " " ++ label_text b.0) (codes "@") b.1.seg (both (codes " ") (label_text b.0) refl (line-label b.0 proper)) refl) refl) refl
+    (labelled (codes " " ++ label_text b.0) (codes "@") b.1.seg (line-both (codes " ") (label_text b.0) refl (line-label b.0 proper)) refl) refl) refl
 
 line-damage : (d : List ℕ × ℤ) → IsName d.0 → OneLine (damage_text d)
 line-damage d proper =
-    both (codes " " ++ d.0 ++ codes ":") (signed_decimal d.1)
-    (both (codes " " ++ d.0) (codes ":") (both (codes " ") d.0 refl (line-name d.0 proper)) refl) (line-signed d.1)
+    line-both (codes " " ++ d.0 ++ codes ":") (signed_decimal d.1)
+    (line-both (codes " " ++ d.0) (codes ":") (line-both (codes " ") d.0 refl (line-name d.0 proper)) refl) (line-signed d.1)
 
 line-site : (site : List ℕ) → IsTrue (is_row_site site) → OneLine site
 line-site site proper =
@@ -189,24 +189,24 @@ line-row : (r : ProfileRow) → IsTrue (is_row_site r.site) → OneLine (row_tex
 line-row r proper =
     labelled (codes " " ++ r.site ++ codes "=" ++ decimal r.blocks ++ codes "," ++ decimal r.bytes) (codes ",") r.peak
     (labelled (codes " " ++ r.site ++ codes "=" ++ decimal r.blocks) (codes ",") r.bytes
-    (labelled (codes " " ++ r.site) (codes "=") r.blocks (both (codes " ") r.site refl (line-site r.site proper)) refl) refl) refl
+    (labelled (codes " " ++ r.site) (codes "=") r.blocks (line-both (codes " ") r.site refl (line-site r.site proper)) refl) refl) refl
 
 line-object : (object : List ℕ) → OneLine (object_text object)
-line-object object = both (codes " ") (shown_bytes object) refl (line-shown object)
+line-object object = line-both (codes " ") (shown_bytes object) refl (line-shown object)
 
 -- a list behind a word and the number of its items
 listed : {X : Type 0} (word : List ℕ) (f : X → List ℕ) (P : X → Type 0) (xs : List X) → OneLine word → ((x : X) → P x → OneLine (f x)) → AllByRecursion P xs → OneLine (word ++ decimal (length xs) ++ flat_map f xs)
 listed word f P xs first each all =
-    both (word ++ decimal (length xs)) (flat_map f xs) (both word (decimal (length xs)) first (line-decimal (length xs))) (line-flat_map f P each xs all)
+    line-both (word ++ decimal (length xs)) (flat_map f xs) (line-both word (decimal (length xs)) first (line-decimal (length xs))) (line-flat_map f P each xs all)
 
 named : (name text : List ℕ) → IsName name → OneLine text → OneLine (name ++ text)
-named name text proper rest = both name text (line-name name proper) rest
+named name text proper rest = line-both name text (line-name name proper) rest
 
 counted : (name text : List ℕ) (n : ℕ) → IsName name → OneLine text → OneLine (name ++ text ++ decimal n)
 counted name text n proper rest = labelled name text n (line-name name proper) rest
 
 watched : (xs : List ℕ) (line : Option ℕ) → OneLine xs → OneLine (xs ++ watch_text line)
-watched xs line first = both xs (watch_text line) first (line-watch line)
+watched xs line first = line-both xs (watch_text line) first (line-watch line)
 
 line-stat : (s : Stat) → OneLine (stat_text s)
 line-stat s =
@@ -220,7 +220,7 @@ line-stat s =
     labelled seven (codes " extent ") s.extent (labelled six (codes " segs ") s.segs
     (labelled five (codes " mfree ") s.mfree (labelled four (codes " mbusy ") s.mbusy
     (labelled three (codes " sfree ") s.sfree (labelled two (codes " sbusy ") s.sbusy
-    (labelled one (codes " free ") s.free (both (codes "busy ") (decimal s.busy) refl (line-decimal s.busy)) refl) refl) refl) refl) refl) refl) refl
+    (labelled one (codes " free ") s.free (line-both (codes "busy ") (decimal s.busy) refl (line-decimal s.busy)) refl) refl) refl) refl) refl) refl) refl
 
 -- no reply holds a newline
 pub line-printed : (r : Reply) → IsProperReply r → OneLine (printed r)
@@ -232,13 +232,13 @@ line-printed (At block place line) proper =
     watched (block ++ codes " " ++ decimal place.seg ++ codes ":" ++ decimal place.off) line (labelled (block ++ codes " " ++ decimal place.seg) (codes ":") place.off (counted block (codes " ") place.seg proper refl) refl)
 line-printed (Freed block line) proper = watched (block ++ codes " freed") line (named block (codes " freed") proper refl)
 line-printed (Written block count line) proper = watched (block ++ codes " written " ++ decimal count) line (counted block (codes " written ") count proper refl)
-line-printed (Hex block bytes) proper = both (block ++ codes " ") (encode_lower bytes) (named block (codes " ") proper refl) (line-hex bytes)
+line-printed (Hex block bytes) proper = line-both (block ++ codes " ") (encode_lower bytes) (named block (codes " ") proper refl) (line-hex bytes)
 line-printed (Size block size) proper = counted block (codes " ") size proper refl
 line-printed (AddrIn block off) proper =
-    labelled (codes "addr " ++ label_text block) (codes " ") off (both (codes "addr ") (label_text block) refl (line-label block proper)) refl
+    labelled (codes "addr " ++ label_text block) (codes " ") off (line-both (codes "addr ") (label_text block) refl (line-label block proper)) refl
 line-printed AddrNone proper = refl
 line-printed (SegmentIs number size) proper =
-    labelled (codes "segment " ++ decimal number) (codes " ") size (both (codes "segment ") (decimal number) refl (line-decimal number)) refl
+    labelled (codes "segment " ++ decimal number) (codes " ") size (line-both (codes "segment ") (decimal number) refl (line-decimal number)) refl
 line-printed SegmentNone proper = refl
 line-printed (Stats s) proper = line-stat s
 line-printed (SegmentList items) proper = listed (codes "segments ") segment_text (λ s. Unit {0}) items refl (λ s any. line-segment s) (all-of items)
@@ -247,17 +247,17 @@ line-printed (Poked block line) proper = watched (block ++ codes " poked") line 
 line-printed (Damaged items) proper = listed (codes "check ") damage_text (λ d. IsName d.0) items refl line-damage proper
 line-printed (Watched block) proper = named block (codes " watched") proper refl
 line-printed (Rows items) proper = listed (codes "profile ") row_text (λ r. IsTrue (is_row_site r.site)) items refl line-row proper
-line-printed (New object) proper = both (codes "new ") (shown_bytes object) refl (line-shown object)
-line-printed (Old object) proper = both (codes "old ") (shown_bytes object) refl (line-shown object)
-line-printed (Gone object) proper = both (codes "gone ") (shown_bytes object) refl (line-shown object)
-line-printed (Out object) proper = both (codes "out ") (shown_bytes object) refl (line-shown object)
-line-printed (Found object) proper = both (codes "found ") (shown_bytes object) refl (line-shown object)
+line-printed (New object) proper = line-both (codes "new ") (shown_bytes object) refl (line-shown object)
+line-printed (Old object) proper = line-both (codes "old ") (shown_bytes object) refl (line-shown object)
+line-printed (Gone object) proper = line-both (codes "gone ") (shown_bytes object) refl (line-shown object)
+line-printed (Out object) proper = line-both (codes "out ") (shown_bytes object) refl (line-shown object)
+line-printed (Found object) proper = line-both (codes "found ") (shown_bytes object) refl (line-shown object)
 line-printed Nothing proper = refl
 line-printed (Objects items) proper =
-    both (decimal (length items)) (flat_map object_text items) (line-decimal (length items)) (line-flat_map object_text (λ o. Unit {0}) (λ o any. line-object o) items (all-of items))
+    line-both (decimal (length items)) (flat_map object_text items) (line-decimal (length items)) (line-flat_map object_text (λ o. Unit {0}) (λ o any. line-object o) items (all-of items))
 line-printed (Number count) proper = line-decimal count
-line-printed (Views dict viewed) proper = both (dict ++ codes " views ") (viewed_text viewed) (named dict (codes " views ") proper.0 refl) (line-viewed viewed proper.1)
-line-printed (MethodIs dict method) proper = both (dict ++ codes " method ") (method_word method) (named dict (codes " method ") proper refl) (line-method method)
+line-printed (Views dict viewed) proper = line-both (dict ++ codes " views ") (viewed_text viewed) (named dict (codes " views ") proper.0 refl) (line-viewed viewed proper.1)
+line-printed (MethodIs dict method) proper = line-both (dict ++ codes " method ") (method_word method) (named dict (codes " method ") proper refl) (line-method method)
 line-printed (Emptied dict count) proper = counted dict (codes " empty ") count proper refl
 line-printed (ShutDown dict) proper = named dict (codes " shut") proper refl
-line-printed (Refused why) proper = both (codes "refused: ") (refusal_text why) refl (line-refusal why)
+line-printed (Refused why) proper = line-both (codes "refused: ") (refusal_text why) refl (line-refusal why)

@@ -30,7 +30,7 @@ lines-text (r ∷ rs) proper =
     ∙ ap (λ ls. printed r ∷ ls) (lines-text rs proper.1))
 
 -- a line that a newline ends is a whole line
-ended_after-whole : (begun xs rest : List ℕ) → OneLine xs → ended_after begun (xs ++ 10 ∷ rest) ≡ (begun ++ xs) ∷ ended_lines rest
+pub ended_after-whole : (begun xs rest : List ℕ) → OneLine xs → ended_after begun (xs ++ 10 ∷ rest) ≡ (begun ++ xs) ∷ ended_lines rest
 ended_after-whole begun [] rest each = ap (λ bs. bs ∷ ended_lines rest) (sym (append-nil begun))
 ended_after-whole begun (x ∷ xs) rest each =
     let parts = and_parts (stays x) (list_all stays xs) each in

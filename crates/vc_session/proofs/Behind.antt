@@ -43,9 +43,6 @@ use Rattle.vc_session.proofs.Progress.{progress-end, told-more}
 use Rattle.vc_session.proofs.ShownNeeds.{IsUnnumbered, NoLine, none-unnumbered}
 use Rattle.vc_words.specs.declared.words.Words.{Words}
 
-line-front : (xs ys : List ℕ) → OneLine (xs ++ ys) → OneLine xs
-line-front xs ys whole = (and_parts (list_all stays xs) (list_all stays ys) (sym (list_all-append stays xs ys) ∙ whole)).0
-
 labelled : (label : List ℕ) (n : ℕ) → OneLine label → OneLine (label ++ decimal n)
 labelled label n first = line-both label (decimal n) first (line-decimal n)
 

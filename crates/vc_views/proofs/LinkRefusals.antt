@@ -10,7 +10,6 @@ use Rattle.std.proofs.lemmas.Option.{none-some, same_Some}
 use Rattle.std.proofs.lemmas.Slice.Eq.{bytes_eq-Decides}
 use Rattle.std.proofs.lemmas.Map.Keys.{any_passes_from_place}
 use Rattle.vc_base.specs.declared.dict_method.DictMethod.{DictMethod}
-use Rattle.vc_base.specs.declared.dict_method.DictMethod.TheVariants.{DtBag, DtList, DtObag, DtOset, DtQueue, DtSet, DtStack}
 use Rattle.vc_base.specs.Holders.{contains}
 use Rattle.vc_base.specs.Methods.{method_number}
 use Rattle.vc_base.proofs.Quantifiers.{any-map}
@@ -31,21 +30,6 @@ use Rattle.vc_views.proofs.LinkLemmas.{number-within, view-some}
 use Rattle.vc_views.proofs.LinkLists.{same-test, stands-any}
 use Rattle.vc_views.proofs.NamedEntries.{Entry, by-number, find-stands, same-named}
 use Rattle.vc_views.proofs.NumbersToNames.{AreLayersIn, all-at, home, homes, path-each, path_to-each}
-
--- methods of one number are one
-method_of : ℕ → DictMethod
-method_of n =
-    if n == 0 then DtSet else (if n == 1 then DtBag else (if n == 2 then DtOset else (if n == 3 then DtObag else (if n == 4 then DtList else (if n == 5 then DtStack else DtQueue)))))
-
-method-back : (m : DictMethod) → method_of (method_number m) ≡ m
-unfolding method_of
-method-back DtSet = refl
-method-back DtBag = refl
-method-back DtOset = refl
-method-back DtObag = refl
-method-back DtList = refl
-method-back DtStack = refl
-method-back DtQueue = refl
 
 length-each : {A B C : Type 0} (f : A → C) (g : B → C) (xs : List A) (ys : List B) → map f xs ≡ map g ys → length xs ≡ length ys
 length-each f g xs ys same = sym (counted f xs) ∙ ap length same ∙ counted g ys
