@@ -11,6 +11,7 @@ use Rattle.vc_model.specs.Gap.{Run}
 use Rattle.vc_model.specs.Layout.{Layout, with_grant}
 use Rattle.vc_model.specs.Place.{holds, least, lowest_offset}
 use Rattle.vc_model.specs.Segments.{new_segment, span}
+use Rattle.vc_base.proofs.Options.{option_map-None}
 use Rattle.vc_seg.specs.Segment.{Bytes, pair_of}
 use Rattle.vc_extent.specs.Extent.{Extent, extents, free_extent, no_links}
 use Rattle.vc_extent.specs.Change.{extent_in}
@@ -28,10 +29,6 @@ use Rattle.vc_best.proofs.Plain.{runs-by}
 use Rattle.vc_best.proofs.Puts.{place-runs, place_at}
 use Rattle.vc_best.proofs.Rounding.{IsAligned-from_IsAlign}
 use Rattle.vc_best.proofs.Segments.{layout-added}
-
-option_map-None : {A B : Type 0} (f : A → B) (o : Option A) → option_map f o ≡ None → o ≡ None
-option_map-None f None e = refl
-option_map-None f (Some x) e = cc
 
 new-extents : (t : List (ℕ × List Extent)) (n : ℕ) (es : List Extent) → All (λ s. s.0 ≢ n) t → extents_of n (t ++ (n, es) ∷ []) ≡ es
 new-extents [] n es h = rw (eq-eqb n n refl) refl

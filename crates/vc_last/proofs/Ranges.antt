@@ -8,7 +8,6 @@ use Rattle.vc_base.proofs.Overwrites.{part-of-part}
 use Rattle.vc_base.proofs.Places.{span-least}
 use Rattle.vc_seg.specs.Segment.{Bytes}
 use Rattle.vc_seg.proofs.BytesByNumber.{bytes_of_number-most}
-use Rattle.vc_seg.proofs.Overwrites.{range-part}
 use Rattle.vc_last.specs.Chain.{IsLast}
 use Rattle.vc_last.specs.Head.{block_of, bytes_at}
 use Rattle.vc_last.specs.Read.{layout_by}

@@ -14,7 +14,6 @@ use Rattle.vc_base.proofs.Overwrites.{length-with_bytes}
 use Rattle.vc_seg.specs.Answer.{Asks}
 use Rattle.vc_seg.specs.Segment.{AreSegments, Bytes, pair_of}
 use Rattle.vc_seg.specs.declared.fault.RegionFault.{RegionFault}
-use Rattle.vc_seg.proofs.Overwrites.{length-with_bytes}
 use Rattle.vc_seg.specs.Lend.{IsAsked}
 use Rattle.vc_seg.specs.Memory.{bytes_of_number, write_segment}
 use Rattle.vc_seg.specs.declared.fault.RegionFault.TheVariants as code

@@ -8,7 +8,8 @@ use Rattle.std.proofs.lemmas.List.{length-drop, length-replicate, take_all}
 use Rattle.vc_base.specs.declared.addr.Addr.{Addr}
 use Rattle.vc_base.specs.Cells.{Blocks, HasBytes, IsHolder, body_of, bytes_at, with_body}
 use Rattle.vc_base.specs.Holders.{contains, some_address}
-use Rattle.vc_base.proofs.CellsLemmas.{length-with_bytes, put_other, put_same, window_same}
+use Rattle.vc_base.proofs.CellsLemmas.{put_other, put_same, window_same}
+use Rattle.vc_base.proofs.Overwrites.{length-with_bytes}
 use Rattle.vc_model.specs.Bytes.{with_bytes}
 use Rattle.vc_dtdisc.specs.Finds.{find_key, object_at}
 use Rattle.vc_dtdisc.specs.Objects.{Object, address_of, bytes_of, first_with, linked_among}

@@ -3,9 +3,6 @@ use Rattle.std.proofs.Common.{◌≡◌, ℕ, ◌+◌, ◌≤◌, List, length, 
 use Rattle.std.proofs.lemmas.List.{same_lists, places}
 use Rattle.vc_model.specs.Bytes.{with_bytes}
 
-pub length-with_bytes : (off : ℕ) (src bytes : List ℕ) → off + length src ≤ length bytes → length (with_bytes off src bytes) ≡ length bytes
-length-with_bytes off src bytes h = grind (arith, places)
-
 -- a range before them
 pub range-before : (off : ℕ) (src bytes : List ℕ) (from size : ℕ) → off + length src ≤ length bytes → from + size ≤ off → take size (drop from (with_bytes off src bytes)) ≡ take size (drop from bytes)
 range-before off src bytes from size h before = same_lists _ _ (grind (arith, places)) (λ k d lt. grind (arith, places))
@@ -17,7 +14,3 @@ range-behind off src bytes from size h behind = same_lists _ _ (grind (arith, pl
 -- a range that they lie in
 pub range-around : (off : ℕ) (src bytes : List ℕ) (from size at : ℕ) → at ≡ from + off → from + size ≤ length bytes → off + length src ≤ size → take size (drop from (with_bytes at src bytes)) ≡ with_bytes off src (take size (drop from bytes))
 range-around off src bytes from size at is h within = same_lists _ _ (grind (arith, places)) (λ k d lt. grind (arith, places))
-
--- a part of a range
-pub range-part : (bytes : List ℕ) (from size off len : ℕ) → off + len ≤ size → take len (drop (from + off) bytes) ≡ take len (drop off (take size (drop from bytes)))
-range-part bytes from size off len h = same_lists _ _ (grind (arith, places)) (λ k d lt. grind (arith, places))
