@@ -6,23 +6,23 @@ use Rattle.vc_model.specs.Rows.{over_one_segment, rounds_to}
 use Rattle.vc_audit.specs.Debug.{Debug, damaged_blocks, debug_alloc, debug_resize}
 
 -- the region that a call leaves
-abbrev pub left_by : Debug ℕ → Outcome (Put (Debug ℕ)) → Debug ℕ
-left_by d (Done p) = p.region
-left_by d (Refused why) = d
+abbrev pub after_call : Debug ℕ → Outcome (Put (Debug ℕ)) → Debug ℕ
+after_call d (Done p) = p.region
+after_call d (Refused why) = d
 
 abbrev pub with_alloc : Debug ℕ → ℕ → ℕ → Debug ℕ
-with_alloc d label size = left_by d (debug_alloc (rounds_to 4096) d label size false)
+with_alloc d label size = after_call d (debug_alloc (rounds_to 4096) d label size false)
 
 abbrev pub with_resize : Debug ℕ → ℕ × ℕ → ℕ → Bool → Debug ℕ
-with_resize d at size may_move = left_by d (debug_resize (rounds_to 4096) d at size may_move false)
+with_resize d at size may_move = after_call d (debug_resize (rounds_to 4096) d at size may_move false)
 
 -- one segment, and no block
-abbrev pub one_segment : Debug ℕ
-one_segment = record { best = over_one_segment []; marks = [] }
+abbrev pub one_empty_segment : Debug ℕ
+one_empty_segment = record { best = over_one_segment []; marks = [] }
 
 -- a block of 100 bytes, at offset 64, and one of 8, at offset 256
 abbrev pub two_put : Debug ℕ
-two_put = with_alloc (with_alloc one_segment 1 100) 2 8
+two_put = with_alloc (with_alloc one_empty_segment 1 100) 2 8
 
 -- where the damaged blocks are, and at which offsets
 abbrev pub damages : Debug ℕ → List ((ℕ × ℕ) × ℤ)

@@ -18,7 +18,7 @@ use Rattle.vc_extent.specs.Tiles.{IsTiled}
 use Rattle.vc_extent.specs.Tiling.{AreExtents, tiling}
 use Rattle.vc_extent.proofs.Tiled.{inside}
 use Rattle.vc_best.specs.Blocks.{all_busy, block_of, busy_in, is_busy, layout_by}
-use Rattle.vc_best.specs.Counts.{HaveRoom, all_extents, busy_sizes, counts_with, free_spans, no_counts}
+use Rattle.vc_best.specs.Counts.{HaveRoom, all_extents, busy_sizes, counts_with, free_spans, counts_of_none}
 use Rattle.vc_best.specs.Free.{IsMerged, free_in, free_runs, is_free}
 use Rattle.vc_gaps.specs.Fits.{run_of_extent}
 use Rattle.vc_best.proofs.Frees.{gaps-of}
@@ -160,7 +160,7 @@ module _ (segs : List Bytes) (index : List ℕ) (k : ∥ AreExtents segs index �
     record { long = ∥∥₁_elim k (hlevel (le_prop)) (λ j. (all-spans segs j.tiled).long); all = ∥∥₁_elim k (hlevel (le_prop)) (λ j. (all-spans segs j.tiled).all) },
   )
 
-  pub room-all : HaveRoom no_counts (all_extents (tiling segs))
+  pub room-all : HaveRoom counts_of_none (all_extents (tiling segs))
   room-all =
       let f = few in
       let a = few-all.0.long in
@@ -180,7 +180,7 @@ module _ (segs : List Bytes) (index : List ℕ) (k : ∥ AreExtents segs index �
       let long = length-map (map pair_of segs) (λ (s : ℕ × ℕ). s.1) ∙ length-map segs pair_of in
       record { count = omega (arith, long); bytes = omega (arith, all, long) }
 
-  pub blocks-count : (counts_with no_counts (all_extents (tiling segs))).blocks.count ≡ block_count (layout_by segs)
+  pub blocks-count : (counts_with counts_of_none (all_extents (tiling segs))).blocks.count ≡ block_count (layout_by segs)
   unfolding layout_by
   blocks-count =
       tally_of-count (busy_sizes (all_extents (tiling segs)))
@@ -196,12 +196,12 @@ module _ (segs : List Bytes) (index : List ℕ) (k : ∥ AreExtents segs index �
       order-length (all_busy (tiling segs)) ∙ (sym (length-map (all_busy (tiling segs)) (λ (b : Block ℕ). b.size)) ∙ ap length (sizes-all (tiling segs))) in
       omega (arith, f, long, count)
 
-  pub blocks-bytes : (counts_with no_counts (all_extents (tiling segs))).blocks.bytes ≡ block_bytes (layout_by segs)
+  pub blocks-bytes : (counts_with counts_of_none (all_extents (tiling segs))).blocks.bytes ≡ block_bytes (layout_by segs)
   unfolding layout_by
   blocks-bytes =
       tally_of-bytes (busy_sizes (all_extents (tiling segs))) ∙ (ap sum (sym (sizes-all (tiling segs))) ∙ sym (order-sum (all_busy (tiling segs))))
 
-  pub blocks-most : (counts_with no_counts (all_extents (tiling segs))).blocks.most ≡ greatest_block (layout_by segs)
+  pub blocks-most : (counts_with counts_of_none (all_extents (tiling segs))).blocks.most ≡ greatest_block (layout_by segs)
   unfolding layout_by
   blocks-most =
       tally_of-most (busy_sizes (all_extents (tiling segs))) ∙ (ap greatest (sym (sizes-all (tiling segs))) ∙ sym (order-most (all_busy (tiling segs))))
@@ -210,11 +210,11 @@ module _ (segs : List Bytes) (index : List ℕ) (k : ∥ AreExtents segs index �
     gap-sizes : map bytes_of (gaps_of (layout_by segs)) ≡ free_spans (all_extents (tiling segs))
     gap-sizes = ap (map bytes_of) (gaps-of segs index k merged) ∙ spans-all (tiling segs)
 
-    pub gaps-count : (counts_with no_counts (all_extents (tiling segs))).gaps.count ≡ gap_count (layout_by segs)
+    pub gaps-count : (counts_with counts_of_none (all_extents (tiling segs))).gaps.count ≡ gap_count (layout_by segs)
     gaps-count = tally_of-count (free_spans (all_extents (tiling segs))) ∙ (ap length (sym gap-sizes) ∙ length-map (gaps_of (layout_by segs)) bytes_of)
 
-    pub gaps-bytes : (counts_with no_counts (all_extents (tiling segs))).gaps.bytes ≡ gap_bytes (layout_by segs)
+    pub gaps-bytes : (counts_with counts_of_none (all_extents (tiling segs))).gaps.bytes ≡ gap_bytes (layout_by segs)
     gaps-bytes = tally_of-bytes (free_spans (all_extents (tiling segs))) ∙ ap sum (sym gap-sizes)
 
-    pub gaps-most : (counts_with no_counts (all_extents (tiling segs))).gaps.most ≡ greatest_gap (layout_by segs)
+    pub gaps-most : (counts_with counts_of_none (all_extents (tiling segs))).gaps.most ≡ greatest_gap (layout_by segs)
     gaps-most = tally_of-most (free_spans (all_extents (tiling segs))) ∙ ap greatest (sym gap-sizes)

@@ -13,7 +13,7 @@ use Rattle.vc_base.specs.declared.addr.Addr.{Addr}
 use Rattle.vc_extent.specs.Extent.{Extent}
 use Rattle.vc_extent.specs.Change.{behind, extent_in, first_of}
 use Rattle.vc_extent.specs.Tiling.{AreExtents, IsNamed, IsThere, extent_of, extents_of, next_of, tiling}
-use Rattle.vc_best.specs.Next.{from_on, left_from}
+use Rattle.vc_best.specs.Next.{extents_from, left_from}
 use Rattle.vc_best.proofs.Cuts.{cut, lower-other}
 use Rattle.vc_best.proofs.Known.{IsCut, IsSegment, cut-of, end-of, off-of, segment-of}
 use Rattle.vc_best.proofs.Layouts.{behind_of}
@@ -21,20 +21,20 @@ use Rattle.vc_best.proofs.Lies.{Lies}
 use Rattle.vc_best.proofs.Nexts.{next-behind, next-extent, next-seg, no-address, none-first, some-address}
 use Rattle.vc_best.proofs.Sets.{extents-set}
 
-from_on-skip : (off : ℕ) (xs zs : List Extent) → All (λ e. e.off ≢ off) xs → from_on off (xs ++ zs) ≡ from_on off zs
+from_on-skip : (off : ℕ) (xs zs : List Extent) → All (λ e. e.off ≢ off) xs → extents_from off (xs ++ zs) ≡ extents_from off zs
 from_on-skip off [] zs h = refl
 from_on-skip off (x ∷ xs) zs h =
     let P : Extent → Type 0 = λ e. e.off ≢ off in
     rw (ne_eqb x.off off (All-head P x xs h)) (from_on-skip off xs zs (All-tail P x xs h))
 
 -- the extents from a named one on
-pub from-cut : (t : List (ℕ × List Extent)) (a : ℕ) → IsCut t a → from_on (place_of a).1 (extents_of (place_of a).0 t) ≡ extent_of t a ∷ behind_of t a
+pub from-cut : (t : List (ℕ × List Extent)) (a : ℕ) → IsCut t a → extents_from (place_of a).1 (extents_of (place_of a).0 t) ≡ extent_of t a ∷ behind_of t a
 from-cut t a c =
     let off = (place_of a).1 in
     let e = extent_of t a in
     let ys = behind_of t a in
     let own = off-of t a c in
-    ap (from_on off) c.cut.is
+    ap (extents_from off) c.cut.is
     ∙ (from_on-skip off c.cut.before (e ∷ ys) (lower-other off off c.cut.before (omega arith) c.cut.lower)
     ∙ rw (eq-eqb e.off off own) refl)
 
@@ -49,7 +49,7 @@ left t n next = left_from (option_map (λ a. a.0) next) (extents_of n t)
 module _ (segs : List Bytes) (index : List ℕ) (k : AreExtents segs index) (n : ℕ) where
   left-here : (a : Addr) → (place_of a.0).0 ≡ n → IsNamed (tiling segs) a.0 → left (tiling segs) n (Some a) ≡ extent_of (tiling segs) a.0 ∷ behind_of (tiling segs) a.0
   left-here a own named =
-      ap (λ (m : ℕ). from_on (place_of a.0).1 (extents_of m (tiling segs))) (sym own) ∙ from-cut (tiling segs) a.0 (cut-of segs index a.0 k named)
+      ap (λ (m : ℕ). extents_from (place_of a.0).1 (extents_of m (tiling segs))) (sym own) ∙ from-cut (tiling segs) a.0 (cut-of segs index a.0 k named)
 
   step : (a : Addr) (next : Option Addr) → (place_of a.0).0 ≡ n → IsNamed (tiling segs) a.0 →
       option_map (λ r. r.0) next ≡ option_map (λ e. address ((place_of a.0).0, e.off)) (next_of (tiling segs) a.0) → IfSome next (λ r. IsNamed (tiling segs) r.0) →
@@ -138,12 +138,12 @@ module _ (segs : List Bytes) (index : List ℕ) (n a : ℕ) (k : ∥ AreExtents 
   pub start-whole : extents_of n (tiling segs) ≡ extent_of (tiling segs) a ∷ behind_of (tiling segs) a
   start-whole = ∥∥₁_elim k (hlevel (extents-set)) (λ h. (start segs index n a h there value).whole)
 
-  pub start-left : from_on (place_of a).1 (extents_of n (tiling segs)) ≡ extents_of n (tiling segs)
+  pub start-left : extents_from (place_of a).1 (extents_of n (tiling segs)) ≡ extents_of n (tiling segs)
   start-left =
       ∥∥₁_elim k (hlevel (extents-set))
       (λ h.
       let s = start segs index n a h there value in
-      ap (λ (m : ℕ). from_on (place_of a).1 (extents_of m (tiling segs))) (sym s.seg) ∙ (from-cut (tiling segs) a s.cut ∙ sym s.whole))
+      ap (λ (m : ℕ). extents_from (place_of a).1 (extents_of m (tiling segs))) (sym s.seg) ∙ (from-cut (tiling segs) a s.cut ∙ sym s.whole))
 
 -- an optional address that stays on a segment
 pub on-next : (segs : List Bytes) (index : List ℕ) (n : ℕ) (a : Addr) (next : Option Addr) → ∥ AreExtents segs index ∥₁ → (place_of a.0).0 ≡ n → IsNamed (tiling segs) a.0 →

@@ -23,8 +23,8 @@ counts_with c es =
     }
 
 -- of no extent
-abbrev pub no_counts : Counts
-no_counts = record { blocks = tally_of []; gaps = tally_of [] }
+abbrev pub counts_of_none : Counts
+counts_of_none = record { blocks = tally_of []; gaps = tally_of [] }
 
 -- the numbers stay in 64 bits where these extents are counted
 pub record HaveRoom (c : Counts) (es : List Extent) : Type 0 where

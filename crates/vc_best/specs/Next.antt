@@ -5,14 +5,14 @@ use Rattle.vc_model.specs.Layout.{Block, address_of}
 use Rattle.vc_extent.specs.Extent.{Extent}
 
 -- the extents from the one that an offset names on
-abbrev pub from_on : ℕ → List Extent → List Extent
-from_on off [] = []
-from_on off (e ∷ es) = if e.off == off then e ∷ es else from_on off es
+abbrev pub extents_from : ℕ → List Extent → List Extent
+extents_from off [] = []
+extents_from off (e ∷ es) = if e.off == off then e ∷ es else extents_from off es
 
 -- the extents from the one that an address names on, or none
 abbrev pub left_from : Option ℕ → List Extent → List Extent
 left_from None es = []
-left_from (Some a) es = from_on (place_of a).1 es
+left_from (Some a) es = extents_from (place_of a).1 es
 
 -- an address is the least of these blocks' from another on; there is none where no address is given
 abbrev pub IsFirst : List (Block ℕ) → ℕ → Option ℕ → Type 0

@@ -4,7 +4,7 @@ ghost use Rattle.vc_seg.specs.Stat.{layout_stat};
 ghost use Rattle.vc_extent.specs.Tiling.{IsNamed, IsThere, extent_of, extents_of, tiling};
 ghost use Rattle.vc_layouts.specs.Tally.{HasRoom, tally_of};
 ghost use Rattle.vc_best.specs.Blocks.{layout_by};
-ghost use Rattle.vc_best.specs.Counts.{HaveRoom, all_extents, counts_with, no_counts};
+ghost use Rattle.vc_best.specs.Counts.{HaveRoom, all_extents, counts_with, counts_of_none};
 ghost use Rattle.vc_best.specs.Free.{IsMerged};
 
 use vc_base::{Addr, Steps};
@@ -56,8 +56,8 @@ fn count_segment<L>(extents: &Extents, counts: Counts, seg: u32, steps: &mut Ste
 
 /// All extents, counted.
 fn count_all<L>(extents: &Extents, steps: &mut Steps<L>) -> Counts
-    requires room { HaveRoom no_counts (all_extents (tiling extents.now.segs.items)) }
-    ensures { result ≡ counts_with no_counts (all_extents (tiling extents.now.segs.items)) }
+    requires room { HaveRoom counts_of_none (all_extents (tiling extents.now.segs.items)) }
+    ensures { result ≡ counts_with counts_of_none (all_extents (tiling extents.now.segs.items)) }
 {
     let mut counts = Counts {
         blocks: Tally::new(),

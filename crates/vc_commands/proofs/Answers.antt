@@ -17,7 +17,7 @@ use Rattle.vc_script.specs.declared.refusal.Refusal.{Refusal}
 use Rattle.vc_script.specs.declared.refusal.Refusal.TheVariants as why
 use Rattle.vc_commands.specs.declared.region.labels.Labels.{Labels}
 use Rattle.vc_commands.specs.Held.{Held, IsChange, IsNamed}
-use Rattle.vc_commands.specs.Blocks.{fault_of, refusal_of}
+use Rattle.vc_commands.specs.Blocks.{fault_of, script_refusal}
 use Rattle.vc_commands.specs.Naming.{NamesPut, TellsFault}
 use Rattle.vc_commands.specs.Home.{Changed, Home, Label, changed_to, refusal_alone}
 use Rattle.vc_commands.specs.RegionRun.{GivesRegion}
@@ -86,15 +86,15 @@ module _ (call : Bool → Outcome (Put (Region ℕ))) (r r' : Region ℕ) (d e :
 pub record Told {A : Type 0} (call : Bool → Outcome A) (told : Reply) : Type 0 where
   pub fault : Fault
   pub refused : call (is_for_block (need_shown told)) ≡ Refused fault
-  pub is : reply.Refused (refusal_of fault) ≡ told
+  pub is : reply.Refused (script_refusal fault) ≡ told
 
 module _ {A : Type 0} (call : Bool → Outcome A) where
-  tells : (fault : Fault) (told : Reply) → Some (reply.Refused (refusal_of fault)) ≡ Some told → call (is_for_block (need_shown (reply.Refused (refusal_of fault)))) ≡ Refused fault → Told call told
+  tells : (fault : Fault) (told : Reply) → Some (reply.Refused (script_refusal fault)) ≡ Some told → call (is_for_block (need_shown (reply.Refused (script_refusal fault)))) ≡ Refused fault → Told call told
   tells fault told e refused =
-      let is = same_Some (reply.Refused (refusal_of fault)) told e in
+      let is = same_Some (reply.Refused (script_refusal fault)) told e in
       record { fault = fault; refused = subst (λ t. call (is_for_block (need_shown t)) ≡ Refused fault) is refused; is = is }
 
-  pub fault-told : (fault : RegionFault) (told : Reply) → option_map (λ f. reply.Refused (refusal_of f)) (fault_of fault) ≡ Some told → IsRefusal call fault → Told call told
+  pub fault-told : (fault : RegionFault) (told : Reply) → option_map (λ f. reply.Refused (script_refusal f)) (fault_of fault) ≡ Some told → IsRefusal call fault → Told call told
   fault-told code.TooManySegments told e refused = tells model.TooManySegments told e refused
   fault-told code.NoSegment told e refused = tells model.NoSegment told e refused
   fault-told code.OutOfMemory told e refused = absurd (none-some told e)
@@ -115,7 +115,7 @@ other-told : (refusal : Refusal) (told : Reply) → NotNoSegment (reply.Refused 
 other-told refusal told other e is = subst NotNoSegment (same_Some (reply.Refused refusal) told e ∙ is) other
 
 -- a segment that was refused is told by that fault alone
-pub fault-no_segment : (fault : RegionFault) (told : Reply) → option_map (λ f. reply.Refused (refusal_of f)) (fault_of fault) ≡ Some told → told ≡ reply.Refused why.NoSegment → IsNoSegment fault
+pub fault-no_segment : (fault : RegionFault) (told : Reply) → option_map (λ f. reply.Refused (script_refusal f)) (fault_of fault) ≡ Some told → told ≡ reply.Refused why.NoSegment → IsNoSegment fault
 fault-no_segment code.NoSegment told e is = tt
 fault-no_segment code.TooManySegments told e is = other-told why.TooManySegments told tt e is
 fault-no_segment code.OutOfMemory told e is = absurd (none-some told e)

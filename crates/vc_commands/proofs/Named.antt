@@ -18,7 +18,7 @@ use Rattle.vc_script.specs.declared.command.Command.TheVariants.{Insert, Append,
 use Rattle.vc_script.specs.declared.refusal.Refusal.TheVariants.{NoSegmentForTable, NoSegmentForObject, Size, WrongMethod}
 use Rattle.vc_script.specs.declared.reply.Reply.{Reply}
 use Rattle.vc_script.specs.declared.reply.Reply.TheVariants.{Emptied, Refused}
-use Rattle.vc_commands.specs.DictCommands.{append_in, delete_in, empty_in, in_dict, insert_in, is_for_object, is_for_table, is_object, object_asked, put_as, put_object, put_unless, remove_in, removed_as, standing, table_asked, turned_as, where_object}
+use Rattle.vc_commands.specs.DictCommands.{append_in, delete_in, empty_in, in_dict, insert_in, is_for_object, is_for_table, is_object, object_asked, inserted_as, put_object, put_unless, remove_in, removed_as, standing, table_asked, turned_as, where_object}
 use Rattle.vc_commands.specs.DictRun.{LacksBy}
 use Rattle.vc_commands.specs.Seat.{DictChanged, Seat, seat_with_refusal}
 
@@ -41,7 +41,7 @@ module _ {L M : Type 0} (f : L → M) where
 
   put_object-named : (s : Seat L) (append : Bool) (bytes : List ℕ) (need : Need) → put_object (relabel_seat s) append bytes need ≡ relabel_changed (put_object s append bytes need)
   put_object-named s append bytes need =
-      ap (λ (c : Inserted M). put_as bytes c) (insert-named f s.rules s.terms s.region s.none s.dict append bytes (is_for_table need) (is_for_object need))
+      ap (λ (c : Inserted M). inserted_as bytes c) (insert-named f s.rules s.terms s.region s.none s.dict append bytes (is_for_table need) (is_for_object need))
 
   put_unless-named : (s : Seat L) (bytes : List ℕ) (need : Need) (found : Option Object) → put_unless (relabel_seat s) bytes need found ≡ relabel_changed (put_unless s bytes need found)
   put_unless-named s bytes need (Some o) = refl

@@ -13,7 +13,7 @@ use Rattle.vc_best.specs.Cells.{cells_in, rest_in}
 use Rattle.vc_best.specs.Parts.{disc_in, segments_in}
 use Rattle.vc_best.specs.declared.best.Best.{Best}
 use Rattle.vc_objects.specs.Insert.{insert, slots_wanted, want_of}
-use Rattle.vc_objects.specs.Leaves.{Asked, GivesInserted, GivesRemoved, GivesTurned, LeavesRest, Looks, no_holder, no_table, told_each, told_if}
+use Rattle.vc_objects.specs.Leaves.{AskedForObject, GivesInserted, GivesRemoved, GivesTurned, LeavesRest, Looks, no_holder, no_table, told_each, told_if}
 use Rattle.vc_objects.specs.Objects.{Dictionary, option_list, own_blocks}
 use Rattle.vc_objects.specs.Parts.{dictionary_in}
 use Rattle.vc_objects.specs.Remove.{Removed, remove}
@@ -83,7 +83,7 @@ put-told rules terms q c append bytes (NoHolder want.TooManySegments) r d gone g
 put-told rules terms q c append bytes (NoHolder want.NoSegment) r d gone g = record { region = g.region; dict = g.dict; reply = ap (fate_reply bytes) g.fate; told = refl }
 
 -- and so is what it asked for
-pub put-asked : (E : Type 0) (bytes : List ℕ) (fate : Fate) (slots : Option ℕ) (old new : Discipline) → Asked {E = E} (Ok fate) slots bytes old new → LacksFor slots bytes (fate_reply bytes fate) old new
+pub put-asked : (E : Type 0) (bytes : List ℕ) (fate : Fate) (slots : Option ℕ) (old new : Discipline) → AskedForObject {E = E} (Ok fate) slots bytes old new → LacksFor slots bytes (fate_reply bytes fate) old new
 put-asked E bytes Stored slots old new h = h
 put-asked E bytes (NoTable want.TooManySegments) slots old new h = h
 put-asked E bytes (NoTable want.NoSegment) slots old new h = h

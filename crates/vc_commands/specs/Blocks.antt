@@ -64,13 +64,13 @@ abbrev pub at_place : List ℕ → ℕ × ℕ → Option ℕ → Reply
 at_place x at watch = At x (record { seg = at.0; off = at.1 }) watch
 
 -- the refusal of a script for each of a region's
-abbrev pub refusal_of : Fault → Refusal
-refusal_of model.TooManySegments = why.TooManySegments
-refusal_of model.NoSegment = why.NoSegment
-refusal_of model.Fixed = why.CannotGrow
-refusal_of model.PoolSize = why.PoolSize
-refusal_of model.NotLast = why.NotLast
-refusal_of model.WrongMethod = why.WrongMethod
+abbrev pub script_refusal : Fault → Refusal
+script_refusal model.TooManySegments = why.TooManySegments
+script_refusal model.NoSegment = why.NoSegment
+script_refusal model.Fixed = why.CannotGrow
+script_refusal model.PoolSize = why.PoolSize
+script_refusal model.NotLast = why.NotLast
+script_refusal model.WrongMethod = why.WrongMethod
 
 -- the fault of the definitions that a region's fault is; want of memory is none
 abbrev pub fault_of : RegionFault → Option Fault
@@ -85,7 +85,7 @@ fault_of code.WrongMethod = Some model.WrongMethod
 -- what a call gives that puts a block or keeps it, where these names are kept then and this is the block's watch
 abbrev pub put_in : Home → List ℕ → FreedNames → Option ℕ → Outcome (Put (Region Label)) → Changed
 put_in h x kept watch (Done p) = record { region = p.region; kept = kept; reply = at_place x p.at watch; granted = p.granted }
-put_in h x kept watch (Refused fault) = refusal_alone h (refusal_of fault)
+put_in h x kept watch (Refused fault) = refusal_alone h (script_refusal fault)
 
 -- a new block whose name no block has
 abbrev pub put_by : Home → List ℕ → Option Refusal → Outcome (Put (Region Label)) → Changed
@@ -127,7 +127,7 @@ kept_freed h x line = if keeps_freed h.region then with_line x line h.kept else 
 
 abbrev pub change_by_free : Home → List ℕ → FreedNames → Option ℕ → Outcome (Region Label) → Changed
 change_by_free h x kept watch (Done region) = record { region = region; kept = kept; reply = Freed x watch; granted = None }
-change_by_free h x kept watch (Refused fault) = refusal_alone h (refusal_of fault)
+change_by_free h x kept watch (Refused fault) = refusal_alone h (script_refusal fault)
 
 abbrev pub free_block : Home → List ℕ → ℕ → Block Label → Changed
 free_block h x line b =

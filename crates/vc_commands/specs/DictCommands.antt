@@ -58,12 +58,12 @@ fate_reply bytes Stored = New bytes
 fate_reply bytes (NoTable wants) = Refused (table_refusal wants)
 fate_reply bytes (NoHolder wants) = Refused (object_refusal wants)
 
-abbrev pub put_as : {L : Type 0} → List ℕ → Inserted L → DictChanged L
-put_as bytes c = record { region = c.region; dict = c.dict; reply = fate_reply bytes c.fate; told = []; granted = c.granted }
+abbrev pub inserted_as : {L : Type 0} → List ℕ → Inserted L → DictChanged L
+inserted_as bytes c = record { region = c.region; dict = c.dict; reply = fate_reply bytes c.fate; told = []; granted = c.granted }
 
 abbrev pub put_object : {L : Type 0} → Seat L → Bool → List ℕ → Need → DictChanged L
 put_object s append bytes need =
-    put_as bytes (insert s.rules s.terms s.region s.none s.dict append bytes (is_for_table need) (is_for_object need))
+    inserted_as bytes (insert s.rules s.terms s.region s.none s.dict append bytes (is_for_table need) (is_for_object need))
 
 -- the object of a set that an object matches
 abbrev pub standing : {L : Type 0} → Seat L → List ℕ → Option Object

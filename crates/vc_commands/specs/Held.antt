@@ -5,7 +5,7 @@ use Rattle.vc_base.specs.Cells.{Blocks}
 use Rattle.vc_model.specs.Discipline.{Discipline, HasOut, Kept, Unserved}
 use Rattle.vc_model.specs.Layout.{Block, address_of, place_of_block}
 use Rattle.vc_model.specs.Addr.{place_of}
-use Rattle.vc_region.specs.Cells.{no_cells}
+use Rattle.vc_region.specs.Cells.{no_cells_at_all}
 use Rattle.vc_region.specs.Region.{Region, blocks_of, keeps_freed, region_need, region_with_labels, segments_of}
 use Rattle.vc_model.specs.Sound.{HaveOwnPlaces}
 use Rattle.slab.specs.Slab.{slab_len}
@@ -73,7 +73,7 @@ pub record IsChange (before after : Held) : Type 0 where
 
 -- what a command leaves of a region's cells: clearing it leaves none
 abbrev pub cells_left : Command → Blocks → Blocks
-cells_left (ClearRegion r) cells = no_cells
+cells_left (ClearRegion r) cells = no_cells_at_all
 cells_left command cells = cells
 
 -- a region with the cells that a command leaves

@@ -9,8 +9,8 @@ use Rattle.vc_script.specs.declared.reply.Reply.{Reply}
 use Rattle.vc_commands.specs.Looking.{look_found, look_reply, own_place}
 
 -- an object of a dictionary of that number, at an address
-abbrev pub seen_at : ℕ → ℕ → List ℕ → Seen ℕ
-seen_at d at bytes = record { dict = d; at = at; bytes = bytes }
+abbrev pub object_seen : ℕ → ℕ → List ℕ → Seen ℕ
+object_seen d at bytes = record { dict = d; at = at; bytes = bytes }
 
 -- a key is the first byte
 abbrev pub by_first : Rules
@@ -19,7 +19,7 @@ by_first = rules_of (Field 0 1)
 -- through dictionary 0, an ordered bag of a0 and c3, b1 and b2 of dictionary 1 are seen too
 abbrev pub path_seen : List (Seen ℕ)
 path_seen =
-    seen_at 0 64 (codes "a0") ∷ seen_at 1 64 (codes "b1") ∷ seen_at 1 96 (codes "b2") ∷ seen_at 0 96 (codes "c3") ∷ []
+    object_seen 0 64 (codes "a0") ∷ object_seen 1 64 (codes "b1") ∷ object_seen 1 96 (codes "b2") ∷ object_seen 0 96 (codes "c3") ∷ []
 
 -- the reply to a command there, what it finds, and the place of that in dictionary 0
 abbrev pub reply_there : Command → Reply

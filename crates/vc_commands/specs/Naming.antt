@@ -8,7 +8,7 @@ use Rattle.vc_script.specs.declared.refusal.Refusal.TheVariants.{BlockExists, To
 use Rattle.vc_script.specs.declared.reply.Reply.{Reply}
 use Rattle.vc_script.specs.declared.reply.Reply.TheVariants as reply
 use Rattle.vc_commands.specs.declared.region.labels.Labels.{Labels}
-use Rattle.vc_commands.specs.Blocks.{at_place, fault_of, label_limit, refusal_of}
+use Rattle.vc_commands.specs.Blocks.{at_place, fault_of, label_limit, script_refusal}
 use Rattle.vc_commands.specs.FreedNames.{line_of, without_name}
 use Rattle.vc_commands.specs.Labels.{AreLabels, WithLabel, kept_of, tag_of}
 
@@ -25,7 +25,7 @@ new_refused labels x words =
 
 -- the answer to a region's fault is its refusal, or want of memory
 abbrev pub TellsFault : {E : Type 0} → RegionFault → Result Reply E → Type 0
-TellsFault fault (Ok told) = option_map (λ f. reply.Refused (refusal_of f)) (fault_of fault) ≡ Some told
+TellsFault fault (Ok told) = option_map (λ f. reply.Refused (script_refusal f)) (fault_of fault) ≡ Some told
 TellsFault fault (Err e) = fault_of fault ≡ None
 
 -- a block that was put has the name, which is kept as freed no more, and the tag, and its place is told; else the fault is told, and the names stay

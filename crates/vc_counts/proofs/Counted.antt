@@ -9,7 +9,7 @@ use Rattle.vc_steps.specs.State.{State, Stepped}
 use Rattle.vc_steps.specs.Step.{step}
 use Rattle.vc_counts.specs.CanCount.{CanCount, IsInRange}
 use Rattle.vc_counts.specs.Counts.{busy_in, counts_with_step}
-use Rattle.vc_counts.specs.Reach.{freed_by, put_by, reach_of}
+use Rattle.vc_counts.specs.Reach.{bytes_freed_by, put_by, reach_of}
 use Rattle.vc_counts.specs.Working.{counts_after, reached_at, region_worked, segments_at, tally_behind}
 use Rattle.vc_counts.specs.declared.counts.Counts.{Counts}
 use Rattle.vc_counts.specs.declared.reach.Reach.{Reach}
@@ -34,7 +34,7 @@ pub record WasRead (s s' : State) (command : Command) (reply : Reply) (name : Op
   pub region : name ≡ region_worked s command
   pub reach : reached ≡ reach_of command
   pub before : held ≡ reached_at reached name s.homes s.dicts
-  pub freed : gone ≡ freed_by reached reply
+  pub freed : gone ≡ bytes_freed_by reached reply
   pub after : holds ≡ reached_at reached name s'.homes s'.dicts
   pub put : more ≡ put_by reached reply
 
@@ -59,7 +59,7 @@ module _ (c : Counts) (s s' : State) (line : ℕ) (command : Command) (reply : R
         omega (
           arith,
           read.before ∙ ap (λ k. reached_at k name s.homes s.dicts) read.reach,
-          read.freed ∙ (ap (λ k. freed_by k reply) read.reach ∙ ap (freed_by (reach_of command)) (sym run.replied)),
+          read.freed ∙ (ap (λ k. bytes_freed_by k reply) read.reach ∙ ap (bytes_freed_by (reach_of command)) (sym run.replied)),
         )
 
     after : holds + more ≡ after_by (reach_of command) name (step s line command (need_shown reply)).reply (step s line command (need_shown reply)).state

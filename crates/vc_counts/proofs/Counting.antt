@@ -8,7 +8,7 @@ use Rattle.vc_layouts.proofs.Tallies.{tally_of-bytes, tally_of-count}
 use Rattle.vc_commands.specs.Home.{Home}
 use Rattle.vc_script.specs.Needs.{is_refusal}
 use Rattle.vc_steps.specs.State.{State, Stepped}
-use Rattle.vc_counts.specs.CanCount.{CanCount, IsInRange, commands}
+use Rattle.vc_counts.specs.CanCount.{CanCount, IsInRange, counted_commands}
 use Rattle.vc_counts.specs.Counts.{busy_in, counts_with_step, no_counts}
 use Rattle.vc_counts.specs.Working.{counts_after, tally_behind}
 use Rattle.vc_counts.specs.declared.counts.Counts.{Counts}
@@ -33,12 +33,12 @@ counts-after c s t before after had has now tallies =
     ∙ (ap (λ n. made done refused (c.segments + length t.granted) (c.bytes + n) (c.busy + after - before) c.peak) bytes
     ∙ ap (λ n. made done refused (c.segments + length t.granted) (c.bytes + sum sizes) n c.peak) busy)
 
-one-more : (b : Bool) (c : Counts) (n : ℕ) → commands c < n → c.done + cond b 0 1 + (c.refused + cond b 1 0) < n + 1
+one-more : (b : Bool) (c : Counts) (n : ℕ) → counted_commands c < n → c.done + cond b 0 1 + (c.refused + cond b 1 0) < n + 1
 one-more true c n below = omega (arith, below)
 one-more false c n below = omega (arith, below)
 
 -- one more command was counted
-pub can-later : (c : Counts) (s : State) (t : Stepped) (line later : ℕ) → commands c < line → line < later → IsInRange (counts_with_step c t) → CanCount (counts_with_step c t) (busy_in t.state) later
+pub can-later : (c : Counts) (s : State) (t : Stepped) (line later : ℕ) → counted_commands c < line → line < later → IsInRange (counts_with_step c t) → CanCount (counts_with_step c t) (busy_in t.state) later
 can-later c s t line later before behind range =
     record { range = range; now = refl; before = omega (arith, behind, one-more (is_refusal t.reply) c line before) }
 

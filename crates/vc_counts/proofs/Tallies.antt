@@ -8,10 +8,10 @@ use Rattle.vc_region.specs.Stat.{stat_of}
 use Rattle.vc_script.specs.declared.refusal.Refusal.{Refusal}
 use Rattle.vc_script.specs.declared.reply.Reply.{Reply}
 use Rattle.vc_script.specs.declared.reply.Reply.TheVariants.{Refused}
-use Rattle.vc_steps.specs.Sizes.{size_in}
+use Rattle.vc_steps.specs.Sizes.{size_in_home}
 use Rattle.vc_steps.specs.State.{State, Stepped, home_named, with_region, without_home}
 use Rattle.vc_views.specs.Views.{DictHome}
-use Rattle.vc_counts.specs.Reach.{freed_by, put_by}
+use Rattle.vc_counts.specs.Reach.{bytes_freed_by, put_by}
 use Rattle.vc_counts.specs.Working.{busy_home, busy_in_home, reached_at, segments_at, segments_in}
 use Rattle.vc_counts.specs.declared.reach.Reach.{Reach}
 use Rattle.vc_counts.specs.declared.reach.Reach.TheVariants.{Nothing, Block, Table, Dict, All}
@@ -26,7 +26,7 @@ pub record Tallies (before after : ℕ) (sum sum' : ℕ) (had has granted : List
 
 -- what is read before a step, and after it
 abbrev pub before_by : Reach → Option (List ℕ) → Reply → State → ℕ
-before_by reach name reply s = reached_at reach name s.homes s.dicts + freed_by reach reply
+before_by reach name reply s = reached_at reach name s.homes s.dicts + bytes_freed_by reach reply
 
 abbrev pub after_by : Reach → Option (List ℕ) → Reply → State → ℕ
 after_by reach name reply s = reached_at reach name s.homes s.dicts + put_by reach reply
@@ -42,7 +42,7 @@ pub idle : (name : Option (List ℕ)) (hs : List Home) → Tallies 0 0 (busy_hom
 idle name hs = record { busy = refl; lent = lends-same (segments_at name hs) (segments_at name hs) refl }
 
 -- or a command is refused
-no-holder : (reach : Reach) (why : Refusal) → freed_by reach (Refused why) ≡ put_by reach (Refused why)
+no-holder : (reach : Reach) (why : Refusal) → bytes_freed_by reach (Refused why) ≡ put_by reach (Refused why)
 no-holder Nothing why = refl
 no-holder (Block x) why = refl
 no-holder (Table d) why = refl
@@ -88,10 +88,10 @@ module _ (r : List ℕ) (hs : List Home) (h : Home) (found : home_named r hs ≡
         subst (λ had. Lends had (segments_at (Some r) changed) granted) (sym (ap segments_in found))
         (subst (λ has. Lends (segments_of h.region) has granted) (sym (ap segments_in there)) lends)
 
-    pub busy-changed : (reach : Reach) (reply : Reply) (ds : List DictHome) → IsOfRegion reach → Reaches reach h region kept → busy_homes (with_region r region kept hs) + (reached_at reach (Some r) hs ds + freed_by reach reply) ≡ busy_homes hs + (reached_at reach (Some r) (with_region r region kept hs) ds + put_by reach reply)
+    pub busy-changed : (reach : Reach) (reply : Reply) (ds : List DictHome) → IsOfRegion reach → Reaches reach h region kept → busy_homes (with_region r region kept hs) + (reached_at reach (Some r) hs ds + bytes_freed_by reach reply) ≡ busy_homes hs + (reached_at reach (Some r) (with_region r region kept hs) ds + put_by reach reply)
     busy-changed Nothing reply ds of reaches = omega (arith, busy-with r region kept hs h found, reaches)
     busy-changed (Block x) reply ds of reaches =
-        omega (arith, busy-with r region kept hs h found, reaches, ap (size_in x) found, ap (size_in x) there)
+        omega (arith, busy-with r region kept hs h found, reaches, ap (size_in_home x) found, ap (size_in_home x) there)
     busy-changed (Table d) reply ds of reaches = absurd of
     busy-changed (Dict d) reply ds of reaches = absurd of
     busy-changed All reply ds of reaches =

@@ -20,7 +20,7 @@ pub record CountsStep {E : Type 0} (answer : Result Reply E) (now next : Moment)
   pub can : OnOk answer ((later : ℕ) → n < later → CanCount after (busy_in next.state) later)
 
 -- by the answer of a session that had found no memory, or had not, whether it has now: from then on it answers nothing else
-pub record IsSpentBy {T E : Type 0} (answer : Result T E) (before after : Bool) : Type 0 where
+pub record IsCountSpentBy {T E : Type 0} (answer : Result T E) (before after : Bool) : Type 0 where
   pub spent : IsTrue before → OnOk answer ⊥
   pub stays_spent : OnErr answer (IsTrue after)
   pub not_spent : OnOk answer (after ≡ false)

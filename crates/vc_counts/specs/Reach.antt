@@ -43,6 +43,6 @@ abbrev pub put_by : Reach → Reply → ℕ
 put_by (Table d) reply = holder_put reply
 put_by reach reply = 0
 
-abbrev pub freed_by : Reach → Reply → ℕ
-freed_by (Table d) reply = holder_freed reply
-freed_by reach reply = 0
+abbrev pub bytes_freed_by : Reach → Reply → ℕ
+bytes_freed_by (Table d) reply = holder_freed reply
+bytes_freed_by reach reply = 0

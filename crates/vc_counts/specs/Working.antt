@@ -14,7 +14,7 @@ use Rattle.vc_steps.specs.Account.{state_of}
 use Rattle.vc_steps.specs.DictHomes.{dicts_in}
 use Rattle.vc_steps.specs.Dicts.{dict_of, region_named}
 use Rattle.vc_steps.specs.Homes.{held_in}
-use Rattle.vc_steps.specs.Sizes.{size_in}
+use Rattle.vc_steps.specs.Sizes.{size_in_home}
 use Rattle.vc_steps.specs.State.{State, home_named}
 use Rattle.vc_steps.specs.Step.{opened_in}
 use Rattle.vc_steps.specs.declared.session.Session.{Session}
@@ -73,7 +73,7 @@ dict_in (Some d) = dict_bytes d.dict
 -- the bytes of what a command reaches, but for a holder that its reply tells of
 abbrev pub reached_at : Reach → Option (List ℕ) → List Home → List DictHome → ℕ
 reached_at Nothing name homes dicts = 0
-reached_at (Block x) name homes dicts = size_in x (home_at name homes)
+reached_at (Block x) name homes dicts = size_in_home x (home_at name homes)
 reached_at (Table d) name homes dicts = table_in (dict_named d dicts)
 reached_at (Dict d) name homes dicts = dict_in (dict_named d dicts)
 reached_at All name homes dicts = busy_in_home (home_at name homes)

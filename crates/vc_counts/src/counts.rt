@@ -1,6 +1,6 @@
 // The counts of a run.
 ghost use Rattle.std.specs.Prelude.{◌≡◌, ◌+◌, ◌<◌, ◌≤◌, ◌^◌};
-ghost use Rattle.vc_counts.specs.CanCount.{IsInRange, commands};
+ghost use Rattle.vc_counts.specs.CanCount.{IsInRange, counted_commands};
 ghost use Rattle.vc_counts.specs.Counts.{no_counts};
 ghost use Rattle.vc_counts.specs.Working.{counts_after};
 
@@ -42,7 +42,7 @@ impl Counts {
     // segments that came.
     pub(crate) fn add(&mut self, refused: bool, before: u128, after: u128, lent: Tally)
         requires range { IsInRange self.old }
-        requires few { commands self.old + 1 < 2 ^ 32 }
+        requires few { counted_commands self.old + 1 < 2 ^ 32 }
         requires part { before ≤ self.old.busy + after }
         requires reach { after ≤ 2 ^ 65 }
         requires segments { lent.count ≤ 1023 }

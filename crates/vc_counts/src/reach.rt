@@ -1,7 +1,7 @@
 // What of its region a command may put, resize or free.
 ghost use Rattle.std.specs.Prelude.{◌≡◌};
 ghost use Rattle.vc_objects.specs.Objects.{holder_size};
-ghost use Rattle.vc_counts.specs.Reach.{freed_by, holder_freed, holder_put, put_by, reach_of};
+ghost use Rattle.vc_counts.specs.Reach.{bytes_freed_by, holder_freed, holder_put, put_by, reach_of};
 
 use vc_base::Name;
 use vc_script::{Bytes, Command, Reply};
@@ -84,7 +84,7 @@ pub(crate) fn put_by(reach: &Reach, reply: &Reply) -> u64
 
 // The bytes that the reply of a command tells were freed.
 pub(crate) fn freed_by(reach: &Reach, reply: &Reply) -> u64
-    ensures { result ≡ freed_by reach.now reply.now }
+    ensures { result ≡ bytes_freed_by reach.now reply.now }
 {
     match reach {
         Reach::Table(_) => holder_freed(reply),

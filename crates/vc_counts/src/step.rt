@@ -3,7 +3,7 @@ ghost use Rattle.std.specs.Prelude.{◌≡◌, ◌<◌, ◌^◌, ◌≤◌, byte
 ghost use Rattle.std.specs.List.{IsDistinct};
 ghost use Rattle.std.specs.Map.{keys_of};
 ghost use Rattle.vc_counts.specs.CanCount.{CanCount};
-ghost use Rattle.vc_counts.specs.Counting.{CountsStep, IsSpentBy};
+ghost use Rattle.vc_counts.specs.Counting.{CountsStep, IsCountSpentBy};
 ghost use Rattle.vc_counts.specs.Counts.{busy_in};
 ghost use Rattle.vc_counts.specs.Holders.{AreSomeDicts};
 ghost use Rattle.vc_counts.specs.Working.{busy_in_home, dict_in, open_state, reached_at, region_worked, segments_at, table_in, tally_behind, worked_in};
@@ -185,7 +185,7 @@ pub fn counted_step<D: DictDisc>(
     ensures runs { RunsOver state D.rules D.gone shelf.old session.old kinds.old.items
         shelf.new session.new kinds.new.items
         (λ now next. CountsStep result now next line command.now counts.old counts.new) }
-    ensures spent { IsSpentBy result session.old.is_spent session.new.is_spent }
+    ensures spent { IsCountSpentBy result session.old.is_spent session.new.is_spent }
 {
     show_names(&session.homes, &session.dicts);
     let reach = reach_of(command);

@@ -40,11 +40,11 @@ within-put_behind test at [] = within-head at []
 within-put_behind test at (x ∷ xs) =
     either_in (test x) (x ∷ at ∷ xs) (x ∷ put_behind test at xs) at true (within-tail x (at ∷ xs) at (within-head at xs)) (within-tail x (put_behind test at xs) at (within-put_behind test at xs))
 
-within-before : (current : Option ℕ) (at : ℕ) (xs : List ℕ) → contains (objects.before_current (λ a. a) current at xs) at ≡ true
+within-before : (current : Option ℕ) (at : ℕ) (xs : List ℕ) → contains (objects.put_before_current (λ a. a) current at xs) at ≡ true
 within-before None at xs = within-head at xs
 within-before (Some current) at xs = within-put_before (λ x. x == current) at xs
 
-within-behind : (current : Option ℕ) (at : ℕ) (xs : List ℕ) → contains (objects.behind_current (λ a. a) current at xs) at ≡ true
+within-behind : (current : Option ℕ) (at : ℕ) (xs : List ℕ) → contains (objects.put_behind_current (λ a. a) current at xs) at ≡ true
 within-behind None at xs = within-last at xs
 within-behind (Some current) at xs = within-put_behind (λ x. x == current) at xs
 
@@ -72,11 +72,11 @@ apart-put_behind test at (x ∷ xs) a ne h =
 apart-last : (at : ℕ) (xs : List ℕ) (a : ℕ) → at ≢ a → contains xs a ≡ false → contains (xs ++ at ∷ []) a ≡ false
 apart-last at xs a ne h = apart-append xs (at ∷ []) a h (apart-cons at [] a ne refl)
 
-apart-before : (current : Option ℕ) (at : ℕ) (xs : List ℕ) (a : ℕ) → at ≢ a → contains xs a ≡ false → contains (objects.before_current (λ z. z) current at xs) a ≡ false
+apart-before : (current : Option ℕ) (at : ℕ) (xs : List ℕ) (a : ℕ) → at ≢ a → contains xs a ≡ false → contains (objects.put_before_current (λ z. z) current at xs) a ≡ false
 apart-before None at xs a ne h = apart-cons at xs a ne h
 apart-before (Some current) at xs a ne h = any-inserted (λ z. z == a) (λ x. x == current) at xs (ne_eqb at a ne) h
 
-apart-behind : (current : Option ℕ) (at : ℕ) (xs : List ℕ) (a : ℕ) → at ≢ a → contains xs a ≡ false → contains (objects.behind_current (λ z. z) current at xs) a ≡ false
+apart-behind : (current : Option ℕ) (at : ℕ) (xs : List ℕ) (a : ℕ) → at ≢ a → contains xs a ≡ false → contains (objects.put_behind_current (λ z. z) current at xs) a ≡ false
 apart-behind None at xs a ne h = apart-last at xs a ne h
 apart-behind (Some current) at xs a ne h = apart-put_behind (λ x. x == current) at xs a ne h
 

@@ -33,11 +33,11 @@ length-put_behind test at (x ∷ xs) = by_mark (test x) at x xs (put_behind test
 length-last : (at : ℕ) (xs : List ℕ) → length (xs ++ at ∷ []) ≡ length xs + 1
 length-last at xs = length-append xs (at ∷ [])
 
-length-before : (current : Option ℕ) (at : ℕ) (xs : List ℕ) → length (objects.before_current (λ a. a) current at xs) ≡ length xs + 1
+length-before : (current : Option ℕ) (at : ℕ) (xs : List ℕ) → length (objects.put_before_current (λ a. a) current at xs) ≡ length xs + 1
 length-before None at xs = omega arith
 length-before (Some current) at xs = length-put_before (λ x. x == current) at xs
 
-length-behind : (current : Option ℕ) (at : ℕ) (xs : List ℕ) → length (objects.behind_current (λ a. a) current at xs) ≡ length xs + 1
+length-behind : (current : Option ℕ) (at : ℕ) (xs : List ℕ) → length (objects.put_behind_current (λ a. a) current at xs) ≡ length xs + 1
 length-behind None at xs = length-last at xs
 length-behind (Some current) at xs = length-put_behind (λ x. x == current) at xs
 

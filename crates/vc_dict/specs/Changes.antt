@@ -9,11 +9,11 @@ use Rattle.vc_dtdisc.specs.Rules.{Rules}
 
 -- in a list: directly before the current one, or first with none
 abbrev pub before_current : ℕ → ℕ → List ℕ → List ℕ
-before_current current at holders = objects.before_current (λ a. a) (some_address current) at holders
+before_current current at holders = objects.put_before_current (λ a. a) (some_address current) at holders
 
 -- directly behind the current one, or last with none
 abbrev pub behind_current : ℕ → ℕ → List ℕ → List ℕ
-behind_current current at holders = objects.behind_current (λ a. a) (some_address current) at holders
+behind_current current at holders = objects.put_behind_current (λ a. a) (some_address current) at holders
 
 -- where `insert` puts a holder
 abbrev pub order_by_insert : DictMethod → Rules → Blocks → ℕ → ℕ → List ℕ → List ℕ

@@ -16,23 +16,23 @@ use Rattle.vc_paths.specs.Layers.{AreLayers}
 use Rattle.vc_dict_tests.specs.Toy.{bytes_in, bytes_in_none, bytes_in_order, layers_in, method_in, objects_from}
 
 -- the places of objects from a number on
-places : ℕ → List ℕ → List ℕ
-places n bs = map (λ (o : Object). o.at) (objects_from n bs)
+toy_places : ℕ → List ℕ → List ℕ
+toy_places n bs = map (λ (o : Object). o.at) (objects_from n bs)
 
 -- are above each lower one, and distinct
-none-low : (at n : ℕ) (bs : List ℕ) → at < n → contains (places n bs) at ≡ false
-unfolding places
+none-low : (at n : ℕ) (bs : List ℕ) → at < n → contains (toy_places n bs) at ≡ false
+unfolding toy_places
 none-low at n [] low = refl
 none-low at n (b ∷ bs) low =
-    elim (eqb_tells n at) as (λ _. contains (places n (b ∷ bs)) at ≡ false) [
+    elim (eqb_tells n at) as (λ _. contains (toy_places n (b ∷ bs)) at ≡ false) [
       | inl same ↦ absurd (let e : n ≡ at = same.1 in omega arith)
       | inr apart ↦
-          ap (λ t. t || contains (places (n + 1) bs) at) apart.0
+          ap (λ t. t || contains (toy_places (n + 1) bs) at) apart.0
           ∙ none-low at (n + 1) bs (omega arith)
     ]
 
-distinct : (n : ℕ) (bs : List ℕ) → AreDistinct (places n bs)
-unfolding places
+distinct : (n : ℕ) (bs : List ℕ) → AreDistinct (toy_places n bs)
+unfolding toy_places
 distinct n [] = tt
 distinct n (b ∷ bs) = (none-low n (n + 1) bs (omega arith), distinct (n + 1) bs)
 
@@ -71,7 +71,7 @@ fold-lawful = rules-lawful (record {
 })
 
 pub are-layers : (method : DictMethod) → AreLayers (layers_in method)
-unfolding Sorted places
+unfolding Sorted toy_places
 are-layers method = record {
   distinct = λ d has. distinct 1 (bytes_in method d);
   sorted = λ d has ordered.

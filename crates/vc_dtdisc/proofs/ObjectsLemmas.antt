@@ -9,7 +9,7 @@ use Rattle.vc_base.specs.Methods.{is_ordered, is_set}
 use Rattle.vc_base.proofs.Quantifiers.{any-map}
 use Rattle.vc_base.proofs.Lists.{find-map}
 use Rattle.vc_base.proofs.Options.{is_some-map}
-use Rattle.vc_dtdisc.specs.Objects.{IsSorted, before_current, before_key, behind_current, behind_key, behind_object, current_without, dropped_behind, dropped_by, first_with, has_key, has_match, inserted_among, is_greater, kept_behind, kept_by, linked_among, ordered_by, placed_among, placed_each, without_object}
+use Rattle.vc_dtdisc.specs.Objects.{IsSorted, put_before_current, before_key, put_behind_current, behind_key, behind_object, current_without, dropped_behind, dropped_by, first_with, has_key, has_match, inserted_among, is_greater, kept_behind, kept_by, linked_among, ordered_by, placed_among, placed_each, without_object}
 use Rattle.vc_dtdisc.specs.Rules.{Rules}
 use Rattle.vc_dtdisc.proofs.FindingLemmas.{before_first-map, behind_first-map, behind_last-map, list_by, put_before-map, put_behind-map, without_first-map}
 
@@ -82,11 +82,11 @@ module _ {A B : Type 0} (h : A → B) (bytes : B → List ℕ) where
 
 -- by the addresses of their holders: beside the current one, and without one
 module _ {A B : Type 0} (h : A → B) (at : B → ℕ) where
-  pub before_current-map : (current : Option ℕ) (o : A) (xs : List A) → before_current at current (h o) (map h xs) ≡ map h (before_current (λ x. at (h x)) current o xs)
+  pub before_current-map : (current : Option ℕ) (o : A) (xs : List A) → put_before_current at current (h o) (map h xs) ≡ map h (put_before_current (λ x. at (h x)) current o xs)
   before_current-map None o xs = refl
   before_current-map (Some current) o xs = put_before-map h (λ x. at x == current) o xs
 
-  pub behind_current-map : (current : Option ℕ) (o : A) (xs : List A) → behind_current at current (h o) (map h xs) ≡ map h (behind_current (λ x. at (h x)) current o xs)
+  pub behind_current-map : (current : Option ℕ) (o : A) (xs : List A) → put_behind_current at current (h o) (map h xs) ≡ map h (put_behind_current (λ x. at (h x)) current o xs)
   behind_current-map None o xs = last-map h xs o
   behind_current-map (Some current) o xs = put_behind-map h (λ x. at x == current) o xs
 

@@ -58,14 +58,14 @@ abbrev pub placed_among : {A : Type 0} → (A → List ℕ) → Rules → A → 
 placed_among bytes rules o items = put_before (λ x. is_greater rules (bytes x) (bytes o)) o items
 
 -- in a list: directly before the current one, or first with none
-abbrev pub before_current : {A : Type 0} → (A → ℕ) → Option ℕ → A → List A → List A
-before_current at None o items = o ∷ items
-before_current at (Some current) o items = put_before (λ x. at x == current) o items
+abbrev pub put_before_current : {A : Type 0} → (A → ℕ) → Option ℕ → A → List A → List A
+put_before_current at None o items = o ∷ items
+put_before_current at (Some current) o items = put_before (λ x. at x == current) o items
 
 -- directly behind the current one, or last with none
-abbrev pub behind_current : {A : Type 0} → (A → ℕ) → Option ℕ → A → List A → List A
-behind_current at None o items = items ++ o ∷ []
-behind_current at (Some current) o items = put_behind (λ x. at x == current) o items
+abbrev pub put_behind_current : {A : Type 0} → (A → ℕ) → Option ℕ → A → List A → List A
+put_behind_current at None o items = items ++ o ∷ []
+put_behind_current at (Some current) o items = put_behind (λ x. at x == current) o items
 
 -- where `insert` puts one, by the method
 abbrev pub inserted_among : {A : Type 0} → (A → ℕ) → (A → List ℕ) → DictMethod → Rules → Option ℕ → A → List A → List A
@@ -73,14 +73,14 @@ inserted_among at bytes DtSet rules current o items = items ++ o ∷ []
 inserted_among at bytes DtBag rules current o items = items ++ o ∷ []
 inserted_among at bytes DtOset rules current o items = placed_among bytes rules o items
 inserted_among at bytes DtObag rules current o items = placed_among bytes rules o items
-inserted_among at bytes DtList rules current o items = before_current at current o items
+inserted_among at bytes DtList rules current o items = put_before_current at current o items
 inserted_among at bytes DtStack rules current o items = o ∷ items
 inserted_among at bytes DtQueue rules current o items = items ++ o ∷ []
 
 -- where `insert` puts it, or `append`, which is for lists
 abbrev pub linked_among : {A : Type 0} → (A → ℕ) → (A → List ℕ) → Bool → DictMethod → Rules → Option ℕ → A → List A → List A
 linked_among at bytes append method rules current o items =
-    if append then behind_current at current o items else inserted_among at bytes method rules current o items
+    if append then put_behind_current at current o items else inserted_among at bytes method rules current o items
 
 -- without the one at an address
 abbrev pub without_object : {A : Type 0} → (A → ℕ) → ℕ → List A → List A

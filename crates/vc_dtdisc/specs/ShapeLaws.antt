@@ -11,7 +11,7 @@ use Rattle.std.proofs.lemmas.List.{length-take}
 use Rattle.std.proofs.lemmas.Grind.{common_steps}
 use Rattle.vc_dtdisc.specs.declared.shape.Shape.{Shape}
 use Rattle.vc_dtdisc.specs.declared.shape.Shape.TheVariants.{Whole, Field, Text, Fold, Reverse, Clip}
-use Rattle.vc_dtdisc.specs.Shapes.{BuiltInKind, is_shape, by_bytes, lower_case, hash_of, order_of, shape_hash, rules_of, key_of, made_of}
+use Rattle.vc_dtdisc.specs.Shapes.{BuiltInKind, is_shape, by_bytes, lower_case, hash_of, order_of, shape_hash, rules_of, key_in_shape, made_of}
 use Rattle.vc_dtdisc.specs.Rules.{AreLawful, IsObject}
 
 pub order-total : (shape : Shape) → IsTotalOrder (order_of shape)
@@ -37,7 +37,7 @@ equal_hashes (Clip n) a b e = ap hash_of (equal_lists a b e)
 take_again : (n : ℕ) (obj : List ℕ) → take n (take n obj) ≡ take n obj
 take_again n obj = grind (arith, common_steps)
 
-pub made_key : (shape : Shape) (obj : List ℕ) → key_of shape (made_of shape obj) ≡ key_of shape obj
+pub made_key : (shape : Shape) (obj : List ℕ) → key_in_shape shape (made_of shape obj) ≡ key_in_shape shape obj
 made_key Whole obj = refl
 made_key (Field off size) obj = refl
 made_key (Text off) obj = refl
@@ -60,6 +60,6 @@ pub rules-lawful : (kind : BuiltInKind) → AreLawful (rules_of kind.shape)
 rules-lawful kind = record {
   order = order-total kind.shape;
   hashes = equal_hashes kind.shape;
-  made_matches = λ obj. rw (made_key kind.shape obj) (tied_itself (order-total kind.shape) (key_of kind.shape obj));
+  made_matches = λ obj. rw (made_key kind.shape obj) (tied_itself (order-total kind.shape) (key_in_shape kind.shape obj));
   made_is_object = made-IsObject kind.shape kind.legal;
 }

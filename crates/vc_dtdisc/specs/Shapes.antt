@@ -25,13 +25,13 @@ abbrev pub before_zero : List ℕ → List ℕ
 before_zero bytes = take_while (λ byte. not (byte == 0)) bytes
 
 -- the key of an object; taking and dropping end with the object
-abbrev pub key_of : Shape → List ℕ → List ℕ
-key_of Whole obj = obj
-key_of (Field off size) obj = take size (drop off obj)
-key_of (Text off) obj = before_zero (drop off obj)
-key_of Fold obj = obj
-key_of Reverse obj = obj
-key_of (Clip n) obj = take n obj
+abbrev pub key_in_shape : Shape → List ℕ → List ℕ
+key_in_shape Whole obj = obj
+key_in_shape (Field off size) obj = take size (drop off obj)
+key_in_shape (Text off) obj = before_zero (drop off obj)
+key_in_shape Fold obj = obj
+key_in_shape Reverse obj = obj
+key_in_shape (Clip n) obj = take n obj
 
 -- how two keys stand to each other
 abbrev pub order_of : Shape → List ℕ → List ℕ → Ordering
@@ -63,7 +63,7 @@ made_of (Clip n) obj = take n obj
 -- the rules of a shape
 abbrev pub rules_of : Shape → Rules
 rules_of shape = record {
-  key = key_of shape;
+  key = key_in_shape shape;
   compare = order_of shape;
   hash = shape_hash shape;
   made = made_of shape;

@@ -2,25 +2,25 @@ ghost use Rattle.std.specs.Prelude.{◌≡◌, ℕ, ◌-◌, [], ◌∷◌, code
 ghost use Rattle.std.specs.declared.cmp.Ordering.{Ordering};
 ghost use Rattle.vc_model.specs.Count.{last_count};
 ghost use Rattle.vc_dtdisc.specs.Rules.{gone_after};
-ghost use Rattle.vc_dtdisc.specs.Shapes.{hash_of, key_of, made_of, order_of, shape_hash};
+ghost use Rattle.vc_dtdisc.specs.Shapes.{hash_of, key_in_shape, made_of, order_of, shape_hash};
 
 use crate::Shape;
 
 /// Keys are parts of their objects: a field that passes the end is cut there, a text ends before the first zero byte.
 pub fn key_rows()
-    ensures whole { key_of Shape.Whole (codes "pear") ≡ codes "pear" }
-    ensures field { key_of (Shape.Field 0 4) (codes "key1-up") ≡ codes "key1" }
-    ensures field_inside { key_of (Shape.Field 1 2) (codes "pear") ≡ codes "ea" }
-    ensures field_cut { key_of (Shape.Field 2 4) (codes "pear") ≡ codes "ar" }
-    ensures field_behind { key_of (Shape.Field 9 4) (codes "pear") ≡ [] }
-    ensures text { key_of (Shape.Text 0) (97 ∷ 0 ∷ 120 ∷ 0 ∷ []) ≡ 97 ∷ [] }
-    ensures text_behind_a_zero { key_of (Shape.Text 2) (97 ∷ 0 ∷ 120 ∷ 0 ∷ []) ≡ 120 ∷ [] }
-    ensures text_to_the_end { key_of (Shape.Text 1) (codes "pear") ≡ codes "ear" }
-    ensures text_of_nothing { key_of (Shape.Text 0) (0 ∷ 97 ∷ []) ≡ [] }
-    ensures fold { key_of Shape.Fold (codes "Pear") ≡ codes "Pear" }
-    ensures reverse { key_of Shape.Reverse (codes "pear") ≡ codes "pear" }
-    ensures clip { key_of (Shape.Clip 8) (codes "abcdefghij") ≡ codes "abcdefgh" }
-    ensures clip_cut { key_of (Shape.Clip 8) (codes "abc") ≡ codes "abc" }
+    ensures whole { key_in_shape Shape.Whole (codes "pear") ≡ codes "pear" }
+    ensures field { key_in_shape (Shape.Field 0 4) (codes "key1-up") ≡ codes "key1" }
+    ensures field_inside { key_in_shape (Shape.Field 1 2) (codes "pear") ≡ codes "ea" }
+    ensures field_cut { key_in_shape (Shape.Field 2 4) (codes "pear") ≡ codes "ar" }
+    ensures field_behind { key_in_shape (Shape.Field 9 4) (codes "pear") ≡ [] }
+    ensures text { key_in_shape (Shape.Text 0) (97 ∷ 0 ∷ 120 ∷ 0 ∷ []) ≡ 97 ∷ [] }
+    ensures text_behind_a_zero { key_in_shape (Shape.Text 2) (97 ∷ 0 ∷ 120 ∷ 0 ∷ []) ≡ 120 ∷ [] }
+    ensures text_to_the_end { key_in_shape (Shape.Text 1) (codes "pear") ≡ codes "ear" }
+    ensures text_of_nothing { key_in_shape (Shape.Text 0) (0 ∷ 97 ∷ []) ≡ [] }
+    ensures fold { key_in_shape Shape.Fold (codes "Pear") ≡ codes "Pear" }
+    ensures reverse { key_in_shape Shape.Reverse (codes "pear") ≡ codes "pear" }
+    ensures clip { key_in_shape (Shape.Clip 8) (codes "abcdefghij") ≡ codes "abcdefgh" }
+    ensures clip_cut { key_in_shape (Shape.Clip 8) (codes "abc") ≡ codes "abc" }
 {}
 
 /// Keys stand by their bytes, a front before the longer key; folded without regard to A to Z or a to z, and reversed

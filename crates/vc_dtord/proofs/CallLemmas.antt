@@ -18,7 +18,7 @@ use Rattle.vc_splay.specs.Tree.{Tree, names}
 use Rattle.vc_dtord.specs.declared.dt_ord.DtOrd.{DtOrd}
 use Rattle.vc_dtord.specs.Nodes.{StaysButLinks, beside, is_node, node_store, stands_to, stands_to_holder}
 use Rattle.vc_dtord.specs.Ordered.{CanLink, IsLinked, IsOrd, IsOrdered, IsPlain, OrdFor, OrdTurned, is_less, order_with}
-use Rattle.vc_dtord.specs.Written.{IsCleared}
+use Rattle.vc_dtord.specs.Written.{IsHolderCleared}
 use Rattle.vc_dtord.proofs.SortedLemmas.{IsSorted-placed, IsSorted-rises, IsSorted-same, IsSorted-without, less-same, linked-placed}
 use Rattle.vc_dtord.proofs.TreeLemmas.{OrdFor-node, OrdFor-one, OrdFor-same, tree-beside, tree-beside_root}
 use Rattle.vc_dtord.proofs.TurnLemmas.{turned}
@@ -31,7 +31,7 @@ All-placed P test at (x ∷ xs) h p = elim (test x) as (λ z. All P (cond z (at 
 ]
 
 -- a link: over blocks in which the words of the new holder are 0
-module _ (rules : Rules) (order : IsTotalOrder rules.compare) (ord : DtOrd) (b b' : Blocks) (at : ℕ) (c : CanLink rules ord b at) (w : IsCleared b b' at) where
+module _ (rules : Rules) (order : IsTotalOrder rules.compare) (ord : DtOrd) (b b' : Blocks) (at : ℕ) (c : CanLink rules ord b at) (w : IsHolderCleared b b' at) where
   apart-each : (xs : List ℕ) → OrdFor rules ord b xs → contains xs at ≡ false
   apart-each xs s = subst (λ ys. contains ys at ≡ false) (OrdFor-one rules rules ord b c.holders xs c.stands s) c.apart
 

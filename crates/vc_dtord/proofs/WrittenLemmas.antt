@@ -14,7 +14,7 @@ use Rattle.vc_splay.specs.Store.{with_kid, with_parent}
 use Rattle.vc_splay.proofs.StoreLemmas.{with_kid-is, with_parent-is}
 use Rattle.vc_dtord.specs.Nodes.{StaysButLinks, beside, is_link, is_node, is_node_of, node_store, word_bytes}
 use Rattle.vc_dtord.specs.NodeLaws.{IsNodeAt, and-left, node-is}
-use Rattle.vc_dtord.specs.Written.{IsCleared, NumberWritten}
+use Rattle.vc_dtord.specs.Written.{IsHolderCleared, NumberWritten}
 
 -- the bytes of the word that was written, and those of others
 bytes-here : (k value : ℕ) (bytes : List ℕ) → 8 * k + 8 ≤ length bytes → word_bytes k (with_word k value bytes) ≡ to_le_bytes w64 value
@@ -83,7 +83,7 @@ node-by blocks a address long first second third =
     and_from (nat_lt 0 a) (fits && (enough && (t0 && (t1 && t2)))) (lt-ltb 0 a least) h1
 
 -- a holder whose four words were written one by one
-pub IsCleared-by : (b0 b1 b2 b3 b4 : Blocks) (at : ℕ) → IsAddress at → IsHolder b0 at → NumberWritten b0 b1 at 0 0 → NumberWritten b1 b2 at 1 0 → NumberWritten b2 b3 at 2 0 → NumberWritten b3 b4 at 3 0 → IsCleared b0 b4 at
+pub IsCleared-by : (b0 b1 b2 b3 b4 : Blocks) (at : ℕ) → IsAddress at → IsHolder b0 at → NumberWritten b0 b1 at 0 0 → NumberWritten b1 b2 at 1 0 → NumberWritten b2 b3 at 2 0 → NumberWritten b3 b4 at 3 0 → IsHolderCleared b0 b4 at
 IsCleared-by b0 b1 b2 b3 b4 at address holder w0 w1 w2 w3 =
     let w = WordsWritten-trans b0 b1 b2 at w0.word.written w1.word.written in
     let v = WordsWritten-trans b0 b2 b3 at w w2.word.written in

@@ -84,8 +84,8 @@ pub beside-fits : (blocks : Blocks) (mark n : ℕ) → (beside mark (node_store 
 beside-fits blocks mark n h = node-fits blocks n (beside-node blocks mark n h)
 
 -- where nothing is done only links changed, and where they changed twice
-pub same_twice : {A : Type 0} {a b c : A} → b ≡ a → c ≡ b → c ≡ a
-same_twice e f = f ∙ e
+pub same_through : {A : Type 0} {a b c : A} → b ≡ a → c ≡ b → c ≡ a
+same_through e f = f ∙ e
 
 pub links_none : (b : Blocks) → StaysButLinks b b
 links_none b = record { there = λ a. refl; sizes = λ a. refl; behind = λ a. refl; nodes = λ a. refl; others = λ a h. refl }

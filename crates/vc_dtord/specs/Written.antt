@@ -11,7 +11,7 @@ pub record NumberWritten (old new : Blocks) (at k value : ℕ) : Type 0 where
   pub behind : (n : ℕ) → 8 * k + 8 ≤ n → drop n (bytes_at new at) ≡ drop n (bytes_at old at)
 
 -- the words of a holder are 0, and nothing else was written
-pub record IsCleared (old new : Blocks) (at : ℕ) : Type 0 where
+pub record IsHolderCleared (old new : Blocks) (at : ℕ) : Type 0 where
   pub written : WordsWritten old new at
   pub node : is_node new at ≡ true
   pub last : word_at new at 3 ≡ 0

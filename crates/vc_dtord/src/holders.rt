@@ -42,7 +42,7 @@ impl<'a, C: Cells> Links for Holders<'a, C> {
 impl<'a, C: Cells> Nodes for Holders<'a, C> {
     ghost use Rattle.std.specs.Prelude.{◌≡◌, refl};
     ghost use Rattle.vc_dtord.specs.Nodes.{StaysButLinks};
-    ghost use Rattle.vc_dtord.specs.NodeLaws.{same_twice, links_none, links_twice};
+    ghost use Rattle.vc_dtord.specs.NodeLaws.{same_through, links_none, links_twice};
 
     ghost stays = { λ s t. (t.cells.ghost_name ≡ s.cells.ghost_name)
         × (t.mark ≡ s.mark)
@@ -72,8 +72,8 @@ impl<'a, C: Cells> Nodes for Holders<'a, C> {
     ) };
 
     ghost transitive = { λ a b c h k. (
-      same_twice h.0 k.0,
-      same_twice h.1 k.1,
+      same_through h.0 k.0,
+      same_through h.1 k.1,
       C.transitive a.cells.now b.cells.now c.cells.now h.2 k.2,
       links_twice (C.blocks a.cells.now) (C.blocks b.cells.now) (C.blocks c.cells.now) h.3 k.3,
     ) };

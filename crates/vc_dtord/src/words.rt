@@ -1,7 +1,7 @@
 ghost use Rattle.std.specs.Prelude.{◌≡◌, ◌<◌, true};
 ghost use Rattle.vc_base.specs.Cells.{HasBytes, IsHolder, word_at};
 ghost use Rattle.vc_dtord.specs.Nodes.{is_node};
-ghost use Rattle.vc_dtord.specs.Written.{IsCleared, NumberWritten};
+ghost use Rattle.vc_dtord.specs.Written.{IsHolderCleared, NumberWritten};
 
 use vc_base::{Addr, Cells};
 use vc_dtlist::neighbour;
@@ -30,7 +30,7 @@ pub(crate) fn write_word<C: Cells>(cells: &mut C, at: Addr, k: u32, value: u32)
 // Makes the four words of a holder 0, whatever they were.
 pub(crate) fn clear_words<C: Cells>(cells: &mut C, at: Addr)
     requires { IsHolder (C.blocks cells.old) at.0 }
-    ensures cleared { IsCleared (C.blocks cells.old) (C.blocks cells.new) at.0 }
+    ensures cleared { IsHolderCleared (C.blocks cells.old) (C.blocks cells.new) at.0 }
     ensures rest { C.RestStays cells.old cells.new }
 {
     write_word(cells, at, 0, 0);

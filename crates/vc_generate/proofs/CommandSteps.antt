@@ -5,10 +5,10 @@ use Rattle.rand_pcg.specs.Pcg.{pcg32}
 use Rattle.vc_script.specs.declared.command.Command.{Command}
 use Rattle.vc_script.specs.declared.tool.Tool.{Tool}
 use Rattle.vc_script.specs.declared.tool.Tool.TheVariants.{Dtrun, Vmreplay}
-use Rattle.vc_generate.specs.Generated.{block_command, block_commands, closing, commands_of, commands_of_seed, is_taken, none_taken, object_command, opening, place_of, taken_after}
+use Rattle.vc_generate.specs.Generated.{block_command, block_commands, closing, commands_of, commands_of_seed, is_taken, none_taken, object_command, opening, place_in_word, taken_after}
 use Rattle.vc_generate.specs.Next.{is_object_next}
 use Rattle.vc_generate.specs.ToCome.{to_come}
-use Rattle.vc_generate.specs.Words.{source_of, words_of}
+use Rattle.vc_generate.specs.Words.{source_of, generated_words}
 use Rattle.vc_generate.proofs.WordSteps.{length-words}
 
 -- a command of the opening
@@ -45,13 +45,13 @@ words_all tool opened taken words closed none no_word =
 pub to_come-block : (tool : Tool) (opened : ℕ) (taken : List Bool) (words : List ℕ) (closed word : ℕ) (rest : List ℕ) →
     tool ≡ Vmreplay → drop opened (opening tool) ≡ [] → words ≡ word ∷ rest →
     to_come tool opened taken words closed
-    ≡ block_command (is_taken taken (place_of word)) word ∷ to_come tool opened (taken_after taken word) rest closed
+    ≡ block_command (is_taken taken (place_in_word word)) word ∷ to_come tool opened (taken_after taken word) rest closed
 unfolding block_commands
 to_come-block Dtrun opened taken words closed word rest is none first = cc
 to_come-block Vmreplay opened taken words closed word rest is none first =
     opened_all Vmreplay opened taken words closed none
     ∙ ap (λ (list : List ℕ). block_commands taken list ++ drop closed (closing Vmreplay)) first
-    ∙ ap (λ (list : List Command). block_command (is_taken taken (place_of word)) word ∷ list)
+    ∙ ap (λ (list : List Command). block_command (is_taken taken (place_in_word word)) word ∷ list)
     (sym (opened_all Vmreplay opened (taken_after taken word) rest closed none))
 
 -- a word at dtrun
@@ -102,10 +102,10 @@ length-block_commands taken (word ∷ words) = ap suc (length-block_commands (ta
 -- the commands of the words, and the fixed ones
 pub length-generated : (tool : Tool) (count seed : ℕ) →
     length (commands_of_seed tool count seed) ≡ length (opening tool) + count + length (closing tool)
-unfolding commands_of_seed words_of
+unfolding commands_of_seed generated_words
 length-generated Vmreplay count seed =
-    let words = length-block_commands none_taken (words_of seed count) ∙ length-words pcg32 count (source_of seed) in
+    let words = length-block_commands none_taken (generated_words seed count) ∙ length-words pcg32 count (source_of seed) in
     grind (arith, length-append {A = Command}, words)
 length-generated Dtrun count seed =
-    let words = length-map (words_of seed count) object_command ∙ length-words pcg32 count (source_of seed) in
+    let words = length-map (generated_words seed count) object_command ∙ length-words pcg32 count (source_of seed) in
     grind (arith, length-append {A = Command}, words)

@@ -5,13 +5,13 @@ use Rattle.rand_core.specs.Steps.{first_words}
 use Rattle.vc_script.specs.declared.tool.Tool.TheVariants.{Dtrun, Vmreplay}
 use Rattle.vc_generate.specs.Four.{four_on_blocks, four_on_objects}
 use Rattle.vc_generate.specs.Generated.{block_commands, closing, commands_of_seed, none_taken, object_command, opening}
-use Rattle.vc_generate.specs.Words.{source_of, words_of}
+use Rattle.vc_generate.specs.Words.{source_of, generated_words}
 
 abbrev four : List ℕ
 four = 0xa15c02b7 ∷ 0x7b47f409 ∷ 0xba1d3330 ∷ 0x83d2f293 ∷ []
 
-four-words : words_of 42 4 ≡ four
-unfolding words_of source_of first_words
+four-words : generated_words 42 4 ≡ four
+unfolding generated_words source_of first_words
 four-words = refl
 
 blocks : opening Vmreplay ++ block_commands none_taken four ++ closing Vmreplay ≡ four_on_blocks

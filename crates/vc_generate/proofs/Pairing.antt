@@ -9,9 +9,9 @@ use Rattle.std.proofs.lemmas.Slice.Eq.{bytes_eq-Decides}
 use Rattle.vc_base.proofs.Texts.{own_bytes}
 use Rattle.vc_script.specs.declared.command.Command.TheVariants.{Free, Resize}
 use Rattle.vc_script.specs.declared.tool.Tool.TheVariants.{Vmreplay}
-use Rattle.vc_generate.specs.Generated.{block_command, block_commands, block_of, closing, commands_of_seed, is_resize, is_taken, is_taken_after, none_taken, place_of, taken_after}
+use Rattle.vc_generate.specs.Generated.{block_command, block_commands, generated_block, closing, commands_of_seed, is_resize, is_taken, is_taken_after, none_taken, place_in_word, taken_after}
 use Rattle.vc_generate.specs.Pairs.{are_paired, fits, stands_after}
-use Rattle.vc_generate.specs.Words.{words_of}
+use Rattle.vc_generate.specs.Words.{generated_words}
 
 -- the block of a place
 abbrev block_at : ℕ → List ℕ
@@ -43,17 +43,17 @@ fits_both true stands region block size stood = stood
 fits_both false stands region block size stood = stood
 
 -- the block of a word's place behind its command
-after_same : (taken : Bool) (word : ℕ) → stands_after (block_of word) taken (block_command taken word) ≡ is_taken_after taken word
-after_same false word = rw (own_bytes (block_of word)) refl
+after_same : (taken : Bool) (word : ℕ) → stands_after (generated_block word) taken (block_command taken word) ≡ is_taken_after taken word
+after_same false word = rw (own_bytes (generated_block word)) refl
 after_same true word = resized_or_freed (is_resize word) _ _ _
 
 -- every other block
-after_other : (taken stood : Bool) (word : ℕ) (other : List ℕ) → bytes_eq (block_of word) other ≡ false →
+after_other : (taken stood : Bool) (word : ℕ) (other : List ℕ) → bytes_eq (generated_block word) other ≡ false →
     stands_after other stood (block_command taken word) ≡ stood
 after_other false stood word other differ = rw differ refl
 after_other true stood word other differ = others_stay (is_resize word) stood _ _ other _ differ
 
-fits_now : (taken : Bool) (stands : List ℕ → Bool) (word : ℕ) → stands (block_of word) ≡ taken → fits stands (block_command taken word) ≡ true
+fits_now : (taken : Bool) (stands : List ℕ → Bool) (word : ℕ) → stands (generated_block word) ≡ taken → fits stands (block_command taken word) ≡ true
 fits_now false stands word stood = ap not stood
 fits_now true stands word stood = fits_both (is_resize word) stands _ _ _ stood
 
@@ -63,9 +63,9 @@ record Agrees (stands : List ℕ → Bool) (taken : List Bool) : Type 0 where
   each : (p : ℕ) → p < 256 → stands (block_at p) ≡ is_taken taken p
 
 agrees_after : (stands : List ℕ → Bool) (taken : List Bool) (word : ℕ) → Agrees stands taken →
-    Agrees (λ block. stands_after block (stands block) (block_command (is_taken taken (place_of word)) word)) (taken_after taken word)
+    Agrees (λ block. stands_after block (stands block) (block_command (is_taken taken (place_in_word word)) word)) (taken_after taken word)
 agrees_after stands taken word agrees =
-    let place = place_of word in
+    let place = place_in_word word in
     let now = is_taken taken place in
     let small : place < 256 = omega arith in
     let within : place < length taken = omega (arith, agrees.places) in
@@ -75,7 +75,7 @@ agrees_after stands taken word agrees =
           elim (cases_eq p place) [
             | inl same ↦
                 rw same (
-                ap (λ (stood : Bool). stands_after (block_of word) stood (block_command now word)) (agrees.each place small)
+                ap (λ (stood : Bool). stands_after (generated_block word) stood (block_command now word)) (agrees.each place small)
                 ∙ after_same now word
                 ∙ sym (get_or-set_same taken place (is_taken_after now word) false within))
             | inr differ ↦
@@ -90,7 +90,7 @@ paired : (words : List ℕ) (stands : List ℕ → Bool) (taken : List Bool) →
 unfolding block_commands
 paired [] stands taken agrees = refl
 paired (word ∷ words) stands taken agrees =
-    let place = place_of word in
+    let place = place_in_word word in
     let small : place < 256 = omega arith in
     and_from _ _
     (fits_now (is_taken taken place) stands word (agrees.each place small))
@@ -107,4 +107,4 @@ none_stand = record {
 -- from the first command to the last
 pub paired_generated : (count seed : ℕ) → are_paired (λ block. false) (commands_of_seed Vmreplay count seed) ≡ true
 unfolding commands_of_seed
-paired_generated count seed = paired (words_of seed count) (λ block. false) none_taken none_stand
+paired_generated count seed = paired (generated_words seed count) (λ block. false) none_taken none_stand

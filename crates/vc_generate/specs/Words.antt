@@ -9,8 +9,8 @@ unfoldable pub source_of : ℕ → Lcg
 source_of seed = started 64 multiplier_64 seed (increment_of 64 54)
 
 -- the first words of a seed
-unfoldable pub words_of : ℕ → ℕ → List ℕ
-words_of seed count = first_words pcg32 count (source_of seed)
+unfoldable pub generated_words : ℕ → ℕ → List ℕ
+generated_words seed count = first_words pcg32 count (source_of seed)
 
 -- so many words, of which one was drawn already
 unfoldable pub words_ahead : ℕ → ℕ → Lcg → List ℕ

@@ -1,6 +1,6 @@
 // The command of a word on the blocks.
 ghost use Rattle.std.specs.Prelude.{◌≡◌, ℕ, ◌+◌, ◌/◌, ◌%◌, ◌≤◌, ◌++◌, codes, decimal, length};
-ghost use Rattle.vc_generate.specs.Generated.{block_command, is_resize, is_taken, place_of, taken_after};
+ghost use Rattle.vc_generate.specs.Generated.{block_command, is_resize, is_taken, place_in_word, taken_after};
 
 use crate::fixed::region;
 use itoa::Buffer;
@@ -9,7 +9,7 @@ use vc_script::Command;
 
 // The place that a word names.
 fn place_of(word: u32) -> u8
-    ensures { result ≡ place_of word }
+    ensures { result ≡ place_in_word word }
 {
     (word % 256) as u8
 }
@@ -49,7 +49,7 @@ fn block_command(is_taken: bool, word: u32) -> Command
 
 // The command of a word, which takes or gives back its place.
 pub(crate) fn take_command(taken: &mut [bool; 256], word: u32) -> Command
-    ensures command { result ≡ block_command (is_taken taken.old (place_of word)) word }
+    ensures command { result ≡ block_command (is_taken taken.old (place_in_word word)) word }
     ensures places { taken.new ≡ taken_after taken.old word }
 {
     let place = usize::from(place_of(word));

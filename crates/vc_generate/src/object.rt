@@ -1,6 +1,6 @@
 // The command of a word on the dictionary.
 ghost use Rattle.std.specs.Prelude.{◌≡◌, ◌/◌, ◌%◌, IfOk};
-ghost use Rattle.vc_generate.specs.Generated.{object_command, object_of};
+ghost use Rattle.vc_generate.specs.Generated.{object_command, generated_object};
 
 use crate::fixed::dict;
 use itoa::Buffer;
@@ -9,7 +9,7 @@ use vc_script::{Bytes, Command};
 
 // The object of a word: `k` and a number below 1000 in decimal.
 fn object_of(alloc: Global, word: u32) -> Result<Bytes, AllocError>
-    ensures { IfOk result (λ object. object ≡ object_of word) }
+    ensures { IfOk result (λ object. object ≡ generated_object word) }
 {
     let mut buffer = Buffer::new();
     let mut bytes = Vec::from_slice(alloc, b"k")?;

@@ -10,11 +10,11 @@ ghost use Rattle.vc_script.specs.declared.tool.Tool.TheVariants.{Dtrun, Vmreplay
 ghost use Rattle.vc_generate.specs.Four.{four_on_blocks, four_on_objects};
 ghost use Rattle.vc_generate.specs.Generated.{commands_of_seed};
 ghost use Rattle.vc_generate.specs.Pairs.{are_paired};
-ghost use Rattle.vc_generate.specs.Words.{words_of};
+ghost use Rattle.vc_generate.specs.Words.{generated_words};
 
 /// The first words of seed 42 at stream 54, as PCG's reference program prints them.
 pub fn reference_words()
-    ensures { words_of 42 5 ≡ 0xa15c02b7 ∷ 0x7b47f409 ∷ 0xba1d3330 ∷ 0x83d2f293 ∷ 0xbfa4784b ∷ [] }
+    ensures { generated_words 42 5 ≡ 0xa15c02b7 ∷ 0x7b47f409 ∷ 0xba1d3330 ∷ 0x83d2f293 ∷ 0xbfa4784b ∷ [] }
 {}
 
 /// vmreplay has two commands more than words, and dtrun four. The names in each are names of the script language, and

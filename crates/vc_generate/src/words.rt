@@ -1,7 +1,7 @@
 // The words of a seed.
 ghost use Rattle.std.specs.Prelude.{◌≡◌, ◌∷◌, drop};
 ghost use Rattle.vc_generate.specs.Next.{IsNext};
-ghost use Rattle.vc_generate.specs.Words.{words_of};
+ghost use Rattle.vc_generate.specs.Words.{generated_words};
 
 use rand_core::utils::NextWord;
 use rand_pcg::Lcg64Xsh32;
@@ -27,7 +27,7 @@ impl Model for Words {
 impl Words {
     // The first `count` words of a seed, at stream 54.
     pub fn new(seed: u32, count: u32) -> Words
-        ensures { result ≡ words_of seed count }
+        ensures { result ≡ generated_words seed count }
     {
         let mut source = Lcg64Xsh32::new(u64::from(seed), 54);
         let word = source.next_word();

@@ -11,7 +11,7 @@ use Rattle.vc_seg.proofs.BytesByNumber.{bytes_of_number-most}
 use Rattle.vc_layouts.specs.Tally.{HasRoom, tally_of}
 use Rattle.vc_layouts.proofs.Tallies.{sizes-most}
 use Rattle.vc_last.specs.Chain.{IsLast, blocks_from, most_blocks}
-use Rattle.vc_last.specs.Gaps.{below, own_runs, run_sizes, sizes_above}
+use Rattle.vc_last.specs.Gaps.{gap_end_below, own_runs, run_sizes, sizes_above}
 use Rattle.vc_last.specs.Head.{before_of, block_of}
 use Rattle.vc_last.proofs.Chains.{back-most, chain-heads, latest-none, latest-some}
 use Rattle.vc_last.proofs.Folds.{filter-push}
@@ -66,7 +66,7 @@ run-sizes seg from to =
     (cases_Bool (ltb from to))
 
 gaps-step : (number to : ℕ) (front : List (Block ℕ)) (b : Block ℕ) →
-    map bytes_of (gaps_between number 16 to (own_runs number (footprints (front ++ b ∷ [])))) ≡ map bytes_of (gaps_between number 16 (below number to b) (own_runs number (footprints front))) ++ sizes_above number to b
+    map bytes_of (gaps_between number 16 to (own_runs number (footprints (front ++ b ∷ [])))) ≡ map bytes_of (gaps_between number 16 (gap_end_below number to b) (own_runs number (footprints front))) ++ sizes_above number to b
 gaps-step number to front b =
     let runs : own_runs number (footprints (front ++ b ∷ [])) ≡ own_runs number (footprints front) ++ own_runs number (footprint b ∷ []) =
     ap (own_runs number) (map_push footprint front b) ∙ filter-push (λ (f : Run). eqb f.seg number) (footprints front) (footprint b) in
@@ -81,7 +81,7 @@ gaps-step number to front b =
     ∙ sym (append-nil (map bytes_of (gaps_between number 16 to (own_runs number (footprints front)))))))
     (cases_Bool (eqb b.seg number))
 
-pub gaps-last : (segs : List Bytes) (q number to : ℕ) → IsLast segs q → q ≢ 0 → gaps_back segs q number to ≡ gaps_back segs (before_of segs q) number (below number to (block_of segs q)) ++ sizes_above number to (block_of segs q)
+pub gaps-last : (segs : List Bytes) (q number to : ℕ) → IsLast segs q → q ≢ 0 → gaps_back segs q number to ≡ gaps_back segs (before_of segs q) number (gap_end_below number to (block_of segs q)) ++ sizes_above number to (block_of segs q)
 gaps-last segs q number to h some =
     ap (λ (bs : List (Block ℕ)). map bytes_of (gaps_between number 16 to (own_runs number (footprints bs)))) (latest-some segs q some h).blocks ∙ gaps-step number to (blocks_from segs (before_of segs q)) (block_of segs q)
 

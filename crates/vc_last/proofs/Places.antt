@@ -7,7 +7,7 @@ use Rattle.std.proofs.lemmas.List.{length_push}
 use Rattle.std.proofs.lemmas.List.Elements.{All-head, All-tail, All-nil, All-cons}
 use Rattle.vc_model.specs.Addr.{address, place_of}
 use Rattle.vc_model.specs.Best.{zeros}
-use Rattle.vc_model.specs.Last.{last_place, newest, next_offset, place_behind}
+use Rattle.vc_model.specs.Last.{last_place, newest, next_offset, place_behind_latest}
 use Rattle.vc_model.specs.Layout.{Block, Layout, is_at, with_segment}
 use Rattle.vc_model.specs.Segments.{span}
 use Rattle.vc_model.specs.Touch.{HasBlock}
@@ -63,7 +63,7 @@ ends-before number m to (b ∷ bs) le =
 any-last : (P : ℕ × ℕ → Type 0) (front : List (ℕ × ℕ)) (s : ℕ × ℕ) → P s → Any P (front ++ s ∷ [])
 any-last P front s p = (length front, s, omega (arith, length_push front s), get_or-last front s s, p)
 
-place-newest : (r : Layout ℕ) (size : ℕ) (at : ℕ × ℕ) (o : Option (ℕ × ℕ)) → IsRow r → newest r ≡ o → place_behind r.blocks size o ≡ Some at → IsPlace r size at
+place-newest : (r : Layout ℕ) (size : ℕ) (at : ℕ × ℕ) (o : Option (ℕ × ℕ)) → IsRow r → newest r ≡ o → place_behind_latest r.blocks size o ≡ Some at → IsPlace r size at
 place-newest r size at None h is e = absurd (none-some at e)
 place-newest r size at (Some s) h is e =
     let off : ℕ = next_offset s.0 r.blocks in
@@ -130,8 +130,8 @@ module _ (r : Layout ℕ) (size : ℕ) (at : ℕ × ℕ) (some : 1 ≤ size) (p 
 -- the place by the newest segment
 pub place-some : (r : Layout ℕ) (size off : ℕ) (s : ℕ × ℕ) → newest r ≡ Some s → off ≡ next_offset s.0 r.blocks → off + span size ≤ s.1 → Some (s.0, off) ≡ last_place r size
 place-some r size off s is at fits =
-    sym (ap (place_behind r.blocks size) is ∙ (rw (← at) (rw (le-leb (off + span size) s.1 fits) refl)))
+    sym (ap (place_behind_latest r.blocks size) is ∙ (rw (← at) (rw (le-leb (off + span size) s.1 fits) refl)))
 
 pub place-none : (r : Layout ℕ) (size off : ℕ) (s : ℕ × ℕ) → newest r ≡ Some s → off ≡ next_offset s.0 r.blocks → s.1 < off + span size → None ≡ last_place r size
 place-none r size off s is at over =
-    sym (ap (place_behind r.blocks size) is ∙ (rw (← at) (rw (lt-leb (off + span size) s.1 over) refl)))
+    sym (ap (place_behind_latest r.blocks size) is ∙ (rw (← at) (rw (lt-leb (off + span size) s.1 over) refl)))

@@ -13,7 +13,7 @@ use Rattle.vc_seg.specs.Field.{field_at}
 use Rattle.vc_extent.specs.Tiling.{index_from}
 use Rattle.vc_seg.proofs.Frames.{drop-back, field-back, field-front, part-back, part-front, take-front, written-above, written-below}
 use Rattle.vc_layouts.proofs.Segments.{bytes_of_number-other, bytes_of_number-write, pairs-write}
-use Rattle.vc_last.specs.Head.{HasHead, StaysBut, before_of, block_in, block_of}
+use Rattle.vc_last.specs.Head.{HasHead, StaysBut, before_of, block_in_bytes, block_of}
 use Rattle.vc_last.specs.Chain.{IsChain, IsLastOf, LiesLower, rank}
 use Rattle.vc_last.proofs.Chains.{head-exact}
 
@@ -155,13 +155,13 @@ head-says segs b h =
       size = size;
       label = ap (λ (c : Block ℕ). c.label) h.is ∙ ap (λ (p : ℕ × ℕ). field_at (p.1 - 12) (bytes_of_number p.0 segs)) e;
       before = ap (λ (p : ℕ × ℕ). field_at (p.1 - 8) (bytes_of_number p.0 segs)) e;
-      bytes = ap (λ (c : Block ℕ). c.bytes) h.is ∙ (ap (λ (p : ℕ × ℕ). (block_in (bytes_of_number p.0 segs) p).bytes) e ∙ ap (λ k. take k (drop b.off (bytes_of_number b.seg segs))) (sym size));
+      bytes = ap (λ (c : Block ℕ). c.bytes) h.is ∙ (ap (λ (p : ℕ × ℕ). (block_in_bytes (bytes_of_number p.0 segs) p).bytes) e ∙ ap (λ k. take k (drop b.off (bytes_of_number b.seg segs))) (sym size));
     }
 
 -- and a block is known by them
 pub head-made : (segs : List Bytes) (b : Block ℕ) → place_of (address_of b) ≡ (b.seg, b.off) → b.size ≡ field_at (b.off - 16) (bytes_of_number b.seg segs) → b.label ≡ field_at (b.off - 12) (bytes_of_number b.seg segs) → b.bytes ≡ take b.size (drop b.off (bytes_of_number b.seg segs)) → b ≡ block_of segs (address_of b)
 head-made segs b e size label bytes =
-    let at : block_in (bytes_of_number b.seg segs) (b.seg, b.off) ≡ block_of segs (address_of b) = ap (λ (p : ℕ × ℕ). block_in (bytes_of_number p.0 segs) p) (sym e) in
+    let at : block_in_bytes (bytes_of_number b.seg segs) (b.seg, b.off) ≡ block_of segs (address_of b) = ap (λ (p : ℕ × ℕ). block_in_bytes (bytes_of_number p.0 segs) p) (sym e) in
     let all : b.bytes ≡ take (field_at (b.off - 16) (bytes_of_number b.seg segs)) (drop b.off (bytes_of_number b.seg segs)) = bytes ∙ ap (λ k. take k (drop b.off (bytes_of_number b.seg segs))) size in
     (λ i. record { label = label i; seg = b.seg; off = b.off; size = size i; bytes = all i }) ∙ at
 

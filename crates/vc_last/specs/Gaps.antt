@@ -25,5 +25,5 @@ abbrev pub sizes_above : ℕ → ℕ → Block ℕ → List ℕ
 sizes_above number to b = if b.seg == number then run_sizes (footprint b).to to else []
 
 -- where the gap before it ends then
-abbrev pub below : ℕ → ℕ → Block ℕ → ℕ
-below number to b = if b.seg == number then (footprint b).from else to
+abbrev pub gap_end_below : ℕ → ℕ → Block ℕ → ℕ
+gap_end_below number to b = if b.seg == number then (footprint b).from else to

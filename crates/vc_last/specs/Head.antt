@@ -14,8 +14,8 @@ abbrev pub bytes_at : List Bytes → ℕ → List ℕ
 bytes_at segs a = bytes_of_number (place_of a).0 segs
 
 -- the block at a place of its segment's bytes
-abbrev pub block_in : List ℕ → ℕ × ℕ → Block ℕ
-block_in bytes at =
+abbrev pub block_in_bytes : List ℕ → ℕ × ℕ → Block ℕ
+block_in_bytes bytes at =
     record {
       label = field_at (at.1 - 12) bytes;
       seg = at.0;
@@ -26,7 +26,7 @@ block_in bytes at =
 
 -- the block at an address
 abbrev pub block_of : List Bytes → ℕ → Block ℕ
-block_of segs a = block_in (bytes_at segs a) (place_of a)
+block_of segs a = block_in_bytes (bytes_at segs a) (place_of a)
 
 -- the address that its head has of the block allocated before it
 abbrev pub before_of : List Bytes → ℕ → ℕ

@@ -7,7 +7,7 @@ ghost use Rattle.vc_seg.specs.Stat.{layout_stat};
 ghost use Rattle.vc_last.specs.Chain.{IsLast, blocks_from};
 ghost use Rattle.vc_last.specs.Head.{HasHead, block_of};
 ghost use Rattle.vc_last.specs.Read.{layout_by};
-ghost use Rattle.vc_last.specs.Gaps.{below, gaps_left, gaps_left_in, run_sizes, sizes_above};
+ghost use Rattle.vc_last.specs.Gaps.{gap_end_below, gaps_left, gaps_left_in, run_sizes, sizes_above};
 
 use crate::head::{before_at, size_at};
 use vc_base::Addr;
@@ -48,7 +48,7 @@ fn with_gap(tally: Tally, segs: &[Segment], a: Addr, number: u32, to: u32) -> (T
     requires head { HasHead segs.now (block_of segs.now a.0) }
     requires room { HasRoom tally (sizes_above number to (block_of segs.now a.0)) }
     ensures tally { result.0 ≡ tallied_all tally (sizes_above number to (block_of segs.now a.0)) }
-    ensures to { result.1 ≡ below number to (block_of segs.now a.0) }
+    ensures to { result.1 ≡ gap_end_below number to (block_of segs.now a.0) }
 {
     if a.seg() != number {
         return (tally, to);

@@ -3,7 +3,7 @@ use Rattle.std.proofs.Common.{◌≡◌, ◌≢◌, ℕ, ◌+◌, ◌-◌, ◌<�
 use Rattle.std.proofs.lemmas.Bool.{cases_lt}
 use Rattle.vc_model.specs.Gap.{Run, runs_in, gaps_in, gaps}
 use Rattle.vc_model.specs.Sound.{IsApart, IsUsable}
-use Rattle.vc_laws.specs.Maximal.{Covers, IsFree, IsGap, AreLawful}
+use Rattle.vc_laws.specs.Maximal.{Covers, IsFreeByte, IsWholeGap, AreLawful}
 use Rattle.vc_laws.proofs.Members.{Member, Pairwise, Some_of, All-at_member, All-from_members, Member-from_Contains, Contains-from_Member, Some_of-from_Any, Any-from_member, Pairwise-from_AllPairs, same_segment, Member-flat_map, flat_map-member, Pairwise-append, AllPairs-from_Pairwise}
 use Rattle.vc_laws.proofs.Sweep.{Fits, Within, Beside, StartsBehind, EndsAt, Between, Between-from_sweep, sweep-from_Between, sweep-apart}
 use Rattle.vc_laws.proofs.Sorting.{runs_in-member, member-runs_in, Fits-runs_in}
@@ -45,20 +45,20 @@ module _ (segments : List (ℕ × ℕ)) (footprints : List Run) (lawful : AreLaw
   own = Pairwise-from_AllPairs (λ (a b : ℕ × ℕ). a.0 ≢ b.0) segments lawful.numbered.distinct
 
   -- a byte that is free in the segment of a number is usable in it
-  usable_here : (s : ℕ × ℕ) (off : ℕ) → Member s segments → IsFree segments footprints (s.0, off) → UsableIn (s.0, off) s
+  usable_here : (s : ℕ × ℕ) (off : ℕ) → Member s segments → IsFreeByte segments footprints (s.0, off) → UsableIn (s.0, off) s
   usable_here s off ms free =
       let found = Some_of-from_Any (UsableIn (s.0, off)) segments free.usable in
       let same : found.0 ≡ s = same_segment segments found.0 s own found.1 ms (sym found.2.0) in
       subst (λ t. UsableIn (s.0, off) t) same found.2
 
   -- a byte that no run of its segment covers is covered by none
-  IsFree-from_runs : (s : ℕ × ℕ) (off : ℕ) → Member s segments → 16 ≤ off → off + 16 < s.1 → ((f : Run) → Member f (runs_in s.0 footprints) → ¬ Covers f (s.0, off)) → IsFree segments footprints (s.0, off)
+  IsFree-from_runs : (s : ℕ × ℕ) (off : ℕ) → Member s segments → 16 ≤ off → off + 16 < s.1 → ((f : Run) → Member f (runs_in s.0 footprints) → ¬ Covers f (s.0, off)) → IsFreeByte segments footprints (s.0, off)
   IsFree-from_runs s off ms low high none = record {
     usable = Any-from_member (UsableIn (s.0, off)) segments s ms (refl, low, high);
     uncovered = All-from_members (λ f. ¬ Covers f (s.0, off)) footprints (λ f m c. none f (member-runs_in s.0 footprints f m c.0) c);
   }
 
-  uncovered_at : (s : ℕ × ℕ) (off : ℕ) → IsFree segments footprints (s.0, off) → (f : Run) → Member f (runs_in s.0 footprints) → ¬ Covers f (s.0, off)
+  uncovered_at : (s : ℕ × ℕ) (off : ℕ) → IsFreeByte segments footprints (s.0, off) → (f : Run) → Member f (runs_in s.0 footprints) → ¬ Covers f (s.0, off)
   uncovered_at s off free f m = All-at_member (λ g. ¬ Covers g (s.0, off)) footprints f free.uncovered (runs_in-member s.0 footprints f m).0
 
   -- each run of a segment lies in its usable part
@@ -83,20 +83,20 @@ module _ (segments : List (ℕ × ℕ)) (footprints : List Run) (lawful : AreLaw
     covers_none : (off : ℕ) → g.from ≤ off → off < g.to → (f : Run) → Member f (runs_in s.0 footprints) → ¬ Covers f (s.0, off)
     covers_none off from before f m c = ⊎_elim (λ u. absurd (omega (arith, u, from, c.2))) (λ u. absurd (omega (arith, u, before, c.1))) (b.clear f m)
 
-    free_bytes : (off : ℕ) → g.from ≤ off → off < g.to → IsFree segments footprints (s.0, off)
+    free_bytes : (off : ℕ) → g.from ≤ off → off < g.to → IsFreeByte segments footprints (s.0, off)
     free_bytes off from before =
         let low : 16 ≤ g.from = b.within.low in
         let high : g.to ≤ s.1 - 16 = b.within.high in
         IsFree-from_runs s off ms (omega (arith, low, from)) (omega (arith, high, before)) (covers_none off from before)
 
-    not_before : StartsBehind 16 (runs_in s.0 footprints) g → ¬ IsFree segments footprints (s.0, g.from - 1)
+    not_before : StartsBehind 16 (runs_in s.0 footprints) g → ¬ IsFreeByte segments footprints (s.0, g.from - 1)
     not_before (inl e) free = let here = usable_here s (g.from - 1) ms free in absurd (omega (arith, e, here.1))
     not_before (inr (f, m, meets)) free =
         let some : f.from < f.to = some_of_runs s f m in
         let same : f.seg ≡ s.0 = (runs_in-member s.0 footprints f m).1 in
         uncovered_at s (g.from - 1) free f m (same, omega (arith, some, meets), omega (arith, some, meets))
 
-    not_behind : EndsAt (s.1 - 16) (runs_in s.0 footprints) g → ¬ IsFree segments footprints (s.0, g.to)
+    not_behind : EndsAt (s.1 - 16) (runs_in s.0 footprints) g → ¬ IsFreeByte segments footprints (s.0, g.to)
     not_behind (inl e) free =
         let some : g.from < g.to = b.within.some in
         let here = usable_here s g.to ms free in
@@ -106,18 +106,18 @@ module _ (segments : List (ℕ × ℕ)) (footprints : List Run) (lawful : AreLaw
         let same : f.seg ≡ s.0 = (runs_in-member s.0 footprints f m).1 in
         uncovered_at s g.to free f m (same, omega (arith, meets), omega (arith, some, meets))
 
-    IsGap-from_Between : IsGap segments footprints g
+    IsGap-from_Between : IsWholeGap segments footprints g
     IsGap-from_Between = record {
       some = b.within.some;
-      free = λ off from before. subst (λ n. IsFree segments footprints (n, off)) (sym b.seg_is) (free_bytes off from before);
-      before = λ free. not_before b.starts (subst (λ n. IsFree segments footprints (n, g.from - 1)) b.seg_is free);
-      behind = λ free. not_behind b.ends (subst (λ n. IsFree segments footprints (n, g.to)) b.seg_is free);
+      free = λ off from before. subst (λ n. IsFreeByte segments footprints (n, off)) (sym b.seg_is) (free_bytes off from before);
+      before = λ free. not_before b.starts (subst (λ n. IsFreeByte segments footprints (n, g.from - 1)) b.seg_is free);
+      behind = λ free. not_behind b.ends (subst (λ n. IsFreeByte segments footprints (n, g.to)) b.seg_is free);
     }
 
   -- a gap lies between the runs of its segment
-  module _ (g : Run) (gap : IsGap segments footprints g) (s : ℕ × ℕ) (ms : Member s segments) (same : g.seg ≡ s.0) where
-    free_in : (off : ℕ) → g.from ≤ off → off < g.to → IsFree segments footprints (s.0, off)
-    free_in off from before = subst (λ n. IsFree segments footprints (n, off)) same (gap.free off from before)
+  module _ (g : Run) (gap : IsWholeGap segments footprints g) (s : ℕ × ℕ) (ms : Member s segments) (same : g.seg ≡ s.0) where
+    free_in : (off : ℕ) → g.from ≤ off → off < g.to → IsFreeByte segments footprints (s.0, off)
+    free_in off from before = subst (λ n. IsFreeByte segments footprints (n, off)) same (gap.free off from before)
 
     within_gap : Within 16 (s.1 - 16) g
     within_gap =
@@ -159,7 +159,7 @@ module _ (segments : List (ℕ × ℕ)) (footprints : List Run) (lawful : AreLaw
         let some : g.from < g.to = gap.some in
         let high : g.to ≤ s.1 - 16 = within_gap.high in
         let low : 16 ≤ g.from = within_gap.low in
-        let not_free : ¬ IsFree segments footprints (s.0, g.from - 1) = λ free. gap.before (subst (λ n. IsFree segments footprints (n, g.from - 1)) (sym same) free) in
+        let not_free : ¬ IsFreeByte segments footprints (s.0, g.from - 1) = λ free. gap.before (subst (λ n. IsFreeByte segments footprints (n, g.from - 1)) (sym same) free) in
         ⊎_elim
         (λ more. ⊎_elim
         (λ found. inr (found.0, found.1, starts_by found.0 found.1 found.2 more))
@@ -180,7 +180,7 @@ module _ (segments : List (ℕ × ℕ)) (footprints : List Run) (lawful : AreLaw
         let some : g.from < g.to = gap.some in
         let high : g.to ≤ s.1 - 16 = within_gap.high in
         let low : 16 ≤ g.from = within_gap.low in
-        let not_free : ¬ IsFree segments footprints (s.0, g.to) = λ free. gap.behind (subst (λ n. IsFree segments footprints (n, g.to)) (sym same) free) in
+        let not_free : ¬ IsFreeByte segments footprints (s.0, g.to) = λ free. gap.behind (subst (λ n. IsFreeByte segments footprints (n, g.to)) (sym same) free) in
         ⊎_elim
         (λ less. ⊎_elim
         (λ found. inr (found.0, found.1, ends_by found.0 found.1 found.2))
@@ -192,12 +192,12 @@ module _ (segments : List (ℕ × ℕ)) (footprints : List Run) (lawful : AreLaw
     Between-from_IsGap : Between s.0 16 (s.1 - 16) (runs_in s.0 footprints) g
     Between-from_IsGap = record { seg_is = same; within = within_gap; clear = clear_gap; starts = starts_gap; ends = ends_gap }
 
-  pub IsGap-from_gaps : (g : Run) → Contains (gaps segments footprints) g → IsGap segments footprints g
+  pub IsGap-from_gaps : (g : Run) → Contains (gaps segments footprints) g → IsWholeGap segments footprints g
   IsGap-from_gaps g found =
       let at = Member-flat_map (gaps_in footprints) segments g (Member-from_Contains (gaps segments footprints) g found) in
       IsGap-from_Between at.0 at.1 g (Between-from_sweep at.0.0 16 (at.0.1 - 16) (runs_in at.0.0 footprints) g (runs_fit at.0 at.1) at.2)
 
-  pub gaps-from_IsGap : (g : Run) → IsGap segments footprints g → Contains (gaps segments footprints) g
+  pub gaps-from_IsGap : (g : Run) → IsWholeGap segments footprints g → Contains (gaps segments footprints) g
   gaps-from_IsGap g gap =
       let first = gap.free g.from (omega arith) gap.some in
       let at = Some_of-from_Any (UsableIn (g.seg, g.from)) segments first.usable in

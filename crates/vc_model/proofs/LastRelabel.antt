@@ -3,7 +3,7 @@ use Rattle.std.proofs.Common.{◌≡◌, ℕ, ◌+◌, Bool, true, false, cond, 
 use Rattle.std.specs.List.{last_or}
 use Rattle.vc_model.specs.Best.{without_block_at, zeros}
 use Rattle.vc_model.specs.Discipline.{Terms}
-use Rattle.vc_model.specs.Last.{can_end, if_latest, last_alloc, last_free, last_need, last_place, last_resize, latest, newest, next_offset, place_behind, put_behind, put_in_newest, put_latest, put_or_lend, resize_latest}
+use Rattle.vc_model.specs.Last.{can_end, if_latest, last_alloc, last_free, last_need, last_place, last_resize, latest, newest, next_offset, place_behind_latest, put_behind_latest, put_in_newest, put_latest, put_or_lend, resize_latest}
 use Rattle.vc_model.specs.Layout.{Block, Layout, is_at, relabel_block, relabel_layout, with_grant}
 use Rattle.vc_model.specs.Outcome.{Outcome, Done, Refused, Fixed, NotLast}
 use Rattle.vc_model.specs.Resize.{outcome_of_move, stays}
@@ -32,7 +32,7 @@ module _ {L M : Type 0} (f : L → M) where
   next_offset-relabel : (number : ℕ) (bs : List (Block L)) → next_offset number (map (relabel_block f) bs) ≡ next_offset number bs
   next_offset-relabel number bs = ap (fold max 32) (ends-relabel number bs)
 
-  place_behind-relabel : (bs : List (Block L)) (size : ℕ) (s : Option (ℕ × ℕ)) → place_behind (map (relabel_block f) bs) size s ≡ place_behind bs size s
+  place_behind-relabel : (bs : List (Block L)) (size : ℕ) (s : Option (ℕ × ℕ)) → place_behind_latest (map (relabel_block f) bs) size s ≡ place_behind_latest bs size s
   place_behind-relabel bs size None = refl
   place_behind-relabel bs size (Some s) = rw (next_offset-relabel s.0 bs) refl
 
@@ -44,7 +44,7 @@ module _ {L M : Type 0} (f : L → M) where
       behind [] = refl
       behind (b ∷ bs) = ap (λ cs. relabel_block f b ∷ cs) (behind bs)
 
-  put_behind-relabel : (r : Layout L) (label : L) (size : ℕ) (granted : Option Grant) (at : Option (ℕ × ℕ)) → put_behind (relabel_layout f r) (f label) size granted at ≡ relabel_outcome f (put_behind r label size granted at)
+  put_behind-relabel : (r : Layout L) (label : L) (size : ℕ) (granted : Option Grant) (at : Option (ℕ × ℕ)) → put_behind_latest (relabel_layout f r) (f label) size granted at ≡ relabel_outcome f (put_behind_latest r label size granted at)
   put_behind-relabel r label size granted None = refl
   put_behind-relabel r label size granted (Some at) = put_latest-relabel r label size granted at
 
@@ -53,7 +53,7 @@ module _ {L M : Type 0} (f : L → M) where
 
   put_in_newest-relabel : (r : Layout L) (label : L) (size : ℕ) (asked : Asked) → put_in_newest (relabel_layout f r) (f label) size asked ≡ relabel_outcome f (put_in_newest r label size asked)
   put_in_newest-relabel r label size (Granted g) =
-      ap (put_behind (with_grant (relabel_layout f r) g) (f label) size (Some g)) (last_place-relabel (with_grant r g) size)
+      ap (put_behind_latest (with_grant (relabel_layout f r) g) (f label) size (Some g)) (last_place-relabel (with_grant r g) size)
       ∙ put_behind-relabel (with_grant r g) label size (Some g) (last_place (with_grant r g) size)
   put_in_newest-relabel r label size TooMany = refl
   put_in_newest-relabel r label size NotLent = refl

@@ -28,27 +28,27 @@ abbrev pub has_end : ℕ → ℕ → ℕ → Bool
 has_end span off bytes = nat_le (off + span) bytes
 
 -- the place in a segment, where the block fits behind those there
-abbrev pub place_behind : {L : Type 0} → List (Block L) → ℕ → Option (ℕ × ℕ) → Option (ℕ × ℕ)
-place_behind blocks size None = None
-place_behind blocks size (Some s) =
+abbrev pub place_behind_latest : {L : Type 0} → List (Block L) → ℕ → Option (ℕ × ℕ) → Option (ℕ × ℕ)
+place_behind_latest blocks size None = None
+place_behind_latest blocks size (Some s) =
     if has_end (span size) (next_offset s.0 blocks) s.1 then Some (s.0, next_offset s.0 blocks) else None
 
 -- the place for a block in the newest segment
 abbrev pub last_place : {L : Type 0} → Layout L → ℕ → Option (ℕ × ℕ)
-last_place r size = place_behind r.blocks size (newest r)
+last_place r size = place_behind_latest r.blocks size (newest r)
 
 -- the block is put there, as the latest
 abbrev pub put_latest : {L : Type 0} → Layout L → L → ℕ → Option Grant → ℕ × ℕ → Outcome (Put (Layout L))
 put_latest r label size granted at =
     Done (record { at = at; region = record { segments = r.segments; blocks = r.blocks ++ zeros label size at ∷ [] }; granted = granted })
 
-abbrev pub put_behind : {L : Type 0} → Layout L → L → ℕ → Option Grant → Option (ℕ × ℕ) → Outcome (Put (Layout L))
-put_behind r label size granted None = Refused NoSegment
-put_behind r label size granted (Some at) = put_latest r label size granted at
+abbrev pub put_behind_latest : {L : Type 0} → Layout L → L → ℕ → Option Grant → Option (ℕ × ℕ) → Outcome (Put (Layout L))
+put_behind_latest r label size granted None = Refused NoSegment
+put_behind_latest r label size granted (Some at) = put_latest r label size granted at
 
 -- with what is granted the same rule holds
 abbrev pub put_in_newest : {L : Type 0} → Layout L → L → ℕ → Asked → Outcome (Put (Layout L))
-put_in_newest r label size (Granted g) = put_behind (with_grant r g) label size (Some g) (last_place (with_grant r g) size)
+put_in_newest r label size (Granted g) = put_behind_latest (with_grant r g) label size (Some g) (last_place (with_grant r g) size)
 put_in_newest r label size TooMany = Refused TooManySegments
 put_in_newest r label size NotLent = Refused NoSegment
 

@@ -26,14 +26,14 @@ three_freed =
     without_block_at (without_block_at (without_block_at four (1, 32)) (1, 96)) (1, 64)
 
 -- of blocks of 100, 1, 100 and 1 bytes, side by side, the first is freed and then the third
-abbrev pub two_freed : Layout ℕ
-two_freed =
+abbrev pub two_gaps : Layout ℕ
+two_gaps =
     let four = over_one_segment (zeros 1 100 (1, 32) ∷ zeros 2 1 (1, 160) ∷ zeros 3 100 (1, 192) ∷ zeros 4 1 (1, 320) ∷ []) in
     without_block_at (without_block_at four (1, 32)) (1, 192)
 
 -- and a block of 100 bytes is put where the first stood
 abbrev pub one_put : Layout ℕ
-one_put = over_one_segment (with_block (zeros 5 100 (1, 32)) two_freed.blocks)
+one_put = over_one_segment (with_block (zeros 5 100 (1, 32)) two_gaps.blocks)
 
 -- of blocks of 100, 100 and 1 bytes, side by side, the second is freed
 abbrev pub second_freed : Layout ℕ

@@ -6,7 +6,7 @@ ghost use Rattle.vc_model.specs.Best.{best_alloc, place_in};
 ghost use Rattle.vc_model.specs.Outcome.{Done, Fixed, NoSegment, Refused};
 ghost use Rattle.vc_model.specs.Resize.{best_resize, fitted_bytes};
 ghost use Rattle.vc_model.specs.Segments.{new_segment};
-ghost use Rattle.vc_model.specs.Rows.{asked_place, first_moved, first_resized, one_put, rounds_to, second_freed, three_freed, two_freed};
+ghost use Rattle.vc_model.specs.Rows.{asked_place, first_moved, first_resized, one_put, rounds_to, second_freed, three_freed, two_gaps};
 
 /// Two gaps of 128 bytes tie, and the one at the lower offset is taken; then the other.
 pub fn tie()
@@ -57,7 +57,7 @@ pub fn merging_by_free()
 /// Two blocks of 100 bytes are freed, and their gaps tie: the next block of 100 goes to the lower offset, and the one
 /// after it to the other.
 pub fn tie_by_free()
-    ensures first { best_alloc (rounds_to 32) two_freed 5 100 32 false
+    ensures first { best_alloc (rounds_to 32) two_gaps 5 100 32 false
         ≡ Done (record { at = (1, 32); region = one_put; granted = None }) }
     ensures second { place_in one_put 100 32 ≡ Some (1, 192) }
 {}

@@ -24,7 +24,7 @@ use Rattle.vc_objects.specs.declared.fate.Fate.TheVariants.{Stored, NoTable, NoH
 use Rattle.vc_objects.specs.declared.fate.Want.{Want}
 use Rattle.vc_objects.specs.declared.fate.Want.TheVariants.{TooManySegments, NoSegment}
 use Rattle.vc_objects.specs.Insert.{Grown, alloc_unlabelled, grow, grown_to, grown_with, insert_of, held_in, insert, slots_wanted, want_of, with_object, without_table}
-use Rattle.vc_objects.specs.Leaves.{Asked, GivesInserted, HasGrown, HasHeld, LacksHolder, LacksTable, LeavesRest, RefusedBy, lacks_segment, want_by}
+use Rattle.vc_objects.specs.Leaves.{AskedForObject, GivesInserted, HasGrown, HasHeld, LacksHolder, LacksTable, LeavesRest, RefusedBy, lacks_segment, want_by}
 use Rattle.vc_objects.specs.Objects.{Dictionary, Table, holder_size, option_list, own_blocks}
 use Rattle.vc_objects.specs.Parts.{dictionary_in}
 use Rattle.vc_objects.proofs.Leaving.{leaves-trans}
@@ -143,17 +143,17 @@ asked-spent P old new code.WrongMethod e h = h
 
 -- of an object's table and of its holder
 pub asked-no_table : (wanted : Option ℕ) (bytes : List ℕ) (old new : Discipline) (fault : RegionFault) (want : Want) → want_by fault ≡ Some want
-    → RefusedBy fault (LacksTable wanted old new) old new → Asked {E = OutOfMemory} (Ok (NoTable want)) wanted bytes old new
+    → RefusedBy fault (LacksTable wanted old new) old new → AskedForObject {E = OutOfMemory} (Ok (NoTable want)) wanted bytes old new
 asked-no_table wanted bytes old new fault want e h = by fault e h
   where
-    by : (fault : RegionFault) → want_by fault ≡ Some want → RefusedBy fault (LacksTable wanted old new) old new → Asked {E = OutOfMemory} (Ok (NoTable want)) wanted bytes old new
-    by code.TooManySegments e h = subst (λ w. Asked {E = OutOfMemory} (Ok (NoTable w)) wanted bytes old new) (same_Some TooManySegments want e) h
-    by code.NoSegment e h = subst (λ w. Asked {E = OutOfMemory} (Ok (NoTable w)) wanted bytes old new) (same_Some NoSegment want e) h
+    by : (fault : RegionFault) → want_by fault ≡ Some want → RefusedBy fault (LacksTable wanted old new) old new → AskedForObject {E = OutOfMemory} (Ok (NoTable want)) wanted bytes old new
+    by code.TooManySegments e h = subst (λ w. AskedForObject {E = OutOfMemory} (Ok (NoTable w)) wanted bytes old new) (same_Some TooManySegments want e) h
+    by code.NoSegment e h = subst (λ w. AskedForObject {E = OutOfMemory} (Ok (NoTable w)) wanted bytes old new) (same_Some NoSegment want e) h
     by code.OutOfMemory e h = absurd (none-some want e)
-    by code.Fixed e h = subst (λ w. Asked {E = OutOfMemory} (Ok (NoTable w)) wanted bytes old new) (same_Some TooManySegments want e) h
-    by code.PoolSize e h = subst (λ w. Asked {E = OutOfMemory} (Ok (NoTable w)) wanted bytes old new) (same_Some TooManySegments want e) h
-    by code.NotLast e h = subst (λ w. Asked {E = OutOfMemory} (Ok (NoTable w)) wanted bytes old new) (same_Some TooManySegments want e) h
-    by code.WrongMethod e h = subst (λ w. Asked {E = OutOfMemory} (Ok (NoTable w)) wanted bytes old new) (same_Some TooManySegments want e) h
+    by code.Fixed e h = subst (λ w. AskedForObject {E = OutOfMemory} (Ok (NoTable w)) wanted bytes old new) (same_Some TooManySegments want e) h
+    by code.PoolSize e h = subst (λ w. AskedForObject {E = OutOfMemory} (Ok (NoTable w)) wanted bytes old new) (same_Some TooManySegments want e) h
+    by code.NotLast e h = subst (λ w. AskedForObject {E = OutOfMemory} (Ok (NoTable w)) wanted bytes old new) (same_Some TooManySegments want e) h
+    by code.WrongMethod e h = subst (λ w. AskedForObject {E = OutOfMemory} (Ok (NoTable w)) wanted bytes old new) (same_Some TooManySegments want e) h
 
 lacks-behind : (wanted : Option ℕ) (bytes : List ℕ) (old mid new : Discipline) → (wanted ≡ None → mid ≡ old) → mid.terms ≡ old.terms → mid.faults ≡ old.faults → LacksHolder None bytes mid new → LacksHolder wanted bytes old new
 lacks-behind None bytes old mid new same terms faults h = subst (λ d. LacksHolder None bytes d new) (same refl) h
@@ -161,17 +161,17 @@ lacks-behind (Some slots) bytes old mid new same terms faults h =
     record { between = mid; terms = terms; grown = faults; unserved = subst (λ t. Unserved mid new (best_need t (holder_size bytes) 32)) terms h }
 
 pub asked-no_holder : (wanted : Option ℕ) (bytes : List ℕ) (old mid new : Discipline) (fault : RegionFault) (want : Want) → want_by fault ≡ Some want → (wanted ≡ None → mid ≡ old) → mid.terms ≡ old.terms → mid.faults ≡ old.faults
-    → RefusedBy fault (LacksHolder None bytes mid new) mid new → Asked {E = OutOfMemory} (Ok (NoHolder want)) wanted bytes old new
+    → RefusedBy fault (LacksHolder None bytes mid new) mid new → AskedForObject {E = OutOfMemory} (Ok (NoHolder want)) wanted bytes old new
 asked-no_holder wanted bytes old mid new fault want e same terms faults h = by fault e h
   where
-    by : (fault : RegionFault) → want_by fault ≡ Some want → RefusedBy fault (LacksHolder None bytes mid new) mid new → Asked {E = OutOfMemory} (Ok (NoHolder want)) wanted bytes old new
-    by code.TooManySegments e h = subst (λ w. Asked {E = OutOfMemory} (Ok (NoHolder w)) wanted bytes old new) (same_Some TooManySegments want e) (h ∙ faults)
-    by code.NoSegment e h = subst (λ w. Asked {E = OutOfMemory} (Ok (NoHolder w)) wanted bytes old new) (same_Some NoSegment want e) (lacks-behind wanted bytes old mid new same terms faults h)
+    by : (fault : RegionFault) → want_by fault ≡ Some want → RefusedBy fault (LacksHolder None bytes mid new) mid new → AskedForObject {E = OutOfMemory} (Ok (NoHolder want)) wanted bytes old new
+    by code.TooManySegments e h = subst (λ w. AskedForObject {E = OutOfMemory} (Ok (NoHolder w)) wanted bytes old new) (same_Some TooManySegments want e) (h ∙ faults)
+    by code.NoSegment e h = subst (λ w. AskedForObject {E = OutOfMemory} (Ok (NoHolder w)) wanted bytes old new) (same_Some NoSegment want e) (lacks-behind wanted bytes old mid new same terms faults h)
     by code.OutOfMemory e h = absurd (none-some want e)
-    by code.Fixed e h = subst (λ w. Asked {E = OutOfMemory} (Ok (NoHolder w)) wanted bytes old new) (same_Some TooManySegments want e) (h ∙ faults)
-    by code.PoolSize e h = subst (λ w. Asked {E = OutOfMemory} (Ok (NoHolder w)) wanted bytes old new) (same_Some TooManySegments want e) (h ∙ faults)
-    by code.NotLast e h = subst (λ w. Asked {E = OutOfMemory} (Ok (NoHolder w)) wanted bytes old new) (same_Some TooManySegments want e) (h ∙ faults)
-    by code.WrongMethod e h = subst (λ w. Asked {E = OutOfMemory} (Ok (NoHolder w)) wanted bytes old new) (same_Some TooManySegments want e) (h ∙ faults)
+    by code.Fixed e h = subst (λ w. AskedForObject {E = OutOfMemory} (Ok (NoHolder w)) wanted bytes old new) (same_Some TooManySegments want e) (h ∙ faults)
+    by code.PoolSize e h = subst (λ w. AskedForObject {E = OutOfMemory} (Ok (NoHolder w)) wanted bytes old new) (same_Some TooManySegments want e) (h ∙ faults)
+    by code.NotLast e h = subst (λ w. AskedForObject {E = OutOfMemory} (Ok (NoHolder w)) wanted bytes old new) (same_Some TooManySegments want e) (h ∙ faults)
+    by code.WrongMethod e h = subst (λ w. AskedForObject {E = OutOfMemory} (Ok (NoHolder w)) wanted bytes old new) (same_Some TooManySegments want e) (h ∙ faults)
 
 abbrev tables : Dictionary → List ℕ
 tables g = map (λ (x : Table). x.at) (option_list g.table)

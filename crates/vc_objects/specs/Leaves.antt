@@ -122,10 +122,10 @@ AskedHolder (Ok done) bytes old new = new.faults ≡ old.faults
 AskedHolder (Err why) bytes old new = RefusedBy why (LacksHolder None bytes old new) old new
 
 -- and one that puts an object, by what becomes of it
-abbrev pub Asked : {E : Type 0} → Result Fate E → Option ℕ → List ℕ → Discipline → Discipline → Type 0
-Asked (Ok (NoTable NoSegment)) wanted bytes old new = LacksTable wanted old new
-Asked (Ok (NoHolder NoSegment)) wanted bytes old new = LacksHolder wanted bytes old new
-Asked answer wanted bytes old new = new.faults ≡ old.faults
+abbrev pub AskedForObject : {E : Type 0} → Result Fate E → Option ℕ → List ℕ → Discipline → Discipline → Type 0
+AskedForObject (Ok (NoTable NoSegment)) wanted bytes old new = LacksTable wanted old new
+AskedForObject (Ok (NoHolder NoSegment)) wanted bytes old new = LacksHolder wanted bytes old new
+AskedForObject answer wanted bytes old new = new.faults ≡ old.faults
 
 -- what taking an object out gives is this
 pub record GivesRemoved (c : Removed ℕ) (r : Layout ℕ) (d : Dictionary) (bytes : Option (List ℕ)) : Type 0 where

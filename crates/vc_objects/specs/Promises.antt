@@ -17,7 +17,7 @@ use Rattle.vc_best.specs.Parts.{disc_in, segments_in}
 use Rattle.vc_best.specs.declared.best.Best.{Best}
 use Rattle.vc_objects.specs.Insert.{Grown, Inserted, alloc_unlabelled, grow, grown_to, insert}
 use Rattle.vc_objects.specs.Insert.{open_dictionary, slots_wanted}
-use Rattle.vc_objects.specs.Leaves.{Asked, AskedHolder, AskedTable, GivesInserted, GivesRemoved}
+use Rattle.vc_objects.specs.Leaves.{AskedForObject, AskedHolder, AskedTable, GivesInserted, GivesRemoved}
 use Rattle.vc_objects.specs.Leaves.{GivesTurned, HasGrown, HasHeld, IsHalted, KeepsDisc, Leaves}
 use Rattle.vc_objects.specs.Leaves.{LeavesRest, no_holder, no_table, told_each, told_if}
 use Rattle.vc_objects.specs.Objects.{holder_size, own_blocks}
@@ -118,7 +118,7 @@ module _ {I : Type 0} {V : I → Type 0} (meaning : (x : I) × V x → Disciplin
     pub err : OnErr result (IsHalted (growth_in meaning before old false)
         (rest_in before) (dictionary_in old before) (rest_in after) (dictionary_in new after))
     pub leaves : LeavesRest meaning rules before old after new
-    pub asked : Asked result (slots_wanted (dictionary_in old before)) bytes
+    pub asked : AskedForObject result (slots_wanted (dictionary_in old before)) bytes
         (disc_in meaning before) (disc_in meaning after)
 
   -- a table of the slots that are wanted was brought, none where none is wanted, or it was refused

@@ -23,21 +23,21 @@ abbrev pub by_page : Terms
 by_page = record { round = 4096 }
 
 -- an object of one byte in the holder at an offset of segment 1, which is 32 times a number
-abbrev pub at_place : ℕ → ℕ → Object
-at_place n byte = record { at = 1048576 + n; bytes = byte ∷ [] }
+abbrev pub byte_at_place : ℕ → ℕ → Object
+byte_at_place n byte = record { at = 1048576 + n; bytes = byte ∷ [] }
 
 -- the objects b, a, B and c, of one byte each
 abbrev pub lower_b : Object
-lower_b = at_place 1 98
+lower_b = byte_at_place 1 98
 
 abbrev pub lower_a : Object
-lower_a = at_place 3 97
+lower_a = byte_at_place 3 97
 
 abbrev pub upper_b : Object
-upper_b = at_place 5 66
+upper_b = byte_at_place 5 66
 
 abbrev pub lower_c : Object
-lower_c = at_place 7 99
+lower_c = byte_at_place 7 99
 
 abbrev pub b_a_b : List Object
 b_a_b = lower_b ∷ lower_a ∷ upper_b ∷ []
@@ -48,12 +48,12 @@ with_upper append method current objects =
     linked_among address_of bytes_of append method by_fold current upper_b objects
 
 -- a best region of segment 1, with blocks
-abbrev pub segment_of : ℕ → List (Block ℕ) → Layout ℕ
-segment_of bytes blocks = record { segments = (1, bytes) ∷ []; blocks = blocks }
+abbrev pub segment_with : ℕ → List (Block ℕ) → Layout ℕ
+segment_with bytes blocks = record { segments = (1, bytes) ∷ []; blocks = blocks }
 
 -- with no block
 abbrev pub one_segment : Layout ℕ
-one_segment = segment_of 4096 []
+one_segment = segment_with 4096 []
 
 -- an unlabelled block of zeros at an offset of segment 1
 abbrev pub at_offset : ℕ → ℕ → Block ℕ
@@ -64,7 +64,7 @@ abbrev pub three_holders : List (Block ℕ)
 three_holders = at_offset 33 32 ∷ at_offset 33 96 ∷ at_offset 33 160 ∷ []
 
 abbrev pub held_region : Layout ℕ
-held_region = segment_of 4096 (three_holders ++ at_offset 128 224 ∷ [])
+held_region = segment_with 4096 (three_holders ++ at_offset 128 224 ∷ [])
 
 abbrev pub first_table : Table
 first_table = record { at = 1048583; slots = 16 }
@@ -89,8 +89,8 @@ abbrev pub full_bag : Dictionary
 full_bag = bag_of 32
 
 -- that table alone, in a segment of so many bytes
-abbrev pub table_in : ℕ → Layout ℕ
-table_in bytes = segment_of bytes (at_offset 128 224 ∷ [])
+abbrev pub table_alone : ℕ → Layout ℕ
+table_alone bytes = segment_with bytes (at_offset 128 224 ∷ [])
 
 -- so many segments of 64 bytes, from a number on
 abbrev pub small_segments : ℕ → ℕ → List (ℕ × ℕ)
@@ -106,8 +106,8 @@ abbrev pub offsets_in : Layout ℕ → List ℕ
 offsets_in r = map (λ b. b.off) r.blocks
 
 -- an object is put into a dictionary in a region
-abbrev pub put_in : Layout ℕ → Dictionary → List ℕ → Bool → Bool → Inserted ℕ
-put_in r d bytes no_table no_holder = insert by_fold by_page r 0 d false bytes no_table no_holder
+abbrev pub put_example : Layout ℕ → Dictionary → List ℕ → Bool → Bool → Inserted ℕ
+put_example r d bytes no_table no_holder = insert by_fold by_page r 0 d false bytes no_table no_holder
 
 -- that bag of three is turned to a method
 abbrev pub bag_turned : DictMethod → Outcome (Turned ℕ)
@@ -115,8 +115,8 @@ bag_turned method = turn by_fold by_page held_region 0 bag method false
 
 -- an object is put into the full bag in a segment of 4,096 bytes
 abbrev pub after_growth : Inserted ℕ
-after_growth = put_in (table_in 4096) full_bag (98 ∷ []) false false
+after_growth = put_example (table_alone 4096) full_bag (98 ∷ []) false false
 
 -- one of 320 bytes where there is room for the larger table alone, and no segment for the holder
 abbrev pub halted_insert : Inserted ℕ
-halted_insert = put_in (table_in 672) full_bag (replicate 320 98) false true
+halted_insert = put_example (table_alone 672) full_bag (replicate 320 98) false true

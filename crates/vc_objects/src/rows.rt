@@ -6,11 +6,11 @@ ghost use Rattle.vc_dtdisc.specs.Objects.{address_of, bytes_of, current_without,
 ghost use Rattle.vc_dtdisc.specs.Shapes.{rules_of};
 ghost use Rattle.vc_objects.specs.Insert.{open_dictionary, slots_wanted};
 ghost use Rattle.vc_objects.specs.Remove.{freed_all, region_without, remove, remove_unnamed};
-ghost use Rattle.vc_objects.specs.Rows.{after_growth, at_place, b_a_b, bag, bag_of, bag_turned};
+ghost use Rattle.vc_objects.specs.Rows.{after_growth, byte_at_place, b_a_b, bag, bag_of, bag_turned};
 ghost use Rattle.vc_objects.specs.Rows.{by_fold, by_page, first_table, full_bag, full_region};
 ghost use Rattle.vc_objects.specs.Rows.{halted_insert, held_region, lower_a, lower_b, lower_c, of_many};
-ghost use Rattle.vc_objects.specs.Rows.{of_three, offsets_in, one_segment, put_in, segment_of};
-ghost use Rattle.vc_objects.specs.Rows.{table_in, three_holders, upper_b, with_upper};
+ghost use Rattle.vc_objects.specs.Rows.{of_three, offsets_in, one_segment, put_example, segment_with};
+ghost use Rattle.vc_objects.specs.Rows.{table_alone, three_holders, upper_b, with_upper};
 ghost use Rattle.vc_objects.specs.Turn.{turn};
 
 use crate::{Fate, Want};
@@ -116,17 +116,17 @@ pub fn open_rows()
         (open_dictionary by_page one_segment 0 DictMethod.DtList false) ≡ Done None }
     ensures list_region { done_as (λ g. offsets_in g.region)
         (open_dictionary by_page one_segment 0 DictMethod.DtList false) ≡ Done [] }
-    ensures refused { open_dictionary by_page (segment_of 64 []) 0 DictMethod.DtBag true
+    ensures refused { open_dictionary by_page (segment_with 64 []) 0 DictMethod.DtBag true
         ≡ model.Refused model.NoSegment }
 {}
 
 /// An object stands in its holder and is current.
 pub fn stored_rows()
-    ensures fate { (put_in held_region bag (99 ∷ []) false false).fate ≡ Fate.Stored }
-    ensures objects { (put_in held_region bag (99 ∷ []) false false).dict.objects
-        ≡ lower_b ∷ lower_a ∷ upper_b ∷ at_place 12 99 ∷ [] }
-    ensures current { (put_in held_region bag (99 ∷ []) false false).dict.current ≡ Some 1048588 }
-    ensures holders { offsets_in (put_in held_region bag (99 ∷ []) false false).region
+    ensures fate { (put_example held_region bag (99 ∷ []) false false).fate ≡ Fate.Stored }
+    ensures objects { (put_example held_region bag (99 ∷ []) false false).dict.objects
+        ≡ lower_b ∷ lower_a ∷ upper_b ∷ byte_at_place 12 99 ∷ [] }
+    ensures current { (put_example held_region bag (99 ∷ []) false false).dict.current ≡ Some 1048588 }
+    ensures holders { offsets_in (put_example held_region bag (99 ∷ []) false false).region
         ≡ 32 ∷ 96 ∷ 160 ∷ 224 ∷ 384 ∷ [] }
 {}
 
@@ -147,13 +147,13 @@ pub fn halted_rows()
 
 /// With no room for the larger table nothing changes, and by 1,023 segments no more is asked for.
 pub fn no_table_rows()
-    ensures fate { (put_in (table_in 640) full_bag (98 ∷ []) true false).fate
+    ensures fate { (put_example (table_alone 640) full_bag (98 ∷ []) true false).fate
         ≡ Fate.NoTable Want.NoSegment }
-    ensures region { (put_in (table_in 640) full_bag (98 ∷ []) true false).region
-        ≡ table_in 640 }
-    ensures full { (put_in full_region full_bag (98 ∷ []) false false).fate
+    ensures region { (put_example (table_alone 640) full_bag (98 ∷ []) true false).region
+        ≡ table_alone 640 }
+    ensures full { (put_example full_region full_bag (98 ∷ []) false false).fate
         ≡ Fate.NoTable Want.TooManySegments }
-    ensures full_holder { (put_in full_region (bag_of 31) (98 ∷ []) false false).fate
+    ensures full_holder { (put_example full_region (bag_of 31) (98 ∷ []) false false).fate
         ≡ Fate.NoHolder Want.TooManySegments }
 {}
 
@@ -176,9 +176,9 @@ pub fn table_rows()
     ensures kept { done_as (λ t. t.dict.table) (bag_turned DictMethod.DtSet)
         ≡ Done (Some first_table) }
     ensures brought { done_as (λ t. t.dict.table) (turn by_fold by_page
-        (segment_of 4096 three_holders) 0 (of_three DictMethod.DtList None) DictMethod.DtBag false)
+        (segment_with 4096 three_holders) 0 (of_three DictMethod.DtList None) DictMethod.DtBag false)
         ≡ Done (Some first_table) }
-    ensures refused { turn by_fold by_page (segment_of 224 three_holders) 0
+    ensures refused { turn by_fold by_page (segment_with 224 three_holders) 0
         (of_three DictMethod.DtList None) DictMethod.DtBag true
         ≡ model.Refused model.NoSegment }
     ensures same { turn by_fold by_page held_region 0 bag DictMethod.DtBag true

@@ -12,7 +12,7 @@ use Rattle.vc_dtdisc.specs.Rules.{Rules}
 use Rattle.vc_dtdisc.specs.Finding.{first_of, last_of}
 use Rattle.vc_paths.specs.Layers.{AreLayers, Layered, bytes_there}
 use Rattle.vc_paths.specs.Links.{ArePaths, Links, below, path}
-use Rattle.vc_paths.specs.Ordered.{IsStanding, greater, is_before, is_behind, lesser, object_at}
+use Rattle.vc_paths.specs.Ordered.{IsStanding, greater, is_before, is_behind, lesser_seen, object_at}
 use Rattle.vc_paths.specs.Path.{Answers, IsAlike, IsPath, objects_of, place_of, seen_in, visible_of}
 use Rattle.vc_paths.specs.Shown.{IsOnPath, down}
 use Rattle.vc_paths.specs.Visible.{Seen, seen_bytes, stacked_objects}
@@ -97,7 +97,7 @@ least_start {all} {links} {d} {other} laws path' method =
     }
 
 pub least_next : {all : Layered} {links : Links} {d e : ℕ} {other : Option (Seen ℕ)} {best better : Option (ℕ × Addr)} {here next : Option ℕ} → AreLayers all → IsPath all links d → ArePaths links → here ≡ Some e → next ≡ below links e
-    → Least all links d other best here → IsStanding all e better → object_at all better ≡ lesser (all.layer e).rules (object_at all best) (first_of (filter (is_behind (all.layer e).rules other) (objects_of all e)))
+    → Least all links d other best here → IsStanding all e better → object_at all better ≡ lesser_seen (all.layer e).rules (object_at all best) (first_of (filter (is_behind (all.layer e).rules other) (objects_of all e)))
     → Least all links d other better next
 least_next {all} {links} {d} {e} {other} {best} {better} {here} {next} laws path' paths is on s stands object =
     let alike = on-head paths is s.on in
@@ -107,7 +107,7 @@ least_next {all} {links} {d} {e} {other} {best} {better} {here} {next} laws path
       on = on-next paths is on s.on;
       stands = stands_back better alike stands;
       same =
-          ap (λ z. least_of (all.layer d).rules z rest) (object ∙ ap (λ r. lesser r (object_at all best) (first_of (filter (is_behind r other) (objects_of all e)))) rules)
+          ap (λ z. least_of (all.layer d).rules z rest) (object ∙ ap (λ r. lesser_seen r (object_at all best) (first_of (filter (is_behind r other) (objects_of all e)))) rules)
           ∙ sym (ap (λ z. least_of (all.layer d).rules (object_at all best) (map (filter (is_behind (all.layer d).rules other)) (map (objects_of all) z))) (down-on paths is on))
           ∙ s.same;
     }

@@ -61,9 +61,9 @@ is_behind rules None y = true
 is_behind rules (Some x) y = is_greater rules y.bytes x.bytes
 
 -- the lesser of two; the first where they match
-abbrev pub lesser : Rules → Option (Seen ℕ) → Option (Seen ℕ) → Option (Seen ℕ)
-lesser rules best None = best
-lesser rules best (Some y) = if is_before rules best y then Some y else best
+abbrev pub lesser_seen : Rules → Option (Seen ℕ) → Option (Seen ℕ) → Option (Seen ℕ)
+lesser_seen rules best None = best
+lesser_seen rules best (Some y) = if is_before rules best y then Some y else best
 
 -- the greater of two; the first where they match
 abbrev pub greater : Rules → Option (Seen ℕ) → Option (Seen ℕ) → Option (Seen ℕ)

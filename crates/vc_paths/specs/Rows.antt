@@ -60,8 +60,8 @@ abbrev pub seen_at : DictMethod → Rules → List (List (List ℕ)) → List (�
 seen_at method rules layers = map place_of (objects_through method rules layers)
 
 -- where one stands
-abbrev pub place : Option (Seen ℕ) → Option (ℕ × ℕ)
-place o = option_map place_of o
+abbrev pub place_seen : Option (Seen ℕ) → Option (ℕ × ℕ)
+place_seen o = option_map place_of o
 
 -- objects, by their names
 abbrev pub x : List ℕ

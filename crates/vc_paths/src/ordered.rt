@@ -4,7 +4,7 @@ ghost use Rattle.std.specs.Option.{option_map};
 ghost use Rattle.vc_base.specs.Address.{number_of};
 ghost use Rattle.vc_base.specs.Methods.{is_ordered};
 ghost use Rattle.vc_dtdisc.specs.Finding.{before_first, behind_last, first_of, last_of};
-ghost use Rattle.vc_paths.specs.Ordered.{IsStanding, Stands, greater, if_level, is_before, is_behind, lesser, place_in_dict, object_at, object_there, start_before, start_behind};
+ghost use Rattle.vc_paths.specs.Ordered.{IsStanding, Stands, greater, if_level, is_before, is_behind, lesser_seen, place_in_dict, object_at, object_there, start_before, start_behind};
 ghost use Rattle.vc_paths.specs.Path.{Answers, IsPath, IsVisible, is_at, numbers_of, objects_of, visible_of};
 ghost use Rattle.vc_paths.specs.Visible.{Seen};
 
@@ -149,7 +149,7 @@ fn lesser_with<Y: Layers, L>(
     requires best { IsStanding (Y.layered layers.now) e best }
     requires other { IsStanding (Y.layered layers.now) e other }
     ensures object { object_at (Y.layered layers.now) result
-        ≡ lesser ((Y.layered layers.now).layer e).rules (object_at (Y.layered layers.now) best)
+        ≡ lesser_seen ((Y.layered layers.now).layer e).rules (object_at (Y.layered layers.now) best)
         (first_of (filter
         (is_behind ((Y.layered layers.now).layer e).rules (object_at (Y.layered layers.now) other))
         (objects_of (Y.layered layers.now) e))) }

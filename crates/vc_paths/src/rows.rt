@@ -5,7 +5,7 @@ ghost use Rattle.vc_paths.specs.Links.{are_too_long, is_too_long, is_viewed, lin
 ghost use Rattle.vc_paths.specs.Links.{no_links, path};
 ghost use Rattle.vc_paths.specs.Rows.{bags_of_kind, apple, by_whole, by_four, chain, fruit, is_named};
 ghost use Rattle.vc_paths.specs.Rows.{key1_low, key1_up, key2, other_kind, other_method, pear};
-ghost use Rattle.vc_paths.specs.Rows.{place, quince, seen_at, x, y, zebra};
+ghost use Rattle.vc_paths.specs.Rows.{place_seen, quince, seen_at, x, y, zebra};
 ghost use Rattle.vc_paths.specs.View.{view_fault};
 
 use crate::ViewFault;
@@ -71,10 +71,10 @@ pub fn order_rows()
     ensures bag { seen_at DictMethod.DtObag by_whole
         ((pear ∷ pear ∷ []) ∷ (apple ∷ pear ∷ zebra ∷ []) ∷ [])
         ≡ (1, 1) ∷ (0, 1) ∷ (0, 2) ∷ (1, 3) ∷ [] }
-    ensures first { place (first_of fruit) ≡ Some (1, 1) }
-    ensures last { place (last_of fruit) ≡ Some (1, 3) }
-    ensures behind { place (behind_last (is_named pear) fruit) ≡ Some (1, 3) }
-    ensures before { place (before_first (is_named pear) fruit) ≡ Some (1, 1) }
-    ensures none_behind { place (behind_last (is_named quince) fruit) ≡ None }
-    ensures none_before { place (before_first (is_named apple) fruit) ≡ None }
+    ensures first { place_seen (first_of fruit) ≡ Some (1, 1) }
+    ensures last { place_seen (last_of fruit) ≡ Some (1, 3) }
+    ensures behind { place_seen (behind_last (is_named pear) fruit) ≡ Some (1, 3) }
+    ensures before { place_seen (before_first (is_named pear) fruit) ≡ Some (1, 1) }
+    ensures none_behind { place_seen (behind_last (is_named quince) fruit) ≡ None }
+    ensures none_before { place_seen (before_first (is_named apple) fruit) ≡ None }
 {}

@@ -6,24 +6,24 @@ use Rattle.vc_pool_cells.specs.Cells.{Cells}
 use Rattle.vc_pool_cells.specs.Freed.{IsChain, link_at, times}
 use Rattle.vc_pool_cells.proofs.Chains.{KeepsWord}
 use Rattle.vc_pool_cells.proofs.Times.{none-times, same_pair-self, times-append}
-use Rattle.vc_pool.specs.Relink.{IsRun}
+use Rattle.vc_pool.specs.Relink.{IsLinkedRun}
 
 -- a run goes on by one cell
-pub run-push : (segs : List Cells) (a before : ℕ) (ps : List (ℕ × ℕ)) (last to : ℕ) → IsRun segs a before ps last to → 1 ≤ to → IsRun segs a before (ps ++ place_of to ∷ []) to (link_at segs to)
+pub run-push : (segs : List Cells) (a before : ℕ) (ps : List (ℕ × ℕ)) (last to : ℕ) → IsLinkedRun segs a before ps last to → 1 ≤ to → IsLinkedRun segs a before (ps ++ place_of to ∷ []) to (link_at segs to)
 run-push segs a before [] last to r some = let e : a ≡ to = r.1 in (omega (arith, some, e), ap place_of e, (e, ap (link_at segs) e))
 run-push segs a before (p ∷ ps) last to r some = (r.0, r.1, run-push segs (link_at segs a) a ps last to r.2 some)
 
 -- with the chain from its end on it is a chain
-pub run-chain : (segs : List Cells) (a before : ℕ) (ps qs : List (ℕ × ℕ)) (last to : ℕ) → IsRun segs a before ps last to → IsChain segs to qs → IsChain segs a (ps ++ qs)
+pub run-chain : (segs : List Cells) (a before : ℕ) (ps qs : List (ℕ × ℕ)) (last to : ℕ) → IsLinkedRun segs a before ps last to → IsChain segs to qs → IsChain segs a (ps ++ qs)
 run-chain segs a before [] qs last to r c = subst (λ k. IsChain segs k qs) (sym r.1) c
 run-chain segs a before (p ∷ ps) qs last to r c = (r.0, r.1, run-chain segs (link_at segs a) a ps qs last to r.2 c)
 
 -- its last cell is one of it
-pub run-some : (P : ℕ × ℕ → Type 0) (segs : List Cells) (a before : ℕ) (p : ℕ × ℕ) (ps : List (ℕ × ℕ)) (last to : ℕ) → IsRun segs a before (p ∷ ps) last to → All P (p ∷ ps) → P (place_of last)
+pub run-some : (P : ℕ × ℕ → Type 0) (segs : List Cells) (a before : ℕ) (p : ℕ × ℕ) (ps : List (ℕ × ℕ)) (last to : ℕ) → IsLinkedRun segs a before (p ∷ ps) last to → All P (p ∷ ps) → P (place_of last)
 run-some P segs a before p [] last to r h = let e : a ≡ last = r.2.0 in subst P (sym r.1 ∙ ap place_of e) (All-head P p [] h)
 run-some P segs a before p (q ∷ qs) last to r h = run-some P segs (link_at segs a) a q qs last to r.2 (All-tail P p (q ∷ qs) h)
 
-pub run-last : (segs : List Cells) (a before : ℕ) (p : ℕ × ℕ) (ps : List (ℕ × ℕ)) (last to : ℕ) → IsRun segs a before (p ∷ ps) last to → 1 ≤ last
+pub run-last : (segs : List Cells) (a before : ℕ) (p : ℕ × ℕ) (ps : List (ℕ × ℕ)) (last to : ℕ) → IsLinkedRun segs a before (p ∷ ps) last to → 1 ≤ last
 run-last segs a before p [] last to r = let e : a ≡ last = r.2.0 in let some = r.0 in omega (arith, e, some)
 run-last segs a before p (q ∷ qs) last to r = run-last segs (link_at segs a) a q qs last to r.2
 
@@ -34,14 +34,14 @@ heads-other p ps once =
     none-times p ps (omega (arith, own))
 
 -- the link of its last cell changes
-pub run-relinked : (o s : List Cells) (a before : ℕ) (p : ℕ × ℕ) (ps : List (ℕ × ℕ)) (last to next : ℕ) → IsRun o a before (p ∷ ps) last to → ((q : ℕ × ℕ) → times q (p ∷ ps) ≤ 1) → All (λ q. place_of last ≢ q → KeepsWord o s q) (p ∷ ps) → link_at s last ≡ next → IsRun s a before (p ∷ ps) last next
+pub run-relinked : (o s : List Cells) (a before : ℕ) (p : ℕ × ℕ) (ps : List (ℕ × ℕ)) (last to next : ℕ) → IsLinkedRun o a before (p ∷ ps) last to → ((q : ℕ × ℕ) → times q (p ∷ ps) ≤ 1) → All (λ q. place_of last ≢ q → KeepsWord o s q) (p ∷ ps) → link_at s last ≡ next → IsLinkedRun s a before (p ∷ ps) last next
 run-relinked o s a before p [] last to next r once keeps link = let e : a ≡ last = r.2.0 in (r.0, r.1, (e, ap (link_at s) e ∙ link))
 run-relinked o s a before p (q ∷ qs) last to next r once keeps link =
     let P : ℕ × ℕ → Type 0 = λ x. place_of last ≢ x → KeepsWord o s x in
     let other : p ≢ place_of last = run-some (λ x. p ≢ x) o (link_at o a) a q qs last to r.2 (heads-other p (q ∷ qs) once) in
     let word : link_at s a ≡ link_at o a = subst (KeepsWord o s) (sym r.1) (All-head P p (q ∷ qs) keeps (λ e. other (sym e))) in
     let rest = run-relinked o s (link_at o a) a q qs last to next r.2 (λ x. let all = once x in omega (arith, all)) (All-tail P p (q ∷ qs) keeps) link in
-    (r.0, r.1, subst (λ k. IsRun s k a (q ∷ qs) last next) (sym word) rest)
+    (r.0, r.1, subst (λ k. IsLinkedRun s k a (q ∷ qs) last next) (sym word) rest)
 
 -- what is true of each of some is so of each without one of them, and of those in front and behind
 pub All-less : (P : ℕ × ℕ → Type 0) (ks : List (ℕ × ℕ)) (p : ℕ × ℕ) (rs : List (ℕ × ℕ)) → All P (ks ++ p ∷ rs) → All P (ks ++ rs)

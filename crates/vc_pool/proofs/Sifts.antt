@@ -13,7 +13,7 @@ use Rattle.vc_pool_cells.proofs.Chains.{chain-same}
 use Rattle.vc_pool_cells.proofs.Pools.{pool-freed, pool-of}
 use Rattle.vc_pool_cells.proofs.Stands.{number-legal}
 use Rattle.vc_pool_cells.proofs.Times.{times-append}
-use Rattle.vc_pool.specs.Relink.{HasSplit, IsLinked, IsRun, IsSifted, IsSplit, KeepsAll}
+use Rattle.vc_pool.specs.Relink.{HasSplit, IsLinked, IsLinkedRun, IsSifted, IsSplit, KeepsAll}
 use Rattle.vc_pool.proofs.Relinks.{free-listed, linked-cells, linked-free, linked-front, linked-keeps, linked-link, linked-word}
 use Rattle.vc_pool.proofs.Runs.{All-behind, All-front, All-less, front-others, run-chain, run-last, run-push, run-relinked, run-some}
 
@@ -109,7 +109,7 @@ module _ (element : ℕ) (segs : List Cells) (freed last at : ℕ) where
       let place : place_of at ≡ p = h.chain.1 in
       record {
         pool = subst (IsPoolOf element segs freed) (sym (append_assoc kept (p ∷ []) rest)) h.pool;
-        run = subst (λ m. IsRun segs freed 0 (kept ++ p ∷ []) at m) (sym is) (subst (λ (q : ℕ × ℕ). IsRun segs freed 0 (kept ++ q ∷ []) at (link_at segs at)) place (run-push segs freed 0 kept last at h.run some));
+        run = subst (λ m. IsLinkedRun segs freed 0 (kept ++ p ∷ []) at m) (sym is) (subst (λ (q : ℕ × ℕ). IsLinkedRun segs freed 0 (kept ++ q ∷ []) at (link_at segs at)) place (run-push segs freed 0 kept last at h.run some));
         chain = subst (λ m. IsChain segs m rest) (sym is) h.chain.2;
       }
 
@@ -141,7 +141,7 @@ module _ (element : ℕ) (segs : List Cells) (freed last at : ℕ) where
         let front = All-front P kept rest less in
         let back = All-behind P kept rest less in
         let word = linked-word element last l.i l.index next segs s h.pool.cells some f l.there made in
-        let run : IsRun new' freed 0 kept last next =
+        let run : IsLinkedRun new' freed 0 kept last next =
         run-relinked segs new' freed 0 k ks last at next h.run (once-front kept rest once) (λ j d lt. word (get_or kept j d) (front j d lt))
         (linked-link element last l.i l.index next segs s h.pool.cells some f l.there made small) in
         let chain : IsChain new' next rest =

@@ -8,14 +8,14 @@ use Rattle.vc_pool_cells.specs.Kept.{IsPoolOf}
 use Rattle.vc_pool_cells.specs.Place.{IsCellAt}
 
 -- the cells at these places are linked, from one address on to another; `before` is the address before the first of them, and `last` that of the last, or `before` where there is none
-abbrev pub IsRun : List Cells → ℕ → ℕ → List (ℕ × ℕ) → ℕ → ℕ → Type 0
-IsRun segs a before [] last to = (before ≡ last) × (a ≡ to)
-IsRun segs a before (p ∷ ps) last to = (1 ≤ a) × (place_of a ≡ p) × IsRun segs (link_at segs a) a ps last to
+abbrev pub IsLinkedRun : List Cells → ℕ → ℕ → List (ℕ × ℕ) → ℕ → ℕ → Type 0
+IsLinkedRun segs a before [] last to = (before ≡ last) × (a ≡ to)
+IsLinkedRun segs a before (p ∷ ps) last to = (1 ≤ a) × (place_of a ≡ p) × IsLinkedRun segs (link_at segs a) a ps last to
 
 -- the chain of freed cells, up to the last of those that stay and from an address on
 pub record IsSplit (element : ℕ) (segs : List Cells) (freed last at : ℕ) (kept rest : List (ℕ × ℕ)) : Type 0 where
   pub pool : IsPoolOf element segs freed (kept ++ rest)
-  pub run : IsRun segs freed 0 kept last at
+  pub run : IsLinkedRun segs freed 0 kept last at
   pub chain : IsChain segs at rest
 
 abbrev pub HasSplit : ℕ → List Cells → ℕ → ℕ → ℕ → Type 0

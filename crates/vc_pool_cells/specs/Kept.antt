@@ -23,13 +23,13 @@ abbrev pub IsFull : Cells → Type 0
 IsFull s = s.carved ≡ length s.pairs
 
 -- a segment has no uncarved cell where one of these behind it has a carved one
-abbrev pub IsBefore : List Cells → Cells → Type 0
-IsBefore behind s = All (λ t. 1 ≤ t.carved → IsFull s) behind
+abbrev pub IsFullBefore : List Cells → Cells → Type 0
+IsFullBefore behind s = All (λ t. 1 ≤ t.carved → IsFull s) behind
 
 -- the segments with a carved cell stand first, each of them full but the last
 abbrev pub IsFront : List Cells → Type 0
 IsFront [] = Unit {0}
-IsFront (s ∷ ss) = IsBefore ss s × IsFront ss
+IsFront (s ∷ ss) = IsFullBefore ss s × IsFront ss
 
 -- segments with numbers of their own and with cells for an element size, 0 where there is none, and no segment then
 pub record AreCellular (element : ℕ) (segs : List Cells) : Type 0 where

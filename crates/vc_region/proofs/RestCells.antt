@@ -10,7 +10,7 @@ use Rattle.vc_model.specs.Touch.{find_block}
 use Rattle.vc_seg.specs.declared.method.Method.{Method}
 use Rattle.vc_seg.specs.declared.method.Method.TheVariants.{VmBest}
 use Rattle.vc_best.specs.Cells.{cells_of, without_cell}
-use Rattle.vc_region.specs.Cells.{no_cells, region_cells}
+use Rattle.vc_region.specs.Cells.{no_cells_at_all, region_cells}
 use Rattle.vc_region.specs.Region.{OfBest, OfPool, OfLast, OfDebug, OfProfile, Region, blocks_of, region_clear, region_compact, region_free, region_poke, region_watch, region_write}
 use Rattle.vc_region.specs.Stat.{method_of}
 use Rattle.vc_best.proofs.CellBytes.{same-cells}
@@ -20,7 +20,7 @@ use Rattle.vc_region.proofs.RestFound.{has_cells}
 
 -- the cells by whether the method has some
 abbrev pub cells_by : Bool → List (Block ℕ) → Blocks
-cells_by v bs = cond v (cells_of bs) no_cells
+cells_by v bs = cond v (cells_of bs) no_cells_at_all
 
 pub cells-by : (r : Region ℕ) → region_cells r ≡ cells_by (has_cells (method_of r)) (blocks_of r)
 cells-by (OfBest l) = refl
@@ -35,7 +35,7 @@ module _ (r r' : Region ℕ) (method : method_of r' ≡ method_of r) where
   cells-kept_by e =
       cells-by r'
       ∙ (ap (λ (m : Method). cells_by (has_cells m) (blocks_of r')) method
-      ∙ (ap (λ (cells : Blocks). cond (has_cells (method_of r)) cells no_cells) e ∙ sym (cells-by r)))
+      ∙ (ap (λ (cells : Blocks). cond (has_cells (method_of r)) cells no_cells_at_all) e ∙ sym (cells-by r)))
 
   -- a labelled block was put: at its address the region has it, and the others are as before
   pub put-cells_kept : (a label size : ℕ) → label ≢ 0 → HaveOwnPlaces (blocks_of r') → find_block (place_of a) (blocks_of r') ≡ Some (zeros label size (place_of a)) → without_block (place_of a) (blocks_of r') ≡ blocks_of r → region_cells r' ≡ region_cells r
@@ -70,9 +70,9 @@ without-cells_kept (OfLast l) a label labelled own is = refl
 without-cells_kept (OfDebug d) a label labelled own is = refl
 without-cells_kept (OfProfile p) a label labelled own is = refl
 
-none-less : (a : ℕ) → no_cells ≡ without_cell a no_cells
+none-less : (a : ℕ) → no_cells_at_all ≡ without_cell a no_cells_at_all
 none-less a =
-    same-cells no_cells (without_cell a no_cells)
+    same-cells no_cells_at_all (without_cell a no_cells_at_all)
     (λ x. let none : Option (List ℕ) = None in elim (eqb x a) as (λ v. none ≡ cond v None none) [ true ↦ refl | false ↦ refl ])
 
 without-cell : (r : Region ℕ) (a : ℕ) → HaveOwnPlaces (blocks_of r) → region_cells (without_block_in r (place_of a)) ≡ without_cell a (region_cells r)
@@ -89,7 +89,7 @@ pub free-cell : (r r' : Region ℕ) (a : ℕ) → HaveOwnPlaces (blocks_of r) �
 free-cell r r' a own done = ap region_cells (freed-region r (place_of a) r' done) ∙ without-cell r a own
 
 -- all blocks go
-pub clear-cells : (r : Region ℕ) → region_cells (region_clear r) ≡ no_cells
+pub clear-cells : (r : Region ℕ) → region_cells (region_clear r) ≡ no_cells_at_all
 clear-cells (OfBest l) = refl
 clear-cells (OfPool p) = refl
 clear-cells (OfLast l) = refl

@@ -8,16 +8,16 @@ use Rattle.vc_region.specs.Region as model
 use Rattle.vc_region.specs.declared.region.Region.{Region}
 
 -- no cell
-abbrev pub no_cells : Blocks
-no_cells = λ a. None
+abbrev pub no_cells_at_all : Blocks
+no_cells_at_all = λ a. None
 
 -- the cells of a region, by its method
 abbrev pub region_cells : model.Region ℕ → Blocks
 region_cells (model.OfBest layout) = cells_of layout.blocks
-region_cells (model.OfPool pool) = no_cells
-region_cells (model.OfLast layout) = no_cells
-region_cells (model.OfDebug debug) = no_cells
-region_cells (model.OfProfile profile) = no_cells
+region_cells (model.OfPool pool) = no_cells_at_all
+region_cells (model.OfLast layout) = no_cells_at_all
+region_cells (model.OfDebug debug) = no_cells_at_all
+region_cells (model.OfProfile profile) = no_cells_at_all
 
 -- a region but for the bytes in its cells
 abbrev pub rest_of : model.Region ℕ → model.Region ℕ

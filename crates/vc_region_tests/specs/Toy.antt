@@ -14,13 +14,13 @@ use Rattle.vc_base.specs.Holders.{contains}
 use Rattle.vc_region_tests.specs.declared.splay.rows.Rows.{Rows}
 
 -- the names from 1 to 4
-abbrev pub is_name : ℕ → Bool
-is_name n = nat_lt 0 n && nat_lt n 5
+abbrev pub is_toy_name : ℕ → Bool
+is_toy_name n = nat_lt 0 n && nat_lt n 5
 
 -- the store of these links, by name
 abbrev pub store_of : List ℕ → List ℕ → List ℕ → Store
 store_of left right up = record {
-  has = is_name;
+  has = is_toy_name;
   kid = λ d n. cond d (slice_index left n) (slice_index right n);
   parent = λ n. slice_index up n;
 }
@@ -35,7 +35,7 @@ lt_by n h = ltb-true n 5 h
 below_fits : (n : ℕ) → n < 5 → n < 2 ^ 32
 below_fits n h = le_trans h (lit≤ tt)
 
-pub four_fit : (n : ℕ) → is_name n ≡ true → n < 2 ^ 32
+pub four_fit : (n : ℕ) → is_toy_name n ≡ true → n < 2 ^ 32
 four_fit n h = below_fits n (lt_by n (second (nat_lt 0 n) (nat_lt n 5) h))
 
 -- where a name's key stands to this one
@@ -64,7 +64,7 @@ pub record CanPut (rows : Rows) (root at key : ℕ) : Type 0 where
   pub list : List ℕ
   pub holds : Holds rows root list
   pub rises : Rises (key_side keys key) list
-  pub name : is_name at ≡ true
+  pub name : is_toy_name at ≡ true
   pub apart : contains list at ≡ false
 
 -- along the names of the tree the keys never fall from below this one to above it

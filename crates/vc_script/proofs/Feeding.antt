@@ -7,7 +7,7 @@ use Rattle.vc_script.specs.declared.line_fault.LineFault.TheVariants.{LineTooLon
 use Rattle.vc_script.specs.declared.cutter.Cut.TheVariants.{Whole, More, Bad}
 use Rattle.vc_script.specs.Judged.{line_limit, last_number}
 use Rattle.vc_script.specs.Cutting.{Cutting}
-use Rattle.vc_script.specs.Cutter.{Fed, result_of_feed, one_more, with_byte, with_line, closed_cutting}
+use Rattle.vc_script.specs.Cutter.{Fed, result_of_feed, one_more, with_byte, with_whole_line, closed_cutting}
 
 -- the same cutting with these bytes kept
 abbrev pub with_bytes : Cutting → List ℕ → Cutting
@@ -58,11 +58,11 @@ module _ (s : Cutting) (xs : List ℕ) (n : ℕ) (within : n ≤ length xs) (num
   stops_at : n < length xs → result_of_feed s xs ≡ with_used n (result_of_feed (with_bytes s (take n xs)) (get_or xs n 0 ∷ drop (n + 1) xs))
   stops_at below = passed ∙ at_drop_more (λ bs. with_used n (result_of_feed (with_bytes s (take n xs)) bs)) xs n 0 below
 
-  pub fed-whole : n < length xs → get_or xs n 0 ≡ 10 → result_of_feed s xs ≡ record { after = with_line (with_bytes s (take n xs)); cut = Whole; used = n + 1 }
+  pub fed-whole : n < length xs → get_or xs n 0 ≡ 10 → result_of_feed s xs ≡ record { after = with_whole_line (with_bytes s (take n xs)); cut = Whole; used = n + 1 }
   fed-whole below newline =
       stops_at below
       ∙ (rw (not_eqb _ _ number, eq-eqb _ _ newline) refl
-      ∙ ap (λ m. let f : Fed = record { after = with_line (with_bytes s (take n xs)); cut = Whole; used = m } in f) one_n)
+      ∙ ap (λ m. let f : Fed = record { after = with_whole_line (with_bytes s (take n xs)); cut = Whole; used = m } in f) one_n)
 
   pub fed-long : n < length xs → length s.kept + n ≡ line_limit → get_or xs n 0 ≢ 10 → result_of_feed s xs ≡ record { after = closed_cutting (with_bytes s (take n xs)); cut = Bad LineTooLong; used = n + 1 }
   fed-long below full other =

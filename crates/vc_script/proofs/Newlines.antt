@@ -24,7 +24,7 @@ use Rattle.vc_script.specs.Words.{is_digit, is_letter, is_name, is_name_byte}
 use Rattle.vc_script.specs.Proper.{IsName, IsSite}
 use Rattle.vc_script.specs.ProperReply.{IsProperReply, is_row_site}
 use Rattle.vc_script.specs.Shown.{is_plain, shown_bytes, shown_byte}
-use Rattle.vc_script.specs.Print.{printed, watch_text, label_text, viewed_text, method_word, refusal_text, segment_text, block_text, damage_text, row_text, object_text, stat_text}
+use Rattle.vc_script.specs.Print.{printed, watch_text, label_text, viewed_text, method_word, refusal_text, segment_text, block_text, damage_text, row_text, object_text, stat_numbers}
 
 -- a byte that isn't a newline
 abbrev pub stays : ℕ → Bool
@@ -208,7 +208,7 @@ counted name text n proper rest = labelled name text n (line-name name proper) r
 watched : (xs : List ℕ) (line : Option ℕ) → OneLine xs → OneLine (xs ++ watch_text line)
 watched xs line first = line-both xs (watch_text line) first (line-watch line)
 
-line-stat : (s : Stat) → OneLine (stat_text s)
+line-stat : (s : Stat) → OneLine (stat_numbers s)
 line-stat s =
     let one : List ℕ = codes "busy " ++ decimal s.busy in
     let two : List ℕ = one ++ codes " free " ++ decimal s.free in

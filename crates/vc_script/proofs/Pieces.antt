@@ -11,11 +11,11 @@ use Rattle.vc_script.specs.declared.cutter.Cut.TheVariants.{Whole, More, Bad}
 use Rattle.vc_script.specs.Lines.{without_cr, lines_after, lines}
 use Rattle.vc_script.specs.Judged.{line_limit, last_number, judge, judged_from, judged_then, judged_lines}
 use Rattle.vc_script.specs.Cutting.{Cutting, IsCutting, new_cutting}
-use Rattle.vc_script.specs.Cutter.{Fed, result_of_feed, one_more, with_byte, with_line, closed_cutting, end_cut, after_end}
-use Rattle.vc_script.specs.Pieces.{Found, found_then, found_in}
+use Rattle.vc_script.specs.Cutter.{Fed, result_of_feed, one_more, with_byte, with_whole_line, closed_cutting, end_cut, after_end}
+use Rattle.vc_script.specs.Pieces.{FoundLines, found_then, found_in}
 
 -- what is judged of the bytes that are left
-abbrev pub judged_rest : Cutting → List ℕ → Found
+abbrev pub judged_rest : Cutting → List ℕ → FoundLines
 judged_rest s bytes = judged_from (s.count + 1) (lines_after s.kept bytes)
 
 judge-late : (number : ℕ) (line : List ℕ) → last_number < number → judge number line ≡ Err TooManyLines
@@ -69,18 +69,18 @@ module _ (s : Cutting) (b : ℕ) (bs behind : List ℕ) (is : IsCutting s) where
   long_or t = cond t (record { after = closed_cutting s; cut = Bad LineTooLong; used = 1 }) (one_more (result_of_feed (with_byte s b) bs))
 
   abbrev line_or : Bool → Fed → Fed
-  line_or t f = cond t (record { after = with_line s; cut = Whole; used = 1 }) f
+  line_or t f = cond t (record { after = with_whole_line s; cut = Whole; used = 1 }) f
 
   abbrev late_or : Bool → Fed → Fed
   late_or t f = cond t (record { after = closed_cutting s; cut = Bad TooManyLines; used = 1 }) f
 
-  abbrev rest_or : Bool → Found
+  abbrev rest_or : Bool → FoundLines
   rest_or t = judged_from (s.count + 1) (cond t (s.kept ∷ lines (bs ++ behind)) (lines_after (s.kept ++ b ∷ []) (bs ++ behind)))
 
   tells-late : s.count ≡ last_number → judged_rest s (b ∷ bs ++ behind) ≡ (s.count + 1, Err TooManyLines) ∷ []
   tells-late number = judged-late (s.count + 1) s.kept (b ∷ bs ++ behind) (omega arith) (omega arith)
 
-  tells-line : s.count ≢ last_number → eqb b 10 ≡ true → Tells Whole (with_line s) 1 s (b ∷ bs) behind
+  tells-line : s.count ≢ last_number → eqb b 10 ≡ true → Tells Whole (with_whole_line s) 1 s (b ∷ bs) behind
   tells-line number newline = (
     ap rest_or newline ∙ ap (λ j. judged_then (s.count + 1) j (judged_from (s.count + 1 + 1) (lines (bs ++ behind)))) (judge-ok (s.count + 1) s.kept (omega (arith, number, is.few)) is.short),
     (record { short = omega arith; few = omega (arith, number, is.few); no_more = λ e. refl }, (omega arith, omega arith)),

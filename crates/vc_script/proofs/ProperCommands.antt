@@ -15,7 +15,7 @@ use Rattle.vc_script.specs.Words.{words}
 use Rattle.vc_script.specs.Forms.{Form, Name, Site, Number, SignedNumber, Address, Bytes, RegionMethod, DictionaryMethod, Mode, NameOrDash, Value, value_of}
 use Rattle.vc_script.specs.Table.{Row, Values, command_of, dictionary_rows, command_made, own_rows, read_words, table, takes, values_of}
 use Rattle.vc_script.specs.Answer.{answer, answer_of, answer_to, command_in, is_comment}
-use Rattle.vc_script.specs.Proper.{IsAddress, IsFaultOfWords, IsName, IsNumber, IsProperAnswer, IsProperCommand, IsSite}
+use Rattle.vc_script.specs.Proper.{IsProperAddress, IsFaultOfWords, IsName, IsNumber, IsProperAnswer, IsProperCommand, IsSite}
 use Rattle.vc_script.proofs.ProperWords.{Gives, Gives-address_of, Gives-bytes_of, Gives-dict_method_of, Gives-if, Gives-method_of, Gives-mode_of, Gives-name_of, Gives-name_or_dash_of, Gives-number_of, Gives-signed_of, Gives-site_of, Gives-then}
 
 -- the value of a word of a form
@@ -24,7 +24,7 @@ IsProperValue Name name = IsName name
 IsProperValue Site site = IsName site
 IsProperValue Number n = IsNumber n
 IsProperValue SignedNumber n = IsNumber (nat_abs n)
-IsProperValue Address place = IsAddress place
+IsProperValue Address place = IsProperAddress place
 IsProperValue NameOrDash name = IsSite name
 IsProperValue form value = Unit {0}
 

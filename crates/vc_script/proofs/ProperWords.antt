@@ -10,8 +10,8 @@ use Rattle.vc_seg.specs.declared.method.Method.TheVariants.{VmBest, VmPool, VmLa
 use Rattle.vc_script.specs.declared.line_fault.LineFault.{LineFault}
 use Rattle.vc_script.specs.declared.line_fault.LineFault.TheVariants.{BadName, BadNumber, BadAddress, BadBytes, UnknownMethod}
 use Rattle.vc_script.specs.Words.{digits_value, is_between, is_digit, is_escaped, is_name, is_number}
-use Rattle.vc_script.specs.Forms.{◌>>=◌, address_of, address_of_parts, bytes_of, is_address, is_colon, dict_method_of, method_of, mode_of, name_of, name_or_dash_of, number_of, signed_of, site_of}
-use Rattle.vc_script.specs.Proper.{IsAddress, IsFaultOfWords, IsName, IsNumber, IsSite}
+use Rattle.vc_script.specs.Forms.{◌>>=◌, address_of, address_of_parts, bytes_of, is_address, is_colon, dict_method_of, region_method_of, mode_of, name_of, name_or_dash_of, number_of, signed_of, site_of}
+use Rattle.vc_script.specs.Proper.{IsProperAddress, IsFaultOfWords, IsName, IsNumber, IsSite}
 
 -- the value is proper, or the fault is one of words
 abbrev pub Gives : {A : Type 0} → (A → Type 0) → Result A LineFault → Type 0
@@ -63,7 +63,7 @@ Gives-signed_of (b ∷ bs) =
     (Gives-then IsNumber IsSigned (number_of (b ∷ bs)) (λ n. Ok (pos n)) (Gives-number_of (b ∷ bs)) (λ n small. small))
 
 -- the parts of an address are in their ranges
-proper_address : (seg off : List ℕ) → is_address seg off ≡ true → IsAddress (record { seg = digits_value seg; off = digits_value off })
+proper_address : (seg off : List ℕ) → is_address seg off ≡ true → IsProperAddress (record { seg = digits_value seg; off = digits_value off })
 proper_address seg off address =
     let parts = and_parts (is_number seg && is_between 1 1023 (digits_value seg)) (is_number off && leb (digits_value off) 33554431) address in
     let between = and_parts (leb 1 (digits_value seg)) (leb (digits_value seg) 1023) (and_parts (is_number seg) (is_between 1 1023 (digits_value seg)) parts.0).1 in
@@ -72,11 +72,11 @@ proper_address seg off address =
     let last = leb-true (digits_value off) 33554431 (and_parts (is_number off) (leb (digits_value off) 33554431) parts.1).1 in
     record { first = low; last = high; below = omega arith }
 
-address_parts : (seg off : List ℕ) → Gives IsAddress (address_of_parts seg off)
+address_parts : (seg off : List ℕ) → Gives IsProperAddress (address_of_parts seg off)
 address_parts seg off =
-    Gives-if IsAddress (is_address seg off) (Ok (record { seg = digits_value seg; off = digits_value off })) (Err BadAddress) (proper_address seg off) tt
+    Gives-if IsProperAddress (is_address seg off) (Ok (record { seg = digits_value seg; off = digits_value off })) (Err BadAddress) (proper_address seg off) tt
 
-pub Gives-address_of : (word : List ℕ) → Gives IsAddress (address_of word)
+pub Gives-address_of : (word : List ℕ) → Gives IsProperAddress (address_of word)
 Gives-address_of word = address_parts (before_first is_colon word) (after_first is_colon word)
 
 pub Gives-bytes_of : (word : List ℕ) → Gives Anything (bytes_of word)
@@ -86,7 +86,7 @@ Gives-bytes_of word = Gives-if Anything (is_escaped word) (Ok (percent_decode wo
 one_of : {A : Type 0} (test : Bool) (a : A) (r : Result A LineFault) → Gives Anything r → Gives Anything (cond test (Ok a) r)
 one_of test a r rest = Gives-if Anything test (Ok a) r (λ _. tt) rest
 
-pub Gives-method_of : (word : List ℕ) → Gives Anything (method_of word)
+pub Gives-method_of : (word : List ℕ) → Gives Anything (region_method_of word)
 Gives-method_of word =
     one_of (bytes_eq word (codes "best")) VmBest _
     (one_of (bytes_eq word (codes "pool")) VmPool _

@@ -7,7 +7,7 @@ use Rattle.std.proofs.lemmas.List.{append-nil, append_assoc}
 use Rattle.vc_script.specs.declared.reply.Reply.{Reply}
 use Rattle.vc_script.specs.Lines.{ended_after, ended_lines, lines, lines_after}
 use Rattle.vc_script.specs.ProperReply.{IsProperReply}
-use Rattle.vc_script.specs.Needs.{IsAscending, Need, ShowsNeeds, need_at, need_shown, needs_by, needs_of}
+use Rattle.vc_script.specs.Needs.{AreAscending, Need, ShowsNeeds, need_at, need_shown, needs_in_turn, needs_of}
 use Rattle.vc_script.specs.Print.{line_of, printed, text}
 use Rattle.vc_script.proofs.Newlines.{OneLine, stays, line-printed}
 use Rattle.vc_script.proofs.Heads.{need_of-printed}
@@ -64,7 +64,7 @@ needs_shown rs = map (λ r. (r.0, need_shown r.1)) rs
 pub needs_of-text : (rs : List (ℕ × Reply)) → AllByRecursion (λ r. IsProperReply r.1) rs → needs_of (numbers_of rs) (text (replies_of rs)) ≡ needs_shown rs
 needs_of-text [] proper = refl
 needs_of-text (r ∷ rs) proper =
-    ap (needs_by (r.0 ∷ numbers_of rs)) (ended_lines-line r.1 (text (replies_of rs)) proper.0)
+    ap (needs_in_turn (r.0 ∷ numbers_of rs)) (ended_lines-line r.1 (text (replies_of rs)) proper.0)
     ∙ (ap (λ need. (r.0, need) ∷ needs_of (numbers_of rs) (text (replies_of rs))) (need_of-printed r.1 proper.0)
     ∙ ap (λ needs. (r.0, need_shown r.1) ∷ needs) (needs_of-text rs proper.1))
 
@@ -76,13 +76,13 @@ shows-behind x needs (r ∷ rs) later shows =
     (ap (λ t. cond t x.1 (need_at needs r.0)) differs ∙ shows.0, shows-behind x needs rs later.1 shows.1)
 
 -- the needs of replies at rising lines stand at these lines
-pub shows-needs_shown : (rs : List (ℕ × Reply)) → IsAscending (numbers_of rs) → ShowsNeeds (needs_shown rs) rs
+pub shows-needs_shown : (rs : List (ℕ × Reply)) → AreAscending (numbers_of rs) → ShowsNeeds (needs_shown rs) rs
 shows-needs_shown [] rising = tt
 shows-needs_shown (r ∷ rs) rising =
     let same : eqb r.0 r.0 ≡ true = eq-eqb r.0 r.0 refl in
     (ap (λ t. cond t (need_shown r.1) (need_at (needs_shown rs) r.0)) same, shows-behind (r.0, need_shown r.1) (needs_shown rs) rs rising.0 (shows-needs_shown rs rising.1))
 
-pub shows-text : (rs : List (ℕ × Reply)) → IsAscending (numbers_of rs) → AllByRecursion (λ r. IsProperReply r.1) rs → ShowsNeeds (needs_of (numbers_of rs) (text (replies_of rs))) rs
+pub shows-text : (rs : List (ℕ × Reply)) → AreAscending (numbers_of rs) → AllByRecursion (λ r. IsProperReply r.1) rs → ShowsNeeds (needs_of (numbers_of rs) (text (replies_of rs))) rs
 shows-text rs rising proper = subst (λ needs. ShowsNeeds needs rs) (sym (needs_of-text rs proper)) (shows-needs_shown rs rising)
 
 before-push : (n m : ℕ) (ns : List ℕ) → AllByRecursion (λ k. n < k) ns → n < m → AllByRecursion (λ k. n < k) (ns ++ m ∷ [])
@@ -90,6 +90,6 @@ before-push n m [] each last = (last, tt)
 before-push n m (k ∷ ns) each last = (each.0, before-push n m ns each.1 last)
 
 -- a line behind all others may follow
-pub ascending-push : (ns : List ℕ) (n : ℕ) → IsAscending ns → AllByRecursion (λ m. m < n) ns → IsAscending (ns ++ n ∷ [])
+pub ascending-push : (ns : List ℕ) (n : ℕ) → AreAscending ns → AllByRecursion (λ m. m < n) ns → AreAscending (ns ++ n ∷ [])
 ascending-push [] n rising below = (tt, tt)
 ascending-push (m ∷ ns) n rising below = (before-push m n ns rising.0 below.0, ascending-push ns n rising.1 below.1)

@@ -14,8 +14,8 @@ pub record Fed : Type 0 where
   pub used : ℕ
 
 -- the bytes kept are a whole line
-abbrev pub with_line : Cutting → Cutting
-with_line s = record { kept = []; count = s.count + 1; line = without_cr s.kept; is_open = s.is_open }
+abbrev pub with_whole_line : Cutting → Cutting
+with_whole_line s = record { kept = []; count = s.count + 1; line = without_cr s.kept; is_open = s.is_open }
 
 -- no call of feed or end may follow
 abbrev pub closed_cutting : Cutting → Cutting
@@ -33,7 +33,7 @@ abbrev pub result_of_feed : Cutting → List ℕ → Fed
 result_of_feed s [] = record { after = s; cut = More; used = 0 }
 result_of_feed s (b ∷ bs) =
     if s.count == last_number then record { after = closed_cutting s; cut = Bad TooManyLines; used = 1 }
-    else (if b == 10 then record { after = with_line s; cut = Whole; used = 1 }
+    else (if b == 10 then record { after = with_whole_line s; cut = Whole; used = 1 }
     else (if length s.kept == line_limit then record { after = closed_cutting s; cut = Bad LineTooLong; used = 1 }
     else one_more (result_of_feed (with_byte s b) bs)))
 
@@ -44,4 +44,4 @@ end_cut (b ∷ bs) = Whole
 
 abbrev pub after_end : Cutting → List ℕ → Cutting
 after_end s [] = closed_cutting s
-after_end s (b ∷ bs) = closed_cutting (with_line s)
+after_end s (b ∷ bs) = closed_cutting (with_whole_line s)

@@ -63,8 +63,8 @@ abbrev pub bytes_of : List ℕ → Result (List ℕ) LineFault
 bytes_of word = if is_escaped word then Ok (percent_decode word) else Err BadBytes
 
 -- the methods of regions
-abbrev pub method_of : List ℕ → Result Method LineFault
-method_of word =
+abbrev pub region_method_of : List ℕ → Result Method LineFault
+region_method_of word =
     if bytes_eq word (codes "best") then Ok VmBest
     else (if bytes_eq word (codes "pool") then Ok VmPool
     else (if bytes_eq word (codes "last") then Ok VmLast
@@ -129,7 +129,7 @@ value_of Number word = number_of word
 value_of SignedNumber word = signed_of word
 value_of Address word = address_of word
 value_of Bytes word = bytes_of word
-value_of RegionMethod word = method_of word
+value_of RegionMethod word = region_method_of word
 value_of DictionaryMethod word = dict_method_of word
 value_of Mode word = mode_of word
 value_of NameOrDash word = name_or_dash_of word

@@ -23,14 +23,14 @@ need_of line =
     else NoNeed))
 
 -- the needs that printed lines show, each by the line of its command
-abbrev pub needs_by : List ℕ → List (List ℕ) → List (ℕ × Need)
-needs_by [] printed = []
-needs_by (n ∷ ns) [] = []
-needs_by (n ∷ ns) (line ∷ rest) = (n, need_of line) ∷ needs_by ns rest
+abbrev pub needs_in_turn : List ℕ → List (List ℕ) → List (ℕ × Need)
+needs_in_turn [] printed = []
+needs_in_turn (n ∷ ns) [] = []
+needs_in_turn (n ∷ ns) (line ∷ rest) = (n, need_of line) ∷ needs_in_turn ns rest
 
 -- of the commands of these lines, in order, the k-th has the k-th whole line of what was written
 abbrev pub needs_of : List ℕ → List ℕ → List (ℕ × Need)
-needs_of lines written = needs_by lines (ended_lines written)
+needs_of lines written = needs_in_turn lines (ended_lines written)
 
 -- the need of a line; none where none is shown
 abbrev pub need_at : List (ℕ × Need) → ℕ → Need
@@ -50,9 +50,9 @@ need_shown (Refused why) = need_for why
 need_shown reply = NoNeed
 
 -- each line stands behind all before it
-abbrev pub IsAscending : List ℕ → Type 0
-IsAscending [] = Unit {0}
-IsAscending (n ∷ ns) = AllByRecursion (λ m. n < m) ns × IsAscending ns
+abbrev pub AreAscending : List ℕ → Type 0
+AreAscending [] = Unit {0}
+AreAscending (n ∷ ns) = AllByRecursion (λ m. n < m) ns × AreAscending ns
 
 -- of replies with their lines: at each line stands the need that its reply shows
 abbrev pub ShowsNeeds : List (ℕ × Need) → List (ℕ × Reply) → Type 0

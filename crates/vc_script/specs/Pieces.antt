@@ -7,18 +7,18 @@ use Rattle.vc_script.specs.Cutting.{Cutting}
 use Rattle.vc_script.specs.Cutter.{result_of_feed, end_cut, after_end}
 
 -- lines and a fault, each with the line's number
-abbrev pub Found : Type 0
-Found = List (ℕ × Result (List ℕ) LineFault)
+abbrev pub FoundLines : Type 0
+FoundLines = List (ℕ × Result (List ℕ) LineFault)
 
 -- what a call found, and what the calls behind it find: in the same piece behind a whole line, with the next piece
 -- where more is wanted, and none behind a fault
-abbrev pub found_then : Cut → Cutting → Found → Found → Found
+abbrev pub found_then : Cut → Cutting → FoundLines → FoundLines → FoundLines
 found_then Whole after in_piece in_next = (after.count, Ok after.line) ∷ in_piece
 found_then More after in_piece in_next = in_next
 found_then (Bad fault) after in_piece in_next = (after.count + 1, Err fault) ∷ []
 
 -- what at most so many calls find in these pieces, the call of end among them
-abbrev pub found_in : ℕ → Cutting → List (List ℕ) → Found
+abbrev pub found_in : ℕ → Cutting → List (List ℕ) → FoundLines
 found_in zero s pieces = []
 found_in (suc calls) s [] = found_then (end_cut s.kept) (after_end s s.kept) [] []
 found_in (suc calls) s (p ∷ ps) =

@@ -87,8 +87,8 @@ row_text r =
 abbrev pub object_text : List ℕ → List ℕ
 object_text object = codes " " ++ shown_bytes object
 
-abbrev pub stat_text : Stat → List ℕ
-stat_text s =
+abbrev pub stat_numbers : Stat → List ℕ
+stat_numbers s =
     codes "busy " ++ decimal s.busy ++ codes " free " ++ decimal s.free
     ++ codes " sbusy " ++ decimal s.sbusy ++ codes " sfree " ++ decimal s.sfree
     ++ codes " mbusy " ++ decimal s.mbusy ++ codes " mfree " ++ decimal s.mfree
@@ -109,7 +109,7 @@ printed (AddrIn block off) = codes "addr " ++ label_text block ++ codes " " ++ d
 printed AddrNone = codes "addr -1"
 printed (SegmentIs number size) = codes "segment " ++ decimal number ++ codes " " ++ decimal size
 printed SegmentNone = codes "segment -1"
-printed (Stats stat) = stat_text stat
+printed (Stats stat) = stat_numbers stat
 printed (SegmentList items) = codes "segments " ++ decimal (length items) ++ flat_map segment_text items
 printed (BlockList items) = codes "blocks " ++ decimal (length items) ++ flat_map block_text items
 printed (Poked block line) = block ++ codes " poked" ++ watch_text line

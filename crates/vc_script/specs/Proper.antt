@@ -22,7 +22,7 @@ abbrev pub IsNumber : ℕ → Type 0
 IsNumber n = n < 2 ^ 32
 
 -- the number of a segment, and an offset below the greatest size of one
-pub record IsAddress (place : Place) : Type 0 where
+pub record IsProperAddress (place : Place) : Type 0 where
   pub first : 1 ≤ place.seg
   pub last : place.seg ≤ 1023
   pub below : place.off < 33554432
@@ -40,8 +40,8 @@ IsProperCommand (Free region block) = IsName region × IsName block
 IsProperCommand (WriteBlock region block off bytes) = IsName region × IsName block × IsNumber off
 IsProperCommand (ReadBlock region block off len) = IsName region × IsName block × IsNumber off × IsNumber len
 IsProperCommand (SizeOf region block) = IsName region × IsName block
-IsProperCommand (AddrOf region place) = IsName region × IsAddress place
-IsProperCommand (SegmentOf region place) = IsName region × IsAddress place
+IsProperCommand (AddrOf region place) = IsName region × IsProperAddress place
+IsProperCommand (SegmentOf region place) = IsName region × IsProperAddress place
 IsProperCommand (StatOf region) = IsName region
 IsProperCommand (Segments region) = IsName region
 IsProperCommand (Blocks region) = IsName region

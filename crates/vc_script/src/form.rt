@@ -2,7 +2,7 @@
 ghost use Rattle.std.specs.Prelude.{◌≡◌, IfOk};
 ghost use Rattle.std.specs.Result.{result_map_both};
 ghost use Rattle.percent_encoding.specs.Percent.{percent_decode};
-ghost use Rattle.vc_script.specs.Forms.{address_of, address_of_parts, bytes_of, dict_method_of, method_of, mode_of, name_of, name_or_dash_of, number_of, signed_of, site_of, some_site_of};
+ghost use Rattle.vc_script.specs.Forms.{address_of, address_of_parts, bytes_of, dict_method_of, region_method_of, mode_of, name_of, name_or_dash_of, number_of, signed_of, site_of, some_site_of};
 
 use crate::word::{is_escaped, is_name, is_number, value_of};
 use crate::{Bytes, LineFault, Place};
@@ -107,7 +107,7 @@ pub(crate) fn decoded(alloc: Global, word: &[u8]) -> Result<Bytes, AllocError>
 }
 
 pub(crate) fn method_of(word: &[u8]) -> Result<Method, LineFault>
-    ensures { result ≡ method_of word.now }
+    ensures { result ≡ region_method_of word.now }
 {
     if word == b"best".as_slice() {
         Ok(Method::VmBest)

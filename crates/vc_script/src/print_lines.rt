@@ -2,7 +2,7 @@
 ghost use Rattle.std.specs.Prelude.{◌≡◌, ◌++◌, codes, decimal, length, IfOk};
 ghost use Rattle.std.specs.List.{flat_map};
 ghost use Rattle.hex.specs.Hex.{encode_lower};
-ghost use Rattle.vc_script.specs.Print.{block_text, damage_text, label_text, object_text, row_text, segment_text, stat_text, watch_text};
+ghost use Rattle.vc_script.specs.Print.{block_text, damage_text, label_text, object_text, row_text, segment_text, stat_numbers, watch_text};
 ghost use Rattle.vc_script.specs.Shown.{shown_bytes};
 
 use crate::print_lists::{put_blocks, put_damage, put_objects, put_rows, put_segments};
@@ -137,7 +137,7 @@ pub(crate) fn segment(alloc: Global, number: u32, size: u32) -> Result<Vec<u8>, 
 }
 
 pub(crate) fn stats(alloc: Global, stat: &Stat) -> Result<Vec<u8>, AllocError>
-    ensures { IfOk result (λ v. v.items ≡ stat_text stat.now) }
+    ensures { IfOk result (λ v. v.items ≡ stat_numbers stat.now) }
 {
     let mut line = labelled(alloc, b"busy ", stat.busy)?;
     put_labelled(&mut line, b" free ", stat.free)?;

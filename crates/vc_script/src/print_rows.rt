@@ -3,7 +3,7 @@ ghost use Rattle.std.specs.Prelude.{◌≡◌, ℕ, ◌++◌, List, [], ◌∷�
 ghost use Rattle.std.specs.List.{AllByRecursion};
 ghost use Rattle.vc_base.specs.declared.dict_method.DictMethod.TheVariants as dict;
 ghost use Rattle.vc_script.specs.Lines.{ended_lines, lines};
-ghost use Rattle.vc_script.specs.Needs.{ForBlock, ForObject, ForTable, IsAscending, NoNeed, ShowsNeeds, begins_refused, is_refusal, need_at, need_of, need_shown, needs_of};
+ghost use Rattle.vc_script.specs.Needs.{ForBlock, ForObject, ForTable, AreAscending, NoNeed, ShowsNeeds, begins_refused, is_refusal, need_at, need_of, need_shown, needs_of};
 ghost use Rattle.vc_script.specs.Print.{line_of, method_word, printed, text};
 ghost use Rattle.vc_script.specs.ProperReply.{IsProperReply};
 ghost use Rattle.vc_script.specs.Shown.{shown_bytes};
@@ -19,7 +19,7 @@ pub fn text_of_replies()
         → lines (text replies) ≡ map printed replies }
     ensures ended { (replies : List Reply) → AllByRecursion IsProperReply replies
         → ended_lines (text replies) ≡ map printed replies }
-    ensures needs { (replies : List (ℕ × Reply)) → IsAscending (map (λ r. r.0) replies)
+    ensures needs { (replies : List (ℕ × Reply)) → AreAscending (map (λ r. r.0) replies)
         → AllByRecursion (λ r. IsProperReply r.1) replies
         → ShowsNeeds (needs_of (map (λ r. r.0) replies) (text (map (λ r. r.1) replies))) replies }
     ensures shown { (r : Reply) → IsProperReply r → need_of (printed r) ≡ need_shown r }

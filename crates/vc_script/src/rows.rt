@@ -3,7 +3,7 @@ ghost use Rattle.std.specs.Prelude.{◌≡◌, ◌++◌, [], ◌∷◌, Some, No
 ghost use Rattle.vc_base.specs.declared.dict_method.DictMethod.TheVariants.{DtSet, DtBag, DtOset, DtObag, DtList, DtStack, DtQueue};
 ghost use Rattle.vc_seg.specs.declared.method.Method.TheVariants.{VmBest, VmPool, VmLast, VmDebug, VmProfile};
 ghost use Rattle.vc_script.specs.Answer.{answer};
-ghost use Rattle.vc_script.specs.Forms.{address_of, bytes_of, dict_method_of, method_of, mode_of, name_of, name_or_dash_of, number_of, signed_of, site_of};
+ghost use Rattle.vc_script.specs.Forms.{address_of, bytes_of, dict_method_of, region_method_of, mode_of, name_of, name_or_dash_of, number_of, signed_of, site_of};
 ghost use Rattle.vc_script.specs.Words.{words};
 ghost use Rattle.vc_script.specs.declared.command.Command.TheVariants.{OpenRegion, CloseRegion, ClearRegion, Compact, Alloc, Align, Resize, Free, WriteBlock, ReadBlock, SizeOf, AddrOf, SegmentOf, StatOf, Segments, Blocks, Poke, Check, Watch, ProfileOf, OpenDict, Insert, Append, Attach, Delete, Detach, Search, MatchKey, First, Last, Next, Prev, Walk, Count, View, Remethod, Empty, Shut};
 ghost use Rattle.vc_script.specs.declared.line_answer.LineAnswer.TheVariants.{Blank, Is, Bad};
@@ -229,14 +229,14 @@ pub fn bytes()
 
 /// The methods of regions and the modes of `resize`, in lower case.
 pub fn methods()
-    ensures best { method_of (codes "best") ≡ Ok VmBest }
-    ensures pool { method_of (codes "pool") ≡ Ok VmPool }
-    ensures last { method_of (codes "last") ≡ Ok VmLast }
-    ensures debug { method_of (codes "debug") ≡ Ok VmDebug }
-    ensures profile { method_of (codes "profile") ≡ Ok VmProfile }
-    ensures upper_case { method_of (codes "Best") ≡ Err UnknownMethod }
-    ensures longer { method_of (codes "bests") ≡ Err UnknownMethod }
-    ensures of_dictionaries { method_of (codes "set") ≡ Err UnknownMethod }
+    ensures best { region_method_of (codes "best") ≡ Ok VmBest }
+    ensures pool { region_method_of (codes "pool") ≡ Ok VmPool }
+    ensures last { region_method_of (codes "last") ≡ Ok VmLast }
+    ensures debug { region_method_of (codes "debug") ≡ Ok VmDebug }
+    ensures profile { region_method_of (codes "profile") ≡ Ok VmProfile }
+    ensures upper_case { region_method_of (codes "Best") ≡ Err UnknownMethod }
+    ensures longer { region_method_of (codes "bests") ≡ Err UnknownMethod }
+    ensures of_dictionaries { region_method_of (codes "set") ≡ Err UnknownMethod }
     ensures moves { mode_of (codes "move") ≡ Ok true }
     ensures stays { mode_of (codes "fixed") ≡ Ok false }
     ensures other_mode { mode_of (codes "best") ≡ Err UnknownMethod }

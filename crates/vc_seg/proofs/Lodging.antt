@@ -39,7 +39,7 @@ use Rattle.std_alloc.specs.contracts.vec.lodge as LG
 use Rattle.std_alloc.specs.contracts.vec.lodged.Vec+T+Lodged.dislodge as DL
 use Rattle.std_alloc.proofs.vec.Vec.TheLaws as vec_laws
 use Rattle.std_alloc.proofs.vec.lodged.Lodged.TheLaws as lodged-laws
-use Rattle.vc_seg.specs.Owned.{bytes_of}
+use Rattle.vc_seg.specs.Owned.{bytes_type}
 
 abbrev pub byte_laws : Laws u8
 byte_laws = of_field u8-field u8-laws refl (copy_shared u8-field u8-copy)
@@ -69,13 +69,13 @@ module _ {M : Type 1} {𝓤 : Ura M} (𝓛 : Logic 𝓤) (at_mem : Memory → SP
     abbrev pub IsLodged : Vec ℕ Lodged → Type 0
     IsLodged r = (r.items ≡ []) × (r.len ≡ 0) × (r.cap ≡ n) × (r.ptr ≡ block_ptr b o)
 
-    pub lodge_goes : 0 < n → n < 2 ^ 63 → ent 𝓤 (H.room (bytes_of n) b o) (Lodges.pre at_lodge)
+    pub lodge_goes : 0 < n → n < 2 ^ 63 → ent 𝓤 (H.room (bytes_type n) b o) (Lodges.pre at_lodge)
     lodge_goes filled small =
         let p = block_ptr b o in
         let Asked : Type 0 = (0 ≡ 0) × (0 ≤ n) × (n < 2 ^ 63) in
         let spare : n ≡ n - 0 = omega arith in
         let from : o ≡ o + 0 * 1 = omega arith in
-        qed 𝓛 (‵ (froom (bytes_of n) b o) ∷ []) ∵ rewrite ! 0 (λ (k : ℕ × ℕ). ‵ (froom (ty_array (ty_int w8) k.0) b k.1)) (λ i. (spare i, from i)) refl $
+        qed 𝓛 (‵ (froom (bytes_type n) b o) ∷ []) ∵ rewrite ! 0 (λ (k : ℕ × ℕ). ‵ (froom (ty_array (ty_int w8) k.0) b k.1)) (λ i. (spare i, from i)) refl $
         nothing ! $ use0 𝓛 (‵ (row u8 full_share [] b o)) (id⊢ 𝓤 (emp 𝓤)) $ feq_i ! ℕ 0 0 refl $ fjoin ! $ use1 𝓛 (‵ (part_at (Array u8 0) full_share [] b o)) (Array-whole 𝓛 u8 full_share 0 [] b o) $
         move ! (0 ∷ 2 ∷ 1 ∷ []) $ fjoin3 ! $
         rewrite ! 0 (λ y. ‵ (owns_if y (block_with_items (λ _ _. ftrue) u8 p 0 n []))) (sym (live n filled)) refl $ flt_i ! (n * 1) (2 ^ 63) (omega arith) $ fjoin ! $

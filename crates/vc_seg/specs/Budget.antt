@@ -14,9 +14,9 @@ abbrev pub bytes_of : List (ℕ × ℕ) → ℕ
 bytes_of segments = sum_by (λ s. s.1) segments
 
 -- the bytes that it can still lend: the budget less the bytes out
-abbrev pub room_of : Budget → ℕ
-room_of b = b.budget - bytes_of b.out
+abbrev pub left_in_budget : Budget → ℕ
+left_in_budget b = b.budget - bytes_of b.out
 
 -- its meaning as a discipline, which tells that room
 abbrev pub discipline_of : Budget → Discipline
-discipline_of b = record { out = b.out; faults = b.faults; terms = b.terms; room = Some (room_of b) }
+discipline_of b = record { out = b.out; faults = b.faults; terms = b.terms; room = Some (left_in_budget b) }

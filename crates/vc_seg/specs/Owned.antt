@@ -11,16 +11,16 @@ use denote.Sharing.{said, beside}
 use denote.Struct.Lending.{lent_at}
 
 -- the type of n bytes
-abbrev pub bytes_of : ℕ → Ty
-bytes_of n = ty_array (ty_int w8) n
+abbrev pub bytes_type : ℕ → Ty
+bytes_type n = ty_array (ty_int w8) n
 
 -- the type of the words in n bytes
-abbrev pub words_of : ℕ → Ty
-words_of n = ty_array (ty_int w64) (n / 8)
+abbrev pub words_type : ℕ → Ty
+words_type n = ty_array (ty_int w64) (n / 8)
 
 -- the right to give n bytes at p back, once nothing lies in them
 abbrev pub right : (Ty → Ptr → Fml) → ℕ → Ptr → Fml
-right t n p = fsep (fwand (room_for (bytes_of n) p) (room_for (words_of n) p)) (t (words_of n) p)
+right t n p = fsep (fwand (room_for (bytes_type n) p) (room_for (words_type n) p)) (t (words_type n) p)
 
 -- the bytes xs at p, and the right to give them back
 abbrev pub block_owns : (Ty → Ptr → Fml) → Ptr → List ℕ → Fml

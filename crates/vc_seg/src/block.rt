@@ -25,9 +25,9 @@ pub(crate) struct Memory {
 
 impl Model for Memory {
     ghost use denote.RawPtr.{room_for};
-    ghost use Rattle.vc_seg.specs.Owned.{bytes_of};
+    ghost use Rattle.vc_seg.specs.Owned.{bytes_type};
 
-    ghost also_owns = { λ m. room_for (bytes_of m.size) m.ptr };
+    ghost also_owns = { λ m. room_for (bytes_type m.size) m.ptr };
 }
 
 // The right to give them back to the allocator.

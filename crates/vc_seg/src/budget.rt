@@ -1,7 +1,7 @@
 ghost use Rattle.std.specs.Prelude.{◌≡◌, ◌+◌, ◌%◌, ◌<◌, ◌↔◌, [], Some, length, Contains, IfOk, OnOk, IsErrOf};
 ghost use Rattle.vc_model.specs.Count.{next_count};
 ghost use Rattle.vc_model.specs.Discipline.{IsRound, IsSegmentSize, Lent, Unserved};
-ghost use Rattle.vc_seg.specs.Budget.{discipline_of, room_of};
+ghost use Rattle.vc_seg.specs.Budget.{discipline_of, left_in_budget};
 ghost use Rattle.vc_seg.specs.Returned.{Returned};
 ghost use Rattle.vc_seg.specs.Segment.{zero_segment, pair_of};
 
@@ -73,7 +73,7 @@ impl SegDisc for BudgetDisc {
     }
 
     fn room(&self) -> Option<u64>
-        ensures { result ≡ Some (room_of self.now) }
+        ensures { result ≡ Some (left_in_budget self.now) }
     {
         Some(self.left)
     }
@@ -82,8 +82,8 @@ impl SegDisc for BudgetDisc {
         requires size { IsSegmentSize size }
         requires multiple { size % self.old.terms.round ≡ 0 }
 
-        ensures refuses { IsErrOf result LendFault.Refused ↔ (room_of self.old < size) }
-        ensures spent { OnOk result (room_of self.new + size ≡ room_of self.old) }
+        ensures refuses { IsErrOf result LendFault.Refused ↔ (left_in_budget self.old < size) }
+        ensures spent { OnOk result (left_in_budget self.new + size ≡ left_in_budget self.old) }
         ensures budget { self.new.budget ≡ self.old.budget }
         ensures fault { IsErrOf result LendFault.Refused → self.new.faults
             ≡ next_count self.old.faults }
@@ -110,7 +110,7 @@ impl SegDisc for BudgetDisc {
         requires { Contains self.old.out (pair_of seg) }
         ensures returned { Returned
             (discipline_of self.old) (discipline_of self.new) (pair_of seg) }
-        ensures back { room_of self.new ≡ room_of self.old + length seg.bytes }
+        ensures back { left_in_budget self.new ≡ left_in_budget self.old + length seg.bytes }
         ensures budget { self.new.budget ≡ self.old.budget }
     {
         let bytes = u64::from(seg.size());

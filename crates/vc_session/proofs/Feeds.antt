@@ -8,7 +8,7 @@ use Rattle.vc_script.specs.declared.cutter.Cut.TheVariants.{Whole, More, Bad}
 use Rattle.vc_script.specs.Lines.{ended_after}
 use Rattle.vc_script.specs.Judged.{line_limit, last_number, judged_from, judged_then}
 use Rattle.vc_script.specs.Cutting.{Cutting, IsCutting}
-use Rattle.vc_script.specs.Cutter.{result_of_feed, with_byte, with_line}
+use Rattle.vc_script.specs.Cutter.{result_of_feed, with_byte, with_whole_line}
 use Rattle.vc_script.proofs.Pieces.{judge-ok}
 use Rattle.vc_session.specs.SoFar.{Found, ended_rest, fuel}
 
@@ -34,7 +34,7 @@ module _ (s : Cutting) (b : ℕ) (bs behind : List ℕ) (is : IsCutting s) (numb
   abbrev ended_or : Bool → Found
   ended_or t = judged_from (s.count + 1) (cond t (s.kept ∷ ended_after [] (bs ++ behind)) (ended_after (s.kept ++ b ∷ []) (bs ++ behind)))
 
-  feeds-line : eqb b 10 ≡ true → Feeds Whole (with_line s) 1 s (b ∷ bs) behind
+  feeds-line : eqb b 10 ≡ true → Feeds Whole (with_whole_line s) 1 s (b ∷ bs) behind
   feeds-line newline = (
     ap ended_or newline ∙ ap (λ j. judged_then (s.count + 1) j (judged_from (s.count + 1 + 1) (ended_after [] (bs ++ behind)))) (judge-ok (s.count + 1) s.kept (omega (arith, number, is.few)) is.short),
     (omega (arith, number, is.few, is.short), (refl, refl)),

@@ -13,7 +13,7 @@ use Rattle.vc_script.specs.declared.reply.Reply.{Reply}
 use Rattle.vc_script.specs.ProperReply.{IsProperReply}
 use Rattle.vc_script.specs.Proper.{IsProperCommand}
 use Rattle.vc_script.specs.Lines.{ended_lines}
-use Rattle.vc_script.specs.Needs.{IsAscending, Need, ShowsNeeds, is_refusal, need_at, need_shown}
+use Rattle.vc_script.specs.Needs.{AreAscending, Need, ShowsNeeds, is_refusal, need_at, need_shown}
 use Rattle.vc_script.proofs.Texts.{ascending-push}
 use Rattle.vc_steps.specs.Account.{Settles}
 use Rattle.vc_steps.specs.Moment.{Moment, moment_at_end, over_sink}
@@ -200,7 +200,7 @@ module _ {quiet : Bool} {start now : Moment} {before : Counts} {text : List ℕ}
     progress-step = record {
       ran = stepped_ran;
       lines = lines_next ∙ (ap (λ ns. ns ++ n ∷ []) p.lines ∙ sym (map-append (λ (r : ℕ × Reply). r.0) p.ran.replies ((n, i.reply) ∷ [])));
-      rising = subst IsAscending (sym lines_next) (ascending-push (lines_of done) n p.rising below-next);
+      rising = subst AreAscending (sym lines_next) (ascending-push (lines_of done) n p.rising below-next);
       within = subst (AllByRecursion (λ m. m ≤ n)) (sym lines_next) (all-push (λ m. m ≤ n) (lines_of done) n within-next (omega arith));
       proper = all-push (λ (r : ℕ × Reply). IsProperReply r.1) p.ran.replies (n, i.reply) p.proper proper_next.0;
       proper_state = proper_next.1;
@@ -233,7 +233,7 @@ module _ {quiet : Bool} {start now : Moment} {counts : Counts} {text : List ℕ}
   shows tail few none =
       subst (λ t. ShowsNeeds (needs_by quiet (lines_of done) (t ++ tail)) p.ran.replies) (sym p.told)
       (subst (λ ns. ShowsNeeds (needs_by quiet ns (body_of quiet p.ran ++ tail)) p.ran.replies) (sym p.lines)
-      (shows-needs quiet p.ran.replies tail (few_lines few) (subst IsAscending p.lines p.rising) p.proper none))
+      (shows-needs quiet p.ran.replies tail (few_lines few) (subst AreAscending p.lines p.rising) p.proper none))
 
   pub progress-end : (said : Ran → List ℕ) (tail : List ℕ) (after : Option (List ℕ)) → count < 2 ^ 64 → (quiet ≡ true → (n : ℕ) → n < 2 ^ 64 → NoLine n (ended_lines tail)) → said p.ran ≡ body_of quiet p.ran ++ tail → Told start.written after (text ++ tail) → IsRun quiet said start (moment_at_end (over_sink now after)) done
   progress-end said tail after few none says told =

@@ -12,7 +12,7 @@ use Rattle.vc_script.specs.declared.reply.Reply.{Reply}
 use Rattle.vc_script.specs.declared.reply.Reply.TheVariants.{Number, Refused}
 use Rattle.vc_script.specs.Lines.{ended_after, ended_lines}
 use Rattle.vc_script.specs.Needs as needs
-use Rattle.vc_script.specs.Needs.{IsAscending, Need, NoNeed, ForBlock, ForTable, ForObject, ShowsNeeds, need_shown}
+use Rattle.vc_script.specs.Needs.{AreAscending, Need, NoNeed, ForBlock, ForTable, ForObject, ShowsNeeds, need_shown}
 use Rattle.vc_script.specs.Print.{line_of, printed}
 use Rattle.vc_script.specs.ProperReply.{IsProperReply}
 use Rattle.vc_script.specs.Words.{is_digit}
@@ -177,7 +177,7 @@ none-push r (q ∷ qs) front here below later none = (
 )
 
 -- at each line the need of its reply is told
-quiet-each : (front tail : List (List ℕ)) (rs : List (ℕ × Reply)) → Below rs → IsAscending (numbers_of rs) → NoneOf rs front → NoneOf rs tail → AllByRecursion (λ r. quiet_need (front ++ (flat_map shown rs ++ tail)) r.0 ≡ need_shown r.1) rs
+quiet-each : (front tail : List (List ℕ)) (rs : List (ℕ × Reply)) → Below rs → AreAscending (numbers_of rs) → NoneOf rs front → NoneOf rs tail → AllByRecursion (λ r. quiet_need (front ++ (flat_map shown rs ++ tail)) r.0 ≡ need_shown r.1) rs
 quiet-each front tail [] below rising before behind = tt
 quiet-each front tail (r ∷ rs) below rising before behind = (
   ap (λ ls. quiet_need (front ++ ls) r.0) (append_assoc (shown r) (flat_map shown rs) tail)
@@ -199,7 +199,7 @@ none-all tail none [] below = tt
 none-all tail none (r ∷ rs) below = (none r.0 below.0, none-all tail none rs below.1)
 
 -- a quiet text shows the needs of its replies, where no line behind it has a number in front
-shows-quiet : (rs : List (ℕ × Reply)) (tail : List ℕ) → Below rs → IsAscending (numbers_of rs) → AllByRecursion (λ r. IsProperReply r.1) rs → ((n : ℕ) → n < 2 ^ 64 → NoLine n (ended_lines tail)) → ShowsNeeds (needs_by true (numbers_of rs) (body_by true rs ++ tail)) rs
+shows-quiet : (rs : List (ℕ × Reply)) (tail : List ℕ) → Below rs → AreAscending (numbers_of rs) → AllByRecursion (λ r. IsProperReply r.1) rs → ((n : ℕ) → n < 2 ^ 64 → NoLine n (ended_lines tail)) → ShowsNeeds (needs_by true (numbers_of rs) (body_by true rs ++ tail)) rs
 shows-quiet rs tail below rising proper none =
     subst (λ needs. ShowsNeeds needs rs)
     (sym (ap (λ ls. map (λ n. (n, quiet_need ls n)) (numbers_of rs)) (ended-body rs tail proper)
@@ -232,13 +232,13 @@ needs-plain : (rs : List (ℕ × Reply)) (tail : List ℕ) → AllByRecursion (�
 needs-plain [] tail proper = refl
 needs-plain (r ∷ rs) tail proper =
     let rest = body_by false rs ++ tail in
-    ap (λ ls. needs.needs_by (r.0 ∷ numbers_of rs) ls)
+    ap (λ ls. needs.needs_in_turn (r.0 ∷ numbers_of rs) ls)
     (ap ended_lines (append_assoc (line_of r.1) (body_by false rs) tail) ∙ ended-line (printed r.1) rest (line-printed r.1 proper.0))
-    ∙ (ap (λ need. (r.0, need) ∷ needs.needs_by (numbers_of rs) (ended_lines rest)) (need_of-printed r.1 proper.0)
+    ∙ (ap (λ need. (r.0, need) ∷ needs.needs_in_turn (numbers_of rs) (ended_lines rest)) (need_of-printed r.1 proper.0)
     ∙ ap (λ needs. (r.0, need_shown r.1) ∷ needs) (needs-plain rs tail proper.1))
 
 -- a text shows the needs of its replies
-pub shows-needs : (quiet : Bool) (rs : List (ℕ × Reply)) (tail : List ℕ) → AllByRecursion (λ n. n < 2 ^ 64) (numbers_of rs) → IsAscending (numbers_of rs) → AllByRecursion (λ r. IsProperReply r.1) rs → (quiet ≡ true → (n : ℕ) → n < 2 ^ 64 → NoLine n (ended_lines tail)) → ShowsNeeds (needs_by quiet (numbers_of rs) (body_by quiet rs ++ tail)) rs
+pub shows-needs : (quiet : Bool) (rs : List (ℕ × Reply)) (tail : List ℕ) → AllByRecursion (λ n. n < 2 ^ 64) (numbers_of rs) → AreAscending (numbers_of rs) → AllByRecursion (λ r. IsProperReply r.1) rs → (quiet ≡ true → (n : ℕ) → n < 2 ^ 64 → NoLine n (ended_lines tail)) → ShowsNeeds (needs_by quiet (numbers_of rs) (body_by quiet rs ++ tail)) rs
 shows-needs false rs tail below rising proper none =
     subst (λ needs. ShowsNeeds needs rs) (sym (needs-plain rs tail proper)) (shows-needs_shown rs rising)
 shows-needs true rs tail below rising proper none = shows-quiet rs tail below rising proper (none refl)

@@ -40,7 +40,7 @@ pub record IsStep (quiet : Bool) (now next : Moment) (before counts : Counts) (n
   pub counted : IsTrue quiet → counts ≡ counts_with_step before (step now.state n command (need_shown reply))
 
 -- what running the command of a line promises by its answer: it is a step, and quietly it was counted
-pub record RunsCommand {E : Type 0} (quiet : Bool) (answer : Result Reply E) (now next : Moment) (before counts : Counts) (n : ℕ) (command : Command) : Type 0 where
+pub record RunsLine {E : Type 0} (quiet : Bool) (answer : Result Reply E) (now next : Moment) (before counts : Counts) (n : ℕ) (command : Command) : Type 0 where
   pub steps : StepsBy answer now next command (λ s. step s n command)
   pub counts_on : CountsOn quiet answer counts next n (λ reply. IsTrue quiet → counts ≡ counts_with_step before (step now.state n command (need_shown reply)))
 

@@ -7,7 +7,7 @@ use Rattle.vc_counts.specs.declared.counts.Counts.{Counts}
 use Rattle.vc_dtdisc.specs.Rules.{Rules}
 use Rattle.vc_model.specs.Discipline.{Discipline}
 use Rattle.vc_script.specs.declared.command.Command.{Command}
-use Rattle.vc_script.specs.Needs.{IsAscending, Need, ShowsNeeds}
+use Rattle.vc_script.specs.Needs.{AreAscending, Need, ShowsNeeds}
 use Rattle.vc_script.specs.ProperReply.{IsProperReply}
 use Rattle.vc_seg.specs.declared.shelf.Shelf.{Shelf}
 use Rattle.vc_session.specs.ProperState.{IsProperOver, IsProperState}
@@ -24,7 +24,7 @@ use Rattle.vc_steps.specs.declared.session.Session.{Session}
 pub record Progress (quiet : Bool) (start now : Moment) (counts : Counts) (text : List ℕ) (count : ℕ) (done : List (ℕ × Command)) : Type 0 where
   pub ran : Ran
   pub lines : lines_of done ≡ map (λ r. r.0) ran.replies
-  pub rising : IsAscending (lines_of done)
+  pub rising : AreAscending (lines_of done)
   pub within : AllByRecursion (λ n. n ≤ count) (lines_of done)
   pub proper : AllByRecursion (λ r. IsProperReply r.1) ran.replies
   pub proper_state : IsProperState now.state

@@ -10,19 +10,19 @@ use Rattle.vc_steps.specs.Moment.{Moment}
 use Rattle.vc_words.specs.declared.words.Words.{Words}
 
 -- what a tool is lent: a shelf, kinds of dictionaries, a source, a sink of replies, and one of faults
-pub record Lent (H K S O E : Type 0) : Type 0 where
+pub record LentToTool (H K S O E : Type 0) : Type 0 where
   pub shelf : H
   pub kinds : K
   pub source : S
   pub out : O
   pub err : E
 
-abbrev pub lent_state : {H K S O E : Type 0} → H → K → S → O → E → Lent H K S O E
+abbrev pub lent_state : {H K S O E : Type 0} → H → K → S → O → E → LentToTool H K S O E
 lent_state shelf kinds source out err =
     record { shelf = shelf; kinds = kinds; source = source; out = out; err = err }
 
 -- by how a tool ends whose words ask for that, or are refused, from what it was lent to what it gives back; read by these, a shelf and kinds are a moment, and the streams mean that
-pub record Promises {H K S O E : Type 0} (tool : Tool) (asked : Option Words) (status : Status) (old new : Lent H K S O E) (rest : H → K → Moment) (streams : S → O → E → Streams) : Type 0 where
+pub record Promises {H K S O E : Type 0} (tool : Tool) (asked : Option Words) (status : Status) (old new : LentToTool H K S O E) (rest : H → K → Moment) (streams : S → O → E → Streams) : Type 0 where
   -- what was run, read, written and told of, and in what the shelf and the kinds are given back
   pub headline : Headline tool asked (rest old.shelf old.kinds) (rest new.shelf new.kinds) (streams old.source old.out old.err) (streams new.source new.out new.err) status
   -- which status is due where no stream failed

@@ -21,14 +21,14 @@ command_then n Blank behind = behind
 command_then n (Is command) behind = (n, command) ∷ behind
 command_then n (Bad fault) behind = []
 
-abbrev pub command_of : Tool → ℕ → Result (List ℕ) LineFault → List (ℕ × Command) → List (ℕ × Command)
-command_of tool n (Ok line) behind = command_then n (answer tool line) behind
-command_of tool n (Err fault) behind = []
+abbrev pub command_in_turn : Tool → ℕ → Result (List ℕ) LineFault → List (ℕ × Command) → List (ℕ × Command)
+command_in_turn tool n (Ok line) behind = command_then n (answer tool line) behind
+command_in_turn tool n (Err fault) behind = []
 
 -- the commands of lines before the first bad one, each with its line's number
 abbrev pub commands : Tool → List (ℕ × Result (List ℕ) LineFault) → List (ℕ × Command)
 commands tool [] = []
-commands tool (line ∷ rest) = command_of tool line.0 line.1 (commands tool rest)
+commands tool (line ∷ rest) = command_in_turn tool line.0 line.1 (commands tool rest)
 
 abbrev pub script : Tool → List ℕ → List (ℕ × Command)
 script tool input = commands tool (judged_lines input)
@@ -38,14 +38,14 @@ fault_then n Blank behind = behind
 fault_then n (Is command) behind = behind
 fault_then n (Bad fault) behind = Some (n, fault)
 
-abbrev pub fault_of : Tool → ℕ → Result (List ℕ) LineFault → Option (ℕ × LineFault) → Option (ℕ × LineFault)
-fault_of tool n (Ok line) behind = fault_then n (answer tool line) behind
-fault_of tool n (Err fault) behind = Some (n, fault)
+abbrev pub fault_in_turn : Tool → ℕ → Result (List ℕ) LineFault → Option (ℕ × LineFault) → Option (ℕ × LineFault)
+fault_in_turn tool n (Ok line) behind = fault_then n (answer tool line) behind
+fault_in_turn tool n (Err fault) behind = Some (n, fault)
 
 -- the first bad line, by its number, and what is wrong with it
 abbrev pub fault_in : Tool → List (ℕ × Result (List ℕ) LineFault) → Option (ℕ × LineFault)
 fault_in tool [] = None
-fault_in tool (line ∷ rest) = fault_of tool line.0 line.1 (fault_in tool rest)
+fault_in tool (line ∷ rest) = fault_in_turn tool line.0 line.1 (fault_in tool rest)
 
 abbrev pub first_bad : Tool → List ℕ → Option (ℕ × LineFault)
 first_bad tool input = fault_in tool (judged_lines input)

@@ -2,7 +2,7 @@
 ghost use Rattle.std.specs.Prelude.{Some, IsTrue};
 ghost use Rattle.vc_counts.specs.CanCount.{CanCount};
 ghost use Rattle.vc_counts.specs.Counts.{busy_in};
-ghost use Rattle.vc_session.specs.Engine.{IsStep, RunsCommand};
+ghost use Rattle.vc_session.specs.Engine.{IsStep, RunsLine};
 ghost use Rattle.vc_session.specs.Progress.{CountsOn};
 ghost use Rattle.vc_steps.specs.Homes.{IsSessionOver, state_over};
 ghost use Rattle.vc_steps.specs.Moment.{over_sink};
@@ -33,7 +33,7 @@ fn run_command<D: DictDisc>(
         (state_over state (rules_in D.rules kinds.old.items) shelf.old session.old)) n }
     ensures { RunsOver state D.rules D.gone shelf.old session.old kinds.old.items
         shelf.new session.new kinds.new.items
-        (λ now next. RunsCommand quiet result now next counts.old counts.new n command.now) }
+        (λ now next. RunsLine quiet result now next counts.old counts.new n command.now) }
 {
     if quiet {
         return counted_step(session, shelf, kinds, n, command, counts);

@@ -8,7 +8,7 @@ use Rattle.vc_splay.specs.Tree.{Tree, Leaf, Node, names, name_of}
 use Rattle.vc_splay.specs.Store.{Store}
 use Rattle.vc_splay.specs.Stands.{HasTree, IsTree, IsWithin, Stands}
 use Rattle.vc_splay.specs.Moves.{Context, Top, Under, count, name_at, plug, tally}
-use Rattle.vc_splay.specs.Walks.{IsPart, IsPlaced, IsTop, beyond, neighbour, tip}
+use Rattle.vc_splay.specs.Walks.{IsPart, IsNodePlaced, IsTop, beyond, neighbour, tip}
 use Rattle.vc_splay.proofs.PlugLemmas.{IsRound-open, place}
 use Rattle.vc_splay.proofs.SplayLemmas.{tally-within}
 use Rattle.vc_splay.proofs.StandsLemmas.{some_held}
@@ -102,7 +102,7 @@ pub whole_top : (s : Store) (root : ℕ) → HasTree s root → IsTop s root
 whole_top s root h = record { context = Top; tree = h.tree; part = whole_part s root h.tree h.is_tree; top = h.is_tree.top }
 
 -- a name of a tree is at a place in it
-pub placed : (s : Store) (at : ℕ) → IsWithin s at → IsPlaced s at
+pub placed : (s : Store) (at : ℕ) → IsWithin s at → IsNodePlaced s at
 placed s at h =
     let p = place h.is_in.tree at (tally-within at h.is_in.tree h.is_in.within) in
     let back : h.is_in.tree ≡ plug p.context (Node p.left at p.right) = sym p.whole in
@@ -217,13 +217,13 @@ previous_by s root at t result none h within k =
 at_place : (s : Store) (c : Context) (l : Tree) (at : ℕ) (r : Tree) → IsPart s c (Node l at r) → Stands s (name_at c) (Node l at r)
 at_place s c l at r p = (IsRound-open s c (Node l at r) p.stands).1
 
-pub placed_held : (s : Store) (at : ℕ) → IsPlaced s at → s.has at ≡ true
+pub placed_held : (s : Store) (at : ℕ) → IsNodePlaced s at → s.has at ≡ true
 placed_held s at h = (at_place s h.context h.left at h.right h.part).0.held
 
-pub placed_top : (s : Store) (at : ℕ) → IsPlaced s at → IsTop s at
+pub placed_top : (s : Store) (at : ℕ) → IsNodePlaced s at → IsTop s at
 placed_top s at h = record { context = h.context; tree = Node h.left at h.right; part = h.part; top = refl }
 
-pub kid_top : (s : Store) (side : Bool) (at inner : ℕ) → IsPlaced s at → inner ≡ s.kid side at → IsTop s inner
+pub kid_top : (s : Store) (side : Bool) (at inner : ℕ) → IsNodePlaced s at → inner ≡ s.kid side at → IsTop s inner
 kid_top s true at inner h e = record {
   context = Under true at h.right h.context;
   tree = h.left;

@@ -5,7 +5,7 @@ use Rattle.vc_splay.specs.Tree.{Tree, Node, names, name_of}
 use Rattle.vc_splay.specs.Store.{Store, SameLinks, with_parent}
 use Rattle.vc_splay.specs.Stands.{IsIn, IsTree, Stands, TreeAfter}
 use Rattle.vc_splay.specs.Walks.{run}
-use Rattle.vc_splay.specs.Writes.{CanSettle, store_with_root, with_child}
+use Rattle.vc_splay.specs.Writes.{CanSettleNode, store_with_root, with_child}
 use Rattle.vc_splay.specs.Moves.{Context, Top, Under, HasKid, IsInHand, IsRising, IsTaken, Step, Topped, one, plug, tally}
 use Rattle.vc_splay.specs.Unique.{IsTree-one}
 use Rattle.vc_splay.proofs.FewLemmas.{rising_run}
@@ -131,7 +131,7 @@ climb_less old now new at t below above left right under over left2 right2 k non
     omega arith
 
 -- a node at the top, once it is settled
-pub can_settle : (s : Store) (at left right : ℕ) (t : Tree) → IsInHand s at left right t → CanSettle s at left right
+pub can_settle : (s : Store) (at left right : ℕ) (t : Tree) → IsInHand s at left right t → CanSettleNode s at left right
 can_settle s at left right t l = record {
   held = l.held;
   left_held = IsCut-held s left l.left_tree l.left_cut;

@@ -5,7 +5,7 @@ use Rattle.std.proofs.lemmas.Bool.Decides.{eqb_tells}
 use Rattle.vc_splay.specs.Tree.{Tree, Leaf, Node, names, name_of}
 use Rattle.vc_splay.specs.Store.{Store}
 use Rattle.vc_splay.specs.Stands.{Stands}
-use Rattle.vc_splay.specs.Writes.{AreTurned, CanHang, CanTurn, with_child, zig_zag, zig_zig}
+use Rattle.vc_splay.specs.Writes.{AreTurned, CanHang, CanTurnNodes, with_child, zig_zag, zig_zig}
 use Rattle.vc_splay.specs.Moves.{Context, Top, Under, HasKid, IsCut, IsFrame, IsInHand, IsRising, IsRound, Step, joined_tree, name_at, one, plug, tally, tally_round}
 use Rattle.vc_splay.proofs.TallyLemmas.{one-same, one-other, tally-joined, tally-leaf, tally-node, tally-root}
 use Rattle.vc_splay.proofs.RotationLemmas.{plug-names, plug-tally, rotate, rotate_across, rotate_twice}
@@ -127,7 +127,7 @@ zig-step s d x below p left right near inner left2 right2 sibling t none before 
 
 -- two steps
 pub record Double (s new : Store) (x above top first second : ℕ) (c : Context) (t : Tree) (next left right : ℕ) : Type 0 where
-  pub can : CanTurn s above top first second
+  pub can : CanTurnNodes s above top first second
   pub step : Step s new x c t top next left right
 
 -- that no name stands twice in the parts, where a node is on its way up below two

@@ -45,7 +45,7 @@ pub record IsPair (s : Store) (left right : ℕ) (front back : Tree) : Type 0 wh
   pub back_top : right ≡ name_of back
   pub distinct : AreDistinct (names front ++ names back)
 
-pub record CanJoin (s : Store) (left right : ℕ) : Type 0 where
+pub record CanJoinTrees (s : Store) (left right : ℕ) : Type 0 where
   pub front : Tree
   pub back : Tree
   pub pair : IsPair s left right front back

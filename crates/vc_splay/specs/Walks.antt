@@ -36,7 +36,7 @@ pub record IsPart (s : Store) (c : Context) (t : Tree) : Type 0 where
   pub distinct : AreDistinct (names (plug c t))
 
 -- there is such a part between its two subtrees, or one that has this name at its top
-pub record IsPlaced (s : Store) (at : ℕ) : Type 0 where
+pub record IsNodePlaced (s : Store) (at : ℕ) : Type 0 where
   pub context : Context
   pub left : Tree
   pub right : Tree

@@ -43,14 +43,14 @@ pub record CanHang (s : Store) (n child : ℕ) : Type 0 where
   pub child_held : child ≢ 0 → s.has child ≡ true
 
 -- the two nodes above are there, and so are these two, where there are such
-pub record CanTurn (s : Store) (above top first second : ℕ) : Type 0 where
+pub record CanTurnNodes (s : Store) (above top first second : ℕ) : Type 0 where
   pub above_held : s.has above ≡ true
   pub top_held : s.has top ≡ true
   pub first_held : first ≢ 0 → s.has first ≡ true
   pub second_held : second ≢ 0 → s.has second ≡ true
 
 -- a node is there, and so are its two subtrees' roots, where there are such
-pub record CanSettle (s : Store) (at left right : ℕ) : Type 0 where
+pub record CanSettleNode (s : Store) (at left right : ℕ) : Type 0 where
   pub held : s.has at ≡ true
   pub left_held : left ≢ 0 → s.has left ≡ true
   pub right_held : right ≢ 0 → s.has right ≡ true

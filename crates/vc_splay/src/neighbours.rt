@@ -3,7 +3,7 @@ ghost use Rattle.vc_base.specs.Holders.{contains, next_in, previous_in, some_add
 ghost use Rattle.vc_splay.specs.Moves.{Context};
 ghost use Rattle.vc_splay.specs.Stands.{IsTree, IsWithin};
 ghost use Rattle.vc_splay.specs.Tree.{Tree, Node, names, name_of};
-ghost use Rattle.vc_splay.specs.Walks.{IsPart, IsPlaced, IsTop, beyond, neighbour};
+ghost use Rattle.vc_splay.specs.Walks.{IsPart, IsNodePlaced, IsTop, beyond, neighbour};
 
 use crate::Links;
 use crate::ends::end_of;
@@ -31,7 +31,7 @@ pub fn prev<N: Links>(nodes: &N, at: u32) -> u32
 // The name right before one of a tree, at true, or right behind it.
 #[inline(always)]
 fn beside<N: Links>(nodes: &N, side: bool, at: u32) -> u32
-    requires { IsPlaced (N.store nodes.now) at }
+    requires { IsNodePlaced (N.store nodes.now) at }
     ensures { (context : Context) (left right : Tree)
         → IsPart (N.store nodes.now) context (Node left at right)
         → result ≡ neighbour side context left right }

@@ -2,7 +2,7 @@ ghost use Rattle.std.specs.Prelude.{◌≡◌, not, true};
 ghost use Rattle.vc_splay.specs.Moves.{CanRise, CanStep, Context, IsRising, IsTaken, Step, Topped, plug};
 ghost use Rattle.vc_splay.specs.Stands.{TreeAfter};
 ghost use Rattle.vc_splay.specs.Tree.{Tree, names};
-ghost use Rattle.vc_splay.specs.Writes.{AreTurned, CanSettle, CanTurn, store_with_root, zig_zag, zig_zig};
+ghost use Rattle.vc_splay.specs.Writes.{AreTurned, CanSettleNode, CanTurnNodes, store_with_root, zig_zag, zig_zig};
 
 use crate::Nodes;
 use crate::sides::{hang, kid, side_of, turned};
@@ -116,7 +116,7 @@ fn risen(side: bool, near: u32, far: u32, below: u32, above: u32) -> Rising
 // subtree in its place.
 #[inline(always)]
 fn zig_zig<N: Nodes>(nodes: &mut N, side: bool, inner: u32, above: u32, top: u32)
-    requires { CanTurn (N.store nodes.old) above top
+    requires { CanTurnNodes (N.store nodes.old) above top
         ((N.store nodes.old).kid (not side) above) inner }
     ensures store { N.store nodes.new ≡ zig_zig side inner above top (N.store nodes.old) }
     ensures rest { N.stays nodes.old nodes.new }
@@ -130,7 +130,7 @@ fn zig_zig<N: Nodes>(nodes: &mut N, side: bool, inner: u32, above: u32, top: u32
 // A step on each side: the one above gets the node's inner subtree, and the top the near one.
 #[inline(always)]
 fn zig_zag<N: Nodes>(nodes: &mut N, side: bool, near: u32, inner: u32, above: u32, top: u32)
-    requires { CanTurn (N.store nodes.old) above top near inner }
+    requires { CanTurnNodes (N.store nodes.old) above top near inner }
     ensures store { N.store nodes.new ≡ zig_zag side near inner above top (N.store nodes.old) }
     ensures rest { N.stays nodes.old nodes.new }
 {
@@ -141,7 +141,7 @@ fn zig_zag<N: Nodes>(nodes: &mut N, side: bool, near: u32, inner: u32, above: u3
 // Writes the links between a node in hand and its two subtrees, and makes it a root.
 #[inline(always)]
 fn settle<N: Nodes>(nodes: &mut N, at: u32, left: u32, right: u32)
-    requires { CanSettle (N.store nodes.old) at left right }
+    requires { CanSettleNode (N.store nodes.old) at left right }
     ensures store { N.store nodes.new ≡ store_with_root at left right (N.store nodes.old) }
     ensures rest { N.stays nodes.old nodes.new }
 {

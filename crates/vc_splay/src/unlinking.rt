@@ -1,6 +1,6 @@
 ghost use Rattle.std.specs.Prelude.{◌≡◌, ◌++◌};
 ghost use Rattle.vc_base.specs.Holders.{without};
-ghost use Rattle.vc_splay.specs.Searches.{CanJoin, IsPair};
+ghost use Rattle.vc_splay.specs.Searches.{CanJoinTrees, IsPair};
 ghost use Rattle.vc_splay.specs.Stands.{IsIn, IsTree, TreeAfter};
 ghost use Rattle.vc_splay.specs.Tree.{Tree, names};
 
@@ -31,7 +31,7 @@ pub fn unlink<N: Nodes>(nodes: &mut N, root: u32, at: u32) -> u32
 // the second one's root as its right child.
 #[inline(always)]
 fn join<N: Nodes>(nodes: &mut N, left: u32, right: u32) -> u32
-    requires { CanJoin (N.store nodes.old) left right }
+    requires { CanJoinTrees (N.store nodes.old) left right }
     ensures tree { (front back : Tree) → IsPair (N.store nodes.old) left right front back
         → TreeAfter (N.store nodes.old) (N.store nodes.new) (names front ++ names back) result
         (names front ++ names back) }

@@ -10,6 +10,6 @@ abbrev pub AreNamed : List Held → Type 0
 AreNamed held = AllByRecursion (λ h. IsNamed h.region h.labels) held
 
 -- the size of the block of that name in a region; 0 where there is none
-abbrev pub size_in : List ℕ → Option Home → ℕ
-size_in x None = 0
-size_in x (Some h) = size_named x h.region
+abbrev pub size_in_home : List ℕ → Option Home → ℕ
+size_in_home x None = 0
+size_in_home x (Some h) = size_named x h.region

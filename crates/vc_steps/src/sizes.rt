@@ -2,7 +2,7 @@
 ghost use Rattle.std.specs.Prelude.{◌≡◌, length, map};
 ghost use Rattle.vc_commands.specs.Held.{home_of};
 ghost use Rattle.vc_steps.specs.Homes.{held_in};
-ghost use Rattle.vc_steps.specs.Sizes.{AreNamed, size_in};
+ghost use Rattle.vc_steps.specs.Sizes.{AreNamed, size_in_home};
 ghost use Rattle.vc_steps.specs.State.{home_named};
 
 use crate::session::Session;
@@ -15,7 +15,7 @@ impl<D> Session<D> {
     pub fn size_named(&self, region: &Name, block: &Name) -> u32
         requires labels { length self.now.labels.items ≡ length self.now.homes.entries }
         requires names { AreNamed (held_in state self.now) }
-        ensures { result ≡ size_in block.now
+        ensures { result ≡ size_in_home block.now
             (home_named region.now (map home_of (held_in state self.now))) }
     {
         match self.homes.get_index_of(region) {

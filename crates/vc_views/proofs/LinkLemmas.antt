@@ -17,7 +17,7 @@ use Rattle.vc_paths.specs.Links.{ArePaths, Links, below, is_link_to, is_viewed, 
 use Rattle.vc_paths.proofs.LinkLemmas.{below-linked, below-other}
 use Rattle.vc_views.specs.Dicts.{AreNumbered, entry_numbered, number_in}
 use Rattle.vc_views.specs.Numbers.{AreLinked, home_by, name_numbered, views_by}
-use Rattle.vc_views.specs.Views.{DictHome, is_linked_in, is_name_of, is_viewed_in, views_it, with_view}
+use Rattle.vc_views.specs.Views.{DictHome, is_linked_in, is_viewed_name, is_viewed_in, views_it, with_view}
 use Rattle.vc_views.proofs.LinkLists.{same-test, stands-any}
 use Rattle.vc_views.proofs.NamedEntries.{Entry, by-number, find-stands, found-number, other-name, other-number, same-named}
 use Rattle.vc_views.proofs.NumbersToNames.{all-at, home, homes}
@@ -73,11 +73,11 @@ module _ (over : Entry → Dictionary) (links : Links) (entries : List Entry) (n
     found = by-number entries i e linked.numbered.distinct at
 
     -- a view by its name is a link to its number
-    link-named : (n : ℕ) (o : Option ℕ) → below links n ≡ o → is_name_of e.0 (option_and_then (name_numbered entries) o) ≡ true → is_viewed links (number_in e) ≡ true
+    link-named : (n : ℕ) (o : Option ℕ) → below links n ≡ o → is_viewed_name e.0 (option_and_then (name_numbered entries) o) ≡ true → is_viewed links (number_in e) ≡ true
     link-named n None b passes = absurd (true≢false (sym passes))
     link-named n (Some m) b passes =
         let link = linked.linked n m b in
-        let name : bytes_eq link.lower.0 e.0 ≡ true = sym (ap (λ o. is_name_of e.0 (option_map (λ (f : Entry). f.0) o)) link.lower_is) ∙ passes in
+        let name : bytes_eq link.lower.0 e.0 ≡ true = sym (ap (λ o. is_viewed_name e.0 (option_map (λ (f : Entry). f.0) o)) link.lower_is) ∙ passes in
         let one : m ≡ number_in e = same-named entries names (number_in e) m e link.lower found link.lower_is ((bytes_eq-Decides link.lower.0 e.0).0 name) in
         viewed-by links n (number_in e) (b ∙ ap (λ z. Some z) one)
 
@@ -92,8 +92,8 @@ module _ (over : Entry → Dictionary) (links : Links) (entries : List Entry) (n
         let link = linked.linked v.0 (number_in e) v.1 in
         let there = find-stands (λ f. number_in f == v.0) entries link.upper link.upper_is in
         any_passes_from_place (λ f. views_it e.0 (home over links entries f)) entries there.0 link.upper there.1
-        (ap (λ n. is_name_of e.0 (views_by links entries n)) (found-number entries v.0 link.upper link.upper_is)
-        ∙ ap (is_name_of e.0) (views-some links entries v.0 (number_in e) e v.1 found)
+        (ap (λ n. is_viewed_name e.0 (views_by links entries n)) (found-number entries v.0 link.upper link.upper_is)
+        ∙ ap (is_viewed_name e.0) (views-some links entries v.0 (number_in e) e v.1 found)
         ∙ (bytes_eq-Decides e.0 e.0).1 refl)
 
     -- a dictionary is viewed where its number is

@@ -20,7 +20,7 @@ use Rattle.vc_script.specs.declared.command.Command.{Command}
 use Rattle.vc_commands.specs.Looking.{look_found, look_reply, own_place}
 use Rattle.vc_views.specs.Dicts.{entry_numbered, number_in}
 use Rattle.vc_views.specs.Numbers.{AreLinked, name_numbered}
-use Rattle.vc_views.specs.Views.{layer_seen, seen_through, seen_under}
+use Rattle.vc_views.specs.Views.{named_layer, seen_through, seen_under}
 use Rattle.vc_views.proofs.NamedEntries.{Entry, by-number, same-named}
 use Rattle.vc_views.proofs.NamedLooks.{look_place-renamed, look_reply-renamed}
 use Rattle.vc_views.proofs.NumbersToNames.{AreLayersIn, home, homes, path-each}
@@ -39,7 +39,7 @@ module _ (over : Entry → Dictionary) (all : Layered) (links : Links) (entries 
   module _ (other : List ℕ) where
     -- the objects of a dictionary are those of its number's layer, under its name
     layer-named : (n : ℕ) (e : Entry) → entry_numbered n entries ≡ Some e
-        → layer_seen (home over links entries e) ≡ map (rename (name_or entries other)) (objects_of all n)
+        → named_layer (home over links entries e) ≡ map (rename (name_or entries other)) (objects_of all n)
     layer-named n e found =
         let is = layers n e found in
         let name : name_or entries other n ≡ e.0 = ap (λ o. unwrap_or (option_map (λ (f : Entry). f.0) o) other) found in
@@ -54,7 +54,7 @@ module _ (over : Entry → Dictionary) (all : Layered) (links : Links) (entries 
         let found = by-number entries i e linked.numbered.distinct at in
         let is = layers (number_in e) e found in
         ap₂ (λ m os. visible_objects m rules os) (is.over_method ∙ sym is.method)
-        (path-each over links entries names linked layer_seen (λ n. map (rename (name_or entries other)) (objects_of all n)) layer-named i e at
+        (path-each over links entries names linked named_layer (λ n. map (rename (name_or entries other)) (objects_of all n)) layer-named i e at
         ∙ sym (map-map (map (rename (name_or entries other))) (objects_of all) (path links (number_in e))))
         ∙ ap (λ r. visible_objects (all.layer (number_in e)).method r (map (map (rename (name_or entries other))) (map (objects_of all) (path links (number_in e))))) are
         ∙ visible-renamed (name_or entries other) (all.layer (number_in e)).rules (all.layer (number_in e)).method (map (objects_of all) (path links (number_in e)))

@@ -51,20 +51,20 @@ path_in dicts d = path_to path_limit dicts d
 abbrev pub seen_under : List ℕ → Object → Seen (List ℕ)
 seen_under name o = record { dict = name; at = o.at; bytes = o.bytes }
 
-abbrev pub layer_seen : DictHome → List (Seen (List ℕ))
-layer_seen d = map (seen_under d.name) d.dict.objects
+abbrev pub named_layer : DictHome → List (Seen (List ℕ))
+named_layer d = map (seen_under d.name) d.dict.objects
 
 -- what is seen through a dictionary, by its kind's rules
 abbrev pub seen_through : Rules → List DictHome → DictHome → List (Seen (List ℕ))
-seen_through rules dicts d = visible_objects d.dict.method rules (map layer_seen (path_in dicts d))
+seen_through rules dicts d = visible_objects d.dict.method rules (map named_layer (path_in dicts d))
 
 -- whether a dictionary views the one of that name, and whether some dictionary does
-abbrev pub is_name_of : List ℕ → Option (List ℕ) → Bool
-is_name_of name None = false
-is_name_of name (Some other) = bytes_eq other name
+abbrev pub is_viewed_name : List ℕ → Option (List ℕ) → Bool
+is_viewed_name name None = false
+is_viewed_name name (Some other) = bytes_eq other name
 
 abbrev pub views_it : List ℕ → DictHome → Bool
-views_it name d = is_name_of name d.views
+views_it name d = is_viewed_name name d.views
 
 abbrev pub is_viewed_in : List DictHome → List ℕ → Bool
 is_viewed_in dicts name = list_any (views_it name) dicts

@@ -5,8 +5,8 @@ ghost use Rattle.vc_objects.specs.Rows.{first_table, full_bag, full_region};
 ghost use Rattle.vc_objects.specs.Rows.{of_three, offsets_in};
 ghost use Rattle.vc_script.specs.Needs.{NoNeed, ForTable, ForObject};
 ghost use Rattle.vc_commands.specs.DictCommands.{in_dict, object_asked, table_asked};
-ghost use Rattle.vc_commands.specs.DictRows.{name, of_bag, of_many, of_method, of_set, reply_to};
-ghost use Rattle.vc_commands.specs.DictRows.{seat_of, under};
+ghost use Rattle.vc_commands.specs.DictRows.{name, of_bag, seat_of_many, of_method, of_set, reply_to};
+ghost use Rattle.vc_commands.specs.DictRows.{seat_by_fold, under};
 
 use vc_base::DictMethod;
 use vc_dtdisc::Shape;
@@ -88,7 +88,7 @@ pub fn method_rows()
         ≡ Reply.MethodIs name DictMethod.DtOset }
     ensures told { (in_dict of_bag (Command.Remethod name DictMethod.DtOset) NoNeed).told
         ≡ (66 ∷ []) ∷ [] }
-    ensures refused { reply_to (seat_of full_region (of_three DictMethod.DtList None))
+    ensures refused { reply_to (seat_by_fold full_region (of_three DictMethod.DtList None))
         (Command.Remethod name DictMethod.DtSet) NoNeed ≡ Reply.Refused Refusal.TooManySegments }
 {}
 
@@ -103,20 +103,20 @@ pub fn empty_rows()
 
 /// A segment that is refused, for the table that an object wants and for its holder, and one that a region can't have.
 pub fn refused_rows()
-    ensures table { reply_to (of_many 640 32) (Command.Insert name (98 ∷ [])) ForTable
+    ensures table { reply_to (seat_of_many 640 32) (Command.Insert name (98 ∷ [])) ForTable
         ≡ Reply.Refused Refusal.NoSegmentForTable }
-    ensures holder { reply_to (of_many 640 31) (Command.Insert name (replicate 320 98)) ForObject
+    ensures holder { reply_to (seat_of_many 640 31) (Command.Insert name (replicate 320 98)) ForObject
         ≡ Reply.Refused Refusal.NoSegmentForObject }
-    ensures after_table { reply_to (of_many 672 32)
+    ensures after_table { reply_to (seat_of_many 672 32)
         (Command.Insert name (replicate 320 98)) ForObject
         ≡ Reply.Refused Refusal.NoSegmentForObject }
-    ensures limit { reply_to (seat_of full_region full_bag) (Command.Insert name (98 ∷ [])) NoNeed
+    ensures limit { reply_to (seat_by_fold full_region full_bag) (Command.Insert name (98 ∷ [])) NoNeed
         ≡ Reply.Refused Refusal.TooManySegments }
 {}
 
 /// What is asked for: a table of twice the slots, and the object that is made.
 pub fn asked_rows()
-    ensures table { table_asked (of_many 4096 32) (Command.Insert name (99 ∷ [])) ≡ Some 32 }
+    ensures table { table_asked (seat_of_many 4096 32) (Command.Insert name (99 ∷ [])) ≡ Some 32 }
     ensures turned { table_asked (of_method DictMethod.DtList)
         (Command.Remethod name DictMethod.DtSet) ≡ Some 16 }
     ensures none { table_asked of_bag (Command.Delete name None) ≡ None }

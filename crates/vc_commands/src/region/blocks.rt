@@ -7,7 +7,7 @@ ghost use Rattle.vc_region.specs.Cells.{rest_in};
 ghost use Rattle.vc_region.specs.Parts.{disc_in};
 ghost use Rattle.vc_region.specs.Region.{segments_of};
 ghost use Rattle.vc_commands.specs.Held.{IsNamed};
-ghost use Rattle.vc_commands.specs.Blocks.{align_in, align_refused, alloc_in, fault_of, free_in, is_align, is_size, no_block, refusal_of, resize_in, site_of, size_refused};
+ghost use Rattle.vc_commands.specs.Blocks.{align_in, align_refused, alloc_in, fault_of, free_in, is_align, is_size, no_block, script_refusal, resize_in, site_of, size_refused};
 ghost use Rattle.vc_commands.specs.FreedNames.{line_of};
 ghost use Rattle.vc_commands.specs.Labels.{AreLabels, kept_of, tag_of};
 ghost use Rattle.vc_commands.specs.Naming.{NamesPut, TellsFault, new_refused};
@@ -75,7 +75,7 @@ fn site_of(site: &Option<Name>) -> &[u8]
 
 // The refusal for a region's fault; want of memory has none.
 fn refusal_of(fault: RegionFault) -> Option<Refusal>
-    ensures { result ≡ option_map refusal_of (fault_of fault) }
+    ensures { result ≡ option_map script_refusal (fault_of fault) }
 {
     match fault {
         RegionFault::TooManySegments => Some(Refusal::TooManySegments),

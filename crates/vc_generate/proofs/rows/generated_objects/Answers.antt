@@ -2,17 +2,17 @@ use Rattle.std.proofs.Common.{refl}
 use Rattle.std.specs.Fmt.{digits}
 use Rattle.rand_core.specs.Steps.{first_words}
 use Rattle.vc_generate.specs.Generated.{block_commands, commands_of_seed, none_taken}
-use Rattle.vc_generate.specs.Words.{source_of, words_of}
+use Rattle.vc_generate.specs.Words.{source_of, generated_words}
 use Rattle.vc_generate.proofs.rows.generated_objects.Goals as goal
 
 pub returns-clause-one : goal.returns-clause-one
-unfolding commands_of_seed block_commands none_taken words_of source_of first_words digits
+unfolding commands_of_seed block_commands none_taken generated_words source_of first_words digits
 returns-clause-one c = refl
 
 pub returns-clause-two : goal.returns-clause-two
-unfolding commands_of_seed block_commands none_taken words_of source_of first_words digits
+unfolding commands_of_seed block_commands none_taken generated_words source_of first_words digits
 returns-clause-two c = refl
 
 pub returns-clause-five : goal.returns-clause-five
-unfolding commands_of_seed block_commands none_taken words_of source_of first_words digits
+unfolding commands_of_seed block_commands none_taken generated_words source_of first_words digits
 returns-clause-five c = refl

@@ -1,7 +1,7 @@
 use Rattle.std.proofs.Common.{◌≡◌, ℕ, Option, Some, None, length, ap, sym, ◌∙◌, arith}
 use Rattle.std.specs.Prelude.{option_map}
 use Rattle.std.specs.Option.{option_copied}
-use Rattle.vc_model.specs.Last.{newest, place_behind}
+use Rattle.vc_model.specs.Last.{newest, place_behind_latest}
 use Rattle.vc_seg.specs.Segment.{pair_of}
 use Rattle.vc_last.specs.Read.{layout_by}
 use Rattle.vc_last.proofs.Newest.{newest-last}
@@ -25,7 +25,7 @@ returns-in_err-newest c =
     let none : newest (layout_by c.args.segs.now c.args.latest.0) ≡ None =
     sym (ap (λ o. option_map {U = ℕ × ℕ} pair_of (option_copied o)) (sym c.in_err-newest.was)
     ∙ (ap (option_map {U = ℕ × ℕ} pair_of) c.last.ensures.value ∙ newest-last c.args.segs.now c.args.latest.0)) in
-    c.from_residual.ensures ∙ sym (ap (place_behind (layout_by c.args.segs.now c.args.latest.0).blocks c.args.size) none)
+    c.from_residual.ensures ∙ sym (ap (place_behind_latest (layout_by c.args.segs.now c.args.latest.0).blocks c.args.size) none)
 
 pub next_offset-off-requires-clause-newest : goal.next_offset-off-requires-clause-newest
 next_offset-off-requires-clause-newest c =

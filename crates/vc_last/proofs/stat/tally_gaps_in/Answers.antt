@@ -1,7 +1,7 @@
 use Rattle.std.proofs.Common.{◌≡◌, ◌<◌, ◌++◌, length, ap, sym, subst, ◌∙◌}
 use Rattle.vc_layouts.specs.Tally.{HasRoom, tallied_all}
 use Rattle.vc_last.specs.Chain.{IsLast, blocks_from}
-use Rattle.vc_last.specs.Gaps.{below, sizes_above}
+use Rattle.vc_last.specs.Gaps.{gap_end_below, sizes_above}
 use Rattle.vc_last.specs.Head.{before_of, block_of}
 use Rattle.vc_last.proofs.Backs.{gaps-end, gaps-last, gaps_back}
 use Rattle.vc_last.proofs.Chains.{latest-some}
@@ -22,13 +22,13 @@ with_gap-end-requires-clause-head c = (latest-some c.args.segs.now c.loop-at.at.
 
 pub with_gap-end-requires-clause-room : goal.with_gap-end-requires-clause-room
 with_gap-end-requires-clause-room c =
-    step-part c.loop-at.tally (gaps_back c.args.segs.now c.loop-at.at.0 c.args.number c.loop-at.to) (gaps_back c.args.segs.now (before_of c.args.segs.now c.loop-at.at.0) c.args.number (below c.args.number c.loop-at.to (block_of c.args.segs.now c.loop-at.at.0))) (sizes_above c.args.number c.loop-at.to (block_of c.args.segs.now c.loop-at.at.0)) (gaps-last c.args.segs.now c.loop-at.at.0 c.args.number c.loop-at.to c.loop-at.invariant.kept c.loop-at-test.true) c.loop-at.invariant.room
+    step-part c.loop-at.tally (gaps_back c.args.segs.now c.loop-at.at.0 c.args.number c.loop-at.to) (gaps_back c.args.segs.now (before_of c.args.segs.now c.loop-at.at.0) c.args.number (gap_end_below c.args.number c.loop-at.to (block_of c.args.segs.now c.loop-at.at.0))) (sizes_above c.args.number c.loop-at.to (block_of c.args.segs.now c.loop-at.at.0)) (gaps-last c.args.segs.now c.loop-at.at.0 c.args.number c.loop-at.to c.loop-at.invariant.kept c.loop-at-test.true) c.loop-at.invariant.room
 
 pub loop-at-preserved : goal.loop-at-preserved
 loop-at-preserved c =
     let all : gaps_back c.args.segs.now c.loop-at.at.0 c.args.number c.loop-at.to ≡ gaps_back c.args.segs.now c.before_at-at.result.0 c.args.number c.with_gap-end.result.1 ++ sizes_above c.args.number c.loop-at.to (block_of c.args.segs.now c.loop-at.at.0) =
     gaps-last c.args.segs.now c.loop-at.at.0 c.args.number c.loop-at.to c.loop-at.invariant.kept c.loop-at-test.true
-    ∙ (ap (λ a. gaps_back c.args.segs.now a c.args.number (below c.args.number c.loop-at.to (block_of c.args.segs.now c.loop-at.at.0)) ++ (sizes_above c.args.number c.loop-at.to (block_of c.args.segs.now c.loop-at.at.0))) (sym c.before_at-at.ensures) ∙ ap (λ k. gaps_back c.args.segs.now c.before_at-at.result.0 c.args.number k ++ (sizes_above c.args.number c.loop-at.to (block_of c.args.segs.now c.loop-at.at.0))) (sym c.with_gap-end.ensures.to)) in
+    ∙ (ap (λ a. gaps_back c.args.segs.now a c.args.number (gap_end_below c.args.number c.loop-at.to (block_of c.args.segs.now c.loop-at.at.0)) ++ (sizes_above c.args.number c.loop-at.to (block_of c.args.segs.now c.loop-at.at.0))) (sym c.before_at-at.ensures) ∙ ap (λ k. gaps_back c.args.segs.now c.before_at-at.result.0 c.args.number k ++ (sizes_above c.args.number c.loop-at.to (block_of c.args.segs.now c.loop-at.at.0))) (sym c.with_gap-end.ensures.to)) in
     record {
       kept = subst (IsLast c.args.segs.now) (sym c.before_at-at.ensures) (latest-some c.args.segs.now c.loop-at.at.0 c.loop-at-test.true c.loop-at.invariant.kept).kept;
       room = step-room c.loop-at.tally c.with_gap-end.result.0 (gaps_back c.args.segs.now c.loop-at.at.0 c.args.number c.loop-at.to) (gaps_back c.args.segs.now c.before_at-at.result.0 c.args.number c.with_gap-end.result.1) (sizes_above c.args.number c.loop-at.to (block_of c.args.segs.now c.loop-at.at.0)) all c.with_gap-end.ensures.tally c.loop-at.invariant.room;

@@ -25,7 +25,7 @@ use Rattle.std.proofs.alloc.Shapes.{after}
 use Rattle.std.proofs.raw_atomic.Walks.{proved_at, leaves}
 use Rattle.std_alloc.specs.declared.vec.lodged.Lodged.{Lodged}
 use Rattle.std_alloc.proofs.vec.lodge.Met as callee
-use Rattle.vc_seg.specs.Owned.{bytes_of}
+use Rattle.vc_seg.specs.Owned.{bytes_type}
 use Rattle.vc_seg.proofs.Values.{sized_val, sized_told}
 use Rattle.vc_seg.proofs.Walks.{slot_at, Good, tells}
 use Rattle.vc_seg.proofs.Lodging.{byte_laws, Housed, housed-laws, Lodges, at_lodge, IsLodged, lodge_goes, lodge_gives}
@@ -56,7 +56,7 @@ house_spec 𝓤 𝓛 𝓜 𝓡 wired =
     let Lodge = Lodges 𝓛 𝓜.mem 𝓡.returns in
     qed 𝓛 ((raw (alive 𝓛 En₀.signature z.0.0 z.0.1) ⊛ ‵ (owns (types_at En₀.signature.params z.0.0) a vss)) ∷ ‵ ftrue ∷ []) ∵ move ! (1 ∷ []) $ drop ! $ split ! $ move ! (1 ∷ []) $
     fsplit ! $ fsplit ! $ drop ! $ move ! (1 ∷ []) $ drop ! $
-    in_a_block ! x.ptr (λ p. room_for (bytes_of n) p) (id⊢ 𝓤 (never 𝓤)) (λ b o at.
+    in_a_block ! x.ptr (λ p. room_for (bytes_type n) p) (id⊢ 𝓤 (never 𝓤)) (λ b o at.
     let y = at_lodge 𝓛 𝓜.mem 𝓡.returns b o n in
     regoal ! (λ (us : List Val). prop (WpFn 𝓤 H C Λ fn us Post)) (λ i. (told.0 ∙ ap (λ (p : Ptr). sized_val p n ∷ []) at) i ++ []) refl $
     enter ! C Λ fn _ Post $

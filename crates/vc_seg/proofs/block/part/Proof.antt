@@ -31,7 +31,7 @@ use Rattle.std.proofs.alloc.Calls.{Goes-blank}
 use Rattle.std_alloc.proofs.Pairs.{pair_of, pair_val}
 use Rattle.std.proofs.raw_atomic.Walks.{proved_at, leaves}
 use Rattle.vc_model.specs.Discipline.{IsSegmentSize}
-use Rattle.vc_seg.specs.Owned.{bytes_of, right}
+use Rattle.vc_seg.specs.Owned.{bytes_type, right}
 use Rattle.vc_seg.specs.contracts.block.Memory as memory
 use Rattle.vc_seg.specs.contracts.block.Lease as lease
 use Rattle.vc_seg.proofs.Values.{sized_val, sized_own, sized_made, lease_val, lease_own, lease_made, none, none_told}
@@ -42,9 +42,9 @@ use Rattle.vc_seg.proofs.block.part.Statement.{statement}
 use Rattle.vc_seg.proofs.block.part.Code as compiled
 
 -- where bytes lie there is room for them
-bytes_room : {M : Type 1} {𝓤 : Ura M} (𝓛 : Logic 𝓤) (n : ℕ) (xs : List ℕ) (b o : ℕ) → ent 𝓤 (sem 𝓛 (part_at (Array u8 n) full_share xs b o)) (𝓛.H.room (bytes_of n) b o)
+bytes_room : {M : Type 1} {𝓤 : Ura M} (𝓛 : Logic 𝓤) (n : ℕ) (xs : List ℕ) (b o : ℕ) → ent 𝓤 (sem 𝓛 (part_at (Array u8 n) full_share xs b o)) (𝓛.H.room (bytes_type n) b o)
 bytes_room 𝓛 n xs b o = qed 𝓛 (‵ (part_at (Array u8 n) full_share xs b o) ∷ []) ∵
-    use1 𝓛 (some (λ (v : Val). ‵ (fat full_share (bytes_of n) b o v) ⊛ ‵ ((Array u8 n).own_val xs (v ∷ [])))) (part_out 𝓛 (Array u8 n) refl full_share xs b o) $ pick ! (λ v. split ! $ keep ! (0 ∷ []) $ by ! (𝓛.laws.at_room (bytes_of n) b o v))
+    use1 𝓛 (some (λ (v : Val). ‵ (fat full_share (bytes_type n) b o v) ⊛ ‵ ((Array u8 n).own_val xs (v ∷ [])))) (part_out 𝓛 (Array u8 n) refl full_share xs b o) $ pick ! (λ v. split ! $ keep ! (0 ∷ []) $ by ! (𝓛.laws.at_room (bytes_type n) b o v))
 
 pub part_spec : {M : Type 1} → statement M
 part_spec 𝓤 𝓛 𝓜 𝓡 wired =
@@ -71,7 +71,7 @@ part_spec 𝓤 𝓛 𝓜 𝓡 wired =
     qed 𝓛 ((raw (alive 𝓛 En₀.signature z.0.0 z.0.1) ⊛ ‵ (owns (types_at En₀.signature.params z.0.0) a vss)) ∷ raw (fact 𝓤 Asked) ∷ []) ∵ move ! (1 ∷ []) $ heard ! Asked (λ asked. split ! $ move ! (1 ∷ []) $
     fsplit ! $ fsplit ! $ drop ! $ move ! (1 ∷ []) $ drop ! $ fsplit ! $ flt_l ! (λ small.
     in_a_block ! d.at (λ p. in_block p (fsep (lies_at (Array u8 m) full_share p xs) (right token m p))) (id⊢ 𝓤 (never 𝓤)) (λ b o at. fsplit ! $
-    use1 𝓛 (‵ (froom (bytes_of m) b o)) (bytes_room 𝓛 m xs b o) $ rewrite ! 0 (λ (k : ℕ). ‵ (froom (bytes_of k) b o)) (sym asked.1) refl $ move ! (1 ∷ []) $
+    use1 𝓛 (‵ (froom (bytes_type m) b o)) (bytes_room 𝓛 m xs b o) $ rewrite ! 0 (λ (k : ℕ). ‵ (froom (bytes_type k) b o)) (sym asked.1) refl $ move ! (1 ∷ []) $
     rewrite ! 0 (λ (k : ℕ). ‵ (right token k (block_ptr b o))) (sym asked.1) refl $
     let p : Ptr = block_ptr b o in
     let place : a.1.0 ≡ p = asked.0 ∙ at in

@@ -37,7 +37,7 @@ use Rattle.std.specs.contracts.impls.GlobalAllocator.TheImpl.{ghosts}
 use Rattle.std.proofs.alloc.Shapes.{after}
 use Rattle.std.proofs.raw_atomic.Walks.{proved_at, leaves}
 use Rattle.vc_seg.specs.Owned.{right, block_owns}
-use Rattle.vc_seg.specs.Lends.{with_bytes}
+use Rattle.vc_seg.specs.Lends.{block_with_bytes}
 use Rattle.vc_seg.proofs.Values.{ptr_typed, none_own}
 use Rattle.vc_seg.proofs.Walks.{slot_at}
 use Rattle.vc_seg.specs.contracts.block.Block as block
@@ -62,7 +62,7 @@ module _ {M : Type 1} {𝓤 : Ura M} (𝓛 : Logic 𝓤) (d : block.the_row.Deno
   bytes_in xs = qed 𝓛 (‵ (cells (mem u8) xs b o) ∷ []) ∵
       use1 𝓛 (‵ (row u8 full_share xs b o)) (whole_out 𝓛 u8 xs b o) $ feq_i ! ℕ (length xs) (length xs) refl $ fjoin ! $ by ! (Array-whole 𝓛 u8 full_share (length xs) xs b o)
 
-  back : d.at ≡ block_ptr b o → n < 2 ^ 63 → (ws : List ℕ) → length ws ≡ n → ent 𝓤 (sep 𝓤 (sem 𝓛 (cells (mem u8) ws b o)) (sem 𝓛 Rest)) (sem 𝓛 ((mem block.the_row).own_at (with_bytes d ws) rb ro))
+  back : d.at ≡ block_ptr b o → n < 2 ^ 63 → (ws : List ℕ) → length ws ≡ n → ent 𝓤 (sep 𝓤 (sem 𝓛 (cells (mem u8) ws b o)) (sem 𝓛 Rest)) (sem 𝓛 ((mem block.the_row).own_at (block_with_bytes d ws) rb ro))
   unfolding part_of
   back at small ws same =
       let all : refill n d.bytes ws ≡ ws = take_front ws (drop_l (length ws) d.bytes) n same in
@@ -75,7 +75,7 @@ module _ {M : Type 1} {𝓤 : Ura M} (𝓛 : Logic 𝓤) (d : block.the_row.Deno
       flt_i ! (length ws) (2 ^ 63) (omega (arith, same)) $ fjoin ! $
       rewrite ! 0 (λ (ys : List ℕ). ‵ (block_owns token d.at ys)) (sym all) refl $
       move ! (1 ∷ 0 ∷ []) $ fjoin ! $ move ! (1 ∷ 0 ∷ []) $ fjoin ! $
-      fpack ! (List Val) (λ us. fsep (cell_at full_share block.the_row.mir us rb ro) (block.the_row.own_val (with_bytes d ws) us)) vs $ done !
+      fpack ! (List Val) (λ us. fsep (cell_at full_share block.the_row.mir us rb ro) (block.the_row.own_val (block_with_bytes d ws) us)) vs $ done !
 
 pub all_mut_spec : {M : Type 1} → statement M
 all_mut_spec 𝓤 𝓛 𝓜 𝓡 wired =
@@ -103,7 +103,7 @@ all_mut_spec 𝓤 𝓛 𝓜 𝓡 wired =
     let m = length xs in
     let token = ghosts.dealloc_token d.alloc in
     let R = block.the_row in
-    let F = with_bytes d in
+    let F = block_with_bytes d in
     let Asked : Type 0 = (a.1.0 ≡ d.at) × (n ≡ m) in
     qed 𝓛 ((raw (alive 𝓛 En₀.signature z.0.0 z.0.1) ⊛ ‵ (owns (types_at En₀.signature.params z.0.0) a vss)) ∷ raw (fact 𝓤 Asked) ∷ []) ∵ move ! (1 ∷ []) $ heard ! Asked (λ asked. split ! $ move ! (1 ∷ []) $
     fsplit ! $ fsplit3 ! $ drop ! $ move ! (2 ∷ []) $ drop ! $ move ! (2 ∷ []) $ use1 𝓛 (‵ (flft κ q) ⊛ ‵ ftrue) (id⊢ 𝓤 _) $ split ! $ move ! (1 ∷ []) $ drop ! $ move ! (1 ∷ 2 ∷ 0 ∷ []) $

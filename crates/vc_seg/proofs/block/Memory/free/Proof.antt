@@ -28,7 +28,7 @@ use Rattle.std.proofs.alloc.Shapes.{after}
 use Rattle.std.proofs.raw_atomic.Walks.{proved_at, leaves}
 use Rattle.vc_seg.proofs.Walks.{slot_at, then_runs, out_of_block}
 use Rattle.vc_seg.proofs.Values.{sized_val, sized_told, lease_val, lease_told}
-use Rattle.vc_seg.specs.Owned.{bytes_of, words_of, right}
+use Rattle.vc_seg.specs.Owned.{bytes_type, words_type, right}
 use Rattle.vc_seg.specs.contracts.block.Memory.free.{ended, clauses}
 use Rattle.vc_seg.specs.contracts.block.Memory.free.Key.{name as #self}
 use Rattle.vc_seg.proofs.block.Memory.free.Statement.{statement}
@@ -60,14 +60,14 @@ free_spec 𝓤 𝓛 𝓜 𝓡 wired A L g d dd met md =
     let k = a.1.0 in
     let h = a.1.1.0.now in
     let handle = a.1.1.0.ref_ptr in
-    let τ : Ty = words_of n in
+    let τ : Ty = words_type n in
     let even = x.fits.multiple in let small = x.fits.most in
     let Asked : Type 0 = (k.alloc ≡ h) × (k.ptr ≡ x.ptr) × (k.size ≡ n) in
     qed 𝓛 ((raw (alive 𝓛 En₀.signature z.0.0 z.0.1) ⊛ ‵ (owns (types_at En₀.signature.params z.0.0) a vss)) ∷ (raw (fact 𝓤 (z.0.0.1.0 ⊑ A.lives)) ⊛ raw (fact 𝓤 Asked)) ∷ []) ∵
     move ! (1 ∷ []) $ split ! $ heard ! (z.0.0.1.0 ⊑ A.lives) (λ le. heard ! Asked (λ asked. split ! $ move ! (1 ∷ []) $
-    fsplit3 ! $ fsplit ! $ drop ! $ in_a_block ! x.ptr (λ p. room_for (bytes_of n) p) (id⊢ 𝓤 (never 𝓤)) (λ b o at. move ! (1 ∷ []) $ fsplit ! $ drop ! $
+    fsplit3 ! $ fsplit ! $ drop ! $ in_a_block ! x.ptr (λ p. room_for (bytes_type n) p) (id⊢ 𝓤 (never 𝓤)) (λ b o at. move ! (1 ∷ []) $ fsplit ! $ drop ! $
     rewrite ! 0 (λ (u : A.Denot × ℕ × Ptr). ‵ (right (g.dealloc_token u.0) u.1 u.2)) (λ i. (asked.0 i, asked.2 i, (asked.1 ∙ at) i)) refl $
-    fsplit ! $ move ! (2 ∷ 0 ∷ []) $ use2 𝓛 (‵ (froom τ b o)) (apply∗ 𝓤 (H.room (bytes_of n) b o) (H.room τ b o)) $ move ! (1 ∷ []) $
+    fsplit ! $ move ! (2 ∷ 0 ∷ []) $ use2 𝓛 (‵ (froom τ b o)) (apply∗ 𝓤 (H.room (bytes_type n) b o) (H.room τ b o)) $ move ! (1 ∷ []) $
     move ! (2 ∷ []) $ fsplit ! $ fsplit ! $ drop ! $ move ! (1 ∷ []) $ drop ! $ use1 𝓛 (‵ (seen Y κ handle h)) (id⊢ 𝓤 _) $ move ! (3 ∷ []) $ use1 𝓛 (‵ (flft κ q) ⊛ ‵ (flft z.0.0.1.0 z.0.1.1.0) ⊛ ‵ ftrue) (id⊢ 𝓤 _) $ split ! $ move ! (2 ∷ 0 ∷ []) $ join ! $ move ! (3 ∷ 2 ∷ []) $
     let y = at_gives Y 𝓛 𝓜.mem 𝓡.returns κ q handle h b o n 8 τ in
     regoal ! (λ (us : List Val). prop (WpFn 𝓤 H C Λ fn us Post)) (λ i. (told.0 ∙ ap (λ (p : Ptr). sized_val p n ∷ []) at) i ++ ((lease_told vss.1.0 are.1.0.0).0 i ++ (are.1.1.0.0 i ++ []))) refl $

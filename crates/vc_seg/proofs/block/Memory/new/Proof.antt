@@ -33,7 +33,7 @@ use Rattle.std.proofs.raw_atomic.Walks.{proved_at, leaves}
 use Rattle.vc_seg.proofs.Walks.{slot_at, then_runs}
 use Rattle.vc_seg.proofs.Values.{sized_val, sized_own, sized_made, lease_val, lease_own, lease_made}
 use Rattle.vc_model.specs.Discipline.{IsSegmentSize}
-use Rattle.vc_seg.specs.Owned.{bytes_of, words_of}
+use Rattle.vc_seg.specs.Owned.{bytes_type, words_type}
 use Rattle.vc_seg.specs.contracts.block.Memory as memory
 use Rattle.vc_seg.specs.contracts.block.Lease as lease
 use Rattle.vc_seg.specs.contracts.block.Memory.new.{ended, clauses}
@@ -63,7 +63,7 @@ new_spec 𝓤 𝓛 𝓜 𝓡 wired A L g d dd met md =
     let h = a.0.now in
     let at = a.0.ref_ptr in
     let n = a.1.0 in
-    let τ : Ty = words_of n in
+    let τ : Ty = words_type n in
     let y = at_takes Y 𝓛 𝓜.mem 𝓡.returns κ q at h n 8 τ in
     let Out : RattleType = type_at En₀.signature.result z.0.0 in
     let Pair : RattleType = Tuple (memory.the_row ∷ lease.the_row Z g ∷ []) in
@@ -78,7 +78,7 @@ new_spec 𝓤 𝓛 𝓜 𝓡 wired A L g d dd met md =
     calls_at ! (framed 𝓤 H 𝓜 (tables 𝓤 H 𝓜 𝓡 𝓡.env)) (Takes Y 𝓛 𝓜.mem 𝓡.returns) (met.allocate dd) y (and_then ! (get ! refl) (and_then ! (get ! refl) (and_then ! (lit ! tt) (no_more !)))) (λ v.
     use1 𝓛 (later (raw (Answered Y 𝓛 𝓜.mem 𝓡.returns h τ v) ⊛ ‵ (flft κ q))) (Takes-gives Y 𝓛 𝓜.mem 𝓡.returns κ q at h n 8 τ v) $ await ! tt $ split ! $
     answers Y ! 𝓜.mem 𝓡.returns h τ v
-    (λ b o e. use1 𝓛 (‵ (froom (bytes_of n) b o) ⊛ ‵ (fwand (froom (bytes_of n) b o) (froom τ b o))) (𝓛.laws.room_as τ (bytes_of n) b o (omega arith) tt) $ split ! $ move ! (1 ∷ 2 ∷ []) $ fjoin ! $ move ! (1 ∷ 0 ∷ []) $ move ! (2 ∷ 3 ∷ []) $ join ! $ move ! (1 ∷ 2 ∷ []) $ lands_as ! (e) refl (tt, (record { fits = lit< tt }, (tt, tt))) $
+    (λ b o e. use1 𝓛 (‵ (froom (bytes_type n) b o) ⊛ ‵ (fwand (froom (bytes_type n) b o) (froom τ b o))) (𝓛.laws.room_as τ (bytes_type n) b o (omega arith) tt) $ split ! $ move ! (1 ∷ 2 ∷ []) $ fjoin ! $ move ! (1 ∷ 0 ∷ []) $ move ! (2 ∷ 3 ∷ []) $ join ! $ move ! (1 ∷ 2 ∷ []) $ lands_as ! (e) refl (tt, (record { fits = lit< tt }, (tt, tt))) $
     first ! $ switches_on ! (get_tag ! (vrt ! refl (fld ! refl (stop !))) (whole !)) $ exec ! C Λ En (arm_body 0 (head (after 1 fn.body))) (then_runs 𝓛 C Λ En (after 2 fn.body) (at_ret En Post)) $
     sets ! (of_opd ! (get_in ! (vrt ! refl (fld ! refl (stop !))) (in_variant ! 0 0 refl refl (whole !)))) refl (tt, tt) $
     sets ! (agg ! (no_more !)) refl (tt, tt) $

@@ -5,7 +5,7 @@ use Rattle.vc_commands.specs.Held.{IsNamed, home_of}
 use Rattle.vc_commands.specs.Home.{is_home}
 use Rattle.vc_views.proofs.NumbersToNames.{all-at}
 use Rattle.vc_steps.specs.Homes.{held_in}
-use Rattle.vc_steps.specs.Sizes.{size_in}
+use Rattle.vc_steps.specs.Sizes.{size_in_home}
 use Rattle.vc_steps.proofs.Helds.{any-named}
 use Rattle.vc_steps.proofs.RegionAt.{RegionAt, label-read, region-named, region-stands, region_at}
 use Rattle.vc_steps.proofs.session.Session.size_named.Given as given
@@ -37,9 +37,9 @@ size_named-requires g c =
 pub returns-in-Some : goal.returns-in-Some
 returns-in-Some g c =
     let x = region g (goal.at.returns-in-Some g c).After-index-in-Some in
-    c.size_named.ensures ∙ sym (ap (size_in c.args.block.now) (region-named (meaning g) x))
+    c.size_named.ensures ∙ sym (ap (size_in_home c.args.block.now) (region-named (meaning g) x))
 
 pub returns-in-None : goal.returns-in-None
 returns-in-None g c =
     let M = meaning g in
-    sym (ap (size_in c.args.block.now) (find-none (is_home c.args.region.now) (map home_of (held_in M c.args.self.now)) (any-named M c.args.self.now.homes.entries c.args.self.now.labels.items c.args.region.now c.requires.labels ∙ sym c.in-None.ensures.found)))
+    sym (ap (size_in_home c.args.block.now) (find-none (is_home c.args.region.now) (map home_of (held_in M c.args.self.now)) (any-named M c.args.self.now.homes.entries c.args.self.now.labels.items c.args.region.now c.requires.labels ∙ sym c.in-None.ensures.found)))
