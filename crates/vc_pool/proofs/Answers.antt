@@ -1,6 +1,6 @@
 -- What a call that puts a block in a cell leaves of the blocks.
 use Rattle.std.proofs.Common.{◌≡◌, ℕ, Bool, true, false, cond, List, [], ◌∷◌, Option, Some, None, refl, ap, ◌∙◌, subst, ⊎_elim}
-use Rattle.std.specs.Prelude.{IfOk, OnOk, Ok, Err, nat_lt, option_map}
+use Rattle.std.specs.Prelude.{IfOk, Ok, Err, nat_lt, option_map}
 use Rattle.std.specs.declared.result.Result.{Result}
 use Rattle.std.proofs.lemmas.Bool.{cases_Bool}
 use Rattle.vc_base.specs.declared.addr.Addr.{Addr}
@@ -11,10 +11,11 @@ use Rattle.vc_model.specs.Layout.{Layout, with_block, with_segment, without_bloc
 use Rattle.vc_model.specs.Outcome.{Refused, PoolSize}
 use Rattle.vc_model.specs.Pool.{IsPoolSound, Pool, cell_for, element_with, pool_alloc, pool_need, put_asked, put_carving, put_cell, put_free, uncarved}
 use Rattle.vc_model.specs.Segments.{Asked, Granted, TooMany, NotLent, ask}
-use Rattle.vc_model.specs.Touch.{HasBlock, find_block}
+use Rattle.vc_model.specs.Touch.{find_block}
 use Rattle.vc_model.proofs.Owned.{put-fresh, put-others, put-there, sized-others, sized-there}
 use Rattle.vc_model.specs.Resize.{resize_there}
 use Rattle.vc_seg.specs.Answer.{Answers, IsPut}
+use Rattle.vc_seg.specs.OneBlock.{IsBlockKept, IsBlockPut}
 use Rattle.vc_seg.specs.declared.fault.RegionFault.{RegionFault}
 
 -- one block more, at the address that is answered
@@ -48,28 +49,21 @@ module _ (p new : Pool ℕ) (tag size a : ℕ) where
       (cases_Bool (nat_lt (element_with p size) size))
 
 -- where a block was put
-pub alloc-there : (result : Result Addr RegionFault) (p new : Pool ℕ) (terms : Terms) (tag size : ℕ) → Answers (pool_alloc terms p tag size) result p new → IsPoolSound new →
-    IfOk result (λ a. find_block (place_of a.0) new.layout.blocks ≡ Some (zeros tag size (place_of a.0)))
-alloc-there (Ok a) p new terms tag size answer sound = put-there a.0 tag size p.layout.blocks new.layout.blocks (pool_alloc-more p new tag size a.0 terms false answer) sound.places
-alloc-there (Err e) p new terms tag size answer sound = tt
-
-pub alloc-fresh : (result : Result Addr RegionFault) (p new : Pool ℕ) (terms : Terms) (tag size : ℕ) → Answers (pool_alloc terms p tag size) result p new → IsPoolSound new →
-    IfOk result (λ a. ¬ HasBlock p.layout.blocks a.0)
-alloc-fresh (Ok a) p new terms tag size answer sound = put-fresh a.0 tag size p.layout.blocks new.layout.blocks (pool_alloc-more p new tag size a.0 terms false answer) sound.places
-alloc-fresh (Err e) p new terms tag size answer sound = tt
-
-pub alloc-others : (result : Result Addr RegionFault) (p new : Pool ℕ) (terms : Terms) (tag size : ℕ) → Answers (pool_alloc terms p tag size) result p new → IsPoolSound new →
-    IfOk result (λ a. without_block (place_of a.0) new.layout.blocks ≡ p.layout.blocks)
-alloc-others (Ok a) p new terms tag size answer sound = put-others a.0 tag size p.layout.blocks new.layout.blocks (pool_alloc-more p new tag size a.0 terms false answer) sound.places
-alloc-others (Err e) p new terms tag size answer sound = tt
+pub alloc-put : (result : Result Addr RegionFault) (p new : Pool ℕ) (terms : Terms) (tag size : ℕ) → Answers (pool_alloc terms p tag size) result p new → IsPoolSound new →
+    IfOk result (λ a. IsBlockPut tag size a.0 p.layout.blocks new.layout.blocks)
+alloc-put (Ok a) p new terms tag size answer sound =
+    let more = pool_alloc-more p new tag size a.0 terms false answer in
+    record {
+      there = put-there a.0 tag size p.layout.blocks new.layout.blocks more sound.places;
+      fresh = put-fresh a.0 tag size p.layout.blocks new.layout.blocks more sound.places;
+      others = put-others a.0 tag size p.layout.blocks new.layout.blocks more sound.places;
+    }
+alloc-put (Err e) p new terms tag size answer sound = tt
 
 -- where a block got another size
-pub resize-there : (result : Result Unit RegionFault) (old new : Layout ℕ) (a size : ℕ) → OnOk result (new ≡ resize_there old (place_of a) size) →
-    OnOk result (option_map (λ b. b.label) (find_block (place_of a) new.blocks) ≡ option_map (λ b. b.label) (find_block (place_of a) old.blocks))
-resize-there (Ok done) old new a size is = ap (λ (r : Layout ℕ). option_map (λ b. b.label) (find_block (place_of a) r.blocks)) is ∙ sized-there size (place_of a) old.blocks
-resize-there (Err e) old new a size is = tt
-
-pub resize-others : (result : Result Unit RegionFault) (old new : Layout ℕ) (a size : ℕ) → OnOk result (new ≡ resize_there old (place_of a) size) →
-    OnOk result (without_block (place_of a) new.blocks ≡ without_block (place_of a) old.blocks)
-resize-others (Ok done) old new a size is = ap (λ (r : Layout ℕ). without_block (place_of a) r.blocks) is ∙ sized-others size (place_of a) old.blocks
-resize-others (Err e) old new a size is = tt
+pub resize-kept : (a size : ℕ) (old new : Layout ℕ) → new ≡ resize_there old (place_of a) size → IsBlockKept a a old.blocks new.blocks
+resize-kept a size old new is =
+    record {
+      label = ap (λ (r : Layout ℕ). option_map (λ b. b.label) (find_block (place_of a) r.blocks)) is ∙ sized-there size (place_of a) old.blocks;
+      others = ap (λ (r : Layout ℕ). without_block (place_of a) r.blocks) is ∙ sized-others size (place_of a) old.blocks;
+    }

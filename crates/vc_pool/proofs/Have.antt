@@ -5,12 +5,13 @@ use Rattle.vc_model.specs.Pool.{IsPoolSound, Pool, cell_for}
 use Rattle.vc_model.specs.Touch.{HasBlock}
 use Rattle.vc_pool_cells.specs.Blocks.{carved_by, layout_by}
 use Rattle.vc_pool_cells.specs.Freed.{freed_by}
-use Rattle.vc_pool_cells.specs.Kept.{AreCellular}
+use Rattle.vc_pool_cells.specs.Kept.{AreCellular, IsPool}
 use Rattle.vc_pool_cells.specs.Place.{cells_in}
 use Rattle.vc_pool_cells.specs.declared.segment.PoolSegment.{PoolSegment}
 use Rattle.vc_pool.specs.Sizes.{element_of}
 use Rattle.vc_pool.specs.Read.{pool_by}
-use Rattle.vc_pool.proofs.Soundness.{block-some, sound-by}
+use Rattle.vc_pool_cells.proofs.Stands.{block-some}
+use Rattle.vc_pool.proofs.Soundness.{sound-by}
 
 -- the parts of a pool
 module _ (segs : List PoolSegment) (element freed : ℕ) where
@@ -38,10 +39,13 @@ module _ (segs : List PoolSegment) (element freed : ℕ) where
   unfolding pool_by
   sound-of h = sound-by element (cells_in segs) h (freed_by (cells_in segs) freed) (carved_by (cells_in segs))
 
+  pub sound-kept : IsPool element (cells_in segs) freed → ∥ IsPoolSound (pool_by segs element freed) ∥₁
+  sound-kept h = ∣ sound-of h.cells ∣₁
+
 -- with a block an element size is set
 pub with-block : (segs : List PoolSegment) (element freed a : ℕ) → AreCellular element (cells_in segs) → HasBlock (pool_by segs element freed).layout.blocks a → 1 ≤ element
 unfolding pool_by
-with-block segs element freed a k h = block-some element (cells_in segs) k a h
+with-block segs element freed a k h = block-some element a (cells_in segs) k h
 
 pub element_of-some : (element : ℕ) → 1 ≤ element → element_of element ≡ Some element
 element_of-some element h = rw (ne_eqb element 0 (λ e. omega (arith, e, h))) refl

@@ -134,14 +134,6 @@ module _ (element : ℕ) (segs : List Cells) (h : AreCellular element segs) wher
   none-of : (k : ℕ) → k < length blocks → element ≡ 0 → ⊥
   none-of k lt e = let b : Block ℕ = record { label = 0; seg = 0; off = 0; size = 0; bytes = [] } in let some = set-by (get_or blocks k b) (live k b lt) in omega (arith, some, e)
 
-  -- with a block an element size is set
-  pub block-some : (a : ℕ) → HasBlock (layout_by cell segs).blocks a → 1 ≤ element
-  unfolding layout_by
-  block-some a here =
-      let none : Block ℕ = record { label = 0; seg = 0; off = 0; size = 0; bytes = [] } in
-      let within : here.0 < length blocks = omega (arith, here.1, length-map blocks address_of) in
-      set-by (get_or blocks here.0 none) (live here.0 none within)
-
   sound-unset : (element' : Option ℕ) (freed carved : List (ℕ × ℕ)) → element ≡ 0 → IsPoolSound (record { layout = record { segments = map pair_of segs; blocks = blocks }; element = element'; freed = freed; carved = carved })
   sound-unset element' freed carved e =
       record {

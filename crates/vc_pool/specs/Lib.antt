@@ -10,6 +10,7 @@ pub use Rattle.vc_model.specs.Walk
 pub use Rattle.vc_layouts.specs.Tally
 pub use Rattle.vc_seg.specs.Answer
 pub use Rattle.vc_seg.specs.Boxed
+pub use Rattle.vc_seg.specs.OneBlock
 pub use Rattle.vc_seg.specs.Segment
 pub use Rattle.vc_pool_cells.specs.Blocks
 pub use Rattle.vc_pool_cells.specs.Cells

@@ -1,8 +1,8 @@
 ghost use Rattle.std.specs.Prelude.{◌≡◌, Some, length, take, drop, option_map};
 ghost use Rattle.vc_model.specs.Addr.{place_of};
 ghost use Rattle.vc_model.specs.Layout.{without_block};
-ghost use Rattle.vc_model.specs.Pool.{IsPoolSound};
-ghost use Rattle.vc_model.specs.Touch.{HasBlock, HasRange, find_block, with_bytes_at};
+ghost use Rattle.vc_model.specs.Touch.{HasBlock, find_block, with_bytes_at};
+ghost use Rattle.vc_seg.specs.OneBlock.{IsInBlock};
 
 use crate::pool::Pool;
 use vc_base::Addr;
@@ -32,8 +32,7 @@ impl Pool {
 
     /// The bytes of a range of the block at that address. The range lies in the block.
     pub fn read(&self, a: Addr, off: u32, len: u32) -> &[u8]
-        requires block { HasBlock (blocks_in self.now) a.0 }
-        requires range { HasRange (blocks_in self.now) a.0 off len }
+        requires { IsInBlock (blocks_in self.now) a.0 off len }
         ensures { option_map (λ b. take len (drop off b.bytes))
             (find_block (place_of a.0) (blocks_in self.now)) ≡ Some result.now }
     {
@@ -42,15 +41,13 @@ impl Pool {
 
     /// Puts bytes into the block at that address, from an offset on. They lie in the block.
     pub fn write(&mut self, a: Addr, off: u32, src: &[u8])
-        requires block { HasBlock (blocks_in self.old) a.0 }
-        requires range { HasRange (blocks_in self.old) a.0 off (length src.now) }
+        requires { IsInBlock (blocks_in self.old) a.0 off (length src.now) }
         ensures pool { pool_of self.new ≡ record (pool_of self.old) {
           layout = with_bytes_at (pool_of self.old).layout (place_of a.0) off src.now;
         } }
         ensures disc { state self.new.disc ≡ state self.old.disc }
         ensures others { without_block (place_of a.0) (blocks_in self.new)
             ≡ without_block (place_of a.0) (blocks_in self.old) }
-        ensures sound { IsPoolSound (pool_of self.new) }
     {
         write_at(&mut self.segs, self.element, a, off, src);
     }

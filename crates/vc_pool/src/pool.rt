@@ -1,19 +1,18 @@
-ghost use Rattle.std.specs.Prelude.{◌≡◌, ℕ, ◌+◌, ◌<◌, ◌≤◌, [], None, Some, IfErr, IfOk, IfSome, IsErrOf, OnErr, OnOk, length, option_map};
-ghost use Rattle.std.specs.List.{HoldsAt, remove};
+ghost use Rattle.std.specs.Prelude.{◌≡◌, [], None, IfErr, IfOk, IsErrOf, OnErr, OnOk, length};
 ghost use Rattle.vc_model.specs.Addr.{place_of};
-ghost use Rattle.vc_model.specs.Best.{zeros};
 ghost use Rattle.vc_model.specs.Compact.{compact_count};
 ghost use Rattle.vc_model.specs.Discipline.{HasOut, TookBack};
-ghost use Rattle.vc_model.specs.Layout.{address_of, without_block};
 ghost use Rattle.vc_model.specs.Outcome.{Done};
 ghost use Rattle.vc_model.specs.Pool.{IsPoolSound, empty_pool, pool_alloc, pool_clear, pool_compact, pool_free, pool_need, pool_resize};
-ghost use Rattle.vc_model.specs.Touch.{HasBlock, find_block};
-ghost use Rattle.vc_model.specs.Walk.{block_at, next_block, next_segment, segment_at};
+ghost use Rattle.vc_model.specs.Touch.{HasBlock};
+ghost use Rattle.vc_model.specs.Walk.{next_segment, segment_at};
 ghost use Rattle.vc_pool.specs.Ask.{LacksCell};
+ghost use Rattle.vc_pool.specs.Read.{pool_by};
 ghost use Rattle.vc_pool.specs.Stat.{pool_stat};
 ghost use Rattle.vc_pool_cells.specs.Kept.{IsPool};
 ghost use Rattle.vc_pool_cells.specs.Place.{cells_in};
 ghost use Rattle.vc_seg.specs.Answer.{Answers, Asks, IsRefusal};
+ghost use Rattle.vc_seg.specs.OneBlock.{IsBlockAt, IsBlockFreed, IsBlockKept, IsBlockPut, IsNextBlock, IsSize};
 
 use crate::compact::{close_in, compact_in};
 use crate::count::stat_of;
@@ -42,6 +41,8 @@ pub struct Pool {
     /// Segments have numbers of their own and a pair for each cell, those with a carved cell stand first and are full but
     /// the last, and the freed cells are carved ones without a block, each of them once.
     pub ghost kept: { ∥ IsPool element (cells_in segs.items) freed.0 ∥₁ },
+    /// No two blocks overlap, each lies in a segment, at a place of its own, and segments have numbers of their own.
+    pub ghost sound: { ∥ IsPoolSound (pool_by segs.items element freed.0) ∥₁ },
 }
 
 impl Pool {
@@ -68,8 +69,7 @@ impl Pool {
     /// segment that has one. Where there is none, a segment is asked for: `OutOfMemory` comes only then, and never with 1,023
     /// segments. `PoolSize` comes only where the size is above the element size.
     pub fn alloc(&mut self, size: u32, tag: u32) -> Result<Addr, RegionFault>
-        requires some { 1 ≤ size }
-        requires most { size ≤ 16777216 }
+        requires size { IsSize size }
         ensures answer { Answers
             (pool_alloc (state self.old.disc).terms (pool_of self.old) tag size)
             result (pool_of self.old) (pool_of self.new) }
@@ -78,14 +78,8 @@ impl Pool {
             (pool_need (state self.old.disc).terms (pool_of self.old) size) }
         ensures no_memory { IsErrOf result RegionFault.OutOfMemory
             → LacksCell (pool_of self.old) size }
-
-        // The block stands there, at an address of its own, and the others stay.
-        ensures there { IfOk result (λ a. find_block (place_of a.0) (blocks_in self.new)
-            ≡ Some (zeros tag size (place_of a.0))) }
-        ensures fresh { IfOk result (λ a. ¬ HasBlock (blocks_in self.old) a.0) }
-        ensures others { IfOk result (λ a. without_block (place_of a.0)
-            (blocks_in self.new) ≡ blocks_in self.old) }
-        ensures sound { IsPoolSound (pool_of self.new) }
+        ensures put { IfOk result
+            (λ a. IsBlockPut tag size a.0 (blocks_in self.old) (blocks_in self.new)) }
     {
         alloc_in(
             &mut self.segs,
@@ -102,8 +96,7 @@ impl Pool {
     /// sizes are kept, and the others are zero. `PoolSize` comes only where the size is above the element size.
     pub fn resize(&mut self, a: Addr, size: u32) -> Result<(), RegionFault>
         requires block { HasBlock (blocks_in self.old) a.0 }
-        requires some { 1 ≤ size }
-        requires most { size ≤ 16777216 }
+        requires size { IsSize size }
         ensures ok { OnOk result (pool_resize (pool_of self.old) (place_of a.0) size
             ≡ Done (record { at = place_of a.0; region = pool_of self.new; granted = None })) }
         ensures err { IfErr result
@@ -111,14 +104,8 @@ impl Pool {
         ensures same { OnErr result (pool_of self.new ≡ pool_of self.old) }
         ensures disc { state self.new.disc ≡ state self.old.disc }
         ensures memory { ¬ IsErrOf result RegionFault.OutOfMemory }
-
-        // The block keeps its tag, and the others stay.
-        ensures there { OnOk result (option_map (λ b. b.label)
-            (find_block (place_of a.0) (blocks_in self.new))
-            ≡ option_map (λ b. b.label) (find_block (place_of a.0) (blocks_in self.old))) }
-        ensures others { OnOk result (without_block (place_of a.0) (blocks_in self.new)
-            ≡ without_block (place_of a.0) (blocks_in self.old)) }
-        ensures sound { IsPoolSound (pool_of self.new) }
+        ensures kept { OnOk result
+            (IsBlockKept a.0 a.0 (blocks_in self.old) (blocks_in self.new)) }
     {
         if size > self.element {
             return Err(RegionFault::PoolSize);
@@ -132,15 +119,7 @@ impl Pool {
         requires { HasBlock (blocks_in self.old) a.0 }
         ensures pool { pool_of self.new ≡ pool_free (pool_of self.old) (place_of a.0) }
         ensures disc { state self.new.disc ≡ state self.old.disc }
-
-        // It is the one block at that address that goes.
-        ensures one_less { length (blocks_in self.new) + 1
-            ≡ length (blocks_in self.old) }
-        ensures freed { (i : ℕ) → i < length (blocks_in self.old)
-            → HoldsAt (λ b. address_of b ≡ a.0) (blocks_in self.old) i
-            → blocks_in self.new ≡ remove (blocks_in self.old) i }
-        ensures none_left { ¬ HasBlock (blocks_in self.new) a.0 }
-        ensures sound { IsPoolSound (pool_of self.new) }
+        ensures freed { IsBlockFreed a.0 (blocks_in self.old) (blocks_in self.new) }
     {
         put_back(&mut self.segs, &mut self.freed, self.element, a);
     }
@@ -149,7 +128,6 @@ impl Pool {
     pub fn clear(&mut self)
         ensures pool { pool_of self.new ≡ pool_clear (pool_of self.old) }
         ensures disc { state self.new.disc ≡ state self.old.disc }
-        ensures sound { IsPoolSound (pool_of self.new) }
     {
         clear_all(&mut self.segs);
         self.freed = Addr::NONE;
@@ -163,7 +141,6 @@ impl Pool {
         ensures count { result ≡ compact_count (pool_of self.old).layout }
         ensures disc { TookBack (state self.old.disc) (state self.new.disc)
             (segments_in self.old) (segments_in self.new) }
-        ensures sound { IsPoolSound (pool_of self.new) }
     {
         compact_in(
             &mut self.segs,
@@ -202,10 +179,7 @@ impl Pool {
     /// The block whose bytes hold the byte at an offset of a segment, and the offset in the block. None where no block
     /// does.
     pub fn block_at(&self, seg: u32, off: u32) -> Option<(Addr, u32)>
-        ensures value { option_map {U = ℕ × ℕ} (λ f. (f.0.0, f.1)) result
-            ≡ option_map {U = ℕ × ℕ} (λ f. (address_of f.0, f.1))
-            (block_at (seg, off) (blocks_in self.now)) }
-        ensures live { IfSome result (λ f. HasBlock (blocks_in self.now) f.0.0) }
+        ensures { IsBlockAt result (seg, off) (blocks_in self.now) }
     {
         block_in(&self.segs, self.element, seg, off)
     }
@@ -226,9 +200,7 @@ impl Pool {
 
     /// The block behind one in order of addresses. A walk begins with `Addr::NONE`, and ends with None.
     pub fn next_block(&self, after: Addr) -> Option<Addr>
-        ensures value { option_map (λ a. a.0) result
-            ≡ option_map address_of (next_block after.0 (blocks_in self.now)) }
-        ensures live { IfSome result (λ a. HasBlock (blocks_in self.now) a.0) }
+        ensures { IsNextBlock result after.0 (blocks_in self.now) }
     {
         next_in(&self.segs, self.element, after)
     }

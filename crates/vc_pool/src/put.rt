@@ -5,10 +5,11 @@ ghost use Rattle.vc_pool.specs.Ask.{LacksCell};
 ghost use Rattle.vc_pool.specs.Call.{IsGranted};
 ghost use Rattle.vc_pool.specs.Read.{pool_by};
 ghost use Rattle.vc_pool_cells.specs.Blocks.{carved_by, pair_of};
-ghost use Rattle.vc_pool_cells.specs.Kept.{AreCellular, IsPool};
+ghost use Rattle.vc_pool_cells.specs.Kept.{AreCellular, FitsElement, IsPool};
 ghost use Rattle.vc_pool_cells.specs.Place.{cells_in};
 ghost use Rattle.vc_seg.specs.Answer.{Answers, Asks};
 ghost use Rattle.vc_seg.specs.Lend.{IsAsked, IsNoGrant};
+ghost use Rattle.vc_seg.specs.OneBlock.{IsSize};
 
 use crate::number::lowest_unused;
 use std::alloc::Global;
@@ -57,8 +58,7 @@ fn put_in_new(
     requires kept { AreCellular element (cells_in segs.old.items) }
     requires full { uncarved (cell_for element) (carved_by (cells_in segs.old.items))
         (map pair_of (cells_in segs.old.items)) ≡ None }
-    requires some { 1 ≤ size }
-    requires fits { size ≤ element }
+    requires size { FitsElement size element }
     ensures granted { IfOk result (λ a. IsGranted element tag size
         (round_up (32 + cell_for element) (state disc.old).terms.round)
         (cells_in segs.old.items) (cells_in segs.new.items) (state disc.old) (state disc.new) a.0) }
@@ -93,8 +93,7 @@ pub(crate) fn alloc_in(
     tag: u32,
 ) -> Result<Addr, RegionFault>
     requires kept { IsPool element.old (cells_in segs.old.items) freed.old.0 }
-    requires some { 1 ≤ size }
-    requires most { size ≤ 16777216 }
+    requires size { IsSize size }
     ensures kept { IsPool element.new (cells_in segs.new.items) freed.new.0 }
     ensures answer { Answers (pool_alloc (state disc.old).terms
         (pool_by segs.old.items element.old freed.old.0) tag size) result

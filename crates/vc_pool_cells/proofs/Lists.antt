@@ -8,10 +8,10 @@ use Rattle.vc_model.specs.Pool.{cell_for}
 use Rattle.vc_pool_cells.specs.Cells.{Cells, HasCell, cells_of}
 use Rattle.vc_pool_cells.specs.Freed.{cells_at, no_cells}
 use Rattle.vc_pool_cells.specs.Kept.{AreCellular}
-use Rattle.vc_pool_cells.specs.Place.{IsAlone, IsListed, IsLive, cells_in}
+use Rattle.vc_pool_cells.specs.Place.{IsAlone, cells_in}
 use Rattle.vc_pool_cells.specs.declared.segment.PoolSegment.{PoolSegment}
 use Rattle.vc_pool_cells.proofs.Segments.{alone, cells-first}
-use Rattle.vc_pool_cells.proofs.Stands.{cell-there}
+use Rattle.vc_pool_cells.proofs.Stands.{cell-some, cell-there}
 
 -- the cells of the segment at a place
 pub cells-get : (segs : List PoolSegment) (i : ℕ) (d : PoolSegment) (e : Cells) → i < length segs → get_or (cells_in segs) i e ≡ cells_of (get_or segs i d)
@@ -39,14 +39,10 @@ module _ (element i n : ℕ) (segs : List PoolSegment) (k : AreCellular element 
       alone n i (cells_in segs) k.segments (omega (arith, within, length-map segs cells_of))
       (λ e. let d : PoolSegment = some-of segs i within in ap (λ (s : Cells). s.number) (cells-get segs i d e within) ∙ number d)
 
-  pub cell-in : (index : ℕ) → 1 ≤ element → index < length (cells_at n (cells_in segs)).pairs → HoldsAt (λ (s : PoolSegment). HasCell (cell_for element) index (cells_of s)) segs i
-  cell-in index some listed =
+  pub cell-in : (index : ℕ) → index < length (cells_at n (cells_in segs)).pairs → HoldsAt (λ (s : PoolSegment). HasCell (cell_for element) index (cells_of s)) segs i
+  cell-in index listed =
       λ e.
       let al = alone-in in
       let d' : Cells = cells_of e in
       let is : cells_at n (cells_in segs) ≡ cells_of (get_or segs i e) = cells-first n (cells_in segs) i d' al.within al.before (al.number d') ∙ cells-get segs i e d' within in
-      subst (HasCell (cell_for element) index) is (cell-there element (cells_in segs) k some n index listed)
-
--- a cell with a block is one of its segment's
-pub live-listed : (cell : ℕ) (segs : List Cells) (at : ℕ × ℕ) → IsLive cell segs at → IsListed cell segs at
-live-listed cell segs at l = record { index = l.index; offset = l.offset; listed = l.listed }
+      subst (HasCell (cell_for element) index) is (cell-there element (cells_in segs) k (cell-some element n (cells_in segs) k (omega (arith, listed))) n index listed)

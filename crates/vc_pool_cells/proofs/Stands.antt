@@ -19,7 +19,7 @@ use Rattle.vc_pool_cells.specs.Blocks.{block_in, blocks_from, blocks_of, layout_
 use Rattle.vc_pool_cells.specs.Cells.{Cells, HasCell, IsCell, pair_at}
 use Rattle.vc_pool_cells.specs.Freed.{IsFreeCell, cells_at, index_at}
 use Rattle.vc_pool_cells.specs.Kept.{AreCellular, IsCellular, segment_of}
-use Rattle.vc_pool_cells.specs.Place.{IsLive}
+use Rattle.vc_pool_cells.specs.Place.{IsListed, IsLive}
 use Rattle.vc_pool_cells.proofs.Blocks.{All-block, others-of}
 use Rattle.vc_pool_cells.proofs.Segments.{numbers-apart}
 
@@ -194,6 +194,32 @@ module _ (element : ℕ) (segs : List Cells) (h : AreCellular element segs) (som
       let off : pair b.seg b.off ≡ pair b.seg (cell_offset (cell_for element) l.index) = ap (pair b.seg) l.offset in
       let place : place_of a ≡ pair b.seg b.off = ap place_of (sym own ∙ ap address off) ∙ (place-there b.seg l.index l.listed ∙ sym off) in
       subst (IsLive (cell_for element) segs) (sym place) l
+
+-- with a cell an element size is set
+pub cell-some : (element n : ℕ) (segs : List Cells) → AreCellular element segs → 1 ≤ length (cells_at n segs).pairs → 1 ≤ element
+cell-some element n [] h listed = absurd (omega (arith, listed))
+cell-some element n (s ∷ ss) h listed =
+    ⊎_elim
+    (λ (e : element ≡ 0). let none = h.unset e in absurd (omega (arith, none)))
+    (λ (e : element ≡ 0 → ⊥). omega (arith, e))
+    (cases_eq element 0)
+
+-- and with a block
+pub block-some : (element a : ℕ) (segs : List Cells) → AreCellular element segs → HasBlock (layout_by (cell_for element) segs).blocks a → 1 ≤ element
+unfolding layout_by
+block-some element a [] h live = absurd (omega (arith, live.1))
+block-some element a (s ∷ ss) h live =
+    ⊎_elim
+    (λ (e : element ≡ 0). let none = h.unset e in absurd (omega (arith, none)))
+    (λ (e : element ≡ 0 → ⊥). omega (arith, e))
+    (cases_eq element 0)
+
+-- a cell with a block is one of its segment's
+pub live-listed : (cell : ℕ) (segs : List Cells) (at : ℕ × ℕ) → IsLive cell segs at → IsListed cell segs at
+live-listed cell segs at l = record { index = l.index; offset = l.offset; listed = l.listed }
+
+pub block-listed : (element a : ℕ) (segs : List Cells) → AreCellular element segs → HasBlock (layout_by (cell_for element) segs).blocks a → IsListed (cell_for element) segs (place_of a)
+block-listed element a segs h live = live-listed (cell_for element) segs (place_of a) (stands element segs h (block-some element a segs h live) a live)
 
 -- a cell with a block isn't a freed one
 pub live-other : (cell : ℕ) (segs : List Cells) (at p : ℕ × ℕ) → 1 ≤ cell → IsLive cell segs at → IsFreeCell cell segs p → at ≢ p

@@ -11,11 +11,12 @@ use Rattle.vc_pool_cells.specs.Blocks.{layout_by}
 use Rattle.vc_pool_cells.specs.Call.{Becomes, IsPutBack, IsReused}
 use Rattle.vc_pool_cells.specs.Cells.{Cells, cells_of, with_zeros_in, link_in, pair_at, with_free_cell, with_cell_size, with_cell_bytes}
 use Rattle.vc_pool_cells.specs.Freed.{link_at}
-use Rattle.vc_pool_cells.specs.Kept.{AreCellular, IsPool}
+use Rattle.vc_pool_cells.specs.Kept.{AreCellular, FitsElement, IsPool}
 use Rattle.vc_pool_cells.specs.Place.{IsCellAt, cells_in}
 use Rattle.vc_pool_cells.specs.declared.segment.PoolSegment.{PoolSegment}
 use Rattle.vc_pool_cells.proofs.Calls.{link-is, link-small, live-found, live-target, put-back-of, resize-of, reuse-of, write-of}
 use Rattle.vc_pool_cells.proofs.Lists.{cells-get, cells-put}
+use Rattle.vc_pool_cells.proofs.Stands.{block-some}
 
 module _ (element a i index cell : ℕ) (segs : List PoolSegment) (d : PoolSegment) (same : cell ≡ cell_for element) (within : i < length segs) (there : IsCellAt (cell_for element) (cells_in segs) (place_of a) i index) (is : d ≡ get_or segs i d) where
   -- the segment that a call reads is the one at its place
@@ -35,26 +36,26 @@ module _ (element a i index cell : ℕ) (segs : List PoolSegment) (d : PoolSegme
     made : (f : ℕ → Cells → Cells) → cells_of x ≡ f cell (cells_of d) → cells_of x ≡ f (cell_for element) (get_or (cells_in segs) i (cells_of x))
     made f e = e ∙ (ap (λ k. f k (cells_of d)) same ∙ ap (f (cell_for element)) (sym (row (cells_of x))))
 
-    pub reused-there : (tag size b : ℕ) → 1 ≤ a → 1 ≤ size → size ≤ element → cells_of x ≡ with_zeros_in cell index size tag (cells_of d) → b ≡ link_in cell index (cells_of d) → IsPool element (cells_in segs) a →
+    pub reused-there : (tag size b : ℕ) → 1 ≤ a → FitsElement size element → cells_of x ≡ with_zeros_in cell index size tag (cells_of d) → b ≡ link_in cell index (cells_of d) → IsPool element (cells_in segs) a →
         IsReused element tag size (cells_in segs) (cells_in (set segs i x)) a b
-    reused-there tag size b one some fits e link h =
-        let r = reuse-of element tag size a i index (cells_in segs) (cells_of x) one some fits there (made (λ k. with_zeros_in k index size tag) e) h in
+    reused-there tag size b one fits e link h =
+        let r = reuse-of element tag size a i index (cells_in segs) (cells_of x) one fits.some fits.fits there (made (λ k. with_zeros_in k index size tag) e) h in
         subst (λ (ss : List Cells). IsReused element tag size (cells_in segs) ss a b) (sym (cells-put segs i x))
         (subst (λ k. IsReused element tag size (cells_in segs) (set (cells_in segs) i (cells_of x)) a k) (sym (link ∙ link-there)) r)
 
-    module _ (k : AreCellular element (cells_in segs)) (some : 1 ≤ element) (live : HasBlock (layout_by (cell_for element) (cells_in segs)).blocks a) where
+    module _ (k : AreCellular element (cells_in segs)) (live : HasBlock (layout_by (cell_for element) (cells_in segs)).blocks a) where
       pub put-back-there : (last : ℕ) → last < 2 ^ 64 → cells_of x ≡ with_free_cell cell index last (cells_of d) → IsPool element (cells_in segs) last → IsPutBack element a (cells_in segs) (cells_in (set segs i x)) last
       put-back-there last small e h =
           subst (λ (ss : List Cells). IsPutBack element a (cells_in segs) ss last) (sym (cells-put segs i x))
-          (put-back-of element a i index (cells_in segs) (cells_of x) k some live there last h small (made (λ n. with_free_cell n index last) e))
+          (put-back-of element a i index (cells_in segs) (cells_of x) k (block-some element a (cells_in segs) k live) live there last h small (made (λ n. with_free_cell n index last) e))
 
-      pub resized-there : (last size : ℕ) → 1 ≤ size → size ≤ element → cells_of x ≡ with_cell_size cell index size (cells_of d) → IsPool element (cells_in segs) last →
+      pub resized-there : (last size : ℕ) → FitsElement size element → cells_of x ≡ with_cell_size cell index size (cells_of d) → IsPool element (cells_in segs) last →
           Becomes element (cells_in segs) (cells_in (set segs i x)) last (resize_there (layout_by (cell_for element) (cells_in segs)) (place_of a) size)
-      resized-there last size one fits e h =
+      resized-there last size fits e h =
           subst (λ (ss : List Cells). Becomes element (cells_in segs) ss last (resize_there (layout_by (cell_for element) (cells_in segs)) (place_of a) size)) (sym (cells-put segs i x))
-          (resize-of element a i index (cells_in segs) (cells_of x) k some live there last h size one fits (made (λ n. with_cell_size n index size) e))
+          (resize-of element a i index (cells_in segs) (cells_of x) k (block-some element a (cells_in segs) k live) live there last h size fits.some fits.fits (made (λ n. with_cell_size n index size) e))
 
-  module _ (k : AreCellular element (cells_in segs)) (some : 1 ≤ element) (live : HasBlock (layout_by (cell_for element) (cells_in segs)).blocks a) where
+  module _ (k : AreCellular element (cells_in segs)) (live : HasBlock (layout_by (cell_for element) (cells_in segs)).blocks a) where
     -- the block there has the size and the tag of its cell's pair
     abbrev pub own-block : Block ℕ
     own-block =
@@ -71,11 +72,11 @@ module _ (element a i index cell : ℕ) (segs : List PoolSegment) (d : PoolSegme
         subst
         (λ (o : Cells). find_block (place_of a) (layout_by (cell_for element) (cells_in segs)).blocks
         ≡ Some (record { label = (pair_at index o).1; seg = (place_of a).0; off = cell_offset (cell_for element) index; size = (pair_at index o).0; bytes = take (pair_at index o).0 (drop (cell_offset (cell_for element) index) o.bytes) }))
-        (row (cells_of d)) (live-found element a i index (cells_in segs) (cells_of d) k some live there)
+        (row (cells_of d)) (live-found element a i index (cells_in segs) (cells_of d) k (block-some element a (cells_in segs) k live) live there)
 
     pub fits-there : (pair_at index (cells_of d)).0 ≤ cell
     fits-there =
-        let t = live-target element a i index (cells_in segs) (cells_of d) k some live there in
+        let t = live-target element a i index (cells_in segs) (cells_of d) k (block-some element a (cells_in segs) k live) live there in
         subst (λ n. (pair_at index (cells_of d)).0 ≤ n) (sym same)
         (subst (λ (o : Cells). (pair_at index o).0 ≤ cell_for element) (row (cells_of d)) (t.fits index (0, 0) t.cell.listed))
 
@@ -93,4 +94,4 @@ module _ (element a i index cell : ℕ) (segs : List PoolSegment) (d : PoolSegme
     written-there x last off src range e h =
         let fits : off + length src ≤ (pair_at index (get_or (cells_in segs) i (cells_of x))).0 = subst (λ (o : Cells). off + length src ≤ (pair_at index o).0) (sym (row (cells_of x))) (range-there off (length src) range) in
         subst (λ (ss : List Cells). Becomes element (cells_in segs) ss last (with_bytes_at (layout_by (cell_for element) (cells_in segs)) (place_of a) off src)) (sym (cells-put segs i x))
-        (write-of element a i index (cells_in segs) (cells_of x) k some live there last h off src fits (made x (λ n. with_cell_bytes n index off src) e))
+        (write-of element a i index (cells_in segs) (cells_of x) k (block-some element a (cells_in segs) k live) live there last h off src fits (made x (λ n. with_cell_bytes n index off src) e))

@@ -31,6 +31,11 @@ abbrev pub IsFront : List Cells → Type 0
 IsFront [] = Unit {0}
 IsFront (s ∷ ss) = IsFullBefore ss s × IsFront ss
 
+-- a block of that size fits a cell for that element size
+pub record FitsElement (size element : ℕ) : Type 0 where
+  pub some : 1 ≤ size
+  pub fits : size ≤ element
+
 -- segments with numbers of their own and with cells for an element size, 0 where there is none, and no segment then
 pub record AreCellular (element : ℕ) (segs : List Cells) : Type 0 where
   pub most : element ≤ 16777216

@@ -6,6 +6,7 @@ pub use Rattle.vc_model.specs.Layout
 pub use Rattle.vc_model.specs.Pool
 pub use Rattle.vc_model.specs.Resize
 pub use Rattle.vc_model.specs.Touch
+pub use Rattle.vc_seg.specs.OneBlock
 pub use Rattle.vc_seg.specs.Segment
 pub mod Cells
 pub mod Blocks

@@ -5,7 +5,7 @@ ghost use Rattle.vc_model.specs.Pool.{cell_for, cell_offset, uncarved};
 ghost use Rattle.vc_seg.specs.Segment.{IsRegionSegment};
 ghost use Rattle.vc_pool_cells.specs.Blocks.{carved_by, pair_of};
 ghost use Rattle.vc_pool_cells.specs.Cells.{HasCell, carved_with, cells_of};
-ghost use Rattle.vc_pool_cells.specs.Kept.{AreCellular, IsFront, IsPool, segment_of};
+ghost use Rattle.vc_pool_cells.specs.Kept.{AreCellular, FitsElement, IsFront, IsPool, segment_of};
 ghost use Rattle.vc_pool_cells.specs.Place.{cells_in};
 ghost use Rattle.vc_pool_cells.specs.Carve.{IsCarvedAt};
 ghost use Rattle.vc_pool_cells.specs.Open.{IsFirstOpen};
@@ -45,8 +45,7 @@ pub(crate) fn carve_at(
 ) -> Addr
     requires kept { AreCellular element (cells_in segs.old) }
     requires first { IsFirstOpen (cells_in segs.old) place }
-    requires some { 1 ≤ size }
-    requires fits { size ≤ element }
+    requires size { FitsElement size element }
     ensures place { HoldsAt (λ s. place_of result.0
         ≡ (s.seg.number, cell_offset (cell_for element) s.carved)) segs.old place }
     ensures carved { (last : ℕ) → IsPool element (cells_in segs.old) last
@@ -60,8 +59,7 @@ pub(crate) fn carve_at(
 pub fn carve_lowest(segs: &mut [PoolSegment], element: u32, size: u32, tag: u32) -> Option<Addr>
     requires kept { AreCellular element (cells_in segs.old) }
     requires front { IsFront (cells_in segs.old) }
-    requires some { 1 ≤ size }
-    requires fits { size ≤ element }
+    requires size { FitsElement size element }
     ensures place { option_map (λ a. place_of a.0) result
         ≡ uncarved (cell_for element) (carved_by (cells_in segs.old))
         (map pair_of (cells_in segs.old)) }

@@ -4,7 +4,7 @@ ghost use Rattle.vc_model.specs.Addr.{place_of};
 ghost use Rattle.vc_model.specs.Pool.{cell_for};
 ghost use Rattle.vc_model.specs.Touch.{HasBlock};
 ghost use Rattle.vc_pool_cells.specs.Blocks.{layout_by};
-ghost use Rattle.vc_pool_cells.specs.Kept.{IsPool};
+ghost use Rattle.vc_pool_cells.specs.Kept.{FitsElement, IsPool};
 ghost use Rattle.vc_pool_cells.specs.Place.{cells_in};
 
 use crate::PoolSegment;
@@ -17,8 +17,7 @@ use vc_seg::rounded_up;
 pub fn reuse(segs: &mut [PoolSegment], freed: &mut Addr, element: u32, size: u32, tag: u32) -> Addr
     requires kept { IsPool element (cells_in segs.old) freed.old.0 }
     requires freed { 1 ≤ freed.old.0 }
-    requires some { 1 ≤ size }
-    requires fits { size ≤ element }
+    requires size { FitsElement size element }
     ensures value { result.0 ≡ freed.old.0 }
     ensures reused { IsReused element tag size
         (cells_in segs.old) (cells_in segs.new) freed.old.0 freed.new.0 }
@@ -34,7 +33,6 @@ pub fn reuse(segs: &mut [PoolSegment], freed: &mut Addr, element: u32, size: u32
 /// Frees the block at an address. Its cell is the one freed last, and names the one that was so before it.
 pub fn put_back(segs: &mut [PoolSegment], freed: &mut Addr, element: u32, a: Addr)
     requires kept { IsPool element (cells_in segs.old) freed.old.0 }
-    requires some { 1 ≤ element }
     requires block { HasBlock (layout_by (cell_for element) (cells_in segs.old)).blocks a.0 }
     ensures last { freed.new.0 ≡ a.0 }
     ensures back { IsPutBack element a.0 (cells_in segs.old) (cells_in segs.new) freed.old.0 }

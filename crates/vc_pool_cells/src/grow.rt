@@ -3,7 +3,7 @@ ghost use Rattle.vc_model.specs.Addr.{place_of};
 ghost use Rattle.vc_model.specs.Pool.{cell_for, uncarved};
 ghost use Rattle.vc_seg.specs.Segment.{IsRegionSegment};
 ghost use Rattle.vc_pool_cells.specs.Blocks.{carved_by, pair_of};
-ghost use Rattle.vc_pool_cells.specs.Kept.{AreCellular, IsPool};
+ghost use Rattle.vc_pool_cells.specs.Kept.{AreCellular, FitsElement, IsPool};
 ghost use Rattle.vc_pool_cells.specs.Place.{IsOther, cells_in};
 ghost use Rattle.vc_pool_cells.specs.Carve.{IsCarvedNew, IsSetFrom};
 
@@ -32,8 +32,7 @@ pub fn carve_new(
     requires unused { All (IsOther segment.number) (cells_in segs.old.items) }
     requires cell { 32 + cell_for element ≤ length segment.bytes }
     requires table { table.items ≡ replicate ((length segment.bytes - 32) / cell_for element) (0, 0) }
-    requires some { 1 ≤ size }
-    requires fits { size ≤ element }
+    requires size { FitsElement size element }
     ensures place { place_of result.0 ≡ (segment.number, 32) }
     ensures carved { (before last : ℕ) → IsSetFrom element before
         → IsPool before (cells_in segs.old.items) last

@@ -59,7 +59,6 @@ fn place_of_number(segs: &[PoolSegment], number: u32) -> usize
 /// Where the segment of an address is among these, and the index there of the cell that begins at the address.
 pub fn find_cell(segs: &[PoolSegment], element: u32, a: Addr) -> (usize, u32)
     requires kept { AreCellular element (cells_in segs.now) }
-    requires some { 1 ≤ element }
     requires listed { IsListed (cell_for element) (cells_in segs.now) (place_of a.0) }
     ensures within { result.0 < length segs.now }
     ensures found { IsCellAt (cell_for element) (cells_in segs.now) (place_of a.0) result.0 result.1 }

@@ -1,11 +1,12 @@
-ghost use Rattle.std.specs.Prelude.{◌≡◌, ℕ, ◌≤◌, Some, drop, length, option_map, take};
+ghost use Rattle.std.specs.Prelude.{◌≡◌, ℕ, Some, drop, length, option_map, take};
 ghost use Rattle.vc_model.specs.Addr.{place_of};
 ghost use Rattle.vc_model.specs.Pool.{cell_for};
 ghost use Rattle.vc_model.specs.Resize.{resize_there};
-ghost use Rattle.vc_model.specs.Touch.{HasBlock, HasRange, find_block, with_bytes_at};
+ghost use Rattle.vc_model.specs.Touch.{HasBlock, find_block, with_bytes_at};
+ghost use Rattle.vc_seg.specs.OneBlock.{IsInBlock};
 ghost use Rattle.vc_pool_cells.specs.Blocks.{layout_by};
 ghost use Rattle.vc_pool_cells.specs.Call.{Becomes};
-ghost use Rattle.vc_pool_cells.specs.Kept.{AreCellular, IsPool};
+ghost use Rattle.vc_pool_cells.specs.Kept.{AreCellular, FitsElement, IsPool};
 ghost use Rattle.vc_pool_cells.specs.Place.{cells_in};
 
 use crate::PoolSegment;
@@ -16,7 +17,6 @@ use vc_seg::rounded_up;
 /// The size in bytes and the tag of the block at an address.
 pub fn pair_at(segs: &[PoolSegment], element: u32, a: Addr) -> (u32, u32)
     requires kept { AreCellular element (cells_in segs.now) }
-    requires some { 1 ≤ element }
     requires block { HasBlock (layout_by (cell_for element) (cells_in segs.now)).blocks a.0 }
     ensures { option_map {U = ℕ × ℕ} (λ b. (b.size, b.label)) (find_block (place_of a.0)
         (layout_by (cell_for element) (cells_in segs.now)).blocks) ≡ Some result }
@@ -28,9 +28,7 @@ pub fn pair_at(segs: &[PoolSegment], element: u32, a: Addr) -> (u32, u32)
 /// The bytes of a range of the block at an address. The range lies in the block.
 pub fn read_at(segs: &[PoolSegment], element: u32, a: Addr, off: u32, len: u32) -> &[u8]
     requires kept { AreCellular element (cells_in segs.now) }
-    requires some { 1 ≤ element }
-    requires block { HasBlock (layout_by (cell_for element) (cells_in segs.now)).blocks a.0 }
-    requires range { HasRange (layout_by (cell_for element) (cells_in segs.now)).blocks a.0 off len }
+    requires part { IsInBlock (layout_by (cell_for element) (cells_in segs.now)).blocks a.0 off len }
     ensures { option_map (λ b. take len (drop off b.bytes)) (find_block (place_of a.0)
         (layout_by (cell_for element) (cells_in segs.now)).blocks) ≡ Some result.now }
 {
@@ -41,9 +39,7 @@ pub fn read_at(segs: &[PoolSegment], element: u32, a: Addr, off: u32, len: u32) 
 /// Puts bytes into the block at an address, from an offset in it on. They lie in the block.
 pub fn write_at(segs: &mut [PoolSegment], element: u32, a: Addr, off: u32, src: &[u8])
     requires kept { AreCellular element (cells_in segs.old) }
-    requires some { 1 ≤ element }
-    requires block { HasBlock (layout_by (cell_for element) (cells_in segs.old)).blocks a.0 }
-    requires range { HasRange (layout_by (cell_for element) (cells_in segs.old)).blocks
+    requires part { IsInBlock (layout_by (cell_for element) (cells_in segs.old)).blocks
         a.0 off (length src.now) }
     ensures { (freed : ℕ) → IsPool element (cells_in segs.old) freed
         → Becomes element (cells_in segs.old) (cells_in segs.new) freed
@@ -57,8 +53,7 @@ pub fn write_at(segs: &mut [PoolSegment], element: u32, a: Addr, off: u32, src: 
 pub fn resize_at(segs: &mut [PoolSegment], element: u32, a: Addr, size: u32)
     requires kept { AreCellular element (cells_in segs.old) }
     requires block { HasBlock (layout_by (cell_for element) (cells_in segs.old)).blocks a.0 }
-    requires some { 1 ≤ size }
-    requires fits { size ≤ element }
+    requires size { FitsElement size element }
     ensures { (freed : ℕ) → IsPool element (cells_in segs.old) freed
         → Becomes element (cells_in segs.old) (cells_in segs.new) freed
         (resize_there (layout_by (cell_for element) (cells_in segs.old)) (place_of a.0) size) }

@@ -14,7 +14,6 @@ use vc_seg::rounded_up;
 /// The address that the cell at one names.
 fn link_of(segs: &[PoolSegment], element: u32, a: Addr) -> Addr
     requires kept { AreCellular element (cells_in segs.now) }
-    requires some { 1 ≤ element }
     requires listed { IsListed (cell_for element) (cells_in segs.now) (place_of a.0) }
     requires fits { link_at (cells_in segs.now) a.0 < 4294967296 }
     ensures { result.0 ≡ link_at (cells_in segs.now) a.0 }
@@ -27,7 +26,6 @@ fn link_of(segs: &[PoolSegment], element: u32, a: Addr) -> Addr
 /// The cell at an address, in which no block is, names another.
 fn set_link(segs: &mut [PoolSegment], element: u32, a: Addr, link: Addr)
     requires kept { AreCellular element (cells_in segs.old) }
-    requires some { 1 ≤ element }
     requires listed { IsListed (cell_for element) (cells_in segs.old) (place_of a.0) }
     ensures { IsLinked (cell_for element) (cells_in segs.old) (cells_in segs.new) a.0 link.0 }
 {

@@ -1,8 +1,5 @@
-ghost use Rattle.std.specs.Prelude.{◌≡◌, ℕ, IfSome, option_map};
-ghost use Rattle.vc_model.specs.Layout.{address_of};
 ghost use Rattle.vc_model.specs.Pool.{cell_for};
-ghost use Rattle.vc_model.specs.Touch.{HasBlock};
-ghost use Rattle.vc_model.specs.Walk.{block_at};
+ghost use Rattle.vc_seg.specs.OneBlock.{IsBlockAt};
 ghost use Rattle.vc_pool_cells.specs.Blocks.{layout_by};
 ghost use Rattle.vc_pool_cells.specs.Kept.{AreCellular};
 ghost use Rattle.vc_pool_cells.specs.Place.{cells_in};
@@ -19,11 +16,8 @@ pub(crate) fn block_in(
     off: u32,
 ) -> Option<(Addr, u32)>
     requires kept { AreCellular element (cells_in segs.now) }
-    ensures value { option_map {U = ℕ × ℕ} (λ f. (f.0.0, f.1)) result
-        ≡ option_map {U = ℕ × ℕ} (λ f. (address_of f.0, f.1))
-        (block_at (seg, off) (layout_by (cell_for element) (cells_in segs.now)).blocks) }
-    ensures live { IfSome result
-        (λ f. HasBlock (layout_by (cell_for element) (cells_in segs.now)).blocks f.0.0) }
+    ensures { IsBlockAt result (seg, off)
+        (layout_by (cell_for element) (cells_in segs.now)).blocks }
 {
     let place = find_number(segs, seg)?;
     if off < 32 {

@@ -1,8 +1,7 @@
-ghost use Rattle.std.specs.Prelude.{◌≡◌, ℕ, ◌<◌, ◌≤◌, IfNone, IfSome, length, option_map};
-ghost use Rattle.vc_model.specs.Layout.{address_of};
+ghost use Rattle.std.specs.Prelude.{◌≡◌, ℕ, ◌<◌, ◌≤◌, IfNone, IfSome, length};
 ghost use Rattle.vc_model.specs.Pool.{cell_for, cell_offset};
 ghost use Rattle.vc_model.specs.Touch.{HasBlock};
-ghost use Rattle.vc_model.specs.Walk.{next_block};
+ghost use Rattle.vc_seg.specs.OneBlock.{IsNextBlock};
 ghost use Rattle.vc_pool_cells.specs.Blocks.{layout_by};
 ghost use Rattle.vc_pool_cells.specs.Freed.{cells_at};
 ghost use Rattle.vc_pool_cells.specs.Kept.{AreCellular};
@@ -63,10 +62,7 @@ fn first_above(segs: &[PoolSegment], element: u32, number: u32) -> Option<Addr>
 /// The block with the least address above one. None where there is none.
 pub(crate) fn next_in(segs: &[PoolSegment], element: u32, after: Addr) -> Option<Addr>
     requires kept { AreCellular element (cells_in segs.now) }
-    ensures value { option_map (λ a. a.0) result ≡ option_map address_of
-        (next_block after.0 (layout_by (cell_for element) (cells_in segs.now)).blocks) }
-    ensures live { IfSome result
-        (λ a. HasBlock (layout_by (cell_for element) (cells_in segs.now)).blocks a.0) }
+    ensures { IsNextBlock result after.0 (layout_by (cell_for element) (cells_in segs.now)).blocks }
 {
     if element == 0 {
         return None;

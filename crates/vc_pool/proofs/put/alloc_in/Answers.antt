@@ -16,7 +16,7 @@ use Rattle.vc_pool.proofs.put.alloc_in.Given.{Over}
 
 -- the segments with the element size that the block has
 h : (g : Over) (c : After-element_with-set g) → IsPool c.element_with-set.result (cells_in c.args.segs.now.items) c.args.freed.now.0
-h g c = pool-with c.element_with-set.result c.args.element.now (cells_in c.args.segs.now.items) c.args.freed.now.0 c.args.size c.element_with-set.ensures.set c.element_with-set.ensures.unset c.requires.most c.requires.kept
+h g c = pool-with c.element_with-set.result c.args.element.now (cells_in c.args.segs.now.items) c.args.freed.now.0 c.args.size c.element_with-set.ensures.set c.element_with-set.ensures.unset c.requires.size.most c.requires.kept
 
 most : (g : Over) (c : After-element_with-set g) → c.element_with-set.result ≤ 16777216
 most g c = (h g c).cells.most
@@ -74,7 +74,7 @@ pub returns-in-Some-clause-answer : goal.returns-in-Some-clause-answer
 returns-in-Some-clause-answer g c =
     let at = goal.at.returns-in-Some-clause-answer g c in
     put-carved _ c.args.segs.now.items c.args.element.now c.args.freed.now.0 c.element_with-set.result c.args.tag c.args.size c.element_with-set.ensures.set c.element_with-set.ensures.unset
-    c.requires.kept.cells (most g at.After-element_with-set) c.if-freed-ne0.false c.if-size-set.false c.requires.some
+    c.requires.kept.cells (most g at.After-element_with-set) c.if-freed-ne0.false c.if-size-set.false c.requires.size.some
     c.in-Some.a.0 _ (place g at.After-carve_lowest _ c.in-Some.ensures.place)
     (carved g at.After-carve_lowest c.in-Some.a.0 (h g at.After-element_with-set) c.in-Some.ensures.carved)
 
@@ -82,7 +82,7 @@ pub returns-in-Some-clause-disc : goal.returns-in-Some-clause-disc
 returns-in-Some-clause-disc g c =
     let at = goal.at.returns-in-Some-clause-disc g c in
     carved-disc _ c.args.segs.now.items c.args.element.now c.args.freed.now.0 c.element_with-set.result c.args.tag c.args.size c.element_with-set.ensures.set c.element_with-set.ensures.unset
-    c.requires.kept.cells (most g at.After-element_with-set) c.if-freed-ne0.false c.if-size-set.false c.requires.some
+    c.requires.kept.cells (most g at.After-element_with-set) c.if-freed-ne0.false c.if-size-set.false c.requires.size.some
     c.in-Some.a.0 _ _
     (carved g at.After-carve_lowest c.in-Some.a.0 (h g at.After-element_with-set) c.in-Some.ensures.carved)
 
@@ -96,7 +96,7 @@ pub returns-in-Ok-clause-answer : goal.returns-in-Ok-clause-answer
 returns-in-Ok-clause-answer g c =
     let at = goal.at.returns-in-Ok-clause-answer g c in
     put-granted _ c.args.segs.now.items c.args.element.now c.args.freed.now.0 c.element_with-set.result c.args.tag c.args.size c.element_with-set.ensures.set c.element_with-set.ensures.unset
-    c.requires.kept.cells (most g at.After-element_with-set) c.if-freed-ne0.false c.if-size-set.false c.requires.some
+    c.requires.kept.cells (most g at.After-element_with-set) c.if-freed-ne0.false c.if-size-set.false c.requires.size.some
     (full-is c.args.segs.now.items c.args.element.now c.args.freed.now.0 c.element_with-set.result c.args.size c.element_with-set.ensures.set c.element_with-set.ensures.unset (place g at.After-carve_lowest _ c.in-None.ensures.place))
     c.in-Ok.a.0 c.put_in_new.new.segs.items _ _ c.requires.kept
     (granted-from c.element_with-set.result c.args.tag c.args.size _ _ c.args.segs.now.items (cells_in c.put_in_new.new.segs.items) _ _ c.in-Ok.a.0 (unchanged g at.After-carve_lowest c.in-None.ensures.same) c.in-Ok.ensures.granted)
@@ -105,7 +105,7 @@ pub returns-in-Ok-clause-disc : goal.returns-in-Ok-clause-disc
 returns-in-Ok-clause-disc g c =
     let at = goal.at.returns-in-Ok-clause-disc g c in
     granted-disc _ c.args.segs.now.items c.args.element.now c.args.freed.now.0 c.element_with-set.result c.args.tag c.args.size c.element_with-set.ensures.set c.element_with-set.ensures.unset
-    c.requires.kept.cells (most g at.After-element_with-set) c.if-freed-ne0.false c.if-size-set.false c.requires.some
+    c.requires.kept.cells (most g at.After-element_with-set) c.if-freed-ne0.false c.if-size-set.false c.requires.size.some
     (full-is c.args.segs.now.items c.args.element.now c.args.freed.now.0 c.element_with-set.result c.args.size c.element_with-set.ensures.set c.element_with-set.ensures.unset (place g at.After-carve_lowest _ c.in-None.ensures.place))
     c.in-Ok.a.0 c.put_in_new.new.segs.items _ _ c.requires.kept
     (granted-from c.element_with-set.result c.args.tag c.args.size _ _ c.args.segs.now.items (cells_in c.put_in_new.new.segs.items) _ _ c.in-Ok.a.0 (unchanged g at.After-carve_lowest c.in-None.ensures.same) c.in-Ok.ensures.granted)
@@ -114,7 +114,7 @@ pub returns-in-Err-clause-answer : goal.returns-in-Err-clause-answer
 returns-in-Err-clause-answer g c =
     let at = goal.at.returns-in-Err-clause-answer g c in (
       asked-refusal _ c.args.segs.now.items c.args.element.now c.args.freed.now.0 c.element_with-set.result c.args.tag c.args.size c.element_with-set.ensures.set c.element_with-set.ensures.unset
-          c.requires.kept.cells (most g at.After-element_with-set) c.if-freed-ne0.false c.if-size-set.false c.requires.some
+          c.requires.kept.cells (most g at.After-element_with-set) c.if-freed-ne0.false c.if-size-set.false c.requires.size.some
           (full-is c.args.segs.now.items c.args.element.now c.args.freed.now.0 c.element_with-set.result c.args.size c.element_with-set.ensures.set c.element_with-set.ensures.unset (place g at.After-carve_lowest _ c.in-None.ensures.place))
           c.in-Err.fault (no-grant-from _ _ c.args.segs.now.items c.in-Err.fault (unchanged g at.After-carve_lowest c.in-None.ensures.same) c.in-Err.ensures.fault),
       ap (λ (ss : List PoolSegment). pool_by ss c.args.element.now c.args.freed.now.0) (c.in-Err.ensures.same ∙ unchanged g at.After-carve_lowest c.in-None.ensures.same),

@@ -1,19 +1,15 @@
 use Rattle.std.proofs.Common.{get_or, arith}
 use Rattle.std.proofs.lemmas.List.{get_or_default}
-use Rattle.vc_model.specs.Addr.{place_of}
-use Rattle.vc_model.specs.Pool.{cell_for}
 use Rattle.vc_pool_cells.specs.Place.{cells_in}
 use Rattle.vc_pool_cells.proofs.Calls.{last-small}
-use Rattle.vc_pool_cells.proofs.Lists.{live-listed}
-use Rattle.vc_pool_cells.proofs.Stands.{stands}
+use Rattle.vc_pool_cells.proofs.Stands.{block-listed}
 use Rattle.vc_pool_cells.proofs.Steps.{put-back-there}
 use Rattle.vc_pool_cells.proofs.chain.put_back.Goals as goal
 
 pub find_cell-place-requires-clause-listed : goal.find_cell-place-requires-clause-listed
-find_cell-place-requires-clause-listed c =
-    live-listed (cell_for c.args.element) (cells_in c.args.segs.now) (place_of c.args.a.0) (stands c.args.element (cells_in c.args.segs.now) c.requires.kept.cells c.requires.some c.args.a.0 c.requires.block)
+find_cell-place-requires-clause-listed c = block-listed c.args.element c.args.a.0 (cells_in c.args.segs.now) c.requires.kept.cells c.requires.block
 
 pub returns-clause-back : goal.returns-clause-back
 returns-clause-back c =
     put-back-there c.args.element c.args.a.0 c.find_cell-place.result.0 c.find_cell-place.result.1 c.rounded_up-cell.result c.args.segs.now (get_or c.args.segs.now c.find_cell-place.result.0 c.index-segs-place.result) c.rounded_up-cell.ensures c.find_cell-place.ensures.within c.find_cell-place.ensures.found (get_or_default c.args.segs.now c.find_cell-place.result.0 c.index-segs-place.result (get_or c.args.segs.now c.find_cell-place.result.0 c.index-segs-place.result) c.find_cell-place.ensures.within)
-    c.release.new.self c.requires.kept.cells c.requires.some c.requires.block c.args.freed.now.0 (let small = last-small c.args.element c.args.freed.now.0 (cells_in c.args.segs.now) c.requires.kept in omega (arith, small)) c.release.ensures c.requires.kept
+    c.release.new.self c.requires.kept.cells c.requires.block c.args.freed.now.0 (let small = last-small c.args.element c.args.freed.now.0 (cells_in c.args.segs.now) c.requires.kept in omega (arith, small)) c.release.ensures c.requires.kept

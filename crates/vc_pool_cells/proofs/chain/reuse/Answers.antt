@@ -18,6 +18,6 @@ link-requires-clause-fits c =
 pub returns-clause-reused : goal.returns-clause-reused
 returns-clause-reused c =
     reused-there c.args.element c.args.freed.now.0 c.find_cell-place.result.0 c.find_cell-place.result.1 c.rounded_up-cell.result c.args.segs.now (get_or c.args.segs.now c.find_cell-place.result.0 c.index-segs-place.result) c.rounded_up-cell.ensures c.find_cell-place.ensures.within c.find_cell-place.ensures.found (get_or_default c.args.segs.now c.find_cell-place.result.0 c.index-segs-place.result (get_or c.args.segs.now c.find_cell-place.result.0 c.index-segs-place.result) c.find_cell-place.ensures.within)
-    c.lay.new.self c.args.tag c.args.size c.link.result.0 c.requires.freed c.requires.some c.requires.fits
+    c.lay.new.self c.args.tag c.args.size c.link.result.0 c.requires.freed c.requires.size
     (c.lay.ensures ∙ ap (λ (s : PoolSegment). with_zeros_in c.rounded_up-cell.result c.find_cell-place.result.1 c.args.size c.args.tag (cells_of s)) (get_or_default c.args.segs.now c.find_cell-place.result.0 c.index-segs-place-2.result c.index-segs-place.result c.find_cell-place.ensures.within))
     c.link.ensures c.requires.kept

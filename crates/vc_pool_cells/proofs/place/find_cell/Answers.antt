@@ -3,9 +3,10 @@ use Rattle.std.specs.List.{HoldsAt}
 use Rattle.vc_model.specs.Addr.{place_of}
 use Rattle.vc_model.specs.Pool.{cell_for, cell_offset}
 use Rattle.vc_pool_cells.specs.Cells.{HasCell, cells_of}
+use Rattle.vc_pool_cells.specs.Place.{cells_in}
 use Rattle.vc_pool_cells.specs.declared.segment.PoolSegment.{PoolSegment}
 use Rattle.vc_pool_cells.proofs.Lists.{alone-in, cell-in}
-use Rattle.vc_pool_cells.proofs.Stands.{index-is}
+use Rattle.vc_pool_cells.proofs.Stands.{cell-some, index-is}
 use Rattle.vc_pool_cells.proofs.place.find_cell.Goals as goal
 use Rattle.vc_pool_cells.proofs.place.find_cell.Goals.{After-index_of-index}
 
@@ -16,7 +17,7 @@ number c = λ d. c.place_of_number-place.ensures.number d ∙ c.seg.ensures
 -- the index is that of its cell
 same : (c : After-index_of-index) → c.index_of-index.result ≡ c.requires.listed.index
 same c =
-    let some = c.requires.some in
+    let some = cell-some c.args.element (place_of c.args.a.0).0 (cells_in c.args.segs.now) c.requires.kept (let listed = c.requires.listed.listed in omega (arith, listed)) in
     c.index_of-index.ensures
     ∙ (ap (λ x. (x - 32) / c.rounded_up.result) c.off.ensures
     ∙ (ap (λ x. ((place_of c.args.a.0).1 - 32) / x) c.rounded_up.ensures
@@ -35,4 +36,4 @@ returns-clause-cell c =
     let at = (goal.at.returns-clause-cell c).After-index_of-index in
     λ d.
     subst (λ k. HasCell (cell_for c.args.element) k (cells_of (get_or c.args.segs.now c.place_of_number-place.result d))) (sym (same at))
-    (cell-in c.args.element c.place_of_number-place.result (place_of c.args.a.0).0 c.args.segs.now c.requires.kept c.place_of_number-place.ensures.within (number at) c.requires.listed.index c.requires.some c.requires.listed.listed d)
+    (cell-in c.args.element c.place_of_number-place.result (place_of c.args.a.0).0 c.args.segs.now c.requires.kept c.place_of_number-place.ensures.within (number at) c.requires.listed.index c.requires.listed.listed d)

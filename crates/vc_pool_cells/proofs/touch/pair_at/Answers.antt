@@ -1,20 +1,17 @@
 use Rattle.std.proofs.Common.{ℕ, Some, option_map, ap, ◌∙◌, sym, refl}
-use Rattle.vc_model.specs.Addr.{place_of}
 use Rattle.vc_model.specs.Layout.{Block}
 use Rattle.vc_model.specs.Pool.{cell_for}
 use Rattle.vc_pool_cells.specs.Place.{cells_in}
-use Rattle.vc_pool_cells.proofs.Lists.{live-listed}
-use Rattle.vc_pool_cells.proofs.Stands.{stands}
+use Rattle.vc_pool_cells.proofs.Stands.{block-listed}
 use Rattle.vc_pool_cells.proofs.Steps.{found-there}
 use Rattle.vc_pool_cells.proofs.touch.pair_at.Goals as goal
 
 pub find_cell-place-requires-clause-listed : goal.find_cell-place-requires-clause-listed
-find_cell-place-requires-clause-listed c =
-    live-listed (cell_for c.args.element) (cells_in c.args.segs.now) (place_of c.args.a.0) (stands c.args.element (cells_in c.args.segs.now) c.requires.kept c.requires.some c.args.a.0 c.requires.block)
+find_cell-place-requires-clause-listed c = block-listed c.args.element c.args.a.0 (cells_in c.args.segs.now) c.requires.kept c.requires.block
 
 pub returns : goal.returns
 returns c =
     ap (option_map {U = ℕ × ℕ} (λ (b : Block ℕ). (b.size, b.label)))
     (found-there c.args.element c.args.a.0 c.find_cell-place.result.0 c.find_cell-place.result.1 (cell_for c.args.element) c.args.segs.now c.index-segs-place.result refl c.find_cell-place.ensures.within c.find_cell-place.ensures.found c.index-segs-place.is
-    c.requires.kept c.requires.some c.requires.block)
+    c.requires.kept c.requires.block)
     ∙ ap Some (sym c.pair.ensures)

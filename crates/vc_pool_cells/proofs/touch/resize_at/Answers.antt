@@ -1,28 +1,20 @@
 use Rattle.std.proofs.Common.{get_or, arith}
 use Rattle.std.proofs.lemmas.List.{get_or_default}
-use Rattle.vc_model.specs.Addr.{place_of}
-use Rattle.vc_model.specs.Pool.{cell_for}
 use Rattle.vc_pool_cells.specs.Place.{cells_in}
-use Rattle.vc_pool_cells.proofs.Lists.{live-listed}
-use Rattle.vc_pool_cells.proofs.Stands.{stands}
+use Rattle.vc_pool_cells.proofs.Stands.{block-listed}
 use Rattle.vc_pool_cells.proofs.Steps.{fits-there, resized-there}
 use Rattle.vc_pool_cells.proofs.touch.resize_at.Goals as goal
 
 pub find_cell-place-requires-clause-listed : goal.find_cell-place-requires-clause-listed
-find_cell-place-requires-clause-listed c =
-    live-listed (cell_for c.args.element) (cells_in c.args.segs.now) (place_of c.args.a.0) (stands c.args.element (cells_in c.args.segs.now) c.requires.kept (let some = c.requires.some in let fits = c.requires.fits in omega (arith, some, fits)) c.args.a.0 c.requires.block)
+find_cell-place-requires-clause-listed c = block-listed c.args.element c.args.a.0 (cells_in c.args.segs.now) c.requires.kept c.requires.block
 
 pub resize-requires-clause-fitted : goal.resize-requires-clause-fitted
 resize-requires-clause-fitted c =
-    let some = c.requires.some in
-    let fits = c.requires.fits in
     fits-there c.args.element c.args.a.0 c.find_cell-place.result.0 c.find_cell-place.result.1 c.rounded_up.result c.args.segs.now (get_or c.args.segs.now c.find_cell-place.result.0 c.index-segs-place.result) c.rounded_up.ensures c.find_cell-place.ensures.within c.find_cell-place.ensures.found (get_or_default c.args.segs.now c.find_cell-place.result.0 c.index-segs-place.result (get_or c.args.segs.now c.find_cell-place.result.0 c.index-segs-place.result) c.find_cell-place.ensures.within)
-    c.requires.kept (omega (arith, some, fits)) c.requires.block
+    c.requires.kept c.requires.block
 
 pub returns : goal.returns
 returns c =
     λ last h.
-    let some = c.requires.some in
-    let fits = c.requires.fits in
     resized-there c.args.element c.args.a.0 c.find_cell-place.result.0 c.find_cell-place.result.1 c.rounded_up.result c.args.segs.now (get_or c.args.segs.now c.find_cell-place.result.0 c.index-segs-place.result) c.rounded_up.ensures c.find_cell-place.ensures.within c.find_cell-place.ensures.found (get_or_default c.args.segs.now c.find_cell-place.result.0 c.index-segs-place.result (get_or c.args.segs.now c.find_cell-place.result.0 c.index-segs-place.result) c.find_cell-place.ensures.within)
-    c.resize.new.self c.requires.kept (omega (arith, some, fits)) c.requires.block last c.args.size c.requires.some c.requires.fits c.resize.ensures h
+    c.resize.new.self c.requires.kept c.requires.block last c.args.size c.requires.size c.resize.ensures h

@@ -3,9 +3,6 @@ use Rattle.vc_pool_cells.specs.Place.{cells_in}
 use Rattle.vc_pool.proofs.Sifts.{first-out, next-out, out-keeps, split-last, split-small, split-some}
 use Rattle.vc_pool.proofs.compact.relink.leave_out.Goals as goal
 
-pub set_link-requires-clause-some : goal.set_link-requires-clause-some
-set_link-requires-clause-some c = split-some c.args.element (cells_in c.args.segs.now) c.args.freed.now.0 c.args.last.0 c.args.at.0 c.requires.split c.requires.some
-
 pub set_link-requires-clause-listed : goal.set_link-requires-clause-listed
 set_link-requires-clause-listed c =
     let one : 1 ≤ c.args.last.0 = let other = c.if-last-eq0.false in omega (arith, other) in

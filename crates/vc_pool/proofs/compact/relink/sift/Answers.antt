@@ -6,9 +6,6 @@ use Rattle.vc_pool.proofs.compact.relink.sift.Goals as goal
 pub link_of-next-requires-clause-kept : goal.link_of-next-requires-clause-kept
 link_of-next-requires-clause-kept c = split-cells c.args.element (cells_in c.args.segs.now) c.args.freed.now.0 c.args.last.0 c.args.at.0 c.requires.split
 
-pub link_of-next-requires-clause-some : goal.link_of-next-requires-clause-some
-link_of-next-requires-clause-some c = split-some c.args.element (cells_in c.args.segs.now) c.args.freed.now.0 c.args.last.0 c.args.at.0 c.requires.split c.requires.some
-
 pub link_of-next-requires-clause-listed : goal.link_of-next-requires-clause-listed
 link_of-next-requires-clause-listed c = split-listed c.args.element (cells_in c.args.segs.now) c.args.freed.now.0 c.args.last.0 c.args.at.0 c.requires.split c.requires.some
 

@@ -1,12 +1,11 @@
 use Rattle.std.proofs.Common.{◌++◌, length, refl, ap, sym, ◌∙◌}
-use Rattle.vc_pool_cells.specs.Place.{cells_in}
-use Rattle.vc_pool_cells.proofs.Types.{have}
 use Rattle.vc_pool.proofs.Kept.{took-by}
 use Rattle.vc_pool.proofs.Keeps.{pairs-of}
+use Rattle.vc_pool.proofs.Sound.{kept-of}
 use Rattle.vc_pool.proofs.pool.Pool.close.Goals as goal
 
 pub close_in-count-requires-clause-segments : goal.close_in-count-requires-clause-segments
-close_in-count-requires-clause-segments g c = (have c.args.self.element (cells_in c.args.self.segs.items) c.args.self.freed.0 c.args.self.kept).cells.segments
+close_in-count-requires-clause-segments g c = (kept-of c.args.self).cells.segments
 
 pub close_in-count-requires-clause-out : goal.close_in-count-requires-clause-out
 close_in-count-requires-clause-out g c =

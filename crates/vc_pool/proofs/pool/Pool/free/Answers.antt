@@ -7,10 +7,10 @@ use Rattle.vc_pool_cells.specs.Call.{IsPutBack}
 use Rattle.vc_pool_cells.specs.Kept.{IsPool}
 use Rattle.vc_pool_cells.specs.Place.{cells_in}
 use Rattle.vc_pool_cells.specs.declared.segment.PoolSegment.{PoolSegment}
-use Rattle.vc_pool_cells.proofs.Types.{have}
 use Rattle.vc_pool.specs.Read.{pool_by}
-use Rattle.vc_pool.proofs.Have.{sound-of, with-block}
+use Rattle.vc_pool.proofs.Have.{sound-kept, sound-of}
 use Rattle.vc_pool.proofs.Keeps.{freed-pool}
+use Rattle.vc_pool.proofs.Sound.{kept-of}
 use Rattle.vc_pool.proofs.pool.Pool.free.Goals as goal
 use Rattle.vc_pool.proofs.pool.Pool.free.Goals.{After-put_back}
 use Rattle.vc_pool.proofs.pool.Pool.free.Given.{Over}
@@ -29,28 +29,18 @@ pool g c =
     ∙ freed-pool c.args.self.now.segs.items c.put_back.new.segs c.args.self.now.element c.args.a.0 c.args.self.now.freed.0 (back g c))
 
 pub put_back-requires-clause-kept : goal.put_back-requires-clause-kept
-put_back-requires-clause-kept g c = rw c.deref_mut.ensures.value (have c.args.self.now.element (cells_in c.args.self.now.segs.items) c.args.self.now.freed.0 c.args.self.now.kept)
+put_back-requires-clause-kept g c = rw c.deref_mut.ensures.value (kept-of c.args.self.now)
 
-pub put_back-requires-clause-some : goal.put_back-requires-clause-some
-put_back-requires-clause-some g c = with-block c.args.self.now.segs.items c.args.self.now.element c.args.self.now.freed.0 c.args.a.0 (have c.args.self.now.element (cells_in c.args.self.now.segs.items) c.args.self.now.freed.0 c.args.self.now.kept).cells c.requires
-
-pub returns-clause-one_less : goal.returns-clause-one_less
-returns-clause-one_less g c =
-    let h = have c.args.self.now.element (cells_in c.args.self.now.segs.items) c.args.self.now.freed.0 c.args.self.now.kept in
-    free-one_less c.args.a.0 _ _ (ap (λ (p : Pool ℕ). p.layout.blocks) (pool g (goal.at.returns-clause-one_less g c).After-put_back)) ((sound-of c.args.self.now.segs.items c.args.self.now.element c.args.self.now.freed.0 h.cells).places) c.requires
+pub invariant_of-self : goal.invariant_of-self
+invariant_of-self g c =
+    let at = (goal.at.invariant_of-self g c).After-put_back in
+    let now : IsPool c.args.self.now.element (cells_in (take c.args.self.now.segs.len (c.put_back.new.segs ++ drop (length c.put_back.new.segs) c.args.self.now.segs.items))) c.put_back.new.freed.0 =
+    subst (λ a. IsPool c.args.self.now.element (cells_in (take c.args.self.now.segs.len (c.put_back.new.segs ++ drop (length c.put_back.new.segs) c.args.self.now.segs.items))) a) (sym c.put_back.ensures.last)
+    (subst (λ (ss : List PoolSegment). IsPool c.args.self.now.element (cells_in ss) c.args.a.0) (sym (items g at)) (back g at).kept) in
+    record { kept = ∣ now ∣₁; sound = sound-kept _ c.args.self.now.element c.put_back.new.freed.0 now }
 
 pub returns-clause-freed : goal.returns-clause-freed
 returns-clause-freed g c =
-    let h = have c.args.self.now.element (cells_in c.args.self.now.segs.items) c.args.self.now.freed.0 c.args.self.now.kept in
-    free-freed c.args.a.0 _ _ (ap (λ (p : Pool ℕ). p.layout.blocks) (pool g (goal.at.returns-clause-freed g c).After-put_back)) ((sound-of c.args.self.now.segs.items c.args.self.now.element c.args.self.now.freed.0 h.cells).places)
-
-pub returns-clause-none_left : goal.returns-clause-none_left
-returns-clause-none_left g c =
-    let h = have c.args.self.now.element (cells_in c.args.self.now.segs.items) c.args.self.now.freed.0 c.args.self.now.kept in
-    free-none_left c.args.a.0 _ _ (ap (λ (p : Pool ℕ). p.layout.blocks) (pool g (goal.at.returns-clause-none_left g c).After-put_back)) ((sound-of c.args.self.now.segs.items c.args.self.now.element c.args.self.now.freed.0 h.cells).places)
-
-pub returns-clause-sound : goal.returns-clause-sound
-returns-clause-sound g c =
-    let at = (goal.at.returns-clause-sound g c).After-put_back in
-    sound-of _ c.args.self.now.element c.put_back.new.freed.0
-    (subst (λ (ss : List PoolSegment). IsPool c.args.self.now.element (cells_in ss) c.args.a.0) (sym (items g at)) (back g at).kept).cells
+    let is = ap (λ (p : Pool ℕ). p.layout.blocks) (pool g (goal.at.returns-clause-freed g c).After-put_back) in
+    let places = (sound-of c.args.self.now.segs.items c.args.self.now.element c.args.self.now.freed.0 (kept-of c.args.self.now).cells).places in
+    record { one_less = free-one_less c.args.a.0 _ _ is places c.requires; freed = free-freed c.args.a.0 _ _ is places; none_left = free-none_left c.args.a.0 _ _ is places }

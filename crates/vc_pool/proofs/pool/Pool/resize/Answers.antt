@@ -1,5 +1,4 @@
 use Rattle.std.proofs.Common.{◌≡◌, ℕ, ◌++◌, ◌≤◌, List, None, take, drop, length, ap, sym, subst, ◌∙◌, arith}
-use Rattle.std.specs.Prelude.{Ok}
 use Rattle.std.proofs.lemmas.List.{with_items_is}
 use Rattle.vc_model.specs.Addr.{place_of}
 use Rattle.vc_model.specs.Layout.{Layout}
@@ -11,13 +10,13 @@ use Rattle.vc_pool_cells.specs.Call.{Becomes}
 use Rattle.vc_pool_cells.specs.Kept.{IsPool}
 use Rattle.vc_pool_cells.specs.Place.{cells_in}
 use Rattle.vc_pool_cells.specs.declared.segment.PoolSegment.{PoolSegment}
-use Rattle.vc_pool_cells.proofs.Types.{have}
 use Rattle.vc_pool.specs.Read.{pool_by}
 use Rattle.vc_pool.proofs.Allocs.{resize-greater, resize-stays}
-use Rattle.vc_pool.proofs.Answers.{resize-others, resize-there}
+use Rattle.vc_pool.proofs.Answers.{resize-kept}
 use Rattle.vc_pool.proofs.Calls.{with-set}
-use Rattle.vc_pool.proofs.Have.{layout-of, sound-of, with-block}
+use Rattle.vc_pool.proofs.Have.{layout-of, sound-kept, with-block}
 use Rattle.vc_pool.proofs.Keeps.{becomes-pool}
+use Rattle.vc_pool.proofs.Sound.{kept-of}
 use Rattle.vc_pool.proofs.pool.Pool.resize.Goals as goal
 use Rattle.vc_pool.proofs.pool.Pool.resize.Goals.{After-resize_at}
 use Rattle.vc_pool.proofs.pool.Pool.resize.Given.{Over}
@@ -30,7 +29,7 @@ becomes : (g : Over) (c : After-resize_at g) →
 becomes g c =
     subst
     (λ (ss : List PoolSegment). (freed : ℕ) → IsPool c.args.self.now.element (cells_in ss) freed → Becomes c.args.self.now.element (cells_in ss) (cells_in c.resize_at.new.segs) freed (resize_there (layout_by (cell_for c.args.self.now.element) (cells_in ss)) (place_of c.args.a.0) c.args.size))
-    c.deref_mut.ensures.value c.resize_at.ensures c.args.self.now.freed.0 (have c.args.self.now.element (cells_in c.args.self.now.segs.items) c.args.self.now.freed.0 c.args.self.now.kept)
+    c.deref_mut.ensures.value c.resize_at.ensures c.args.self.now.freed.0 (kept-of c.args.self.now)
 
 pool : (g : Over) (c : After-resize_at g) → pool_by (take c.args.self.now.segs.len (c.resize_at.new.segs ++ drop (length c.resize_at.new.segs) c.args.self.now.segs.items)) c.args.self.now.element c.args.self.now.freed.0
     ≡ record (pool_by c.args.self.now.segs.items c.args.self.now.element c.args.self.now.freed.0) { layout = resize_there (pool_by c.args.self.now.segs.items c.args.self.now.element c.args.self.now.freed.0).layout (place_of c.args.a.0) c.args.size }
@@ -40,45 +39,32 @@ pool g c =
     ∙ ap (λ (l : Layout ℕ). record (pool_by c.args.self.now.segs.items c.args.self.now.element c.args.self.now.freed.0) { layout = resize_there l (place_of c.args.a.0) c.args.size }) (sym (layout-of c.args.self.now.segs.items c.args.self.now.element c.args.self.now.freed.0)))
 
 pub resize_at-requires-clause-kept : goal.resize_at-requires-clause-kept
-resize_at-requires-clause-kept g c = rw c.deref_mut.ensures.value (have c.args.self.now.element (cells_in c.args.self.now.segs.items) c.args.self.now.freed.0 c.args.self.now.kept).cells
+resize_at-requires-clause-kept g c = rw c.deref_mut.ensures.value (kept-of c.args.self.now).cells
 
 pub invariant_of-self : goal.invariant_of-self
 invariant_of-self g c =
     let at = (goal.at.invariant_of-self g c).After-resize_at in
     let now : IsPool c.args.self.now.element (cells_in (take c.args.self.now.segs.len (c.resize_at.new.segs ++ drop (length c.resize_at.new.segs) c.args.self.now.segs.items))) c.args.self.now.freed.0 =
     subst (λ (ss : List PoolSegment). IsPool c.args.self.now.element (cells_in ss) c.args.self.now.freed.0) (sym (items g at)) (becomes g at).kept in
-    record { kept = ∣ now ∣₁ }
+    record { kept = ∣ now ∣₁; sound = sound-kept _ c.args.self.now.element c.args.self.now.freed.0 now }
 
 pub returns-clause-ok : goal.returns-clause-ok
 returns-clause-ok g c =
     let at = (goal.at.returns-clause-ok g c).After-resize_at in
-    let some : 1 ≤ c.args.self.now.element = let low = c.if-size-self.false in let least = c.requires.some in omega (arith, low, least) in
+    let some : 1 ≤ c.args.self.now.element = let low = c.if-size-self.false in let least = c.requires.size.some in omega (arith, low, least) in
     let with = with-set c.args.self.now.segs.items c.args.self.now.element c.args.self.now.freed.0 c.args.size some in
     let fits = c.if-size-self.false in
     resize-stays (pool_by c.args.self.now.segs.items c.args.self.now.element c.args.self.now.freed.0) (place_of c.args.a.0) c.args.size (omega (arith, with, fits))
     ∙ ap (λ (p : Pool ℕ). Done (record { at = place_of c.args.a.0; region = p; granted = None })) (sym (pool g at))
 
-pub returns-clause-there : goal.returns-clause-there
-returns-clause-there g c =
-    resize-there (Ok tt) (pool_by c.args.self.now.segs.items c.args.self.now.element c.args.self.now.freed.0).layout _ c.args.a.0 c.args.size (ap (λ (p : Pool ℕ). p.layout) (pool g (goal.at.returns-clause-there g c).After-resize_at))
-
-pub returns-clause-others : goal.returns-clause-others
-returns-clause-others g c =
-    resize-others (Ok tt) (pool_by c.args.self.now.segs.items c.args.self.now.element c.args.self.now.freed.0).layout _ c.args.a.0 c.args.size (ap (λ (p : Pool ℕ). p.layout) (pool g (goal.at.returns-clause-others g c).After-resize_at))
-
-pub returns-clause-sound : goal.returns-clause-sound
-returns-clause-sound g c =
-    let at = (goal.at.returns-clause-sound g c).After-resize_at in
-    sound-of _ c.args.self.now.element c.args.self.now.freed.0
-    (subst (λ (ss : List PoolSegment). IsPool c.args.self.now.element (cells_in ss) c.args.self.now.freed.0) (sym (items g at)) (becomes g at).kept).cells
+pub returns-clause-kept : goal.returns-clause-kept
+returns-clause-kept g c =
+    resize-kept c.args.a.0 c.args.size (pool_by c.args.self.now.segs.items c.args.self.now.element c.args.self.now.freed.0).layout _ (ap (λ (p : Pool ℕ). p.layout) (pool g (goal.at.returns-clause-kept g c).After-resize_at))
 
 pub returns-then-size-self-clause-err : goal.returns-then-size-self-clause-err
 returns-then-size-self-clause-err g c =
-    let h = have c.args.self.now.element (cells_in c.args.self.now.segs.items) c.args.self.now.freed.0 c.args.self.now.kept in
+    let h = kept-of c.args.self.now in
     let some = with-block c.args.self.now.segs.items c.args.self.now.element c.args.self.now.freed.0 c.args.a.0 h.cells c.requires.block in
     let with = with-set c.args.self.now.segs.items c.args.self.now.element c.args.self.now.freed.0 c.args.size some in
     let above = c.if-size-self.true in
     resize-greater (pool_by c.args.self.now.segs.items c.args.self.now.element c.args.self.now.freed.0) (place_of c.args.a.0) c.args.size (omega (arith, with, above))
-
-pub returns-then-size-self-clause-sound : goal.returns-then-size-self-clause-sound
-returns-then-size-self-clause-sound g c = sound-of c.args.self.now.segs.items c.args.self.now.element c.args.self.now.freed.0 (have c.args.self.now.element (cells_in c.args.self.now.segs.items) c.args.self.now.freed.0 c.args.self.now.kept).cells

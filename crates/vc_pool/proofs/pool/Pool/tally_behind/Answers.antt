@@ -4,7 +4,11 @@ use Rattle.vc_pool_cells.specs.Blocks.{pair_of}
 use Rattle.vc_pool_cells.specs.Place.{cells_in}
 use Rattle.vc_pool_cells.specs.declared.segment.PoolSegment.{PoolSegment}
 use Rattle.vc_pool.proofs.Keeps.{pairs-of}
+use Rattle.vc_pool.proofs.Sound.{kept-of}
 use Rattle.vc_pool.proofs.pool.Pool.tally_behind.Goals as goal
+
+pub tally_behind-requires : goal.tally_behind-requires
+tally_behind-requires g c = rw c.deref.ensures.value (kept-of c.args.self.now).cells.segments
 
 pub returns-clause-value : goal.returns-clause-value
 returns-clause-value g c =

@@ -13,32 +13,44 @@ use Rattle.vc_pool.proofs.Lives.{found-first, found-last, found-live, found-mult
 use Rattle.vc_pool.proofs.walks.block.block_in.Goals as goal
 use Rattle.vc_pool.proofs.walks.block.block_in.Goals.{After-new, After-pair}
 
-pub returns-in_err-place-clause-value : goal.returns-in_err-place-clause-value
-returns-in_err-place-clause-value c =
-    rw (
-      c.from_residual.ensures,
-      byte-none c.args.element c.args.seg c.args.off (cells_in c.args.segs.now) c.requires.kept
-          (λ k b. let listed = b.listed in let none = ap (λ (s : Cells). length s.pairs) (cells-none c.args.seg c.args.segs.now c.in_err-place.ensures.none) in omega (arith, listed, none)),
-    )
-    refl
+pub returns-in_err-place : goal.returns-in_err-place
+returns-in_err-place c =
+    record {
+      value = rw (
+        c.from_residual.ensures,
+        byte-none c.args.element c.args.seg c.args.off (cells_in c.args.segs.now) c.requires.kept
+            (λ k b. let listed = b.listed in let none = ap (λ (s : Cells). length s.pairs) (cells-none c.args.seg c.args.segs.now c.in_err-place.ensures.none) in omega (arith, listed, none)),
+      )
+          refl;
+      live = rw c.from_residual.ensures tt;
+    }
 
-pub returns-then-off-lt32-clause-value : goal.returns-then-off-lt32-clause-value
-returns-then-off-lt32-clause-value c =
-    rw (byte-none c.args.element c.args.seg c.args.off (cells_in c.args.segs.now) c.requires.kept (λ k b. let low = b.low in let small = c.if-off-lt32.true in omega (arith, low, small))) refl
+pub returns-then-off-lt32 : goal.returns-then-off-lt32
+returns-then-off-lt32 c =
+    record {
+      value = rw (byte-none c.args.element c.args.seg c.args.off (cells_in c.args.segs.now) c.requires.kept (λ k b. let low = b.low in let small = c.if-off-lt32.true in omega (arith, low, small))) refl;
+      live = tt;
+    }
 
-pub returns-then-index-len-clause-value : goal.returns-then-index-len-clause-value
-returns-then-index-len-clause-value c =
+pub returns-then-index-len : goal.returns-then-index-len
+returns-then-index-len c =
     let past = c.if-index-len.true in
     let len : c.len.result ≡ vec_len c.index-segs-place.result.cells = c.len.ensures ∙ ap (λ (s : PoolSegment). vec_len s.cells) (sym c.index-segs-place.is) in
-    rw (none-listed c.args.element c.in_ok-place.place c.args.seg c.args.off c.args.segs.now c.index-segs-place.result c.requires.kept c.in_ok-place.ensures.found.0 c.in_ok-place.ensures.found.1 c.index-segs-place.is
-    c.rounded_up-cell.result c.rounded_up-cell.ensures (omega (arith, past, len)))
-    refl
+    record {
+      value = rw (none-listed c.args.element c.in_ok-place.place c.args.seg c.args.off c.args.segs.now c.index-segs-place.result c.requires.kept c.in_ok-place.ensures.found.0 c.in_ok-place.ensures.found.1 c.index-segs-place.is
+          c.rounded_up-cell.result c.rounded_up-cell.ensures (omega (arith, past, len)))
+          refl;
+      live = tt;
+    }
 
-pub returns-then-inner-pair-clause-value : goal.returns-then-inner-pair-clause-value
-returns-then-inner-pair-clause-value c =
-    rw (none-within c.args.element c.in_ok-place.place c.args.seg c.args.off c.args.segs.now c.index-segs-place-2.result c.requires.kept c.in_ok-place.ensures.found.0 c.in_ok-place.ensures.found.1 c.index-segs-place-2.is
-    c.rounded_up-cell.result c.rounded_up-cell.ensures (subst (λ (p : ℕ × ℕ). p.0 ≤ (c.args.off - 32) % c.rounded_up-cell.result) c.pair.ensures c.if-inner-pair.true))
-    refl
+pub returns-then-inner-pair : goal.returns-then-inner-pair
+returns-then-inner-pair c =
+    record {
+      value = rw (none-within c.args.element c.in_ok-place.place c.args.seg c.args.off c.args.segs.now c.index-segs-place-2.result c.requires.kept c.in_ok-place.ensures.found.0 c.in_ok-place.ensures.found.1 c.index-segs-place-2.is
+          c.rounded_up-cell.result c.rounded_up-cell.ensures (subst (λ (p : ℕ × ℕ). p.0 ≤ (c.args.off - 32) % c.rounded_up-cell.result) c.pair.ensures c.if-inner-pair.true))
+          refl;
+      live = tt;
+    }
 
 -- the cell that the segment lists is the one whose pair is read
 listed : (c : After-pair) → (c.args.off - 32) / c.rounded_up-cell.result < length c.index-segs-place-2.result.cells.items
@@ -79,16 +91,16 @@ new-requires-clause-multiple c =
 inner : (c : After-new) → (c.args.off - 32) % c.rounded_up-cell.result < (pair_at ((c.args.off - 32) / c.rounded_up-cell.result) (cells_of c.index-segs-place-2.result)).0
 inner c = subst (λ (p : ℕ × ℕ). (c.args.off - 32) % c.rounded_up-cell.result < p.0) c.pair.ensures c.if-inner-pair.false
 
-pub returns-clause-value : goal.returns-clause-value
-returns-clause-value c =
+pub returns : goal.returns
+returns c =
     let first = c.if-off-lt32.false in
-    sym (some-within c.args.element c.in_ok-place.place c.args.seg c.args.off c.args.segs.now c.index-segs-place-2.result c.requires.kept c.in_ok-place.ensures.found.0 c.in_ok-place.ensures.found.1 c.index-segs-place-2.is
-    c.rounded_up-cell.result c.rounded_up-cell.ensures first (listed (goal.at.returns-clause-value c).After-pair) (inner (goal.at.returns-clause-value c).After-new)
-    c.new.result.0 (c.new.ensures.value ∙ ap (λ (x : ℕ). address (c.args.seg, x)) c.offset_of.ensures))
-
-pub returns-clause-live : goal.returns-clause-live
-returns-clause-live c =
-    let within = inner (goal.at.returns-clause-live c).After-new in
-    found-live c.args.element c.in_ok-place.place c.args.seg c.args.segs.now c.index-segs-place-2.result c.requires.kept c.in_ok-place.ensures.found.0 c.in_ok-place.ensures.found.1 c.index-segs-place-2.is
-    ((c.args.off - 32) / c.rounded_up-cell.result) c.new.result.0 (listed (goal.at.returns-clause-live c).After-pair) (omega (arith, within))
-    (c.new.ensures.value ∙ ap (λ (x : ℕ). address (c.args.seg, x)) (c.offset_of.ensures ∙ ap (λ x. cell_offset x ((c.args.off - 32) / c.rounded_up-cell.result)) c.rounded_up-cell.ensures))
+    let own = inner (goal.at.returns c).After-new in
+    let there = listed (goal.at.returns c).After-pair in
+    let address-is = c.new.ensures.value ∙ ap (λ (x : ℕ). address (c.args.seg, x)) c.offset_of.ensures in
+    record {
+      value = sym (some-within c.args.element c.in_ok-place.place c.args.seg c.args.off c.args.segs.now c.index-segs-place-2.result c.requires.kept c.in_ok-place.ensures.found.0 c.in_ok-place.ensures.found.1 c.index-segs-place-2.is
+          c.rounded_up-cell.result c.rounded_up-cell.ensures first there own c.new.result.0 address-is);
+      live = found-live c.args.element c.in_ok-place.place c.args.seg c.args.segs.now c.index-segs-place-2.result c.requires.kept c.in_ok-place.ensures.found.0 c.in_ok-place.ensures.found.1 c.index-segs-place-2.is
+          ((c.args.off - 32) / c.rounded_up-cell.result) c.new.result.0 there (omega (arith, own))
+          (address-is ∙ ap (λ (x : ℕ). address (c.args.seg, cell_offset x ((c.args.off - 32) / c.rounded_up-cell.result))) c.rounded_up-cell.ensures);
+    }
