@@ -16,8 +16,8 @@ use Rattle.vc_pool_cells.specs.Cells.{Cells, cells_of}
 use Rattle.vc_pool_cells.specs.Kept.{segment_of}
 use Rattle.vc_pool_cells.specs.Place.{cells_in}
 use Rattle.vc_pool_cells.specs.declared.segment.PoolSegment.{PoolSegment}
-use Rattle.vc_pool_cells.proofs.Segments.{numbers-apart}
-use Rattle.vc_pool_cells.proofs.Stands.{all-legal}
+use Rattle.vc_pool_cells.proofs.OneSegment.{numbers-apart}
+use Rattle.vc_pool_cells.proofs.BlockPlaces.{all-legal}
 use Rattle.vc_pool.specs.Back.{AreApart, has_other_number, is_kept, stays_from}
 
 abbrev pub Other : PoolSegment → PoolSegment → Type 0

@@ -3,10 +3,10 @@ use Rattle.vc_model.specs.Pool.{IsPoolSound}
 use Rattle.vc_model.specs.Sound.{HaveOwnNumbers, HaveOwnPlaces}
 use Rattle.vc_pool_cells.specs.Kept.{IsPool}
 use Rattle.vc_pool_cells.specs.Place.{cells_in}
-use Rattle.vc_pool_cells.proofs.Types.{have}
+use Rattle.vc_pool_cells.proofs.Propositions.{have}
 use Rattle.vc_pool.specs.Parts.{blocks_in, pool_of, segments_in}
 use Rattle.vc_pool.specs.declared.pool.Pool.{Pool}
-use Rattle.vc_pool.proofs.Have.{sound-of}
+use Rattle.vc_pool.proofs.PoolParts.{sound-of}
 
 -- what is always true of its segments and of its freed cells
 pub kept-of : {I : Type 0} {V : I → Type 0} (p : Pool I V) → IsPool p.element (cells_in p.segs.items) p.freed.0

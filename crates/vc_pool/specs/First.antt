@@ -10,7 +10,7 @@ abbrev pub AreEmpty : ℕ → ℕ → Cells → Type 0
 AreEmpty from to s = (k : ℕ) → from ≤ k → k < to → (pair_at k s).0 ≡ 0
 
 -- the first cell with a block, of those from an index on
-pub record IsFirstCell (from index : ℕ) (s : Cells) : Type 0 where
+pub record IsFirstBlock (from index : ℕ) (s : Cells) : Type 0 where
   pub behind : from ≤ index
   pub listed : index < length s.pairs
   pub size : 1 ≤ (pair_at index s).0
@@ -24,7 +24,7 @@ IsBare number segs = AreEmpty 0 (length (cells_at number segs).pairs) (cells_at 
 pub record IsFirstIn (cell : ℕ) (segs : List Cells) (number from a : ℕ) : Type 0 where
   pub index : ℕ
   pub place : a ≡ address (number, cell_offset cell index)
-  pub first : IsFirstCell from index (cells_at number segs)
+  pub first : IsFirstBlock from index (cells_at number segs)
 
 -- the first block of the segments with a number above one is at an address
 pub record IsFirstAbove (cell : ℕ) (segs : List Cells) (after a : ℕ) : Type 0 where

@@ -8,5 +8,5 @@ abbrev pub has_block : Cells → Bool
 has_block s = list_any (λ (c : ℕ × ℕ). nat_lt 0 c.0) s.pairs
 
 -- whether one is in the segment of a number
-abbrev pub is_busy : List Cells → ℕ → Bool
-is_busy segs n = list_any (λ (s : Cells). (s.number == n) && has_block s) segs
+abbrev pub has_block_at : List Cells → ℕ → Bool
+has_block_at segs n = list_any (λ (s : Cells). (s.number == n) && has_block s) segs

@@ -2,7 +2,7 @@
 use Rattle.std.specs.Prelude.{ℕ, List}
 use Rattle.vc_model.specs.Pool.{Pool, cell_for}
 use Rattle.vc_pool_cells.specs.Blocks.{carved_by, layout_by}
-use Rattle.vc_pool_cells.specs.Freed.{freed_by}
+use Rattle.vc_pool_cells.specs.Freed.{freed_cells}
 use Rattle.vc_pool_cells.specs.Place.{cells_in}
 use Rattle.vc_pool_cells.specs.declared.segment.PoolSegment.{PoolSegment}
 use Rattle.vc_pool.specs.Sizes.{element_of}
@@ -13,6 +13,6 @@ pool_by segs element freed =
     record {
       layout = layout_by (cell_for element) (cells_in segs);
       element = element_of element;
-      freed = freed_by (cells_in segs) freed;
+      freed = freed_cells (cells_in segs) freed;
       carved = carved_by (cells_in segs);
     }

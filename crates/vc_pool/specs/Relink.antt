@@ -3,20 +3,20 @@ use Rattle.std.specs.Prelude.{◌≡◌, ℕ, ◌≤◌, List, [], ◌∷◌, �
 use Rattle.vc_model.specs.Addr.{place_of}
 use Rattle.vc_pool_cells.specs.Blocks.{carved_by, layout_by}
 use Rattle.vc_pool_cells.specs.Cells.{Cells, with_free_cell}
-use Rattle.vc_pool_cells.specs.Freed.{IsChain, link_at}
+use Rattle.vc_pool_cells.specs.Freed.{IsFreedChain, freed_link}
 use Rattle.vc_pool_cells.specs.Kept.{IsPoolOf}
 use Rattle.vc_pool_cells.specs.Place.{IsCellAt}
 
 -- the cells at these places are linked, from one address on to another; `before` is the address before the first of them, and `last` that of the last, or `before` where there is none
-abbrev pub IsLinkedRun : List Cells → ℕ → ℕ → List (ℕ × ℕ) → ℕ → ℕ → Type 0
-IsLinkedRun segs a before [] last to = (before ≡ last) × (a ≡ to)
-IsLinkedRun segs a before (p ∷ ps) last to = (1 ≤ a) × (place_of a ≡ p) × IsLinkedRun segs (link_at segs a) a ps last to
+abbrev pub IsChainRun : List Cells → ℕ → ℕ → List (ℕ × ℕ) → ℕ → ℕ → Type 0
+IsChainRun segs a before [] last to = (before ≡ last) × (a ≡ to)
+IsChainRun segs a before (p ∷ ps) last to = (1 ≤ a) × (place_of a ≡ p) × IsChainRun segs (freed_link segs a) a ps last to
 
 -- the chain of freed cells, up to the last of those that stay and from an address on
 pub record IsSplit (element : ℕ) (segs : List Cells) (freed last at : ℕ) (kept rest : List (ℕ × ℕ)) : Type 0 where
   pub pool : IsPoolOf element segs freed (kept ++ rest)
-  pub run : IsLinkedRun segs freed 0 kept last at
-  pub chain : IsChain segs at rest
+  pub run : IsChainRun segs freed 0 kept last at
+  pub chain : IsFreedChain segs at rest
 
 abbrev pub HasSplit : ℕ → List Cells → ℕ → ℕ → ℕ → Type 0
 HasSplit element segs freed last at = (kept : List (ℕ × ℕ)) × (rest : List (ℕ × ℕ)) × IsSplit element segs freed last at kept rest
@@ -29,7 +29,7 @@ pub record IsSifted (element : ℕ) (stays : ℕ → Bool) (all : List (ℕ × �
   pub sifted : kept ++ filter (λ p. stays p.0) rest ≡ filter (λ p. stays p.0) all
 
 -- the cell at an address has a link, and no block
-pub record IsLinked (cell : ℕ) (old new : List Cells) (a link : ℕ) : Type 0 where
+pub record IsRelinked (cell : ℕ) (old new : List Cells) (a link : ℕ) : Type 0 where
   pub i : ℕ
   pub index : ℕ
   pub there : IsCellAt cell old (place_of a) i index

@@ -7,7 +7,7 @@ ghost use Rattle.vc_model.specs.Compact.{compact_count, compacted_layout, is_occ
 ghost use Rattle.vc_model.specs.Discipline.{HasOut, TookBack};
 ghost use Rattle.vc_model.specs.Pool.{cell_for};
 ghost use Rattle.vc_pool_cells.specs.Blocks.{carved_by, layout_by, pair_of};
-ghost use Rattle.vc_pool_cells.specs.Freed.{freed_by};
+ghost use Rattle.vc_pool_cells.specs.Freed.{freed_cells};
 ghost use Rattle.vc_pool_cells.specs.Kept.{IsPool, segment_of};
 ghost use Rattle.vc_pool_cells.specs.Place.{cells_in};
 ghost use Rattle.vc_seg.specs.Segment.{AreSegments};
@@ -33,10 +33,10 @@ pub(crate) fn compact_in(
     ensures kept { IsPool element (cells_in segs.new.items) freed.new.0 }
     ensures layout { layout_by (cell_for element) (cells_in segs.new.items)
         ≡ compacted_layout (layout_by (cell_for element) (cells_in segs.old.items)) }
-    ensures freed { freed_by (cells_in segs.new.items) freed.new.0
+    ensures freed { freed_cells (cells_in segs.new.items) freed.new.0
         ≡ filter (λ p. is_occupied
         (layout_by (cell_for element) (cells_in segs.old.items)).blocks p.0)
-        (freed_by (cells_in segs.old.items) freed.old.0) }
+        (freed_cells (cells_in segs.old.items) freed.old.0) }
     ensures carved { carved_by (cells_in segs.new.items)
         ≡ filter (λ c. is_occupied
         (layout_by (cell_for element) (cells_in segs.old.items)).blocks c.0)

@@ -8,13 +8,13 @@ use Rattle.std.proofs.Math.Nat.{mul-le-mul_right}
 use Rattle.vc_model.specs.Pool.{cell_offset}
 use Rattle.vc_seg.proofs.Frames.{part-back, part-front}
 use Rattle.vc_pool_cells.specs.Cells.{Cells, pair_at}
-use Rattle.vc_pool_cells.specs.Freed.{IsChain, IsFreeCell, cell_total, cells_at, freed_by, freed_from, index_at, link_at, word_at}
-use Rattle.vc_pool_cells.proofs.Blocks.{ChangesCell}
+use Rattle.vc_pool_cells.specs.Freed.{IsFreedChain, IsFreeCell, cell_total, cells_at, freed_cells, freed_from, index_at, freed_link, link_word}
+use Rattle.vc_pool_cells.proofs.OneCell.{ChangesCell}
 use Rattle.vc_pool_cells.specs.Place.{IsAlone}
-use Rattle.vc_pool_cells.proofs.Segments.{cells-first, cells-other, cells-set}
+use Rattle.vc_pool_cells.proofs.OneSegment.{cells-first, cells-other, cells-set}
 
 -- a chain is what is read from its first address on
-from-is : (m : ℕ) (segs : List Cells) (a : ℕ) (ps : List (ℕ × ℕ)) → IsChain segs a ps → length ps ≤ m → freed_from m segs a ≡ ps
+from-is : (m : ℕ) (segs : List Cells) (a : ℕ) (ps : List (ℕ × ℕ)) → IsFreedChain segs a ps → length ps ≤ m → freed_from m segs a ≡ ps
 unfolding freed_from
 from-is zero segs a [] c le = refl
 from-is (suc m) segs a [] c le = rw (eq-eqb a 0 c) refl
@@ -22,24 +22,24 @@ from-is zero segs a (p ∷ ps) c le = absurd (omega (arith, le))
 from-is (suc m) segs a (p ∷ ps) c le =
     let some = c.0 in
     rw (ne_eqb a 0 (λ e. omega (arith, e, some)))
-    (ap (λ q. q ∷ freed_from m segs (link_at segs a)) c.1 ∙ ap (λ qs. p ∷ qs) (from-is m segs (link_at segs a) ps c.2 (omega (arith, le))))
+    (ap (λ q. q ∷ freed_from m segs (freed_link segs a)) c.1 ∙ ap (λ qs. p ∷ qs) (from-is m segs (freed_link segs a) ps c.2 (omega (arith, le))))
 
-pub freed-is : (segs : List Cells) (a : ℕ) (ps : List (ℕ × ℕ)) → IsChain segs a ps → length ps ≤ cell_total segs → freed_by segs a ≡ ps
-unfolding freed_by
+pub freed-is : (segs : List Cells) (a : ℕ) (ps : List (ℕ × ℕ)) → IsFreedChain segs a ps → length ps ≤ cell_total segs → freed_cells segs a ≡ ps
+unfolding freed_cells
 freed-is segs a ps c le = from-is (cell_total segs) segs a ps c le
 
 -- the links of these places stay
 abbrev pub KeepsWord : List Cells → List Cells → ℕ × ℕ → Type 0
-KeepsWord o s p = word_at p.1 (cells_at p.0 s).bytes ≡ word_at p.1 (cells_at p.0 o).bytes
+KeepsWord o s p = link_word p.1 (cells_at p.0 s).bytes ≡ link_word p.1 (cells_at p.0 o).bytes
 
-pub chain-same : (o s : List Cells) (a : ℕ) (ps : List (ℕ × ℕ)) → IsChain o a ps → All (KeepsWord o s) ps → IsChain s a ps
+pub chain-same : (o s : List Cells) (a : ℕ) (ps : List (ℕ × ℕ)) → IsFreedChain o a ps → All (KeepsWord o s) ps → IsFreedChain s a ps
 chain-same o s a [] c keeps = c
 chain-same o s a (p ∷ ps) c keeps =
-    let word : link_at s a ≡ link_at o a = subst (KeepsWord o s) (sym c.1) (All-head (KeepsWord o s) p ps keeps) in
-    (c.0, c.1, subst (λ k. IsChain s k ps) (sym word) (chain-same o s (link_at o a) ps c.2 (All-tail (KeepsWord o s) p ps keeps)))
+    let word : freed_link s a ≡ freed_link o a = subst (KeepsWord o s) (sym c.1) (All-head (KeepsWord o s) p ps keeps) in
+    (c.0, c.1, subst (λ k. IsFreedChain s k ps) (sym word) (chain-same o s (freed_link o a) ps c.2 (All-tail (KeepsWord o s) p ps keeps)))
 
 -- the address of a chain is small
-pub chain-small : (segs : List Cells) (a : ℕ) (p : ℕ × ℕ) (ps : List (ℕ × ℕ)) → IsChain segs a (p ∷ ps) → p.0 ≤ 1023 → a < 4294967296
+pub chain-small : (segs : List Cells) (a : ℕ) (p : ℕ × ℕ) (ps : List (ℕ × ℕ)) → IsFreedChain segs a (p ∷ ps) → p.0 ≤ 1023 → a < 4294967296
 chain-small segs a p ps c le = let n : a / 1048576 ≡ p.0 = ap (λ (q : ℕ × ℕ). q.0) c.1 in omega (arith, n, le)
 
 -- one cell ends where another begins, or before it
@@ -63,7 +63,7 @@ module _ (cell index i n : ℕ) (segs : List Cells) (s : Cells) (c : ℕ × ℕ)
   elsewhere : (m : ℕ) → m ≢ n → cells_at m (set segs i s) ≡ cells_at m segs
   elsewhere m other = cells-other n m i segs s a.number a.within own other
 
-  word-own : (k : ℕ) → k ≢ index → word_at (cell_offset cell k) s.bytes ≡ word_at (cell_offset cell k) o.bytes
+  word-own : (k : ℕ) → k ≢ index → link_word (cell_offset cell k) s.bytes ≡ link_word (cell_offset cell k) o.bytes
   word-own k other =
       ⊎_elim
       (λ (t : ltb k index ≡ true).
@@ -86,14 +86,14 @@ module _ (cell index i n : ℕ) (segs : List Cells) (s : Cells) (c : ℕ × ℕ)
       ⊎_elim
       (λ (e : p.0 ≡ n).
       let there = word-own (index_at cell p.1) (other-index p f e other) in
-      ap (λ m. word_at p.1 (cells_at m (set segs i s)).bytes) e
-      ∙ (ap (λ (x : Cells). word_at p.1 x.bytes) is
-      ∙ (ap (λ k. word_at k s.bytes) f.offset
+      ap (λ m. link_word p.1 (cells_at m (set segs i s)).bytes) e
+      ∙ (ap (λ (x : Cells). link_word p.1 x.bytes) is
+      ∙ (ap (λ k. link_word k s.bytes) f.offset
       ∙ (there
-      ∙ (ap (λ k. word_at k o.bytes) (sym f.offset)
-      ∙ (ap (λ (x : Cells). word_at p.1 x.bytes) (sym was)
-      ∙ ap (λ m. word_at p.1 (cells_at m segs).bytes) (sym e)))))))
-      (λ (e : p.0 ≡ n → ⊥). ap (λ (x : Cells). word_at p.1 x.bytes) (elsewhere p.0 e))
+      ∙ (ap (λ k. link_word k o.bytes) (sym f.offset)
+      ∙ (ap (λ (x : Cells). link_word p.1 x.bytes) (sym was)
+      ∙ ap (λ m. link_word p.1 (cells_at m segs).bytes) (sym e)))))))
+      (λ (e : p.0 ≡ n → ⊥). ap (λ (x : Cells). link_word p.1 x.bytes) (elsewhere p.0 e))
       (cases_eq p.0 n)
 
   pub keeps-free : o.carved ≤ s.carved → (p : ℕ × ℕ) → IsFreeCell cell segs p → (let at : ℕ × ℕ = (n, cell_offset cell index) in at ≢ p) → IsFreeCell cell (set segs i s) p

@@ -10,25 +10,25 @@ abbrev pub pair_of : Cells → ℕ × ℕ
 pair_of s = (s.number, length s.bytes)
 
 -- the block in the cell at an offset, where its pair has a size
-abbrev pub block_in : ℕ → List ℕ → ℕ → ℕ × ℕ → List (Block ℕ)
-block_in number bytes off c =
+abbrev pub block_of_cell : ℕ → List ℕ → ℕ → ℕ × ℕ → List (Block ℕ)
+block_of_cell number bytes off c =
     if c.0 == 0 then []
     else record { label = c.1; seg = number; off = off; size = c.0; bytes = take c.0 (drop off bytes) } ∷ []
 
 -- the blocks in cells that stand one behind another from an offset on
-abbrev pub blocks_from : ℕ → List ℕ → ℕ → ℕ → List (ℕ × ℕ) → List (Block ℕ)
-blocks_from number bytes cell off [] = []
-blocks_from number bytes cell off (c ∷ cs) =
-    block_in number bytes off c ++ blocks_from number bytes cell (off + cell) cs
+abbrev pub cell_blocks : ℕ → List ℕ → ℕ → ℕ → List (ℕ × ℕ) → List (Block ℕ)
+cell_blocks number bytes cell off [] = []
+cell_blocks number bytes cell off (c ∷ cs) =
+    block_of_cell number bytes off c ++ cell_blocks number bytes cell (off + cell) cs
 
 -- the blocks of one segment: its first cell begins at offset 32
-abbrev pub blocks_of : ℕ → Cells → List (Block ℕ)
-blocks_of cell s = blocks_from s.number s.bytes cell 32 s.pairs
+abbrev pub segment_blocks : ℕ → Cells → List (Block ℕ)
+segment_blocks cell s = cell_blocks s.number s.bytes cell 32 s.pairs
 
 -- segments as number and size in order of lending, and the blocks in their cells by address
 unfoldable pub layout_by : ℕ → List Cells → Layout ℕ
 layout_by cell segs =
-    record { segments = map pair_of segs; blocks = in_order (flat_map (blocks_of cell) segs) }
+    record { segments = map pair_of segs; blocks = in_order (flat_map (segment_blocks cell) segs) }
 
 -- how many cells of each segment were carved, where any were, in order of lending
 abbrev pub carved_by : List Cells → List (ℕ × ℕ)

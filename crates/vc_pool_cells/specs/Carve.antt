@@ -7,14 +7,14 @@ use Rattle.vc_model.specs.Pool.{carve, cell_for}
 use Rattle.vc_layouts.specs.Put.{with_zeros}
 use Rattle.vc_pool_cells.specs.Blocks.{carved_by, layout_by}
 use Rattle.vc_pool_cells.specs.Cells.{Cells}
-use Rattle.vc_pool_cells.specs.Freed.{freed_by}
+use Rattle.vc_pool_cells.specs.Freed.{freed_cells}
 use Rattle.vc_pool_cells.specs.Kept.{IsPool}
 
 -- a block of zeros is in the lowest uncarved cell of a segment, which stands at an address
 pub record IsCarvedAt (element tag size : ℕ) (old new : List Cells) (last a : ℕ) : Type 0 where
   pub kept : IsPool element new last
   pub layout : layout_by (cell_for element) new ≡ with_zeros (layout_by (cell_for element) old) tag size (place_of a)
-  pub freed : freed_by new last ≡ freed_by old last
+  pub freed : freed_cells new last ≡ freed_cells old last
   pub carved : carved_by new ≡ carve (place_of a).0 (carved_by old)
 
 -- the element size of a pool stays, or is set where none was, which is 0
@@ -25,12 +25,12 @@ IsSetFrom element before = 1 ≤ before → before ≡ element
 pub record IsCarvedNew (element tag size : ℕ) (old new : List Cells) (segment : ℕ × ℕ) (last : ℕ) : Type 0 where
   pub kept : IsPool element new last
   pub layout : layout_by (cell_for element) new ≡ with_zeros (with_segment (layout_by (cell_for element) old) segment) tag size (segment.0, 32)
-  pub freed : freed_by new last ≡ freed_by old last
+  pub freed : freed_cells new last ≡ freed_cells old last
   pub carved : carved_by new ≡ carve segment.0 (carved_by old)
 
 -- no block is left, and no cell is carved
-pub record IsCleared (element : ℕ) (old new : List Cells) : Type 0 where
+pub record IsUncarved (element : ℕ) (old new : List Cells) : Type 0 where
   pub kept : IsPool element new 0
   pub layout : layout_by (cell_for element) new ≡ cleared_layout (layout_by (cell_for element) old)
-  pub freed : freed_by new 0 ≡ []
+  pub freed : freed_cells new 0 ≡ []
   pub carved : carved_by new ≡ []

@@ -33,8 +33,8 @@ abbrev pub pair_at : ℕ → Cells → ℕ × ℕ
 pair_at index s = get_or s.pairs index (0, 0)
 
 -- the number in a cell's first 8 bytes, the lowest first
-abbrev pub link_in : ℕ → ℕ → Cells → ℕ
-link_in cell index s = from_le_bytes w64 (take 8 (drop (cell_offset cell index) s.bytes))
+abbrev pub cell_link : ℕ → ℕ → Cells → ℕ
+cell_link cell index s = from_le_bytes w64 (take 8 (drop (cell_offset cell index) s.bytes))
 
 -- a block of zeros is put into a cell, which is zero then as a whole
 abbrev pub with_zeros_in : ℕ → ℕ → ℕ → ℕ → Cells → Cells

@@ -7,27 +7,27 @@ use Rattle.vc_model.specs.Pool.{cell_offset}
 use Rattle.vc_pool_cells.specs.Cells.{Cells, pair_at}
 
 -- of no cell
-abbrev pub no_cells : Cells
-no_cells = record { number = 0; bytes = []; carved = 0; pairs = [] }
+abbrev pub no_segment : Cells
+no_segment = record { number = 0; bytes = []; carved = 0; pairs = [] }
 
 -- the segment of that number
 abbrev pub cells_at : ℕ → List Cells → Cells
-cells_at number [] = no_cells
+cells_at number [] = no_segment
 cells_at number (s ∷ ss) = if s.number == number then s else cells_at number ss
 
 -- the number in the first 8 bytes at a place of a segment, the lowest first
-abbrev pub word_at : ℕ → List ℕ → ℕ
-word_at off bytes = from_le_bytes w64 (take 8 (drop off bytes))
+abbrev pub link_word : ℕ → List ℕ → ℕ
+link_word off bytes = from_le_bytes w64 (take 8 (drop off bytes))
 
 -- that in the cell at an address
-abbrev pub link_at : List Cells → ℕ → ℕ
-link_at segs a = word_at (place_of a).1 (cells_at (place_of a).0 segs).bytes
+abbrev pub freed_link : List Cells → ℕ → ℕ
+freed_link segs a = link_word (place_of a).1 (cells_at (place_of a).0 segs).bytes
 
 -- the places of the freed cells from an address on, the one freed last first; as many at most as the first number
 unfoldable pub freed_from : ℕ → List Cells → ℕ → List (ℕ × ℕ)
 freed_from zero segs a = []
 freed_from (suc more) segs a =
-    if a == 0 then [] else place_of a ∷ freed_from more segs (link_at segs a)
+    if a == 0 then [] else place_of a ∷ freed_from more segs (freed_link segs a)
 
 -- how many cells these segments have
 abbrev pub cell_total : List Cells → ℕ
@@ -35,13 +35,13 @@ cell_total [] = 0
 cell_total (s ∷ ss) = length s.pairs + cell_total ss
 
 -- the freed cells of which the last stands at an address, 0 for none
-unfoldable pub freed_by : List Cells → ℕ → List (ℕ × ℕ)
-freed_by segs a = freed_from (cell_total segs) segs a
+unfoldable pub freed_cells : List Cells → ℕ → List (ℕ × ℕ)
+freed_cells segs a = freed_from (cell_total segs) segs a
 
 -- the cells at these places are linked, from an address on to 0
-abbrev pub IsChain : List Cells → ℕ → List (ℕ × ℕ) → Type 0
-IsChain segs a [] = a ≡ 0
-IsChain segs a (p ∷ ps) = (1 ≤ a) × (place_of a ≡ p) × IsChain segs (link_at segs a) ps
+abbrev pub IsFreedChain : List Cells → ℕ → List (ℕ × ℕ) → Type 0
+IsFreedChain segs a [] = a ≡ 0
+IsFreedChain segs a (p ∷ ps) = (1 ≤ a) × (place_of a ≡ p) × IsFreedChain segs (freed_link segs a) ps
 
 -- the index of the cell that begins at an offset
 abbrev pub index_at : ℕ → ℕ → ℕ

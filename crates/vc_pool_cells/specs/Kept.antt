@@ -3,7 +3,7 @@ use Rattle.std.specs.Prelude.{◌≡◌, ℕ, ◌-◌, ◌/◌, ◌≤◌, List,
 use Rattle.vc_model.specs.Pool.{cell_for}
 use Rattle.vc_seg.specs.Segment.{AreSegments, Bytes}
 use Rattle.vc_pool_cells.specs.Cells.{Cells}
-use Rattle.vc_pool_cells.specs.Freed.{IsChain, IsFreeCell, freed_by, times}
+use Rattle.vc_pool_cells.specs.Freed.{IsFreedChain, IsFreeCell, freed_cells, times}
 
 -- a segment without its cells
 abbrev pub segment_of : Cells → Bytes
@@ -47,9 +47,9 @@ pub record AreCellular (element : ℕ) (segs : List Cells) : Type 0 where
 pub record IsPoolOf (element : ℕ) (segs : List Cells) (freed : ℕ) (places : List (ℕ × ℕ)) : Type 0 where
   pub cells : AreCellular element segs
   pub front : IsFront segs
-  pub chain : IsChain segs freed places
+  pub chain : IsFreedChain segs freed places
   pub free : All (IsFreeCell (cell_for element) segs) places
   pub once : (at : ℕ × ℕ) → times at places ≤ 1
 
 abbrev pub IsPool : ℕ → List Cells → ℕ → Type 0
-IsPool element segs freed = IsPoolOf element segs freed (freed_by segs freed)
+IsPool element segs freed = IsPoolOf element segs freed (freed_cells segs freed)

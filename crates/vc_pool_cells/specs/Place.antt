@@ -21,7 +21,7 @@ pub record IsAlone (n : ℕ) (segs : List Cells) (i : ℕ) : Type 0 where
   pub behind : All (IsOther n) (drop (i + 1) segs)
 
 -- a block is in the cell at a place
-pub record IsLive (cell : ℕ) (segs : List Cells) (at : ℕ × ℕ) : Type 0 where
+pub record IsBlockCell (cell : ℕ) (segs : List Cells) (at : ℕ × ℕ) : Type 0 where
   pub index : ℕ
   pub offset : at.1 ≡ cell_offset cell index
   pub listed : index < length (cells_at at.0 segs).pairs

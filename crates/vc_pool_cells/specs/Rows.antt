@@ -11,9 +11,9 @@ abbrev pub three_blocks : Cells
 three_blocks = with_cell_bytes 32 1 0 (5 ∷ 6 ∷ []) (carved_with 32 1 9 (carved_with 32 2 0 (carved_with 32 2 7 four_cells)))
 
 -- the first is freed, and then the third, whose link is the address of the first
-abbrev pub two_freed : List Cells
-two_freed = with_free_cell 32 2 1048577 (with_free_cell 32 0 0 three_blocks) ∷ []
+abbrev pub two_cells_freed : List Cells
+two_cells_freed = with_free_cell 32 2 1048577 (with_free_cell 32 0 0 three_blocks) ∷ []
 
 -- a block of tag 4 is put again, into the cell that was freed last
-abbrev pub one_freed : List Cells
-one_freed = with_zeros_in 32 2 2 4 (with_free_cell 32 2 1048577 (with_free_cell 32 0 0 three_blocks)) ∷ []
+abbrev pub one_cell_freed : List Cells
+one_cell_freed = with_zeros_in 32 2 2 4 (with_free_cell 32 2 1048577 (with_free_cell 32 0 0 three_blocks)) ∷ []

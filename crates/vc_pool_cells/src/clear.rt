@@ -2,7 +2,7 @@ ghost use Rattle.std.specs.Prelude.{◌≡◌, ℕ, map};
 ghost use Rattle.vc_pool_cells.specs.Cells.{uncarved_all};
 ghost use Rattle.vc_pool_cells.specs.Kept.{AreCellular};
 ghost use Rattle.vc_pool_cells.specs.Place.{cells_in};
-ghost use Rattle.vc_pool_cells.specs.Carve.{IsCleared};
+ghost use Rattle.vc_pool_cells.specs.Carve.{IsUncarved};
 
 use crate::PoolSegment;
 
@@ -18,7 +18,7 @@ fn uncarve_each(segs: &mut [PoolSegment])
 /// Takes every block out. No cell is carved then, and none is free.
 pub fn clear_all(segs: &mut [PoolSegment])
     ensures { (element : ℕ) → AreCellular element (cells_in segs.old)
-        → IsCleared element (cells_in segs.old) (cells_in segs.new) }
+        → IsUncarved element (cells_in segs.old) (cells_in segs.new) }
 {
     uncarve_each(segs);
 }

@@ -17,7 +17,7 @@ pub struct PoolSegment {
 }
 
 impl PoolSegment {
-    ghost use Rattle.vc_pool_cells.specs.Cells.{HasCell, IsCell, carved_with, cells_of, with_zeros_in, link_in, pair_at, with_free_cell, with_cell_size, uncarved_all, with_cell_bytes};
+    ghost use Rattle.vc_pool_cells.specs.Cells.{HasCell, IsCell, carved_with, cells_of, with_zeros_in, cell_link, pair_at, with_free_cell, with_cell_size, uncarved_all, with_cell_bytes};
 
     /// Puts a block of zeros into a cell that has none. The cell is zero then as a whole.
     pub fn lay(&mut self, cell: u32, index: u32, size: u32, tag: u32)
@@ -53,8 +53,8 @@ impl PoolSegment {
     pub fn link(&self, cell: u32, index: u32) -> Addr
         requires cell { HasCell cell index (cells_of self.now) }
         requires legal { IsCell cell }
-        requires fits { link_in cell index (cells_of self.now) < 4294967296 }
-        ensures { result.0 ≡ link_in cell index (cells_of self.now) }
+        requires fits { cell_link cell index (cells_of self.now) < 4294967296 }
+        ensures { result.0 ≡ cell_link cell index (cells_of self.now) }
     {
         Addr(self.seg.load(offset_of(cell, index)) as u32)
     }

@@ -1,7 +1,7 @@
 ghost use Rattle.std.specs.Prelude.{◌≡◌, ℕ, ◌<◌, ◌≤◌, ◌==◌, ◌&&◌, ◌||◌, All, false, length, map, slice_index_or};
 ghost use Rattle.vc_pool_cells.specs.Cells.{cells_of};
 ghost use Rattle.vc_pool_cells.specs.Place.{cells_in};
-ghost use Rattle.vc_pool.specs.Marks.{has_block, is_busy};
+ghost use Rattle.vc_pool.specs.Marks.{has_block, has_block_at};
 
 use vc_pool_cells::PoolSegment;
 
@@ -37,7 +37,7 @@ pub(crate) fn mark(segs: &[PoolSegment], marks: &mut [bool])
     requires len { length marks.old ≡ 1024 }
     requires clear { All (λ m. m ≡ false) marks.old }
     ensures len { length marks.new ≡ 1024 }
-    ensures marked { (n : ℕ) → slice_index_or marks.new n false ≡ is_busy (cells_in segs.now) n }
+    ensures marked { (n : ℕ) → slice_index_or marks.new n false ≡ has_block_at (cells_in segs.now) n }
 {
     for segment in segs {
         mark_one(segment, marks);

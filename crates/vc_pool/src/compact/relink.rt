@@ -2,10 +2,10 @@ ghost use Rattle.std.specs.Prelude.{◌≡◌, ℕ, ◌<◌, ◌≤◌, List, �
 ghost use Rattle.vc_model.specs.Addr.{place_of};
 ghost use Rattle.vc_model.specs.Pool.{cell_for};
 ghost use Rattle.vc_pool_cells.specs.Blocks.{carved_by, layout_by};
-ghost use Rattle.vc_pool_cells.specs.Freed.{freed_by, link_at};
+ghost use Rattle.vc_pool_cells.specs.Freed.{freed_cells, freed_link};
 ghost use Rattle.vc_pool_cells.specs.Kept.{AreCellular, IsPool};
 ghost use Rattle.vc_pool_cells.specs.Place.{IsListed, cells_in};
-ghost use Rattle.vc_pool.specs.Relink.{HasSplit, IsLinked, IsSifted, IsSplit, KeepsAll};
+ghost use Rattle.vc_pool.specs.Relink.{HasSplit, IsRelinked, IsSifted, IsSplit, KeepsAll};
 
 use vc_base::Addr;
 use vc_pool_cells::{PoolSegment, find_cell};
@@ -15,8 +15,8 @@ use vc_seg::rounded_up;
 fn link_of(segs: &[PoolSegment], element: u32, a: Addr) -> Addr
     requires kept { AreCellular element (cells_in segs.now) }
     requires listed { IsListed (cell_for element) (cells_in segs.now) (place_of a.0) }
-    requires fits { link_at (cells_in segs.now) a.0 < 4294967296 }
-    ensures { result.0 ≡ link_at (cells_in segs.now) a.0 }
+    requires fits { freed_link (cells_in segs.now) a.0 < 4294967296 }
+    ensures { result.0 ≡ freed_link (cells_in segs.now) a.0 }
 {
     let cell = rounded_up(element, 32);
     let (place, index) = find_cell(segs, element, a);
@@ -27,7 +27,7 @@ fn link_of(segs: &[PoolSegment], element: u32, a: Addr) -> Addr
 fn set_link(segs: &mut [PoolSegment], element: u32, a: Addr, link: Addr)
     requires kept { AreCellular element (cells_in segs.old) }
     requires listed { IsListed (cell_for element) (cells_in segs.old) (place_of a.0) }
-    ensures { IsLinked (cell_for element) (cells_in segs.old) (cells_in segs.new) a.0 link.0 }
+    ensures { IsRelinked (cell_for element) (cells_in segs.old) (cells_in segs.new) a.0 link.0 }
 {
     let cell = rounded_up(element, 32);
     let (place, index) = find_cell(segs, element, a);
@@ -46,7 +46,7 @@ fn leave_out(
 )
     requires split { HasSplit element (cells_in segs.old) freed.old.0 last.0 at.0 }
     requires some { 1 ≤ at.0 }
-    requires next { next.0 ≡ link_at (cells_in segs.old) at.0 }
+    requires next { next.0 ≡ freed_link (cells_in segs.old) at.0 }
     ensures split { (kept rest : List (ℕ × ℕ)) → (p : ℕ × ℕ)
         → IsSplit element (cells_in segs.old) freed.old.0 last.0 at.0 kept (p ∷ rest)
         → IsSplit element (cells_in segs.new) freed.new.0 last.0 next.0 kept rest }
@@ -75,7 +75,7 @@ fn sift(
     ensures sifted { (all : List (ℕ × ℕ))
         → IsSifted element (λ n. slice_index_or marks.now n false) all (cells_in segs.old) freed.old.0 last.0 at.0
         → IsSifted element (λ n. slice_index_or marks.now n false) all (cells_in segs.new) freed.new.0 result.0.0 result.1.0 }
-    ensures less { length (freed_by (cells_in segs.new) result.1.0) < length (freed_by (cells_in segs.old) at.0) }
+    ensures less { length (freed_cells (cells_in segs.new) result.1.0) < length (freed_cells (cells_in segs.old) at.0) }
     ensures keeps { KeepsAll (cell_for element) (cells_in segs.old) (cells_in segs.new) }
 {
     let next = link_of(segs, element, at);
@@ -91,8 +91,8 @@ pub(crate) fn relink(segs: &mut [PoolSegment], freed: &mut Addr, element: u32, m
     requires kept { IsPool element (cells_in segs.old) freed.old.0 }
     requires marks { length marks.now ≡ 1024 }
     ensures kept { IsPool element (cells_in segs.new) freed.new.0 }
-    ensures freed { freed_by (cells_in segs.new) freed.new.0
-        ≡ filter (λ p. slice_index_or marks.now p.0 false) (freed_by (cells_in segs.old) freed.old.0) }
+    ensures freed { freed_cells (cells_in segs.new) freed.new.0
+        ≡ filter (λ p. slice_index_or marks.now p.0 false) (freed_cells (cells_in segs.old) freed.old.0) }
     ensures keeps { KeepsAll (cell_for element) (cells_in segs.old) (cells_in segs.new) }
 {
     let mut last = Addr::NONE;

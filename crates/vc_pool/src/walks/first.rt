@@ -1,6 +1,6 @@
 ghost use Rattle.std.specs.Prelude.{◌≡◌, ◌≢◌, ℕ, ◌<◌, ◌≤◌, All, IfNone, IfSome, drop, length};
 ghost use Rattle.vc_pool_cells.specs.Cells.{cells_of};
-ghost use Rattle.vc_pool.specs.First.{AreEmpty, IsFirstCell};
+ghost use Rattle.vc_pool.specs.First.{AreEmpty, IsFirstBlock};
 
 use vc_pool_cells::PoolSegment;
 
@@ -8,7 +8,7 @@ use vc_pool_cells::PoolSegment;
 pub(crate) fn first_block(segment: &PoolSegment, from: u32) -> Option<u32>
     requires few { segment.now.carved ≤ length segment.now.cells.items }
     requires fresh { All (λ c. c.0 ≡ 0) (drop segment.now.carved segment.now.cells.items) }
-    ensures found { IfSome result (λ k. IsFirstCell from k (cells_of segment.now)) }
+    ensures found { IfSome result (λ k. IsFirstBlock from k (cells_of segment.now)) }
     ensures none { IfNone result
         (AreEmpty from (length segment.now.cells.items) (cells_of segment.now)) }
 {

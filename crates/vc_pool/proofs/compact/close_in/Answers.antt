@@ -5,7 +5,7 @@ use Rattle.vc_pool_cells.specs.Cells.{cells_of}
 use Rattle.vc_pool_cells.specs.Place.{cells_in}
 use Rattle.vc_pool_cells.specs.declared.segment.PoolSegment.{PoolSegment}
 use Rattle.vc_pool.proofs.Backs.{none-marked, numbers-first, numbers-last, numbers-own}
-use Rattle.vc_pool.proofs.Kept.{took-by}
+use Rattle.vc_pool.proofs.BusyPart.{took-by}
 use Rattle.vc_pool.proofs.compact.close_in.Goals as goal
 
 pub give_back-requires-clause-first : goal.give_back-requires-clause-first

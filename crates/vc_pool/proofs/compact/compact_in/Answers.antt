@@ -6,14 +6,14 @@ use Rattle.vc_model.specs.Layout.{Layout}
 use Rattle.vc_model.specs.Pool.{cell_for}
 use Rattle.vc_pool_cells.specs.Blocks.{layout_by, pair_of}
 use Rattle.vc_pool_cells.specs.Cells.{cells_of}
-use Rattle.vc_pool_cells.specs.Freed.{freed_by}
+use Rattle.vc_pool_cells.specs.Freed.{freed_cells}
 use Rattle.vc_pool_cells.specs.Place.{cells_in}
 use Rattle.vc_pool_cells.specs.declared.segment.PoolSegment.{PoolSegment}
 use Rattle.vc_pool.specs.Back.{AreApart}
-use Rattle.vc_pool.specs.Marks.{is_busy}
+use Rattle.vc_pool.specs.Marks.{has_block_at}
 use Rattle.vc_pool.specs.Relink.{KeepsAll}
 use Rattle.vc_pool.proofs.Backs.{numbers-below, numbers-first, numbers-last, numbers-own}
-use Rattle.vc_pool.proofs.Kept.{compacted-carved, compacted-freed, compacted-kept, compacted-layout, segments-of, took-by}
+use Rattle.vc_pool.proofs.BusyPart.{compacted-carved, compacted-freed, compacted-kept, compacted-layout, segments-of, took-by}
 use Rattle.vc_pool.proofs.compact.compact_in.Goals as goal
 use Rattle.vc_pool.proofs.compact.compact_in.Goals.{After-give_back, After-relink}
 use Rattle.vc_pool.proofs.compact.compact_in.Given.{Over}
@@ -22,11 +22,11 @@ use Rattle.vc_pool.proofs.compact.compact_in.Given.{Over}
 items : (g : Over) (c : After-relink g) → take c.args.segs.now.len (c.relink.new.segs ++ drop (length c.relink.new.segs) c.args.segs.now.items) ≡ c.relink.new.segs
 items g c = with_items_is c.args.segs.now c.relink.new.segs (omega (arith, c.relink.auto.segs, c.deref_mut.ensures.len))
 
-marked : (g : Over) (c : After-relink g) (n : ℕ) → get_or c.mark.new.marks n false ≡ is_busy (cells_in c.args.segs.now.items) n
-marked g c n = c.mark.ensures.marked n ∙ ap (λ (ss : List PoolSegment). is_busy (cells_in ss) n) c.deref.ensures.value
+marked : (g : Over) (c : After-relink g) (n : ℕ) → get_or c.mark.new.marks n false ≡ has_block_at (cells_in c.args.segs.now.items) n
+marked g c n = c.mark.ensures.marked n ∙ ap (λ (ss : List PoolSegment). has_block_at (cells_in ss) n) c.deref.ensures.value
 
-left : (g : Over) (c : After-relink g) → freed_by (cells_in c.relink.new.segs) c.relink.new.freed.0 ≡ filter (λ (p : ℕ × ℕ). get_or c.mark.new.marks p.0 false) (freed_by (cells_in c.args.segs.now.items) c.args.freed.now.0)
-left g c = c.relink.ensures.freed ∙ ap (λ (ss : List PoolSegment). filter (λ (p : ℕ × ℕ). get_or c.mark.new.marks p.0 false) (freed_by (cells_in ss) c.args.freed.now.0)) c.deref_mut.ensures.value
+left : (g : Over) (c : After-relink g) → freed_cells (cells_in c.relink.new.segs) c.relink.new.freed.0 ≡ filter (λ (p : ℕ × ℕ). get_or c.mark.new.marks p.0 false) (freed_cells (cells_in c.args.segs.now.items) c.args.freed.now.0)
+left g c = c.relink.ensures.freed ∙ ap (λ (ss : List PoolSegment). filter (λ (p : ℕ × ℕ). get_or c.mark.new.marks p.0 false) (freed_cells (cells_in ss) c.args.freed.now.0)) c.deref_mut.ensures.value
 
 keeps : (g : Over) (c : After-relink g) → KeepsAll (cell_for c.args.element) (cells_in c.args.segs.now.items) (cells_in c.relink.new.segs)
 keeps g c = subst (λ (ss : List PoolSegment). KeepsAll (cell_for c.args.element) (cells_in ss) (cells_in c.relink.new.segs)) c.deref_mut.ensures.value c.relink.ensures.keeps

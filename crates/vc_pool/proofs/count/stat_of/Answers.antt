@@ -2,7 +2,7 @@ use Rattle.std.proofs.Common.{◌≡◌, ◌*◌, ◌∙◌}
 use Rattle.vc_model.specs.Pool.{cell_of, free_cells, greatest_free_cell}
 use Rattle.vc_pool_cells.specs.Blocks.{layout_by}
 use Rattle.vc_pool.specs.Read.{pool_by}
-use Rattle.vc_pool.proofs.Numbers.{cell_of-is, free-is, greatest-none, greatest-some}
+use Rattle.vc_pool.proofs.PoolNumbers.{cell_of-is, free-is, greatest-none, greatest-some}
 use Rattle.vc_pool.proofs.count.stat_of.Goals as goal
 use Rattle.vc_pool.proofs.count.stat_of.Goals.{then-free-eq0, else-free-eq0}
 

@@ -8,8 +8,8 @@ use Rattle.vc_pool_cells.specs.Place.{cells_in}
 use Rattle.vc_pool_cells.specs.declared.segment.PoolSegment.{PoolSegment}
 use Rattle.vc_pool_cells.specs.Carve.{IsCarvedAt}
 use Rattle.vc_pool.specs.Read.{pool_by}
-use Rattle.vc_pool.proofs.Calls.{asked-refusal, carved-disc, freed-some, full-is, granted-disc, lacks-cell, pool-with, put-carved, put-granted, put-reused}
-use Rattle.vc_pool.proofs.Grants.{granted-from, no-grant-from}
+use Rattle.vc_pool.proofs.PoolCalls.{asked-refusal, carved-disc, freed-some, full-is, granted-disc, lacks-cell, pool-with, put-carved, put-granted, put-reused}
+use Rattle.vc_pool.proofs.AskedSegment.{granted-from, no-grant-from}
 use Rattle.vc_pool.proofs.put.alloc_in.Goals as goal
 use Rattle.vc_pool.proofs.put.alloc_in.Goals.{After-carve_lowest, After-element_with-set, After-reuse}
 use Rattle.vc_pool.proofs.put.alloc_in.Given.{Over}

@@ -8,9 +8,9 @@ use Rattle.vc_pool_cells.specs.Kept.{IsPool}
 use Rattle.vc_pool_cells.specs.Place.{cells_in}
 use Rattle.vc_pool_cells.specs.declared.segment.PoolSegment.{PoolSegment}
 use Rattle.vc_pool_cells.specs.Carve.{IsCarvedNew, IsSetFrom}
-use Rattle.vc_pool_cells.proofs.Sets.{zeroed-pair}
+use Rattle.vc_pool_cells.proofs.ElementSize.{zeroed-pair}
 use Rattle.vc_pool.specs.Call.{IsGranted}
-use Rattle.vc_pool.proofs.Grants.{asked-granted, granted-as}
+use Rattle.vc_pool.proofs.AskedSegment.{asked-granted, granted-as}
 use Rattle.vc_pool.proofs.Unused.{lowest-other}
 use Rattle.vc_pool.proofs.put.put_in_new.Goals as goal
 use Rattle.vc_pool.proofs.put.put_in_new.Goals.{After-lowest_unused-number}

@@ -1,4 +1,4 @@
-use Rattle.vc_pool_cells.proofs.Carves.{carved-at, cell-there, legal-there}
+use Rattle.vc_pool_cells.proofs.CarvingCell.{carved-at, cell-there, legal-there}
 use Rattle.vc_pool_cells.proofs.carve.carve_at.Goals as goal
 
 pub carve_in-requires-clause-legal : goal.carve_in-requires-clause-legal

@@ -2,8 +2,8 @@ use Rattle.std.proofs.Common.{sym, arith}
 use Rattle.std.proofs.lemmas.List.{length-map}
 use Rattle.vc_pool_cells.specs.Cells.{cells_of}
 use Rattle.vc_pool_cells.specs.Place.{cells_in}
-use Rattle.vc_pool_cells.proofs.Finds.{uncarved-none, uncarved-there}
-use Rattle.vc_pool_cells.proofs.Opens.{have-cells}
+use Rattle.vc_pool_cells.proofs.LowestUncarved.{uncarved-none, uncarved-there}
+use Rattle.vc_pool_cells.proofs.FullFirst.{have-cells}
 use Rattle.vc_pool_cells.proofs.carve.carve_lowest.Goals as goal
 
 pub find_open-place-requires-clause-cells : goal.find_open-place-requires-clause-cells

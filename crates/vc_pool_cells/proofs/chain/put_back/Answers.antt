@@ -1,9 +1,9 @@
 use Rattle.std.proofs.Common.{get_or, arith}
 use Rattle.std.proofs.lemmas.List.{get_or_default}
 use Rattle.vc_pool_cells.specs.Place.{cells_in}
-use Rattle.vc_pool_cells.proofs.Calls.{last-small}
-use Rattle.vc_pool_cells.proofs.Stands.{block-listed}
-use Rattle.vc_pool_cells.proofs.Steps.{put-back-there}
+use Rattle.vc_pool_cells.proofs.CellCalls.{last-small}
+use Rattle.vc_pool_cells.proofs.BlockPlaces.{block-listed}
+use Rattle.vc_pool_cells.proofs.CellCallsInList.{put-back-there}
 use Rattle.vc_pool_cells.proofs.chain.put_back.Goals as goal
 
 pub find_cell-place-requires-clause-listed : goal.find_cell-place-requires-clause-listed

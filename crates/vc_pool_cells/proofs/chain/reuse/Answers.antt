@@ -3,8 +3,8 @@ use Rattle.std.proofs.lemmas.List.{get_or_default}
 use Rattle.vc_pool_cells.specs.Cells.{cells_of, with_zeros_in}
 use Rattle.vc_pool_cells.specs.Place.{cells_in}
 use Rattle.vc_pool_cells.specs.declared.segment.PoolSegment.{PoolSegment}
-use Rattle.vc_pool_cells.proofs.Calls.{freed-listed}
-use Rattle.vc_pool_cells.proofs.Steps.{link-fits, reused-there}
+use Rattle.vc_pool_cells.proofs.CellCalls.{freed-listed}
+use Rattle.vc_pool_cells.proofs.CellCallsInList.{link-fits, reused-there}
 use Rattle.vc_pool_cells.proofs.chain.reuse.Goals as goal
 
 pub find_cell-place-requires-clause-listed : goal.find_cell-place-requires-clause-listed

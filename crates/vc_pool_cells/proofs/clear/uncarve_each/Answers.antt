@@ -4,7 +4,7 @@ use Rattle.std.proofs.lemmas.List.Edits.{map_over_more}
 use Rattle.vc_pool_cells.specs.Cells.{cells_of, uncarved_all}
 use Rattle.vc_pool_cells.specs.Place.{cells_in}
 use Rattle.vc_pool_cells.specs.declared.segment.PoolSegment.{PoolSegment}
-use Rattle.vc_pool_cells.proofs.Lists.{cells-get, cells-put}
+use Rattle.vc_pool_cells.proofs.SegmentList.{cells-get, cells-put}
 use Rattle.vc_pool_cells.proofs.clear.uncarve_each.Goals as goal
 
 pub loop-segment-preserved : goal.loop-segment-preserved

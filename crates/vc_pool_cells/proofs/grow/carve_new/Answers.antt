@@ -8,8 +8,8 @@ use Rattle.vc_pool_cells.specs.Place.{cells_in}
 use Rattle.vc_pool_cells.specs.declared.segment.PoolSegment.{PoolSegment}
 use Rattle.vc_pool_cells.specs.Carve.{IsCarvedNew}
 use Rattle.vc_pool_cells.specs.Open.{IsFirstOpen}
-use Rattle.vc_pool_cells.proofs.Grows.{IsFresh}
-use Rattle.vc_pool_cells.proofs.Pushes.{carved-pushed, first-pushed, kept-pushed, place-pushed}
+use Rattle.vc_pool_cells.proofs.NewSegment.{IsFresh}
+use Rattle.vc_pool_cells.proofs.NewSegmentCell.{carved-pushed, first-pushed, kept-pushed, place-pushed}
 use Rattle.vc_pool_cells.proofs.grow.carve_new.Goals as goal
 use Rattle.vc_pool_cells.proofs.grow.carve_new.Goals.{After-deref_mut}
 

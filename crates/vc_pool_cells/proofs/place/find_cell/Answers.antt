@@ -5,8 +5,8 @@ use Rattle.vc_model.specs.Pool.{cell_for, cell_offset}
 use Rattle.vc_pool_cells.specs.Cells.{HasCell, cells_of}
 use Rattle.vc_pool_cells.specs.Place.{cells_in}
 use Rattle.vc_pool_cells.specs.declared.segment.PoolSegment.{PoolSegment}
-use Rattle.vc_pool_cells.proofs.Lists.{alone-in, cell-in}
-use Rattle.vc_pool_cells.proofs.Stands.{cell-some, index-is}
+use Rattle.vc_pool_cells.proofs.SegmentList.{alone-in, cell-in}
+use Rattle.vc_pool_cells.proofs.BlockPlaces.{cell-some, index-is}
 use Rattle.vc_pool_cells.proofs.place.find_cell.Goals as goal
 use Rattle.vc_pool_cells.proofs.place.find_cell.Goals.{After-index_of-index}
 

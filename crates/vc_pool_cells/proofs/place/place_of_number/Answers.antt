@@ -1,6 +1,6 @@
 use Rattle.std.proofs.Common.{length, ap, arith}
 use Rattle.vc_pool_cells.specs.Cells.{Cells}
-use Rattle.vc_pool_cells.proofs.Lists.{cells-none}
+use Rattle.vc_pool_cells.proofs.SegmentList.{cells-none}
 use Rattle.vc_pool_cells.proofs.place.place_of_number.Goals as goal
 
 pub unreachable-requires : goal.unreachable-requires

@@ -2,8 +2,8 @@ use Rattle.std.proofs.Common.{ℕ, Some, option_map, ap, ◌∙◌, sym, refl}
 use Rattle.vc_model.specs.Layout.{Block}
 use Rattle.vc_model.specs.Pool.{cell_for}
 use Rattle.vc_pool_cells.specs.Place.{cells_in}
-use Rattle.vc_pool_cells.proofs.Stands.{block-listed}
-use Rattle.vc_pool_cells.proofs.Steps.{found-there}
+use Rattle.vc_pool_cells.proofs.BlockPlaces.{block-listed}
+use Rattle.vc_pool_cells.proofs.CellCallsInList.{found-there}
 use Rattle.vc_pool_cells.proofs.touch.pair_at.Goals as goal
 
 pub find_cell-place-requires-clause-listed : goal.find_cell-place-requires-clause-listed

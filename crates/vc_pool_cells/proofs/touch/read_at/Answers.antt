@@ -1,7 +1,7 @@
 use Rattle.std.proofs.Common.{arith}
 use Rattle.vc_pool_cells.specs.Place.{cells_in}
-use Rattle.vc_pool_cells.proofs.Stands.{block-listed}
-use Rattle.vc_pool_cells.proofs.Steps.{bytes-there, fits-there, range-there}
+use Rattle.vc_pool_cells.proofs.BlockPlaces.{block-listed}
+use Rattle.vc_pool_cells.proofs.CellCallsInList.{bytes-there, fits-there, range-there}
 use Rattle.vc_pool_cells.proofs.touch.read_at.Goals as goal
 
 pub find_cell-place-requires-clause-listed : goal.find_cell-place-requires-clause-listed

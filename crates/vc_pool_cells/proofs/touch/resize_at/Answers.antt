@@ -1,8 +1,8 @@
 use Rattle.std.proofs.Common.{get_or, arith}
 use Rattle.std.proofs.lemmas.List.{get_or_default}
 use Rattle.vc_pool_cells.specs.Place.{cells_in}
-use Rattle.vc_pool_cells.proofs.Stands.{block-listed}
-use Rattle.vc_pool_cells.proofs.Steps.{fits-there, resized-there}
+use Rattle.vc_pool_cells.proofs.BlockPlaces.{block-listed}
+use Rattle.vc_pool_cells.proofs.CellCallsInList.{fits-there, resized-there}
 use Rattle.vc_pool_cells.proofs.touch.resize_at.Goals as goal
 
 pub find_cell-place-requires-clause-listed : goal.find_cell-place-requires-clause-listed

@@ -1,7 +1,7 @@
 use Rattle.std.proofs.Common.{◌≡◌, ℕ, false, get_or, length, drop}
 use Rattle.std.specs.Prelude.{◌||◌}
 use Rattle.vc_pool_cells.specs.Place.{cells_in}
-use Rattle.vc_pool.specs.Marks.{is_busy}
+use Rattle.vc_pool.specs.Marks.{has_block_at}
 use Rattle.vc_pool.proofs.compact.mark.mark.Given as goal
 
 -- a number is marked, or a block is in one of the segments that are left, where one is in a segment
@@ -9,5 +9,5 @@ abbrev pub invariant-loop-segment : goal.invariant-loop-segment
 invariant-loop-segment l =
     record {
       len : length l.marks ≡ 1024;
-      marked : (n : ℕ) → (get_or l.marks n false || is_busy (cells_in (drop l.segment-index l.segs)) n) ≡ is_busy (cells_in l.segs) n;
+      marked : (n : ℕ) → (get_or l.marks n false || has_block_at (cells_in (drop l.segment-index l.segs)) n) ≡ has_block_at (cells_in l.segs) n;
     }

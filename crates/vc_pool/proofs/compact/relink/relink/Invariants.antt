@@ -1,6 +1,6 @@
 use Rattle.std.proofs.Common.{false, get_or, length}
 use Rattle.vc_model.specs.Pool.{cell_for}
-use Rattle.vc_pool_cells.specs.Freed.{freed_by}
+use Rattle.vc_pool_cells.specs.Freed.{freed_cells}
 use Rattle.vc_pool_cells.specs.Place.{cells_in}
 use Rattle.vc_pool.specs.Relink.{IsSifted, KeepsAll}
 use Rattle.vc_pool.proofs.compact.relink.relink.Given as goal
@@ -9,9 +9,9 @@ use Rattle.vc_pool.proofs.compact.relink.relink.Given as goal
 abbrev pub invariant-loop-at : goal.invariant-loop-at
 invariant-loop-at l =
     record {
-      sifted : IsSifted l.element (λ n. get_or l.fn.marks n false) (freed_by (cells_in l.initial.segs) l.initial.freed.0) (cells_in l.segs) l.freed.0 l.last.0 l.at.0;
+      sifted : IsSifted l.element (λ n. get_or l.fn.marks n false) (freed_cells (cells_in l.initial.segs) l.initial.freed.0) (cells_in l.segs) l.freed.0 l.last.0 l.at.0;
       keeps : KeepsAll (cell_for l.element) (cells_in l.initial.segs) (cells_in l.segs);
     }
 
 abbrev pub decreases-loop-at : goal.decreases-loop-at
-decreases-loop-at l = length (freed_by (cells_in l.segs) l.at.0)
+decreases-loop-at l = length (freed_cells (cells_in l.segs) l.at.0)

@@ -2,7 +2,7 @@ use Rattle.std.proofs.Common.{get_or, set, ap, sym, ◌∙◌}
 use Rattle.vc_model.specs.Pool.{cell_for}
 use Rattle.vc_pool_cells.specs.Cells.{cells_of, with_free_cell}
 use Rattle.vc_pool_cells.specs.Place.{cells_in}
-use Rattle.vc_pool_cells.proofs.Lists.{cells-get, cells-put}
+use Rattle.vc_pool_cells.proofs.SegmentList.{cells-get, cells-put}
 use Rattle.vc_pool.proofs.compact.relink.set_link.Goals as goal
 
 pub returns : goal.returns

@@ -1,6 +1,6 @@
 use Rattle.vc_pool.specs.Read.{pool_by}
-use Rattle.vc_pool.proofs.Answers.{alloc-put}
-use Rattle.vc_pool.proofs.Have.{sound-kept, sound-of}
+use Rattle.vc_pool.proofs.PutBlocks.{alloc-put}
+use Rattle.vc_pool.proofs.PoolParts.{sound-kept, sound-of}
 use Rattle.vc_pool.proofs.Sound.{kept-of}
 use Rattle.vc_pool.proofs.pool.Pool.alloc.Goals as goal
 

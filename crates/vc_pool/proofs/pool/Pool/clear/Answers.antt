@@ -3,10 +3,10 @@ use Rattle.std.proofs.lemmas.List.{with_items_is}
 use Rattle.vc_pool_cells.specs.Kept.{AreCellular, IsPool}
 use Rattle.vc_pool_cells.specs.Place.{cells_in}
 use Rattle.vc_pool_cells.specs.declared.segment.PoolSegment.{PoolSegment}
-use Rattle.vc_pool_cells.specs.Carve.{IsCleared}
+use Rattle.vc_pool_cells.specs.Carve.{IsUncarved}
 use Rattle.vc_pool.specs.Read.{pool_by}
-use Rattle.vc_pool.proofs.Have.{sound-kept}
-use Rattle.vc_pool.proofs.Keeps.{cleared-pool}
+use Rattle.vc_pool.proofs.PoolParts.{sound-kept}
+use Rattle.vc_pool.proofs.PoolAfterCalls.{cleared-pool}
 use Rattle.vc_pool.proofs.Sound.{kept-of}
 use Rattle.vc_pool.proofs.pool.Pool.clear.Goals as goal
 use Rattle.vc_pool.proofs.pool.Pool.clear.Goals.{After-clear_all}
@@ -15,9 +15,9 @@ use Rattle.vc_pool.proofs.pool.Pool.clear.Given.{Over}
 items : (g : Over) (c : After-clear_all g) → take c.args.self.now.segs.len (c.clear_all.new.segs ++ drop (length c.clear_all.new.segs) c.args.self.now.segs.items) ≡ c.clear_all.new.segs
 items g c = with_items_is c.args.self.now.segs c.clear_all.new.segs (omega (arith, c.clear_all.auto.segs, c.deref_mut.ensures.len))
 
-cleared : (g : Over) (c : After-clear_all g) → IsCleared c.args.self.now.element (cells_in c.args.self.now.segs.items) (cells_in c.clear_all.new.segs)
+cleared : (g : Over) (c : After-clear_all g) → IsUncarved c.args.self.now.element (cells_in c.args.self.now.segs.items) (cells_in c.clear_all.new.segs)
 cleared g c =
-    subst (λ (ss : List PoolSegment). (element : ℕ) → AreCellular element (cells_in ss) → IsCleared element (cells_in ss) (cells_in c.clear_all.new.segs)) c.deref_mut.ensures.value c.clear_all.ensures c.args.self.now.element
+    subst (λ (ss : List PoolSegment). (element : ℕ) → AreCellular element (cells_in ss) → IsUncarved element (cells_in ss) (cells_in c.clear_all.new.segs)) c.deref_mut.ensures.value c.clear_all.ensures c.args.self.now.element
     (kept-of c.args.self.now).cells
 
 now : (g : Over) (c : After-clear_all g) → IsPool c.args.self.now.element (cells_in (take c.args.self.now.segs.len (c.clear_all.new.segs ++ drop (length c.clear_all.new.segs) c.args.self.now.segs.items))) 0

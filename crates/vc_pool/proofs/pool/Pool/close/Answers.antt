@@ -1,6 +1,6 @@
 use Rattle.std.proofs.Common.{◌++◌, length, refl, ap, sym, ◌∙◌}
-use Rattle.vc_pool.proofs.Kept.{took-by}
-use Rattle.vc_pool.proofs.Keeps.{pairs-of}
+use Rattle.vc_pool.proofs.BusyPart.{took-by}
+use Rattle.vc_pool.proofs.PoolAfterCalls.{pairs-of}
 use Rattle.vc_pool.proofs.Sound.{kept-of}
 use Rattle.vc_pool.proofs.pool.Pool.close.Goals as goal
 

@@ -1,4 +1,4 @@
-use Rattle.vc_pool.proofs.Have.{sound-kept}
+use Rattle.vc_pool.proofs.PoolParts.{sound-kept}
 use Rattle.vc_pool.proofs.Sound.{kept-of}
 use Rattle.vc_pool.proofs.pool.Pool.compact.Goals as goal
 

@@ -8,8 +8,8 @@ use Rattle.vc_pool_cells.specs.Kept.{IsPool}
 use Rattle.vc_pool_cells.specs.Place.{cells_in}
 use Rattle.vc_pool_cells.specs.declared.segment.PoolSegment.{PoolSegment}
 use Rattle.vc_pool.specs.Read.{pool_by}
-use Rattle.vc_pool.proofs.Have.{sound-kept, sound-of}
-use Rattle.vc_pool.proofs.Keeps.{freed-pool}
+use Rattle.vc_pool.proofs.PoolParts.{sound-kept, sound-of}
+use Rattle.vc_pool.proofs.PoolAfterCalls.{freed-pool}
 use Rattle.vc_pool.proofs.Sound.{kept-of}
 use Rattle.vc_pool.proofs.pool.Pool.free.Goals as goal
 use Rattle.vc_pool.proofs.pool.Pool.free.Goals.{After-put_back}

@@ -1,6 +1,6 @@
 use Rattle.std.proofs.Common.{refl}
-use Rattle.vc_pool.proofs.Have.{sound-kept}
-use Rattle.vc_pool.proofs.Keeps.{empty-is, empty-kept}
+use Rattle.vc_pool.proofs.PoolParts.{sound-kept}
+use Rattle.vc_pool.proofs.PoolAfterCalls.{empty-is, empty-kept}
 use Rattle.vc_pool.proofs.pool.Pool.open.Goals as goal
 
 pub invariant_of-result : goal.invariant_of-result

@@ -11,11 +11,11 @@ use Rattle.vc_pool_cells.specs.Kept.{IsPool}
 use Rattle.vc_pool_cells.specs.Place.{cells_in}
 use Rattle.vc_pool_cells.specs.declared.segment.PoolSegment.{PoolSegment}
 use Rattle.vc_pool.specs.Read.{pool_by}
-use Rattle.vc_pool.proofs.Allocs.{resize-greater, resize-stays}
-use Rattle.vc_pool.proofs.Answers.{resize-kept}
-use Rattle.vc_pool.proofs.Calls.{with-set}
-use Rattle.vc_pool.proofs.Have.{layout-of, sound-kept, with-block}
-use Rattle.vc_pool.proofs.Keeps.{becomes-pool}
+use Rattle.vc_pool.proofs.PutOutcome.{resize-greater, resize-stays}
+use Rattle.vc_pool.proofs.PutBlocks.{resize-kept}
+use Rattle.vc_pool.proofs.PoolCalls.{with-set}
+use Rattle.vc_pool.proofs.PoolParts.{layout-of, sound-kept, with-block}
+use Rattle.vc_pool.proofs.PoolAfterCalls.{becomes-pool}
 use Rattle.vc_pool.proofs.Sound.{kept-of}
 use Rattle.vc_pool.proofs.pool.Pool.resize.Goals as goal
 use Rattle.vc_pool.proofs.pool.Pool.resize.Goals.{After-resize_at}

@@ -3,7 +3,7 @@ use Rattle.vc_model.specs.Walk.{segment_at}
 use Rattle.vc_pool_cells.specs.Blocks.{pair_of}
 use Rattle.vc_pool_cells.specs.Place.{cells_in}
 use Rattle.vc_pool_cells.specs.declared.segment.PoolSegment.{PoolSegment}
-use Rattle.vc_pool.proofs.Keeps.{pairs-of}
+use Rattle.vc_pool.proofs.PoolAfterCalls.{pairs-of}
 use Rattle.vc_pool.proofs.pool.Pool.segment_at.Goals as goal
 
 pub returns : goal.returns

@@ -1,5 +1,5 @@
 use Rattle.std.proofs.Common.{arith}
-use Rattle.vc_pool.proofs.Keeps.{pairs-length}
+use Rattle.vc_pool.proofs.PoolAfterCalls.{pairs-length}
 use Rattle.vc_pool.proofs.pool.Pool.segment_count.Goals as goal
 
 pub returns : goal.returns

@@ -11,8 +11,8 @@ use Rattle.vc_pool_cells.specs.Place.{cells_in}
 use Rattle.vc_pool_cells.specs.declared.segment.PoolSegment.{PoolSegment}
 use Rattle.vc_pool.specs.Read.{pool_by}
 use Rattle.vc_model.proofs.Owned.{write-others}
-use Rattle.vc_pool.proofs.Have.{layout-of, sound-kept}
-use Rattle.vc_pool.proofs.Keeps.{becomes-pool}
+use Rattle.vc_pool.proofs.PoolParts.{layout-of, sound-kept}
+use Rattle.vc_pool.proofs.PoolAfterCalls.{becomes-pool}
 use Rattle.vc_pool.proofs.Sound.{kept-of}
 use Rattle.vc_pool.proofs.pool.Pool.write.Goals as goal
 use Rattle.vc_pool.proofs.pool.Pool.write.Goals.{After-write_at}

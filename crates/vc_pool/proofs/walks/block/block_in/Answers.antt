@@ -6,10 +6,10 @@ use Rattle.vc_model.specs.Pool.{cell_offset}
 use Rattle.vc_pool_cells.specs.Cells.{Cells, cells_of, pair_at}
 use Rattle.vc_pool_cells.specs.Place.{cells_in}
 use Rattle.vc_pool_cells.specs.declared.segment.PoolSegment.{PoolSegment}
-use Rattle.vc_pool_cells.proofs.Lists.{cells-none}
-use Rattle.vc_pool.proofs.Bytes.{none-listed, none-within, some-within}
-use Rattle.vc_pool.proofs.Holds.{byte-none}
-use Rattle.vc_pool.proofs.Lives.{found-first, found-last, found-live, found-multiple, found-small}
+use Rattle.vc_pool_cells.proofs.SegmentList.{cells-none}
+use Rattle.vc_pool.proofs.ByteLookup.{none-listed, none-within, some-within}
+use Rattle.vc_pool.proofs.BlockOfByte.{byte-none}
+use Rattle.vc_pool.proofs.CellsWithBlocks.{found-first, found-last, found-live, found-multiple, found-small}
 use Rattle.vc_pool.proofs.walks.block.block_in.Goals as goal
 use Rattle.vc_pool.proofs.walks.block.block_in.Goals.{After-new, After-pair}
 

@@ -1,6 +1,6 @@
 use Rattle.std.proofs.Common.{◌<◌, ◌≤◌, ⊎_elim, arith}
 use Rattle.std.proofs.lemmas.Bool.{cases_lt}
-use Rattle.vc_pool.proofs.Sizes.{fresh-at}
+use Rattle.vc_pool.proofs.BlockSizes.{fresh-at}
 use Rattle.vc_pool.proofs.walks.first.first_block.Goals as goal
 
 pub returns-clause-none : goal.returns-clause-none

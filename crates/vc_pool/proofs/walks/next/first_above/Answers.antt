@@ -2,7 +2,7 @@ use Rattle.std.proofs.Common.{◌≡◌, ◌<◌, ◌≤◌, sym, ◌∙◌, sub
 use Rattle.std.proofs.lemmas.Bool.{cases_lt}
 use Rattle.vc_pool_cells.specs.Place.{cells_in}
 use Rattle.vc_pool.specs.First.{IsBare}
-use Rattle.vc_pool.proofs.Nexts.{bare-above, bare-before, next-above, next-last}
+use Rattle.vc_pool.proofs.NextBlock.{bare-above, bare-before, next-above, next-last}
 use Rattle.vc_pool.proofs.walks.next.first_above.Goals as goal
 
 pub returns-in-Some-first_in-clause-found : goal.returns-in-Some-first_in-clause-found

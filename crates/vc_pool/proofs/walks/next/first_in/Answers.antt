@@ -2,9 +2,9 @@ use Rattle.std.proofs.Common.{◌≡◌, ◌<◌, ◌%◌, ℕ, length, ap, sym,
 use Rattle.vc_model.specs.Addr.{address}
 use Rattle.vc_model.specs.Pool.{cell_for, cell_offset}
 use Rattle.vc_pool_cells.specs.Cells.{Cells}
-use Rattle.vc_pool_cells.proofs.Lists.{cells-none}
-use Rattle.vc_pool.specs.First.{AreEmpty, IsFirstCell}
-use Rattle.vc_pool.proofs.Lives.{cellular-at, found-first, found-is, found-last, found-live, found-multiple, found-small}
+use Rattle.vc_pool_cells.proofs.SegmentList.{cells-none}
+use Rattle.vc_pool.specs.First.{AreEmpty, IsFirstBlock}
+use Rattle.vc_pool.proofs.CellsWithBlocks.{cellular-at, found-first, found-is, found-last, found-live, found-multiple, found-small}
 use Rattle.vc_pool.proofs.walks.next.first_in.Goals as goal
 use Rattle.vc_pool.proofs.walks.next.first_in.Goals.{After-offset_of, After-rounded_up-cell}
 
@@ -62,7 +62,7 @@ returns-clause-found c =
       index = c.in_ok-index.index;
       place = c.new.ensures.value ∙ ap (λ (x : ℕ). address (c.args.number, x)) (begins (goal.at.returns-clause-found c).After-offset_of);
       first =
-          subst (IsFirstCell c.args.from c.in_ok-index.index)
+          subst (IsFirstBlock c.args.from c.in_ok-index.index)
           (sym (found-is c.args.element c.in_ok-place.place c.args.number c.args.segs.now c.index-segs-place.result c.requires.kept c.in_ok-place.ensures.found.0 c.in_ok-place.ensures.found.1 c.index-segs-place.is))
           c.in_ok-index.ensures.found;
     }

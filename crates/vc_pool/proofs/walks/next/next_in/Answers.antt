@@ -1,6 +1,6 @@
 use Rattle.std.proofs.Common.{arith}
 use Rattle.vc_pool_cells.specs.Place.{cells_in}
-use Rattle.vc_pool.proofs.Nexts.{next-unset, value-above, value-first}
+use Rattle.vc_pool.proofs.NextBlock.{next-unset, value-above, value-first}
 use Rattle.vc_pool.proofs.walks.next.next_in.Goals as goal
 
 pub returns-then-element-eq0 : goal.returns-then-element-eq0

@@ -3,7 +3,7 @@ use Rattle.std.proofs.lemmas.List.{drop_all}
 use Rattle.vc_pool_cells.specs.Freed.{cell_total}
 use Rattle.vc_pool_cells.specs.Place.{cells_in}
 use Rattle.vc_pool_cells.specs.declared.segment.PoolSegment.{PoolSegment}
-use Rattle.vc_pool.proofs.Sizes.{total-count, total-most, total-next}
+use Rattle.vc_pool.proofs.BlockSizes.{total-count, total-most, total-next}
 use Rattle.vc_pool.proofs.walks.tally.count_cells.Goals as goal
 
 pub overflow_add-count : goal.overflow_add-count

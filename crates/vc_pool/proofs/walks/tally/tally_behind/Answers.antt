@@ -2,7 +2,7 @@ use Rattle.std.proofs.Common.{◌≤◌, ℕ, List, [], map, ap, sym, ◌∙◌,
 use Rattle.vc_layouts.specs.declared.tally.Tally.{Tally}
 use Rattle.vc_layouts.specs.Tally.{HasRoom, tally_of}
 use Rattle.vc_pool_cells.specs.Place.{cells_in}
-use Rattle.vc_pool.proofs.Sizes.{count-behind, room-behind, slice-behind}
+use Rattle.vc_pool.proofs.BlockSizes.{count-behind, room-behind, slice-behind}
 use Rattle.vc_pool.proofs.walks.tally.tally_behind.Goals as goal
 
 pub tally-requires : goal.tally-requires

@@ -10,8 +10,8 @@ use Rattle.vc_pool_cells.specs.Blocks.{layout_by}
 use Rattle.vc_pool_cells.specs.Place.{cells_in}
 use Rattle.vc_pool_cells.specs.declared.segment.PoolSegment.{PoolSegment}
 use Rattle.vc_pool.specs.Sizes.{sizes_in}
-use Rattle.vc_pool.proofs.Lives.{cellular-at}
-use Rattle.vc_pool.proofs.Sizes.{room-blocks, sizes-next, sizes_of, tally-layout}
+use Rattle.vc_pool.proofs.CellsWithBlocks.{cellular-at}
+use Rattle.vc_pool.proofs.BlockSizes.{room-blocks, sizes-next, sizes_of, tally-layout}
 use Rattle.vc_pool.proofs.walks.tally.tally_blocks.Goals as goal
 
 pub loop-segment-init : goal.loop-segment-init

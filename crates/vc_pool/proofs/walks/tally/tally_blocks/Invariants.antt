@@ -1,7 +1,7 @@
 use Rattle.std.proofs.Common.{◌≡◌, drop}
 use Rattle.vc_layouts.specs.Tally.{HasRoom, tallied_all, tally_of}
 use Rattle.vc_pool_cells.specs.Place.{cells_in}
-use Rattle.vc_pool.proofs.Sizes.{sizes_of}
+use Rattle.vc_pool.proofs.BlockSizes.{sizes_of}
 use Rattle.vc_pool.proofs.walks.tally.tally_blocks.Given as goal
 
 -- the tally so far, taken on over the segments that are left, is the result

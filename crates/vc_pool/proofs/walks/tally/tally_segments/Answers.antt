@@ -4,7 +4,7 @@ use Rattle.vc_layouts.specs.declared.tally.Tally.{Tally}
 use Rattle.vc_layouts.proofs.Tallies.{tally_of-bytes, tally_of-count}
 use Rattle.vc_pool_cells.specs.Blocks.{pair_of}
 use Rattle.vc_pool_cells.specs.Place.{cells_in}
-use Rattle.vc_pool.proofs.Sizes.{count-behind, room-behind}
+use Rattle.vc_pool.proofs.BlockSizes.{count-behind, room-behind}
 use Rattle.vc_pool.proofs.walks.tally.tally_segments.Goals as goal
 
 pub tally-requires : goal.tally-requires

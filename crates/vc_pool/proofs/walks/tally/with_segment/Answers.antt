@@ -1,7 +1,7 @@
 use Rattle.std.proofs.Common.{◌≡◌, ℕ, List, take, ap, sym, ◌∙◌, subst}
 use Rattle.vc_layouts.specs.Tally.{HasRoom, tallied_all}
 use Rattle.vc_pool.specs.Sizes.{sizes_in}
-use Rattle.vc_pool.proofs.Sizes.{sizes-front}
+use Rattle.vc_pool.proofs.BlockSizes.{sizes-front}
 use Rattle.vc_pool.proofs.walks.tally.with_segment.Goals as goal
 use Rattle.vc_pool.proofs.walks.tally.with_segment.Goals.{After-deref}
 

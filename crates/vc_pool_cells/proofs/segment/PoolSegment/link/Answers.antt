@@ -1,5 +1,5 @@
 use Rattle.std.proofs.Common.{arith}
-use Rattle.vc_pool_cells.proofs.Stands.{offset-multiple}
+use Rattle.vc_pool_cells.proofs.BlockPlaces.{offset-multiple}
 use Rattle.vc_pool_cells.proofs.segment.PoolSegment.link.Goals as goal
 
 pub load-requires-clause-multiple : goal.load-requires-clause-multiple

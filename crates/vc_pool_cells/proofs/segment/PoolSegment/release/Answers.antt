@@ -1,5 +1,5 @@
 use Rattle.std.proofs.Common.{arith}
-use Rattle.vc_pool_cells.proofs.Stands.{offset-multiple}
+use Rattle.vc_pool_cells.proofs.BlockPlaces.{offset-multiple}
 use Rattle.vc_pool_cells.proofs.segment.PoolSegment.release.Goals as goal
 
 pub store-requires-clause-multiple : goal.store-requires-clause-multiple

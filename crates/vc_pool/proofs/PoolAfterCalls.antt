@@ -1,0 +1,78 @@
+-- What the calls on a pool's cells make of the pool.
+use Rattle.std.proofs.Common.{◌≡◌, ℕ, List, [], length, map, filter, refl, ap, sym, ◌∙◌, subst, arith}
+use Rattle.std.proofs.lemmas.List.{length-map}
+use Rattle.std.proofs.lemmas.List.Elements.{All-nil}
+use Rattle.vc_model.specs.Addr.{place_of}
+use Rattle.vc_model.specs.Compact.{compacted_layout, is_occupied}
+use Rattle.vc_model.specs.Layout.{Layout}
+use Rattle.vc_model.specs.Pool.{cell_for, empty_pool, pool_clear, pool_compact, pool_free}
+use Rattle.vc_seg.specs.Segment.{IsRegionSegment}
+use Rattle.vc_seg.proofs.Backs.{Apart}
+use Rattle.vc_layouts.proofs.Lists.{AllPairs-nil}
+use Rattle.vc_pool_cells.specs.Blocks.{carved_by, layout_by, pair_of}
+use Rattle.vc_pool_cells.specs.Call.{Becomes, IsPutBack}
+use Rattle.vc_pool_cells.specs.Cells.{cells_of}
+use Rattle.vc_pool_cells.specs.Freed.{IsFreeCell, freed_cells, freed_from}
+use Rattle.vc_pool_cells.specs.Kept.{IsCellular, IsPool, IsPoolOf}
+use Rattle.vc_pool_cells.specs.Place.{cells_in}
+use Rattle.vc_pool_cells.specs.declared.segment.PoolSegment.{PoolSegment}
+use Rattle.vc_pool_cells.proofs.PoolChange.{pool-of}
+use Rattle.vc_pool_cells.specs.Carve.{IsUncarved}
+use Rattle.vc_pool.specs.Sizes.{element_of}
+use Rattle.vc_pool.specs.Read.{pool_by}
+
+-- no segment, no element size and no cell
+none-kept : IsPool 0 [] 0
+none-kept =
+    let h : IsPoolOf 0 [] 0 [] =
+    record {
+      cells = record {
+        most = omega arith;
+        unset = λ e. refl;
+        segments = record { few = omega arith; legal = All-nil IsRegionSegment; distinct = AllPairs-nil Apart };
+        cellular = All-nil (IsCellular (cell_for 0) 0);
+      };
+      front = tt;
+      chain = refl;
+      free = All-nil (IsFreeCell (cell_for 0) []);
+      once = λ at. omega arith;
+    } in
+    pool-of 0 [] 0 [] h
+
+pub empty-kept : (segs : List PoolSegment) → segs ≡ [] → IsPool 0 (cells_in segs) 0
+empty-kept segs e = subst (λ (ss : List PoolSegment). IsPool 0 (cells_in ss) 0) (sym e) none-kept
+
+none-is : pool_by [] 0 0 ≡ empty_pool
+unfolding pool_by layout_by freed_cells freed_from
+none-is = refl
+
+pub empty-is : (segs : List PoolSegment) → segs ≡ [] → pool_by segs 0 0 ≡ empty_pool
+empty-is segs e = ap (λ (ss : List PoolSegment). pool_by ss 0 0) e ∙ none-is
+
+module _ (segs segs' : List PoolSegment) (element : ℕ) where
+  pub becomes-pool : (freed : ℕ) (after : Layout ℕ) → Becomes element (cells_in segs) (cells_in segs') freed after → pool_by segs' element freed ≡ record (pool_by segs element freed) { layout = after }
+  unfolding pool_by
+  becomes-pool freed after h = λ j. record { layout = h.layout j; element = element_of element; freed = h.freed j; carved = h.carved j }
+
+  pub freed-pool : (a last : ℕ) → IsPutBack element a (cells_in segs) (cells_in segs') last → pool_by segs' element a ≡ pool_free (pool_by segs element last) (place_of a)
+  unfolding pool_by
+  freed-pool a last h = λ j. record { layout = h.layout j; element = element_of element; freed = h.freed j; carved = h.carved j }
+
+  pub cleared-pool : (last : ℕ) → IsUncarved element (cells_in segs) (cells_in segs') → pool_by segs' element 0 ≡ pool_clear (pool_by segs element last)
+  unfolding pool_by
+  cleared-pool last h = λ j. record { layout = h.layout j; element = element_of element; freed = h.freed j; carved = h.carved j }
+
+  pub compacted-pool : (freed last : ℕ) → layout_by (cell_for element) (cells_in segs') ≡ compacted_layout (layout_by (cell_for element) (cells_in segs))
+      → freed_cells (cells_in segs') freed ≡ filter (λ (p : ℕ × ℕ). is_occupied (layout_by (cell_for element) (cells_in segs)).blocks p.0) (freed_cells (cells_in segs) last)
+      → carved_by (cells_in segs') ≡ filter (λ (c : ℕ × ℕ). is_occupied (layout_by (cell_for element) (cells_in segs)).blocks c.0) (carved_by (cells_in segs))
+      → pool_by segs' element freed ≡ pool_compact (pool_by segs element last)
+  unfolding pool_by
+  compacted-pool freed last layout left counts = λ j. record { layout = layout j; element = element_of element; freed = left j; carved = counts j }
+
+-- the segments as number and size
+pub pairs-of : (segs : List PoolSegment) (element freed : ℕ) → (pool_by segs element freed).layout.segments ≡ map pair_of (cells_in segs)
+unfolding pool_by layout_by
+pairs-of segs element freed = refl
+
+pub pairs-length : (segs : List PoolSegment) (element freed : ℕ) → length (pool_by segs element freed).layout.segments ≡ length segs
+pairs-length segs element freed = ap length (pairs-of segs element freed) ∙ (length-map (cells_in segs) pair_of ∙ length-map segs cells_of)

@@ -1,0 +1,54 @@
+-- What is always true of a pool, by its segments with their cells, its element size and the address of the cell freed last.
+use Rattle.std.proofs.Common.{◌≡◌, ℕ, ◌≤◌, List, Some, None, refl, arith}
+use Rattle.std.proofs.lemmas.Bool.{eq-eqb, ne_eqb}
+use Rattle.vc_model.specs.Pool.{IsPoolSound, Pool, cell_for}
+use Rattle.vc_model.specs.Touch.{HasBlock}
+use Rattle.vc_pool_cells.specs.Blocks.{carved_by, layout_by}
+use Rattle.vc_pool_cells.specs.Freed.{freed_cells}
+use Rattle.vc_pool_cells.specs.Kept.{AreCellular, IsPool}
+use Rattle.vc_pool_cells.specs.Place.{cells_in}
+use Rattle.vc_pool_cells.specs.declared.segment.PoolSegment.{PoolSegment}
+use Rattle.vc_pool.specs.Sizes.{element_of}
+use Rattle.vc_pool.specs.Read.{pool_by}
+use Rattle.vc_pool_cells.proofs.BlockPlaces.{block-some}
+use Rattle.vc_pool.proofs.SoundBlocks.{sound-by}
+
+-- the parts of a pool
+module _ (segs : List PoolSegment) (element freed : ℕ) where
+  pub layout-of : (pool_by segs element freed).layout ≡ layout_by (cell_for element) (cells_in segs)
+  unfolding pool_by
+  layout-of = refl
+
+  pub element-of : (pool_by segs element freed).element ≡ element_of element
+  unfolding pool_by
+  element-of = refl
+
+  pub freed-of : (pool_by segs element freed).freed ≡ freed_cells (cells_in segs) freed
+  unfolding pool_by
+  freed-of = refl
+
+  pub carved-of : (pool_by segs element freed).carved ≡ carved_by (cells_in segs)
+  unfolding pool_by
+  carved-of = refl
+
+  pub pool-is : (p : Pool ℕ) → layout_by (cell_for element) (cells_in segs) ≡ p.layout → element_of element ≡ p.element → freed_cells (cells_in segs) freed ≡ p.freed → carved_by (cells_in segs) ≡ p.carved → pool_by segs element freed ≡ p
+  unfolding pool_by
+  pool-is p layout set free carved = λ j. record { layout = layout j; element = set j; freed = free j; carved = carved j }
+
+  pub sound-of : AreCellular element (cells_in segs) → IsPoolSound (pool_by segs element freed)
+  unfolding pool_by
+  sound-of h = sound-by element (cells_in segs) h (freed_cells (cells_in segs) freed) (carved_by (cells_in segs))
+
+  pub sound-kept : IsPool element (cells_in segs) freed → ∥ IsPoolSound (pool_by segs element freed) ∥₁
+  sound-kept h = ∣ sound-of h.cells ∣₁
+
+-- with a block an element size is set
+pub with-block : (segs : List PoolSegment) (element freed a : ℕ) → AreCellular element (cells_in segs) → HasBlock (pool_by segs element freed).layout.blocks a → 1 ≤ element
+unfolding pool_by
+with-block segs element freed a k h = block-some element a (cells_in segs) k h
+
+pub element_of-some : (element : ℕ) → 1 ≤ element → element_of element ≡ Some element
+element_of-some element h = rw (ne_eqb element 0 (λ e. omega (arith, e, h))) refl
+
+pub element_of-none : (element : ℕ) → element ≡ 0 → element_of element ≡ None
+element_of-none element e = rw (eq-eqb element 0 e) refl
