@@ -11,14 +11,16 @@ use Rattle.vc_model.specs.Layout.{Block}
 use Rattle.vc_model.specs.Numbers.{block_sizes}
 use Rattle.vc_model.specs.Pool.{cell_count, cell_for}
 use Rattle.vc_layouts.specs.Tally.{HasRoom, tally_of}
-use Rattle.vc_layouts.proofs.Tallies.{sizes-most, tallied-order, tally_of-count}
+use Rattle.vc_layouts.specs.declared.tally.Tally.{Tally}
+use Rattle.vc_layouts.proofs.Tallies.{sizes-most, tallied-order, tally_of-bytes, tally_of-count}
 use Rattle.vc_pool_cells.specs.Blocks.{cell_blocks, segment_blocks, layout_by, pair_of}
 use Rattle.vc_pool_cells.specs.Cells.{Cells, cells_of}
 use Rattle.vc_pool_cells.specs.Freed.{cell_total}
 use Rattle.vc_pool_cells.specs.Kept.{AreCellular, IsCellular, segment_of}
-use Rattle.vc_pool_cells.specs.Place.{cells_in}
+use Rattle.vc_pool_cells.specs.Place.{cells_in, pair_in}
 use Rattle.vc_pool_cells.specs.declared.segment.PoolSegment.{PoolSegment}
 use Rattle.vc_pool_cells.proofs.BlockPlaces.{IsCell-for, all-legal}
+use Rattle.vc_pool_cells.proofs.SegmentList.{pairs-in}
 use Rattle.vc_seg.specs.Segment.{AreSegments}
 use Rattle.vc_pool.specs.Sizes.{element_of, sizes_in}
 
@@ -208,8 +210,19 @@ module _ (segs : List Cells) (h : AreSegments (map segment_of segs)) (first : �
       let is = tally_of-count behind in
       omega (arith, few, is)
 
+-- a tally of all segments
+module _ (segs : List PoolSegment) (t : Tally) (is : t ≡ tally_of (map (λ s. s.1) (map pair_in segs))) where
+  pub segments-count : t.count ≡ length (map pair_of (cells_in segs))
+  segments-count =
+      ap (λ (u : Tally). u.count) is
+      ∙ (tally_of-count (map (λ (s : ℕ × ℕ). s.1) (map pair_in segs)) ∙ (length-map (map pair_in segs) (λ (s : ℕ × ℕ). s.1) ∙ ap length (pairs-in segs)))
+
+  pub segments-bytes : t.bytes ≡ sum (map (λ s. s.1) (map pair_of (cells_in segs)))
+  segments-bytes = ap (λ (u : Tally). u.bytes) is ∙ (tally_of-bytes (map (λ (s : ℕ × ℕ). s.1) (map pair_in segs)) ∙ ap (λ (ps : List (ℕ × ℕ)). sum (map (λ (s : ℕ × ℕ). s.1) ps)) (pairs-in segs))
+
 -- the slice behind the lesser of a number and their length
-pub slice-behind : (segs : List PoolSegment) (first k : ℕ) → k ≡ min first (length segs) → map pair_of (cells_in (take (length segs - k) (drop k segs))) ≡ drop first (map pair_of (cells_in segs))
+pub slice-behind : (segs : List PoolSegment) (first k : ℕ) → k ≡ min first (length segs) → map pair_in (take (length segs - k) (drop k segs)) ≡ drop first (map pair_of (cells_in segs))
 slice-behind segs first k is =
-    ap (λ (xs : List PoolSegment). map pair_of (cells_in xs)) (take_rest segs k ∙ (ap (λ n. drop n segs) is ∙ drop_min first segs))
-    ∙ (ap (map pair_of) (sym (drop-map cells_of first segs)) ∙ sym (drop-map pair_of first (cells_in segs)))
+    pairs-in (take (length segs - k) (drop k segs))
+    ∙ (ap (λ (xs : List PoolSegment). map pair_of (cells_in xs)) (take_rest segs k ∙ (ap (λ n. drop n segs) is ∙ drop_min first segs))
+    ∙ (ap (map pair_of) (sym (drop-map cells_of first segs)) ∙ sym (drop-map pair_of first (cells_in segs))))

@@ -1,8 +1,9 @@
 -- Which segments have a block, by their pairs and by the blocks of the pool.
-use Rattle.std.proofs.Common.{◌≡◌, ℕ, zero, suc, ◌+◌, List, [], ◌∷◌, Bool, true, false, All, get_or, refl, ap, sym, ◌∙◌, ⊎_elim, eqb, ltb, arith}
+use Rattle.std.proofs.Common.{◌≡◌, ℕ, zero, suc, ◌+◌, List, [], ◌∷◌, Bool, true, false, All, ◌<◌, get_or, map, refl, ap, sym, ◌∙◌, ⊎_elim, eqb, ltb, arith}
 use Rattle.std.specs.Prelude.{◌&&◌, ◌||◌}
 use Rattle.std.specs.List.{flat_map, list_any}
 use Rattle.std.proofs.lemmas.Bool.{cases_Bool, eqb-true, eqb-false, lt-ltb, le-ltb}
+use Rattle.std.proofs.lemmas.List.{get_or-map, length-map}
 use Rattle.std.proofs.lemmas.List.Elements.{All-head, All-tail}
 use Rattle.std.proofs.lemmas.List.Folds.{list_any-append}
 use Rattle.std.proofs.Math.Bool.{and-false, or-false, and-true}
@@ -11,6 +12,11 @@ use Rattle.vc_model.specs.Layout.{Block}
 use Rattle.vc_layouts.proofs.InOrder.{any-order}
 use Rattle.vc_pool_cells.specs.Blocks.{block_of_cell, cell_blocks, segment_blocks, layout_by}
 use Rattle.vc_pool_cells.specs.Cells.{Cells}
+use Rattle.vc_seg.specs.Segment.{AreSegments}
+use Rattle.vc_pool_cells.specs.Kept.{segment_of}
+use Rattle.vc_pool_cells.specs.Place.{cells_in, pair_in}
+use Rattle.vc_pool_cells.specs.declared.segment.PoolSegment.{PoolSegment}
+use Rattle.vc_pool_cells.proofs.SegmentList.{numbered-in}
 use Rattle.vc_pool.specs.Marks.{has_block, has_block_at}
 
 and-or : (a x y : Bool) → ((a && x) || (a && y)) ≡ (a && (x || y))
@@ -70,3 +76,12 @@ pub none-clear : (ms : List Bool) (n : ℕ) → All (λ m. m ≡ false) ms → g
 none-clear [] n h = refl
 none-clear (m ∷ ms) zero h = All-head (λ (b : Bool). b ≡ false) m ms h
 none-clear (m ∷ ms) (suc n) h = none-clear ms n (All-tail (λ (b : Bool). b ≡ false) m ms h)
+
+-- the numbers of a pool's segments have marks
+pub numbers-below : (segs : List PoolSegment) → AreSegments (map segment_of (cells_in segs)) → All (λ s. s.seg.number < 1024) segs
+numbers-below segs h =
+    λ i d lt.
+    let legal = (numbered-in segs h).legal i (pair_in d) (omega (arith, lt, length-map segs pair_in)) in
+    let last = legal.last in
+    let is : (get_or (map pair_in segs) i (pair_in d)).0 ≡ (get_or segs i d).seg.number = ap (λ (p : ℕ × ℕ). p.0) (get_or-map pair_in segs i d (pair_in d) lt) in
+    omega (arith, last, is)

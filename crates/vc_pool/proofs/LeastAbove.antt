@@ -12,7 +12,7 @@ pub record IsLeast (after : ℕ) (ns : List ℕ) (n : ℕ) : Type 0 where
   pub least : All (λ m. after < m → n ≤ m) ns
 
 -- the least so far, taken on over others
-record IsChainRun (after l : ℕ) (ns : List ℕ) : Type 0 where
+record IsLeastFrom (after l : ℕ) (ns : List ℕ) : Type 0 where
   n : ℕ
   is : fold (lesser_by (λ a. a)) (Some l) (filter (λ a. ltb after a) ns) ≡ Some n
   low : n ≤ l
@@ -23,7 +23,7 @@ record IsChainRun (after l : ℕ) (ns : List ℕ) : Type 0 where
 on-from : (after : ℕ) (o q : Option ℕ) (ms : List ℕ) (r : Option ℕ) → o ≡ q → fold (lesser_by (λ a. a)) q (filter (λ a. ltb after a) ms) ≡ r → fold (lesser_by (λ a. a)) o (filter (λ a. ltb after a) ms) ≡ r
 on-from after o q ms r e f = ap (λ v. fold (lesser_by (λ a. a)) v (filter (λ a. ltb after a) ms)) e ∙ f
 
-run : (after l : ℕ) (ns : List ℕ) → after < l → IsChainRun after l ns
+run : (after l : ℕ) (ns : List ℕ) → after < l → IsLeastFrom after l ns
 run after l [] h = record { n = l; is = refl; low = omega arith; above = h; least = All-nil (λ m. after < m → l ≤ m) }
 run after l (m ∷ ms) h =
     ⊎_elim
@@ -35,21 +35,21 @@ run after l (m ∷ ms) h =
     let r = run after m ms up in
     let low = r.low in
     let k : ℕ = r.n in
-    let rec : IsChainRun after l (m ∷ ms) = record { n = k; is = rw t (on-from after (lesser_by (λ a. a) (Some l) m) (Some m) ms (Some k) (ap (λ b. cond b (Some m) (Some l)) u) r.is); low = omega (arith, low, down); above = r.above; least = All-cons (λ x. after < x → k ≤ x) m ms (λ _. low) r.least } in
+    let rec : IsLeastFrom after l (m ∷ ms) = record { n = k; is = rw t (on-from after (lesser_by (λ a. a) (Some l) m) (Some m) ms (Some k) (ap (λ b. cond b (Some m) (Some l)) u) r.is); low = omega (arith, low, down); above = r.above; least = All-cons (λ x. after < x → k ≤ x) m ms (λ _. low) r.least } in
     rec)
     (λ (u : ltb m l ≡ false).
     let not = ltb-false m l u in
     let r = run after l ms h in
     let low = r.low in
     let k : ℕ = r.n in
-    let rec : IsChainRun after l (m ∷ ms) = record { n = k; is = rw t (on-from after (lesser_by (λ a. a) (Some l) m) (Some l) ms (Some k) (ap (λ b. cond b (Some m) (Some l)) u) r.is); low = low; above = r.above; least = All-cons (λ x. after < x → k ≤ x) m ms (λ _. omega (arith, low, not)) r.least } in
+    let rec : IsLeastFrom after l (m ∷ ms) = record { n = k; is = rw t (on-from after (lesser_by (λ a. a) (Some l) m) (Some l) ms (Some k) (ap (λ b. cond b (Some m) (Some l)) u) r.is); low = low; above = r.above; least = All-cons (λ x. after < x → k ≤ x) m ms (λ _. omega (arith, low, not)) r.least } in
     rec)
     (cases_Bool (ltb m l)))
     (λ (t : ltb after m ≡ false).
     let not = ltb-false after m t in
     let r = run after l ms h in
     let k : ℕ = r.n in
-    let rec : IsChainRun after l (m ∷ ms) = record { n = k; is = rw t r.is; low = r.low; above = r.above; least = All-cons (λ x. after < x → k ≤ x) m ms (λ up. omega (arith, not, up)) r.least } in
+    let rec : IsLeastFrom after l (m ∷ ms) = record { n = k; is = rw t r.is; low = r.low; above = r.above; least = All-cons (λ x. after < x → k ≤ x) m ms (λ up. omega (arith, not, up)) r.least } in
     rec)
     (cases_Bool (ltb after m))
 

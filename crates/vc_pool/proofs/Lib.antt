@@ -4,7 +4,6 @@ pub mod PoolParts
 pub mod PoolAfterCalls
 pub mod PutOutcome
 pub mod PoolCalls
-pub mod Unused
 pub mod AskedSegment
 pub mod PoolNumbers
 pub mod PutBlocks
@@ -21,5 +20,4 @@ pub mod ChainRuns
 pub mod Relinking
 pub mod ChainSifting
 pub mod BusySegments
-pub mod Backs
 pub mod BusyPart

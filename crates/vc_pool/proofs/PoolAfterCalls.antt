@@ -14,8 +14,9 @@ use Rattle.vc_pool_cells.specs.Call.{Becomes, IsPutBack}
 use Rattle.vc_pool_cells.specs.Cells.{cells_of}
 use Rattle.vc_pool_cells.specs.Freed.{IsFreeCell, freed_cells, freed_from}
 use Rattle.vc_pool_cells.specs.Kept.{IsCellular, IsPool, IsPoolOf}
-use Rattle.vc_pool_cells.specs.Place.{cells_in}
+use Rattle.vc_pool_cells.specs.Place.{cells_in, pair_in}
 use Rattle.vc_pool_cells.specs.declared.segment.PoolSegment.{PoolSegment}
+use Rattle.vc_pool_cells.proofs.SegmentList.{pairs-in}
 use Rattle.vc_pool_cells.proofs.PoolChange.{pool-of}
 use Rattle.vc_pool_cells.specs.Carve.{IsUncarved}
 use Rattle.vc_pool.specs.Sizes.{element_of}
@@ -73,6 +74,9 @@ module _ (segs segs' : List PoolSegment) (element : ℕ) where
 pub pairs-of : (segs : List PoolSegment) (element freed : ℕ) → (pool_by segs element freed).layout.segments ≡ map pair_of (cells_in segs)
 unfolding pool_by layout_by
 pairs-of segs element freed = refl
+
+pub pairs-of-list : (segs : List PoolSegment) (element freed : ℕ) → (pool_by segs element freed).layout.segments ≡ map pair_in segs
+pairs-of-list segs element freed = pairs-of segs element freed ∙ sym (pairs-in segs)
 
 pub pairs-length : (segs : List PoolSegment) (element freed : ℕ) → length (pool_by segs element freed).layout.segments ≡ length segs
 pairs-length segs element freed = ap length (pairs-of segs element freed) ∙ (length-map (cells_in segs) pair_of ∙ length-map segs cells_of)

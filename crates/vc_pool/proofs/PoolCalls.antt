@@ -5,10 +5,10 @@ use Rattle.std.proofs.lemmas.Bool.{cases_eq, eq-eqb, ne_eqb}
 use Rattle.std.proofs.lemmas.List.{length-map}
 use Rattle.vc_model.specs.Addr.{address, place_of}
 use Rattle.vc_model.specs.Discipline.{Discipline, Served, Terms}
-use Rattle.vc_model.specs.Layout.{Layout, with_segment}
+use Rattle.vc_model.specs.Layout.{Layout, with_grant}
 use Rattle.vc_model.specs.Outcome.{Done, Outcome, Put}
-use Rattle.vc_model.specs.Pool.{Pool, carve, cell_for, element_with, pool_alloc, pool_need, uncarved}
-use Rattle.vc_model.specs.Segments.{ask, round_up}
+use Rattle.vc_model.specs.Pool.{Pool, carve, carved_in, cell_for, element_with, pool_alloc, pool_need, uncarved}
+use Rattle.vc_model.specs.Segments.{Grant, Granted, ask, new_segment, round_up}
 use Rattle.vc_model.proofs.Owned.{address-place_of}
 use Rattle.vc_layouts.proofs.Segments.{Asks-fault, Served-lent, Served-same}
 use Rattle.vc_layouts.specs.Put.{with_zeros}
@@ -28,8 +28,7 @@ use Rattle.vc_pool_cells.proofs.Chains.{freed-is}
 use Rattle.vc_pool_cells.specs.Carve.{IsCarvedAt}
 use Rattle.vc_pool_cells.proofs.ElementSize.{layout-set_from, pool-set_from}
 use Rattle.vc_pool.specs.Sizes.{element_of}
-use Rattle.vc_pool.specs.Ask.{LacksCell}
-use Rattle.vc_pool.specs.Call.{IsGranted}
+use Rattle.vc_pool.specs.Ask.{IsGranted, LacksCell}
 use Rattle.vc_pool.specs.Read.{pool_by}
 use Rattle.vc_pool.proofs.PutOutcome.{alloc-carved, alloc-granted, alloc-greater, alloc-not_lent, alloc-reused, alloc-too_many}
 use Rattle.vc_pool.proofs.PoolAfterCalls.{pairs-of}
@@ -97,7 +96,7 @@ freed-some element a segs h other =
     some-of element segs (place_of a).0 l.index l.listed h.cells.unset
 
 -- an outcome at an address
-put-at : (o : Outcome (Put (Pool ℕ))) (a : ℕ) (at : ℕ × ℕ) (new region : Pool ℕ) (granted : Option (ℕ × ℕ)) → o ≡ Done (record { at = at; region = region; granted = granted }) → place_of a ≡ at → new ≡ region → IsPut o a new
+put-at : (o : Outcome (Put (Pool ℕ))) (a : ℕ) (at : ℕ × ℕ) (new region : Pool ℕ) (granted : Option Grant) → o ≡ Done (record { at = at; region = region; granted = granted }) → place_of a ≡ at → new ≡ region → IsPut o a new
 put-at o a at new region granted e place same =
     subst (λ (r : Outcome (Put (Pool ℕ))). IsPut r a new) (sym e) (sym (address-place_of a) ∙ ap address place, sym place, same)
 
@@ -158,33 +157,37 @@ module _ (terms : Terms) (segs : List PoolSegment) (element freed set tag size :
     need-is : round_up (32 + cell_for set) terms.round ≡ pool_need terms old size
     need-is = ap (λ e. round_up (32 + cell_for e) terms.round) (sym is)
 
-    ask-is : (refused : Bool) → ask (round_up (32 + cell_for set) terms.round) (map pair_of (cells_in segs)) refused ≡ ask (pool_need terms old size) old.layout.segments refused
-    ask-is refused = ap (λ n. ask n (map pair_of (cells_in segs)) refused) need-is ∙ ap (λ ps. ask (pool_need terms old size) ps refused) (sym (pairs-of segs element freed))
+    ask-is : (refused : Bool) → ask terms (round_up (32 + cell_for set) terms.round) (map pair_of (cells_in segs)) refused ≡ ask terms (pool_need terms old size) old.layout.segments refused
+    ask-is refused = ap (λ n. ask terms n (map pair_of (cells_in segs)) refused) need-is ∙ ap (λ ps. ask terms (pool_need terms old size) ps refused) (sym (pairs-of segs element freed))
 
     module _ (full : uncarved (cell_for (element_with old size)) old.carved old.layout.segments ≡ None) where
       -- into a segment that is asked for
-      pub put-granted : (a : ℕ) (segs' : List PoolSegment) (before after : Discipline) → IsPool element (cells_in segs) freed → IsGranted set tag size (round_up (32 + cell_for set) terms.round) (cells_in segs) (cells_in segs') before after a →
+      pub put-granted : (a : ℕ) (segs' : List PoolSegment) (before after : Discipline) → before.terms ≡ terms → IsPool element (cells_in segs) freed → IsGranted set tag size (round_up (32 + cell_for set) terms.round) (cells_in segs) (cells_in segs') before after a →
           IsPut (pool_alloc terms old tag size false) a (pool_by segs' set freed)
-      put-granted a segs' before after h g =
+      put-granted a segs' before after own h g =
           let bytes : ℕ = round_up (32 + cell_for set) terms.round in
           let r = g.carved element freed same h in
-          put-at (pool_alloc terms old tag size false) a (g.number, 32) (pool_by segs' set freed) _ (Some (g.number, bytes))
-          (alloc-granted terms old tag size false g.number bytes (omega (arith, is, fits)) empty full (sym (ask-is false) ∙ g.granted))
+          put-at (pool_alloc terms old tag size false) a (g.number, 32) (pool_by segs' set freed) _ (Some (new_segment g.number bytes))
+          (alloc-granted terms old tag size false g.number bytes (omega (arith, is, fits)) empty full (ap (carved_in g.number) (carved-of segs element freed) ∙ g.uncarved)
+          (sym (ask-is false) ∙ subst (λ (t : Terms). ask t bytes (map pair_of (cells_in segs)) false ≡ Granted (new_segment g.number bytes)) own g.granted))
           g.place
           (pool-is segs' set freed _
-          (r.layout ∙ ap (λ (l : Layout ℕ). with_zeros (with_segment l (g.number, bytes)) tag size (g.number, 32)) layout-old)
+          (r.layout ∙ ap (λ (l : Layout ℕ). with_zeros (with_grant l (new_segment g.number bytes)) tag size (g.number, 32)) layout-old)
           element-new
           (r.freed ∙ sym (freed-of segs element freed))
           (r.carved ∙ ap (carve g.number) (sym (carved-of segs element freed))))
 
-      pub asked-refusal : (why : RegionFault) → IsNoGrant (round_up (32 + cell_for set) terms.round) (map pair_of (cells_in segs)) why → IsRefusal (pool_alloc terms old tag size) why
-      asked-refusal code.TooManySegments h = alloc-too_many terms old tag size false (omega (arith, is, fits)) empty full (sym (ask-is false) ∙ h)
-      asked-refusal code.NoSegment h = alloc-not_lent terms old tag size true (omega (arith, is, fits)) empty full (sym (ask-is true) ∙ h)
-      asked-refusal code.OutOfMemory h = h
-      asked-refusal code.Fixed h = absurd h
-      asked-refusal code.PoolSize h = absurd h
-      asked-refusal code.NotLast h = absurd h
-      asked-refusal code.WrongMethod h = absurd h
+      refusal-of : (why : RegionFault) → IsNoGrant terms (round_up (32 + cell_for set) terms.round) (map pair_of (cells_in segs)) why → IsRefusal (pool_alloc terms old tag size) why
+      refusal-of code.TooManySegments h = alloc-too_many terms old tag size false (omega (arith, is, fits)) empty full (sym (ask-is false) ∙ h)
+      refusal-of code.NoSegment h = alloc-not_lent terms old tag size true (omega (arith, is, fits)) empty full (sym (ask-is true) ∙ h)
+      refusal-of code.OutOfMemory h = h
+      refusal-of code.Fixed h = absurd h
+      refusal-of code.PoolSize h = absurd h
+      refusal-of code.NotLast h = absurd h
+      refusal-of code.WrongMethod h = absurd h
+
+      pub asked-refusal : (why : RegionFault) (segs' : List PoolSegment) → segs' ≡ segs → IsNoGrant terms (round_up (32 + cell_for set) terms.round) (map pair_of (cells_in segs')) why → IsRefusal (pool_alloc terms old tag size) why
+      asked-refusal why segs' e h = refusal-of why (subst (λ (ss : List PoolSegment). IsNoGrant terms (round_up (32 + cell_for set) terms.round) (map pair_of (cells_in ss)) why) e h)
 
       pub asked-disc : (why : RegionFault) (before after : Discipline) (segs' : List PoolSegment) → segs' ≡ segs → IsAsked (Err why) before after (round_up (32 + cell_for set) terms.round) →
           Asks (Err why) before after old.layout.segments (pool_by segs' element freed).layout.segments (pool_need terms old size)

@@ -7,10 +7,10 @@ use Rattle.vc_base.specs.declared.addr.Addr.{Addr}
 use Rattle.vc_model.specs.Addr.{place_of}
 use Rattle.vc_model.specs.Best.{zeros}
 use Rattle.vc_model.specs.Discipline.{Terms}
-use Rattle.vc_model.specs.Layout.{Layout, with_block, with_segment, without_block}
+use Rattle.vc_model.specs.Layout.{Layout, with_block, with_grant, without_block}
 use Rattle.vc_model.specs.Outcome.{Refused, PoolSize}
-use Rattle.vc_model.specs.Pool.{IsPoolSound, Pool, cell_for, element_with, pool_alloc, pool_need, put_asked, put_carving, put_cell, put_free, uncarved}
-use Rattle.vc_model.specs.Segments.{Asked, Granted, TooMany, NotLent, ask}
+use Rattle.vc_model.specs.Pool.{IsPoolSound, Pool, carved_in, cell_for, cell_offset, element_with, pool_alloc, pool_need, put_asked, put_carving, put_cell, put_free, uncarved}
+use Rattle.vc_model.specs.Segments.{Asked, Grant, Granted, TooMany, NotLent, ask}
 use Rattle.vc_model.specs.Touch.{find_block}
 use Rattle.vc_model.proofs.Owned.{put-fresh, put-others, put-there, sized-others, sized-there}
 use Rattle.vc_model.specs.Resize.{resize_there}
@@ -23,19 +23,19 @@ abbrev HasMore : Pool ℕ → Pool ℕ → ℕ → ℕ → ℕ → Type 0
 HasMore old new tag size a = new.layout.blocks ≡ with_block (zeros tag size (place_of a)) old.layout.blocks
 
 module _ (p new : Pool ℕ) (tag size a : ℕ) where
-  put_cell-more : (granted : Option (ℕ × ℕ)) (at : ℕ × ℕ) (r : Layout ℕ) (freed carved : List (ℕ × ℕ)) → r.blocks ≡ p.layout.blocks → IsPut (put_cell p tag size granted at r freed carved) a new → HasMore p new tag size a
+  put_cell-more : (granted : Option Grant) (at : ℕ × ℕ) (r : Layout ℕ) (freed carved : List (ℕ × ℕ)) → r.blocks ≡ p.layout.blocks → IsPut (put_cell p tag size granted at r freed carved) a new → HasMore p new tag size a
   put_cell-more granted at r freed carved same placed =
       ap (λ (q : Pool ℕ). q.layout.blocks) placed.2
       ∙ (ap (λ q. with_block (zeros tag size q) r.blocks) placed.1 ∙ ap (with_block (zeros tag size (place_of a))) same)
 
   put_asked-more : (asked : Asked) → IsPut (put_asked p tag size asked) a new → HasMore p new tag size a
-  put_asked-more (Granted number bytes) placed = put_cell-more (Some (number, bytes)) (number, 32) (with_segment p.layout (number, bytes)) p.freed _ refl placed
+  put_asked-more (Granted g) placed = put_cell-more (Some g) (g.number, cell_offset (cell_for (element_with p size)) (carved_in g.number p.carved)) (with_grant p.layout g) p.freed _ refl placed
   put_asked-more TooMany placed = absurd placed
   put_asked-more NotLent placed = absurd placed
 
   put_carving-more : (terms : Terms) (refused : Bool) (at : Option (ℕ × ℕ)) → IsPut (put_carving terms p tag size refused at) a new → HasMore p new tag size a
   put_carving-more terms refused (Some at) placed = put_cell-more None at p.layout p.freed _ refl placed
-  put_carving-more terms refused None placed = put_asked-more (ask (pool_need terms p size) p.layout.segments refused) placed
+  put_carving-more terms refused None placed = put_asked-more (ask terms (pool_need terms p size) p.layout.segments refused) placed
 
   put_free-more : (terms : Terms) (refused : Bool) (freed : List (ℕ × ℕ)) → IsPut (put_free terms p tag size refused freed) a new → HasMore p new tag size a
   put_free-more terms refused (at ∷ freed) placed = put_cell-more None at p.layout freed p.carved refl placed

@@ -1,12 +1,12 @@
 -- What putting a block into a pool answers, by what the pool has.
-use Rattle.std.proofs.Common.{◌≡◌, ℕ, ◌<◌, ◌≤◌, List, [], ◌∷◌, Bool, None, Some, refl, ap, ◌∙◌, true, false, ltb}
+use Rattle.std.proofs.Common.{◌≡◌, ℕ, ◌<◌, ◌≤◌, List, [], ◌∷◌, Bool, None, Some, refl, ap, ◌∙◌, true, false, ltb, arith}
 use Rattle.std.proofs.lemmas.Bool.{le-ltb, lt-ltb}
 use Rattle.vc_model.specs.Discipline.{Terms}
-use Rattle.vc_model.specs.Layout.{Layout, with_segment}
+use Rattle.vc_model.specs.Layout.{Layout, with_grant}
 use Rattle.vc_model.specs.Outcome.{Done, Refused, PoolSize, TooManySegments, NoSegment}
-use Rattle.vc_model.specs.Pool.{Pool, carve, cell_for, element_with, pool_alloc, pool_need, pool_resize, put_asked, put_carving, put_free, uncarved}
+use Rattle.vc_model.specs.Pool.{Pool, carve, carved_in, cell_for, cell_offset, element_with, pool_alloc, pool_need, pool_resize, put_asked, put_carving, put_free, uncarved}
 use Rattle.vc_model.specs.Resize.{resize_there}
-use Rattle.vc_model.specs.Segments.{Granted, TooMany, NotLent, ask}
+use Rattle.vc_model.specs.Segments.{Granted, TooMany, NotLent, ask, new_segment}
 use Rattle.vc_layouts.specs.Put.{with_zeros}
 
 module _ (terms : Terms) (p : Pool ℕ) (tag size : ℕ) (refused : Bool) where
@@ -32,18 +32,22 @@ module _ (terms : Terms) (p : Pool ℕ) (tag size : ℕ) (refused : Bool) where
   alloc-carved at h empty found = fits-carving h empty ∙ ap (put_carving terms p tag size refused) found
 
   fits-asked : size ≤ element_with p size → p.freed ≡ [] → uncarved (cell_for (element_with p size)) p.carved p.layout.segments ≡ None →
-      pool_alloc terms p tag size refused ≡ put_asked p tag size (ask (pool_need terms p size) p.layout.segments refused)
+      pool_alloc terms p tag size refused ≡ put_asked p tag size (ask terms (pool_need terms p size) p.layout.segments refused)
   fits-asked h empty none = fits-carving h empty ∙ ap (put_carving terms p tag size refused) none
 
-  pub alloc-granted : (n bytes : ℕ) → size ≤ element_with p size → p.freed ≡ [] → uncarved (cell_for (element_with p size)) p.carved p.layout.segments ≡ None → ask (pool_need terms p size) p.layout.segments refused ≡ Granted n bytes →
-      pool_alloc terms p tag size refused ≡ Done (record { at = (n, 32); region = after (with_zeros (with_segment p.layout (n, bytes)) tag size (n, 32)) p.freed (carve n p.carved); granted = Some (n, bytes) })
-  alloc-granted n bytes h empty none granted = fits-asked h empty none ∙ ap (put_asked p tag size) granted
+  pub alloc-granted : (n bytes : ℕ) → size ≤ element_with p size → p.freed ≡ [] → uncarved (cell_for (element_with p size)) p.carved p.layout.segments ≡ None → carved_in n p.carved ≡ 0 → ask terms (pool_need terms p size) p.layout.segments refused ≡ Granted (new_segment n bytes) →
+      pool_alloc terms p tag size refused ≡ Done (record { at = (n, 32); region = after (with_zeros (with_grant p.layout (new_segment n bytes)) tag size (n, 32)) p.freed (carve n p.carved); granted = Some (new_segment n bytes) })
+  alloc-granted n bytes h empty none new granted =
+      let first : cell_offset (cell_for (element_with p size)) (carved_in n p.carved) ≡ 32 = ap (cell_offset (cell_for (element_with p size))) new ∙ (omega arith) in
+      fits-asked h empty none
+      ∙ (ap (put_asked p tag size) granted
+      ∙ ap (λ off. Done (record { at = (n, off); region = after (with_zeros (with_grant p.layout (new_segment n bytes)) tag size (n, off)) p.freed (carve n p.carved); granted = Some (new_segment n bytes) })) first)
 
-  pub alloc-too_many : size ≤ element_with p size → p.freed ≡ [] → uncarved (cell_for (element_with p size)) p.carved p.layout.segments ≡ None → ask (pool_need terms p size) p.layout.segments refused ≡ TooMany →
+  pub alloc-too_many : size ≤ element_with p size → p.freed ≡ [] → uncarved (cell_for (element_with p size)) p.carved p.layout.segments ≡ None → ask terms (pool_need terms p size) p.layout.segments refused ≡ TooMany →
       pool_alloc terms p tag size refused ≡ Refused TooManySegments
   alloc-too_many h empty none many = fits-asked h empty none ∙ ap (put_asked p tag size) many
 
-  pub alloc-not_lent : size ≤ element_with p size → p.freed ≡ [] → uncarved (cell_for (element_with p size)) p.carved p.layout.segments ≡ None → ask (pool_need terms p size) p.layout.segments refused ≡ NotLent →
+  pub alloc-not_lent : size ≤ element_with p size → p.freed ≡ [] → uncarved (cell_for (element_with p size)) p.carved p.layout.segments ≡ None → ask terms (pool_need terms p size) p.layout.segments refused ≡ NotLent →
       pool_alloc terms p tag size refused ≡ Refused NoSegment
   alloc-not_lent h empty none not = fits-asked h empty none ∙ ap (put_asked p tag size) not
 

@@ -7,7 +7,6 @@ use Rattle.vc_model.specs.Addr.{address, place_of}
 use Rattle.vc_model.specs.Layout.{Block, address_of}
 use Rattle.vc_model.specs.Pool.{IsInside, IsPoolSound, cell_for, cell_offset, cell_run}
 use Rattle.vc_model.specs.Sound.{HaveOwnNumbers, HaveOwnPlaces}
-use Rattle.vc_model.specs.Touch.{HasBlock}
 use Rattle.vc_layouts.specs.InOrder.{in_order}
 use Rattle.vc_layouts.proofs.InOrder.{All-in_order}
 use Rattle.vc_pool_cells.specs.Blocks.{segment_blocks, layout_by, pair_of}

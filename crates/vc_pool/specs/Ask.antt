@@ -1,7 +1,13 @@
--- When a block asks for a segment in a pool.
-use Rattle.std.specs.Prelude.{◌≡◌, ℕ, ◌<◌, ◌≤◌, [], None, length}
-use Rattle.vc_model.specs.Pool.{Pool, cell_for, element_with, uncarved}
-use Rattle.vc_model.specs.Segments.{segment_limit}
+-- When a block asks for a segment in a pool, and what it is granted.
+use Rattle.std.specs.Prelude.{◌≡◌, ℕ, ◌<◌, ◌≤◌, List, [], None, false, length, map}
+use Rattle.vc_model.specs.Addr.{place_of}
+use Rattle.vc_model.specs.Discipline.{Discipline, Lent}
+use Rattle.vc_model.specs.Pool.{Pool, carved_in, cell_for, element_with, uncarved}
+use Rattle.vc_model.specs.Segments.{Granted, ask, new_segment, segment_limit}
+use Rattle.vc_pool_cells.specs.Blocks.{carved_by, pair_of}
+use Rattle.vc_pool_cells.specs.Carve.{IsCarvedNew, IsSetFrom}
+use Rattle.vc_pool_cells.specs.Cells.{Cells}
+use Rattle.vc_pool_cells.specs.Kept.{IsPool}
 
 -- the block fits the element size, no cell is free for it, neither a freed one nor an uncarved one, and one more segment may be lent
 pub record LacksCell {L : Type 0} (pool : Pool L) (size : ℕ) : Type 0 where
@@ -9,3 +15,12 @@ pub record LacksCell {L : Type 0} (pool : Pool L) (size : ℕ) : Type 0 where
   pub freed : pool.freed ≡ []
   pub uncarved : uncarved (cell_for (element_with pool size)) pool.carved pool.layout.segments ≡ None
   pub few : length pool.layout.segments < segment_limit
+
+-- a segment of that many bytes was lent under a number that none has, and a block of zeros is in its first cell, at an address
+pub record IsGranted (element tag size bytes : ℕ) (old new : List Cells) (before after : Discipline) (a : ℕ) : Type 0 where
+  pub number : ℕ
+  pub place : place_of a ≡ (number, 32)
+  pub granted : ask before.terms bytes (map pair_of old) false ≡ Granted (new_segment number bytes)
+  pub uncarved : carved_in number (carved_by old) ≡ 0
+  pub lent : Lent before after number bytes
+  pub carved : (unset last : ℕ) → IsSetFrom element unset → IsPool unset old last → IsCarvedNew element tag size old new (new_segment number bytes) last

@@ -20,10 +20,8 @@ pub use Rattle.vc_pool_cells.specs.Place
 pub mod First
 pub mod Sizes
 pub mod Marks
-pub mod Back
 pub mod Relink
 pub mod Stat
 pub mod Read
 pub mod Parts
-pub mod Call
 pub mod Ask

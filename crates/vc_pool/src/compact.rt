@@ -1,23 +1,20 @@
-mod back;
 mod mark;
 mod relink;
 
-ghost use Rattle.std.specs.Prelude.{◌≡◌, ℕ, ◌<◌, [], All, false, filter, length, map};
+ghost use Rattle.std.specs.Prelude.{◌≡◌, ℕ, ◌<◌, All, false, filter, length};
 ghost use Rattle.vc_model.specs.Compact.{compact_count, compacted_layout, is_occupied};
 ghost use Rattle.vc_model.specs.Discipline.{HasOut, TookBack};
 ghost use Rattle.vc_model.specs.Pool.{cell_for};
-ghost use Rattle.vc_pool_cells.specs.Blocks.{carved_by, layout_by, pair_of};
+ghost use Rattle.vc_pool_cells.specs.Blocks.{carved_by, layout_by};
 ghost use Rattle.vc_pool_cells.specs.Freed.{freed_cells};
-ghost use Rattle.vc_pool_cells.specs.Kept.{IsPool, segment_of};
+ghost use Rattle.vc_pool_cells.specs.Kept.{IsPool};
 ghost use Rattle.vc_pool_cells.specs.Place.{cells_in};
-ghost use Rattle.vc_seg.specs.Segment.{AreSegments};
 
-use back::give_back;
 use mark::mark;
 use relink::relink;
 use vc_base::Addr;
 use vc_pool_cells::PoolSegment;
-use vc_seg::SegDisc;
+use vc_seg::{SegDisc, give_back};
 
 /// Gives back each segment without a block, in ascending order of number, and counts them. Their freed cells leave the
 /// chain, and the order of the others stays.
@@ -53,18 +50,4 @@ pub(crate) fn compact_in(
     let before = segs.len();
     give_back(segs, &marks, disc);
     (before - segs.len()) as u32
-}
-
-/// Gives all segments back, in ascending order of number, and counts them.
-pub(crate) fn close_in(segs: &mut Vec<PoolSegment>, disc: &mut Box<dyn SegDisc>) -> u32
-    requires segments { AreSegments (map segment_of (cells_in segs.old.items)) }
-    requires out { HasOut (state disc.old) (map pair_of (cells_in segs.old.items)) }
-    ensures none { segs.new.items ≡ [] }
-    ensures count { result ≡ length (map pair_of (cells_in segs.old.items)) }
-    ensures disc { TookBack (state disc.old) (state disc.new)
-        (map pair_of (cells_in segs.old.items)) [] }
-{
-    let before = segs.len();
-    give_back(segs, &[false; 1024], disc);
-    before as u32
 }

@@ -4,7 +4,8 @@ ghost use Rattle.vc_pool.specs.Stat.{pool_stat};
 ghost use Rattle.vc_pool_cells.specs.Kept.{AreCellular};
 ghost use Rattle.vc_pool_cells.specs.Place.{cells_in};
 
-use crate::walks::{count_cells, tally_blocks, tally_segments};
+use crate::walks::{count_cells, tally_blocks};
+use vc_layouts::tally_segments;
 use vc_pool_cells::PoolSegment;
 use vc_seg::{Stat, rounded_up};
 

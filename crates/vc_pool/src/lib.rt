@@ -4,7 +4,6 @@
 mod block;
 mod compact;
 mod count;
-mod number;
 mod pool;
 mod put;
 mod segments;

@@ -14,14 +14,14 @@ ghost use Rattle.vc_pool_cells.specs.Place.{cells_in};
 ghost use Rattle.vc_seg.specs.Answer.{Answers, Asks, IsRefusal};
 ghost use Rattle.vc_seg.specs.OneBlock.{IsBlockAt, IsBlockFreed, IsBlockKept, IsBlockPut, IsNextBlock, IsSize};
 
-use crate::compact::{close_in, compact_in};
+use crate::compact::compact_in;
 use crate::count::stat_of;
 use crate::put::alloc_in;
-use crate::walks::{block_in, next_in, next_segment_in, segment_in};
+use crate::walks::{block_in, next_in};
 use std::alloc::Global;
 use vc_base::{Addr, OutOfMemory};
 use vc_pool_cells::{PoolSegment, clear_all, put_back, resize_at};
-use vc_seg::{RegionFault, SegDisc, Stat};
+use vc_seg::{RegionFault, SegDisc, Stat, give_back_all, next_segment, segment_at};
 
 /// A region of cells of one size over the segments of a discipline, after Vmalloc's `Vmpool`. The first block that is
 /// granted sets the element size, which stays until `close`. Sizes and offsets are in bytes.
@@ -69,6 +69,7 @@ impl Pool {
     /// segment that has one. Where there is none, a segment is asked for: `OutOfMemory` comes only then, and never with 1,023
     /// segments. `PoolSize` comes only where the size is above the element size.
     pub fn alloc(&mut self, size: u32, tag: u32) -> Result<Addr, RegionFault>
+        requires lent { HasOut (state self.old.disc) (segments_in self.old) }
         requires size { IsSize size }
         ensures answer { Answers
             (pool_alloc (state self.old.disc).terms (pool_of self.old) tag size)
@@ -172,7 +173,7 @@ impl Pool {
             mut disc,
             alloc: _,
         } = self;
-        let count = close_in(&mut segs, &mut disc);
+        let count = give_back_all(&mut segs, &mut disc);
         (disc, count)
     }
 
@@ -188,14 +189,14 @@ impl Pool {
     pub fn segment_at(&self, seg: u32, off: u32) -> Option<u32>
         ensures { result ≡ segment_at (seg, off) (segments_in self.now) }
     {
-        segment_in(&self.segs, seg, off)
+        segment_at(&self.segs, seg, off)
     }
 
     /// The segment with the least number above one, as number and size. A walk begins with 0, and ends with None.
     pub fn next_segment(&self, after: u32) -> Option<(u32, u32)>
         ensures { result ≡ next_segment after (segments_in self.now) }
     {
-        next_segment_in(&self.segs, after)
+        next_segment(&self.segs, after)
     }
 
     /// The block behind one in order of addresses. A walk begins with `Addr::NONE`, and ends with None.

@@ -1,8 +1,8 @@
 ghost use Rattle.std.specs.Prelude.{◌≡◌, ◌+◌, ◌-◌, ◌/◌, ◌<◌, ◌≤◌, Err, None, IfErr, IfOk, IsErrOf, OnErr, OnOk, length, map, replicate, vec_capacity, vec_len};
+ghost use Rattle.vc_model.specs.Discipline.{HasOut};
 ghost use Rattle.vc_model.specs.Pool.{cell_for, pool_alloc, pool_need, uncarved};
 ghost use Rattle.vc_model.specs.Segments.{round_up, segment_limit};
-ghost use Rattle.vc_pool.specs.Ask.{LacksCell};
-ghost use Rattle.vc_pool.specs.Call.{IsGranted};
+ghost use Rattle.vc_pool.specs.Ask.{IsGranted, LacksCell};
 ghost use Rattle.vc_pool.specs.Read.{pool_by};
 ghost use Rattle.vc_pool_cells.specs.Blocks.{carved_by, pair_of};
 ghost use Rattle.vc_pool_cells.specs.Kept.{AreCellular, FitsElement, IsPool};
@@ -11,11 +11,10 @@ ghost use Rattle.vc_seg.specs.Answer.{Answers, Asks};
 ghost use Rattle.vc_seg.specs.Lend.{IsAsked, IsNoGrant};
 ghost use Rattle.vc_seg.specs.OneBlock.{IsSize};
 
-use crate::number::lowest_unused;
 use std::alloc::Global;
 use vc_base::Addr;
 use vc_pool_cells::{PoolSegment, carve_lowest, carve_new, reuse};
-use vc_seg::{RegionFault, SegDisc, lend_segment, round_of, rounded_up};
+use vc_seg::{RegionFault, SegDisc, lend_segment, lowest_unused, round_of, rounded_up};
 
 /// The element size when a block of this size is put: the first block sets it. 0 stands for none.
 fn element_with(element: u32, size: u32) -> u32
@@ -56,13 +55,14 @@ fn put_in_new(
     tag: u32,
 ) -> Result<Addr, RegionFault>
     requires kept { AreCellular element (cells_in segs.old.items) }
+    requires lent { HasOut (state disc.old) (map pair_of (cells_in segs.old.items)) }
     requires full { uncarved (cell_for element) (carved_by (cells_in segs.old.items))
         (map pair_of (cells_in segs.old.items)) ≡ None }
     requires size { FitsElement size element }
     ensures granted { IfOk result (λ a. IsGranted element tag size
         (round_up (32 + cell_for element) (state disc.old).terms.round)
         (cells_in segs.old.items) (cells_in segs.new.items) (state disc.old) (state disc.new) a.0) }
-    ensures fault { IfErr result (IsNoGrant
+    ensures fault { IfErr result (IsNoGrant (state disc.old).terms
         (round_up (32 + cell_for element) (state disc.old).terms.round)
         (map pair_of (cells_in segs.old.items))) }
     ensures few { IsErrOf result RegionFault.OutOfMemory → length segs.old.items < segment_limit }
@@ -93,6 +93,8 @@ pub(crate) fn alloc_in(
     tag: u32,
 ) -> Result<Addr, RegionFault>
     requires kept { IsPool element.old (cells_in segs.old.items) freed.old.0 }
+    requires lent { HasOut (state disc.old)
+        (pool_by segs.old.items element.old freed.old.0).layout.segments }
     requires size { IsSize size }
     ensures kept { IsPool element.new (cells_in segs.new.items) freed.new.0 }
     ensures answer { Answers (pool_alloc (state disc.old).terms

@@ -1,10 +1,8 @@
 mod block;
 mod first;
 mod next;
-mod segment;
 mod tally;
 
 pub(crate) use block::block_in;
 pub(crate) use next::next_in;
-pub(crate) use segment::{next_segment_in, segment_in};
-pub(crate) use tally::{count_cells, tally_behind, tally_blocks, tally_segments};
+pub(crate) use tally::{count_cells, tally_behind, tally_blocks};

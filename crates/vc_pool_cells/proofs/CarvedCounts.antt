@@ -11,7 +11,7 @@ use Rattle.vc_pool_cells.specs.Place.{IsOther}
 use Rattle.vc_pool_cells.specs.Open.{IsOpen}
 
 -- of a number that no segment has, none is counted
-none-carved : (n : ℕ) (segs : List Cells) → All (IsOther n) segs → carved_in n (carved_by segs) ≡ 0
+pub none-carved : (n : ℕ) (segs : List Cells) → All (IsOther n) segs → carved_in n (carved_by segs) ≡ 0
 none-carved n [] h = refl
 none-carved n (s ∷ ss) h =
     let rest = none-carved n ss (All-tail (IsOther n) s ss h) in

@@ -6,8 +6,9 @@ use Rattle.std.proofs.lemmas.List.{append-nil, get_or-map, get_or_push, length-a
 use Rattle.std.proofs.lemmas.List.Concat.{flat_map-append}
 use Rattle.std.proofs.lemmas.List.Elements.{All-head, All-nil, All-push, All-replicate, All-tail, filter-append}
 use Rattle.std.proofs.lemmas.List.Quantifiers.{all_pairs_push}
-use Rattle.vc_model.specs.Layout.{Block, with_segment}
+use Rattle.vc_model.specs.Layout.{Block, with_grant}
 use Rattle.vc_model.specs.Pool.{cell_for}
+use Rattle.vc_model.specs.Segments.{new_segment}
 use Rattle.vc_seg.specs.Segment.{AreSegments, Bytes, IsRegionSegment}
 use Rattle.vc_layouts.specs.InOrder.{in_order}
 use Rattle.vc_pool_cells.specs.Blocks.{cell_blocks, segment_blocks, carved_by, layout_by, pair_of}
@@ -147,7 +148,7 @@ module _ (element : ℕ) (segs : List Cells) (u : Cells) (k : AreCellular elemen
   pub freed-grown : (last : ℕ) → IsPool element segs last → freed_cells grown last ≡ freed_cells segs last
   freed-grown last h = pool-freed element grown last (freed_cells segs last) (kept-grown last (freed_cells segs last) h)
 
-  pub layout-grown : layout_by (cell_for element) grown ≡ with_segment (layout_by (cell_for element) segs) (u.number, length u.bytes)
+  pub layout-grown : layout_by (cell_for element) grown ≡ with_grant (layout_by (cell_for element) segs) (new_segment u.number (length u.bytes))
   unfolding layout_by
   layout-grown =
       let cell : ℕ = cell_for element in

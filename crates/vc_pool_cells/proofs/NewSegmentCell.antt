@@ -5,6 +5,7 @@ use Rattle.std.proofs.lemmas.List.{get_or_push, length-map, map-append}
 use Rattle.vc_model.specs.Addr.{place_of}
 use Rattle.vc_model.specs.Layout.{Layout}
 use Rattle.vc_model.specs.Pool.{carve, cell_for, cell_offset, uncarved}
+use Rattle.vc_model.specs.Segments.{new_segment}
 use Rattle.vc_layouts.specs.Put.{with_zeros}
 use Rattle.vc_pool_cells.specs.Blocks.{carved_by, layout_by, pair_of}
 use Rattle.vc_pool_cells.specs.Cells.{Cells, cells_of}
@@ -44,7 +45,7 @@ module _ (element : ℕ) (olds news : List PoolSegment) (x : PoolSegment) (is : 
 
   pub carved-pushed : (tag size before last a : ℕ) (after : List Cells) → IsSetFrom element before → IsPool before (cells_in olds) last → (let at : ℕ × ℕ = (x.seg.number, 32) in place_of a ≡ at) →
       (IsPool element (cells_in news) last → IsCarvedAt element tag size (cells_in news) after last a) →
-      IsCarvedNew element tag size (cells_in olds) after (x.seg.number, length x.seg.bytes) last
+      IsCarvedNew element tag size (cells_in olds) after (new_segment x.seg.number (length x.seg.bytes)) last
   carved-pushed tag size before last a after first h place carved =
       let cell : ℕ = cell_for element in
       let grown : List Cells = cells_in olds ++ cells_of x ∷ [] in

@@ -1,14 +1,19 @@
 -- The segments of a pool as they stand in its list.
-use Rattle.std.proofs.Common.{◌≡◌, ◌≢◌, ℕ, ◌<◌, ◌≤◌, List, [], ◌∷◌, All, length, get_or, set, refl, ap, ◌∙◌, subst, arith}
+use Rattle.std.proofs.Common.{◌≡◌, ◌≢◌, ℕ, ◌<◌, List, [], ◌∷◌, All, length, get_or, map, set, refl, ap, ◌∙◌, subst, arith}
 use Rattle.std.specs.List.{HoldsAt}
 use Rattle.std.proofs.lemmas.Bool.{ne_eqb}
 use Rattle.std.proofs.lemmas.List.Elements.{All-head, All-tail}
 use Rattle.std.proofs.lemmas.List.{get_or-map, length-map, map-set}
 use Rattle.vc_model.specs.Pool.{cell_for}
+use Rattle.vc_seg.specs.Numbered.{AreNumbered}
+use Rattle.vc_seg.specs.Segment.{AreSegments}
+use Rattle.vc_seg.specs.Segment as bytes
+use Rattle.vc_seg.proofs.Backs.{AreNumbered-segments}
+use Rattle.vc_pool_cells.specs.Blocks.{pair_of}
 use Rattle.vc_pool_cells.specs.Cells.{Cells, HasCell, cells_of}
 use Rattle.vc_pool_cells.specs.Freed.{cells_at, no_segment}
-use Rattle.vc_pool_cells.specs.Kept.{AreCellular}
-use Rattle.vc_pool_cells.specs.Place.{IsAlone, cells_in}
+use Rattle.vc_pool_cells.specs.Kept.{AreCellular, segment_of}
+use Rattle.vc_pool_cells.specs.Place.{IsAlone, cells_in, pair_in}
 use Rattle.vc_pool_cells.specs.declared.segment.PoolSegment.{PoolSegment}
 use Rattle.vc_pool_cells.proofs.OneSegment.{alone, cells-first}
 use Rattle.vc_pool_cells.proofs.BlockPlaces.{cell-some, cell-there}
@@ -19,6 +24,18 @@ cells-get segs i d e lt = get_or-map cells_of segs i d e lt
 
 pub cells-put : (segs : List PoolSegment) (i : ℕ) (x : PoolSegment) → cells_in (set segs i x) ≡ set (cells_in segs) i (cells_of x)
 cells-put segs i x = map-set cells_of segs i x
+
+-- the segments as number and size
+pub pairs-in : (segs : List PoolSegment) → map pair_in segs ≡ map pair_of (cells_in segs)
+pairs-in [] = refl
+pairs-in (s ∷ ss) = ap (λ ps. pair_in s ∷ ps) (pairs-in ss)
+
+pairs-memory : (segs : List PoolSegment) → map bytes.pair_of (map segment_of (cells_in segs)) ≡ map pair_in segs
+pairs-memory [] = refl
+pairs-memory (s ∷ ss) = ap (λ ps. pair_in s ∷ ps) (pairs-memory ss)
+
+pub numbered-in : (segs : List PoolSegment) → AreSegments (map segment_of (cells_in segs)) → AreNumbered (map pair_in segs)
+numbered-in segs h = subst AreNumbered (pairs-memory segs) (AreNumbered-segments (map segment_of (cells_in segs)) h)
 
 -- no segment has a number
 pub cells-none : (n : ℕ) (segs : List PoolSegment) → All (λ (s : PoolSegment). s.seg.number ≢ n) segs → cells_at n (cells_in segs) ≡ no_segment

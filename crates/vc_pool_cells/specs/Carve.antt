@@ -2,7 +2,8 @@
 use Rattle.std.specs.Prelude.{◌≡◌, ℕ, ◌≤◌, List, []}
 use Rattle.vc_model.specs.Addr.{place_of}
 use Rattle.vc_model.specs.Compact.{cleared_layout}
-use Rattle.vc_model.specs.Layout.{with_segment}
+use Rattle.vc_model.specs.Layout.{with_grant}
+use Rattle.vc_model.specs.Segments.{Grant}
 use Rattle.vc_model.specs.Pool.{carve, cell_for}
 use Rattle.vc_layouts.specs.Put.{with_zeros}
 use Rattle.vc_pool_cells.specs.Blocks.{carved_by, layout_by}
@@ -21,12 +22,12 @@ pub record IsCarvedAt (element tag size : ℕ) (old new : List Cells) (last a : 
 abbrev pub IsSetFrom : ℕ → ℕ → Type 0
 IsSetFrom element before = 1 ≤ before → before ≡ element
 
--- one more segment, as number and size, stands behind the others, and a block of zeros is in its first cell
-pub record IsCarvedNew (element tag size : ℕ) (old new : List Cells) (segment : ℕ × ℕ) (last : ℕ) : Type 0 where
+-- the segment that was granted stands behind the others, and a block of zeros is in its first cell
+pub record IsCarvedNew (element tag size : ℕ) (old new : List Cells) (grant : Grant) (last : ℕ) : Type 0 where
   pub kept : IsPool element new last
-  pub layout : layout_by (cell_for element) new ≡ with_zeros (with_segment (layout_by (cell_for element) old) segment) tag size (segment.0, 32)
+  pub layout : layout_by (cell_for element) new ≡ with_zeros (with_grant (layout_by (cell_for element) old) grant) tag size (grant.number, 32)
   pub freed : freed_cells new last ≡ freed_cells old last
-  pub carved : carved_by new ≡ carve segment.0 (carved_by old)
+  pub carved : carved_by new ≡ carve grant.number (carved_by old)
 
 -- no block is left, and no cell is carved
 pub record IsUncarved (element : ℕ) (old new : List Cells) : Type 0 where

@@ -1,6 +1,7 @@
 -- Where a pool's segments and its blocks are.
 use Rattle.std.specs.Prelude.{◌≡◌, ◌≢◌, ℕ, ◌+◌, ◌<◌, ◌≤◌, List, All, get_or, length, map, take, drop}
 use Rattle.vc_model.specs.Pool.{cell_offset}
+use Rattle.vc_pool_cells.specs.Blocks.{pair_of}
 use Rattle.vc_pool_cells.specs.Cells.{Cells, cells_of, pair_at}
 use Rattle.vc_pool_cells.specs.Freed.{cells_at}
 use Rattle.vc_pool_cells.specs.declared.segment.PoolSegment.{PoolSegment}
@@ -8,6 +9,10 @@ use Rattle.vc_pool_cells.specs.declared.segment.PoolSegment.{PoolSegment}
 -- the segments of a pool with their cells, in order of lending
 abbrev pub cells_in : List PoolSegment → List Cells
 cells_in segs = map cells_of segs
+
+-- the number of one and its size in bytes
+abbrev pub pair_in : PoolSegment → ℕ × ℕ
+pair_in s = pair_of (cells_of s)
 
 -- a segment has another number
 abbrev pub IsOther : ℕ → Cells → Type 0

@@ -1,6 +1,7 @@
 ghost use Rattle.std.specs.Prelude.{◌≡◌, ℕ, ◌+◌, ◌-◌, ◌/◌, ◌<◌, ◌≤◌, All, None, length, map, replicate, vec_capacity, vec_len};
 ghost use Rattle.vc_model.specs.Addr.{place_of};
 ghost use Rattle.vc_model.specs.Pool.{cell_for, uncarved};
+ghost use Rattle.vc_model.specs.Segments.{new_segment};
 ghost use Rattle.vc_seg.specs.Segment.{IsRegionSegment};
 ghost use Rattle.vc_pool_cells.specs.Blocks.{carved_by, pair_of};
 ghost use Rattle.vc_pool_cells.specs.Kept.{AreCellular, FitsElement, IsPool};
@@ -37,7 +38,7 @@ pub fn carve_new(
     ensures carved { (before last : ℕ) → IsSetFrom element before
         → IsPool before (cells_in segs.old.items) last
         → IsCarvedNew element tag size (cells_in segs.old.items) (cells_in segs.new.items)
-        (segment.number, length segment.bytes) last }
+        (new_segment segment.number (length segment.bytes)) last }
     ensures room { vec_capacity segs.new ≡ vec_capacity segs.old }
 {
     let place = segs.len();

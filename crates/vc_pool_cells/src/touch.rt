@@ -10,7 +10,7 @@ ghost use Rattle.vc_pool_cells.specs.Kept.{AreCellular, FitsElement, IsPool};
 ghost use Rattle.vc_pool_cells.specs.Place.{cells_in};
 
 use crate::PoolSegment;
-use crate::place::find_cell;
+use crate::cell::find_cell;
 use vc_base::Addr;
 use vc_seg::rounded_up;
 

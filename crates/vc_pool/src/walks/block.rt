@@ -5,8 +5,8 @@ ghost use Rattle.vc_pool_cells.specs.Kept.{AreCellular};
 ghost use Rattle.vc_pool_cells.specs.Place.{cells_in};
 
 use vc_base::Addr;
-use vc_pool_cells::{PoolSegment, find_number, offset_of};
-use vc_seg::rounded_up;
+use vc_pool_cells::{PoolSegment, offset_of};
+use vc_seg::{find_number, rounded_up};
 
 /// The block whose bytes hold the byte at an offset of a segment, and the offset in it. None where no block does.
 pub(crate) fn block_in(

@@ -9,10 +9,9 @@ ghost use Rattle.vc_pool_cells.specs.Place.{cells_in};
 ghost use Rattle.vc_pool.specs.First.{AreEmpty, IsBare, IsFirstAbove, IsFirstIn};
 
 use crate::walks::first::first_block;
-use crate::walks::segment::next_segment_in;
 use vc_base::Addr;
-use vc_pool_cells::{PoolSegment, find_number, offset_of};
-use vc_seg::rounded_up;
+use vc_pool_cells::{PoolSegment, offset_of};
+use vc_seg::{find_number, next_segment, rounded_up};
 
 /// The index of the first cell that begins behind an offset in its segment.
 fn index_behind(cell: u32, off: u32) -> u32
@@ -50,7 +49,7 @@ fn first_above(segs: &[PoolSegment], element: u32, number: u32) -> Option<Addr>
     ensures none { IfNone result ((m : ℕ) → number < m → IsBare m (cells_in segs.now)) }
 {
     let mut after = number;
-    while let Some((next, _)) = next_segment_in(segs, after) {
+    while let Some((next, _)) = next_segment(segs, after) {
         if let Some(a) = first_in(segs, element, next, 0) {
             return Some(a);
         }

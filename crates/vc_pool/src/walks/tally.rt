@@ -1,4 +1,4 @@
-ghost use Rattle.std.specs.Prelude.{◌≡◌, ℕ, ◌≤◌, All, [], drop, length, map, sum};
+ghost use Rattle.std.specs.Prelude.{◌≡◌, ℕ, ◌≤◌, All, drop, length, map};
 ghost use Rattle.vc_layouts.specs.Tally.{HasRoom, tallied_all, tally_of};
 ghost use Rattle.vc_model.specs.Numbers.{block_bytes, block_count, greatest_block};
 ghost use Rattle.vc_model.specs.Pool.{cell_count, cell_for};
@@ -8,7 +8,7 @@ ghost use Rattle.vc_pool_cells.specs.Place.{cells_in};
 ghost use Rattle.vc_seg.specs.Segment.{AreSegments};
 ghost use Rattle.vc_pool.specs.Sizes.{HaveCells, element_of, sizes_in};
 
-use vc_layouts::Tally;
+use vc_layouts::{Tally, tally_segments};
 use vc_pool_cells::PoolSegment;
 
 /// A tally with the sizes of the blocks in these cells.
@@ -50,35 +50,13 @@ pub(crate) fn tally_blocks(segs: &[PoolSegment], element: u32) -> Tally
     tally
 }
 
-/// The sizes of these segments.
-fn tally(segs: &[PoolSegment]) -> Tally
-    requires { HasRoom (tally_of []) (map (λ s. s.1) (map pair_of (cells_in segs.now))) }
-    ensures { result ≡ tally_of (map (λ s. s.1) (map pair_of (cells_in segs.now))) }
-{
-    let mut tally = Tally::new();
-    for segment in segs {
-        tally = tally.with(segment.seg.size());
-    }
-    tally
-}
-
-/// How many segments there are, at most 1,023, and the sum of their sizes, in bytes.
-pub(crate) fn tally_segments(segs: &[PoolSegment]) -> Tally
-    requires { AreSegments (map segment_of (cells_in segs.now)) }
-    ensures count { result.count ≡ length (map pair_of (cells_in segs.now)) }
-    ensures bytes { result.bytes ≡ sum (map (λ s. s.1) (map pair_of (cells_in segs.now))) }
-    ensures few { result.count ≤ 1023 }
-{
-    tally(segs)
-}
-
 /// The segments behind the first ones, in order of lending: none where there are no more than these.
 pub(crate) fn tally_behind(segs: &[PoolSegment], first: usize) -> Tally
     requires { AreSegments (map segment_of (cells_in segs.now)) }
     ensures value { result ≡ tally_of (map (λ s. s.1) (drop first (map pair_of (cells_in segs.now)))) }
     ensures few { result.count ≤ 1023 }
 {
-    tally(&segs[first.min(segs.len())..])
+    tally_segments(&segs[first.min(segs.len())..])
 }
 
 /// How many cells there are.

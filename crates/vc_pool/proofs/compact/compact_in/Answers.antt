@@ -1,18 +1,19 @@
-use Rattle.std.proofs.Common.{◌≡◌, ℕ, List, ◌++◌, false, All, ◌≤◌, filter, length, map, get_or, take, drop, ap, sym, subst, ◌∙◌, arith}
+use Rattle.std.proofs.Common.{◌≡◌, ℕ, List, ◌++◌, false, filter, length, map, get_or, take, drop, ap, sym, subst, ◌∙◌, arith}
 use Rattle.std.proofs.lemmas.List.{length-map, with_items_is}
 use Rattle.std.proofs.lemmas.List.Sums.{length-filter, count_by-le-length}
 use Rattle.vc_model.specs.Compact.{compacted_layout}
 use Rattle.vc_model.specs.Layout.{Layout}
 use Rattle.vc_model.specs.Pool.{cell_for}
+use Rattle.vc_seg.specs.Numbered.{AreNumbered}
 use Rattle.vc_pool_cells.specs.Blocks.{layout_by, pair_of}
 use Rattle.vc_pool_cells.specs.Cells.{cells_of}
 use Rattle.vc_pool_cells.specs.Freed.{freed_cells}
-use Rattle.vc_pool_cells.specs.Place.{cells_in}
+use Rattle.vc_pool_cells.specs.Place.{cells_in, pair_in}
 use Rattle.vc_pool_cells.specs.declared.segment.PoolSegment.{PoolSegment}
-use Rattle.vc_pool.specs.Back.{AreApart}
+use Rattle.vc_pool_cells.proofs.SegmentList.{numbered-in, pairs-in}
 use Rattle.vc_pool.specs.Marks.{has_block_at}
 use Rattle.vc_pool.specs.Relink.{KeepsAll}
-use Rattle.vc_pool.proofs.Backs.{numbers-below, numbers-first, numbers-last, numbers-own}
+use Rattle.vc_pool.proofs.BusySegments.{numbers-below}
 use Rattle.vc_pool.proofs.BusyPart.{compacted-carved, compacted-freed, compacted-kept, compacted-layout, segments-of, took-by}
 use Rattle.vc_pool.proofs.compact.compact_in.Goals as goal
 use Rattle.vc_pool.proofs.compact.compact_in.Goals.{After-give_back, After-relink}
@@ -39,23 +40,19 @@ is g c =
 pub mark-requires-clause-numbers : goal.mark-requires-clause-numbers
 mark-requires-clause-numbers g c = rw c.deref.ensures.value (numbers-below c.args.segs.now.items c.requires.kept.cells.segments)
 
-pub give_back-requires-clause-first : goal.give_back-requires-clause-first
-give_back-requires-clause-first g c =
-    subst (λ (ss : List PoolSegment). All (λ s. 1 ≤ s.seg.number) ss) (sym (items g (goal.at.give_back-requires-clause-first g c).After-relink)) (numbers-first c.relink.new.segs c.relink.ensures.kept.cells.segments)
+pub give_back-requires-clause-segments : goal.give_back-requires-clause-segments
+give_back-requires-clause-segments g c =
+    subst (λ (ss : List PoolSegment). AreNumbered (map pair_in ss)) (sym (items g (goal.at.give_back-requires-clause-segments g c).After-relink)) (numbered-in c.relink.new.segs c.relink.ensures.kept.cells.segments)
 
-pub give_back-requires-clause-last : goal.give_back-requires-clause-last
-give_back-requires-clause-last g c =
-    subst (λ (ss : List PoolSegment). All (λ s. s.seg.number ≤ 1023) ss) (sym (items g (goal.at.give_back-requires-clause-last g c).After-relink)) (numbers-last c.relink.new.segs c.relink.ensures.kept.cells.segments)
-
-pub give_back-requires-clause-distinct : goal.give_back-requires-clause-distinct
-give_back-requires-clause-distinct g c = subst AreApart (sym (items g (goal.at.give_back-requires-clause-distinct g c).After-relink)) (numbers-own c.relink.new.segs c.relink.ensures.kept.cells.segments)
+-- the segments that are left in the list are those of before, as number and size
+pairs-before : (g : Over) (c : After-relink g) → (layout_by (cell_for c.args.element) (cells_in c.args.segs.now.items)).segments ≡ map pair_in (take c.args.segs.now.len (c.relink.new.segs ++ drop (length c.relink.new.segs) c.args.segs.now.items))
+pairs-before g c =
+    ap (λ (l : Layout ℕ). l.segments) (sym (keeps g c).layout)
+    ∙ (segments-of (cell_for c.args.element) (cells_in c.relink.new.segs)
+    ∙ (sym (pairs-in c.relink.new.segs) ∙ ap (λ (ss : List PoolSegment). map pair_in ss) (sym (items g c))))
 
 pub give_back-requires-clause-out : goal.give_back-requires-clause-out
-give_back-requires-clause-out g c =
-    let at = (goal.at.give_back-requires-clause-out g c).After-relink in
-    let now : (layout_by (cell_for c.args.element) (cells_in c.args.segs.now.items)).segments ≡ map pair_of (cells_in (take c.args.segs.now.len (c.relink.new.segs ++ drop (length c.relink.new.segs) c.args.segs.now.items))) =
-    ap (λ (l : Layout ℕ). l.segments) (sym ((keeps g at).layout)) ∙ (segments-of (cell_for c.args.element) (cells_in c.relink.new.segs) ∙ ap (λ (ss : List PoolSegment). map pair_of (cells_in ss)) (sym (items g at))) in
-    (c.requires.out.0, c.requires.out.1 ∙ ap (λ ss. c.requires.out.0 ++ ss) now)
+give_back-requires-clause-out g c = (c.requires.out.0, c.requires.out.1 ∙ ap (λ ss. c.requires.out.0 ++ ss) (pairs-before g (goal.at.give_back-requires-clause-out g c).After-relink))
 
 pub overflow_sub-result : goal.overflow_sub-result
 overflow_sub-result g c =
@@ -97,6 +94,5 @@ returns-clause-count g c =
 pub returns-clause-disc : goal.returns-clause-disc
 returns-clause-disc g c =
     let at = goal.at.returns-clause-disc g c in
-    let now : (layout_by (cell_for c.args.element) (cells_in c.args.segs.now.items)).segments ≡ map pair_of (cells_in (take c.args.segs.now.len (c.relink.new.segs ++ drop (length c.relink.new.segs) c.args.segs.now.items))) =
-    ap (λ (l : Layout ℕ). l.segments) (sym ((keeps g at.After-relink).layout)) ∙ (segments-of (cell_for c.args.element) (cells_in c.relink.new.segs) ∙ ap (λ (ss : List PoolSegment). map pair_of (cells_in ss)) (sym (items g at.After-relink))) in
-    took-by _ _ (map pair_of (cells_in (take c.args.segs.now.len (c.relink.new.segs ++ drop (length c.relink.new.segs) c.args.segs.now.items)))) _ (map pair_of (cells_in c.give_back.new.segs.items)) _ now (segments-of (cell_for c.args.element) (cells_in c.give_back.new.segs.items)) c.give_back.ensures.out
+    took-by _ _ (map pair_in (take c.args.segs.now.len (c.relink.new.segs ++ drop (length c.relink.new.segs) c.args.segs.now.items))) _ (map pair_in c.give_back.new.segs.items) _ (pairs-before g at.After-relink)
+    (segments-of (cell_for c.args.element) (cells_in c.give_back.new.segs.items) ∙ sym (pairs-in c.give_back.new.segs.items)) c.give_back.ensures.out

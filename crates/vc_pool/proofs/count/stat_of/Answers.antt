@@ -1,10 +1,25 @@
-use Rattle.std.proofs.Common.{◌≡◌, ◌*◌, ◌∙◌}
+use Rattle.std.proofs.Common.{◌≡◌, ◌*◌, map, ◌∙◌, arith}
+use Rattle.std.proofs.lemmas.List.{length-map}
 use Rattle.vc_model.specs.Pool.{cell_of, free_cells, greatest_free_cell}
-use Rattle.vc_pool_cells.specs.Blocks.{layout_by}
+use Rattle.vc_layouts.proofs.Tallies.{HasRoom-segments}
+use Rattle.vc_pool_cells.specs.Blocks.{layout_by, pair_of}
+use Rattle.vc_pool_cells.specs.Kept.{segment_of}
+use Rattle.vc_pool_cells.specs.Place.{cells_in, pair_in}
+use Rattle.vc_pool_cells.proofs.SegmentList.{numbered-in}
+use Rattle.vc_pool.proofs.BlockSizes.{segments-bytes, segments-count}
 use Rattle.vc_pool.specs.Read.{pool_by}
 use Rattle.vc_pool.proofs.PoolNumbers.{cell_of-is, free-is, greatest-none, greatest-some}
 use Rattle.vc_pool.proofs.count.stat_of.Goals as goal
 use Rattle.vc_pool.proofs.count.stat_of.Goals.{then-free-eq0, else-free-eq0}
+
+pub tally_segments-segments-requires : goal.tally_segments-segments-requires
+tally_segments-segments-requires c = HasRoom-segments (map pair_in c.args.segs.now) (numbered-in c.args.segs.now c.requires.kept.segments)
+
+pub overflow_cast-result : goal.overflow_cast-result
+overflow_cast-result c =
+    let few = c.requires.kept.segments.few in
+    let count = segments-count c.args.segs.now c.tally_segments-segments.result c.tally_segments-segments.ensures in
+    omega (arith, few, count, length-map (cells_in c.args.segs.now) pair_of, length-map (cells_in c.args.segs.now) segment_of)
 
 pub returns : goal.returns
 unfolding pool_by layout_by
@@ -26,6 +41,6 @@ returns c =
       sfree = free j * cell j;
       mbusy = c.tally_blocks-blocks.ensures.most j;
       mfree = most j;
-      segs = c.tally_segments-segments.ensures.count j;
-      extent = c.tally_segments-segments.ensures.bytes j;
+      segs = segments-count c.args.segs.now c.tally_segments-segments.result c.tally_segments-segments.ensures j;
+      extent = segments-bytes c.args.segs.now c.tally_segments-segments.result c.tally_segments-segments.ensures j;
     }

@@ -1,4 +1,4 @@
-use Rattle.std.proofs.Common.{◌≡◌, ℕ, ◌++◌, ◌<◌, ◌≤◌, List, Option, map, take, drop, length, ap, sym, subst, ◌∙◌, arith}
+use Rattle.std.proofs.Common.{◌≡◌, ℕ, ◌++◌, ◌<◌, ◌≤◌, List, Option, map, take, drop, length, refl, ap, sym, subst, ◌∙◌, arith}
 use Rattle.std.proofs.lemmas.List.{with_items_is}
 use Rattle.vc_model.specs.Pool.{cell_for, uncarved}
 use Rattle.vc_pool_cells.specs.Blocks.{carved_by, pair_of}
@@ -9,7 +9,8 @@ use Rattle.vc_pool_cells.specs.declared.segment.PoolSegment.{PoolSegment}
 use Rattle.vc_pool_cells.specs.Carve.{IsCarvedAt}
 use Rattle.vc_pool.specs.Read.{pool_by}
 use Rattle.vc_pool.proofs.PoolCalls.{asked-refusal, carved-disc, freed-some, full-is, granted-disc, lacks-cell, pool-with, put-carved, put-granted, put-reused}
-use Rattle.vc_pool.proofs.AskedSegment.{granted-from, no-grant-from}
+use Rattle.vc_pool.proofs.AskedSegment.{granted-from}
+use Rattle.vc_pool.proofs.PoolAfterCalls.{pairs-of}
 use Rattle.vc_pool.proofs.put.alloc_in.Goals as goal
 use Rattle.vc_pool.proofs.put.alloc_in.Goals.{After-carve_lowest, After-element_with-set, After-reuse}
 use Rattle.vc_pool.proofs.put.alloc_in.Given.{Over}
@@ -98,7 +99,7 @@ returns-in-Ok-clause-answer g c =
     put-granted _ c.args.segs.now.items c.args.element.now c.args.freed.now.0 c.element_with-set.result c.args.tag c.args.size c.element_with-set.ensures.set c.element_with-set.ensures.unset
     c.requires.kept.cells (most g at.After-element_with-set) c.if-freed-ne0.false c.if-size-set.false c.requires.size.some
     (full-is c.args.segs.now.items c.args.element.now c.args.freed.now.0 c.element_with-set.result c.args.size c.element_with-set.ensures.set c.element_with-set.ensures.unset (place g at.After-carve_lowest _ c.in-None.ensures.place))
-    c.in-Ok.a.0 c.put_in_new.new.segs.items _ _ c.requires.kept
+    c.in-Ok.a.0 c.put_in_new.new.segs.items _ _ refl c.requires.kept
     (granted-from c.element_with-set.result c.args.tag c.args.size _ _ c.args.segs.now.items (cells_in c.put_in_new.new.segs.items) _ _ c.in-Ok.a.0 (unchanged g at.After-carve_lowest c.in-None.ensures.same) c.in-Ok.ensures.granted)
 
 pub returns-in-Ok-clause-disc : goal.returns-in-Ok-clause-disc
@@ -116,7 +117,7 @@ returns-in-Err-clause-answer g c =
       asked-refusal _ c.args.segs.now.items c.args.element.now c.args.freed.now.0 c.element_with-set.result c.args.tag c.args.size c.element_with-set.ensures.set c.element_with-set.ensures.unset
           c.requires.kept.cells (most g at.After-element_with-set) c.if-freed-ne0.false c.if-size-set.false c.requires.size.some
           (full-is c.args.segs.now.items c.args.element.now c.args.freed.now.0 c.element_with-set.result c.args.size c.element_with-set.ensures.set c.element_with-set.ensures.unset (place g at.After-carve_lowest _ c.in-None.ensures.place))
-          c.in-Err.fault (no-grant-from _ _ c.args.segs.now.items c.in-Err.fault (unchanged g at.After-carve_lowest c.in-None.ensures.same) c.in-Err.ensures.fault),
+          c.in-Err.fault (after g at.After-carve_lowest) (unchanged g at.After-carve_lowest c.in-None.ensures.same) c.in-Err.ensures.fault,
       ap (λ (ss : List PoolSegment). pool_by ss c.args.element.now c.args.freed.now.0) (c.in-Err.ensures.same ∙ unchanged g at.After-carve_lowest c.in-None.ensures.same),
     )
 
@@ -126,3 +127,10 @@ returns-in-Err-clause-no_memory g c =
     λ e. lacks-cell c.args.segs.now.items c.args.element.now c.args.freed.now.0 c.element_with-set.result c.args.size c.element_with-set.ensures.set c.element_with-set.ensures.unset
     c.if-size-set.false c.if-freed-ne0.false (place g at.After-carve_lowest _ c.in-None.ensures.place)
     (subst (λ (ss : List PoolSegment). length ss < 1023) (unchanged g at.After-carve_lowest c.in-None.ensures.same) (c.in-Err.ensures.few e))
+
+pub put_in_new-requires-clause-lent : goal.put_in_new-requires-clause-lent
+put_in_new-requires-clause-lent g c =
+    let at = (goal.at.put_in_new-requires-clause-lent g c).After-carve_lowest in
+    let same : (pool_by c.args.segs.now.items c.args.element.now c.args.freed.now.0).layout.segments ≡ map pair_of (cells_in (after g at)) =
+    pairs-of c.args.segs.now.items c.args.element.now c.args.freed.now.0 ∙ ap (λ (ss : List PoolSegment). map pair_of (cells_in ss)) (sym (unchanged g at c.in-None.ensures.same)) in
+    (c.requires.lent.0, c.requires.lent.1 ∙ ap (λ ss. c.requires.lent.0 ++ ss) same)

@@ -1,6 +1,6 @@
 use Rattle.std.proofs.Common.{◌≡◌, ℕ, ◌+◌, ◌%◌, ◌<◌, List, length, map, ap, subst, ◌∙◌, arith}
 use Rattle.vc_model.specs.Pool.{cell_for}
-use Rattle.vc_model.specs.Segments.{lowest_unused, numbers, round_up}
+use Rattle.vc_model.specs.Segments.{lowest_unused, new_segment, numbers, round_up}
 use Rattle.vc_seg.specs.Segment.{Bytes}
 use Rattle.vc_seg.proofs.Rounding.{IsSegmentSize-asked, round_up-mod_unit}
 use Rattle.vc_pool_cells.specs.Blocks.{pair_of}
@@ -8,16 +8,19 @@ use Rattle.vc_pool_cells.specs.Kept.{IsPool}
 use Rattle.vc_pool_cells.specs.Place.{cells_in}
 use Rattle.vc_pool_cells.specs.declared.segment.PoolSegment.{PoolSegment}
 use Rattle.vc_pool_cells.specs.Carve.{IsCarvedNew, IsSetFrom}
+use Rattle.vc_pool_cells.proofs.CarvedCounts.{none-carved}
+use Rattle.vc_pool_cells.proofs.SegmentList.{pairs-in}
 use Rattle.vc_pool_cells.proofs.ElementSize.{zeroed-pair}
-use Rattle.vc_pool.specs.Call.{IsGranted}
-use Rattle.vc_pool.proofs.AskedSegment.{asked-granted, granted-as}
-use Rattle.vc_pool.proofs.Unused.{lowest-other}
+use Rattle.vc_pool.specs.Ask.{IsGranted}
+use Rattle.vc_pool.proofs.AskedSegment.{asked-lent, granted-as, lowest-other}
 use Rattle.vc_pool.proofs.put.put_in_new.Goals as goal
 use Rattle.vc_pool.proofs.put.put_in_new.Goals.{After-lowest_unused-number}
 use Rattle.vc_pool.proofs.put.put_in_new.Given.{Over}
 
 number : (g : Over) (c : After-lowest_unused-number g) → c.lowest_unused-number.result ≡ lowest_unused (numbers (map pair_of (cells_in c.args.segs.now.items)))
-number g c = rw (← (c.deref.ensures.value ∙ c.in_ok-reserve_one.ensures.items)) c.lowest_unused-number.ensures.value
+number g c =
+    rw (← (c.deref.ensures.value ∙ c.in_ok-reserve_one.ensures.items))
+    (c.lowest_unused-number.ensures.value ∙ ap (λ ps. lowest_unused (numbers ps)) (pairs-in c.deref.result.now))
 
 few : (g : Over) (c : After-lowest_unused-number g) → length c.args.segs.now.items < 1023
 few g c = let n = c.if-len-ge1023.false in omega (arith, n)
@@ -49,13 +52,14 @@ returns-clause-granted g c =
     record {
       number = c.lowest_unused-number.result;
       place = c.carve_new.ensures.place ∙ ap (λ (b : Bytes). (b.number, 32)) is;
-      granted = asked-granted c.rounded_up-bytes.result c.args.segs.now.items c.lowest_unused-number.result (few g at) (number g at);
+      granted = asked-lent c.rounded_up-bytes.result c.lowest_unused-number.result c.args.segs.now.items c.in_ok-segment.ensures.lent (few g at) (number g at);
+      uncarved = none-carved c.lowest_unused-number.result (cells_in c.args.segs.now.items) (lowest-other c.lowest_unused-number.result (cells_in c.args.segs.now.items) (number g at));
       lent = c.in_ok-segment.ensures.lent;
       carved = λ unset last set h.
-          subst (λ (p : ℕ × ℕ). IsCarvedNew c.args.element c.args.tag c.args.size (cells_in c.args.segs.now.items) (cells_in c.carve_new.new.segs.items) p last)
+          subst (λ (p : ℕ × ℕ). IsCarvedNew c.args.element c.args.tag c.args.size (cells_in c.args.segs.now.items) (cells_in c.carve_new.new.segs.items) (new_segment p.0 p.1) last)
           (zeroed-pair c.in_ok-segment.segment c.lowest_unused-number.result c.rounded_up-bytes.result is)
           (subst
-          (λ (ss : List PoolSegment). (before last : ℕ) → IsSetFrom c.args.element before → IsPool before (cells_in ss) last → IsCarvedNew c.args.element c.args.tag c.args.size (cells_in ss) (cells_in c.carve_new.new.segs.items) (c.in_ok-segment.segment.number, length c.in_ok-segment.segment.bytes) last)
+          (λ (ss : List PoolSegment). (before last : ℕ) → IsSetFrom c.args.element before → IsPool before (cells_in ss) last → IsCarvedNew c.args.element c.args.tag c.args.size (cells_in ss) (cells_in c.carve_new.new.segs.items) (new_segment c.in_ok-segment.segment.number (length c.in_ok-segment.segment.bytes)) last)
           c.in_ok-reserve_one.ensures.items c.carve_new.ensures.carved unset last set h);
     } in
     granted-as c.args.element c.args.tag c.args.size c.rounded_up-bytes.result _ (cells_in c.args.segs.now.items) (cells_in c.carve_new.new.segs.items) _ _ c.carve_new.result.0 need own

@@ -1,6 +1,6 @@
 use Rattle.std.proofs.Common.{◌≤◌, arith}
 use Rattle.vc_pool_cells.specs.Place.{cells_in}
-use Rattle.vc_pool.proofs.ChainSifting.{first-out, next-out, out-keeps, split-last, split-small, split-some}
+use Rattle.vc_pool.proofs.ChainSifting.{first-out, next-out, out-keeps, split-last, split-small}
 use Rattle.vc_pool.proofs.compact.relink.leave_out.Goals as goal
 
 pub set_link-requires-clause-listed : goal.set_link-requires-clause-listed

@@ -1,6 +1,6 @@
 use Rattle.std.proofs.Common.{false, get_or, ap, sym, ◌∙◌, arith}
 use Rattle.vc_pool_cells.specs.Place.{cells_in}
-use Rattle.vc_pool.proofs.ChainSifting.{drop-less, keep-less, sift-drop, sift-keep, split-cells, split-listed, split-number, split-small, split-some}
+use Rattle.vc_pool.proofs.ChainSifting.{drop-less, keep-less, sift-drop, sift-keep, split-cells, split-listed, split-number, split-small}
 use Rattle.vc_pool.proofs.compact.relink.sift.Goals as goal
 
 pub link_of-next-requires-clause-kept : goal.link_of-next-requires-clause-kept

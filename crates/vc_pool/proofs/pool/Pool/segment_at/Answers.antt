@@ -1,13 +1,12 @@
 use Rattle.std.proofs.Common.{List, map, ap, sym, ◌∙◌}
 use Rattle.vc_model.specs.Walk.{segment_at}
-use Rattle.vc_pool_cells.specs.Blocks.{pair_of}
-use Rattle.vc_pool_cells.specs.Place.{cells_in}
+use Rattle.vc_pool_cells.specs.Place.{pair_in}
 use Rattle.vc_pool_cells.specs.declared.segment.PoolSegment.{PoolSegment}
-use Rattle.vc_pool.proofs.PoolAfterCalls.{pairs-of}
+use Rattle.vc_pool.proofs.PoolAfterCalls.{pairs-of-list}
 use Rattle.vc_pool.proofs.pool.Pool.segment_at.Goals as goal
 
 pub returns : goal.returns
 returns g c =
-    c.segment_in.ensures
-    ∙ (ap (λ (ss : List PoolSegment). segment_at (c.args.seg, c.args.off) (map pair_of (cells_in ss))) c.deref.ensures.value
-    ∙ ap (segment_at (c.args.seg, c.args.off)) (sym (pairs-of c.args.self.now.segs.items c.args.self.now.element c.args.self.now.freed.0)))
+    c.segment_at.ensures
+    ∙ (ap (λ (ss : List PoolSegment). segment_at (c.args.seg, c.args.off) (map pair_in ss)) c.deref.ensures.value
+    ∙ ap (segment_at (c.args.seg, c.args.off)) (sym (pairs-of-list c.args.self.now.segs.items c.args.self.now.element c.args.self.now.freed.0)))

@@ -1,6 +1,8 @@
-use Rattle.std.proofs.Common.{◌≡◌, ◌<◌, ◌≤◌, sym, ◌∙◌, subst, ⊎_elim, arith}
+use Rattle.std.proofs.Common.{◌≡◌, ◌<◌, ◌≤◌, ap, sym, ◌∙◌, subst, ⊎_elim, arith}
 use Rattle.std.proofs.lemmas.Bool.{cases_lt}
+use Rattle.vc_model.specs.Walk.{next_segment}
 use Rattle.vc_pool_cells.specs.Place.{cells_in}
+use Rattle.vc_pool_cells.proofs.SegmentList.{pairs-in}
 use Rattle.vc_pool.specs.First.{IsBare}
 use Rattle.vc_pool.proofs.NextBlock.{bare-above, bare-before, next-above, next-last}
 use Rattle.vc_pool.proofs.walks.next.first_above.Goals as goal
@@ -8,7 +10,7 @@ use Rattle.vc_pool.proofs.walks.next.first_above.Goals as goal
 pub returns-in-Some-first_in-clause-found : goal.returns-in-Some-first_in-clause-found
 returns-in-Some-first_in-clause-found c =
     let start = c.loop-next.invariant.up in
-    let is = sym c.next_segment_in.ensures ∙ c.in-Some.is in
+    let is = sym (c.next_segment.ensures ∙ ap (next_segment c.loop-next.after) (pairs-in c.args.segs.now)) ∙ c.in-Some.is in
     let above = next-above c.loop-next.after (cells_in c.args.segs.now) c.in-Some.next c.in-Some.field-0-1 is in
     record {
       number = c.in-Some.next;
@@ -19,7 +21,7 @@ returns-in-Some-first_in-clause-found c =
 
 pub loop-next-smaller : goal.loop-next-smaller
 loop-next-smaller c =
-    let is = sym c.next_segment_in.ensures ∙ c.in-Some.is in
+    let is = sym (c.next_segment.ensures ∙ ap (next_segment c.loop-next.after) (pairs-in c.args.segs.now)) ∙ c.in-Some.is in
     let above = next-above c.loop-next.after (cells_in c.args.segs.now) c.in-Some.next c.in-Some.field-0-1 is in
     let last = next-last c.loop-next.after (cells_in c.args.segs.now) c.requires.kept.segments c.in-Some.next c.in-Some.field-0-1 is in
     omega (arith, above, last)
@@ -27,7 +29,7 @@ loop-next-smaller c =
 pub loop-next-preserved : goal.loop-next-preserved
 loop-next-preserved c =
     let start = c.loop-next.invariant.up in
-    let is = sym c.next_segment_in.ensures ∙ c.in-Some.is in
+    let is = sym (c.next_segment.ensures ∙ ap (next_segment c.loop-next.after) (pairs-in c.args.segs.now)) ∙ c.in-Some.is in
     let above = next-above c.loop-next.after (cells_in c.args.segs.now) c.in-Some.next c.in-Some.field-0-1 is in
     record {
       up = omega (arith, start, above);
@@ -44,6 +46,6 @@ pub returns-clause-none : goal.returns-clause-none
 returns-clause-none c =
     λ m over.
     ⊎_elim
-    (λ (past : c.loop-next.after < m). bare-above c.loop-next.after (cells_in c.args.segs.now) (sym c.next_segment_in.ensures ∙ c.in_default.is) m past)
+    (λ (past : c.loop-next.after < m). bare-above c.loop-next.after (cells_in c.args.segs.now) (sym (c.next_segment.ensures ∙ ap (next_segment c.loop-next.after) (pairs-in c.args.segs.now)) ∙ c.in_default.is) m past)
     (λ (so : m ≤ c.loop-next.after). c.loop-next.invariant.bare m over so)
     (cases_lt c.loop-next.after m)

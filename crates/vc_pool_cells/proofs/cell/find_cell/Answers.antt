@@ -7,8 +7,8 @@ use Rattle.vc_pool_cells.specs.Place.{cells_in}
 use Rattle.vc_pool_cells.specs.declared.segment.PoolSegment.{PoolSegment}
 use Rattle.vc_pool_cells.proofs.SegmentList.{alone-in, cell-in}
 use Rattle.vc_pool_cells.proofs.BlockPlaces.{cell-some, index-is}
-use Rattle.vc_pool_cells.proofs.place.find_cell.Goals as goal
-use Rattle.vc_pool_cells.proofs.place.find_cell.Goals.{After-index_of-index}
+use Rattle.vc_pool_cells.proofs.cell.find_cell.Goals as goal
+use Rattle.vc_pool_cells.proofs.cell.find_cell.Goals.{After-index_of-index}
 
 -- the segment that was found has the number of the address
 number : (c : After-index_of-index) → HoldsAt (λ (s : PoolSegment). s.seg.number ≡ (place_of c.args.a.0).0) c.args.segs.now c.place_of_number-place.result
