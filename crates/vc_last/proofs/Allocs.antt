@@ -6,9 +6,9 @@ use Rattle.std.proofs.lemmas.List.{length-map, length_push, get_or-map, get_or_a
 use Rattle.vc_model.specs.Addr.{address, place_of}
 use Rattle.vc_model.specs.Best.{zeros}
 use Rattle.vc_model.specs.Discipline.{Terms}
-use Rattle.vc_model.specs.Last.{last_alloc, last_need, last_place, put_in_newest, put_latest, put_or_lend}
-use Rattle.vc_model.specs.Layout.{Block, Layout, address_of, is_at, with_segment, without_block}
-use Rattle.vc_model.specs.Segments.{Asked, Granted, TooMany, NotLent, ask}
+use Rattle.vc_model.specs.Last.{last_alloc, last_need, last_place, put_behind_latest, put_in_newest, put_latest, put_or_lend}
+use Rattle.vc_model.specs.Layout.{Block, Layout, address_of, is_at, with_grant, without_block}
+use Rattle.vc_model.specs.Segments.{Asked, Grant, Granted, TooMany, NotLent, ask}
 use Rattle.vc_model.specs.Touch.{HasBlock, find_block}
 use Rattle.vc_base.specs.declared.addr.Addr.{Addr}
 use Rattle.vc_seg.specs.declared.fault.RegionFault.{RegionFault}
@@ -21,20 +21,24 @@ pub record IsNew (r : Layout ℕ) (tag size to : ℕ) (mid : Layout ℕ) : Type 
   pub blocks : mid.blocks ≡ r.blocks ++ zeros tag size (place_of to) ∷ []
   pub at : to ≡ address (place_of to)
 
-latest-new : (r s : Layout ℕ) (tag size to : ℕ) (granted : Option (ℕ × ℕ)) (at : ℕ × ℕ) (mid : Layout ℕ) → s.blocks ≡ r.blocks → IsPut (put_latest s tag size granted at) to mid → IsNew r tag size to mid
+latest-new : (r s : Layout ℕ) (tag size to : ℕ) (granted : Option Grant) (at : ℕ × ℕ) (mid : Layout ℕ) → s.blocks ≡ r.blocks → IsPut (put_latest s tag size granted at) to mid → IsNew r tag size to mid
 latest-new r s tag size to granted at mid same h =
     record {
       blocks = ap (λ (q : Layout ℕ). q.blocks) h.2 ∙ (ap (λ (bs : List (Block ℕ)). bs ++ zeros tag size at ∷ []) same ∙ ap (λ p. r.blocks ++ zeros tag size p ∷ []) h.1);
       at = h.0 ∙ ap address h.1;
     }
 
+behind-new : (r s : Layout ℕ) (tag size to : ℕ) (granted : Option Grant) (o : Option (ℕ × ℕ)) (mid : Layout ℕ) → s.blocks ≡ r.blocks → IsPut (put_behind_latest s tag size granted o) to mid → IsNew r tag size to mid
+behind-new r s tag size to granted None mid same h = absurd h
+behind-new r s tag size to granted (Some at) mid same h = latest-new r s tag size to granted at mid same h
+
 asked-new : (r : Layout ℕ) (tag size to : ℕ) (asked : Asked) (mid : Layout ℕ) → IsPut (put_in_newest r tag size asked) to mid → IsNew r tag size to mid
-asked-new r tag size to (Granted n bytes) mid h = latest-new r (with_segment r (n, bytes)) tag size to (Some (n, bytes)) (n, 32) mid refl h
+asked-new r tag size to (Granted g) mid h = behind-new r (with_grant r g) tag size to (Some g) (last_place (with_grant r g) size) mid refl h
 asked-new r tag size to TooMany mid h = absurd h
 asked-new r tag size to NotLent mid h = absurd h
 
 place-new : (terms : Terms) (r : Layout ℕ) (tag size to : ℕ) (o : Option (ℕ × ℕ)) (mid : Layout ℕ) → IsPut (put_or_lend terms r tag size false o) to mid → IsNew r tag size to mid
-place-new terms r tag size to None mid h = asked-new r tag size to (ask (last_need terms size) r.segments false) mid h
+place-new terms r tag size to None mid h = asked-new r tag size to (ask terms (last_need terms size) r.segments false) mid h
 place-new terms r tag size to (Some at) mid h = latest-new r r tag size to None at mid refl h
 
 pub alloc-new : (terms : Terms) (r : Layout ℕ) (tag size to : ℕ) (mid : Layout ℕ) → IsPut (last_alloc terms r tag size false) to mid → IsNew r tag size to mid

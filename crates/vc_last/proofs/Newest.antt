@@ -16,7 +16,7 @@ use Rattle.vc_last.specs.Head.{before_of, block_of}
 use Rattle.vc_last.specs.Chain.{IsLast, LiesLower, blocks_from, rank}
 use Rattle.vc_last.specs.Read.{layout_by}
 use Rattle.vc_last.proofs.Lists.{AllPairs-last, last_of-map, slice_get-last}
-use Rattle.vc_last.proofs.Places.{ends}
+use Rattle.vc_last.proofs.Places.{ends, ends-none}
 use Rattle.vc_last.proofs.Rows.{row}
 use Rattle.vc_last.proofs.Chains.{HasLatest, chain-heads, latest-none, latest-some}
 use Rattle.vc_last.proofs.Kept.{index-end, index-front, layout-from, newest-split}
@@ -27,12 +27,6 @@ none-zero b a h e = h.0 e
 
 pub some-zero : (b : Bool) (a : ℕ) → IsTrue b ↔ (a ≡ 0) → b ≡ false → a ≢ 0
 some-zero b a h e = λ z. let yes : b ≡ true = h.1 z in let both : true ≡ false = sym yes ∙ e in cc
-
-ends-none : (number m : ℕ) (bs : List (Block ℕ)) → All (λ c. c.seg ≢ number) bs → fold max m (ends number bs) ≡ m
-ends-none number m [] h = refl
-ends-none number m (b ∷ bs) h =
-    let P : Block ℕ → Type 0 = λ c. c.seg ≢ number in
-    rw (ne_eqb b.seg number (All-head P b bs h)) (ends-none number m bs (All-tail P b bs h))
 
 -- a block behind the others there
 ends-own : (number m : ℕ) (front : List (Block ℕ)) (b : Block ℕ) → b.seg ≡ number → m ≤ b.off → All (λ c. c.seg ≡ number → c.off + span c.size ≤ b.off) front → fold max m (ends number (front ++ b ∷ [])) ≡ b.off + span b.size

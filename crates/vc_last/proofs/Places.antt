@@ -1,20 +1,20 @@
 -- The place behind the blocks of the newest segment.
 use Rattle.std.proofs.Common.{◌≡◌, ◌≢◌, ℕ, ◌+◌, ◌%◌, ◌<◌, ◌≤◌, List, [], ◌∷◌, ◌++◌, Option, None, Some, true, false, All, Any, filter, fold, length, get_or, map, refl, ap, sym, ◌∙◌, subst, ⊎_elim, eqb, leb, arith}
 use Rattle.std.specs.Prelude.{max}
-use Rattle.std.proofs.lemmas.Bool.{cases_Bool, eqb-false, le-leb, leb-true, lt-leb}
+use Rattle.std.proofs.lemmas.Bool.{cases_Bool, eqb-false, le-leb, leb-true, lt-leb, ne_eqb}
 use Rattle.std.proofs.lemmas.Option.{same_Some, none-some}
 use Rattle.std.proofs.lemmas.List.{length_push}
 use Rattle.std.proofs.lemmas.List.Elements.{All-head, All-tail, All-nil, All-cons}
 use Rattle.vc_model.specs.Addr.{address, place_of}
 use Rattle.vc_model.specs.Best.{zeros}
 use Rattle.vc_model.specs.Last.{last_place, newest, next_offset, place_behind_latest}
-use Rattle.vc_model.specs.Layout.{Block, Layout, is_at, with_segment}
-use Rattle.vc_model.specs.Segments.{span}
+use Rattle.vc_model.specs.Layout.{Block, Layout, is_at, with_grant}
+use Rattle.vc_model.specs.Segments.{new_segment, span}
 use Rattle.vc_model.specs.Touch.{HasBlock}
 use Rattle.vc_base.proofs.Places.{some-span, at-place}
 use Rattle.vc_last.specs.Row.{EndsFirst, IsRow}
 use Rattle.vc_last.specs.Place.{EndBefore, IsPlace}
-use Rattle.vc_last.proofs.Lists.{get_or-last, last_of-split}
+use Rattle.vc_last.proofs.Lists.{get_or-last, last_of-push, last_of-split}
 use Rattle.vc_last.proofs.Latest.{AreElsewhere, none-there}
 use Rattle.vc_last.proofs.Rows.{IsExact}
 
@@ -86,17 +86,27 @@ place-newest r size at (Some s) h is e =
 pub place-last : (r : Layout ℕ) (size : ℕ) (at : ℕ × ℕ) → IsRow r → last_place r size ≡ Some at → IsPlace r size at
 place-last r size at h e = place-newest r size at (newest r) h refl e
 
+pub ends-none : (number m : ℕ) (bs : List (Block ℕ)) → All (λ c. c.seg ≢ number) bs → fold max m (ends number bs) ≡ m
+ends-none number m [] h = refl
+ends-none number m (b ∷ bs) h =
+    let P : Block ℕ → Type 0 = λ c. c.seg ≢ number in
+    rw (ne_eqb b.seg number (All-head P b bs h)) (ends-none number m bs (All-tail P b bs h))
+
+-- no block is in a segment that isn't there
+none-in : (r : Layout ℕ) (n : ℕ) → IsRow r → All (λ s. s.0 ≢ n) r.segments → All (λ c. c.seg ≢ n) r.blocks
+none-in r n h fresh =
+    λ k d lt e.
+    let u = h.usable k d lt in
+    let s : ℕ × ℕ = u.1 in
+    let at : get_or r.segments u.0 s ≡ s = u.3 in
+    fresh u.0 s u.2 (ap (λ (q : ℕ × ℕ). q.0) at ∙ (sym u.4.0 ∙ e))
+
 -- a new segment has no block
-pub place-new : (r : Layout ℕ) (n bytes size : ℕ) → IsRow r → All (λ s. s.0 ≢ n) r.segments → 32 + span size ≤ bytes → IsPlace (with_segment r (n, bytes)) size (n, 32)
+pub place-new : (r : Layout ℕ) (n bytes size : ℕ) → IsRow r → All (λ s. s.0 ≢ n) r.segments → 32 + span size ≤ bytes → IsPlace (with_grant r (new_segment n bytes)) size (n, 32)
 place-new r n bytes size h fresh room =
     let P : ℕ × ℕ → Type 0 = λ q. (n ≡ q.0) × (32 + span size ≤ q.1) in
     record {
-      behind = λ k d lt e.
-          let u = h.usable k d lt in
-          let s : ℕ × ℕ = u.1 in
-          let at : get_or r.segments u.0 s ≡ s = u.3 in
-          let own : s.0 ≡ n = sym u.4.0 ∙ e in
-          absurd (fresh u.0 s u.2 (ap (λ (q : ℕ × ℕ). q.0) at ∙ own));
+      behind = λ k d lt e. absurd (none-in r n h fresh k d lt e);
       first = omega arith;
       multiple = refl;
       inside = any-last P r.segments (n, bytes) (refl, room);
@@ -135,3 +145,8 @@ place-some r size off s is at fits =
 pub place-none : (r : Layout ℕ) (size off : ℕ) (s : ℕ × ℕ) → newest r ≡ Some s → off ≡ next_offset s.0 r.blocks → s.1 < off + span size → None ≡ last_place r size
 place-none r size off s is at over =
     sym (ap (place_behind_latest r.blocks size) is ∙ (rw (← at) (rw (lt-leb (off + span size) s.1 over) refl)))
+
+-- the place in a segment that was granted
+pub place-granted : (r : Layout ℕ) (n bytes size : ℕ) → IsRow r → All (λ s. s.0 ≢ n) r.segments → 32 + span size ≤ bytes → last_place (with_grant r (new_segment n bytes)) size ≡ Some (n, 32)
+place-granted r n bytes size h fresh room =
+    sym (place-some (with_grant r (new_segment n bytes)) size 32 (n, bytes) (last_of-push r.segments (n, bytes)) (sym (ends-none n 32 r.blocks (none-in r n h fresh))) room)

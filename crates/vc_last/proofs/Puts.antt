@@ -6,9 +6,9 @@ use Rattle.std.proofs.lemmas.List.Elements.{All-map}
 use Rattle.vc_model.specs.Addr.{address, place_of}
 use Rattle.vc_model.specs.Best.{zeros}
 use Rattle.vc_model.specs.Discipline.{Discipline, Lent, Served, Terms, Unserved}
-use Rattle.vc_model.specs.Last.{last_alloc, last_need, last_place, newest, put_in_newest, put_or_lend}
-use Rattle.vc_model.specs.Layout.{Block, Layout, with_segment}
-use Rattle.vc_model.specs.Segments.{Asked, Granted, NotLent, TooMany, ask, span}
+use Rattle.vc_model.specs.Last.{last_alloc, last_need, last_place, newest, put_behind_latest, put_in_newest, put_or_lend}
+use Rattle.vc_model.specs.Layout.{Block, Layout, with_grant}
+use Rattle.vc_model.specs.Segments.{Asked, Granted, NotLent, TooMany, ask, new_segment, span}
 use Rattle.vc_base.proofs.Places.{span-least}
 use Rattle.vc_seg.specs.Segment.{AreSegments, Bytes, pair_of, zero_segment}
 use Rattle.vc_seg.specs.Answer.{Asks, IsPut, IsRefusal}
@@ -88,10 +88,10 @@ module _ (o : List Bytes) (q n bytes : ℕ) (h : IsLast o q) (legal : AreSegment
   pub grown-pairs : map pair_of (o ++ zero_segment n bytes ∷ []) ≡ map pair_of o ++ (n, bytes) ∷ []
   grown-pairs = map_push pair_of o (zero_segment n bytes) ∙ ap (λ k. map pair_of o ++ (n, k) ∷ []) (length-replicate {A = ℕ} bytes 0)
 
-  pub grown-layout : layout_by (o ++ zero_segment n bytes ∷ []) q ≡ with_segment (layout_by o q) (n, bytes)
+  pub grown-layout : layout_by (o ++ zero_segment n bytes ∷ []) q ≡ with_grant (layout_by o q) (new_segment n bytes)
   grown-layout =
       layout-is (o ++ zero_segment n bytes ∷ []) q (blocks_from o q) grown
-      ∙ (ap (λ ss. row ss (blocks_from o q)) grown-pairs ∙ ap (λ (r : Layout ℕ). with_segment r (n, bytes)) (sym (layout-from o q)))
+      ∙ (ap (λ ss. row ss (blocks_from o q)) grown-pairs ∙ ap (λ (r : Layout ℕ). with_grant r (new_segment n bytes)) (sym (layout-from o q)))
 
   pub grown-newest : option_map (λ (s : ℕ × ℕ). s.0) (newest (layout_by (o ++ zero_segment n bytes ∷ []) q)) ≡ Some n
   grown-newest = ap (λ (r : Layout ℕ). option_map (λ (s : ℕ × ℕ). s.0) (newest r)) grown-layout ∙ ap (option_map (λ (s : ℕ × ℕ). s.0)) (last_of-push (layout_by o q).segments (n, bytes))
@@ -108,13 +108,15 @@ put-there terms r new tag size a at is own place e = subst (λ o. IsPut o a new)
 
 -- what a block in a segment that was asked for answers
 module _ (terms : Terms) (r : Layout ℕ) (tag size bytes : ℕ) (need : bytes ≡ last_need terms size) (none : last_place r size ≡ None) where
-  asked : (refused : Bool) (k : Asked) → ask bytes r.segments refused ≡ k → last_alloc terms r tag size refused ≡ put_in_newest r tag size k
-  asked refused k e = ap (put_or_lend terms r tag size refused) none ∙ ap (put_in_newest r tag size) (sym (ap (λ b. ask b r.segments refused) need) ∙ e)
+  asked : (refused : Bool) (k : Asked) → ask terms bytes r.segments refused ≡ k → last_alloc terms r tag size refused ≡ put_in_newest r tag size k
+  asked refused k e = ap (put_or_lend terms r tag size refused) none ∙ ap (put_in_newest r tag size) (sym (ap (λ b. ask terms b r.segments refused) need) ∙ e)
 
-  pub put-in-new : (new : Layout ℕ) (n a : ℕ) → ask bytes r.segments false ≡ Granted n bytes → a ≡ address (n, 32) → place_of a ≡ (n, 32) → new ≡ with_latest (with_segment r (n, bytes)) tag size (n, 32) → IsPut (last_alloc terms r tag size false) a new
-  put-in-new new n a granted at place is = subst (λ o. IsPut o a new) (sym (asked false (Granted n bytes) granted)) (at, sym place, is)
+  pub put-in-new : (new : Layout ℕ) (n a : ℕ) → ask terms bytes r.segments false ≡ Granted (new_segment n bytes) → last_place (with_grant r (new_segment n bytes)) size ≡ Some (n, 32) → a ≡ address (n, 32) → place_of a ≡ (n, 32) → new ≡ with_latest (with_grant r (new_segment n bytes)) tag size (n, 32) → IsPut (last_alloc terms r tag size false) a new
+  put-in-new new n a granted there at place is =
+      let g = new_segment n bytes in
+      subst (λ o. IsPut o a new) (sym (asked false (Granted g) granted ∙ ap (put_behind_latest (with_grant r g) tag size (Some g)) there)) (at, sym place, is)
 
-  pub refused-new : (e : RegionFault) → IsNoGrant bytes r.segments e → IsRefusal (last_alloc terms r tag size) e
+  pub refused-new : (e : RegionFault) → IsNoGrant terms bytes r.segments e → IsRefusal (last_alloc terms r tag size) e
   refused-new code.TooManySegments h = asked false TooMany h
   refused-new code.NoSegment h = asked true NotLent h
   refused-new code.OutOfMemory h = tt

@@ -17,5 +17,6 @@ pub mod Chain
 pub mod Place
 pub mod Gaps
 pub mod Read
+pub mod Ask
 pub mod Call
 pub mod Parts

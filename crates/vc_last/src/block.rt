@@ -9,7 +9,7 @@ use crate::last::Last;
 use crate::range::{bytes_in, put_in};
 use crate::walk::{block_in, next_in};
 use vc_base::Addr;
-use vc_segments::{next_segment, segment_at};
+use vc_seg::{next_segment, segment_at};
 
 /// The calls on one block, and the walks. They can't fail, and take no memory.
 impl Last {

@@ -4,10 +4,9 @@ ghost use Rattle.vc_model.specs.Discipline.{HasOut, TookBack};
 ghost use Rattle.vc_last.specs.Chain.{IsLast, blocks_from};
 ghost use Rattle.vc_last.specs.Read.{layout_by};
 
-use crate::back::give_back;
 use crate::head::before_at;
 use vc_base::Addr;
-use vc_seg::{SegDisc, Segment};
+use vc_seg::{SegDisc, Segment, give_back};
 
 /// Marks the number of each segment that a block is in, in one walk from the latest back.
 fn mark(segs: &[Segment], latest: Addr, marks: &mut [bool])

@@ -1,10 +1,10 @@
-ghost use Rattle.std.specs.Prelude.{◌≡◌, ℕ, ◌+◌, ◌<◌, ◌≤◌, [], IfErr, IfOk, IfSome, IsErrOf, IsTrue, None, OnOk, Some, false, length, option_map, vec_capacity};
+ghost use Rattle.std.specs.Prelude.{◌≡◌, ℕ, ◌+◌, ◌<◌, ◌≤◌, [], IfErr, IfOk, IfSome, IsErrOf, IsTrue, OnOk, Some, false, length, option_map, vec_capacity};
 ghost use Rattle.std.specs.List.{HoldsAt, remove};
 ghost use Rattle.vc_model.specs.Addr.{place_of};
 ghost use Rattle.vc_model.specs.Best.{zeros};
 ghost use Rattle.vc_model.specs.Compact.{cleared_layout, compact_count, compacted_layout};
 ghost use Rattle.vc_model.specs.Discipline.{HasOut, TookBack};
-ghost use Rattle.vc_model.specs.Last.{can_end, last_alloc, last_free, last_need, last_place, last_resize, latest};
+ghost use Rattle.vc_model.specs.Last.{can_end, last_alloc, last_free, last_need, last_resize, latest};
 ghost use Rattle.vc_model.specs.Layout.{address_of, empty_layout, without_block};
 ghost use Rattle.vc_model.specs.Sound.{IsSound};
 ghost use Rattle.vc_model.specs.Touch.{HasBlock, find_block};
@@ -20,7 +20,7 @@ use crate::resize::resize_in;
 use crate::stat::stat_of;
 use std::alloc::Global;
 use vc_base::{Addr, OutOfMemory};
-use vc_seg::{KeepsNone, RegionFault, SegDisc, Segment, Stat, give_back};
+use vc_seg::{RegionFault, SegDisc, Segment, Stat, give_back_all};
 
 /// A region of blocks one behind another over the segments of a discipline, after Vmalloc's `Vmlast`. The latest block
 /// is the one of the live ones that was allocated latest, and only that is freed or resized. Sizes and offsets are in
@@ -46,6 +46,7 @@ pub struct Last {
 }
 
 impl Last {
+    ghost use Rattle.vc_last.specs.Ask.{LacksPlace};
     ghost use Rattle.vc_last.specs.Parts.{blocks_in, layout_of, segments_in};
 
     /// A region with no segment. It takes the memory of 1,023 slots, and no segment before the first block.
@@ -69,10 +70,13 @@ impl Last {
     }
 
     /// A block of zeros, of 1 to 16,777,216 bytes: behind the last block of the newest segment, or at its offset 32 where
-    /// it has none. Where it doesn't fit there, a segment is asked for, and is then the newest.
+    /// it has none. Where it doesn't fit there, a segment is asked for, and is then the newest. `TooManySegments` comes
+    /// where the region can't be granted one more, `NoSegment` where the discipline refuses, and `OutOfMemory` only where
+    /// one is asked for.
     pub fn alloc(&mut self, size: u32, tag: u32) -> Result<Addr, RegionFault>
         requires some { 1 ≤ size }
         requires most { size ≤ 16777216 }
+        requires lent { HasOut (state self.old.disc) (segments_in self.old) }
 
         ensures answer { Answers
             (last_alloc (state self.old.disc).terms (layout_of self.old) tag size)
@@ -81,7 +85,7 @@ impl Last {
             (segments_in self.old) (segments_in self.new)
             (last_need (state self.old.disc).terms size) }
         ensures no_memory { IsErrOf result RegionFault.OutOfMemory
-            → last_place (layout_of self.old) size ≡ None }
+            → LacksPlace (state self.old.disc).terms (layout_of self.old) size }
 
         // The block stands there, at an address of its own, and the others stay.
         ensures there { IfOk result (λ a. find_block (place_of a.0) (blocks_in self.new)
@@ -108,6 +112,7 @@ impl Last {
         requires block { HasBlock (blocks_in self.old) a.0 }
         requires some { 1 ≤ size }
         requires most { size ≤ 16777216 }
+        requires lent { HasOut (state self.old.disc) (segments_in self.old) }
 
         ensures answer { Answers
             (last_resize (state self.old.disc).terms (layout_of self.old)
@@ -122,7 +127,7 @@ impl Last {
             × (can_end (layout_of self.old) size b ≡ false))
             × IsTrue may_move }
         ensures no_place { IsErrOf result RegionFault.OutOfMemory
-            → last_place (layout_of self.old) size ≡ None }
+            → LacksPlace (state self.old.disc).terms (layout_of self.old) size }
 
         // The block keeps its tag, and the others stay.
         ensures there { IfOk result (λ to.
@@ -202,8 +207,7 @@ impl Last {
             mut disc,
             alloc: _,
         } = self;
-        let count = segs.len() as u32;
-        give_back(&mut segs, &KeepsNone, &mut disc);
+        let count = give_back_all(&mut segs, &mut disc);
         (disc, count)
     }
 }

@@ -1,13 +1,11 @@
 //! A region of blocks one behind another over the segments of a discipline. Only the latest block is freed or resized.
 #![tactic(auto)]
 
-mod back;
 mod block;
 mod compact;
 mod free;
 mod head;
 mod last;
-mod lend;
 mod place;
 mod put;
 mod range;

@@ -1,21 +1,23 @@
-ghost use Rattle.std.specs.Prelude.{◌≡◌, ◌+◌, ◌<◌, ◌≤◌, All, IfOk, None, Some, map, option_map, vec_capacity};
+ghost use Rattle.std.specs.Prelude.{◌≡◌, ◌≢◌, ◌+◌, ◌%◌, ◌<◌, ◌≤◌, All, IfErr, IfOk, IsErrOf, None, OnErr, Some, false, map, option_map, vec_capacity};
 ghost use Rattle.vc_model.specs.Addr.{address, place_of};
 ghost use Rattle.vc_model.specs.Last.{last_place, newest};
-ghost use Rattle.vc_model.specs.Segments.{ask};
+ghost use Rattle.vc_model.specs.Discipline.{HasOut, IsSegmentSize};
+ghost use Rattle.vc_model.specs.Segments.{TooMany, ask};
 ghost use Rattle.vc_model.specs.Touch.{HasBlock};
-ghost use Rattle.vc_last.specs.Call.{IsAlloc};
+ghost use Rattle.vc_seg.specs.Lend.{IsAsked, IsNoGrant};
+ghost use Rattle.vc_seg.specs.Segment.{AreSegments, pair_of};
+ghost use Rattle.vc_last.specs.Call.{IsAlloc, IsLent};
 ghost use Rattle.vc_last.specs.Chain.{IsLast};
 ghost use Rattle.vc_last.specs.Place.{IsAt, IsNewest, IsPlace, with_latest};
 ghost use Rattle.vc_last.specs.Read.{layout_by};
 
 use crate::head::lay;
-use crate::lend::lend_next;
 use crate::place::place;
 use std::alloc::Global;
 use vc_base::Addr;
-use vc_seg::{RegionFault, SegDisc, Segment, round_of, rounded_up, span_of};
+use vc_seg::{RegionFault, SegDisc, Segment, lend_next, round_of, rounded_up, span_of};
 
-/// Puts a block of zeros at a place behind those of the newest segment, and answers its address. It is the latest.
+// Puts a block of zeros at a place behind those of the newest segment, and answers its address. It is the latest.
 fn put(segs: &mut Vec<Segment>, latest: Addr, seg: u32, off: u32, size: u32, tag: u32) -> Addr
     requires kept { IsLast segs.old.items latest.0 }
     requires newest { IsNewest (layout_by segs.old.items latest.0) seg }
@@ -32,7 +34,36 @@ fn put(segs: &mut Vec<Segment>, latest: Addr, seg: u32, off: u32, size: u32, tag
     Addr::new(seg, off)
 }
 
-/// A block of zeros in a segment that is asked for.
+// Asks for a segment of that many bytes under the least number that no segment has, puts it behind the others, where there
+// is room for 1,023, and answers its number.
+fn add_segment(
+    segs: &mut Vec<Segment>,
+    disc: &mut Box<dyn SegDisc>,
+    alloc: Global,
+    bytes: u32,
+) -> Result<u32, RegionFault>
+    requires segments { AreSegments segs.old.items }
+    requires room { 1023 ≤ vec_capacity segs.old }
+    requires bytes { IsSegmentSize bytes }
+    requires multiple { bytes % (state disc.old).terms.round ≡ 0 }
+
+    ensures lent { IfOk result (λ n. IsLent (state disc.old).terms n bytes segs.old.items segs.new.items) }
+    ensures segments { AreSegments segs.new.items }
+    ensures room { vec_capacity segs.new ≡ vec_capacity segs.old }
+
+    ensures fault { IfErr result (IsNoGrant (state disc.old).terms bytes (map pair_of segs.old.items)) }
+    ensures may { IsErrOf result RegionFault.OutOfMemory
+        → ask (state disc.old).terms bytes (map pair_of segs.old.items) false ≢ TooMany }
+    ensures same { OnErr result (segs.new.items ≡ segs.old.items) }
+    ensures disc { IsAsked result (state disc.old) (state disc.new) bytes }
+{
+    let segment = lend_next(segs, disc, alloc, bytes)?;
+    let number = segment.number();
+    segs.push_reserved(segment);
+    Ok(number)
+}
+
+// A block of zeros in a segment that is asked for.
 fn put_in_new(
     segs: &mut Vec<Segment>,
     latest: &mut Addr,
@@ -45,6 +76,7 @@ fn put_in_new(
     requires room { 1023 ≤ vec_capacity segs.old }
     requires some { 1 ≤ size }
     requires most { size ≤ 16777216 }
+    requires lent { HasOut (state disc.old) (layout_by segs.old.items latest.old.0).segments }
     requires none { last_place (layout_by segs.old.items latest.old.0) size ≡ None }
     ensures kept { IsLast segs.new.items latest.new.0 }
     ensures room { vec_capacity segs.new ≡ vec_capacity segs.old }
@@ -53,7 +85,7 @@ fn put_in_new(
     ensures latest { IfOk result (λ a. latest.new.0 ≡ a.0) }
 {
     let bytes = rounded_up(span_of(size) + 32, round_of(disc));
-    match lend_next(segs, disc, alloc, bytes) {
+    match add_segment(segs, disc, alloc, bytes) {
         Ok(number) => {
             let a = put(segs, *latest, number, 32, size, tag);
             *latest = a;
@@ -63,7 +95,7 @@ fn put_in_new(
     }
 }
 
-/// A block of zeros behind the last block of the newest segment, else in a segment that is asked for. It is the latest.
+// A block of zeros behind the last block of the newest segment, else in a segment that is asked for. It is the latest.
 pub(crate) fn alloc_in(
     segs: &mut Vec<Segment>,
     latest: &mut Addr,
@@ -76,6 +108,7 @@ pub(crate) fn alloc_in(
     requires room { 1023 ≤ vec_capacity segs.old }
     requires some { 1 ≤ size }
     requires most { size ≤ 16777216 }
+    requires lent { HasOut (state disc.old) (layout_by segs.old.items latest.old.0).segments }
     ensures kept { IsLast segs.new.items latest.new.0 }
     ensures room { vec_capacity segs.new ≡ vec_capacity segs.old }
     ensures alloc { IsAlloc tag size result (layout_by segs.old.items latest.old.0)

@@ -2,13 +2,12 @@ ghost use Rattle.std.specs.Prelude.{◌≡◌, ◌≢◌, ℕ, ◌+◌, ◌<◌,
 ghost use Rattle.std.specs.List.{HoldsAt};
 ghost use Rattle.vc_model.specs.Bytes.{with_bytes};
 ghost use Rattle.vc_seg.specs.Segment.{AreSegments};
-ghost use Rattle.vc_seg.specs.Memory.{bytes_of_number};
+ghost use Rattle.vc_seg.specs.Memory.{bytes_of_number, write_segment};
 ghost use Rattle.vc_last.specs.Head.{StaysBut};
 
-use vc_seg::{Segment, find_number};
+use vc_seg::{Segment, copy_between, find_number};
 
-/// Where the segment of that number is among these. There is one. Numbers are given from 1 on, so it mostly stands where
-/// its number says.
+// Where the segment of that number is among these. There is one.
 #[inline(always)]
 pub(crate) fn place_of_number(segs: &[Segment], number: u32) -> usize
     requires segments { AreSegments segs.now }
@@ -17,12 +16,6 @@ pub(crate) fn place_of_number(segs: &[Segment], number: u32) -> usize
     ensures number { HoldsAt (λ s. s.number ≡ number) segs.now result }
     ensures first { All (λ s. s.number ≢ number) (take result segs.now) }
 {
-    if number > 0 {
-        let near = number as usize - 1;
-        if near < segs.len() && segs[near].number() == number {
-            return near;
-        }
-    }
     match find_number(segs, number) {
         Some(place) => place,
         None => unreachable!(),
@@ -53,4 +46,20 @@ pub(crate) fn put_in(segs: &mut [Segment], number: u32, at: u32, src: &[u8])
 {
     let place = place_of_number(segs, number);
     segs[place].put(at, src);
+}
+
+/// Copies a range of the segment of one number into that of another, which may be the same. Both are there.
+pub(crate) fn copy_in(segs: &mut [Segment], number: u32, from: u32, target: u32, to: u32, len: u32)
+    requires segments { AreSegments segs.old }
+    requires source { 0 < length (bytes_of_number number segs.old) }
+    requires target { 0 < length (bytes_of_number target segs.old) }
+    requires from { from + len ≤ length (bytes_of_number number segs.old) }
+    requires to { to + len ≤ length (bytes_of_number target segs.old) }
+    ensures { segs.new
+        ≡ write_segment target to
+        (take len (drop from (bytes_of_number number segs.old))) segs.old }
+{
+    let source = place_of_number(segs, number);
+    let place = place_of_number(segs, target);
+    copy_between(segs, source, from, place, to, len);
 }

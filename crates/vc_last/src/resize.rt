@@ -1,6 +1,7 @@
 ghost use Rattle.std.specs.Prelude.{◌≡◌, ◌≢◌, ◌≤◌, false, map, take, true, vec_capacity};
 ghost use Rattle.vc_model.specs.Addr.{place_of};
 ghost use Rattle.vc_model.specs.Best.{without_block_at};
+ghost use Rattle.vc_model.specs.Discipline.{HasOut};
 ghost use Rattle.vc_model.specs.Last.{can_end, latest};
 ghost use Rattle.vc_model.specs.Layout.{footprint, without_block};
 ghost use Rattle.vc_model.specs.Resize.{is_usable, resize_there, sized_block};
@@ -14,10 +15,10 @@ ghost use Rattle.vc_last.specs.Read.{layout_by};
 use crate::head::{before_at, set_before, set_size, size_at, tag_at};
 use crate::place::can_end;
 use crate::put::alloc_in;
+use crate::range::copy_in;
 use std::alloc::Global;
 use vc_base::Addr;
 use vc_seg::{RegionFault, SegDisc, Segment};
-use vc_segments::copy_in;
 
 /// Gives the latest block another size where it is.
 fn resize_there(segs: &mut Vec<Segment>, a: Addr, size: u32)
@@ -77,6 +78,7 @@ fn move_latest(
     requires block { latest.old.0 ≢ 0 }
     requires some { 1 ≤ size }
     requires most { size ≤ 16777216 }
+    requires lent { HasOut (state disc.old) (layout_by segs.old.items latest.old.0).segments }
     requires ends { has_room segs.old.items latest.old.0 size ≡ false }
 
     ensures kept { IsLast segs.new.items latest.new.0 }
@@ -112,6 +114,7 @@ pub(crate) fn resize_in(
     requires block { HasBlock (layout_by segs.old.items at.old.0).blocks a.0 }
     requires some { 1 ≤ size }
     requires most { size ≤ 16777216 }
+    requires lent { HasOut (state disc.old) (layout_by segs.old.items at.old.0).segments }
 
     ensures kept { IsLast segs.new.items at.new.0 }
     ensures room { vec_capacity segs.new ≡ vec_capacity segs.old }

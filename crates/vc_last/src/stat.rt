@@ -11,7 +11,7 @@ ghost use Rattle.vc_last.specs.Gaps.{gap_end_below, gaps_left, gaps_left_in, run
 
 use crate::head::{before_at, size_at};
 use vc_base::Addr;
-use vc_layouts::Tally;
+use vc_layouts::{Tally, tally_segments};
 use vc_seg::{Segment, Stat, span_of};
 
 /// The sizes of the blocks from the latest back.
@@ -91,18 +91,6 @@ fn tally_gaps(segs: &[Segment], latest: Addr) -> Tally
     let mut tally = Tally::new();
     for segment in segs {
         tally = tally_gaps_in(tally, segs, latest, segment.number(), segment.size());
-    }
-    tally
-}
-
-/// The sizes of segments.
-fn tally_segments(segs: &[Segment]) -> Tally
-    requires { AreSegments segs.now }
-    ensures { result ≡ tally_of (map (λ s. s.1) (map pair_of segs.now)) }
-{
-    let mut tally = Tally::new();
-    for segment in segs {
-        tally = tally.with(segment.size());
     }
     tally
 }

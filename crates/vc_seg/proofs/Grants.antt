@@ -1,31 +1,61 @@
 -- One more segment under a number that none has.
-use Rattle.std.proofs.Common.{◌≡◌, ℕ, zero, suc, ◌<◌, ◌≤◌, ◌≢◌, List, [], ◌∷◌, ◌++◌, false, length, get_or, map, subst, sym, eqb, arith}
-use Rattle.std.proofs.lemmas.Bool.{or_parts, eqb-false}
-use Rattle.std.proofs.lemmas.List.{length_push, length-replicate}
+use Rattle.std.proofs.Common.{◌≡◌, ℕ, zero, suc, ◌<◌, ◌≤◌, ◌≢◌, List, [], ◌∷◌, ◌++◌, All, true, false, length, get_or, map, ap, subst, sym, ◌∙◌, refl, ⊎_elim, eqb, ltb, arith}
+use Rattle.std.specs.Prelude.{IfOk, Ok, Err}
+use Rattle.std.specs.declared.result.Result.{Result}
+use Rattle.std.proofs.lemmas.Bool.{cases_Bool, or_parts, eqb-false, lt-ltb, ltb-true}
+use Rattle.std.proofs.lemmas.List.{get_or-map, length-map, length_push, length-replicate}
 use Rattle.std.proofs.lemmas.List.Elements.{All-push}
 use Rattle.std.proofs.lemmas.List.Quantifiers.{all_pairs_push}
-use Rattle.vc_model.specs.Discipline.{IsSegmentSize}
-use Rattle.vc_model.specs.Segments.{lowest_unused, numbers}
+use Rattle.vc_model.specs.Discipline.{IsSegmentSize, Terms}
+use Rattle.vc_model.specs.Segments.{Grant, Granted, TooMany, ask, lowest_unused, new_segment, numbers}
+use Rattle.vc_seg.specs.Lend.{IsGrantOf}
 use Rattle.vc_seg.specs.Segment.{AreSegments, Bytes, IsRegionSegment, pair_of, zero_segment}
+use Rattle.vc_seg.specs.declared.fault.RegionFault.{RegionFault}
 use Rattle.vc_seg.proofs.Backs.{Apart}
 use Rattle.vc_seg.proofs.Unused.{is_among, lowest_unused-unused}
 
-pub apart_from_among : (n : ℕ) (segs : List Bytes) → is_among n (numbers (map pair_of segs)) ≡ false → (k : ℕ) (d : Bytes) → k < length segs → (get_or segs k d).number ≢ n
-apart_from_among n [] h k d lt = absurd (omega arith)
-apart_from_among n (s ∷ ss) h zero d lt = eqb-false s.number n ((or_parts (eqb s.number n) (is_among n (numbers (map pair_of ss))) h).0)
-apart_from_among n (s ∷ ss) h (suc k) d lt = apart_from_among n ss ((or_parts (eqb s.number n) (is_among n (numbers (map pair_of ss))) h).1) k d (omega arith)
+unused-apart : (n : ℕ) (ss : List (ℕ × ℕ)) → is_among n (numbers ss) ≡ false → All (λ s. s.0 ≢ n) ss
+unused-apart n [] h = λ k d lt. absurd (omega arith)
+unused-apart n (s ∷ ss) h =
+    let both = or_parts (eqb s.0 n) (is_among n (numbers ss)) h in
+    λ k d lt. at both.0 (unused-apart n ss both.1) k d lt
+  where
+    at : eqb s.0 n ≡ false → All (λ t. t.0 ≢ n) ss → All (λ t. t.0 ≢ n) (s ∷ ss)
+    at e rest zero d lt = eqb-false s.0 n e
+    at e rest (suc k) d lt = rest k d (omega arith)
 
-pub unused-lowest : (n : ℕ) (segs : List Bytes) → n ≡ lowest_unused (numbers (map pair_of segs)) → is_among n (numbers (map pair_of segs)) ≡ false
-unused-lowest n segs e = subst (λ m. is_among m (numbers (map pair_of segs)) ≡ false) (sym e) (lowest_unused-unused (numbers (map pair_of segs)))
+-- what is lent under the least number that isn't used is what is granted
+pub grant-of : (terms : Terms) (bytes n : ℕ) (ss : List (ℕ × ℕ)) → length ss < 1023 → n ≡ lowest_unused (numbers ss) → 1 ≤ n → n ≤ 1023 → (result : Result Bytes RegionFault) → IfOk result (λ s. s ≡ zero_segment n bytes) → IfOk result (IsGrantOf terms bytes ss)
+grant-of terms bytes n ss few is first last (Err e) h = tt
+grant-of terms bytes n ss few is first last (Ok s) h =
+    subst (IsGrantOf terms bytes ss) (sym h)
+    (record {
+      granted = rw (lt-ltb (length ss) 1023 few) (ap (λ k. Granted (new_segment k bytes)) (sym is));
+      zeros = refl;
+      first = first;
+      last = last;
+      fresh = unused-apart n ss (ap (λ k. is_among k (numbers ss)) is ∙ lowest_unused-unused (numbers ss));
+    })
 
-pub IsRegionSegment-zeroed : (n bytes : ℕ) → 1 ≤ n → n ≤ 1023 → IsSegmentSize bytes → IsRegionSegment (zero_segment n bytes)
-IsRegionSegment-zeroed n bytes first last size = record { first = first; last = last; size = subst IsSegmentSize (sym (length-replicate {A = ℕ} bytes 0)) size }
+-- a new segment is granted only to a region with less than 1,023
+few-granted : (terms : Terms) (bytes : ℕ) (ss : List (ℕ × ℕ)) (g : Grant) → ask terms bytes ss false ≡ Granted g → length ss < 1023
+few-granted terms bytes ss g h =
+    ⊎_elim
+    (λ (t : ltb (length ss) 1023 ≡ true). ltb-true (length ss) 1023 t)
+    (λ (t : ltb (length ss) 1023 ≡ false). let none : TooMany ≡ Granted g = rw t at h in absurd (cc))
+    (cases_Bool (ltb (length ss) 1023))
 
-pub AreSegments-push : (segs : List Bytes) (b : Bytes) → AreSegments segs → length segs < 1023 → IsRegionSegment b → is_among b.number (numbers (map pair_of segs)) ≡ false → AreSegments (segs ++ b ∷ [])
-AreSegments-push segs b l few here unused =
-    let more = length_push segs b in
+-- the segments of a region with one more
+pub AreSegments-granted : (terms : Terms) (bytes : ℕ) (segs : List Bytes) (s : Bytes) → AreSegments segs → IsSegmentSize bytes → IsGrantOf terms bytes (map pair_of segs) s → AreSegments (segs ++ s ∷ [])
+AreSegments-granted terms bytes segs s h size g =
+    let few = few-granted terms bytes (map pair_of segs) (new_segment s.number bytes) g.granted in
+    let pairs = length-map segs pair_of in
+    let more = length_push segs s in
+    let long : length s.bytes ≡ bytes = ap (λ (t : Bytes). length t.bytes) g.zeros ∙ length-replicate {A = ℕ} bytes 0 in
     record {
       few = omega arith;
-      legal = All-push IsRegionSegment segs b l.legal here;
-      distinct = all_pairs_push Apart segs b l.distinct (apart_from_among b.number segs unused);
+      legal = All-push IsRegionSegment segs s h.legal (record { first = g.first; last = g.last; size = subst IsSegmentSize (sym long) size });
+      distinct =
+          all_pairs_push Apart segs s h.distinct
+          (λ k d lt e. g.fresh k (pair_of d) (omega (arith, lt, length-map segs pair_of)) (ap (λ (p : ℕ × ℕ). p.0) (get_or-map pair_of segs k d (pair_of d) lt) ∙ e));
     }

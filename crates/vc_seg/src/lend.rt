@@ -1,8 +1,11 @@
-ghost use Rattle.std.specs.Prelude.{◌≡◌, ◌%◌, ◌⊎◌, IfErr, IfOk, OnOk, IsErrOf};
+ghost use Rattle.std.specs.Prelude.{◌≡◌, ◌≢◌, ◌%◌, ◌≤◌, ◌⊎◌, Err, IfErr, IfOk, OnOk, IsErrOf, false, length, map};
 ghost use Rattle.vc_model.specs.Discipline.{IsRound, IsSegmentSize, Lent, Unserved};
+ghost use Rattle.vc_model.specs.Segments.{TooMany, ask};
+ghost use Rattle.vc_seg.specs.Lend.{IsAsked, IsGrantOf, IsNoGrant};
 ghost use Rattle.vc_seg.specs.Segment.{zero_segment};
 
-use crate::{LendFault, RegionFault, SegDisc, Segment};
+use crate::number::lowest_unused;
+use crate::{LendFault, Numbered, RegionFault, SegDisc, Segment};
 use std::alloc::Global;
 
 /// The bytes to a multiple of which a discipline's segment sizes are rounded up, a multiple of 32 from 32 to 65,536.
@@ -38,4 +41,33 @@ pub fn lend_segment(
         Err(LendFault::Refused) => Err(RegionFault::NoSegment),
         Err(LendFault::OutOfMemory) => Err(RegionFault::OutOfMemory),
     }
+}
+
+/// A segment of zeros that a discipline lends to a region with these, under the least number that none of them has, of so
+/// many bytes. `TooManySegments` comes exactly where there are 1,023, `NoSegment` where the discipline refuses, and
+/// `OutOfMemory` for want of memory.
+pub fn lend_next<T: Numbered>(
+    segs: &[T],
+    disc: &mut Box<dyn SegDisc>,
+    alloc: Global,
+    bytes: u32,
+) -> Result<Segment, RegionFault>
+    requires few { length segs.now ≤ 1023 }
+    requires bytes { IsSegmentSize bytes }
+    requires multiple { bytes % (state disc.old).terms.round ≡ 0 }
+
+    ensures granted { IfOk result (λ s. IsGrantOf (state disc.old).terms bytes
+        (map T.pair segs.now) s) }
+    ensures lent { IfOk result (λ s. Lent (state disc.old) (state disc.new) s.number bytes) }
+
+    ensures fault { IfErr result (IsNoGrant (state disc.old).terms bytes (map T.pair segs.now)) }
+    ensures may { IsErrOf result RegionFault.OutOfMemory
+        → ask (state disc.old).terms bytes (map T.pair segs.now) false ≢ TooMany }
+    ensures refused { IfErr result (λ e. IsAsked (Err e) (state disc.old) (state disc.new) bytes) }
+{
+    if segs.len() >= 1023 {
+        return Err(RegionFault::TooManySegments);
+    }
+    let number = lowest_unused(segs);
+    lend_segment(disc, alloc, number, bytes)
 }

@@ -4,11 +4,15 @@ use Rattle.std.proofs.lemmas.List.Sums.{length-filter, count_by-le-length}
 use Rattle.vc_model.specs.Compact.{compacted_layout, is_occupied}
 use Rattle.vc_model.specs.Layout.{Layout}
 use Rattle.vc_seg.specs.Segment.{Bytes, pair_of}
+use Rattle.vc_seg.proofs.Backs.{AreNumbered-segments}
 use Rattle.vc_last.specs.Chain.{blocks_from}
 use Rattle.vc_last.specs.Read.{layout_by}
 use Rattle.vc_last.proofs.Kept.{layout-from}
 use Rattle.vc_last.proofs.Marks.{compacted-kept, compacted-layout, took-by}
 use Rattle.vc_last.proofs.compact.compact_in.Goals as goal
+
+pub give_back-requires-clause-segments : goal.give_back-requires-clause-segments
+give_back-requires-clause-segments g c = AreNumbered-segments c.args.segs.now.items c.requires.kept.segments
 
 pub give_back-requires-clause-out : goal.give_back-requires-clause-out
 give_back-requires-clause-out g c = (c.requires.out.0, c.requires.out.1 ∙ ap (λ ss. c.requires.out.0 ++ ss) (ap (λ (r : Layout ℕ). r.segments) (layout-from c.args.segs.now.items c.args.latest.0)))

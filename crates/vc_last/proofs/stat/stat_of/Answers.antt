@@ -6,7 +6,8 @@ use Rattle.vc_model.specs.Numbers.{block_bytes, block_count, block_sizes, gap_by
 use Rattle.vc_seg.specs.Segment.{pair_of}
 use Rattle.vc_layouts.specs.declared.tally.Tally.{Tally}
 use Rattle.vc_layouts.specs.Tally.{tally_of}
-use Rattle.vc_layouts.proofs.Tallies.{tally_of-count, tally_of-bytes, tally_of-most}
+use Rattle.vc_seg.proofs.Backs.{AreNumbered-segments}
+use Rattle.vc_layouts.proofs.Tallies.{HasRoom-segments, tally_of-count, tally_of-bytes, tally_of-most}
 use Rattle.vc_last.specs.Chain.{blocks_from}
 use Rattle.vc_last.proofs.Backs.{HasRoom-blocks}
 use Rattle.vc_last.proofs.Kept.{layout-from, row-of}
@@ -20,6 +21,9 @@ tally_blocks-blocks-requires-clause-room c = HasRoom-blocks c.args.segs.now c.ar
 pub tally_gaps-gaps-requires-clause-room : goal.tally_gaps-gaps-requires-clause-room
 tally_gaps-gaps-requires-clause-room c =
     HasRoom-gaps (row (map pair_of c.args.segs.now) (blocks_from c.args.segs.now c.args.latest.0)) (row-of c.args.segs.now c.args.latest.0 (blocks_from c.args.segs.now c.args.latest.0) c.requires) c.args.segs.now c.requires.segments refl
+
+pub tally_segments-segments-requires : goal.tally_segments-segments-requires
+tally_segments-segments-requires c = HasRoom-segments (map pair_of c.args.segs.now) (AreNumbered-segments c.args.segs.now c.requires.segments)
 
 pub returns : goal.returns
 returns c =
