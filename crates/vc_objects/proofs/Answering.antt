@@ -7,7 +7,8 @@ use Rattle.vc_base.specs.Holders.{contains}
 use Rattle.vc_base.specs.declared.fault.OutOfMemory.{OutOfMemory}
 use Rattle.vc_base.proofs.Members.{apart-front, apart-rest}
 use Rattle.vc_model.specs.Best.{best_need}
-use Rattle.vc_model.specs.Discipline.{Discipline, Terms, Unserved}
+use Rattle.vc_model.specs.Discipline.{Discipline, NoneRefused, Served, Terms, Unserved}
+use Rattle.vc_model.proofs.Keeping.{NoneRefused-equal, NoneRefused-served, NoneRefused-trans}
 use Rattle.vc_model.specs.Outcome as model
 use Rattle.vc_model.specs.Outcome.{Fault, Outcome, Done, Refused, Put}
 use Rattle.vc_dict.specs.Methods.{wanted_by}
@@ -18,6 +19,7 @@ use Rattle.vc_dtlist.proofs.HolderLemmas.{apart-append}
 use Rattle.vc_seg.specs.Answer.{Asks, IsPut, IsRefusal}
 use Rattle.vc_seg.specs.declared.fault.RegionFault.{RegionFault}
 use Rattle.vc_seg.specs.declared.fault.RegionFault.TheVariants as code
+use Rattle.vc_best.specs.Parts.{disc_in, segments_in}
 use Rattle.vc_best.specs.declared.best.Best.{Best}
 use Rattle.vc_best.proofs.RestAlloc.{refusal-kept}
 use Rattle.vc_objects.specs.declared.fate.Fate.TheVariants.{Stored, NoTable, NoHolder}
@@ -124,15 +126,24 @@ module _ (rules : Rules) (terms : Terms) (r : Layout ℕ) (d : Dictionary) (appe
 
 -- what the discipline says of a block that was asked for, and of one that has no memory
 pub asked-block : (old new : Discipline) (segments segments' : List (ℕ × ℕ)) (size : ℕ) (fault : RegionFault) → Asks (Err fault) old new segments segments' size → RefusedBy fault (Unserved old new size) old new
-asked-block old new segments segments' size code.TooManySegments h = h.faults
+asked-block old new segments segments' size code.TooManySegments h = NoneRefused-served old new segments segments' size h
 asked-block old new segments segments' size code.NoSegment h = h
-asked-block old new segments segments' size code.OutOfMemory h = h.faults
-asked-block old new segments segments' size code.Fixed h = h.faults
-asked-block old new segments segments' size code.PoolSize h = h.faults
-asked-block old new segments segments' size code.NotLast h = h.faults
-asked-block old new segments segments' size code.WrongMethod h = h.faults
+asked-block old new segments segments' size code.OutOfMemory h = NoneRefused-served old new segments segments' size h
+asked-block old new segments segments' size code.Fixed h = NoneRefused-served old new segments segments' size h
+asked-block old new segments segments' size code.PoolSize h = NoneRefused-served old new segments segments' size h
+asked-block old new segments segments' size code.NotLast h = NoneRefused-served old new segments segments' size h
+asked-block old new segments segments' size code.WrongMethod h = NoneRefused-served old new segments segments' size h
 
-pub asked-spent : (P : Type 0) (old new : Discipline) (fault : RegionFault) → want_by fault ≡ None → RefusedBy fault P old new → new.faults ≡ old.faults
+-- a block was put, and then the discipline stays
+pub asked-then : {I : Type 0} {V : I → Type 0} (meaning : (x : I) × V x → Discipline) (old mid new : Best I V) (size : ℕ) → Served (disc_in meaning old) (disc_in meaning mid) (segments_in old) (segments_in mid) size
+    → disc_in meaning new ≡ disc_in meaning mid → NoneRefused (disc_in meaning old) (disc_in meaning new)
+asked-then meaning old mid new size served stays =
+    let a = disc_in meaning old in
+    let b = disc_in meaning mid in
+    let c = disc_in meaning new in
+    NoneRefused-trans a b c (NoneRefused-served a b (segments_in old) (segments_in mid) size served) (NoneRefused-equal b c stays)
+
+pub asked-spent : (P : Type 0) (old new : Discipline) (fault : RegionFault) → want_by fault ≡ None → RefusedBy fault P old new → NoneRefused old new
 asked-spent P old new code.TooManySegments e h = h
 asked-spent P old new code.NoSegment e h = absurd (none-some NoSegment (sym e))
 asked-spent P old new code.OutOfMemory e h = h
@@ -155,23 +166,23 @@ asked-no_table wanted bytes old new fault want e h = by fault e h
     by code.NotLast e h = subst (λ w. AskedForObject {E = OutOfMemory} (Ok (NoTable w)) wanted bytes old new) (same_Some TooManySegments want e) h
     by code.WrongMethod e h = subst (λ w. AskedForObject {E = OutOfMemory} (Ok (NoTable w)) wanted bytes old new) (same_Some TooManySegments want e) h
 
-lacks-behind : (wanted : Option ℕ) (bytes : List ℕ) (old mid new : Discipline) → (wanted ≡ None → mid ≡ old) → mid.terms ≡ old.terms → mid.faults ≡ old.faults → LacksHolder None bytes mid new → LacksHolder wanted bytes old new
-lacks-behind None bytes old mid new same terms faults h = subst (λ d. LacksHolder None bytes d new) (same refl) h
-lacks-behind (Some slots) bytes old mid new same terms faults h =
-    record { between = mid; terms = terms; grown = faults; unserved = subst (λ t. Unserved mid new (best_need t (holder_size bytes) 32)) terms h }
+lacks-behind : (wanted : Option ℕ) (bytes : List ℕ) (old mid new : Discipline) → (wanted ≡ None → mid ≡ old) → NoneRefused old mid → LacksHolder None bytes mid new → LacksHolder wanted bytes old new
+lacks-behind None bytes old mid new same grown h = subst (λ d. LacksHolder None bytes d new) (same refl) h
+lacks-behind (Some slots) bytes old mid new same grown h =
+    record { between = mid; grown = grown; unserved = subst (λ t. Unserved mid new (best_need t (holder_size bytes) 32)) grown.kept.terms h }
 
-pub asked-no_holder : (wanted : Option ℕ) (bytes : List ℕ) (old mid new : Discipline) (fault : RegionFault) (want : Want) → want_by fault ≡ Some want → (wanted ≡ None → mid ≡ old) → mid.terms ≡ old.terms → mid.faults ≡ old.faults
+pub asked-no_holder : (wanted : Option ℕ) (bytes : List ℕ) (old mid new : Discipline) (fault : RegionFault) (want : Want) → want_by fault ≡ Some want → (wanted ≡ None → mid ≡ old) → NoneRefused old mid
     → RefusedBy fault (LacksHolder None bytes mid new) mid new → AskedForObject {E = OutOfMemory} (Ok (NoHolder want)) wanted bytes old new
-asked-no_holder wanted bytes old mid new fault want e same terms faults h = by fault e h
+asked-no_holder wanted bytes old mid new fault want e same grown h = by fault e h
   where
     by : (fault : RegionFault) → want_by fault ≡ Some want → RefusedBy fault (LacksHolder None bytes mid new) mid new → AskedForObject {E = OutOfMemory} (Ok (NoHolder want)) wanted bytes old new
-    by code.TooManySegments e h = subst (λ w. AskedForObject {E = OutOfMemory} (Ok (NoHolder w)) wanted bytes old new) (same_Some TooManySegments want e) (h ∙ faults)
-    by code.NoSegment e h = subst (λ w. AskedForObject {E = OutOfMemory} (Ok (NoHolder w)) wanted bytes old new) (same_Some NoSegment want e) (lacks-behind wanted bytes old mid new same terms faults h)
+    by code.TooManySegments e h = subst (λ w. AskedForObject {E = OutOfMemory} (Ok (NoHolder w)) wanted bytes old new) (same_Some TooManySegments want e) (NoneRefused-trans old mid new grown h)
+    by code.NoSegment e h = subst (λ w. AskedForObject {E = OutOfMemory} (Ok (NoHolder w)) wanted bytes old new) (same_Some NoSegment want e) (lacks-behind wanted bytes old mid new same grown h)
     by code.OutOfMemory e h = absurd (none-some want e)
-    by code.Fixed e h = subst (λ w. AskedForObject {E = OutOfMemory} (Ok (NoHolder w)) wanted bytes old new) (same_Some TooManySegments want e) (h ∙ faults)
-    by code.PoolSize e h = subst (λ w. AskedForObject {E = OutOfMemory} (Ok (NoHolder w)) wanted bytes old new) (same_Some TooManySegments want e) (h ∙ faults)
-    by code.NotLast e h = subst (λ w. AskedForObject {E = OutOfMemory} (Ok (NoHolder w)) wanted bytes old new) (same_Some TooManySegments want e) (h ∙ faults)
-    by code.WrongMethod e h = subst (λ w. AskedForObject {E = OutOfMemory} (Ok (NoHolder w)) wanted bytes old new) (same_Some TooManySegments want e) (h ∙ faults)
+    by code.Fixed e h = subst (λ w. AskedForObject {E = OutOfMemory} (Ok (NoHolder w)) wanted bytes old new) (same_Some TooManySegments want e) (NoneRefused-trans old mid new grown h)
+    by code.PoolSize e h = subst (λ w. AskedForObject {E = OutOfMemory} (Ok (NoHolder w)) wanted bytes old new) (same_Some TooManySegments want e) (NoneRefused-trans old mid new grown h)
+    by code.NotLast e h = subst (λ w. AskedForObject {E = OutOfMemory} (Ok (NoHolder w)) wanted bytes old new) (same_Some TooManySegments want e) (NoneRefused-trans old mid new grown h)
+    by code.WrongMethod e h = subst (λ w. AskedForObject {E = OutOfMemory} (Ok (NoHolder w)) wanted bytes old new) (same_Some TooManySegments want e) (NoneRefused-trans old mid new grown h)
 
 abbrev tables : Dictionary → List ℕ
 tables g = map (λ (x : Table). x.at) (option_list g.table)

@@ -1,11 +1,12 @@
 -- A table that a change of method needs is brought, or not.
 use Rattle.std.proofs.Common.{◌≡◌, ◌≢◌, ℕ, ◌*◌, [], Bool, false, Some, None, length, refl, sym, ap, ◌∙◌, subst}
-use Rattle.std.specs.Prelude.{Ok, Option, ◌==◌, if◌then◌else◌}
+use Rattle.std.specs.Prelude.{Ok, Option, if◌then◌else◌}
 use Rattle.std.proofs.lemmas.Bool.{eq-eqb, ne_eqb}
 use Rattle.vc_model.specs.Layout.{Layout}
 use Rattle.vc_base.specs.declared.dict_method.DictMethod.{DictMethod}
 use Rattle.vc_base.specs.Cells.{Blocks}
 use Rattle.vc_model.specs.Discipline.{Discipline, Terms}
+use Rattle.vc_model.proofs.Keeping.{NoneRefused-same}
 use Rattle.vc_model.specs.Outcome.{Outcome, Done, Refused, Put}
 use Rattle.vc_dict.specs.Methods.{slots_between}
 use Rattle.vc_dtdisc.specs.Rules.{Gone, Rules}
@@ -56,7 +57,7 @@ brings-none meaning best wanted none =
       answer = ((refl, refl), record { wants = refl; none = λ zero. refl; same = λ zero. refl; made = λ some. absurd (some refl); fresh = λ some. absurd (some refl) });
       disc = keeps-same _ _ _ _ refl refl;
       labelled = refl;
-      asked = refl;
+      asked = NoneRefused-same _;
     })
 
 module _ (rules : Rules) (terms : Terms) (method : DictMethod) (r : Layout ℕ) (d : Dictionary) (count : ℕ) (other : method ≢ d.method) (counts : length d.objects ≡ count) where

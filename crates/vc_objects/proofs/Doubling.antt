@@ -3,6 +3,7 @@ use Rattle.std.proofs.Common.{◌≡◌, ℕ, zero, suc, ◌+◌, ◌*◌, ◌^�
 use Rattle.std.specs.Prelude.{nat_le, if◌then◌else◌}
 use Rattle.std.proofs.Math.Pow.{pow_mono}
 use Rattle.std.proofs.lemmas.Bool.{leb-true}
+use Rattle.vc_seg.specs.OneBlock.{IsSize}
 use Rattle.vc_dthash.specs.Slots.{IsSlots, enough_slots, most_slots, slots_for}
 
 either_slots : (t : Bool) (s r : ℕ) → IsSlots s → IsSlots r → IsSlots (if t then s else r)
@@ -46,3 +47,11 @@ slots-most s is =
     let p : 2 ^ is.doublings ≤ 2 ^ 17 = pow_mono {i = is.doublings} {j = 17} is.few in
     let value = is.value in
     omega (arith, p, value)
+
+-- a table is a block of a size that a region puts
+pub table-sized : (s : ℕ) → IsSlots s → IsSize (8 * s)
+table-sized s is =
+    let most = slots-most s is in
+    let p : 2 ^ 0 ≤ 2 ^ is.doublings = pow_mono {i = 0} {j = is.doublings} (omega arith) in
+    let value = is.value in
+    record { some = omega (arith, p, value); most = omega (arith, most) }

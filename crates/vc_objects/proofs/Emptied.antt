@@ -124,9 +124,9 @@ module _ {I : Type 0} {V : I → Type 0} (meaning : (x : I) × V x → Disciplin
 
   module _ (passed : ℕ) (mid : Best I V) (dict : Dict) (told : Gone) (e : Emptying meaning rules before old gone passed mid dict told) where
     -- one more goes
-    pub emptying-next : (rules' : Rules) (after : Best I V) (new : Dict) (told' : Gone) → rules' ≡ rules → passed < length (dictionary_in old before).objects
-        → Empties meaning (first_out (rest_in mid) (dictionary_in dict mid)) rules' mid dict told after new told' → Emptying meaning rules before old gone (passed + 1) after new told'
-    emptying-next rules' after new told' same more step =
+    pub emptying-next : (rules' rules'' : Rules) (after : Best I V) (new : Dict) (told' : Gone) → rules' ≡ rules → passed < length (dictionary_in old before).objects
+        → Empties meaning (first_out (rest_in mid) (dictionary_in dict mid)) rules' rules'' mid dict told after new told' → Emptying meaning rules before old gone (passed + 1) after new told'
+    emptying-next rules' rules'' after new told' same more step =
         let r = rest_in mid in
         let d = dictionary_in dict mid in
         let next = remove_first r d in
@@ -160,8 +160,9 @@ module _ {I : Type 0} {V : I → Type 0} (meaning : (x : I) × V x → Disciplin
       none : (dictionary_in dict mid).objects ≡ []
       none = none_left (dictionary_in dict mid).objects (let c = e.count in omega (arith, c, all))
 
-      pub emptying-all : Empties meaning (all_out (rest_in before) (dictionary_in old before)) rules before old gone mid dict told
-      emptying-all = record {
+      pub emptying-all : (rules' : Rules) → rules' ≡ rules → Empties meaning (all_out (rest_in before) (dictionary_in old before)) rules rules' before old gone mid dict told
+      emptying-all rules' kind = record {
+        kind = kind;
         region = sym (ap (λ os. freed_all (rest_in mid) os) none) ∙ e.region;
         dict = emptied-none rules dict (cells_in mid) e.leaves.whole none ∙ e.dict;
         leaves = e.leaves;

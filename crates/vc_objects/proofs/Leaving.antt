@@ -4,7 +4,8 @@ use Rattle.std.specs.Prelude.{Err, IsSome}
 use Rattle.std.proofs.lemmas.Bool.{cases_Bool, true≢false}
 use Rattle.vc_base.specs.Cells.{Blocks}
 use Rattle.vc_base.specs.Holders.{contains}
-use Rattle.vc_model.specs.Discipline.{Discipline, Served}
+use Rattle.vc_model.specs.Discipline.{Discipline, HasOut, Served}
+use Rattle.vc_model.proofs.Keeping.{Kept-same, Kept-trans}
 use Rattle.vc_seg.specs.Answer.{Asks}
 use Rattle.vc_seg.specs.declared.fault.RegionFault.{RegionFault}
 use Rattle.vc_seg.specs.declared.fault.RegionFault.TheVariants as code
@@ -31,21 +32,21 @@ none-at r = none (cells_in r 0) (λ there. let is = (cells-addresses r 0 there).
 pub keeps-same : (d e : Discipline) (s t : List (ℕ × ℕ)) → e ≡ d → t ≡ s → KeepsDisc d e s t
 keeps-same d e s t same segments =
     subst (λ c. KeepsDisc d c s t) (sym same) (subst (λ u. KeepsDisc d d s u) (sym segments)
-    (record { kept = record { terms = refl; faults = omega arith }; out = λ rest is. is }))
+    (record { kept = Kept-same d; out = λ rest is. is }))
 
 pub keeps-trans : (a b c : Discipline) (s t u : List (ℕ × ℕ)) → KeepsDisc a b s t → KeepsDisc b c t u → KeepsDisc a c s u
 keeps-trans a b c s t u first second =
-    let more = first.kept.faults in
-    let most = second.kept.faults in
     record {
-      kept = record { terms = second.kept.terms ∙ first.kept.terms; faults = omega (arith, more, most) };
+      kept = Kept-trans a b c first.kept second.kept;
       out = λ rest is. second.out rest (first.out rest is);
     }
 
 pub served-keeps : (old new : Discipline) (s t : List (ℕ × ℕ)) (size : ℕ) → Served old new s t size → KeepsDisc old new s t
-served-keeps old new s t size served =
-    let faults = served.faults in
-    record { kept = record { terms = served.terms; faults = omega (arith, faults) }; out = served.out }
+served-keeps old new s t size served = record { kept = served.kept; out = served.out }
+
+-- the segments that were out are those that are, where they are kept
+pub keeps-out : (old new : Discipline) (s t : List (ℕ × ℕ)) → KeepsDisc old new s t → HasOut old s → HasOut new t
+keeps-out old new s t keeps lent = (lent.0, keeps.out lent.0 lent.1)
 
 -- where no block was put
 pub asked-keeps : (old new : Discipline) (s t : List (ℕ × ℕ)) (size : ℕ) (fault : RegionFault) → t ≡ s → Asks (Err fault) old new s t size → KeepsDisc old new s t

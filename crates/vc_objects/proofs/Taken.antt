@@ -184,9 +184,10 @@ module _ {I : Type 0} {V : I → Type 0} (rules : Rules) (before mid : Best I V)
     gives-taken = record { region = sym region-taken; dict = sym dict-after; gone = ap (λ z. Some z) (sym object-stays) }
 
     -- so it is with the object that was asked for, of which its kind is told where that is wanted
-    pub takes-found : (o : Option Object) (tells : Bool) (out : List ℕ) (told told' : Gone) → o ≡ Some (object_of (cells_in before) at) → out ≡ object_at (cells_in mid) at
-        → told' ≡ told_if tells (Some (object_at (cells_in mid) at)) told → TakesOut meaning (remove_found (rest_in before) (dictionary_in old before) o) rules tells true out before old told after new told'
-    takes-found o tells out told told' is copied gone = record {
+    pub takes-found : (rules' : Rules) → rules' ≡ rules → (o : Option Object) (tells : Bool) (out : List ℕ) (told told' : Gone) → o ≡ Some (object_of (cells_in before) at) → out ≡ object_at (cells_in mid) at
+        → told' ≡ told_if tells (Some (object_at (cells_in mid) at)) told → TakesOut meaning (remove_found (rest_in before) (dictionary_in old before) o) rules rules' tells true out before old told after new told'
+    takes-found rules' kind o tells out told told' is copied gone = record {
+      kind = kind;
       given =
           subst (λ z. GivesRemoved (remove_found (rest_in before) (dictionary_in old before) z) (rest_in after) (dictionary_in new after) (Some out)) (sym is)
           (subst (λ z. GivesRemoved (remove_found (rest_in before) (dictionary_in old before) (Some (object_of (cells_in before) at))) (rest_in after) (dictionary_in new after) (Some z)) (sym copied) gives-taken);
@@ -198,8 +199,9 @@ module _ {I : Type 0} {V : I → Type 0} (rules : Rules) (before mid : Best I V)
 
 -- none was asked for
 pub takes-none : {I : Type 0} {V : I → Type 0} (meaning : (x : I) × V x → Discipline) (rules : Rules) (before after : Best I V) (old new : Dict) (o : Option Object) (tells : Bool) (out : List ℕ) (told : Gone)
-    → o ≡ None → Looks meaning rules before old after new → out ≡ [] → TakesOut meaning (remove_found (rest_in before) (dictionary_in old before) o) rules tells false out before old told after new told
+    → o ≡ None → Looks meaning rules before old after new → out ≡ [] → TakesOut meaning (remove_found (rest_in before) (dictionary_in old before) o) rules rules tells false out before old told after new told
 takes-none meaning rules before after old new o tells out told none looks empty = record {
+  kind = refl;
   given =
       subst (λ z. GivesRemoved (remove_found (rest_in before) (dictionary_in old before) z) (rest_in after) (dictionary_in new after) None) (sym none)
       (record { region = sym looks.region; dict = sym looks.dict; gone = refl });

@@ -7,12 +7,13 @@ use Rattle.vc_base.specs.Cells.{Blocks, put}
 use Rattle.vc_base.specs.declared.addr.Addr.{Addr}
 use Rattle.vc_base.proofs.CellsLemmas.{put_same}
 use Rattle.vc_model.specs.Addr.{place_of}
-use Rattle.vc_model.specs.Best.{best_alloc, without_block_at, zeros}
+use Rattle.vc_model.specs.Best.{best_alloc, without_block_at}
 use Rattle.vc_model.specs.Discipline.{Terms}
-use Rattle.vc_model.specs.Layout.{Block, Layout, without_block}
+use Rattle.vc_model.specs.Layout.{Block, Layout}
 use Rattle.vc_model.specs.Touch.{HasBlock, find_block}
 use Rattle.vc_model.proofs.Owned.{found-has}
 use Rattle.vc_seg.specs.Answer.{Answers}
+use Rattle.vc_seg.specs.OneBlock.{IsBlockPut}
 use Rattle.vc_seg.specs.declared.fault.RegionFault.{RegionFault}
 use Rattle.vc_best.specs.CellLaws.{cells-addresses}
 use Rattle.vc_best.specs.Parts.{blocks_in}
@@ -44,24 +45,23 @@ cell-label bs a there =
 
 -- an unlabelled block is put, where one is, and is a new cell
 pub alloc-made : {I : Type 0} {V : I → Type 0} (before after : Best I V) (size : ℕ) (result : Result Addr RegionFault)
-    → IfOk result (λ a. find_block (place_of a.0) (blocks_in after) ≡ Some (zeros 0 size (place_of a.0))) → IfOk result (λ a. without_block (place_of a.0) (blocks_in after) ≡ blocks_in before)
-    → IfOk result (λ a. ¬ HasBlock (blocks_in before) a.0) → IfOk result (λ a. MakesCell (cells_in before) size a.0 (cells_in after))
-alloc-made before after size (Ok a) there others fresh =
-    let cells : cells_in after ≡ put a.0 (replicate size 0) (cells_in before) = cells-more a.0 size (blocks_in before) (blocks_in after) there others in
+    → IfOk result (λ a. IsBlockPut 0 size a.0 (blocks_in before) (blocks_in after)) → IfOk result (λ a. MakesCell (cells_in before) size a.0 (cells_in after))
+alloc-made before after size (Ok a) is =
+    let cells : cells_in after ≡ put a.0 (replicate size 0) (cells_in before) = cells-more a.0 size (blocks_in before) (blocks_in after) is.there is.others in
     let shows : cells_in after a.0 ≡ Some (replicate size 0) = ap (λ (f : Blocks). f a.0) cells ∙ put_same a.0 (replicate size 0) (cells_in before) in
     record {
       cells = cells;
-      fresh = no-block (blocks_in before) a.0 fresh;
+      fresh = no-block (blocks_in before) a.0 is.fresh;
       address = cells-addresses after a.0 (ap is_some shows);
     }
-alloc-made before after size (Err why) there others fresh = tt
+alloc-made before after size (Err why) is = tt
 
 module _ (terms : Terms) (r r' : Layout ℕ) (size : ℕ) where
   pub alloc-labelled : (result : Result Addr RegionFault) → Answers (best_alloc terms r 0 size 32) result r r'
-      → IfOk result (λ a. find_block (place_of a.0) r'.blocks ≡ Some (zeros 0 size (place_of a.0))) → IfOk result (λ a. without_block (place_of a.0) r'.blocks ≡ r.blocks)
+      → IfOk result (λ a. IsBlockPut 0 size a.0 r.blocks r'.blocks)
       → labelled_blocks (zeroed_layout r') ≡ labelled_blocks (zeroed_layout r)
-  alloc-labelled (Ok a) answer there others = labelled-put r r' a.0 size there others
-  alloc-labelled (Err why) answer there others = ap (λ (q : Layout ℕ). labelled_blocks (zeroed_layout q)) answer.1
+  alloc-labelled (Ok a) answer is = labelled-put r r' a.0 size is.there is.others
+  alloc-labelled (Err why) answer is = ap (λ (q : Layout ℕ). labelled_blocks (zeroed_layout q)) answer.1
 
   pub alloc-same : (result : Result Addr RegionFault) → Answers (best_alloc terms r 0 size 32) result r r' → OnErr result (cells_of r'.blocks ≡ cells_of r.blocks)
   alloc-same (Ok a) answer = tt

@@ -5,6 +5,7 @@ use Rattle.vc_base.specs.declared.dict_method.DictMethod.{DictMethod}
 use Rattle.vc_model.specs.Addr.{address, place_of}
 use Rattle.vc_model.specs.Best.{best_alloc, without_block_at}
 use Rattle.vc_model.specs.Discipline.{Terms}
+use Rattle.vc_model.specs.Segments.{Grant}
 use Rattle.vc_model.specs.Outcome as model
 use Rattle.vc_model.specs.Outcome.{Fault, Outcome, Done, Refused, Put}
 use Rattle.vc_base.specs.Methods.{has_table}
@@ -35,11 +36,11 @@ abbrev pub want_of : Fault → Want
 want_of model.NoSegment = NoSegment
 want_of fault = TooManySegments
 
--- a region and a dictionary in it, and the segments that were granted, as number and bytes
+-- a region and a dictionary in it, and what was granted
 pub record Grown (L : Type 0) : Type 0 where
   pub region : Layout L
   pub dict : Dictionary
-  pub granted : List (ℕ × ℕ)
+  pub granted : List Grant
 
 -- a block that was put becomes the table, and the one before it goes
 abbrev pub grown_with : {L : Type 0} → Dictionary → ℕ → Outcome (Put (Layout L)) → Outcome (Grown L)
@@ -82,11 +83,11 @@ with_object rules append bytes d at =
       table = d.table;
     }
 
--- what becomes of an object that is put: the region and the dictionary then, the segments that were granted, and whether it is stored or what it wants
+-- what becomes of an object that is put: the region and the dictionary then, what was granted, and whether it is stored or what it wants
 pub record Inserted (L : Type 0) : Type 0 where
   pub region : Layout L
   pub dict : Dictionary
-  pub granted : List (ℕ × ℕ)
+  pub granted : List Grant
   pub fate : Fate
 
 -- the holder's block was put, or not: a larger table stays

@@ -4,7 +4,7 @@ use Rattle.vc_model.specs.Layout.{Layout}
 use Rattle.vc_base.specs.Holders.{contains}
 use Rattle.vc_model.specs.Addr.{address}
 use Rattle.vc_model.specs.Best.{best_need}
-use Rattle.vc_model.specs.Discipline.{Discipline, Kept, Unserved}
+use Rattle.vc_model.specs.Discipline.{Discipline, Kept, NoneRefused, Unserved}
 use Rattle.vc_model.specs.Outcome.{Outcome, Done, Refused, Put}
 use Rattle.vc_dtdisc.specs.Rules.{Gone, Rules, gone_after}
 use Rattle.vc_dict.specs.declared.dict.Dict.{Dict}
@@ -94,11 +94,10 @@ abbrev pub LacksTable : Option ℕ → Discipline → Discipline → Type 0
 LacksTable None old new = ⊥
 LacksTable (Some slots) old new = Unserved old new (best_need old.terms (table_size slots) 32)
 
--- the table grew with no segment refused, and then one of a size was
+-- the table grew with nothing refused, and then a segment of a size was
 pub record LacksGrown (old new : Discipline) (size : ℕ) : Type 0 where
   pub between : Discipline
-  pub terms : between.terms ≡ old.terms
-  pub grown : between.faults ≡ old.faults
+  pub grown : NoneRefused old between
   pub unserved : Unserved between new size
 
 -- for a holder one was refused, and before it none where the table grew
@@ -106,26 +105,26 @@ abbrev pub LacksHolder : Option ℕ → List ℕ → Discipline → Discipline �
 LacksHolder None bytes old new = Unserved old new (best_need old.terms (holder_size bytes) 32)
 LacksHolder (Some slots) bytes old new = LacksGrown old new (best_need old.terms (holder_size bytes) 32)
 
--- a segment was refused so where a fault tells it, and else none
+-- a segment was refused so where a fault tells it, and else nothing was
 abbrev pub RefusedBy : RegionFault → Type 0 → Discipline → Discipline → Type 0
 RefusedBy code.NoSegment lacks old new = lacks
-RefusedBy why lacks old new = new.faults ≡ old.faults
+RefusedBy why lacks old new = NoneRefused old new
 
 -- what a call that may bring a table asked for, by its answer
 abbrev pub AskedTable : {A : Type 0} → Result A RegionFault → Option ℕ → Discipline → Discipline → Type 0
-AskedTable (Ok done) wanted old new = new.faults ≡ old.faults
+AskedTable (Ok done) wanted old new = NoneRefused old new
 AskedTable (Err why) wanted old new = RefusedBy why (LacksTable wanted old new) old new
 
 -- one that puts a holder, where the table has room
 abbrev pub AskedHolder : {A : Type 0} → Result A RegionFault → List ℕ → Discipline → Discipline → Type 0
-AskedHolder (Ok done) bytes old new = new.faults ≡ old.faults
+AskedHolder (Ok done) bytes old new = NoneRefused old new
 AskedHolder (Err why) bytes old new = RefusedBy why (LacksHolder None bytes old new) old new
 
 -- and one that puts an object, by what becomes of it
 abbrev pub AskedForObject : {E : Type 0} → Result Fate E → Option ℕ → List ℕ → Discipline → Discipline → Type 0
 AskedForObject (Ok (NoTable NoSegment)) wanted bytes old new = LacksTable wanted old new
 AskedForObject (Ok (NoHolder NoSegment)) wanted bytes old new = LacksHolder wanted bytes old new
-AskedForObject answer wanted bytes old new = new.faults ≡ old.faults
+AskedForObject answer wanted bytes old new = NoneRefused old new
 
 -- what taking an object out gives is this
 pub record GivesRemoved (c : Removed ℕ) (r : Layout ℕ) (d : Dictionary) (bytes : Option (List ℕ)) : Type 0 where

@@ -3,7 +3,7 @@ use Rattle.std.specs.Prelude.{◌≡◌, ℕ, List, [], Bool, true, false, Optio
 use Rattle.std.specs.Prelude.{Result, Ok, Err, IfErr, IfOk, OnErr, OnOk, if◌then◌else◌}
 use Rattle.vc_base.specs.declared.dict_method.DictMethod.{DictMethod}
 use Rattle.vc_base.specs.Methods.{is_list, is_set}
-use Rattle.vc_model.specs.Discipline.{Discipline}
+use Rattle.vc_model.specs.Discipline.{Discipline, HasOut}
 use Rattle.vc_model.specs.Layout.{Layout}
 use Rattle.vc_model.specs.Outcome.{Outcome, Put}
 use Rattle.vc_dtdisc.specs.Objects.{bytes_of, first_with}
@@ -34,10 +34,16 @@ module _ {I : Type 0} {V : I → Type 0} where
     pub region : rest_in after ≡ rest_in before
     pub dict : dictionary_in new after ≡ dictionary_in old before
 
-  -- an object may be put into a whole dictionary: in a set none matches, to lists alone is appended
-  pub record CanPut (rules : Rules) (best : Best I V) (dict : Dict)
-      (bytes : List ℕ) (append : Bool) : Type 0 where
+  -- a whole dictionary may want blocks: the segments of its region are out of the discipline
+  pub record CanAsk (meaning : (x : I) × V x → Discipline) (rules : Rules)
+      (best : Best I V) (dict : Dict) : Type 0 where
     pub whole : IsWhole rules dict (cells_in best)
+    pub lent : HasOut (disc_in meaning best) (segments_in best)
+
+  -- an object may be put into it: in a set none matches, to lists alone is appended
+  pub record CanPut (meaning : (x : I) × V x → Discipline) (rules : Rules)
+      (best : Best I V) (dict : Dict) (bytes : List ℕ) (append : Bool) : Type 0 where
+    pub ask : CanAsk meaning rules best dict
     pub lone : is_set dict.method ≡ true
         → first_with bytes_of rules (rules.key bytes) (dictionary_in dict best).objects ≡ None
     pub object : IsObject bytes
@@ -141,7 +147,7 @@ module _ {I : Type 0} {V : I → Type 0} (meaning : (x : I) × V x → Disciplin
     pub asked : AskedTable result wanted (disc_in meaning before) (disc_in meaning after)
 
   -- a dictionary was turned to a method, and its kind told of what went, or no table came and
-  -- nothing changed
+  -- nothing changed; the rules of the kind stay
   abbrev pub AnswersTurn : {A : Type 0} → Result A RegionFault → Rules → DictMethod
       → Best I V → Dict → Gone → Best I V → Dict → Gone → Type 0
   AnswersTurn (Ok done) rules method before old told after new told' =
@@ -152,8 +158,9 @@ module _ {I : Type 0} {V : I → Type 0} (meaning : (x : I) × V x → Disciplin
       × IsStill before old after new × (told' ≡ told)
 
   pub record Turns {A : Type 0} (result : Result A RegionFault)
-      (rules : Rules) (method : DictMethod) (before : Best I V) (old : Dict) (told : Gone)
+      (rules rules' : Rules) (method : DictMethod) (before : Best I V) (old : Dict) (told : Gone)
       (after : Best I V) (new : Dict) (told' : Gone) : Type 0 where
+    pub kind : rules' ≡ rules
     pub answer : AnswersTurn result rules method before old told after new told'
     pub leaves : LeavesRest meaning rules before old after new
     -- what was refused was asked for
@@ -161,10 +168,12 @@ module _ {I : Type 0} {V : I → Type 0} (meaning : (x : I) × V x → Disciplin
         (slots_between old.method method (length (dictionary_in old before).objects))
         (disc_in meaning before) (disc_in meaning after)
 
-  -- an object was taken out, where one was found, and its kind told of it where that is wanted
-  pub record TakesOut (gives : Removed ℕ) (rules : Rules) (tells found : Bool) (out : List ℕ)
+  -- an object was taken out, where one was found, and its kind, whose rules stay, told of it where
+  -- that is wanted
+  pub record TakesOut (gives : Removed ℕ) (rules rules' : Rules) (tells found : Bool) (out : List ℕ)
       (before : Best I V) (old : Dict) (told : Gone)
       (after : Best I V) (new : Dict) (told' : Gone) : Type 0 where
+    pub kind : rules' ≡ rules
     pub given : GivesRemoved gives (rest_in after) (dictionary_in new after)
         (if found then Some out else None)
     pub leaves : LeavesRest meaning rules before old after new
@@ -172,10 +181,11 @@ module _ {I : Type 0} {V : I → Type 0} (meaning : (x : I) × V x → Disciplin
     pub gone : told' ≡ told_if tells (if found then Some out else None) told
     pub nothing : found ≡ false → out ≡ []
 
-  -- objects were taken out, and the kind was told of each
-  pub record Empties (gives : Emptied ℕ) (rules : Rules)
+  -- objects were taken out, and the kind, whose rules stay, was told of each
+  pub record Empties (gives : Emptied ℕ) (rules rules' : Rules)
       (before : Best I V) (old : Dict) (told : Gone)
       (after : Best I V) (new : Dict) (told' : Gone) : Type 0 where
+    pub kind : rules' ≡ rules
     pub region : rest_in after ≡ gives.region
     pub dict : dictionary_in new after ≡ gives.dict
     pub leaves : LeavesRest meaning rules before old after new

@@ -4,6 +4,7 @@ use Rattle.vc_model.specs.Layout.{Layout}
 use Rattle.vc_base.specs.declared.dict_method.DictMethod.{DictMethod}
 use Rattle.vc_model.specs.Addr.{address}
 use Rattle.vc_model.specs.Discipline.{Terms}
+use Rattle.vc_model.specs.Segments.{Grant}
 use Rattle.vc_model.specs.Outcome.{Outcome, Done, Refused, Put}
 use Rattle.vc_base.specs.Methods.{has_table, method_number}
 use Rattle.vc_dict.specs.Methods.{slots_between}
@@ -14,18 +15,18 @@ use Rattle.vc_objects.specs.Insert.{alloc_unlabelled, without_table}
 use Rattle.vc_objects.specs.Objects.{Dictionary, Table, option_list, table_size}
 use Rattle.vc_objects.specs.Remove.{bytes_of, freed_all}
 
--- a region and a dictionary in it, turned; the bytes of the objects that were dropped; and the segments that were granted
+-- a region and a dictionary in it, turned; the bytes of the objects that were dropped; and what was granted
 pub record Turned (L : Type 0) : Type 0 where
   pub region : Layout L
   pub dict : Dictionary
   pub gone : List (List ℕ)
-  pub granted : List (ℕ × ℕ)
+  pub granted : List Grant
 
 -- a region with the table that the new method brings, where it brings one
 pub record Brought (L : Type 0) : Type 0 where
   pub region : Layout L
   pub table : Option Table
-  pub granted : List (ℕ × ℕ)
+  pub granted : List Grant
 
 abbrev pub turn_with : {L : Type 0} → ℕ → Outcome (Put (Layout L)) → Outcome (Brought L)
 turn_with slots (Refused why) = Refused why

@@ -1,6 +1,9 @@
 // Unlabelled blocks of a best region.
-ghost use Rattle.std.specs.Prelude.{◌≤◌, IsSome};
+ghost use Rattle.std.specs.Prelude.{IsSome};
+ghost use Rattle.vc_model.specs.Discipline.{HasOut};
+ghost use Rattle.vc_seg.specs.OneBlock.{IsSize};
 ghost use Rattle.vc_best.specs.Cells.{cells_in};
+ghost use Rattle.vc_best.specs.Parts.{disc_in, segments_in};
 ghost use Rattle.vc_objects.specs.Unlabelled.{FreesCell, PutsCell};
 
 use vc_base::{Addr, Steps};
@@ -12,8 +15,8 @@ struct Uncounted;
 
 // An unlabelled block of zeros, of 1 to 16,777,216 bytes.
 pub(crate) fn alloc_cell(best: &mut Best, size: u32) -> Result<Addr, RegionFault>
-    requires some { 1 ≤ size }
-    requires most { size ≤ 16777216 }
+    requires size { IsSize size }
+    requires lent { HasOut (disc_in state best.old) (segments_in best.old) }
     ensures puts { PutsCell state result best.old size best.new }
 {
     let mut steps = Steps::<Uncounted>::new(best.alloc);

@@ -20,9 +20,8 @@ fn take_one<D: DictDisc>(best: &mut Best, dict: &mut Dict, kind: &mut D)
     requires whole { IsWhole (D.rules kind.old) dict.old (cells_in best.old) }
 
     ensures empties { Empties state
-        (first_out (rest_in best.old) (dictionary_in dict.old best.old)) (D.rules kind.old)
+        (first_out (rest_in best.old) (dictionary_in dict.old best.old)) (D.rules kind.old) (D.rules kind.new)
         best.old dict.old (D.gone kind.old) best.new dict.new (D.gone kind.new) }
-    ensures rules { D.rules kind.new ≡ D.rules kind.old }
 {
     match dict.take_first(best, kind) {
         Some(at) => {
@@ -40,9 +39,8 @@ pub fn empty<D: DictDisc>(best: &mut Best, dict: &mut Dict, kind: &mut D) -> u32
 
     ensures count { result ≡ length (dictionary_in dict.old best.old).objects }
     ensures empties { Empties state
-        (all_out (rest_in best.old) (dictionary_in dict.old best.old)) (D.rules kind.old)
+        (all_out (rest_in best.old) (dictionary_in dict.old best.old)) (D.rules kind.old) (D.rules kind.new)
         best.old dict.old (D.gone kind.old) best.new dict.new (D.gone kind.new) }
-    ensures rules { D.rules kind.new ≡ D.rules kind.old }
 {
     let count = dict.count as u32;
     for _passed in 0..count {

@@ -1,11 +1,10 @@
 // Putting objects into a dictionary.
 ghost use Rattle.std.specs.Prelude.{◌≡◌, ◌+◌, ◌≤◌, None, OnOk, length};
-ghost use Rattle.vc_best.specs.Cells.{cells_in};
 ghost use Rattle.vc_best.specs.Parts.{disc_in};
 ghost use Rattle.vc_objects.specs.Insert.{slots_wanted};
 ghost use Rattle.vc_objects.specs.Leaves.{LeavesRest, want_by};
-ghost use Rattle.vc_objects.specs.Parts.{IsWhole, dictionary_in};
-ghost use Rattle.vc_objects.specs.Promises.{CanPut, Grows, Holds, Inserts, growth_in};
+ghost use Rattle.vc_objects.specs.Parts.{dictionary_in};
+ghost use Rattle.vc_objects.specs.Promises.{CanAsk, CanPut, Grows, Holds, Inserts, growth_in};
 
 use crate::cells::alloc_cell;
 use crate::fate::{Fate, Want};
@@ -29,7 +28,7 @@ fn want_of(fault: RegionFault) -> Option<Want>
 
 // The table grows where one more object wants it.
 fn grow<D: DictDisc>(best: &mut Best, dict: &mut Dict, kind: &D) -> Result<(), RegionFault>
-    requires whole { IsWhole (D.rules kind.now) dict.old (cells_in best.old) }
+    requires ask { CanAsk state (D.rules kind.now) best.old dict.old }
 
     ensures grows { Grows state result (growth_in state best.old dict.old)
         (slots_wanted (dictionary_in dict.old best.old))
@@ -54,7 +53,7 @@ fn hold<D: DictDisc, L>(
     append: bool,
     steps: &mut Steps<L>,
 ) -> Result<(), RegionFault>
-    requires can { CanPut (D.rules kind.now) best.old dict.old object.now append }
+    requires can { CanPut state (D.rules kind.now) best.old dict.old object.now append }
     requires room { slots_wanted (dictionary_in dict.old best.old) ≡ None }
 
     ensures holds { Holds state result (D.rules kind.now) append object.now
@@ -87,7 +86,7 @@ pub fn insert<D: DictDisc, L>(
     append: bool,
     steps: &mut Steps<L>,
 ) -> Result<Fate, OutOfMemory>
-    requires can { CanPut (D.rules kind.now) best.old dict.old object.now append }
+    requires can { CanPut state (D.rules kind.now) best.old dict.old object.now append }
     ensures inserts { Inserts state result (D.rules kind.now) append object.now
         best.old dict.old best.new dict.new }
     ensures compares { steps.new

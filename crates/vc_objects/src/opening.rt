@@ -1,6 +1,7 @@
 ghost use Rattle.std.specs.Prelude.{Some, IfOk, IfErr};
 ghost use Rattle.vc_dtdisc.specs.Rules.{Rules};
-ghost use Rattle.vc_best.specs.Parts.{disc_in};
+ghost use Rattle.vc_model.specs.Discipline.{HasOut};
+ghost use Rattle.vc_best.specs.Parts.{disc_in, segments_in};
 ghost use Rattle.vc_seg.specs.Answer.{IsRefusal};
 ghost use Rattle.vc_objects.specs.Leaves.{AskedTable};
 ghost use Rattle.vc_objects.specs.Promises.{Opens, StaysAll, opening_in};
@@ -13,13 +14,16 @@ use vc_dtdisc::DictDisc;
 use vc_seg::{BoxedDisc, RegionFault, SegDisc};
 
 /// A dictionary with no object in a best region, of a method, by the kind of that number. A set or bag gets a table of 16
-/// slots; where no block is put for it, `TooManySegments`, `NoSegment` or `OutOfMemory` comes, and the region stays.
+/// slots; where no block is put for it, `TooManySegments`, `NoSegment` or `OutOfMemory` comes, and the region stays. The
+/// region's segments are out of its discipline.
 pub fn open<D: DictDisc>(
     best: &mut Best,
     method: DictMethod,
     kind: u32,
     rules: &D,
 ) -> Result<Dict, RegionFault>
+    requires lent { HasOut (disc_in state best.old) (segments_in best.old) }
+
     ensures ok { IfOk result (λ dict. Opens state (D.rules rules.now) method kind
         best.old dict best.new) }
     ensures err { IfErr result (λ why. IsRefusal (opening_in state best.old method) why

@@ -65,11 +65,10 @@ pub fn remove<D: DictDisc, L>(
 
     ensures takes { TakesOut state
         (remove (D.rules kind.old) (rest_in best.old) (dictionary_in dict.old best.old) key.now)
-        (D.rules kind.old) tells result out.new.items
+        (D.rules kind.old) (D.rules kind.new) tells result out.new.items
         best.old dict.old (D.gone kind.old) best.new dict.new (D.gone kind.new) }
     ensures compares { steps.new
         ≤ steps.old + length (dictionary_in dict.old best.old).objects }
-    ensures rules { D.rules kind.new ≡ D.rules kind.old }
 {
     match dict.unlink(best, kind, key, steps) {
         Some(at) => {
@@ -93,9 +92,8 @@ fn remove_first<D: DictDisc>(
 
     ensures takes { TakesOut state
         (remove_first (rest_in best.old) (dictionary_in dict.old best.old))
-        (D.rules kind.old) true result out.new.items
+        (D.rules kind.old) (D.rules kind.new) true result out.new.items
         best.old dict.old (D.gone kind.old) best.new dict.new (D.gone kind.new) }
-    ensures rules { D.rules kind.new ≡ D.rules kind.old }
 {
     match dict.take_first(best, kind) {
         Some(at) => {
@@ -119,9 +117,8 @@ pub fn remove_unnamed<D: DictDisc>(
 
     ensures takes { TakesOut state
         (remove_unnamed (rest_in best.old) (dictionary_in dict.old best.old))
-        (D.rules kind.old) true result out.new.items
+        (D.rules kind.old) (D.rules kind.new) true result out.new.items
         best.old dict.old (D.gone kind.old) best.new dict.new (D.gone kind.new) }
-    ensures rules { D.rules kind.new ≡ D.rules kind.old }
 {
     match dict.method {
         DictMethod::DtStack | DictMethod::DtQueue => remove_first(best, dict, kind, out),

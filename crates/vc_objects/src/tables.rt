@@ -1,6 +1,8 @@
 // The tables of sets and bags.
 ghost use Rattle.std.specs.Prelude.{◌≡◌, ◌≢◌, ℕ, Some, IsSome, OnErr, OnOk};
+ghost use Rattle.vc_model.specs.Discipline.{HasOut};
 ghost use Rattle.vc_best.specs.Cells.{cells_in, rest_in};
+ghost use Rattle.vc_best.specs.Parts.{disc_in, segments_in};
 ghost use Rattle.vc_objects.specs.Unlabelled.{StaysAround};
 ghost use Rattle.vc_objects.specs.Insert.{without_table};
 ghost use Rattle.vc_objects.specs.Leaves.{Leaves};
@@ -37,6 +39,7 @@ pub(crate) fn put_table<D: DictDisc>(
     slots: u32,
 ) -> Result<(), RegionFault>
     requires grows { CanGrow (D.rules kind.now) dict.old (cells_in best.old) slots }
+    requires lent { HasOut (disc_in state best.old) (segments_in best.old) }
 
     ensures grows { Grows state result (table_in state best.old dict.old slots) (Some slots)
         best.old dict.old best.new dict.new }

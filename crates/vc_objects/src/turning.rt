@@ -7,10 +7,11 @@ ghost use Rattle.vc_dtdisc.specs.Rules.{gone_after};
 ghost use Rattle.vc_dthash.specs.Slots.{IsSlots};
 ghost use Rattle.vc_dict.specs.Methods.{slots_between};
 ghost use Rattle.vc_dict.specs.Turned.{AreDropped, behind_dropped};
+ghost use Rattle.vc_model.specs.Discipline.{HasOut};
 ghost use Rattle.vc_best.specs.Cells.{cells_in, rest_in};
+ghost use Rattle.vc_best.specs.Parts.{disc_in, segments_in};
 ghost use Rattle.vc_objects.specs.Unlabelled.{FreesCell, StaysAround};
-ghost use Rattle.vc_objects.specs.Parts.{IsWhole};
-ghost use Rattle.vc_objects.specs.Promises.{Brings, Turns};
+ghost use Rattle.vc_objects.specs.Promises.{Brings, CanAsk, Turns};
 ghost use Rattle.vc_objects.specs.Turning.{CanTurn, Frees, HasDropped, TurnsTo};
 
 use crate::cells::{alloc_cell, free_cell};
@@ -31,6 +32,7 @@ struct NewTable {
 // A table of so many slots.
 fn bring_some(best: &mut Best, slots: u32) -> Result<NewTable, RegionFault>
     requires allowed { IsSlots slots }
+    requires lent { HasOut (disc_in state best.old) (segments_in best.old) }
 
     ensures brings { Brings state result (Some slots) best.old best.new }
 {
@@ -42,6 +44,8 @@ fn bring_some(best: &mut Best, slots: u32) -> Result<NewTable, RegionFault>
 
 // The table that a change to a method needs, or none.
 fn bring(best: &mut Best, dict: &Dict, method: DictMethod) -> Result<NewTable, RegionFault>
+    requires lent { HasOut (disc_in state best.old) (segments_in best.old) }
+
     ensures brings { Brings state result
         (slots_between dict.now.method method dict.now.count) best.old best.new }
 {
@@ -121,11 +125,10 @@ fn turn_other<D: DictDisc, L>(
     steps: &mut Steps<L>,
 ) -> Result<(), RegionFault>
     requires other { method ≢ dict.old.method }
-    requires whole { IsWhole (D.rules kind.old) dict.old (cells_in best.old) }
+    requires ask { CanAsk state (D.rules kind.old) best.old dict.old }
 
-    ensures turns { Turns state result (D.rules kind.old) method
+    ensures turns { Turns state result (D.rules kind.old) (D.rules kind.new) method
         best.old dict.old (D.gone kind.old) best.new dict.new (D.gone kind.new) }
-    ensures rules { D.rules kind.new ≡ D.rules kind.old }
 {
     match bring(best, dict, method) {
         Ok(table) => {
@@ -146,11 +149,10 @@ pub fn turn<D: DictDisc, L>(
     method: DictMethod,
     steps: &mut Steps<L>,
 ) -> Result<(), RegionFault>
-    requires whole { IsWhole (D.rules kind.old) dict.old (cells_in best.old) }
+    requires ask { CanAsk state (D.rules kind.old) best.old dict.old }
 
-    ensures turns { Turns state result (D.rules kind.old) method
+    ensures turns { Turns state result (D.rules kind.old) (D.rules kind.new) method
         best.old dict.old (D.gone kind.old) best.new dict.new (D.gone kind.new) }
-    ensures rules { D.rules kind.new ≡ D.rules kind.old }
 {
     if method == dict.method {
         Ok(())

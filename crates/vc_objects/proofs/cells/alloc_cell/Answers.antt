@@ -1,3 +1,4 @@
+use Rattle.std.proofs.Common.{arith}
 use Rattle.vc_best.specs.Parts.{layout_of}
 use Rattle.vc_best.proofs.RestAlloc.{answers-zeroed}
 use Rattle.vc_objects.proofs.Unlabelled.{alloc-labelled, alloc-made, alloc-same}
@@ -12,8 +13,11 @@ returns g c =
       puts = record {
         answer = answers-zeroed _ old new 0 c.args.size 32 c.alloc.result e.answer;
         asks = e.disc;
-        made = alloc-made c.args.best.now c.alloc.new.self c.args.size c.alloc.result e.there e.others e.fresh;
+        made = alloc-made c.args.best.now c.alloc.new.self c.args.size c.alloc.result e.put;
         same = alloc-same _ old new c.args.size c.alloc.result e.answer;
-        labelled = alloc-labelled _ old new c.args.size c.alloc.result e.answer e.there e.others;
+        labelled = alloc-labelled _ old new c.args.size c.alloc.result e.answer e.put;
       };
     }
+
+pub alloc-requires-clause-size : goal.alloc-requires-clause-size
+alloc-requires-clause-size g c = record { some = c.requires.size.some; most = let most = c.requires.size.most in omega (arith, most) }

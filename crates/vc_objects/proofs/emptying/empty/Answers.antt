@@ -35,8 +35,8 @@ loop-passed-preserved g c =
     record {
       emptying =
           emptying-next (meaning g) rules c.args.best.now c.args.dict.now gone l._passed l.best l.dict (g.D.DictDisc.gone l.kind) l.invariant.emptying
-          (g.D.DictDisc.rules l.kind) c.take_one.new.best c.take_one.new.dict (g.D.DictDisc.gone c.take_one.new.kind) l.invariant.rules (omega (arith, before, counted)) c.take_one.ensures.empties;
-      rules = c.take_one.ensures.rules ∙ l.invariant.rules;
+          (g.D.DictDisc.rules l.kind) (g.D.DictDisc.rules c.take_one.new.kind) c.take_one.new.best c.take_one.new.dict (g.D.DictDisc.gone c.take_one.new.kind) l.invariant.rules (omega (arith, before, counted)) c.take_one.ensures.empties;
+      rules = c.take_one.ensures.empties.kind ∙ l.invariant.rules;
     }
 
 pub take_one-requires : goal.take_one-requires
@@ -56,6 +56,5 @@ returns g c =
     let all : length (dictionary_in c.args.dict.now c.args.best.now).objects ≤ l._passed = omega (arith, behind, counted) in
     record {
       count = omega (arith, counted);
-      empties = emptying-all (meaning g) rules c.args.best.now c.args.dict.now gone l._passed l.best l.dict (g.D.DictDisc.gone l.kind) l.invariant.emptying all;
-      rules = l.invariant.rules;
+      empties = emptying-all (meaning g) rules c.args.best.now c.args.dict.now gone l._passed l.best l.dict (g.D.DictDisc.gone l.kind) l.invariant.emptying all (g.D.DictDisc.rules l.kind) l.invariant.rules;
     }

@@ -78,6 +78,7 @@ returns-in-Some g c =
     let frees = c.free_cell.ensures.frees in
     record {
       empties = record {
+        kind = c.freed.ensures.rules;
         region = region-taken rules old mid dict dict' at is (meaning g) new rest frees ∙ ap (λ (o : Option Object). (removed o).region) found;
         dict = dict-after rules old mid dict dict' at is (meaning g) new rest frees ∙ ap (λ (o : Option Object). (removed o).dict) found;
         leaves = leaves-taken rules old mid dict dict' at is (meaning g) new rest frees;
@@ -86,7 +87,6 @@ returns-in-Some g c =
             c.freed.ensures.gone ∙ ap (gone_after gone) (c.body.ensures ∙ object-stays rules old mid dict dict' at is)
             ∙ ap (λ (o : Option Object). told_each (option_list (removed o).gone) gone) found;
       };
-      rules = c.freed.ensures.rules;
     }
 
 pub returns-in-None : goal.returns-in-None
@@ -98,11 +98,11 @@ returns-in-None g c =
     let removed : Option Object → Removed ℕ = λ o. remove_found (rest_in old) (dictionary_in c.args.dict.now old) o in
     record {
       empties = record {
+        kind = refl;
         region = looks.region ∙ ap (λ (o : Option Object). (removed o).region) found;
         dict = looks.dict ∙ ap (λ (o : Option Object). (removed o).dict) found;
         leaves = looks.leaves;
         disc = stays-disc (meaning g) old c.take_first.new.cells c.in-None.ensures.rest;
         gone = ap (λ (o : Option Object). told_each (option_list (removed o).gone) (g.D.DictDisc.gone c.args.kind.now)) found;
       };
-      rules = refl;
     }

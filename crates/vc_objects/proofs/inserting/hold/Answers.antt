@@ -12,7 +12,7 @@ use Rattle.vc_best.specs.Parts.{disc_in, segments_in}
 use Rattle.vc_best.proofs.CellCalls.{stays-disc}
 use Rattle.vc_objects.specs.Objects.{Dictionary, holder_size, own_blocks}
 use Rattle.vc_objects.specs.Parts.{dictionary_in, dictionary_of, object_of, table_of}
-use Rattle.vc_objects.proofs.Answering.{asked-block, held-put}
+use Rattle.vc_objects.proofs.Answering.{asked-block, asked-then, held-put}
 use Rattle.vc_objects.proofs.Holding.{body-length, body-place, can-link, dictionary-held, fresh-held, others-held, stands-put, whole-held}
 use Rattle.vc_objects.proofs.Leaving.{asked-keeps, leaves-put, none-at}
 use Rattle.vc_objects.proofs.Remains.{leaves-refused}
@@ -30,13 +30,13 @@ set_body-requires g c =
     let made = c.in-Ok.ensures.puts.made in
     let written = with_body c.in-Ok.at.0 c.args.object.now cells in
     record {
-      place = body-place rules c.args.dict.now (cells_in c.args.best.now) cells written c.in-Ok.at.0 c.args.object.now c.requires.can.whole made c.requires.can.object refl;
-      length = body-length rules c.args.dict.now (cells_in c.args.best.now) cells written c.in-Ok.at.0 c.args.object.now c.requires.can.whole made c.requires.can.object refl;
+      place = body-place rules c.args.dict.now (cells_in c.args.best.now) cells written c.in-Ok.at.0 c.args.object.now c.requires.can.ask.whole made c.requires.can.object refl;
+      length = body-length rules c.args.dict.now (cells_in c.args.best.now) cells written c.in-Ok.at.0 c.args.object.now c.requires.can.ask.whole made c.requires.can.object refl;
     }
 
 pub link-requires : goal.link-requires
 link-requires g c =
-    can-link _ c.args.dict.now (cells_in c.args.best.now) (cells_in c.alloc_cell.new.best) (cells_in c.set_body.new.self) c.in-Ok.at.0 c.args.object.now c.requires.can.whole c.in-Ok.ensures.puts.made c.requires.can.object c.set_body.ensures.blocks
+    can-link _ c.args.dict.now (cells_in c.args.best.now) (cells_in c.alloc_cell.new.best) (cells_in c.set_body.new.self) c.in-Ok.at.0 c.args.object.now c.requires.can.ask.whole c.in-Ok.ensures.puts.made c.requires.can.object c.set_body.ensures.blocks
     c.args.append c.requires.room c.requires.can.lone c.requires.can.list
 
 pub returns-in-Ok : goal.returns-in-Ok
@@ -54,7 +54,7 @@ returns-in-Ok g c =
     let b2 = cells_in c.set_body.new.self in
     let b3 = cells_in new in
     let puts = c.in-Ok.ensures.puts in
-    let whole = c.requires.can.whole in
+    let whole = c.requires.can.ask.whole in
     let is = c.requires.can.object in
     let written = c.set_body.ensures.blocks in
     let became = c.link.ensures.dict (holders_of dict b0) (stands-put rules dict b0 b1 b2 at object whole puts.made is written) in
@@ -66,7 +66,7 @@ returns-in-Ok g c =
             puts.answer (c.link.ensures.rest.layout ∙ c.set_body.ensures.rest.layout)
             (dictionary-held rules dict b0 b1 b2 at object whole puts.made is written c.args.append dict' b3 became);
         err = tt;
-        asked = ap (λ (d : Discipline). d.faults) (stays-disc (meaning g) mid new stays) ∙ puts.asks.faults;
+        asked = asked-then (meaning g) old mid new _ puts.asks (stays-disc (meaning g) mid new stays);
       };
       leaves = record {
         whole = whole-held rules dict b0 b1 b2 at object whole puts.made is written c.args.append dict' b3 became;
@@ -100,9 +100,17 @@ returns-in-Err g c =
             (best_need (disc_in (meaning g) old).terms (holder_size c.args.object.now) 32) c.in-Err.fault puts.asks;
       };
       leaves =
-          leaves-refused (meaning g) rules dict old new c.requires.can.whole
+          leaves-refused (meaning g) rules dict old new c.requires.can.ask.whole
           (asked-keeps _ _ (segments_in old) (segments_in new) _ c.in-Err.fault (ap (λ (r : Layout ℕ). r.segments) puts.answer.1) puts.asks)
           puts.answer.1 puts.same;
       table = ap (λ (d : Dictionary). d.table) same;
       compares = omega arith;
+    }
+
+pub alloc_cell-requires : goal.alloc_cell-requires
+alloc_cell-requires g c =
+    let most = c.requires.can.object.most in
+    record {
+      size = record { some = omega arith; most = omega (arith, most) };
+      lent = c.requires.can.ask.lent;
     }

@@ -2,6 +2,7 @@ use Rattle.std.proofs.Common.{◌≡◌, ◌+◌, ◌≤◌, ℕ, List, None, ar
 use Rattle.vc_base.specs.Methods.{is_list, is_set}
 use Rattle.vc_dtdisc.specs.Objects.{Object, bytes_of, first_with}
 use Rattle.vc_model.specs.Discipline.{Discipline}
+use Rattle.vc_model.proofs.Keeping.{NoneRefused-trans}
 use Rattle.vc_best.specs.Cells.{rest_in}
 use Rattle.vc_best.specs.Parts.{disc_in}
 use Rattle.vc_objects.specs.Insert.{slots_wanted}
@@ -9,6 +10,7 @@ use Rattle.vc_objects.specs.Leaves.{LacksHolder, LacksTable}
 use Rattle.vc_objects.specs.Parts.{dictionary_in}
 use Rattle.vc_objects.specs.Promises.{growth_in}
 use Rattle.vc_objects.proofs.Answering.{asked-no_holder, asked-no_table, asked-spent, grown-kept, grown-still, inserted-no_holder, inserted-no_table, inserted-stored, rest-trans}
+use Rattle.vc_objects.proofs.Leaving.{keeps-out}
 use Rattle.vc_objects.proofs.inserting.insert.Given.{Over}
 use Rattle.vc_objects.proofs.inserting.insert.Goals as goal
 use Rattle.vc_objects.proofs.inserting.insert.Goals.{In-Ok}
@@ -33,7 +35,10 @@ hold-requires-clause-can g c =
     let here = (goal.at.hold-requires-clause-can g c).In-Ok in
     let rules = g.D.DictDisc.rules c.args.kind.now in
     record {
-      whole = c.grow.ensures.leaves.whole;
+      ask = record {
+        whole = c.grow.ensures.leaves.whole;
+        lent = keeps-out _ _ _ _ c.grow.ensures.leaves.rest.disc c.requires.can.ask.lent;
+      };
       lone = λ set. ap (first_with bytes_of rules (rules.key c.args.object.now)) (kept g here) ∙ c.requires.can.lone (sym (ap is_set (method-kept g here)) ∙ set);
       object = c.requires.can.object;
       list = λ append. ap is_list (method-kept g here) ∙ c.requires.can.list append;
@@ -52,7 +57,7 @@ returns-in-Ok-hold g c =
             (rest_in c.hold.new.best) (dictionary_in c.hold.new.dict c.hold.new.best) c.grow.ensures.leaves.rest.disc.kept.terms grows.ok holds.ok;
         err = tt;
         leaves = rest-trans _ _ c.args.best.now c.grow.new.best c.hold.new.best c.args.dict.now c.grow.new.dict c.hold.new.dict c.grow.ensures.leaves c.hold.ensures.leaves (kept g (goal.at.returns-in-Ok-hold g c).In-Ok) c.hold.ensures.table;
-        asked = holds.asked ∙ grows.asked;
+        asked = NoneRefused-trans _ _ _ grows.asked holds.asked;
       };
       compares = more g (goal.at.returns-in-Ok-hold g c).In-Ok c.hold.new.steps c.hold.ensures.compares;
     }
@@ -74,7 +79,7 @@ returns-in-Some g c =
         leaves = rest-trans _ _ c.args.best.now c.grow.new.best c.hold.new.best c.args.dict.now c.grow.new.dict c.hold.new.dict c.grow.ensures.leaves c.hold.ensures.leaves (kept g (goal.at.returns-in-Some g c).In-Ok) c.hold.ensures.table;
         asked =
             asked-no_holder (slots_wanted old) c.args.object.now (disc_in (meaning g) c.args.best.now) (disc_in (meaning g) c.grow.new.best) (disc_in (meaning g) c.hold.new.best)
-            c.in-Err-hold.fault c.in-Some.want (sym c.in-Some.ensures) c.grow.ensures.same terms grows.asked holds.asked;
+            c.in-Err-hold.fault c.in-Some.want (sym c.in-Some.ensures) c.grow.ensures.same grows.asked holds.asked;
       };
       compares = more g (goal.at.returns-in-Some g c).In-Ok c.hold.new.steps c.hold.ensures.compares;
     }
@@ -92,7 +97,7 @@ returns-in-None g c =
         ok = tt;
         err = inr (grown-still (growth_in (meaning g) c.args.best.now c.args.dict.now false) (rest_in c.grow.new.best) (rest_in c.hold.new.best) grown held grows.ok holds.err.1.region holds.err.1.dict);
         leaves = rest-trans _ _ c.args.best.now c.grow.new.best c.hold.new.best c.args.dict.now c.grow.new.dict c.hold.new.dict c.grow.ensures.leaves c.hold.ensures.leaves (kept g (goal.at.returns-in-None g c).In-Ok) c.hold.ensures.table;
-        asked = asked-spent (LacksHolder None c.args.object.now mid new) mid new c.in-Err-hold.fault (sym c.in-None.ensures) holds.asked ∙ grows.asked;
+        asked = NoneRefused-trans _ mid new grows.asked (asked-spent (LacksHolder None c.args.object.now mid new) mid new c.in-Err-hold.fault (sym c.in-None.ensures) holds.asked);
       };
       compares = more g (goal.at.returns-in-None g c).In-Ok c.hold.new.steps c.hold.ensures.compares;
     }

@@ -1,6 +1,7 @@
 use Rattle.std.proofs.Common.{ℕ, [], Some, refl, subst, sym, ◌∙◌}
 use Rattle.std.specs.Prelude.{Err}
 use Rattle.vc_model.specs.Discipline.{Discipline}
+use Rattle.vc_model.proofs.Keeping.{NoneRefused-same}
 use Rattle.vc_best.specs.Cells.{cells_in, rest_in}
 use Rattle.vc_best.specs.Parts.{disc_in}
 use Rattle.vc_dict.specs.declared.dict.Dict.{Dict}
@@ -29,7 +30,7 @@ new g c = record {
 
 pub put_table-requires : goal.put_table-requires
 put_table-requires g c =
-    record { grows = grows-first _ c.new-dict.result (cells_in c.args.best.now) c.args.method (new g (goal.at.put_table-requires g c).After-new-dict) c.in-Some.slots (sym c.in-Some.ensures) }
+    record { grows = grows-first _ c.new-dict.result (cells_in c.args.best.now) c.args.method (new g (goal.at.put_table-requires g c).After-new-dict) c.in-Some.slots (sym c.in-Some.ensures); lent = c.requires.lent }
 
 pub returns-in-None : goal.returns-in-None
 returns-in-None g c =
@@ -45,7 +46,7 @@ returns-in-None g c =
         numbered = c.new-dict.ensures.kind;
       };
       err = tt;
-      asked = refl;
+      asked = NoneRefused-same _;
     }
 
 pub returns-in-Ok : goal.returns-in-Ok

@@ -31,24 +31,30 @@ release-requires g c =
       room = c.requires.room;
     }
 
-pub returns-in-Some-clause-takes : goal.returns-in-Some-clause-takes
-returns-in-Some-clause-takes g c =
+pub returns-in-Some : goal.returns-in-Some
+returns-in-Some g c =
     let rules = g.D.DictDisc.rules c.args.kind.now in
     let b = cells_in c.args.best.now in
     let xs = holders_of c.args.dict.now b in
-    takes-found rules c.args.best.now c.take_first.new.cells c.args.dict.now c.take_first.new.self c.in-Some.at.0 (here g (goal.at.returns-in-Some-clause-takes g c).In-Some)
-    (λ z. (goal.SegDisc-dyn g z).state z.1) c.release.new.best c.in-Some.ensures.rest c.release.ensures.freed
-    (first_of (dictionary_in c.args.dict.now c.args.best.now).objects) true c.release.new.out.items (g.D.DictDisc.gone c.args.kind.now) (g.D.DictDisc.gone c.release.new.kind)
-    (first-mapped b xs ∙ ap (option_map (object_of b)) (sym (c.in-Some.ensures.first xs c.requires.whole.stands))) c.release.ensures.out c.release.ensures.gone
+    record {
+      takes =
+          takes-found rules c.args.best.now c.take_first.new.cells c.args.dict.now c.take_first.new.self c.in-Some.at.0 (here g (goal.at.returns-in-Some g c).In-Some)
+          (λ z. (goal.SegDisc-dyn g z).state z.1) c.release.new.best c.in-Some.ensures.rest c.release.ensures.freed (g.D.DictDisc.rules c.release.new.kind) c.release.ensures.rules
+          (first_of (dictionary_in c.args.dict.now c.args.best.now).objects) true c.release.new.out.items (g.D.DictDisc.gone c.args.kind.now) (g.D.DictDisc.gone c.release.new.kind)
+          (first-mapped b xs ∙ ap (option_map (object_of b)) (sym (c.in-Some.ensures.first xs c.requires.whole.stands))) c.release.ensures.out c.release.ensures.gone;
+    }
 
-pub returns-in-None-clause-takes : goal.returns-in-None-clause-takes
-returns-in-None-clause-takes g c =
+pub returns-in-None : goal.returns-in-None
+returns-in-None g c =
     let rules = g.D.DictDisc.rules c.args.kind.now in
     let b = cells_in c.args.best.now in
     let xs = holders_of c.args.dict.now b in
-    takes-none (λ z. (goal.SegDisc-dyn g z).state z.1) rules c.args.best.now c.take_first.new.cells c.args.dict.now c.take_first.new.self
-    (first_of (dictionary_in c.args.dict.now c.args.best.now).objects) true c.args.out.now.items (g.D.DictDisc.gone c.args.kind.now)
-    (first-mapped b xs ∙ ap (option_map (object_of b)) (sym (c.in-None.ensures.first xs c.requires.whole.stands)))
-    (Looks-became (λ z. (goal.SegDisc-dyn g z).state z.1) rules c.args.best.now c.take_first.new.cells c.args.dict.now c.take_first.new.self c.requires.whole
-    (c.in-None.ensures.dict xs c.requires.whole.stands) c.in-None.ensures.rest)
-    c.requires.empty
+    record {
+      takes =
+          takes-none (λ z. (goal.SegDisc-dyn g z).state z.1) rules c.args.best.now c.take_first.new.cells c.args.dict.now c.take_first.new.self
+          (first_of (dictionary_in c.args.dict.now c.args.best.now).objects) true c.args.out.now.items (g.D.DictDisc.gone c.args.kind.now)
+          (first-mapped b xs ∙ ap (option_map (object_of b)) (sym (c.in-None.ensures.first xs c.requires.whole.stands)))
+          (Looks-became (λ z. (goal.SegDisc-dyn g z).state z.1) rules c.args.best.now c.take_first.new.cells c.args.dict.now c.take_first.new.self c.requires.whole
+          (c.in-None.ensures.dict xs c.requires.whole.stands) c.in-None.ensures.rest)
+          c.requires.empty;
+    }

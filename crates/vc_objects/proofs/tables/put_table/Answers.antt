@@ -12,8 +12,8 @@ use Rattle.vc_objects.specs.Insert.{alloc_unlabelled, without_table}
 use Rattle.vc_objects.specs.Objects.{own_blocks, table_size}
 use Rattle.vc_objects.specs.Parts.{dictionary_in, dictionary_of, table_of}
 use Rattle.vc_objects.proofs.Adopting.{can-adopt, dictionary-grown, fresh-grown, old-there, others-grown, stands-placed, whole-grown}
-use Rattle.vc_objects.proofs.Answering.{asked-block, grown-put, grown-refused}
-use Rattle.vc_objects.proofs.Doubling.{slots-most}
+use Rattle.vc_objects.proofs.Answering.{asked-block, asked-then, grown-put, grown-refused}
+use Rattle.vc_objects.proofs.Doubling.{slots-most, table-sized}
 use Rattle.vc_objects.proofs.Leaving.{asked-keeps, leaves-put, leaves-still, none-at}
 use Rattle.vc_objects.proofs.tables.put_table.Given.{Over}
 use Rattle.vc_objects.proofs.tables.put_table.Goals as goal
@@ -25,8 +25,8 @@ meaning g p = (goal.SegDisc-dyn g p).state p.1
 pub overflow_mul-slots : goal.overflow_mul-slots
 overflow_mul-slots g c = let most = slots-most c.args.slots c.requires.grows.allowed in omega (arith, most)
 
-pub alloc_cell-requires-clause-most : goal.alloc_cell-requires-clause-most
-alloc_cell-requires-clause-most g c = let most = slots-most c.args.slots c.requires.grows.allowed in omega (arith, most)
+pub alloc_cell-requires-clause-size : goal.alloc_cell-requires-clause-size
+alloc_cell-requires-clause-size g c = table-sized c.args.slots c.requires.grows.allowed
 
 pub adopt_table-old-requires : goal.adopt_table-old-requires
 adopt_table-old-requires g c =
@@ -70,7 +70,7 @@ returns-in-Ok g c =
             ∙ ap (λ (n : ℕ). without_table (rest_in mid) (table_of n dict.slots)) table))
             (dictionary-grown rules dict (cells_in old) (cells_in mid) at slots c.requires.grows puts.made dict' (cells_in adopts) (cells_in new) adopted after);
         err = tt;
-        asked = ap (λ (d : Discipline). d.faults) (around.disc ∙ stays-disc (meaning g) mid adopts c.adopt_table-old.ensures.rest) ∙ puts.asks.faults;
+        asked = asked-then (meaning g) old mid new _ puts.asks (around.disc ∙ stays-disc (meaning g) mid adopts c.adopt_table-old.ensures.rest);
       };
       whole = whole-grown rules dict (cells_in old) (cells_in mid) at slots c.requires.grows puts.made dict' (cells_in adopts) (cells_in new) adopted after;
       kind = adopted.kind;

@@ -7,6 +7,7 @@ use Rattle.vc_objects.proofs.turning.bring.Goals as goal
 pub bring_some-requires : goal.bring_some-requires
 bring_some-requires g c = record {
   allowed = allowed-between c.args.dict.now.method c.args.method c.args.dict.now.count c.in-Some.slots (sym c.table_for.ensures ∙ c.in-Some.is);
+  lent = c.requires.lent;
 }
 
 pub returns-in-None : goal.returns-in-None

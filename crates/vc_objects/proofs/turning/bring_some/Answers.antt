@@ -1,5 +1,6 @@
 use Rattle.std.proofs.Common.{◌≢◌, ℕ, ap, arith}
 use Rattle.vc_model.specs.Best.{best_need}
+use Rattle.vc_model.proofs.Keeping.{NoneRefused-served}
 use Rattle.vc_model.specs.Layout.{Layout}
 use Rattle.vc_best.specs.Cells.{cells_in, rest_in}
 use Rattle.vc_best.specs.Parts.{disc_in, segments_in}
@@ -7,15 +8,15 @@ use Rattle.vc_objects.specs.Insert.{alloc_unlabelled}
 use Rattle.vc_objects.specs.Objects.{table_size}
 use Rattle.vc_objects.proofs.Answering.{asked-block}
 use Rattle.vc_objects.proofs.Brought.{brought-refused, cell-brought, put-brought}
-use Rattle.vc_objects.proofs.Doubling.{slots-most}
+use Rattle.vc_objects.proofs.Doubling.{slots-most, table-sized}
 use Rattle.vc_objects.proofs.Leaving.{asked-keeps, served-keeps}
 use Rattle.vc_objects.proofs.turning.bring_some.Goals as goal
 
 pub overflow_mul-slots : goal.overflow_mul-slots
 overflow_mul-slots g c = let h = slots-most c.args.slots c.requires.allowed in omega (arith, h)
 
-pub alloc_cell-requires-clause-most : goal.alloc_cell-requires-clause-most
-alloc_cell-requires-clause-most g c = let h = slots-most c.args.slots c.requires.allowed in omega (arith, h)
+pub alloc_cell-requires-clause-size : goal.alloc_cell-requires-clause-size
+alloc_cell-requires-clause-size g c = table-sized c.args.slots c.requires.allowed
 
 pub returns-in-Ok : goal.returns-in-Ok
 returns-in-Ok g c =
@@ -29,7 +30,7 @@ returns-in-Ok g c =
         );
         disc = served-keeps _ _ (segments_in c.args.best.now) (segments_in c.alloc_cell.new.best) _ e.asks;
         labelled = e.labelled;
-        asked = e.asks.faults;
+        asked = NoneRefused-served _ _ (segments_in c.args.best.now) (segments_in c.alloc_cell.new.best) _ e.asks;
       };
     }
 
