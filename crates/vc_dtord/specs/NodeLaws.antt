@@ -83,6 +83,10 @@ beside-mark blocks mark n h = and-left (is_node blocks mark) (is_node blocks n) 
 pub beside-fits : (blocks : Blocks) (mark n : ℕ) → (beside mark (node_store blocks)).has n ≡ true → n < 2 ^ 32
 beside-fits blocks mark n h = node-fits blocks n (beside-node blocks mark n h)
 
+-- it has the same nodes where only links changed
+pub beside-stays : (old new : Blocks) (mark mark' : Addr) → mark' ≡ mark → StaysButLinks old new → (beside mark'.0 (node_store new)).has ≡ (beside mark.0 (node_store old)).has
+beside-stays old new mark mark' e s = λ i a. (ap (λ m. is_node new m.0) e ∙ s.nodes mark.0) i && s.nodes a i
+
 -- where nothing is done only links changed, and where they changed twice
 pub same_through : {A : Type 0} {a b c : A} → b ≡ a → c ≡ b → c ≡ a
 same_through e f = f ∙ e

@@ -1,6 +1,6 @@
 use crate::words::{link_at, write_word};
 use vc_base::{Addr, Cells};
-use vc_splay::{Links, Nodes};
+use vc_splay::Nodes;
 
 /// The holders in cells that are lent, as a store of nodes: a node's name is its address, and its left child, its right
 /// child and its parent are its words 0, 1 and 2. A holder at `mark` is there besides each of them, so that a guide may
@@ -13,11 +13,17 @@ pub(crate) struct Holders<'a, C: Cells> {
     pub(crate) mark: Addr,
 }
 
-impl<'a, C: Cells> Links for Holders<'a, C> {
-    ghost use Rattle.vc_dtord.specs.Nodes.{beside, node_store};
-    ghost use Rattle.vc_dtord.specs.NodeLaws.{beside-none, beside-fits};
+impl<'a, C: Cells> Nodes for Holders<'a, C> {
+    ghost use Rattle.std.specs.Prelude.{◌≡◌, refl};
+    ghost use Rattle.vc_dtord.specs.Nodes.{StaysButLinks, beside, node_store};
+    ghost use Rattle.vc_dtord.specs.NodeLaws.{beside-fits, beside-none, beside-stays, links_none, links_twice, same_through};
 
     ghost store = { λ s. beside s.mark.0 (node_store (C.blocks s.cells.now)) };
+
+    ghost stays = { λ s t. (t.cells.ghost_name ≡ s.cells.ghost_name)
+        × (t.mark ≡ s.mark)
+        × C.RestStays s.cells.now t.cells.now
+        × StaysButLinks (C.blocks s.cells.now) (C.blocks t.cells.now) };
 
     #[inline(always)]
     fn left(&self, n: u32) -> u32 {
@@ -34,21 +40,6 @@ impl<'a, C: Cells> Links for Holders<'a, C> {
         link_at(self.cells, n, 2)
     }
 
-    ghost none = { λ s. beside-none (C.blocks s.cells.now) s.mark.0 };
-
-    ghost fits = { λ s n h. beside-fits (C.blocks s.cells.now) s.mark.0 n h };
-}
-
-impl<'a, C: Cells> Nodes for Holders<'a, C> {
-    ghost use Rattle.std.specs.Prelude.{◌≡◌, refl};
-    ghost use Rattle.vc_dtord.specs.Nodes.{StaysButLinks};
-    ghost use Rattle.vc_dtord.specs.NodeLaws.{same_through, links_none, links_twice};
-
-    ghost stays = { λ s t. (t.cells.ghost_name ≡ s.cells.ghost_name)
-        × (t.mark ≡ s.mark)
-        × C.RestStays s.cells.now t.cells.now
-        × StaysButLinks (C.blocks s.cells.now) (C.blocks t.cells.now) };
-
     #[inline(always)]
     fn set_left(&mut self, n: u32, v: u32) {
         write_word(self.cells, Addr(n), 0, v);
@@ -64,6 +55,10 @@ impl<'a, C: Cells> Nodes for Holders<'a, C> {
         write_word(self.cells, Addr(n), 2, v);
     }
 
+    ghost none = { λ s. beside-none (C.blocks s.cells.now) s.mark.0 };
+
+    ghost fits = { λ s n h. beside-fits (C.blocks s.cells.now) s.mark.0 n h };
+
     ghost reflexive = { λ s. (
       refl,
       refl,
@@ -77,4 +72,7 @@ impl<'a, C: Cells> Nodes for Holders<'a, C> {
       C.transitive a.cells.now b.cells.now c.cells.now h.2 k.2,
       links_twice (C.blocks a.cells.now) (C.blocks b.cells.now) (C.blocks c.cells.now) h.3 k.3,
     ) };
+
+    ghost names = { λ a b h.
+        beside-stays (C.blocks a.cells.now) (C.blocks b.cells.now) a.mark b.mark h.1 h.3 };
 }

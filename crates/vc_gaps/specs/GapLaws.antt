@@ -12,7 +12,7 @@ use Rattle.vc_extent.specs.Change.{extent_in}
 use Rattle.vc_extent.specs.Tiling.{AreExtents, IsThere, extent_of, extents_of, tiling}
 use Rattle.vc_extent.proofs.Places.{named-there, there-first, there-last}
 use Rattle.vc_gaps.specs.ButLinks.{Tiling, StaysButLinks, plain, without_links}
-use Rattle.vc_gaps.specs.GapStore.{gap_key, gap_side, is_free, key_of}
+use Rattle.vc_gaps.specs.GapStore.{gap_key, gap_side, gap_store, is_free, key_of}
 
 pub and-left : (a b : Bool) → a && b ≡ true → a ≡ true
 and-left true b h = refl
@@ -100,6 +100,10 @@ module _ (old new : Tiling) (same : plain new ≡ plain old) (a : ℕ) where
 
   pub key-stays : key_of new a ≡ key_of old a
   key-stays = ap (λ z. gap_key z a) span-stays
+
+-- so the same addresses name free extents
+pub names_stay : (old new : Tiling) → plain new ≡ plain old → (gap_store new).has ≡ (gap_store old).has
+names_stay old new same = λ i a. is_free-stays old new same a i
 
 pub side_stays : (old new : List Bytes) (span at a : ℕ) → StaysButLinks old new → gap_side (tiling new) span at a ≡ gap_side (tiling old) span at a
 side_stays old new span at a s = ap (λ z. nat_cmp z (gap_key span at)) (key-stays (tiling old) (tiling new) s.extents a)

@@ -29,7 +29,6 @@ pub fn find_first<N: Nodes, G: Guide<N>, L>(
     ensures least_steps { root ≢ 0 → steps.old + 1 ≤ steps.new }
     ensures most_steps { (tree : Tree) → IsTree (N.store nodes.old) root tree
         → steps.new ≤ steps.old + length (names tree) }
-    ensures held { (N.store nodes.new).has ≡ (N.store nodes.old).has }
     ensures rest { N.stays nodes.old nodes.new }
 {
     if root == 0 {
@@ -57,7 +56,6 @@ pub fn find_least_at<N: Nodes, G: Guide<N>, L>(
     ensures least_steps { root ≢ 0 → steps.old + 1 ≤ steps.new }
     ensures most_steps { (tree : Tree) → IsTree (N.store nodes.old) root tree
         → steps.new ≤ steps.old + length (names tree) }
-    ensures held { (N.store nodes.new).has ≡ (N.store nodes.old).has }
     ensures rest { N.stays nodes.old nodes.new }
 {
     if root == 0 {
@@ -123,7 +121,6 @@ fn reach<N: Nodes>(nodes: &mut N, root: u32, deepest: u32, found: u32) -> u32
     requires { CanReach (N.store nodes.old) root deepest found }
     ensures tree { (tree : Tree) → IsTree (N.store nodes.old) root tree
         → TreeAfter (N.store nodes.old) (N.store nodes.new) (names tree) result (names tree) }
-    ensures held { (N.store nodes.new).has ≡ (N.store nodes.old).has }
     ensures rest { N.stays nodes.old nodes.new }
 {
     let top = splay(nodes, root, deepest);

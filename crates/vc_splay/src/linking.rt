@@ -28,7 +28,6 @@ pub fn link_after_equals<N: Nodes, G: Guide<N>, L>(
     ensures least_steps { root ≢ 0 → steps.old + 1 ≤ steps.new }
     ensures most_steps { (tree : Tree) → IsTree (N.store nodes.old) root tree
         → steps.new ≤ steps.old + length (names tree) }
-    ensures held { (N.store nodes.new).has ≡ (N.store nodes.old).has }
     ensures rest { N.stays nodes.old nodes.new }
 {
     let (above, left) = descend_behind(nodes, root, guide, steps);

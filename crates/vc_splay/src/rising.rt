@@ -42,7 +42,6 @@ pub(crate) fn rise<N: Nodes>(nodes: &mut N, at: u32, from: Rising)
         → IsRising (N.store nodes.old) at from.below from.above from.left from.right context tree
         → TreeAfter (N.store nodes.old) (N.store nodes.new) (names (plug context tree)) at
         (names (plug context tree)) }
-    ensures held { (N.store nodes.new).has ≡ (N.store nodes.old).has }
     ensures rest { N.stays nodes.old nodes.new }
 {
     let (left, right) = climb(nodes, at, from);
@@ -56,7 +55,6 @@ pub(crate) fn climb<N: Nodes>(nodes: &mut N, at: u32, from: Rising) -> (u32, u32
         → IsRising (N.store nodes.old) at from.below from.above from.left from.right context tree
         → Topped (N.store nodes.old) (N.store nodes.new) at (names (plug context tree))
         result.0 result.1 }
-    ensures held { (N.store nodes.new).has ≡ (N.store nodes.old).has }
     ensures rest { N.stays nodes.old nodes.new }
 {
     let mut hand = from;
@@ -75,7 +73,6 @@ fn step<N: Nodes>(nodes: &mut N, at: u32, hand: Rising) -> Rising
         → IsRising (N.store nodes.old) at hand.below hand.above hand.left hand.right context tree
         → Step (N.store nodes.old) (N.store nodes.new) at context tree
         result.below result.above result.left result.right }
-    ensures held { (N.store nodes.new).has ≡ (N.store nodes.old).has }
     ensures rest { N.stays nodes.old nodes.new }
 {
     let above = hand.above;

@@ -12,7 +12,6 @@ pub fn splay<N: Nodes>(nodes: &mut N, root: u32, at: u32) -> u32
     ensures tree { (tree : Tree) → IsTree (N.store nodes.old) root tree
         → TreeAfter (N.store nodes.old) (N.store nodes.new) (names tree) result (names tree) }
     ensures root { result ≡ at }
-    ensures held { (N.store nodes.new).has ≡ (N.store nodes.old).has }
     ensures rest { N.stays nodes.old nodes.new }
 {
     if at == root {

@@ -18,7 +18,6 @@ pub fn unlink<N: Nodes>(nodes: &mut N, root: u32, at: u32) -> u32
     ensures tree { (tree : Tree) → IsTree (N.store nodes.old) root tree
         → TreeAfter (N.store nodes.old) (N.store nodes.new) (names tree) result
         (without at (names tree)) }
-    ensures held { (N.store nodes.new).has ≡ (N.store nodes.old).has }
     ensures rest { N.stays nodes.old nodes.new }
 {
     let hand = in_hand(nodes, at);
@@ -35,7 +34,6 @@ fn join<N: Nodes>(nodes: &mut N, left: u32, right: u32) -> u32
     ensures tree { (front back : Tree) → IsPair (N.store nodes.old) left right front back
         → TreeAfter (N.store nodes.old) (N.store nodes.new) (names front ++ names back) result
         (names front ++ names back) }
-    ensures held { (N.store nodes.new).has ≡ (N.store nodes.old).has }
     ensures rest { N.stays nodes.old nodes.new }
 {
     if left == 0 {

@@ -9,22 +9,22 @@ pub loop-at-init : goal.loop-at-init
 loop-at-init g c = (
   refl,
   λ t k.
-      search_start (g.N.Links.store c.args.nodes.now) (g.G.Guide.side_of c.args.guide.now c.args.nodes.now) c.args.root t c.args.steps.now (g.met.N.Links.none c.args.nodes.now) c.requires.tree c.requires.some k,
+      search_start (g.N.Nodes.store c.args.nodes.now) (g.G.Guide.side_of c.args.guide.now c.args.nodes.now) c.args.root t c.args.steps.now (g.met.N.Nodes.none c.args.nodes.now) c.requires.tree c.requires.some k,
 )
 
 pub side-answer-requires : goal.side-answer-requires
 side-answer-requires g c =
     let r = c.requires.tree in
-    (search_next (g.N.Links.store c.args.nodes.now) (g.G.Guide.side_of c.args.guide.now c.args.nodes.now) r.tree c.loop-at.deepest c.loop-at.least c.loop-at.at c.args.steps.now c.loop-at.steps (g.met.N.Links.none c.args.nodes.now) (c.loop-at.invariant.1 r.tree r.is_tree) c.loop-at-test.true).held
+    (search_next (g.N.Nodes.store c.args.nodes.now) (g.G.Guide.side_of c.args.guide.now c.args.nodes.now) r.tree c.loop-at.deepest c.loop-at.least c.loop-at.at c.args.steps.now c.loop-at.steps (g.met.N.Nodes.none c.args.nodes.now) (c.loop-at.invariant.1 r.tree r.is_tree) c.loop-at-test.true).held
 
 pub kid-at-requires : goal.kid-at-requires
 kid-at-requires g c =
     let r = c.requires.tree in
-    (search_next (g.N.Links.store c.args.nodes.now) (g.G.Guide.side_of c.args.guide.now c.args.nodes.now) r.tree c.loop-at.deepest c.loop-at.least c.loop-at.at c.args.steps.now c.loop-at.steps (g.met.N.Links.none c.args.nodes.now) (c.loop-at.invariant.1 r.tree r.is_tree) c.loop-at-test.true).held
+    (search_next (g.N.Nodes.store c.args.nodes.now) (g.G.Guide.side_of c.args.guide.now c.args.nodes.now) r.tree c.loop-at.deepest c.loop-at.least c.loop-at.at c.args.steps.now c.loop-at.steps (g.met.N.Nodes.none c.args.nodes.now) (c.loop-at.invariant.1 r.tree r.is_tree) c.loop-at-test.true).held
 
 pub loop-at-preserved : goal.loop-at-preserved
 loop-at-preserved g c =
-    let s = g.N.Links.store c.args.nodes.now in
+    let s = g.N.Nodes.store c.args.nodes.now in
     let side = g.G.Guide.side_of c.args.guide.now c.args.nodes.now in
     let at = c.loop-at.at in
     let left : c.is_ge-left.result ≡ is_ge (side at) = c.is_ge-left.ensures ∙ ap is_ge c.side-answer.ensures.side in
@@ -33,7 +33,7 @@ loop-at-preserved g c =
       equal ∙ found_next side at c.loop-at.least c.loop-at.equal c.loop-at-test.true c.loop-at.invariant.0 ∙ ap (is_found side) (sym least),
       λ t k.
           let on : Searching s side t at (cond (is_ge (side at)) at c.loop-at.least) (s.kid (is_ge (side at)) at) c.args.steps.now (c.loop-at.steps + 1) =
-          (search_next s side t c.loop-at.deepest c.loop-at.least at c.args.steps.now c.loop-at.steps (g.met.N.Links.none c.args.nodes.now) (c.loop-at.invariant.1 t k) c.loop-at-test.true).on in
+          (search_next s side t c.loop-at.deepest c.loop-at.least at c.args.steps.now c.loop-at.steps (g.met.N.Nodes.none c.args.nodes.now) (c.loop-at.invariant.1 t k) c.loop-at-test.true).on in
           let with_left : Searching s side t at (cond c.is_ge-left.result at c.loop-at.least) (s.kid c.is_ge-left.result at) c.args.steps.now (c.loop-at.steps + 1) =
           subst (λ (z : Bool). Searching s side t at (cond z at c.loop-at.least) (s.kid z at) c.args.steps.now (c.loop-at.steps + 1)) (sym left) on in
           rw (c.chosen-least.ensures, c.kid-at.ensures, c.side-answer.ensures.step) with_left,
@@ -41,15 +41,15 @@ loop-at-preserved g c =
 
 pub loop-at-smaller : goal.loop-at-smaller
 loop-at-smaller g c =
-    let s = g.N.Links.store c.args.nodes.now in
+    let s = g.N.Nodes.store c.args.nodes.now in
     let side = g.G.Guide.side_of c.args.guide.now c.args.nodes.now in
     let r = c.requires.tree in
     let left : c.is_ge-left.result ≡ is_ge (side c.loop-at.at) = c.is_ge-left.ensures ∙ ap is_ge c.side-answer.ensures.side in
     let kid : c.kid-at.result ≡ s.kid (is_ge (side c.loop-at.at)) c.loop-at.at = c.kid-at.ensures ∙ ap (λ z. s.kid z c.loop-at.at) left in
     rw kid
-    ((search_next s side r.tree c.loop-at.deepest c.loop-at.least c.loop-at.at c.args.steps.now c.loop-at.steps (g.met.N.Links.none c.args.nodes.now) (c.loop-at.invariant.1 r.tree r.is_tree) c.loop-at-test.true).less
-    (names_fit s 0 r.tree (g.met.N.Links.fits c.args.nodes.now) r.is_tree.stands r.is_tree.distinct))
+    ((search_next s side r.tree c.loop-at.deepest c.loop-at.least c.loop-at.at c.args.steps.now c.loop-at.steps (g.met.N.Nodes.none c.args.nodes.now) (c.loop-at.invariant.1 r.tree r.is_tree) c.loop-at-test.true).less
+    (names_fit s 0 r.tree (g.met.N.Nodes.fits c.args.nodes.now) r.is_tree.stands r.is_tree.distinct))
 
 pub returns-clause-search : goal.returns-clause-search
 returns-clause-search g c = λ t k.
-    search_end (g.N.Links.store c.args.nodes.now) (g.G.Guide.side_of c.args.guide.now c.args.nodes.now) t c.loop-at.deepest c.loop-at.least c.loop-at.at c.args.steps.now c.loop-at.steps (g.met.N.Links.none c.args.nodes.now) (c.loop-at.invariant.1 t k) c.loop-at-test.false
+    search_end (g.N.Nodes.store c.args.nodes.now) (g.G.Guide.side_of c.args.guide.now c.args.nodes.now) t c.loop-at.deepest c.loop-at.least c.loop-at.at c.args.steps.now c.loop-at.steps (g.met.N.Nodes.none c.args.nodes.now) (c.loop-at.invariant.1 t k) c.loop-at-test.false

@@ -10,7 +10,7 @@ use Rattle.vc_splay.proofs.finding.descend.Given as goal
 abbrev pub invariant-loop-at : goal.invariant-loop-at
 invariant-loop-at g l =
     (l.equal ≡ is_found (g.G.Guide.side_of l.guide l.nodes) l.least)
-    × ((t : Tree) → IsTree (g.N.Links.store l.nodes) l.root t → Searching (g.N.Links.store l.nodes) (g.G.Guide.side_of l.guide l.nodes) t l.deepest l.least l.at l.initial.steps l.steps)
+    × ((t : Tree) → IsTree (g.N.Nodes.store l.nodes) l.root t → Searching (g.N.Nodes.store l.nodes) (g.G.Guide.side_of l.guide l.nodes) t l.deepest l.least l.at l.initial.steps l.steps)
 
 abbrev pub decreases-loop-at : goal.decreases-loop-at
-decreases-loop-at g l = run (2 ^ 32) (λ n. (g.N.Links.store l.nodes).kid (is_ge (g.G.Guide.side_of l.guide l.nodes n)) n) l.at
+decreases-loop-at g l = run (2 ^ 32) (λ n. (g.N.Nodes.store l.nodes).kid (is_ge (g.G.Guide.side_of l.guide l.nodes n)) n) l.at

@@ -4,11 +4,11 @@ use Rattle.vc_splay.proofs.SearchLemmas.{can_reach, first_found, first_none, fou
 use Rattle.vc_splay.proofs.finding.find_first.Goals as goal
 
 pub returns-then-root-eq0-clause-tree : goal.returns-then-root-eq0-clause-tree
-returns-then-root-eq0-clause-tree g c = λ t k. same_tree (g.N.Links.store c.args.nodes.now) c.args.root t k c.if-root-eq0.true
+returns-then-root-eq0-clause-tree g c = λ t k. same_tree (g.N.Nodes.store c.args.nodes.now) c.args.root t k c.if-root-eq0.true
 
 pub returns-then-root-eq0-clause-answer : goal.returns-then-root-eq0-clause-answer
 returns-then-root-eq0-clause-answer g c = λ t k.
-    first_none (g.N.Links.store c.args.nodes.now) (g.G.Guide.side_of c.args.guide.now c.args.nodes.now) c.args.root t (g.met.N.Links.none c.args.nodes.now) k c.if-root-eq0.true
+    first_none (g.N.Nodes.store c.args.nodes.now) (g.G.Guide.side_of c.args.guide.now c.args.nodes.now) c.args.root t (g.met.N.Nodes.none c.args.nodes.now) k c.if-root-eq0.true
 
 pub reach-requires : goal.reach-requires
 reach-requires g c =
@@ -16,7 +16,7 @@ reach-requires g c =
     let side = g.G.Guide.side_of c.args.guide.now c.args.nodes.now in
     let d = c.descend-deepest in
     let is : c.chosen-found.result ≡ cond (is_found side d.result.1) d.result.1 0 = c.chosen-found.ensures ∙ ap (λ t. cond t d.result.1 0) d.ensures.equal in
-    can_reach (g.N.Links.store c.args.nodes.now) side c.args.root d.result.0 c.chosen-found.result d.result.1 c.args.steps.now d.new.steps r.tree r.is_tree (d.ensures.search r.tree r.is_tree)
+    can_reach (g.N.Nodes.store c.args.nodes.now) side c.args.root d.result.0 c.chosen-found.result d.result.1 c.args.steps.now d.new.steps r.tree r.is_tree (d.ensures.search r.tree r.is_tree)
     (found_is side d.result.1 c.chosen-found.result is)
 
 pub returns-clause-answer : goal.returns-clause-answer
@@ -24,14 +24,14 @@ returns-clause-answer g c = λ t k.
     let side = g.G.Guide.side_of c.args.guide.now c.args.nodes.now in
     let d = c.descend-deepest in
     let is : c.chosen-found.result ≡ cond (is_found side d.result.1) d.result.1 0 = c.chosen-found.ensures ∙ ap (λ t. cond t d.result.1 0) d.ensures.equal in
-    first_found (g.N.Links.store c.args.nodes.now) side c.args.root d.result.0 d.result.1 c.chosen-found.result c.args.steps.now d.new.steps t
-    (g.met.N.Links.none c.args.nodes.now) c.requires k (d.ensures.search t k) is
+    first_found (g.N.Nodes.store c.args.nodes.now) side c.args.root d.result.0 d.result.1 c.chosen-found.result c.args.steps.now d.new.steps t
+    (g.met.N.Nodes.none c.args.nodes.now) c.requires k (d.ensures.search t k) is
 
 pub returns-clause-least_steps : goal.returns-clause-least_steps
 returns-clause-least_steps g c = λ some.
     let r = c.requires in
     let d = c.descend-deepest in
-    least_steps (g.N.Links.store c.args.nodes.now) (g.G.Guide.side_of c.args.guide.now c.args.nodes.now) c.args.root d.result.0 d.result.1 c.args.steps.now d.new.steps r.tree r.is_tree some (d.ensures.search r.tree r.is_tree)
+    least_steps (g.N.Nodes.store c.args.nodes.now) (g.G.Guide.side_of c.args.guide.now c.args.nodes.now) c.args.root d.result.0 d.result.1 c.args.steps.now d.new.steps r.tree r.is_tree some (d.ensures.search r.tree r.is_tree)
 
 pub returns-clause-most_steps : goal.returns-clause-most_steps
 returns-clause-most_steps g c = λ t k.

@@ -3,16 +3,16 @@ use Rattle.vc_splay.proofs.SearchLemmas.{can_reach, least_none, least_steps, mos
 use Rattle.vc_splay.proofs.finding.find_least_at.Goals as goal
 
 pub returns-then-root-eq0-clause-tree : goal.returns-then-root-eq0-clause-tree
-returns-then-root-eq0-clause-tree g c = λ t k. same_tree (g.N.Links.store c.args.nodes.now) c.args.root t k c.if-root-eq0.true
+returns-then-root-eq0-clause-tree g c = λ t k. same_tree (g.N.Nodes.store c.args.nodes.now) c.args.root t k c.if-root-eq0.true
 
 pub returns-then-root-eq0-clause-answer : goal.returns-then-root-eq0-clause-answer
 returns-then-root-eq0-clause-answer g c = λ t k.
-    least_none (g.N.Links.store c.args.nodes.now) (g.G.Guide.side_of c.args.guide.now c.args.nodes.now) c.args.root t (g.met.N.Links.none c.args.nodes.now) k c.if-root-eq0.true
+    least_none (g.N.Nodes.store c.args.nodes.now) (g.G.Guide.side_of c.args.guide.now c.args.nodes.now) c.args.root t (g.met.N.Nodes.none c.args.nodes.now) k c.if-root-eq0.true
 
 pub reach-requires : goal.reach-requires
 reach-requires g c =
     let r = c.requires in
-    can_reach (g.N.Links.store c.args.nodes.now) (g.G.Guide.side_of c.args.guide.now c.args.nodes.now) c.args.root c.descend-deepest.result.0 c.descend-deepest.result.1 c.descend-deepest.result.1 c.args.steps.now c.descend-deepest.new.steps r.tree r.is_tree (c.descend-deepest.ensures.search r.tree r.is_tree) (λ some. refl)
+    can_reach (g.N.Nodes.store c.args.nodes.now) (g.G.Guide.side_of c.args.guide.now c.args.nodes.now) c.args.root c.descend-deepest.result.0 c.descend-deepest.result.1 c.descend-deepest.result.1 c.args.steps.now c.descend-deepest.new.steps r.tree r.is_tree (c.descend-deepest.ensures.search r.tree r.is_tree) (λ some. refl)
 
 pub returns-clause-answer : goal.returns-clause-answer
 returns-clause-answer g c = λ t k. (c.descend-deepest.ensures.search t k).first
@@ -20,7 +20,7 @@ returns-clause-answer g c = λ t k. (c.descend-deepest.ensures.search t k).first
 pub returns-clause-least_steps : goal.returns-clause-least_steps
 returns-clause-least_steps g c = λ some.
     let r = c.requires in
-    least_steps (g.N.Links.store c.args.nodes.now) (g.G.Guide.side_of c.args.guide.now c.args.nodes.now) c.args.root c.descend-deepest.result.0 c.descend-deepest.result.1 c.args.steps.now c.descend-deepest.new.steps r.tree r.is_tree some (c.descend-deepest.ensures.search r.tree r.is_tree)
+    least_steps (g.N.Nodes.store c.args.nodes.now) (g.G.Guide.side_of c.args.guide.now c.args.nodes.now) c.args.root c.descend-deepest.result.0 c.descend-deepest.result.1 c.args.steps.now c.descend-deepest.new.steps r.tree r.is_tree some (c.descend-deepest.ensures.search r.tree r.is_tree)
 
 pub returns-clause-most_steps : goal.returns-clause-most_steps
 returns-clause-most_steps g c = λ t k.

@@ -5,42 +5,38 @@ use Rattle.vc_splay.proofs.LinkLemmas.{Hung, above_held, apart_each, find_of_lin
 use Rattle.vc_splay.proofs.linking.link_after_equals.Goals as goal
 
 pub descend_behind-above-requires : goal.descend_behind-above-requires
-descend_behind-above-requires g c = find_of_link (g.N.Links.store c.args.nodes.now) (g.G.Guide.side_of c.args.guide.now c.args.nodes.now) c.args.root c.args.at c.requires
+descend_behind-above-requires g c = find_of_link (g.N.Nodes.store c.args.nodes.now) (g.G.Guide.side_of c.args.guide.now c.args.nodes.now) c.args.root c.args.at c.requires
 
 pub set_kid_of-requires : goal.set_kid_of-requires
 set_kid_of-requires g c =
-    above_held (g.N.Links.store c.args.nodes.now) (g.G.Guide.side_of c.args.guide.now c.args.nodes.now) c.args.root c.requires.tree c.descend_behind-above.result.0 c.descend_behind-above.result.1 c.args.steps.now c.descend_behind-above.new.steps
+    above_held (g.N.Nodes.store c.args.nodes.now) (g.G.Guide.side_of c.args.guide.now c.args.nodes.now) c.args.root c.requires.tree c.descend_behind-above.result.0 c.descend_behind-above.result.1 c.args.steps.now c.descend_behind-above.new.steps
     c.requires.is_tree (c.descend_behind-above.ensures c.requires.tree c.requires.is_tree)
 
 pub rise-requires : goal.rise-requires
 rise-requires g c =
     let w = c.descend_behind-above.ensures c.requires.tree c.requires.is_tree in
-    let h = hung (g.N.Links.store c.args.nodes.now) (g.G.Guide.side_of c.args.guide.now c.args.nodes.now) c.args.root c.args.at c.requires.tree c.descend_behind-above.result.0 c.descend_behind-above.result.1 c.args.steps.now c.descend_behind-above.new.steps
-    (g.met.N.Links.none c.args.nodes.now) c.requires.held c.requires.apart c.requires.is_tree w in
+    let h = hung (g.N.Nodes.store c.args.nodes.now) (g.G.Guide.side_of c.args.guide.now c.args.nodes.now) c.args.root c.args.at c.requires.tree c.descend_behind-above.result.0 c.descend_behind-above.result.1 c.args.steps.now c.descend_behind-above.new.steps
+    (g.met.N.Nodes.none c.args.nodes.now) c.requires.held c.requires.apart c.requires.is_tree w in
     rw c.set_kid_of.ensures.store (record { context = w.context; tree = Node Leaf c.args.at Leaf; rising = h.rising })
 
 pub returns-clause-tree : goal.returns-clause-tree
 returns-clause-tree g c = λ tree k.
-    let s = g.N.Links.store c.args.nodes.now in
+    let s = g.N.Nodes.store c.args.nodes.now in
     let side = g.G.Guide.side_of c.args.guide.now c.args.nodes.now in
-    let none = g.met.N.Links.none c.args.nodes.now in
+    let none = g.met.N.Nodes.none c.args.nodes.now in
     let above = c.descend_behind-above.result.0 in
     let left = c.descend_behind-above.result.1 in
-    let mid = g.N.Links.store c.set_kid_of.new.nodes in
+    let mid = g.N.Nodes.store c.set_kid_of.new.nodes in
     let w = c.descend_behind-above.ensures tree k in
     let h : Hung s mid c.args.at above w.context = subst (λ z. Hung s z c.args.at above w.context) (sym c.set_kid_of.ensures.store)
     (hung s side c.args.root c.args.at tree above left c.args.steps.now c.descend_behind-above.new.steps none c.requires.held (apart_each s side c.args.root c.args.at tree none c.requires k) k w) in
-    link_end s mid (g.N.Links.store c.rise.new.nodes) side c.args.at tree above left c.args.steps.now c.descend_behind-above.new.steps w h (c.rise.ensures.tree w.context (Node Leaf c.args.at Leaf) h.rising)
+    link_end s mid (g.N.Nodes.store c.rise.new.nodes) side c.args.at tree above left c.args.steps.now c.descend_behind-above.new.steps w h (c.rise.ensures.tree w.context (Node Leaf c.args.at Leaf) h.rising)
 
 pub returns-clause-least_steps : goal.returns-clause-least_steps
 returns-clause-least_steps g c = λ some.
-    gap_least (g.N.Links.store c.args.nodes.now) (g.G.Guide.side_of c.args.guide.now c.args.nodes.now) c.args.root c.requires.tree c.descend_behind-above.result.0 c.descend_behind-above.result.1 c.args.steps.now c.descend_behind-above.new.steps
+    gap_least (g.N.Nodes.store c.args.nodes.now) (g.G.Guide.side_of c.args.guide.now c.args.nodes.now) c.args.root c.requires.tree c.descend_behind-above.result.0 c.descend_behind-above.result.1 c.args.steps.now c.descend_behind-above.new.steps
     c.requires.is_tree some (c.descend_behind-above.ensures c.requires.tree c.requires.is_tree)
 
 pub returns-clause-most_steps : goal.returns-clause-most_steps
 returns-clause-most_steps g c = λ tree k.
     gap_most (g.G.Guide.side_of c.args.guide.now c.args.nodes.now) tree c.descend_behind-above.result.0 c.descend_behind-above.result.1 c.args.steps.now c.descend_behind-above.new.steps (c.descend_behind-above.ensures tree k)
-
-pub returns-clause-held : goal.returns-clause-held
-returns-clause-held g c =
-    c.rise.ensures.held ∙ ap (λ (z : Store). z.has) c.set_kid_of.ensures.store ∙ has_kid_of c.descend_behind-above.result.1 c.descend_behind-above.result.0 c.args.at (g.N.Links.store c.args.nodes.now)

@@ -4,9 +4,8 @@ use Rattle.vc_splay.proofs.rising.climb.Goals as goal
 
 pub loop-hand-init : goal.loop-hand-init
 loop-hand-init g c = record {
-  has = refl;
   rest = g.met.N.Nodes.reflexive c.args.nodes.now;
-  climb = λ context t r. climb_start (g.N.Links.store c.args.nodes.now) c.args.at c.args.from.below c.args.from.above c.args.from.left c.args.from.right context t r;
+  climb = λ context t r. climb_start (g.N.Nodes.store c.args.nodes.now) c.args.at c.args.from.below c.args.from.above c.args.from.left c.args.from.right context t r;
 }
 
 pub step-hand-requires : goal.step-hand-requires
@@ -16,21 +15,20 @@ step-hand-requires g c =
 
 pub loop-hand-preserved : goal.loop-hand-preserved
 loop-hand-preserved g c = record {
-  has = c.step-hand.ensures.held ∙ c.loop-hand.invariant.has;
   rest = g.met.N.Nodes.transitive c.args.nodes.now c.loop-hand.nodes c.step-hand.new.nodes c.loop-hand.invariant.rest c.step-hand.ensures.rest;
   climb = λ context t r.
       let k = c.loop-hand.invariant.climb context t r in
-      climb_on (g.N.Links.store c.args.nodes.now) (g.N.Links.store c.loop-hand.nodes) (g.N.Links.store c.step-hand.new.nodes) _ _ _ _ _ _ _ _ _ _ k (c.step-hand.ensures.step k.context k.part k.rising);
+      climb_on (g.N.Nodes.store c.args.nodes.now) (g.N.Nodes.store c.loop-hand.nodes) (g.N.Nodes.store c.step-hand.new.nodes) _ _ _ _ _ _ _ _ _ _ k (c.step-hand.ensures.step k.context k.part k.rising);
 }
 
 pub loop-hand-smaller : goal.loop-hand-smaller
 loop-hand-smaller g c =
     let k = c.loop-hand.invariant.climb c.requires.context c.requires.tree c.requires.rising in
-    climb_less (g.N.Links.store c.args.nodes.now) (g.N.Links.store c.loop-hand.nodes) (g.N.Links.store c.step-hand.new.nodes) _ _ _ _ _ _ _ _ _ _ k
-    (g.met.N.Links.none c.loop-hand.nodes) (g.met.N.Links.fits c.loop-hand.nodes) c.step-hand.ensures.held (c.step-hand.ensures.step k.context k.part k.rising)
+    climb_less (g.N.Nodes.store c.args.nodes.now) (g.N.Nodes.store c.loop-hand.nodes) (g.N.Nodes.store c.step-hand.new.nodes) _ _ _ _ _ _ _ _ _ _ k
+    (g.met.N.Nodes.none c.loop-hand.nodes) (g.met.N.Nodes.fits c.loop-hand.nodes) (g.met.N.Nodes.names c.loop-hand.nodes c.step-hand.new.nodes c.step-hand.ensures.rest) (c.step-hand.ensures.step k.context k.part k.rising)
 
 pub returns-clause-top : goal.returns-clause-top
 returns-clause-top g c = λ context t r.
     let h = c.loop-hand.hand in
-    climb_end (g.N.Links.store c.args.nodes.now) (g.N.Links.store c.loop-hand.nodes) c.args.at h.below h.above h.left h.right _
-    (g.met.N.Links.none c.loop-hand.nodes) c.loop-hand-test.false (c.loop-hand.invariant.climb context t r)
+    climb_end (g.N.Nodes.store c.args.nodes.now) (g.N.Nodes.store c.loop-hand.nodes) c.args.at h.below h.above h.left h.right _
+    (g.met.N.Nodes.none c.loop-hand.nodes) c.loop-hand-test.false (c.loop-hand.invariant.climb context t r)

@@ -7,11 +7,10 @@ use Rattle.vc_splay.proofs.rising.climb.Given as goal
 
 abbrev pub invariant-loop-hand : goal.invariant-loop-hand
 invariant-loop-hand g l = record {
-  has : (g.N.Links.store l.nodes).has ≡ (g.N.Links.store l.initial.nodes).has;
   rest : g.N.Nodes.stays l.initial.nodes l.nodes;
-  climb : (c : Context) (t : Tree) → IsRising (g.N.Links.store l.initial.nodes) l.at l.fn.from.below l.fn.from.above l.fn.from.left l.fn.from.right c t
-      → Climb (g.N.Links.store l.initial.nodes) (g.N.Links.store l.nodes) l.at (plug c t) l.hand.below l.hand.above l.hand.left l.hand.right;
+  climb : (c : Context) (t : Tree) → IsRising (g.N.Nodes.store l.initial.nodes) l.at l.fn.from.below l.fn.from.above l.fn.from.left l.fn.from.right c t
+      → Climb (g.N.Nodes.store l.initial.nodes) (g.N.Nodes.store l.nodes) l.at (plug c t) l.hand.below l.hand.above l.hand.left l.hand.right;
 }
 
 abbrev pub decreases-loop-hand : goal.decreases-loop-hand
-decreases-loop-hand g l = run (2 ^ 32) (g.N.Links.store l.nodes).parent l.hand.above
+decreases-loop-hand g l = run (2 ^ 32) (g.N.Nodes.store l.nodes).parent l.hand.above

@@ -5,25 +5,21 @@ use Rattle.vc_splay.proofs.rising.step.Goals as goal
 
 pub hang-requires : goal.hang-requires
 hang-requires g c =
-    let s = g.N.Links.store c.args.nodes.now in
+    let s = g.N.Nodes.store c.args.nodes.now in
     let r = c.requires.can_rise in
-    (single s c.args.at _ _ _ _ _ _ _ _ r.context r.tree _ (g.met.N.Links.none c.args.nodes.now) c.requires.some c.turned-near.ensures (turned c.side_of-side.result c.turned-near.result.0 c.args.hand.above) r.rising
+    (single s c.args.at _ _ _ _ _ _ _ _ r.context r.tree _ (g.met.N.Nodes.none c.args.nodes.now) c.requires.some c.turned-near.ensures (turned c.side_of-side.result c.turned-near.result.0 c.args.hand.above) r.rising
     c.side_of-side.ensures (sym c.up-top.ensures ∙ c.if-top-eq0.true)).can
 
 pub returns-then-top-eq0-clause-step : goal.returns-then-top-eq0-clause-step
 returns-then-top-eq0-clause-step g c = λ context tree r.
-    let s = g.N.Links.store c.args.nodes.now in
+    let s = g.N.Nodes.store c.args.nodes.now in
     rw (c.hang.ensures.store, c.risen.ensures.below, c.risen.ensures.above)
-    (single s c.args.at _ _ _ _ _ _ _ _ context tree _ (g.met.N.Links.none c.args.nodes.now) c.requires.some c.turned-near.ensures c.risen.ensures.hand r
+    (single s c.args.at _ _ _ _ _ _ _ _ context tree _ (g.met.N.Nodes.none c.args.nodes.now) c.requires.some c.turned-near.ensures c.risen.ensures.hand r
     c.side_of-side.ensures (sym c.up-top.ensures ∙ c.if-top-eq0.true)).step
-
-pub returns-then-top-eq0-clause-held : goal.returns-then-top-eq0-clause-held
-returns-then-top-eq0-clause-held g c =
-    rw c.hang.ensures.store (has-child c.side_of-side.result c.args.hand.above c.turned-near.result.1 (g.N.Links.store c.args.nodes.now))
 
 pub zig_zig-requires : goal.zig_zig-requires
 zig_zig-requires g c =
-    let s = g.N.Links.store c.args.nodes.now in
+    let s = g.N.Nodes.store c.args.nodes.now in
     let r = c.requires.can_rise in
     let k : Read s c.args.hand.below c.args.hand.above c.up-top.result c.up-next.result c.side_of-side.result c.side_of-outer.result = record {
       some = c.requires.some;
@@ -33,11 +29,11 @@ zig_zig-requires g c =
       outer_is = c.side_of-outer.ensures;
       next_is = c.up-next.ensures;
     } in
-    (double_same s c.args.at _ _ _ _ _ _ _ _ r.context r.tree _ _ _ _ (g.met.N.Links.none c.args.nodes.now) k c.if-outer-side.true c.turned-near.ensures (turned c.side_of-side.result c.turned-near.result.0 c.args.hand.above) r.rising).can
+    (double_same s c.args.at _ _ _ _ _ _ _ _ r.context r.tree _ _ _ _ (g.met.N.Nodes.none c.args.nodes.now) k c.if-outer-side.true c.turned-near.ensures (turned c.side_of-side.result c.turned-near.result.0 c.args.hand.above) r.rising).can
 
 pub returns-then-outer-side-clause-step : goal.returns-then-outer-side-clause-step
 returns-then-outer-side-clause-step g c = λ context tree r.
-    let s = g.N.Links.store c.args.nodes.now in
+    let s = g.N.Nodes.store c.args.nodes.now in
     let k : Read s c.args.hand.below c.args.hand.above c.up-top.result c.up-next.result c.side_of-side.result c.side_of-outer.result = record {
       some = c.requires.some;
       side_is = c.side_of-side.ensures;
@@ -47,15 +43,11 @@ returns-then-outer-side-clause-step g c = λ context tree r.
       next_is = c.up-next.ensures;
     } in
     rw (c.zig_zig.ensures.store, c.risen-then-outer-side.ensures.below, c.risen-then-outer-side.ensures.above)
-    (double_same s c.args.at _ _ _ _ _ _ _ _ context tree _ _ _ _ (g.met.N.Links.none c.args.nodes.now) k c.if-outer-side.true c.turned-near.ensures c.risen-then-outer-side.ensures.hand r).step
-
-pub returns-then-outer-side-clause-held : goal.returns-then-outer-side-clause-held
-returns-then-outer-side-clause-held g c =
-    rw c.zig_zig.ensures.store (has-zig_zig c.side_of-side.result c.turned-near.result.1 c.args.hand.above c.up-top.result (g.N.Links.store c.args.nodes.now))
+    (double_same s c.args.at _ _ _ _ _ _ _ _ context tree _ _ _ _ (g.met.N.Nodes.none c.args.nodes.now) k c.if-outer-side.true c.turned-near.ensures c.risen-then-outer-side.ensures.hand r).step
 
 pub zig_zag-requires : goal.zig_zag-requires
 zig_zag-requires g c =
-    let s = g.N.Links.store c.args.nodes.now in
+    let s = g.N.Nodes.store c.args.nodes.now in
     let r = c.requires.can_rise in
     let k : Read s c.args.hand.below c.args.hand.above c.up-top.result c.up-next.result c.side_of-side.result c.side_of-outer.result = record {
       some = c.requires.some;
@@ -65,11 +57,11 @@ zig_zag-requires g c =
       outer_is = c.side_of-outer.ensures;
       next_is = c.up-next.ensures;
     } in
-    (double_other s c.args.at _ _ _ _ _ _ _ _ r.context r.tree _ _ _ _ (g.met.N.Links.none c.args.nodes.now) k c.if-outer-side.false c.turned-near.ensures (turned c.side_of-side.result c.up-top.result c.args.hand.above) r.rising).can
+    (double_other s c.args.at _ _ _ _ _ _ _ _ r.context r.tree _ _ _ _ (g.met.N.Nodes.none c.args.nodes.now) k c.if-outer-side.false c.turned-near.ensures (turned c.side_of-side.result c.up-top.result c.args.hand.above) r.rising).can
 
 pub returns-clause-step : goal.returns-clause-step
 returns-clause-step g c = λ context tree r.
-    let s = g.N.Links.store c.args.nodes.now in
+    let s = g.N.Nodes.store c.args.nodes.now in
     let k : Read s c.args.hand.below c.args.hand.above c.up-top.result c.up-next.result c.side_of-side.result c.side_of-outer.result = record {
       some = c.requires.some;
       side_is = c.side_of-side.ensures;
@@ -79,8 +71,4 @@ returns-clause-step g c = λ context tree r.
       next_is = c.up-next.ensures;
     } in
     rw (c.zig_zag.ensures.store, c.risen-2.ensures.below, c.risen-2.ensures.above)
-    (double_other s c.args.at _ _ _ _ _ _ _ _ context tree _ _ _ _ (g.met.N.Links.none c.args.nodes.now) k c.if-outer-side.false c.turned-near.ensures c.risen-2.ensures.hand r).step
-
-pub returns-clause-held : goal.returns-clause-held
-returns-clause-held g c =
-    rw c.zig_zag.ensures.store (has-zig_zag c.side_of-side.result c.turned-near.result.0 c.turned-near.result.1 c.args.hand.above c.up-top.result (g.N.Links.store c.args.nodes.now))
+    (double_other s c.args.at _ _ _ _ _ _ _ _ context tree _ _ _ _ (g.met.N.Nodes.none c.args.nodes.now) k c.if-outer-side.false c.turned-near.ensures c.risen-2.ensures.hand r).step

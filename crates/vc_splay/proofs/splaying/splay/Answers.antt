@@ -6,22 +6,22 @@ use Rattle.vc_splay.proofs.SplayLemmas.{IsIn-each, IsIn-held, root_stays, start}
 use Rattle.vc_splay.proofs.splaying.splay.Goals as goal
 
 pub returns-then-at-root-clause-tree : goal.returns-then-at-root-clause-tree
-returns-then-at-root-clause-tree g c = λ t k. root_stays (g.N.Links.store c.args.nodes.now) c.args.root c.args.at t k c.if-at-root.true
+returns-then-at-root-clause-tree g c = λ t k. root_stays (g.N.Nodes.store c.args.nodes.now) c.args.root c.args.at t k c.if-at-root.true
 
 pub in_hand-hand-requires : goal.in_hand-hand-requires
-in_hand-hand-requires g c = IsIn-held (g.N.Links.store c.args.nodes.now) c.args.root c.args.at c.requires
+in_hand-hand-requires g c = IsIn-held (g.N.Nodes.store c.args.nodes.now) c.args.root c.args.at c.requires
 
 pub rise-requires : goal.rise-requires
 rise-requires g c =
     let k = c.requires in
     let h = c.in_hand-hand.result in
-    let b = start (g.N.Links.store c.args.nodes.now) c.args.root c.args.at h.below h.above h.left h.right k.tree k.is_tree k.within c.in_hand-hand.ensures in
+    let b = start (g.N.Nodes.store c.args.nodes.now) c.args.root c.args.at h.below h.above h.left h.right k.tree k.is_tree k.within c.in_hand-hand.ensures in
     record { context = b.context; tree = b.part; rising = b.rising }
 
 pub returns-clause-tree : goal.returns-clause-tree
 returns-clause-tree g c = λ t k.
-    let s = g.N.Links.store c.args.nodes.now in
+    let s = g.N.Nodes.store c.args.nodes.now in
     let h = c.in_hand-hand.result in
-    let within : contains (names t) c.args.at ≡ true = IsIn-each s c.args.root c.args.at (g.met.N.Links.none c.args.nodes.now) c.requires t k in
+    let within : contains (names t) c.args.at ≡ true = IsIn-each s c.args.root c.args.at (g.met.N.Nodes.none c.args.nodes.now) c.requires t k in
     let b = start s c.args.root c.args.at h.below h.above h.left h.right t k within c.in_hand-hand.ensures in
-    subst (λ z. TreeAfter s (g.N.Links.store c.rise.new.nodes) (names z) c.args.at (names z)) b.whole (c.rise.ensures.tree b.context b.part b.rising)
+    subst (λ z. TreeAfter s (g.N.Nodes.store c.rise.new.nodes) (names z) c.args.at (names z)) b.whole (c.rise.ensures.tree b.context b.part b.rising)

@@ -8,14 +8,11 @@ use Rattle.vc_splay.proofs.unlinking.join.Goals as goal
 
 pub returns-then-left-eq0-clause-tree : goal.returns-then-left-eq0-clause-tree
 returns-then-left-eq0-clause-tree g c = λ front back p.
-    rw c.set_up_of.ensures.store (join_back (g.N.Links.store c.args.nodes.now) c.args.left c.args.right front back (g.met.N.Links.none c.args.nodes.now) p c.if-left-eq0.true)
-
-pub returns-then-left-eq0-clause-held : goal.returns-then-left-eq0-clause-held
-returns-then-left-eq0-clause-held g c = rw c.set_up_of.ensures.store (has_parent_of c.args.right 0 (g.N.Links.store c.args.nodes.now))
+    rw c.set_up_of.ensures.store (join_back (g.N.Nodes.store c.args.nodes.now) c.args.left c.args.right front back (g.met.N.Nodes.none c.args.nodes.now) p c.if-left-eq0.true)
 
 pub returns-then-right-eq0-clause-tree : goal.returns-then-right-eq0-clause-tree
 returns-then-right-eq0-clause-tree g c = λ front back p.
-    join_front (g.N.Links.store c.args.nodes.now) c.args.left c.args.right front back (g.met.N.Links.none c.args.nodes.now) p c.if-right-eq0.true
+    join_front (g.N.Nodes.store c.args.nodes.now) c.args.left c.args.right front back (g.met.N.Nodes.none c.args.nodes.now) p c.if-right-eq0.true
 
 pub splay-top-requires : goal.splay-top-requires
 splay-top-requires g c =
@@ -29,22 +26,17 @@ splay-top-requires g c =
 pub set_up-requires : goal.set_up-requires
 set_up-requires g c =
     let r = c.requires in
-    let s = g.N.Links.store c.splay-top.new.nodes in
+    let s = g.N.Nodes.store c.splay-top.new.nodes in
     ap (λ (z : Store). z.has c.args.right) c.set_right.ensures.store
-    ∙ ap (λ f. f c.args.right) (has_kid false c.splay-top.result c.args.right s ∙ c.splay-top.ensures.held)
-    ∙ back_held (g.N.Links.store c.args.nodes.now) c.args.left c.args.right r.front r.back r.pair c.if-right-eq0.false
+    ∙ ap (λ f. f c.args.right) (has_kid false c.splay-top.result c.args.right s ∙ g.met.N.Nodes.names c.args.nodes.now c.splay-top.new.nodes c.splay-top.ensures.rest)
+    ∙ back_held (g.N.Nodes.store c.args.nodes.now) c.args.left c.args.right r.front r.back r.pair c.if-right-eq0.false
 
 pub returns-clause-tree : goal.returns-clause-tree
 returns-clause-tree g c = λ front back p.
-    let old = g.N.Links.store c.args.nodes.now in
-    let s = g.N.Links.store c.splay-top.new.nodes in
+    let old = g.N.Nodes.store c.args.nodes.now in
+    let s = g.N.Nodes.store c.splay-top.new.nodes in
     let top = c.splay-top.result in
     let after : TreeAfter old s (names front) top (names front) = c.splay-top.ensures.tree front p.front_is in
     rw (c.set_up.ensures.store, c.set_right.ensures.store)
-    (join_both old s c.args.left c.args.right top c.last-end.result front back (g.met.N.Links.none c.splay-top.new.nodes) c.splay-top.ensures.held p c.if-left-eq0.false c.if-right-eq0.false
+    (join_both old s c.args.left c.args.right top c.last-end.result front back (g.met.N.Nodes.none c.splay-top.new.nodes) (g.met.N.Nodes.names c.args.nodes.now c.splay-top.new.nodes c.splay-top.ensures.rest) p c.if-left-eq0.false c.if-right-eq0.false
     (c.last-end.ensures front p.front_is) c.splay-top.ensures.root after)
-
-pub returns-clause-held : goal.returns-clause-held
-returns-clause-held g c =
-    let s = g.N.Links.store c.splay-top.new.nodes in
-    rw (c.set_up.ensures.store, c.set_right.ensures.store) (has_joined s c.splay-top.result c.args.right ∙ c.splay-top.ensures.held)

@@ -9,50 +9,46 @@ use Rattle.vc_splay.proofs.UnlinkLemmas.{Split, has_parent_of, split_at, unlink_
 use Rattle.vc_splay.proofs.unlinking.unlink.Goals as goal
 
 pub in_hand-hand-requires : goal.in_hand-hand-requires
-in_hand-hand-requires g c = IsIn-held (g.N.Links.store c.args.nodes.now) c.args.root c.args.at c.requires
+in_hand-hand-requires g c = IsIn-held (g.N.Nodes.store c.args.nodes.now) c.args.root c.args.at c.requires
 
 pub climb-left-requires : goal.climb-left-requires
 climb-left-requires g c =
     let k = c.requires in
     let h = c.in_hand-hand.result in
-    let b = start (g.N.Links.store c.args.nodes.now) c.args.root c.args.at h.below h.above h.left h.right k.tree k.is_tree k.within c.in_hand-hand.ensures in
+    let b = start (g.N.Nodes.store c.args.nodes.now) c.args.root c.args.at h.below h.above h.left h.right k.tree k.is_tree k.within c.in_hand-hand.ensures in
     record { context = b.context; tree = b.part; rising = b.rising }
 
 pub set_up_of-requires : goal.set_up_of-requires
 set_up_of-requires g c =
     let k = c.requires in
     let h = c.in_hand-hand.result in
-    let b = start (g.N.Links.store c.args.nodes.now) c.args.root c.args.at h.below h.above h.left h.right k.tree k.is_tree k.within c.in_hand-hand.ensures in
+    let b = start (g.N.Nodes.store c.args.nodes.now) c.args.root c.args.at h.below h.above h.left h.right k.tree k.is_tree k.within c.in_hand-hand.ensures in
     let top = (c.climb-left.ensures.top b.context b.part b.rising).hand in
-    IsCut-held (g.N.Links.store c.climb-left.new.nodes) c.climb-left.result.0 top.left_tree top.left_cut
+    IsCut-held (g.N.Nodes.store c.climb-left.new.nodes) c.climb-left.result.0 top.left_tree top.left_cut
 
 pub join-requires : goal.join-requires
 join-requires g c =
-    let old = g.N.Links.store c.args.nodes.now in
-    let s = g.N.Links.store c.climb-left.new.nodes in
+    let old = g.N.Nodes.store c.args.nodes.now in
+    let s = g.N.Nodes.store c.climb-left.new.nodes in
     let k = c.requires in
     let h = c.in_hand-hand.result in
     let b = start old c.args.root c.args.at h.below h.above h.left h.right k.tree k.is_tree k.within c.in_hand-hand.ensures in
     let top : Topped old s c.args.at (names k.tree) c.climb-left.result.0 c.climb-left.result.1 =
     subst (λ z. Topped old s c.args.at (names z) c.climb-left.result.0 c.climb-left.result.1) b.whole (c.climb-left.ensures.top b.context b.part b.rising) in
-    let p = split_at old s c.args.at c.climb-left.result.0 c.climb-left.result.1 k.tree (g.met.N.Links.none c.climb-left.new.nodes) k.is_tree.distinct top in
+    let p = split_at old s c.args.at c.climb-left.result.0 c.climb-left.result.1 k.tree (g.met.N.Nodes.none c.climb-left.new.nodes) k.is_tree.distinct top in
     rw c.set_up_of.ensures.store (record { front = p.front; back = p.back; pair = p.pair })
 
 pub returns-clause-tree : goal.returns-clause-tree
 returns-clause-tree g c = λ t k.
-    let old = g.N.Links.store c.args.nodes.now in
-    let s = g.N.Links.store c.climb-left.new.nodes in
-    let mid = g.N.Links.store c.set_up_of.new.nodes in
+    let old = g.N.Nodes.store c.args.nodes.now in
+    let s = g.N.Nodes.store c.climb-left.new.nodes in
+    let mid = g.N.Nodes.store c.set_up_of.new.nodes in
     let left = c.climb-left.result.0 in
     let right = c.climb-left.result.1 in
     let h = c.in_hand-hand.result in
-    let within : contains (names t) c.args.at ≡ true = IsIn-each old c.args.root c.args.at (g.met.N.Links.none c.args.nodes.now) c.requires t k in
+    let within : contains (names t) c.args.at ≡ true = IsIn-each old c.args.root c.args.at (g.met.N.Nodes.none c.args.nodes.now) c.requires t k in
     let b = start old c.args.root c.args.at h.below h.above h.left h.right t k within c.in_hand-hand.ensures in
     let top : Topped old s c.args.at (names t) left right = subst (λ z. Topped old s c.args.at (names z) left right) b.whole (c.climb-left.ensures.top b.context b.part b.rising) in
     let p : Split old s mid c.args.at left right t = subst (λ z. Split old s z c.args.at left right t) (sym c.set_up_of.ensures.store)
-    (split_at old s c.args.at left right t (g.met.N.Links.none c.climb-left.new.nodes) k.distinct top) in
-    unlink_end old s mid (g.N.Links.store c.join.new.nodes) c.args.at left right t c.join.result p (c.join.ensures.tree p.front p.back p.pair)
-
-pub returns-clause-held : goal.returns-clause-held
-returns-clause-held g c =
-    c.join.ensures.held ∙ ap (λ (z : Store). z.has) c.set_up_of.ensures.store ∙ has_parent_of c.climb-left.result.0 0 (g.N.Links.store c.climb-left.new.nodes) ∙ c.climb-left.ensures.held
+    (split_at old s c.args.at left right t (g.met.N.Nodes.none c.climb-left.new.nodes) k.distinct top) in
+    unlink_end old s mid (g.N.Nodes.store c.join.new.nodes) c.args.at left right t c.join.result p (c.join.ensures.tree p.front p.back p.pair)
