@@ -4,7 +4,7 @@ ghost use Rattle.std.specs.List.{flat_map};
 ghost use Rattle.vc_base.specs.Methods.{is_ordered};
 ghost use Rattle.vc_base.specs.Address.{number_of};
 ghost use Rattle.vc_dtdisc.specs.Finding.{before_first, behind_last, first_of, last_of};
-ghost use Rattle.vc_paths.specs.Layers.{Same, bytes_there, place_in};
+ghost use Rattle.vc_paths.specs.Layers.{Unchanged, bytes_there, place_in};
 ghost use Rattle.vc_paths.specs.Path.{Answers, IsAlike, IsPath, IsVisible, is_at, numbers_of, visible_of};
 ghost use Rattle.vc_paths.specs.Shown.{IsOnPath, IsPlaceIn, above, down, has_match, is_covered, objects_from, objects_up_to, unhidden_objects, shown_in};
 
@@ -21,8 +21,7 @@ fn has_like<Y: Layers, L>(layers: &mut Y, u: u32, e: u32, at: Addr, steps: &mut 
     ensures found { (bytes : List ℕ)
         → bytes_there at.0 ((Y.layered layers.old).layer e).objects ≡ Some bytes
         → result ≡ has_match (Y.layered layers.old) u bytes u }
-    ensures layers { Same (Y.layered layers.old) (Y.layered layers.new) }
-    ensures stays { Y.Stays layers.old layers.new }
+    ensures unchanged { Unchanged Y.layered Y.Stays layers.old layers.new }
 {
     layers.find_like(u, e, at, steps).is_some()
 }
@@ -42,8 +41,7 @@ fn is_hidden<Y: Layers, L>(
     ensures hidden { (bytes : List ℕ)
         → bytes_there at.0 ((Y.layered layers.old).layer e).objects ≡ Some bytes
         → result ≡ is_covered (Y.layered layers.old) paths.now d e bytes }
-    ensures layers { Same (Y.layered layers.old) (Y.layered layers.new) }
-    ensures stays { Y.Stays layers.old layers.new }
+    ensures unchanged { Unchanged Y.layered Y.Stays layers.old layers.new }
 {
     paths.show_invariant();
     let mut upper = Some(d);
@@ -74,8 +72,7 @@ fn seen_from<Y: Layers, L>(
     ensures found { option_map number_of result ≡ place_in (first_of (unhidden_objects (Y.layered layers.old)
         paths.now d e (objects_from (option_map number_of at)
         ((Y.layered layers.old).layer e).objects))) }
-    ensures layers { Same (Y.layered layers.old) (Y.layered layers.new) }
-    ensures stays { Y.Stays layers.old layers.new }
+    ensures unchanged { Unchanged Y.layered Y.Stays layers.old layers.new }
 {
     let mut here = at;
     while let Some(place) = here {
@@ -102,8 +99,7 @@ fn seen_back<Y: Layers, L>(
     ensures found { option_map number_of result ≡ place_in (last_of (unhidden_objects (Y.layered layers.old)
         paths.now d e (objects_up_to (option_map number_of at)
         ((Y.layered layers.old).layer e).objects))) }
-    ensures layers { Same (Y.layered layers.old) (Y.layered layers.new) }
-    ensures stays { Y.Stays layers.old layers.new }
+    ensures unchanged { Unchanged Y.layered Y.Stays layers.old layers.new }
 {
     let mut here = at;
     while let Some(place) = here {
@@ -137,8 +133,7 @@ fn first_in<Y: Layers, L>(
     requires other { IsAlike (Y.layered layers.old) d e }
     ensures found { option_map numbers_of result
         ≡ first_of (shown_in (Y.layered layers.old) paths.now d e) }
-    ensures layers { Same (Y.layered layers.old) (Y.layered layers.new) }
-    ensures stays { Y.Stays layers.old layers.new }
+    ensures unchanged { Unchanged Y.layered Y.Stays layers.old layers.new }
 {
     let start = layers.first(e);
     placed(e, seen_from(paths, layers, d, e, start, steps))
@@ -156,8 +151,7 @@ fn last_in<Y: Layers, L>(
     requires other { IsAlike (Y.layered layers.old) d e }
     ensures found { option_map numbers_of result
         ≡ last_of (shown_in (Y.layered layers.old) paths.now d e) }
-    ensures layers { Same (Y.layered layers.old) (Y.layered layers.new) }
-    ensures stays { Y.Stays layers.old layers.new }
+    ensures unchanged { Unchanged Y.layered Y.Stays layers.old layers.new }
 {
     let end = layers.last(e);
     placed(e, seen_back(paths, layers, d, e, end, steps))
@@ -175,8 +169,7 @@ fn first_below<Y: Layers, L>(
     requires from { IsOnPath (Y.layered layers.old) paths.now d from }
     ensures found { option_map numbers_of result
         ≡ first_of (flat_map (shown_in (Y.layered layers.old) paths.now d) (down paths.now from)) }
-    ensures layers { Same (Y.layered layers.old) (Y.layered layers.new) }
-    ensures stays { Y.Stays layers.old layers.new }
+    ensures unchanged { Unchanged Y.layered Y.Stays layers.old layers.new }
 {
     paths.show_invariant();
     let mut layer = from;
@@ -201,8 +194,7 @@ fn last_above<Y: Layers, L>(
     requires path { IsOnPath (Y.layered layers.old) paths.now d (Some d) }
     ensures found { option_map numbers_of result ≡ last_of (flat_map
         (shown_in (Y.layered layers.old) paths.now d) (above end (down paths.now (Some d)))) }
-    ensures layers { Same (Y.layered layers.old) (Y.layered layers.new) }
-    ensures stays { Y.Stays layers.old layers.new }
+    ensures unchanged { Unchanged Y.layered Y.Stays layers.old layers.new }
 {
     paths.show_invariant();
     let mut best = None;
@@ -227,8 +219,7 @@ pub(crate) fn first<Y: Layers, L>(
     requires path { IsPath (Y.layered layers.old) paths.now d }
     requires method { is_ordered ((Y.layered layers.old).layer d).method ≡ false }
     ensures found { Answers result (first_of (visible_of (Y.layered layers.old) paths.now d)) }
-    ensures layers { Same (Y.layered layers.old) (Y.layered layers.new) }
-    ensures stays { Y.Stays layers.old layers.new }
+    ensures unchanged { Unchanged Y.layered Y.Stays layers.old layers.new }
 {
     paths.show_invariant();
     first_below(paths, layers, d, Some(d), steps)
@@ -244,8 +235,7 @@ pub(crate) fn last<Y: Layers, L>(
     requires path { IsPath (Y.layered layers.old) paths.now d }
     requires method { is_ordered ((Y.layered layers.old).layer d).method ≡ false }
     ensures found { Answers result (last_of (visible_of (Y.layered layers.old) paths.now d)) }
-    ensures layers { Same (Y.layered layers.old) (Y.layered layers.new) }
-    ensures stays { Y.Stays layers.old layers.new }
+    ensures unchanged { Unchanged Y.layered Y.Stays layers.old layers.new }
 {
     paths.show_invariant();
     last_above(paths, layers, d, None, steps)
@@ -264,8 +254,7 @@ pub(crate) fn walk_next<Y: Layers, L>(
     requires from { IsVisible (Y.layered layers.old) paths.now d (numbers_of from) }
     ensures found { Answers result (behind_last (is_at (numbers_of from))
         (visible_of (Y.layered layers.old) paths.now d)) }
-    ensures layers { Same (Y.layered layers.old) (Y.layered layers.new) }
-    ensures stays { Y.Stays layers.old layers.new }
+    ensures unchanged { Unchanged Y.layered Y.Stays layers.old layers.new }
 {
     paths.show_invariant();
     let (e, at) = from;
@@ -289,8 +278,7 @@ pub(crate) fn walk_prev<Y: Layers, L>(
     requires from { IsVisible (Y.layered layers.old) paths.now d (numbers_of from) }
     ensures found { Answers result (before_first (is_at (numbers_of from))
         (visible_of (Y.layered layers.old) paths.now d)) }
-    ensures layers { Same (Y.layered layers.old) (Y.layered layers.new) }
-    ensures stays { Y.Stays layers.old layers.new }
+    ensures unchanged { Unchanged Y.layered Y.Stays layers.old layers.new }
 {
     paths.show_invariant();
     let (e, at) = from;

@@ -3,7 +3,7 @@ ghost use Rattle.std.specs.List.{filter, find};
 ghost use Rattle.vc_base.specs.Methods.{is_ordered};
 ghost use Rattle.vc_dtdisc.specs.Finding.{before_first, behind_last, first_of, last_of};
 ghost use Rattle.vc_dtdisc.specs.Objects.{is_match};
-ghost use Rattle.vc_paths.specs.Layers.{Same, bytes_there, place_in};
+ghost use Rattle.vc_paths.specs.Layers.{Unchanged, bytes_there, place_in};
 ghost use Rattle.vc_paths.specs.Links.{below};
 ghost use Rattle.vc_paths.specs.Path.{Answers, IsPath, IsVisible, is_at, numbers_of, visible_of};
 ghost use Rattle.vc_paths.specs.Seek.{has_key_in};
@@ -25,8 +25,7 @@ pub fn search<Y: Layers, L>(
     requires { IsPath (Y.layered layers.old) paths.now d }
     ensures found { Answers result (find (has_key_in (Y.layered layers.old) d key.now)
         (visible_of (Y.layered layers.old) paths.now d)) }
-    ensures layers { Same (Y.layered layers.old) (Y.layered layers.new) }
-    ensures stays { Y.Stays layers.old layers.new }
+    ensures unchanged { Unchanged Y.layered Y.Stays layers.old layers.new }
 {
     paths.show_invariant();
     let mut at = Some(d);
@@ -133,8 +132,7 @@ pub fn first<Y: Layers, L>(
     requires { IsPath (Y.layered layers.old) paths.now d }
     ensures found { Answers result
         (first_of (visible_of (Y.layered layers.old) paths.now d)) }
-    ensures layers { Same (Y.layered layers.old) (Y.layered layers.new) }
-    ensures stays { Y.Stays layers.old layers.new }
+    ensures unchanged { Unchanged Y.layered Y.Stays layers.old layers.new }
 {
     if layers.method(d).is_ordered() {
         ordered::first(paths, layers, d, steps)
@@ -154,8 +152,7 @@ pub fn last<Y: Layers, L>(
     requires { IsPath (Y.layered layers.old) paths.now d }
     ensures found { Answers result
         (last_of (visible_of (Y.layered layers.old) paths.now d)) }
-    ensures layers { Same (Y.layered layers.old) (Y.layered layers.new) }
-    ensures stays { Y.Stays layers.old layers.new }
+    ensures unchanged { Unchanged Y.layered Y.Stays layers.old layers.new }
 {
     if layers.method(d).is_ordered() {
         ordered::last(paths, layers, d, steps)
@@ -178,8 +175,7 @@ pub fn walk_next<Y: Layers, L>(
     ensures found { Answers result (behind_last (is_at (numbers_of from))
         (visible_of (Y.layered layers.old) paths.now d)) }
     ensures alone { below paths.now d ≡ None → steps.new ≡ steps.old }
-    ensures layers { Same (Y.layered layers.old) (Y.layered layers.new) }
-    ensures stays { Y.Stays layers.old layers.new }
+    ensures unchanged { Unchanged Y.layered Y.Stays layers.old layers.new }
 {
     if paths.below(d).is_none() {
         placed(d, layers.next(d, from.1))
@@ -202,8 +198,7 @@ fn walk_prev<Y: Layers, L>(
     requires place { IsVisible (Y.layered layers.old) paths.now d (numbers_of from) }
     ensures found { Answers result (before_first (is_at (numbers_of from))
         (visible_of (Y.layered layers.old) paths.now d)) }
-    ensures layers { Same (Y.layered layers.old) (Y.layered layers.new) }
-    ensures stays { Y.Stays layers.old layers.new }
+    ensures unchanged { Unchanged Y.layered Y.Stays layers.old layers.new }
 {
     if paths.below(d).is_none() {
         placed(d, layers.prev(d, from.1))
@@ -226,8 +221,7 @@ pub fn next<Y: Layers, L>(
     requires { IsPath (Y.layered layers.old) paths.now d }
     ensures found { Answers result (behind_last (has_key_in (Y.layered layers.old) d key.now)
         (visible_of (Y.layered layers.old) paths.now d)) }
-    ensures layers { Same (Y.layered layers.old) (Y.layered layers.new) }
-    ensures stays { Y.Stays layers.old layers.new }
+    ensures unchanged { Unchanged Y.layered Y.Stays layers.old layers.new }
 {
     match search(paths, layers, d, key, steps) {
         Some(from) => {
@@ -250,8 +244,7 @@ pub fn prev<Y: Layers, L>(
     requires { IsPath (Y.layered layers.old) paths.now d }
     ensures found { Answers result (before_first (has_key_in (Y.layered layers.old) d key.now)
         (visible_of (Y.layered layers.old) paths.now d)) }
-    ensures layers { Same (Y.layered layers.old) (Y.layered layers.new) }
-    ensures stays { Y.Stays layers.old layers.new }
+    ensures unchanged { Unchanged Y.layered Y.Stays layers.old layers.new }
 {
     match search(paths, layers, d, key, steps) {
         Some(from) => walk_prev(paths, layers, d, from, steps),

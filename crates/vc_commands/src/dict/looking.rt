@@ -2,7 +2,7 @@
 ghost use Rattle.std.specs.Prelude.{◌≡◌, ◌==◌, Some, None, true, IfOk, IsSome, map, if◌then◌else◌};
 ghost use Rattle.std.specs.Option.{option_map};
 ghost use Rattle.vc_base.specs.Address.{number_of};
-ghost use Rattle.vc_paths.specs.Layers.{Same, bytes_there};
+ghost use Rattle.vc_paths.specs.Layers.{Unchanged, bytes_there};
 ghost use Rattle.vc_paths.specs.Ordered.{IsStanding, object_at};
 ghost use Rattle.vc_paths.specs.Path.{Answers, IsPath, visible_of};
 ghost use Rattle.vc_paths.specs.Visible.{seen_bytes};
@@ -89,8 +89,7 @@ fn found<Y: Layers, D: DictDisc>(
     requires rules { D.rules kind.now ≡ ((Y.layered layers.old).layer d).rules }
     ensures found { Answers result (found_by (D.rules kind.now) command.now
         (visible_of (Y.layered layers.old) paths.now d)) }
-    ensures layers { Same (Y.layered layers.old) (Y.layered layers.new) }
-    ensures stays { Y.Stays layers.old layers.new }
+    ensures unchanged { Unchanged Y.layered Y.Stays layers.old layers.new }
 {
     let mut steps = Steps::<Uncounted>::new(alloc);
     match command {
@@ -122,8 +121,7 @@ fn walk<Y: Layers>(
     requires { IsPath (Y.layered layers.old) paths.now d }
     ensures reply { IfOk result (λ reply. reply ≡ Reply.Objects
         (map seen_bytes (visible_of (Y.layered layers.old) paths.now d))) }
-    ensures layers { Same (Y.layered layers.old) (Y.layered layers.new) }
-    ensures stays { Y.Stays layers.old layers.new }
+    ensures unchanged { Unchanged Y.layered Y.Stays layers.old layers.new }
 {
     paths.show_invariant();
     let mut steps = Steps::<Uncounted>::new(alloc);
@@ -158,8 +156,7 @@ pub fn look<Y: Layers, D: DictDisc>(
         ≡ look_place (λ e. e == d) (D.rules kind.now) command.now
         (visible_of (Y.layered layers.old) paths.now d)) }
 
-    ensures layers { Same (Y.layered layers.old) (Y.layered layers.new) }
-    ensures stays { Y.Stays layers.old layers.new }
+    ensures unchanged { Unchanged Y.layered Y.Stays layers.old layers.new }
 {
     if !is_askable(command) {
         return Ok((Reply::Refused(Refusal::Size), None));

@@ -18,7 +18,7 @@ first g c = c.first_in-found.ensures.found ∙ ap (λ z. first_of (z c.in-Some.e
 
 stays : (g : Over) (c : After-first_in-found g) → g.Y.Layers.Stays c.args.layers.now c.first_in-found.new.layers
 stays g c =
-    g.met.Y.Layers.transitive c.args.layers.now c.loop-layer.layers c.first_in-found.new.layers c.loop-layer.invariant.stays c.first_in-found.ensures.stays
+    g.met.Y.Layers.transitive c.args.layers.now c.loop-layer.layers c.first_in-found.new.layers c.loop-layer.invariant.stays c.first_in-found.ensures.unchanged.stays
 
 pub loop-layer-init : goal.loop-layer-init
 loop-layer-init g c = record {
@@ -41,8 +41,10 @@ returns-then-is_some g c =
     let shows = shown_in (g.Y.Layers.layered c.args.layers.now) c.args.paths.now c.args.d in
     record {
       found = below-found shows c.show_invariant.ensures c.in-Some.is (first g after) some ∙ sym i.answer;
-      layers = same-over i.same c.first_in-found.ensures.layers;
-      stays = stays g after;
+      unchanged = record {
+        layers = same-over i.same c.first_in-found.ensures.unchanged.layers;
+        stays = stays g after;
+      };
     }
 
 pub below-layer-requires : goal.below-layer-requires
@@ -58,7 +60,7 @@ loop-layer-preserved g c =
     let after = (goal.at.loop-layer-preserved g c).After-first_in-found in
     let none = is_some-map numbers_of c.first_in-found.result ∙ sym c.is_some.ensures ∙ c.if-is_some.false in
     record {
-      same = same-over i.same c.first_in-found.ensures.layers;
+      same = same-over i.same c.first_in-found.ensures.unchanged.layers;
       stays = stays g after;
       path = on-next paths c.in-Some.is c.below-layer.ensures i.path;
       answer = i.answer
@@ -70,6 +72,8 @@ returns g c =
     let i = c.loop-layer.invariant in
     record {
       found = below-end (shown_in (g.Y.Layers.layered c.args.layers.now) c.args.paths.now c.args.d) c.show_invariant.ensures c.in_default.is ∙ sym i.answer;
-      layers = i.same;
-      stays = i.stays;
+      unchanged = record {
+        layers = i.same;
+        stays = i.stays;
+      };
     }

@@ -57,8 +57,8 @@ loop-upper-preserved g c =
     let i = c.loop-upper.invariant in
     let paths = c.show_invariant.ensures in
     record {
-      same = same-over i.same c.has_like.ensures.layers;
-      stays = g.met.Y.Layers.transitive c.args.layers.now c.loop-upper.layers c.has_like.new.layers i.stays c.has_like.ensures.stays;
+      same = same-over i.same c.has_like.ensures.unchanged.layers;
+      stays = g.met.Y.Layers.transitive c.args.layers.now c.loop-upper.layers c.has_like.new.layers i.stays c.has_like.ensures.unchanged.stays;
       path = on-next paths c.in-Some.is c.below-upper.ensures i.path;
       answer = λ bytes there.
           let none = matched g (goal.at.loop-upper-preserved g c).After-has_like bytes there ∙ c.if-has_like.false in

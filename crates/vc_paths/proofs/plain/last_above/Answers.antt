@@ -30,8 +30,8 @@ loop-layer-preserved g c =
     let last = c.last_in.ensures.found ∙ ap (λ z. last_of (z c.in-Some.e)) (shown-kept links c.args.d i.same) in
     let rest = flat_map shows (above c.args.end (down links c.below-layer.result)) in
     record {
-      same = same-over i.same c.last_in.ensures.layers;
-      stays = g.met.Y.Layers.transitive c.args.layers.now c.loop-layer.layers c.last_in.new.layers i.stays c.last_in.ensures.stays;
+      same = same-over i.same c.last_in.ensures.unchanged.layers;
+      stays = g.met.Y.Layers.transitive c.args.layers.now c.loop-layer.layers c.last_in.new.layers i.stays c.last_in.ensures.unchanged.stays;
       path = on-next paths c.in-Some.is c.below-layer.ensures i.path;
       answer = i.answer
           ∙ above-past shows paths c.args.end (option_map numbers_of c.loop-layer.best) c.in-Some.is c.below-layer.ensures (sym c.is_link_to.ensures ∙ c.if-is_link_to.false) last

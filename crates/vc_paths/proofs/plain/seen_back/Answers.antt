@@ -15,11 +15,11 @@ here : (g : Over) (c : After-is_hidden g)
 here g c =
     let i = c.loop-here.invariant in
     stop-at (g.met.Y.Layers.lawful c.args.layers.now) c.requires.other i.place (ap (option_map number_of) c.in-Some.is) i.same
-    c.is_hidden.ensures.hidden c.is_hidden.ensures.layers
+    c.is_hidden.ensures.hidden c.is_hidden.ensures.unchanged.layers
 
 stays : (g : Over) (c : After-is_hidden g) → g.Y.Layers.Stays c.args.layers.now c.is_hidden.new.layers
 stays g c =
-    g.met.Y.Layers.transitive c.args.layers.now c.loop-here.layers c.is_hidden.new.layers c.loop-here.invariant.stays c.is_hidden.ensures.stays
+    g.met.Y.Layers.transitive c.args.layers.now c.loop-here.layers c.is_hidden.new.layers c.loop-here.invariant.stays c.is_hidden.ensures.unchanged.stays
 
 pub loop-here-init : goal.loop-here-init
 loop-here-init g c = record {
@@ -45,8 +45,10 @@ returns-then-not-is_hidden g c =
     let w = here g after in
     record {
       found = last-seen w c.if-not-is_hidden.true ∙ sym (ap place_in c.loop-here.invariant.answer);
-      layers = w.same;
-      stays = stays g after;
+      unchanged = record {
+        layers = w.same;
+        stays = stays g after;
+      };
     }
 
 pub prev-here-requires : goal.prev-here-requires
@@ -74,6 +76,8 @@ returns g c =
     record {
       found = last-none (g.Y.Layers.layered c.args.layers.now) c.args.paths.now c.args.d c.args.e (ap (option_map number_of) c.in_default.is)
           ∙ sym (ap place_in i.answer);
-      layers = i.same;
-      stays = i.stays;
+      unchanged = record {
+        layers = i.same;
+        stays = i.stays;
+      };
     }

@@ -31,7 +31,7 @@ below-requires g c = (here g (goal.at.below-requires g c).After-show_invariant).
 pub first_below-requires : goal.first_below-requires
 first_below-requires g c =
     let s = here g (goal.at.first_below-requires g c).After-show_invariant in
-    record { path = on-kept c.seen_from.ensures.layers s.start; from = on-kept c.seen_from.ensures.layers (spot-below s c.below.ensures) }
+    record { path = on-kept c.seen_from.ensures.unchanged.layers s.start; from = on-kept c.seen_from.ensures.unchanged.layers (spot-below s c.below.ensures) }
 
 pub returns-in-Some-clause-found : goal.returns-in-Some-clause-found
 returns-in-Some-clause-found g c =
@@ -45,9 +45,11 @@ returns-in-None g c =
     let d = c.args.d in
     record {
       found = c.first_below.ensures.found
-          ∙ ap (λ z. first_of (flat_map z (down links c.below.result))) (shown-kept links d c.seen_from.ensures.layers)
+          ∙ ap (λ z. first_of (flat_map z (down links c.below.result))) (shown-kept links d c.seen_from.ensures.unchanged.layers)
           ∙ ap (λ z. first_of (flat_map (shown_in (g.Y.Layers.layered c.args.layers.now) links d) (down links z))) c.below.ensures
           ∙ sym (walked-next s c.next-start.ensures (sym (ap (option_map number_of) c.in-None.is) ∙ c.seen_from.ensures.found));
-      layers = same-over c.seen_from.ensures.layers c.first_below.ensures.layers;
-      stays = g.met.Y.Layers.transitive c.args.layers.now c.seen_from.new.layers c.first_below.new.layers c.seen_from.ensures.stays c.first_below.ensures.stays;
+      unchanged = record {
+        layers = same-over c.seen_from.ensures.unchanged.layers c.first_below.ensures.unchanged.layers;
+        stays = g.met.Y.Layers.transitive c.args.layers.now c.seen_from.new.layers c.first_below.new.layers c.seen_from.ensures.unchanged.stays c.first_below.ensures.unchanged.stays;
+      };
     }

@@ -26,7 +26,7 @@ seen_back-requires g c =
     record { path = s.start; other = s.alike; place = place-previous s.apart s.around c.prev-end.ensures }
 
 pub last_above-requires : goal.last_above-requires
-last_above-requires g c = record { path = on-kept c.seen_back.ensures.layers (here g (goal.at.last_above-requires g c).After-show_invariant).start }
+last_above-requires g c = record { path = on-kept c.seen_back.ensures.unchanged.layers (here g (goal.at.last_above-requires g c).After-show_invariant).start }
 
 pub returns-in-Some-clause-found : goal.returns-in-Some-clause-found
 returns-in-Some-clause-found g c =
@@ -40,8 +40,10 @@ returns-in-None g c =
     let d = c.args.d in
     record {
       found = c.last_above.ensures.found
-          ∙ ap (λ z. last_of (flat_map z (above (Some c.args.from.0) (down links (Some d))))) (shown-kept links d c.seen_back.ensures.layers)
+          ∙ ap (λ z. last_of (flat_map z (above (Some c.args.from.0) (down links (Some d))))) (shown-kept links d c.seen_back.ensures.unchanged.layers)
           ∙ sym (walked-previous s c.prev-end.ensures (sym (ap (option_map number_of) c.in-None.is) ∙ c.seen_back.ensures.found));
-      layers = same-over c.seen_back.ensures.layers c.last_above.ensures.layers;
-      stays = g.met.Y.Layers.transitive c.args.layers.now c.seen_back.new.layers c.last_above.new.layers c.seen_back.ensures.stays c.last_above.ensures.stays;
+      unchanged = record {
+        layers = same-over c.seen_back.ensures.unchanged.layers c.last_above.ensures.unchanged.layers;
+        stays = g.met.Y.Layers.transitive c.args.layers.now c.seen_back.new.layers c.last_above.new.layers c.seen_back.ensures.unchanged.stays c.last_above.ensures.unchanged.stays;
+      };
     }

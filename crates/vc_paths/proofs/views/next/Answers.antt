@@ -20,7 +20,7 @@ last : (g : Over) (c : After-last_match-last g) → IsLastWith (g.Y.Layers.layer
 last g c =
     let match = subst (λ (z : ℕ → Layer). (bytes : List ℕ) → bytes_there c.in-Some.from.1.0 (z c.in-Some.from.0).objects ≡ Some bytes
     → Some c.last_match-last.result.0 ≡ place_in (last_of (filter (λ o. is_match (z c.in-Some.from.0).rules bytes o.bytes) (z c.in-Some.from.0).objects)))
-    c.search.ensures.layers.layers c.last_match-last.ensures in
+    c.search.ensures.unchanged.layers.layers c.last_match-last.ensures in
     behind-key (g.Y.Layers.layered c.args.layers.now) c.args.paths.now c.args.d c.args.key.now (numbers_of c.in-Some.from) c.last_match-last.result.0 (g.met.Y.Layers.lawful c.args.layers.now) c.requires
     (ap (option_map numbers_of) (sym c.in-Some.is) ∙ c.search.ensures.found) match
 
@@ -28,17 +28,17 @@ pub last_match-last-requires : goal.last_match-last-requires
 last_match-last-requires g c =
     let key = key-at (g.Y.Layers.layered c.args.layers.now) c.args.paths.now c.args.d c.args.key.now (numbers_of c.in-Some.from) (g.met.Y.Layers.lawful c.args.layers.now) c.requires
     (ap (option_map numbers_of) (sym c.in-Some.is) ∙ c.search.ensures.found) in
-    let same = c.search.ensures.layers in
+    let same = c.search.ensures.unchanged.layers in
     record { dict = same.has c.in-Some.from.0 key.dict; place = place-kept c.in-Some.from.0 c.in-Some.from.1.0 same (ap is_some key.there) }
 
 pub walk_next-requires-clause-place : goal.walk_next-requires-clause-place
 walk_next-requires-clause-place g c =
-    seen-kept c.args.paths.now c.args.d (c.in-Some.from.0, c.last_match-last.result.0) c.search.ensures.layers
+    seen-kept c.args.paths.now c.args.d (c.in-Some.from.0, c.last_match-last.result.0) c.search.ensures.unchanged.layers
     (last g (goal.at.walk_next-requires-clause-place g c).After-last_match-last).there
 
 pub returns-in-Some-clause-found : goal.returns-in-Some-clause-found
 returns-in-Some-clause-found g c =
-    subst (λ z. Answers c.walk_next.result (behind_last (is_at (c.in-Some.from.0, c.last_match-last.result.0)) z)) (visible-kept c.args.paths.now c.args.d c.search.ensures.layers) c.walk_next.ensures.found
+    subst (λ z. Answers c.walk_next.result (behind_last (is_at (c.in-Some.from.0, c.last_match-last.result.0)) z)) (visible-kept c.args.paths.now c.args.d c.search.ensures.unchanged.layers) c.walk_next.ensures.found
     ∙ ap (option_map place_of) (sym (last g (goal.at.returns-in-Some-clause-found g c).After-last_match-last).same)
 
 pub returns-in-None-clause-found : goal.returns-in-None-clause-found

@@ -20,11 +20,11 @@ first g c =
 
 pub walk_prev-requires-clause-place : goal.walk_prev-requires-clause-place
 walk_prev-requires-clause-place g c =
-    seen-kept c.args.paths.now c.args.d (numbers_of c.in-Some.from) c.search.ensures.layers (first g (goal.at.walk_prev-requires-clause-place g c).In-Some).there
+    seen-kept c.args.paths.now c.args.d (numbers_of c.in-Some.from) c.search.ensures.unchanged.layers (first g (goal.at.walk_prev-requires-clause-place g c).In-Some).there
 
 pub returns-in-Some-clause-found : goal.returns-in-Some-clause-found
 returns-in-Some-clause-found g c =
-    subst (λ z. Answers c.walk_prev.result (before_first (is_at (numbers_of c.in-Some.from)) z)) (visible-kept c.args.paths.now c.args.d c.search.ensures.layers) c.walk_prev.ensures.found
+    subst (λ z. Answers c.walk_prev.result (before_first (is_at (numbers_of c.in-Some.from)) z)) (visible-kept c.args.paths.now c.args.d c.search.ensures.unchanged.layers) c.walk_prev.ensures.found
     ∙ ap (option_map place_of) (sym (first g (goal.at.returns-in-Some-clause-found g c).In-Some).same)
 
 pub returns-in-None-clause-found : goal.returns-in-None-clause-found

@@ -37,4 +37,4 @@ returns-clause-look g c =
     c.look.ensures.reply c.look.ensures.place
 
 pub returns-clause-leaves : goal.returns-clause-leaves
-returns-clause-leaves g c = leaves-same (c.look.ensures.layers.has c.args.d c.requires.path.alike.0.there).dicts c.look.ensures.stays.2 (search rules) (search rules)
+returns-clause-leaves g c = leaves-same (c.look.ensures.unchanged.layers.has c.args.d c.requires.path.alike.0.there).dicts c.look.ensures.unchanged.stays.2 (search rules) (search rules)

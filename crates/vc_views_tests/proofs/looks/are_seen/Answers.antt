@@ -18,10 +18,10 @@ pub search-requires : goal.search-requires
 search-requires g c = paths-kept c.args.paths.now c.loop-d.invariant c.requires c.number-d.result c.number-d.ensures.below
 
 pub next-requires : goal.next-requires
-next-requires g c = paths-kept c.args.paths.now (same-over c.loop-d.invariant c.search.ensures.layers) c.requires c.number-d.result c.number-d.ensures.below
+next-requires g c = paths-kept c.args.paths.now (same-over c.loop-d.invariant c.search.ensures.unchanged.layers) c.requires c.number-d.result c.number-d.ensures.below
 
 pub prev-requires : goal.prev-requires
-prev-requires g c = paths-kept c.args.paths.now (same-over (same-over c.loop-d.invariant c.search.ensures.layers) c.next.ensures.layers) c.requires c.number-d.result c.number-d.ensures.below
+prev-requires g c = paths-kept c.args.paths.now (same-over (same-over c.loop-d.invariant c.search.ensures.unchanged.layers) c.next.ensures.unchanged.layers) c.requires c.number-d.result c.number-d.ensures.below
 
 pub loop-d-preserved : goal.loop-d-preserved
-loop-d-preserved g c = same-over (same-over (same-over c.loop-d.invariant c.search.ensures.layers) c.next.ensures.layers) c.prev.ensures.layers
+loop-d-preserved g c = same-over (same-over (same-over c.loop-d.invariant c.search.ensures.unchanged.layers) c.next.ensures.unchanged.layers) c.prev.ensures.unchanged.layers

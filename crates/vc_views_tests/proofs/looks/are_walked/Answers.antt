@@ -12,8 +12,8 @@ loop-spot-init g c =
     let links = c.args.paths.now in
     let e = c.number-e.result in
     record {
-      same = c.first-at.ensures.layers;
-      seen = λ p is. seen-kept links e (numbers_of p) c.first-at.ensures.layers (first-seen (visible_of (g.Y.Layers.layered c.args.layers.now) links e) c.first-at.result p is c.first-at.ensures.found);
+      same = c.first-at.ensures.unchanged.layers;
+      seen = λ p is. seen-kept links e (numbers_of p) c.first-at.ensures.unchanged.layers (first-seen (visible_of (g.Y.Layers.layered c.args.layers.now) links e) c.first-at.result p is c.first-at.ensures.found);
     }
 
 pub place_of-requires : goal.place_of-requires
@@ -30,9 +30,9 @@ loop-spot-preserved g c =
     let links = c.args.paths.now in
     let e = c.number-e.result in
     record {
-      same = same-over c.loop-spot.invariant.same c.walk_next-at.ensures.layers;
+      same = same-over c.loop-spot.invariant.same c.walk_next-at.ensures.unchanged.layers;
       seen = λ p is.
-          seen-kept links e (numbers_of p) c.walk_next-at.ensures.layers
+          seen-kept links e (numbers_of p) c.walk_next-at.ensures.unchanged.layers
           (behind-seen (visible_of (g.Y.Layers.layered c.loop-spot.layers) links e) c.walk_next-at.result p is (is_at (numbers_of c.expect-here.result)) c.walk_next-at.ensures.found);
     }
 
@@ -40,4 +40,4 @@ pub last-requires : goal.last-requires
 last-requires g c = paths-kept c.args.paths.now c.loop-spot.invariant.same c.requires c.number-e.result c.number-e.ensures.below
 
 pub returns : goal.returns
-returns g c = same-over c.loop-spot.invariant.same c.last.ensures.layers
+returns g c = same-over c.loop-spot.invariant.same c.last.ensures.unchanged.layers

@@ -12,7 +12,7 @@ show-requires g c =
     let all = g.Y.Layers.layered c.args.layers.now in
     let rules = g.D.DictDisc.rules c.args.kind.now in
     let meant = meant-found all c.args.paths.now c.args.d rules c.args.command.now c.found-at.result (g.met.Y.Layers.lawful c.args.layers.now) c.requires.path c.found-at.ensures.found in
-    (meant-kept c.args.d c.found-at.result _ c.found-at.ensures.layers meant).stands
+    (meant-kept c.args.d c.found-at.result _ c.found-at.ensures.unchanged.layers meant).stands
 
 pub returns-in_default : goal.returns-in_default
 returns-in_default g c =
@@ -21,11 +21,10 @@ returns-in_default g c =
     let command = c.args.command.now in
     let seen = visible_of all c.args.paths.now c.args.d in
     let meant = meant-found all c.args.paths.now c.args.d rules command c.found-at.result (g.met.Y.Layers.lawful c.args.layers.now) c.requires.path c.found-at.ensures.found in
-    let object = (meant-kept c.args.d c.found-at.result _ c.found-at.ensures.layers meant).object in
+    let object = (meant-kept c.args.d c.found-at.result _ c.found-at.ensures.unchanged.layers meant).object in
     let asked = sym c.if-not-is_askable.ensures in
     record {
       reply = subst (λ z. IfOk c.show.result (λ r. r.0 ≡ z)) (ap found_reply object ∙ sym (reply-found rules command seen asked c.in_default.not-Walk)) c.show.ensures.reply;
       place = subst (λ z. IfOk c.show.result (λ r. option_map number_of r.1 ≡ own_place (λ e. e == c.args.d) z)) (object ∙ sym (found-asked rules command seen asked)) c.show.ensures.place;
-      layers = c.found-at.ensures.layers;
-      stays = c.found-at.ensures.stays;
+      unchanged = c.found-at.ensures.unchanged;
     }

@@ -40,8 +40,8 @@ loop-at-preserved g c =
     let there : bytes_there c.in-Some.here.1.0 (all.layer c.in-Some.here.0).objects ≡ Some c.in_ok-copied.field-0
     = subst (λ (z : ℕ → Layer). bytes_there c.in-Some.here.1.0 (z c.in-Some.here.0).objects ≡ Some c.in_ok-copied.field-0) same.layers c.in_ok-copied.ensures in
     record {
-      layers = same-over same c.walk_next-at.ensures.layers;
-      stays = g.met.Y.Layers.transitive c.args.layers.now c.loop-at.layers c.walk_next-at.new.layers c.loop-at.invariant.stays c.walk_next-at.ensures.stays;
+      layers = same-over same c.walk_next-at.ensures.unchanged.layers;
+      stays = g.met.Y.Layers.transitive c.args.layers.now c.loop-at.layers c.walk_next-at.new.layers c.loop-at.invariant.stays c.walk_next-at.ensures.unchanged.stays;
       walked = walked-on all c.args.paths.now c.args.d c.in-Some.here c.walk_next-at.result c.loop-at.items.items c.push.new.self.items c.in_ok-copied.field-0
           lawful c.show_invariant.ensures c.requires here there c.in_ok-push.ensures.items
           (subst (λ z. Answers c.walk_next-at.result (behind_last (is_at (numbers_of c.in-Some.here)) z)) (visible-kept c.args.paths.now c.args.d same) c.walk_next-at.ensures.found);
