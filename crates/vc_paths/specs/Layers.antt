@@ -1,5 +1,5 @@
 -- What a dictionary is on a view path: a layer of objects.
-use Rattle.std.specs.Prelude.{◌≡◌, ℕ, Bool, true, List, Option, map, ◌==◌}
+use Rattle.std.specs.Prelude.{◌≡◌, ℕ, Bool, true, List, Option, IsSome, map, ◌==◌}
 use Rattle.std.specs.List.{find}
 use Rattle.std.specs.Option.{option_map}
 use Rattle.vc_base.specs.declared.dict_method.DictMethod.{DictMethod}
@@ -37,6 +37,11 @@ stands_at at o = o.at == at
 
 abbrev pub bytes_there : ℕ → List Object → Option (List ℕ)
 bytes_there at objects = option_map (λ o. o.bytes) (find (stands_at at) objects)
+
+-- a dictionary, and the place of an object in it
+pub record HasPlace (all : Layered) (d at : ℕ) : Type 0 where
+  pub dict : all.Has d
+  pub place : IsSome (bytes_there at (all.layer d).objects)
 
 -- the place of an object, where there is one
 abbrev pub place_in : Option Object → Option ℕ

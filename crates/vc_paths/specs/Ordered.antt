@@ -2,6 +2,7 @@
 use Rattle.std.specs.Prelude.{◌≡◌, ℕ, Bool, true, Option, Some, None, IsSome, ◌==◌, if◌then◌else◌}
 use Rattle.std.specs.Option.{option_map}
 use Rattle.vc_base.specs.declared.addr.Addr.{Addr}
+use Rattle.vc_base.specs.Methods.{is_ordered}
 use Rattle.vc_dtdisc.specs.Finding.{first_of, last_of}
 use Rattle.vc_dtdisc.specs.Objects.{is_greater, is_match}
 use Rattle.vc_dtdisc.specs.Rules.{Rules}
@@ -33,6 +34,12 @@ pub record Stands (all : Layered) (d : ℕ) (p : ℕ × Addr) : Type 0 where
 abbrev pub IsStanding : Layered → ℕ → Option (ℕ × Addr) → Type 0
 IsStanding all d None = Unit {0}
 IsStanding all d (Some p) = Stands all d p
+
+-- an ordered dictionary, and a place that there may be of an object to compare with
+pub record CanSeek (all : Layered) (e : ℕ) (other : Option (ℕ × Addr)) : Type 0 where
+  pub dict : all.Has e
+  pub method : is_ordered (all.layer e).method ≡ true
+  pub compared : IsStanding all e other
 
 -- where a search of a dictionary for what is greater than the object at a place begins: behind it in its own, else first
 abbrev pub start_behind : Layered → ℕ → Option (ℕ × Addr) → Option ℕ

@@ -3,6 +3,7 @@ use Rattle.std.specs.Prelude.{◌≡◌, ℕ, ◌<◌, Bool, true, List, map, Op
 use Rattle.std.specs.List.{AllByRecursion, list_any}
 use Rattle.std.specs.Option.{option_map}
 use Rattle.vc_base.specs.declared.addr.Addr.{Addr}
+use Rattle.vc_base.specs.Methods.{is_ordered}
 use Rattle.vc_dtdisc.specs.Objects.{Object}
 use Rattle.vc_paths.specs.Layers.{Layered}
 use Rattle.vc_paths.specs.Links.{Links, numbers, path}
@@ -18,6 +19,11 @@ pub record IsAlike (all : Layered) (d e : ℕ) : Type 0 where
 pub record IsPath (all : Layered) (links : Links) (d : ℕ) : Type 0 where
   pub number : d < numbers
   pub alike : AllByRecursion (IsAlike all d) (path links d)
+
+-- the path of one whose method is ordered, or isn't
+pub record IsPathBy (ordered : Bool) (all : Layered) (links : Links) (d : ℕ) : Type 0 where
+  pub path : IsPath all links d
+  pub method : is_ordered (all.layer d).method ≡ ordered
 
 -- an object of a dictionary as it is seen on a path
 abbrev pub seen_in : ℕ → Object → Seen ℕ

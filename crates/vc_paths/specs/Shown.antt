@@ -63,3 +63,8 @@ IsPlaceIn objects at = (a : ℕ) → at ≡ Some a → IsSome (bytes_there a obj
 pub record IsOnPath (all : Layered) (links : Links) (d : ℕ) (at : Option ℕ) : Type 0 where
   pub number : (e : ℕ) → at ≡ Some e → e < numbers
   pub alike : AllByRecursion (IsAlike all d) (down links at)
+
+-- the path of d from its first on, and a dictionary like d
+pub record IsLayerOn (all : Layered) (links : Links) (d e : ℕ) : Type 0 where
+  pub path : IsOnPath all links d (Some d)
+  pub other : IsAlike all d e

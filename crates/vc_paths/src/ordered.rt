@@ -2,10 +2,9 @@ ghost use Rattle.std.specs.Prelude.{◌≡◌, ℕ, true, Some};
 ghost use Rattle.std.specs.List.{filter};
 ghost use Rattle.std.specs.Option.{option_map};
 ghost use Rattle.vc_base.specs.Address.{number_of};
-ghost use Rattle.vc_base.specs.Methods.{is_ordered};
 ghost use Rattle.vc_dtdisc.specs.Finding.{before_first, behind_last, first_of, last_of};
-ghost use Rattle.vc_paths.specs.Ordered.{IsStanding, Stands, greater, if_level, is_before, is_behind, lesser_seen, place_in_dict, object_at, object_there, start_before, start_behind};
-ghost use Rattle.vc_paths.specs.Path.{Answers, IsPath, IsVisible, is_at, numbers_of, objects_of, visible_of};
+ghost use Rattle.vc_paths.specs.Ordered.{CanSeek, IsStanding, Stands, greater, if_level, is_before, is_behind, lesser_seen, place_in_dict, object_at, object_there, start_before, start_behind};
+ghost use Rattle.vc_paths.specs.Path.{Answers, IsPathBy, IsVisible, is_at, numbers_of, objects_of, visible_of};
 ghost use Rattle.vc_paths.specs.Visible.{Seen};
 
 use crate::{Layers, Paths};
@@ -93,9 +92,7 @@ fn first_behind<Y: Layers, L>(
     other: Option<(u32, Addr)>,
     steps: &mut Steps<L>,
 ) -> Option<(u32, Addr)>
-    requires dict { (Y.layered layers.now).Has e }
-    requires method { is_ordered ((Y.layered layers.now).layer e).method ≡ true }
-    requires other { IsStanding (Y.layered layers.now) e other }
+    requires { CanSeek (Y.layered layers.now) e other }
     ensures object { object_at (Y.layered layers.now) result ≡ first_of (filter
         (is_behind ((Y.layered layers.now).layer e).rules (object_at (Y.layered layers.now) other))
         (objects_of (Y.layered layers.now) e)) }
@@ -118,9 +115,7 @@ fn last_before<Y: Layers, L>(
     other: Option<(u32, Addr)>,
     steps: &mut Steps<L>,
 ) -> Option<(u32, Addr)>
-    requires dict { (Y.layered layers.now).Has e }
-    requires method { is_ordered ((Y.layered layers.now).layer e).method ≡ true }
-    requires other { IsStanding (Y.layered layers.now) e other }
+    requires { CanSeek (Y.layered layers.now) e other }
     ensures object { object_at (Y.layered layers.now) result ≡ last_of (filter
         (is_before ((Y.layered layers.now).layer e).rules (object_at (Y.layered layers.now) other))
         (objects_of (Y.layered layers.now) e)) }
@@ -144,10 +139,8 @@ fn lesser_with<Y: Layers, L>(
     other: Option<(u32, Addr)>,
     steps: &mut Steps<L>,
 ) -> Option<(u32, Addr)>
-    requires dict { (Y.layered layers.now).Has e }
-    requires method { is_ordered ((Y.layered layers.now).layer e).method ≡ true }
+    requires seek { CanSeek (Y.layered layers.now) e other }
     requires best { IsStanding (Y.layered layers.now) e best }
-    requires other { IsStanding (Y.layered layers.now) e other }
     ensures object { object_at (Y.layered layers.now) result
         ≡ lesser_seen ((Y.layered layers.now).layer e).rules (object_at (Y.layered layers.now) best)
         (first_of (filter
@@ -175,10 +168,8 @@ fn greater_with<Y: Layers, L>(
     other: Option<(u32, Addr)>,
     steps: &mut Steps<L>,
 ) -> Option<(u32, Addr)>
-    requires dict { (Y.layered layers.now).Has e }
-    requires method { is_ordered ((Y.layered layers.now).layer e).method ≡ true }
+    requires seek { CanSeek (Y.layered layers.now) e other }
     requires best { IsStanding (Y.layered layers.now) e best }
-    requires other { IsStanding (Y.layered layers.now) e other }
     ensures object { object_at (Y.layered layers.now) result
         ≡ greater ((Y.layered layers.now).layer e).rules (object_at (Y.layered layers.now) best)
         (last_of (filter
@@ -206,8 +197,7 @@ fn least_behind<Y: Layers, L>(
     other: Option<(u32, Addr)>,
     steps: &mut Steps<L>,
 ) -> Option<(u32, Addr)>
-    requires path { IsPath (Y.layered layers.now) paths.now d }
-    requires method { is_ordered ((Y.layered layers.now).layer d).method ≡ true }
+    requires path { IsPathBy true (Y.layered layers.now) paths.now d }
     requires other { IsStanding (Y.layered layers.now) d other }
     ensures { Answers result (first_of (filter
         (is_behind ((Y.layered layers.now).layer d).rules (object_at (Y.layered layers.now) other))
@@ -231,8 +221,7 @@ fn greatest_before<Y: Layers, L>(
     other: Option<(u32, Addr)>,
     steps: &mut Steps<L>,
 ) -> Option<(u32, Addr)>
-    requires path { IsPath (Y.layered layers.now) paths.now d }
-    requires method { is_ordered ((Y.layered layers.now).layer d).method ≡ true }
+    requires path { IsPathBy true (Y.layered layers.now) paths.now d }
     requires other { IsStanding (Y.layered layers.now) d other }
     ensures { Answers result (last_of (filter
         (is_before ((Y.layered layers.now).layer d).rules (object_at (Y.layered layers.now) other))
@@ -282,8 +271,7 @@ pub(crate) fn first<Y: Layers, L>(
     d: u32,
     steps: &mut Steps<L>,
 ) -> Option<(u32, Addr)>
-    requires path { IsPath (Y.layered layers.now) paths.now d }
-    requires method { is_ordered ((Y.layered layers.now).layer d).method ≡ true }
+    requires { IsPathBy true (Y.layered layers.now) paths.now d }
     ensures { Answers result (first_of (visible_of (Y.layered layers.now) paths.now d)) }
 {
     least_behind(paths, layers, d, None, steps)
@@ -296,8 +284,7 @@ pub(crate) fn last<Y: Layers, L>(
     d: u32,
     steps: &mut Steps<L>,
 ) -> Option<(u32, Addr)>
-    requires path { IsPath (Y.layered layers.now) paths.now d }
-    requires method { is_ordered ((Y.layered layers.now).layer d).method ≡ true }
+    requires { IsPathBy true (Y.layered layers.now) paths.now d }
     ensures { Answers result (last_of (visible_of (Y.layered layers.now) paths.now d)) }
 {
     greatest_before(paths, layers, d, None, steps)
@@ -311,8 +298,7 @@ pub(crate) fn walk_next<Y: Layers, L>(
     from: (u32, Addr),
     steps: &mut Steps<L>,
 ) -> Option<(u32, Addr)>
-    requires path { IsPath (Y.layered layers.now) paths.now d }
-    requires method { is_ordered ((Y.layered layers.now).layer d).method ≡ true }
+    requires path { IsPathBy true (Y.layered layers.now) paths.now d }
     requires from { IsVisible (Y.layered layers.now) paths.now d (numbers_of from) }
     ensures { Answers result (behind_last (is_at (numbers_of from))
         (visible_of (Y.layered layers.now) paths.now d)) }
@@ -331,8 +317,7 @@ pub(crate) fn walk_prev<Y: Layers, L>(
     from: (u32, Addr),
     steps: &mut Steps<L>,
 ) -> Option<(u32, Addr)>
-    requires path { IsPath (Y.layered layers.now) paths.now d }
-    requires method { is_ordered ((Y.layered layers.now).layer d).method ≡ true }
+    requires path { IsPathBy true (Y.layered layers.now) paths.now d }
     requires from { IsVisible (Y.layered layers.now) paths.now d (numbers_of from) }
     ensures { Answers result (before_first (is_at (numbers_of from))
         (visible_of (Y.layered layers.now) paths.now d)) }

@@ -1,12 +1,11 @@
 // What is found through view paths where the method is not ordered.
 ghost use Rattle.std.specs.Prelude.{◌≡◌, ℕ, false, List, Some, IsSome, option_map};
 ghost use Rattle.std.specs.List.{flat_map};
-ghost use Rattle.vc_base.specs.Methods.{is_ordered};
 ghost use Rattle.vc_base.specs.Address.{number_of};
 ghost use Rattle.vc_dtdisc.specs.Finding.{before_first, behind_last, first_of, last_of};
 ghost use Rattle.vc_paths.specs.Layers.{Unchanged, bytes_there, place_in};
-ghost use Rattle.vc_paths.specs.Path.{Answers, IsAlike, IsPath, IsVisible, is_at, numbers_of, visible_of};
-ghost use Rattle.vc_paths.specs.Shown.{IsOnPath, IsPlaceIn, above, down, has_match, is_covered, objects_from, objects_up_to, unhidden_objects, shown_in};
+ghost use Rattle.vc_paths.specs.Path.{Answers, IsPathBy, IsVisible, is_at, numbers_of, visible_of};
+ghost use Rattle.vc_paths.specs.Shown.{IsLayerOn, IsOnPath, IsPlaceIn, above, down, has_match, is_covered, objects_from, objects_up_to, unhidden_objects, shown_in};
 
 use crate::paths::is_link_to;
 use crate::{Layers, Paths};
@@ -35,8 +34,7 @@ fn is_hidden<Y: Layers, L>(
     at: Addr,
     steps: &mut Steps<L>,
 ) -> bool
-    requires path { IsOnPath (Y.layered layers.old) paths.now d (Some d) }
-    requires other { IsAlike (Y.layered layers.old) d e }
+    requires layer { IsLayerOn (Y.layered layers.old) paths.now d e }
     requires place { IsSome (bytes_there at.0 ((Y.layered layers.old).layer e).objects) }
     ensures hidden { (bytes : List ℕ)
         → bytes_there at.0 ((Y.layered layers.old).layer e).objects ≡ Some bytes
@@ -66,8 +64,7 @@ fn seen_from<Y: Layers, L>(
     at: Option<Addr>,
     steps: &mut Steps<L>,
 ) -> Option<Addr>
-    requires path { IsOnPath (Y.layered layers.old) paths.now d (Some d) }
-    requires other { IsAlike (Y.layered layers.old) d e }
+    requires layer { IsLayerOn (Y.layered layers.old) paths.now d e }
     requires place { IsPlaceIn ((Y.layered layers.old).layer e).objects (option_map number_of at) }
     ensures found { option_map number_of result ≡ place_in (first_of (unhidden_objects (Y.layered layers.old)
         paths.now d e (objects_from (option_map number_of at)
@@ -93,8 +90,7 @@ fn seen_back<Y: Layers, L>(
     at: Option<Addr>,
     steps: &mut Steps<L>,
 ) -> Option<Addr>
-    requires path { IsOnPath (Y.layered layers.old) paths.now d (Some d) }
-    requires other { IsAlike (Y.layered layers.old) d e }
+    requires layer { IsLayerOn (Y.layered layers.old) paths.now d e }
     requires place { IsPlaceIn ((Y.layered layers.old).layer e).objects (option_map number_of at) }
     ensures found { option_map number_of result ≡ place_in (last_of (unhidden_objects (Y.layered layers.old)
         paths.now d e (objects_up_to (option_map number_of at)
@@ -129,8 +125,7 @@ fn first_in<Y: Layers, L>(
     e: u32,
     steps: &mut Steps<L>,
 ) -> Option<(u32, Addr)>
-    requires path { IsOnPath (Y.layered layers.old) paths.now d (Some d) }
-    requires other { IsAlike (Y.layered layers.old) d e }
+    requires { IsLayerOn (Y.layered layers.old) paths.now d e }
     ensures found { option_map numbers_of result
         ≡ first_of (shown_in (Y.layered layers.old) paths.now d e) }
     ensures unchanged { Unchanged Y.layered Y.Stays layers.old layers.new }
@@ -147,8 +142,7 @@ fn last_in<Y: Layers, L>(
     e: u32,
     steps: &mut Steps<L>,
 ) -> Option<(u32, Addr)>
-    requires path { IsOnPath (Y.layered layers.old) paths.now d (Some d) }
-    requires other { IsAlike (Y.layered layers.old) d e }
+    requires { IsLayerOn (Y.layered layers.old) paths.now d e }
     ensures found { option_map numbers_of result
         ≡ last_of (shown_in (Y.layered layers.old) paths.now d e) }
     ensures unchanged { Unchanged Y.layered Y.Stays layers.old layers.new }
@@ -216,8 +210,7 @@ pub(crate) fn first<Y: Layers, L>(
     d: u32,
     steps: &mut Steps<L>,
 ) -> Option<(u32, Addr)>
-    requires path { IsPath (Y.layered layers.old) paths.now d }
-    requires method { is_ordered ((Y.layered layers.old).layer d).method ≡ false }
+    requires { IsPathBy false (Y.layered layers.old) paths.now d }
     ensures found { Answers result (first_of (visible_of (Y.layered layers.old) paths.now d)) }
     ensures unchanged { Unchanged Y.layered Y.Stays layers.old layers.new }
 {
@@ -232,8 +225,7 @@ pub(crate) fn last<Y: Layers, L>(
     d: u32,
     steps: &mut Steps<L>,
 ) -> Option<(u32, Addr)>
-    requires path { IsPath (Y.layered layers.old) paths.now d }
-    requires method { is_ordered ((Y.layered layers.old).layer d).method ≡ false }
+    requires { IsPathBy false (Y.layered layers.old) paths.now d }
     ensures found { Answers result (last_of (visible_of (Y.layered layers.old) paths.now d)) }
     ensures unchanged { Unchanged Y.layered Y.Stays layers.old layers.new }
 {
@@ -249,8 +241,7 @@ pub(crate) fn walk_next<Y: Layers, L>(
     from: (u32, Addr),
     steps: &mut Steps<L>,
 ) -> Option<(u32, Addr)>
-    requires path { IsPath (Y.layered layers.old) paths.now d }
-    requires method { is_ordered ((Y.layered layers.old).layer d).method ≡ false }
+    requires path { IsPathBy false (Y.layered layers.old) paths.now d }
     requires from { IsVisible (Y.layered layers.old) paths.now d (numbers_of from) }
     ensures found { Answers result (behind_last (is_at (numbers_of from))
         (visible_of (Y.layered layers.old) paths.now d)) }
@@ -273,8 +264,7 @@ pub(crate) fn walk_prev<Y: Layers, L>(
     from: (u32, Addr),
     steps: &mut Steps<L>,
 ) -> Option<(u32, Addr)>
-    requires path { IsPath (Y.layered layers.old) paths.now d }
-    requires method { is_ordered ((Y.layered layers.old).layer d).method ≡ false }
+    requires path { IsPathBy false (Y.layered layers.old) paths.now d }
     requires from { IsVisible (Y.layered layers.old) paths.now d (numbers_of from) }
     ensures found { Answers result (before_first (is_at (numbers_of from))
         (visible_of (Y.layered layers.old) paths.now d)) }

@@ -3,7 +3,7 @@ ghost use Rattle.std.specs.List.{filter, find};
 ghost use Rattle.vc_base.specs.Methods.{is_ordered};
 ghost use Rattle.vc_dtdisc.specs.Finding.{before_first, behind_last, first_of, last_of};
 ghost use Rattle.vc_dtdisc.specs.Objects.{is_match};
-ghost use Rattle.vc_paths.specs.Layers.{Unchanged, bytes_there, place_in};
+ghost use Rattle.vc_paths.specs.Layers.{HasPlace, Unchanged, bytes_there, place_in};
 ghost use Rattle.vc_paths.specs.Links.{below};
 ghost use Rattle.vc_paths.specs.Path.{Answers, IsPath, IsVisible, is_at, numbers_of, visible_of};
 ghost use Rattle.vc_paths.specs.Seek.{has_key_in};
@@ -47,8 +47,7 @@ fn if_match<Y: Layers, L>(
     other: Addr,
     steps: &mut Steps<L>,
 ) -> Addr
-    requires dict { (Y.layered layers.now).Has e }
-    requires place { IsSome (bytes_there at.0 ((Y.layered layers.now).layer e).objects) }
+    requires place { HasPlace (Y.layered layers.now) e at.0 }
     requires other { IsSome (bytes_there other.0 ((Y.layered layers.now).layer e).objects) }
     ensures { (x y : List ℕ) → bytes_there at.0 ((Y.layered layers.now).layer e).objects ≡ Some x
         → bytes_there other.0 ((Y.layered layers.now).layer e).objects ≡ Some y
@@ -64,8 +63,7 @@ fn if_match<Y: Layers, L>(
 
 // The last place in a dictionary whose object matches the one at a place: that one, or one behind it.
 fn last_of_all<Y: Layers, L>(layers: &Y, e: u32, at: Addr, steps: &mut Steps<L>) -> Addr
-    requires dict { (Y.layered layers.now).Has e }
-    requires place { IsSome (bytes_there at.0 ((Y.layered layers.now).layer e).objects) }
+    requires { HasPlace (Y.layered layers.now) e at.0 }
     ensures { (bytes : List ℕ)
         → bytes_there at.0 ((Y.layered layers.now).layer e).objects ≡ Some bytes
         → Some result.0 ≡ place_in (last_of (filter
@@ -83,8 +81,7 @@ fn last_of_all<Y: Layers, L>(layers: &Y, e: u32, at: Addr, steps: &mut Steps<L>)
 
 // The same in an ordered dictionary, where matches stand together: one object behind the last of them is compared at most.
 fn last_together<Y: Layers, L>(layers: &Y, e: u32, at: Addr, steps: &mut Steps<L>) -> Addr
-    requires dict { (Y.layered layers.now).Has e }
-    requires place { IsSome (bytes_there at.0 ((Y.layered layers.now).layer e).objects) }
+    requires place { HasPlace (Y.layered layers.now) e at.0 }
     requires ordered { is_ordered ((Y.layered layers.now).layer e).method ≡ true }
     ensures { (bytes : List ℕ)
         → bytes_there at.0 ((Y.layered layers.now).layer e).objects ≡ Some bytes
@@ -106,8 +103,7 @@ fn last_together<Y: Layers, L>(layers: &Y, e: u32, at: Addr, steps: &mut Steps<L
 
 // The last place in a dictionary whose object matches the one at a place, by its method.
 fn last_match<Y: Layers, L>(layers: &Y, e: u32, at: Addr, steps: &mut Steps<L>) -> Addr
-    requires dict { (Y.layered layers.now).Has e }
-    requires place { IsSome (bytes_there at.0 ((Y.layered layers.now).layer e).objects) }
+    requires { HasPlace (Y.layered layers.now) e at.0 }
     ensures { (bytes : List ℕ)
         → bytes_there at.0 ((Y.layered layers.now).layer e).objects ≡ Some bytes
         → Some result.0 ≡ place_in (last_of (filter

@@ -5,16 +5,18 @@ use Rattle.vc_paths.proofs.OrderedLemmas.{least_end, least_next, least_start, st
 use Rattle.vc_paths.proofs.ordered.least_behind.Goals as goal
 
 pub loop-next-init : goal.loop-next-init
-loop-next-init g c = least_start (g.met.Y.Layers.lawful c.args.layers.now) c.requires.path c.requires.method
+loop-next-init g c = least_start (g.met.Y.Layers.lawful c.args.layers.now) c.requires.path.path c.requires.path.method
 
 pub lesser_with-best-requires : goal.lesser_with-best-requires
 lesser_with-best-requires g c =
     let alike = on-head c.show_invariant.ensures c.in-Some.is c.loop-next.invariant.on in
     record {
-      dict = alike.there;
-      method = ap is_ordered alike.method ∙ c.requires.method;
+      seek = record {
+        dict = alike.there;
+        method = ap is_ordered alike.method ∙ c.requires.path.method;
+        compared = stands_along c.args.other alike c.requires.other;
+      };
       best = stands_along c.loop-next.best alike c.loop-next.invariant.stands;
-      other = stands_along c.args.other alike c.requires.other;
     }
 
 pub loop-next-smaller : goal.loop-next-smaller
@@ -23,7 +25,7 @@ loop-next-smaller g c = down-next c.show_invariant.ensures c.in-Some.is c.below-
 pub loop-next-preserved : goal.loop-next-preserved
 loop-next-preserved g c =
     let better = c.lesser_with-best.ensures in
-    least_next (g.met.Y.Layers.lawful c.args.layers.now) c.requires.path c.show_invariant.ensures c.in-Some.is c.below-next.ensures c.loop-next.invariant better.stands better.object
+    least_next (g.met.Y.Layers.lawful c.args.layers.now) c.requires.path.path c.show_invariant.ensures c.in-Some.is c.below-next.ensures c.loop-next.invariant better.stands better.object
 
 pub returns : goal.returns
 returns g c = least_end c.in_default.is c.loop-next.invariant

@@ -10,7 +10,7 @@ use Rattle.vc_paths.proofs.ordered.walk_prev.Goals.{Start}
 
 -- the object stands in a layer of the path
 stands : (g : Over) (c : Start g) → Stands (g.Y.Layers.layered c.args.layers.now) c.args.d c.args.from
-stands g c = visible_stands (g.met.Y.Layers.lawful c.args.layers.now) c.requires.path c.requires.method c.requires.from
+stands g c = visible_stands (g.met.Y.Layers.lawful c.args.layers.now) c.requires.path.path c.requires.path.method c.requires.from
 
 pub prev-requires : goal.prev-requires
 prev-requires g c =
@@ -32,12 +32,12 @@ pub returns-in-Some : goal.returns-in-Some
 returns-in-Some g c =
     let laws = g.met.Y.Layers.lawful c.args.layers.now in
     subst (λ (z : Option (Seen ℕ)). Answers (Some c.in-Some.place) z)
-    (sym (previous_found c.args.from c.prev.result laws c.requires.path c.requires.method c.requires.from c.prev.ensures c.in-Some.ensures.object))
+    (sym (previous_found c.args.from c.prev.result laws c.requires.path.path c.requires.path.method c.requires.from c.prev.ensures c.in-Some.ensures.object))
     (near_answers (g.Y.Layers.layered c.args.layers.now) c.args.from.0 c.in-Some.place _ c.in-Some.ensures.stands)
 
 pub returns-in-None : goal.returns-in-None
 returns-in-None g c =
     let laws = g.met.Y.Layers.lawful c.args.layers.now in
     subst (λ (z : Option (Seen ℕ)). Answers c.greatest_before.result z)
-    (sym (previous_found c.args.from c.prev.result laws c.requires.path c.requires.method c.requires.from c.prev.ensures c.in-None.ensures.object))
+    (sym (previous_found c.args.from c.prev.result laws c.requires.path.path c.requires.path.method c.requires.from c.prev.ensures c.in-None.ensures.object))
     c.greatest_before.ensures

@@ -16,7 +16,7 @@ matched g c =
     let i = c.loop-upper.invariant in
     let paths = c.show_invariant.ensures in
     match-told c.args.e c.args.at.0 i.same (g.met.Y.Layers.lawful c.args.layers.now)
-    (on-head paths refl c.requires.path) (on-head paths c.in-Some.is i.path) c.has_like.ensures.found
+    (on-head paths refl c.requires.layer.path) (on-head paths c.in-Some.is i.path) c.has_like.ensures.found
 
 pub loop-upper-init : goal.loop-upper-init
 loop-upper-init g c =
@@ -24,7 +24,7 @@ loop-upper-init g c =
     record {
       same = same-itself all;
       stays = g.met.Y.Layers.reflexive c.args.layers.now;
-      path = c.requires.path;
+      path = c.requires.layer.path;
       answer = λ bytes _. cover-is all c.args.paths.now c.args.d c.args.e bytes;
     }
 
@@ -41,7 +41,7 @@ has_like-requires-clause-upper g c =
 pub has_like-requires-clause-kinds : goal.has_like-requires-clause-kinds
 has_like-requires-clause-kinds g c =
     let same = c.loop-upper.invariant.same in
-    (alike-kept same c.requires.other).kind ∙ sym (alike-kept same (on-head c.show_invariant.ensures c.in-Some.is c.loop-upper.invariant.path)).kind
+    (alike-kept same c.requires.layer.other).kind ∙ sym (alike-kept same (on-head c.show_invariant.ensures c.in-Some.is c.loop-upper.invariant.path)).kind
 
 pub returns-then-has_like-clause-hidden : goal.returns-then-has_like-clause-hidden
 returns-then-has_like-clause-hidden g c = λ bytes there.

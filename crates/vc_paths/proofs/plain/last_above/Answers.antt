@@ -6,7 +6,7 @@ use Rattle.vc_paths.specs.Path.{numbers_of}
 use Rattle.vc_paths.specs.Shown.{above, down, shown_in}
 use Rattle.vc_paths.proofs.DescentLemmas.{above-end, above-last, above-past, or-mapped}
 use Rattle.vc_paths.proofs.DownLemmas.{down-next, on-head, on-next}
-use Rattle.vc_paths.proofs.StayLemmas.{same-over, alike-kept, shown-kept}
+use Rattle.vc_paths.proofs.StayLemmas.{alike-kept, on-kept, same-over, shown-kept}
 use Rattle.vc_paths.proofs.plain.last_above.Goals as goal
 
 pub returns-then-is_link_to-clause-found : goal.returns-then-is_link_to-clause-found
@@ -15,8 +15,11 @@ returns-then-is_link_to-clause-found g c =
     sym (c.loop-layer.invariant.answer
     ∙ above-last shows c.show_invariant.ensures c.args.end (option_map numbers_of c.loop-layer.best) c.in-Some.is (sym c.is_link_to.ensures ∙ c.if-is_link_to.true))
 
-pub last_in-requires-clause-other : goal.last_in-requires-clause-other
-last_in-requires-clause-other g c = alike-kept c.loop-layer.invariant.same (on-head c.show_invariant.ensures c.in-Some.is c.loop-layer.invariant.path)
+pub last_in-requires : goal.last_in-requires
+last_in-requires g c = record {
+  path = on-kept c.loop-layer.invariant.same c.requires.path;
+  other = alike-kept c.loop-layer.invariant.same (on-head c.show_invariant.ensures c.in-Some.is c.loop-layer.invariant.path);
+}
 
 pub loop-layer-smaller : goal.loop-layer-smaller
 loop-layer-smaller g c = down-next c.show_invariant.ensures c.in-Some.is c.below-layer.ensures

@@ -14,7 +14,7 @@ here : (g : Over) (c : After-is_hidden g)
     c.args.paths.now c.args.d c.args.e c.in-Some.place.0 (option_map number_of c.loop-here.here) c.is_hidden.result
 here g c =
     let i = c.loop-here.invariant in
-    stop-at (g.met.Y.Layers.lawful c.args.layers.now) c.requires.other i.place (ap (option_map number_of) c.in-Some.is) i.same
+    stop-at (g.met.Y.Layers.lawful c.args.layers.now) c.requires.layer.other i.place (ap (option_map number_of) c.in-Some.is) i.same
     c.is_hidden.ensures.hidden c.is_hidden.ensures.unchanged.layers
 
 stays : (g : Over) (c : After-is_hidden g) → g.Y.Layers.Stays c.args.layers.now c.is_hidden.new.layers
@@ -34,8 +34,7 @@ is_hidden-requires g c =
     let same = c.loop-here.invariant.same in
     let a = c.in-Some.place.0 in
     record {
-      path = on-kept same c.requires.path;
-      other = alike-kept same c.requires.other;
+      layer = record { path = on-kept same c.requires.layer.path; other = alike-kept same c.requires.layer.other };
       place = place-kept c.args.e a same (c.loop-here.invariant.place a (ap (option_map number_of) c.in-Some.is));
     }
 
@@ -54,7 +53,7 @@ returns-then-not-is_hidden g c =
 pub next-here-requires : goal.next-here-requires
 next-here-requires g c =
     let w = here g (goal.at.next-here-requires g c).After-is_hidden in
-    record { dict = w.same.has c.args.e c.requires.other.there; place = there-still w }
+    record { dict = w.same.has c.args.e c.requires.layer.other.there; place = there-still w }
 
 pub loop-here-smaller : goal.loop-here-smaller
 loop-here-smaller g c = fewer-next (here g (goal.at.loop-here-smaller g c).After-is_hidden) c.next-here.ensures

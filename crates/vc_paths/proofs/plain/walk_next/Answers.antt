@@ -13,7 +13,7 @@ use Rattle.vc_paths.proofs.plain.walk_next.Goals.{After-show_invariant}
 
 -- where the walk begins
 here : (g : Over) (c : After-show_invariant g) → Spot (g.Y.Layers.layered c.args.layers.now) c.args.paths.now c.args.d c.args.from.0 c.args.from.1.0
-here g c = spot (g.met.Y.Layers.lawful c.args.layers.now) c.show_invariant.ensures c.requires.path c.requires.method c.requires.from
+here g c = spot (g.met.Y.Layers.lawful c.args.layers.now) c.show_invariant.ensures c.requires.path.path c.requires.path.method c.requires.from
 
 pub next-start-requires : goal.next-start-requires
 next-start-requires g c =
@@ -23,7 +23,7 @@ next-start-requires g c =
 pub seen_from-requires : goal.seen_from-requires
 seen_from-requires g c =
     let s = here g (goal.at.seen_from-requires g c).After-show_invariant in
-    record { path = s.start; other = s.alike; place = place-next s.apart s.around c.next-start.ensures }
+    record { layer = record { path = s.start; other = s.alike }; place = place-next s.apart s.around c.next-start.ensures }
 
 pub below-requires : goal.below-requires
 below-requires g c = (here g (goal.at.below-requires g c).After-show_invariant).on.number c.args.from.0 refl

@@ -13,7 +13,7 @@ use Rattle.vc_paths.proofs.plain.walk_prev.Goals.{After-show_invariant}
 
 -- where the walk begins
 here : (g : Over) (c : After-show_invariant g) → Spot (g.Y.Layers.layered c.args.layers.now) c.args.paths.now c.args.d c.args.from.0 c.args.from.1.0
-here g c = spot (g.met.Y.Layers.lawful c.args.layers.now) c.show_invariant.ensures c.requires.path c.requires.method c.requires.from
+here g c = spot (g.met.Y.Layers.lawful c.args.layers.now) c.show_invariant.ensures c.requires.path.path c.requires.path.method c.requires.from
 
 pub prev-end-requires : goal.prev-end-requires
 prev-end-requires g c =
@@ -23,7 +23,7 @@ prev-end-requires g c =
 pub seen_back-requires : goal.seen_back-requires
 seen_back-requires g c =
     let s = here g (goal.at.seen_back-requires g c).After-show_invariant in
-    record { path = s.start; other = s.alike; place = place-previous s.apart s.around c.prev-end.ensures }
+    record { layer = record { path = s.start; other = s.alike }; place = place-previous s.apart s.around c.prev-end.ensures }
 
 pub last_above-requires : goal.last_above-requires
 last_above-requires g c = record { path = on-kept c.seen_back.ensures.unchanged.layers (here g (goal.at.last_above-requires g c).After-show_invariant).start }

@@ -16,10 +16,10 @@ loop-next-init g c =
     let layer = (g.Y.Layers.layered c.args.layers.now).layer c.args.e in
     let lawful = g.met.Y.Layers.lawful c.args.layers.now in
     record {
-      walks = IsLastUpTo-start (g.Y.Layers.layered c.args.layers.now) c.args.e lawful c.requires.dict
-          c.args.at.0 (option_map number_of c.next-next.result) c.requires.place c.next-next.ensures;
+      walks = IsLastUpTo-start (g.Y.Layers.layered c.args.layers.now) c.args.e lawful c.requires.place.dict
+          c.args.at.0 (option_map number_of c.next-next.result) c.requires.place.place c.next-next.ensures;
       upto = λ bytes other o h n there.
-          upto-behind layer.rules layer.objects c.args.at.0 o bytes other (lawful.sorted c.args.e c.requires.dict c.requires.ordered) (lawful.distinct c.args.e c.requires.dict) h
+          upto-behind layer.rules layer.objects c.args.at.0 o bytes other (lawful.sorted c.args.e c.requires.place.dict c.requires.ordered) (lawful.distinct c.args.e c.requires.place.dict) h
           (sym c.next-next.ensures ∙ n) there;
     }
 
@@ -34,8 +34,8 @@ returns-then-not-is_eq g c =
     let walks = subst (λ z. IsLastUpTo layer c.args.at.0 c.loop-next.last.0 (option_map number_of z)) c.in-Some.is c.loop-next.invariant.walks in
     let other = bytes-of (bytes_there c.in-Some.other.0 layer.objects) (c.loop-next.invariant.walks.place c.in-Some.other.0 is) in
     λ bytes h.
-    last-apart layer.rules (ordered layer.rules (lawful.lawful c.args.e c.requires.dict).order) layer.objects c.loop-next.last.0 c.in-Some.other.0 bytes other.bytes
-    (lawful.sorted c.args.e c.requires.dict c.requires.ordered) (lawful.distinct c.args.e c.requires.dict) other.are
+    last-apart layer.rules (ordered layer.rules (lawful.lawful c.args.e c.requires.place.dict).order) layer.objects c.loop-next.last.0 c.in-Some.other.0 bytes other.bytes
+    (lawful.sorted c.args.e c.requires.place.dict c.requires.ordered) (lawful.distinct c.args.e c.requires.place.dict) other.are
     (c.loop-next.invariant.upto bytes other.bytes c.in-Some.other.0 h is other.are)
     (sym (ap is_eq (c.compare_at.ensures other.bytes bytes other.are h)) ∙ sym c.is_eq.ensures ∙ c.if-not-is_eq.true)
     (walks.here bytes h)
@@ -48,7 +48,7 @@ loop-next-smaller g c =
     let layer = (g.Y.Layers.layered c.args.layers.now).layer c.args.e in
     let walks = subst (λ z. IsLastUpTo layer c.args.at.0 c.loop-next.last.0 (option_map number_of z)) c.in-Some.is c.loop-next.invariant.walks in
     subst (λ z. length (objects_from (option_map number_of c.next-next-in-Some.result) layer.objects) < length (objects_from z layer.objects)) (sym (ap (option_map number_of) c.in-Some.is))
-    (IsLastUpTo-shorter (g.Y.Layers.layered c.args.layers.now) c.args.e (g.met.Y.Layers.lawful c.args.layers.now) c.requires.dict
+    (IsLastUpTo-shorter (g.Y.Layers.layered c.args.layers.now) c.args.e (g.met.Y.Layers.lawful c.args.layers.now) c.requires.place.dict
     c.args.at.0 c.loop-next.last.0 c.in-Some.other.0 (option_map number_of c.next-next-in-Some.result) walks c.next-next-in-Some.ensures)
 
 pub loop-next-preserved : goal.loop-next-preserved
@@ -59,16 +59,16 @@ loop-next-preserved g c =
     let walks = subst (λ z. IsLastUpTo layer c.args.at.0 c.loop-next.last.0 (option_map number_of z)) c.in-Some.is c.loop-next.invariant.walks in
     let other = bytes-of (bytes_there c.in-Some.other.0 layer.objects) (c.loop-next.invariant.walks.place c.in-Some.other.0 is) in
     record {
-      walks = IsLastUpTo-further (g.Y.Layers.layered c.args.layers.now) c.args.e lawful c.requires.dict
+      walks = IsLastUpTo-further (g.Y.Layers.layered c.args.layers.now) c.args.e lawful c.requires.place.dict
           c.args.at.0 c.loop-next.last.0 c.in-Some.other.0 c.in-Some.other.0 (option_map number_of c.next-next-in-Some.result) walks
           (λ x y h there.
           let match : is_match layer.rules x y ≡ true = sym (ap is_eq (c.compare_at.ensures y x there h)) ∙ sym c.is_eq.ensures ∙ c.if-not-is_eq.false in
           sym (ap (λ t. if t then c.in-Some.other.0 else c.loop-next.last.0) match))
           c.next-next-in-Some.ensures;
       upto = λ bytes next o h n be.
-          (ordered layer.rules (lawful.lawful c.args.e c.requires.dict).order).upto bytes other.bytes next
+          (ordered layer.rules (lawful.lawful c.args.e c.requires.place.dict).order).upto bytes other.bytes next
           (c.loop-next.invariant.upto bytes other.bytes c.in-Some.other.0 h is other.are)
-          (upto-behind layer.rules layer.objects c.in-Some.other.0 o other.bytes next (lawful.sorted c.args.e c.requires.dict c.requires.ordered) (lawful.distinct c.args.e c.requires.dict) other.are
+          (upto-behind layer.rules layer.objects c.in-Some.other.0 o other.bytes next (lawful.sorted c.args.e c.requires.place.dict c.requires.ordered) (lawful.distinct c.args.e c.requires.place.dict) other.are
           (sym c.next-next-in-Some.ensures ∙ n) be);
     }
 
