@@ -1,65 +1,50 @@
 -- Which segments stay, as number and size, and what is back where one goes.
-use Rattle.std.proofs.Common.{◌≡◌, ℕ, ◌+◌, ◌≤◌, List, [], ◌∷◌, ◌++◌, Bool, true, false, not, All, Contains, Option, None, Some, IsSome, length, get_or, map, filter, refl, ap, sym, ◌∙◌, ⊎_elim, eqb, leb, arith}
-use Rattle.std.specs.Prelude.{◌==◌, ◌&&◌}
+use Rattle.std.proofs.Common.{◌≡◌, ℕ, ◌+◌, ◌≤◌, List, [], ◌∷◌, ◌++◌, Bool, true, false, not, All, Contains, Option, None, Some, IsSome, length, get_or, map, filter, refl, ap, sym, ◌∙◌, ⊎_elim, eqb, arith}
+use Rattle.std.specs.Prelude.{◌==◌}
 use Rattle.std.specs.Option.{is_some}
 use Rattle.std.specs.List.{remove}
-use Rattle.std.proofs.lemmas.Bool.{cases_Bool, eqb-true, le-leb, lt-leb, or_left, or_right}
-use Rattle.std.proofs.lemmas.Bool.Decides.{nat_tests}
+use Rattle.std.proofs.lemmas.Bool.{cases_Bool, eq-eqb, or_right}
 use Rattle.std.proofs.lemmas.List.{length-map}
 use Rattle.std.proofs.lemmas.List.Edits.{length-remove}
-use Rattle.std.proofs.lemmas.List.Elements.{All-map, filter_agree}
-use Rattle.vc_seg.specs.Segment.{AreSegments, Bytes, pair_of}
-use Rattle.vc_seg.specs.Back.{has_other_number}
-use Rattle.vc_seg.proofs.Filters.{filter-filter, filter-all, filter-agree_on}
-use Rattle.vc_seg.proofs.Backs.{remove-own, without_last-own}
+use Rattle.std.proofs.lemmas.List.Elements.{All-cons, All-map, All-nil, All-weaker}
 use Rattle.vc_model.specs.Discipline.{without_last}
+use Rattle.vc_seg.specs.Back.{has_other_number, is_kept}
+use Rattle.vc_seg.specs.Segment.{AreSegments, Bytes, pair_of}
+use Rattle.vc_seg.proofs.Backs.{remove-own, without_last-own}
 use Rattle.vc_extent.specs.Tiling.{size_of}
-use Rattle.vc_best.specs.Kept.{stays_but, stays_from}
 
 -- where there is none of a number
-pub stays-none : (keeps : ℕ → Bool) (n : ℕ) (ss : List (ℕ × ℕ)) → size_of n ss ≡ None → filter (stays_but keeps n) ss ≡ ss
-stays-none keeps n [] e = refl
-stays-none keeps n (s ∷ ss) e =
+pub kept-none : (keeps : ℕ → Bool) (n : ℕ) (ss : List (ℕ × ℕ)) → size_of n ss ≡ None → filter (λ s. is_kept keeps n s.0) ss ≡ ss
+kept-none keeps n [] e = refl
+kept-none keeps n (s ∷ ss) e =
     ⊎_elim
     (λ (t : eqb s.0 n ≡ true). absurd (let q : Some s.1 ≡ None = rw t at e in cc))
     (λ (t : eqb s.0 n ≡ false).
-    let yes : stays_but keeps n s ≡ true = or_right (keeps s.0) (not (s.0 == n)) (ap not t) in
-    rw yes (ap (λ (xs : List (ℕ × ℕ)). s ∷ xs) (stays-none keeps n ss (rw t at e))))
+    let yes : is_kept keeps n s.0 ≡ true = or_right (keeps s.0) (not (s.0 == n)) (ap not t) in
+    rw yes (ap (λ (xs : List (ℕ × ℕ)). s ∷ xs) (kept-none keeps n ss (rw t at e))))
     (cases_Bool (eqb s.0 n))
 
-pub stays-kept : (keeps : ℕ → Bool) (n : ℕ) (ss : List (ℕ × ℕ)) → keeps n ≡ true → filter (stays_but keeps n) ss ≡ ss
-stays-kept keeps n ss here =
-    filter-all (stays_but keeps n) ss
-    (λ k d lt.
-    let m = (get_or ss k d).0 in
+-- a segment of a number that is left was there before
+pub left-there : (p : ℕ × ℕ → Bool) (n : ℕ) (ss : List (ℕ × ℕ)) → IsSome (size_of n (filter p ss)) → IsSome (size_of n ss)
+left-there p n [] h = h
+left-there p n (s ∷ ss) h =
     ⊎_elim
-    (λ e. or_left (keeps m) (not (m == n)) (ap keeps (eqb-true m n e) ∙ here))
-    (λ e. or_right (keeps m) (not (m == n)) (ap not e))
-    (cases_Bool (eqb m n)))
+    (λ (t : eqb s.0 n ≡ true). rw t refl)
+    (λ (t : eqb s.0 n ≡ false).
+    rw t (left-there p n ss
+    (⊎_elim
+    (λ (u : p s ≡ true). rw t at (rw u at h))
+    (λ (u : p s ≡ false). rw u at h)
+    (cases_Bool (p s)))))
+    (cases_Bool (eqb s.0 n))
 
-pub stays-gone : (keeps : ℕ → Bool) (n : ℕ) (ss : List (ℕ × ℕ)) → keeps n ≡ false → filter (λ (s : ℕ × ℕ). not (eqb s.0 n)) ss ≡ filter (stays_but keeps n) ss
-stays-gone keeps n ss none =
-    filter_agree (λ (s : ℕ × ℕ). not (eqb s.0 n)) (stays_but keeps n)
-    (λ s.
-    ⊎_elim
-    (λ e. rw (e, ap keeps (eqb-true s.0 n e) ∙ none) refl)
-    (λ e. rw e (sym (or_right (keeps s.0) true refl)))
-    (cases_Bool (eqb s.0 n)))
-    ss
-
-pub stays_from-first : (keeps : ℕ → Bool) (ss : List (ℕ × ℕ)) → All (λ s. 1 ≤ s.0) ss → filter (stays_from keeps 1) ss ≡ ss
-stays_from-first keeps ss h =
-    filter-all (stays_from keeps 1) ss (λ k d lt. or_left (leb 1 (get_or ss k d).0) (keeps (get_or ss k d).0) (le-leb 1 (get_or ss k d).0 (h k d lt)))
-
-pub stays_from-more : (keeps : ℕ → Bool) (n : ℕ) (ss : List (ℕ × ℕ)) → filter (stays_but keeps n) (filter (stays_from keeps n) ss) ≡ filter (stays_from keeps (n + 1)) ss
-stays_from-more keeps n ss =
-    filter-filter (stays_from keeps n) (stays_but keeps n) ss
-    ∙ filter_agree (λ s. stays_from keeps n s && stays_but keeps n s) (stays_from keeps (n + 1)) (λ s. grind (arith, nat_tests)) ss
-
-pub stays_from-last : (keeps : ℕ → Bool) (n : ℕ) (ss : List (ℕ × ℕ)) → All (λ s. s.0 ≤ 1023) ss → 1024 ≤ n → filter (stays_from keeps n) ss ≡ filter (λ s. keeps s.0) ss
-stays_from-last keeps n ss h le =
-    filter-agree_on (stays_from keeps n) (λ s. keeps s.0) ss
-    (λ k d lt. let last = h k d lt in rw (lt-leb n (get_or ss k d).0 (omega (arith, last))) refl)
+-- each segment has its number
+pub all-there : (ss : List (ℕ × ℕ)) → All (λ s. IsSome (size_of s.0 ss)) ss
+all-there [] = All-nil (λ (s : ℕ × ℕ). IsSome (size_of s.0 []))
+all-there (s ∷ ss) =
+    All-cons (λ (q : ℕ × ℕ). IsSome (size_of q.0 (s ∷ ss))) s ss (rw (eq-eqb s.0 s.0 refl) refl)
+    (All-weaker (λ (q : ℕ × ℕ). IsSome (size_of q.0 ss)) (λ (q : ℕ × ℕ). IsSome (size_of q.0 (s ∷ ss)))
+    (λ q h. ⊎_elim (λ (t : eqb s.0 q.0 ≡ true). rw t refl) (λ (t : eqb s.0 q.0 ≡ false). rw t h) (cases_Bool (eqb s.0 q.0))) ss (all-there ss))
 
 pub pairs-first : (segs : List Bytes) → AreSegments segs → All (λ s. 1 ≤ s.0) (map pair_of segs)
 pairs-first segs h = All-map (λ (s : ℕ × ℕ). 1 ≤ s.0) pair_of segs (λ k d lt. (h.legal k d lt).first)

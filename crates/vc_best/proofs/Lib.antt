@@ -35,7 +35,6 @@ pub mod Room
 pub mod Parts
 pub mod Held
 pub mod Walks
-pub mod OneFree
 pub mod Along
 pub mod Counts
 pub mod Carving

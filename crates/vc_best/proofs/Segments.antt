@@ -1,8 +1,9 @@
 -- Segments that come, go or are emptied.
-use Rattle.std.proofs.Common.{All, AllPairs, Bool, List, [], ap, arith, eqb, false, filter, length, ltb, map, not, refl, subst, sym, true, ℕ, ⊎_elim, ◌++◌, ◌-◌, ◌<◌, ◌∙◌, ◌∷◌, ◌≡◌, ◌≢◌}
-use Rattle.std.specs.Prelude.{◌==◌}
+use Rattle.std.proofs.Common.{All, AllPairs, Bool, List, Some, [], ap, arith, eqb, false, filter, length, ltb, map, not, refl, subst, sym, true, ℕ, ⊎_elim, ◌⊎◌, inl, inr, ◌+◌, ◌++◌, ◌-◌, ◌<◌, ◌∙◌, ◌∷◌, ◌≡◌, ◌≢◌}
+use Rattle.std.specs.Prelude.{◌==◌, ◌↔◌, IsTrue}
 use Rattle.std.specs.List.{list_any}
 use Rattle.std.proofs.Math.Logic.{∥∥₁_elim}
+use Rattle.std.proofs.Math.Nat.{ℕ_set}
 use Rattle.std.proofs.lemmas.Bool.{cases_Bool, eqb-true, eqb-false, eq-eqb, ne_eqb, ltb-false, or_left, or_right}
 use Rattle.std.proofs.lemmas.Grind.{flat_map-append}
 use Rattle.std.proofs.lemmas.List.{append-nil}
@@ -18,14 +19,14 @@ use Rattle.vc_layouts.proofs.InOrder.{All-in_order, any-order}
 use Rattle.vc_extent.specs.Change.{IsOneFree}
 use Rattle.vc_extent.specs.Extent.{Extent, extents, free_extent, no_links}
 use Rattle.vc_extent.specs.Tiles.{IsTiled}
-use Rattle.vc_extent.specs.Tiling.{AreExtents, IsThere, extents_of, tiling}
+use Rattle.vc_extent.specs.Tiling.{AreExtents, IsThere, extents_of, size_of, tiling}
 use Rattle.vc_best.specs.Blocks.{all_busy, busy_in, layout_by}
 use Rattle.vc_best.specs.Free.{IsMerged, is_merged}
 use Rattle.vc_best.proofs.Layouts.{busy-seg}
 use Rattle.vc_best.proofs.Lies.{Lies, lies-tiled}
 use Rattle.vc_best.proofs.Parts.{busy-none}
 use mathlib.Core.Bool.{Bool-set}
-use Rattle.vc_best.proofs.Sets.{blocks-set}
+use Rattle.vc_best.proofs.Sets.{blocks-set, extents-set}
 use Rattle.vc_best.proofs.Tilings.{other-seg}
 
 pub layout-added : (old new : List Bytes) (n size span : ℕ) → tiling new ≡ tiling old ++ (n, free_extent 32 span no_links ∷ []) ∷ [] → map pair_of new ≡ map pair_of old ++ (n, size) ∷ [] →
@@ -142,6 +143,16 @@ occupied-in n (s ∷ ss) tiled merged there busy =
     (occupied-in n ss (All-tail T s ss tiled) (All-tail M (s.number, extents s.bytes) (tiling ss) merged) (rw t at there) (rw t at busy)))
     (cases_Bool (eqb s.number n))
 
+-- whether a segment is one free extent is decided
+pub one-or : (es : List Extent) → IsOneFree es ⊎ ¬ IsOneFree es
+one-or [] = inr (λ h. h)
+one-or (e ∷ x ∷ es) = inr (λ h. let no : x ∷ es ≡ [] = h.1 in absurd (cc))
+one-or (e ∷ []) =
+    ⊎_elim
+    (λ (t : eqb e.size 0 ≡ true). inl (eqb-true e.size 0 t, refl))
+    (λ (t : eqb e.size 0 ≡ false). inr (λ h. eqb-false e.size 0 t h.0))
+    (cases_Bool (eqb e.size 0))
+
 module _ (old : List Bytes) (index : List ℕ) (n : ℕ) (k : ∥ AreExtents old index ∥₁) where
   pub layout-removed : (new : List Bytes) → IsOneFree (extents_of n (tiling old)) → tiling new ≡ filter (λ (s : ℕ × List Extent). not (eqb s.0 n)) (tiling old) → (layout_by new).blocks ≡ (layout_by old).blocks
   unfolding layout_by
@@ -157,3 +168,43 @@ module _ (old : List Bytes) (index : List ℕ) (n : ℕ) (k : ∥ AreExtents old
   unfolding layout_by
   occupied merged there busy =
       ∥∥₁_elim k (hlevel (Bool-set)) (λ j. any-order (λ b. b.seg == n) (all_busy (tiling old)) ∙ occupied-in n old j.tiled merged there busy)
+
+  -- so a test shows it, and what it shows
+  pub occupied-by : IsMerged (tiling old) → IsThere n old → (r : Bool) → IsTrue r ↔ IsOneFree (extents_of n (tiling old)) → not r ≡ is_occupied (layout_by old).blocks n
+  occupied-by merged there true is = sym (unoccupied (is.0 refl))
+  occupied-by merged there false is = sym (occupied merged there (λ h. let no : false ≡ true = is.1 h in cc))
+
+  pub free-by : IsMerged (tiling old) → IsThere n old → is_occupied (layout_by old).blocks n ≡ false → IsOneFree (extents_of n (tiling old))
+  free-by merged there none = ⊎_elim (λ h. h) (λ h. absurd (let no : true ≡ false = sym (occupied merged there h) ∙ none in cc)) (one-or (extents_of n (tiling old)))
+
+-- the extents of a segment of that many bytes
+lies-there : (n size : ℕ) (segs : List Bytes) → All (λ s. IsTiled s.bytes) segs → size_of n (map pair_of segs) ≡ Some size → Lies (size - 16) 16 (extents_of n (tiling segs))
+lies-there n size [] tiled e = absurd (cc)
+lies-there n size (s ∷ ss) tiled e =
+    let T : Bytes → Type 0 = λ x. IsTiled x.bytes in
+    ⊎_elim
+    (λ (t : eqb s.number n ≡ true).
+    let own : Some (length s.bytes) ≡ Some size = rw t at e in
+    let same : length s.bytes ≡ size = cc in
+    rw t (subst (λ (m : ℕ). Lies (m - 16) 16 (extents s.bytes)) same (lies-tiled s.bytes (All-head T s ss tiled))))
+    (λ (t : eqb s.number n ≡ false). rw t (lies-there n size ss (All-tail T s ss tiled) (rw t at e)))
+    (cases_Bool (eqb s.number n))
+
+-- one has the whole usable part of its segment where none is behind it
+whole-alone : (stop : ℕ) (e : Extent) (ys : List Extent) → Lies stop 16 (e ∷ ys) → (e.span + 16 ≡ stop → ys ≡ []) × (ys ≡ [] → e.span + 16 ≡ stop)
+whole-alone stop e [] h = let end : 16 + e.span ≡ stop = h.1 in (λ q. refl, λ q. omega arith)
+whole-alone stop e (y ∷ ys) h = let within = h.1.0.within in let least = h.1.0.legal.least in (λ q. absurd (omega arith), λ q. absurd (cc))
+
+module _ (segs : List Bytes) (index : List ℕ) (n size : ℕ) (e : Extent) (ys : List Extent) (k : ∥ AreExtents segs index ∥₁) (has : size_of n (map pair_of segs) ≡ Some size) (whole : extents_of n (tiling segs) ≡ e ∷ ys) where
+  lies : AreExtents segs index → Lies (size - 16) 16 (e ∷ ys)
+  lies h = subst (Lies (size - 16) 16) whole (lies-there n size segs h.tiled has)
+
+  pub one-by_span : e.size ≡ 0 → e.span + 32 ≡ size → IsOneFree (extents_of n (tiling segs))
+  one-by_span free is = subst IsOneFree (sym whole) (free, ∥∥₁_elim k (hlevel (extents-set)) (λ h. (whole-alone (size - 16) e ys (lies h)).0 (omega arith)))
+
+  pub one-not : IsOneFree (extents_of n (tiling segs)) → (e.size ≡ 0) × (e.span + 32 ≡ size)
+  one-not one =
+      let own : IsOneFree (e ∷ ys) = subst IsOneFree whole one in (
+        own.0,
+        ∥∥₁_elim k (hlevel (ℕ_set)) (λ h. let end = (whole-alone (size - 16) e ys (lies h)).1 own.1 in let least = (lies h).0.legal.least in omega arith),
+      )

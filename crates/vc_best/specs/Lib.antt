@@ -21,7 +21,6 @@ pub mod Blocks
 pub mod Free
 pub mod Beside
 pub mod GapsChange
-pub mod Kept
 pub mod Counts
 pub mod Next
 pub mod Changes

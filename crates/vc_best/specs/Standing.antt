@@ -1,5 +1,5 @@
 -- What the private calls of a best region ask and promise together.
-use Rattle.std.specs.Prelude.{◌≡◌, ℕ, ◌+◌, ◌-◌, ◌≤◌, ◌%◌, List, [], ◌∷◌, ◌++◌, All, IfOk, IfSome, IsErrOf, OnErr, Result, Some, false, filter, length, map, take}
+use Rattle.std.specs.Prelude.{◌≡◌, ℕ, ◌+◌, ◌-◌, ◌≤◌, ◌%◌, List, [], ◌∷◌, ◌++◌, All, Bool, IfOk, IfSome, IsErrOf, OnErr, Result, Some, false, filter, length, map, take}
 use Rattle.vc_base.specs.declared.addr.Addr.{Addr}
 use Rattle.vc_model.specs.Addr.{place_of}
 use Rattle.vc_model.specs.Best.{best_alloc, place_in, without_block_at}
@@ -10,6 +10,7 @@ use Rattle.vc_model.specs.Place.{IsAlign, holds, least}
 use Rattle.vc_model.specs.Segments.{Granted, ask, new_segment, span}
 use Rattle.vc_model.specs.Touch.{HasBlock, find_block, with_bytes_at}
 use Rattle.vc_seg.specs.Answer.{Answers}
+use Rattle.vc_seg.specs.Back.{is_kept, is_marked}
 use Rattle.vc_seg.specs.OneBlock.{IsGuardedSize}
 use Rattle.vc_seg.specs.Segment.{Bytes, pair_of}
 use Rattle.vc_seg.specs.declared.fault.RegionFault.{RegionFault}
@@ -24,7 +25,6 @@ use Rattle.vc_best.specs.Ask.{AsksForSegment}
 use Rattle.vc_best.specs.Blocks.{layout_by}
 use Rattle.vc_best.specs.Changes.{move_border}
 use Rattle.vc_best.specs.Free.{IsMerged, room_of}
-use Rattle.vc_best.specs.Kept.{stays_but}
 
 -- no two free extents stand beside each other, and the tree with this root has each of them
 pub record AreKept (segs : List Bytes) (root : ℕ) : Type 0 where
@@ -91,9 +91,13 @@ pub record IsMovedInto (old new : Layout ℕ) (a to size : ℕ) : Type 0 where
   pub moved : IfSome (find_block (place_of a) old.blocks) (λ b. new ≡ without_block_at (with_bytes_at old (place_of to) 0 (take size b.bytes)) (place_of a))
   pub count : length new.blocks + 1 ≡ length old.blocks
 
--- the segment of a number is gone, where there is one and no block is in it; that many were given back
-pub record IsGivenBack (old new : List Bytes) (number given : ℕ) : Type 0 where
-  pub segments : map pair_of new ≡ filter (stays_but (is_occupied (layout_by old).blocks) number) (map pair_of old)
+-- of the segments' numbers those are marked in which a block is
+abbrev pub AreMarked : List Bool → List Bytes → Type 0
+AreMarked marks segs = (n : ℕ) → IsThere n segs → is_marked marks n ≡ is_occupied (layout_by segs).blocks n
+
+-- the segment of a number is gone, where there is one and the number doesn't pass; that many were given back
+pub record IsGivenBack (old new : List Bytes) (keeps : ℕ → Bool) (number given : ℕ) : Type 0 where
+  pub segments : map pair_of new ≡ filter (λ s. is_kept keeps number s.0) (map pair_of old)
   pub blocks : (layout_by new).blocks ≡ (layout_by old).blocks
   pub count : given + length (map pair_of new) ≡ length (map pair_of old)
 

@@ -164,8 +164,7 @@ impl Best {
         ensures disc { TookBack (state self.old.disc) (state self.new.disc)
             (segments_in self.old) (segments_in self.new) }
     {
-        let _ = steps;
-        compact(&mut self.extents, &mut self.root, &mut self.disc)
+        compact(&mut self.extents, &mut self.root, &mut self.disc, steps)
     }
 
     /// The block whose bytes hold the byte at an offset of a segment, and the offset in the block. None where no block

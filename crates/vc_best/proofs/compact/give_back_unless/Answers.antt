@@ -1,71 +1,63 @@
-use Rattle.std.proofs.Common.{◌≡◌, ℕ, List, [], ◌∷◌, ◌++◌, true, false, filter, length, not, map, IsSome, eqb, refl, ap, sym, subst, ◌∙◌, arith}
+use Rattle.std.proofs.Common.{◌≡◌, ℕ, List, [], ◌∷◌, ◌++◌, All, true, false, filter, length, not, map, IsSome, eqb, refl, ap, sym, subst, ◌∙◌, arith}
 use Rattle.std.proofs.Math.Nat.{ℕ_set}
 use Rattle.std.proofs.Math.Logic.{∥∥₁_elim}
 use Rattle.std.proofs.lemmas.List.Elements.{All-filter}
-use Rattle.vc_model.specs.Compact.{is_occupied}
 use Rattle.vc_model.specs.Addr.{address}
 use Rattle.vc_model.specs.Discipline.{HasOut, without_last}
 use Rattle.vc_model.specs.Layout.{Layout}
 use Rattle.vc_base.proofs.Options.{none_where}
+use Rattle.vc_seg.specs.Back.{is_marked, stays_from}
 use Rattle.vc_seg.specs.Segment.{pair_of}
-use Rattle.vc_seg.proofs.Backs.{Contains-ends, Contains-own}
+use Rattle.vc_seg.proofs.Backs.{Contains-ends, Contains-own, is_kept-marked, is_kept-unmarked}
 use Rattle.vc_extent.specs.Extent.{Extent}
 use Rattle.vc_extent.specs.Change.{IsOneFree}
 use Rattle.vc_extent.specs.Tiling.{IsNamed, IsThere, extent_of, extents_of, size_of, tiling}
 use Rattle.vc_gaps.specs.GapTree.{HasGaps}
 use Rattle.vc_gaps.proofs.Added.{gaps-removed}
-use Rattle.vc_best.specs.Blocks.{layout_by}
 use Rattle.vc_best.specs.Free.{IsMerged, is_merged}
-use Rattle.vc_best.proofs.Backs.{one-gone, out-gone, some-of, stays-gone, stays-kept, stays-none}
+use Rattle.vc_best.proofs.Backs.{kept-none, one-gone, out-gone, some-of}
 use Rattle.vc_best.proofs.Cleared.{first-off, one-first, start-address}
 use Rattle.vc_best.proofs.Layouts.{behind_of}
 use Rattle.vc_best.proofs.Linking.{in-tree}
 use Rattle.vc_best.proofs.Plain.{layout-stays, merged-stays, one_free-stays}
-use Rattle.vc_best.proofs.Segments.{layout-removed, occupied, unoccupied}
+use Rattle.vc_best.proofs.Segments.{free-by, layout-removed}
 use Rattle.vc_best.proofs.Sets.{pairs-set}
 use Rattle.vc_best.proofs.Walks.{start-named, start-whole}
-use Rattle.vc_best.proofs.compact.give_back_one.Given.{Over}
-use Rattle.vc_best.proofs.compact.give_back_one.Goals as goal
-use Rattle.vc_best.proofs.compact.give_back_one.Goals.{After-first-first, After-unlink_gap}
+use Rattle.vc_best.proofs.compact.give_back_unless.Given.{Over}
+use Rattle.vc_best.proofs.compact.give_back_unless.Goals as goal
+use Rattle.vc_best.proofs.compact.give_back_unless.Goals.{After-first-first, After-unlink_gap}
+
+pub returns-then-marks-number-clause-given : goal.returns-then-marks-number-clause-given
+returns-then-marks-number-clause-given g c =
+    let segs = c.args.extents.now.segs.items in
+    record { segments = sym (is_kept-marked (λ (s : ℕ × ℕ). s) (is_marked c.args.marks.now) c.args.number (map pair_of segs) c.if-marks-number.true); blocks = refl; count = omega arith }
 
 pub returns-then-is_none-clause-given : goal.returns-then-is_none-clause-given
 returns-then-is_none-clause-given g c =
     let segs = c.args.extents.now.segs.items in
     record {
-      segments = sym (stays-none (is_occupied (layout_by segs).blocks) c.args.number (map pair_of segs) (sym c.has.ensures ∙ none_where c.has.result c.is_none.result c.is_none.ensures c.if-is_none.true));
+      segments = sym (kept-none (is_marked c.args.marks.now) c.args.number (map pair_of segs) (sym c.has.ensures ∙ none_where c.has.result c.is_none.result c.is_none.ensures c.if-is_none.true));
       blocks = refl;
       count = omega arith;
     }
 
-pub is_one_free-requires : goal.is_one_free-requires
-is_one_free-requires g c = subst IsSome c.has.ensures (some-of c.has.result c.is_none.result c.is_none.ensures c.if-is_none.false)
+-- the segment is there, is one free extent, and its address is at an offset of 32
+there : (g : Over) (c : After-first-first g) → IsThere c.args.number c.args.extents.now.segs.items
+there g c = subst IsSome c.has.ensures (some-of c.has.result c.is_none.result c.is_none.ensures c.if-is_none.false)
 
-pub returns-then-not-is_one_free-clause-given : goal.returns-then-not-is_one_free-clause-given
-returns-then-not-is_one_free-clause-given g c =
-    let e = c.args.extents.now in
-    let there = subst IsSome c.has.ensures (some-of c.has.result c.is_none.result c.is_none.ensures c.if-is_none.false) in
-    let no : c.is_one_free.result ≡ false = c.if-not-is_one_free.true in
-    record {
-      segments =
-          sym (stays-kept (is_occupied (layout_by e.segs.items).blocks) c.args.number (map pair_of e.segs.items)
-          (occupied e.segs.items e.index.items c.args.number e.kept c.requires.kept.merged there (λ h. let yes = c.is_one_free.ensures.1 h in let q : false ≡ true = sym no ∙ yes in cc)));
-      blocks = refl;
-      count = omega arith;
-    }
-
--- the segment is one free extent, and its address is at an offset of 32
 one : (g : Over) (c : After-first-first g) → IsOneFree (extents_of c.args.number (tiling c.args.extents.now.segs.items))
-one g c = c.is_one_free.ensures.0 c.if-not-is_one_free.false
+one g c =
+    let e = c.args.extents.now in
+    free-by e.segs.items e.index.items c.args.number e.kept c.requires.kept.merged (there g c) (sym (c.requires.marks c.args.number (there g c)) ∙ c.if-marks-number.false)
 
 whole : (g : Over) (c : After-first-first g) → extents_of c.args.number (tiling c.args.extents.now.segs.items) ≡ extent_of (tiling c.args.extents.now.segs.items) c.first-first.result.0 ∷ behind_of (tiling c.args.extents.now.segs.items) c.first-first.result.0
-whole g c =
-    let e = c.args.extents.now in
-    start-whole e.segs.items e.index.items c.args.number c.first-first.result.0 e.kept (subst IsSome c.has.ensures (some-of c.has.result c.is_none.result c.is_none.ensures c.if-is_none.false)) c.first-first.ensures
+whole g c = let e = c.args.extents.now in start-whole e.segs.items e.index.items c.args.number c.first-first.result.0 e.kept (there g c) c.first-first.ensures
 
 named : (g : Over) (c : After-first-first g) → IsNamed (tiling c.args.extents.now.segs.items) c.first-first.result.0
-named g c =
-    let e = c.args.extents.now in
-    start-named e.segs.items e.index.items c.args.number c.first-first.result.0 e.kept (subst IsSome c.has.ensures (some-of c.has.result c.is_none.result c.is_none.ensures c.if-is_none.false)) c.first-first.ensures
+named g c = let e = c.args.extents.now in start-named e.segs.items e.index.items c.args.number c.first-first.result.0 e.kept (there g c) c.first-first.ensures
+
+pub first-first-requires : goal.first-first-requires
+first-first-requires g c = subst IsSome c.has.ensures (some-of c.has.result c.is_none.result c.is_none.ensures c.if-is_none.false)
 
 pub unlink_gap-requires : goal.unlink_gap-requires
 unlink_gap-requires g c =
@@ -74,13 +66,21 @@ unlink_gap-requires g c =
 
 -- it is so without its node
 still : (g : Over) (c : After-unlink_gap g) → IsOneFree (extents_of c.args.number (tiling c.unlink_gap.new.extents.segs.items))
-still g c = one_free-stays (tiling c.args.extents.now.segs.items) (tiling c.unlink_gap.new.extents.segs.items) c.unlink_gap.ensures.rest.extents c.args.number (c.is_one_free.ensures.0 c.if-not-is_one_free.false)
+still g c = one_free-stays (tiling c.args.extents.now.segs.items) (tiling c.unlink_gap.new.extents.segs.items) c.unlink_gap.ensures.rest.extents c.args.number (one g (goal.at.After-unlink_gap g c).After-first-first)
 
 pub remove-segment-requires-clause-free : goal.remove-segment-requires-clause-free
 remove-segment-requires-clause-free g c = still g (goal.at.remove-segment-requires-clause-free g c).After-unlink_gap
 
-pub take_back-requires : goal.take_back-requires
-take_back-requires g c =
+pub give_back_one-requires-clause-ascending : goal.give_back_one-requires-clause-ascending
+give_back_one-requires-clause-ascending g c =
+    let P = λ (n : ℕ) (s : ℕ × ℕ). stays_from (is_marked c.args.marks.now) n s.0 ≡ true in
+    let left : map pair_of c.deref.result.now ≡ filter (λ s. not (eqb s.0 c.args.number)) (map pair_of c.args.extents.now.segs.items) =
+    ap (map pair_of) c.deref.ensures.value ∙ c.remove-segment.ensures.pairs ∙ ap (filter (λ (s : ℕ × ℕ). not (eqb s.0 c.args.number))) c.unlink_gap.ensures.rest.pairs in
+    subst (λ (n : ℕ). All (P n) (map pair_of c.deref.result.now)) (sym c.remove-segment.ensures.number)
+    (subst (All (P c.args.number)) (sym left) (All-filter (λ (s : ℕ × ℕ). not (eqb s.0 c.args.number)) (P c.args.number) (map pair_of c.args.extents.now.segs.items) c.requires.ascending))
+
+pub give_back_one-requires-clause-out : goal.give_back_one-requires-clause-out
+give_back_one-requires-clause-out g c =
     let among = c.remove-segment.ensures.contains in
     let mid = c.unlink_gap.new.extents.segs.items in
     Contains-ends _ (map pair_of mid) (pair_of c.remove-segment.result)
@@ -95,8 +95,7 @@ returns-clause-given g c =
       segments =
           c.remove-segment.ensures.pairs
           ∙ ap (filter (λ (s : ℕ × ℕ). not (eqb s.0 c.args.number))) c.unlink_gap.ensures.rest.pairs
-          ∙ stays-gone (is_occupied (layout_by e.segs.items).blocks) c.args.number (map pair_of e.segs.items)
-          (unoccupied e.segs.items e.index.items c.args.number e.kept (c.is_one_free.ensures.0 c.if-not-is_one_free.false));
+          ∙ is_kept-unmarked (λ (s : ℕ × ℕ). s) (is_marked c.args.marks.now) c.args.number (map pair_of e.segs.items) c.if-marks-number.false;
       blocks =
           layout-removed m.segs.items m.index.items c.args.number m.kept c.remove-segment.new.self.segs.items (still g (goal.at.returns-clause-given g c).After-unlink_gap) c.remove-segment.ensures.tiling
           ∙ ap (λ (r : Layout ℕ). r.blocks) (layout-stays e.segs.items m.segs.items c.unlink_gap.ensures.rest);
@@ -111,11 +110,11 @@ returns-clause-kept g c =
     let n = c.args.number in
     let m = c.unlink_gap.new.extents in
     let t1 = tiling m.segs.items in
-    let o = one-first (extents_of n t1) (still g (goal.at.returns-clause-kept g c).After-unlink_gap) in
-    let there : IsThere n e.segs.items = subst IsSome c.has.ensures (some-of c.has.result c.is_none.result c.is_none.ensures c.if-is_none.false) in
-    let off : o.0.off ≡ 32 = first-off m.segs.items m.index.items n m.kept (subst (λ (ss : List (ℕ × ℕ)). IsSome (size_of n ss)) (sym c.unlink_gap.ensures.rest.pairs) there) o.0 [] o.1 in
-    let first : c.first-first.result.0 ≡ address (n, 32) =
-    start-address e.segs.items e.index.items n e.kept there c.first-first.result.0 c.first-first.ensures in
+    let at = goal.at.returns-clause-kept g c in
+    let o = one-first (extents_of n t1) (still g at.After-unlink_gap) in
+    let here = there g at.After-first-first in
+    let off : o.0.off ≡ 32 = first-off m.segs.items m.index.items n m.kept (subst (λ (ss : List (ℕ × ℕ)). IsSome (size_of n ss)) (sym c.unlink_gap.ensures.rest.pairs) here) o.0 [] o.1 in
+    let first : c.first-first.result.0 ≡ address (n, 32) = start-address e.segs.items e.index.items n e.kept here c.first-first.result.0 c.first-first.ensures in
     record {
       merged =
           subst IsMerged (sym c.remove-segment.ensures.tiling)
@@ -133,9 +132,9 @@ returns-clause-disc g c =
       out = λ rest e.
           ∥∥₁_elim m.kept (hlevel (pairs-set))
           (λ k.
-          c.take_back.ensures.out
+          c.give_back_one.ensures.out
           ∙ (ap (without_last (pair_of c.remove-segment.result)) (e ∙ ap (λ (ss : List (ℕ × ℕ)). rest ++ ss) (sym c.unlink_gap.ensures.rest.pairs))
           ∙ out-gone m.segs.items c.remove-segment.new.self.segs.items c.args.number c.remove-segment.result k.segments c.remove-segment.ensures.contains c.remove-segment.ensures.number c.remove-segment.ensures.segs rest));
-      kept = c.take_back.ensures.kept;
-      faults = c.take_back.ensures.faults;
+      kept = c.give_back_one.ensures.kept;
+      faults = c.give_back_one.ensures.faults;
     }

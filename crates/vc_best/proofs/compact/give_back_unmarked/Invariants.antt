@@ -1,17 +1,16 @@
 use Rattle.std.proofs.Common.{◌≡◌, ◌+◌, filter, length, map}
-use Rattle.vc_model.specs.Compact.{is_occupied}
 use Rattle.vc_model.specs.Discipline.{TookBack}
+use Rattle.vc_seg.specs.Back.{is_marked, stays_from}
 use Rattle.vc_seg.specs.Segment.{pair_of}
 use Rattle.vc_best.specs.Blocks.{layout_by}
-use Rattle.vc_best.specs.Kept.{stays_from}
 use Rattle.vc_best.specs.Standing.{AreKept}
-use Rattle.vc_best.proofs.compact.compact.Given as goal
+use Rattle.vc_best.proofs.compact.give_back_unmarked.Given as goal
 
--- of those below the number, the segments without a block are back
+-- of those below the number, the segments that aren't marked are back
 abbrev pub invariant-loop-number : goal.invariant-loop-number
 invariant-loop-number g l =
     record {
-      segments : map pair_of l.extents.segs.items ≡ filter (stays_from (is_occupied (layout_by l.initial.extents.segs.items).blocks) l.number) (map pair_of l.initial.extents.segs.items);
+      segments : map pair_of l.extents.segs.items ≡ filter (λ s. stays_from (is_marked l.marks) l.number s.0) (map pair_of l.initial.extents.segs.items);
       blocks : (layout_by l.extents.segs.items).blocks ≡ (layout_by l.initial.extents.segs.items).blocks;
       kept : AreKept l.extents.segs.items l.root.0;
       count : l.count + length (map pair_of l.extents.segs.items) ≡ length (map pair_of l.initial.extents.segs.items);

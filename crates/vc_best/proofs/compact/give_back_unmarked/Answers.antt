@@ -1,0 +1,92 @@
+use Rattle.std.proofs.Common.{◌≡◌, ℕ, All, List, filter, length, map, refl, ap, sym, subst, ◌∙◌, arith, true, IsSome}
+use Rattle.std.proofs.Math.Bridge.{le_prop}
+use Rattle.std.proofs.Math.Logic.{∥∥₁_elim}
+use Rattle.std.proofs.lemmas.List.Elements.{All-weaker, filter_passes}
+use Rattle.vc_model.specs.Compact.{is_occupied}
+use Rattle.vc_model.specs.Layout.{Block}
+use Rattle.vc_seg.specs.Back.{is_kept, is_marked, stays_from}
+use Rattle.vc_seg.specs.Segment.{pair_of}
+use Rattle.vc_seg.proofs.Backs.{HasOut-left, TookBack-more, TookBack-none, stays_from-first, stays_from-last, stays_from-more}
+use Rattle.vc_seg.proofs.Filters.{filter-agree_on}
+use Rattle.vc_extent.specs.Tiling.{size_of}
+use Rattle.vc_best.specs.Blocks.{layout_by}
+use Rattle.vc_best.proofs.Backs.{all-there, left-there, pairs-first, pairs-last}
+use Rattle.vc_best.proofs.Lends.{segments-by}
+use Rattle.vc_best.proofs.compact.give_back_unmarked.Given.{Over}
+use Rattle.vc_best.proofs.compact.give_back_unmarked.Goals as goal
+use Rattle.vc_best.proofs.compact.give_back_unmarked.Goals.{After-loop-number}
+
+pub loop-number-init : goal.loop-number-init
+loop-number-init g c =
+    let e = c.args.extents.now in
+    record {
+      segments = sym (stays_from-first (λ (s : ℕ × ℕ). s) (is_marked c.args.marks.now) (map pair_of e.segs.items) (∥∥₁_elim e.kept (hlevel (le_prop)) (λ k. pairs-first e.segs.items k.segments)));
+      blocks = refl;
+      kept = c.requires.kept;
+      count = omega arith;
+      back = TookBack-none _ (map pair_of e.segs.items);
+    }
+
+pub give_back_unless-count-requires-clause-kept : goal.give_back_unless-count-requires-clause-kept
+give_back_unless-count-requires-clause-kept g c = c.loop-number.invariant.kept
+
+pub give_back_unless-count-requires-clause-out : goal.give_back_unless-count-requires-clause-out
+give_back_unless-count-requires-clause-out g c = HasOut-left _ _ (map pair_of c.args.extents.now.segs.items) (map pair_of c.loop-number.extents.segs.items) c.loop-number.invariant.back c.requires.out
+
+pub give_back_unless-count-requires-clause-marks : goal.give_back_unless-count-requires-clause-marks
+give_back_unless-count-requires-clause-marks g c = λ n there.
+    let i = c.loop-number.invariant in
+    let p = λ (s : ℕ × ℕ). stays_from (is_marked c.args.marks.now) c.loop-number.number s.0 in
+    c.requires.marks n (left-there p n (map pair_of c.args.extents.now.segs.items) (subst (λ (ss : List (ℕ × ℕ)). IsSome (size_of n ss)) i.segments there)) ∙ ap (λ (bs : List (Block ℕ)). is_occupied bs n) (sym i.blocks)
+
+pub give_back_unless-count-requires-clause-ascending : goal.give_back_unless-count-requires-clause-ascending
+give_back_unless-count-requires-clause-ascending g c =
+    let p = λ (s : ℕ × ℕ). stays_from (is_marked c.args.marks.now) c.loop-number.number s.0 in
+    subst (All (λ s. p s ≡ true)) (sym c.loop-number.invariant.segments) (filter_passes p (map pair_of c.args.extents.now.segs.items))
+
+pub loop-number-preserved : goal.loop-number-preserved
+loop-number-preserved g c =
+    let i = c.loop-number.invariant in
+    let old = i.count in
+    let given = c.give_back_unless-count.ensures.given in
+    let more = given.count in
+    let keeps = is_marked c.args.marks.now in
+    record {
+      segments =
+          given.segments
+          ∙ (ap (filter (λ s. is_kept keeps c.loop-number.number s.0)) i.segments
+          ∙ stays_from-more (λ (s : ℕ × ℕ). s) keeps c.loop-number.number (map pair_of c.args.extents.now.segs.items));
+      blocks = given.blocks ∙ i.blocks;
+      kept = c.give_back_unless-count.ensures.kept;
+      count = omega arith;
+      back = TookBack-more _ _ _ (map pair_of c.args.extents.now.segs.items) (map pair_of c.loop-number.extents.segs.items) (map pair_of c.give_back_unless-count.new.extents.segs.items) i.back c.give_back_unless-count.ensures.disc;
+    }
+
+-- the segments that are left have a block
+left : (g : Over) (c : After-loop-number g) → map pair_of c.loop-number.extents.segs.items ≡ filter (λ s. is_occupied (layout_by c.args.extents.now.segs.items).blocks s.0) (map pair_of c.args.extents.now.segs.items)
+left g c =
+    let e = c.args.extents.now in
+    let ss = map pair_of e.segs.items in
+    let keeps = is_marked c.args.marks.now in
+    c.loop-number.invariant.segments
+    ∙ (stays_from-last (λ (s : ℕ × ℕ). s) keeps c.loop-number.number ss (∥∥₁_elim e.kept (hlevel (le_prop)) (λ k. pairs-last e.segs.items k.segments)) c.loop-number-test.false
+    ∙ filter-agree_on (λ s. keeps s.0) (λ s. is_occupied (layout_by e.segs.items).blocks s.0) ss
+    (All-weaker (λ (s : ℕ × ℕ). IsSome (size_of s.0 ss)) (λ s. keeps s.0 ≡ is_occupied (layout_by e.segs.items).blocks s.0) (λ s there. c.requires.marks s.0 there) ss (all-there ss)))
+
+pub returns-clause-layout : goal.returns-clause-layout
+returns-clause-layout g c =
+    let old = c.args.extents.now.segs.items in
+    let ss = segments-by c.loop-number.extents.segs.items ∙ (left g (goal.at.returns-clause-layout g c).After-loop-number ∙ ap (filter (λ (s : ℕ × ℕ). is_occupied (layout_by old).blocks s.0)) (sym (segments-by old))) in
+    let bs = c.loop-number.invariant.blocks in
+    λ j. record { segments = ss j; blocks = bs j }
+
+pub returns-clause-count : goal.returns-clause-count
+returns-clause-count g c =
+    let old = c.args.extents.now.segs.items in
+    let now = ap length (left g (goal.at.returns-clause-count g c).After-loop-number ∙ ap (filter (λ (s : ℕ × ℕ). is_occupied (layout_by old).blocks s.0)) (sym (segments-by old))) in
+    let all = ap length (segments-by old) in
+    let count = c.loop-number.invariant.count in
+    omega arith
+
+pub returns-clause-kept : goal.returns-clause-kept
+returns-clause-kept g c = c.loop-number.invariant.kept

@@ -1,0 +1,38 @@
+use Rattle.std.proofs.Common.{◌≡◌, ℕ, true, false, eqb, ap, subst, sym, ◌∙◌, ⊎_elim, arith}
+use Rattle.std.proofs.Math.Bridge.{le_prop}
+use Rattle.std.proofs.Math.Logic.{∥∥₁_elim}
+use Rattle.std.proofs.Math.ListN.{length-set}
+use Rattle.std.proofs.lemmas.Bool.{cases_Bool, eqb-false, eqb-true}
+use Rattle.std.proofs.lemmas.Grind.{get_or-set_at}
+use Rattle.std.proofs.lemmas.List.{get_or-set_other}
+use Rattle.vc_model.specs.Compact.{is_occupied}
+use Rattle.vc_extent.specs.Tiling.{IsThere}
+use Rattle.vc_extent.proofs.Places.{there-first, there-last}
+use Rattle.vc_best.specs.Blocks.{layout_by}
+use Rattle.vc_best.proofs.compact.mark_occupied.Goals as goal
+
+pub loop-number-preserved : goal.loop-number-preserved
+loop-number-preserved g c =
+    let e = c.args.extents.now in
+    record {
+      long = length-set c.loop-number.marks c.loop-number.number c.has_block.result ∙ c.loop-number.invariant.long;
+      marks = λ n first lt there.
+          let m = c.loop-number.number in
+          ⊎_elim
+          (λ (t : eqb n m ≡ true).
+          let is = eqb-true n m t in
+          let within = c.loop-number.invariant.long in
+          get_or-set_at c.loop-number.marks m n c.has_block.result false is (omega arith)
+          ∙ c.has_block.ensures (subst (λ (k : ℕ). IsThere k e.segs.items) is there) ∙ ap (is_occupied (layout_by e.segs.items).blocks) (sym is))
+          (λ (t : eqb n m ≡ false).
+          let other = eqb-false n m t in
+          get_or-set_other c.loop-number.marks m n c.has_block.result false other ∙ c.loop-number.invariant.marks n first (omega arith) there)
+          (cases_Bool (eqb n m));
+    }
+
+pub returns-clause-marks : goal.returns-clause-marks
+returns-clause-marks g c = λ n there.
+    let e = c.args.extents.now in
+    let first = ∥∥₁_elim e.kept le_prop (λ k. there-first n e.segs.items k.segments.legal there) in
+    let last = ∥∥₁_elim e.kept le_prop (λ k. there-last n e.segs.items k.segments.legal there) in
+    c.loop-number.invariant.marks n first (omega arith) there

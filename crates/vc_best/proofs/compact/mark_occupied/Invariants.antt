@@ -1,0 +1,14 @@
+use Rattle.std.proofs.Common.{◌≡◌, ◌≤◌, ◌<◌, ℕ, length}
+use Rattle.vc_model.specs.Compact.{is_occupied}
+use Rattle.vc_seg.specs.Back.{is_marked}
+use Rattle.vc_extent.specs.Tiling.{IsThere}
+use Rattle.vc_best.specs.Blocks.{layout_by}
+use Rattle.vc_best.proofs.compact.mark_occupied.Given as goal
+
+-- of the numbers below this one, those are marked in whose segments a block is
+abbrev pub invariant-loop-number : goal.invariant-loop-number
+invariant-loop-number g l =
+    record {
+      long : length l.marks ≡ 1024;
+      marks : (n : ℕ) → 1 ≤ n → n < l.number → IsThere n l.extents.segs.items → is_marked l.marks n ≡ is_occupied (layout_by l.extents.segs.items).blocks n;
+    }
