@@ -6,7 +6,7 @@ ghost use Rattle.vc_extent.specs.Tiles.{IsTiled};
 use crate::read::size_in;
 use vc_seg::Segment;
 
-/// The bytes of the busy extent from a place on.
+// The bytes of the busy extent from a place on.
 #[inline(always)]
 pub(crate) fn body_in(seg: &Segment, at: u32) -> &[u8]
     requires tiled { IsTiled seg.now.bytes }
@@ -18,7 +18,7 @@ pub(crate) fn body_in(seg: &Segment, at: u32) -> &[u8]
     seg.bytes(at + 16, size)
 }
 
-/// Puts bytes into the busy extent from a place on, from an offset in it on.
+// Puts bytes into the busy extent from a place on, from an offset in it on.
 #[inline(always)]
 pub(crate) fn put_in(seg: &mut Segment, at: u32, off: u32, src: &[u8])
     requires tiled { IsTiled seg.old.bytes }
@@ -30,7 +30,7 @@ pub(crate) fn put_in(seg: &mut Segment, at: u32, off: u32, src: &[u8])
     seg.put(at + 16 + off, src);
 }
 
-/// Fills a range of the busy extent from a place on, from an offset in it on, with one byte.
+// Fills a range of the busy extent from a place on, from an offset in it on, with one byte.
 pub(crate) fn fill_in(seg: &mut Segment, at: u32, off: u32, len: u32, byte: u8)
     requires tiled { IsTiled seg.old.bytes }
     requires named { 0 < (extent_in (at + 16) (extents seg.old.bytes)).span }
@@ -41,7 +41,7 @@ pub(crate) fn fill_in(seg: &mut Segment, at: u32, off: u32, len: u32, byte: u8)
     seg.fill(at + 16 + off, len, byte);
 }
 
-/// Link k of the free extent from a place on, from 0 to 2.
+// Link k of the free extent from a place on, from 0 to 2.
 #[inline(always)]
 pub(crate) fn link_at(seg: &Segment, at: u32, k: u32) -> u32
     requires tiled { IsTiled seg.now.bytes }
@@ -53,7 +53,7 @@ pub(crate) fn link_at(seg: &Segment, at: u32, k: u32) -> u32
     seg.field(at + 16 + 4 * k)
 }
 
-/// Sets link k of the free extent from a place on, from 0 to 2.
+// Sets link k of the free extent from a place on, from 0 to 2.
 #[inline(always)]
 pub(crate) fn set_link_at(seg: &mut Segment, at: u32, k: u32, v: u32)
     requires tiled { IsTiled seg.old.bytes }

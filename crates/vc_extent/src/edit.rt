@@ -9,7 +9,7 @@ use crate::lay::{lay_busy, lay_free, lay_rest, set_boundary};
 use crate::read::{span_behind, span_in, tag_in};
 use vc_seg::{Segment, span_of};
 
-/// Splits the free extent from a place on. The first gets that many bytes.
+// Splits the free extent from a place on. The first gets that many bytes.
 pub(crate) fn split_in(seg: &mut Segment, at: u32, bytes: u32)
     requires tiled { IsTiled seg.old.bytes }
     requires named { 0 < (extent_in (at + 16) (extents seg.old.bytes)).span }
@@ -23,7 +23,7 @@ pub(crate) fn split_in(seg: &mut Segment, at: u32, bytes: u32)
     lay_free(seg, at, bytes);
 }
 
-/// Joins the free extent from a place on and the free one behind it.
+// Joins the free extent from a place on and the free one behind it.
 pub(crate) fn join_in(seg: &mut Segment, at: u32)
     requires tiled { IsTiled seg.old.bytes }
     requires named { 0 < (extent_in (at + 16) (extents seg.old.bytes)).span }
@@ -36,7 +36,7 @@ pub(crate) fn join_in(seg: &mut Segment, at: u32)
     lay_free(seg, at, both);
 }
 
-/// Makes the free extent from a place on a busy one.
+// Makes the free extent from a place on a busy one.
 pub(crate) fn mark_busy_in(seg: &mut Segment, at: u32, size: u32, tag: u32)
     requires tiled { IsTiled seg.old.bytes }
     requires named { 0 < (extent_in (at + 16) (extents seg.old.bytes)).span }
@@ -50,7 +50,7 @@ pub(crate) fn mark_busy_in(seg: &mut Segment, at: u32, size: u32, tag: u32)
     lay_busy(seg, at, bytes, size, tag);
 }
 
-/// Makes the busy extent from a place on a free one.
+// Makes the busy extent from a place on a free one.
 pub(crate) fn mark_free_in(seg: &mut Segment, at: u32)
     requires tiled { IsTiled seg.old.bytes }
     requires named { 0 < (extent_in (at + 16) (extents seg.old.bytes)).span }
@@ -60,7 +60,7 @@ pub(crate) fn mark_free_in(seg: &mut Segment, at: u32)
     lay_free(seg, at, bytes);
 }
 
-/// Gives the busy extent from a place on another size with the same span.
+// Gives the busy extent from a place on another size with the same span.
 pub(crate) fn set_size_in(seg: &mut Segment, at: u32, size: u32)
     requires tiled { IsTiled seg.old.bytes }
     requires named { 0 < (extent_in (at + 16) (extents seg.old.bytes)).span }
@@ -78,8 +78,8 @@ pub(crate) fn set_size_in(seg: &mut Segment, at: u32, size: u32)
     lay_busy(seg, at, bytes, size, tag);
 }
 
-/// Moves the border behind the busy extent from a place on into the free one behind it, and answers how many bytes that
-/// one keeps.
+// Moves the border behind the busy extent from a place on into the free one behind it, and answers how many bytes that
+// one keeps.
 pub(crate) fn stretch_in(seg: &mut Segment, at: u32, size: u32) -> u32
     requires { CanStretch seg.old.bytes at size }
     ensures stretched { IsStretched seg.old seg.new at size }
@@ -102,7 +102,7 @@ pub(crate) fn stretch_in(seg: &mut Segment, at: u32, size: u32) -> u32
     whole - bytes
 }
 
-/// Leaves what a lesser size of the busy extent from a place on doesn't want to a free one behind it.
+// Leaves what a lesser size of the busy extent from a place on doesn't want to a free one behind it.
 pub(crate) fn shrink_in(seg: &mut Segment, at: u32, size: u32)
     requires tiled { IsTiled seg.old.bytes }
     requires named { 0 < (extent_in (at + 16) (extents seg.old.bytes)).span }

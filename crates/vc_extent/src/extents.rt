@@ -16,7 +16,7 @@ use std::alloc::Global;
 use vc_base::{Addr, OutOfMemory, Steps};
 use vc_seg::{Segment, lowest_unused};
 
-/// Lessens each number of an index that is above a place by one.
+// Lessens each number of an index that is above a place by one.
 fn close_up(index: &mut Vec<u32>, place: u32)
     ensures len { length index.new.items ≡ length index.old.items }
     ensures numbers { (k : ℕ) → slice_index index.new.items k
@@ -83,7 +83,7 @@ impl Extents {
         Some(lowest_unused(&self.segs))
     }
 
-    /// The place of the segment of that number, which is there.
+    // The place of the segment of that number, which is there.
     #[inline(always)]
     pub(crate) fn place(&self, number: u32) -> usize
         requires { IsThere number self.now.segs.items }
@@ -95,7 +95,7 @@ impl Extents {
         self.index[number as usize] as usize - 1
     }
 
-    /// The place of the segment of an address that names an extent, and where its head lies there.
+    // The place of the segment of an address that names an extent, and where its head lies there.
     #[inline(always)]
     pub(crate) fn find(&self, a: Addr) -> (usize, u32)
         requires { IsNamed (tiling self.now.segs.items) a.0 }

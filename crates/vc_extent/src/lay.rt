@@ -8,7 +8,7 @@ ghost use Rattle.vc_extent.specs.Tiles.{IsTiled, Tiles};
 
 use vc_seg::Segment;
 
-/// Tells the extent from a place on, where there is one, that the one before it has that span.
+// Tells the extent from a place on, where there is one, that the one before it has that span.
 pub(crate) fn set_boundary(seg: &mut Segment, at: u32, before: u32)
     requires within { at + 16 ≤ length seg.old.bytes }
     requires most { length seg.old.bytes ≤ 33554432 }
@@ -22,7 +22,7 @@ pub(crate) fn set_boundary(seg: &mut Segment, at: u32, before: u32)
     }
 }
 
-/// Writes the span, the size and the tag of an extent from a place on.
+// Writes the span, the size and the tag of an extent from a place on.
 fn set_head(seg: &mut Segment, at: u32, span: u32, size: u32, tag: u32)
     requires within { at + 12 ≤ length seg.old.bytes }
     requires most { length seg.old.bytes ≤ 33554432 }
@@ -36,7 +36,7 @@ fn set_head(seg: &mut Segment, at: u32, span: u32, size: u32, tag: u32)
     seg.set_field(at + 8, tag);
 }
 
-/// Makes a busy extent of a span from a place on, before what tiles the segment from its end on.
+// Makes a busy extent of a span from a place on, before what tiles the segment from its end on.
 pub(crate) fn lay_busy(seg: &mut Segment, at: u32, bytes: u32, size: u32, tag: u32)
     requires within { at + bytes + 16 ≤ length seg.old.bytes }
     requires most { length seg.old.bytes ≤ 33554432 }
@@ -51,7 +51,7 @@ pub(crate) fn lay_busy(seg: &mut Segment, at: u32, bytes: u32, size: u32, tag: u
     set_head(seg, at, bytes, size, tag);
 }
 
-/// Makes a free extent of a span from a place on, before what tiles the segment from its end on. Its links are 0.
+// Makes a free extent of a span from a place on, before what tiles the segment from its end on. Its links are 0.
 pub(crate) fn lay_free(seg: &mut Segment, at: u32, bytes: u32)
     requires within { at + bytes + 16 ≤ length seg.old.bytes }
     requires most { length seg.old.bytes ≤ 33554432 }
@@ -69,8 +69,8 @@ pub(crate) fn lay_free(seg: &mut Segment, at: u32, bytes: u32)
     seg.set_field(at + 24, 0);
 }
 
-/// Makes a free extent of what is left of a whole behind its first bytes, before what tiles the segment from the end of
-/// the whole on.
+// Makes a free extent of what is left of a whole behind its first bytes, before what tiles the segment from the end of
+// the whole on.
 pub(crate) fn lay_rest(seg: &mut Segment, at: u32, whole: u32, bytes: u32)
     requires within { at + whole + 16 ≤ length seg.old.bytes }
     requires most { length seg.old.bytes ≤ 33554432 }
@@ -89,7 +89,7 @@ pub(crate) fn lay_rest(seg: &mut Segment, at: u32, whole: u32, bytes: u32)
     set_boundary(seg, at + bytes, bytes);
 }
 
-/// Makes a segment one free extent, whatever lies in it.
+// Makes a segment one free extent, whatever lies in it.
 pub(crate) fn format(seg: &mut Segment)
     ensures number { seg.new.number ≡ seg.old.number }
     ensures len { length seg.new.bytes ≡ length seg.old.bytes }

@@ -6,7 +6,7 @@ ghost use Rattle.vc_extent.specs.Tiles.{IsTiled};
 use crate::read::span_in;
 use vc_seg::Segment;
 
-/// The offset that names the extent behind the one from a place on, where there is one.
+// The offset that names the extent behind the one from a place on, where there is one.
 pub(crate) fn next_in(seg: &Segment, at: u32) -> Option<u32>
     requires tiled { IsTiled seg.now.bytes }
     requires named { 0 < (extent_in (at + 16) (extents seg.now.bytes)).span }
@@ -25,7 +25,7 @@ pub(crate) fn next_in(seg: &Segment, at: u32) -> Option<u32>
     }
 }
 
-/// The offset that names the extent before the one from a place on, where there is one.
+// The offset that names the extent before the one from a place on, where there is one.
 pub(crate) fn previous_in(seg: &Segment, at: u32) -> Option<u32>
     requires tiled { IsTiled seg.now.bytes }
     requires named { 0 < (extent_in (at + 16) (extents seg.now.bytes)).span }

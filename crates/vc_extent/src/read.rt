@@ -5,7 +5,7 @@ ghost use Rattle.vc_extent.specs.Tiles.{IsTiled};
 
 use vc_seg::Segment;
 
-/// The span of the extent from a place on.
+// The span of the extent from a place on.
 #[inline(always)]
 pub(crate) fn span_in(seg: &Segment, at: u32) -> u32
     requires tiled { IsTiled seg.now.bytes }
@@ -20,7 +20,7 @@ pub(crate) fn span_in(seg: &Segment, at: u32) -> u32
     seg.field(at)
 }
 
-/// The span of the extent behind the one from a place on, whose span is given.
+// The span of the extent behind the one from a place on, whose span is given.
 pub(crate) fn span_behind(seg: &Segment, at: u32, bytes: u32) -> u32
     requires tiled { IsTiled seg.now.bytes }
     requires named { 0 < (extent_in (at + 16) (extents seg.now.bytes)).span }
@@ -35,7 +35,7 @@ pub(crate) fn span_behind(seg: &Segment, at: u32, bytes: u32) -> u32
     seg.field(at + bytes)
 }
 
-/// The size of the extent from a place on, 0 where it is free.
+// The size of the extent from a place on, 0 where it is free.
 #[inline(always)]
 pub(crate) fn size_in(seg: &Segment, at: u32) -> u32
     requires tiled { IsTiled seg.now.bytes }
@@ -47,7 +47,7 @@ pub(crate) fn size_in(seg: &Segment, at: u32) -> u32
     seg.field(at + 4)
 }
 
-/// The tag of the extent from a place on, 0 where it is free.
+// The tag of the extent from a place on, 0 where it is free.
 #[inline(always)]
 pub(crate) fn tag_in(seg: &Segment, at: u32) -> u32
     requires tiled { IsTiled seg.now.bytes }

@@ -13,6 +13,7 @@ use Rattle.vc_model.specs.Touch.{HasBlock, find_block}
 use Rattle.vc_base.specs.declared.addr.Addr.{Addr}
 use Rattle.vc_seg.specs.declared.fault.RegionFault.{RegionFault}
 use Rattle.vc_seg.specs.Answer.{Answers, IsPut}
+use Rattle.vc_seg.specs.OneBlock.{IsBlockPut}
 use Rattle.vc_last.proofs.Lists.{get_or-last}
 use Rattle.vc_last.proofs.Latest.{AreElsewhere, at-own, find-last, none-at, without-latest}
 
@@ -77,10 +78,8 @@ module _ (r : Layout ℕ) (tag size to : ℕ) (mid : Layout ℕ) (n : IsNew r ta
 
 -- the block that was put, by the answer
 module _ (terms : Terms) (r mid : Layout ℕ) (tag size : ℕ) where
-  pub there-alloc : (result : Result Addr RegionFault) → Answers (last_alloc terms r tag size) result r mid → IfOk result (λ a. ¬ HasBlock r.blocks a.0) → IfOk result (λ a. find_block (place_of a.0) mid.blocks ≡ Some (zeros tag size (place_of a.0)))
-  there-alloc (Ok a) answer fresh = new-found r tag size a.0 mid (alloc-new terms r tag size a.0 mid answer) fresh
-  there-alloc (Err e) answer fresh = tt
-
-  pub others-alloc : (result : Result Addr RegionFault) → Answers (last_alloc terms r tag size) result r mid → IfOk result (λ a. ¬ HasBlock r.blocks a.0) → IfOk result (λ a. without_block (place_of a.0) mid.blocks ≡ r.blocks)
-  others-alloc (Ok a) answer fresh = new-others r tag size a.0 mid (alloc-new terms r tag size a.0 mid answer) fresh
-  others-alloc (Err e) answer fresh = tt
+  pub put-alloc : (result : Result Addr RegionFault) → Answers (last_alloc terms r tag size) result r mid → IfOk result (λ a. ¬ HasBlock r.blocks a.0) → IfOk result (λ a. IsBlockPut tag size a.0 r.blocks mid.blocks)
+  put-alloc (Ok a) answer fresh =
+      let new = alloc-new terms r tag size a.0 mid answer in
+      record { there = new-found r tag size a.0 mid new fresh; fresh = fresh; others = new-others r tag size a.0 mid new fresh }
+  put-alloc (Err e) answer fresh = tt

@@ -17,7 +17,8 @@ use Rattle.vc_seg.specs.Answer.{IsPut}
 use Rattle.vc_seg.specs.declared.fault.RegionFault.{RegionFault}
 use Rattle.vc_seg.specs.declared.fault.RegionFault.TheVariants as code
 use Rattle.vc_layouts.proofs.Segments.{Served-same}
-use Rattle.vc_last.specs.Call.{IsFreed, IsResize}
+use Rattle.vc_seg.specs.OneBlock.{IsBlockFreed}
+use Rattle.vc_last.specs.Call.{IsResize}
 use Rattle.vc_seg.specs.Segment.{Bytes, pair_of}
 use Rattle.vc_last.specs.Chain.{IsLast, blocks_from}
 use Rattle.vc_last.specs.Head.{before_of, block_of}
@@ -34,7 +35,7 @@ use Rattle.vc_last.proofs.Moves.{blocks-latest, latest-found, latest-is, not-lat
 pub record IsLatestFreed (o : List Bytes) (q a p : ℕ) : Type 0 where
   pub kept : IsLast o p
   pub answer : last_free (layout_by o q) (place_of a) ≡ Done (layout_by o p)
-  pub freed : IsFreed a (layout_by o q).blocks (layout_by o p).blocks
+  pub freed : IsBlockFreed a (layout_by o q).blocks (layout_by o p).blocks
 
 freed-at : (o : List Bytes) (q : ℕ) → IsLast o q → q ≢ 0 → IsLatestFreed o q q (before_of o q)
 freed-at o q h some =
@@ -54,7 +55,7 @@ freed-at o q h some =
       freed =
           record {
             one_less = omega (arith, ap length new, ap length (blocks-latest o q h some), length_push front (block_of o q));
-            gone = λ i lt at. new ∙ (sym left ∙ freed-latest r q i l (IsExact-front r (place_of q) l (row-by o q h)) lt at);
+            freed = λ i lt at. new ∙ (sym left ∙ freed-latest r q i l (IsExact-front r (place_of q) l (row-by o q h)) lt at);
             none_left = subst (λ (bs : List (Block ℕ)). ¬ HasBlock bs q) (sym new) (none-there front q (λ k d lt. head-exact o _ (heads k d lt)) (elsewhere-latest o q h some));
           };
     }
@@ -99,32 +100,28 @@ pub free-other : (o : List Bytes) (q a : ℕ) → IsLast o q → HasBlock (layou
 free-other o q a h live other = call-other (layout_by o q) (place_of a) (λ (b : Block ℕ). Done (without_block_at (layout_by o q) (place_of a))) (not-latest o q a h live other)
 
 -- a resize that is refused without asking for a segment leaves all as it was
-module _ (at : ℕ × ℕ) (size : ℕ) (may : Bool) (r : Layout ℕ) (d : Discipline) where
-  pub resize-not_last : last_resize d.terms r at size may false ≡ Refused NotLast → IsResize at size may (Err code.NotLast) r r d d
+module _ (a size : ℕ) (may : Bool) (r : Layout ℕ) (d : Discipline) where
+  pub resize-not_last : last_resize d.terms r (place_of a) size may false ≡ Refused NotLast → IsResize a size may (Err code.NotLast) r r d d
   resize-not_last e =
       record {
         answer = (e, refl);
         disc = Served-same d r.segments (last_need d.terms size);
-        no_place = λ z. absurd (cc);
-        moves = λ z. absurd (cc);
-        there = tt;
-        others = tt;
+        no_memory = λ z. absurd (cc);
+        kept = tt;
       }
 
-  pub resize-fixed : last_resize d.terms r at size may false ≡ Refused Fixed → IsResize at size may (Err code.Fixed) r r d d
+  pub resize-fixed : last_resize d.terms r (place_of a) size may false ≡ Refused Fixed → IsResize a size may (Err code.Fixed) r r d d
   resize-fixed e =
       record {
         answer = (e, refl);
         disc = Served-same d r.segments (last_need d.terms size);
-        no_place = λ z. absurd (cc);
-        moves = λ z. absurd (cc);
-        there = tt;
-        others = tt;
+        no_memory = λ z. absurd (cc);
+        kept = tt;
       }
 
 -- a resize of the latest block that may move is one of the block at its address
-pub resize-as : (a q size : ℕ) (may : Bool) (result : Result Addr RegionFault) (r new : Layout ℕ) (d e : Discipline) → a ≡ q → may ≡ true → IsResize (place_of q) size true result r new d e → IsResize (place_of a) size may result r new d e
-resize-as a q size may result r new d e own free h = subst (λ b. IsResize (place_of b) size may result r new d e) (sym own) (subst (λ m. IsResize (place_of q) size m result r new d e) (sym free) h)
+pub resize-as : (a q size : ℕ) (may : Bool) (result : Result Addr RegionFault) (r new : Layout ℕ) (d e : Discipline) → a ≡ q → may ≡ true → IsResize q size true result r new d e → IsResize a size may result r new d e
+resize-as a q size may result r new d e own free h = subst (λ b. IsResize b size may result r new d e) (sym own) (subst (λ m. IsResize q size m result r new d e) (sym free) h)
 
 -- what a resize leaves of the others
 pub sized-others : (r new : Layout ℕ) (a size : ℕ) → new ≡ resize_there r (place_of a) size → without_block (place_of a) new.blocks ≡ without_block (place_of a) r.blocks

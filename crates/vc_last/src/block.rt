@@ -1,8 +1,8 @@
-ghost use Rattle.std.specs.Prelude.{◌≡◌, ℕ, IfSome, Some, length, take, drop, option_map};
+ghost use Rattle.std.specs.Prelude.{◌≡◌, Some, length, take, drop, option_map};
 ghost use Rattle.vc_model.specs.Addr.{place_of};
-ghost use Rattle.vc_model.specs.Layout.{address_of, without_block};
-ghost use Rattle.vc_model.specs.Touch.{HasBlock, HasRange, find_block, with_bytes_at};
-ghost use Rattle.vc_model.specs.Walk.{block_at, next_block, next_segment, segment_at};
+ghost use Rattle.vc_model.specs.Touch.{HasBlock, find_block};
+ghost use Rattle.vc_model.specs.Walk.{next_segment, segment_at};
+ghost use Rattle.vc_seg.specs.OneBlock.{IsBlockAt, IsBlockWritten, IsInBlock, IsNextBlock};
 
 use crate::head::{size_at, tag_at};
 use crate::last::Last;
@@ -35,8 +35,7 @@ impl Last {
 
     /// The bytes of a range of the block at that address. The range lies in the block.
     pub fn read(&self, a: Addr, off: u32, len: u32) -> &[u8]
-        requires block { HasBlock (blocks_in self.now) a.0 }
-        requires range { HasRange (blocks_in self.now) a.0 off len }
+        requires { IsInBlock (blocks_in self.now) a.0 off len }
         ensures { option_map (λ b. take len (drop off b.bytes))
             (find_block (place_of a.0) (blocks_in self.now)) ≡ Some result.now }
     {
@@ -45,12 +44,8 @@ impl Last {
 
     /// Puts bytes into the block at that address, from an offset on. They lie in the block.
     pub fn write(&mut self, a: Addr, off: u32, src: &[u8])
-        requires block { HasBlock (blocks_in self.old) a.0 }
-        requires range { HasRange (blocks_in self.old) a.0 off (length src.now) }
-        ensures layout { layout_of self.new
-            ≡ with_bytes_at (layout_of self.old) (place_of a.0) off src.now }
-        ensures others { without_block (place_of a.0) (blocks_in self.new)
-            ≡ without_block (place_of a.0) (blocks_in self.old) }
+        requires { IsInBlock (blocks_in self.old) a.0 off (length src.now) }
+        ensures written { IsBlockWritten a.0 off src.now (layout_of self.old) (layout_of self.new) }
         ensures disc { state self.new.disc ≡ state self.old.disc }
     {
         put_in(&mut self.segs, a.seg(), a.off() + off, src);
@@ -59,10 +54,7 @@ impl Last {
     /// The block whose bytes hold the byte at an offset of a segment, and the offset in the block. None where no block
     /// does.
     pub fn block_at(&self, seg: u32, off: u32) -> Option<(Addr, u32)>
-        ensures value { option_map {U = ℕ × ℕ} (λ f. (f.0.0, f.1)) result
-            ≡ option_map {U = ℕ × ℕ} (λ f. (address_of f.0, f.1))
-            (block_at (seg, off) (blocks_in self.now)) }
-        ensures live { IfSome result (λ f. HasBlock (blocks_in self.now) f.0.0) }
+        ensures { IsBlockAt result (seg, off) (blocks_in self.now) }
     {
         block_in(&self.segs, self.latest, seg, off)
     }
@@ -84,9 +76,7 @@ impl Last {
     /// The block with the least address above one, whatever the order of allocation. A walk begins with `Addr::NONE`, and
     /// ends with None.
     pub fn next_block(&self, after: Addr) -> Option<Addr>
-        ensures value { option_map (λ a. a.0) result
-            ≡ option_map address_of (next_block after.0 (blocks_in self.now)) }
-        ensures live { IfSome result (λ a. HasBlock (blocks_in self.now) a.0) }
+        ensures { IsNextBlock result after.0 (blocks_in self.now) }
     {
         next_in(&self.segs, self.latest, after)
     }

@@ -8,7 +8,7 @@ use crate::head::before_at;
 use vc_base::Addr;
 use vc_seg::{SegDisc, Segment, give_back};
 
-/// Marks the number of each segment that a block is in, in one walk from the latest back.
+// Marks the number of each segment that a block is in, in one walk from the latest back.
 fn mark(segs: &[Segment], latest: Addr, marks: &mut [bool])
     requires kept { IsLast segs.now latest.0 }
     requires len { length marks.old ≡ 1024 }
@@ -23,7 +23,7 @@ fn mark(segs: &[Segment], latest: Addr, marks: &mut [bool])
     }
 }
 
-/// The discipline takes back each segment without a block, in ascending order of number, and they are counted.
+// The discipline takes back each segment without a block, in ascending order of number, and they are counted.
 pub(crate) fn compact_in(segs: &mut Vec<Segment>, latest: Addr, disc: &mut Box<dyn SegDisc>) -> u32
     requires kept { IsLast segs.old.items latest.0 }
     requires out { HasOut (state disc.old) (layout_by segs.old.items latest.0).segments }

@@ -3,7 +3,7 @@ ghost use Rattle.vc_model.specs.Addr.{place_of};
 ghost use Rattle.vc_model.specs.Last.{last_free};
 ghost use Rattle.vc_model.specs.Touch.{HasBlock};
 ghost use Rattle.vc_seg.specs.Answer.{Frees};
-ghost use Rattle.vc_last.specs.Call.{IsFreed};
+ghost use Rattle.vc_seg.specs.OneBlock.{IsBlockFreed};
 ghost use Rattle.vc_last.specs.Chain.{IsLast};
 ghost use Rattle.vc_last.specs.Read.{layout_by};
 
@@ -11,7 +11,7 @@ use crate::head::before_at;
 use vc_base::Addr;
 use vc_seg::{RegionFault, Segment};
 
-/// Frees the block at an address, if it is the latest. The one that its head names is then the latest.
+// Frees the block at an address, if it is the latest. The one that its head names is then the latest.
 pub(crate) fn free_in(segs: &[Segment], latest: &mut Addr, a: Addr) -> Result<(), RegionFault>
     requires kept { IsLast segs.now latest.old.0 }
     requires block { HasBlock (layout_by segs.now latest.old.0).blocks a.0 }
@@ -19,7 +19,7 @@ pub(crate) fn free_in(segs: &[Segment], latest: &mut Addr, a: Addr) -> Result<()
     ensures answer { Frees (last_free (layout_by segs.now latest.old.0) (place_of a.0)) result
         (layout_by segs.now latest.old.0) (layout_by segs.now latest.new.0) }
     ensures memory { ¬ IsErrOf result RegionFault.OutOfMemory }
-    ensures freed { OnOk result (IsFreed a.0 (layout_by segs.now latest.old.0).blocks
+    ensures freed { OnOk result (IsBlockFreed a.0 (layout_by segs.now latest.old.0).blocks
         (layout_by segs.now latest.new.0).blocks) }
 {
     if a.0 != latest.0 {

@@ -12,7 +12,7 @@ use crate::range::{bytes_in, place_of_number};
 use vc_base::Addr;
 use vc_seg::Segment;
 
-/// The number in the four bytes from a place on of the segment of that number, the lowest first. There is one.
+// The number in the four bytes from a place on of the segment of that number, the lowest first. There is one.
 #[inline(always)]
 fn field(segs: &[Segment], number: u32, at: u32) -> u32
     requires segments { AreSegments segs.now }
@@ -23,7 +23,7 @@ fn field(segs: &[Segment], number: u32, at: u32) -> u32
     u32::from_le_bytes([bytes[0], bytes[1], bytes[2], bytes[3]])
 }
 
-/// The size of the block at an address, in bytes.
+// The size of the block at an address, in bytes.
 #[inline(always)]
 pub(crate) fn size_at(segs: &[Segment], a: Addr) -> u32
     requires segments { AreSegments segs.now }
@@ -34,7 +34,7 @@ pub(crate) fn size_at(segs: &[Segment], a: Addr) -> u32
     field(segs, a.seg(), a.off() - 16)
 }
 
-/// The tag of the block at an address.
+// The tag of the block at an address.
 #[inline(always)]
 pub(crate) fn tag_at(segs: &[Segment], a: Addr) -> u32
     requires segments { AreSegments segs.now }
@@ -44,7 +44,7 @@ pub(crate) fn tag_at(segs: &[Segment], a: Addr) -> u32
     field(segs, a.seg(), a.off() - 12)
 }
 
-/// The address of the block that was allocated before the one at an address, and is live. None where there is none.
+// The address of the block that was allocated before the one at an address, and is live. None where there is none.
 #[inline(always)]
 pub(crate) fn before_at(segs: &[Segment], a: Addr) -> Addr
     requires segments { AreSegments segs.now }
@@ -54,7 +54,7 @@ pub(crate) fn before_at(segs: &[Segment], a: Addr) -> Addr
     Addr(field(segs, a.seg(), a.off() - 8))
 }
 
-/// Writes a block of zeros at an offset of a segment, with its head.
+// Writes a block of zeros at an offset of a segment, with its head.
 fn lay_in(seg: &mut Segment, off: u32, size: u32, tag: u32, before: u32)
     requires first { 16 ≤ off }
     requires within { off + size ≤ length seg.old.bytes }
@@ -73,7 +73,7 @@ fn lay_in(seg: &mut Segment, off: u32, size: u32, tag: u32, before: u32)
     seg.fill(off, size, 0);
 }
 
-/// Makes zero what a size from an offset on has behind the old one.
+// Makes zero what a size from an offset on has behind the old one.
 fn zero_behind(seg: &mut Segment, off: u32, old: u32, size: u32)
     requires most { length seg.old.bytes ≤ 33554432 }
     requires before { off + old ≤ length seg.old.bytes }
@@ -87,7 +87,7 @@ fn zero_behind(seg: &mut Segment, off: u32, old: u32, size: u32)
     }
 }
 
-/// Gives the block at an offset of a segment another size. Its first bytes of both sizes stay, and the others are zero.
+// Gives the block at an offset of a segment another size. Its first bytes of both sizes stay, and the others are zero.
 fn size_in(seg: &mut Segment, off: u32, old: u32, size: u32)
     requires most { length seg.old.bytes ≤ 33554432 }
     requires first { 16 ≤ off }
@@ -103,7 +103,7 @@ fn size_in(seg: &mut Segment, off: u32, old: u32, size: u32)
     zero_behind(seg, off, old, size);
 }
 
-/// Writes a block of zeros at an offset of the segment of that number, behind a head that names the block before it.
+// Writes a block of zeros at an offset of the segment of that number, behind a head that names the block before it.
 pub(crate) fn lay(segs: &mut [Segment], number: u32, off: u32, size: u32, tag: u32, before: Addr)
     requires segments { AreSegments segs.old }
     requires first { 16 ≤ off }
@@ -115,7 +115,7 @@ pub(crate) fn lay(segs: &mut [Segment], number: u32, off: u32, size: u32, tag: u
     lay_in(&mut segs[place], off, size, tag, before.0);
 }
 
-/// Gives the block at an address another size where it is. Its first bytes of both sizes stay, and the others are zero.
+// Gives the block at an address another size where it is. Its first bytes of both sizes stay, and the others are zero.
 pub(crate) fn set_size(segs: &mut [Segment], a: Addr, size: u32)
     requires segments { AreSegments segs.old }
     requires head { HasHead segs.old (block_of segs.old a.0) }
@@ -130,7 +130,7 @@ pub(crate) fn set_size(segs: &mut [Segment], a: Addr, size: u32)
     size_in(&mut segs[place], a.off(), old, size);
 }
 
-/// Makes the head of the block at an address name another one as allocated before it.
+// Makes the head of the block at an address name another one as allocated before it.
 pub(crate) fn set_before(segs: &mut [Segment], a: Addr, before: Addr)
     requires segments { AreSegments segs.old }
     requires head { HasHead segs.old (block_of segs.old a.0) }

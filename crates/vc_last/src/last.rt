@@ -1,16 +1,15 @@
-ghost use Rattle.std.specs.Prelude.{◌≡◌, ℕ, ◌+◌, ◌<◌, ◌≤◌, [], IfErr, IfOk, IfSome, IsErrOf, IsTrue, OnOk, Some, false, length, option_map, vec_capacity};
-ghost use Rattle.std.specs.List.{HoldsAt, remove};
+ghost use Rattle.std.specs.Prelude.{◌≡◌, ◌≤◌, [], IfErr, IfOk, IsErrOf, OnOk, length, vec_capacity};
 ghost use Rattle.vc_model.specs.Addr.{place_of};
-ghost use Rattle.vc_model.specs.Best.{zeros};
 ghost use Rattle.vc_model.specs.Compact.{cleared_layout, compact_count, compacted_layout};
 ghost use Rattle.vc_model.specs.Discipline.{HasOut, TookBack};
-ghost use Rattle.vc_model.specs.Last.{can_end, last_alloc, last_free, last_need, last_resize, latest};
-ghost use Rattle.vc_model.specs.Layout.{address_of, empty_layout, without_block};
+ghost use Rattle.vc_model.specs.Last.{last_alloc, last_free, last_need, last_resize};
+ghost use Rattle.vc_model.specs.Layout.{empty_layout};
 ghost use Rattle.vc_model.specs.Sound.{IsSound};
-ghost use Rattle.vc_model.specs.Touch.{HasBlock, find_block};
+ghost use Rattle.vc_model.specs.Touch.{HasBlock};
 ghost use Rattle.vc_last.specs.Chain.{IsLast};
 ghost use Rattle.vc_last.specs.Read.{layout_by};
 ghost use Rattle.vc_seg.specs.Answer.{Answers, Asks, Frees};
+ghost use Rattle.vc_seg.specs.OneBlock.{IsBlockFreed, IsBlockKept, IsBlockPut, IsSize};
 ghost use Rattle.vc_seg.specs.Stat.{layout_stat};
 
 use crate::compact::compact_in;
@@ -46,7 +45,7 @@ pub struct Last {
 }
 
 impl Last {
-    ghost use Rattle.vc_last.specs.Ask.{LacksPlace};
+    ghost use Rattle.vc_last.specs.Ask.{LacksPlace, MovesToNew};
     ghost use Rattle.vc_last.specs.Parts.{blocks_in, layout_of, segments_in};
 
     /// A region with no segment. It takes the memory of 1,023 slots, and no segment before the first block.
@@ -74,9 +73,8 @@ impl Last {
     /// where the region can't be granted one more, `NoSegment` where the discipline refuses, and `OutOfMemory` only where
     /// one is asked for.
     pub fn alloc(&mut self, size: u32, tag: u32) -> Result<Addr, RegionFault>
-        requires some { 1 ≤ size }
-        requires most { size ≤ 16777216 }
         requires lent { HasOut (state self.old.disc) (segments_in self.old) }
+        requires size { IsSize size }
 
         ensures answer { Answers
             (last_alloc (state self.old.disc).terms (layout_of self.old) tag size)
@@ -86,13 +84,8 @@ impl Last {
             (last_need (state self.old.disc).terms size) }
         ensures no_memory { IsErrOf result RegionFault.OutOfMemory
             → LacksPlace (state self.old.disc).terms (layout_of self.old) size }
-
-        // The block stands there, at an address of its own, and the others stay.
-        ensures there { IfOk result (λ a. find_block (place_of a.0) (blocks_in self.new)
-            ≡ Some (zeros tag size (place_of a.0))) }
-        ensures fresh { IfOk result (λ a. ¬ HasBlock (blocks_in self.old) a.0) }
-        ensures others { IfOk result (λ a. without_block (place_of a.0) (blocks_in self.new)
-            ≡ blocks_in self.old) }
+        ensures put { IfOk result
+            (λ a. IsBlockPut tag size a.0 (blocks_in self.old) (blocks_in self.new)) }
     {
         alloc_in(
             &mut self.segs,
@@ -110,9 +103,8 @@ impl Last {
     /// where it can't stay and may not move; the other faults are those of `alloc`, and come only where it moves.
     pub fn resize(&mut self, a: Addr, size: u32, may_move: bool) -> Result<Addr, RegionFault>
         requires block { HasBlock (blocks_in self.old) a.0 }
-        requires some { 1 ≤ size }
-        requires most { size ≤ 16777216 }
         requires lent { HasOut (state self.old.disc) (segments_in self.old) }
+        requires size { IsSize size }
 
         ensures answer { Answers
             (last_resize (state self.old.disc).terms (layout_of self.old)
@@ -122,19 +114,10 @@ impl Last {
             (segments_in self.old) (segments_in self.new)
             (last_need (state self.old.disc).terms size) }
         ensures no_memory { IsErrOf result RegionFault.OutOfMemory
-            → IfSome (find_block (place_of a.0) (blocks_in self.old))
-            (λ b. (latest (layout_of self.old) ≡ Some b)
-            × (can_end (layout_of self.old) size b ≡ false))
-            × IsTrue may_move }
-        ensures no_place { IsErrOf result RegionFault.OutOfMemory
-            → LacksPlace (state self.old.disc).terms (layout_of self.old) size }
-
-        // The block keeps its tag, and the others stay.
-        ensures there { IfOk result (λ to.
-            option_map (λ b. b.label) (find_block (place_of to.0) (blocks_in self.new))
-            ≡ option_map (λ b. b.label) (find_block (place_of a.0) (blocks_in self.old))) }
-        ensures others { IfOk result (λ to. without_block (place_of to.0) (blocks_in self.new)
-            ≡ without_block (place_of a.0) (blocks_in self.old)) }
+            → MovesToNew (state self.old.disc).terms (layout_of self.old)
+            (place_of a.0) size may_move }
+        ensures kept { IfOk result
+            (λ to. IsBlockKept a.0 to.0 (blocks_in self.old) (blocks_in self.new)) }
     {
         resize_in(
             &mut self.segs,
@@ -155,14 +138,8 @@ impl Last {
             (layout_of self.old) (layout_of self.new) }
         ensures disc { state self.new.disc ≡ state self.old.disc }
         ensures memory { ¬ IsErrOf result RegionFault.OutOfMemory }
-
-        // It is the one block at that address that goes.
-        ensures one_less { OnOk result (length (blocks_in self.new) + 1
-            ≡ length (blocks_in self.old)) }
-        ensures freed { OnOk result ((i : ℕ) → i < length (blocks_in self.old)
-            → HoldsAt (λ b. address_of b ≡ a.0) (blocks_in self.old) i
-            → blocks_in self.new ≡ remove (blocks_in self.old) i) }
-        ensures none_left { OnOk result (¬ HasBlock (blocks_in self.new) a.0) }
+        ensures freed { OnOk result
+            (IsBlockFreed a.0 (blocks_in self.old) (blocks_in self.new)) }
     {
         free_in(&self.segs, &mut self.latest, a)
     }

@@ -13,8 +13,8 @@ use crate::range::place_of_number;
 use vc_base::Addr;
 use vc_seg::{Segment, span_of};
 
-/// Where the next block begins in the newest segment, which has that number: behind the latest block where that is
-/// there, since no other one ends behind it, and else at offset 32, since no block is there.
+// Where the next block begins in the newest segment, which has that number: behind the latest block where that is
+// there, since no other one ends behind it, and else at offset 32, since no block is there.
 fn next_offset(segs: &[Segment], latest: Addr, number: u32) -> u32
     requires kept { IsLast segs.now latest.0 }
     requires newest { IsNewest (layout_by segs.now latest.0) number }
@@ -30,7 +30,7 @@ fn next_offset(segs: &[Segment], latest: Addr, number: u32) -> u32
     latest.off() + span_of(size_at(segs, latest))
 }
 
-/// The place for a block behind those of the newest segment, as segment and offset.
+// The place for a block behind those of the newest segment, as segment and offset.
 pub(crate) fn place(segs: &[Segment], latest: Addr, size: u32) -> Option<(u32, u32)>
     requires kept { IsLast segs.now latest.0 }
     requires most { size ≤ 16777216 }
@@ -46,7 +46,7 @@ pub(crate) fn place(segs: &[Segment], latest: Addr, size: u32) -> Option<(u32, u
     }
 }
 
-/// Whether the block at an address can have a size where it is, if it is the latest.
+// Whether the block at an address can have a size where it is, if it is the latest.
 pub(crate) fn can_end(segs: &[Segment], a: Addr, size: u32) -> bool
     requires segments { AreSegments segs.now }
     requires head { HasHead segs.now (block_of segs.now a.0) }

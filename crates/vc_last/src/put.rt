@@ -5,6 +5,7 @@ ghost use Rattle.vc_model.specs.Discipline.{HasOut, IsSegmentSize};
 ghost use Rattle.vc_model.specs.Segments.{TooMany, ask};
 ghost use Rattle.vc_model.specs.Touch.{HasBlock};
 ghost use Rattle.vc_seg.specs.Lend.{IsAsked, IsNoGrant};
+ghost use Rattle.vc_seg.specs.OneBlock.{IsSize};
 ghost use Rattle.vc_seg.specs.Segment.{AreSegments, pair_of};
 ghost use Rattle.vc_last.specs.Call.{IsAlloc, IsLent};
 ghost use Rattle.vc_last.specs.Chain.{IsLast};
@@ -74,8 +75,7 @@ fn put_in_new(
 ) -> Result<Addr, RegionFault>
     requires kept { IsLast segs.old.items latest.old.0 }
     requires room { 1023 ≤ vec_capacity segs.old }
-    requires some { 1 ≤ size }
-    requires most { size ≤ 16777216 }
+    requires size { IsSize size }
     requires lent { HasOut (state disc.old) (layout_by segs.old.items latest.old.0).segments }
     requires none { last_place (layout_by segs.old.items latest.old.0) size ≡ None }
     ensures kept { IsLast segs.new.items latest.new.0 }
@@ -106,8 +106,7 @@ pub(crate) fn alloc_in(
 ) -> Result<Addr, RegionFault>
     requires kept { IsLast segs.old.items latest.old.0 }
     requires room { 1023 ≤ vec_capacity segs.old }
-    requires some { 1 ≤ size }
-    requires most { size ≤ 16777216 }
+    requires size { IsSize size }
     requires lent { HasOut (state disc.old) (layout_by segs.old.items latest.old.0).segments }
     ensures kept { IsLast segs.new.items latest.new.0 }
     ensures room { vec_capacity segs.new ≡ vec_capacity segs.old }

@@ -22,7 +22,7 @@ pub(crate) fn place_of_number(segs: &[Segment], number: u32) -> usize
     }
 }
 
-/// The bytes of a range of the segment of that number. There is one.
+// The bytes of a range of the segment of that number. There is one.
 #[inline(always)]
 pub(crate) fn bytes_in(segs: &[Segment], number: u32, at: u32, len: u32) -> &[u8]
     requires segments { AreSegments segs.now }
@@ -34,7 +34,7 @@ pub(crate) fn bytes_in(segs: &[Segment], number: u32, at: u32, len: u32) -> &[u8
     segs[place].bytes(at, len)
 }
 
-/// Puts bytes into the segment of that number, from an offset on. There is one.
+// Puts bytes into the segment of that number, from an offset on. There is one.
 #[inline(always)]
 pub(crate) fn put_in(segs: &mut [Segment], number: u32, at: u32, src: &[u8])
     requires segments { AreSegments segs.old }
@@ -48,7 +48,7 @@ pub(crate) fn put_in(segs: &mut [Segment], number: u32, at: u32, src: &[u8])
     segs[place].put(at, src);
 }
 
-/// Copies a range of the segment of one number into that of another, which may be the same. Both are there.
+// Copies a range of the segment of one number into that of another, which may be the same. Both are there.
 pub(crate) fn copy_in(segs: &mut [Segment], number: u32, from: u32, target: u32, to: u32, len: u32)
     requires segments { AreSegments segs.old }
     requires source { 0 < length (bytes_of_number number segs.old) }

@@ -6,6 +6,7 @@ ghost use Rattle.vc_model.specs.Last.{can_end, latest};
 ghost use Rattle.vc_model.specs.Layout.{footprint, without_block};
 ghost use Rattle.vc_model.specs.Resize.{is_usable, resize_there, sized_block};
 ghost use Rattle.vc_model.specs.Touch.{HasBlock, with_bytes_at};
+ghost use Rattle.vc_seg.specs.OneBlock.{IsSize};
 ghost use Rattle.vc_seg.specs.Segment.{pair_of};
 ghost use Rattle.vc_last.specs.Call.{IsResize};
 ghost use Rattle.vc_last.specs.Chain.{IsLast};
@@ -20,7 +21,7 @@ use std::alloc::Global;
 use vc_base::Addr;
 use vc_seg::{RegionFault, SegDisc, Segment};
 
-/// Gives the latest block another size where it is.
+// Gives the latest block another size where it is.
 fn resize_there(segs: &mut Vec<Segment>, a: Addr, size: u32)
     requires kept { IsLast segs.old.items a.0 }
     requires block { a.0 ≢ 0 }
@@ -34,7 +35,7 @@ fn resize_there(segs: &mut Vec<Segment>, a: Addr, size: u32)
     set_size(segs, a, size);
 }
 
-/// Copies the bytes of a block, up to a number of them, into the front of the latest one, which has room for them.
+// Copies the bytes of a block, up to a number of them, into the front of the latest one, which has room for them.
 fn copy_front(segs: &mut Vec<Segment>, a: Addr, to: Addr, size: u32)
     requires kept { IsLast segs.old.items to.0 }
     requires block { HasBlock (layout_by segs.old.items to.0).blocks a.0 }
@@ -50,7 +51,7 @@ fn copy_front(segs: &mut Vec<Segment>, a: Addr, to: Addr, size: u32)
     copy_in(segs, a.seg(), a.off(), to.seg(), to.off(), kept);
 }
 
-/// Frees the block that was allocated before the latest one.
+// Frees the block that was allocated before the latest one.
 fn unlink(segs: &mut Vec<Segment>, a: Addr, to: Addr)
     requires kept { IsLast segs.old.items to.0 }
     requires to { to.0 ≢ 0 }
@@ -65,7 +66,7 @@ fn unlink(segs: &mut Vec<Segment>, a: Addr, to: Addr)
     set_before(segs, to, before);
 }
 
-/// Moves the latest block, which gets another size by that and is the latest still.
+// Moves the latest block, which gets another size by that and is the latest still.
 fn move_latest(
     segs: &mut Vec<Segment>,
     latest: &mut Addr,
@@ -76,14 +77,13 @@ fn move_latest(
     requires kept { IsLast segs.old.items latest.old.0 }
     requires room { 1023 ≤ vec_capacity segs.old }
     requires block { latest.old.0 ≢ 0 }
-    requires some { 1 ≤ size }
-    requires most { size ≤ 16777216 }
+    requires size { IsSize size }
     requires lent { HasOut (state disc.old) (layout_by segs.old.items latest.old.0).segments }
     requires ends { has_room segs.old.items latest.old.0 size ≡ false }
 
     ensures kept { IsLast segs.new.items latest.new.0 }
     ensures room { vec_capacity segs.new ≡ vec_capacity segs.old }
-    ensures resize { IsResize (place_of latest.old.0) size true result
+    ensures resize { IsResize latest.old.0 size true result
         (layout_by segs.old.items latest.old.0) (layout_by segs.new.items latest.new.0)
         (state disc.old) (state disc.new) }
 {
@@ -99,7 +99,7 @@ fn move_latest(
     }
 }
 
-/// Gives the block at an address another size, if it is the latest, and answers its address.
+// Gives the block at an address another size, if it is the latest, and answers its address.
 pub(crate) fn resize_in(
     segs: &mut Vec<Segment>,
     at: &mut Addr,
@@ -112,13 +112,12 @@ pub(crate) fn resize_in(
     requires kept { IsLast segs.old.items at.old.0 }
     requires room { 1023 ≤ vec_capacity segs.old }
     requires block { HasBlock (layout_by segs.old.items at.old.0).blocks a.0 }
-    requires some { 1 ≤ size }
-    requires most { size ≤ 16777216 }
+    requires size { IsSize size }
     requires lent { HasOut (state disc.old) (layout_by segs.old.items at.old.0).segments }
 
     ensures kept { IsLast segs.new.items at.new.0 }
     ensures room { vec_capacity segs.new ≡ vec_capacity segs.old }
-    ensures resize { IsResize (place_of a.0) size may_move result
+    ensures resize { IsResize a.0 size may_move result
         (layout_by segs.old.items at.old.0) (layout_by segs.new.items at.new.0)
         (state disc.old) (state disc.new) }
 {

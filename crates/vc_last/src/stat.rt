@@ -14,7 +14,7 @@ use vc_base::Addr;
 use vc_layouts::{Tally, tally_segments};
 use vc_seg::{Segment, Stat, span_of};
 
-/// The sizes of the blocks from the latest back.
+// The sizes of the blocks from the latest back.
 fn tally_blocks(segs: &[Segment], latest: Addr) -> Tally
     requires kept { IsLast segs.now latest.0 }
     requires room { HasRoom (tally_of []) (map (λ b. b.size) (blocks_from segs.now latest.0)) }
@@ -29,7 +29,7 @@ fn tally_blocks(segs: &[Segment], latest: Addr) -> Tally
     tally
 }
 
-/// The tally so far with the run from one offset to another, where it has a byte.
+// The tally so far with the run from one offset to another, where it has a byte.
 fn with_run(tally: Tally, from: u32, to: u32) -> Tally
     requires { HasRoom tally (run_sizes from to) }
     ensures { result ≡ tallied_all tally (run_sizes from to) }
@@ -41,8 +41,8 @@ fn with_run(tally: Tally, from: u32, to: u32) -> Tally
     }
 }
 
-/// The tally so far with the gap that a block leaves below an offset of the segment of that number, where it is there, and
-/// where the gap before the block ends.
+// The tally so far with the gap that a block leaves below an offset of the segment of that number, where it is there, and
+// where the gap before the block ends.
 fn with_gap(tally: Tally, segs: &[Segment], a: Addr, number: u32, to: u32) -> (Tally, u32)
     requires segments { AreSegments segs.now }
     requires head { HasHead segs.now (block_of segs.now a.0) }
@@ -57,8 +57,8 @@ fn with_gap(tally: Tally, segs: &[Segment], a: Addr, number: u32, to: u32) -> (T
     (with_run(tally, from + span_of(size_at(segs, a)), to), from)
 }
 
-/// The tally so far with the gaps that the blocks leave in the segment of that number and that many bytes, from its end
-/// back.
+// The tally so far with the gaps that the blocks leave in the segment of that number and that many bytes, from its end
+// back.
 fn tally_gaps_in(tally: Tally, segs: &[Segment], latest: Addr, number: u32, bytes: u32) -> Tally
     requires kept { IsLast segs.now latest.0 }
     requires least { 64 ≤ bytes }
@@ -80,7 +80,7 @@ fn tally_gaps_in(tally: Tally, segs: &[Segment], latest: Addr, number: u32, byte
     with_run(tally, 16, to)
 }
 
-/// The gaps that the blocks leave in the segments.
+// The gaps that the blocks leave in the segments.
 fn tally_gaps(segs: &[Segment], latest: Addr) -> Tally
     requires kept { IsLast segs.now latest.0 }
     requires room { HasRoom (tally_of []) (map bytes_of
@@ -95,7 +95,7 @@ fn tally_gaps(segs: &[Segment], latest: Addr) -> Tally
     tally
 }
 
-/// The numbers of blocks, gaps and segments, and their sizes in bytes.
+// The numbers of blocks, gaps and segments, and their sizes in bytes.
 pub(crate) fn stat_of(segs: &[Segment], latest: Addr) -> Stat
     requires { IsLast segs.now latest.0 }
     ensures { result ≡ layout_stat (layout_by segs.now latest.0) }

@@ -12,7 +12,7 @@ use crate::head::{before_at, size_at};
 use vc_base::Addr;
 use vc_seg::Segment;
 
-/// The lesser of the least address so far and one more, where that is above one.
+// The lesser of the least address so far and one more, where that is above one.
 fn consider(least: Option<u32>, after: u32, address: u32) -> Option<u32>
     ensures { result ≡ fold (lesser_by (λ a. a)) least
         (filter (λ a. nat_lt after a) (address ∷ [])) }
@@ -32,7 +32,7 @@ fn consider(least: Option<u32>, after: u32, address: u32) -> Option<u32>
     }
 }
 
-/// The address of the block with the least address above one, of those from the latest back. None where there is none.
+// The address of the block with the least address above one, of those from the latest back. None where there is none.
 pub(crate) fn next_in(segs: &[Segment], latest: Addr, after: Addr) -> Option<Addr>
     requires kept { IsLast segs.now latest.0 }
     ensures value { option_map (λ a. a.0) result
@@ -49,7 +49,7 @@ pub(crate) fn next_in(segs: &[Segment], latest: Addr, after: Addr) -> Option<Add
     Some(Addr(address))
 }
 
-/// Whether the bytes of the block at an address hold the byte at an offset of a segment.
+// Whether the bytes of the block at an address hold the byte at an offset of a segment.
 fn holds(segs: &[Segment], a: Addr, seg: u32, off: u32) -> bool
     requires segments { AreSegments segs.now }
     requires head { HasHead segs.now (block_of segs.now a.0) }
@@ -59,8 +59,8 @@ fn holds(segs: &[Segment], a: Addr, seg: u32, off: u32) -> bool
     a.seg() == seg && from <= off && off < from + size_at(segs, a)
 }
 
-/// The block whose bytes hold the byte at an offset of a segment, of those from the latest back, and the offset in the
-/// block. None where no block does.
+// The block whose bytes hold the byte at an offset of a segment, of those from the latest back, and the offset in the
+// block. None where no block does.
 pub(crate) fn block_in(segs: &[Segment], latest: Addr, seg: u32, off: u32) -> Option<(Addr, u32)>
     requires kept { IsLast segs.now latest.0 }
     ensures value { option_map {U = ℕ × ℕ} (λ f. (f.0.0, f.1)) result

@@ -30,8 +30,8 @@ room g c =
 
 pub add_segment-requires-clause-bytes : goal.add_segment-requires-clause-bytes
 add_segment-requires-clause-bytes g c =
-    let some = c.requires.some in
-    let most = c.requires.most in
+    let some = c.requires.size.some in
+    let most = c.requires.size.most in
     rw (c.rounded_up-bytes.ensures, c.span_of.ensures) (IsSegmentSize-asked c.round_of.result (span c.args.size + 32) c.round_of.ensures.legal (omega (arith, some)) (omega (arith, most)))
 
 segments : (g : Over) (c : After-rounded_up-bytes g) → (layout_by c.args.segs.now.items c.args.latest.now.0).segments ≡ map pair_of c.args.segs.now.items

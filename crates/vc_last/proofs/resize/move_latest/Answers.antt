@@ -90,10 +90,8 @@ returns-in-Ok-clause-resize g c =
     record {
       answer = resize-moves _ o m n q c.in-Ok.to.0 c.tag_at-tag.result c.args.size l.at can l.label c.in-Ok.ensures.alloc.answer (moved-is o m n q c.in-Ok.to.0 c.tag_at-tag.result c.args.size l.at put c.in-Ok.ensures.alloc.fresh moved);
       disc = served-as _ _ o.segments m.segments n.segments _ (same g at.After-unlink) c.in-Ok.ensures.alloc.disc;
-      no_place = λ e. absurd (cc);
-      moves = λ e. absurd (cc);
-      there = moved-there o m n q c.in-Ok.to.0 c.tag_at-tag.result c.args.size l.at put c.in-Ok.ensures.alloc.fresh moved l.label;
-      others = moved-others o m n q c.in-Ok.to.0 c.tag_at-tag.result c.args.size l.at put c.in-Ok.ensures.alloc.fresh moved;
+      no_memory = λ e. absurd (cc);
+      kept = record { label = moved-there o m n q c.in-Ok.to.0 c.tag_at-tag.result c.args.size l.at put c.in-Ok.ensures.alloc.fresh moved l.label; others = moved-others o m n q c.in-Ok.to.0 c.tag_at-tag.result c.args.size l.at put c.in-Ok.ensures.alloc.fresh moved };
     }
 
 pub returns-in-Err-clause-resize : goal.returns-in-Err-clause-resize
@@ -105,8 +103,10 @@ returns-in-Err-clause-resize g c =
     record {
       answer = (refused-move _ o q c.tag_at-tag.result c.args.size l.at can l.own c.in-Err.fault c.in-Err.ensures.alloc.answer.0, c.in-Err.ensures.alloc.answer.1);
       disc = c.in-Err.ensures.alloc.disc;
-      no_place = c.in-Err.ensures.alloc.no_memory;
-      moves = λ _. (ends-there c.args.segs.now.items q q c.requires.kept (latest-among c.args.segs.now.items q c.requires.kept c.requires.block) refl c.args.size c.requires.ends, refl);
-      there = tt;
-      others = tt;
+      no_memory = λ e. record {
+        must = ends-there c.args.segs.now.items q q c.requires.kept (latest-among c.args.segs.now.items q c.requires.kept c.requires.block) refl c.args.size c.requires.ends;
+        moves = refl;
+        lacks = c.in-Err.ensures.alloc.no_memory e;
+      };
+      kept = tt;
     }

@@ -14,7 +14,7 @@ use Rattle.vc_last.proofs.resize.resize_in.Given.{Over}
 
 pub returns-then-a-at-clause-resize : goal.returns-then-a-at-clause-resize
 returns-then-a-at-clause-resize g c =
-    resize-not_last (place_of c.args.a.0) c.args.size c.args.may_move (layout_by c.args.segs.now.items c.args.at.now.0) _
+    resize-not_last c.args.a.0 c.args.size c.args.may_move (layout_by c.args.segs.now.items c.args.at.now.0) _
     (resize-other c.args.segs.now.items c.args.at.now.0 c.args.a.0 _ c.args.size c.args.may_move c.requires.kept c.requires.block c.if-a-at.true)
 
 pub can_end-requires-clause-head : goal.can_end-requires-clause-head
@@ -39,16 +39,14 @@ returns-then-can_end-clause-resize g c =
     record {
       answer = stays-put c.args.segs.now.items c.args.at.now.0 c.args.a.0 c.requires.kept c.requires.block c.if-a-at.false _ c.args.size c.args.may_move new (ends g at.After-can_end ∙ c.if-can_end.true) is;
       disc = unasked _ old.segments new.segments _ (ap (λ (r : Layout ℕ). r.segments) is);
-      no_place = λ e. absurd (cc);
-      moves = λ e. absurd (cc);
-      there = sized-there old new c.args.a.0 c.args.size is;
-      others = sized-others old new c.args.a.0 c.args.size is;
+      no_memory = λ e. absurd (cc);
+      kept = record { label = sized-there old new c.args.a.0 c.args.size is; others = sized-others old new c.args.a.0 c.args.size is };
     }
 
 pub returns-then-not-may_move-clause-resize : goal.returns-then-not-may_move-clause-resize
 returns-then-not-may_move-clause-resize g c =
     let at = goal.at.returns-then-not-may_move-clause-resize g c in
-    resize-fixed (place_of c.args.a.0) c.args.size c.args.may_move (layout_by c.args.segs.now.items c.args.at.now.0) _
+    resize-fixed c.args.a.0 c.args.size c.args.may_move (layout_by c.args.segs.now.items c.args.at.now.0) _
     (stays-fixed c.args.segs.now.items c.args.at.now.0 c.args.a.0 c.requires.kept c.requires.block c.if-a-at.false _ c.args.size c.args.may_move c.if-not-may_move.true (ends g at.After-can_end ∙ c.if-can_end.false))
 
 pub move_latest-requires-clause-block : goal.move_latest-requires-clause-block

@@ -4,7 +4,7 @@ use Rattle.vc_last.specs.Chain.{IsLast}
 use Rattle.vc_last.specs.Read.{layout_by}
 use Rattle.vc_last.proofs.Types.{have, have-sound}
 use Rattle.vc_last.proofs.last.Last.alloc.Goals as goal
-use Rattle.vc_last.proofs.Allocs.{others-alloc, there-alloc}
+use Rattle.vc_last.proofs.Allocs.{put-alloc}
 
 pub alloc_in-requires-clause-kept : goal.alloc_in-requires-clause-kept
 alloc_in-requires-clause-kept g c = (have c.args.self.now.segs.items c.args.self.now.latest.0 c.args.self.now.kept)
@@ -14,11 +14,8 @@ invariant_of-self g c =
     let kept = ∥∥₁_map c.args.self.now.kept (λ (k : IsLast c.args.self.now.segs.items c.args.self.now.latest.0). c.alloc_in.ensures.kept) in
     record { kept = kept; reserved = omega (arith, c.alloc_in.ensures.room, c.args.self.now.reserved); sound = have-sound c.alloc_in.new.segs.items c.alloc_in.new.latest.0 kept }
 
-pub returns-clause-there : goal.returns-clause-there
-returns-clause-there g c = there-alloc _ (layout_by c.args.self.now.segs.items c.args.self.now.latest.0) (layout_by c.alloc_in.new.segs.items c.alloc_in.new.latest.0) c.args.tag c.args.size c.alloc_in.result c.alloc_in.ensures.alloc.answer c.alloc_in.ensures.alloc.fresh
-
-pub returns-clause-others : goal.returns-clause-others
-returns-clause-others g c = others-alloc _ (layout_by c.args.self.now.segs.items c.args.self.now.latest.0) (layout_by c.alloc_in.new.segs.items c.alloc_in.new.latest.0) c.args.tag c.args.size c.alloc_in.result c.alloc_in.ensures.alloc.answer c.alloc_in.ensures.alloc.fresh
+pub returns-clause-put : goal.returns-clause-put
+returns-clause-put g c = put-alloc _ (layout_by c.args.self.now.segs.items c.args.self.now.latest.0) (layout_by c.alloc_in.new.segs.items c.alloc_in.new.latest.0) c.args.tag c.args.size c.alloc_in.result c.alloc_in.ensures.alloc.answer c.alloc_in.ensures.alloc.fresh
 
 pub returns-clause-answer : goal.returns-clause-answer
 returns-clause-answer g c = c.alloc_in.ensures.alloc.answer
@@ -28,6 +25,3 @@ returns-clause-disc g c = c.alloc_in.ensures.alloc.disc
 
 pub returns-clause-no_memory : goal.returns-clause-no_memory
 returns-clause-no_memory g c = c.alloc_in.ensures.alloc.no_memory
-
-pub returns-clause-fresh : goal.returns-clause-fresh
-returns-clause-fresh g c = c.alloc_in.ensures.alloc.fresh

@@ -1,6 +1,4 @@
 use Rattle.std.proofs.Common.{List, subst}
-use Rattle.std.specs.Prelude.{Err, Ok, OnOk, Result}
-use Rattle.vc_seg.specs.declared.fault.RegionFault.{RegionFault}
 use Rattle.std.proofs.Math.Logic.{∥∥₁_map}
 use Rattle.vc_seg.specs.Segment.{Bytes}
 use Rattle.vc_last.specs.Chain.{IsLast}
@@ -14,17 +12,3 @@ pub invariant_of-self : goal.invariant_of-self
 invariant_of-self g c =
     let kept = ∥∥₁_map c.args.self.now.kept (λ (k : IsLast c.args.self.now.segs.items c.args.self.now.latest.0). subst (λ (xs : List Bytes). IsLast xs c.free_in.new.latest.0) c.deref.ensures.value c.free_in.ensures.kept) in
     record { kept = kept; reserved = c.args.self.now.reserved; sound = have-sound c.args.self.now.segs.items c.free_in.new.latest.0 kept }
-
--- what is known where it is freed
-part : {P Q : Type 0} (x : Result Unit RegionFault) → (P → Q) → OnOk x P → OnOk x Q
-part (Ok u) f p = f p
-part (Err e) f p = tt
-
-pub returns-clause-one_less : goal.returns-clause-one_less
-returns-clause-one_less g c = part c.free_in.result (λ f. f.one_less) (rw c.deref.ensures.value at c.free_in.ensures.freed)
-
-pub returns-clause-freed : goal.returns-clause-freed
-returns-clause-freed g c = part c.free_in.result (λ f. f.gone) (rw c.deref.ensures.value at c.free_in.ensures.freed)
-
-pub returns-clause-none_left : goal.returns-clause-none_left
-returns-clause-none_left g c = part c.free_in.result (λ f. f.none_left) (rw c.deref.ensures.value at c.free_in.ensures.freed)

@@ -19,13 +19,7 @@ pub returns-clause-disc : goal.returns-clause-disc
 returns-clause-disc g c = c.resize_in.ensures.resize.disc
 
 pub returns-clause-no_memory : goal.returns-clause-no_memory
-returns-clause-no_memory g c = c.resize_in.ensures.resize.moves
+returns-clause-no_memory g c = c.resize_in.ensures.resize.no_memory
 
-pub returns-clause-no_place : goal.returns-clause-no_place
-returns-clause-no_place g c = c.resize_in.ensures.resize.no_place
-
-pub returns-clause-there : goal.returns-clause-there
-returns-clause-there g c = c.resize_in.ensures.resize.there
-
-pub returns-clause-others : goal.returns-clause-others
-returns-clause-others g c = c.resize_in.ensures.resize.others
+pub returns-clause-kept : goal.returns-clause-kept
+returns-clause-kept g c = c.resize_in.ensures.resize.kept

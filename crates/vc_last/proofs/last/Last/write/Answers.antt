@@ -42,12 +42,11 @@ invariant_of-self g c =
     let kept = ∥∥₁_map c.args.self.now.kept (λ (k : IsLast c.args.self.now.segs.items c.args.self.now.latest.0). subst (λ (xs : List Bytes). IsLast xs c.args.self.now.latest.0) (sym (items g at)) (written g at).0) in
     record { kept = kept; reserved = c.args.self.now.reserved; sound = have-sound _ c.args.self.now.latest.0 kept }
 
-pub returns-clause-layout : goal.returns-clause-layout
-returns-clause-layout g c =
-    let at = (goal.at.returns-clause-layout g c).After-put_in in
-    ap (λ (xs : List Bytes). layout_by xs c.args.self.now.latest.0) (items g at) ∙ (written g at).1
-
-pub returns-clause-others : goal.returns-clause-others
-returns-clause-others g c =
-    let at = (goal.at.returns-clause-others g c).After-put_in in
-    ap (λ (r : Layout ℕ). without_block (place_of c.args.a.0) r.blocks) (ap (λ (xs : List Bytes). layout_by xs c.args.self.now.latest.0) (items g at) ∙ (written g at).1) ∙ others-written c.args.off c.args.src.now (place_of c.args.a.0) (layout_by c.args.self.now.segs.items c.args.self.now.latest.0).blocks
+pub returns-clause-written : goal.returns-clause-written
+returns-clause-written g c =
+    let at = (goal.at.returns-clause-written g c).After-put_in in
+    let layout = ap (λ (xs : List Bytes). layout_by xs c.args.self.now.latest.0) (items g at) ∙ (written g at).1 in
+    record {
+      layout = layout;
+      others = ap (λ (r : Layout ℕ). without_block (place_of c.args.a.0) r.blocks) layout ∙ others-written c.args.off c.args.src.now (place_of c.args.a.0) (layout_by c.args.self.now.segs.items c.args.self.now.latest.0).blocks;
+    }
