@@ -2,6 +2,7 @@
 #![tactic(auto)]
 
 mod addr;
+mod appending;
 mod cell_rows;
 mod cells;
 mod count;
@@ -18,6 +19,7 @@ mod standard;
 mod steps;
 
 pub use addr::Addr;
+pub use appending::append;
 pub use cell_rows::{holder_rows, word_rows};
 pub use cells::Cells;
 pub use count::one_more;

@@ -3,7 +3,7 @@ ghost use Rattle.vc_model.specs.Count.{Rose};
 ghost use Rattle.vc_model.specs.Stream.{Writes};
 ghost use Rattle.vc_base.specs.Memory.{MemorySink, after_write, refuses, bytes_accepted};
 
-use crate::{OutOfMemory, Sink, WriteFailed, one_more};
+use crate::{OutOfMemory, Sink, WriteFailed, append, one_more};
 use std::alloc::Global;
 use std::marker::Model;
 
@@ -106,18 +106,5 @@ impl Sink for MemSink {
 
     fn faults(&self) -> u64 {
         self.faults
-    }
-}
-
-// Appends to a vector that has room.
-fn append(bytes: &mut Vec<u8>, piece: &[u8])
-    requires { vec_len bytes.old + length piece.now ≤ vec_capacity bytes.old }
-    ensures items { bytes.new.items ≡ bytes.old.items ++ piece.now }
-    ensures len { vec_len bytes.new ≡ vec_len bytes.old + length piece.now }
-    ensures capacity { vec_capacity bytes.old ≤ vec_capacity bytes.new }
-{
-    match bytes.extend_from_slice(piece) {
-        Ok(()) => {}
-        Err(_) => unreachable!(),
     }
 }

@@ -5,10 +5,11 @@ use Rattle.std.specs.Ordering.{is_eq}
 use Rattle.std.proofs.lemmas.Bool.{eq-eqb, true≢false}
 use Rattle.std.proofs.lemmas.Bool.Decides.{eqb_tells}
 use Rattle.vc_base.specs.declared.dict_method.DictMethod.{DictMethod}
-use Rattle.vc_base.specs.declared.dict_method.DictMethod.TheVariants.{DtSet, DtBag, DtOset, DtObag, DtList, DtStack, DtQueue}
 use Rattle.vc_base.specs.Cells.{Blocks, IsHolder, bytes_at}
 use Rattle.vc_base.specs.Holders.{contains, first_in, last_in, last_of, next_in, previous_in}
 use Rattle.vc_base.proofs.Members.{apart-cons, within-head, within-tail, within-last}
+use Rattle.vc_base.proofs.Methods.{same-method}
+use Rattle.vc_base.specs.Methods.{method_number}
 use Rattle.vc_dict.proofs.WeedLemmas.{key_same}
 use Rattle.vc_dtdisc.specs.Finds.{find_key, has_key, object_at}
 use Rattle.vc_dtdisc.specs.Rules.{Rules}
@@ -179,35 +180,11 @@ in-previous at [] x e = cc
 in-previous at (y ∷ ys) x e = previous_first (y == at) at y ys x (in-behind y at ys x) e
 
 -- a change of method leaves it ready, whether or not it is to another one
-place_of : DictMethod → ℕ
-place_of DtSet = 0
-place_of DtBag = 1
-place_of DtOset = 2
-place_of DtObag = 3
-place_of DtList = 4
-place_of DtStack = 5
-place_of DtQueue = 6
-
-method_at : ℕ → DictMethod
-unfolding place_of
-method_at n =
-    if n == 0 then DtSet else (if n == 1 then DtBag else (if n == 2 then DtOset else (if n == 3 then DtObag else (if n == 4 then DtList else (if n == 5 then DtStack else DtQueue)))))
-
-method-back : (m : DictMethod) → method_at (place_of m) ≡ m
-unfolding place_of method_at
-method-back DtSet = refl
-method-back DtBag = refl
-method-back DtOset = refl
-method-back DtObag = refl
-method-back DtList = refl
-method-back DtStack = refl
-method-back DtQueue = refl
-
 pub ready-remethoded : (rules : Rules) (method : DictMethod) (d d' : Dict) (b b' : Blocks) (n block size : ℕ) (answer : Dropped) (r : IsReady rules d b n) → (method ≢ d.method → Remethoded rules method block size r.holders d b d' b' answer) → (method ≡ d.method → Unchanged d b d' b' answer) → IsReady rules d' b' n
 ready-remethoded rules method d d' b b' n block size answer r turned same =
-    elim (eqb_tells (place_of method) (place_of d.method)) as (λ _. IsReady rules d' b' n) [
-      | inl equal ↦ ready-unchanged rules d d' b b' n answer (same (sym (method-back method) ∙ ap method_at equal.1 ∙ method-back d.method)) r
-      | inr differs ↦ ready-turned rules method d d' b b' n block size answer r (turned (λ e. differs.1 (ap place_of e)))
+    elim (eqb_tells (method_number method) (method_number d.method)) as (λ _. IsReady rules d' b' n) [
+      | inl equal ↦ ready-unchanged rules d d' b b' n answer (same (same-method method d.method equal.0)) r
+      | inr differs ↦ ready-turned rules method d d' b b' n block size answer r (turned (λ e. differs.1 (ap method_number e)))
     ]
 
 -- what is asked whether it is none

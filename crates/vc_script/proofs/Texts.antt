@@ -12,14 +12,18 @@ use Rattle.vc_script.specs.Print.{line_of, printed, text}
 use Rattle.vc_script.proofs.Newlines.{OneLine, stays, line-printed}
 use Rattle.vc_script.proofs.Heads.{need_of-printed}
 
--- a line without newlines is cut where the newline behind it stands
+-- a line without newlines is cut where the newline behind it stands, whatever is made of the bytes behind the last one
+module _ (after : List ℕ → List ℕ → List (List ℕ)) (all : List ℕ → List (List ℕ)) (stop : (begun rest : List ℕ) → after begun (10 ∷ rest) ≡ begun ∷ all rest) (on : (begun : List ℕ) (x : ℕ) (rest : List ℕ) → eqb x 10 ≡ false → after begun (x ∷ rest) ≡ after (begun ++ x ∷ []) rest) where
+  cut-whole : (begun xs rest : List ℕ) → OneLine xs → after begun (xs ++ 10 ∷ rest) ≡ (begun ++ xs) ∷ all rest
+  cut-whole begun [] rest each = stop begun rest ∙ ap (λ bs. bs ∷ all rest) (sym (append-nil begun))
+  cut-whole begun (x ∷ xs) rest each =
+      let parts = and_parts (stays x) (list_all stays xs) each in
+      on begun x (xs ++ 10 ∷ rest) (not-true (eqb x 10) parts.0)
+      ∙ (cut-whole (begun ++ x ∷ []) xs rest parts.1
+      ∙ ap (λ bs. bs ∷ all rest) (append_assoc begun (x ∷ []) xs))
+
 lines_after-whole : (begun xs rest : List ℕ) → OneLine xs → lines_after begun (xs ++ 10 ∷ rest) ≡ (begun ++ xs) ∷ lines rest
-lines_after-whole begun [] rest each = ap (λ bs. bs ∷ lines rest) (sym (append-nil begun))
-lines_after-whole begun (x ∷ xs) rest each =
-    let parts = and_parts (stays x) (list_all stays xs) each in
-    ap (λ t. cond t (begun ∷ lines (xs ++ 10 ∷ rest)) (lines_after (begun ++ x ∷ []) (xs ++ 10 ∷ rest))) (not-true (eqb x 10) parts.0)
-    ∙ (lines_after-whole (begun ++ x ∷ []) xs rest parts.1
-    ∙ ap (λ bs. bs ∷ lines rest) (append_assoc begun (x ∷ []) xs))
+lines_after-whole = cut-whole lines_after lines (λ begun rest. refl) (λ begun x rest e. ap (λ t. cond t (begun ∷ lines rest) (lines_after (begun ++ x ∷ []) rest)) e)
 
 -- the lines of a text are its replies
 pub lines-text : (rs : List Reply) → AllByRecursion IsProperReply rs → lines (text rs) ≡ map printed rs
@@ -31,12 +35,7 @@ lines-text (r ∷ rs) proper =
 
 -- a line that a newline ends is a whole line
 pub ended_after-whole : (begun xs rest : List ℕ) → OneLine xs → ended_after begun (xs ++ 10 ∷ rest) ≡ (begun ++ xs) ∷ ended_lines rest
-ended_after-whole begun [] rest each = ap (λ bs. bs ∷ ended_lines rest) (sym (append-nil begun))
-ended_after-whole begun (x ∷ xs) rest each =
-    let parts = and_parts (stays x) (list_all stays xs) each in
-    ap (λ t. cond t (begun ∷ ended_lines (xs ++ 10 ∷ rest)) (ended_after (begun ++ x ∷ []) (xs ++ 10 ∷ rest))) (not-true (eqb x 10) parts.0)
-    ∙ (ended_after-whole (begun ++ x ∷ []) xs rest parts.1
-    ∙ ap (λ bs. bs ∷ ended_lines rest) (append_assoc begun (x ∷ []) xs))
+ended_after-whole = cut-whole ended_after ended_lines (λ begun rest. refl) (λ begun x rest e. ap (λ t. cond t (begun ∷ ended_lines rest) (ended_after (begun ++ x ∷ []) rest)) e)
 
 -- a reply's line and what is behind it
 ended_lines-line : (r : Reply) (rest : List ℕ) → IsProperReply r → ended_lines (line_of r ++ rest) ≡ printed r ∷ ended_lines rest

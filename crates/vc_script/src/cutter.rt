@@ -8,7 +8,7 @@ use crate::LineFault;
 use std::alloc::Global;
 use std::marker::Model;
 use std::mem;
-use vc_base::OutOfMemory;
+use vc_base::{OutOfMemory, append};
 
 // A line has at most so many bytes before its newline.
 const LINE_LIMIT: usize = 4096;
@@ -150,19 +150,6 @@ fn plain_count(bytes: &[u8], most: usize) -> usize
         }
     }
     bytes.len()
-}
-
-// Appends to a vector that has room.
-fn append(bytes: &mut Vec<u8>, piece: &[u8])
-    requires { vec_len bytes.old + length piece.now ≤ vec_capacity bytes.old }
-    ensures items { bytes.new.items ≡ bytes.old.items ++ piece.now }
-    ensures len { vec_len bytes.new ≡ vec_len bytes.old + length piece.now }
-    ensures capacity { vec_capacity bytes.old ≤ vec_capacity bytes.new }
-{
-    match bytes.extend_from_slice(piece) {
-        Ok(()) => {}
-        Err(_) => unreachable!(),
-    }
 }
 
 // Makes the bytes that are kept the last whole line. The two buffers change places.

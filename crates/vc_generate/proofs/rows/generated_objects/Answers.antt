@@ -5,14 +5,6 @@ use Rattle.vc_generate.specs.Generated.{block_commands, commands_of_seed, none_t
 use Rattle.vc_generate.specs.Words.{source_of, generated_words}
 use Rattle.vc_generate.proofs.rows.generated_objects.Goals as goal
 
-pub returns-clause-one : goal.returns-clause-one
+pub returns : goal.returns
 unfolding commands_of_seed block_commands none_taken generated_words source_of first_words digits
-returns-clause-one c = refl
-
-pub returns-clause-two : goal.returns-clause-two
-unfolding commands_of_seed block_commands none_taken generated_words source_of first_words digits
-returns-clause-two c = refl
-
-pub returns-clause-five : goal.returns-clause-five
-unfolding commands_of_seed block_commands none_taken generated_words source_of first_words digits
-returns-clause-five c = refl
+returns c = record { one = refl; two = refl; five = refl }
