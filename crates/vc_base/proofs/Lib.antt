@@ -9,5 +9,6 @@ pub mod Orders
 pub mod Overwrites
 pub mod Places
 pub mod Quantifiers
+pub mod Sets
 pub mod StepsWalks
 pub mod Texts

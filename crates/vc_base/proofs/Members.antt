@@ -1,5 +1,5 @@
 -- Which addresses a list has, and at which place one stands in it.
-use Rattle.std.proofs.Common.{◌≡◌, ◌≢◌, ℕ, inl, inr, List, [], ◌∷◌, ◌++◌, Bool, true, false, Some, None, if◌then◌else◌, refl, sym, ap, ◌∙◌}
+use Rattle.std.proofs.Common.{◌≡◌, ◌≢◌, ◌⊎◌, ℕ, ⊎_elim, inl, inr, List, [], ◌∷◌, ◌++◌, Bool, true, false, Some, None, if◌then◌else◌, refl, sym, ap, ◌∙◌}
 use Rattle.std.proofs.lemmas.Bool.{eq-eqb, ne_eqb, true≢false}
 use Rattle.std.proofs.lemmas.Bool.Decides.{eqb_tells}
 use Rattle.vc_base.specs.Holders.{AreDistinct, contains, first_in, last_in, last_of, next_in, previous_in, without}
@@ -29,6 +29,20 @@ within-front (x ∷ xs) ys a h = elim (eqb_tells x a) as (λ _. contains (x ∷ 
 pub within-rest : (xs ys : List ℕ) (a : ℕ) → contains ys a ≡ true → contains (xs ++ ys) a ≡ true
 within-rest [] ys a h = h
 within-rest (x ∷ xs) ys a h = within-tail x (xs ++ ys) a (within-rest xs ys a h)
+
+-- what is in a list is its first or in the rest, and what is in two lists in one of them
+pub within-cases : (x : ℕ) (xs : List ℕ) (a : ℕ) → contains (x ∷ xs) a ≡ true → (x ≡ a) ⊎ (contains xs a ≡ true)
+within-cases x xs a h = elim (eqb_tells x a) as (λ _. (x ≡ a) ⊎ (contains xs a ≡ true)) [
+  | inl same ↦ inl same.1
+  | inr apart ↦ inr (rw apart.0 at h)
+]
+
+pub within-either : (xs ys : List ℕ) (a : ℕ) → contains (xs ++ ys) a ≡ true → (contains xs a ≡ true) ⊎ (contains ys a ≡ true)
+within-either [] ys a h = inr h
+within-either (x ∷ xs) ys a h = elim (eqb_tells x a) as (λ _. (contains (x ∷ xs) a ≡ true) ⊎ (contains ys a ≡ true)) [
+  | inl same ↦ inl (rw same.0 refl)
+  | inr apart ↦ ⊎_elim (λ (k : contains xs a ≡ true). inl (rw apart.0 k)) (λ (k : contains ys a ≡ true). inr k) (within-either xs ys a (rw apart.0 at h))
+]
 
 -- an address that isn't in a list is neither its first nor in the rest
 pub apart-head : (x : ℕ) (xs : List ℕ) (a : ℕ) → contains (x ∷ xs) a ≡ false → x ≢ a

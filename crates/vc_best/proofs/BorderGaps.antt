@@ -6,6 +6,7 @@ use Rattle.std.proofs.Math.Nat.{ℕ_set}
 use Rattle.std.proofs.lemmas.Bool.{and_parts, cases_Bool, cases_eq, eq-eqb, ne_eqb}
 use Rattle.vc_model.specs.Addr.{address, place_of}
 use Rattle.vc_model.specs.Segments.{span}
+use Rattle.vc_base.proofs.Sets.{bytes-set}
 use Rattle.vc_seg.specs.Segment.{Bytes, pair_of}
 use Rattle.vc_extent.specs.Change.{behind, first_of, set_size, shrink, stretch}
 use Rattle.vc_extent.specs.Extent.{Extent, busy_extent, free_extent, no_links}
@@ -31,7 +32,7 @@ use Rattle.vc_best.proofs.Merges.{merged-in}
 use Rattle.vc_best.proofs.Nexts.{next-extent, next-off, next-place}
 use Rattle.vc_best.proofs.Outs.{inside-not, next-kept}
 use Rattle.vc_best.proofs.Releases.{busy-free}
-use Rattle.vc_best.proofs.Sets.{bytes-set, tiling-set}
+use Rattle.vc_best.proofs.Sets.{tiling-set}
 
 -- what stands behind a place where no two free extents stand beside each other
 merged-back : (xs zs : List Extent) (b : Bool) → is_merged b (xs ++ zs) ≡ true → (v : Bool) × (is_merged v zs ≡ true)

@@ -4,6 +4,7 @@ use Rattle.std.proofs.Math.Logic.{∥∥₁_elim}
 use Rattle.std.proofs.lemmas.Bool.{cases_Bool}
 use Rattle.vc_base.specs.Holders.{contains}
 use Rattle.vc_base.proofs.Booleans.{or-swap}
+use Rattle.vc_base.proofs.Sets.{bytes-set}
 use Rattle.vc_model.specs.Addr.{address, place_of}
 use Rattle.vc_model.specs.Bytes.{with_bytes}
 use Rattle.vc_seg.specs.Segment.{Bytes}
@@ -22,7 +23,6 @@ use Rattle.vc_best.specs.Beside.{free_name, free_next}
 use Rattle.vc_best.specs.GapsChange.{GapsChange}
 use Rattle.vc_best.proofs.Cuts.{behind-here}
 use Rattle.vc_best.proofs.Known.{cut-of, then-behind}
-use Rattle.vc_best.proofs.Sets.{bytes-set}
 use Rattle.vc_best.proofs.Walks.{named-end}
 
 -- lists of names one behind the other

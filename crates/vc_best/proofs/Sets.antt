@@ -6,11 +6,9 @@ use Rattle.std.proofs.Math.Nat.{ℕ_set}
 use mathlib.Core.List.{is_set}
 use Rattle.vc_model.specs.Gap.{Run}
 use Rattle.vc_model.specs.Layout.{Block, Layout}
+use Rattle.vc_base.proofs.Sets.{bytes-set, block-set}
 use Rattle.vc_extent.specs.Extent.{Extent}
 use Rattle.vc_best.specs.Free.{IsMerged}
-
-pub bytes-set : IsSet (List ℕ)
-bytes-set = is_set ℕ_set
 
 pub extent-set : IsSet Extent
 extent-set = hlevel (ℕ_set, bytes-set)
@@ -20,9 +18,6 @@ extents-set = is_set extent-set
 
 pub tiling-set : IsSet (List (ℕ × List Extent))
 tiling-set = is_set (hlevel (ℕ_set, extents-set))
-
-pub block-set : IsSet (Block ℕ)
-block-set = hlevel (ℕ_set, bytes-set)
 
 pub blocks-set : IsSet (List (Block ℕ))
 blocks-set = is_set block-set

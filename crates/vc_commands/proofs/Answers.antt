@@ -3,6 +3,7 @@ use Rattle.std.proofs.Common.{◌≡◌, ◌≢◌, ℕ, Bool, List, ◌++◌, S
 use Rattle.std.proofs.lemmas.Option.{same_Some, none-some}
 use Rattle.vc_base.specs.declared.addr.Addr.{Addr}
 use Rattle.vc_base.specs.Cells.{Blocks}
+use Rattle.vc_model.proofs.Keeping.{Kept-equal}
 use Rattle.vc_model.specs.Discipline.{Discipline, HasOut, Kept, Served, TookBack, Unserved}
 use Rattle.vc_model.specs.Outcome as model
 use Rattle.vc_model.specs.Outcome.{Fault, Outcome, Put, Refused}
@@ -48,9 +49,6 @@ changed-by h disc region cells labels same has kept keeps names =
       cells = same;
     }
 
-pub kept-same : (d e : Discipline) → e ≡ d → Kept d e
-kept-same d e same = subst (Kept d) (sym same) (record { terms = refl; faults = omega arith })
-
 -- what is out stays, where the discipline and the segments do
 pub out-same : (d e : Discipline) (segments segments' : List (ℕ × ℕ)) → e ≡ d → segments' ≡ segments → KeepsOut d e segments segments'
 out-same d e segments segments' same alike = λ rest at. ap (λ (x : Discipline). x.out) same ∙ (at ∙ ap (λ s. rest ++ s) (sym alike))
@@ -58,7 +56,7 @@ out-same d e segments segments' same alike = λ rest at. ap (λ (x : Discipline)
 -- a region that changed, whose discipline and segments stay
 pub changed-alike : (h : Held) (disc : Discipline) (region : Region ℕ) (cells : Blocks) (labels : Labels) → cells ≡ h.cells → HasOut h.disc (segments_of h.region) → disc ≡ h.disc → segments_of region ≡ segments_of h.region → IsNamed region labels → IsChange h (record { name = h.name; place = h.place; disc = disc; region = region; cells = cells; labels = labels })
 changed-alike h disc region cells labels same has alike segments names =
-    changed-by h disc region cells labels same has (kept-same h.disc disc alike) (out-same h.disc disc (segments_of h.region) (segments_of region) alike segments) names
+    changed-by h disc region cells labels same has (Kept-equal h.disc disc alike) (out-same h.disc disc (segments_of h.region) (segments_of region) alike segments) names
 
 served-kept : (d e : Discipline) (s s' : List (ℕ × ℕ)) (n : ℕ) → Served d e s s' n → Kept d e
 served-kept d e s s' n served = record { terms = served.terms; faults = omega (arith, served.faults) }
@@ -175,7 +173,7 @@ gives-unchanged h c w e = record { region_after = ap (λ (k : Changed). k.region
 -- a region whose discipline and lists stay
 pub change-same : (h : Held) (labels : Labels) → HasOut h.disc (segments_of h.region) → IsNamed h.region labels → IsChange h (record { name = h.name; place = h.place; disc = h.disc; region = h.region; cells = h.cells; labels = labels })
 change-same h labels has names =
-    changed-by h h.disc h.region h.cells labels refl has (kept-same h.disc h.disc refl) (out-same h.disc h.disc (segments_of h.region) (segments_of h.region) refl refl) names
+    changed-by h h.disc h.region h.cells labels refl has (Kept-equal h.disc h.disc refl) (out-same h.disc h.disc (segments_of h.region) (segments_of h.region) refl refl) names
 
 -- what is told leaves the region
 pub gives-changed : (h : Home) (region : Region Label) (c : Changed) (told : Reply) → c ≡ changed_to h region told → GivesRegion c (region, h.kept) told

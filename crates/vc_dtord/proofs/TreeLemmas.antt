@@ -13,6 +13,7 @@ use Rattle.vc_splay.specs.Stands.{IsTree, Stands}
 use Rattle.vc_splay.specs.Store.{SameLinks, Store}
 use Rattle.vc_splay.specs.Tree.{Tree, Leaf, Node, names, name_of}
 use Rattle.vc_splay.specs.Unique.{IsTree-one}
+use Rattle.vc_splay.proofs.StandsLemmas.{Stands-there}
 use Rattle.vc_dtord.specs.declared.dt_ord.DtOrd.{DtOrd}
 use Rattle.vc_dtord.specs.Nodes.{beside, is_node, is_node_of, node_store}
 use Rattle.vc_dtord.specs.NodeLaws.{IsNodeAt, and-right, node-is, node-none}
@@ -38,22 +39,6 @@ Stands-same s s' up (Node l n r) held same h =
 
 IsTree-same : (s s' : Store) (root : ℕ) (t : Tree) → ((n : ℕ) → contains (names t) n ≡ true → s.has n ≡ true → s'.has n ≡ true) → ((n : ℕ) → contains (names t) n ≡ true → SameLinks s s' n) → IsTree s root t → IsTree s' root t
 IsTree-same s s' root t held same h = record { top = h.top; stands = Stands-same s s' 0 t held same h.stands; distinct = h.distinct }
-
-parts : (xs ys : List ℕ) (a : ℕ) {P : Type 0} → contains (xs ++ ys) a ≡ true → (contains xs a ≡ true → P) → (contains ys a ≡ true → P) → P
-parts [] ys a h f g = g h
-parts (x ∷ xs) ys a {P} h f g = elim (eqb_tells x a) as (λ _. P) [
-  | inl same ↦ f (rw same.0 refl)
-  | inr apart ↦ parts xs ys a (rw apart.0 at h) (λ w. f (within-tail x xs a w)) g
-]
-
-Stands-there : (s : Store) (up : ℕ) (t : Tree) (n : ℕ) → Stands s up t → contains (names t) n ≡ true → s.has n ≡ true
-Stands-there s up Leaf n h w = absurd (true≢false (sym w))
-Stands-there s up (Node l m r) n h w =
-    parts (names l) (m ∷ names r) n w (λ k. Stands-there s m l n h.1 k)
-    (λ k. elim (eqb_tells m n) as (λ _. s.has n ≡ true) [
-      | inl same ↦ subst (λ z. s.has z ≡ true) same.1 h.0.held
-      | inr apart ↦ Stands-there s m r n h.2 (rw apart.0 at k)
-    ])
 
 -- beside a holder that is there, and without it
 pub tree-beside : (b : Blocks) (mark root : ℕ) (t : Tree) → is_node b mark ≡ true → IsTree (node_store b) root t → IsTree (beside mark (node_store b)) root t

@@ -2,13 +2,11 @@
 use Rattle.std.proofs.Common.{ℕ, ◌+◌, List, [], ◌∷◌}
 use Rattle.std.proofs.Math.Nat.{ℕ_set}
 use Rattle.std.proofs.Math.Bridge.{le_prop}
+use Rattle.vc_base.proofs.Sets.{bytes-set}
 use mathlib.Core.List.{is_set}
 use Rattle.vc_seg.specs.Segment.{Bytes}
 use Rattle.vc_extent.specs.Extent.{Extent}
 use Rattle.vc_extent.specs.Tiles.{IsHead, IsLegal, IsTiled, Tiles}
-
-bytes-set : IsSet (List ℕ)
-bytes-set = is_set ℕ_set
 
 extent-set : IsSet Extent
 extent-set = hlevel (ℕ_set, bytes-set)

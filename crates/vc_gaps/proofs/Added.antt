@@ -3,7 +3,7 @@ use Rattle.std.proofs.Common.{◌≡◌, ◌≢◌, ℕ, ◌+◌, ◌*◌, ◌/�
 use Rattle.std.proofs.lemmas.Bool.{cases_Bool, cases_eq, eqb-true, eq-eqb, ne_eqb, true≢false}
 use Rattle.vc_model.specs.Addr.{address, place_of}
 use Rattle.vc_base.specs.Holders.{contains}
-use Rattle.vc_base.proofs.Members.{apart-head, within-head}
+use Rattle.vc_base.proofs.Members.{apart-head, within-head, within-cases}
 use Rattle.vc_seg.specs.Segment.{Bytes}
 use Rattle.vc_extent.specs.Extent.{Extent, free_extent, no_links}
 use Rattle.vc_extent.specs.Change.{extent_in}
@@ -11,7 +11,6 @@ use Rattle.vc_extent.specs.Tiling.{IsFree, IsThere, extent_of, extents_of, tilin
 use Rattle.vc_gaps.specs.ButLinks.{Tiling}
 use Rattle.vc_gaps.specs.GapStore.{is_free}
 use Rattle.vc_gaps.specs.GapTree.{HasGaps}
-use Rattle.vc_gaps.proofs.Ascending.{contains-cases}
 use Rattle.vc_gaps.proofs.Carried.{gaps-touched}
 use Rattle.vc_gaps.proofs.Marked.{contains-there, none-of, out-of}
 
@@ -81,7 +80,7 @@ module _ (old new : Tiling) (n : ℕ) (same : (m : ℕ) → m ≢ n → extents_
       ⊎_elim
       (λ (q : address (n, 32) ≡ b). (subst (λ z. (is_free old z && not (contains out z)) ≡ false) q before, subst (λ z. (is_free new z && not (contains after z)) ≡ false) q then))
       (λ (k : contains [] b ≡ true). absurd (true≢false (sym k)))
-      (contains-cases (address (n, 32)) [] b touched))
+      (within-cases (address (n, 32)) [] b touched))
       h
 
 not-free : (t : Tiling) (n : ℕ) → extents_of n t ≡ [] → is_free t (address (n, 32)) ≡ false

@@ -5,16 +5,9 @@ use Rattle.std.specs.Ordering.{is_ge, is_gt, nat_cmp, ordering_index}
 use Rattle.std.proofs.lemmas.Bool.{cases_Bool, eqb-true, eqb-false, eq-eqb, ne_eqb, lt-ltb, le-ltb, ltb-true, ltb-false, true≢false}
 use Rattle.vc_model.specs.Order.{put_by}
 use Rattle.vc_base.specs.Holders.{AreDistinct, contains, without}
-use Rattle.vc_base.proofs.Members.{within-head, within-tail}
+use Rattle.vc_base.proofs.Members.{within-head, within-tail, within-cases}
 use Rattle.vc_splay.specs.Guide.{RisesFrom, order_with_name}
 use Rattle.vc_gaps.specs.GapTree.{AscendFrom}
-
-pub contains-cases : (x : ℕ) (xs : List ℕ) (n : ℕ) → contains (x ∷ xs) n ≡ true → (x ≡ n) ⊎ (contains xs n ≡ true)
-contains-cases x xs n h =
-    ⊎_elim
-    (λ (t : eqb x n ≡ true). inl (eqb-true x n t))
-    (λ (t : eqb x n ≡ false). inr (rw t at h))
-    (cases_Bool (eqb x n))
 
 module _ (key : ℕ → ℕ) where
   pub ascend-more : (low from : ℕ) (xs : List ℕ) → low ≤ from → AscendFrom key from xs → AscendFrom key low xs
@@ -28,7 +21,7 @@ module _ (key : ℕ → ℕ) where
       ⊎_elim
       (λ (e : x ≡ n). subst (λ z. low ≤ key z) e h.0)
       (λ (k : contains xs n ≡ true). let j = ascend-least (key x + 1) xs n h.1 k in let l = h.0 in omega arith)
-      (contains-cases x xs n w)
+      (within-cases x xs n w)
 
   -- without one they ascend, and with one whose key none of them has
   pub ascend-without : (low a : ℕ) (xs : List ℕ) → AscendFrom key low xs → AscendFrom key low (without a xs)
@@ -162,7 +155,7 @@ find-least key p low (x ∷ xs) n h e =
           ⊎_elim
           (λ (k : x ≡ m). let j : n ≡ m = sym same ∙ k in subst (λ z. key n ≤ key z) j (omega arith))
           (λ (k : contains xs m ≡ true). let j = ascend-least key (key x + 1) xs m h.1 k in subst (λ z. key z ≤ key m) same (omega arith))
-          (contains-cases x xs m w);
+          (within-cases x xs m w);
     })
     (λ (t : p x ≡ false).
     let r : IsLeast key p xs n = find-least key p (key x + 1) xs n h.1 (rw t at e) in
@@ -173,7 +166,7 @@ find-least key p low (x ∷ xs) n h e =
           ⊎_elim
           (λ (k : x ≡ m). absurd (true≢false (sym q ∙ ap p (sym k) ∙ t)))
           (λ (k : contains xs m ≡ true). r.least m k q)
-          (contains-cases x xs m w);
+          (within-cases x xs m w);
     })
     (cases_Bool (p x))
 
@@ -186,5 +179,5 @@ find-none p (x ∷ xs) e n w =
     ⊎_elim
     (λ (k : x ≡ n). ap p (sym k) ∙ t)
     (λ (k : contains xs n ≡ true). find-none p xs (rw t at e) n k)
-    (contains-cases x xs n w))
+    (within-cases x xs n w))
     (cases_Bool (p x))

@@ -4,14 +4,13 @@ use Rattle.std.proofs.lemmas.Bool.{eq-eqb, ne_eqb, true≢false}
 use Rattle.vc_model.specs.Addr.{address, place_of}
 use Rattle.vc_model.specs.Segments.{span}
 use Rattle.vc_base.specs.Holders.{contains}
-use Rattle.vc_base.proofs.Members.{apart-head, apart-tail, within-head}
+use Rattle.vc_base.proofs.Members.{apart-head, apart-tail, within-head, within-cases}
 use Rattle.vc_extent.specs.Extent.{Extent, busy_extent, free_extent, no_links}
 use Rattle.vc_extent.specs.Change.{extent_in, shrink, stretch}
 use Rattle.vc_extent.specs.Tiling.{IsBusy, change_extent, extent_of, extents_of, next_of}
 use Rattle.vc_gaps.specs.ButLinks.{Tiling}
 use Rattle.vc_gaps.specs.GapStore.{is_free}
 use Rattle.vc_gaps.specs.GapTree.{HasGaps}
-use Rattle.vc_gaps.proofs.Ascending.{contains-cases}
 use Rattle.vc_gaps.proofs.Carried.{gaps-touched}
 use Rattle.vc_gaps.proofs.Joined.{first-cons}
 use Rattle.vc_gaps.proofs.Marked.{busy-none, contains-there, none-of, out-of}
@@ -52,8 +51,8 @@ module _ (old new : Tiling) (root a size : ℕ) (out : List ℕ) (busy : IsBusy 
       ⊎_elim
       (λ (q : c ≡ b). subst P q (none-of old c out none, out-of new c (c ∷ out) (within-head c out)))
       (λ (j : contains [] b ≡ true). absurd (true≢false (sym j)))
-      (contains-cases c [] b k))
-      (contains-cases a (c ∷ []) b touched))
+      (within-cases c [] b k))
+      (within-cases a (c ∷ []) b touched))
       h
 
   -- it takes of the gap behind it, which is out: what is left of that is out then, where anything is
@@ -116,9 +115,9 @@ module _ (old new : Tiling) (root a size : ℕ) (out : List ℕ) (busy : IsBusy 
         ⊎_elim
         (λ (q : c ≡ d). subst P q (none-of old c (b ∷ out) none, out-of new c (c ∷ out) (within-head c out)))
         (λ (i : contains [] d ≡ true). absurd (true≢false (sym i)))
-        (contains-cases c [] d j))
-        (contains-cases b (c ∷ []) d k))
-        (contains-cases a (b ∷ c ∷ []) d touched))
+        (within-cases c [] d j))
+        (within-cases b (c ∷ []) d k))
+        (within-cases a (b ∷ c ∷ []) d touched))
         h
 
     pub gaps-filled : (extent_of old a).span + y.span ≡ span size → HasGaps old root (b ∷ out) → HasGaps new root out
@@ -138,6 +137,6 @@ module _ (old new : Tiling) (root a size : ℕ) (out : List ℕ) (busy : IsBusy 
         ⊎_elim
         (λ (q : b ≡ d). subst P q (out-of old b (b ∷ out) (within-head b out), none-of new b out gone))
         (λ (i : contains [] d ≡ true). absurd (true≢false (sym i)))
-        (contains-cases b [] d k))
-        (contains-cases a (b ∷ []) d touched))
+        (within-cases b [] d k))
+        (within-cases a (b ∷ []) d touched))
         h

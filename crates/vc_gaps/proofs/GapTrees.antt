@@ -3,6 +3,8 @@ use Rattle.std.proofs.Common.{◌≡◌, ℕ, ◌<◌, ◌^◌, ◌⊎◌, inl, 
 use Rattle.std.proofs.lemmas.Bool.{cases_Bool, eqb-true, eq-eqb, lt-ltb, true≢false}
 use Rattle.vc_model.specs.Order.{put_by}
 use Rattle.vc_base.specs.Holders.{AreDistinct, contains, without}
+use Rattle.vc_base.proofs.Members.{within-cases, within-either}
+use Rattle.vc_splay.proofs.StandsLemmas.{Stands-there}
 use Rattle.vc_seg.specs.Segment.{Bytes}
 use Rattle.vc_splay.specs.Guide.{CanFind, CanLink, Rises, order_with_name}
 use Rattle.vc_splay.specs.Stands.{IsIn, IsTree, Stands, TreeAfter}
@@ -14,36 +16,11 @@ use Rattle.vc_gaps.specs.GapLaws.{gap_fits, gap_none, is_free-named, is_free-siz
 use Rattle.vc_gaps.specs.GapStore.{gap_key, gap_side, gap_store, is_free, key_of}
 use Rattle.vc_gaps.specs.GapUnique.{one_list}
 use Rattle.vc_gaps.specs.GapTree.{AscendFrom, CanLinkGap, GapLinked, GapTreeAfter, GapUnlinked, HasGapTree, HasGaps, IsGapTree, IsInGaps}
-use Rattle.vc_gaps.proofs.Ascending.{ascend-put, ascend-rises, ascend-same, ascend-without, contains-cases, contains-put, contains-without, linked-put}
-
-contains-parts : (xs ys : List ℕ) (n : ℕ) → contains (xs ++ ys) n ≡ true → (contains xs n ≡ true) ⊎ (contains ys n ≡ true)
-contains-parts [] ys n h = inr h
-contains-parts (x ∷ xs) ys n h =
-    ⊎_elim
-    (λ (t : eqb x n ≡ true). inl (rw t refl))
-    (λ (t : eqb x n ≡ false).
-    ⊎_elim
-    (λ (k : contains xs n ≡ true). inl (rw t k))
-    (λ (k : contains ys n ≡ true). inr k)
-    (contains-parts xs ys n (rw t at h)))
-    (cases_Bool (eqb x n))
-
--- a name of a tree is there
-stands-held : (s : Store) (up : ℕ) (t : Tree) (n : ℕ) → Stands s up t → contains (names t) n ≡ true → s.has n ≡ true
-stands-held s up Leaf n h w = absurd (true≢false (sym w))
-stands-held s up (Node l m r) n h w =
-    ⊎_elim
-    (λ (k : contains (names l) n ≡ true). stands-held s m l n h.1 k)
-    (λ (k : contains (m ∷ names r) n ≡ true).
-    ⊎_elim
-    (λ (e : m ≡ n). subst (λ z. s.has z ≡ true) e h.0.held)
-    (λ (j : contains (names r) n ≡ true). stands-held s m r n h.2 j)
-    (contains-cases m (names r) n k))
-    (contains-parts (names l) (m ∷ names r) n w)
+use Rattle.vc_gaps.proofs.Ascending.{ascend-put, ascend-rises, ascend-same, ascend-without, contains-put, contains-without, linked-put}
 
 module _ (t : Tiling) (root : ℕ) (xs : List ℕ) (h : HasGapTree t root xs) where
   pub tree-free : (n : ℕ) → contains xs n ≡ true → is_free t n ≡ true
-  tree-free n w = stands-held (gap_store t) 0 h.tree n h.is_tree.stands (subst (λ ys. contains ys n ≡ true) (sym h.list) w)
+  tree-free n w = Stands-there (gap_store t) 0 h.tree n h.is_tree.stands (subst (λ ys. contains ys n ≡ true) (sym h.list) w)
 
   pub tree-distinct : AreDistinct xs
   tree-distinct = subst AreDistinct h.list h.is_tree.distinct

@@ -5,7 +5,7 @@ use Rattle.std.proofs.Math.Nat.{ℕ_set}
 use Rattle.std.proofs.lemmas.Bool.{cases_Bool, eqb-true, eqb-false, ne_eqb, true≢false}
 use Rattle.vc_model.specs.Addr.{address, place_of}
 use Rattle.vc_base.specs.Holders.{contains}
-use Rattle.vc_base.proofs.Members.{apart-head, apart-tail, within-head, within-tail}
+use Rattle.vc_base.proofs.Members.{apart-head, apart-tail, within-head, within-tail, within-cases}
 use Rattle.vc_seg.specs.Segment.{Bytes}
 use Rattle.vc_extent.specs.Extent.{Extent, extents, free_extent, no_links}
 use Rattle.vc_extent.specs.Change.{extent_in, first_of, join}
@@ -16,7 +16,6 @@ use Rattle.vc_extent.proofs.Tiled.{named-above, off-at}
 use Rattle.vc_gaps.specs.ButLinks.{Tiling}
 use Rattle.vc_gaps.specs.GapStore.{is_free}
 use Rattle.vc_gaps.specs.GapTree.{HasGaps}
-use Rattle.vc_gaps.proofs.Ascending.{contains-cases}
 use Rattle.vc_gaps.proofs.Carried.{gaps-touched}
 use Rattle.vc_gaps.proofs.Named.{extent_in-off}
 use Rattle.vc_gaps.proofs.Marked.{contains-there, none-of, out-of}
@@ -101,6 +100,6 @@ gaps-joined old new root a b y out e next is none h =
     ⊎_elim
     (λ (q : b ≡ c). subst P q (out-of old b (a ∷ b ∷ out) (within-tail a (b ∷ out) b (within-head b out)), none-of new b (a ∷ out) none))
     (λ (j : contains [] c ≡ true). absurd (true≢false (sym j)))
-    (contains-cases b [] c k))
-    (contains-cases a (b ∷ []) c touched))
+    (within-cases b [] c k))
+    (within-cases a (b ∷ []) c touched))
     h

@@ -4,14 +4,13 @@ use Rattle.std.proofs.lemmas.Bool.{eq-eqb, ne_eqb, true≢false}
 use Rattle.std.proofs.Math.Bool.{and-false}
 use Rattle.vc_model.specs.Addr.{address, place_of}
 use Rattle.vc_base.specs.Holders.{contains}
-use Rattle.vc_base.proofs.Members.{apart-head, apart-tail, within-head}
+use Rattle.vc_base.proofs.Members.{apart-head, apart-tail, within-head, within-cases}
 use Rattle.vc_extent.specs.Extent.{Extent, free_extent, no_links}
 use Rattle.vc_extent.specs.Change.{extent_in, mark_busy, mark_free, split}
 use Rattle.vc_extent.specs.Tiling.{IsBusy, change_extent, extent_of, extents_of}
 use Rattle.vc_gaps.specs.ButLinks.{Tiling}
 use Rattle.vc_gaps.specs.GapStore.{is_free}
 use Rattle.vc_gaps.specs.GapTree.{HasGaps}
-use Rattle.vc_gaps.proofs.Ascending.{contains-cases}
 use Rattle.vc_gaps.proofs.Carried.{gaps-touched}
 use Rattle.vc_gaps.proofs.Named.{behind_of, extent_in-off, extent_of-here, extent_of-other, extent_of-single, off-differs}
 
@@ -39,7 +38,7 @@ module _ (old new : Tiling) (a : ℕ) (change : Extent → List Extent → List 
         ⊎_elim
         (λ (q : a ≡ b). (subst (λ z. (is_free old z && not (contains out z)) ≡ false) q before, subst (λ z. (is_free new z && not (contains after z)) ≡ false) q then))
         (λ (k : contains [] b ≡ true). absurd (true≢false (sym k)))
-        (contains-cases a [] b touched))
+        (within-cases a [] b touched))
         h
 
 module _ (old new : Tiling) (root a : ℕ) (out : List ℕ) where
@@ -102,8 +101,8 @@ module _ (old new : Tiling) (root a : ℕ) (out : List ℕ) where
       subst (λ z. ((is_free old z && not (contains (a ∷ out) z)) ≡ false) × ((is_free new z && not (contains (a ∷ b ∷ out) z)) ≡ false)) q
       (none-of old b (a ∷ out) none, out-of new b (a ∷ b ∷ out) (second-here a b out)))
       (λ (j : contains [] c ≡ true). absurd (true≢false (sym j)))
-      (contains-cases b [] c k))
-      (contains-cases a (b ∷ []) c touched))
+      (within-cases b [] c k))
+      (within-cases a (b ∷ []) c touched))
       h
     where
       second-here : (a b : ℕ) (out : List ℕ) → contains (a ∷ b ∷ out) b ≡ true

@@ -7,17 +7,12 @@ use mathlib.Core.List.{is_set}
 use Rattle.vc_model.specs.Discipline.{IsSegmentSize}
 use Rattle.vc_model.specs.Layout.{Block, address_of}
 use Rattle.vc_model.specs.Sound.{IsSound}
+use Rattle.vc_base.proofs.Sets.{bytes-set, block-set}
 use Rattle.vc_seg.specs.Segment.{AreSegments, Bytes, IsRegionSegment}
 use Rattle.vc_last.specs.Head.{HasHead}
 use Rattle.vc_last.specs.Chain.{IsChain, IsLast, IsLastOf}
 use Rattle.vc_last.specs.Read.{layout_by}
 use Rattle.vc_last.proofs.Kept.{sound-by}
-
-bytes-set : IsSet (List ℕ)
-bytes-set = is_set ℕ_set
-
-block-set : IsSet (Block ℕ)
-block-set = hlevel (ℕ_set, bytes-set)
 
 size-prop : (n : ℕ) → IsProp (IsSegmentSize n)
 size-prop n = hlevel (ℕ_set, le_prop)

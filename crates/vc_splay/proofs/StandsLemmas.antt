@@ -1,7 +1,9 @@
 -- Trees that stand in a store, where other links of it change.
-use Rattle.std.proofs.Common.{◌≡◌, ◌≢◌, ℕ, ◌+◌, ◌≤◌, Bool, true, false, not, refl, sym, ap, ◌∙◌, arith}
+use Rattle.std.proofs.Common.{◌≡◌, ◌≢◌, ℕ, ◌+◌, ◌≤◌, ◌∷◌, Bool, true, false, not, refl, sym, ap, ◌∙◌, subst, ⊎_elim, arith}
 use Rattle.std.proofs.lemmas.Bool.{true≢false}
-use Rattle.vc_splay.specs.Tree.{Tree, Leaf, Node, name_of}
+use Rattle.vc_base.specs.Holders.{contains}
+use Rattle.vc_base.proofs.Members.{within-cases, within-either}
+use Rattle.vc_splay.specs.Tree.{Tree, Leaf, Node, name_of, names}
 use Rattle.vc_splay.specs.Store.{Store, SameLinks}
 use Rattle.vc_splay.specs.Stands.{IsNode, Stands}
 use Rattle.vc_splay.specs.Moves.{Context, Top, Under, HasKid, IsRound, joined_tree, one, tally, tally_round}
@@ -79,3 +81,13 @@ Stands-joined s up false t n u e k j = (record { held = k.held; parent = e; left
 pub name_of-joined : (d : Bool) (t : Tree) (n : ℕ) (u : Tree) → name_of (joined_tree d t n u) ≡ n
 name_of-joined true t n u = refl
 name_of-joined false t n u = refl
+
+-- a name of a tree is there
+pub Stands-there : (s : Store) (up : ℕ) (t : Tree) (n : ℕ) → Stands s up t → contains (names t) n ≡ true → s.has n ≡ true
+Stands-there s up Leaf n h w = absurd (true≢false (sym w))
+Stands-there s up (Node l m r) n h w =
+    ⊎_elim
+    (λ (k : contains (names l) n ≡ true). Stands-there s m l n h.1 k)
+    (λ (k : contains (m ∷ names r) n ≡ true).
+    ⊎_elim (λ (e : m ≡ n). subst (λ z. s.has z ≡ true) e h.0.held) (λ (j : contains (names r) n ≡ true). Stands-there s m r n h.2 j) (within-cases m (names r) n k))
+    (within-either (names l) (m ∷ names r) n w)
