@@ -1,10 +1,10 @@
 -- What asking for a segment gives, by the segments of a pool.
-use Rattle.std.proofs.Common.{◌≡◌, ℕ, ◌<◌, ◌≤◌, List, [], ◌∷◌, true, false, All, length, map, refl, ap, sym, ◌∙◌, subst, eqb, ltb, arith}
-use Rattle.std.proofs.lemmas.Bool.{eqb-false, le-ltb, lt-ltb, or_parts}
+use Rattle.std.proofs.Common.{◌≡◌, ℕ, ◌<◌, List, [], ◌∷◌, true, false, All, length, map, refl, ap, sym, ◌∙◌, subst, eqb, ltb, arith}
+use Rattle.std.proofs.lemmas.Bool.{eqb-false, lt-ltb, or_parts}
 use Rattle.std.proofs.lemmas.List.{length-map}
 use Rattle.std.proofs.lemmas.List.Elements.{All-cons, All-nil}
 use Rattle.vc_model.specs.Discipline.{Discipline, Lent, Terms}
-use Rattle.vc_model.specs.Segments.{Granted, NotLent, TooMany, ask, lowest_unused, new_segment, numbers}
+use Rattle.vc_model.specs.Segments.{Granted, ask, lowest_unused, new_segment, numbers}
 use Rattle.vc_seg.proofs.Unused.{is_among, lowest_unused-unused}
 use Rattle.vc_pool_cells.specs.Blocks.{pair_of}
 use Rattle.vc_pool_cells.specs.Cells.{Cells, cells_of}
@@ -28,12 +28,6 @@ module _ (terms : Terms) (bytes : ℕ) (segs : List PoolSegment) where
 
   long : length pairs ≡ length segs
   long = length-map (cells_in segs) pair_of ∙ length-map segs cells_of
-
-  pub asked-many : 1023 ≤ length segs → ask terms bytes pairs false ≡ TooMany
-  asked-many h = let test : ltb (length pairs) 1023 ≡ false = le-ltb (length pairs) 1023 (omega (arith, h, long)) in rw test refl
-
-  pub asked-not_lent : length segs < 1023 → ask terms bytes pairs true ≡ NotLent
-  asked-not_lent h = let test : ltb (length pairs) 1023 ≡ true = lt-ltb (length pairs) 1023 (omega (arith, h, long)) in rw test refl
 
   pub asked-granted : (n : ℕ) → length segs < 1023 → n ≡ lowest_unused (numbers pairs) → ask terms bytes pairs false ≡ Granted (new_segment n bytes)
   asked-granted n h e =

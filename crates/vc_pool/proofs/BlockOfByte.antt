@@ -32,12 +32,11 @@ holder cell n off segs b h e =
     let within = and_parts (leb b.off off) (ltb off (b.off + b.size)) both.1 in
     let low = leb-true b.off off within.0 in
     let high = ltb-true off (b.off + b.size) within.1 in
-    let offset = h.offset in
     let size : b.size ≡ (pair_at h.index (cells_at n segs)).0 = subst (λ m. b.size ≡ (pair_at h.index (cells_at m segs)).0) seg h.size in
     record {
       listed = subst (λ m. h.index < length (cells_at m segs).pairs) seg h.listed;
-      low = omega (arith, low, offset);
-      high = omega (arith, high, offset, size);
+      low = omega (arith, low);
+      high = omega (arith, high, size);
     }
 
 -- no block holds it, where no cell does
@@ -72,17 +71,14 @@ module _ (element n off : ℕ) (segs : List Cells) (h : AreCellular element segs
   pub never-listed : length (cells_at n segs).pairs ≤ (off - 32) / cell → (k : ℕ) → HasByte cell n off segs k → ⊥
   never-listed few k b =
       let same = of-byte k b in
-      let listed = b.listed in
-      omega (arith, few, same, listed)
+      omega (arith, few, same)
 
   pub never-within : (pair_at ((off - 32) / cell) (cells_at n segs)).0 ≤ (off - 32) % cell → (k : ℕ) → HasByte cell n off segs k → ⊥
   never-within small k b =
       let same = of-byte k b in
-      let low = b.low in
-      let high = b.high in
       let size : (pair_at k (cells_at n segs)).0 ≤ (off - 32) % cell = subst (λ j. (pair_at j (cells_at n segs)).0 ≤ (off - 32) % cell) same small in
       let parts : k * cell + (off - 32) % cell ≡ off - 32 = subst (λ j. j * cell + (off - 32) % cell ≡ off - 32) same (div-add-mod' (off - 32) cell) in
-      omega (arith, low, high, size, parts)
+      omega (arith, size, parts)
 
   -- and where it is in the block
   pub byte-there : 32 ≤ off → (off - 32) / cell < length (cells_at n segs).pairs → (off - 32) % cell < (pair_at ((off - 32) / cell) (cells_at n segs)).0 → HasByte cell n off segs ((off - 32) / cell)
@@ -106,11 +102,9 @@ module _ (element n off : ℕ) (segs : List Cells) (h : AreCellular element segs
       let offset : b.off ≡ cell_offset cell index = eqb-true b.off (cell_offset cell index) both.1 in
       let same : i.index ≡ index = index-same cell i.index index (omega (arith, some)) (sym i.offset ∙ offset) in
       let size : b.size ≡ (pair_at index (cells_at n segs)).0 = i.size ∙ (ap (λ m. (pair_at i.index (cells_at m segs)).0) seg ∙ ap (λ j. (pair_at j (cells_at n segs)).0) same) in
-      let low = own.low in
-      let high = own.high in
       let holds : holds_byte (n, off) b ≡ true =
       and_from (eqb b.seg n) (leb b.off off && ltb off (b.off + b.size)) (eq-eqb b.seg n seg)
-      (and_from (leb b.off off) (ltb off (b.off + b.size)) (le-leb b.off off (omega (arith, low, offset))) (lt-ltb off (b.off + b.size) (omega (arith, high, offset, size)))) in
+      (and_from (leb b.off off) (ltb off (b.off + b.size)) (le-leb b.off off (omega (arith, offset))) (lt-ltb off (b.off + b.size) (omega (arith, offset, size)))) in
       absurd (false≢true (sym t ∙ holds)))
       (λ (u : is_at (n, cell_offset cell index) b ≡ false). t ∙ sym u)
       (cases_Bool (is_at (n, cell_offset cell index) b)))

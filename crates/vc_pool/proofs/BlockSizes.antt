@@ -126,12 +126,10 @@ fitting most (s ∷ ss) h =
 
 pub room-blocks : (element : ℕ) (segs : List Cells) → AreCellular element segs → HasRoom (tally_of []) (sizes_of segs)
 room-blocks element segs h =
-    let few = h.segments.few in
     let known = length-map segs segment_of in
     let long = many segs (pairs-few element segs h) in
-    let fits = h.most in
-    let all = sizes-most 16777216 (sizes_of segs) (fitting 16777216 segs (λ k d lt j e within. let here = (h.cellular k d lt).fits j e within in omega (arith, here, fits))) in
-    record { count = omega (arith, few, known, long); bytes = omega (arith, all, few, known, long) }
+    let all = sizes-most 16777216 (sizes_of segs) (fitting 16777216 segs (λ k d lt j e within. let here = (h.cellular k d lt).fits j e within in omega (arith, here))) in
+    record { count = omega (arith, known, long); bytes = omega (arith, all, known, long) }
 
 -- a cell that wasn't carved has no block
 pub fresh-at : (n k : ℕ) (cs : List (ℕ × ℕ)) → All (λ c. c.0 ≡ 0) (drop n cs) → n ≤ k → k < length cs → (get_or cs k (0, 0)).0 ≡ 0
@@ -151,10 +149,9 @@ total-few (s ∷ ss) h =
 
 pub total-most : (element : ℕ) (segs : List Cells) → AreCellular element segs → cell_total segs ≤ 1072693248
 total-most element segs h =
-    let few = h.segments.few in
     let known = length-map segs segment_of in
     let all = total-few segs (pairs-few element segs h) in
-    omega (arith, few, known, all)
+    omega (arith, known, all)
 
 total-sum : (cell element : ℕ) (segs : List Cells) → All (IsCellular cell element) segs → cell_total segs ≡ sum (map (λ s. (s.1 - 32) / cell) (map pair_of segs))
 total-sum cell element [] h = refl
@@ -189,8 +186,7 @@ module _ (segs : List Cells) (h : AreSegments (map segment_of segs)) (first : �
 
   behind-few : length behind ≤ 1023
   behind-few =
-      let few = h.few in
-      omega (arith, few, length-map segs segment_of, length-map (drop first (map pair_of segs)) (λ (s : ℕ × ℕ). s.1), length-drop first (map pair_of segs), length-map segs pair_of)
+      omega (arith, length-map segs segment_of, length-map (drop first (map pair_of segs)) (λ (s : ℕ × ℕ). s.1), length-drop first (map pair_of segs), length-map segs pair_of)
 
   behind-legal : All (λ n. n ≤ 33554432) behind
   behind-legal =

@@ -193,7 +193,3 @@ module _ (element first freed : ℕ) (old mid new : List PoolSegment) (stays : �
       ∙ (carved-filter stays wide (cells_in mid) busy-mid
       ∙ (ap (λ (l : Layout ℕ). filter (λ (c : ℕ × ℕ). is_occupied l.blocks c.0) (carved_by (cells_in mid))) keeps.layout
       ∙ ap (filter (λ (c : ℕ × ℕ). is_occupied (layout_by wide (cells_in old)).blocks c.0)) keeps.carved))
-
-  -- the segments before, as number and size
-  pub pairs-old : (layout_by wide (cells_in old)).segments ≡ map pair_of (cells_in mid)
-  pairs-old = ap (λ (l : Layout ℕ). l.segments) (sym keeps.layout) ∙ segments-of wide (cells_in mid)

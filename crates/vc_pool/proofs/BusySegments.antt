@@ -82,6 +82,5 @@ pub numbers-below : (segs : List PoolSegment) → AreSegments (map segment_of (c
 numbers-below segs h =
     λ i d lt.
     let legal = (numbered-in segs h).legal i (pair_in d) (omega (arith, lt, length-map segs pair_in)) in
-    let last = legal.last in
     let is : (get_or (map pair_in segs) i (pair_in d)).0 ≡ (get_or segs i d).seg.number = ap (λ (p : ℕ × ℕ). p.0) (get_or-map pair_in segs i d (pair_in d) lt) in
-    omega (arith, last, is)
+    omega (arith, is)

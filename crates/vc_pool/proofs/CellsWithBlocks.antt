@@ -37,10 +37,8 @@ module _ (element : ℕ) (segs : List Cells) (h : AreCellular element segs) (som
   pub cell-small : (n index : ℕ) → index < length (cells_at n segs).pairs → cell_offset (cell_for element) index < 33554432
   cell-small n index listed =
       let there = cell-there element segs h some n index listed in
-      let inside = there.inside in
-      let most = there.most in
       let least = (IsCell-for element some h.most).least in
-      omega (arith, inside, most, least)
+      omega (arith, least)
 
   pub cell-multiple : (index : ℕ) → cell_offset (cell_for element) index % 32 ≡ 0
   cell-multiple index = offset-multiple (cell_for element) index ((IsCell-for element some h.most).multiple)

@@ -66,17 +66,12 @@ module _ (element : ℕ) (segs : List Cells) (freed last at : ℕ) where
   some-of [] h one = let none : at ≡ 0 = h.chain in absurd (omega (arith, none, one))
   some-of (p ∷ ps) h one =
       let f : IsFreeCell (cell_for element) segs p = All-head (IsFreeCell (cell_for element) segs) p ps h.free in
-      let below = f.below in
-      carved-some element p.0 segs h.cells (omega (arith, below))
-
-  pub split-some : HasSplit element segs freed last at → 1 ≤ at → 1 ≤ element
-  split-some h one = some-of h.1 (behind h.0 h.1 h.2) one
+      carved-some element p.0 segs h.cells (omega arith)
 
   pub split-number : HasSplit element segs freed last at → 1 ≤ at → (place_of at).0 ≤ 1023
   split-number h one =
       let l = split-listed h one in
-      let there = l.listed in
-      (number-legal (place_of at).0 segs (split-cells h).segments (omega (arith, there))).1
+      (number-legal (place_of at).0 segs (split-cells h).segments (omega arith)).1
 
   last-of : (kept rest : List (ℕ × ℕ)) → IsSplit element segs freed last at kept rest → 1 ≤ last → IsFreeCell (cell_for element) segs (place_of last)
   last-of [] rest h one = let none : 0 ≡ last = h.run.0 in absurd (omega (arith, none, one))
@@ -222,10 +217,6 @@ module _ (element : ℕ) (segs : List Cells) (freed last at : ℕ) (one : 1 ≤ 
 
   pub drop-less : (new : List Cells) (freed' next : ℕ) → ((kept rest : List (ℕ × ℕ)) → (p : ℕ × ℕ) → IsSplit element segs freed last at kept (p ∷ rest) → IsSplit element new freed' last next kept rest) → HasSplit element segs freed last at → length (freed_cells new next) < length (freed_cells segs at)
   drop-less new freed' next out h = drop-less-of new freed' next h.0 h.1 out h.2
-
--- a split of what is being sifted
-pub sifted-split : (element : ℕ) (stays : ℕ → Bool) (all : List (ℕ × ℕ)) (segs : List Cells) (freed last at : ℕ) → IsSifted element stays all segs freed last at → HasSplit element segs freed last at
-sifted-split element stays all segs freed last at h = (h.kept, h.rest, h.split)
 
 -- before the first cell, and behind the last
 module _ (element : ℕ) (stays : ℕ → Bool) (segs : List Cells) (freed : ℕ) where

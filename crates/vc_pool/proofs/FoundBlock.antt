@@ -29,6 +29,5 @@ find-has p (c ∷ cs) b e =
     (λ (t : p c ≡ false).
     let rest : find p cs ≡ Some b = rw t at e in
     let later = find-has p cs b rest in
-    let within = later.1 in
-    (suc later.0, omega (arith, within), later.2))
+    (suc later.0, omega arith, later.2))
     (cases_Bool (p c))

@@ -70,9 +70,8 @@ either after (m ∷ ms) =
     (λ (t : ltb after m ≡ true).
     let up = ltb-true after m t in
     let r = run after m ms up in
-    let low = r.low in
     let k : ℕ = r.n in
-    inl (record { n = k; is = rw t r.is; least = record { above = r.above; least = All-cons (λ x. after < x → k ≤ x) m ms (λ _. low) r.least } }))
+    inl (record { n = k; is = rw t r.is; least = record { above = r.above; least = All-cons (λ x. after < x → k ≤ x) m ms (λ _. r.low) r.least } }))
     (λ (t : ltb after m ≡ false).
     let not = ltb-false after m t in
     ⊎_elim
@@ -103,26 +102,22 @@ pub least-is : (after : ℕ) (ns : List ℕ) (n : ℕ) → IsLeast after ns n �
 least-is after ns n h among =
     ⊎_elim
     (λ (r : IsFound after ns).
-    let above = h.above in
-    let other = r.least.above in
-    let down : r.n ≤ n = subst (λ x. r.n ≤ x) among.2 (r.least.least among.0 n among.1 (subst (λ x. after < x) (sym among.2) above)) in
+    let down : r.n ≤ n = subst (λ x. r.n ≤ x) among.2 (r.least.least among.0 n among.1 (subst (λ x. after < x) (sym among.2) h.above)) in
     let there = least_above-among after ns r.n r.is in
-    let up : n ≤ r.n = subst (λ x. n ≤ x) there.2 (h.least there.0 r.n there.1 (subst (λ x. after < x) (sym there.2) other)) in
+    let up : n ≤ r.n = subst (λ x. n ≤ x) there.2 (h.least there.0 r.n there.1 (subst (λ x. after < x) (sym there.2) r.least.above)) in
     let same : r.n ≡ n = omega (arith, down, up) in
     r.is ∙ ap Some same)
     (λ (r : IsEnd after ns).
-    let above = h.above in
     let low : n ≤ after = subst (λ x. x ≤ after) among.2 (r.all among.0 n among.1) in
-    absurd (omega (arith, above, low)))
+    absurd (omega (arith, low)))
     (either after ns)
 
 pub least-no : (after : ℕ) (ns : List ℕ) → All (λ m. m ≤ after) ns → least_above (λ a. a) after ns ≡ None
 least-no after ns h =
     ⊎_elim
     (λ (r : IsFound after ns).
-    let above = r.least.above in
     let there = least_above-among after ns r.n r.is in
     let low : r.n ≤ after = subst (λ x. x ≤ after) there.2 (h there.0 r.n there.1) in
-    absurd (omega (arith, above, low)))
+    absurd (omega (arith, low)))
     (λ (r : IsEnd after ns). r.is)
     (either after ns)

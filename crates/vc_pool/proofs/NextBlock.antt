@@ -2,7 +2,6 @@
 use Rattle.std.proofs.Common.{◌≡◌, ◌≢◌, ℕ, ◌*◌, ◌/◌, ◌%◌, ◌<◌, ◌≤◌, ◌⊎◌, List, [], ◌∷◌, None, Some, All, length, get_or, map, refl, ap, sym, ◌∙◌, subst, inl, inr, ⊎_elim, arith}
 use Rattle.std.specs.Prelude.{Option, IfNone, IfSome, option_map}
 use Rattle.std.proofs.lemmas.Bool.{cases_eq, cases_lt, eq-eqb, ne_eqb}
-use Rattle.std.proofs.lemmas.List.{get_or-map, length-map}
 use Rattle.std.proofs.lemmas.List.Elements.{All-contains, All-map, All-nil}
 use Rattle.std.proofs.Math.Nat.{mul-le-mul_right}
 use Rattle.vc_base.specs.declared.addr.Addr.{Addr}
@@ -64,30 +63,27 @@ module _ (element a : ℕ) (segs : List Cells) (h : AreCellular element segs) (s
     first-next : (b : ℕ) → IsFirstIn cell segs n from b → IsLeast a (map address_of (layout_by cell segs).blocks) b
     first-next b f =
         let k : ℕ = f.index in
-        let place = f.place in
         let own = behind k f.first.behind in
         let even = multiple k in
         let mine = small n k f.first.listed in
         record {
-          above = omega (arith, place, own, even);
+          above = omega (arith, own, even);
           least = All-map (λ m. a < m → b ≤ m) address_of (layout_by cell segs).blocks
               (λ j d lt up.
               let c : Block ℕ = get_or (layout_by cell segs).blocks j d in
               let i = blocks-in element segs h j d lt in
-              let offset = i.offset in
-              let up' : a < address (c.seg, cell_offset cell i.index) = omega (arith, up, offset) in
+              let up' : a < address (c.seg, cell_offset cell i.index) = omega (arith, up) in
               let seg = later c.seg i.index i.listed up' in
               ⊎_elim
               (λ (e : c.seg ≡ n).
               ⊎_elim
-              (λ (le : k ≤ i.index). let more = cell-later cell k i.index le in omega (arith, place, more, offset, e))
+              (λ (le : k ≤ i.index). let more = cell-later cell k i.index le in omega (arith, more, e))
               (λ (less : i.index < k).
               let empty = f.first.before i.index (later-own c.seg i.index e up') less in
               let size : c.size ≡ (pair_at i.index (cells_at n segs)).0 = subst (λ m. c.size ≡ (pair_at i.index (cells_at m segs)).0) e i.size in
-              let one = i.some in
-              absurd (omega (arith, empty, size, one)))
+              absurd (omega (arith, empty, size)))
               (split k i.index))
-              (λ (e : c.seg ≡ n → ⊥). omega (arith, place, mine, seg, e))
+              (λ (e : c.seg ≡ n → ⊥). omega (arith, mine, seg, e))
               (cases_eq c.seg n));
         }
 
@@ -95,54 +91,47 @@ module _ (element a : ℕ) (segs : List Cells) (h : AreCellular element segs) (s
       -- else a block above is in a later segment
       past : (c : Block ℕ) → IsIn cell segs c → a < address_of c → n < c.seg
       past c i up =
-          let offset = i.offset in
-          let up' : a < address (c.seg, cell_offset cell i.index) = omega (arith, up, offset) in
+          let up' : a < address (c.seg, cell_offset cell i.index) = omega (arith, up) in
           let seg = later c.seg i.index i.listed up' in
           ⊎_elim
           (λ (e : c.seg ≡ n).
           let empty = bare i.index (later-own c.seg i.index e up') (subst (λ m. i.index < length (cells_at m segs).pairs) e i.listed) in
           let size : c.size ≡ (pair_at i.index (cells_at n segs)).0 = subst (λ m. c.size ≡ (pair_at i.index (cells_at m segs)).0) e i.size in
-          let one = i.some in
-          absurd (omega (arith, empty, size, one)))
+          absurd (omega (arith, empty, size)))
           (λ (e : c.seg ≡ n → ⊥). omega (arith, seg, e))
           (cases_eq c.seg n)
 
       no-bare : (c : Block ℕ) → IsIn cell segs c → IsBare c.seg segs → ⊥
       no-bare c i none =
           let empty = none i.index (omega arith) i.listed in
-          let size = i.size in
-          let one = i.some in
-          omega (arith, empty, size, one)
+          omega (arith, empty)
 
       -- the first block of the segments above is the next one
       above-next : (b : ℕ) → IsFirstAbove cell segs n b → IsLeast a (map address_of (layout_by cell segs).blocks) b
       above-next b f =
           let k : ℕ = f.first.index in
           let m : ℕ = f.number in
-          let place = f.first.place in
           let above = f.above in
           let mine = small m k f.first.first.listed in
           record {
-            above = omega (arith, place, above);
+            above = omega (arith, above);
             least = All-map (λ x. a < x → b ≤ x) address_of (layout_by cell segs).blocks
                 (λ j d lt up.
                 let c : Block ℕ = get_or (layout_by cell segs).blocks j d in
                 let i = blocks-in element segs h j d lt in
-                let offset = i.offset in
                 let seg = past c i up in
                 ⊎_elim
                 (λ (e : c.seg ≡ m).
                 ⊎_elim
-                (λ (le : k ≤ i.index). let more = cell-later cell k i.index le in omega (arith, place, more, offset, e))
+                (λ (le : k ≤ i.index). let more = cell-later cell k i.index le in omega (arith, more, e))
                 (λ (less : i.index < k).
                 let empty = f.first.first.before i.index (omega arith) less in
                 let size : c.size ≡ (pair_at i.index (cells_at m segs)).0 = subst (λ x. c.size ≡ (pair_at i.index (cells_at x segs)).0) e i.size in
-                let one = i.some in
-                absurd (omega (arith, empty, size, one)))
+                absurd (omega (arith, empty, size)))
                 (split k i.index))
                 (λ (e : c.seg ≡ m → ⊥).
                 ⊎_elim
-                (λ (le : m ≤ c.seg). omega (arith, place, mine, le, e))
+                (λ (le : m ≤ c.seg). omega (arith, mine, le, e))
                 (λ (less : c.seg < m). absurd (no-bare c i (f.between c.seg seg less)))
                 (split m c.seg))
                 (cases_eq c.seg m));

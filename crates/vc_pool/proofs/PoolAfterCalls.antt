@@ -1,15 +1,14 @@
 -- What the calls on a pool's cells make of the pool.
-use Rattle.std.proofs.Common.{◌≡◌, ℕ, List, [], length, map, filter, refl, ap, sym, ◌∙◌, subst, arith}
+use Rattle.std.proofs.Common.{◌≡◌, ℕ, List, [], length, map, refl, ap, sym, ◌∙◌, subst, arith}
 use Rattle.std.proofs.lemmas.List.{length-map}
 use Rattle.std.proofs.lemmas.List.Elements.{All-nil}
 use Rattle.vc_model.specs.Addr.{place_of}
-use Rattle.vc_model.specs.Compact.{compacted_layout, is_occupied}
 use Rattle.vc_model.specs.Layout.{Layout}
-use Rattle.vc_model.specs.Pool.{cell_for, empty_pool, pool_clear, pool_compact, pool_free}
+use Rattle.vc_model.specs.Pool.{cell_for, empty_pool, pool_clear, pool_free}
 use Rattle.vc_seg.specs.Segment.{IsRegionSegment}
 use Rattle.vc_seg.proofs.Backs.{Apart}
 use Rattle.vc_layouts.proofs.Lists.{AllPairs-nil}
-use Rattle.vc_pool_cells.specs.Blocks.{carved_by, layout_by, pair_of}
+use Rattle.vc_pool_cells.specs.Blocks.{layout_by, pair_of}
 use Rattle.vc_pool_cells.specs.Call.{Becomes, IsPutBack}
 use Rattle.vc_pool_cells.specs.Cells.{cells_of}
 use Rattle.vc_pool_cells.specs.Freed.{IsFreeCell, freed_cells, freed_from}
@@ -62,13 +61,6 @@ module _ (segs segs' : List PoolSegment) (element : ℕ) where
   pub cleared-pool : (last : ℕ) → IsUncarved element (cells_in segs) (cells_in segs') → pool_by segs' element 0 ≡ pool_clear (pool_by segs element last)
   unfolding pool_by
   cleared-pool last h = λ j. record { layout = h.layout j; element = element_of element; freed = h.freed j; carved = h.carved j }
-
-  pub compacted-pool : (freed last : ℕ) → layout_by (cell_for element) (cells_in segs') ≡ compacted_layout (layout_by (cell_for element) (cells_in segs))
-      → freed_cells (cells_in segs') freed ≡ filter (λ (p : ℕ × ℕ). is_occupied (layout_by (cell_for element) (cells_in segs)).blocks p.0) (freed_cells (cells_in segs) last)
-      → carved_by (cells_in segs') ≡ filter (λ (c : ℕ × ℕ). is_occupied (layout_by (cell_for element) (cells_in segs)).blocks c.0) (carved_by (cells_in segs))
-      → pool_by segs' element freed ≡ pool_compact (pool_by segs element last)
-  unfolding pool_by
-  compacted-pool freed last layout left counts = λ j. record { layout = layout j; element = element_of element; freed = left j; carved = counts j }
 
 -- the segments as number and size
 pub pairs-of : (segs : List PoolSegment) (element freed : ℕ) → (pool_by segs element freed).layout.segments ≡ map pair_of (cells_in segs)

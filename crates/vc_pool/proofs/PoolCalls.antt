@@ -1,6 +1,5 @@
 -- What the calls that put, resize and free a block make of a pool.
 use Rattle.std.proofs.Common.{◌≡◌, ◌≢◌, ℕ, ◌+◌, ◌<◌, ◌≤◌, List, [], ◌∷◌, ◌++◌, Bool, Option, Some, None, true, false, length, map, refl, ap, sym, ◌∙◌, subst, ⊎_elim, arith}
-use Rattle.std.specs.Prelude.{Err}
 use Rattle.std.proofs.lemmas.Bool.{cases_eq, eq-eqb, ne_eqb}
 use Rattle.std.proofs.lemmas.List.{length-map}
 use Rattle.vc_model.specs.Addr.{address, place_of}
@@ -10,12 +9,12 @@ use Rattle.vc_model.specs.Outcome.{Done, Outcome, Put}
 use Rattle.vc_model.specs.Pool.{Pool, carve, carved_in, cell_for, element_with, pool_alloc, pool_need, uncarved}
 use Rattle.vc_model.specs.Segments.{Grant, Granted, ask, new_segment, round_up}
 use Rattle.vc_model.proofs.Owned.{address-place_of}
-use Rattle.vc_layouts.proofs.Segments.{Asks-fault, Served-lent, Served-same}
+use Rattle.vc_layouts.proofs.Segments.{Served-lent, Served-same}
 use Rattle.vc_layouts.specs.Put.{with_zeros}
-use Rattle.vc_seg.specs.Answer.{Answers, Asks, IsPut, IsRefusal}
+use Rattle.vc_seg.specs.Answer.{IsPut, IsRefusal}
 use Rattle.vc_seg.specs.declared.fault.RegionFault.{RegionFault}
 use Rattle.vc_seg.specs.declared.fault.RegionFault.TheVariants as code
-use Rattle.vc_seg.specs.Lend.{IsAsked, IsNoGrant}
+use Rattle.vc_seg.specs.Lend.{IsNoGrant}
 use Rattle.vc_pool_cells.specs.Blocks.{carved_by, layout_by, pair_of}
 use Rattle.vc_pool_cells.specs.Call.{IsReused}
 use Rattle.vc_pool_cells.specs.Cells.{Cells, cells_of}
@@ -30,7 +29,7 @@ use Rattle.vc_pool_cells.proofs.ElementSize.{layout-set_from, pool-set_from}
 use Rattle.vc_pool.specs.Sizes.{element_of}
 use Rattle.vc_pool.specs.Ask.{IsGranted, LacksCell}
 use Rattle.vc_pool.specs.Read.{pool_by}
-use Rattle.vc_pool.proofs.PutOutcome.{alloc-carved, alloc-granted, alloc-greater, alloc-not_lent, alloc-reused, alloc-too_many}
+use Rattle.vc_pool.proofs.PutOutcome.{alloc-carved, alloc-granted, alloc-not_lent, alloc-reused, alloc-too_many}
 use Rattle.vc_pool.proofs.PoolAfterCalls.{pairs-of}
 use Rattle.vc_pool.proofs.PoolParts.{carved-of, element_of-some, freed-of, layout-of, pool-is}
 
@@ -106,9 +105,6 @@ module _ (terms : Terms) (segs : List PoolSegment) (element freed set tag size :
 
   is : element_with old size ≡ set
   is = with-is segs element freed size set same new
-
-  pub put-greater : set < size → Answers (pool_alloc terms old tag size) (Err code.PoolSize) old old
-  put-greater h = (alloc-greater terms old tag size false (omega (arith, is, h)), refl)
 
   -- into the cell freed last
   reused-at : (a b : ℕ) (segs' : List PoolSegment) → a ≡ freed → 1 ≤ element → size ≤ set → IsReused set tag size (cells_in segs) (cells_in segs') freed b → IsPut (pool_alloc terms old tag size false) a (pool_by segs' element b)
@@ -189,13 +185,6 @@ module _ (terms : Terms) (segs : List PoolSegment) (element freed set tag size :
       pub asked-refusal : (why : RegionFault) (segs' : List PoolSegment) → segs' ≡ segs → IsNoGrant terms (round_up (32 + cell_for set) terms.round) (map pair_of (cells_in segs')) why → IsRefusal (pool_alloc terms old tag size) why
       asked-refusal why segs' e h = refusal-of why (subst (λ (ss : List PoolSegment). IsNoGrant terms (round_up (32 + cell_for set) terms.round) (map pair_of (cells_in ss)) why) e h)
 
-      pub asked-disc : (why : RegionFault) (before after : Discipline) (segs' : List PoolSegment) → segs' ≡ segs → IsAsked (Err why) before after (round_up (32 + cell_for set) terms.round) →
-          Asks (Err why) before after old.layout.segments (pool_by segs' element freed).layout.segments (pool_need terms old size)
-      asked-disc why before after segs' e h =
-          Asks-fault why before after old.layout.segments (pool_by segs' element freed).layout.segments (pool_need terms old size)
-          (ap (λ (ss : List PoolSegment). (pool_by ss element freed).layout.segments) e)
-          (subst (IsAsked (Err why) before after) need-is h)
-
       pub granted-disc : (a : ℕ) (segs' : List PoolSegment) (before after : Discipline) → IsPool element (cells_in segs) freed → IsGranted set tag size (round_up (32 + cell_for set) terms.round) (cells_in segs) (cells_in segs') before after a →
           Served before after old.layout.segments (pool_by segs' set freed).layout.segments (pool_need terms old size)
       granted-disc a segs' before after h g =
@@ -211,14 +200,6 @@ module _ (terms : Terms) (segs : List PoolSegment) (element freed set tag size :
         subst (λ ss. Served d d old.layout.segments ss (pool_need terms old size))
         (sym (ap (λ (l : Layout ℕ). l.segments) (layout-of segs' set freed ∙ (r.layout ∙ ap (λ (l : Layout ℕ). with_zeros l tag size (place_of a)) layout-old))))
         (Served-same d old.layout.segments (pool_need terms old size))
-
-  pub reused-disc : (b : ℕ) (segs' : List PoolSegment) (d : Discipline) → 1 ≤ element → IsReused set tag size (cells_in segs) (cells_in segs') freed b → Served d d old.layout.segments (pool_by segs' element b).layout.segments (pool_need terms old size)
-  reused-disc b segs' d some r =
-      let own : set ≡ element = sym (same some) in
-      let layout = subst (λ e. layout_by (cell_for e) (cells_in segs') ≡ with_zeros (layout_by (cell_for e) (cells_in segs)) tag size (place_of freed)) own r.layout in
-      subst (λ ss. Served d d old.layout.segments ss (pool_need terms old size))
-      (sym (ap (λ (l : Layout ℕ). l.segments) (layout-of segs' element b ∙ (layout ∙ ap (λ (l : Layout ℕ). with_zeros l tag size (place_of freed)) (sym (layout-of segs element freed))))))
-      (Served-same d old.layout.segments (pool_need terms old size))
 
 -- the element size with which the cells stand
 pub pool-with : (set element : ℕ) (segs : List Cells) (freed size : ℕ) → (1 ≤ element → element ≡ set) → (element ≡ 0 → set ≡ size) → size ≤ 16777216 → IsPool element segs freed → IsPool set segs freed

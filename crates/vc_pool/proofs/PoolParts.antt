@@ -1,6 +1,6 @@
 -- What is always true of a pool, by its segments with their cells, its element size and the address of the cell freed last.
-use Rattle.std.proofs.Common.{◌≡◌, ℕ, ◌≤◌, List, Some, None, refl, arith}
-use Rattle.std.proofs.lemmas.Bool.{eq-eqb, ne_eqb}
+use Rattle.std.proofs.Common.{◌≡◌, ℕ, ◌≤◌, List, Some, refl, arith}
+use Rattle.std.proofs.lemmas.Bool.{ne_eqb}
 use Rattle.vc_model.specs.Pool.{IsPoolSound, Pool, cell_for}
 use Rattle.vc_model.specs.Touch.{HasBlock}
 use Rattle.vc_pool_cells.specs.Blocks.{carved_by, layout_by}
@@ -18,10 +18,6 @@ module _ (segs : List PoolSegment) (element freed : ℕ) where
   pub layout-of : (pool_by segs element freed).layout ≡ layout_by (cell_for element) (cells_in segs)
   unfolding pool_by
   layout-of = refl
-
-  pub element-of : (pool_by segs element freed).element ≡ element_of element
-  unfolding pool_by
-  element-of = refl
 
   pub freed-of : (pool_by segs element freed).freed ≡ freed_cells (cells_in segs) freed
   unfolding pool_by
@@ -49,6 +45,3 @@ with-block segs element freed a k h = block-some element a (cells_in segs) k h
 
 pub element_of-some : (element : ℕ) → 1 ≤ element → element_of element ≡ Some element
 element_of-some element h = rw (ne_eqb element 0 (λ e. omega (arith, e, h))) refl
-
-pub element_of-none : (element : ℕ) → element ≡ 0 → element_of element ≡ None
-element_of-none element e = rw (eq-eqb element 0 e) refl

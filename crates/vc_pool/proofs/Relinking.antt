@@ -25,8 +25,7 @@ use Rattle.vc_pool.specs.Relink.{KeepsAll}
 -- a freed cell is one of its segment's
 pub free-listed : (element : ℕ) (segs : List Cells) (p : ℕ × ℕ) → AreCellular element segs → IsFreeCell (cell_for element) segs p → IsListed (cell_for element) segs p
 free-listed element segs p k f =
-    let below = f.below in
-    record { index = index_at (cell_for element) p.1; offset = f.offset; listed = omega (arith, below, all-few (cell_for element) element p.0 segs k.cellular) }
+    record { index = index_at (cell_for element) p.1; offset = f.offset; listed = omega (arith, all-few (cell_for element) element p.0 segs k.cellular) }
 
 module _ (element a i index next : ℕ) (segs : List Cells) (s : Cells) (k : AreCellular element segs) (nonzero : 1 ≤ element) (f : IsFreeCell (cell_for element) segs (place_of a)) (there : IsCellAt (cell_for element) segs (place_of a) i index)
     (e : s ≡ with_free_cell (cell_for element) index next (get_or segs i s)) where
@@ -83,11 +82,10 @@ module _ (element a i index next : ℕ) (segs : List Cells) (s : Cells) (k : Are
 
   blocks : in_order (flat_map (segment_blocks cell) (set segs i s)) ≡ in_order (flat_map (segment_blocks cell) segs)
   blocks =
-      let al = there.alone in
-      let rest = others cell index i n segs s al (omega (arith, nonzero)) listed in
-      all-new cell index i n segs s al (omega (arith, nonzero)) listed (0, 0) s ch fits
+      let rest = others cell index i n segs s there.alone (omega (arith, nonzero)) listed in
+      all-new cell index i n segs s there.alone (omega (arith, nonzero)) listed (0, 0) s ch fits
       ∙ (ap (λ x. with_cell x rest) (no-block n (cell_offset cell index) s.bytes (0, 0) refl)
-      ∙ sym (all-old cell index i n segs s al (omega (arith, nonzero)) listed ∙ ap (λ x. with_cell x rest) (no-block n (cell_offset cell index) o.bytes (pair_at index o) empty)))
+      ∙ sym (all-old cell index i n segs s there.alone (omega (arith, nonzero)) listed ∙ ap (λ x. with_cell x rest) (no-block n (cell_offset cell index) o.bytes (pair_at index o) empty)))
 
   pairs : map pair_of (set segs i s) ≡ map pair_of segs
   pairs =

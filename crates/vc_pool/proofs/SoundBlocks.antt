@@ -79,11 +79,8 @@ module _ (element : ℕ) (segs : List Cells) (h : AreCellular element segs) wher
 
   inside-by : (b : Block ℕ) → IsBlockCell cell segs (b.seg, b.off) → IsInside (map pair_of segs) (cell_run cell b)
   inside-by b l =
-      let listed = l.listed in
       let c = cell-there element segs h (set-by b l) b.seg l.index l.listed in
-      let inside = c.inside in
-      let off = l.offset in
-      any-number (λ s. (b.seg ≡ s.0) × (32 ≤ b.off) × (b.off + cell ≤ s.1)) b.seg segs (omega (arith, listed)) (refl, omega (arith, off), omega (arith, off, inside))
+      any-number (λ s. (b.seg ≡ s.0) × (32 ≤ b.off) × (b.off + cell ≤ s.1)) b.seg segs (omega arith) (refl, omega arith, omega arith)
 
   beside : AllPairs (Beside cell) blocks
   beside = pairs-order (Beside cell) (beside-turn cell) (flat_map (segment_blocks cell) segs) (pairs-all cell segs (numbers-apart segs h.segments))
@@ -108,8 +105,7 @@ module _ (element : ℕ) (segs : List Cells) (h : AreCellular element segs) wher
             apart-places a b (omega (arith, some)) (beside i j d lt within) (ap (λ (p : ℕ × ℕ). p.0) same) (ap (λ (p : ℕ × ℕ). p.1) same);
         first = λ k d lt.
             let l = live k d lt in
-            let listed = l.listed in
-            (number-legal (get_or blocks k d).seg segs h.segments (omega (arith, listed))).0;
+            (number-legal (get_or blocks k d).seg segs h.segments (omega arith)).0;
         exact = λ k d lt. exact-by (get_or blocks k d) (live k d lt);
       }
 

@@ -51,9 +51,8 @@ index-same cell i j some e = sym (index-is cell i (cell_offset cell i) some refl
 -- a segment has each cell that it lists
 pub has-cell : (cell element index : ℕ) (o : Cells) → IsCellular cell element o → IsSegmentSize (length o.bytes) → index < length o.pairs → HasCell cell index o
 has-cell cell element index o h size listed =
-    let least = size.least in
     let many : (index + 1) * cell ≤ (length o.bytes - 32) / cell * cell = mul-le-mul_right cell (omega (arith, listed, h.count)) in
-    record { listed = listed; inside = omega (arith, many, least, div-add-mod' (length o.bytes - 32) cell); most = size.most }
+    record { listed = listed; inside = omega (arith, many, div-add-mod' (length o.bytes - 32) cell); most = size.most }
 
 -- what is true of each segment is true of the one of a number
 pub at-number : (P : Cells → Type 0) (n : ℕ) (segs : List Cells) → All P segs → 1 ≤ length (cells_at n segs).pairs → P (cells_at n segs)
@@ -176,10 +175,7 @@ module _ (element : ℕ) (segs : List Cells) (h : AreCellular element segs) (som
   place-there n index listed =
       let cell = cell-there n index listed in
       let legal = IsCell-for element some h.most in
-      let inside = cell.inside in
-      let small = cell.most in
-      let least = legal.least in
-      place_of-address n (cell_offset (cell_for element) index) (omega (arith, inside, small, least)) (offset-multiple (cell_for element) index legal.multiple)
+      place_of-address n (cell_offset (cell_for element) index) (omega arith) (offset-multiple (cell_for element) index legal.multiple)
 
   pub stands : (a : ℕ) → HasBlock (layout_by (cell_for element) segs).blocks a → IsBlockCell (cell_for element) segs (place_of a)
   stands a live =
@@ -227,8 +223,7 @@ live-other cell segs at p some l f e =
     let k : ℕ = index_at cell p.1 in
     let same : l.index ≡ k = index-same cell l.index k some (sym l.offset ∙ (ap (λ (q : ℕ × ℕ). q.1) e ∙ f.offset)) in
     let size : 1 ≤ (pair_at k (cells_at p.0 segs)).0 = subst (λ (q : ℕ × ℕ). 1 ≤ (pair_at k (cells_at q.0 segs)).0) e (subst (λ j. 1 ≤ (pair_at j (cells_at at.0 segs)).0) same l.size) in
-    let empty = f.empty in
-    omega (arith, size, empty)
+    omega (arith, size)
 
 -- the number of a segment with cells is from 1 to 1,023
 pub number-legal : (n : ℕ) (segs : List Cells) → AreSegments (map segment_of segs) → 1 ≤ length (cells_at n segs).pairs → (1 ≤ n) × (n ≤ 1023)

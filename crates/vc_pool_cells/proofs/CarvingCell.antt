@@ -80,22 +80,21 @@ module _ (element tag size i : ℕ) (segs : List Cells) (s : Cells) (k : AreCell
       let nonzero : 1 ≤ element = omega (arith, some, fits) in
       let room = own-room element i segs s k f in
       let al = own-alone element i segs s k f in
-      let ch = changed in
       let more : s.carved ≡ o.carved + 1 = ap (λ (x : Cells). x.carved) e in
       let kept : IsPoolOf element (set segs i s) last ps =
-      pool-set element last i o.number o.carved (size, tag) segs s ps h al ch nonzero last ps
-      (cellular-carve cell element o.carved o s (size, tag) (k.cellular i s f.within) ch fits (λ z. absurd (omega (arith, z, some))) refl room more)
+      pool-set element last i o.number o.carved (size, tag) segs s ps h al changed nonzero last ps
+      (cellular-carve cell element o.carved o s (size, tag) (k.cellular i s f.within) changed fits (λ z. absurd (omega (arith, z, some))) refl room more)
       (front-carve i segs s f.within room f.first.full h.front) (omega (arith, more)) h.chain h.free h.once
       (none-freed element i segs s k f last ps nonzero h) in
       record {
         kept = pool-of element (set segs i s) last ps kept;
-        layout = layout-put cell o.carved i o.number segs s al (omega (arith, nonzero)) room (size, tag) s ch (own-wide element i segs s k f) (zeros tag size at)
+        layout = layout-put cell o.carved i o.number segs s al (omega (arith, nonzero)) room (size, tag) s changed (own-wide element i segs s k f) (zeros tag size at)
             (no-block o.number (cell_offset cell o.carved) o.bytes (pair_at o.carved o) (own-empty element i segs s k f))
             (ap (λ (x : Cells). block_of_cell o.number x.bytes (cell_offset cell o.carved) (size, tag)) e
             ∙ block-laid o.number cell o.carved o (own-cell element i segs s k f) size tag some (omega (arith, fits, fits-cell element)))
             ∙ ap (with_zeros (layout_by cell segs) tag size) (sym place);
         freed = pool-freed element (set segs i s) last ps kept;
-        carved = carved-more o.number i segs s f.within al.before refl room (ch.number) more h.front
+        carved = carved-more o.number i segs s f.within al.before refl room (changed.number) more h.front
             ∙ ap (λ (p : ℕ × ℕ). carve p.0 (carved_by segs)) (sym place);
       }
 

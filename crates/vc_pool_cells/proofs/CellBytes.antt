@@ -2,7 +2,7 @@
 use Rattle.std.proofs.Common.{◌≡◌, ℕ, ◌+◌, ◌-◌, ◌^◌, ◌<◌, ◌≤◌, List, [], ◌∷◌, length, replicate, set, take, drop, refl, ap, sym, ◌∙◌, subst, arith}
 use Rattle.std.specs.Int.{from_le_bytes, to_le_bytes, w64}
 use Rattle.std.proofs.lemmas.Bool.{eq-eqb, ne_eqb}
-use Rattle.std.proofs.lemmas.List.{drop-drop, drop-take, length-replicate, places, same_lists, set-get_or, take-replicate, take-take}
+use Rattle.std.proofs.lemmas.List.{length-replicate, places, same_lists, set-get_or, take-replicate, take-take}
 use Rattle.std.proofs.lemmas.Nat.{from_le_bytes-to_le_bytes_8}
 use Rattle.vc_model.specs.Best.{zeros}
 use Rattle.vc_model.specs.Bytes.{with_bytes}
@@ -79,9 +79,8 @@ module _ (n cell index : ℕ) (o : Cells) (h : HasCell cell index o) where
   -- a block of zeros
   pub block-laid : (size tag : ℕ) → 1 ≤ size → size ≤ cell → block_of_cell n (with_zeros_in cell index size tag o).bytes (cell_offset cell index) (size, tag) ≡ zeros tag size (n, cell_offset cell index) ∷ []
   block-laid size tag some fits =
-      let inside = h.inside in
       block-of-bytes n (cell_offset cell index) (with_zeros_in cell index size tag o).bytes (replicate size 0) (size, tag) some
-      (zeros-laid (cell_offset cell index) cell size o.bytes (omega (arith, inside, next-cell cell index)) fits)
+      (zeros-laid (cell_offset cell index) cell size o.bytes (omega (arith, next-cell cell index)) fits)
 
   abbrev own : Block ℕ
   own = record { label = (pair_at index o).1; seg = n; off = cell_offset cell index; size = (pair_at index o).0; bytes = take (pair_at index o).0 (drop (cell_offset cell index) o.bytes) }
@@ -89,23 +88,20 @@ module _ (n cell index : ℕ) (o : Cells) (h : HasCell cell index o) where
   -- one of another size
   pub block-resized : (size : ℕ) → 1 ≤ size → size ≤ cell → (pair_at index o).0 ≤ cell → block_of_cell n (with_cell_size cell index size o).bytes (cell_offset cell index) (size, (pair_at index o).1) ≡ sized_block size own ∷ []
   block-resized size some fits fitted_bytes =
-      let inside = h.inside in
       let next = next-cell cell index in
       block-of-bytes n (cell_offset cell index) (with_cell_size cell index size o).bytes _ (size, (pair_at index o).1) some
-      (zeros-behind (cell_offset cell index) (pair_at index o).0 size o.bytes (omega (arith, inside, next, fitted_bytes)) (omega (arith, inside, next, fits)))
+      (zeros-behind (cell_offset cell index) (pair_at index o).0 size o.bytes (omega (arith, next, fitted_bytes)) (omega (arith, next, fits)))
 
   -- one with other bytes
   pub block-written : (off : ℕ) (src : List ℕ) → 1 ≤ (pair_at index o).0 → (pair_at index o).0 ≤ cell → off + length src ≤ (pair_at index o).0 → block_of_cell n (with_cell_bytes cell index off src o).bytes (cell_offset cell index) (pair_at index o) ≡ rewritten_block off src own ∷ []
   block-written off src some fitted_bytes range =
-      let inside = h.inside in
       let next = next-cell cell index in
       block-of-bytes n (cell_offset cell index) (with_cell_bytes cell index off src o).bytes _ (pair_at index o) some
-      (part-written (cell_offset cell index) (pair_at index o).0 off src o.bytes range (omega (arith, inside, next, fitted_bytes)))
+      (part-written (cell_offset cell index) (pair_at index o).0 off src o.bytes range (omega (arith, next, fitted_bytes)))
 
   -- the link that is written into a cell is the one that stands there
   pub word-released : (link : ℕ) → link < 2 ^ 64 → 8 ≤ cell → link_word (cell_offset cell index) (with_free_cell cell index link o).bytes ≡ link
   word-released link small least =
-      let inside = h.inside in
       let long : length (to_le_bytes w64 link) ≡ 8 = refl in
-      ap (from_le_bytes w64) (written-part (cell_offset cell index) (to_le_bytes w64 link) o.bytes (omega (arith, long, inside, least, next-cell cell index)))
+      ap (from_le_bytes w64) (written-part (cell_offset cell index) (to_le_bytes w64 link) o.bytes (omega (arith, long, least, next-cell cell index)))
       ∙ from_le_bytes-to_le_bytes_8 link small

@@ -33,9 +33,8 @@ pub record HasTarget (element : ℕ) (segs : List Cells) (n i index : ℕ) (o : 
 
 target : (element : ℕ) (segs : List Cells) (at : ℕ × ℕ) (i index : ℕ) (d : Cells) → AreCellular element segs → 1 ≤ element → IsCellAt (cell_for element) segs at i index → index < length (cells_at at.0 segs).pairs → HasTarget element segs at.0 i index (get_or segs i d)
 target element segs at i index d h some there listed =
-    let al = there.alone in
-    let was = cells-first at.0 segs i d al.within al.before (al.number d) in
-    let cellular = h.cellular i d al.within in
+    let was = cells-first at.0 segs i d there.alone.within there.alone.before (there.alone.number d) in
+    let cellular = h.cellular i d there.alone.within in
     record {
       was = was;
       cell = subst (HasCell (cell_for element) index) was (cell-there element segs h some at.0 index listed);
@@ -158,10 +157,9 @@ module _ (element a i index : ℕ) (segs : List Cells) (s : Cells) (k : AreCellu
     stays : (c : ℕ × ℕ) → ChangesCell cell index c o s → c.0 ≤ element → (c.0 ≡ 0 → c.1 ≡ 0) → s.carved ≡ o.carved → IsPoolOf element (set segs i s) freed ps
     stays c ch fits blank count =
         let t = live-target in
-        let al = there.alone in
-        pool-set element freed i n index c segs s ps h al ch nonzero freed ps
+        pool-set element freed i n index c segs s ps h there.alone ch nonzero freed ps
         (cellular-set cell element index o s c t.cellular ch fits blank low count)
-        (front-set i segs s al.within count (ap length ch.pairs ∙ length-set o.pairs index c) h.front) (omega (arith, count)) h.chain h.free h.once
+        (front-set i segs s there.alone.within count (ap length ch.pairs ∙ length-set o.pairs index c) h.front) (omega (arith, count)) h.chain h.free h.once
         (subst (λ (q : ℕ × ℕ). All (λ r. q ≢ r) ps) (sym here) others)
 
     becomes : (c : ℕ × ℕ) (g : Block ℕ → Block ℕ) → ChangesCell cell index c o s → 1 ≤ c.0 → c.0 ≤ element → s.carved ≡ o.carved → (g own).seg ≡ own.seg → (g own).off ≡ own.off → block_of_cell n s.bytes (cell_offset cell index) c ≡ g own ∷ [] →
@@ -198,13 +196,12 @@ module _ (element a i index : ℕ) (segs : List Cells) (s : Cells) (k : AreCellu
     pub put-back-of : freed < 2 ^ 64 → s ≡ with_free_cell cell index freed o → IsPutBack element a segs (set segs i s) freed
     put-back-of small e =
         let t = live-target in
-        let al = there.alone in
         let wide : 8 ≤ cell = omega (arith, nonzero) in
         let ch : ChangesCell cell index (0, 0) o s = subst (ChangesCell cell index (0, 0) o) (sym e) (released-changes cell index o t.cell freed wide) in
         let count : s.carved ≡ o.carved = ap (λ (x : Cells). x.carved) e in
         let mid = stays (0, 0) ch (omega arith) (λ z. refl) count in
-        let is : cells_at n (set segs i s) ≡ s = cells-set n i segs s al.within al.before (ch.number ∙ al.number s) in
-        let first : 1 ≤ n = subst (λ k. 1 ≤ k) (al.number s) ((all-legal segs k.segments i s al.within).first) in
+        let is : cells_at n (set segs i s) ≡ s = cells-set n i segs s there.alone.within there.alone.before (ch.number ∙ there.alone.number s) in
+        let first : 1 ≤ n = subst (λ k. 1 ≤ k) (there.alone.number s) ((all-legal segs k.segments i s there.alone.within).first) in
         let link : freed_link (set segs i s) a ≡ freed =
         ap (λ (x : Cells). link_word (place_of a).1 x.bytes) is
         ∙ (ap (λ k. link_word k s.bytes) there.offset ∙ (ap (λ (x : Cells). link_word (cell_offset cell index) x.bytes) e ∙ word-released n cell index o t.cell freed small wide)) in
@@ -219,9 +216,9 @@ module _ (element a i index : ℕ) (segs : List Cells) (s : Cells) (k : AreCellu
         let kept = pool-push element freed a (set segs i s) (place_of a) ps mid (omega (arith, first)) refl link free others in
         record {
           kept = pool-of element (set segs i s) a (place_of a ∷ ps) kept;
-          layout = layout-freed cell index i n segs s al (omega (arith, nonzero)) t.cell.listed (0, 0) s ch t.fits own own-in own-at refl ∙ ap (without_block_at (layout_by cell segs)) here;
+          layout = layout-freed cell index i n segs s there.alone (omega (arith, nonzero)) t.cell.listed (0, 0) s ch t.fits own own-in own-at refl ∙ ap (without_block_at (layout_by cell segs)) here;
           freed = pool-freed element (set segs i s) a (place_of a ∷ ps) kept;
-          carved = carved-stays i segs s al.within ch.number count;
+          carved = carved-stays i segs s there.alone.within ch.number count;
         }
 
 -- the cell that was freed last is one of its segment's
@@ -229,8 +226,7 @@ listed-first : (element a : ℕ) (segs : List Cells) (ps : List (ℕ × ℕ)) �
 listed-first element a segs [] one h = absurd (omega (arith, h.chain, one))
 listed-first element a segs (p ∷ ps) one h =
     let f : IsFreeCell (cell_for element) segs (place_of a) = subst (IsFreeCell (cell_for element) segs) (sym h.chain.1) (All-head (IsFreeCell (cell_for element) segs) p ps h.free) in
-    let below = f.below in
-    record { index = index_at (cell_for element) (place_of a).1; offset = f.offset; listed = omega (arith, below, all-few (cell_for element) element (place_of a).0 segs h.cells.cellular) }
+    record { index = index_at (cell_for element) (place_of a).1; offset = f.offset; listed = omega (arith, all-few (cell_for element) element (place_of a).0 segs h.cells.cellular) }
 
 pub freed-listed : (element a : ℕ) (segs : List Cells) → 1 ≤ a → IsPool element segs a → IsListed (cell_for element) segs (place_of a)
 freed-listed element a segs one h = listed-first element a segs (freed_cells segs a) one h
@@ -241,8 +237,7 @@ small-first element a segs [] h one = absurd (omega (arith, h.chain, one))
 small-first element a segs (p ∷ []) h one = let none : freed_link segs a ≡ 0 = h.chain.2 in omega (arith, none)
 small-first element a segs (p ∷ q ∷ qs) h one =
     let f : IsFreeCell (cell_for element) segs q = All-head (IsFreeCell (cell_for element) segs) q qs (All-tail (IsFreeCell (cell_for element) segs) p (q ∷ qs) h.free) in
-    let below = f.below in
-    let there : 1 ≤ length (cells_at q.0 segs).pairs = omega (arith, below, all-few (cell_for element) element q.0 segs h.cells.cellular) in
+    let there : 1 ≤ length (cells_at q.0 segs).pairs = omega (arith, all-few (cell_for element) element q.0 segs h.cells.cellular) in
     chain-small segs (freed_link segs a) q qs h.chain.2 ((number-legal q.0 segs h.cells.segments there).1)
 
 -- the address of the cell freed last is small
@@ -250,8 +245,7 @@ last-first : (element a : ℕ) (segs : List Cells) (ps : List (ℕ × ℕ)) → 
 last-first element a segs [] h = let none : a ≡ 0 = h.chain in omega (arith, none)
 last-first element a segs (p ∷ ps) h =
     let f : IsFreeCell (cell_for element) segs p = All-head (IsFreeCell (cell_for element) segs) p ps h.free in
-    let below = f.below in
-    let there : 1 ≤ length (cells_at p.0 segs).pairs = omega (arith, below, all-few (cell_for element) element p.0 segs h.cells.cellular) in
+    let there : 1 ≤ length (cells_at p.0 segs).pairs = omega (arith, all-few (cell_for element) element p.0 segs h.cells.cellular) in
     chain-small segs a p ps h.chain ((number-legal p.0 segs h.cells.segments there).1)
 
 pub last-small : (element a : ℕ) (segs : List Cells) → IsPool element segs a → a < 4294967296
@@ -262,6 +256,5 @@ link-small element a segs h one = small-first element a segs (freed_cells segs a
 
 pub link-is : (wide a i index : ℕ) (segs : List Cells) (d : Cells) → IsCellAt wide segs (place_of a) i index → cell_link wide index (get_or segs i d) ≡ freed_link segs a
 link-is wide a i index segs d there =
-    let al = there.alone in
     ap (λ k. link_word k (get_or segs i d).bytes) (sym there.offset)
-    ∙ ap (λ (x : Cells). link_word (place_of a).1 x.bytes) (sym (cells-first (place_of a).0 segs i d al.within al.before (al.number d)))
+    ∙ ap (λ (x : Cells). link_word (place_of a).1 x.bytes) (sym (cells-first (place_of a).0 segs i d there.alone.within there.alone.before (there.alone.number d)))

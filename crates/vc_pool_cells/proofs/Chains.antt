@@ -20,8 +20,7 @@ from-is zero segs a [] c le = refl
 from-is (suc m) segs a [] c le = rw (eq-eqb a 0 c) refl
 from-is zero segs a (p ∷ ps) c le = absurd (omega (arith, le))
 from-is (suc m) segs a (p ∷ ps) c le =
-    let some = c.0 in
-    rw (ne_eqb a 0 (λ e. omega (arith, e, some)))
+    rw (ne_eqb a 0 (λ e. omega (arith, e)))
     (ap (λ q. q ∷ freed_from m segs (freed_link segs a)) c.1 ∙ ap (λ qs. p ∷ qs) (from-is m segs (freed_link segs a) ps c.2 (omega (arith, le))))
 
 pub freed-is : (segs : List Cells) (a : ℕ) (ps : List (ℕ × ℕ)) → IsFreedChain segs a ps → length ps ≤ cell_total segs → freed_cells segs a ≡ ps

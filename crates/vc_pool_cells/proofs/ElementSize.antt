@@ -3,9 +3,8 @@ use Rattle.std.proofs.Common.{◌≡◌, ℕ, ◌<◌, ◌≤◌, List, [], All,
 use Rattle.std.proofs.lemmas.Bool.{cases_eq}
 use Rattle.std.proofs.lemmas.List.{length-replicate, nil_from_length}
 use Rattle.std.proofs.lemmas.List.Elements.{All-nil}
-use Rattle.vc_model.specs.Discipline.{IsSegmentSize}
 use Rattle.vc_model.specs.Pool.{cell_for}
-use Rattle.vc_seg.specs.Segment.{Bytes, IsRegionSegment, pair_of, zero_segment}
+use Rattle.vc_seg.specs.Segment.{Bytes, pair_of, zero_segment}
 use Rattle.vc_pool_cells.specs.Blocks.{layout_by}
 use Rattle.vc_pool_cells.specs.Cells.{Cells}
 use Rattle.vc_pool_cells.specs.Freed.{cells_at, freed_cells, index_at}
@@ -63,11 +62,3 @@ module _ (s : Bytes) (n bytes : ℕ) (is : s ≡ zero_segment n bytes) where
 
   pub zeroed-pair : (let pair : ℕ × ℕ = (n, bytes) in pair_of s ≡ pair)
   zeroed-pair = λ j. ((is j).number, zeroed-length j)
-
-  pub zeroed-legal : 1 ≤ n → n ≤ 1023 → IsSegmentSize bytes → IsRegionSegment s
-  zeroed-legal first last size =
-      record {
-        first = subst (λ (b : Bytes). 1 ≤ b.number) (sym is) first;
-        last = subst (λ (b : Bytes). b.number ≤ 1023) (sym is) last;
-        size = subst IsSegmentSize (sym zeroed-length) size;
-      }

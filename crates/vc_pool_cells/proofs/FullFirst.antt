@@ -21,8 +21,7 @@ full-before [] f h i j d le lt full = absurd (omega (arith, lt))
 full-before (s ∷ ss) f h zero zero d le lt full = full
 full-before (s ∷ ss) f h zero (suc j) d le lt full =
     let c = All-tail HasCells s ss h j d (omega (arith, lt)) in
-    let some = c.some in
-    f.0 j d (omega (arith, lt)) (omega (arith, some, full))
+    f.0 j d (omega (arith, lt)) (omega (arith, full))
 full-before (s ∷ ss) f h (suc i) zero d le lt full = absurd (omega (arith, le))
 full-before (s ∷ ss) f h (suc i) (suc j) d le lt full = full-before ss f.1 (All-tail HasCells s ss h) i j d (omega (arith, le)) (omega (arith, lt)) full
 

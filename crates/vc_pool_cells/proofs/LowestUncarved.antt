@@ -115,8 +115,7 @@ module _ (element : ℕ) (segs : List PoolSegment) (k : AreCellular element (cel
   pub uncarved-there : (i a : ℕ) → IsFirstOpen (cells_in segs) i → HoldsAt (λ (s : PoolSegment). (let at : ℕ × ℕ = (s.seg.number, cell_offset (cell_for element) s.carved) in place_of a ≡ at)) segs i →
       Some (place_of a) ≡ uncarved (cell_for element) (carved_by (cells_in segs)) (map pair_of (cells_in segs))
   uncarved-there i a f place =
-      let lt = f.within in
-      let within : i < length segs = omega (arith, lt, length-map segs cells_of) in
+      let within : i < length segs = omega (arith, length-map segs cells_of) in
       let d : PoolSegment = some-of segs i within in
       let at : Cells → ℕ × ℕ = λ s. (s.number, cell_offset (cell_for element) s.carved) in
       ap Some (place d ∙ ap at (sym (cells-get segs i d (cells_of d) within))) ∙ sym (uncarved-first element (cells_in segs) k some i (cells_of d) f)

@@ -70,23 +70,21 @@ module _ (cell element : ℕ) (u : Cells) (some : 1 ≤ cell) (h : IsFresh cell 
   cells-some : 1 ≤ length u.pairs
   cells-some =
       let q : ℕ = (length u.bytes - 32) / cell in
-      let least = h.least in
       let long : length u.pairs ≡ q = ap length h.pairs ∙ length-replicate q (0, 0) in
       ⊎_elim
-      (λ (z : q ≡ 0). let zero : cell * q ≡ cell * 0 = ap (λ x. cell * x) z in let small : length u.bytes - 32 < cell = omega (arith, zero, some) in absurd (omega (arith, small, least)))
+      (λ (z : q ≡ 0). let zero : cell * q ≡ cell * 0 = ap (λ x. cell * x) z in let small : length u.bytes - 32 < cell = omega (arith, zero, some) in absurd (omega (arith, small)))
       (λ (z : q ≡ 0 → ⊥). omega (arith, long, z))
       (cases_eq q 0)
 
   fresh-cellular : IsCellular cell element u
   fresh-cellular =
       let q : ℕ = (length u.bytes - 32) / cell in
-      let none = h.carved in
       let all : (P : ℕ × ℕ → Type 0) → P (0, 0) → All P u.pairs = λ P z. subst (λ (xs : List (ℕ × ℕ)). All P xs) (sym h.pairs) (All-replicate P q (0, 0) z) in
       record {
         count = ap length h.pairs ∙ length-replicate q (0, 0);
         some = cells-some;
-        few = omega (arith, none);
-        fresh = subst (λ (n : ℕ). All (λ (c : ℕ × ℕ). c.0 ≡ 0) (drop n u.pairs)) (sym none) (all (λ c. c.0 ≡ 0) refl);
+        few = omega (arith, h.carved);
+        fresh = subst (λ (n : ℕ). All (λ (c : ℕ × ℕ). c.0 ≡ 0) (drop n u.pairs)) (sym h.carved) (all (λ c. c.0 ≡ 0) refl);
         fits = all (λ c. c.0 ≤ element) (omega arith);
         blank = all (λ c. c.0 ≡ 0 → c.1 ≡ 0) (λ e. refl);
       }
@@ -107,13 +105,12 @@ module _ (element : ℕ) (segs : List Cells) (u : Cells) (k : AreCellular elemen
   -- and where each before it is full, it is the first that isn't
   pub open-grown : All IsFull segs → IsFirstOpen grown (length segs)
   open-grown full =
-      let none = fresh.carved in
       let cells = cells-some (cell_for element) element u (omega (arith, some)) fresh in
       record {
         within = omega (arith, length-append segs (u ∷ []));
         first = record {
           full = subst (λ (ss : List Cells). All IsFull ss) (sym (take_at segs (u ∷ []) (length segs) refl)) full;
-          room = λ lt d. subst (λ (s : Cells). s.carved < length s.pairs) (sym (get_or_push segs u d (length segs) refl)) (omega (arith, none, cells));
+          room = λ lt d. subst (λ (s : Cells). s.carved < length s.pairs) (sym (get_or_push segs u d (length segs) refl)) (omega (arith, cells));
         };
       }
 

@@ -40,8 +40,7 @@ module _ (element : ℕ) (olds news : List PoolSegment) (x : PoolSegment) (is : 
       let at : PoolSegment → ℕ × ℕ = λ s. (s.seg.number, cell_offset (cell_for element) s.carved) in
       let own : get_or news (length olds) x ≡ x = ap (λ (ss : List PoolSegment). get_or ss (length olds) x) is ∙ get_or_push olds x x (length olds) refl in
       let pair : ℕ → ℕ × ℕ = λ n. (x.seg.number, n) in
-      let carved = fresh.carved in
-      place x ∙ (ap at own ∙ ap pair (ap (cell_offset (cell_for element)) carved ∙ (omega arith)))
+      place x ∙ (ap at own ∙ ap pair (ap (cell_offset (cell_for element)) fresh.carved ∙ (omega arith)))
 
   pub carved-pushed : (tag size before last a : ℕ) (after : List Cells) → IsSetFrom element before → IsPool before (cells_in olds) last → (let at : ℕ × ℕ = (x.seg.number, 32) in place_of a ≡ at) →
       (IsPool element (cells_in news) last → IsCarvedAt element tag size (cells_in news) after last a) →

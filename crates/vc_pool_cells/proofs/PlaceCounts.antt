@@ -139,8 +139,7 @@ few-freed cell segs ps few free once =
     (λ (none : times at ps ≡ 0). omega (arith, none))
     (λ (some : times at ps ≡ 0 → ⊥).
     let own = times-some (IsFreeCell cell segs) at ps free (omega (arith, some)) in
-    let below = own.below in
-    let all = times-all cell (index_at cell at.1) at segs own.offset (omega (arith, below, few at.0)) in
+    let all = times-all cell (index_at cell at.1) at segs own.offset (omega (arith, few at.0)) in
     let single = once at in
     omega (arith, all, single))
     (cases_eq (times at ps) 0)) in

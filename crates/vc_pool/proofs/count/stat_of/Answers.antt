@@ -17,9 +17,8 @@ tally_segments-segments-requires c = HasRoom-segments (map pair_in c.args.segs.n
 
 pub overflow_cast-result : goal.overflow_cast-result
 overflow_cast-result c =
-    let few = c.requires.kept.segments.few in
     let count = segments-count c.args.segs.now c.tally_segments-segments.result c.tally_segments-segments.ensures in
-    omega (arith, few, count, length-map (cells_in c.args.segs.now) pair_of, length-map (cells_in c.args.segs.now) segment_of)
+    omega (arith, count, length-map (cells_in c.args.segs.now) pair_of, length-map (cells_in c.args.segs.now) segment_of)
 
 pub returns : goal.returns
 unfolding pool_by layout_by

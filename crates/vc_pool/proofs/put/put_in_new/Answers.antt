@@ -27,11 +27,8 @@ few g c = let n = c.if-len-ge1023.false in omega (arith, n)
 
 pub lend_segment-requires-clause-bytes : goal.lend_segment-requires-clause-bytes
 lend_segment-requires-clause-bytes g c =
-    let fits = c.requires.size.fits in
-    let some = c.requires.size.some in
-    let most = c.requires.kept.most in
     rw (c.rounded_up-bytes.ensures, c.rounded_up-cell.ensures)
-    (IsSegmentSize-asked c.round_of.result (32 + cell_for c.args.element) c.round_of.ensures.legal (omega (arith, fits, some)) (omega (arith, most)))
+    (IsSegmentSize-asked c.round_of.result (32 + cell_for c.args.element) c.round_of.ensures.legal (omega arith) (omega arith))
 
 pub lend_segment-requires-clause-multiple : goal.lend_segment-requires-clause-multiple
 lend_segment-requires-clause-multiple g c =

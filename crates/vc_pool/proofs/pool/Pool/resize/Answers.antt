@@ -53,8 +53,7 @@ returns-clause-ok g c =
     let at = (goal.at.returns-clause-ok g c).After-resize_at in
     let some : 1 ≤ c.args.self.now.element = let low = c.if-size-self.false in let least = c.requires.size.some in omega (arith, low, least) in
     let with = with-set c.args.self.now.segs.items c.args.self.now.element c.args.self.now.freed.0 c.args.size some in
-    let fits = c.if-size-self.false in
-    resize-stays (pool_by c.args.self.now.segs.items c.args.self.now.element c.args.self.now.freed.0) (place_of c.args.a.0) c.args.size (omega (arith, with, fits))
+    resize-stays (pool_by c.args.self.now.segs.items c.args.self.now.element c.args.self.now.freed.0) (place_of c.args.a.0) c.args.size (omega (arith, with))
     ∙ ap (λ (p : Pool ℕ). Done (record { at = place_of c.args.a.0; region = p; granted = None })) (sym (pool g at))
 
 pub returns-clause-kept : goal.returns-clause-kept
@@ -66,5 +65,4 @@ returns-then-size-self-clause-err g c =
     let h = kept-of c.args.self.now in
     let some = with-block c.args.self.now.segs.items c.args.self.now.element c.args.self.now.freed.0 c.args.a.0 h.cells c.requires.block in
     let with = with-set c.args.self.now.segs.items c.args.self.now.element c.args.self.now.freed.0 c.args.size some in
-    let above = c.if-size-self.true in
-    resize-greater (pool_by c.args.self.now.segs.items c.args.self.now.element c.args.self.now.freed.0) (place_of c.args.a.0) c.args.size (omega (arith, with, above))
+    resize-greater (pool_by c.args.self.now.segs.items c.args.self.now.element c.args.self.now.freed.0) (place_of c.args.a.0) c.args.size (omega (arith, with))

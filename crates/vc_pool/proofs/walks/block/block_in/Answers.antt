@@ -34,11 +34,10 @@ returns-then-off-lt32 c =
 
 pub returns-then-index-len : goal.returns-then-index-len
 returns-then-index-len c =
-    let past = c.if-index-len.true in
     let len : c.len.result ≡ vec_len c.index-segs-place.result.cells = c.len.ensures ∙ ap (λ (s : PoolSegment). vec_len s.cells) (sym c.index-segs-place.is) in
     record {
       value = rw (none-listed c.args.element c.in_ok-place.place c.args.seg c.args.off c.args.segs.now c.index-segs-place.result c.requires.kept c.in_ok-place.ensures.found.0 c.in_ok-place.ensures.found.1 c.index-segs-place.is
-          c.rounded_up-cell.result c.rounded_up-cell.ensures (omega (arith, past, len)))
+          c.rounded_up-cell.result c.rounded_up-cell.ensures (omega (arith, len)))
           refl;
       live = tt;
     }
@@ -55,11 +54,10 @@ returns-then-inner-pair c =
 -- the cell that the segment lists is the one whose pair is read
 listed : (c : After-pair) → (c.args.off - 32) / c.rounded_up-cell.result < length c.index-segs-place-2.result.cells.items
 listed c =
-    let within = c.if-index-len.false in
     let len : c.len.result ≡ vec_len c.index-segs-place.result.cells = c.len.ensures ∙ ap (λ (s : PoolSegment). vec_len s.cells) (sym c.index-segs-place.is) in
     subst (λ (s : PoolSegment). (c.args.off - 32) / c.rounded_up-cell.result < length s.cells.items)
     (c.index-segs-place.is ∙ (get_or_default c.args.segs.now c.in_ok-place.place c.index-segs-place.result c.index-segs-place-2.result c.in_ok-place.ensures.found.0 ∙ sym c.index-segs-place-2.is))
-    (omega (arith, within, len))
+    (omega (arith, len))
 
 small : (c : After-pair) → cell_offset c.rounded_up-cell.result ((c.args.off - 32) / c.rounded_up-cell.result) < 33554432
 small c =

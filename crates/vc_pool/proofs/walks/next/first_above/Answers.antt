@@ -9,12 +9,11 @@ use Rattle.vc_pool.proofs.walks.next.first_above.Goals as goal
 
 pub returns-in-Some-first_in-clause-found : goal.returns-in-Some-first_in-clause-found
 returns-in-Some-first_in-clause-found c =
-    let start = c.loop-next.invariant.up in
     let is = sym (c.next_segment.ensures ∙ ap (next_segment c.loop-next.after) (pairs-in c.args.segs.now)) ∙ c.in-Some.is in
     let above = next-above c.loop-next.after (cells_in c.args.segs.now) c.in-Some.next c.in-Some.field-0-1 is in
     record {
       number = c.in-Some.next;
-      above = omega (arith, start, above);
+      above = omega (arith, above);
       between = bare-before c.loop-next.after (cells_in c.args.segs.now) c.args.number c.in-Some.next c.in-Some.field-0-1 c.loop-next.invariant.bare is;
       first = c.in-Some-first_in.ensures.found;
     }
@@ -28,11 +27,10 @@ loop-next-smaller c =
 
 pub loop-next-preserved : goal.loop-next-preserved
 loop-next-preserved c =
-    let start = c.loop-next.invariant.up in
     let is = sym (c.next_segment.ensures ∙ ap (next_segment c.loop-next.after) (pairs-in c.args.segs.now)) ∙ c.in-Some.is in
     let above = next-above c.loop-next.after (cells_in c.args.segs.now) c.in-Some.next c.in-Some.field-0-1 is in
     record {
-      up = omega (arith, start, above);
+      up = omega (arith, above);
       bare = λ m over le.
           ⊎_elim
           (λ (below : m < c.in-Some.next). bare-before c.loop-next.after (cells_in c.args.segs.now) c.args.number c.in-Some.next c.in-Some.field-0-1 c.loop-next.invariant.bare is m over below)
