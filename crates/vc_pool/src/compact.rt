@@ -16,8 +16,8 @@ use vc_base::Addr;
 use vc_pool_cells::PoolSegment;
 use vc_seg::{SegDisc, give_back};
 
-/// Gives back each segment without a block, in ascending order of number, and counts them. Their freed cells leave the
-/// chain, and the order of the others stays.
+// Gives back each segment without a block, in ascending order of number, and counts them. Their freed cells leave the
+// chain, and the order of the others stays.
 pub(crate) fn compact_in(
     segs: &mut Vec<PoolSegment>,
     freed: &mut Addr,

@@ -9,7 +9,7 @@ use vc_layouts::tally_segments;
 use vc_pool_cells::PoolSegment;
 use vc_seg::{Stat, rounded_up};
 
-/// The numbers of blocks, cells and segments, and their sizes in bytes.
+// The numbers of blocks, cells and segments, and their sizes in bytes.
 pub(crate) fn stat_of(segs: &[PoolSegment], element: u32) -> Stat
     requires kept { AreCellular element (cells_in segs.now) }
     ensures { (freed : ℕ) → result ≡ pool_stat (pool_by segs.now element freed) }

@@ -16,7 +16,7 @@ use vc_base::Addr;
 use vc_pool_cells::{PoolSegment, carve_lowest, carve_new, reuse};
 use vc_seg::{RegionFault, SegDisc, lend_segment, lowest_unused, round_of, rounded_up};
 
-/// The element size when a block of this size is put: the first block sets it. 0 stands for none.
+// The element size when a block of this size is put: the first block sets it. 0 stands for none.
 fn element_with(element: u32, size: u32) -> u32
     requires { 1 ≤ size }
     ensures set { 1 ≤ element → element ≡ result }
@@ -26,7 +26,7 @@ fn element_with(element: u32, size: u32) -> u32
     if element == 0 { size } else { element }
 }
 
-/// Room for one more.
+// Room for one more.
 fn reserve_one<T>(list: &mut Vec<T>) -> Result<(), RegionFault>
     ensures items { list.new.items ≡ list.old.items }
     ensures ok { OnOk result (vec_len list.new < vec_capacity list.new) }
@@ -35,7 +35,7 @@ fn reserve_one<T>(list: &mut Vec<T>) -> Result<(), RegionFault>
     list.reserve(1).map_err(|_| RegionFault::OutOfMemory)
 }
 
-/// A table with a pair (0, 0) for each of that many cells.
+// A table with a pair (0, 0) for each of that many cells.
 fn table_of(alloc: Global, cells: u32) -> Result<Vec<(u32, u32)>, RegionFault>
     ensures items { IfOk result (λ table. table.items ≡ replicate cells (0, 0)) }
     ensures only { IfErr result (λ e. e ≡ RegionFault.OutOfMemory) }
@@ -43,9 +43,9 @@ fn table_of(alloc: Global, cells: u32) -> Result<Vec<(u32, u32)>, RegionFault>
     vec![in alloc; (0u32, 0u32); cells as usize].map_err(|_| RegionFault::OutOfMemory)
 }
 
-/// A block of zeros in the first cell of a segment that is asked for, under the least number that no segment has.
-/// `TooManySegments` comes exactly where there are 1,023, before memory is wanted, and `NoSegment` where the discipline
-/// refuses. The memory for the list and for the table of the cells comes first, so that nothing is asked for in vain.
+// A block of zeros in the first cell of a segment that is asked for, under the least number that no segment has.
+// `TooManySegments` comes exactly where there are 1,023, before memory is wanted, and `NoSegment` where the discipline
+// refuses. The memory for the list and for the table of the cells comes first, so that nothing is asked for in vain.
 fn put_in_new(
     segs: &mut Vec<PoolSegment>,
     disc: &mut Box<dyn SegDisc>,
@@ -82,7 +82,7 @@ fn put_in_new(
     Ok(carve_new(segs, segment, table, element, size, tag))
 }
 
-/// A block of zeros in the cell freed last, else in the lowest uncarved cell, else in a segment that is asked for.
+// A block of zeros in the cell freed last, else in the lowest uncarved cell, else in a segment that is asked for.
 pub(crate) fn alloc_in(
     segs: &mut Vec<PoolSegment>,
     element: &mut u32,

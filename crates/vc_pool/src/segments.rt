@@ -1,4 +1,3 @@
-// The segments of a pool.
 ghost use Rattle.std.specs.Prelude.{◌≡◌, ◌≤◌, drop, length, map};
 ghost use Rattle.vc_layouts.specs.Tally.{tally_of};
 ghost use Rattle.vc_pool.specs.Parts.{segments_in};

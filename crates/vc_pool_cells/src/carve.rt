@@ -16,7 +16,7 @@ use crate::open::find_open;
 use vc_base::Addr;
 use vc_seg::rounded_up;
 
-/// Puts a block of zeros into the lowest uncarved cell of a segment, and answers its address.
+// Puts a block of zeros into the lowest uncarved cell of a segment, and answers its address.
 fn carve_in(segment: &mut PoolSegment, element: u32, size: u32, tag: u32) -> Addr
     requires legal { IsRegionSegment (segment_of (cells_of segment.old)) }
     requires cell { HasCell (cell_for element) segment.old.carved (cells_of segment.old) }
@@ -34,8 +34,8 @@ fn carve_in(segment: &mut PoolSegment, element: u32, size: u32, tag: u32) -> Add
     a
 }
 
-/// Puts a block of zeros into the lowest uncarved cell of the segment at a place, the first that isn't full, and answers its
-/// address.
+// Puts a block of zeros into the lowest uncarved cell of the segment at a place, the first that isn't full, and answers its
+// address.
 pub(crate) fn carve_at(
     segs: &mut [PoolSegment],
     place: usize,

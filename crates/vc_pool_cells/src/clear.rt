@@ -6,7 +6,7 @@ ghost use Rattle.vc_pool_cells.specs.Carve.{IsUncarved};
 
 use crate::PoolSegment;
 
-/// Takes every block out. No cell is carved then.
+// Takes every block out. No cell is carved then.
 fn uncarve_each(segs: &mut [PoolSegment])
     ensures { cells_in segs.new ≡ map uncarved_all (cells_in segs.old) }
 {

@@ -5,8 +5,8 @@ ghost use Rattle.vc_pool_cells.specs.Open.{HasCells, IsOpenFrom};
 
 use crate::PoolSegment;
 
-/// Where the first segment with an uncarved cell is among these, or how many they are where each is full. It is found by
-/// bisection, since the full ones stand first.
+// Where the first segment with an uncarved cell is among these, or how many they are where each is full. It is found by
+// bisection, since the full ones stand first.
 pub(crate) fn find_open(segs: &[PoolSegment]) -> usize
     requires front { IsFront (cells_in segs.now) }
     requires cells { All HasCells (cells_in segs.now) }

@@ -5,7 +5,7 @@ ghost use Rattle.vc_pool.specs.Marks.{has_block, has_block_at};
 
 use vc_pool_cells::PoolSegment;
 
-/// Whether a block is in a cell of a segment.
+// Whether a block is in a cell of a segment.
 fn has_block(segment: &PoolSegment) -> bool
     ensures { result ≡ has_block (cells_of segment.now) }
 {
@@ -17,7 +17,7 @@ fn has_block(segment: &PoolSegment) -> bool
     false
 }
 
-/// Marks the number of a segment where a block is in it.
+// Marks the number of a segment where a block is in it.
 fn mark_one(segment: &PoolSegment, marks: &mut [bool])
     requires number { segment.now.seg.number < 1024 }
     requires len { length marks.old ≡ 1024 }
@@ -31,7 +31,7 @@ fn mark_one(segment: &PoolSegment, marks: &mut [bool])
     }
 }
 
-/// Marks the number of each segment that a block is in.
+// Marks the number of each segment that a block is in.
 pub(crate) fn mark(segs: &[PoolSegment], marks: &mut [bool])
     requires numbers { All (λ s. s.seg.number < 1024) segs.now }
     requires len { length marks.old ≡ 1024 }

@@ -11,7 +11,7 @@ use vc_base::Addr;
 use vc_pool_cells::{PoolSegment, find_cell};
 use vc_seg::rounded_up;
 
-/// The address that the cell at one names.
+// The address that the cell at one names.
 fn link_of(segs: &[PoolSegment], element: u32, a: Addr) -> Addr
     requires kept { AreCellular element (cells_in segs.now) }
     requires listed { IsListed (cell_for element) (cells_in segs.now) (place_of a.0) }
@@ -23,7 +23,7 @@ fn link_of(segs: &[PoolSegment], element: u32, a: Addr) -> Addr
     segs[place].link(cell, index)
 }
 
-/// The cell at an address, in which no block is, names another.
+// The cell at an address, in which no block is, names another.
 fn set_link(segs: &mut [PoolSegment], element: u32, a: Addr, link: Addr)
     requires kept { AreCellular element (cells_in segs.old) }
     requires listed { IsListed (cell_for element) (cells_in segs.old) (place_of a.0) }
@@ -34,8 +34,8 @@ fn set_link(segs: &mut [PoolSegment], element: u32, a: Addr, link: Addr)
     segs[place].release(cell, index, link);
 }
 
-/// The freed cell behind one, or the one freed last where that is none, leaves the chain, and the one at another address
-/// stands in its place.
+// The freed cell behind one, or the one freed last where that is none, leaves the chain, and the one at another address
+// stands in its place.
 fn leave_out(
     segs: &mut [PoolSegment],
     freed: &mut Addr,
@@ -59,8 +59,8 @@ fn leave_out(
     }
 }
 
-/// Goes on by one freed cell, which stays in the chain where its segment's number is marked. Answers the last cell that
-/// stays and the next one to be looked at.
+// Goes on by one freed cell, which stays in the chain where its segment's number is marked. Answers the last cell that
+// stays and the next one to be looked at.
 fn sift(
     segs: &mut [PoolSegment],
     freed: &mut Addr,
@@ -86,7 +86,7 @@ fn sift(
     (last, next)
 }
 
-/// The freed cells whose segment's number isn't marked leave the chain. The order of the others stays.
+// The freed cells whose segment's number isn't marked leave the chain. The order of the others stays.
 pub(crate) fn relink(segs: &mut [PoolSegment], freed: &mut Addr, element: u32, marks: &[bool])
     requires kept { IsPool element (cells_in segs.old) freed.old.0 }
     requires marks { length marks.now ≡ 1024 }

@@ -8,7 +8,7 @@ use vc_base::Addr;
 use vc_pool_cells::{PoolSegment, offset_of};
 use vc_seg::{find_number, rounded_up};
 
-/// The block whose bytes hold the byte at an offset of a segment, and the offset in it. None where no block does.
+// The block whose bytes hold the byte at an offset of a segment, and the offset in it. None where no block does.
 pub(crate) fn block_in(
     segs: &[PoolSegment],
     element: u32,

@@ -4,7 +4,7 @@ ghost use Rattle.vc_pool.specs.First.{AreEmpty, IsFirstBlock};
 
 use vc_pool_cells::PoolSegment;
 
-/// The first of a segment's cells from an index on that has a block, by its index. None is in a cell that wasn't carved.
+// The first of a segment's cells from an index on that has a block, by its index. None is in a cell that wasn't carved.
 pub(crate) fn first_block(segment: &PoolSegment, from: u32) -> Option<u32>
     requires few { segment.now.carved ≤ length segment.now.cells.items }
     requires fresh { All (λ c. c.0 ≡ 0) (drop segment.now.carved segment.now.cells.items) }

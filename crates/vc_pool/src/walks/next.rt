@@ -13,7 +13,7 @@ use vc_base::Addr;
 use vc_pool_cells::{PoolSegment, offset_of};
 use vc_seg::{find_number, next_segment, rounded_up};
 
-/// The index of the first cell that begins behind an offset in its segment.
+// The index of the first cell that begins behind an offset in its segment.
 fn index_behind(cell: u32, off: u32) -> u32
     requires { 1 ≤ cell }
     ensures before { (k : ℕ) → k < result → cell_offset cell k ≤ off }
@@ -22,7 +22,7 @@ fn index_behind(cell: u32, off: u32) -> u32
     if off < 32 { 0 } else { (off - 32) / cell + 1 }
 }
 
-/// The first block of the segment of that number, of those in the cells from an index on.
+// The first block of the segment of that number, of those in the cells from an index on.
 fn first_in(segs: &[PoolSegment], element: u32, number: u32, from: u32) -> Option<Addr>
     requires kept { AreCellular element (cells_in segs.now) }
     ensures found { IfSome result
@@ -39,7 +39,7 @@ fn first_in(segs: &[PoolSegment], element: u32, number: u32, from: u32) -> Optio
     Some(Addr::new(number, offset_of(cell, index)))
 }
 
-/// The first block of the segments with a number above one.
+// The first block of the segments with a number above one.
 fn first_above(segs: &[PoolSegment], element: u32, number: u32) -> Option<Addr>
     requires kept { AreCellular element (cells_in segs.now) }
     ensures found { IfSome result
@@ -58,7 +58,7 @@ fn first_above(segs: &[PoolSegment], element: u32, number: u32) -> Option<Addr>
     None
 }
 
-/// The block with the least address above one. None where there is none.
+// The block with the least address above one. None where there is none.
 pub(crate) fn next_in(segs: &[PoolSegment], element: u32, after: Addr) -> Option<Addr>
     requires kept { AreCellular element (cells_in segs.now) }
     ensures { IsNextBlock result after.0 (layout_by (cell_for element) (cells_in segs.now)).blocks }

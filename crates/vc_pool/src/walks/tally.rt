@@ -11,7 +11,7 @@ ghost use Rattle.vc_pool.specs.Sizes.{HaveCells, element_of, sizes_in};
 use vc_layouts::{Tally, tally_segments};
 use vc_pool_cells::PoolSegment;
 
-/// A tally with the sizes of the blocks in these cells.
+// A tally with the sizes of the blocks in these cells.
 fn with_cells(before: Tally, cells: &[(u32, u32)]) -> Tally
     requires { HasRoom before (sizes_in cells.now) }
     ensures { result ≡ tallied_all before (sizes_in cells.now) }
@@ -25,7 +25,7 @@ fn with_cells(before: Tally, cells: &[(u32, u32)]) -> Tally
     tally
 }
 
-/// A tally with the sizes of the blocks in a segment's cells. None is in a cell that wasn't carved.
+// A tally with the sizes of the blocks in a segment's cells. None is in a cell that wasn't carved.
 fn with_segment(before: Tally, segment: &PoolSegment) -> Tally
     requires room { HasRoom before (sizes_in segment.now.cells.items) }
     requires few { segment.now.carved ≤ length segment.now.cells.items }
@@ -35,7 +35,7 @@ fn with_segment(before: Tally, segment: &PoolSegment) -> Tally
     with_cells(before, &segment.cells[..segment.carved as usize])
 }
 
-/// How many blocks there are, the sum of their sizes and the greatest, in bytes.
+// How many blocks there are, the sum of their sizes and the greatest, in bytes.
 pub(crate) fn tally_blocks(segs: &[PoolSegment], element: u32) -> Tally
     requires kept { AreCellular element (cells_in segs.now) }
     ensures count { result.count ≡ block_count (layout_by (cell_for element) (cells_in segs.now)) }
@@ -50,7 +50,7 @@ pub(crate) fn tally_blocks(segs: &[PoolSegment], element: u32) -> Tally
     tally
 }
 
-/// The segments behind the first ones, in order of lending: none where there are no more than these.
+// The segments behind the first ones, in order of lending: none where there are no more than these.
 pub(crate) fn tally_behind(segs: &[PoolSegment], first: usize) -> Tally
     requires { AreSegments (map segment_of (cells_in segs.now)) }
     ensures value { result ≡ tally_of (map (λ s. s.1) (drop first (map pair_of (cells_in segs.now)))) }
@@ -59,7 +59,7 @@ pub(crate) fn tally_behind(segs: &[PoolSegment], first: usize) -> Tally
     tally_segments(&segs[first.min(segs.len())..])
 }
 
-/// How many cells there are.
+// How many cells there are.
 pub(crate) fn count_cells(segs: &[PoolSegment]) -> u64
     requires { HaveCells (cells_in segs.now) }
     ensures value { (element : ℕ) → AreCellular element (cells_in segs.now)
