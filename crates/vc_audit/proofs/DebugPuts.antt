@@ -1,5 +1,6 @@
 -- What putting and resizing a block with guards leaves of the user's blocks.
 use Rattle.std.proofs.Common.{◌≡◌, ℕ, suc, ◌+◌, ◌-◌, ◌≤◌, Bool, true, false, List, [], ◌∷◌, ◌++◌, Option, Some, None, IfSome, drop, length, map, min, option_map, refl, replicate, sym, ap, ◌∙◌, subst, take, ⊎_elim, eqb, arith, append_assoc, length-take}
+use Rattle.std.specs.Prelude.{unwrap_or}
 use Rattle.std.proofs.lemmas.Bool.{cases_Bool, and_parts, eqb-true}
 use Rattle.std.proofs.lemmas.Option.{none-some}
 use Rattle.std.proofs.lemmas.List.{drop_at, drop-replicate, length-replicate, take-append-le, take-replicate, take-take}
@@ -42,6 +43,10 @@ live-found (c ∷ cs) x b e =
 pub live-sized : (bs : List (Block ℕ)) (x size : ℕ) (o : Option (Block ℕ)) → find_block (place_of x) bs ≡ o → option_map (λ b. b.size) o ≡ Some size → HasBlock bs x
 live-sized bs x size None found e = absurd (none-some size e)
 live-sized bs x size (Some b) found e = live-found bs x b found
+
+pub range-sized : (o : Option (Block ℕ)) (size : ℕ) → option_map (λ b. b.size) o ≡ Some size → IfSome o (λ b. 0 + size ≤ b.size)
+range-sized None size e = tt
+range-sized (Some b) size e = let same : b.size ≡ size = ap (λ o. unwrap_or o 0) e in omega (arith, same)
 
 address-next : (p : ℕ × ℕ) → address (user_place p) ≡ address p + 1
 address-next p = omega arith

@@ -1,11 +1,12 @@
 -- What a profile region counts when a block is put.
-use Rattle.std.proofs.Common.{◌≡◌, ◌≢◌, ℕ, suc, ◌+◌, ◌*◌, ◌<◌, ◌≤◌, eqb, false, Bool, cond, List, [], ◌∷◌, Some, IsSome, Option, None, is_some, map, refl, sym, ap, ◌∙◌, subst, arith}
+use Rattle.std.proofs.Common.{◌≡◌, ◌≢◌, ℕ, suc, ◌+◌, ◌*◌, ◌<◌, ◌≤◌, eqb, false, Bool, cond, List, [], ◌∷◌, Some, IsSome, Option, None, is_some, length, map, refl, sym, ap, ◌∙◌, subst, arith}
 use Rattle.std.specs.Prelude.{unwrap_or}
 use Rattle.std.specs.List.{AllByRecursion, IsDistinct}
 use Rattle.std.specs.Map.{keys_of, lookup}
 use Rattle.std.specs.Str.{bytes_eq}
 use Rattle.std.proofs.lemmas.Bool.{eq-eqb}
 use Rattle.std.proofs.lemmas.Bool.Decides.{nat_tests}
+use Rattle.std.proofs.lemmas.List.{length-map}
 use Rattle.indexmap.specs.IndexMap.{insert_entry}
 use Rattle.vc_model.specs.Best.{best_alloc, zeros}
 use Rattle.vc_model.specs.Discipline.{Terms}
@@ -23,7 +24,7 @@ use Rattle.vc_audit.specs.ProfileSums.{IsCounted, IsHeld, IsRow, Rows, peaks_of,
 use Rattle.vc_audit.specs.declared.profile.rows.Row.{Row}
 use Rattle.vc_audit.specs.declared.profile.sites.Sited.{Sited}
 use Rattle.vc_audit.proofs.ProfileBare.{IsKept, bare, bare-layout, kept-layout}
-use Rattle.vc_audit.proofs.ProfileCounts.{blocks-total, bytes-few, bytes-total, one, size_at, total-with}
+use Rattle.vc_audit.proofs.ProfileCounts.{blocks-few, blocks-total, bytes-few, bytes-total, one, size_at, total-with}
 use Rattle.vc_audit.proofs.ProfileFree.{profile}
 use Rattle.vc_audit.proofs.ProfileHeld.{held-put, other-site, row-any}
 use Rattle.vc_audit.proofs.ProfileLists.{all-with}
@@ -56,6 +57,12 @@ few-bytes {r} {t} {es} site v counted is =
     let row = subst (λ x. IsRow S (site, x)) (sym is) (row-any t es site r.blocks counted.held counted.counted) in
     let sizes : AllByRecursion (λ (b : Block (ℕ × List ℕ)). b.size ≤ 16777216) S = all-map (λ (b : Block (ℕ × List ℕ)). b.size ≤ 16777216) (with_its_site t) r.blocks (all-weaken (IsHeld t es) (λ b. b.size ≤ 16777216) r.blocks (λ b h. h.most) counted.held) in
     omega (arith, bytes-few site S sizes, row.blocks_are, row.bytes_are, row.few)
+
+pub few-blocks : {r : Layout ℕ} {t : List Sited} {es : Rows} (site : List ℕ) (v : Row) → IsCounted r t es → v ≡ row_for site es → v.blocks ≤ length r.blocks
+few-blocks {r} {t} {es} site v counted is =
+    let S = map (with_its_site t) r.blocks in
+    let row = subst (λ x. IsRow S (site, x)) (sym is) (row-any t es site r.blocks counted.held counted.counted) in
+    omega (arith, blocks-few site S, row.blocks_are, length-map r.blocks (with_its_site t))
 
 -- a block is put at an address that none has, with a site that has the row and room for one more
 pub record IsPutAt (r : Layout ℕ) (t t' : List Sited) (es : Rows) (a size : ℕ) (site : List ℕ) (v : Row) : Type 0 where

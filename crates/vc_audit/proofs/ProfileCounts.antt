@@ -1,5 +1,5 @@
 -- The sums of a site over blocks of which one is put, changed or taken out.
-use Rattle.std.proofs.Common.{◌≡◌, ℕ, ◌+◌, ◌*◌, ◌≤◌, true, false, cond, List, [], ◌∷◌, Some, length, map, filter, refl, sym, ap, ◌∙◌, ⊎_elim, arith}
+use Rattle.std.proofs.Common.{◌≡◌, ℕ, suc, ◌+◌, ◌*◌, ◌≤◌, true, false, cond, List, [], ◌∷◌, Some, length, map, filter, refl, sym, ap, ◌∙◌, ⊎_elim, arith}
 use Rattle.std.specs.Prelude.{sum}
 use Rattle.std.specs.List.{AllByRecursion}
 use Rattle.std.proofs.lemmas.Bool.{cases_Bool}
@@ -65,6 +65,17 @@ module _ {L : Type 0} (site : List ℕ) where
       let rest = few-bytes bs all.1 in
       elim (has_site site b) as (λ v. cond v b.size 0 + total size_at bs ≤ 16777216 * (cond v 1 0 + total one bs))
       [ true ↦ omega (arith, rest, all.0) | false ↦ omega (arith, rest) ]
+
+  few-of : (bs : List (Block (L × List ℕ))) → total one bs ≤ length bs
+  few-of [] = omega arith
+  few-of (b ∷ bs) =
+      let rest = few-of bs in
+      elim (has_site site b) as (λ v. cond v 1 0 + total one bs ≤ suc (length bs))
+      [ true ↦ omega (arith, rest) | false ↦ omega (arith, rest) ]
+
+  -- a site has no more blocks than there are
+  pub blocks-few : (bs : List (Block (L × List ℕ))) → site_blocks site bs ≤ length bs
+  blocks-few bs = omega (arith, few-of bs, blocks-total bs)
 
   -- the bytes of a site's blocks, each of which has no more than 16,777,216
   pub bytes-few : (bs : List (Block (L × List ℕ))) → AllByRecursion (λ b. b.size ≤ 16777216) bs → site_bytes site bs ≤ 16777216 * site_blocks site bs

@@ -5,10 +5,10 @@ use Rattle.std.specs.List.{AllByRecursion}
 use Rattle.vc_model.specs.Addr.{address, place_of}
 use Rattle.vc_model.specs.Best.{best_alloc, best_need, place_in, put, put_in_new, put_or_ask, zeros}
 use Rattle.vc_model.specs.Discipline.{Terms}
-use Rattle.vc_model.specs.Layout.{Block, Layout, relabel_layout, with_block, with_segment}
+use Rattle.vc_model.specs.Layout.{Block, Layout, relabel_layout, with_block, with_grant}
 use Rattle.vc_model.specs.Outcome.{Fault, Fixed, Outcome, Done, Put, Refused, outcome_as}
 use Rattle.vc_model.specs.Resize.{best_resize, can_stay, outcome_of_move, resize_block, resize_found, sized_block, stays}
-use Rattle.vc_model.specs.Segments.{Asked, Granted, NotLent, TooMany, ask}
+use Rattle.vc_model.specs.Segments.{Asked, Grant, Granted, NotLent, TooMany, ask}
 use Rattle.vc_model.specs.Touch.{find_block, rewritten_block}
 use Rattle.vc_model.proofs.Relabel.{relabel_outcome}
 use Rattle.vc_seg.specs.Answer.{IsPut, IsRefusal}
@@ -28,18 +28,18 @@ module _ {L : Type 0} where
   abbrev pub HasOneMore : Layout L → L → ℕ → Put (Layout L) → Type 0
   HasOneMore r label size p = p.region.blocks ≡ with_block (zeros label size p.at) r.blocks
 
-  put-blocks : (r : Layout L) (label : L) (size : ℕ) (granted at : Option (ℕ × ℕ)) → OnDone (HasOneMore r label size) (put r label size granted at)
+  put-blocks : (r : Layout L) (label : L) (size : ℕ) (granted : Option Grant) (at : Option (ℕ × ℕ)) → OnDone (HasOneMore r label size) (put r label size granted at)
   put-blocks r label size granted None = tt
   put-blocks r label size granted (Some at) = refl
 
   asked-blocks : (r : Layout L) (label : L) (size align : ℕ) (asked : Asked) → OnDone (HasOneMore r label size) (put_in_new r label size align asked)
-  asked-blocks r label size align (Granted number bytes) = put-blocks (with_segment r (number, bytes)) label size (Some (number, bytes)) (place_in (with_segment r (number, bytes)) size align)
+  asked-blocks r label size align (Granted grant) = put-blocks (with_grant r grant) label size (Some grant) (place_in (with_grant r grant) size align)
   asked-blocks r label size align TooMany = tt
   asked-blocks r label size align NotLent = tt
 
   placed-blocks : (terms : Terms) (r : Layout L) (label : L) (size align : ℕ) (refused : Bool) (at : Option (ℕ × ℕ)) → OnDone (HasOneMore r label size) (put_or_ask terms r label size align refused at)
   placed-blocks terms r label size align refused (Some at) = refl
-  placed-blocks terms r label size align refused None = asked-blocks r label size align (ask (best_need terms size align) r.segments refused)
+  placed-blocks terms r label size align refused None = asked-blocks r label size align (ask terms (best_need terms size align) r.segments refused)
 
   pub alloc-blocks : (terms : Terms) (r : Layout L) (label : L) (size align : ℕ) (refused : Bool) → OnDone (HasOneMore r label size) (best_alloc terms r label size align refused)
   alloc-blocks terms r label size align refused = placed-blocks terms r label size align refused (place_in r size align)

@@ -9,7 +9,7 @@ use Rattle.std.proofs.lemmas.Option.{none-some}
 use Rattle.indexmap.specs.IndexMap.{insert_entry}
 use Rattle.vc_model.specs.Addr.{place_of}
 use Rattle.vc_model.specs.Discipline.{Terms}
-use Rattle.vc_model.specs.Layout.{Block, Layout, address_of, is_at, relabel_block, without_block}
+use Rattle.vc_model.specs.Layout.{Block, Layout, address_of, is_at, relabel_block, relabel_layout, without_block}
 use Rattle.vc_model.specs.Outcome.{Outcome, Put}
 use Rattle.vc_model.specs.Resize.{best_resize}
 use Rattle.vc_model.specs.Sound.{HaveOwnPlaces}
@@ -19,6 +19,7 @@ use Rattle.vc_base.proofs.Quantifiers.{all-weaken, all-both, all-map, all-unmap}
 use Rattle.vc_base.proofs.Texts.{own_bytes}
 use Rattle.vc_seg.specs.Answer.{IsPut, IsRefusal}
 use Rattle.vc_seg.specs.declared.fault.RegionFault.{RegionFault}
+use Rattle.vc_best.specs.Ask.{AsksToMove}
 use Rattle.vc_audit.specs.Profile.{Profile, rows_with_peaks, profile_after, profile_resize, site_blocks, site_bytes}
 use Rattle.vc_audit.specs.ProfileSites.{site_at}
 use Rattle.vc_audit.specs.ProfileSums.{IsCounted, IsHeld, IsRow, Rows, peaks_of, row_for, site_of, with_sites, with_its_site}
@@ -53,6 +54,10 @@ resize-bare t r terms at size may_move u =
 pub resize-refused : (t : List Sited) (r : Layout ℕ) (es : Rows) (terms : Terms) (at : ℕ × ℕ) (size : ℕ) (may_move : Bool) (e : RegionFault) → IsRefusal (best_resize terms r at size may_move) e → IsRefusal (profile_resize terms (profile t r es) at size may_move) e
 resize-refused t r es terms at size may_move e h =
     refusal-with (profile_after (peaks_of es)) (best_resize terms r at size may_move) (best_resize terms (with_sites t r) at size may_move) (resize-bare t r terms at size may_move) e h
+
+-- the region without the sites asks as the best region does
+pub asks-bare : {terms : Terms} (t : List Sited) (r : Layout ℕ) {a size : ℕ} {may_move : Bool} → AsksToMove terms r a size may_move → AsksToMove terms (relabel_layout bare (with_sites t r)) a size may_move
+asks-bare {terms} t r {a} {size} {may_move} h = subst (λ (l : Layout ℕ). AsksToMove terms l a size may_move) (sym (bare-layout t r)) h
 
 -- the block of an address with its site is at another one, of another size, and the others stay
 pub record IsMovedTo (r r' : Layout ℕ) (t t' : List Sited) (a to size : ℕ) (site : List ℕ) : Type 0 where

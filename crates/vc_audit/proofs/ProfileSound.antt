@@ -1,4 +1,5 @@
 -- A profile region has blocks at places of their own, in segments with numbers of their own.
+use Rattle.std.proofs.Common.{ℕ, ◌≤◌, length}
 use Rattle.std.proofs.Math.Bridge.{le_prop}
 use Rattle.std.proofs.Math.Nat.{ℕ_set}
 use Rattle.std.proofs.Math.Logic.{∥∥₁_elim}
@@ -6,6 +7,7 @@ use Rattle.vc_model.specs.Sound.{HaveOwnNumbers, HaveOwnPlaces}
 use Rattle.vc_model.proofs.Places.{own-places}
 use Rattle.vc_best.specs.Parts.{layout_of}
 use Rattle.vc_best.specs.declared.best.Best.{Best}
+use Rattle.vc_best.proofs.Counting.{blocks-few}
 use Rattle.vc_audit.specs.declared.profile.Profile.{Profile}
 use Rattle.vc_audit.specs.ProfileParts.{blocks_in, segments_in}
 use Rattle.vc_audit.proofs.ProfileBare.{from-best}
@@ -17,6 +19,10 @@ best_places b =
       first = λ i d within. ∥∥₁_elim b.sound (le_prop) (λ s. (own-places (layout_of b) s).first i d within);
       exact = λ i d within. ∥∥₁_elim b.sound (hlevel (ℕ_set)) (λ s. s.exact i d within);
     }
+
+-- a best region has few blocks, since each takes 32 bytes at least
+pub best-few : {I : Type 0} {V : I → Type 0} (b : Best I V) → length (layout_of b).blocks ≤ 1072693248
+best-few b = blocks-few b.extents.segs.items b.extents.index.items b.extents.kept
 
 pub own_places : {I : Type 0} {V : I → Type 0} (p : Profile I V) → HaveOwnPlaces (blocks_in p)
 own_places p = from-best HaveOwnPlaces p.sites.items.items (layout_of p.best).blocks (best_places p.best)

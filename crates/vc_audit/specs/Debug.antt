@@ -1,7 +1,7 @@
 -- A debug region: a best region whose blocks hold guard bytes around the user's bytes, and the marks of watched blocks.
-use Rattle.std.specs.Prelude.{ℕ, ◌+◌, ◌-◌, ℤ, pos, negsuc, ◌-ℤ◌, List, [], ◌∷◌, Option, Some, None, Bool, drop, find, map, min, not, option_map, position, replicate, take, unwrap_or, nat_lt, ◌==◌}
+use Rattle.std.specs.Prelude.{◌≡◌, ℕ, ◌+◌, ◌-◌, ℤ, pos, negsuc, ◌-ℤ◌, List, [], ◌∷◌, Option, Some, None, Bool, false, IfSome, IsTrue, drop, find, map, min, not, option_map, position, replicate, take, unwrap_or, nat_lt, ◌==◌}
 use Rattle.std.specs.List.{filter_map}
-use Rattle.vc_model.specs.Addr.{address}
+use Rattle.vc_model.specs.Addr.{address, place_of}
 use Rattle.vc_model.specs.Discipline.{Terms}
 use Rattle.vc_model.specs.Layout.{Block, Layout, address_of, empty_layout, relabel_layout}
 use Rattle.vc_model.specs.Outcome.{Outcome, Done, Refused, Put}
@@ -79,8 +79,8 @@ abbrev pub debug_need : Terms → ℕ → ℕ
 debug_need terms size = best_need terms (guarded_size size) 32
 
 -- a block asks for a segment, with its guards
-abbrev pub DebugAsks : {L : Type 0} → Debug L → ℕ → Type 0
-DebugAsks d size = AsksForSegment d.best (guarded_size size) 32
+abbrev pub DebugAsks : {L : Type 0} → Terms → Debug L → ℕ → Type 0
+DebugAsks terms d size = AsksForSegment terms d.best (guarded_size size) 32
 
 -- the size of the user's block at a place; 0 where there is none
 abbrev pub user_size : {L : Type 0} → Debug L → ℕ × ℕ → ℕ
@@ -103,6 +103,14 @@ debug_resize terms d at size may_move refused =
 -- whether the user's block stays where it is then
 abbrev pub stays_debug : {L : Type 0} → Debug L → ℕ → Block L → Bool
 stays_debug d size b = can_stay d.best (guarded_size size) (record b { off = b.off - 32 })
+
+-- a block asks for one where it gets another size
+pub record DebugAsksToMove {L : Type 0} (terms : Terms) (d : Debug L) (a size : ℕ) (may_move : Bool) : Type 0 where
+  -- it can't stay where it is
+  pub stays : IfSome (find_block (place_of a) (user_blocks d)) (λ b. stays_debug d size b ≡ false)
+  -- it may move
+  pub may : IsTrue may_move
+  pub asks : DebugAsks terms d size
 
 -- the block at a place goes, and its mark
 abbrev pub debug_free : {L : Type 0} → Debug L → ℕ × ℕ → Debug L

@@ -1,9 +1,7 @@
-ghost use Rattle.std.specs.Prelude.{◌≡◌, ◌≤◌, Some, IfOk, IsErrOf};
-ghost use Rattle.vc_model.specs.Addr.{place_of};
-ghost use Rattle.vc_model.specs.Best.{zeros};
-ghost use Rattle.vc_model.specs.Layout.{without_block};
-ghost use Rattle.vc_model.specs.Touch.{HasBlock, find_block};
+ghost use Rattle.std.specs.Prelude.{IfOk, IsErrOf};
+ghost use Rattle.vc_model.specs.Discipline.{HasOut};
 ghost use Rattle.vc_seg.specs.Answer.{Answers, Asks};
+ghost use Rattle.vc_seg.specs.OneBlock.{IsBlockPut, IsSize};
 ghost use Rattle.vc_audit.specs.Debug.{DebugAsks, debug_alloc, debug_need};
 ghost use Rattle.vc_audit.specs.DebugParts.{blocks_in, debug_of, disc_in, segments_in};
 
@@ -16,8 +14,8 @@ impl Debug {
     /// A block of zeros between whole guards: 1 to 16,777,216 bytes of the user, at an offset that 32 divides. Where no
     /// gap holds it with its guards, a segment is asked for. The faults are those of a best region.
     pub fn alloc(&mut self, size: u32, tag: u32) -> Result<Addr, RegionFault>
-        requires some { 1 ≤ size }
-        requires most { size ≤ 16777216 }
+        requires size { IsSize size }
+        requires lent { HasOut (disc_in state self.old) (segments_in self.old) }
 
         ensures answer { Answers
             (debug_alloc (disc_in state self.old).terms (debug_of self.old) tag size)
@@ -26,14 +24,11 @@ impl Debug {
             (segments_in self.old) (segments_in self.new)
             (debug_need (disc_in state self.old).terms size) }
         ensures no_memory { IsErrOf result RegionFault.OutOfMemory
-            → DebugAsks (debug_of self.old) size }
+            → DebugAsks (disc_in state self.old).terms (debug_of self.old) size }
 
         // The block stands there, at an address of its own, and the others stay.
-        ensures there { IfOk result (λ a. find_block (place_of a.0) (blocks_in self.new)
-            ≡ Some (zeros tag size (place_of a.0))) }
-        ensures fresh { IfOk result (λ a. ¬ HasBlock (blocks_in self.old) a.0) }
-        ensures others { IfOk result (λ a. without_block (place_of a.0) (blocks_in self.new)
-            ≡ blocks_in self.old) }
+        ensures put { IfOk result
+            (λ a. IsBlockPut tag size a.0 (blocks_in self.old) (blocks_in self.new)) }
     {
         let mut steps = Steps::<Uncounted>::new(self.best.alloc);
         let at = self.best.alloc(size + 48, 32, tag, &mut steps)?;

@@ -1,7 +1,8 @@
 ghost use Rattle.std.specs.Prelude.{◌≡◌, ◌+◌, Some, IfSome, length, take, drop, option_map, pos, negsuc, ◌≤ℤ◌, ◌<ℤ◌};
 ghost use Rattle.vc_model.specs.Addr.{place_of};
 ghost use Rattle.vc_model.specs.Layout.{without_block};
-ghost use Rattle.vc_model.specs.Touch.{HasBlock, HasRange, find_block};
+ghost use Rattle.vc_model.specs.Touch.{HasBlock, find_block};
+ghost use Rattle.vc_seg.specs.OneBlock.{IsInBlock};
 ghost use Rattle.vc_audit.specs.Debug.{debug_write, guarded_offset, with_poke};
 ghost use Rattle.vc_audit.specs.DebugParts.{blocks_in, debug_of, disc_in};
 
@@ -41,8 +42,7 @@ impl Debug {
 
     /// The bytes of a range of the block at that address. The range lies in the block.
     pub fn read(&self, a: Addr, off: u32, len: u32) -> &[u8]
-        requires block { HasBlock (blocks_in self.now) a.0 }
-        requires range { HasRange (blocks_in self.now) a.0 off len }
+        requires { IsInBlock (blocks_in self.now) a.0 off len }
         ensures { option_map (λ b. take len (drop off b.bytes))
             (find_block (place_of a.0) (blocks_in self.now))
             ≡ Some result.now }
@@ -52,8 +52,7 @@ impl Debug {
 
     /// Puts bytes into the block at that address, from an offset on. They lie in the block.
     pub fn write(&mut self, a: Addr, off: u32, src: &[u8])
-        requires block { HasBlock (blocks_in self.old) a.0 }
-        requires range { HasRange (blocks_in self.old) a.0 off (length src.now) }
+        requires { IsInBlock (blocks_in self.old) a.0 off (length src.now) }
         ensures debug { debug_of self.new
             ≡ debug_write (debug_of self.old) (place_of a.0) off src.now }
         ensures disc { disc_in state self.new ≡ disc_in state self.old }

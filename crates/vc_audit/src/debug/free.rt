@@ -1,13 +1,12 @@
-ghost use Rattle.std.specs.Prelude.{◌≡◌, ℕ, ◌+◌, ◌<◌, ◌≤◌, length};
-ghost use Rattle.std.specs.List.{HoldsAt, remove};
+ghost use Rattle.std.specs.Prelude.{◌≡◌, ◌≤◌};
 ghost use Rattle.vc_model.specs.Addr.{place_of};
 ghost use Rattle.vc_model.specs.Compact.{cleared_layout};
 ghost use Rattle.vc_model.specs.Discipline.{HasOut, TookBack};
-ghost use Rattle.vc_model.specs.Layout.{address_of};
 ghost use Rattle.vc_model.specs.Touch.{HasBlock};
 ghost use Rattle.vc_best.specs.Parts.{layout_of};
 ghost use Rattle.vc_audit.specs.Debug.{debug_clear, debug_compact, debug_compact_count, debug_free};
 ghost use Rattle.vc_seg.specs.Boxed.{disc_in_box};
+ghost use Rattle.vc_seg.specs.OneBlock.{IsBlockFreed};
 ghost use Rattle.vc_audit.specs.DebugParts.{blocks_in, debug_of, disc_in, segments_in};
 
 use crate::debug::guard::guarded_addr;
@@ -37,11 +36,7 @@ impl Debug {
         ensures disc { disc_in state self.new ≡ disc_in state self.old }
 
         // It is the one block at that address that goes.
-        ensures one_less { length (blocks_in self.new) + 1 ≡ length (blocks_in self.old) }
-        ensures freed { (i : ℕ) → i < length (blocks_in self.old)
-            → HoldsAt (λ b. address_of b ≡ a.0) (blocks_in self.old) i
-            → blocks_in self.new ≡ remove (blocks_in self.old) i }
-        ensures none_left { ¬ HasBlock (blocks_in self.new) a.0 }
+        ensures freed { IsBlockFreed a.0 (blocks_in self.old) (blocks_in self.new) }
     {
         let mut steps = Steps::<Uncounted>::new(self.best.alloc);
         self.best.free(guarded_addr(a), &mut steps);

@@ -1,9 +1,9 @@
 ghost use Rattle.std.specs.Prelude.{◌≡◌, ◌+◌, ◌-◌, ◌≤◌};
 ghost use Rattle.vc_model.specs.Addr.{place_of};
 ghost use Rattle.vc_model.specs.Layout.{without_block};
-ghost use Rattle.vc_model.specs.Touch.{HasBlock, HasRange};
 ghost use Rattle.vc_best.specs.Parts.{blocks_in, layout_of};
 ghost use Rattle.vc_seg.specs.Boxed.{disc_in_box};
+ghost use Rattle.vc_seg.specs.OneBlock.{IsInBlock};
 ghost use Rattle.vc_audit.specs.Debug.{with_back_guard, with_guards, with_zeros};
 
 use vc_base::Addr;
@@ -38,8 +38,7 @@ pub(super) fn user_addr(a: Addr) -> Addr
 
 /// Writes the back guard of a block.
 fn write_back_guard(best: &mut Best, at: Addr, size: u32)
-    requires block { HasBlock (blocks_in best.old) at.0 }
-    requires range { HasRange (blocks_in best.old) at.0 (32 + size) 16 }
+    requires range { IsInBlock (blocks_in best.old) at.0 (32 + size) 16 }
     requires most { size ≤ 16777216 }
     ensures layout { layout_of best.new
         ≡ with_back_guard (layout_of best.old) (place_of at.0) size }
@@ -52,8 +51,7 @@ fn write_back_guard(best: &mut Best, at: Addr, size: u32)
 
 /// Writes both guards of a block.
 pub(super) fn write_guards(best: &mut Best, at: Addr, size: u32)
-    requires block { HasBlock (blocks_in best.old) at.0 }
-    requires range { HasRange (blocks_in best.old) at.0 0 (size + 48) }
+    requires range { IsInBlock (blocks_in best.old) at.0 0 (size + 48) }
     requires most { size ≤ 16777216 }
     ensures layout { layout_of best.new ≡ with_guards (layout_of best.old) (place_of at.0) size }
     ensures others { without_block (place_of at.0) (blocks_in best.new)
@@ -66,8 +64,7 @@ pub(super) fn write_guards(best: &mut Best, at: Addr, size: u32)
 
 /// Writes zeros behind the user's bytes that are kept of a block, and the back guard.
 pub(super) fn write_zeros(best: &mut Best, at: Addr, kept: u32, size: u32)
-    requires block { HasBlock (blocks_in best.old) at.0 }
-    requires range { HasRange (blocks_in best.old) at.0 0 (size + 48) }
+    requires range { IsInBlock (blocks_in best.old) at.0 0 (size + 48) }
     requires within { kept ≤ size }
     requires most { size ≤ 16777216 }
     ensures layout { layout_of best.new

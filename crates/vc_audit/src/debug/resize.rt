@@ -1,9 +1,10 @@
-ghost use Rattle.std.specs.Prelude.{◌≡◌, ◌≤◌, IfOk, IfSome, IsErrOf, IsTrue, false, option_map};
+ghost use Rattle.std.specs.Prelude.{IfOk, IsErrOf};
 ghost use Rattle.vc_model.specs.Addr.{place_of};
-ghost use Rattle.vc_model.specs.Layout.{without_block};
-ghost use Rattle.vc_model.specs.Touch.{HasBlock, find_block};
+ghost use Rattle.vc_model.specs.Discipline.{HasOut};
+ghost use Rattle.vc_model.specs.Touch.{HasBlock};
 ghost use Rattle.vc_seg.specs.Answer.{Answers, Asks};
-ghost use Rattle.vc_audit.specs.Debug.{DebugAsks, debug_need, debug_resize, stays_debug};
+ghost use Rattle.vc_seg.specs.OneBlock.{IsBlockKept, IsSize};
+ghost use Rattle.vc_audit.specs.Debug.{DebugAsksToMove, debug_need, debug_resize};
 ghost use Rattle.vc_audit.specs.DebugParts.{blocks_in, debug_of, disc_in, segments_in};
 
 use crate::debug::guard::{guarded_addr, user_addr, write_zeros};
@@ -19,8 +20,8 @@ impl Debug {
     /// move; the other faults are those of `alloc`, and come only where it moves.
     pub fn resize(&mut self, a: Addr, size: u32, may_move: bool) -> Result<Addr, RegionFault>
         requires block { HasBlock (blocks_in self.old) a.0 }
-        requires some { 1 ≤ size }
-        requires most { size ≤ 16777216 }
+        requires size { IsSize size }
+        requires lent { HasOut (disc_in state self.old) (segments_in self.old) }
 
         ensures answer { Answers
             (debug_resize (disc_in state self.old).terms
@@ -30,17 +31,12 @@ impl Debug {
             (segments_in self.old) (segments_in self.new)
             (debug_need (disc_in state self.old).terms size) }
         ensures no_memory { IsErrOf result RegionFault.OutOfMemory
-            → IfSome (find_block (place_of a.0) (blocks_in self.old))
-            (λ b. stays_debug (debug_of self.old) size b ≡ false) × IsTrue may_move }
-        ensures no_place { IsErrOf result RegionFault.OutOfMemory
-            → DebugAsks (debug_of self.old) size }
+            → DebugAsksToMove (disc_in state self.old).terms
+            (debug_of self.old) a.0 size may_move }
 
         // The block keeps its tag, and the others stay.
-        ensures there { IfOk result (λ to. option_map (λ b. b.label)
-            (find_block (place_of to.0) (blocks_in self.new))
-            ≡ option_map (λ b. b.label) (find_block (place_of a.0) (blocks_in self.old))) }
-        ensures others { IfOk result (λ to. without_block (place_of to.0) (blocks_in self.new)
-            ≡ without_block (place_of a.0) (blocks_in self.old)) }
+        ensures kept { IfOk result
+            (λ to. IsBlockKept a.0 to.0 (blocks_in self.old) (blocks_in self.new)) }
     {
         let kept = self.size(a).min(size);
         let mut steps = Steps::<Uncounted>::new(self.best.alloc);

@@ -1,10 +1,9 @@
-ghost use Rattle.std.specs.Prelude.{◌≡◌, ◌≤◌, Some, IfOk, length};
-ghost use Rattle.vc_model.specs.Addr.{place_of};
-ghost use Rattle.vc_model.specs.Best.{best_need, zeros};
-ghost use Rattle.vc_model.specs.Layout.{without_block};
+ghost use Rattle.std.specs.Prelude.{◌≤◌, IfOk, length};
+ghost use Rattle.vc_model.specs.Best.{best_need};
+ghost use Rattle.vc_model.specs.Discipline.{HasOut};
 ghost use Rattle.vc_model.specs.Place.{IsAlign};
-ghost use Rattle.vc_model.specs.Touch.{HasBlock, find_block};
 ghost use Rattle.vc_seg.specs.Answer.{Answers, Asks};
+ghost use Rattle.vc_seg.specs.OneBlock.{IsBlockPut, IsSize};
 ghost use Rattle.vc_audit.specs.Profile.{profile_alloc};
 ghost use Rattle.vc_audit.specs.ProfileParts.{blocks_in, disc_in, profile_of, segments_in};
 
@@ -16,8 +15,8 @@ use vc_seg::{BoxedDisc, RegionFault, SegDisc};
 impl Profile {
     /// A block of zeros that has a site of 1 to 32 bytes: 1 to 16,777,216 bytes at an offset that the alignment divides,
     /// a power of two from 32 to 4,096. Where no gap holds it, a segment is asked for. The site's row and the room to
-    /// keep the block's site are made before all else, and where there is no memory for them the answer is `OutOfMemory`;
-    /// so it is where the site has 4,294,967,295 blocks. Where the block is refused, no row is left.
+    /// keep the block's site are made before all else, and where there is no memory for them the answer is `OutOfMemory`.
+    /// Where the block is refused, no row is left.
     pub fn alloc(
         &mut self,
         size: u32,
@@ -25,11 +24,11 @@ impl Profile {
         tag: u32,
         site: &[u8],
     ) -> Result<Addr, RegionFault>
-        requires some { 1 ≤ size }
-        requires most { size ≤ 16777216 }
+        requires size { IsSize size }
         requires align { IsAlign align }
         requires named { 1 ≤ length site.now }
         requires short { length site.now ≤ 32 }
+        requires lent { HasOut (disc_in state self.old) (segments_in self.old) }
 
         ensures answer { Answers
             (profile_alloc (disc_in state self.old).terms (profile_of self.old)
@@ -40,17 +39,11 @@ impl Profile {
             (best_need (disc_in state self.old).terms size align) }
 
         // The block stands there, at an address of its own, and the others stay.
-        ensures there { IfOk result (λ a. find_block (place_of a.0) (blocks_in self.new)
-            ≡ Some (zeros tag size (place_of a.0))) }
-        ensures fresh { IfOk result (λ a. ¬ HasBlock (blocks_in self.old) a.0) }
-        ensures others { IfOk result (λ a. without_block (place_of a.0) (blocks_in self.new)
-            ≡ blocks_in self.old) }
+        ensures put { IfOk result
+            (λ a. IsBlockPut tag size a.0 (blocks_in self.old) (blocks_in self.new)) }
     {
         let site = Name::new(site);
         let row = row_for(&self.rows, &site);
-        if row.blocks >= 4_294_967_295 {
-            return Err(RegionFault::OutOfMemory);
-        }
         self.rows.reserve(1).map_err(|_| RegionFault::OutOfMemory)?;
         self.sites.reserve().map_err(|_| RegionFault::OutOfMemory)?;
         let mut steps = Steps::<Uncounted>::new(self.best.alloc);

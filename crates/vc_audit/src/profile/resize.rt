@@ -1,11 +1,11 @@
-ghost use Rattle.std.specs.Prelude.{◌≡◌, ◌≤◌, IfOk, IfSome, IsErrOf, IsTrue, false, option_map};
+ghost use Rattle.std.specs.Prelude.{IfOk, IsErrOf};
 ghost use Rattle.vc_model.specs.Addr.{place_of};
 ghost use Rattle.vc_model.specs.Best.{best_need};
-ghost use Rattle.vc_model.specs.Layout.{without_block};
-ghost use Rattle.vc_model.specs.Resize.{can_stay};
-ghost use Rattle.vc_model.specs.Touch.{HasBlock, find_block};
+ghost use Rattle.vc_model.specs.Discipline.{HasOut};
+ghost use Rattle.vc_model.specs.Touch.{HasBlock};
 ghost use Rattle.vc_seg.specs.Answer.{Answers, Asks};
-ghost use Rattle.vc_best.specs.Ask.{AsksForSegment};
+ghost use Rattle.vc_seg.specs.OneBlock.{IsBlockKept, IsSize};
+ghost use Rattle.vc_best.specs.Ask.{AsksToMove};
 ghost use Rattle.vc_audit.specs.Profile.{profile_resize};
 ghost use Rattle.vc_audit.specs.ProfileParts.{blocks_in, disc_in, layout_in, profile_of, segments_in};
 
@@ -21,8 +21,8 @@ impl Profile {
     /// where it moves.
     pub fn resize(&mut self, a: Addr, size: u32, may_move: bool) -> Result<Addr, RegionFault>
         requires block { HasBlock (blocks_in self.old) a.0 }
-        requires some { 1 ≤ size }
-        requires most { size ≤ 16777216 }
+        requires size { IsSize size }
+        requires lent { HasOut (disc_in state self.old) (segments_in self.old) }
 
         ensures answer { Answers
             (profile_resize (disc_in state self.old).terms
@@ -32,17 +32,11 @@ impl Profile {
             (segments_in self.old) (segments_in self.new)
             (best_need (disc_in state self.old).terms size 32) }
         ensures no_memory { IsErrOf result RegionFault.OutOfMemory
-            → IfSome (find_block (place_of a.0) (blocks_in self.old))
-            (λ b. can_stay (layout_in self.old) size b ≡ false) × IsTrue may_move }
-        ensures no_place { IsErrOf result RegionFault.OutOfMemory
-            → AsksForSegment (layout_in self.old) size 32 }
+            → AsksToMove (disc_in state self.old).terms (layout_in self.old) a.0 size may_move }
 
         // The block keeps its tag, and the others stay.
-        ensures there { IfOk result (λ to. option_map (λ b. b.label)
-            (find_block (place_of to.0) (blocks_in self.new))
-            ≡ option_map (λ b. b.label) (find_block (place_of a.0) (blocks_in self.old))) }
-        ensures others { IfOk result (λ to. without_block (place_of to.0) (blocks_in self.new)
-            ≡ without_block (place_of a.0) (blocks_in self.old)) }
+        ensures kept { IfOk result
+            (λ to. IsBlockKept a.0 to.0 (blocks_in self.old) (blocks_in self.new)) }
     {
         let before = self.best.size(a);
         let site = match self.sites.find(a) {

@@ -7,18 +7,20 @@ use Rattle.vc_audit.proofs.debug.Debug.alloc.Given.{Over}
 use Rattle.vc_audit.proofs.debug.Debug.alloc.Goals as goal
 use Rattle.vc_audit.proofs.debug.Debug.alloc.Goals.{After-write_guards}
 
-pub write_guards-requires-clause-block : goal.write_guards-requires-clause-block
-write_guards-requires-clause-block g c = live-found (layout_of c.alloc.new.self).blocks c.in_ok-at.at.0 _ c.in_ok-at.ensures.there
+pub write_guards-requires-clause-range : goal.write_guards-requires-clause-range
+write_guards-requires-clause-range g c =
+    let bs = (layout_of c.alloc.new.self).blocks in
+    record { block = live-found bs c.in_ok-at.at.0 _ c.in_ok-at.ensures.put.there; range = rw c.in_ok-at.ensures.put.there (omega arith) }
 
 -- the block as it was put, with its guards
 guarded : (g : Over) (c : After-write_guards g) → IsGuarded (layout_of c.args.self.now.best) (layout_of c.alloc.new.self) (layout_of c.write_guards.new.best) c.args.tag c.args.size c.in_ok-at.at.0
 guarded g c = record {
-  some = c.requires.some;
-  most = c.requires.most;
+  some = c.requires.size.some;
+  most = c.requires.size.most;
   guards = c.args.self.now.guarded;
-  there = c.in_ok-at.ensures.there;
-  others = c.in_ok-at.ensures.others;
-  fresh = c.in_ok-at.ensures.fresh;
+  there = c.in_ok-at.ensures.put.there;
+  others = c.in_ok-at.ensures.put.others;
+  fresh = c.in_ok-at.ensures.put.fresh;
   written = c.write_guards.ensures.layout;
   sound = c.write_guards.new.best.sound;
 }
@@ -39,11 +41,11 @@ returns-clause-answer g c =
     let placed = put-by F _ c.in_ok-at.at.0 c.user_addr.result.0 (layout_of c.alloc.new.self) c.user_addr.ensures u.place c.in_ok-at.ensures.answer in
     rw c.write_guards.ensures.layout placed
 
-pub returns-clause-there : goal.returns-clause-there
-returns-clause-there g c = there-guarded (guarded g (goal.at.returns-clause-there g c).After-write_guards) c.user_addr.ensures
-
-pub returns-clause-fresh : goal.returns-clause-fresh
-returns-clause-fresh g c = fresh-guarded (guarded g (goal.at.returns-clause-fresh g c).After-write_guards) c.user_addr.ensures
-
-pub returns-clause-others : goal.returns-clause-others
-returns-clause-others g c = others-guarded (guarded g (goal.at.returns-clause-others g c).After-write_guards) c.user_addr.ensures c.write_guards.ensures.others
+pub returns-clause-put : goal.returns-clause-put
+returns-clause-put g c =
+    let all = guarded g (goal.at.returns-clause-put g c).After-write_guards in
+    record {
+      there = there-guarded all c.user_addr.ensures;
+      fresh = fresh-guarded all c.user_addr.ensures;
+      others = others-guarded all c.user_addr.ensures c.write_guards.ensures.others;
+    }

@@ -13,14 +13,14 @@ is_users-requires g c = let bounds = guards-size (layout_of c.args.self.now.best
 pub user_addr-requires : goal.user_addr-requires
 user_addr-requires g c = below-end (layout_of c.args.self.now.best) c.args.self.now.guarded c.args.self.now.best.sound c.in-Some.at.0 c.in-Some.ensures.live
 
-pub returns-in-None-clause-value : goal.returns-in-None-clause-value
-returns-in-None-clause-value g c = none-told (layout_of c.args.self.now.best) c.args.self.now.best.sound c.args.self.now.guarded (c.args.seg, c.args.off) c.in-None.ensures.value
+pub returns-in-None : goal.returns-in-None
+returns-in-None g c = record { live = tt; value = none-told (layout_of c.args.self.now.best) c.args.self.now.best.sound c.args.self.now.guarded (c.args.seg, c.args.off) c.in-None.ensures.value }
 
-pub returns-then-not-is_users-clause-value : goal.returns-then-not-is_users-clause-value
-returns-then-not-is_users-clause-value g c = out-told (layout_of c.args.self.now.best) c.args.self.now.best.sound c.args.self.now.guarded (c.args.seg, c.args.off) c.in-Some.at.0 c.in-Some.inner c.size.result (holds-at (layout_of c.args.self.now.best) (c.args.seg, c.args.off) c.in-Some.at.0 c.in-Some.inner c.in-Some.ensures.value) c.size.ensures (sym c.is_users.ensures ∙ c.if-not-is_users.true)
+pub returns-then-not-is_users : goal.returns-then-not-is_users
+returns-then-not-is_users g c = record { live = tt; value = out-told (layout_of c.args.self.now.best) c.args.self.now.best.sound c.args.self.now.guarded (c.args.seg, c.args.off) c.in-Some.at.0 c.in-Some.inner c.size.result (holds-at (layout_of c.args.self.now.best) (c.args.seg, c.args.off) c.in-Some.at.0 c.in-Some.inner c.in-Some.ensures.value) c.size.ensures (sym c.is_users.ensures ∙ c.if-not-is_users.true) }
 
-pub returns-else-not-is_users-clause-value : goal.returns-else-not-is_users-clause-value
-returns-else-not-is_users-clause-value g c = in-told (layout_of c.args.self.now.best) c.args.self.now.best.sound c.args.self.now.guarded (c.args.seg, c.args.off) c.in-Some.at.0 c.in-Some.inner c.size.result (holds-at (layout_of c.args.self.now.best) (c.args.seg, c.args.off) c.in-Some.at.0 c.in-Some.inner c.in-Some.ensures.value) c.size.ensures c.user_addr.result.0 c.user_addr.ensures (sym c.is_users.ensures ∙ c.if-not-is_users.false)
-
-pub returns-else-not-is_users-clause-live : goal.returns-else-not-is_users-clause-live
-returns-else-not-is_users-clause-live g c = subst (HasBlock _) (sym c.user_addr.ensures) (live-up (layout_of c.args.self.now.best).blocks c.in-Some.at.0 c.in-Some.ensures.live)
+pub returns-else-not-is_users : goal.returns-else-not-is_users
+returns-else-not-is_users g c = record {
+  live = subst (HasBlock _) (sym c.user_addr.ensures) (live-up (layout_of c.args.self.now.best).blocks c.in-Some.at.0 c.in-Some.ensures.live);
+  value = in-told (layout_of c.args.self.now.best) c.args.self.now.best.sound c.args.self.now.guarded (c.args.seg, c.args.off) c.in-Some.at.0 c.in-Some.inner c.size.result (holds-at (layout_of c.args.self.now.best) (c.args.seg, c.args.off) c.in-Some.at.0 c.in-Some.inner c.in-Some.ensures.value) c.size.ensures c.user_addr.result.0 c.user_addr.ensures (sym c.is_users.ensures ∙ c.if-not-is_users.false);
+}

@@ -6,8 +6,8 @@ use Rattle.vc_audit.proofs.DebugFills.{guards-size}
 use Rattle.vc_audit.proofs.DebugChecks.{back-range, front-range, part-length}
 use Rattle.vc_audit.proofs.debug.Debug.damaged_place.Goals as goal
 
-pub read-requires-clause-range : goal.read-requires-clause-range
-read-requires-clause-range g c = front-range (layout_of c.args.self.now.best).blocks (place_of c.args.at.0) c.args.self.now.guarded
+pub read-requires : goal.read-requires
+read-requires g c = record { block = c.requires; range = front-range (layout_of c.args.self.now.best).blocks (place_of c.args.at.0) c.args.self.now.guarded }
 
 pub first_damaged-requires : goal.first_damaged-requires
 first_damaged-requires g c = part-length (find_block (place_of c.args.at.0) (layout_of c.args.self.now.best).blocks) 0 32 c.read.result.now c.read.ensures
@@ -15,7 +15,7 @@ first_damaged-requires g c = part-length (find_block (place_of c.args.at.0) (lay
 pub overflow_sub-back : goal.overflow_sub-back
 overflow_sub-back g c = let bounds = guards-size (layout_of c.args.self.now.best).blocks (place_of c.args.at.0) c.size-back.result c.args.self.now.guarded c.size-back.ensures in omega (arith, bounds.0)
 
-pub read-requires-2-clause-range : goal.read-requires-2-clause-range
-read-requires-2-clause-range g c =
+pub read-requires-2 : goal.read-requires-2
+read-requires-2 g c =
     let bounds = guards-size (layout_of c.args.self.now.best).blocks (place_of c.args.at.0) c.size-back.result c.args.self.now.guarded c.size-back.ensures in
-    back-range (find_block (place_of c.args.at.0) (layout_of c.args.self.now.best).blocks) c.size-back.result bounds.0 c.size-back.ensures
+    record { block = c.requires; range = back-range (find_block (place_of c.args.at.0) (layout_of c.args.self.now.best).blocks) c.size-back.result bounds.0 c.size-back.ensures }

@@ -1,4 +1,5 @@
-use Rattle.std.proofs.Common.{ℕ, List, sym, ap, ◌∙◌, subst}
+use Rattle.std.proofs.Common.{ℕ, List, sym, ap, ◌∙◌, subst, arith}
+use Rattle.std.proofs.lemmas.List.{length-map}
 use Rattle.vc_model.specs.Addr.{place_of}
 use Rattle.vc_model.specs.Best.{without_block_at}
 use Rattle.vc_model.specs.Layout.{Layout}
@@ -6,7 +7,7 @@ use Rattle.vc_model.specs.Touch.{HasBlock}
 use Rattle.vc_model.proofs.Owned.{address-place_of}
 use Rattle.vc_best.specs.Parts.{layout_of}
 use Rattle.vc_audit.specs.DebugMark.{without_mark}
-use Rattle.vc_audit.specs.Debug.{Debug, guarded_place}
+use Rattle.vc_audit.specs.Debug.{Debug, guarded_place, user_block}
 use Rattle.vc_audit.proofs.DebugBlocks.{UserAt, guarded-at, live-down}
 use Rattle.vc_audit.proofs.DebugFills.{guards-without}
 use Rattle.vc_audit.proofs.DebugFrees.{freed-user}
@@ -38,7 +39,11 @@ returns-clause-debug g c =
     ∙ ap (D (without_block_at r (guarded_place (place_of a)))) (c.drop_mark.ensures.items ∙ ap (λ n. without_mark n marks) (sym (address-place_of a)))
 
 pub returns-clause-freed : goal.returns-clause-freed
-returns-clause-freed g c = freed-user (layout_of c.args.self.now.best).blocks (layout_of c.free.new.self).blocks c.args.a.0 c.guarded_addr.result.0 (user g (goal.at.returns-clause-freed g c).After-guarded_addr).next c.free.ensures.freed
-
-pub returns-clause-none_left : goal.returns-clause-none_left
-returns-clause-none_left g c = λ live. c.free.ensures.none_left (subst (HasBlock (layout_of c.free.new.self).blocks) (sym c.guarded_addr.ensures) (live-down (layout_of c.free.new.self).blocks c.args.a.0 live).1)
+returns-clause-freed g c =
+    let bs = (layout_of c.args.self.now.best).blocks in
+    let cs = (layout_of c.free.new.self).blocks in
+    record {
+      one_less = omega (arith, c.free.ensures.freed.one_less, length-map bs (user_block {L = ℕ}), length-map cs (user_block {L = ℕ}));
+      freed = freed-user bs cs c.args.a.0 c.guarded_addr.result.0 (user g (goal.at.returns-clause-freed g c).After-guarded_addr).next c.free.ensures.freed.freed;
+      none_left = λ live. c.free.ensures.freed.none_left (subst (HasBlock cs) (sym c.guarded_addr.ensures) (live-down cs c.args.a.0 live).1);
+    }

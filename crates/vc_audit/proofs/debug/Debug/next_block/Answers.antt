@@ -13,20 +13,23 @@ next_block-requires g c = from-before (layout_of c.args.self.now.best).blocks c.
 pub user_addr-requires : goal.user_addr-requires
 user_addr-requires g c = below-end (layout_of c.args.self.now.best) c.args.self.now.guarded c.args.self.now.best.sound c.in-Some.at.0 c.in-Some.ensures.live
 
-pub returns-in-Some-clause-value : goal.returns-in-Some-clause-value
-returns-in-Some-clause-value g c =
+pub returns-in-Some : goal.returns-in-Some
+returns-in-Some g c =
     let r = layout_of c.args.self.now.best in
     let k = c.guarded_after.result.0 in
-    ap Some c.user_addr.ensures
-    ∙ (ap (option_map (λ n. n + 1)) c.in-Some.ensures.value
-    ∙ sym (ap (option_map address_of) (next-user c.args.after.0 k r.blocks c.guarded_after.ensures (own-best r c.args.self.now.best.sound)) ∙ address-told (next_block k r.blocks)))
+    record {
+      value = ap Some c.user_addr.ensures
+          ∙ (ap (option_map (λ n. n + 1)) c.in-Some.ensures.value
+          ∙ sym (ap (option_map address_of) (next-user c.args.after.0 k r.blocks c.guarded_after.ensures (own-best r c.args.self.now.best.sound)) ∙ address-told (next_block k r.blocks)));
+      live = subst (HasBlock _) (sym c.user_addr.ensures) (live-up r.blocks c.in-Some.at.0 c.in-Some.ensures.live);
+    }
 
-pub returns-in-Some-clause-live : goal.returns-in-Some-clause-live
-returns-in-Some-clause-live g c = subst (HasBlock _) (sym c.user_addr.ensures) (live-up (layout_of c.args.self.now.best).blocks c.in-Some.at.0 c.in-Some.ensures.live)
-
-pub returns-in-None-clause-value : goal.returns-in-None-clause-value
-returns-in-None-clause-value g c =
+pub returns-in-None : goal.returns-in-None
+returns-in-None g c =
     let r = layout_of c.args.self.now.best in
     let k = c.guarded_after.result.0 in
-    ap (option_map (λ n. n + 1)) c.in-None.ensures.value
-    ∙ sym (ap (option_map address_of) (next-user c.args.after.0 k r.blocks c.guarded_after.ensures (own-best r c.args.self.now.best.sound)) ∙ address-told (next_block k r.blocks))
+    record {
+      live = tt;
+      value = ap (option_map (λ n. n + 1)) c.in-None.ensures.value
+          ∙ sym (ap (option_map address_of) (next-user c.args.after.0 k r.blocks c.guarded_after.ensures (own-best r c.args.self.now.best.sound)) ∙ address-told (next_block k r.blocks));
+    }

@@ -28,16 +28,17 @@ place g c = c.guarded_off.ensures ∙ ap guarded_offset (to_z-of_z w64 c.args.of
 pub guarded_off-requires-clause-last : goal.guarded_off-requires-clause-last
 guarded_off-requires-clause-last g c = subst (λ (z : ℤ). z <ℤ pos 16777232) (sym (to_z-of_z w64 c.args.off c.ranges.off)) (poke-most c.args.self.now (user g (goal.at.guarded_off-requires-clause-last g c).After-guarded_addr) c.args.off c.requires.last)
 
-pub fill-requires-clause-block : goal.fill-requires-clause-block
-fill-requires-clause-block g c = (user g (goal.at.fill-requires-clause-block g c).After-guarded_addr).live
-
-pub fill-requires-clause-range : goal.fill-requires-clause-range
-fill-requires-clause-range g c =
-    let h = goal.at.fill-requires-clause-range g c in
-    subst (λ n. HasRange (layout_of c.args.self.now.best).blocks c.guarded_addr.result.0 n 1) (sym (place g h.After-guarded_off)) (poke-guarded c.args.self.now (user g h.After-guarded_addr) c.args.off c.requires.last)
+pub fill-requires : goal.fill-requires
+fill-requires g c =
+    let h = goal.at.fill-requires g c in
+    let u = user g h.After-guarded_addr in
+    record {
+      block = u.live;
+      range = subst (λ n. HasRange (layout_of c.args.self.now.best).blocks c.guarded_addr.result.0 n 1) (sym (place g h.After-guarded_off)) (poke-guarded c.args.self.now u c.args.off c.requires.last);
+    }
 
 pub invariant_of-self : goal.invariant_of-self
-invariant_of-self g c = record { guarded = rw c.fill.ensures.layout (guards-written c.guarded_off.result (replicate 1 c.args.byte) (place_of c.guarded_addr.result.0) (layout_of c.args.self.now.best).blocks c.args.self.now.guarded) }
+invariant_of-self g c = record { guarded = rw c.fill.ensures.written.layout (guards-written c.guarded_off.result (replicate 1 c.args.byte) (place_of c.guarded_addr.result.0) (layout_of c.args.self.now.best).blocks c.args.self.now.guarded) }
 
 pub returns-clause-debug : goal.returns-clause-debug
 returns-clause-debug g c =
@@ -45,9 +46,9 @@ returns-clause-debug g c =
     let x = c.guarded_addr.result.0 in
     let h = goal.at.returns-clause-debug g c in
     let D : Layout ℕ → Debug ℕ = λ l. record { best = l; marks = c.args.self.now.marks.items } in
-    ap D (c.fill.ensures.layout ∙ (ap (λ n. with_bytes_at r (place_of x) n (c.args.byte ∷ [])) (place g h.After-guarded_off) ∙ ap (λ p. with_bytes_at r p (guarded_offset c.args.off) (c.args.byte ∷ [])) (sym (guarded-at r c.args.a.0 x (user g h.After-guarded_addr)))))
+    ap D (c.fill.ensures.written.layout ∙ (ap (λ n. with_bytes_at r (place_of x) n (c.args.byte ∷ [])) (place g h.After-guarded_off) ∙ ap (λ p. with_bytes_at r p (guarded_offset c.args.off) (c.args.byte ∷ [])) (sym (guarded-at r c.args.a.0 x (user g h.After-guarded_addr)))))
 
 pub returns-clause-others : goal.returns-clause-others
 returns-clause-others g c =
     let bs = (layout_of c.args.self.now.best).blocks in
-    others-at (layout_of c.args.self.now.best) c.args.a.0 c.guarded_addr.result.0 (user g (goal.at.returns-clause-others g c).After-guarded_addr) (layout_of c.fill.new.self).blocks bs c.fill.ensures.others
+    others-at (layout_of c.args.self.now.best) c.args.a.0 c.guarded_addr.result.0 (user g (goal.at.returns-clause-others g c).After-guarded_addr) (layout_of c.fill.new.self).blocks bs c.fill.ensures.written.others

@@ -19,11 +19,10 @@ user g c = user_in c.args.self.now c.args.a.0 c.guarded_addr.result.0 c.guarded_
 pub overflow_add-off : goal.overflow_add-off
 overflow_add-off g c = let most = range-most c.args.self.now (user g (goal.at.overflow_add-off g c).After-guarded_addr) c.args.off c.args.len c.requires.range in omega (arith, most)
 
-pub read-requires-clause-block : goal.read-requires-clause-block
-read-requires-clause-block g c = (user g (goal.at.read-requires-clause-block g c).After-guarded_addr).live
-
-pub read-requires-clause-range : goal.read-requires-clause-range
-read-requires-clause-range g c = range-guarded c.args.self.now (user g (goal.at.read-requires-clause-range g c).After-guarded_addr) c.args.off c.args.len c.requires.range
+pub read-requires : goal.read-requires
+read-requires g c =
+    let u = user g (goal.at.read-requires g c).After-guarded_addr in
+    record { block = u.live; range = range-guarded c.args.self.now u c.args.off c.args.len c.requires.range }
 
 pub returns : goal.returns
 returns g c =

@@ -6,7 +6,7 @@ use Rattle.vc_model.specs.Touch.{find_block}
 use Rattle.vc_best.specs.Parts.{layout_of}
 use Rattle.vc_audit.specs.Debug.{Debug, stays_debug}
 use Rattle.vc_audit.proofs.DebugBlocks.{UserAt, found-at, live-down}
-use Rattle.vc_audit.proofs.DebugPuts.{IsResized, answer-resized, below-resized, guards-resized, live-sized, others-resized, refused-resized, stays-user, there-resized}
+use Rattle.vc_audit.proofs.DebugPuts.{IsResized, answer-resized, below-resized, guards-resized, live-sized, others-resized, range-sized, refused-resized, stays-user, there-resized}
 use Rattle.vc_audit.proofs.DebugUser.{user_in}
 use Rattle.vc_audit.proofs.debug.Debug.resize.Given.{Over}
 use Rattle.vc_audit.proofs.debug.Debug.resize.Goals as goal
@@ -22,18 +22,20 @@ user g c = user_in c.args.self.now c.args.a.0 c.guarded_addr.result.0 c.guarded_
 pub resize-requires-clause-block : goal.resize-requires-clause-block
 resize-requires-clause-block g c = (user g (goal.at.resize-requires-clause-block g c).After-guarded_addr).live
 
-pub write_zeros-requires-clause-block : goal.write_zeros-requires-clause-block
-write_zeros-requires-clause-block g c = live-sized (layout_of c.resize.new.self).blocks c.in-Ok.at.0 (c.args.size + 48) _ refl c.in-Ok.ensures.sized
+pub write_zeros-requires-clause-range : goal.write_zeros-requires-clause-range
+write_zeros-requires-clause-range g c =
+    let bs = (layout_of c.resize.new.self).blocks in
+    record { block = live-sized bs c.in-Ok.at.0 (c.args.size + 48) _ refl c.in-Ok.ensures.sized; range = range-sized (find_block (place_of c.in-Ok.at.0) bs) (c.args.size + 48) c.in-Ok.ensures.sized }
 
 -- the block as it was given another size
 resized : (g : Over) (c : After-write_zeros g) → IsResized (layout_of c.args.self.now.best) (layout_of c.resize.new.self) (layout_of c.write_zeros.new.best) c.args.size c.min-kept.result c.guarded_addr.result.0 c.in-Ok.at.0
 resized g c = record {
-  some = c.requires.some;
-  most = c.requires.most;
+  some = c.requires.size.some;
+  most = c.requires.size.most;
   guards = c.args.self.now.guarded;
   sized = c.in-Ok.ensures.sized;
-  there = c.in-Ok.ensures.there;
-  others = c.in-Ok.ensures.others;
+  there = c.in-Ok.ensures.kept.label;
+  others = c.in-Ok.ensures.kept.others;
   written = c.write_zeros.ensures.layout;
   sound = c.write_zeros.new.best.sound;
 }
@@ -57,14 +59,19 @@ returns-clause-no_memory g c = λ e.
     let d : Debug ℕ = record { best = r; marks = c.args.self.now.marks.items } in
     let x = c.guarded_addr.result.0 in
     let h = c.in-Err.ensures.no_memory e in
-    (subst (λ (o : Option (Block ℕ)). IfSome o (λ b. stays_debug d c.args.size b ≡ false)) (sym (found-at r c.args.a.0 x (user g (goal.at.returns-clause-no_memory g c).After-guarded_addr) r.blocks)) (stays-user d c.args.size (find_block (place_of x) r.blocks) h.0), h.1)
+    record {
+      stays = subst (λ (o : Option (Block ℕ)). IfSome o (λ b. stays_debug d c.args.size b ≡ false)) (sym (found-at r c.args.a.0 x (user g (goal.at.returns-clause-no_memory g c).After-guarded_addr) r.blocks)) (stays-user d c.args.size (find_block (place_of x) r.blocks) h.stays);
+      may = h.may;
+      asks = h.asks;
+    }
 
 pub returns-in-Ok-clause-answer : goal.returns-in-Ok-clause-answer
 returns-in-Ok-clause-answer g c =
     answer-resized (resized g (goal.at.returns-in-Ok-clause-answer g c).After-write_zeros) (user g (goal.at.returns-in-Ok-clause-answer g c).After-guarded_addr) c.user_addr-to.ensures _ c.args.self.now.marks.items c.move_mark.new.marks.items c.args.may_move (ap (λ o. min (unwrap_or o 0) c.args.size) c.size.ensures ∙ sym c.min-kept.ensures) c.move_mark.ensures c.in-Ok.ensures.answer
 
-pub returns-in-Ok-clause-there : goal.returns-in-Ok-clause-there
-returns-in-Ok-clause-there g c = there-resized (resized g (goal.at.returns-in-Ok-clause-there g c).After-write_zeros) (user g (goal.at.returns-in-Ok-clause-there g c).After-guarded_addr) c.user_addr-to.ensures
-
-pub returns-in-Ok-clause-others : goal.returns-in-Ok-clause-others
-returns-in-Ok-clause-others g c = others-resized (resized g (goal.at.returns-in-Ok-clause-others g c).After-write_zeros) (user g (goal.at.returns-in-Ok-clause-others g c).After-guarded_addr) c.user_addr-to.ensures c.write_zeros.ensures.others
+pub returns-in-Ok-clause-kept : goal.returns-in-Ok-clause-kept
+returns-in-Ok-clause-kept g c =
+    let h = goal.at.returns-in-Ok-clause-kept g c in
+    let all = resized g h.After-write_zeros in
+    let u = user g h.After-guarded_addr in
+    record { label = there-resized all u c.user_addr-to.ensures; others = others-resized all u c.user_addr-to.ensures c.write_zeros.ensures.others }

@@ -20,25 +20,24 @@ user g c = user_in c.args.self.now c.args.a.0 c.guarded_addr.result.0 c.guarded_
 
 pub invariant_of-self : goal.invariant_of-self
 invariant_of-self g c = record {
-  guarded = rw c.write.ensures.layout (guards-written (32 + c.args.off) c.args.src.now (place_of c.guarded_addr.result.0) (layout_of c.args.self.now.best).blocks c.args.self.now.guarded);
+  guarded = rw c.write.ensures.written.layout (guards-written (32 + c.args.off) c.args.src.now (place_of c.guarded_addr.result.0) (layout_of c.args.self.now.best).blocks c.args.self.now.guarded);
 }
 
 pub returns-clause-debug : goal.returns-clause-debug
 returns-clause-debug g c =
     let r = layout_of c.args.self.now.best in
     let D : Layout ℕ → Debug ℕ = λ l. record { best = l; marks = c.args.self.now.marks.items } in
-    ap D (c.write.ensures.layout ∙ ap (λ p. with_bytes_at r p (32 + c.args.off) c.args.src.now) (sym (guarded-at r c.args.a.0 c.guarded_addr.result.0 (user g (goal.at.returns-clause-debug g c).After-guarded_addr))))
+    ap D (c.write.ensures.written.layout ∙ ap (λ p. with_bytes_at r p (32 + c.args.off) c.args.src.now) (sym (guarded-at r c.args.a.0 c.guarded_addr.result.0 (user g (goal.at.returns-clause-debug g c).After-guarded_addr))))
 
 pub returns-clause-others : goal.returns-clause-others
 returns-clause-others g c =
     let bs = (layout_of c.args.self.now.best).blocks in
-    others-at (layout_of c.args.self.now.best) c.args.a.0 c.guarded_addr.result.0 (user g (goal.at.returns-clause-others g c).After-guarded_addr) (layout_of c.write.new.self).blocks bs c.write.ensures.others
+    others-at (layout_of c.args.self.now.best) c.args.a.0 c.guarded_addr.result.0 (user g (goal.at.returns-clause-others g c).After-guarded_addr) (layout_of c.write.new.self).blocks bs c.write.ensures.written.others
 
 pub overflow_add-off : goal.overflow_add-off
 overflow_add-off g c = let most = range-most c.args.self.now (user g (goal.at.overflow_add-off g c).After-guarded_addr) c.args.off (length c.args.src.now) c.requires.range in omega (arith, most)
 
-pub write-requires-clause-block : goal.write-requires-clause-block
-write-requires-clause-block g c = (user g (goal.at.write-requires-clause-block g c).After-guarded_addr).live
-
-pub write-requires-clause-range : goal.write-requires-clause-range
-write-requires-clause-range g c = range-guarded c.args.self.now (user g (goal.at.write-requires-clause-range g c).After-guarded_addr) c.args.off (length c.args.src.now) c.requires.range
+pub write-requires : goal.write-requires
+write-requires g c =
+    let u = user g (goal.at.write-requires g c).After-guarded_addr in
+    record { block = u.live; range = range-guarded c.args.self.now u c.args.off (length c.args.src.now) c.requires.range }

@@ -1,17 +1,15 @@
 use Rattle.std.proofs.Common.{◌≡◌, ◌+◌, Some, cond, eqb, sym, ap, ◌∙◌, subst, arith}
 use Rattle.std.specs.Str.{bytes_eq}
 use Rattle.indexmap.specs.IndexMap.{insert_entry}
-use Rattle.vc_model.specs.Addr.{place_of}
-use Rattle.vc_model.specs.Best.{zeros}
-use Rattle.vc_model.specs.Layout.{without_block}
-use Rattle.vc_model.specs.Touch.{HasBlock, find_block}
+use Rattle.vc_seg.specs.OneBlock.{IsBlockPut}
 use Rattle.vc_best.specs.Parts.{layout_of}
 use Rattle.vc_audit.specs.ProfileSites.{site_at}
 use Rattle.vc_audit.specs.ProfileSums.{IsCounted}
-use Rattle.vc_audit.proofs.ProfileAlloc.{IsPutAt, alloc-refused, counted-put, few-bytes, profile-put}
-use Rattle.vc_audit.proofs.ProfileBare.{from-best, from-both}
+use Rattle.vc_audit.proofs.ProfileAlloc.{IsPutAt, alloc-refused, counted-put, few-blocks, few-bytes, profile-put}
+use Rattle.vc_audit.proofs.ProfileBare.{from-both}
 use Rattle.vc_audit.proofs.ProfileFree.{profile}
 use Rattle.vc_audit.proofs.ProfileRows.{IsRowWith}
+use Rattle.vc_audit.proofs.ProfileSound.{best-few}
 use Rattle.vc_audit.proofs.profile.Profile.alloc.Given.{Over}
 use Rattle.vc_audit.proofs.profile.Profile.alloc.Goals as goal
 use Rattle.vc_audit.proofs.profile.Profile.alloc.Goals.{After-put, After-put_row, After-with}
@@ -19,18 +17,24 @@ use Rattle.vc_audit.proofs.profile.Profile.alloc.Goals.{After-put, After-put_row
 pub overflow_add-bytes : goal.overflow_add-bytes
 overflow_add-bytes g c =
     let few = few-bytes c.new-site.result c.row_for-row.result c.args.self.now.counted c.row_for-row.ensures.row in
-    omega (arith, few, c.requires.most)
+    omega (arith, few, c.requires.size.most)
+
+pub overflow_add-row : goal.overflow_add-row
+overflow_add-row g c =
+    let few = few-blocks c.new-site.result c.row_for-row.result c.args.self.now.counted c.row_for-row.ensures.row in
+    let most = best-few c.args.self.now.best in
+    omega (arith, few, most)
 
 -- the block that is put, the row after, and the rows with it
 block : (g : Over) (c : After-put g) → IsPutAt (layout_of c.args.self.now.best) c.args.self.now.sites.items.items c.put.new.self.items.items c.args.self.now.rows.entries c.in-Ok.a.0 c.args.size c.new-site.result c.row_for-row.result
 block g c = record {
   counted = c.args.self.now.counted;
   distinct = c.row_for-row.ensures.distinct;
-  most = c.requires.most;
-  fresh = c.in-Ok.ensures.fresh;
+  most = c.requires.size.most;
+  fresh = c.in-Ok.ensures.put.fresh;
   kept = λ q. c.put.ensures q ∙ ap (λ ss. cond (eqb c.in-Ok.a.0 q) (Some c.new-site.result) (site_at q ss)) c.reserve-2.ensures.same;
   row = c.row_for-row.ensures.row;
-  few = c.if-row-ge4294967295.false;
+  few = let few = few-blocks c.new-site.result c.row_for-row.result c.args.self.now.counted c.row_for-row.ensures.row in let most = best-few c.args.self.now.best in omega (arith, few, most);
 }
 
 row : (g : Over) (c : After-with g) → IsRowWith c.row_for-row.result (c.row_for-row.result.blocks + 1) (c.row_for-row.result.bytes + c.args.size) c.with.result
@@ -52,15 +56,10 @@ returns-in-Ok-clause-answer g c =
     let h = goal.at.returns-in-Ok-clause-answer g c in
     profile-put (block g h.After-put) _ c.args.tag c.args.align (layout_of c.alloc.new.self) c.in-Ok.ensures.answer c.with.result (row g h.After-with) c.args.site.now c.new-site.ensures c.put_row.new.rows.entries (rows g h.After-put_row)
 
-pub returns-in-Ok-clause-there : goal.returns-in-Ok-clause-there
-returns-in-Ok-clause-there g c =
-    from-best (λ bs. find_block (place_of c.in-Ok.a.0) bs ≡ Some (zeros c.args.tag c.args.size (place_of c.in-Ok.a.0))) c.put.new.self.items.items (layout_of c.alloc.new.self).blocks c.in-Ok.ensures.there
-
-pub returns-in-Ok-clause-fresh : goal.returns-in-Ok-clause-fresh
-returns-in-Ok-clause-fresh g c = from-best (λ bs. HasBlock bs c.in-Ok.a.0 → ⊥) c.args.self.now.sites.items.items (layout_of c.args.self.now.best).blocks c.in-Ok.ensures.fresh
-
-pub returns-in-Ok-clause-others : goal.returns-in-Ok-clause-others
-returns-in-Ok-clause-others g c = from-both (λ xs ys. without_block (place_of c.in-Ok.a.0) xs ≡ ys) c.put.new.self.items.items c.args.self.now.sites.items.items (layout_of c.alloc.new.self).blocks (layout_of c.args.self.now.best).blocks c.in-Ok.ensures.others
+pub returns-in-Ok-clause-put : goal.returns-in-Ok-clause-put
+returns-in-Ok-clause-put g c =
+    let me = c.args.self.now in
+    from-both (λ xs ys. IsBlockPut c.args.tag c.args.size c.in-Ok.a.0 ys xs) c.put.new.self.items.items me.sites.items.items (layout_of c.alloc.new.self).blocks (layout_of me.best).blocks c.in-Ok.ensures.put
 
 pub returns-clause-answer : goal.returns-clause-answer
 returns-clause-answer g c =

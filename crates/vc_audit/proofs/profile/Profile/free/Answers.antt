@@ -1,13 +1,12 @@
-use Rattle.std.proofs.Common.{◌≡◌, ℕ, ◌<◌, ◌-◌, length, is_some, inr, sym, ap, ◌∙◌, subst}
+use Rattle.std.proofs.Common.{◌-◌, is_some, inr, sym, ap, ◌∙◌, subst}
 use Rattle.std.proofs.lemmas.Bool.{false≢true}
-use Rattle.std.specs.List.{HoldsAt, remove}
 use Rattle.std.specs.Str.{bytes_eq}
 use Rattle.indexmap.specs.IndexMap.{insert_entry}
-use Rattle.vc_model.specs.Layout.{Block, address_of}
 use Rattle.vc_model.specs.Touch.{HasBlock}
+use Rattle.vc_seg.specs.OneBlock.{IsBlockFreed}
 use Rattle.vc_best.specs.Parts.{layout_of}
 use Rattle.vc_audit.specs.ProfileSums.{IsCounted}
-use Rattle.vc_audit.proofs.ProfileBare.{from-best, from-both, to-best}
+use Rattle.vc_audit.proofs.ProfileBare.{from-both, to-best}
 use Rattle.vc_audit.proofs.ProfileFree.{IsAtSite, at-site, counted-freed, enough-blocks, enough-bytes, has-row, has-site, profile, profile-freed}
 use Rattle.vc_audit.proofs.ProfileRows.{IsRowWith}
 use Rattle.vc_audit.proofs.ProfileSound.{best_places}
@@ -60,7 +59,4 @@ returns-clause-profile g c =
 pub returns-clause-freed : goal.returns-clause-freed
 returns-clause-freed g c =
     let me = c.args.self.now in
-    from-both (λ xs ys. (i : ℕ) → i < length ys → HoldsAt (λ (b : Block ℕ). address_of b ≡ c.args.a.0) ys i → xs ≡ remove ys i) c.take.new.self.items.items me.sites.items.items (layout_of c.free.new.self).blocks (layout_of me.best).blocks c.free.ensures.freed
-
-pub returns-clause-none_left : goal.returns-clause-none_left
-returns-clause-none_left g c = from-best (λ bs. HasBlock bs c.args.a.0 → ⊥) c.take.new.self.items.items (layout_of c.free.new.self).blocks c.free.ensures.none_left
+    from-both (λ xs ys. IsBlockFreed c.args.a.0 ys xs) c.take.new.self.items.items me.sites.items.items (layout_of c.free.new.self).blocks (layout_of me.best).blocks c.free.ensures.freed

@@ -1,16 +1,14 @@
 use Rattle.std.proofs.Common.{◌≡◌, ℕ, Some, drop, option_map, take}
 use Rattle.vc_model.specs.Addr.{place_of}
 use Rattle.vc_model.specs.Layout.{Block}
-use Rattle.vc_model.specs.Touch.{HasBlock, HasRange, find_block}
+use Rattle.vc_model.specs.Touch.{find_block}
+use Rattle.vc_seg.specs.OneBlock.{IsInBlock}
 use Rattle.vc_best.specs.Parts.{layout_of}
 use Rattle.vc_audit.proofs.ProfileBare.{from-best, to-best}
 use Rattle.vc_audit.proofs.profile.Profile.read.Goals as goal
 
-pub read-requires-clause-block : goal.read-requires-clause-block
-read-requires-clause-block g c = to-best (λ bs. HasBlock bs c.args.a.0) c.args.self.now.sites.items.items (layout_of c.args.self.now.best).blocks c.requires.block
-
-pub read-requires-clause-range : goal.read-requires-clause-range
-read-requires-clause-range g c = to-best (λ bs. HasRange bs c.args.a.0 c.args.off c.args.len) c.args.self.now.sites.items.items (layout_of c.args.self.now.best).blocks c.requires.range
+pub read-requires : goal.read-requires
+read-requires g c = to-best (λ bs. IsInBlock bs c.args.a.0 c.args.off c.args.len) c.args.self.now.sites.items.items (layout_of c.args.self.now.best).blocks c.requires
 
 pub returns : goal.returns
 returns g c = from-best (λ bs. option_map (λ (b : Block ℕ). take c.args.len (drop c.args.off b.bytes)) (find_block (place_of c.args.a.0) bs) ≡ Some c.read.result.now) c.args.self.now.sites.items.items (layout_of c.args.self.now.best).blocks c.read.ensures

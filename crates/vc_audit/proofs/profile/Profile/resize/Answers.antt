@@ -2,16 +2,15 @@ use Rattle.std.proofs.Common.{◌≡◌, ℕ, ◌+◌, ◌-◌, IfSome, IsTrue, 
 use Rattle.std.proofs.lemmas.Bool.{false≢true}
 use Rattle.vc_model.specs.Addr.{place_of}
 use Rattle.vc_model.specs.Layout.{Block, Layout, without_block}
-use Rattle.vc_model.specs.Resize.{can_stay}
 use Rattle.vc_model.specs.Touch.{HasBlock, find_block}
-use Rattle.vc_best.specs.Ask.{AsksForSegment}
+use Rattle.vc_seg.specs.OneBlock.{IsBlockKept}
 use Rattle.vc_best.specs.Parts.{layout_of}
 use Rattle.vc_audit.specs.ProfileSums.{IsCounted}
 use Rattle.vc_audit.proofs.ProfileAlloc.{few-bytes}
-use Rattle.vc_audit.proofs.ProfileBare.{bare-layout, from-both, to-best}
+use Rattle.vc_audit.proofs.ProfileBare.{from-both, to-best}
 use Rattle.vc_audit.proofs.ProfileFree.{IsAtSite, at-site, enough-bytes, has-row, has-site, profile}
 use Rattle.vc_audit.proofs.ProfileHeld.{told-block, told-is}
-use Rattle.vc_audit.proofs.ProfileResize.{IsMovedTo, counted-resized, has-block, profile-resized, resize-refused}
+use Rattle.vc_audit.proofs.ProfileResize.{IsMovedTo, asks-bare, counted-resized, has-block, profile-resized, resize-refused}
 use Rattle.vc_audit.proofs.ProfileRows.{IsRowWith}
 use Rattle.vc_audit.proofs.ProfileSound.{best_places}
 use Rattle.vc_audit.proofs.profile.Profile.resize.Given.{Over}
@@ -37,7 +36,7 @@ moved g c =
       places = best_places c.resize.new.self;
       the = b;
       sized = told-is (λ (x : Block ℕ). x.size) bs c.in-Ok.to.0 c.size-after.result b c.size-after.ensures;
-      others = c.in-Ok.ensures.others;
+      others = c.in-Ok.ensures.kept.others;
       kept = c.move_to.ensures.there;
       others_kept = c.move_to.ensures.others;
     }
@@ -52,7 +51,7 @@ pub size-after-requires : goal.size-after-requires
 size-after-requires g c =
     let bs = (layout_of c.resize.new.self).blocks in
     let b = (before g (goal.at.size-after-requires g c).After-row_for-row).the in
-    has-block bs c.in-Ok.to.0 (told-block (λ (x : Block ℕ). x.label) bs c.in-Ok.to.0 b.block.label (c.in-Ok.ensures.there ∙ ap (option_map (λ (x : Block ℕ). x.label)) b.found))
+    has-block bs c.in-Ok.to.0 (told-block (λ (x : Block ℕ). x.label) bs c.in-Ok.to.0 b.block.label (c.in-Ok.ensures.kept.label ∙ ap (option_map (λ (x : Block ℕ). x.label)) b.found))
 
 pub overflow_sub-bytes : goal.overflow_sub-bytes
 overflow_sub-bytes g c = enough-bytes (before g (goal.at.overflow_sub-bytes g c).After-row_for-row)
@@ -70,22 +69,17 @@ invariant_of-self g c =
     let h = goal.at.invariant_of-self g c in
     record {
       counted = subst (IsCounted (layout_of c.resize.new.self) c.move_to.new.self.items.items) (sym c.put_row.ensures)
-          (counted-resized (before g h.After-row_for-row) (moved g h.After-move_to) _ c.args.size c.args.may_move c.requires.most c.in-Ok.ensures.answer c.with.result (row g h.After-with));
+          (counted-resized (before g h.After-row_for-row) (moved g h.After-move_to) _ c.args.size c.args.may_move c.requires.size.most c.in-Ok.ensures.answer c.with.result (row g h.After-with));
     }
 
 pub returns-in-Ok-clause-answer : goal.returns-in-Ok-clause-answer
 returns-in-Ok-clause-answer g c =
     let h = goal.at.returns-in-Ok-clause-answer g c in
-    profile-resized (before g h.After-row_for-row) (moved g h.After-move_to) _ c.args.size c.args.may_move c.requires.most c.in-Ok.ensures.answer c.with.result (row g h.After-with) c.put_row.new.rows.entries c.put_row.ensures
+    profile-resized (before g h.After-row_for-row) (moved g h.After-move_to) _ c.args.size c.args.may_move c.requires.size.most c.in-Ok.ensures.answer c.with.result (row g h.After-with) c.put_row.new.rows.entries c.put_row.ensures
 
-pub returns-in-Ok-clause-there : goal.returns-in-Ok-clause-there
-returns-in-Ok-clause-there g c =
-    from-both (λ xs ys. option_map (λ (b : Block ℕ). b.label) (find_block (place_of c.in-Ok.to.0) xs) ≡ option_map (λ (b : Block ℕ). b.label) (find_block (place_of c.args.a.0) ys)) c.move_to.new.self.items.items c.args.self.now.sites.items.items
-    (layout_of c.resize.new.self).blocks (layout_of c.args.self.now.best).blocks c.in-Ok.ensures.there
-
-pub returns-in-Ok-clause-others : goal.returns-in-Ok-clause-others
-returns-in-Ok-clause-others g c =
-    from-both (λ xs ys. without_block (place_of c.in-Ok.to.0) xs ≡ without_block (place_of c.args.a.0) ys) c.move_to.new.self.items.items c.args.self.now.sites.items.items (layout_of c.resize.new.self).blocks (layout_of c.args.self.now.best).blocks c.in-Ok.ensures.others
+pub returns-in-Ok-clause-kept : goal.returns-in-Ok-clause-kept
+returns-in-Ok-clause-kept g c =
+    from-both (λ xs ys. IsBlockKept c.args.a.0 c.in-Ok.to.0 ys xs) c.move_to.new.self.items.items c.args.self.now.sites.items.items (layout_of c.resize.new.self).blocks (layout_of c.args.self.now.best).blocks c.in-Ok.ensures.kept
 
 pub returns-clause-answer : goal.returns-clause-answer
 returns-clause-answer g c =
@@ -96,8 +90,4 @@ returns-clause-answer g c =
 
 pub returns-clause-no_memory : goal.returns-clause-no_memory
 returns-clause-no_memory g c =
-    λ e. subst (λ (l : Layout ℕ). IfSome (find_block (place_of c.args.a.0) l.blocks) (λ b. can_stay l c.args.size b ≡ false) × IsTrue c.args.may_move) (sym (bare-layout c.args.self.now.sites.items.items (layout_of c.args.self.now.best))) (c.in-Err.ensures.no_memory e)
-
-pub returns-clause-no_place : goal.returns-clause-no_place
-returns-clause-no_place g c =
-    λ e. subst (λ (l : Layout ℕ). AsksForSegment l c.args.size 32) (sym (bare-layout c.args.self.now.sites.items.items (layout_of c.args.self.now.best))) (c.in-Err.ensures.no_place e)
+    λ e. asks-bare c.args.self.now.sites.items.items (layout_of c.args.self.now.best) (c.in-Err.ensures.no_memory e)

@@ -1,7 +1,7 @@
 use Rattle.std.proofs.Common.{◌≡◌, ℕ, length, sym, ap, ◌∙◌, subst}
 use Rattle.vc_model.specs.Addr.{place_of}
 use Rattle.vc_model.specs.Layout.{Layout, without_block}
-use Rattle.vc_model.specs.Touch.{HasBlock, HasRange}
+use Rattle.vc_seg.specs.OneBlock.{IsInBlock}
 use Rattle.vc_best.specs.Parts.{layout_of}
 use Rattle.vc_audit.specs.ProfileSums.{IsCounted}
 use Rattle.vc_audit.proofs.ProfileBare.{from-both, to-best}
@@ -9,24 +9,21 @@ use Rattle.vc_audit.proofs.ProfileFree.{profile}
 use Rattle.vc_audit.proofs.ProfileStays.{counted-written, profile-written}
 use Rattle.vc_audit.proofs.profile.Profile.write.Goals as goal
 
-pub write-requires-clause-block : goal.write-requires-clause-block
-write-requires-clause-block g c = to-best (λ bs. HasBlock bs c.args.a.0) c.args.self.now.sites.items.items (layout_of c.args.self.now.best).blocks c.requires.block
-
-pub write-requires-clause-range : goal.write-requires-clause-range
-write-requires-clause-range g c = to-best (λ bs. HasRange bs c.args.a.0 c.args.off (length c.args.src.now)) c.args.self.now.sites.items.items (layout_of c.args.self.now.best).blocks c.requires.range
+pub write-requires : goal.write-requires
+write-requires g c = to-best (λ bs. IsInBlock bs c.args.a.0 c.args.off (length c.args.src.now)) c.args.self.now.sites.items.items (layout_of c.args.self.now.best).blocks c.requires
 
 pub invariant_of-self : goal.invariant_of-self
 invariant_of-self g c =
     let me = c.args.self.now in
-    record { counted = subst (λ (l : Layout ℕ). IsCounted l me.sites.items.items me.rows.entries) (sym c.write.ensures.layout) (counted-written (layout_of me.best) me.sites.items.items me.rows.entries me.counted (place_of c.args.a.0) c.args.off c.args.src.now) }
+    record { counted = subst (λ (l : Layout ℕ). IsCounted l me.sites.items.items me.rows.entries) (sym c.write.ensures.written.layout) (counted-written (layout_of me.best) me.sites.items.items me.rows.entries me.counted (place_of c.args.a.0) c.args.off c.args.src.now) }
 
 pub returns-clause-profile : goal.returns-clause-profile
 returns-clause-profile g c =
     let me = c.args.self.now in
-    ap (λ l. profile me.sites.items.items l me.rows.entries) c.write.ensures.layout
+    ap (λ l. profile me.sites.items.items l me.rows.entries) c.write.ensures.written.layout
     ∙ profile-written (layout_of me.best) me.sites.items.items me.rows.entries me.counted (place_of c.args.a.0) c.args.off c.args.src.now
 
 pub returns-clause-others : goal.returns-clause-others
 returns-clause-others g c =
     let me = c.args.self.now in
-    from-both (λ xs ys. without_block (place_of c.args.a.0) xs ≡ without_block (place_of c.args.a.0) ys) me.sites.items.items me.sites.items.items (layout_of c.write.new.self).blocks (layout_of me.best).blocks c.write.ensures.others
+    from-both (λ xs ys. without_block (place_of c.args.a.0) xs ≡ without_block (place_of c.args.a.0) ys) me.sites.items.items me.sites.items.items (layout_of c.write.new.self).blocks (layout_of me.best).blocks c.write.ensures.written.others
