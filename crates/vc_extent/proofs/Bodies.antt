@@ -1,7 +1,6 @@
 -- Bytes written into a busy extent, and a link into a free one.
 use Rattle.std.proofs.Common.{◌≡◌, ℕ, zero, suc, ◌+◌, ◌-◌, ◌*◌, ◌<◌, ◌≤◌, List, [], ◌∷◌, ◌++◌, cond, length, take, drop, ap, sym, subst, ◌∙◌, arith}
 use Rattle.std.proofs.lemmas.Bool.{eq-eqb}
-use Rattle.std.proofs.lemmas.List.{drop-append-le, drop-drop, drop-take, length-append, length-drop, length-take-le, take-take}
 use Rattle.vc_model.specs.Bytes.{with_bytes}
 use Rattle.vc_base.proofs.Overwrites.{part-written}
 use Rattle.vc_seg.specs.Segment.{Bytes}

@@ -1,5 +1,5 @@
 -- A list of extents and what becomes of it where one of them changes.
-use Rattle.std.specs.Prelude.{◌≡◌, ℕ, ◌+◌, ◌-◌, List, [], ◌∷◌, Option, Some, None, length, take, ◌==◌, if◌then◌else◌}
+use Rattle.std.specs.Prelude.{◌≡◌, ℕ, ◌+◌, ◌-◌, ◌<◌, List, [], ◌∷◌, Option, Some, None, length, take, ◌==◌, if◌then◌else◌}
 use Rattle.vc_model.specs.Bytes.{with_bytes}
 use Rattle.vc_model.specs.Segments.{span}
 use Rattle.vc_seg.specs.Segment.{Bytes}
@@ -10,6 +10,11 @@ use Rattle.vc_extent.specs.Tiles.{IsTiled}
 abbrev pub extent_in : ℕ → List Extent → Extent
 extent_in off [] = free_extent off 0 no_links
 extent_in off (e ∷ es) = if e.off == off then e else extent_in off es
+
+-- bytes are tiled, and an extent lies in them from a place on
+pub record IsExtentAt (bytes : List ℕ) (at : ℕ) : Type 0 where
+  pub tiled : IsTiled bytes
+  pub named : 0 < (extent_in (at + 16) (extents bytes)).span
 
 -- the extents behind it
 abbrev pub behind : ℕ → List Extent → List Extent

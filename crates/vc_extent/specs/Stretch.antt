@@ -2,14 +2,12 @@
 use Rattle.std.specs.Prelude.{◌≡◌, ℕ, ◌+◌, ◌≤◌, ◌<◌, List, IfSome, IsSome, length, take}
 use Rattle.vc_model.specs.Segments.{span}
 use Rattle.vc_seg.specs.Segment.{Bytes}
-use Rattle.vc_extent.specs.Change.{Changes, behind, extent_in, first_of, stretch}
+use Rattle.vc_extent.specs.Change.{Changes, IsExtentAt, behind, extent_in, first_of, stretch}
 use Rattle.vc_extent.specs.Extent.{extents}
-use Rattle.vc_extent.specs.Tiles.{IsTiled}
 
 -- the busy extent from a place on can get a size that wants a larger span, since the one behind it has enough bytes
 pub record CanStretch (bytes : List ℕ) (at size : ℕ) : Type 0 where
-  pub tiled : IsTiled bytes
-  pub named : 0 < (extent_in (at + 16) (extents bytes)).span
+  pub there : IsExtentAt bytes at
   pub busy : 0 < (extent_in (at + 16) (extents bytes)).size
   pub some : IsSome (first_of (behind (at + 16) (extents bytes)))
   pub above : (extent_in (at + 16) (extents bytes)).span < span size

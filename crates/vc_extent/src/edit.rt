@@ -1,9 +1,8 @@
 ghost use Rattle.std.specs.Prelude.{◌≡◌, ℕ, ◌+◌, ◌%◌, ◌<◌, ◌≤◌, IfSome, IsSome, length, min, take};
 ghost use Rattle.vc_model.specs.Segments.{span};
 ghost use Rattle.vc_extent.specs.Extent.{extents};
-ghost use Rattle.vc_extent.specs.Change.{Changes, behind, extent_in, first_of, join, mark_busy, mark_free, set_size, shrink, split};
+ghost use Rattle.vc_extent.specs.Change.{Changes, IsExtentAt, behind, extent_in, first_of, join, mark_busy, mark_free, set_size, shrink, split};
 ghost use Rattle.vc_extent.specs.Stretch.{CanStretch, IsStretched};
-ghost use Rattle.vc_extent.specs.Tiles.{IsTiled};
 
 use crate::lay::{lay_busy, lay_free, lay_rest, set_boundary};
 use crate::read::{span_behind, span_in, tag_in};
@@ -11,8 +10,7 @@ use vc_seg::{Segment, span_of};
 
 // Splits the free extent from a place on. The first gets that many bytes.
 pub(crate) fn split_in(seg: &mut Segment, at: u32, bytes: u32)
-    requires tiled { IsTiled seg.old.bytes }
-    requires named { 0 < (extent_in (at + 16) (extents seg.old.bytes)).span }
+    requires there { IsExtentAt seg.old.bytes at }
     requires larger { bytes < (extent_in (at + 16) (extents seg.old.bytes)).span }
     requires least { 32 ≤ bytes }
     requires multiple { bytes % 32 ≡ 0 }
@@ -25,8 +23,7 @@ pub(crate) fn split_in(seg: &mut Segment, at: u32, bytes: u32)
 
 // Joins the free extent from a place on and the free one behind it.
 pub(crate) fn join_in(seg: &mut Segment, at: u32)
-    requires tiled { IsTiled seg.old.bytes }
-    requires named { 0 < (extent_in (at + 16) (extents seg.old.bytes)).span }
+    requires there { IsExtentAt seg.old.bytes at }
     requires some { IsSome (first_of (behind (at + 16) (extents seg.old.bytes))) }
     ensures { Changes (at + 16) join seg.old seg.new }
 {
@@ -38,8 +35,7 @@ pub(crate) fn join_in(seg: &mut Segment, at: u32)
 
 // Makes the free extent from a place on a busy one.
 pub(crate) fn mark_busy_in(seg: &mut Segment, at: u32, size: u32, tag: u32)
-    requires tiled { IsTiled seg.old.bytes }
-    requires named { 0 < (extent_in (at + 16) (extents seg.old.bytes)).span }
+    requires there { IsExtentAt seg.old.bytes at }
     requires some { 1 ≤ size }
     requires span { span size ≡ (extent_in (at + 16) (extents seg.old.bytes)).span }
     ensures change { Changes (at + 16)
@@ -52,8 +48,7 @@ pub(crate) fn mark_busy_in(seg: &mut Segment, at: u32, size: u32, tag: u32)
 
 // Makes the busy extent from a place on a free one.
 pub(crate) fn mark_free_in(seg: &mut Segment, at: u32)
-    requires tiled { IsTiled seg.old.bytes }
-    requires named { 0 < (extent_in (at + 16) (extents seg.old.bytes)).span }
+    requires there { IsExtentAt seg.old.bytes at }
     ensures { Changes (at + 16) mark_free seg.old seg.new }
 {
     let bytes = span_in(seg, at);
@@ -62,8 +57,7 @@ pub(crate) fn mark_free_in(seg: &mut Segment, at: u32)
 
 // Gives the busy extent from a place on another size with the same span.
 pub(crate) fn set_size_in(seg: &mut Segment, at: u32, size: u32)
-    requires tiled { IsTiled seg.old.bytes }
-    requires named { 0 < (extent_in (at + 16) (extents seg.old.bytes)).span }
+    requires there { IsExtentAt seg.old.bytes at }
     requires some { 1 ≤ size }
     requires span { span size ≡ (extent_in (at + 16) (extents seg.old.bytes)).span }
     ensures change { Changes (at + 16)
@@ -104,8 +98,7 @@ pub(crate) fn stretch_in(seg: &mut Segment, at: u32, size: u32) -> u32
 
 // Leaves what a lesser size of the busy extent from a place on doesn't want to a free one behind it.
 pub(crate) fn shrink_in(seg: &mut Segment, at: u32, size: u32)
-    requires tiled { IsTiled seg.old.bytes }
-    requires named { 0 < (extent_in (at + 16) (extents seg.old.bytes)).span }
+    requires there { IsExtentAt seg.old.bytes at }
     requires busy { 0 < (extent_in (at + 16) (extents seg.old.bytes)).size }
     requires some { 1 ≤ size }
     requires below { span size < (extent_in (at + 16) (extents seg.old.bytes)).span }

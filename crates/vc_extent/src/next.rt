@@ -1,15 +1,13 @@
 ghost use Rattle.std.specs.Prelude.{◌≡◌, ◌+◌, ◌%◌, ◌<◌, ◌≤◌, IfSome, None, length, option_map};
 ghost use Rattle.vc_extent.specs.Extent.{extents};
-ghost use Rattle.vc_extent.specs.Change.{behind, extent_in, first_of, last_before};
-ghost use Rattle.vc_extent.specs.Tiles.{IsTiled};
+ghost use Rattle.vc_extent.specs.Change.{IsExtentAt, behind, extent_in, first_of, last_before};
 
 use crate::read::span_in;
 use vc_seg::Segment;
 
 // The offset that names the extent behind the one from a place on, where there is one.
 pub(crate) fn next_in(seg: &Segment, at: u32) -> Option<u32>
-    requires tiled { IsTiled seg.now.bytes }
-    requires named { 0 < (extent_in (at + 16) (extents seg.now.bytes)).span }
+    requires there { IsExtentAt seg.now.bytes at }
     requires multiple { (at + 16) % 32 ≡ 0 }
     ensures value { option_map (λ e. e.off) (first_of (behind (at + 16) (extents seg.now.bytes)))
         ≡ result }
@@ -27,8 +25,7 @@ pub(crate) fn next_in(seg: &Segment, at: u32) -> Option<u32>
 
 // The offset that names the extent before the one from a place on, where there is one.
 pub(crate) fn previous_in(seg: &Segment, at: u32) -> Option<u32>
-    requires tiled { IsTiled seg.now.bytes }
-    requires named { 0 < (extent_in (at + 16) (extents seg.now.bytes)).span }
+    requires there { IsExtentAt seg.now.bytes at }
     requires multiple { (at + 16) % 32 ≡ 0 }
     ensures value { option_map (λ e. e.off) (last_before None (at + 16) (extents seg.now.bytes))
         ≡ result }

@@ -1,15 +1,13 @@
 ghost use Rattle.std.specs.Prelude.{◌≡◌, ◌+◌, ◌%◌, ◌<◌, ◌≤◌, IfSome, IsSome, length};
 ghost use Rattle.vc_extent.specs.Extent.{extents};
-ghost use Rattle.vc_extent.specs.Change.{behind, extent_in, first_of};
-ghost use Rattle.vc_extent.specs.Tiles.{IsTiled};
+ghost use Rattle.vc_extent.specs.Change.{IsExtentAt, behind, extent_in, first_of};
 
 use vc_seg::Segment;
 
 // The span of the extent from a place on.
 #[inline(always)]
 pub(crate) fn span_in(seg: &Segment, at: u32) -> u32
-    requires tiled { IsTiled seg.now.bytes }
-    requires named { 0 < (extent_in (at + 16) (extents seg.now.bytes)).span }
+    requires there { IsExtentAt seg.now.bytes at }
     ensures value { result ≡ (extent_in (at + 16) (extents seg.now.bytes)).span }
     ensures within { at + result + 16 ≤ length seg.now.bytes }
     ensures most { length seg.now.bytes ≤ 33554432 }
@@ -22,8 +20,7 @@ pub(crate) fn span_in(seg: &Segment, at: u32) -> u32
 
 // The span of the extent behind the one from a place on, whose span is given.
 pub(crate) fn span_behind(seg: &Segment, at: u32, bytes: u32) -> u32
-    requires tiled { IsTiled seg.now.bytes }
-    requires named { 0 < (extent_in (at + 16) (extents seg.now.bytes)).span }
+    requires there { IsExtentAt seg.now.bytes at }
     requires bytes { bytes ≡ (extent_in (at + 16) (extents seg.now.bytes)).span }
     requires some { IsSome (first_of (behind (at + 16) (extents seg.now.bytes))) }
     ensures value { IfSome (first_of (behind (at + 16) (extents seg.now.bytes)))
@@ -38,8 +35,7 @@ pub(crate) fn span_behind(seg: &Segment, at: u32, bytes: u32) -> u32
 // The size of the extent from a place on, 0 where it is free.
 #[inline(always)]
 pub(crate) fn size_in(seg: &Segment, at: u32) -> u32
-    requires tiled { IsTiled seg.now.bytes }
-    requires named { 0 < (extent_in (at + 16) (extents seg.now.bytes)).span }
+    requires there { IsExtentAt seg.now.bytes at }
     ensures value { result ≡ (extent_in (at + 16) (extents seg.now.bytes)).size }
     ensures within { at + 16 + result ≤ length seg.now.bytes }
     ensures most { length seg.now.bytes ≤ 33554432 }
@@ -50,8 +46,7 @@ pub(crate) fn size_in(seg: &Segment, at: u32) -> u32
 // The tag of the extent from a place on, 0 where it is free.
 #[inline(always)]
 pub(crate) fn tag_in(seg: &Segment, at: u32) -> u32
-    requires tiled { IsTiled seg.now.bytes }
-    requires named { 0 < (extent_in (at + 16) (extents seg.now.bytes)).span }
+    requires there { IsExtentAt seg.now.bytes at }
     ensures { result ≡ (extent_in (at + 16) (extents seg.now.bytes)).tag }
 {
     seg.field(at + 8)

@@ -8,14 +8,14 @@ use Rattle.vc_extent.proofs.body.fill_in.Goals as goal
 
 pub overflow_add-at : goal.overflow_add-at
 overflow_add-at c =
-    let w = within c.args.seg.now.bytes c.args.at c.requires.tiled c.requires.named in
+    let w = within c.args.seg.now.bytes c.args.at c.requires.there.tiled c.requires.there.named in
     let end = w.end in
     let most = w.most in
     omega arith
 
 pub overflow_add-at-2 : goal.overflow_add-at-2
 overflow_add-at-2 c =
-    let w = within c.args.seg.now.bytes c.args.at c.requires.tiled c.requires.named in
+    let w = within c.args.seg.now.bytes c.args.at c.requires.there.tiled c.requires.there.named in
     let end = w.end in
     let most = w.most in
     let fits = w.fits in
@@ -23,10 +23,10 @@ overflow_add-at-2 c =
 
 pub fill-requires : goal.fill-requires
 fill-requires c =
-    let w = within c.args.seg.now.bytes c.args.at c.requires.tiled c.requires.named in
+    let w = within c.args.seg.now.bytes c.args.at c.requires.there.tiled c.requires.there.named in
     let end = w.end in
     let fits = w.fits in
     omega (arith, c.requires.within)
 
 pub returns : goal.returns
-returns c = body-changed c.args.seg.now c.fill.new.self c.args.at c.args.off (replicate c.args.len c.args.byte) c.requires.tiled c.requires.named c.requires.busy (subst (λ (k : ℕ). c.args.off + k ≤ (extent_in (c.args.at + 16) (extents c.args.seg.now.bytes)).size) (sym (length-replicate c.args.len c.args.byte)) c.requires.within) c.fill.ensures.bytes c.fill.ensures.number
+returns c = body-changed c.args.seg.now c.fill.new.self c.args.at c.args.off (replicate c.args.len c.args.byte) c.requires.there.tiled c.requires.there.named c.requires.busy (subst (λ (k : ℕ). c.args.off + k ≤ (extent_in (c.args.at + 16) (extents c.args.seg.now.bytes)).size) (sym (length-replicate c.args.len c.args.byte)) c.requires.within) c.fill.ensures.bytes c.fill.ensures.number

@@ -6,14 +6,14 @@ use Rattle.vc_extent.proofs.body.link_at.Goals as goal
 
 pub overflow_add-at : goal.overflow_add-at
 overflow_add-at c =
-    let w = within c.args.seg.now.bytes c.args.at c.requires.tiled c.requires.named in
+    let w = within c.args.seg.now.bytes c.args.at c.requires.there.tiled c.requires.there.named in
     let end = w.end in
     let most = w.most in
     omega arith
 
 pub overflow_add-at-2 : goal.overflow_add-at-2
 overflow_add-at-2 c =
-    let w = within c.args.seg.now.bytes c.args.at c.requires.tiled c.requires.named in
+    let w = within c.args.seg.now.bytes c.args.at c.requires.there.tiled c.requires.there.named in
     let end = w.end in
     let most = w.most in
     let least = w.legal.least in
@@ -21,10 +21,10 @@ overflow_add-at-2 c =
 
 pub field-requires : goal.field-requires
 field-requires c =
-    let w = within c.args.seg.now.bytes c.args.at c.requires.tiled c.requires.named in
+    let w = within c.args.seg.now.bytes c.args.at c.requires.there.tiled c.requires.there.named in
     let end = w.end in
     let least = w.legal.least in
     omega (arith, c.requires.k)
 
 pub returns : goal.returns
-returns c = c.field.ensures ∙ (link-is c.args.seg.now.bytes (c.args.at + 16) c.args.k c.requires.k ∙ ap (link_in c.args.k) (sym (links-there c.args.seg.now.bytes c.args.at c.requires.tiled c.requires.named c.requires.free)))
+returns c = c.field.ensures ∙ (link-is c.args.seg.now.bytes (c.args.at + 16) c.args.k c.requires.k ∙ ap (link_in c.args.k) (sym (links-there c.args.seg.now.bytes c.args.at c.requires.there.tiled c.requires.there.named c.requires.free)))

@@ -5,14 +5,14 @@ use Rattle.vc_extent.proofs.body.put_in.Goals as goal
 
 pub overflow_add-at : goal.overflow_add-at
 overflow_add-at c =
-    let w = within c.args.seg.now.bytes c.args.at c.requires.tiled c.requires.named in
+    let w = within c.args.seg.now.bytes c.args.at c.requires.there.tiled c.requires.there.named in
     let end = w.end in
     let most = w.most in
     omega arith
 
 pub overflow_add-at-2 : goal.overflow_add-at-2
 overflow_add-at-2 c =
-    let w = within c.args.seg.now.bytes c.args.at c.requires.tiled c.requires.named in
+    let w = within c.args.seg.now.bytes c.args.at c.requires.there.tiled c.requires.there.named in
     let end = w.end in
     let most = w.most in
     let fits = w.fits in
@@ -20,10 +20,10 @@ overflow_add-at-2 c =
 
 pub put-requires : goal.put-requires
 put-requires c =
-    let w = within c.args.seg.now.bytes c.args.at c.requires.tiled c.requires.named in
+    let w = within c.args.seg.now.bytes c.args.at c.requires.there.tiled c.requires.there.named in
     let end = w.end in
     let fits = w.fits in
     omega (arith, c.requires.within)
 
 pub returns : goal.returns
-returns c = body-changed c.args.seg.now c.put.new.self c.args.at c.args.off c.args.src.now c.requires.tiled c.requires.named c.requires.busy c.requires.within c.put.ensures.bytes c.put.ensures.number
+returns c = body-changed c.args.seg.now c.put.new.self c.args.at c.args.off c.args.src.now c.requires.there.tiled c.requires.there.named c.requires.busy c.requires.within c.put.ensures.bytes c.put.ensures.number

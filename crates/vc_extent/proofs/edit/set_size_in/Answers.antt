@@ -20,8 +20,8 @@ made c =
     let n : Bytes = c.lay_busy.new.seg in
     let e : Extent = extent_in (at + 16) (extents o.bytes) in
     let es : List Extent = behind (at + 16) (extents o.bytes) in
-    let p = here o.bytes at c.requires.tiled c.requires.named in
-    let w = within o.bytes at c.requires.tiled c.requires.named in
+    let p = here o.bytes at c.requires.there.tiled c.requires.there.named in
+    let w = within o.bytes at c.requires.there.tiled c.requires.there.named in
     let span : e.span ≡ c.span_in-bytes.result = sym c.span_in-bytes.ensures.value in
     let old : Tiles o.bytes (length o.bytes - 16) c.span_in-bytes.result (at + c.span_in-bytes.result) es = subst (λ (k : ℕ). Tiles o.bytes (length o.bytes - 16) k (at + k) es) span p.rest in
     let tag : c.tag_in-tag.result ≡ e.tag = c.tag_in-tag.ensures in
@@ -32,15 +32,15 @@ made c =
     let two : Tiles n.bytes (length n.bytes - 16) (field_at (at + 12) o.bytes) at (list e.off e.span) =
     subst (λ (k : ℕ). Tiles n.bytes (length n.bytes - 16) (field_at (at + 12) o.bytes) at (list k e.span)) (sym w.off)
     (subst (λ (k : ℕ). Tiles n.bytes (length n.bytes - 16) (field_at (at + 12) o.bytes) at (list (at + 16) k)) (sym span) one) in
-    changed o n at (set_size c.args.size (take c.args.size (drop (at + 16) o.bytes))) c.requires.tiled c.requires.named c.lay_busy.ensures.rest two
+    changed o n at (set_size c.args.size (take c.args.size (drop (at + 16) o.bytes))) c.requires.there.tiled c.requires.there.named c.lay_busy.ensures.rest two
 
 is : (c : After-lay_busy) → (extent_in (c.args.at + 16) (extents c.lay_busy.new.seg.bytes)).body ≡ body c
 is c =
     let at = c.args.at in
     let o : Bytes = c.args.seg.now in
     let e : Extent = extent_in (at + 16) (extents o.bytes) in
-    let w = within o.bytes at c.requires.tiled c.requires.named in
-    ap (λ (x : Extent). x.body) (renamed o c.lay_busy.new.seg at (set_size c.args.size (body c)) (busy_extent e.off e.span c.args.size e.tag (body c)) (behind (at + 16) (extents o.bytes)) c.requires.tiled c.requires.named (made c) refl w.off)
+    let w = within o.bytes at c.requires.there.tiled c.requires.there.named in
+    ap (λ (x : Extent). x.body) (renamed o c.lay_busy.new.seg at (set_size c.args.size (body c)) (busy_extent e.off e.span c.args.size e.tag (body c)) (behind (at + 16) (extents o.bytes)) c.requires.there.tiled c.requires.there.named (made c) refl w.off)
 
 pub returns-clause-change : goal.returns-clause-change
 returns-clause-change c =
@@ -50,7 +50,7 @@ returns-clause-change c =
 pub returns-clause-len : goal.returns-clause-len
 returns-clause-len c =
     let h = (goal.at.returns-clause-len c).After-lay_busy in
-    let w = within c.args.seg.now.bytes c.args.at c.requires.tiled c.requires.named in
+    let w = within c.args.seg.now.bytes c.args.at c.requires.there.tiled c.requires.there.named in
     let end = w.end in
     ap length (is h) ∙ length-part c.args.seg.now.bytes (c.args.at + 16) c.args.size (omega (arith, c.requires.span))
 
@@ -60,5 +60,5 @@ returns-clause-kept c =
     let h = (goal.at.returns-clause-kept c).After-lay_busy in
     let o : Bytes = c.args.seg.now in
     let e : Extent = extent_in (c.args.at + 16) (extents o.bytes) in
-    let w = within o.bytes c.args.at c.requires.tiled c.requires.named in
+    let w = within o.bytes c.args.at c.requires.there.tiled c.requires.there.named in
     ap (take k) (is h) ∙ (take-take k c.args.size (drop (c.args.at + 16) o.bytes) new ∙ sym (ap (take k) w.body ∙ take-take k e.size (drop (c.args.at + 16) o.bytes) old))

@@ -6,27 +6,27 @@ use Rattle.vc_extent.proofs.read.size_in.Goals as goal
 
 pub overflow_add-at : goal.overflow_add-at
 overflow_add-at c =
-    let w = within c.args.seg.now.bytes c.args.at c.requires.tiled c.requires.named in
+    let w = within c.args.seg.now.bytes c.args.at c.requires.there.tiled c.requires.there.named in
     let end = w.end in
     let most = w.most in
     omega arith
 
 pub field-requires : goal.field-requires
 field-requires c =
-    let w = within c.args.seg.now.bytes c.args.at c.requires.tiled c.requires.named in
+    let w = within c.args.seg.now.bytes c.args.at c.requires.there.tiled c.requires.there.named in
     let end = w.end in
     omega arith
 
 pub returns-clause-value : goal.returns-clause-value
-returns-clause-value c = let w = within c.args.seg.now.bytes c.args.at c.requires.tiled c.requires.named in c.field.ensures ∙ sym w.size
+returns-clause-value c = let w = within c.args.seg.now.bytes c.args.at c.requires.there.tiled c.requires.there.named in c.field.ensures ∙ sym w.size
 
 pub returns-clause-within : goal.returns-clause-within
 returns-clause-within c =
-    let w = within c.args.seg.now.bytes c.args.at c.requires.tiled c.requires.named in
+    let w = within c.args.seg.now.bytes c.args.at c.requires.there.tiled c.requires.there.named in
     let e : c.field.result ≡ (extent_in (c.args.at + 16) (extents c.args.seg.now.bytes)).size = c.field.ensures ∙ sym w.size in
     let end = w.end in
     let fits = w.fits in
     omega arith
 
 pub returns-clause-most : goal.returns-clause-most
-returns-clause-most c = (within c.args.seg.now.bytes c.args.at c.requires.tiled c.requires.named).most
+returns-clause-most c = (within c.args.seg.now.bytes c.args.at c.requires.there.tiled c.requires.there.named).most
