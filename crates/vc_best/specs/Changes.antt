@@ -7,11 +7,6 @@ use Rattle.vc_extent.specs.Change.{split}
 use Rattle.vc_extent.specs.Tiling.{change_extent, tiling}
 use Rattle.vc_best.specs.Free.{is_free}
 
--- an extent of a segment is changed, and segments keep their numbers and sizes
-pub record IsExtentChanged (old new : List Bytes) (a : ℕ) (change : Extent → List Extent → List Extent) : Type 0 where
-  pub extents : tiling new ≡ change_extent a change (tiling old)
-  pub pairs : map pair_of new ≡ map pair_of old
-
 -- what of a free extent lies before an offset is split from it, where anything does
 abbrev pub cut_front : ℕ → Extent → List Extent → List Extent
 cut_front off e es = if nat_lt e.off off then split (off - e.off) e es else e ∷ es

@@ -1,9 +1,9 @@
 ghost use Rattle.std.specs.Prelude.{◌≡◌, ◌+◌, ◌<◌, ◌≤◌, ◌%◌, IfSome, [], ◌∷◌};
 ghost use Rattle.vc_model.specs.Addr.{address, place_of};
 ghost use Rattle.vc_model.specs.Segments.{span};
-ghost use Rattle.vc_extent.specs.Tiling.{IsFree, extent_of, tiling};
+ghost use Rattle.vc_extent.specs.Tiling.{IsFree, IsExtentChanged, extent_of, tiling};
 ghost use Rattle.vc_best.specs.Beside.{some_name};
-ghost use Rattle.vc_best.specs.Changes.{IsExtentChanged, cut_back, cut_front, lay_zeros};
+ghost use Rattle.vc_best.specs.Changes.{cut_back, cut_front, lay_zeros};
 ghost use Rattle.vc_best.specs.GapsChange.{GapsChange};
 
 use vc_base::{Addr, Steps};

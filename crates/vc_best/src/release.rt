@@ -1,11 +1,11 @@
 ghost use Rattle.std.specs.Prelude.{◌≡◌, [], ◌∷◌, ◌++◌};
 ghost use Rattle.vc_model.specs.Addr.{place_of};
 ghost use Rattle.vc_model.specs.Best.{without_block_at};
-ghost use Rattle.vc_extent.specs.Tiling.{IsBusy, IsFree, tiling};
+ghost use Rattle.vc_extent.specs.Tiling.{IsBusy, IsFree, IsExtentChanged, tiling};
 ghost use Rattle.vc_best.specs.Beside.{free_before, free_next};
 ghost use Rattle.vc_best.specs.GapsChange.{GapsChange};
 ghost use Rattle.vc_best.specs.Blocks.{layout_by};
-ghost use Rattle.vc_best.specs.Changes.{IsExtentChanged, absorb};
+ghost use Rattle.vc_best.specs.Changes.{absorb};
 ghost use Rattle.vc_best.specs.Free.{IsMerged};
 
 use vc_base::Addr;

@@ -29,6 +29,11 @@ extent_of t a = extent_in (place_of a).1 (extents_of (place_of a).0 t)
 abbrev pub change_extent : ℕ → (Extent → List Extent → List Extent) → List (ℕ × List Extent) → List (ℕ × List Extent)
 change_extent a change t = change_in (place_of a).0 (change_at (place_of a).1 change) t
 
+-- the extent that an address names is changed, and segments keep their numbers and sizes
+pub record IsExtentChanged (old new : List Bytes) (a : ℕ) (change : Extent → List Extent → List Extent) : Type 0 where
+  pub tiling : tiling new ≡ change_extent a change (tiling old)
+  pub pairs : map pair_of new ≡ map pair_of old
+
 -- the extents that stand behind and before it in its segment, where there are any
 abbrev pub next_of : List (ℕ × List Extent) → ℕ → Option Extent
 next_of t a = first_of (behind (place_of a).1 (extents_of (place_of a).0 t))

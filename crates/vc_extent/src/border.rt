@@ -1,9 +1,8 @@
 ghost use Rattle.std.specs.Prelude.{◌≡◌, ◌+◌, ◌<◌, ◌≤◌, ◌==◌, IfSome, IsSomeAnd, if◌then◌else◌, length, map, take};
 ghost use Rattle.vc_model.specs.Addr.{address, place_of};
 ghost use Rattle.vc_model.specs.Segments.{span};
-ghost use Rattle.vc_seg.specs.Segment.{pair_of};
 ghost use Rattle.vc_extent.specs.Change.{shrink, stretch};
-ghost use Rattle.vc_extent.specs.Tiling.{IsBusy, change_extent, extent_of, next_of, tiling};
+ghost use Rattle.vc_extent.specs.Tiling.{IsBusy, IsExtentChanged, extent_of, next_of, tiling};
 
 use crate::edit::{shrink_in, stretch_in};
 use crate::extents::Extents;
@@ -20,9 +19,8 @@ impl Extents {
         requires above { (extent_of (tiling self.old.segs.items) a.0).span < span size }
         requires fits { IfSome (next_of (tiling self.old.segs.items) a.0)
             (λ e. span size ≤ (extent_of (tiling self.old.segs.items) a.0).span + e.span) }
-        ensures tiling { tiling self.new.segs.items
-            ≡ change_extent a.0 (stretch size (extent_of (tiling self.new.segs.items) a.0).body)
-            (tiling self.old.segs.items) }
+        ensures changed { IsExtentChanged self.old.segs.items self.new.segs.items a.0
+            (stretch size (extent_of (tiling self.new.segs.items) a.0).body) }
         ensures len { length (extent_of (tiling self.new.segs.items) a.0).body ≡ size }
         ensures kept { take (extent_of (tiling self.old.segs.items) a.0).size
             (extent_of (tiling self.new.segs.items) a.0).body
@@ -30,7 +28,6 @@ impl Extents {
         ensures rest { IfSome (next_of (tiling self.old.segs.items) a.0) (λ e. result.0
             ≡ (if (extent_of (tiling self.old.segs.items) a.0).span + e.span == span size
             then 0 else address ((place_of a.0).0, (place_of a.0).1 + span size))) }
-        ensures pairs { map pair_of self.new.segs.items ≡ map pair_of self.old.segs.items }
     {
         let (place, at) = self.find(a);
         let left = stretch_in(&mut self.segs[place], at, size);
@@ -46,10 +43,9 @@ impl Extents {
         requires busy { IsBusy (tiling self.old.segs.items) a.0 }
         requires some { 1 ≤ size }
         requires below { span size < (extent_of (tiling self.old.segs.items) a.0).span }
-        ensures tiling { tiling self.new.segs.items
-            ≡ change_extent a.0 (shrink size) (tiling self.old.segs.items) }
+        ensures changed { IsExtentChanged self.old.segs.items self.new.segs.items a.0
+            (shrink size) }
         ensures rest { result.0 ≡ address ((place_of a.0).0, (place_of a.0).1 + span size) }
-        ensures pairs { map pair_of self.new.segs.items ≡ map pair_of self.old.segs.items }
     {
         let (place, at) = self.find(a);
         shrink_in(&mut self.segs[place], at, size);

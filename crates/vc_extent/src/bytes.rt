@@ -1,7 +1,6 @@
 ghost use Rattle.std.specs.Prelude.{◌≡◌, ◌+◌, ◌<◌, ◌≤◌, length, map, replicate, take};
-ghost use Rattle.vc_seg.specs.Segment.{pair_of};
 ghost use Rattle.vc_extent.specs.Change.{link_in, set_link, write};
-ghost use Rattle.vc_extent.specs.Tiling.{IsBusy, IsFree, change_extent, extent_of, tiling};
+ghost use Rattle.vc_extent.specs.Tiling.{IsBusy, IsFree, IsExtentChanged, extent_of, tiling};
 
 use crate::body::{body_in, fill_in, link_at, put_in, set_link_at};
 use crate::extents::Extents;
@@ -24,9 +23,8 @@ impl Extents {
     pub fn set_link(&mut self, a: Addr, k: u32, v: Addr)
         requires free { IsFree (tiling self.old.segs.items) a.0 }
         requires k { k < 3 }
-        ensures tiling { tiling self.new.segs.items
-            ≡ change_extent a.0 (set_link k v.0) (tiling self.old.segs.items) }
-        ensures pairs { map pair_of self.new.segs.items ≡ map pair_of self.old.segs.items }
+        ensures { IsExtentChanged self.old.segs.items self.new.segs.items a.0
+            (set_link k v.0) }
     {
         let (place, at) = self.find(a);
         set_link_at(&mut self.segs[place], at, k, v.0);
@@ -48,9 +46,8 @@ impl Extents {
     pub fn put(&mut self, a: Addr, off: u32, src: &[u8])
         requires busy { IsBusy (tiling self.old.segs.items) a.0 }
         requires within { off + length src.now ≤ (extent_of (tiling self.old.segs.items) a.0).size }
-        ensures tiling { tiling self.new.segs.items
-            ≡ change_extent a.0 (write off src.now) (tiling self.old.segs.items) }
-        ensures pairs { map pair_of self.new.segs.items ≡ map pair_of self.old.segs.items }
+        ensures { IsExtentChanged self.old.segs.items self.new.segs.items a.0
+            (write off src.now) }
     {
         let (place, at) = self.find(a);
         put_in(&mut self.segs[place], at, off, src);
@@ -60,9 +57,8 @@ impl Extents {
     pub fn fill(&mut self, a: Addr, off: u32, len: u32, byte: u8)
         requires busy { IsBusy (tiling self.old.segs.items) a.0 }
         requires within { off + len ≤ (extent_of (tiling self.old.segs.items) a.0).size }
-        ensures tiling { tiling self.new.segs.items
-            ≡ change_extent a.0 (write off (replicate len byte)) (tiling self.old.segs.items) }
-        ensures pairs { map pair_of self.new.segs.items ≡ map pair_of self.old.segs.items }
+        ensures { IsExtentChanged self.old.segs.items self.new.segs.items a.0
+            (write off (replicate len byte)) }
     {
         let (place, at) = self.find(a);
         fill_in(&mut self.segs[place], at, off, len, byte);

@@ -1,9 +1,8 @@
 ghost use Rattle.std.specs.Prelude.{◌≡◌, ℕ, ◌+◌, ◌%◌, ◌<◌, ◌≤◌, IfSome, IsSome, IsSomeAnd, length, map, take};
 ghost use Rattle.vc_model.specs.Addr.{address, place_of};
 ghost use Rattle.vc_model.specs.Segments.{span};
-ghost use Rattle.vc_seg.specs.Segment.{pair_of};
 ghost use Rattle.vc_extent.specs.Change.{join, mark_busy, mark_free, set_size, split};
-ghost use Rattle.vc_extent.specs.Tiling.{IsBusy, IsFree, IsNamed, change_extent, extent_of, next_of, tiling};
+ghost use Rattle.vc_extent.specs.Tiling.{IsBusy, IsFree, IsNamed, IsExtentChanged, extent_of, next_of, tiling};
 
 use crate::edit::{join_in, mark_busy_in, mark_free_in, set_size_in, split_in};
 use crate::extents::Extents;
@@ -17,10 +16,9 @@ impl Extents {
         requires larger { span < (extent_of (tiling self.old.segs.items) a.0).span }
         requires least { 32 ≤ span }
         requires multiple { span % 32 ≡ 0 }
-        ensures tiling { tiling self.new.segs.items
-            ≡ change_extent a.0 (split span) (tiling self.old.segs.items) }
+        ensures changed { IsExtentChanged self.old.segs.items self.new.segs.items a.0
+            (split span) }
         ensures rest { result.0 ≡ address ((place_of a.0).0, (place_of a.0).1 + span) }
-        ensures pairs { map pair_of self.new.segs.items ≡ map pair_of self.old.segs.items }
     {
         let (place, at) = self.find(a);
         split_in(&mut self.segs[place], at, span);
@@ -31,9 +29,8 @@ impl Extents {
     pub fn join(&mut self, a: Addr)
         requires free { IsFree (tiling self.old.segs.items) a.0 }
         requires next { IsSomeAnd (next_of (tiling self.old.segs.items) a.0) (λ e. e.size ≡ 0) }
-        ensures tiling { tiling self.new.segs.items
-            ≡ change_extent a.0 join (tiling self.old.segs.items) }
-        ensures pairs { map pair_of self.new.segs.items ≡ map pair_of self.old.segs.items }
+        ensures { IsExtentChanged self.old.segs.items self.new.segs.items a.0
+            join }
     {
         let (place, at) = self.find(a);
         join_in(&mut self.segs[place], at);
@@ -44,12 +41,9 @@ impl Extents {
         requires free { IsFree (tiling self.old.segs.items) a.0 }
         requires some { 1 ≤ size }
         requires span { span size ≡ (extent_of (tiling self.old.segs.items) a.0).span }
-        ensures tiling { tiling self.new.segs.items
-            ≡ change_extent a.0
-            (mark_busy size tag (extent_of (tiling self.new.segs.items) a.0).body)
-            (tiling self.old.segs.items) }
+        ensures changed { IsExtentChanged self.old.segs.items self.new.segs.items a.0
+            (mark_busy size tag (extent_of (tiling self.new.segs.items) a.0).body) }
         ensures len { length (extent_of (tiling self.new.segs.items) a.0).body ≡ size }
-        ensures pairs { map pair_of self.new.segs.items ≡ map pair_of self.old.segs.items }
     {
         let (place, at) = self.find(a);
         mark_busy_in(&mut self.segs[place], at, size, tag);
@@ -58,9 +52,8 @@ impl Extents {
     /// Makes a busy extent free.
     pub fn mark_free(&mut self, a: Addr)
         requires { IsBusy (tiling self.old.segs.items) a.0 }
-        ensures tiling { tiling self.new.segs.items
-            ≡ change_extent a.0 mark_free (tiling self.old.segs.items) }
-        ensures pairs { map pair_of self.new.segs.items ≡ map pair_of self.old.segs.items }
+        ensures { IsExtentChanged self.old.segs.items self.new.segs.items a.0
+            mark_free }
     {
         let (place, at) = self.find(a);
         mark_free_in(&mut self.segs[place], at);
@@ -72,14 +65,12 @@ impl Extents {
         requires busy { IsBusy (tiling self.old.segs.items) a.0 }
         requires some { 1 ≤ size }
         requires span { span size ≡ (extent_of (tiling self.old.segs.items) a.0).span }
-        ensures tiling { tiling self.new.segs.items
-            ≡ change_extent a.0 (set_size size (extent_of (tiling self.new.segs.items) a.0).body)
-            (tiling self.old.segs.items) }
+        ensures changed { IsExtentChanged self.old.segs.items self.new.segs.items a.0
+            (set_size size (extent_of (tiling self.new.segs.items) a.0).body) }
         ensures len { length (extent_of (tiling self.new.segs.items) a.0).body ≡ size }
         ensures kept { (k : ℕ) → k ≤ size → k ≤ (extent_of (tiling self.old.segs.items) a.0).size
             → take k (extent_of (tiling self.new.segs.items) a.0).body
             ≡ take k (extent_of (tiling self.old.segs.items) a.0).body }
-        ensures pairs { map pair_of self.new.segs.items ≡ map pair_of self.old.segs.items }
     {
         let (place, at) = self.find(a);
         set_size_in(&mut self.segs[place], at, size);

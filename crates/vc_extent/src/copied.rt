@@ -1,7 +1,6 @@
 ghost use Rattle.std.specs.Prelude.{◌≡◌, ◌≤◌, map, take};
-ghost use Rattle.vc_seg.specs.Segment.{pair_of};
 ghost use Rattle.vc_extent.specs.Change.{write};
-ghost use Rattle.vc_extent.specs.Tiling.{IsBusy, change_extent, extent_of, tiling};
+ghost use Rattle.vc_extent.specs.Tiling.{IsBusy, IsExtentChanged, extent_of, tiling};
 
 use crate::extents::Extents;
 use vc_base::Addr;
@@ -15,10 +14,8 @@ impl Extents {
         requires to { IsBusy (tiling self.old.segs.items) to.0 }
         requires within { len ≤ (extent_of (tiling self.old.segs.items) from.0).size }
         requires fits { len ≤ (extent_of (tiling self.old.segs.items) to.0).size }
-        ensures tiling { tiling self.new.segs.items ≡ change_extent to.0
-            (write 0 (take len (extent_of (tiling self.old.segs.items) from.0).body))
-            (tiling self.old.segs.items) }
-        ensures pairs { map pair_of self.new.segs.items ≡ map pair_of self.old.segs.items }
+        ensures { IsExtentChanged self.old.segs.items self.new.segs.items to.0
+            (write 0 (take len (extent_of (tiling self.old.segs.items) from.0).body)) }
     {
         let (source, at) = self.find(from);
         let (target, place) = self.find(to);

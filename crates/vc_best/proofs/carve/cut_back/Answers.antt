@@ -11,19 +11,19 @@ pub returns-then-bytes-span_at-clause-changed : goal.returns-then-bytes-span_at-
 returns-then-bytes-span_at-clause-changed g c =
     let e = c.args.extents.now in
     record {
-      extents = ∥∥₁_elim e.kept (hlevel (tiling-set)) (λ k. c.split.ensures.tiling ∙ back-some (tiling e.segs.items) c.args.a.0 c.args.bytes (cut-of e.segs.items e.index.items c.args.a.0 k c.requires.free.named) (omega arith));
-      pairs = c.split.ensures.pairs;
+      tiling = ∥∥₁_elim e.kept (hlevel (tiling-set)) (λ k. c.split.ensures.changed.tiling ∙ back-some (tiling e.segs.items) c.args.a.0 c.args.bytes (cut-of e.segs.items e.index.items c.args.a.0 k c.requires.free.named) (omega arith));
+      pairs = c.split.ensures.changed.pairs;
     }
 
 pub returns-else-bytes-span_at-clause-changed : goal.returns-else-bytes-span_at-clause-changed
 returns-else-bytes-span_at-clause-changed g c =
     let e = c.args.extents.now in
     record {
-      extents = ∥∥₁_elim e.kept (hlevel (tiling-set)) (λ k. back-none (tiling e.segs.items) c.args.a.0 c.args.bytes (cut-of e.segs.items e.index.items c.args.a.0 k c.requires.free.named) (omega arith));
+      tiling = ∥∥₁_elim e.kept (hlevel (tiling-set)) (λ k. back-none (tiling e.segs.items) c.args.a.0 c.args.bytes (cut-of e.segs.items e.index.items c.args.a.0 k c.requires.free.named) (omega arith));
       pairs = refl;
     }
 
 pub returns-then-bytes-span_at-clause-gaps : goal.returns-then-bytes-span_at-clause-gaps
 returns-then-bytes-span_at-clause-gaps g c =
     let e = c.args.extents.now in
-    gaps-back e.segs.items e.index.items e.kept c.args.a.0 c.requires.free.named (tiling c.split.new.self.segs.items) c.args.bytes c.split.result.0 c.requires.least (omega arith) c.requires.multiple c.split.ensures.tiling c.split.ensures.rest
+    gaps-back e.segs.items e.index.items e.kept c.args.a.0 c.requires.free.named (tiling c.split.new.self.segs.items) c.args.bytes c.split.result.0 c.requires.least (omega arith) c.requires.multiple c.split.ensures.changed.tiling c.split.ensures.rest

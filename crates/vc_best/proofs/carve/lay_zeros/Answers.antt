@@ -15,7 +15,7 @@ busy c =
     ∥∥₁_elim c.args.extents.now.kept (hlevel (le_prop))
     (λ k.
     let t = tiling c.args.extents.now.segs.items in
-    let e = marked t (tiling c.mark_busy.new.self.segs.items) c.args.a.0 c.args.size c.args.tag (extent_of (tiling c.mark_busy.new.self.segs.items) c.args.a.0).body (cut-of c.args.extents.now.segs.items c.args.extents.now.index.items c.args.a.0 k c.requires.free.named) c.mark_busy.ensures.tiling in
+    let e = marked t (tiling c.mark_busy.new.self.segs.items) c.args.a.0 c.args.size c.args.tag (extent_of (tiling c.mark_busy.new.self.segs.items) c.args.a.0).body (cut-of c.args.extents.now.segs.items c.args.extents.now.index.items c.args.a.0 k c.requires.free.named) c.mark_busy.ensures.changed.tiling in
     let named = c.requires.free.named in
     record { named = rw (ap (λ (x : Extent). x.span) e) named; busy = rw (ap (λ (x : Extent). x.size) e) (omega arith) })
 
@@ -27,7 +27,7 @@ fill-requires-clause-within c =
     ∥∥₁_elim c.args.extents.now.kept (hlevel (le_prop))
     (λ k.
     let t = tiling c.args.extents.now.segs.items in
-    let e = marked t (tiling c.mark_busy.new.self.segs.items) c.args.a.0 c.args.size c.args.tag (extent_of (tiling c.mark_busy.new.self.segs.items) c.args.a.0).body (cut-of c.args.extents.now.segs.items c.args.extents.now.index.items c.args.a.0 k c.requires.free.named) c.mark_busy.ensures.tiling in
+    let e = marked t (tiling c.mark_busy.new.self.segs.items) c.args.a.0 c.args.size c.args.tag (extent_of (tiling c.mark_busy.new.self.segs.items) c.args.a.0).body (cut-of c.args.extents.now.segs.items c.args.extents.now.index.items c.args.a.0 k c.requires.free.named) c.mark_busy.ensures.changed.tiling in
     rw (ap (λ (x : Extent). x.size) e) (omega arith))
 
 pub returns-clause-changed : goal.returns-clause-changed
@@ -35,16 +35,16 @@ returns-clause-changed c =
     let e = c.args.extents.now in
     let t1 = tiling c.mark_busy.new.self.segs.items in
     record {
-      extents =
+      tiling =
           ∥∥₁_elim e.kept (hlevel (tiling-set))
           (λ k.
-          laid (tiling e.segs.items) t1 c.args.a.0 c.args.size c.args.tag (extent_of t1 c.args.a.0).body (cut-of e.segs.items e.index.items c.args.a.0 k c.requires.free.named) c.mark_busy.ensures.tiling
+          laid (tiling e.segs.items) t1 c.args.a.0 c.args.size c.args.tag (extent_of t1 c.args.a.0).body (cut-of e.segs.items e.index.items c.args.a.0 k c.requires.free.named) c.mark_busy.ensures.changed.tiling
           (tiling c.fill.new.self.segs.items) c.mark_busy.ensures.len c.fill.ensures.tiling);
-      pairs = c.fill.ensures.pairs ∙ c.mark_busy.ensures.pairs;
+      pairs = c.fill.ensures.pairs ∙ c.mark_busy.ensures.changed.pairs;
     }
 
 pub returns-clause-gaps : goal.returns-clause-gaps
 returns-clause-gaps c =
     let t1 = tiling c.mark_busy.new.self.segs.items in
-    gaps-laid (tiling c.args.extents.now.segs.items) t1 (tiling c.fill.new.self.segs.items) c.args.a.0 c.args.size c.args.tag (extent_of t1 c.args.a.0).body (replicate c.args.size 0) c.mark_busy.ensures.tiling c.requires.some c.requires.free.named
+    gaps-laid (tiling c.args.extents.now.segs.items) t1 (tiling c.fill.new.self.segs.items) c.args.a.0 c.args.size c.args.tag (extent_of t1 c.args.a.0).body (replicate c.args.size 0) c.mark_busy.ensures.changed.tiling c.requires.some c.requires.free.named
     (busy (goal.at.returns-clause-gaps c).After-mark_busy) c.fill.ensures.tiling

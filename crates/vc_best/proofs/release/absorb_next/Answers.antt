@@ -17,7 +17,7 @@ returns-in_default-clause-changed c =
     let e = c.args.extents.now in
     let t = tiling e.segs.items in
     record {
-      extents = ∥∥₁_elim e.kept (hlevel (tiling-set)) (λ k. absorb-none t c.args.a.0 (cut-of e.segs.items e.index.items c.args.a.0 k c.requires.free.named) (no-address _ (next_of t c.args.a.0) c.in_default.ensures.value));
+      tiling = ∥∥₁_elim e.kept (hlevel (tiling-set)) (λ k. absorb-none t c.args.a.0 (cut-of e.segs.items e.index.items c.args.a.0 k c.requires.free.named) (no-address _ (next_of t c.args.a.0) c.in_default.ensures.value));
       pairs = refl;
     }
 
@@ -45,7 +45,7 @@ returns-then-not-is_busy-clause-changed c =
     let f = behind n in
     let free = sym (size n) ∙ not-busy c.is_busy.result (extent_of t c.in-Some.next.0).size c.is_busy.ensures.1 c.if-not-is_busy.true in
     record {
-      extents = ∥∥₁_elim e.kept (hlevel (tiling-set)) (λ k. c.join.ensures.tiling ∙ absorb-free_next t c.args.a.0 (cut-of e.segs.items e.index.items c.args.a.0 k c.requires.free.named) f.0 f.1 free);
+      tiling = ∥∥₁_elim e.kept (hlevel (tiling-set)) (λ k. c.join.ensures.tiling ∙ absorb-free_next t c.args.a.0 (cut-of e.segs.items e.index.items c.args.a.0 k c.requires.free.named) f.0 f.1 free);
       pairs = c.join.ensures.pairs;
     }
 
@@ -57,7 +57,7 @@ returns-else-not-is_busy-clause-changed c =
     let s = size n in
     let busy = c.is_busy.ensures.0 c.if-not-is_busy.false in
     record {
-      extents = ∥∥₁_elim e.kept (hlevel (tiling-set)) (λ k. absorb-busy_next (tiling e.segs.items) c.args.a.0 (cut-of e.segs.items e.index.items c.args.a.0 k c.requires.free.named) f.0 f.1 (omega (arith, s, busy)));
+      tiling = ∥∥₁_elim e.kept (hlevel (tiling-set)) (λ k. absorb-busy_next (tiling e.segs.items) c.args.a.0 (cut-of e.segs.items e.index.items c.args.a.0 k c.requires.free.named) f.0 f.1 (omega (arith, s, busy)));
       pairs = refl;
     }
 

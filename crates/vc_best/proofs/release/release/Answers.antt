@@ -23,43 +23,43 @@ absorb_next-requires c =
 pub is_busy-requires : goal.is_busy-requires
 is_busy-requires c =
     let f = some-address (place_of c.args.a.0).0 c.in-Some.first.0 (previous_of (tiling c.args.extents.now.segs.items) c.args.a.0) c.in-Some.ensures.value in
-    ∥∥₁_elim c.args.extents.now.kept (hlevel (le_prop)) (λ k. named-later (tiling c.args.extents.now.segs.items) (tiling c.mark_free.new.self.segs.items) (tiling c.absorb_next.new.extents.segs.items) c.args.a.0 (cut-of c.args.extents.now.segs.items c.args.extents.now.index.items c.args.a.0 k c.requires.busy.named) c.mark_free.ensures.tiling c.absorb_next.ensures.changed.extents c.in-Some.first.0 f.0 (cut-of c.args.extents.now.segs.items c.args.extents.now.index.items c.in-Some.first.0 k c.in-Some.ensures.named) f.1 c.requires.busy.named f.2)
+    ∥∥₁_elim c.args.extents.now.kept (hlevel (le_prop)) (λ k. named-later (tiling c.args.extents.now.segs.items) (tiling c.mark_free.new.self.segs.items) (tiling c.absorb_next.new.extents.segs.items) c.args.a.0 (cut-of c.args.extents.now.segs.items c.args.extents.now.index.items c.args.a.0 k c.requires.busy.named) c.mark_free.ensures.tiling c.absorb_next.ensures.changed.tiling c.in-Some.first.0 f.0 (cut-of c.args.extents.now.segs.items c.args.extents.now.index.items c.in-Some.first.0 k c.in-Some.ensures.named) f.1 c.requires.busy.named f.2)
 
 pub absorb_next-requires-then-not-is_busy : goal.absorb_next-requires-then-not-is_busy
 absorb_next-requires-then-not-is_busy c =
     let f = some-address (place_of c.args.a.0).0 c.in-Some.first.0 (previous_of (tiling c.args.extents.now.segs.items) c.args.a.0) c.in-Some.ensures.value in
-    record { free = (record { named = ∥∥₁_elim c.args.extents.now.kept (hlevel (le_prop)) (λ k. named-later (tiling c.args.extents.now.segs.items) (tiling c.mark_free.new.self.segs.items) (tiling c.absorb_next.new.extents.segs.items) c.args.a.0 (cut-of c.args.extents.now.segs.items c.args.extents.now.index.items c.args.a.0 k c.requires.busy.named) c.mark_free.ensures.tiling c.absorb_next.ensures.changed.extents c.in-Some.first.0 f.0 (cut-of c.args.extents.now.segs.items c.args.extents.now.index.items c.in-Some.first.0 k c.in-Some.ensures.named) f.1 c.requires.busy.named f.2); free = not-busy c.is_busy.result (extent_of (tiling c.absorb_next.new.extents.segs.items) c.in-Some.first.0).size c.is_busy.ensures.1 c.if-not-is_busy.true }) }
+    record { free = (record { named = ∥∥₁_elim c.args.extents.now.kept (hlevel (le_prop)) (λ k. named-later (tiling c.args.extents.now.segs.items) (tiling c.mark_free.new.self.segs.items) (tiling c.absorb_next.new.extents.segs.items) c.args.a.0 (cut-of c.args.extents.now.segs.items c.args.extents.now.index.items c.args.a.0 k c.requires.busy.named) c.mark_free.ensures.tiling c.absorb_next.ensures.changed.tiling c.in-Some.first.0 f.0 (cut-of c.args.extents.now.segs.items c.args.extents.now.index.items c.in-Some.first.0 k c.in-Some.ensures.named) f.1 c.requires.busy.named f.2); free = not-busy c.is_busy.result (extent_of (tiling c.absorb_next.new.extents.segs.items) c.in-Some.first.0).size c.is_busy.ensures.1 c.if-not-is_busy.true }) }
 
 pub returns-then-not-is_busy-clause-layout : goal.returns-then-not-is_busy-clause-layout
 returns-then-not-is_busy-clause-layout c =
     let f = some-address (place_of c.args.a.0).0 c.in-Some.first.0 (previous_of (tiling c.args.extents.now.segs.items) c.args.a.0) c.in-Some.ensures.value in
-    layout-absorbed c.absorb_next.new.extents.segs.items c.absorb_next-then-not-is_busy.new.extents.segs.items c.absorb_next.new.extents.index.items c.absorb_next-then-not-is_busy.new.extents.index.items c.in-Some.first.0 c.absorb_next.new.extents.kept c.absorb_next-then-not-is_busy.new.extents.kept (record { named = ∥∥₁_elim c.args.extents.now.kept (hlevel (le_prop)) (λ k. named-later (tiling c.args.extents.now.segs.items) (tiling c.mark_free.new.self.segs.items) (tiling c.absorb_next.new.extents.segs.items) c.args.a.0 (cut-of c.args.extents.now.segs.items c.args.extents.now.index.items c.args.a.0 k c.requires.busy.named) c.mark_free.ensures.tiling c.absorb_next.ensures.changed.extents c.in-Some.first.0 f.0 (cut-of c.args.extents.now.segs.items c.args.extents.now.index.items c.in-Some.first.0 k c.in-Some.ensures.named) f.1 c.requires.busy.named f.2); free = not-busy c.is_busy.result (extent_of (tiling c.absorb_next.new.extents.segs.items) c.in-Some.first.0).size c.is_busy.ensures.1 c.if-not-is_busy.true }) c.absorb_next-then-not-is_busy.ensures.changed.extents c.absorb_next-then-not-is_busy.ensures.changed.pairs
-    ∙ (layout-absorbed c.mark_free.new.self.segs.items c.absorb_next.new.extents.segs.items c.mark_free.new.self.index.items c.absorb_next.new.extents.index.items c.args.a.0 c.mark_free.new.self.kept c.absorb_next.new.extents.kept (∥∥₁_elim c.args.extents.now.kept (hlevel (le_prop, ℕ_set)) (λ k. is-freed (tiling c.args.extents.now.segs.items) (tiling c.mark_free.new.self.segs.items) (tiling c.args.extents.now.segs.items) c.args.a.0 (cut-of c.args.extents.now.segs.items c.args.extents.now.index.items c.args.a.0 k c.requires.busy.named) c.mark_free.ensures.tiling c.requires.busy.named)) c.absorb_next.ensures.changed.extents c.absorb_next.ensures.changed.pairs ∙ layout-marked c.args.extents.now.segs.items c.mark_free.new.self.segs.items c.args.extents.now.index.items c.mark_free.new.self.index.items c.args.a.0 c.args.extents.now.kept c.mark_free.new.self.kept c.requires.busy c.mark_free.ensures.tiling c.mark_free.ensures.pairs)
+    layout-absorbed c.absorb_next.new.extents.segs.items c.absorb_next-then-not-is_busy.new.extents.segs.items c.absorb_next.new.extents.index.items c.absorb_next-then-not-is_busy.new.extents.index.items c.in-Some.first.0 c.absorb_next.new.extents.kept c.absorb_next-then-not-is_busy.new.extents.kept (record { named = ∥∥₁_elim c.args.extents.now.kept (hlevel (le_prop)) (λ k. named-later (tiling c.args.extents.now.segs.items) (tiling c.mark_free.new.self.segs.items) (tiling c.absorb_next.new.extents.segs.items) c.args.a.0 (cut-of c.args.extents.now.segs.items c.args.extents.now.index.items c.args.a.0 k c.requires.busy.named) c.mark_free.ensures.tiling c.absorb_next.ensures.changed.tiling c.in-Some.first.0 f.0 (cut-of c.args.extents.now.segs.items c.args.extents.now.index.items c.in-Some.first.0 k c.in-Some.ensures.named) f.1 c.requires.busy.named f.2); free = not-busy c.is_busy.result (extent_of (tiling c.absorb_next.new.extents.segs.items) c.in-Some.first.0).size c.is_busy.ensures.1 c.if-not-is_busy.true }) c.absorb_next-then-not-is_busy.ensures.changed.tiling c.absorb_next-then-not-is_busy.ensures.changed.pairs
+    ∙ (layout-absorbed c.mark_free.new.self.segs.items c.absorb_next.new.extents.segs.items c.mark_free.new.self.index.items c.absorb_next.new.extents.index.items c.args.a.0 c.mark_free.new.self.kept c.absorb_next.new.extents.kept (∥∥₁_elim c.args.extents.now.kept (hlevel (le_prop, ℕ_set)) (λ k. is-freed (tiling c.args.extents.now.segs.items) (tiling c.mark_free.new.self.segs.items) (tiling c.args.extents.now.segs.items) c.args.a.0 (cut-of c.args.extents.now.segs.items c.args.extents.now.index.items c.args.a.0 k c.requires.busy.named) c.mark_free.ensures.tiling c.requires.busy.named)) c.absorb_next.ensures.changed.tiling c.absorb_next.ensures.changed.pairs ∙ layout-marked c.args.extents.now.segs.items c.mark_free.new.self.segs.items c.args.extents.now.index.items c.mark_free.new.self.index.items c.args.a.0 c.args.extents.now.kept c.mark_free.new.self.kept c.requires.busy c.mark_free.ensures.tiling c.mark_free.ensures.pairs)
 
 pub returns-then-not-is_busy-clause-merged : goal.returns-then-not-is_busy-clause-merged
 returns-then-not-is_busy-clause-merged c =
     let f = some-address (place_of c.args.a.0).0 c.in-Some.first.0 (previous_of (tiling c.args.extents.now.segs.items) c.args.a.0) c.in-Some.ensures.value in
     ∥∥₁_elim c.args.extents.now.kept (merged-prop (tiling c.absorb_next-then-not-is_busy.new.extents.segs.items))
-    (λ k. merged-free (tiling c.args.extents.now.segs.items) (tiling c.mark_free.new.self.segs.items) (tiling c.absorb_next.new.extents.segs.items) c.args.a.0 (cut-of c.args.extents.now.segs.items c.args.extents.now.index.items c.args.a.0 k c.requires.busy.named) c.mark_free.ensures.tiling c.absorb_next.ensures.changed.extents c.in-Some.first.0 f.0 (cut-of c.args.extents.now.segs.items c.args.extents.now.index.items c.in-Some.first.0 k c.in-Some.ensures.named) f.1 c.requires.busy.named f.2 (tiling c.absorb_next-then-not-is_busy.new.extents.segs.items) c.requires.merged (not-busy c.is_busy.result (extent_of (tiling c.absorb_next.new.extents.segs.items) c.in-Some.first.0).size c.is_busy.ensures.1 c.if-not-is_busy.true) c.absorb_next-then-not-is_busy.ensures.changed.extents)
+    (λ k. merged-free (tiling c.args.extents.now.segs.items) (tiling c.mark_free.new.self.segs.items) (tiling c.absorb_next.new.extents.segs.items) c.args.a.0 (cut-of c.args.extents.now.segs.items c.args.extents.now.index.items c.args.a.0 k c.requires.busy.named) c.mark_free.ensures.tiling c.absorb_next.ensures.changed.tiling c.in-Some.first.0 f.0 (cut-of c.args.extents.now.segs.items c.args.extents.now.index.items c.in-Some.first.0 k c.in-Some.ensures.named) f.1 c.requires.busy.named f.2 (tiling c.absorb_next-then-not-is_busy.new.extents.segs.items) c.requires.merged (not-busy c.is_busy.result (extent_of (tiling c.absorb_next.new.extents.segs.items) c.in-Some.first.0).size c.is_busy.ensures.1 c.if-not-is_busy.true) c.absorb_next-then-not-is_busy.ensures.changed.tiling)
 
 pub returns-else-not-is_busy-clause-layout : goal.returns-else-not-is_busy-clause-layout
 returns-else-not-is_busy-clause-layout c =
-    (layout-absorbed c.mark_free.new.self.segs.items c.absorb_next.new.extents.segs.items c.mark_free.new.self.index.items c.absorb_next.new.extents.index.items c.args.a.0 c.mark_free.new.self.kept c.absorb_next.new.extents.kept (∥∥₁_elim c.args.extents.now.kept (hlevel (le_prop, ℕ_set)) (λ k. is-freed (tiling c.args.extents.now.segs.items) (tiling c.mark_free.new.self.segs.items) (tiling c.args.extents.now.segs.items) c.args.a.0 (cut-of c.args.extents.now.segs.items c.args.extents.now.index.items c.args.a.0 k c.requires.busy.named) c.mark_free.ensures.tiling c.requires.busy.named)) c.absorb_next.ensures.changed.extents c.absorb_next.ensures.changed.pairs ∙ layout-marked c.args.extents.now.segs.items c.mark_free.new.self.segs.items c.args.extents.now.index.items c.mark_free.new.self.index.items c.args.a.0 c.args.extents.now.kept c.mark_free.new.self.kept c.requires.busy c.mark_free.ensures.tiling c.mark_free.ensures.pairs)
+    (layout-absorbed c.mark_free.new.self.segs.items c.absorb_next.new.extents.segs.items c.mark_free.new.self.index.items c.absorb_next.new.extents.index.items c.args.a.0 c.mark_free.new.self.kept c.absorb_next.new.extents.kept (∥∥₁_elim c.args.extents.now.kept (hlevel (le_prop, ℕ_set)) (λ k. is-freed (tiling c.args.extents.now.segs.items) (tiling c.mark_free.new.self.segs.items) (tiling c.args.extents.now.segs.items) c.args.a.0 (cut-of c.args.extents.now.segs.items c.args.extents.now.index.items c.args.a.0 k c.requires.busy.named) c.mark_free.ensures.tiling c.requires.busy.named)) c.absorb_next.ensures.changed.tiling c.absorb_next.ensures.changed.pairs ∙ layout-marked c.args.extents.now.segs.items c.mark_free.new.self.segs.items c.args.extents.now.index.items c.mark_free.new.self.index.items c.args.a.0 c.args.extents.now.kept c.mark_free.new.self.kept c.requires.busy c.mark_free.ensures.tiling c.mark_free.ensures.pairs)
 
 pub returns-else-not-is_busy-clause-merged : goal.returns-else-not-is_busy-clause-merged
 returns-else-not-is_busy-clause-merged c =
     let f = some-address (place_of c.args.a.0).0 c.in-Some.first.0 (previous_of (tiling c.args.extents.now.segs.items) c.args.a.0) c.in-Some.ensures.value in
     ∥∥₁_elim c.args.extents.now.kept (merged-prop (tiling c.absorb_next.new.extents.segs.items))
-    (λ k. merged-busy (tiling c.args.extents.now.segs.items) (tiling c.mark_free.new.self.segs.items) (tiling c.absorb_next.new.extents.segs.items) c.args.a.0 (cut-of c.args.extents.now.segs.items c.args.extents.now.index.items c.args.a.0 k c.requires.busy.named) c.mark_free.ensures.tiling c.absorb_next.ensures.changed.extents c.in-Some.first.0 f.0 (cut-of c.args.extents.now.segs.items c.args.extents.now.index.items c.in-Some.first.0 k c.in-Some.ensures.named) f.1 c.requires.busy.named f.2 c.requires.merged (c.is_busy.ensures.0 c.if-not-is_busy.false))
+    (λ k. merged-busy (tiling c.args.extents.now.segs.items) (tiling c.mark_free.new.self.segs.items) (tiling c.absorb_next.new.extents.segs.items) c.args.a.0 (cut-of c.args.extents.now.segs.items c.args.extents.now.index.items c.args.a.0 k c.requires.busy.named) c.mark_free.ensures.tiling c.absorb_next.ensures.changed.tiling c.in-Some.first.0 f.0 (cut-of c.args.extents.now.segs.items c.args.extents.now.index.items c.in-Some.first.0 k c.in-Some.ensures.named) f.1 c.requires.busy.named f.2 c.requires.merged (c.is_busy.ensures.0 c.if-not-is_busy.false))
 
 pub returns-in_default-clause-layout : goal.returns-in_default-clause-layout
 returns-in_default-clause-layout c =
-    (layout-absorbed c.mark_free.new.self.segs.items c.absorb_next.new.extents.segs.items c.mark_free.new.self.index.items c.absorb_next.new.extents.index.items c.args.a.0 c.mark_free.new.self.kept c.absorb_next.new.extents.kept (∥∥₁_elim c.args.extents.now.kept (hlevel (le_prop, ℕ_set)) (λ k. is-freed (tiling c.args.extents.now.segs.items) (tiling c.mark_free.new.self.segs.items) (tiling c.args.extents.now.segs.items) c.args.a.0 (cut-of c.args.extents.now.segs.items c.args.extents.now.index.items c.args.a.0 k c.requires.busy.named) c.mark_free.ensures.tiling c.requires.busy.named)) c.absorb_next.ensures.changed.extents c.absorb_next.ensures.changed.pairs ∙ layout-marked c.args.extents.now.segs.items c.mark_free.new.self.segs.items c.args.extents.now.index.items c.mark_free.new.self.index.items c.args.a.0 c.args.extents.now.kept c.mark_free.new.self.kept c.requires.busy c.mark_free.ensures.tiling c.mark_free.ensures.pairs)
+    (layout-absorbed c.mark_free.new.self.segs.items c.absorb_next.new.extents.segs.items c.mark_free.new.self.index.items c.absorb_next.new.extents.index.items c.args.a.0 c.mark_free.new.self.kept c.absorb_next.new.extents.kept (∥∥₁_elim c.args.extents.now.kept (hlevel (le_prop, ℕ_set)) (λ k. is-freed (tiling c.args.extents.now.segs.items) (tiling c.mark_free.new.self.segs.items) (tiling c.args.extents.now.segs.items) c.args.a.0 (cut-of c.args.extents.now.segs.items c.args.extents.now.index.items c.args.a.0 k c.requires.busy.named) c.mark_free.ensures.tiling c.requires.busy.named)) c.absorb_next.ensures.changed.tiling c.absorb_next.ensures.changed.pairs ∙ layout-marked c.args.extents.now.segs.items c.mark_free.new.self.segs.items c.args.extents.now.index.items c.mark_free.new.self.index.items c.args.a.0 c.args.extents.now.kept c.mark_free.new.self.kept c.requires.busy c.mark_free.ensures.tiling c.mark_free.ensures.pairs)
 
 pub returns-in_default-clause-merged : goal.returns-in_default-clause-merged
 returns-in_default-clause-merged c =
     ∥∥₁_elim c.args.extents.now.kept (merged-prop (tiling c.absorb_next.new.extents.segs.items))
-    (λ k. merged-first (tiling c.args.extents.now.segs.items) (tiling c.mark_free.new.self.segs.items) (tiling c.absorb_next.new.extents.segs.items) c.args.a.0 (cut-of c.args.extents.now.segs.items c.args.extents.now.index.items c.args.a.0 k c.requires.busy.named) c.mark_free.ensures.tiling c.absorb_next.ensures.changed.extents c.requires.busy c.requires.merged (no-address (place_of c.args.a.0).0 (previous_of (tiling c.args.extents.now.segs.items) c.args.a.0) c.in_default.ensures.value))
+    (λ k. merged-first (tiling c.args.extents.now.segs.items) (tiling c.mark_free.new.self.segs.items) (tiling c.absorb_next.new.extents.segs.items) c.args.a.0 (cut-of c.args.extents.now.segs.items c.args.extents.now.index.items c.args.a.0 k c.requires.busy.named) c.mark_free.ensures.tiling c.absorb_next.ensures.changed.tiling c.requires.busy c.requires.merged (no-address (place_of c.args.a.0).0 (previous_of (tiling c.args.extents.now.segs.items) c.args.a.0) c.in_default.ensures.value))
 
 -- what is behind the block stays when it is marked
 behind : (c : After-absorb_next) → free_next (tiling c.mark_free.new.self.segs.items) c.args.a.0 ≡ free_next (tiling c.args.extents.now.segs.items) c.args.a.0
@@ -83,7 +83,7 @@ returns-else-not-is_busy-clause-gaps c =
     let f = some-address (place_of c.args.a.0).0 c.in-Some.first.0 (previous_of t c.args.a.0) c.in-Some.ensures.value in
     gaps-alone t t1 t2 c.args.a.0 c.mark_free.ensures.tiling c.requires.busy (behind (goal.at.returns-else-not-is_busy-clause-gaps c).After-absorb_next) c.absorb_next.ensures.gaps
     (∥∥₁_elim e.kept (hlevel (bytes-set))
-    (λ k. before-busy t t1 t2 c.args.a.0 (cut-of e.segs.items e.index.items c.args.a.0 k c.requires.busy.named) c.mark_free.ensures.tiling c.absorb_next.ensures.changed.extents c.in-Some.first.0 f.0 (cut-of e.segs.items e.index.items c.in-Some.first.0 k c.in-Some.ensures.named) f.1 c.requires.busy.named f.2 (c.is_busy.ensures.0 c.if-not-is_busy.false)))
+    (λ k. before-busy t t1 t2 c.args.a.0 (cut-of e.segs.items e.index.items c.args.a.0 k c.requires.busy.named) c.mark_free.ensures.tiling c.absorb_next.ensures.changed.tiling c.in-Some.first.0 f.0 (cut-of e.segs.items e.index.items c.in-Some.first.0 k c.in-Some.ensures.named) f.1 c.requires.busy.named f.2 (c.is_busy.ensures.0 c.if-not-is_busy.false)))
 
 pub returns-then-not-is_busy-clause-gaps : goal.returns-then-not-is_busy-clause-gaps
 returns-then-not-is_busy-clause-gaps c =
@@ -98,7 +98,7 @@ returns-then-not-is_busy-clause-gaps c =
     let free = not-busy c.is_busy.result (extent_of t2 b).size c.is_busy.ensures.1 c.if-not-is_busy.true in
     gaps-both t t1 t2 a c.mark_free.ensures.tiling c.requires.busy (behind (goal.at.returns-then-not-is_busy-clause-gaps c).After-absorb_next) c.absorb_next.ensures.gaps t3 b
     (∥∥₁_elim e.kept (hlevel (bytes-set))
-    (λ k. before-free t t1 t2 a (cut-of e.segs.items e.index.items a k c.requires.busy.named) c.mark_free.ensures.tiling c.absorb_next.ensures.changed.extents b f.0 (cut-of e.segs.items e.index.items b k c.in-Some.ensures.named) f.1 c.requires.busy.named f.2 free))
+    (λ k. before-free t t1 t2 a (cut-of e.segs.items e.index.items a k c.requires.busy.named) c.mark_free.ensures.tiling c.absorb_next.ensures.changed.tiling b f.0 (cut-of e.segs.items e.index.items b k c.in-Some.ensures.named) f.1 c.requires.busy.named f.2 free))
     (∥∥₁_elim e.kept (hlevel (bytes-set))
-    (λ k. next-later t t1 t2 a (cut-of e.segs.items e.index.items a k c.requires.busy.named) c.mark_free.ensures.tiling c.absorb_next.ensures.changed.extents b f.0 (cut-of e.segs.items e.index.items b k c.in-Some.ensures.named) f.1 c.requires.busy.named f.2))
+    (λ k. next-later t t1 t2 a (cut-of e.segs.items e.index.items a k c.requires.busy.named) c.mark_free.ensures.tiling c.absorb_next.ensures.changed.tiling b f.0 (cut-of e.segs.items e.index.items b k c.in-Some.ensures.named) f.1 c.requires.busy.named f.2))
     c.absorb_next-then-not-is_busy.ensures.gaps

@@ -19,7 +19,7 @@ use Rattle.vc_best.proofs.tree.put_block.Goals.{After-cut_back-rest, After-lay_z
 
 -- the tiling without what is behind the span, and that by its address
 cut : (g : Over) (c : After-cut_back-rest g) → tiling c.cut_back-rest.new.extents.segs.items ≡ change_extent c.cut_front-front.result.1.0 (cut_back (span c.args.size)) (tiling c.cut_front-front.new.extents.segs.items)
-cut g c = rw (← c.span_of.ensures) c.cut_back-rest.ensures.changed.extents
+cut g c = rw (← c.span_of.ensures) c.cut_back-rest.ensures.changed.tiling
 
 behind : (g : Over) (c : After-cut_back-rest g) →
     IfSome c.cut_back-rest.result (λ b. (b.0 ≡ address ((place_of c.cut_front-front.result.1.0).0, (place_of c.cut_front-front.result.1.0).1 + span c.args.size)) × (span c.args.size < (extent_of (tiling c.cut_front-front.new.extents.segs.items) c.cut_front-front.result.1.0).span))
@@ -28,18 +28,18 @@ behind g c = rw (← c.span_of.ensures) c.cut_back-rest.ensures.rest
 pub cut_back-rest-requires-clause-free : goal.cut_back-rest-requires-clause-free
 cut_back-rest-requires-clause-free g c =
     let e = c.args.extents.now in
-    front-free e.segs.items e.index.items e.kept _ c.args.a.0 _ c.args.off c.args.size c.args.tag c.requires.room c.cut_front-front.ensures.rest c.cut_front-front.ensures.changed.extents
+    front-free e.segs.items e.index.items e.kept _ c.args.a.0 _ c.args.off c.args.size c.args.tag c.requires.room c.cut_front-front.ensures.rest c.cut_front-front.ensures.changed.tiling
 
 pub lay_zeros-requires-clause-free : goal.lay_zeros-requires-clause-free
 lay_zeros-requires-clause-free g c =
     let e = c.args.extents.now in
-    back-free e.segs.items e.index.items e.kept _ c.args.a.0 _ c.args.off c.args.size c.args.tag c.requires.room c.cut_front-front.ensures.rest c.cut_front-front.ensures.changed.extents _
+    back-free e.segs.items e.index.items e.kept _ c.args.a.0 _ c.args.off c.args.size c.args.tag c.requires.room c.cut_front-front.ensures.rest c.cut_front-front.ensures.changed.tiling _
     (cut g (goal.at.lay_zeros-requires-clause-free g c).After-cut_back-rest)
 
 pub lay_zeros-requires-clause-span : goal.lay_zeros-requires-clause-span
 lay_zeros-requires-clause-span g c =
     let e = c.args.extents.now in
-    back-span e.segs.items e.index.items e.kept _ c.args.a.0 _ c.args.off c.args.size c.args.tag c.requires.room c.cut_front-front.ensures.rest c.cut_front-front.ensures.changed.extents _
+    back-span e.segs.items e.index.items e.kept _ c.args.a.0 _ c.args.off c.args.size c.args.tag c.requires.room c.cut_front-front.ensures.rest c.cut_front-front.ensures.changed.tiling _
     (cut g (goal.at.lay_zeros-requires-clause-span g c).After-cut_back-rest)
 
 -- what was cut off is out of the tree
@@ -53,7 +53,7 @@ pub link_some-requires : goal.link_some-requires
 link_some-requires g c =
     let e = c.args.extents.now in
     let at = goal.at.link_some-requires g c in
-    front-can e.segs.items e.index.items e.kept _ c.args.a.0 _ c.args.off c.args.size c.args.tag c.requires.room c.cut_front-front.ensures.rest c.cut_front-front.ensures.changed.extents _ (cut g at.After-cut_back-rest) _ c.lay_zeros.ensures.changed.extents
+    front-can e.segs.items e.index.items e.kept _ c.args.a.0 _ c.args.off c.args.size c.args.tag c.requires.room c.cut_front-front.ensures.rest c.cut_front-front.ensures.changed.tiling _ (cut g at.After-cut_back-rest) _ c.lay_zeros.ensures.changed.tiling
     c.cut_front-front.result.0 c.cut_back-rest.result c.args.root.now.0 c.cut_front-front.ensures.front (behind g at.After-cut_back-rest) (out g at.After-lay_zeros)
 
 -- what is behind is out once what is before is in
@@ -62,7 +62,7 @@ left g c =
     let e = c.args.extents.now in
     let at = goal.at.After-link_some g c in
     c.link_some.ensures.gaps _
-    (front-apart e.segs.items e.index.items e.kept _ c.args.a.0 _ c.args.off c.args.size c.args.tag c.requires.room c.cut_front-front.ensures.rest c.cut_front-front.ensures.changed.extents _ (cut g at.After-cut_back-rest) _ c.lay_zeros.ensures.changed.extents
+    (front-apart e.segs.items e.index.items e.kept _ c.args.a.0 _ c.args.off c.args.size c.args.tag c.requires.room c.cut_front-front.ensures.rest c.cut_front-front.ensures.changed.tiling _ (cut g at.After-cut_back-rest) _ c.lay_zeros.ensures.changed.tiling
     c.cut_front-front.result.0 c.cut_back-rest.result c.args.root.now.0 c.cut_front-front.ensures.front (behind g at.After-cut_back-rest))
     (out g at.After-lay_zeros)
 
@@ -70,14 +70,14 @@ pub link_some-requires-2 : goal.link_some-requires-2
 link_some-requires-2 g c =
     let e = c.args.extents.now in
     let at = goal.at.link_some-requires-2 g c in
-    rest-can e.segs.items e.index.items e.kept _ c.args.a.0 _ c.args.off c.args.size c.args.tag c.requires.room c.cut_front-front.ensures.rest c.cut_front-front.ensures.changed.extents _ (cut g at.After-cut_back-rest) _ c.lay_zeros.ensures.changed.extents
+    rest-can e.segs.items e.index.items e.kept _ c.args.a.0 _ c.args.off c.args.size c.args.tag c.requires.room c.cut_front-front.ensures.rest c.cut_front-front.ensures.changed.tiling _ (cut g at.After-cut_back-rest) _ c.lay_zeros.ensures.changed.tiling
     c.cut_front-front.result.0 c.cut_back-rest.result c.args.root.now.0 c.cut_front-front.ensures.front (behind g at.After-cut_back-rest) _ _ c.link_some.ensures.rest.extents (left g at.After-link_some)
 
 -- the tiling with the block
 carved : (g : Over) (c : After-lay_zeros g) → tiling c.lay_zeros.new.extents.segs.items ≡ change_extent c.args.a.0 (carve c.args.off c.args.size c.args.tag) (tiling c.args.extents.now.segs.items)
 carved g c =
     let e = c.args.extents.now in
-    carved-whole e.segs.items e.index.items e.kept _ c.args.a.0 _ c.args.off c.args.size c.args.tag c.requires.room c.cut_front-front.ensures.rest c.cut_front-front.ensures.changed.extents _ (cut g (goal.at.After-lay_zeros g c).After-cut_back-rest) _ c.lay_zeros.ensures.changed.extents
+    carved-whole e.segs.items e.index.items e.kept _ c.args.a.0 _ c.args.off c.args.size c.args.tag c.requires.room c.cut_front-front.ensures.rest c.cut_front-front.ensures.changed.tiling _ (cut g (goal.at.After-lay_zeros g c).After-cut_back-rest) _ c.lay_zeros.ensures.changed.tiling
 
 pub returns-clause-layout : goal.returns-clause-layout
 returns-clause-layout g c =

@@ -57,14 +57,15 @@ invariant_of-self c =
       reserved = c.args.self.now.reserved;
     }
 
-pub returns-clause-tiling : goal.returns-clause-tiling
-returns-clause-tiling c =
-    let h = (goal.at.returns-clause-tiling c).After-copy_between in
-    ap tiling (items h)
-    ∙ tiling-changed c.args.to.0 c.find-target.result.0 c.find-target.result.1 c.args.self.now.segs.items (target h) (new h) (write 0 (take c.args.len (extent_of (tiling c.args.self.now.segs.items) c.args.from.0).body)) c.find-target.ensures.found (is h) (change h)
-
-pub returns-clause-pairs : goal.returns-clause-pairs
-returns-clause-pairs c =
-    let h = (goal.at.returns-clause-pairs c).After-copy_between in
-    ap (map pair_of) (items h)
-    ∙ pairs-changed c.args.to.0 c.find-target.result.0 c.find-target.result.1 c.args.self.now.segs.items (target h) (new h) (write 0 (take c.args.len (extent_of (tiling c.args.self.now.segs.items) c.args.from.0).body)) c.find-target.ensures.found (is h) (change h)
+pub returns : goal.returns
+returns c =
+    record {
+      tiling =
+          let h = (goal.at.returns c).After-copy_between in
+          ap tiling (items h)
+          ∙ tiling-changed c.args.to.0 c.find-target.result.0 c.find-target.result.1 c.args.self.now.segs.items (target h) (new h) (write 0 (take c.args.len (extent_of (tiling c.args.self.now.segs.items) c.args.from.0).body)) c.find-target.ensures.found (is h) (change h);
+      pairs =
+          let h = (goal.at.returns c).After-copy_between in
+          ap (map pair_of) (items h)
+          ∙ pairs-changed c.args.to.0 c.find-target.result.0 c.find-target.result.1 c.args.self.now.segs.items (target h) (new h) (write 0 (take c.args.len (extent_of (tiling c.args.self.now.segs.items) c.args.from.0).body)) c.find-target.ensures.found (is h) (change h);
+    }

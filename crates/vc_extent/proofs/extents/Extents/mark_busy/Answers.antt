@@ -13,13 +13,14 @@ invariant_of-self c =
       reserved = c.args.self.now.reserved;
     }
 
-pub returns-clause-pairs : goal.returns-clause-pairs
-returns-clause-pairs c = pairs-changed c.args.a.0 c.find-place.result.0 c.find-place.result.1 c.args.self.now.segs.items c.index_mut.result.now c.mark_busy_in.new.seg (mark_busy c.args.size c.args.tag (extent_in (c.find-place.result.1 + 16) (extents c.mark_busy_in.new.seg.bytes)).body) c.find-place.ensures.found c.index_mut.ensures.value c.mark_busy_in.ensures.change
-
-pub returns-clause-tiling : goal.returns-clause-tiling
-returns-clause-tiling c =
-    let same = extent-changed c.args.a.0 c.find-place.result.0 c.find-place.result.1 c.args.self.now.segs.items c.index_mut.result.now c.mark_busy_in.new.seg (mark_busy c.args.size c.args.tag (extent_in (c.find-place.result.1 + 16) (extents c.mark_busy_in.new.seg.bytes)).body) c.find-place.ensures.found c.index_mut.ensures.value c.mark_busy_in.ensures.change in
-    subst (λ (b : List ℕ). tiling (set c.args.self.now.segs.items c.find-place.result.0 c.mark_busy_in.new.seg) ≡ change_extent c.args.a.0 (mark_busy c.args.size c.args.tag b) (tiling c.args.self.now.segs.items)) (sym (ap (λ (x : Extent). x.body) same)) (tiling-changed c.args.a.0 c.find-place.result.0 c.find-place.result.1 c.args.self.now.segs.items c.index_mut.result.now c.mark_busy_in.new.seg (mark_busy c.args.size c.args.tag (extent_in (c.find-place.result.1 + 16) (extents c.mark_busy_in.new.seg.bytes)).body) c.find-place.ensures.found c.index_mut.ensures.value c.mark_busy_in.ensures.change)
-
 pub returns-clause-len : goal.returns-clause-len
 returns-clause-len c = ap (λ (x : Extent). length x.body) (extent-changed c.args.a.0 c.find-place.result.0 c.find-place.result.1 c.args.self.now.segs.items c.index_mut.result.now c.mark_busy_in.new.seg (mark_busy c.args.size c.args.tag (extent_in (c.find-place.result.1 + 16) (extents c.mark_busy_in.new.seg.bytes)).body) c.find-place.ensures.found c.index_mut.ensures.value c.mark_busy_in.ensures.change) ∙ c.mark_busy_in.ensures.len
+
+pub returns-clause-changed : goal.returns-clause-changed
+returns-clause-changed c =
+    record {
+      tiling =
+          let same = extent-changed c.args.a.0 c.find-place.result.0 c.find-place.result.1 c.args.self.now.segs.items c.index_mut.result.now c.mark_busy_in.new.seg (mark_busy c.args.size c.args.tag (extent_in (c.find-place.result.1 + 16) (extents c.mark_busy_in.new.seg.bytes)).body) c.find-place.ensures.found c.index_mut.ensures.value c.mark_busy_in.ensures.change in
+          subst (λ (b : List ℕ). tiling (set c.args.self.now.segs.items c.find-place.result.0 c.mark_busy_in.new.seg) ≡ change_extent c.args.a.0 (mark_busy c.args.size c.args.tag b) (tiling c.args.self.now.segs.items)) (sym (ap (λ (x : Extent). x.body) same)) (tiling-changed c.args.a.0 c.find-place.result.0 c.find-place.result.1 c.args.self.now.segs.items c.index_mut.result.now c.mark_busy_in.new.seg (mark_busy c.args.size c.args.tag (extent_in (c.find-place.result.1 + 16) (extents c.mark_busy_in.new.seg.bytes)).body) c.find-place.ensures.found c.index_mut.ensures.value c.mark_busy_in.ensures.change);
+      pairs = pairs-changed c.args.a.0 c.find-place.result.0 c.find-place.result.1 c.args.self.now.segs.items c.index_mut.result.now c.mark_busy_in.new.seg (mark_busy c.args.size c.args.tag (extent_in (c.find-place.result.1 + 16) (extents c.mark_busy_in.new.seg.bytes)).body) c.find-place.ensures.found c.index_mut.ensures.value c.mark_busy_in.ensures.change;
+    }

@@ -10,8 +10,9 @@ invariant_of-self c =
       reserved = c.args.self.now.reserved;
     }
 
-pub returns-clause-tiling : goal.returns-clause-tiling
-returns-clause-tiling c = tiling-changed c.args.a.0 c.find-place.result.0 c.find-place.result.1 c.args.self.now.segs.items c.index_mut.result.now c.put_in.new.seg (write c.args.off c.args.src.now) c.find-place.ensures.found c.index_mut.ensures.value c.put_in.ensures
-
-pub returns-clause-pairs : goal.returns-clause-pairs
-returns-clause-pairs c = pairs-changed c.args.a.0 c.find-place.result.0 c.find-place.result.1 c.args.self.now.segs.items c.index_mut.result.now c.put_in.new.seg (write c.args.off c.args.src.now) c.find-place.ensures.found c.index_mut.ensures.value c.put_in.ensures
+pub returns : goal.returns
+returns c =
+    record {
+      tiling = tiling-changed c.args.a.0 c.find-place.result.0 c.find-place.result.1 c.args.self.now.segs.items c.index_mut.result.now c.put_in.new.seg (write c.args.off c.args.src.now) c.find-place.ensures.found c.index_mut.ensures.value c.put_in.ensures;
+      pairs = pairs-changed c.args.a.0 c.find-place.result.0 c.find-place.result.1 c.args.self.now.segs.items c.index_mut.result.now c.put_in.new.seg (write c.args.off c.args.src.now) c.find-place.ensures.found c.index_mut.ensures.value c.put_in.ensures;
+    }

@@ -11,11 +11,12 @@ invariant_of-self c =
       reserved = c.args.self.now.reserved;
     }
 
-pub returns-clause-tiling : goal.returns-clause-tiling
-returns-clause-tiling c = tiling-changed c.args.a.0 c.find-place.result.0 c.find-place.result.1 c.args.self.now.segs.items c.index_mut.result.now c.shrink_in.new.seg (shrink c.args.size) c.find-place.ensures.found c.index_mut.ensures.value c.shrink_in.ensures.change
-
-pub returns-clause-pairs : goal.returns-clause-pairs
-returns-clause-pairs c = pairs-changed c.args.a.0 c.find-place.result.0 c.find-place.result.1 c.args.self.now.segs.items c.index_mut.result.now c.shrink_in.new.seg (shrink c.args.size) c.find-place.ensures.found c.index_mut.ensures.value c.shrink_in.ensures.change
+pub returns-clause-changed : goal.returns-clause-changed
+returns-clause-changed c =
+    record {
+      tiling = tiling-changed c.args.a.0 c.find-place.result.0 c.find-place.result.1 c.args.self.now.segs.items c.index_mut.result.now c.shrink_in.new.seg (shrink c.args.size) c.find-place.ensures.found c.index_mut.ensures.value c.shrink_in.ensures.change;
+      pairs = pairs-changed c.args.a.0 c.find-place.result.0 c.find-place.result.1 c.args.self.now.segs.items c.index_mut.result.now c.shrink_in.new.seg (shrink c.args.size) c.find-place.ensures.found c.index_mut.ensures.value c.shrink_in.ensures.change;
+    }
 
 pub new-requires-clause-below : goal.new-requires-clause-below
 new-requires-clause-below c = omega (arith, c.shrink_in.ensures.within, c.shrink_in.ensures.most, c.span_of.ensures)

@@ -34,20 +34,18 @@ invariant_of-self c =
       reserved = c.args.self.now.reserved;
     }
 
-pub returns-then-left-eq0-clause-tiling : goal.returns-then-left-eq0-clause-tiling
-returns-then-left-eq0-clause-tiling c = tiles (goal.at.returns-then-left-eq0-clause-tiling c).After-stretch_in-left
-
 pub returns-then-left-eq0-clause-len : goal.returns-then-left-eq0-clause-len
 returns-then-left-eq0-clause-len c = ap (λ (x : Extent). length x.body) (same (goal.at.returns-then-left-eq0-clause-len c).After-stretch_in-left) ∙ c.stretch_in-left.ensures.stretched.len
 
 pub returns-then-left-eq0-clause-kept : goal.returns-then-left-eq0-clause-kept
 returns-then-left-eq0-clause-kept c = kept (goal.at.returns-then-left-eq0-clause-kept c).After-stretch_in-left
 
-pub returns-then-left-eq0-clause-pairs : goal.returns-then-left-eq0-clause-pairs
-returns-then-left-eq0-clause-pairs c = pairs-changed c.args.a.0 c.find-place.result.0 c.find-place.result.1 c.args.self.now.segs.items c.index_mut.result.now c.stretch_in-left.new.seg (stretch c.args.size (extent_in (c.find-place.result.1 + 16) (extents c.stretch_in-left.new.seg.bytes)).body) c.find-place.ensures.found c.index_mut.ensures.value c.stretch_in-left.ensures.stretched.change
-
-pub returns-clause-tiling : goal.returns-clause-tiling
-returns-clause-tiling c = tiles (goal.at.returns-clause-tiling c).After-stretch_in-left
+pub returns-then-left-eq0-clause-changed : goal.returns-then-left-eq0-clause-changed
+returns-then-left-eq0-clause-changed c =
+    record {
+      tiling = tiles (goal.at.returns-then-left-eq0-clause-changed c).After-stretch_in-left;
+      pairs = pairs-changed c.args.a.0 c.find-place.result.0 c.find-place.result.1 c.args.self.now.segs.items c.index_mut.result.now c.stretch_in-left.new.seg (stretch c.args.size (extent_in (c.find-place.result.1 + 16) (extents c.stretch_in-left.new.seg.bytes)).body) c.find-place.ensures.found c.index_mut.ensures.value c.stretch_in-left.ensures.stretched.change;
+    }
 
 pub returns-clause-len : goal.returns-clause-len
 returns-clause-len c = ap (λ (x : Extent). length x.body) (same (goal.at.returns-clause-len c).After-stretch_in-left) ∙ c.stretch_in-left.ensures.stretched.len
@@ -55,5 +53,9 @@ returns-clause-len c = ap (λ (x : Extent). length x.body) (same (goal.at.return
 pub returns-clause-kept : goal.returns-clause-kept
 returns-clause-kept c = kept (goal.at.returns-clause-kept c).After-stretch_in-left
 
-pub returns-clause-pairs : goal.returns-clause-pairs
-returns-clause-pairs c = pairs-changed c.args.a.0 c.find-place.result.0 c.find-place.result.1 c.args.self.now.segs.items c.index_mut.result.now c.stretch_in-left.new.seg (stretch c.args.size (extent_in (c.find-place.result.1 + 16) (extents c.stretch_in-left.new.seg.bytes)).body) c.find-place.ensures.found c.index_mut.ensures.value c.stretch_in-left.ensures.stretched.change
+pub returns-clause-changed : goal.returns-clause-changed
+returns-clause-changed c =
+    record {
+      tiling = tiles (goal.at.returns-clause-changed c).After-stretch_in-left;
+      pairs = pairs-changed c.args.a.0 c.find-place.result.0 c.find-place.result.1 c.args.self.now.segs.items c.index_mut.result.now c.stretch_in-left.new.seg (stretch c.args.size (extent_in (c.find-place.result.1 + 16) (extents c.stretch_in-left.new.seg.bytes)).body) c.find-place.ensures.found c.index_mut.ensures.value c.stretch_in-left.ensures.stretched.change;
+    }
