@@ -1,27 +1,23 @@
 -- What the calls of a best region do to its cells: one on an unlabelled block does it to the cell there, and one on a labelled block does nothing.
-use Rattle.std.proofs.Common.{◌≡◌, ◌≢◌, ℕ, Bool, List, [], ◌∷◌, true, false, cond, All, Option, Some, None, map, option_map, eqb, replicate, refl, sym, ap, ◌∙◌, subst, inl, inr, ⊎_elim}
+use Rattle.std.proofs.Common.{◌≡◌, ◌≢◌, ℕ, List, [], ◌∷◌, true, false, cond, All, Option, Some, None, option_map, replicate, refl, sym, ap, ◌∙◌, subst, inl, inr, ⊎_elim}
 use Rattle.std.proofs.lemmas.Bool.{cases_Bool, eq-eqb, ne_eqb}
 use Rattle.std.proofs.lemmas.Bool.Decides.{eqb_tells}
 use Rattle.std.proofs.lemmas.List.Elements.{All-head, All-tail}
-use Rattle.std.proofs.lemmas.Option.{none-some, same_Some}
+use Rattle.std.proofs.lemmas.Option.{none-some}
 use Rattle.vc_base.specs.Cells.{put}
 use Rattle.vc_base.proofs.CellsLemmas.{put_other, put_same}
 use Rattle.vc_model.specs.Addr.{place_of}
-use Rattle.vc_model.specs.Best.{best_alloc, place_in, without_block_at, zeros}
-use Rattle.vc_model.specs.Compact.{cleared_layout}
-use Rattle.vc_model.specs.Discipline.{Discipline, Terms}
+use Rattle.vc_model.specs.Best.{without_block_at, zeros}
+use Rattle.vc_model.specs.Discipline.{Discipline}
 use Rattle.vc_model.specs.Layout.{Block, Layout, address_of, is_at, without_block}
 use Rattle.vc_model.specs.Sound.{HaveOwnPlaces}
 use Rattle.vc_model.specs.Touch.{change_block, find_block, rewritten_block, with_bytes_at}
-use Rattle.vc_model.proofs.Owned.{at-address, left-elsewhere, not-there, put-others, put-there}
-use Rattle.vc_best.proofs.Resizes.{place-new}
-use Rattle.vc_seg.specs.Answer.{IsPut}
+use Rattle.vc_model.proofs.Owned.{at-address, left-elsewhere, not-there}
 use Rattle.vc_seg.specs.Boxed.{disc_in_box}
 use Rattle.vc_best.specs.Parts.{disc_in, segments_in}
 use Rattle.vc_best.specs.declared.best.Best.{Best}
-use Rattle.vc_best.specs.Cells.{StaysButCells, block_shown, cell_bytes, cells_of, is_unlabelled, without_cell}
+use Rattle.vc_best.specs.Cells.{StaysButCells, cell_bytes, cells_of, is_unlabelled, without_cell}
 use Rattle.vc_best.proofs.CellBytes.{cell-shows, find-written-other, same-cells}
-use Rattle.vc_best.proofs.RestBlocks.{find_block-zeroed, zeroed-labelled}
 
 -- a labelled block is no cell
 pub no-cell : (bs : List (Block ℕ)) (a label : ℕ) → option_map (λ b. b.label) (find_block (place_of a) bs) ≡ Some label → label ≢ 0 → cells_of bs a ≡ None
@@ -101,18 +97,6 @@ pub cells-more-labelled : (a label size : ℕ) (old new : List (Block ℕ)) → 
 cells-more-labelled a label size old new labelled own there others =
     sym (cells-kept a new own (no-cell new a label (ap (option_map (λ (b : Block ℕ). b.label)) there) labelled)) ∙ ap cells_of others
 
--- allocating, of an unlabelled block and of a labelled one
-module _ (terms : Terms) (old new : Layout ℕ) (size align : ℕ) (refused : Bool) (a : ℕ) (own : HaveOwnPlaces new.blocks) where
-  pub cells-alloc : IsPut (best_alloc terms old 0 size align refused) a new → cells_of new.blocks ≡ put a (replicate size 0) (cells_of old.blocks)
-  cells-alloc placed =
-      let blocks = (place-new terms old 0 size align refused a (place_in old size align) new placed).blocks in
-      cells-more a size old.blocks new.blocks (put-there a 0 size old.blocks new.blocks blocks own) (put-others a 0 size old.blocks new.blocks blocks own)
-
-  pub cells-alloc-labelled : (label : ℕ) → label ≢ 0 → IsPut (best_alloc terms old label size align refused) a new → cells_of new.blocks ≡ cells_of old.blocks
-  cells-alloc-labelled label labelled placed =
-      let blocks = (place-new terms old label size align refused a (place_in old size align) new placed).blocks in
-      cells-more-labelled a label size old.blocks new.blocks labelled own (put-there a label size old.blocks new.blocks blocks own) (put-others a label size old.blocks new.blocks blocks own)
-
 -- a labelled block gets another size, and may move
 pub cells-resized-labelled : (a to : ℕ) (old new : List (Block ℕ)) → HaveOwnPlaces old → HaveOwnPlaces new → cells_of old a ≡ None → cells_of new to ≡ None → without_block (place_of to) new ≡ without_block (place_of a) old → cells_of new ≡ cells_of old
 cells-resized-labelled a to old new own own' none none' others = sym (cells-kept to new own' none') ∙ (ap cells_of others ∙ cells-kept a old own none)
@@ -144,27 +128,9 @@ cells-written-labelled r a off src none =
       | inr apart ↦ ap cell_bytes (find-written-other off src a x apart.1 r.blocks)
     ])
 
--- no cell is left where all blocks go
-pub cells-cleared : (r : Layout ℕ) (a : ℕ) → cells_of (cleared_layout r).blocks a ≡ None
-cells-cleared r a = refl
-
 -- what stays over writes into cells: the meaning of the discipline, and the segments
 pub stays-disc : {I : Type 0} {V : I → Type 0} (meaning : (x : I) × V x → Discipline) (old new : Best I V) → StaysButCells old new → disc_in meaning new ≡ disc_in meaning old
 stays-disc meaning old new s = ap (disc_in_box meaning) s.disc
 
 pub stays-segments : {I : Type 0} {V : I → Type 0} (old new : Best I V) → StaysButCells old new → segments_in new ≡ segments_in old
 stays-segments old new s = ap (λ (r : Layout ℕ). r.segments) s.layout
-
--- a block that is the same but for what it shows as a cell, where one of both is labelled
-labelled-same : (b : Block ℕ) (o : Option (Block ℕ)) → is_unlabelled b ≡ false → option_map block_shown o ≡ Some (block_shown b) → o ≡ Some b
-labelled-same b None h e = absurd (none-some (block_shown b) e)
-labelled-same b (Some c) h e =
-    let same : block_shown c ≡ block_shown b = same_Some (block_shown c) (block_shown b) e in
-    let label : c.label ≡ b.label = ap (λ (d : Block ℕ). d.label) same in
-    let plain : is_unlabelled c ≡ false = ap (λ n. eqb n 0) label ∙ h in
-    ap Some (sym (zeroed-labelled c plain) ∙ (same ∙ zeroed-labelled b h))
-
-pub same-labelled : (at : ℕ × ℕ) (old new : List (Block ℕ)) (b : Block ℕ) → map block_shown new ≡ map block_shown old → find_block at old ≡ Some b → b.label ≢ 0 → find_block at new ≡ Some b
-same-labelled at old new b same found labelled =
-    labelled-same b (find_block at new) (ne_eqb b.label 0 labelled)
-    (sym (find_block-zeroed at new) ∙ (ap (find_block at) same ∙ (find_block-zeroed at old ∙ ap (option_map block_shown) found)))

@@ -5,7 +5,7 @@ use Rattle.std.proofs.Math.Nat.{ℕ_set}
 use mathlib.Core.Sum.{⊎_set}
 use Rattle.std.proofs.Math.Bridge.{le_prop}
 use Rattle.std.proofs.Math.Logic.{∥∥₁_elim}
-use Rattle.std.proofs.lemmas.Bool.{cases_Bool, cases_lt, and_left, and_right, eq-eqb, lt-ltb, le-ltb, ltb-true, le-leb, leb-true}
+use Rattle.std.proofs.lemmas.Bool.{cases_Bool, cases_lt, and_left, lt-ltb, le-ltb, ltb-true}
 use Rattle.std.proofs.lemmas.List.Elements.{All-append, All-cons, All-head, All-nil, All-tail, All-weaker}
 use Rattle.std.proofs.lemmas.List.{get_or-map, length-map}
 use Rattle.vc_model.specs.Addr.{address, place_of}
@@ -243,27 +243,3 @@ module _ (segs : List Bytes) (index : List ℕ) (k : ∥ AreExtents segs index �
       let low = first.0 in
       ap (option_map address_of) (least_above-first address_of after bs (in-ascent j))
       ∙ find-least address_of after a bs (in-ascent j) i within (λ d. sym (get_or-map address_of bs i d a within) ∙ has.2) (omega (arith, low)) least)
-
--- whether the block of the first of these extents holds a byte
-module _ (seg off : ℕ) (e : Extent) (es : List Extent) where
-  pub held-here : e.off ≤ off → off < e.off + e.size → find (holds_byte (seg, off)) (busy_in (seg, e ∷ es)) ≡ Some (block_of seg e)
-  held-here low high =
-      rw (lt-ltb 0 e.size (omega (arith, low, high)))
-      (rw (eq-eqb seg seg refl) (rw (le-leb e.off off low) (rw (lt-ltb off (e.off + e.size) high) refl)))
-
-  pub held-later : (e.off ≤ off → off < e.off + e.size → ⊥) → find (holds_byte (seg, off)) (busy_in (seg, e ∷ es)) ≡ find (holds_byte (seg, off)) (busy_in (seg, es))
-  held-later never =
-      ⊎_elim
-      (λ (t : ltb 0 e.size ≡ true).
-      let miss : holds_byte (seg, off) (block_of seg e) ≡ false =
-      and_right (eqb seg seg) (leb e.off off && ltb off (e.off + e.size))
-      (⊎_elim
-      (λ (u : leb e.off off ≡ true). and_right (leb e.off off) (ltb off (e.off + e.size)) (le-ltb off (e.off + e.size) (not_lt off (e.off + e.size) (λ lt. never (leb-true e.off off u) lt))))
-      (λ (u : leb e.off off ≡ false). and_left (leb e.off off) (ltb off (e.off + e.size)) u)
-      (cases_Bool (leb e.off off))) in
-      rw t (rw miss refl))
-      (λ (t : ltb 0 e.size ≡ false). rw t refl)
-      (cases_Bool (ltb 0 e.size))
-    where
-      not_lt : (x y : ℕ) → (x < y → ⊥) → y ≤ x
-      not_lt x y h = ⊎_elim (λ u. absurd (h u)) (λ u. u) (cases_lt x y)

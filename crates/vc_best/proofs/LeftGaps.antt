@@ -1,9 +1,7 @@
 -- The gaps that runs by address leave. They are those of the region, where the runs are sorted first.
-use Rattle.std.specs.Prelude.{ℕ, ◌-◌, List, Option, filter, ◌==◌}
+use Rattle.std.specs.Prelude.{ℕ, ◌-◌, List, filter, ◌==◌}
 use Rattle.std.specs.List.{flat_map}
 use Rattle.vc_model.specs.Gap.{Run, gaps_between}
-use Rattle.vc_model.specs.Place.{holds, least}
-use Rattle.vc_model.specs.Segments.{span}
 
 -- the gaps of one segment
 abbrev pub gaps_left_in : List Run → ℕ × ℕ → List Run
@@ -12,7 +10,3 @@ gaps_left_in runs s = gaps_between s.0 16 (s.1 - 16) (filter (λ f. f.seg == s.0
 -- the gaps of all segments
 abbrev pub gaps_left : List (ℕ × ℕ) → List Run → List Run
 gaps_left segments runs = flat_map (gaps_left_in runs) segments
-
--- the least gap that holds a block of that size and alignment
-abbrev pub best_left : List (ℕ × ℕ) → List Run → ℕ → ℕ → Option Run
-best_left segments runs size align = least (filter (holds (span size) align) (gaps_left segments runs))

@@ -7,13 +7,11 @@ use Rattle.std.proofs.lemmas.List.Kept.{AllPairs-filter}
 use Rattle.vc_model.specs.Gap.{Run, gaps, gaps_between, runs_in}
 use Rattle.vc_model.specs.Layout.{Block, footprint, footprints}
 use Rattle.vc_model.specs.Order.{least_above, lesser_by, put_by, sorted_by}
-use Rattle.vc_model.specs.Place.{best_gap, holds, least}
-use Rattle.vc_model.specs.Segments.{span}
 use Rattle.vc_model.specs.Sound.{EndsBefore}
 use Rattle.vc_model.proofs.Pairs.{AllPairs-head, AllPairs-tail}
 use Rattle.vc_base.proofs.Places.{span-least}
 use Rattle.vc_layouts.proofs.Lists.{AllPairs-map}
-use Rattle.vc_best.proofs.LeftGaps.{best_left, gaps_left, gaps_left_in}
+use Rattle.vc_best.proofs.LeftGaps.{gaps_left, gaps_left_in}
 use Rattle.vc_best.proofs.Apart.{Before}
 
 module _ {A : Type 0} (key : A → ℕ) where
@@ -74,6 +72,3 @@ gaps-left [] bs h = refl
 gaps-left (s ∷ ss) bs h =
     ap (λ fs. gaps_between s.0 16 (s.1 - 16) fs ++ gaps ss (footprints bs)) (runs_in-left s.0 bs h)
     ∙ ap (λ gs. gaps_left_in (footprints bs) s ++ gs) (gaps-left ss bs h)
-
-pub best_gap-left : (segments : List (ℕ × ℕ)) (bs : List (Block ℕ)) (size align : ℕ) → AllPairs Before bs → best_gap segments (footprints bs) size align ≡ best_left segments (footprints bs) size align
-best_gap-left segments bs size align h = ap (λ gs. least (filter (holds (span size) align) gs)) (gaps-left segments bs h)

@@ -15,9 +15,7 @@ use Rattle.vc_seg.specs.Segment.{Bytes, pair_of}
 use Rattle.vc_extent.specs.Tiling.{AreExtents, IsFree, change_extent, extent_of, tiling}
 use Rattle.vc_layouts.specs.Put.{with_zeros}
 use Rattle.vc_layouts.proofs.Blocks.{All-with, place_of-address}
-use Rattle.vc_gaps.specs.ButLinks.{Tiling, plain}
 use Rattle.vc_gaps.specs.Fits.{run_at}
-use Rattle.vc_gaps.specs.GapLaws.{span-stays}
 use Rattle.vc_best.specs.Blocks.{layout_by}
 use Rattle.vc_best.specs.Changes.{carve}
 use Rattle.vc_best.specs.Free.{IsMerged, free_runs}
@@ -31,7 +29,6 @@ use Rattle.vc_best.proofs.HaveHeads.{AreApart}
 use Rattle.vc_best.proofs.HeldHeads.{held-heads}
 use Rattle.vc_best.proofs.Known.{cut-of}
 use Rattle.vc_best.proofs.Layouts.{behind_of, layout-put}
-use Rattle.vc_best.proofs.Plain.{free-stays}
 use Rattle.vc_best.proofs.Rounding.{IsAligned, IsAligned-from_IsAlign}
 use Rattle.vc_best.proofs.Sets.{merged-prop}
 use Rattle.vc_best.proofs.Stands.{alone, none-at}
@@ -57,19 +54,6 @@ module _ (old new : List Bytes) (i j : List ℕ) (k : ∥ AreExtents old i ∥�
   carved-merged m =
       subst IsMerged (sym changed)
       (∥∥₁_elim k (merged-prop _) (λ h. merged-carved (tiling old) a off size tag (cut-of old i a h free.named) free some m))
-
--- what can be put into a free extent can be where links alone differ
-pub can_put-stays : (t u : Tiling) → plain u ≡ plain t → (a off size : ℕ) → CanPutBlock t a off size → CanPutBlock u a off size
-can_put-stays t u same a off size h =
-    let span = span-stays t u same a in
-    let fits = h.fits in
-    record {
-      free = free-stays t u same a h.free;
-      sized = h.sized;
-      first = h.first;
-      multiple = h.multiple;
-      fits = omega (arith, span, fits);
-    }
 
 -- a block of zeros in the least free extent that holds it, at the lowest offset that the alignment divides
 module _ (old : List Bytes) (i : List ℕ) (k : ∥ AreExtents old i ∥₁) (root size align tag a off : ℕ) (out : IsLeastOut old root size align a) (low : off ≡ round_up (place_of a).1 align) where

@@ -118,9 +118,6 @@ named-cut t a c = let least = c.cut.here.0.legal.least in omega arith
 
 -- where a named extent lies
 module _ (segs : List Bytes) (index : List ℕ) (a : ℕ) (k : ∥ AreExtents segs index ∥₁) (named : IsNamed (tiling segs) a) where
-  pub named-low : 32 ≤ (place_of a).1
-  named-low = ∥∥₁_elim k (hlevel (le_prop)) (λ h. let low = (cut-of segs index a h named).cut.low in omega arith)
-
   pub named-end : (place_of a).1 + (extent_of (tiling segs) a).span ≤ 33554432
   named-end = ∥∥₁_elim k (hlevel (le_prop)) (λ h. let c = cut-of segs index a h named in let end = end-of (tiling segs) a c in let most = c.legal.most in omega arith)
 

@@ -1,5 +1,5 @@
 -- A tree of gaps in a tiling that changes elsewhere: no link, span or state of a gap that is in it changes.
-use Rattle.std.proofs.Common.{◌≡◌, ℕ, List, [], ◌∷◌, ◌++◌, Bool, true, false, not, eqb, ltb, ◌&&◌, refl, ap, sym, subst, ◌∙◌, ⊎_elim}
+use Rattle.std.proofs.Common.{◌≡◌, ℕ, List, [], ◌∷◌, Bool, true, false, not, eqb, ltb, ◌&&◌, refl, ap, sym, subst, ◌∙◌, ⊎_elim}
 use Rattle.std.proofs.lemmas.Bool.{cases_Bool, true≢false}
 use Rattle.vc_base.specs.Holders.{contains}
 use Rattle.vc_base.proofs.Members.{within-head, within-tail, within-front, within-rest}
@@ -84,14 +84,3 @@ gaps-touched old new root touched out after same gone h =
 -- no tree, whatever lies in the bytes: no free extent is in it
 pub tree-none : (t : Tiling) → HasGapTree t 0 []
 tree-none t = record { tree = Leaf; is_tree = record { top = refl; stands = tt; distinct = tt }; list = refl; ascending = tt }
-
-pub gaps-none : (t : Tiling) (out : List ℕ) → ((a : ℕ) → is_free t a ≡ true → contains out a ≡ true) → HasGaps t 0 out
-gaps-none t out all = record {
-  names = [];
-  tree = tree-none t;
-  exact = λ a.
-      ⊎_elim
-      (λ (f : is_free t a ≡ true). sym (ap (λ z. z && not (contains out a)) f ∙ ap not (all a f)))
-      (λ (f : is_free t a ≡ false). sym (ap (λ z. z && not (contains out a)) f))
-      (cases_Bool (is_free t a));
-}

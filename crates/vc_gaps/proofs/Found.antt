@@ -18,7 +18,7 @@ use Rattle.vc_gaps.specs.ButLinks.{Tiling, StaysButLinks}
 use Rattle.vc_gaps.specs.Fits.{free_runs, from_on, holds_at, run_at}
 use Rattle.vc_gaps.specs.GapLaws.{gap_fits, is_free-stays}
 use Rattle.vc_gaps.specs.GapStore.{gap_side, gap_store, is_free, key_of}
-use Rattle.vc_gaps.specs.GapTree.{GapFitted, GapTreeAfter, HasGapTree, HasGaps, IsAmongGaps, IsInGaps}
+use Rattle.vc_gaps.specs.GapTree.{GapFitted, GapTreeAfter, HasGapTree, HasGaps, IsAmongGaps}
 use Rattle.vc_gaps.proofs.Ascending.{IsLeast, find-least, find-none, find-same}
 use Rattle.vc_gaps.proofs.GapTrees.{gap-found, tree-free}
 use Rattle.vc_gaps.proofs.Holding.{gap_off, holds-by_32, holds-span, holds-stays, side-by}
@@ -133,19 +133,3 @@ module _ (old new : List Bytes) (index : List ℕ) (kept : ∥ AreExtents old in
   among-first first xs h t a some =
       let after : GapTreeAfter (tiling old) (tiling new) xs result xs = gap-found old new index kept rest root result 0 xs h (t h.tree h.is_tree) in
       record { root = result; is_in = record { names = xs; tree = after.tree; within = first-within first xs h a some } }
-
--- what was found is in the tree then, and holds the block
-pub record IsFit (old new : Tiling) (result span align a : ℕ) : Type 0 where
-  pub is_in : IsInGaps new result a
-  pub free : is_free new a ≡ true
-  pub holds : holds_at old span align a ≡ true
-
-pub is_fit : (old new : Tiling) (root span align result a : ℕ) (found : Option ℕ) (xs : List ℕ) → GapFitted old new root span align result found → HasGapTree old root xs → found ≡ Some a → IsFit old new result span align a
-is_fit old new root span align result a found xs f h e =
-    let l : IsLeast (key_of old) (holds_at old span align) xs a = find-least (key_of old) (holds_at old span align) 0 xs a h.ascending (sym (f.first xs h) ∙ e) in
-    let after : GapTreeAfter old new xs result xs = f.tree xs h in
-    record {
-      is_in = record { names = xs; tree = after.tree; within = l.within };
-      free = tree-free new result xs after.tree a l.within;
-      holds = l.passes;
-    }

@@ -12,7 +12,7 @@ use Rattle.vc_splay.specs.Store.{SameLinks, Store}
 use Rattle.vc_splay.specs.Tree.{Tree, Leaf, Node, names}
 use Rattle.vc_extent.specs.Tiling.{AreExtents, IsFree, extent_of, tiling}
 use Rattle.vc_gaps.specs.ButLinks.{Tiling, StaysButLinks, plain}
-use Rattle.vc_gaps.specs.GapLaws.{gap_fits, gap_none, is_free-named, is_free-size, is_free-stays, key-stays}
+use Rattle.vc_gaps.specs.GapLaws.{gap_fits, gap_none, is_free-stays, key-stays}
 use Rattle.vc_gaps.specs.GapStore.{gap_key, gap_side, gap_store, is_free, key_of}
 use Rattle.vc_gaps.specs.GapUnique.{one_list}
 use Rattle.vc_gaps.specs.GapTree.{AscendFrom, CanLinkGap, GapLinked, GapTreeAfter, GapUnlinked, HasGapTree, HasGaps, IsGapTree, IsInGaps}
@@ -50,9 +50,6 @@ module _ (t : Tiling) (root : ℕ) (xs : List ℕ) (h : HasGapTree t root xs) wh
 -- an address that names a free extent
 pub free-bool : (t : Tiling) (a : ℕ) → IsFree t a → is_free t a ≡ true
 free-bool t a f = rw (lt-ltb 0 (extent_of t a).span f.named, eq-eqb (extent_of t a).size 0 f.free) refl
-
-pub bool-free : (t : Tiling) (a : ℕ) → is_free t a ≡ true → IsFree t a
-bool-free t a h = record { named = is_free-named t a h; free = is_free-size t a h }
 
 -- free extents below 2^32 with one key are one
 one_key : (t : Tiling) (a b : ℕ) → a < 2 ^ 32 → b < 2 ^ 32 → key_of t a ≡ key_of t b → a ≡ b

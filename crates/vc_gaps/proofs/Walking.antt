@@ -144,9 +144,6 @@ pub record Walked (p : ℕ → Bool) (xs : List ℕ) (first at start now : ℕ) 
   pub within : at ≢ 0 → contains xs at ≡ true
   pub steps : now + length (from_on at xs) ≤ start + length (from_on first xs)
 
-pub walk-start : (p : ℕ → Bool) (xs : List ℕ) (first start : ℕ) → (first ≢ 0 → contains xs first ≡ true) → Walked p xs first first start start
-walk-start p xs first start within = record { same = refl; within = within; steps = omega arith }
-
 pub walk-on : (p : ℕ → Bool) (xs : List ℕ) (first at b start now : ℕ) → IsNext xs at b → p at ≡ false → Walked p xs first at start now → Walked p xs first b start (now + 1)
 walk-on p xs first at b start now n fails w =
     let behind : find p (from_on at xs) ≡ find p (from_on b xs) = ap (find p) n.rest ∙ ap (λ z. cond z (Some at) (find p (from_on b xs))) fails in
