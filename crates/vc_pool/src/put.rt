@@ -14,7 +14,7 @@ ghost use Rattle.vc_seg.specs.OneBlock.{IsSize};
 use std::alloc::Global;
 use vc_base::Addr;
 use vc_pool_cells::{PoolSegment, carve_lowest, carve_new, reuse};
-use vc_seg::{RegionFault, SegDisc, lend_segment, lowest_unused, round_of, rounded_up};
+use vc_seg::{RegionFault, SegDisc, lend_next, round_of, rounded_up};
 
 // The element size when a block of this size is put: the first block sets it. 0 stands for none.
 fn element_with(element: u32, size: u32) -> u32
@@ -77,9 +77,10 @@ fn put_in_new(
     let bytes = rounded_up(32 + cell, round_of(disc));
     reserve_one(segs)?;
     let table = table_of(alloc, (bytes - 32) / cell)?;
-    let number = lowest_unused(segs);
-    let segment = lend_segment(disc, alloc, number, bytes)?;
-    Ok(carve_new(segs, segment, table, element, size, tag))
+    match lend_next(segs, disc, alloc, bytes) {
+        Ok(segment) => Ok(carve_new(segs, segment, table, element, size, tag)),
+        Err(fault) => Err(fault),
+    }
 }
 
 // A block of zeros in the cell freed last, else in the lowest uncarved cell, else in a segment that is asked for.
