@@ -1,5 +1,5 @@
 -- One extent of a segment changes, and those before it stay.
-use Rattle.std.proofs.Common.{◌≡◌, ℕ, ◌+◌, ◌-◌, ◌%◌, ◌<◌, ◌≤◌, List, [], ◌∷◌, IfSome, IsSome, true, false, eqb, length, take, drop, refl, ap, sym, subst, ◌∙◌, ⊎_elim, arith}
+use Rattle.std.proofs.Common.{◌^◌, ◌*◌, ◌≡◌, ℕ, ◌+◌, ◌-◌, ◌%◌, ◌<◌, ◌≤◌, List, [], ◌∷◌, IfSome, IsSome, true, false, eqb, length, take, drop, refl, ap, sym, subst, ◌∙◌, ⊎_elim, arith}
 use Rattle.std.proofs.lemmas.Bool.{cases_Bool, eqb-true, eq-eqb}
 use Rattle.vc_model.specs.Discipline.{IsSegmentSize}
 use Rattle.vc_seg.specs.Segment.{Bytes}
@@ -65,6 +65,50 @@ within b at t named =
       legal = p.head.legal;
       fits = inside e p.head.legal;
     }
+
+-- its head, a link and a range of its bytes lie in the segment, and their places are numbers of 32 bits
+module _ (b : List ℕ) (at : ℕ) (tiled : IsTiled b) (named : 0 < (extent_in (at + 16) (extents b)).span) where
+  pub head-below : at + 16 < 2 ^ 32
+  head-below =
+      let w = within b at tiled named in
+      let end = w.end in
+      let most = w.most in
+      omega arith
+
+  pub head-room : at + 48 ≤ length b
+  head-room =
+      let w = within b at tiled named in
+      let end = w.end in
+      let least = w.legal.least in
+      omega arith
+
+  pub link-below : (k : ℕ) → k < 3 → at + 16 + 4 * k < 2 ^ 32
+  link-below k few = omega (arith, few, head-room, (within b at tiled named).most)
+
+  pub range-below : (off n : ℕ) → off + n ≤ (extent_in (at + 16) (extents b)).size → at + 16 + off < 2 ^ 32
+  range-below off n inner =
+      let w = within b at tiled named in
+      let end = w.end in
+      let most = w.most in
+      let fits = w.fits in
+      omega (arith, inner)
+
+  pub range-room : (off n : ℕ) → off + n ≤ (extent_in (at + 16) (extents b)).size → at + 16 + off + n ≤ length b
+  range-room off n inner =
+      let w = within b at tiled named in
+      let end = w.end in
+      let fits = w.fits in
+      omega (arith, inner)
+
+-- what tiles the segment behind an extent whose span is known, and what an extent is by its name and its span
+module _ (b : List ℕ) (at bytes : ℕ) (tiled : IsTiled b) (named : 0 < (extent_in (at + 16) (extents b)).span) (is : bytes ≡ (extent_in (at + 16) (extents b)).span) where
+  pub rest-tiles : Tiles b (length b - 16) bytes (at + bytes) (behind (at + 16) (extents b))
+  rest-tiles = subst (λ (k : ℕ). Tiles b (length b - 16) k (at + k) (behind (at + 16) (extents b))) (sym is) (here b at tiled named).rest
+
+  pub own-tiles : (n : List ℕ) (stop before : ℕ) (list : ℕ → ℕ → List Extent) → Tiles n stop before at (list (at + 16) bytes) → Tiles n stop before at (list (extent_in (at + 16) (extents b)).off (extent_in (at + 16) (extents b)).span)
+  own-tiles n stop before list t =
+      subst (λ (k : ℕ). Tiles n stop before at (list k (extent_in (at + 16) (extents b)).span)) (sym (within b at tiled named).off)
+      (subst (λ (k : ℕ). Tiles n stop before at (list (at + 16) k)) is t)
 
 -- a tiled segment whose bytes below an extent stay, and which is tiled from there on
 pub changed : (o n : Bytes) (at : ℕ) (change : Extent → List Extent → List Extent) → IsTiled o.bytes → 0 < (extent_in (at + 16) (extents o.bytes)).span → StaysBelow at o n →

@@ -6,7 +6,7 @@ use Rattle.vc_extent.specs.Extent.{Extent, extents, busy_extent}
 use Rattle.vc_extent.specs.Change.{Changes, behind, extent_in, set_size}
 use Rattle.vc_seg.specs.Field.{field_at}
 use Rattle.vc_extent.specs.Tiles.{Tiles}
-use Rattle.vc_extent.proofs.Changed.{changed, here, within, renamed}
+use Rattle.vc_extent.proofs.Changed.{changed, own-tiles, renamed, rest-tiles, within}
 use Rattle.vc_extent.proofs.edit.set_size_in.Goals as goal
 use Rattle.vc_extent.proofs.edit.set_size_in.Goals.{After-lay_busy}
 
@@ -15,24 +15,15 @@ body c = take c.args.size (drop (c.args.at + 16) c.args.seg.now.bytes)
 
 made : (c : After-lay_busy) → Changes (c.args.at + 16) (set_size c.args.size (body c)) c.args.seg.now c.lay_busy.new.seg
 made c =
-    let at = c.args.at in
     let o : Bytes = c.args.seg.now in
     let n : Bytes = c.lay_busy.new.seg in
-    let e : Extent = extent_in (at + 16) (extents o.bytes) in
-    let es : List Extent = behind (at + 16) (extents o.bytes) in
-    let p = here o.bytes at c.requires.there.tiled c.requires.there.named in
-    let w = within o.bytes at c.requires.there.tiled c.requires.there.named in
-    let span : e.span ≡ c.span_in-bytes.result = sym c.span_in-bytes.ensures.value in
-    let old : Tiles o.bytes (length o.bytes - 16) c.span_in-bytes.result (at + c.span_in-bytes.result) es = subst (λ (k : ℕ). Tiles o.bytes (length o.bytes - 16) k (at + k) es) span p.rest in
-    let tag : c.tag_in-tag.result ≡ e.tag = c.tag_in-tag.ensures in
-    let one' = c.lay_busy.ensures.tiles es old in
-    let list : ℕ → ℕ → List Extent = λ off k. busy_extent off k c.args.size e.tag (take c.args.size (drop (at + 16) o.bytes)) ∷ es in
-    let one : Tiles n.bytes (length n.bytes - 16) (field_at (at + 12) o.bytes) at (list (at + 16) c.span_in-bytes.result) =
-    subst (λ (t : ℕ). Tiles n.bytes (length n.bytes - 16) (field_at (at + 12) o.bytes) at (busy_extent (at + 16) c.span_in-bytes.result c.args.size t (take c.args.size (drop (at + 16) o.bytes)) ∷ es)) tag one' in
-    let two : Tiles n.bytes (length n.bytes - 16) (field_at (at + 12) o.bytes) at (list e.off e.span) =
-    subst (λ (k : ℕ). Tiles n.bytes (length n.bytes - 16) (field_at (at + 12) o.bytes) at (list k e.span)) (sym w.off)
-    (subst (λ (k : ℕ). Tiles n.bytes (length n.bytes - 16) (field_at (at + 12) o.bytes) at (list (at + 16) k)) (sym span) one) in
-    changed o n at (set_size c.args.size (take c.args.size (drop (at + 16) o.bytes))) c.requires.there.tiled c.requires.there.named c.lay_busy.ensures.rest two
+    let es : List Extent = behind (c.args.at + 16) (extents o.bytes) in
+    let span = c.span_in-bytes.ensures.value in
+    let list : ℕ → ℕ → ℕ → List Extent = λ tag off k. busy_extent off k c.args.size tag (body c) ∷ es in
+    changed o n c.args.at (set_size c.args.size (body c)) c.requires.there.tiled c.requires.there.named c.lay_busy.ensures.rest
+    (own-tiles o.bytes c.args.at c.span_in-bytes.result c.requires.there.tiled c.requires.there.named span n.bytes (length n.bytes - 16) (field_at (c.args.at + 12) o.bytes) (list (extent_in (c.args.at + 16) (extents o.bytes)).tag)
+    (subst (λ (t : ℕ). Tiles n.bytes (length n.bytes - 16) (field_at (c.args.at + 12) o.bytes) c.args.at (list t (c.args.at + 16) c.span_in-bytes.result)) c.tag_in-tag.ensures
+    (c.lay_busy.ensures.tiles es (rest-tiles o.bytes c.args.at c.span_in-bytes.result c.requires.there.tiled c.requires.there.named span))))
 
 is : (c : After-lay_busy) → (extent_in (c.args.at + 16) (extents c.lay_busy.new.seg.bytes)).body ≡ body c
 is c =

@@ -3,15 +3,12 @@ use Rattle.std.proofs.lemmas.Bool.{eq-eqb, ne_eqb}
 use Rattle.vc_extent.specs.Extent.{extents}
 use Rattle.vc_extent.specs.Change.{extent_in}
 use Rattle.vc_seg.specs.Field.{field_at}
-use Rattle.vc_extent.proofs.Changed.{within}
+use Rattle.vc_extent.proofs.Changed.{within, head-room}
 use Rattle.vc_extent.proofs.Neighbours.{previous, boundary-within, boundary-multiple, before-named}
 use Rattle.vc_extent.proofs.next.previous_in.Goals as goal
 
 pub field-before-requires : goal.field-before-requires
-field-before-requires c =
-    let w = within c.args.seg.now.bytes c.args.at c.requires.there.tiled c.requires.there.named in
-    let end = w.end in
-    omega arith
+field-before-requires c = omega (arith, head-room c.args.seg.now.bytes c.args.at c.requires.there.tiled c.requires.there.named)
 
 pub overflow_add-result : goal.overflow_add-result
 overflow_add-result c =

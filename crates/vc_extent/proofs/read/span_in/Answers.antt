@@ -1,14 +1,11 @@
 use Rattle.std.proofs.Common.{◌≡◌, ◌+◌, ◌∙◌, sym, arith}
-use Rattle.vc_extent.proofs.Changed.{within}
+use Rattle.vc_extent.proofs.Changed.{within, head-room}
 use Rattle.vc_extent.specs.Extent.{extents}
 use Rattle.vc_extent.specs.Change.{extent_in}
 use Rattle.vc_extent.proofs.read.span_in.Goals as goal
 
 pub field-requires : goal.field-requires
-field-requires c =
-    let w = within c.args.seg.now.bytes c.args.at c.requires.there.tiled c.requires.there.named in
-    let end = w.end in
-    omega arith
+field-requires c = omega (arith, head-room c.args.seg.now.bytes c.args.at c.requires.there.tiled c.requires.there.named)
 
 pub returns-clause-value : goal.returns-clause-value
 returns-clause-value c = let w = within c.args.seg.now.bytes c.args.at c.requires.there.tiled c.requires.there.named in c.field.ensures ∙ sym w.span
