@@ -13,7 +13,7 @@ use Rattle.vc_dthash.proofs.ChainLemmas.{chain-same}
 use Rattle.vc_dtdisc.specs.Finds.{find_key, object_at}
 use Rattle.vc_dtdisc.specs.Rules.{Rules}
 use Rattle.vc_dtlist.specs.declared.dt_list.DtList.{DtList}
-use Rattle.vc_dtlist.specs.Kept.{KeepsTables}
+use Rattle.vc_dtlist.specs.TableWrites.{KeepsTables}
 use Rattle.vc_dtlist.specs.Linked.{CanAdd, IsPlain, StandsFor, Turned, number_of}
 use Rattle.vc_dtlist.proofs.KeptLemmas.{KeepsTables-but, StandsFor-kept, StandsFor-same}
 use Rattle.vc_dtlist.proofs.TurnLemmas.{StandsFor-unique}

@@ -7,7 +7,7 @@ use Rattle.vc_base.specs.Cells.{Blocks}
 use Rattle.vc_base.specs.Holders.{KeepsBut, contains}
 use Rattle.vc_dtdisc.specs.Rules.{Rules}
 use Rattle.vc_dtlist.specs.declared.dt_list.DtList.{DtList}
-use Rattle.vc_dtlist.specs.Kept.{KeepsTables}
+use Rattle.vc_dtlist.specs.TableWrites.{KeepsTables}
 use Rattle.vc_dtlist.specs.Linked.{StandsFor, number_of}
 use Rattle.vc_dtlist.proofs.KeptLemmas.{KeepsTables-but}
 use Rattle.vc_dthash.specs.declared.dt_hash.DtHash.{DtHash}

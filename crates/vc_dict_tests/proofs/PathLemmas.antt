@@ -18,7 +18,7 @@ use Rattle.vc_paths.specs.Links.{ArePaths, Links, below, links_with, no_links, n
 use Rattle.vc_paths.specs.Path.{Answers, IsAlike, IsPath, is_at, is_place, numbers_of, place_of}
 use Rattle.vc_paths.specs.View.{are_alike, view_fault}
 use Rattle.vc_paths.specs.Visible.{Seen}
-use Rattle.vc_paths.proofs.LinkLemmas.{below-linked, below-other}
+use Rattle.vc_paths.proofs.NewLinkLemmas.{below-linked, below-other}
 use Rattle.vc_dict_tests.specs.Toy.{kind_in, layers_in, method_in}
 use Rattle.vc_dict_tests.specs.ToyPaths.{AreJoined}
 

@@ -13,7 +13,7 @@ use Rattle.vc_base.specs.Methods.{method_number}
 use Rattle.vc_dict.proofs.WeedLemmas.{key_same}
 use Rattle.vc_dtdisc.specs.Finds.{find_key, has_key, object_at}
 use Rattle.vc_dtdisc.specs.Rules.{Rules}
-use Rattle.vc_dtlist.specs.Kept.{KeepsTables}
+use Rattle.vc_dtlist.specs.TableWrites.{KeepsTables}
 use Rattle.vc_dtlist.proofs.HolderLemmas.{apart-without}
 use Rattle.vc_dthash.specs.Hashed.{IsTable}
 use Rattle.vc_dict.specs.declared.dict.Dict.{Dict}

@@ -1,4 +1,4 @@
 pub mod AddressLemmas
 pub mod FindingLemmas
-pub mod Folded
+pub mod FoldedOrder
 pub mod ObjectsLemmas

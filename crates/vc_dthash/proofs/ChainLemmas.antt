@@ -8,9 +8,9 @@ use Rattle.vc_base.specs.Cells.{Blocks, IsAddress, word, word_at}
 use Rattle.vc_base.specs.Holders.{AreDistinct, contains, last_of, without}
 use Rattle.vc_base.proofs.Members.{apart-front, without-split, within-head, within-tail, within-front, within-rest, differs}
 use Rattle.vc_dtlist.proofs.HolderLemmas.{Split, distinct-front, last-differs}
-use Rattle.vc_dtlist.proofs.LinkLemmas.{not_last}
+use Rattle.vc_dtlist.proofs.JoinLemmas.{not_last}
 use Rattle.vc_dthash.specs.Chained.{AreChained, Leads, chain_of}
-use Rattle.vc_dthash.specs.Written.{Fronted}
+use Rattle.vc_dthash.specs.ChainWrites.{Fronted}
 use Rattle.vc_dthash.proofs.FilterLemmas.{filter-distinct, filter-less, filter-refuses, filter-test, filter-within, filter-without_in, filter-without_out, front-apart}
 
 -- a chain stays where it begins at the same address and the second words of its holders stay

@@ -5,7 +5,7 @@ use Rattle.vc_base.specs.Cells.{Blocks, HasBytes, word_at}
 use Rattle.vc_base.specs.Holders.{AreDistinct, contains, last_of}
 use Rattle.vc_base.proofs.Members.{apart-head, apart-cons, apart-rest, within-head, within-rest, differs}
 use Rattle.vc_dtlist.specs.declared.dt_list.DtList.{DtList}
-use Rattle.vc_dtlist.specs.Kept.{KeepsTables}
+use Rattle.vc_dtlist.specs.TableWrites.{KeepsTables}
 use Rattle.vc_dtlist.specs.Linked.{Chain, LinksFor}
 use Rattle.vc_dtlist.proofs.AddressLemmas.{LinksFor-holders}
 use Rattle.vc_dtlist.proofs.ChainLemmas.{Chain-front}
@@ -13,7 +13,7 @@ use Rattle.vc_dtlist.proofs.HolderLemmas.{distinct-rest}
 use Rattle.vc_dtlist.proofs.KeptLemmas.{KeepsBut-none, KeepsTables-but, LinksFor-same}
 use Rattle.vc_dtlist.proofs.TurnLemmas.{fewer, last_fits, previous_word}
 use Rattle.vc_dthash.specs.Chained.{AreChained}
-use Rattle.vc_dthash.specs.Written.{CanFront, Cleared, Filled, Fronted, SlotWritten}
+use Rattle.vc_dthash.specs.ChainWrites.{CanFront, Cleared, Filled, Fronted, SlotWritten}
 use Rattle.vc_dthash.proofs.ChainLemmas.{chains-fronted}
 use Rattle.vc_dthash.proofs.WriteLemmas.{body-same}
 

@@ -10,19 +10,19 @@ use Rattle.vc_base.specs.Holders.{contains, last_of, without}
 use Rattle.vc_base.proofs.Members.{apart-head, apart-tail, apart-cons, within-head, within-tail, within-front, within-rest, differs, within-last}
 use Rattle.vc_dtdisc.specs.Finds.{object_at}
 use Rattle.vc_dtdisc.specs.Rules.{Rules}
-use Rattle.vc_dtlist.specs.Kept.{KeepsTables}
+use Rattle.vc_dtlist.specs.TableWrites.{KeepsTables}
 use Rattle.vc_dtlist.specs.Linked.{LinksFor, Relinked}
 use Rattle.vc_dtlist.proofs.AddressLemmas.{AreHolders, LinksFor-holders, few-holders, no-holder}
 use Rattle.vc_dtlist.proofs.HolderLemmas.{Split, apart-append, apart-without, length-without, split}
 use Rattle.vc_dtlist.proofs.KeptLemmas.{KeepsTables-but, LinksFor-kept, LinksFor-same}
-use Rattle.vc_dtlist.proofs.LinkLemmas.{not_last}
+use Rattle.vc_dtlist.proofs.JoinLemmas.{not_last}
 use Rattle.vc_dtlist.proofs.TurnLemmas.{LinksFor-unique, fewer}
 use Rattle.vc_dtlist.proofs.WordLemmas.{word-kept, word-other_block}
 use Rattle.vc_dthash.specs.declared.dt_hash.DtHash.{DtHash}
-use Rattle.vc_dthash.specs.Chained.{AreChained, IsHashed, Leads, chain_of, hash_at}
+use Rattle.vc_dthash.specs.Chained.{AreChained, IsChainPlace, IsHashed, IsSlotChain, Leads, chain_of, hash_at}
 use Rattle.vc_dthash.specs.Hashed.{ChainedUp, HasTable, HashFor, HashTurned, IsTable, list_of}
 use Rattle.vc_dthash.specs.Slots.{IsSlots, most_slots, slots_for, wanted_slots}
-use Rattle.vc_dthash.specs.Written.{CanPoint, Cleared, Filled, IsChain, IsPlace, Marked, Pointed}
+use Rattle.vc_dthash.specs.ChainWrites.{CanPoint, Cleared, Filled, Marked, Pointed}
 use Rattle.vc_dthash.proofs.ChainLemmas.{Leads-fits, Leads-split, Redirects, chains-hash, chains-joined, chains-parted, chains-same}
 use Rattle.vc_dthash.proofs.FilterLemmas.{filter-less, filter-passes, filter-shorter, filter-within}
 use Rattle.vc_dthash.proofs.WriteLemmas.{word-same}
@@ -133,7 +133,7 @@ no-slots rules hash b xs s none = elim (eqb_tells hash.table.0 0) as (λ _. xs �
 ]
 
 -- the chain of a slot
-pub chain-is : (rules : Rules) (hash : DtHash) (b : Blocks) (xs : List ℕ) (k : ℕ) → HashFor rules hash b xs → k < hash.slots → IsChain b hash.table.0 k (chain_of (hash_at rules b) hash.slots k xs)
+pub chain-is : (rules : Rules) (hash : DtHash) (b : Blocks) (xs : List ℕ) (k : ℕ) → HashFor rules hash b xs → k < hash.slots → IsSlotChain b hash.table.0 k (chain_of (hash_at rules b) hash.slots k xs)
 chain-is rules hash b xs k s small =
     let ne = some-table rules hash b xs s (omega (arith, small)) in
     let t = s.table.some ne in
@@ -150,11 +150,11 @@ pub chain-short : (rules : Rules) (hash : DtHash) (b : Blocks) (xs : List ℕ) (
 chain-short rules hash b xs k s = let h = filter-shorter (λ a. hash_at rules b a % hash.slots == k) xs in omega (arith, h, s.count)
 
 -- its end, and the place of one of its holders
-pub end-place : (rules : Rules) (hash : DtHash) (b : Blocks) (xs : List ℕ) (k : ℕ) → HashFor rules hash b xs → k < hash.slots → IsPlace b hash.table.0 k hash.count 0 (chain_of (hash_at rules b) hash.slots k xs) []
+pub end-place : (rules : Rules) (hash : DtHash) (b : Blocks) (xs : List ℕ) (k : ℕ) → HashFor rules hash b xs → k < hash.slots → IsChainPlace b hash.table.0 k hash.count 0 (chain_of (hash_at rules b) hash.slots k xs) []
 end-place rules hash b xs k s small =
     let chain = chain_of (hash_at rules b) hash.slots k xs in
     record {
-      chain = subst (λ z. IsChain b hash.table.0 k z) (sym (append-nil chain)) (chain-is rules hash b xs k s small);
+      chain = subst (λ z. IsSlotChain b hash.table.0 k z) (sym (append-nil chain)) (chain-is rules hash b xs k s small);
       met = refl;
       apart = filter-less (λ a. hash_at rules b a % hash.slots == k) xs 0 (no-holder b xs (HashFor-holders rules hash b xs s));
       few = chain-short rules hash b xs k s;
@@ -165,12 +165,12 @@ in_chain rules hash b xs k at e h =
     split (chain_of (hash_at rules b) hash.slots k xs) at
     (filter-passes (λ a. hash_at rules b a % hash.slots == k) xs at (eq-eqb (hash_at rules b at % hash.slots) k (sym e)) h)
 
-pub holder-place : (rules : Rules) (hash : DtHash) (b : Blocks) (xs : List ℕ) (k at : ℕ) → HashFor rules hash b xs → k < hash.slots → (p : Split (chain_of (hash_at rules b) hash.slots k xs) at) → IsPlace b hash.table.0 k hash.count at p.front (at ∷ p.rest)
+pub holder-place : (rules : Rules) (hash : DtHash) (b : Blocks) (xs : List ℕ) (k at : ℕ) → HashFor rules hash b xs → k < hash.slots → (p : Split (chain_of (hash_at rules b) hash.slots k xs) at) → IsChainPlace b hash.table.0 k hash.count at p.front (at ∷ p.rest)
 holder-place rules hash b xs k at s small p =
     let h = chain-short rules hash b xs k s in
     let long : length (chain_of (hash_at rules b) hash.slots k xs) ≡ length p.front + length (at ∷ p.rest) = ap length p.whole ∙ length-append p.front (at ∷ p.rest) in
     record {
-      chain = subst (λ z. IsChain b hash.table.0 k z) p.whole (chain-is rules hash b xs k s small);
+      chain = subst (λ z. IsSlotChain b hash.table.0 k z) p.whole (chain-is rules hash b xs k s small);
       met = refl;
       apart = p.before;
       few = omega (arith, h, long);
@@ -217,7 +217,7 @@ pub record Joining (rules : Rules) (old : DtHash) (b0 b1 b2 : Blocks) (at hash s
 
 pub joins : {rules : Rules} {old : DtHash} {b0 b1 b2 : Blocks} {at hash s before : ℕ} {object key xs : List ℕ} → HashFor rules old b0 xs → contains (old.table.0 ∷ xs) at ≡ false → IsHolder b0 at → IsAddress at
     → s ≡ hash % old.slots → s < old.slots → hash ≡ rules.hash key → key ≡ rules.key object → object ≡ object_at b0 at
-    → ((front rest : List ℕ) → IsPlace b0 old.table.0 s old.count 0 front rest → before ≡ last_of 0 front) → WordWritten b0 b1 at 2 0 → WordWritten b1 b2 at 3 hash → Joining rules old b0 b1 b2 at hash s before xs
+    → ((front rest : List ℕ) → IsChainPlace b0 old.table.0 s old.count 0 front rest → before ≡ last_of 0 front) → WordWritten b0 b1 at 2 0 → WordWritten b1 b2 at 3 hash → Joining rules old b0 b1 b2 at hash s before xs
 joins {rules = rules} {old = old} {b0 = b0} {s = s} {xs = xs} stands apart holder address slot_is small hash_is key_is object_is seek ended hashed = record {
   stands = stands;
   apart = apart;
@@ -401,7 +401,7 @@ split-at {rules = rules} {old = old} {b = b} {at = at} {s = s} {xs = xs} stands 
     in_chain rules old b xs s at (slot_is ∙ ap (λ z. z % old.slots) (read ∙ stands.hashes at within)) within
 
 pub parts : {rules : Rules} {old : DtHash} {b : Blocks} {at s before word : ℕ} {xs : List ℕ} → HashFor rules old b xs → contains xs at ≡ true → s ≡ word % old.slots → s < old.slots → word ≡ word_at b at 3
-    → ((front rest : List ℕ) → IsPlace b old.table.0 s old.count at front rest → before ≡ last_of 0 front) → Parting rules old b at s before xs
+    → ((front rest : List ℕ) → IsChainPlace b old.table.0 s old.count at front rest → before ≡ last_of 0 front) → Parting rules old b at s before xs
 parts {rules = rules} {old = old} {b = b} {at = at} {s = s} {xs = xs} stands within slot_is small read seek =
     let place = split-at stands within slot_is read in
     record {

@@ -15,7 +15,7 @@ use Rattle.vc_dtlist.proofs.HolderLemmas.{apart-append}
 use Rattle.vc_dtlist.proofs.KeptLemmas.{KeepsBut-none, LinksFor-kept}
 use Rattle.vc_dtlist.proofs.TurnLemmas.{fewer, first_fits, next_word}
 use Rattle.vc_dtlist.proofs.WordLemmas.{word-other_block}
-use Rattle.vc_dthash.specs.Written.{Marked}
+use Rattle.vc_dthash.specs.ChainWrites.{Marked}
 
 -- so many holders were written, and the next one is at that address
 pub record Marking (P : Blocks → ℕ → Type 0) (b0 b : Blocks) (holders : List ℕ) (passed at : ℕ) : Type 0 where

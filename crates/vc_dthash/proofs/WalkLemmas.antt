@@ -16,8 +16,7 @@ use Rattle.vc_dtdisc.specs.Finds.{find_key, has_key, object_at}
 use Rattle.vc_dtdisc.specs.Rules.{AreLawful, Rules}
 use Rattle.vc_dtlist.proofs.HolderLemmas.{last_of-append}
 use Rattle.vc_dtlist.proofs.TurnLemmas.{fewer}
-use Rattle.vc_dthash.specs.Chained.{FindsInSlot, Leads, chain_of, hash_at}
-use Rattle.vc_dthash.specs.Written.{IsChain, IsPlace}
+use Rattle.vc_dthash.specs.Chained.{FindsInSlot, IsChainPlace, IsSlotChain, Leads, chain_of, hash_at}
 use Rattle.vc_dthash.proofs.ChainLemmas.{Leads-fits}
 use Rattle.vc_dthash.proofs.FilterLemmas.{filter-find}
 
@@ -30,7 +29,7 @@ pub record Passing (b : Blocks) (front rest : List ℕ) (passed at before : ℕ)
   pub leads : Leads b at (left ++ rest) 0
   pub last : before ≡ last_of 0 done
 
-pub Passing-start : (b : Blocks) (table k count stop : ℕ) (front rest : List ℕ) (at : ℕ) → IsPlace b table k count stop front rest → at ≡ word_at b table k → Passing b front rest 0 at 0
+pub Passing-start : (b : Blocks) (table k count stop : ℕ) (front rest : List ℕ) (at : ℕ) → IsChainPlace b table k count stop front rest → at ≡ word_at b table k → Passing b front rest 0 at 0
 Passing-start b table k count stop front rest at p e = record {
   done = [];
   left = front;
@@ -49,11 +48,11 @@ none_left b front done (y ∷ ys) rest at stop whole l apart e =
 all_passed : (front done left : List ℕ) (before : ℕ) → front ≡ done ++ left → before ≡ last_of 0 done → left ≡ [] → before ≡ last_of 0 front
 all_passed front done left before whole last e = last ∙ ap (last_of 0) (sym (whole ∙ (ap (λ z. done ++ z) e ∙ append-nil done)))
 
-pub Passing-met : (b : Blocks) (table k count stop : ℕ) (front rest : List ℕ) (passed at before : ℕ) → IsPlace b table k count stop front rest → Passing b front rest passed at before → at ≡ stop → before ≡ last_of 0 front
+pub Passing-met : (b : Blocks) (table k count stop : ℕ) (front rest : List ℕ) (passed at before : ℕ) → IsChainPlace b table k count stop front rest → Passing b front rest passed at before → at ≡ stop → before ≡ last_of 0 front
 Passing-met b table k count stop front rest passed at before p w e =
     all_passed front w.done w.left before w.whole w.last (none_left b front w.done w.left rest at stop w.whole w.leads p.apart e)
 
-pub Passing-over : (b : Blocks) (table k count stop : ℕ) (front rest : List ℕ) (passed at before : ℕ) → IsPlace b table k count stop front rest → Passing b front rest passed at before → count ≤ passed → before ≡ last_of 0 front
+pub Passing-over : (b : Blocks) (table k count stop : ℕ) (front rest : List ℕ) (passed at before : ℕ) → IsChainPlace b table k count stop front rest → Passing b front rest passed at before → count ≤ passed → before ≡ last_of 0 front
 Passing-over b table k count stop front rest passed at before p w h =
     let long : length front ≡ length w.done + length w.left = ap length w.whole ∙ length-append w.done w.left in
     all_passed front w.done w.left before w.whole w.last (nil_from_length w.left (omega (arith, h, p.few, w.count)))
@@ -68,7 +67,7 @@ first_at : (b : Blocks) (at : ℕ) (rest : List ℕ) → Leads b at rest 0 → a
 first_at b at [] l = l
 first_at b at (x ∷ xs) l = l.0
 
-further_by : (b : Blocks) (table k count stop : ℕ) (front rest : List ℕ) (passed at before : ℕ) (done left : List ℕ) → IsPlace b table k count stop front rest → front ≡ done ++ left → length done ≡ passed → Leads b at (left ++ rest) 0 → at ≢ stop → Further b front rest passed at
+further_by : (b : Blocks) (table k count stop : ℕ) (front rest : List ℕ) (passed at before : ℕ) (done left : List ℕ) → IsChainPlace b table k count stop front rest → front ≡ done ++ left → length done ≡ passed → Leads b at (left ++ rest) 0 → at ≢ stop → Further b front rest passed at
 further_by b table k count stop front rest passed at before done [] p whole many l ne = absurd (ne (first_at b at rest l ∙ sym p.met))
 further_by b table k count stop front rest passed at before done (y ∷ ys) p whole many l ne =
     let chain : front ++ rest ≡ done ++ (y ∷ ys ++ rest) = ap (λ z. z ++ rest) whole ∙ append_assoc done (y ∷ ys) rest in
@@ -89,7 +88,7 @@ further_by b table k count stop front rest passed at before done (y ∷ ys) p wh
       };
     }
 
-pub Passing-further : (b : Blocks) (table k count stop : ℕ) (front rest : List ℕ) (passed at before : ℕ) → IsPlace b table k count stop front rest → Passing b front rest passed at before → at ≢ stop → Further b front rest passed at
+pub Passing-further : (b : Blocks) (table k count stop : ℕ) (front rest : List ℕ) (passed at before : ℕ) → IsChainPlace b table k count stop front rest → Passing b front rest passed at before → at ≢ stop → Further b front rest passed at
 Passing-further b table k count stop front rest passed at before p w ne =
     further_by b table k count stop front rest passed at before w.done w.left p w.whole w.count w.leads ne
 
@@ -102,7 +101,7 @@ pub record Walked (b : Blocks) (test : ℕ → Bool) (chain : List ℕ) (passed 
   pub none : find test chain ≡ find test rest
   pub steps : now ≤ start + passed
 
-pub Walked-start : (b : Blocks) (test : ℕ → Bool) (table k : ℕ) (chain : List ℕ) (at start : ℕ) → IsChain b table k chain → at ≡ word_at b table k → Walked b test chain 0 at start start
+pub Walked-start : (b : Blocks) (test : ℕ → Bool) (table k : ℕ) (chain : List ℕ) (at start : ℕ) → IsSlotChain b table k chain → at ≡ word_at b table k → Walked b test chain 0 at start start
 Walked-start b test table k chain at start c e = record {
   rest = chain;
   count = omega arith;
@@ -117,7 +116,7 @@ at_end : (b : Blocks) (test : ℕ → Bool) (at : ℕ) (rest : List ℕ) → ((a
 at_end b test at [] f l e = refl
 at_end b test at (y ∷ ys) f l e = let w = f y (within-head y ys) in absurd (omega (arith, w.some, l.0, e))
 
-pub Walked-end : (b : Blocks) (test : ℕ → Bool) (table k : ℕ) (chain : List ℕ) (passed at start now : ℕ) → IsChain b table k chain → Walked b test chain passed at start now → at ≡ 0 → None ≡ find test chain
+pub Walked-end : (b : Blocks) (test : ℕ → Bool) (table k : ℕ) (chain : List ℕ) (passed at start now : ℕ) → IsSlotChain b table k chain → Walked b test chain passed at start now → at ≡ 0 → None ≡ find test chain
 Walked-end b test table k chain passed at start now c w e = sym (w.none ∙ at_end b test at w.rest (λ a h. c.addresses a (w.within a h)) w.leads e)
 
 pub Walked-over : (b : Blocks) (test : ℕ → Bool) (chain : List ℕ) (passed at start now : ℕ) → Walked b test chain passed at start now → length chain ≤ passed → None ≡ find test chain
@@ -133,7 +132,7 @@ pub record Next (b : Blocks) (test : ℕ → Bool) (chain : List ℕ) (passed at
   pub found : test at ≡ true → Some at ≡ find test chain
   pub step : test at ≡ false → (n after : ℕ) → n ≡ word_at b at 2 → after ≤ now + 1 → Walked b test chain (passed + 1) n start after
 
-next_by : (b : Blocks) (test : ℕ → Bool) (table k : ℕ) (chain : List ℕ) (passed at start now : ℕ) (rest : List ℕ) → IsChain b table k chain → length rest + passed ≡ length chain → ((a : ℕ) → contains rest a ≡ true → contains chain a ≡ true) → Leads b at rest 0 → find test chain ≡ find test rest → now ≤ start + passed → at ≢ 0 → Next b test chain passed at start now
+next_by : (b : Blocks) (test : ℕ → Bool) (table k : ℕ) (chain : List ℕ) (passed at start now : ℕ) (rest : List ℕ) → IsSlotChain b table k chain → length rest + passed ≡ length chain → ((a : ℕ) → contains rest a ≡ true → contains chain a ≡ true) → Leads b at rest 0 → find test chain ≡ find test rest → now ≤ start + passed → at ≢ 0 → Next b test chain passed at start now
 next_by b test table k chain passed at start now [] c many within l none steps some = absurd (some l)
 next_by b test table k chain passed at start now (y ∷ ys) c many within l none steps some =
     let here : contains chain y ≡ true = within y (within-head y ys) in
@@ -155,7 +154,7 @@ next_by b test table k chain passed at start now (y ∷ ys) c many within l none
       };
     }
 
-pub Walked-next : (b : Blocks) (test : ℕ → Bool) (table k : ℕ) (chain : List ℕ) (passed at start now : ℕ) → IsChain b table k chain → Walked b test chain passed at start now → at ≢ 0 → Next b test chain passed at start now
+pub Walked-next : (b : Blocks) (test : ℕ → Bool) (table k : ℕ) (chain : List ℕ) (passed at start now : ℕ) → IsSlotChain b table k chain → Walked b test chain passed at start now → at ≢ 0 → Next b test chain passed at start now
 Walked-next b test table k chain passed at start now c w some =
     next_by b test table k chain passed at start now w.rest c w.count w.within w.leads w.none w.steps some
 
@@ -180,13 +179,13 @@ key_chain rules slots b key holders = chain_of (hash_at rules b) slots (rules.ha
 
 -- so many of it were passed, none of which has the key, by at most a compare for each
 pub record SlotWalk (rules : Rules) (table slots : ℕ) (b : Blocks) (key holders : List ℕ) (passed at start now : ℕ) : Type 0 where
-  pub chain : IsChain b table (rules.hash key % slots) (key_chain rules slots b key holders)
+  pub chain : IsSlotChain b table (rules.hash key % slots) (key_chain rules slots b key holders)
   pub walked : Walked b (has_key rules b key) (key_chain rules slots b key holders) passed at start now
 
-pub SlotWalk-start : (rules : Rules) (table slots : ℕ) (b : Blocks) (key holders : List ℕ) (hash k at start : ℕ) → hash ≡ rules.hash key → k ≡ hash % slots → IsChain b table k (chain_of (hash_at rules b) slots k holders) → at ≡ word_at b table k → SlotWalk rules table slots b key holders 0 at start start
+pub SlotWalk-start : (rules : Rules) (table slots : ℕ) (b : Blocks) (key holders : List ℕ) (hash k at start : ℕ) → hash ≡ rules.hash key → k ≡ hash % slots → IsSlotChain b table k (chain_of (hash_at rules b) slots k holders) → at ≡ word_at b table k → SlotWalk rules table slots b key holders 0 at start start
 SlotWalk-start rules table slots b key holders hash k at start he ke chain e =
     let slot = ke ∙ ap (λ z. z % slots) he in
-    let here = subst (λ z. IsChain b table z (chain_of (hash_at rules b) slots z holders)) slot chain in
+    let here = subst (λ z. IsSlotChain b table z (chain_of (hash_at rules b) slots z holders)) slot chain in
     record {
       chain = here;
       walked = Walked-start b (has_key rules b key) table (rules.hash key % slots) (key_chain rules slots b key holders) at start here (e ∙ ap (word_at b table) slot);

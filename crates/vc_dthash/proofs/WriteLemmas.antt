@@ -4,7 +4,7 @@ use Rattle.std.proofs.lemmas.Bool.Decides.{eqb_tells}
 use Rattle.vc_base.specs.Cells.{Blocks, HasBytes, WordWritten, body_of, bytes_at, put, with_number, with_word, word, word_at}
 use Rattle.vc_base.proofs.CellsLemmas.{length-with_word, put_other, put_same, word-with_word_other, word-with_word_same, each}
 use Rattle.vc_dtlist.proofs.WordLemmas.{word-kept, word-other_block}
-use Rattle.vc_dthash.specs.Written.{Fronted, Pointed, SlotWritten}
+use Rattle.vc_dthash.specs.ChainWrites.{Fronted, Pointed, SlotWritten}
 
 -- a word of a block that stays
 pub word-same : (b b' : Blocks) (a j : ℕ) → b' a ≡ b a → word_at b' a j ≡ word_at b a j

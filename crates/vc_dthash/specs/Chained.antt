@@ -1,9 +1,10 @@
 -- The chains of a table: holders whose keys' hashes belong to one slot.
-use Rattle.std.specs.Prelude.{◌≡◌, ℕ, ◌+◌, ◌%◌, ◌≤◌, ◌<◌, List, [], ◌∷◌, Option, ◌==◌, length}
+use Rattle.std.specs.Prelude.{◌≡◌, ℕ, ◌+◌, ◌*◌, ◌%◌, ◌≤◌, ◌<◌, List, [], ◌∷◌, ◌++◌, Option, false, true, ◌==◌, length}
 use Rattle.std.specs.List.{filter}
 use Rattle.std.specs.Option.{option_map}
 use Rattle.vc_base.specs.declared.addr.Addr.{Addr}
-use Rattle.vc_base.specs.Cells.{Blocks, word_at}
+use Rattle.vc_base.specs.Cells.{Blocks, HasBytes, IsAddress, IsHolder, word_at}
+use Rattle.vc_base.specs.Holders.{contains, first_of}
 use Rattle.vc_dtdisc.specs.Finds.{find_key, object_at}
 use Rattle.vc_dtdisc.specs.Rules.{Rules}
 use Rattle.vc_dtlist.specs.Linked.{number_of}
@@ -29,6 +30,25 @@ Leads blocks at (x ∷ xs) behind = (at ≡ x) × Leads blocks (word_at blocks x
 abbrev pub AreChained : (ℕ → ℕ) → Blocks → ℕ → ℕ → List ℕ → Type 0
 AreChained hash blocks table slots holders =
     (k : ℕ) → k < slots → Leads blocks (word_at blocks table k) (chain_of hash slots k holders) 0
+
+-- slot k of a table leads through these holders
+pub record IsSlotChain (blocks : Blocks) (table k : ℕ) (chain : List ℕ) : Type 0 where
+  pub place : HasBytes blocks table (8 * k + 8)
+  pub leads : Leads blocks (word_at blocks table k) chain 0
+  pub addresses : (a : ℕ) → contains chain a ≡ true → IsAddress a
+  pub holders : (a : ℕ) → contains chain a ≡ true → IsHolder blocks a
+
+-- a chain has these holders before one of it, or before its end where that is 0
+pub record IsChainPlace (blocks : Blocks) (table k count stop : ℕ) (front rest : List ℕ) : Type 0 where
+  pub chain : IsSlotChain blocks table k (front ++ rest)
+  pub met : stop ≡ first_of rest 0
+  pub apart : contains front stop ≡ false
+  pub few : length front ≤ count
+
+pub record HasChainPlace (blocks : Blocks) (table k count stop : ℕ) : Type 0 where
+  pub front : List ℕ
+  pub rest : List ℕ
+  pub place : IsChainPlace blocks table k count stop front rest
 
 -- the first of these holders with that key was found, by at most one step for each that belongs to the key's slot
 pub record FindsInSlot (rules : Rules) (slots : ℕ) (blocks : Blocks) (key holders : List ℕ) (result : Option Addr) (before after : ℕ) : Type 0 where

@@ -4,7 +4,7 @@ use Rattle.vc_base.specs.Cells.{Blocks, IsHolder, bytes_at}
 use Rattle.vc_base.specs.Holders.{KeepsBut, contains}
 use Rattle.vc_dtdisc.specs.Rules.{Rules}
 use Rattle.vc_dtlist.specs.declared.dt_list.DtList.{DtList}
-use Rattle.vc_dtlist.specs.Kept.{KeepsTables}
+use Rattle.vc_dtlist.specs.TableWrites.{KeepsTables}
 use Rattle.vc_dtlist.specs.Linked.{LinksFor, StandsFor}
 use Rattle.vc_dthash.specs.Chained.{AreChained, IsHashed, hash_at}
 use Rattle.vc_dthash.specs.declared.dt_hash.DtHash.{DtHash}

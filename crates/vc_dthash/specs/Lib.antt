@@ -1,4 +1,4 @@
 pub mod Slots
 pub mod Chained
-pub mod Written
+pub mod ChainWrites
 pub mod Hashed

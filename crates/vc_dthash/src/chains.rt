@@ -3,8 +3,8 @@ ghost use Rattle.vc_base.specs.Cells.{HasBytes, word_at};
 ghost use Rattle.vc_base.specs.Holders.{last_of};
 ghost use Rattle.vc_dtdisc.specs.Finds.{has_key};
 ghost use Rattle.vc_dtlist.specs.Linked.{IsPlain, LinksFor};
-ghost use Rattle.vc_dthash.specs.Chained.{IsHashed};
-ghost use Rattle.vc_dthash.specs.Written.{CanFill, CanFront, CanPoint, Cleared, Filled, Fronted, HasPlace, IsLinkedBy, IsPlace, Marked, Pointed, SlotWritten};
+ghost use Rattle.vc_dthash.specs.Chained.{HasChainPlace, IsChainPlace, IsHashed};
+ghost use Rattle.vc_dthash.specs.ChainWrites.{CanFill, CanFront, CanPoint, Cleared, Filled, Fronted, IsLinkedBy, Marked, Pointed, SlotWritten};
 
 use vc_base::{Addr, Cells, Steps};
 use vc_dtdisc::DictDisc;
@@ -61,9 +61,9 @@ pub(crate) fn is_found<C: Cells, D: DictDisc, L>(
 
 // The holder of a chain that stands before one of it, or before its end where none is named; none where that is first.
 pub(crate) fn seek_before<C: Cells>(cells: &C, table: Addr, k: u32, count: u64, stop: Addr) -> Addr
-    requires { HasPlace (C.blocks cells.now) table.0 k count stop.0 }
+    requires { HasChainPlace (C.blocks cells.now) table.0 k count stop.0 }
     ensures { (front rest : List ℕ)
-        → IsPlace (C.blocks cells.now) table.0 k count stop.0 front rest
+        → IsChainPlace (C.blocks cells.now) table.0 k count stop.0 front rest
         → result.0 ≡ last_of 0 front }
 {
     let mut behind = Addr::NONE;

@@ -8,7 +8,7 @@ use Rattle.vc_base.specs.Cells.{Blocks, HasBytes, bytes_at, word, word_at}
 use Rattle.vc_base.specs.Holders.{KeepsBut, contains, first_of}
 use Rattle.vc_base.proofs.Members.{within-head, within-tail}
 use Rattle.vc_dtlist.specs.declared.dt_list.DtList.{DtList}
-use Rattle.vc_dtlist.specs.Kept.{KeepsTables}
+use Rattle.vc_dtlist.specs.TableWrites.{KeepsTables}
 use Rattle.vc_dtlist.specs.Linked.{Chain, HasLinks, IsPlain, LinksFor, StandsFor}
 
 -- the bytes of one block stay

@@ -1,7 +1,7 @@
 pub mod WordLemmas
 pub mod HolderLemmas
 pub mod ChainLemmas
-pub mod LinkLemmas
+pub mod JoinLemmas
 pub mod PlainLemmas
 pub mod TurnLemmas
 pub mod KeptLemmas

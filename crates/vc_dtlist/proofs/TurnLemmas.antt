@@ -10,7 +10,7 @@ use Rattle.vc_dtlist.proofs.WordLemmas.{HasBytes-written, word-kept}
 use Rattle.vc_dtlist.proofs.HolderLemmas.{Split, apart-append, distinct-insert, distinct-remove, last_of-append, some-first, some-last, split}
 use Rattle.vc_dtlist.proofs.ChainLemmas.{Chain-other, Chain-front, Chain-rest, Chain-append, Chain-none}
 use Rattle.vc_dtlist.proofs.PlainLemmas.{All-inserted, All-without, plain-kept, plain-other}
-use Rattle.vc_dtlist.proofs.LinkLemmas.{first-joined, last-joined, last-parted, links_stay, neighbours, neighbours_keep}
+use Rattle.vc_dtlist.proofs.JoinLemmas.{first-joined, last-joined, last-parted, links_stay, neighbours, neighbours_keep}
 
 -- a holder of a chain is one, at an address
 last_holder : (b : Blocks) (p x : ℕ) (xs : List ℕ) (n : ℕ) → Chain b p (x ∷ xs) n → IsHolder b (last_of x xs)

@@ -1,3 +1,3 @@
 pub mod Linked
 pub mod Sought
-pub mod Kept
+pub mod TableWrites

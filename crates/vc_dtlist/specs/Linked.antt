@@ -103,14 +103,14 @@ pub record CanPlace (list : DtList) (blocks : Blocks) (before at behind : ℕ) :
   pub next : behind ≡ first_of rest 0
 
 -- from old to new that one joined them there
-abbrev pub Links : ℕ → ℕ → ℕ → DtList → Blocks → DtList → Blocks → Type 0
-Links before at behind old from new to =
+abbrev pub LinksBetween : ℕ → ℕ → ℕ → DtList → Blocks → DtList → Blocks → Type 0
+LinksBetween before at behind old from new to =
     (front rest : List ℕ) → StandsFor old from (front ++ rest) → contains (front ++ rest) at ≡ false
     → before ≡ last_of 0 front → behind ≡ first_of rest 0
     → Turned at (front ++ rest) from new to (front ++ at ∷ rest)
 
-abbrev pub Joins : ℕ → ℕ → ℕ → DtList → Blocks → DtList → Blocks → Type 0
-Joins before at behind old from new to =
+abbrev pub JoinsBetween : ℕ → ℕ → ℕ → DtList → Blocks → DtList → Blocks → Type 0
+JoinsBetween before at behind old from new to =
     (front rest : List ℕ) → LinksFor old from (front ++ rest) → contains (front ++ rest) at ≡ false
     → before ≡ last_of 0 front → behind ≡ first_of rest 0
     → Relinked at (front ++ rest) from new to (front ++ at ∷ rest)

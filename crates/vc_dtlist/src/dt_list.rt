@@ -2,7 +2,7 @@ ghost use Rattle.std.specs.Prelude.{◌≡◌, ℕ, List, [], ◌∷◌, ◌++�
 ghost use Rattle.std.specs.Option.{option_map};
 ghost use Rattle.vc_base.specs.Cells.{Blocks};
 ghost use Rattle.vc_base.specs.Holders.{first_in, inserted_after, inserted_before, last_in, next_in, previous_in, without};
-ghost use Rattle.vc_dtlist.specs.Linked.{CanAdd, CanJoin, CanPlace, Finds, IsIn, IsJoined, IsList, Joins, Links, Relinks, StandsFor, Turns, number_of};
+ghost use Rattle.vc_dtlist.specs.Linked.{CanAdd, CanJoin, CanPlace, Finds, IsIn, IsJoined, IsList, JoinsBetween, LinksBetween, Relinks, StandsFor, Turns, number_of};
 ghost use Rattle.vc_dtlist.specs.Sought.{Seeks, stands_so};
 
 use crate::Sought;
@@ -57,7 +57,7 @@ impl DtList {
     // Puts a holder between two neighbours, either of which may be none, and keeps its other words.
     fn join<C: Cells>(&mut self, cells: &mut C, before: Addr, at: Addr, behind: Addr)
         requires { CanPlace self.old (C.blocks cells.old) before.0 at.0 behind.0 }
-        ensures list { Joins before.0 at.0 behind.0 self.old (C.blocks cells.old) self.new
+        ensures list { JoinsBetween before.0 at.0 behind.0 self.old (C.blocks cells.old) self.new
             (C.blocks cells.new) }
         ensures rest { C.RestStays cells.old cells.new }
     {
@@ -71,7 +71,7 @@ impl DtList {
     // Puts a holder between two neighbours, either of which may be none.
     fn link<C: Cells>(&mut self, cells: &mut C, before: Addr, at: Addr, behind: Addr)
         requires { CanPlace self.old (C.blocks cells.old) before.0 at.0 behind.0 }
-        ensures list { Links before.0 at.0 behind.0 self.old (C.blocks cells.old) self.new
+        ensures list { LinksBetween before.0 at.0 behind.0 self.old (C.blocks cells.old) self.new
             (C.blocks cells.new) }
         ensures rest { C.RestStays cells.old cells.new }
     {

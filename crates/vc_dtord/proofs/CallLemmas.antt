@@ -18,7 +18,7 @@ use Rattle.vc_splay.specs.Tree.{Tree, names}
 use Rattle.vc_dtord.specs.declared.dt_ord.DtOrd.{DtOrd}
 use Rattle.vc_dtord.specs.Nodes.{StaysButLinks, beside, is_node, node_store, stands_to, stands_to_holder}
 use Rattle.vc_dtord.specs.Ordered.{CanLink, IsLinked, IsOrd, IsOrdered, IsPlain, OrdFor, OrdTurned, is_less, order_with}
-use Rattle.vc_dtord.specs.Written.{IsHolderCleared}
+use Rattle.vc_dtord.specs.WordWrites.{IsHolderCleared}
 use Rattle.vc_dtord.proofs.SortedLemmas.{IsSorted-placed, IsSorted-rises, IsSorted-same, IsSorted-without, less-same, linked-placed}
 use Rattle.vc_dtord.proofs.TreeLemmas.{OrdFor-node, OrdFor-one, OrdFor-same, tree-beside, tree-beside_root}
 use Rattle.vc_dtord.proofs.TurnLemmas.{turned}

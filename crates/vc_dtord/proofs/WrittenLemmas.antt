@@ -14,7 +14,7 @@ use Rattle.vc_splay.specs.Store.{with_kid, with_parent}
 use Rattle.vc_splay.proofs.StoreLemmas.{with_kid-is, with_parent-is}
 use Rattle.vc_dtord.specs.Nodes.{StaysButLinks, beside, is_link, is_node, is_node_of, node_store, word_bytes}
 use Rattle.vc_dtord.specs.NodeLaws.{IsNodeAt, and-left, node-is}
-use Rattle.vc_dtord.specs.Written.{IsHolderCleared, NumberWritten}
+use Rattle.vc_dtord.specs.WordWrites.{IsHolderCleared, NumberWritten}
 
 -- the bytes of the word that was written, and those of others
 bytes-here : (k value : ℕ) (bytes : List ℕ) → 8 * k + 8 ≤ length bytes → word_bytes k (with_word k value bytes) ≡ to_le_bytes w64 value

@@ -1,4 +1,4 @@
 pub mod Nodes
 pub mod NodeLaws
-pub mod Written
+pub mod WordWrites
 pub mod Ordered

@@ -1,7 +1,7 @@
 ghost use Rattle.std.specs.Prelude.{◌≡◌, ◌<◌, true};
 ghost use Rattle.vc_base.specs.Cells.{HasBytes, IsHolder, word_at};
 ghost use Rattle.vc_dtord.specs.Nodes.{is_node};
-ghost use Rattle.vc_dtord.specs.Written.{IsHolderCleared, NumberWritten};
+ghost use Rattle.vc_dtord.specs.WordWrites.{IsHolderCleared, NumberWritten};
 
 use vc_base::{Addr, Cells};
 use vc_dtlist::neighbour;

@@ -10,7 +10,7 @@ use Rattle.vc_dtdisc.specs.Objects.{Object}
 use Rattle.vc_base.specs.Address.{number_of}
 use Rattle.vc_dtdisc.specs.Finding.{before_first, behind_last, first_of, last_from, last_of}
 use Rattle.vc_paths.specs.Layers.{AreLayers, Layered, bytes_there, place_before, place_behind, place_in, stands_at}
-use Rattle.vc_paths.specs.Ordered.{IsStanding, Stands, place_in_dict, object_at, object_there}
+use Rattle.vc_paths.specs.Ordered.{IsStanding, StandsInLike, place_in_dict, object_at, object_there}
 use Rattle.vc_paths.specs.Path.{objects_of, seen_in}
 use Rattle.vc_paths.specs.Shown.{objects_from, objects_up_to}
 use Rattle.vc_paths.specs.Visible.{Seen}
@@ -170,7 +170,7 @@ backward_next {all} {e} {p} {at} {here} {next} laws h w fails n =
     (step.0, subst (λ z. length (objects_up_to (option_map number_of next) (all.layer e).objects) < length (objects_up_to (option_map number_of z) (all.layer e).objects)) (sym h) step.1)
 
 -- the neighbours of an object of a layer
-pub next_shown : {all : Layered} {d : ℕ} {p : ℕ × Addr} (next : Option Addr) → AreLayers all → Stands all d p → option_map number_of next ≡ place_behind p.1.0 (all.layer p.0).objects → Shows all p.0 next (behind_last (stands_at p.1.0) (all.layer p.0).objects)
+pub next_shown : {all : Layered} {d : ℕ} {p : ℕ × Addr} (next : Option Addr) → AreLayers all → StandsInLike all d p → option_map number_of next ≡ place_behind p.1.0 (all.layer p.0).objects → Shows all p.0 next (behind_last (stands_at p.1.0) (all.layer p.0).objects)
 next_shown {all} {d} {p} next laws stands n =
     let objects = (all.layer p.0).objects in
     let s = standing objects p.1.0 (laws.distinct p.0 stands.there) stands.object in
@@ -178,7 +178,7 @@ next_shown {all} {d} {p} next laws stands n =
     let shown = since_shown all p.0 next (s.before ++ s.one ∷ []) s.behind stands.there (laws.distinct p.0 stands.there) (s.whole ∙ sym (append_assoc s.before (s.one ∷ []) s.behind)) (n ∙ ap place_in behind) in
     record { stands = shown.0.stands; object = shown.0.object ∙ ap (option_map (seen_in p.0)) (sym behind) }
 
-pub previous_shown : {all : Layered} {d : ℕ} {p : ℕ × Addr} (next : Option Addr) → AreLayers all → Stands all d p → option_map number_of next ≡ place_before p.1.0 (all.layer p.0).objects → Shows all p.0 next (before_first (stands_at p.1.0) (all.layer p.0).objects)
+pub previous_shown : {all : Layered} {d : ℕ} {p : ℕ × Addr} (next : Option Addr) → AreLayers all → StandsInLike all d p → option_map number_of next ≡ place_before p.1.0 (all.layer p.0).objects → Shows all p.0 next (before_first (stands_at p.1.0) (all.layer p.0).objects)
 previous_shown {all} {d} {p} next laws stands n =
     let objects = (all.layer p.0).objects in
     let s = standing objects p.1.0 (laws.distinct p.0 stands.there) stands.object in

@@ -7,14 +7,14 @@ pub mod EndLemmas
 pub mod LastLemmas
 pub mod LayerLemmas
 pub mod LeastLemmas
-pub mod LinkLemmas
+pub mod NewLinkLemmas
 pub mod MatchLemmas
 pub mod NeighbourLemmas
 pub mod OrderLemmas
 pub mod OrderedLemmas
 pub mod PathLemmas
 pub mod PlaceLemmas
-pub mod Renamed
+pub mod RenamedLayers
 pub mod SameLemmas
 pub mod SeekLemmas
 pub mod SeenLemmas

@@ -17,7 +17,7 @@ use Rattle.vc_dtdisc.proofs.FindingLemmas.{before_first_from-map, behind_last-ma
 use Rattle.vc_dtdisc.specs.Finding.{before_first, before_first_from, behind_last, first_of, last_of}
 use Rattle.vc_paths.specs.Layers.{AreLayers, Layered, bytes_there, place_before, place_behind, stands_at}
 use Rattle.vc_paths.specs.Links.{Links, path}
-use Rattle.vc_paths.specs.Ordered.{Stands, if_level, is_before, is_behind, is_level, place_in_dict, object_at, object_there}
+use Rattle.vc_paths.specs.Ordered.{StandsInLike, if_level, is_before, is_behind, is_level, place_in_dict, object_at, object_there}
 use Rattle.vc_paths.specs.Path.{Answers, IsAlike, IsPath, IsVisible, is_at, numbers_of, objects_of, place_of, seen_in, visible_of}
 use Rattle.vc_paths.specs.Visible.{Seen, is_hidden, seen_bytes, stacked_objects}
 use Rattle.vc_paths.proofs.BesideLemmas.{AreLevel, any_level, before_apart, before_beside, behind_apart, behind_beside, fails}
@@ -141,10 +141,10 @@ visible_at all links d p laws path' method visible' =
       alike = subst (IsAlike all d) dict found.2.alike;
     }
 
-stands_of : {all : Layered} {d : ℕ} {p : ℕ × Addr} → VisibleAt all d p → Stands all d p
+stands_of : {all : Layered} {d : ℕ} {p : ℕ × Addr} → VisibleAt all d p → StandsInLike all d p
 stands_of v = record { there = v.alike.there; kind = v.alike.kind; object = ap is_some v.there }
 
-pub visible_stands : {all : Layered} {links : Links} {d : ℕ} {p : ℕ × Addr} → AreLayers all → IsPath all links d → is_ordered (all.layer d).method ≡ true → IsVisible all links d (numbers_of p) → Stands all d p
+pub visible_stands : {all : Layered} {links : Links} {d : ℕ} {p : ℕ × Addr} → AreLayers all → IsPath all links d → is_ordered (all.layer d).method ≡ true → IsVisible all links d (numbers_of p) → StandsInLike all d p
 visible_stands {all} {links} {d} {p} laws path' method visible' = stands_of (visible_at all links d p laws path' method visible')
 
 -- what stands at the place of an object matches it
@@ -278,7 +278,7 @@ before_map e a before xs =
 record VisitedAt (all : Layered) (links : Links) (d : ℕ) (p : ℕ × Addr) : Type 0 where
   one : Seen ℕ
   is : object_there all p ≡ Some one
-  stands : Stands all d p
+  stands : StandsInLike all d p
   visited : Visited (all.layer d).rules all p one (visible_of all links d)
   beside : (o : Option (Seen ℕ)) → if_level (all.layer p.0).rules (object_there all p) o ≡ if_level (all.layer d).rules (Some one) o
 
@@ -329,5 +329,5 @@ some_answer : (d : ℕ) (at : Addr) (o : Option (List ℕ)) (rest : Option (Seen
 some_answer d at None rest h = absurd (true≢false (sym h))
 some_answer d at (Some b) rest h = refl
 
-pub near_answers : (all : Layered) (d : ℕ) (p : ℕ × Addr) (rest : Option (Seen ℕ)) → Stands all d p → Answers (Some p) (option_or (object_there all p) rest)
+pub near_answers : (all : Layered) (d : ℕ) (p : ℕ × Addr) (rest : Option (Seen ℕ)) → StandsInLike all d p → Answers (Some p) (option_or (object_there all p) rest)
 near_answers all d p rest s = some_answer p.0 p.1 (bytes_there p.1.0 (all.layer p.0).objects) rest s.object

@@ -11,7 +11,7 @@ use Rattle.vc_dtdisc.specs.Finding.{first_of, last_of}
 use Rattle.vc_dtdisc.specs.Objects.{Object, is_greater}
 use Rattle.vc_dtdisc.specs.Rules.{Rules}
 use Rattle.vc_paths.specs.Layers.{AreLayers, Layered, place_before, place_behind}
-use Rattle.vc_paths.specs.Ordered.{IsStanding, Stands, is_before, is_behind, object_at, object_there, start_before, start_behind}
+use Rattle.vc_paths.specs.Ordered.{IsStanding, StandsInLike, is_before, is_behind, object_at, object_there, start_before, start_behind}
 use Rattle.vc_paths.specs.Path.{seen_in}
 use Rattle.vc_paths.specs.Visible.{Seen}
 use Rattle.vc_paths.proofs.LayerLemmas.{Backward, Onward, backward_start, object_one, onward_start, since_shown, until_shown}
@@ -36,7 +36,7 @@ rest_dropped rules laws e [] x rest s = rw (itself rules laws (seen_in e x)) (fi
 rest_dropped rules laws e (y ∷ ys) x rest s = ap (λ z. if is_greater rules x.bytes y.bytes then seen_in e y ∷ z else z) (rest_dropped rules laws e ys x rest s.1)
 
 -- behind a place of the layer
-onward_own : (all : Layered) (e : ℕ) (at : Addr) (next : Option Addr) → AreLayers all → all.Has e → is_ordered (all.layer e).method ≡ true → Stands all e (e, at) → option_map number_of next ≡ place_behind at.0 (all.layer e).objects → Onward all e (is_behind (all.layer e).rules (object_there all (e, at))) next
+onward_own : (all : Layered) (e : ℕ) (at : Addr) (next : Option Addr) → AreLayers all → all.Has e → is_ordered (all.layer e).method ≡ true → StandsInLike all e (e, at) → option_map number_of next ≡ place_behind at.0 (all.layer e).objects → Onward all e (is_behind (all.layer e).rules (object_there all (e, at))) next
 onward_own all e at next laws h method stands n =
     let rules = (all.layer e).rules in
     let objects = (all.layer e).objects in
@@ -53,7 +53,7 @@ onward_own all e at next laws h method stands n =
     })
 
 -- and before it
-backward_own : (all : Layered) (e : ℕ) (at : Addr) (next : Option Addr) → AreLayers all → all.Has e → is_ordered (all.layer e).method ≡ true → Stands all e (e, at) → option_map number_of next ≡ place_before at.0 (all.layer e).objects → Backward all e (is_before (all.layer e).rules (object_there all (e, at))) next
+backward_own : (all : Layered) (e : ℕ) (at : Addr) (next : Option Addr) → AreLayers all → all.Has e → is_ordered (all.layer e).method ≡ true → StandsInLike all e (e, at) → option_map number_of next ≡ place_before at.0 (all.layer e).objects → Backward all e (is_before (all.layer e).rules (object_there all (e, at))) next
 backward_own all e at next laws h method stands n =
     let rules = (all.layer e).rules in
     let objects = (all.layer e).objects in
@@ -74,7 +74,7 @@ onward_from {all} {e} None {next} laws h method s n = onward_start all e (is_beh
 onward_from {all} {e} (Some p) {next} laws h method s n = elim (cases_Bool (p.0 == e)) as (λ _. Onward all e (is_behind (all.layer e).rules (object_there all p)) next) [
   | inl t ↦
       let same = eqb-true p.0 e t in
-      let own = onward_own all e p.1 next laws h method (subst (λ z. Stands all e (z, p.1)) same s) (rw t at n) in
+      let own = onward_own all e p.1 next laws h method (subst (λ z. StandsInLike all e (z, p.1)) same s) (rw t at n) in
       subst (λ z. Onward all e (is_behind (all.layer e).rules (object_there all (z, p.1))) next) (sym same) own
   | inr t ↦ onward_start all e (is_behind (all.layer e).rules (object_there all p)) next laws h (rw t at n)
 ]
@@ -84,7 +84,7 @@ backward_from {all} {e} None {next} laws h method s n = backward_start all e (is
 backward_from {all} {e} (Some p) {next} laws h method s n = elim (cases_Bool (p.0 == e)) as (λ _. Backward all e (is_before (all.layer e).rules (object_there all p)) next) [
   | inl t ↦
       let same = eqb-true p.0 e t in
-      let own = backward_own all e p.1 next laws h method (subst (λ z. Stands all e (z, p.1)) same s) (rw t at n) in
+      let own = backward_own all e p.1 next laws h method (subst (λ z. StandsInLike all e (z, p.1)) same s) (rw t at n) in
       subst (λ z. Backward all e (is_before (all.layer e).rules (object_there all (z, p.1))) next) (sym same) own
   | inr t ↦ backward_start all e (is_before (all.layer e).rules (object_there all p)) next laws h (rw t at n)
 ]

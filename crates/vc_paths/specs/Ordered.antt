@@ -25,7 +25,7 @@ place_in_dict d None = None
 place_in_dict d (Some at) = Some (d, at)
 
 -- an object stands at a place, in a dictionary of one kind with another
-pub record Stands (all : Layered) (d : ℕ) (p : ℕ × Addr) : Type 0 where
+pub record StandsInLike (all : Layered) (d : ℕ) (p : ℕ × Addr) : Type 0 where
   pub there : all.Has p.0
   pub kind : (all.layer p.0).kind ≡ (all.layer d).kind
   pub object : IsSome (bytes_there p.1.0 (all.layer p.0).objects)
@@ -33,7 +33,7 @@ pub record Stands (all : Layered) (d : ℕ) (p : ℕ × Addr) : Type 0 where
 -- an object stands at a place that there may be
 abbrev pub IsStanding : Layered → ℕ → Option (ℕ × Addr) → Type 0
 IsStanding all d None = Unit {0}
-IsStanding all d (Some p) = Stands all d p
+IsStanding all d (Some p) = StandsInLike all d p
 
 -- an ordered dictionary, and a place that there may be of an object to compare with
 pub record CanSeek (all : Layered) (e : ℕ) (other : Option (ℕ × Addr)) : Type 0 where

@@ -3,7 +3,7 @@ ghost use Rattle.std.specs.List.{filter};
 ghost use Rattle.std.specs.Option.{option_map};
 ghost use Rattle.vc_base.specs.Address.{number_of};
 ghost use Rattle.vc_dtdisc.specs.Finding.{before_first, behind_last, first_of, last_of};
-ghost use Rattle.vc_paths.specs.Ordered.{CanSeek, IsStanding, Stands, greater, if_level, is_before, is_behind, lesser_seen, place_in_dict, object_at, object_there, start_before, start_behind};
+ghost use Rattle.vc_paths.specs.Ordered.{CanSeek, IsStanding, StandsInLike, greater, if_level, is_before, is_behind, lesser_seen, place_in_dict, object_at, object_there, start_before, start_behind};
 ghost use Rattle.vc_paths.specs.Path.{Answers, IsPathBy, IsVisible, is_at, numbers_of, objects_of, visible_of};
 ghost use Rattle.vc_paths.specs.Visible.{Seen};
 
@@ -17,7 +17,7 @@ fn stands_before<Y: Layers, L>(
     other: Option<(u32, Addr)>,
     steps: &mut Steps<L>,
 ) -> bool
-    requires place { Stands (Y.layered layers.now) place.0 place }
+    requires place { StandsInLike (Y.layered layers.now) place.0 place }
     requires other { IsStanding (Y.layered layers.now) place.0 other }
     ensures { (y : Seen ℕ) → object_there (Y.layered layers.now) place ≡ Some y
         → result ≡ is_before ((Y.layered layers.now).layer place.0).rules
@@ -36,7 +36,7 @@ fn stands_behind<Y: Layers, L>(
     other: Option<(u32, Addr)>,
     steps: &mut Steps<L>,
 ) -> bool
-    requires place { Stands (Y.layered layers.now) place.0 place }
+    requires place { StandsInLike (Y.layered layers.now) place.0 place }
     requires other { IsStanding (Y.layered layers.now) place.0 other }
     ensures { (y : Seen ℕ) → object_there (Y.layered layers.now) place ≡ Some y
         → result ≡ is_behind ((Y.layered layers.now).layer place.0).rules
@@ -244,7 +244,7 @@ fn matching<Y: Layers, L>(
     beside: Option<Addr>,
     steps: &mut Steps<L>,
 ) -> Option<(u32, Addr)>
-    requires place { Stands (Y.layered layers.now) from.0 from }
+    requires place { StandsInLike (Y.layered layers.now) from.0 from }
     requires beside { IsStanding (Y.layered layers.now) from.0 (place_in_dict from.0 beside) }
     ensures object { object_at (Y.layered layers.now) result
         ≡ if_level ((Y.layered layers.now).layer from.0).rules

@@ -12,5 +12,5 @@ pub mod WalkLemmas
 pub mod NeighbourLemmas
 pub mod GuideLemmas
 pub mod SearchLemmas
-pub mod LinkLemmas
+pub mod LeafLemmas
 pub mod UnlinkLemmas

@@ -11,7 +11,7 @@ use Rattle.vc_splay.specs.Moves.{Topped, count, one, tally}
 use Rattle.vc_splay.specs.Searches.{IsPair}
 use Rattle.vc_splay.specs.Writes.{with_parent_of}
 use Rattle.vc_splay.proofs.HangLemmas.{SameLinks-on, SameLinks-same}
-use Rattle.vc_splay.proofs.LinkLemmas.{apart_tally, parents_kid}
+use Rattle.vc_splay.proofs.LeafLemmas.{apart_tally, parents_kid}
 use Rattle.vc_splay.proofs.NeighbourLemmas.{last_both}
 use Rattle.vc_splay.proofs.SearchLemmas.{search_leaf}
 use Rattle.vc_splay.proofs.SplayLemmas.{tally-apart, tally-once, tally-within}

@@ -15,7 +15,7 @@ use Rattle.vc_base.proofs.Options.{option_map-Some}
 use Rattle.vc_dict.specs.declared.dict.Dict.{Dict}
 use Rattle.vc_objects.specs.Objects.{Dictionary}
 use Rattle.vc_paths.specs.Links.{Links, below, is_viewed, links_with, numbers}
-use Rattle.vc_paths.proofs.LinkLemmas.{below-linked, below-other}
+use Rattle.vc_paths.proofs.NewLinkLemmas.{below-linked, below-other}
 use Rattle.vc_views.specs.Dicts.{AreNumbered, entry_numbered, number_in}
 use Rattle.vc_views.specs.Numbers.{AreLinked, IsLinked, home_by, name_numbered, views_by}
 use Rattle.vc_views.proofs.LinkLemmas.{others-same, viewed-by, viewer, views-none}

@@ -14,7 +14,7 @@ use Rattle.vc_base.specs.Holders.{AreDistinct, contains}
 use Rattle.vc_base.proofs.Quantifiers.{any-map}
 use Rattle.vc_objects.specs.Objects.{Dictionary}
 use Rattle.vc_paths.specs.Links.{ArePaths, Links, below, is_link_to, is_viewed, link_at, links_with, numbers}
-use Rattle.vc_paths.proofs.LinkLemmas.{below-linked, below-other}
+use Rattle.vc_paths.proofs.NewLinkLemmas.{below-linked, below-other}
 use Rattle.vc_views.specs.Dicts.{AreNumbered, entry_numbered, number_in}
 use Rattle.vc_views.specs.Numbers.{AreLinked, home_by, name_numbered, views_by}
 use Rattle.vc_views.specs.Views.{DictHome, is_linked_in, is_viewed_name, is_viewed_in, views_it, with_view}

@@ -20,7 +20,7 @@ use Rattle.vc_paths.specs.declared.fault.ViewFault.TheVariants.{Cycle, Differs, 
 use Rattle.vc_paths.specs.Layers.{Layered}
 use Rattle.vc_paths.specs.Links.{ArePaths, Links, are_too_long, below, is_too_long, links_with, numbers, onward, path, path_limit, path_of}
 use Rattle.vc_paths.specs.View.{are_alike, view_fault}
-use Rattle.vc_paths.proofs.LinkLemmas.{none-any, some-any, none-short}
+use Rattle.vc_paths.proofs.NewLinkLemmas.{none-any, some-any, none-short}
 use Rattle.vc_script.specs.declared.refusal.Refusal.TheVariants.{ViewCycle, ViewDiffers, ViewTooDeep}
 use Rattle.vc_views.specs.Dicts.{entry_numbered, number_in}
 use Rattle.vc_views.specs.Numbers.{AreLinked, IsLinked}

@@ -15,7 +15,7 @@ use Rattle.vc_paths.specs.Layers.{Layered}
 use Rattle.vc_paths.specs.Links.{Links, path}
 use Rattle.vc_paths.specs.Path.{objects_of, seen_in, visible_of}
 use Rattle.vc_paths.specs.Visible.{rename, visible_objects}
-use Rattle.vc_paths.proofs.Renamed.{visible-renamed}
+use Rattle.vc_paths.proofs.RenamedLayers.{visible-renamed}
 use Rattle.vc_script.specs.declared.command.Command.{Command}
 use Rattle.vc_commands.specs.Looking.{look_found, look_reply, own_place}
 use Rattle.vc_views.specs.Dicts.{entry_numbered, number_in}

@@ -1,6 +1,6 @@
 use Rattle.std.proofs.Common.{◌≡◌, sym, ◌∙◌, arith, min, length}
 use Rattle.vc_dtdisc.specs.Shapes.{lower_case}
-use Rattle.vc_dtdisc.proofs.Folded.{ends_compare}
+use Rattle.vc_dtdisc.proofs.FoldedOrder.{ends_compare}
 use Rattle.vc_dtdisc.proofs.bytes.compare_folded.Goals as goal
 
 pub returns : goal.returns

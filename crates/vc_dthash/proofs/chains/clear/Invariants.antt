@@ -1,4 +1,4 @@
-use Rattle.vc_dthash.specs.Written.{Cleared}
+use Rattle.vc_dthash.specs.ChainWrites.{Cleared}
 use Rattle.vc_dthash.proofs.chains.clear.Given as goal
 
 abbrev pub invariant-loop-k : goal.invariant-loop-k

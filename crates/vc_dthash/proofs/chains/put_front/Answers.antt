@@ -1,6 +1,6 @@
 use Rattle.std.proofs.Common.{◌%◌, ◌+◌, ◌*◌, ◌∙◌, ap, subst}
 use Rattle.vc_dtlist.proofs.WordLemmas.{HasBytes-written}
-use Rattle.vc_dthash.specs.Written.{Fronted}
+use Rattle.vc_dthash.specs.ChainWrites.{Fronted}
 use Rattle.vc_dthash.proofs.FillLemmas.{slot-place}
 use Rattle.vc_dthash.proofs.WriteLemmas.{Fronted-made}
 use Rattle.vc_dthash.proofs.chains.put_front.Goals as goal

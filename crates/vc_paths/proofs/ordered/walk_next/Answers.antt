@@ -1,5 +1,5 @@
 use Rattle.std.proofs.Common.{ℕ, Some, Option, refl, subst, sym}
-use Rattle.vc_paths.specs.Ordered.{Stands}
+use Rattle.vc_paths.specs.Ordered.{StandsInLike}
 use Rattle.vc_paths.specs.Path.{Answers}
 use Rattle.vc_paths.specs.Visible.{Seen}
 use Rattle.vc_paths.proofs.LayerLemmas.{next_shown}
@@ -9,7 +9,7 @@ use Rattle.vc_paths.proofs.ordered.walk_next.Goals as goal
 use Rattle.vc_paths.proofs.ordered.walk_next.Goals.{Start}
 
 -- the object stands in a layer of the path
-stands : (g : Over) (c : Start g) → Stands (g.Y.Layers.layered c.args.layers.now) c.args.d c.args.from
+stands : (g : Over) (c : Start g) → StandsInLike (g.Y.Layers.layered c.args.layers.now) c.args.d c.args.from
 stands g c = visible_stands (g.met.Y.Layers.lawful c.args.layers.now) c.requires.path.path c.requires.path.method c.requires.from
 
 pub next-requires : goal.next-requires

@@ -3,7 +3,7 @@ use Rattle.std.specs.Ordering.{is_gt}
 use Rattle.vc_splay.specs.Stands.{IsTree}
 use Rattle.vc_splay.specs.Tree.{Tree}
 use Rattle.vc_splay.specs.Walks.{run}
-use Rattle.vc_splay.proofs.LinkLemmas.{Seeking}
+use Rattle.vc_splay.proofs.LeafLemmas.{Seeking}
 use Rattle.vc_splay.proofs.linking.descend_behind.Given as goal
 
 abbrev pub invariant-loop-at : goal.invariant-loop-at

@@ -1,7 +1,7 @@
 use Rattle.std.proofs.Common.{◌≡◌, ◌<◌, ◌≤◌, ◌∙◌, ⊎_elim, ◌+◌, ℕ, None, length, ap, suc, arith}
 use Rattle.std.proofs.lemmas.Bool.{cases_lt}
 use Rattle.std.proofs.lemmas.Option.{slice_get_past}
-use Rattle.vc_paths.proofs.LinkLemmas.{below-past}
+use Rattle.vc_paths.proofs.NewLinkLemmas.{below-past}
 use Rattle.vc_paths.specs.Links.{Links, below, link_at, links_with}
 use Rattle.vc_views.proofs.LinkChanges.{ended-more}
 use Rattle.vc_views.proofs.numbers.end_views.Goals as goal

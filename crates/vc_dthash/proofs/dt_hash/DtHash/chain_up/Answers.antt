@@ -4,7 +4,7 @@ use Rattle.vc_base.specs.Cells.{bytes_at}
 use Rattle.vc_dtlist.proofs.TurnLemmas.{StandsFor-unique}
 use Rattle.vc_dthash.specs.Chained.{IsHashed}
 use Rattle.vc_dthash.specs.Hashed.{HasTable, list_of}
-use Rattle.vc_dthash.specs.Written.{Marked}
+use Rattle.vc_dthash.specs.ChainWrites.{Marked}
 use Rattle.vc_dthash.proofs.FillLemmas.{links-cleared}
 use Rattle.vc_dthash.proofs.HashLemmas.{ChainedUp-filled, ChainedUp-none, IsSlots-some, table-fits}
 use Rattle.vc_dthash.proofs.dt_hash.DtHash.chain_up.Goals as goal

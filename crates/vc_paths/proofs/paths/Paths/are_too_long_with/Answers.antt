@@ -1,6 +1,6 @@
 use Rattle.std.proofs.Common.{◌<◌, ◌≤◌, sym, ◌∙◌, Some, arith}
 use Rattle.vc_paths.specs.Links.{is_too_long, links_with, numbers}
-use Rattle.vc_paths.proofs.LinkLemmas.{none-any, some-any}
+use Rattle.vc_paths.proofs.NewLinkLemmas.{none-any, some-any}
 use Rattle.vc_paths.proofs.paths.Paths.are_too_long_with.Goals as goal
 
 pub returns-then-is_too_long_with : goal.returns-then-is_too_long_with

@@ -1,6 +1,6 @@
 use Rattle.std.proofs.Common.{◌<◌, sym, ap, ◌∙◌, subst, Some}
 use Rattle.vc_paths.specs.Links.{below, links_with}
-use Rattle.vc_paths.proofs.LinkLemmas.{below-linked, below-other}
+use Rattle.vc_paths.proofs.NewLinkLemmas.{below-linked, below-other}
 use Rattle.vc_paths.proofs.paths.Paths.below_with.Goals as goal
 
 pub returns-then-from-d : goal.returns-then-from-d

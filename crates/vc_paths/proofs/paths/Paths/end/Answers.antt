@@ -1,4 +1,4 @@
-use Rattle.vc_paths.proofs.LinkLemmas.{ArePaths-ended}
+use Rattle.vc_paths.proofs.NewLinkLemmas.{ArePaths-ended}
 use Rattle.vc_paths.proofs.paths.Paths.end.Goals as goal
 
 pub invariant_of-self : goal.invariant_of-self

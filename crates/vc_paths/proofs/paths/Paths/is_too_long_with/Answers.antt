@@ -1,6 +1,6 @@
 use Rattle.std.proofs.Common.{◌<◌, sym, ◌∙◌, Some, arith}
 use Rattle.vc_paths.specs.Links.{links_with}
-use Rattle.vc_paths.proofs.LinkLemmas.{within-viewed}
+use Rattle.vc_paths.proofs.NewLinkLemmas.{within-viewed}
 use Rattle.vc_paths.proofs.PathLemmas.{too_long-step}
 use Rattle.vc_paths.proofs.paths.Paths.is_too_long_with.Goals as goal
 

@@ -1,6 +1,6 @@
 use Rattle.std.proofs.Common.{◌≡◌, false, Some, subst, sym, ◌∙◌}
 use Rattle.vc_paths.specs.Links.{are_too_long, links_with}
-use Rattle.vc_paths.proofs.LinkLemmas.{ArePaths-viewed}
+use Rattle.vc_paths.proofs.NewLinkLemmas.{ArePaths-viewed}
 use Rattle.vc_paths.proofs.paths.Paths.view.Goals as goal
 
 pub invariant_of-self : goal.invariant_of-self

@@ -1,11 +1,11 @@
 -- What the calls on chains write.
 use Rattle.std.specs.Prelude.{◌≡◌, ◌≢◌, ℕ, ◌+◌, ◌*◌, ◌<◌, ◌≤◌, List, [], ◌∷◌, ◌++◌, false, true, length, is_some}
-use Rattle.vc_base.specs.Cells.{Blocks, HasBytes, IsAddress, IsHolder, body_of, bytes_at, word_at}
-use Rattle.vc_base.specs.Holders.{KeepsBut, contains, first_of}
+use Rattle.vc_base.specs.Cells.{Blocks, HasBytes, body_of, bytes_at, word_at}
+use Rattle.vc_base.specs.Holders.{KeepsBut, contains}
 use Rattle.vc_dtlist.specs.declared.dt_list.DtList.{DtList}
-use Rattle.vc_dtlist.specs.Kept.{KeepsTables}
+use Rattle.vc_dtlist.specs.TableWrites.{KeepsTables}
 use Rattle.vc_dtlist.specs.Linked.{HasWords, LinksFor}
-use Rattle.vc_dthash.specs.Chained.{AreChained, Leads}
+use Rattle.vc_dthash.specs.Chained.{AreChained}
 
 -- only slot k of a table was written
 pub record SlotWritten (old new : Blocks) (table k value : ℕ) : Type 0 where
@@ -14,25 +14,6 @@ pub record SlotWritten (old new : Blocks) (table k value : ℕ) : Type 0 where
   pub others : (a : ℕ) → a ≢ table → new a ≡ old a
   pub read : word_at new table k ≡ value
   pub slots : (j : ℕ) → j ≢ k → word_at new table j ≡ word_at old table j
-
--- slot k of a table leads through these holders
-pub record IsChain (blocks : Blocks) (table k : ℕ) (chain : List ℕ) : Type 0 where
-  pub place : HasBytes blocks table (8 * k + 8)
-  pub leads : Leads blocks (word_at blocks table k) chain 0
-  pub addresses : (a : ℕ) → contains chain a ≡ true → IsAddress a
-  pub holders : (a : ℕ) → contains chain a ≡ true → IsHolder blocks a
-
--- a chain has these holders before one of it, or before its end where that is 0
-pub record IsPlace (blocks : Blocks) (table k count stop : ℕ) (front rest : List ℕ) : Type 0 where
-  pub chain : IsChain blocks table k (front ++ rest)
-  pub met : stop ≡ first_of rest 0
-  pub apart : contains front stop ≡ false
-  pub few : length front ≤ count
-
-pub record HasPlace (blocks : Blocks) (table k count stop : ℕ) : Type 0 where
-  pub front : List ℕ
-  pub rest : List ℕ
-  pub place : IsPlace blocks table k count stop front rest
 
 -- slot k of a table or, where one is named, the holder before leads to an address now: all else stays
 pub record Pointed (old new : Blocks) (table k before to : ℕ) : Type 0 where
