@@ -1,5 +1,5 @@
 -- Those of a list that pass a test.
-use Rattle.std.proofs.Common.{◌≡◌, ◌≢◌, ℕ, ◌≤◌, List, [], ◌∷◌, ◌++◌, Bool, true, false, cond, Some, inl, inr, refl, sym, ap, ◌∙◌, length, arith, subst}
+use Rattle.std.proofs.Common.{◌≡◌, ◌≢◌, ℕ, ◌≤◌, ◌+◌, List, [], ◌∷◌, ◌++◌, Bool, true, false, cond, Some, inl, inr, refl, sym, ap, ◌∙◌, length, arith, subst}
 use Rattle.std.specs.Prelude.{◌==◌, if◌then◌else◌}
 use Rattle.std.specs.List.{filter, find}
 use Rattle.std.proofs.lemmas.Bool.{true≢false}
@@ -126,3 +126,28 @@ front-apart [] ys a d h = refl
 front-apart (x ∷ xs) ys a d h =
     let out : contains ys x ≡ false = apart-rest xs ys x d.0 in
     apart-cons x xs a (λ e. true≢false (sym h ∙ subst (λ z. contains ys z ≡ false) e out)) (front-apart xs ys a d.1 h)
+
+-- fewer pass two tests than the one
+both_by : (t s : Bool) (x : ℕ) (ps pqs : List ℕ) → length pqs ≤ length ps → length (cond t (cond s (x ∷ pqs) pqs) pqs) ≤ length (cond s (x ∷ ps) ps)
+both_by true true x ps pqs h = omega (arith, h)
+both_by true false x ps pqs h = h
+both_by false true x ps pqs h = omega (arith, h)
+both_by false false x ps pqs h = h
+
+filter-cond : (p : ℕ → Bool) (t : Bool) (x : ℕ) (xs : List ℕ) → filter p (cond t (x ∷ xs) xs) ≡ cond t (cond (p x) (x ∷ filter p xs) (filter p xs)) (filter p xs)
+filter-cond p true x xs = refl
+filter-cond p false x xs = refl
+
+pub filter-both : (p q : ℕ → Bool) (xs : List ℕ) → length (filter p (filter q xs)) ≤ length (filter p xs)
+filter-both p q [] = omega arith
+filter-both p q (x ∷ xs) =
+    subst (λ z. length z ≤ length (filter p (x ∷ xs))) (sym (filter-cond p (q x) x (filter q xs)))
+    (both_by (q x) (p x) x (filter p xs) (filter p (filter q xs)) (filter-both p q xs))
+
+-- a step at the first of a list where it passes, and none else
+more_by : (t : Bool) (y : ℕ) (ys : List ℕ) (now after most : ℕ) → after ≤ now + 1 → (t ≡ false → after ≡ now) → now + length (cond t (y ∷ ys) ys) ≤ most → after + length ys ≤ most
+more_by true y ys now after most h e k = omega (arith, h, k)
+more_by false y ys now after most h e k = let s = e refl in omega (arith, s, k)
+
+pub filter-step : (p : ℕ → Bool) (y : ℕ) (ys : List ℕ) (now after most : ℕ) → after ≤ now + 1 → (p y ≡ false → after ≡ now) → now + length (filter p (y ∷ ys)) ≤ most → after + length (filter p ys) ≤ most
+filter-step p y ys now after most h e k = more_by (p y) y (filter p ys) now after most h e k

@@ -7,7 +7,7 @@ use Rattle.std.proofs.lemmas.Nat.{pow_pos}
 use Rattle.vc_base.specs.declared.addr.Addr.{Addr}
 use Rattle.vc_base.specs.Cells.{Blocks, IsAddress, IsHolder, WordWritten, body_of, bytes_at, word_at}
 use Rattle.vc_base.specs.Holders.{contains, last_of, without}
-use Rattle.vc_base.proofs.Members.{apart-head, apart-tail, apart-cons, within-head, within-tail, within-front, within-rest, differs, within-last}
+use Rattle.vc_base.proofs.Members.{apart-head, apart-tail, apart-cons, within-tail, within-front, within-rest, differs, within-last}
 use Rattle.vc_dtdisc.specs.Finds.{object_at}
 use Rattle.vc_dtdisc.specs.Rules.{Rules}
 use Rattle.vc_dtlist.specs.TableWrites.{KeepsTables}

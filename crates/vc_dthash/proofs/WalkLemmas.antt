@@ -1,11 +1,8 @@
 -- Walks along one chain: to a place in it, and to a key.
 use Rattle.std.proofs.Common.{◌≡◌, ◌≢◌, ℕ, ◌+◌, ◌%◌, ◌<◌, ◌≤◌, ◌^◌, List, [], ◌∷◌, ◌++◌, Bool, true, false, cond, Some, None, length, length-append, refl, sym, ap, ◌∙◌, arith, subst, append_assoc, append-nil}
 use Rattle.std.specs.Prelude.{◌==◌}
-use Rattle.std.specs.List.{find}
-use Rattle.std.specs.Ordering.{is_eq}
-use Rattle.std.specs.declared.cmp.Ordering.{Ordering}
-use Rattle.std.specs.declared.cmp.Ordering.TheVariants.{Equal, Greater, Less}
-use Rattle.std.proofs.lemmas.Bool.{true≢false, eq-eqb, eqb-false, eqb-true}
+use Rattle.std.specs.List.{filter, find}
+use Rattle.std.proofs.lemmas.Bool.{eq-eqb, eqb-false, eqb-true}
 use Rattle.std.proofs.lemmas.List.{nil_from_length}
 use Rattle.vc_base.specs.declared.addr.Addr.{Addr}
 use Rattle.vc_base.specs.Cells.{Blocks, HasBytes, IsAddress, IsHolder, word_at}
@@ -18,7 +15,7 @@ use Rattle.vc_dtlist.proofs.HolderLemmas.{last_of-append}
 use Rattle.vc_dtlist.proofs.TurnLemmas.{fewer}
 use Rattle.vc_dthash.specs.Chained.{FindsInSlot, IsChainPlace, IsSlotChain, Leads, chain_of, hash_at}
 use Rattle.vc_dthash.proofs.ChainLemmas.{Leads-fits}
-use Rattle.vc_dthash.proofs.FilterLemmas.{filter-find}
+use Rattle.vc_dthash.proofs.FilterLemmas.{filter-both, filter-find, filter-step}
 
 -- so many holders before a place were passed, the last of which is named, and the next stands at that address
 pub record Passing (b : Blocks) (front rest : List ℕ) (passed at before : ℕ) : Type 0 where
@@ -92,23 +89,26 @@ pub Passing-further : (b : Blocks) (table k count stop : ℕ) (front rest : List
 Passing-further b table k count stop front rest passed at before p w ne =
     further_by b table k count stop front rest passed at before w.done w.left p w.whole w.count w.leads ne
 
--- so many holders of a chain were passed, none of which passes a test, by at most a step for each
-pub record Walked (b : Blocks) (test : ℕ → Bool) (chain : List ℕ) (passed at start now : ℕ) : Type 0 where
+-- so many holders of a chain were passed, none of which passes a test, by at most a step for each, and for each that
+-- passes another test
+pub record Walked (b : Blocks) (test alike : ℕ → Bool) (chain : List ℕ) (passed at start now : ℕ) : Type 0 where
   pub rest : List ℕ
   pub count : length rest + passed ≡ length chain
   pub within : (a : ℕ) → contains rest a ≡ true → contains chain a ≡ true
   pub leads : Leads b at rest 0
   pub none : find test chain ≡ find test rest
   pub steps : now ≤ start + passed
+  pub few : now + length (filter alike rest) ≤ start + length (filter alike chain)
 
-pub Walked-start : (b : Blocks) (test : ℕ → Bool) (table k : ℕ) (chain : List ℕ) (at start : ℕ) → IsSlotChain b table k chain → at ≡ word_at b table k → Walked b test chain 0 at start start
-Walked-start b test table k chain at start c e = record {
+pub Walked-start : (b : Blocks) (test alike : ℕ → Bool) (table k : ℕ) (chain : List ℕ) (at start : ℕ) → IsSlotChain b table k chain → at ≡ word_at b table k → Walked b test alike chain 0 at start start
+Walked-start b test alike table k chain at start c e = record {
   rest = chain;
   count = omega arith;
   within = λ a h. h;
   leads = subst (λ z. Leads b z chain 0) (sym e) c.leads;
   none = refl;
   steps = omega arith;
+  few = omega arith;
 }
 
 -- the end of the chain
@@ -116,27 +116,30 @@ at_end : (b : Blocks) (test : ℕ → Bool) (at : ℕ) (rest : List ℕ) → ((a
 at_end b test at [] f l e = refl
 at_end b test at (y ∷ ys) f l e = let w = f y (within-head y ys) in absurd (omega (arith, w.some, l.0, e))
 
-pub Walked-end : (b : Blocks) (test : ℕ → Bool) (table k : ℕ) (chain : List ℕ) (passed at start now : ℕ) → IsSlotChain b table k chain → Walked b test chain passed at start now → at ≡ 0 → None ≡ find test chain
-Walked-end b test table k chain passed at start now c w e = sym (w.none ∙ at_end b test at w.rest (λ a h. c.addresses a (w.within a h)) w.leads e)
+pub Walked-end : (b : Blocks) (test alike : ℕ → Bool) (table k : ℕ) (chain : List ℕ) (passed at start now : ℕ) → IsSlotChain b table k chain → Walked b test alike chain passed at start now → at ≡ 0 → None ≡ find test chain
+Walked-end b test alike table k chain passed at start now c w e = sym (w.none ∙ at_end b test at w.rest (λ a h. c.addresses a (w.within a h)) w.leads e)
 
-pub Walked-over : (b : Blocks) (test : ℕ → Bool) (chain : List ℕ) (passed at start now : ℕ) → Walked b test chain passed at start now → length chain ≤ passed → None ≡ find test chain
-Walked-over b test chain passed at start now w h =
+pub Walked-over : (b : Blocks) (test alike : ℕ → Bool) (chain : List ℕ) (passed at start now : ℕ) → Walked b test alike chain passed at start now → length chain ≤ passed → None ≡ find test chain
+Walked-over b test alike chain passed at start now w h =
     sym (w.none ∙ ap (find test) (nil_from_length w.rest (omega (arith, h, w.count))))
 
 -- a holder of it
-pub record Next (b : Blocks) (test : ℕ → Bool) (chain : List ℕ) (passed at start now : ℕ) : Type 0 where
+pub record Next (b : Blocks) (test alike : ℕ → Bool) (chain : List ℕ) (passed at start now : ℕ) : Type 0 where
   pub within : contains chain at ≡ true
   pub words : HasBytes b at 32
   pub fits : word_at b at 2 < 2 ^ 32
   pub room : passed + 1 ≤ length chain
   pub found : test at ≡ true → Some at ≡ find test chain
-  pub step : test at ≡ false → (n after : ℕ) → n ≡ word_at b at 2 → after ≤ now + 1 → Walked b test chain (passed + 1) n start after
+  pub last : (after : ℕ) → after ≤ now + 1 → (alike at ≡ false → after ≡ now) → after ≤ start + length (filter alike chain)
+  pub step : test at ≡ false → (n after : ℕ) → n ≡ word_at b at 2 → after ≤ now + 1 → (alike at ≡ false → after ≡ now) → Walked b test alike chain (passed + 1) n start after
 
-next_by : (b : Blocks) (test : ℕ → Bool) (table k : ℕ) (chain : List ℕ) (passed at start now : ℕ) (rest : List ℕ) → IsSlotChain b table k chain → length rest + passed ≡ length chain → ((a : ℕ) → contains rest a ≡ true → contains chain a ≡ true) → Leads b at rest 0 → find test chain ≡ find test rest → now ≤ start + passed → at ≢ 0 → Next b test chain passed at start now
-next_by b test table k chain passed at start now [] c many within l none steps some = absurd (some l)
-next_by b test table k chain passed at start now (y ∷ ys) c many within l none steps some =
+next_by : (b : Blocks) (test alike : ℕ → Bool) (table k : ℕ) (chain : List ℕ) (passed at start now : ℕ) (rest : List ℕ) → IsSlotChain b table k chain → length rest + passed ≡ length chain → ((a : ℕ) → contains rest a ≡ true → contains chain a ≡ true) → Leads b at rest 0 → find test chain ≡ find test rest → now ≤ start + passed → now + length (filter alike rest) ≤ start + length (filter alike chain) → at ≢ 0 → Next b test alike chain passed at start now
+next_by b test alike table k chain passed at start now [] c many within l none steps few some = absurd (some l)
+next_by b test alike table k chain passed at start now (y ∷ ys) c many within l none steps few some =
     let here : contains chain y ≡ true = within y (within-head y ys) in
     let same : test y ≡ test at = ap test (sym l.0) in
+    let fewer_left : (after : ℕ) → after ≤ now + 1 → (alike at ≡ false → after ≡ now) → after + length (filter alike ys) ≤ start + length (filter alike chain)
+        = λ after f e. filter-step alike y ys now after (start + length (filter alike chain)) f (λ t. e (ap alike l.0 ∙ t)) few in
     record {
       within = subst (λ z. contains chain z ≡ true) (sym l.0) here;
       words = subst (λ z. HasBytes b z 32) (sym l.0) (fewer b y (c.holders y here));
@@ -144,19 +147,21 @@ next_by b test table k chain passed at start now (y ∷ ys) c many within l none
           (Leads-fits b (word_at b y 2) ys (λ a h. c.addresses a (within a (within-tail y ys a h))) l.1);
       room = omega (arith, many);
       found = λ t. sym (none ∙ (ap (λ z. cond z (Some y) (find test ys)) (same ∙ t) ∙ ap (λ z. Some z) (sym l.0)));
-      step = λ t n after e f. record {
+      last = λ after f u. let left = fewer_left after f u in omega (arith, left);
+      step = λ t n after e f u. record {
         rest = ys;
         count = omega (arith, many);
         within = λ a h. within a (within-tail y ys a h);
         leads = subst (λ z. Leads b z ys 0) (sym (e ∙ ap (λ z. word_at b z 2) l.0)) l.1;
         none = none ∙ ap (λ z. cond z (Some y) (find test ys)) (same ∙ t);
         steps = omega (arith, f, steps);
+        few = fewer_left after f u;
       };
     }
 
-pub Walked-next : (b : Blocks) (test : ℕ → Bool) (table k : ℕ) (chain : List ℕ) (passed at start now : ℕ) → IsSlotChain b table k chain → Walked b test chain passed at start now → at ≢ 0 → Next b test chain passed at start now
-Walked-next b test table k chain passed at start now c w some =
-    next_by b test table k chain passed at start now w.rest c w.count w.within w.leads w.none w.steps some
+pub Walked-next : (b : Blocks) (test alike : ℕ → Bool) (table k : ℕ) (chain : List ℕ) (passed at start now : ℕ) → IsSlotChain b table k chain → Walked b test alike chain passed at start now → at ≢ 0 → Next b test alike chain passed at start now
+Walked-next b test alike table k chain passed at start now c w some =
+    next_by b test alike table k chain passed at start now w.rest c w.count w.within w.leads w.none w.steps w.few some
 
 pub hash-found : (rules : Rules) (b : Blocks) (key : List ℕ) (at : ℕ) → AreLawful rules → has_key rules b key at ≡ true → hash_at rules b at ≡ rules.hash key
 hash-found rules b key at law h = law.hashes (rules.key (object_at b at)) key (is-equal (rules.compare (rules.key (object_at b at)) key) h)
@@ -177,10 +182,14 @@ found-in_chain rules b slots key holders law =
 abbrev pub key_chain : Rules → ℕ → Blocks → List ℕ → List ℕ → List ℕ
 key_chain rules slots b key holders = chain_of (hash_at rules b) slots (rules.hash key % slots) holders
 
--- so many of it were passed, none of which has the key, by at most a compare for each
+-- whether a holder has the key's hash
+abbrev pub has_hash : Rules → Blocks → List ℕ → ℕ → Bool
+has_hash rules b key at = hash_at rules b at == rules.hash key
+
+-- so many of it were passed, none of which has the key, by at most a compare for each, and for each that has its hash
 pub record SlotWalk (rules : Rules) (table slots : ℕ) (b : Blocks) (key holders : List ℕ) (passed at start now : ℕ) : Type 0 where
   pub chain : IsSlotChain b table (rules.hash key % slots) (key_chain rules slots b key holders)
-  pub walked : Walked b (has_key rules b key) (key_chain rules slots b key holders) passed at start now
+  pub walked : Walked b (has_key rules b key) (has_hash rules b key) (key_chain rules slots b key holders) passed at start now
 
 pub SlotWalk-start : (rules : Rules) (table slots : ℕ) (b : Blocks) (key holders : List ℕ) (hash k at start : ℕ) → hash ≡ rules.hash key → k ≡ hash % slots → IsSlotChain b table k (chain_of (hash_at rules b) slots k holders) → at ≡ word_at b table k → SlotWalk rules table slots b key holders 0 at start start
 SlotWalk-start rules table slots b key holders hash k at start he ke chain e =
@@ -188,7 +197,7 @@ SlotWalk-start rules table slots b key holders hash k at start he ke chain e =
     let here = subst (λ z. IsSlotChain b table z (chain_of (hash_at rules b) slots z holders)) slot chain in
     record {
       chain = here;
-      walked = Walked-start b (has_key rules b key) table (rules.hash key % slots) (key_chain rules slots b key holders) at start here (e ∙ ap (word_at b table) slot);
+      walked = Walked-start b (has_key rules b key) (has_hash rules b key) table (rules.hash key % slots) (key_chain rules slots b key holders) at start here (e ∙ ap (word_at b table) slot);
     }
 
 module _ {rules : Rules} {table slots : ℕ} {b : Blocks} {key holders : List ℕ} {passed at start now : ℕ} (w : SlotWalk rules table slots b key holders passed at start now) where
@@ -196,29 +205,36 @@ module _ {rules : Rules} {table slots : ℕ} {b : Blocks} {key holders : List �
   chain = key_chain rules slots b key holders
 
   -- at a holder of it
-  pub SlotWalk-next : (at == 0) ≡ false → Next b (has_key rules b key) chain passed at start now
-  SlotWalk-next some = Walked-next b (has_key rules b key) table (rules.hash key % slots) chain passed at start now w.chain w.walked (eqb-false at 0 some)
+  pub SlotWalk-next : (at == 0) ≡ false → Next b (has_key rules b key) (has_hash rules b key) chain passed at start now
+  SlotWalk-next some = Walked-next b (has_key rules b key) (has_hash rules b key) table (rules.hash key % slots) chain passed at start now w.chain w.walked (eqb-false at 0 some)
 
-  pub SlotWalk-further : (at == 0) ≡ false → has_key rules b key at ≡ false → (n after : ℕ) → n ≡ word_at b at 2 → after ≤ now + 1 → SlotWalk rules table slots b key holders (passed + 1) n start after
-  SlotWalk-further some other n after e few = record { chain = w.chain; walked = (SlotWalk-next some).step other n after e few }
+  pub SlotWalk-further : (at == 0) ≡ false → has_key rules b key at ≡ false → (n after : ℕ) → n ≡ word_at b at 2 → after ≤ now + 1 → (has_hash rules b key at ≡ false → after ≡ now) → SlotWalk rules table slots b key holders (passed + 1) n start after
+  SlotWalk-further some other n after e few none = record { chain = w.chain; walked = (SlotWalk-next some).step other n after e few none }
 
   -- it found one, or nothing at the end or past as many as there are
-  pub SlotWalk-found : AreLawful rules → (at == 0) ≡ false → has_key rules b key at ≡ true → (after : ℕ) → after ≤ now + 1 → (found : Addr) → found.0 ≡ at → FindsInSlot rules slots b key holders (Some found) start after
-  SlotWalk-found law some has after few found is =
+  pub SlotWalk-found : AreLawful rules → (at == 0) ≡ false → has_key rules b key at ≡ true → (after : ℕ) → after ≤ now + 1 → (has_hash rules b key at ≡ false → after ≡ now) → (found : Addr) → found.0 ≡ at → FindsInSlot rules slots b key holders (Some found) start after
+  SlotWalk-found law some has after few none found is =
       let n = SlotWalk-next some in
+      let last = n.last after few none in
+      let within = filter-both (has_hash rules b key) (λ a. hash_at rules b a % slots == rules.hash key % slots) holders in
       record {
         first = ap (λ z. Some z) is ∙ n.found has ∙ found-in_chain rules b slots key holders law;
         steps = omega (arith, w.walked.steps, n.room, few);
+        alike = omega (arith, last, within);
       }
 
   nothing : AreLawful rules → None ≡ find (has_key rules b key) chain → FindsInSlot rules slots b key holders None start now
-  nothing law none = record {
-    first = none ∙ found-in_chain rules b slots key holders law;
-    steps = omega (arith, w.walked.steps, w.walked.count);
-  }
+  nothing law none =
+      let left = w.walked.few in
+      let within = filter-both (has_hash rules b key) (λ a. hash_at rules b a % slots == rules.hash key % slots) holders in
+      record {
+        first = none ∙ found-in_chain rules b slots key holders law;
+        steps = omega (arith, w.walked.steps, w.walked.count);
+        alike = omega (arith, left, within);
+      }
 
   pub SlotWalk-end : AreLawful rules → (at == 0) ≡ true → FindsInSlot rules slots b key holders None start now
-  SlotWalk-end law e = nothing law (Walked-end b (has_key rules b key) table (rules.hash key % slots) chain passed at start now w.chain w.walked (eqb-true at 0 e))
+  SlotWalk-end law e = nothing law (Walked-end b (has_key rules b key) (has_hash rules b key) table (rules.hash key % slots) chain passed at start now w.chain w.walked (eqb-true at 0 e))
 
   pub SlotWalk-over : AreLawful rules → length chain ≤ passed → FindsInSlot rules slots b key holders None start now
-  SlotWalk-over law all = nothing law (Walked-over b (has_key rules b key) chain passed at start now w.walked all)
+  SlotWalk-over law all = nothing law (Walked-over b (has_key rules b key) (has_hash rules b key) chain passed at start now w.walked all)

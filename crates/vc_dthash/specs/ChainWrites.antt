@@ -1,5 +1,5 @@
 -- What the calls on chains write.
-use Rattle.std.specs.Prelude.{◌≡◌, ◌≢◌, ℕ, ◌+◌, ◌*◌, ◌<◌, ◌≤◌, List, [], ◌∷◌, ◌++◌, false, true, length, is_some}
+use Rattle.std.specs.Prelude.{◌≡◌, ◌≢◌, ℕ, ◌+◌, ◌*◌, ◌<◌, ◌≤◌, List, [], ◌∷◌, false, true, length, is_some}
 use Rattle.vc_base.specs.Cells.{Blocks, HasBytes, body_of, bytes_at, word_at}
 use Rattle.vc_base.specs.Holders.{KeepsBut, contains}
 use Rattle.vc_dtlist.specs.declared.dt_list.DtList.{DtList}

@@ -50,7 +50,13 @@ pub record HasChainPlace (blocks : Blocks) (table k count stop : ℕ) : Type 0 w
   pub rest : List ℕ
   pub place : IsChainPlace blocks table k count stop front rest
 
--- the first of these holders with that key was found, by at most one step for each that belongs to the key's slot
+-- those of these holders with this hash
+abbrev pub with_hash : (ℕ → ℕ) → ℕ → List ℕ → List ℕ
+with_hash hash value holders = filter (λ at. hash at == value) holders
+
+-- the first of these holders with that key was found, by at most one step for each that belongs to the key's slot, and at
+-- most one for each that has the key's hash
 pub record FindsInSlot (rules : Rules) (slots : ℕ) (blocks : Blocks) (key holders : List ℕ) (result : Option Addr) (before after : ℕ) : Type 0 where
   pub first : option_map number_of result ≡ find_key rules blocks key holders
   pub steps : after ≤ before + length (chain_of (hash_at rules blocks) slots (rules.hash key % slots) holders)
+  pub alike : after ≤ before + length (with_hash (hash_at rules blocks) (rules.hash key) holders)

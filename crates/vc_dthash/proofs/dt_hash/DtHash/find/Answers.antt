@@ -1,13 +1,16 @@
-use Rattle.std.proofs.Common.{◌%◌, arith, sym, ap, ◌∙◌, refl}
+use Rattle.std.proofs.Common.{◌≡◌, ◌%◌, false, arith, sym, ap, ◌∙◌, refl}
 use Rattle.std.specs.Prelude.{◌==◌}
+use Rattle.std.proofs.lemmas.Bool.{eqb-false}
 use Rattle.vc_base.specs.Cells.{word_at}
 use Rattle.vc_dtdisc.specs.Finds.{find_key}
 use Rattle.vc_dthash.specs.Chained.{chain_of, hash_at}
 use Rattle.vc_dthash.proofs.ChainLemmas.{Leads-fits}
 use Rattle.vc_dthash.proofs.FilterLemmas.{filter-within}
 use Rattle.vc_dthash.proofs.HashLemmas.{chain-is, chain-short, no-slots}
-use Rattle.vc_dthash.proofs.WalkLemmas.{SlotWalk-end, SlotWalk-found, SlotWalk-further, SlotWalk-next, SlotWalk-over, SlotWalk-start}
+use Rattle.vc_dthash.proofs.WalkLemmas.{has_hash, SlotWalk-end, SlotWalk-found, SlotWalk-further, SlotWalk-next, SlotWalk-over, SlotWalk-start}
+use Rattle.vc_dthash.proofs.dt_hash.DtHash.find.Given.{Over}
 use Rattle.vc_dthash.proofs.dt_hash.DtHash.find.Goals as goal
+use Rattle.vc_dthash.proofs.dt_hash.DtHash.find.Goals.{After-is_found}
 
 pub returns-then-self-eq0 : goal.returns-then-self-eq0
 returns-then-self-eq0 g c = λ holders s.
@@ -16,6 +19,7 @@ returns-then-self-eq0 g c = λ holders s.
     record {
       first = sym (ap (find_key rules b c.args.key.now) (no-slots rules c.args.self.now b holders s c.if-self-eq0.true));
       steps = omega arith;
+      alike = omega arith;
     }
 
 pub head-at-requires-clause-fits : goal.head-at-requires-clause-fits
@@ -39,6 +43,21 @@ pub returns-then-eq : goal.returns-then-eq
 returns-then-eq g c = λ holders s.
     SlotWalk-end (c.loop-passed.invariant holders s) (g.met.D.DictDisc.lawful c.args.kind.now) (sym c.eq.ensures ∙ c.if-eq.true)
 
+-- a holder of the chain has its key's hash in word 3, and one with another hash isn't compared
+hashed : (g : Over) (c : After-is_found g) → word_at (g.C.Cells.blocks c.args.cells.now) c.loop-passed.at.0 3 ≡ hash_at (g.D.DictDisc.rules c.args.kind.now) (g.C.Cells.blocks c.args.cells.now) c.loop-passed.at.0
+hashed g c =
+    let rules = g.D.DictDisc.rules c.args.kind.now in
+    let b = g.C.Cells.blocks c.args.cells.now in
+    let slots = c.args.self.now.slots in
+    let next = SlotWalk-next (c.loop-passed.invariant c.requires.holders c.requires.stands) (sym c.eq.ensures ∙ c.if-eq.false) in
+    c.requires.stands.hashes c.loop-passed.at.0 (filter-within (λ a. hash_at rules b a % slots == rules.hash c.args.key.now % slots) c.requires.holders c.loop-passed.at.0 next.within)
+
+uncompared : (g : Over) (c : After-is_found g) → has_hash (g.D.DictDisc.rules c.args.kind.now) (g.C.Cells.blocks c.args.cells.now) c.args.key.now c.loop-passed.at.0 ≡ false → c.is_found.new.steps ≡ c.loop-passed.steps
+uncompared g c other =
+    let rules = g.D.DictDisc.rules c.args.kind.now in
+    c.is_found.ensures.none
+    (λ e. eqb-false (hash_at rules (g.C.Cells.blocks c.args.cells.now) c.loop-passed.at.0) (rules.hash c.args.key.now) other (sym (hashed g c) ∙ e ∙ c.hash-hash.ensures))
+
 pub is_found-requires-clause-holder : goal.is_found-requires-clause-holder
 is_found-requires-clause-holder g c =
     (SlotWalk-next (c.loop-passed.invariant c.requires.holders c.requires.stands) (sym c.eq.ensures ∙ c.if-eq.false)).words
@@ -54,7 +73,7 @@ is_found-requires-clause-hashed g c =
 pub returns-then-is_found : goal.returns-then-is_found
 returns-then-is_found g c = λ holders s.
     SlotWalk-found (c.loop-passed.invariant holders s) (g.met.D.DictDisc.lawful c.args.kind.now) (sym c.eq.ensures ∙ c.if-eq.false)
-    (sym c.is_found.ensures.value ∙ c.if-is_found.true) c.is_found.new.steps c.is_found.ensures.steps c.loop-passed.at refl
+    (sym c.is_found.ensures.value ∙ c.if-is_found.true) c.is_found.new.steps c.is_found.ensures.steps (uncompared g (goal.at.returns-then-is_found g c).After-is_found) c.loop-passed.at refl
 
 pub neighbour-at-requires-clause-holder : goal.neighbour-at-requires-clause-holder
 neighbour-at-requires-clause-holder g c =
@@ -67,7 +86,7 @@ neighbour-at-requires-clause-fits g c =
 pub loop-passed-preserved : goal.loop-passed-preserved
 loop-passed-preserved g c = λ holders s.
     SlotWalk-further (c.loop-passed.invariant holders s) (sym c.eq.ensures ∙ c.if-eq.false)
-    (sym c.is_found.ensures.value ∙ c.if-is_found.false) c.neighbour-at.result.0 c.is_found.new.steps c.neighbour-at.ensures c.is_found.ensures.steps
+    (sym c.is_found.ensures.value ∙ c.if-is_found.false) c.neighbour-at.result.0 c.is_found.new.steps c.neighbour-at.ensures c.is_found.ensures.steps (uncompared g (goal.at.loop-passed-preserved g c).After-is_found)
 
 pub returns : goal.returns
 returns g c = λ holders s.
