@@ -1,14 +1,14 @@
 pub mod Tiled
 pub mod Changed
-pub mod Joined
-pub mod Marked
+pub mod JoinedExtents
+pub mod MarkedExtents
 pub mod Neighbours
 pub mod Places
 pub mod Propositions
 pub mod Sets
 pub mod Pushes
 pub mod Bodies
-pub mod Stretched
+pub mod StretchedExtents
 pub mod Copies
 pub mod Removes
 pub mod Resets

@@ -14,7 +14,7 @@ use Rattle.vc_last.specs.Chain.{IsLast, blocks_from, most_blocks}
 use Rattle.vc_last.specs.Gaps.{gap_end_below, own_runs, run_sizes, sizes_above}
 use Rattle.vc_last.specs.Head.{before_of, block_of}
 use Rattle.vc_last.proofs.Chains.{back-most, chain-heads, latest-none, latest-some}
-use Rattle.vc_last.proofs.Folds.{filter-push}
+use Rattle.vc_last.proofs.UnorderedFolds.{filter-push}
 
 abbrev pub sizes_back : List Bytes → ℕ → List ℕ
 sizes_back segs q = map (λ b. b.size) (blocks_from segs q)

@@ -14,12 +14,12 @@ use Rattle.vc_seg.specs.Memory.{bytes_of_number}
 use Rattle.vc_seg.proofs.Overwrites.{range-around}
 use Rattle.vc_seg.specs.Field.{field_at}
 use Rattle.vc_seg.proofs.Frames.{field-front}
-use Rattle.vc_last.specs.Row.{EndsFirst, IsRow}
+use Rattle.vc_last.specs.Allocation.{EndsFirst, AreAllocated}
 use Rattle.vc_last.specs.Head.{HasHead, StaysBut, before_of, block_of, bytes_at}
 use Rattle.vc_last.specs.Chain.{IsChain, IsLast, IsLastOf, LiesLower, blocks_from}
 use Rattle.vc_last.specs.Read.{layout_by}
 use Rattle.vc_last.proofs.Latest.{at-own, ends-elsewhere}
-use Rattle.vc_last.proofs.Rows.{AllPairs-change, IsRow-written, row}
+use Rattle.vc_last.proofs.Allocations.{AllPairs-change, AreAllocated-written, row}
 use Rattle.vc_last.proofs.Chains.{chain-heads, head-exact, last-from}
 use Rattle.vc_last.proofs.Writes.{LiesClear, chain-stays, head-made, head-says, head-stays, rising-same, segments-same, size-same}
 use Rattle.vc_last.proofs.Kept.{layout-from, layout-is, row-of, stands-at}
@@ -130,7 +130,7 @@ last-written o s q a k src bs l among fits h bytes =
     let x = stands-at o q bs a l among in
     let either = pairs-either EndsFirst bs x.place (block_of o a) l.ordered x.within x.is in
     let heads = chain-heads o 0 q bs l.chain in
-    let whole : IsRow (with_bytes_at (row (map pair_of o) bs) (place_of a) k src) = IsRow-written (row (map pair_of o) bs) (place_of a) k src (row-of o q bs l) in
+    let whole : AreAllocated (with_bytes_at (row (map pair_of o) bs) (place_of a) k src) = AreAllocated-written (row (map pair_of o) bs) (place_of a) k src (row-of o q bs l) in
     let rising = rising-same (place_of a).0 ((place_of a).1 + k) ((place_of a).1 + k + length src) o s h bs l.rising in
     record {
       segments = segments-same o s h.pairs l.segments;

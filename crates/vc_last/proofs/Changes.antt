@@ -11,15 +11,15 @@ use Rattle.vc_seg.specs.Segment.{Bytes, pair_of}
 use Rattle.vc_seg.specs.Memory.{bytes_of_number}
 use Rattle.vc_seg.specs.Field.{field_at}
 use Rattle.vc_seg.proofs.Frames.{field-back, field-front, part-back}
-use Rattle.vc_last.specs.Row.{EndsFirst}
+use Rattle.vc_last.specs.Allocation.{EndsFirst}
 use Rattle.vc_last.specs.Head.{HasHead, LiesThere, StaysBut, before_of, block_of}
 use Rattle.vc_last.specs.Chain.{IsLast, IsLastOf, LiesLower, blocks_from, rank}
-use Rattle.vc_last.specs.Place.{IsPlace}
+use Rattle.vc_last.specs.Place.{IsBlockPlace}
 use Rattle.vc_last.specs.Read.{layout_by}
 use Rattle.vc_last.proofs.Lists.{All-front, AllPairs-last}
 use Rattle.vc_last.proofs.Latest.{at-own, change-last, ends-elsewhere, without-last}
 use Rattle.vc_last.proofs.Resizes.{usable-any}
-use Rattle.vc_last.proofs.Rows.{row}
+use Rattle.vc_last.proofs.Allocations.{row}
 use Rattle.vc_last.proofs.Chains.{HasLatest, chain-heads, chain-last, head-exact, last-from, last-front, last-push, latest-some}
 use Rattle.vc_last.proofs.Writes.{LiesClear, head-made, last-stays, rank-same, size-same}
 use Rattle.vc_last.proofs.Kept.{layout-from, layout-is, put-last}
@@ -43,7 +43,7 @@ module _ (o : List Bytes) (q : ℕ) (h : IsLast o q) (some : q ≢ 0) where
 
   -- it gets another size where it is
   module _ (s : List Bytes) (size : ℕ) (enough : 1 ≤ size) (can : is_usable (map pair_of o) (footprint (sized_block size (block_of o q))) ≡ true) where
-    pub sized-place : IsPlace (row (map pair_of o) (blocks_from o (before_of o q))) size (place_of q)
+    pub sized-place : IsBlockPlace (row (map pair_of o) (blocks_from o (before_of o q))) size (place_of q)
     sized-place =
         let first = l.head.first in
         let u = usable-any (footprint (sized_block size (block_of o q))) (map pair_of o) can in

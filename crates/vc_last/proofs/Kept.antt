@@ -18,14 +18,14 @@ use Rattle.vc_seg.proofs.BytesByNumber.{bytes_of_number-at, bytes_of_number-most
 use Rattle.vc_seg.specs.Field.{field_at}
 use Rattle.vc_extent.specs.Tiling.{index_from}
 use Rattle.vc_layouts.proofs.Segments.{HaveOwnNumbers-segments}
-use Rattle.vc_last.specs.Row.{IsRow}
+use Rattle.vc_last.specs.Allocation.{AreAllocated}
 use Rattle.vc_last.specs.Head.{HasHead, LiesThere, StaysBut, before_of, block_of}
 use Rattle.vc_last.specs.Chain.{IsLast, IsLastOf, LiesLower, blocks_from, rank}
-use Rattle.vc_last.specs.Place.{IsPlace}
+use Rattle.vc_last.specs.Place.{IsBlockPlace}
 use Rattle.vc_last.specs.Read.{layout_by}
 use Rattle.vc_last.proofs.Lists.{get_or-last}
 use Rattle.vc_last.proofs.Latest.{at-own}
-use Rattle.vc_last.proofs.Rows.{IsSound-row, row}
+use Rattle.vc_last.proofs.Allocations.{IsSound-row, row}
 use Rattle.vc_last.proofs.Places.{place-behind}
 use Rattle.vc_last.proofs.Chains.{chain-heads, head-exact, last-is, last-push}
 use Rattle.vc_last.proofs.Writes.{LiesClear, head-made, last-stays, rank-same, size-same}
@@ -54,7 +54,7 @@ bytes-any n to segs distinct h =
     subst (λ (m : ℕ). to ≤ length (bytes_of_number m segs)) (sym number)
     (subst (λ (bytes : List ℕ). to ≤ length bytes) (sym (bytes_of_number-at segs i d distinct lt)) size)
 
-pub row-of : (segs : List Bytes) (q : ℕ) (bs : List (Block ℕ)) → IsLastOf segs q bs → IsRow (row (map pair_of segs) bs)
+pub row-of : (segs : List Bytes) (q : ℕ) (bs : List (Block ℕ)) → IsLastOf segs q bs → AreAllocated (row (map pair_of segs) bs)
 row-of segs q bs h =
     let heads = chain-heads segs 0 q bs h.chain in
     record {
@@ -78,8 +78,8 @@ pub layout-from : (segs : List Bytes) (q : ℕ) → layout_by segs q ≡ row (ma
 unfolding layout_by
 layout-from segs q = refl
 
-pub row-by : (segs : List Bytes) (q : ℕ) → IsLast segs q → IsRow (layout_by segs q)
-row-by segs q h = subst IsRow (sym (layout-from segs q)) (row-of segs q (blocks_from segs q) h)
+pub row-by : (segs : List Bytes) (q : ℕ) → IsLast segs q → AreAllocated (layout_by segs q)
+row-by segs q h = subst AreAllocated (sym (layout-from segs q)) (row-of segs q (blocks_from segs q) h)
 
 pub sound-by : (segs : List Bytes) (q : ℕ) → IsLast segs q → IsSound (layout_by segs q)
 unfolding layout_by
@@ -128,7 +128,7 @@ stands-at segs q bs a h among =
     }
 
 -- a block that was laid at a place behind the others
-module _ (o s : List Bytes) (q : ℕ) (bs : List (Block ℕ)) (b : Block ℕ) (h : IsLastOf o q bs) (some : 1 ≤ b.size) (p : IsPlace (row (map pair_of o) bs) b.size (b.seg, b.off)) where
+module _ (o s : List Bytes) (q : ℕ) (bs : List (Block ℕ)) (b : Block ℕ) (h : IsLastOf o q bs) (some : 1 ≤ b.size) (p : IsBlockPlace (row (map pair_of o) bs) b.size (b.seg, b.off)) where
   place-within : b.off + span b.size ≤ length (bytes_of_number b.seg o)
   place-within = bytes-any b.seg (b.off + span b.size) o h.segments.distinct p.inside
 
@@ -186,7 +186,7 @@ newest-split [] s bs e = absurd (cc)
 newest-split (c ∷ []) s bs e = let same : pair_of c ≡ s = cc in ([], c, refl, ap (λ (p : ℕ × ℕ). p.0) same)
 newest-split (c ∷ d ∷ cs) s bs e = let rest = newest-split (d ∷ cs) s bs e in (c ∷ rest.0, rest.1, ap (λ (xs : List Bytes). c ∷ xs) rest.2, rest.3)
 
-pub lower-newest : (segs : List Bytes) (q size : ℕ) (bs : List (Block ℕ)) (b : Block ℕ) (s : ℕ × ℕ) → IsLastOf segs q bs → newest (row (map pair_of segs) bs) ≡ Some s → b.seg ≡ s.0 → IsPlace (row (map pair_of segs) bs) size (b.seg, b.off) → All (λ c. LiesLower segs c b) bs
+pub lower-newest : (segs : List Bytes) (q size : ℕ) (bs : List (Block ℕ)) (b : Block ℕ) (s : ℕ × ℕ) → IsLastOf segs q bs → newest (row (map pair_of segs) bs) ≡ Some s → b.seg ≡ s.0 → IsBlockPlace (row (map pair_of segs) bs) size (b.seg, b.off) → All (λ c. LiesLower segs c b) bs
 lower-newest segs q size bs b s h new seg p =
     let cut = newest-split segs s bs new in
     let front : List Bytes = cut.0 in

@@ -10,9 +10,9 @@ use Rattle.vc_model.specs.Layout.{Block, Layout, address_of, is_at, without_bloc
 use Rattle.vc_model.specs.Outcome.{Outcome, NotLast, Refused}
 use Rattle.vc_model.specs.Touch.{HasBlock, change_block, find_block}
 use Rattle.vc_base.proofs.Places.{some-span, at-place}
-use Rattle.vc_last.specs.Row.{EndsFirst, IsRow, is_latest, is_one_at}
+use Rattle.vc_last.specs.Allocation.{EndsFirst, AreAllocated, is_latest, is_one_at}
 use Rattle.vc_last.proofs.Lists.{All-front, AllPairs-last, last_of-split, remove-last}
-use Rattle.vc_last.proofs.Rows.{IsExact}
+use Rattle.vc_last.proofs.Allocations.{IsExact}
 
 pub at-own : (at : ℕ × ℕ) (b : Block ℕ) → (b.seg, b.off) ≡ at → is_at at b ≡ true
 at-own at b e = and_from (eqb b.seg at.0) (eqb b.off at.1) (eq-eqb b.seg at.0 (ap (λ (p : ℕ × ℕ). p.0) e)) (eq-eqb b.off at.1 (ap (λ (p : ℕ × ℕ). p.1) e))
@@ -90,7 +90,7 @@ pub record IsLatestAt (r : Layout ℕ) (at : ℕ × ℕ) : Type 0 where
   pub behind : All (λ c. EndsFirst c block) front
   pub is : latest r ≡ Some block
 
-latest-found : (r : Layout ℕ) (at : ℕ × ℕ) (o : Option (Block ℕ)) → IsRow r → latest r ≡ o → is_one_at at o ≡ true → IsLatestAt r at
+latest-found : (r : Layout ℕ) (at : ℕ × ℕ) (o : Option (Block ℕ)) → AreAllocated r → latest r ≡ o → is_one_at at o ≡ true → IsLatestAt r at
 latest-found r at None h is e = absurd (cc)
 latest-found r at (Some b) h is e =
     let cut = last_of-split r.blocks b is in
@@ -106,10 +106,10 @@ latest-found r at (Some b) h is e =
       is = is;
     }
 
-pub latest-at : (r : Layout ℕ) (at : ℕ × ℕ) → IsRow r → is_latest r at ≡ true → IsLatestAt r at
+pub latest-at : (r : Layout ℕ) (at : ℕ × ℕ) → AreAllocated r → is_latest r at ≡ true → IsLatestAt r at
 latest-at r at h e = latest-found r at (latest r) h refl e
 
-pub IsExact-front : (r : Layout ℕ) (at : ℕ × ℕ) (l : IsLatestAt r at) → IsRow r → All IsExact l.front
+pub IsExact-front : (r : Layout ℕ) (at : ℕ × ℕ) (l : IsLatestAt r at) → AreAllocated r → All IsExact l.front
 IsExact-front r at l h = All-front IsExact l.front l.block (subst (All IsExact) l.split h.exact)
 
 -- a call on the latest block, and on another

@@ -1,5 +1,5 @@
 pub mod Lists
-pub mod Rows
+pub mod Allocations
 pub mod Latest
 pub mod Places
 pub mod Allocs
@@ -15,7 +15,7 @@ pub mod Puts
 pub mod Changes
 pub mod Moves
 pub mod Calls
-pub mod Folds
+pub mod UnorderedFolds
 pub mod Walks
 pub mod Tallies
 pub mod Backs

@@ -16,7 +16,7 @@ use Rattle.vc_layouts.proofs.Lists.{AllPairs-nil}
 use Rattle.vc_last.specs.Head.{HasHead}
 use Rattle.vc_last.specs.Chain.{IsLast, IsLastOf, blocks_from}
 use Rattle.vc_last.specs.Read.{layout_by}
-use Rattle.vc_last.proofs.Rows.{row}
+use Rattle.vc_last.proofs.Allocations.{row}
 use Rattle.vc_last.proofs.Chains.{last-cleared, last-from, latest-none}
 use Rattle.vc_last.proofs.Kept.{layout-from, layout-is}
 use Rattle.vc_last.proofs.Lends.{kept, last-kept}

@@ -15,14 +15,14 @@ use Rattle.vc_seg.specs.Answer.{IsRefusal}
 use Rattle.vc_seg.specs.Segment.{Bytes, pair_of}
 use Rattle.vc_seg.specs.declared.fault.RegionFault.{RegionFault}
 use Rattle.vc_seg.specs.declared.fault.RegionFault.TheVariants as code
-use Rattle.vc_last.specs.Row.{is_latest, is_one_at}
+use Rattle.vc_last.specs.Allocation.{is_latest, is_one_at}
 use Rattle.vc_last.specs.Chain.{IsLast, blocks_from}
 use Rattle.vc_last.specs.Head.{before_of, block_of}
 use Rattle.vc_last.specs.Read.{layout_by}
 use Rattle.vc_last.proofs.Lists.{get_or-last, last_of-push}
 use Rattle.vc_last.proofs.Allocs.{IsNew, new-among, new-found, old-among}
 use Rattle.vc_last.proofs.Latest.{IsLatestAt, call-latest, change-last, latest-at}
-use Rattle.vc_last.proofs.Rows.{row}
+use Rattle.vc_last.proofs.Allocations.{row}
 use Rattle.vc_last.proofs.Chains.{head-some, latest-none, latest-some}
 use Rattle.vc_last.proofs.Changes.{before-is, elsewhere-latest, here-latest}
 use Rattle.vc_last.proofs.Kept.{StandsAt, layout-from, row-by, stands-at}

@@ -11,13 +11,13 @@ use Rattle.vc_model.specs.Segments.{span}
 use Rattle.vc_seg.specs.Segment.{Bytes, pair_of}
 use Rattle.vc_extent.specs.Tiling.{index_from}
 use Rattle.vc_seg.proofs.Backs.{Apart}
-use Rattle.vc_last.specs.Row.{EndsFirst}
+use Rattle.vc_last.specs.Allocation.{EndsFirst}
 use Rattle.vc_last.specs.Head.{before_of, block_of}
 use Rattle.vc_last.specs.Chain.{IsLast, LiesLower, blocks_from, rank}
 use Rattle.vc_last.specs.Read.{layout_by}
 use Rattle.vc_last.proofs.Lists.{AllPairs-last, last_of-map, slice_get-last}
 use Rattle.vc_last.proofs.Places.{ends, ends-none}
-use Rattle.vc_last.proofs.Rows.{row}
+use Rattle.vc_last.proofs.Allocations.{row}
 use Rattle.vc_last.proofs.Chains.{HasLatest, chain-heads, latest-none, latest-some}
 use Rattle.vc_last.proofs.Kept.{index-end, index-front, layout-from, newest-split}
 

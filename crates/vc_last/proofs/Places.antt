@@ -12,11 +12,11 @@ use Rattle.vc_model.specs.Layout.{Block, Layout, is_at, with_grant}
 use Rattle.vc_model.specs.Segments.{new_segment, span}
 use Rattle.vc_model.specs.Touch.{HasBlock}
 use Rattle.vc_base.proofs.Places.{some-span, at-place}
-use Rattle.vc_last.specs.Row.{EndsFirst, IsRow}
-use Rattle.vc_last.specs.Place.{EndBefore, IsPlace}
+use Rattle.vc_last.specs.Allocation.{EndsFirst, AreAllocated}
+use Rattle.vc_last.specs.Place.{EndBefore, IsBlockPlace}
 use Rattle.vc_last.proofs.Lists.{get_or-last, last_of-push, last_of-split}
 use Rattle.vc_last.proofs.Latest.{AreElsewhere, none-there}
-use Rattle.vc_last.proofs.Rows.{IsExact}
+use Rattle.vc_last.proofs.Allocations.{IsExact}
 
 pub span-multiple : (size : ℕ) → span size % 32 ≡ 0
 span-multiple size = omega arith
@@ -63,7 +63,7 @@ ends-before number m to (b ∷ bs) le =
 any-last : (P : ℕ × ℕ → Type 0) (front : List (ℕ × ℕ)) (s : ℕ × ℕ) → P s → Any P (front ++ s ∷ [])
 any-last P front s p = (length front, s, omega (arith, length_push front s), get_or-last front s s, p)
 
-place-newest : (r : Layout ℕ) (size : ℕ) (at : ℕ × ℕ) (o : Option (ℕ × ℕ)) → IsRow r → newest r ≡ o → place_behind_latest r.blocks size o ≡ Some at → IsPlace r size at
+place-newest : (r : Layout ℕ) (size : ℕ) (at : ℕ × ℕ) (o : Option (ℕ × ℕ)) → AreAllocated r → newest r ≡ o → place_behind_latest r.blocks size o ≡ Some at → IsBlockPlace r size at
 place-newest r size at None h is e = absurd (none-some at e)
 place-newest r size at (Some s) h is e =
     let off : ℕ = next_offset s.0 r.blocks in
@@ -73,7 +73,7 @@ place-newest r size at (Some s) h is e =
     let same : (s.0, off) ≡ at = same_Some (s.0, off) at found in
     let cut = last_of-split r.segments s is in
     let P : ℕ × ℕ → Type 0 = λ q. (s.0 ≡ q.0) × (off + span size ≤ q.1) in
-    subst (IsPlace r size) same
+    subst (IsBlockPlace r size) same
     (record {
       behind = ends-before s.0 32 off r.blocks (omega arith);
       first = fold-least 32 (ends s.0 r.blocks);
@@ -83,7 +83,7 @@ place-newest r size at (Some s) h is e =
     (λ (t : leb (off + span size) s.1 ≡ false). let none : None ≡ Some at = rw t at e in absurd (none-some at none))
     (cases_Bool (leb (off + span size) s.1))
 
-pub place-last : (r : Layout ℕ) (size : ℕ) (at : ℕ × ℕ) → IsRow r → last_place r size ≡ Some at → IsPlace r size at
+pub place-last : (r : Layout ℕ) (size : ℕ) (at : ℕ × ℕ) → AreAllocated r → last_place r size ≡ Some at → IsBlockPlace r size at
 place-last r size at h e = place-newest r size at (newest r) h refl e
 
 pub ends-none : (number m : ℕ) (bs : List (Block ℕ)) → All (λ c. c.seg ≢ number) bs → fold max m (ends number bs) ≡ m
@@ -93,7 +93,7 @@ ends-none number m (b ∷ bs) h =
     rw (ne_eqb b.seg number (All-head P b bs h)) (ends-none number m bs (All-tail P b bs h))
 
 -- no block is in a segment that isn't there
-none-in : (r : Layout ℕ) (n : ℕ) → IsRow r → All (λ s. s.0 ≢ n) r.segments → All (λ c. c.seg ≢ n) r.blocks
+none-in : (r : Layout ℕ) (n : ℕ) → AreAllocated r → All (λ s. s.0 ≢ n) r.segments → All (λ c. c.seg ≢ n) r.blocks
 none-in r n h fresh =
     λ k d lt e.
     let u = h.usable k d lt in
@@ -102,7 +102,7 @@ none-in r n h fresh =
     fresh u.0 s u.2 (ap (λ (q : ℕ × ℕ). q.0) at ∙ (sym u.4.0 ∙ e))
 
 -- a new segment has no block
-pub place-new : (r : Layout ℕ) (n bytes size : ℕ) → IsRow r → All (λ s. s.0 ≢ n) r.segments → 32 + span size ≤ bytes → IsPlace (with_grant r (new_segment n bytes)) size (n, 32)
+pub place-new : (r : Layout ℕ) (n bytes size : ℕ) → AreAllocated r → All (λ s. s.0 ≢ n) r.segments → 32 + span size ≤ bytes → IsBlockPlace (with_grant r (new_segment n bytes)) size (n, 32)
 place-new r n bytes size h fresh room =
     let P : ℕ × ℕ → Type 0 = λ q. (n ≡ q.0) × (32 + span size ≤ q.1) in
     record {
@@ -112,7 +112,7 @@ place-new r n bytes size h fresh room =
       inside = any-last P r.segments (n, bytes) (refl, room);
     }
 
-module _ (r : Layout ℕ) (size : ℕ) (at : ℕ × ℕ) (some : 1 ≤ size) (p : IsPlace r size at) where
+module _ (r : Layout ℕ) (size : ℕ) (at : ℕ × ℕ) (some : 1 ≤ size) (p : IsBlockPlace r size at) where
   pub place-elsewhere : AreElsewhere at r.blocks
   place-elsewhere =
       λ k d lt.
@@ -125,7 +125,7 @@ module _ (r : Layout ℕ) (size : ℕ) (at : ℕ × ℕ) (some : 1 ≤ size) (p 
       (λ (t : is_at at c ≡ false). t)
       (cases_Bool (is_at at c))
 
-  module _ (h : IsRow r) where
+  module _ (h : AreAllocated r) where
     -- each block there ends before it
     pub place-behind : All (λ c. EndsFirst c (zeros {L = ℕ} 0 size at)) r.blocks
     place-behind = λ k d lt e.
@@ -147,6 +147,6 @@ place-none r size off s is at over =
     sym (ap (place_behind_latest r.blocks size) is ∙ (rw (← at) (rw (lt-leb (off + span size) s.1 over) refl)))
 
 -- the place in a segment that was granted
-pub place-granted : (r : Layout ℕ) (n bytes size : ℕ) → IsRow r → All (λ s. s.0 ≢ n) r.segments → 32 + span size ≤ bytes → last_place (with_grant r (new_segment n bytes)) size ≡ Some (n, 32)
+pub place-granted : (r : Layout ℕ) (n bytes size : ℕ) → AreAllocated r → All (λ s. s.0 ≢ n) r.segments → 32 + span size ≤ bytes → last_place (with_grant r (new_segment n bytes)) size ≡ Some (n, 32)
 place-granted r n bytes size h fresh room =
     sym (place-some (with_grant r (new_segment n bytes)) size 32 (n, bytes) (last_of-push r.segments (n, bytes)) (sym (ends-none n 32 r.blocks (none-in r n h fresh))) room)

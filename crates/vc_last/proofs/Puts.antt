@@ -20,11 +20,11 @@ use Rattle.vc_seg.proofs.BytesByNumber.{bytes_of_number-most}
 use Rattle.vc_layouts.proofs.Segments.{Served-lent, Served-same}
 use Rattle.vc_last.specs.Head.{LiesThere, StaysBut}
 use Rattle.vc_last.specs.Chain.{IsLast, IsLastOf, blocks_from}
-use Rattle.vc_last.specs.Place.{IsPlace, with_latest}
+use Rattle.vc_last.specs.Place.{IsBlockPlace, with_latest}
 use Rattle.vc_last.specs.Read.{layout_by}
 use Rattle.vc_last.proofs.Lists.{last_of-push}
 use Rattle.vc_last.proofs.Places.{place-new}
-use Rattle.vc_last.proofs.Rows.{row}
+use Rattle.vc_last.proofs.Allocations.{row}
 use Rattle.vc_last.proofs.Chains.{last-from}
 use Rattle.vc_last.proofs.Kept.{bytes-any, layout-from, layout-is, lower-newest, put-last, row-by}
 use Rattle.vc_last.proofs.Lends.{last-append}
@@ -37,7 +37,7 @@ pub record IsInside (segs : List Bytes) (size : ℕ) (at : ℕ × ℕ) : Type 0 
   pub below : at.1 < 33554432
   pub within : at.1 + span size ≤ length (bytes_of_number at.0 segs)
 
-pub place-inside : (segs : List Bytes) (size : ℕ) (at : ℕ × ℕ) (r : Layout ℕ) → AreSegments segs → r.segments ≡ map pair_of segs → IsPlace r size at → IsInside segs size at
+pub place-inside : (segs : List Bytes) (size : ℕ) (at : ℕ × ℕ) (r : Layout ℕ) → AreSegments segs → r.segments ≡ map pair_of segs → IsBlockPlace r size at → IsInside segs size at
 place-inside segs size at r h is p =
     let P : ℕ × ℕ → Type 0 = λ s. (at.0 ≡ s.0) × (at.1 + span size ≤ s.1) in
     let u : Any P (map pair_of segs) = subst (Any P) is p.inside in
@@ -57,14 +57,14 @@ place-inside segs size at r h is p =
       within = within;
     }
 
-module _ (o s : List Bytes) (q size tag seg off : ℕ) (h : IsLast o q) (new : option_map (λ (s : ℕ × ℕ). s.0) (newest (layout_by o q)) ≡ Some seg) (p : IsPlace (layout_by o q) size (seg, off)) (some : 1 ≤ size) (stays : StaysBut seg (off - 16) (off + size) o s) (laid : LiesThere s q (zeros tag size (seg, off))) where
+module _ (o s : List Bytes) (q size tag seg off : ℕ) (h : IsLast o q) (new : option_map (λ (s : ℕ × ℕ). s.0) (newest (layout_by o q)) ≡ Some seg) (p : IsBlockPlace (layout_by o q) size (seg, off)) (some : 1 ≤ size) (stays : StaysBut seg (off - 16) (off + size) o s) (laid : LiesThere s q (zeros tag size (seg, off))) where
   b : Block ℕ
   b = zeros tag size (seg, off)
 
   made : IsLastOf s (address (seg, off)) (blocks_from o q ++ zeros tag size (seg, off) ∷ [])
   made =
       let bs : List (Block ℕ) = blocks_from o q in
-      let place : IsPlace (row (map pair_of o) (blocks_from o q)) size (seg, off) = subst (λ (r : Layout ℕ). IsPlace r size (seg, off)) (layout-from o q) p in
+      let place : IsBlockPlace (row (map pair_of o) (blocks_from o q)) size (seg, off) = subst (λ (r : Layout ℕ). IsBlockPlace r size (seg, off)) (layout-from o q) p in
       let found = newest-is (row (map pair_of o) (blocks_from o q)) seg (subst (λ (r : Layout ℕ). option_map (λ (s : ℕ × ℕ). s.0) (newest r) ≡ Some seg) (layout-from o q) new) in
       let lower = lower-newest o q size (blocks_from o q) (zeros tag size (seg, off)) found.0 h found.1 found.2 place in
       put-last o s q (blocks_from o q) (zeros tag size (seg, off)) h some place stays laid lower
@@ -96,11 +96,11 @@ module _ (o : List Bytes) (q n bytes : ℕ) (h : IsLast o q) (legal : AreSegment
   pub grown-newest : option_map (λ (s : ℕ × ℕ). s.0) (newest (layout_by (o ++ zero_segment n bytes ∷ []) q)) ≡ Some n
   grown-newest = ap (λ (r : Layout ℕ). option_map (λ (s : ℕ × ℕ). s.0) (newest r)) grown-layout ∙ ap (option_map (λ (s : ℕ × ℕ). s.0)) (last_of-push (layout_by o q).segments (n, bytes))
 
-  pub grown-place : (size : ℕ) → All (λ s. s.number ≢ n) o → 32 + span size ≤ bytes → IsPlace (layout_by (o ++ zero_segment n bytes ∷ []) q) size (n, 32)
+  pub grown-place : (size : ℕ) → All (λ s. s.number ≢ n) o → 32 + span size ≤ bytes → IsBlockPlace (layout_by (o ++ zero_segment n bytes ∷ []) q) size (n, 32)
   grown-place size fresh room =
       let other : All (λ (s : ℕ × ℕ). s.0 ≢ n) (layout_by o q).segments =
       subst (All (λ (s : ℕ × ℕ). s.0 ≢ n)) (sym (ap (λ (r : Layout ℕ). r.segments) (layout-from o q))) (All-map (λ (s : ℕ × ℕ). s.0 ≢ n) pair_of o fresh) in
-      subst (λ (r : Layout ℕ). IsPlace r size (n, 32)) (sym grown-layout) (place-new (layout_by o q) n bytes size (row-by o q h) other room)
+      subst (λ (r : Layout ℕ). IsBlockPlace r size (n, 32)) (sym grown-layout) (place-new (layout_by o q) n bytes size (row-by o q h) other room)
 
 -- what a block at a place behind the others answers
 pub put-there : (terms : Terms) (r new : Layout ℕ) (tag size a : ℕ) (at : ℕ × ℕ) → last_place r size ≡ Some at → a ≡ address at → place_of a ≡ at → new ≡ with_latest r tag size at → IsPut (last_alloc terms r tag size false) a new

@@ -13,7 +13,7 @@ use Rattle.vc_model.proofs.Pairs.{AllPairs-head, AllPairs-tail}
 use Rattle.vc_seg.specs.Segment.{AreSegments, Bytes, pair_of}
 use Rattle.vc_layouts.specs.Tally.{HasRoom, tally_of}
 use Rattle.vc_layouts.proofs.Lists.{AllPairs-map}
-use Rattle.vc_last.specs.Row.{IsRow}
+use Rattle.vc_last.specs.Allocation.{AreAllocated}
 use Rattle.vc_last.specs.Gaps.{gaps_left, gaps_left_in}
 
 -- the sizes of the gaps that runs leave of these segments
@@ -108,7 +108,7 @@ only-one ss n P h any = λ k d lt own.
     (cases_Bool (ltb i k)))
     (cases_Bool (eqb i k))
 
-module _ (r : Layout ℕ) (h : IsRow r) where
+module _ (r : Layout ℕ) (h : AreAllocated r) where
   -- a footprint lies in the segment of its number
   abbrev InOwn : ℕ × ℕ → Run → Type 0
   InOwn s f = (16 ≤ f.from) × (f.from < f.to) × (f.seg ≡ s.0 → f.to + 16 ≤ s.1)

@@ -16,7 +16,7 @@ use Rattle.vc_last.specs.Head.{before_of, block_of}
 use Rattle.vc_last.specs.Read.{layout_by}
 use Rattle.vc_last.proofs.Chains.{chain-heads, latest-none, latest-some}
 use Rattle.vc_last.proofs.Changes.{behind-latest}
-use Rattle.vc_last.proofs.Folds.{find-last-none, find-last-one, least-last}
+use Rattle.vc_last.proofs.UnorderedFolds.{find-last-none, find-last-one, least-last}
 use Rattle.vc_last.proofs.Kept.{layout-from}
 
 -- the walk comes to its end

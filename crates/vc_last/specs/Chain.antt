@@ -4,7 +4,7 @@ use Rattle.vc_model.specs.Layout.{Block, address_of}
 use Rattle.vc_seg.specs.Segment.{AreSegments, Bytes}
 use Rattle.vc_extent.specs.Tiling.{index_from}
 use Rattle.vc_last.specs.Head.{HasHead, before_of, block_of}
-use Rattle.vc_last.specs.Row.{EndsFirst}
+use Rattle.vc_last.specs.Allocation.{EndsFirst}
 
 -- the blocks from an address back, in order of allocation; as many at most as the first number
 unfoldable pub blocks_back : ℕ → List Bytes → ℕ → List (Block ℕ)

@@ -11,7 +11,7 @@ pub use Rattle.vc_model.specs.Walk
 pub use Rattle.vc_seg.specs.Answer
 pub use Rattle.vc_seg.specs.Boxed
 pub use Rattle.vc_seg.specs.Stat
-pub mod Row
+pub mod Allocation
 pub mod Head
 pub mod Chain
 pub mod Place

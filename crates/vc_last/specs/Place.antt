@@ -20,7 +20,7 @@ pub record IsAt (a : ℕ) (at : ℕ × ℕ) : Type 0 where
   pub place : place_of a ≡ at
 
 -- a place behind all blocks of its segment, with room for a block of that size
-pub record IsPlace (r : Layout ℕ) (size : ℕ) (at : ℕ × ℕ) : Type 0 where
+pub record IsBlockPlace (r : Layout ℕ) (size : ℕ) (at : ℕ × ℕ) : Type 0 where
   pub behind : All (EndBefore at) r.blocks
   pub first : 32 ≤ at.1
   pub multiple : at.1 % 32 ≡ 0

@@ -9,7 +9,7 @@ ghost use Rattle.vc_seg.specs.OneBlock.{IsSize};
 ghost use Rattle.vc_seg.specs.Segment.{AreSegments, pair_of};
 ghost use Rattle.vc_last.specs.Call.{IsAlloc, IsLent};
 ghost use Rattle.vc_last.specs.Chain.{IsLast};
-ghost use Rattle.vc_last.specs.Place.{IsAt, IsNewest, IsPlace, with_latest};
+ghost use Rattle.vc_last.specs.Place.{IsAt, IsNewest, IsBlockPlace, with_latest};
 ghost use Rattle.vc_last.specs.Read.{layout_by};
 
 use crate::head::lay;
@@ -22,7 +22,7 @@ use vc_seg::{RegionFault, SegDisc, Segment, lend_next, round_of, rounded_up, spa
 fn put(segs: &mut Vec<Segment>, latest: Addr, seg: u32, off: u32, size: u32, tag: u32) -> Addr
     requires kept { IsLast segs.old.items latest.0 }
     requires newest { IsNewest (layout_by segs.old.items latest.0) seg }
-    requires place { IsPlace (layout_by segs.old.items latest.0) size (seg, off) }
+    requires place { IsBlockPlace (layout_by segs.old.items latest.0) size (seg, off) }
     requires some { 1 ≤ size }
     ensures kept { IsLast segs.new.items result.0 }
     ensures room { vec_capacity segs.new ≡ vec_capacity segs.old }

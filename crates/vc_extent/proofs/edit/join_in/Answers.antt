@@ -4,7 +4,7 @@ use Rattle.vc_extent.specs.Extent.{extents}
 use Rattle.vc_extent.specs.Change.{behind, extent_in, join}
 use Rattle.vc_seg.specs.Field.{field_at}
 use Rattle.vc_seg.proofs.Frames.{field-front, lower, then-below}
-use Rattle.vc_extent.proofs.Joined.{join-tiles}
+use Rattle.vc_extent.proofs.JoinedExtents.{join-tiles}
 use Rattle.vc_extent.proofs.Changed.{changed, here, within}
 use Rattle.vc_extent.proofs.edit.join_in.Goals as goal
 

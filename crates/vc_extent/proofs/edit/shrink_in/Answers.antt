@@ -8,7 +8,7 @@ use Rattle.vc_seg.specs.Field.{field_at}
 use Rattle.vc_extent.specs.Tiles.{Tiles}
 use Rattle.vc_seg.proofs.Frames.{field-front, lower, part-front, then-below}
 use Rattle.vc_extent.proofs.Changed.{changed, here, within}
-use Rattle.vc_extent.proofs.Marked.{cut-tiles}
+use Rattle.vc_extent.proofs.MarkedExtents.{cut-tiles}
 use Rattle.vc_extent.proofs.edit.shrink_in.Goals as goal
 
 pub returns-clause-change : goal.returns-clause-change

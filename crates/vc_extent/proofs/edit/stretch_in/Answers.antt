@@ -8,7 +8,7 @@ use Rattle.vc_extent.specs.Stretch.{IsStretched}
 use Rattle.vc_extent.specs.Tiles.{Tiles}
 use Rattle.vc_seg.proofs.Frames.{field-front, lower}
 use Rattle.vc_extent.proofs.Changed.{here, within}
-use Rattle.vc_extent.proofs.Stretched.{fits-behind, rest-tiles, stretched, used-tiles}
+use Rattle.vc_extent.proofs.StretchedExtents.{fits-behind, rest-tiles, stretched, used-tiles}
 use Rattle.vc_extent.proofs.edit.stretch_in.Goals as goal
 use Rattle.vc_extent.proofs.edit.stretch_in.Goals.{After-lay_busy, After-lay_busy-2}
 

@@ -1,6 +1,6 @@
 use Rattle.std.proofs.Common.{◌≡◌, ℕ, Some, ap, sym, ◌∙◌}
 use Rattle.vc_model.specs.Layout.{Layout}
-use Rattle.vc_last.specs.Place.{IsPlace}
+use Rattle.vc_last.specs.Place.{IsBlockPlace}
 use Rattle.vc_last.specs.Read.{layout_by}
 use Rattle.vc_last.proofs.Kept.{row-by}
 use Rattle.vc_last.proofs.Places.{place-last}
@@ -9,7 +9,7 @@ use Rattle.vc_last.proofs.put.alloc_in.Goals as goal
 use Rattle.vc_last.proofs.put.alloc_in.Goals.{After-place}
 use Rattle.vc_last.proofs.put.alloc_in.Given.{Over}
 
-here : (g : Over) (c : After-place g) (at : ℕ × ℕ) → c.place.result ≡ Some at → IsPlace (layout_by c.args.segs.now.items c.args.latest.now.0) c.args.size at
+here : (g : Over) (c : After-place g) (at : ℕ × ℕ) → c.place.result ≡ Some at → IsBlockPlace (layout_by c.args.segs.now.items c.args.latest.now.0) c.args.size at
 here g c at e = place-last (layout_by c.args.segs.now.items c.args.latest.now.0) c.args.size at (row-by c.args.segs.now.items c.args.latest.now.0 c.requires.kept) (rw c.deref.ensures.value at (sym c.place.ensures ∙ e))
 
 pub put-a-requires-clause-place : goal.put-a-requires-clause-place

@@ -9,7 +9,7 @@ use Rattle.vc_last.specs.Read.{layout_by}
 use Rattle.vc_last.proofs.Chains.{latest-some}
 use Rattle.vc_last.proofs.Changes.{sized-kept, sized-layout, sized-place}
 use Rattle.vc_last.proofs.Puts.{place-inside}
-use Rattle.vc_last.proofs.Rows.{row}
+use Rattle.vc_last.proofs.Allocations.{row}
 use Rattle.vc_last.proofs.resize.resize_there.Goals as goal
 use Rattle.vc_last.proofs.resize.resize_there.Goals.{After-set_size}
 

@@ -11,7 +11,7 @@ use Rattle.vc_layouts.proofs.Tallies.{HasRoom-segments, tally_of-count, tally_of
 use Rattle.vc_last.specs.Chain.{blocks_from}
 use Rattle.vc_last.proofs.Backs.{HasRoom-blocks}
 use Rattle.vc_last.proofs.Kept.{layout-from, row-of}
-use Rattle.vc_last.proofs.Rows.{row}
+use Rattle.vc_last.proofs.Allocations.{row}
 use Rattle.vc_last.proofs.Tallies.{HasRoom-gaps, gap_sizes-runs}
 use Rattle.vc_last.proofs.stat.stat_of.Goals as goal
 

@@ -5,7 +5,7 @@ use Rattle.vc_last.specs.Chain.{IsLast, blocks_from}
 use Rattle.vc_last.specs.Head.{before_of, block_of}
 use Rattle.vc_last.proofs.Backs.{sizes-last, sizes_back}
 use Rattle.vc_last.proofs.Chains.{latest-none, latest-some}
-use Rattle.vc_last.proofs.Folds.{step-part, step-rest, step-room}
+use Rattle.vc_last.proofs.UnorderedFolds.{step-part, step-rest, step-room}
 use Rattle.vc_last.proofs.Walks.{shorter}
 use Rattle.vc_last.proofs.stat.tally_blocks.Goals as goal
 

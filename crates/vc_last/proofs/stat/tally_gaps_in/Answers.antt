@@ -5,7 +5,7 @@ use Rattle.vc_last.specs.Gaps.{gap_end_below, sizes_above}
 use Rattle.vc_last.specs.Head.{before_of, block_of}
 use Rattle.vc_last.proofs.Backs.{gaps-end, gaps-last, gaps_back}
 use Rattle.vc_last.proofs.Chains.{latest-some}
-use Rattle.vc_last.proofs.Folds.{step-part, step-rest, step-room}
+use Rattle.vc_last.proofs.UnorderedFolds.{step-part, step-rest, step-room}
 use Rattle.vc_last.proofs.Walks.{shorter}
 use Rattle.vc_last.proofs.stat.tally_gaps_in.Goals as goal
 

@@ -10,7 +10,7 @@ abbrev pub EndsFirst : Block ℕ → Block ℕ → Type 0
 EndsFirst a b = a.seg ≡ b.seg → (footprint a).to ≤ (footprint b).from
 
 -- blocks one behind another, each in the usable part of a segment at the place that its address tells, and segments with numbers of their own
-pub record IsRow (r : Layout ℕ) : Type 0 where
+pub record AreAllocated (r : Layout ℕ) : Type 0 where
   pub ordered : AllPairs EndsFirst r.blocks
   pub usable : All (λ b. IsUsable r.segments (footprint b)) r.blocks
   pub exact : All (λ b. place_of (address_of b) ≡ (b.seg, b.off)) r.blocks

@@ -11,7 +11,7 @@ use Rattle.vc_model.specs.Sound.{IsApart, IsSound, IsUsable}
 use Rattle.vc_model.specs.Touch.{change_block, rewritten_block, with_bytes_at}
 use Rattle.vc_model.proofs.Pairs.{AllPairs-head, AllPairs-tail}
 use Rattle.vc_layouts.proofs.Blocks.{apart_by_seg}
-use Rattle.vc_last.specs.Row.{EndsFirst, IsRow}
+use Rattle.vc_last.specs.Allocation.{EndsFirst, AreAllocated}
 
 apart-ordered : (a b : Block ℕ) → EndsFirst a b → IsApart (footprint a) (footprint b)
 apart-ordered a b h =
@@ -20,7 +20,7 @@ apart-ordered a b h =
     (λ (t : eqb a.seg b.seg ≡ false). apart_by_seg (footprint a) (footprint b) (eqb-false a.seg b.seg t))
     (cases_Bool (eqb a.seg b.seg))
 
-pub IsSound-row : (r : Layout ℕ) → IsRow r → All (λ s. s.1 ≤ 33554432) r.segments → IsSound r
+pub IsSound-row : (r : Layout ℕ) → AreAllocated r → All (λ s. s.1 ≤ 33554432) r.segments → IsSound r
 IsSound-row r h short =
     record {
       apart = λ i j d lt within. apart-ordered (get_or r.blocks i d) (get_or r.blocks j d) (h.ordered i j d lt within);
@@ -43,8 +43,8 @@ module _ (segments : List (ℕ × ℕ)) where
   abbrev pub Fits : Block ℕ → Type 0
   Fits b = IsUsable segments (footprint b)
 
-  pub IsRow-push : (blocks : List (Block ℕ)) (b : Block ℕ) → IsRow (row segments blocks) → All (λ c. EndsFirst c b) blocks → Fits b → IsExact b → IsRow (row segments (blocks ++ b ∷ []))
-  IsRow-push blocks b h behind fits exact =
+  pub AreAllocated-push : (blocks : List (Block ℕ)) (b : Block ℕ) → AreAllocated (row segments blocks) → All (λ c. EndsFirst c b) blocks → Fits b → IsExact b → AreAllocated (row segments (blocks ++ b ∷ []))
+  AreAllocated-push blocks b h behind fits exact =
       record {
         ordered = all_pairs_push EndsFirst blocks b h.ordered behind;
         usable = All-push Fits blocks b h.usable fits;
@@ -73,8 +73,8 @@ AllPairs-change R f left right at (b ∷ bs) h =
     (λ (t : is_at at b ≡ false). rw t (AllPairs-cons R b (change_block f at bs) (All-change (R b) f (right b) at bs first) (AllPairs-change R f left right at bs rest)))
     (cases_Bool (is_at at b))
 
-pub IsRow-written : (r : Layout ℕ) (at : ℕ × ℕ) (off : ℕ) (src : List ℕ) → IsRow r → IsRow (with_bytes_at r at off src)
-IsRow-written r at off src h =
+pub AreAllocated-written : (r : Layout ℕ) (at : ℕ × ℕ) (off : ℕ) (src : List ℕ) → AreAllocated r → AreAllocated (with_bytes_at r at off src)
+AreAllocated-written r at off src h =
     record {
       ordered = AllPairs-change EndsFirst (rewritten_block off src) (λ a b e. e) (λ a b e. e) at r.blocks h.ordered;
       usable = All-change (Fits r.segments) (rewritten_block off src) (λ b e. e) at r.blocks h.usable;
@@ -100,8 +100,8 @@ AllPairs-without R at (b ∷ bs) h =
     (λ (t : is_at at b ≡ false). rw t (AllPairs-cons R b (without_block at bs) (All-without (R b) at bs (AllPairs-head R b bs h)) (AllPairs-without R at bs rest)))
     (cases_Bool (is_at at b))
 
-pub IsRow-without : (r : Layout ℕ) (at : ℕ × ℕ) → IsRow r → IsRow (without_block_at r at)
-IsRow-without r at h =
+pub AreAllocated-without : (r : Layout ℕ) (at : ℕ × ℕ) → AreAllocated r → AreAllocated (without_block_at r at)
+AreAllocated-without r at h =
     record {
       ordered = AllPairs-without EndsFirst at r.blocks h.ordered;
       usable = All-without (Fits r.segments) at r.blocks h.usable;
