@@ -23,6 +23,7 @@ use Rattle.vc_pool_cells.specs.Place.{cells_in}
 use Rattle.vc_pool_cells.specs.declared.segment.PoolSegment.{PoolSegment}
 use Rattle.vc_pool_cells.proofs.Chains.{chain-same}
 use Rattle.vc_pool_cells.proofs.PoolChange.{pool-freed, pool-of}
+use Rattle.vc_pool.specs.Compacting.{IsCompacted}
 use Rattle.vc_pool.specs.Marks.{has_block, has_block_at}
 use Rattle.vc_pool.specs.Relink.{KeepsAll}
 use Rattle.vc_pool.proofs.BusySegments.{none-of, occupied-busy}
@@ -173,13 +174,13 @@ module _ (element first freed : ℕ) (old mid new : List PoolSegment) (stays : �
       (subst (λ (ps : List (ℕ × ℕ)). All (λ p. stays p.0 ≡ true) ps) (sym left) (filter_passes (λ (p : ℕ × ℕ). stays p.0) (freed_cells (cells_in old) first)))
       kept
 
-  pub compacted-kept : IsPool element (cells_in new) freed
+  compacted-kept : IsPool element (cells_in new) freed
   compacted-kept = subst (λ (ss : List Cells). IsPool element ss freed) (sym cells) (pool-of element (filter (λ (c : Cells). stays c.number) (cells_in mid)) freed (freed_cells (cells_in mid) freed) pool)
 
-  pub compacted-layout : layout_by wide (cells_in new) ≡ compacted_layout (layout_by wide (cells_in old))
+  compacted-layout : layout_by wide (cells_in new) ≡ compacted_layout (layout_by wide (cells_in old))
   compacted-layout = ap (layout_by wide) cells ∙ (layout-filter stays wide (cells_in mid) busy-mid ∙ ap compacted_layout keeps.layout)
 
-  pub compacted-freed : freed_cells (cells_in new) freed ≡ filter (λ (p : ℕ × ℕ). is_occupied (layout_by wide (cells_in old)).blocks p.0) (freed_cells (cells_in old) first)
+  compacted-freed : freed_cells (cells_in new) freed ≡ filter (λ (p : ℕ × ℕ). is_occupied (layout_by wide (cells_in old)).blocks p.0) (freed_cells (cells_in old) first)
   compacted-freed =
       ap (λ (ss : List Cells). freed_cells ss freed) cells
       ∙ (pool-freed element (filter (λ (c : Cells). stays c.number) (cells_in mid)) freed (freed_cells (cells_in mid) freed) pool
@@ -187,9 +188,12 @@ module _ (element first freed : ℕ) (old mid new : List PoolSegment) (stays : �
       ∙ (freed-filter stays wide (cells_in mid) busy-mid (freed_cells (cells_in old) first)
       ∙ ap (λ (l : Layout ℕ). filter (λ (p : ℕ × ℕ). is_occupied l.blocks p.0) (freed_cells (cells_in old) first)) keeps.layout)))
 
-  pub compacted-carved : carved_by (cells_in new) ≡ filter (λ (c : ℕ × ℕ). is_occupied (layout_by wide (cells_in old)).blocks c.0) (carved_by (cells_in old))
+  compacted-carved : carved_by (cells_in new) ≡ filter (λ (c : ℕ × ℕ). is_occupied (layout_by wide (cells_in old)).blocks c.0) (carved_by (cells_in old))
   compacted-carved =
       ap carved_by cells
       ∙ (carved-filter stays wide (cells_in mid) busy-mid
       ∙ (ap (λ (l : Layout ℕ). filter (λ (c : ℕ × ℕ). is_occupied l.blocks c.0) (carved_by (cells_in mid))) keeps.layout
       ∙ ap (filter (λ (c : ℕ × ℕ). is_occupied (layout_by wide (cells_in old)).blocks c.0)) keeps.carved))
+
+  pub compacted : IsCompacted element (cells_in old) (cells_in new) first freed
+  compacted = record { kept = compacted-kept; layout = compacted-layout; freed = compacted-freed; carved = compacted-carved }

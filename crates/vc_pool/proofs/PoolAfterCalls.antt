@@ -4,7 +4,7 @@ use Rattle.std.proofs.lemmas.List.{length-map}
 use Rattle.std.proofs.lemmas.List.Elements.{All-nil}
 use Rattle.vc_model.specs.Addr.{place_of}
 use Rattle.vc_model.specs.Layout.{Layout}
-use Rattle.vc_model.specs.Pool.{cell_for, empty_pool, pool_clear, pool_free}
+use Rattle.vc_model.specs.Pool.{cell_for, empty_pool, pool_clear, pool_compact, pool_free}
 use Rattle.vc_seg.specs.Segment.{IsRegionSegment}
 use Rattle.vc_seg.proofs.Backs.{Apart}
 use Rattle.vc_layouts.proofs.Lists.{AllPairs-nil}
@@ -18,6 +18,7 @@ use Rattle.vc_pool_cells.specs.declared.segment.PoolSegment.{PoolSegment}
 use Rattle.vc_pool_cells.proofs.SegmentList.{pairs-in}
 use Rattle.vc_pool_cells.proofs.PoolChange.{pool-of}
 use Rattle.vc_pool_cells.specs.Carve.{IsUncarved}
+use Rattle.vc_pool.specs.Compacting.{IsCompacted}
 use Rattle.vc_pool.specs.Sizes.{element_of}
 use Rattle.vc_pool.specs.Read.{pool_by}
 
@@ -61,6 +62,10 @@ module _ (segs segs' : List PoolSegment) (element : ℕ) where
   pub cleared-pool : (last : ℕ) → IsUncarved element (cells_in segs) (cells_in segs') → pool_by segs' element 0 ≡ pool_clear (pool_by segs element last)
   unfolding pool_by
   cleared-pool last h = λ j. record { layout = h.layout j; element = element_of element; freed = h.freed j; carved = h.carved j }
+
+  pub compacted-pool : (after before : ℕ) → IsCompacted element (cells_in segs) (cells_in segs') before after → pool_by segs' element after ≡ pool_compact (pool_by segs element before)
+  unfolding pool_by
+  compacted-pool after before h = λ j. record { layout = h.layout j; element = element_of element; freed = h.freed j; carved = h.carved j }
 
 -- the segments as number and size
 pub pairs-of : (segs : List PoolSegment) (element freed : ℕ) → (pool_by segs element freed).layout.segments ≡ map pair_of (cells_in segs)

@@ -21,6 +21,7 @@ pub mod First
 pub mod Sizes
 pub mod Marks
 pub mod Relink
+pub mod Compacting
 pub mod Stat
 pub mod Read
 pub mod Parts

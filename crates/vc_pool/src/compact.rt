@@ -2,11 +2,11 @@ mod mark;
 mod relink;
 
 ghost use Rattle.std.specs.Prelude.{◌≡◌, ℕ, ◌<◌, All, false, filter, length};
-ghost use Rattle.vc_model.specs.Compact.{compact_count, compacted_layout, is_occupied};
+ghost use Rattle.vc_model.specs.Compact.{compact_count};
 ghost use Rattle.vc_model.specs.Discipline.{HasOut, TookBack};
 ghost use Rattle.vc_model.specs.Pool.{cell_for};
-ghost use Rattle.vc_pool_cells.specs.Blocks.{carved_by, layout_by};
-ghost use Rattle.vc_pool_cells.specs.Freed.{freed_cells};
+ghost use Rattle.vc_pool.specs.Compacting.{IsCompacted};
+ghost use Rattle.vc_pool_cells.specs.Blocks.{layout_by};
 ghost use Rattle.vc_pool_cells.specs.Kept.{IsPool};
 ghost use Rattle.vc_pool_cells.specs.Place.{cells_in};
 
@@ -27,17 +27,8 @@ pub(crate) fn compact_in(
     requires kept { IsPool element (cells_in segs.old.items) freed.old.0 }
     requires out { HasOut (state disc.old)
         (layout_by (cell_for element) (cells_in segs.old.items)).segments }
-    ensures kept { IsPool element (cells_in segs.new.items) freed.new.0 }
-    ensures layout { layout_by (cell_for element) (cells_in segs.new.items)
-        ≡ compacted_layout (layout_by (cell_for element) (cells_in segs.old.items)) }
-    ensures freed { freed_cells (cells_in segs.new.items) freed.new.0
-        ≡ filter (λ p. is_occupied
-        (layout_by (cell_for element) (cells_in segs.old.items)).blocks p.0)
-        (freed_cells (cells_in segs.old.items) freed.old.0) }
-    ensures carved { carved_by (cells_in segs.new.items)
-        ≡ filter (λ c. is_occupied
-        (layout_by (cell_for element) (cells_in segs.old.items)).blocks c.0)
-        (carved_by (cells_in segs.old.items)) }
+    ensures compacted { IsCompacted element (cells_in segs.old.items) (cells_in segs.new.items)
+        freed.old.0 freed.new.0 }
     ensures count { result ≡ compact_count
         (layout_by (cell_for element) (cells_in segs.old.items)) }
     ensures disc { TookBack (state disc.old) (state disc.new)

@@ -14,7 +14,7 @@ use Rattle.vc_pool_cells.proofs.SegmentList.{numbered-in, pairs-in}
 use Rattle.vc_pool.specs.Marks.{has_block_at}
 use Rattle.vc_pool.specs.Relink.{KeepsAll}
 use Rattle.vc_pool.proofs.BusySegments.{numbers-below}
-use Rattle.vc_pool.proofs.BusyPart.{compacted-carved, compacted-freed, compacted-kept, compacted-layout, segments-of, took-by}
+use Rattle.vc_pool.proofs.BusyPart.{compacted, segments-of, took-by}
 use Rattle.vc_pool.proofs.compact.compact_in.Goals as goal
 use Rattle.vc_pool.proofs.compact.compact_in.Goals.{After-give_back, After-relink}
 use Rattle.vc_pool.proofs.compact.compact_in.Given.{Over}
@@ -61,32 +61,16 @@ overflow_sub-result g c =
     let long = ap length (items g at.After-relink) in
     omega (arith, few, length-filter (λ (s : PoolSegment). get_or c.mark.new.marks s.seg.number false) c.relink.new.segs, count_by-le-length (λ (s : PoolSegment). get_or c.mark.new.marks s.seg.number false) c.relink.new.segs, c.len.ensures, c.len-before.ensures, c.give_back.new.segs.ok, c.relink.auto.segs, c.deref_mut.ensures.len, long)
 
-pub returns-clause-kept : goal.returns-clause-kept
-returns-clause-kept g c =
-    let at = goal.at.returns-clause-kept g c in
-    compacted-kept c.args.element c.args.freed.now.0 c.relink.new.freed.0 c.args.segs.now.items c.relink.new.segs c.give_back.new.segs.items (λ n. get_or c.mark.new.marks n false) (marked g at.After-relink) c.relink.ensures.kept (left g at.After-relink) (keeps g at.After-relink) (is g at.After-give_back)
-
-pub returns-clause-layout : goal.returns-clause-layout
-returns-clause-layout g c =
-    let at = goal.at.returns-clause-layout g c in
-    compacted-layout c.args.element c.args.freed.now.0 c.relink.new.freed.0 c.args.segs.now.items c.relink.new.segs c.give_back.new.segs.items (λ n. get_or c.mark.new.marks n false) (marked g at.After-relink) c.relink.ensures.kept (left g at.After-relink) (keeps g at.After-relink) (is g at.After-give_back)
-
-pub returns-clause-freed : goal.returns-clause-freed
-returns-clause-freed g c =
-    let at = goal.at.returns-clause-freed g c in
-    compacted-freed c.args.element c.args.freed.now.0 c.relink.new.freed.0 c.args.segs.now.items c.relink.new.segs c.give_back.new.segs.items (λ n. get_or c.mark.new.marks n false) (marked g at.After-relink) c.relink.ensures.kept (left g at.After-relink) (keeps g at.After-relink) (is g at.After-give_back)
-
-pub returns-clause-carved : goal.returns-clause-carved
-returns-clause-carved g c =
-    let at = goal.at.returns-clause-carved g c in
-    compacted-carved c.args.element c.args.freed.now.0 c.relink.new.freed.0 c.args.segs.now.items c.relink.new.segs c.give_back.new.segs.items (λ n. get_or c.mark.new.marks n false) (marked g at.After-relink) c.relink.ensures.kept (left g at.After-relink) (keeps g at.After-relink) (is g at.After-give_back)
+pub returns-clause-compacted : goal.returns-clause-compacted
+returns-clause-compacted g c =
+    let at = goal.at.returns-clause-compacted g c in
+    compacted c.args.element c.args.freed.now.0 c.relink.new.freed.0 c.args.segs.now.items c.relink.new.segs c.give_back.new.segs.items (λ n. get_or c.mark.new.marks n false) (marked g at.After-relink) c.relink.ensures.kept (left g at.After-relink) (keeps g at.After-relink) (is g at.After-give_back)
 
 pub returns-clause-count : goal.returns-clause-count
 returns-clause-count g c =
     let at = goal.at.returns-clause-count g c in
     let cell : ℕ = cell_for c.args.element in
-    let layout = compacted-layout c.args.element c.args.freed.now.0 c.relink.new.freed.0 c.args.segs.now.items c.relink.new.segs c.give_back.new.segs.items (λ n. get_or c.mark.new.marks n false) (marked g at.After-relink) c.relink.ensures.kept (left g at.After-relink) (keeps g at.After-relink) (is g at.After-give_back) in
-    let new : (compacted_layout (layout_by cell (cells_in c.args.segs.now.items))).segments ≡ map pair_of (cells_in c.give_back.new.segs.items) = ap (λ (l : Layout ℕ). l.segments) (sym layout) ∙ segments-of cell (cells_in c.give_back.new.segs.items) in
+    let new : (compacted_layout (layout_by cell (cells_in c.args.segs.now.items))).segments ≡ map pair_of (cells_in c.give_back.new.segs.items) = ap (λ (l : Layout ℕ). l.segments) (sym (returns-clause-compacted g c).layout) ∙ segments-of cell (cells_in c.give_back.new.segs.items) in
     let old = segments-of cell (cells_in c.args.segs.now.items) in
     let long = ap length (items g at.After-relink) in
     omega (arith, c.len.ensures, c.len-before.ensures, c.args.segs.now.ok, c.give_back.new.segs.ok, c.relink.auto.segs, c.deref_mut.ensures.len, long, ap length new, ap length old, length-map (cells_in c.give_back.new.segs.items) pair_of, length-map c.give_back.new.segs.items cells_of, length-map (cells_in c.args.segs.now.items) pair_of, length-map c.args.segs.now.items cells_of)
