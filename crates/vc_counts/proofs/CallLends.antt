@@ -13,7 +13,7 @@ use Rattle.vc_audit.specs.Debug.{guarded_place, guarded_size, user_size}
 use Rattle.vc_audit.specs.Profile.{with_site}
 use Rattle.std.specs.Prelude.{min}
 use Rattle.vc_region.specs.Region.{OfBest, OfPool, OfLast, OfDebug, OfProfile, Region, region_align, region_alloc, region_clear, region_compact, region_free, region_poke, region_resize, region_watch, region_write, segments_of}
-use Rattle.vc_counts.proofs.Lending.{Lends, lends-kept}
+use Rattle.vc_counts.proofs.GrantedSegments.{Lends, lends-kept}
 use Rattle.vc_counts.proofs.RegionLends.{PutsIn, either, in-best, in-guards, in-last, in-pool, in-profile, in-resized, puts-best, puts-last, puts-latest, puts-pool, puts-resize, puts-sized}
 
 pub alloc-puts : {L : Type 0} (terms : Terms) (r : Region L) (label : L) (site : List ℕ) (size : ℕ) (refused : Bool) → PutsIn (segments_of r) (region_alloc terms r label site size refused)

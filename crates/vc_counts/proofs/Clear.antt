@@ -13,17 +13,17 @@ use Rattle.vc_laws.proofs.Members.{Any-from_member, Member-append_left, Some_of-
 use Rattle.vc_model.specs.Best.{best_alloc, best_need, place_in, put, put_in_new, put_or_ask, zeros}
 use Rattle.vc_model.specs.Discipline.{Terms}
 use Rattle.vc_model.specs.Gap.{Run, gaps}
-use Rattle.vc_model.specs.Layout.{Block, Layout, footprint, footprints, is_at, with_segment}
+use Rattle.vc_model.specs.Layout.{Block, Layout, footprint, footprints, is_at, with_grant}
 use Rattle.vc_model.specs.Outcome.{Outcome, Done, Put, Refused}
 use Rattle.vc_model.specs.Place.{best_gap, holds, lowest_offset}
-use Rattle.vc_model.specs.Segments.{Asked, Granted, TooMany, NotLent, ask, lowest_unused, numbers, segment_limit, span, unused_from}
+use Rattle.vc_model.specs.Segments.{Asked, Granted, TooMany, NotLent, ask, lowest_unused, new_segment, numbers, segment_limit, span, unused_from}
 use Rattle.vc_model.specs.Sound.{HaveOwnNumbers, IsUsable}
 use Rattle.vc_base.proofs.Places.{some-span}
 use Rattle.vc_base.proofs.Options.{option_map-Some}
 use Rattle.vc_seg.proofs.Rounding.{round_up-least}
 use Rattle.vc_seg.proofs.Unused.{is_among, lowest_unused-unused}
 use Rattle.vc_counts.proofs.RegionLends.{either}
-use Rattle.vc_counts.proofs.Sized.{HasSized, IsClear, sized-more}
+use Rattle.vc_counts.proofs.BlockSizes.{HasSized, IsClear, sized-more}
 
 module _ {L : Type 0} where
   covers : (at : ℕ × ℕ) (b : Block L) → is_at at b ≡ true → Covers (footprint b) (at.0, at.1 - 16)
@@ -115,24 +115,24 @@ KeepsSized r (Done p) = (a n : ℕ) → HasSized r.blocks a n → HasSized p.reg
 KeepsSized r (Refused why) = Unit {0}
 
 module _ {L : Type 0} (r : Layout L) (lawful : AreLawful r.segments (footprints r.blocks)) (label : L) (size align : ℕ) (some : 1 ≤ align) where
-  keeps-new : (n bytes : ℕ) → 1 ≤ n → is_among n (numbers r.segments) ≡ false → (o : Option (ℕ × ℕ)) → place_in (with_segment r (n, bytes)) size align ≡ o → KeepsSized r (put (with_segment r (n, bytes)) label size (Some (n, bytes)) o)
+  keeps-new : (n bytes : ℕ) → 1 ≤ n → is_among n (numbers r.segments) ≡ false → (o : Option (ℕ × ℕ)) → place_in (with_grant r (new_segment n bytes)) size align ≡ o → KeepsSized r (put (with_grant r (new_segment n bytes)) label size (Some (new_segment n bytes)) o)
   keeps-new n bytes first unused None e = tt
   keeps-new n bytes first unused (Some at) e =
-      λ a m has. sized-more (zeros label size at) r.blocks (clear-place (with_segment r (n, bytes)) (lawful-more r lawful n bytes first unused) size align some at e) a m has
+      λ a m has. sized-more (zeros label size at) r.blocks (clear-place (with_grant r (new_segment n bytes)) (lawful-more r lawful n bytes first unused) size align some at e) a m has
 
-  keeps-asked : (need : ℕ) (refused : Bool) → KeepsSized r (put_in_new r label size align (ask need r.segments refused))
-  keeps-asked need refused =
+  keeps-asked : (terms : Terms) (need : ℕ) (refused : Bool) → KeepsSized r (put_in_new r label size align (ask terms need r.segments refused))
+  keeps-asked terms need refused =
       let n : ℕ = lowest_unused (numbers r.segments) in
       let P : Asked → Type 0 = λ a. KeepsSized r (put_in_new r label size align a) in
-      either P (nat_lt (length r.segments) segment_limit) (cond refused NotLent (Granted n need)) TooMany
-      (either P refused NotLent (Granted n need) tt
-      (keeps-new n need (unused-least 1 (length (numbers r.segments)) (numbers r.segments)) (lowest_unused-unused (numbers r.segments)) (place_in (with_segment r (n, need)) size align) refl))
+      either P (nat_lt (length r.segments) segment_limit) (cond refused NotLent (Granted (new_segment n need))) TooMany
+      (either P refused NotLent (Granted (new_segment n need)) tt
+      (keeps-new n need (unused-least 1 (length (numbers r.segments)) (numbers r.segments)) (lowest_unused-unused (numbers r.segments)) (place_in (with_grant r (new_segment n need)) size align) refl))
       tt
 
   keeps-placed : (terms : Terms) (refused : Bool) (o : Option (ℕ × ℕ)) → place_in r size align ≡ o → KeepsSized r (put_or_ask terms r label size align refused o)
   keeps-placed terms refused (Some at) e =
       λ a m has. sized-more (zeros label size at) r.blocks (clear-place r lawful size align some at e) a m has
-  keeps-placed terms refused None e = keeps-asked (best_need terms size align) refused
+  keeps-placed terms refused None e = keeps-asked terms (best_need terms size align) refused
 
   pub keeps-alloc : (terms : Terms) (refused : Bool) → KeepsSized r (best_alloc terms r label size align refused)
   keeps-alloc terms refused = keeps-placed terms refused (place_in r size align) refl

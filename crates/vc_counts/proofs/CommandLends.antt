@@ -17,7 +17,7 @@ use Rattle.vc_commands.specs.Home.{Changed, Home, Label, refusal_alone}
 use Rattle.vc_commands.specs.FreedNames.{FreedNames, without_name}
 use Rattle.vc_commands.specs.RegionCommands.{in_region, is_for_block}
 use Rattle.vc_counts.proofs.CallLends.{LeavesIn, align-puts, alloc-puts, compact-lends, free-leaves, poke-leaves, resize-puts, watch-leaves}
-use Rattle.vc_counts.proofs.Lending.{Lends, lends-more, lends-same}
+use Rattle.vc_counts.proofs.GrantedSegments.{Lends, lends-more, lends-same}
 use Rattle.vc_counts.proofs.RegionLends.{PutsIn, either}
 
 -- from a region to what a command leaves of it

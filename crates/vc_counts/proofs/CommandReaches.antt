@@ -18,7 +18,7 @@ use Rattle.vc_commands.specs.RegionCommands.{in_region, is_for_block}
 use Rattle.vc_commands.specs.Sizes.{size_named}
 use Rattle.vc_counts.specs.Reach.{reach_of}
 use Rattle.vc_counts.proofs.CallOthers.{LeftIn, StaysIn, align-stays, alloc-stays, busy-sizes, compact-left, found-behind, free-left, name-own, no_label, others_in, poke-left, resize-stays, watch-left, write-left}
-use Rattle.vc_counts.proofs.Named.{IsProper}
+use Rattle.vc_counts.proofs.OwnNames.{IsProper}
 use Rattle.vc_counts.proofs.RegionLends.{either}
 use Rattle.vc_counts.proofs.Sums.{put_region}
 use Rattle.vc_counts.proofs.Tallies.{Reaches}

@@ -16,9 +16,9 @@ use Rattle.vc_dtdisc.specs.Rules.{Rules}
 use Rattle.vc_laws.specs.Maximal.{AreLawful}
 use Rattle.vc_model.specs.Best.{best_alloc, best_need, place_in, put, put_in_new, put_or_ask, zeros}
 use Rattle.vc_model.specs.Discipline.{Terms}
-use Rattle.vc_model.specs.Layout.{Layout, footprints, with_segment}
+use Rattle.vc_model.specs.Layout.{Layout, footprints, with_grant}
 use Rattle.vc_model.specs.Outcome.{Outcome, Done, Put, Refused}
-use Rattle.vc_model.specs.Segments.{Asked, Granted, TooMany, NotLent, ask}
+use Rattle.vc_model.specs.Segments.{Asked, Grant, Granted, TooMany, NotLent, ask}
 use Rattle.vc_model.proofs.Places.{Among, among-all, among-find}
 use Rattle.vc_objects.specs.Insert.{Grown, Inserted, alloc_unlabelled, empty_dictionary, grow, grown_to, grown_with, insert_of, held_in, open_dictionary, slots_wanted, without_table}
 use Rattle.vc_objects.specs.Objects.{Dictionary, Table, holder_size, slots_of, table_size}
@@ -32,7 +32,7 @@ use Rattle.vc_counts.specs.Reach.{holder_freed, holder_put}
 use Rattle.vc_counts.specs.Working.{table_bytes}
 use Rattle.vc_counts.proofs.Clear.{KeepsSized, keeps-alloc}
 use Rattle.vc_counts.proofs.RegionLends.{either}
-use Rattle.vc_counts.proofs.Sized.{HasSized, bytes, bytes-with, bytes-without}
+use Rattle.vc_counts.proofs.BlockSizes.{HasSized, bytes, bytes-with, bytes-without}
 
 -- a table of another address than these holders
 abbrev pub IsBeside : Option Table → List Object → Type 0
@@ -49,18 +49,18 @@ module _ {L : Type 0} where
   PutsBytes r size (Refused why) = Unit {0}
 
   module _ (r : Layout L) (label : L) (size align : ℕ) where
-    puts-new : (s : ℕ × ℕ) (o : Option (ℕ × ℕ)) → PutsBytes r size (put (with_segment r s) label size (Some s) o)
-    puts-new s None = tt
-    puts-new s (Some at) = bytes-with (zeros label size at) r.blocks
+    puts-new : (g : Grant) (o : Option (ℕ × ℕ)) → PutsBytes r size (put (with_grant r g) label size (Some g) o)
+    puts-new g None = tt
+    puts-new g (Some at) = bytes-with (zeros label size at) r.blocks
 
     puts-asked : (a : Asked) → PutsBytes r size (put_in_new r label size align a)
-    puts-asked (Granted n b) = puts-new (n, b) (place_in (with_segment r (n, b)) size align)
+    puts-asked (Granted g) = puts-new g (place_in (with_grant r g) size align)
     puts-asked TooMany = tt
     puts-asked NotLent = tt
 
     puts-placed : (terms : Terms) (refused : Bool) (o : Option (ℕ × ℕ)) → PutsBytes r size (put_or_ask terms r label size align refused o)
     puts-placed terms refused (Some at) = bytes-with (zeros label size at) r.blocks
-    puts-placed terms refused None = puts-asked (ask (best_need terms size align) r.segments refused)
+    puts-placed terms refused None = puts-asked (ask terms (best_need terms size align) r.segments refused)
 
     pub puts-alloc : (terms : Terms) (refused : Bool) → PutsBytes r size (best_alloc terms r label size align refused)
     puts-alloc terms refused = puts-placed terms refused (place_in r size align)

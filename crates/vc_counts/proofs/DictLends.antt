@@ -1,7 +1,6 @@
 -- What a command on a dictionary lends: the segments that it is granted stand behind those of the region.
-use Rattle.std.proofs.Common.{◌≡◌, ℕ, Bool, true, false, cond, List, [], ◌∷◌, ◌++◌, Option, Some, None, refl, sym, ap, ◌∙◌, append_assoc, length}
+use Rattle.std.proofs.Common.{◌≡◌, ℕ, Bool, true, false, cond, List, [], ◌∷◌, ◌++◌, Option, Some, None, refl, ◌∙◌, length}
 use Rattle.std.specs.Prelude.{◌==◌}
-use Rattle.std.proofs.lemmas.List.{append-nil}
 use Rattle.vc_base.specs.Methods.{has_table, is_list, method_number}
 use Rattle.vc_base.specs.declared.dict_method.DictMethod.{DictMethod}
 use Rattle.vc_commands.specs.DictCommands.{append_in, delete_in, in_dict, insert_in, is_for_object, is_for_table, is_object, put_object, put_unless, removed_as, standing, turned_as}
@@ -22,6 +21,7 @@ use Rattle.vc_script.specs.Needs.{Need}
 use Rattle.vc_script.specs.declared.command.Command.{Command}
 use Rattle.vc_script.specs.declared.command.Command.TheVariants.{Insert, Append, Attach, Delete, Detach, Remethod, Empty}
 use Rattle.vc_script.specs.declared.refusal.Refusal.TheVariants as why
+use Rattle.vc_counts.proofs.GrantedSegments.{StandBehind, behind-left, behind-more, none-behind}
 use Rattle.vc_counts.proofs.RegionLends.{Puts, either, puts-best}
 
 module _ {L : Type 0} where
@@ -38,15 +38,15 @@ module _ {L : Type 0} where
   end-leaves r d = table-leaves (freed_all r d.objects) d.table ∙ holders-leave r d.objects
 
   abbrev pub Grows : List (ℕ × ℕ) → Outcome (Grown L) → Type 0
-  Grows segments (model.Done g) = g.region.segments ≡ segments ++ g.granted
+  Grows segments (model.Done g) = StandBehind segments g.region.segments g.granted
   Grows segments (model.Refused why) = Unit {0}
 
   grows-with : (segments : List (ℕ × ℕ)) (d : Dictionary) (slots : ℕ) (o : Outcome (Put (Layout L))) → Puts segments o → Grows segments (grown_with d slots o)
-  grows-with segments d slots (model.Done p) e = table-leaves p.region d.table ∙ e
+  grows-with segments d slots (model.Done p) e = behind-left segments p.region.segments _ (option_list p.granted) (table-leaves p.region d.table) e
   grows-with segments d slots (model.Refused why) e = tt
 
   grows-to : (terms : Terms) (r : Layout L) (none : L) (d : Dictionary) (refused : Bool) (slots : Option ℕ) → Grows r.segments (grown_to terms r none d refused slots)
-  grows-to terms r none d refused None = sym (append-nil r.segments)
+  grows-to terms r none d refused None = none-behind r.segments r.segments refl
   grows-to terms r none d refused (Some slots) =
       grows-with r.segments d slots (alloc_unlabelled terms r none (table_size slots) refused) (puts-best terms r none (table_size slots) 32 refused)
 
@@ -55,21 +55,21 @@ module _ {L : Type 0} where
       grows-to terms r none (empty_dictionary method) refused (cond (has_table method) (Some 16) None)
 
   abbrev Inserts : List (ℕ × ℕ) → Inserted L → Type 0
-  Inserts segments i = i.region.segments ≡ segments ++ i.granted
+  Inserts segments i = StandBehind segments i.region.segments i.granted
 
-  inserts-held : (segments : List (ℕ × ℕ)) (rules : Rules) (append : Bool) (bytes : List ℕ) (g : Grown L) (o : Outcome (Put (Layout L))) → g.region.segments ≡ segments ++ g.granted → Puts g.region.segments o → Inserts segments (insert_of rules append bytes g o)
+  inserts-held : (segments : List (ℕ × ℕ)) (rules : Rules) (append : Bool) (bytes : List ℕ) (g : Grown L) (o : Outcome (Put (Layout L))) → StandBehind segments g.region.segments g.granted → Puts g.region.segments o → Inserts segments (insert_of rules append bytes g o)
   inserts-held segments rules append bytes g (model.Done p) grown e =
-      e ∙ (ap (λ ss. ss ++ option_list p.granted) grown ∙ append_assoc segments g.granted (option_list p.granted))
+      behind-more segments g.region.segments p.region.segments g.granted (option_list p.granted) grown e
   inserts-held segments rules append bytes g (model.Refused why) grown e = grown
 
   inserts-in : (rules : Rules) (terms : Terms) (r : Layout L) (none : L) (d : Dictionary) (append : Bool) (bytes : List ℕ) (refused : Bool) (o : Outcome (Grown L)) → Grows r.segments o → Inserts r.segments (held_in rules terms r none d append bytes refused o)
   inserts-in rules terms r none d append bytes refused (model.Done g) e =
       inserts-held r.segments rules append bytes g (alloc_unlabelled terms g.region none (holder_size bytes) refused) e
       (puts-best terms g.region none (holder_size bytes) 32 refused)
-  inserts-in rules terms r none d append bytes refused (model.Refused why) e = sym (append-nil r.segments)
+  inserts-in rules terms r none d append bytes refused (model.Refused why) e = none-behind r.segments r.segments refl
 
   abbrev Brings : List (ℕ × ℕ) → Outcome (Brought L) → Type 0
-  Brings segments (model.Done b) = b.region.segments ≡ segments ++ b.granted
+  Brings segments (model.Done b) = StandBehind segments b.region.segments b.granted
   Brings segments (model.Refused why) = Unit {0}
 
   brings-with : (segments : List (ℕ × ℕ)) (slots : ℕ) (o : Outcome (Put (Layout L))) → Puts segments o → Brings segments (turn_with slots o)
@@ -77,31 +77,31 @@ module _ {L : Type 0} where
   brings-with segments slots (model.Refused why) e = tt
 
   brings : (terms : Terms) (r : Layout L) (none : L) (refused : Bool) (slots : Option ℕ) → Brings r.segments (bring_of terms r none refused slots)
-  brings terms r none refused None = sym (append-nil r.segments)
+  brings terms r none refused None = none-behind r.segments r.segments refl
   brings terms r none refused (Some slots) =
       brings-with r.segments slots (alloc_unlabelled terms r none (table_size slots) refused) (puts-best terms r none (table_size slots) 32 refused)
 
   abbrev Turns : List (ℕ × ℕ) → Outcome (Turned L) → Type 0
-  Turns segments (model.Done t) = t.region.segments ≡ segments ++ t.granted
+  Turns segments (model.Done t) = StandBehind segments t.region.segments t.granted
   Turns segments (model.Refused why) = Unit {0}
 
   turns-with : (segments : List (ℕ × ℕ)) (rules : Rules) (method : DictMethod) (d : Dictionary) (o : Outcome (Brought L)) → Brings segments o → Turns segments (turned_with rules method d o)
   turns-with segments rules method d (model.Done b) e =
-      table-leaves (freed_all b.region (objects_dropped rules method d)) (table_left d method)
-      ∙ (holders-leave b.region (objects_dropped rules method d) ∙ e)
+      let dropped = objects_dropped rules method d in
+      behind-left segments b.region.segments _ b.granted (table-leaves (freed_all b.region dropped) (table_left d method) ∙ holders-leave b.region dropped) e
   turns-with segments rules method d (model.Refused why) e = tt
 
   turns : (rules : Rules) (terms : Terms) (r : Layout L) (none : L) (d : Dictionary) (method : DictMethod) (refused : Bool) → Turns r.segments (turn rules terms r none d method refused)
   turns rules terms r none d method refused =
-      either (Turns r.segments) (method_number method == method_number d.method) _ _ (sym (append-nil r.segments))
+      either (Turns r.segments) (method_number method == method_number d.method) _ _ (none-behind r.segments r.segments refl)
       (turns-with r.segments rules method d (bring_of terms r none refused (slots_between d.method method (length d.objects))) (brings terms r none refused (slots_between d.method method (length d.objects))))
 
   -- from where a command works to what it leaves of the region
   abbrev pub ChangesDict : Seat L → DictChanged L → Type 0
-  ChangesDict s c = c.region.segments ≡ s.region.segments ++ c.granted
+  ChangesDict s c = StandBehind s.region.segments c.region.segments c.granted
 
-  same : (s : Seat L) → s.region.segments ≡ s.region.segments ++ []
-  same s = sym (append-nil s.region.segments)
+  same : (s : Seat L) → StandBehind s.region.segments s.region.segments []
+  same s = none-behind s.region.segments s.region.segments refl
 
   put-changes : (s : Seat L) (append : Bool) (bytes : List ℕ) (need : Need) → ChangesDict s (put_object s append bytes need)
   put-changes s append bytes need =
@@ -148,5 +148,5 @@ module _ {L : Type 0} where
   dict-changes s (Remethod d method) need =
       turned-changes s d method (turn s.rules s.terms s.region s.none s.dict method (is_for_table need))
       (turns s.rules s.terms s.region s.none s.dict method (is_for_table need))
-  dict-changes s (Empty d) need = holders-leave s.region s.dict.objects ∙ same s
+  dict-changes s (Empty d) need = none-behind s.region.segments _ (holders-leave s.region s.dict.objects)
   dict-changes s command need = same s

@@ -1,28 +1,39 @@
 -- What a call of a region lends: the segment that it is granted stands behind those there.
-use Rattle.std.proofs.Common.{◌≡◌, ℕ, Bool, true, false, cond, List, [], ◌∷◌, ◌++◌, Option, Some, None, refl, sym}
+use Rattle.std.proofs.Common.{◌≡◌, ℕ, Bool, true, false, cond, List, [], ◌∷◌, ◌++◌, Option, Some, None, ap, length, refl}
 use Rattle.std.specs.Prelude.{nat_lt}
-use Rattle.std.proofs.lemmas.List.{append-nil}
 use Rattle.vc_model.specs.Best.{best_alloc, best_need, place_in, put, put_in_new, put_or_ask}
 use Rattle.vc_model.specs.Discipline.{Terms}
-use Rattle.vc_model.specs.Last.{can_end, if_latest, last_alloc, last_need, last_place, put_in_newest, put_or_lend, resize_latest}
-use Rattle.vc_model.specs.Layout.{Block, Layout, is_at, with_segment}
+use Rattle.vc_model.specs.Last.{can_end, if_latest, last_alloc, last_need, last_place, put_behind_latest, put_in_newest, put_or_lend, resize_latest}
+use Rattle.vc_model.specs.Layout.{Block, Layout, is_at, with_grant}
 use Rattle.vc_model.specs.Outcome.{Fixed, NotLast, PoolSize, Outcome, Done, Put, Refused, outcome_as}
 use Rattle.vc_model.specs.Pool.{Pool, cell_for, element_with, pool_alloc, pool_need, pool_resize, put_asked, put_carving, put_free, uncarved}
 use Rattle.vc_model.specs.Resize.{best_resize, can_stay, outcome_of_move, resize_found, stays}
-use Rattle.vc_model.specs.Segments.{Asked, Granted, TooMany, NotLent, ask}
+use Rattle.vc_model.specs.Segments.{Asked, Grant, Granted, TooMany, NotLent, ask, lowest_unused, new_segment, numbers, segment_limit, segments_with, with_more}
 use Rattle.vc_model.specs.Touch.{find_block}
 use Rattle.vc_audit.specs.Debug.{put_with_guards, outcome_by, put_with_mark}
 use Rattle.vc_audit.specs.Profile.{profile_after}
 use Rattle.vc_objects.specs.Objects.{option_list}
 use Rattle.vc_region.specs.Region.{OfBest, OfPool, OfLast, OfDebug, OfProfile, Region, segments_of}
+use Rattle.vc_counts.proofs.GrantedSegments.{StandBehind, none-behind}
 
 pub either : {A : Type 0} (P : A → Type 0) (t : Bool) (a b : A) → P a → P b → P (cond t a b)
 either P true a b p q = p
 either P false a b p q = q
 
+-- what asking granted is a new segment
+abbrev pub IsNew : Asked → Type 0
+IsNew (Granted g) = g.fresh ≡ true
+IsNew TooMany = Unit {0}
+IsNew NotLent = Unit {0}
+
+ask-is-new : (terms : Terms) (bytes : ℕ) (segments : List (ℕ × ℕ)) (refused : Bool) → IsNew (ask terms bytes segments refused)
+ask-is-new terms bytes segments refused =
+    let granted = Granted (new_segment (lowest_unused (numbers segments)) bytes) in
+    either IsNew (nat_lt (length segments) segment_limit) (cond refused NotLent granted) TooMany (either IsNew refused NotLent granted tt refl) tt
+
 -- the segment that was granted for a block stands behind these, in what the region is then
 abbrev pub PutsBy : {R : Type 0} → (R → List (ℕ × ℕ)) → List (ℕ × ℕ) → Outcome (Put R) → Type 0
-PutsBy of segments (Done p) = of p.region ≡ segments ++ option_list p.granted
+PutsBy of segments (Done p) = StandBehind segments (of p.region) (option_list p.granted)
 PutsBy of segments (Refused why) = Unit {0}
 
 abbrev pub Puts : {L : Type 0} → List (ℕ × ℕ) → Outcome (Put (Layout L)) → Type 0
@@ -35,18 +46,21 @@ abbrev pub PutsIn : {L : Type 0} → List (ℕ × ℕ) → Outcome (Put (Region 
 PutsIn segments o = PutsBy segments_of segments o
 
 module _ {L : Type 0} where
-  puts-new : (r : Layout L) (s : ℕ × ℕ) (label : L) (size : ℕ) (o : Option (ℕ × ℕ)) → Puts r.segments (put (with_segment r s) label size (Some s) o)
-  puts-new r s label size None = tt
-  puts-new r s label size (Some at) = refl
+  behind-one : (segments : List (ℕ × ℕ)) (g : Grant) → g.fresh ≡ true → StandBehind segments (segments_with g segments) (g ∷ [])
+  behind-one segments g fresh = record { segments = ap (λ b. cond b (segments ++ (g.number, g.bytes) ∷ []) (with_more g.bytes segments)) fresh; fresh = (fresh, tt) }
 
-  puts-asked : (r : Layout L) (label : L) (size align : ℕ) (a : Asked) → Puts r.segments (put_in_new r label size align a)
-  puts-asked r label size align (Granted n b) = puts-new r (n, b) label size (place_in (with_segment r (n, b)) size align)
-  puts-asked r label size align TooMany = tt
-  puts-asked r label size align NotLent = tt
+  puts-new : (r : Layout L) (g : Grant) → g.fresh ≡ true → (label : L) (size : ℕ) (o : Option (ℕ × ℕ)) → Puts r.segments (put (with_grant r g) label size (Some g) o)
+  puts-new r g fresh label size None = tt
+  puts-new r g fresh label size (Some at) = behind-one r.segments g fresh
+
+  puts-asked : (r : Layout L) (label : L) (size align : ℕ) (a : Asked) → IsNew a → Puts r.segments (put_in_new r label size align a)
+  puts-asked r label size align (Granted g) new = puts-new r g new label size (place_in (with_grant r g) size align)
+  puts-asked r label size align TooMany new = tt
+  puts-asked r label size align NotLent new = tt
 
   puts-placed : (terms : Terms) (r : Layout L) (label : L) (size align : ℕ) (refused : Bool) (o : Option (ℕ × ℕ)) → Puts r.segments (put_or_ask terms r label size align refused o)
-  puts-placed terms r label size align refused (Some at) = sym (append-nil r.segments)
-  puts-placed terms r label size align refused None = puts-asked r label size align (ask (best_need terms size align) r.segments refused)
+  puts-placed terms r label size align refused (Some at) = none-behind r.segments r.segments refl
+  puts-placed terms r label size align refused None = puts-asked r label size align (ask terms (best_need terms size align) r.segments refused) (ask-is-new terms (best_need terms size align) r.segments refused)
 
   pub puts-best : (terms : Terms) (r : Layout L) (label : L) (size align : ℕ) (refused : Bool) → Puts r.segments (best_alloc terms r label size align refused)
   puts-best terms r label size align refused = puts-placed terms r label size align refused (place_in r size align)
@@ -56,7 +70,7 @@ module _ {L : Type 0} where
   puts-moved segments size b (Refused why) h = tt
 
   puts-stay : (r : Layout L) (size : ℕ) (b : Block L) → Puts r.segments (stays r size b)
-  puts-stay r size b = sym (append-nil r.segments)
+  puts-stay r size b = none-behind r.segments r.segments refl
 
   -- a block stays, or moves where it may
   puts-resized : (r : Layout L) (size : ℕ) (b : Block L) (stay move : Bool) (o : Outcome (Put (Layout L))) → Puts r.segments o → Puts r.segments (cond stay (stays r size b) (cond move (outcome_of_move size b o) (Refused Fixed)))
@@ -72,14 +86,18 @@ module _ {L : Type 0} where
   pub puts-resize : (terms : Terms) (r : Layout L) (at : ℕ × ℕ) (size : ℕ) (may_move refused : Bool) → Puts r.segments (best_resize terms r at size may_move refused)
   puts-resize terms r at size may_move refused = puts-found terms r size may_move refused (find_block at r.blocks)
 
-  puts-lent : (r : Layout L) (label : L) (size : ℕ) (a : Asked) → Puts r.segments (put_in_newest r label size a)
-  puts-lent r label size (Granted n b) = refl
-  puts-lent r label size TooMany = tt
-  puts-lent r label size NotLent = tt
+  puts-newest : (r : Layout L) (g : Grant) → g.fresh ≡ true → (label : L) (size : ℕ) (o : Option (ℕ × ℕ)) → Puts r.segments (put_behind_latest (with_grant r g) label size (Some g) o)
+  puts-newest r g fresh label size None = tt
+  puts-newest r g fresh label size (Some at) = behind-one r.segments g fresh
+
+  puts-lent : (r : Layout L) (label : L) (size : ℕ) (a : Asked) → IsNew a → Puts r.segments (put_in_newest r label size a)
+  puts-lent r label size (Granted g) new = puts-newest r g new label size (last_place (with_grant r g) size)
+  puts-lent r label size TooMany new = tt
+  puts-lent r label size NotLent new = tt
 
   puts-behind : (terms : Terms) (r : Layout L) (label : L) (size : ℕ) (refused : Bool) (o : Option (ℕ × ℕ)) → Puts r.segments (put_or_lend terms r label size refused o)
-  puts-behind terms r label size refused (Some at) = sym (append-nil r.segments)
-  puts-behind terms r label size refused None = puts-lent r label size (ask (last_need terms size) r.segments refused)
+  puts-behind terms r label size refused (Some at) = none-behind r.segments r.segments refl
+  puts-behind terms r label size refused None = puts-lent r label size (ask terms (last_need terms size) r.segments refused) (ask-is-new terms (last_need terms size) r.segments refused)
 
   pub puts-last : (terms : Terms) (r : Layout L) (label : L) (size : ℕ) (refused : Bool) → Puts r.segments (last_alloc terms r label size refused)
   puts-last terms r label size refused = puts-behind terms r label size refused (last_place r size)
@@ -90,17 +108,17 @@ module _ {L : Type 0} where
       either (Puts r.segments) (is_at at b) (resize_latest terms r size may_move refused b) (Refused NotLast)
       (puts-resized r size b (can_end r size b) may_move (last_alloc terms r b.label size refused) (puts-last terms r b.label size refused)) tt
 
-  puts-cell : (p : Pool L) (label : L) (size : ℕ) (a : Asked) → PutsCell p.layout.segments (put_asked p label size a)
-  puts-cell p label size (Granted n b) = refl
-  puts-cell p label size TooMany = tt
-  puts-cell p label size NotLent = tt
+  puts-cell : (p : Pool L) (label : L) (size : ℕ) (a : Asked) → IsNew a → PutsCell p.layout.segments (put_asked p label size a)
+  puts-cell p label size (Granted g) new = behind-one p.layout.segments g new
+  puts-cell p label size TooMany new = tt
+  puts-cell p label size NotLent new = tt
 
   puts-carved : (terms : Terms) (p : Pool L) (label : L) (size : ℕ) (refused : Bool) (o : Option (ℕ × ℕ)) → PutsCell p.layout.segments (put_carving terms p label size refused o)
-  puts-carved terms p label size refused (Some at) = sym (append-nil p.layout.segments)
-  puts-carved terms p label size refused None = puts-cell p label size (ask (pool_need terms p size) p.layout.segments refused)
+  puts-carved terms p label size refused (Some at) = none-behind p.layout.segments p.layout.segments refl
+  puts-carved terms p label size refused None = puts-cell p label size (ask terms (pool_need terms p size) p.layout.segments refused) (ask-is-new terms (pool_need terms p size) p.layout.segments refused)
 
   puts-free : (terms : Terms) (p : Pool L) (label : L) (size : ℕ) (refused : Bool) (freed : List (ℕ × ℕ)) → PutsCell p.layout.segments (put_free terms p label size refused freed)
-  puts-free terms p label size refused (at ∷ freed) = sym (append-nil p.layout.segments)
+  puts-free terms p label size refused (at ∷ freed) = none-behind p.layout.segments p.layout.segments refl
   puts-free terms p label size refused [] =
       puts-carved terms p label size refused (uncarved (cell_for (element_with p size)) p.carved p.layout.segments)
 
@@ -111,7 +129,7 @@ module _ {L : Type 0} where
 
   pub puts-sized : (p : Pool L) (at : ℕ × ℕ) (size : ℕ) → PutsCell p.layout.segments (pool_resize p at size)
   puts-sized p at size =
-      either (PutsCell p.layout.segments) (nat_lt (element_with p size) size) (Refused PoolSize) _ tt (sym (append-nil p.layout.segments))
+      either (PutsCell p.layout.segments) (nat_lt (element_with p size) size) (Refused PoolSize) _ tt (none-behind p.layout.segments p.layout.segments refl)
 
   -- each form of a region has the segments of its lists
   pub in-best : (segments : List (ℕ × ℕ)) (o : Outcome (Put (Layout L))) → Puts segments o → PutsIn segments (outcome_as OfBest o)

@@ -5,12 +5,12 @@ use Rattle.std.specs.Prelude.{nat_lt, take}
 use Rattle.std.proofs.lemmas.Option.{none-some, same_Some}
 use Rattle.vc_model.specs.Best.{best_alloc, best_need, place_in, put, put_in_new, put_or_ask, zeros}
 use Rattle.vc_model.specs.Discipline.{Terms}
-use Rattle.vc_model.specs.Last.{can_end, if_latest, last_alloc, last_need, last_place, last_resize, latest, put_in_newest, put_or_lend, resize_latest}
-use Rattle.vc_model.specs.Layout.{Block, Layout, is_at, with_block, with_segment}
+use Rattle.vc_model.specs.Last.{can_end, if_latest, last_alloc, last_need, last_place, last_resize, latest, put_behind_latest, put_in_newest, put_or_lend, resize_latest}
+use Rattle.vc_model.specs.Layout.{Block, Layout, is_at, with_block, with_grant}
 use Rattle.vc_model.specs.Outcome.{Fixed, NotLast, PoolSize, Outcome, Done, Put, Refused}
-use Rattle.vc_model.specs.Pool.{Pool, cell_for, element_with, pool_alloc, pool_need, pool_resize, put_asked, put_carving, put_free, uncarved}
+use Rattle.vc_model.specs.Pool.{Pool, carved_in, cell_for, cell_offset, element_with, pool_alloc, pool_need, pool_resize, put_asked, put_carving, put_free, uncarved}
 use Rattle.vc_model.specs.Resize.{best_resize, can_stay, outcome_of_move, resize_found, stays}
-use Rattle.vc_model.specs.Segments.{Asked, Granted, TooMany, NotLent, ask}
+use Rattle.vc_model.specs.Segments.{Asked, Grant, Granted, TooMany, NotLent, ask}
 use Rattle.vc_model.specs.Touch.{change_block, find_block, rewritten_block}
 use Rattle.vc_counts.proofs.Others.{AreMine, mine-behind, mine-found, mine-with, mine-written, others, others-behind, others-sized, others-with, others-without, others-written, place-at}
 use Rattle.vc_counts.proofs.RegionLends.{either}
@@ -57,42 +57,46 @@ module _ {L : Type 0} (mine : L → Bool) (weigh : ℕ → ℕ) where
           mine_at = λ p all. mine-behind mine weigh p (zeros label size at) is bs all;
         }
 
-    keeps-put : (r : Layout L) (size : ℕ) (granted : Option (ℕ × ℕ)) (o : Option (ℕ × ℕ)) → KeepsBest r.blocks (put r label size granted o)
+    keeps-put : (r : Layout L) (size : ℕ) (granted : Option Grant) (o : Option (ℕ × ℕ)) → KeepsBest r.blocks (put r label size granted o)
     keeps-put r size granted None = tt
     keeps-put r size granted (Some at) = keeps-with size at r.blocks
 
     keeps-new : (r : Layout L) (size align : ℕ) (a : Asked) → KeepsBest r.blocks (put_in_new r label size align a)
-    keeps-new r size align (Granted n b) = keeps-put (with_segment r (n, b)) size (Some (n, b)) (place_in (with_segment r (n, b)) size align)
+    keeps-new r size align (Granted g) = keeps-put (with_grant r g) size (Some g) (place_in (with_grant r g) size align)
     keeps-new r size align TooMany = tt
     keeps-new r size align NotLent = tt
 
     keeps-placed : (terms : Terms) (r : Layout L) (size align : ℕ) (refused : Bool) (o : Option (ℕ × ℕ)) → KeepsBest r.blocks (put_or_ask terms r label size align refused o)
     keeps-placed terms r size align refused (Some at) = keeps-with size at r.blocks
-    keeps-placed terms r size align refused None = keeps-new r size align (ask (best_need terms size align) r.segments refused)
+    keeps-placed terms r size align refused None = keeps-new r size align (ask terms (best_need terms size align) r.segments refused)
 
     pub keeps-best : (terms : Terms) (r : Layout L) (size align : ℕ) (refused : Bool) → KeepsBest r.blocks (best_alloc terms r label size align refused)
     keeps-best terms r size align refused = keeps-placed terms r size align refused (place_in r size align)
 
+    keeps-latest : (r : Layout L) (size : ℕ) (granted : Option Grant) (o : Option (ℕ × ℕ)) → KeepsBest r.blocks (put_behind_latest r label size granted o)
+    keeps-latest r size granted None = tt
+    keeps-latest r size granted (Some at) = keeps-behind size at r.blocks
+
     keeps-newest : (r : Layout L) (size : ℕ) (a : Asked) → KeepsBest r.blocks (put_in_newest r label size a)
-    keeps-newest r size (Granted n b) = keeps-behind size (n, 32) r.blocks
+    keeps-newest r size (Granted g) = keeps-latest (with_grant r g) size (Some g) (last_place (with_grant r g) size)
     keeps-newest r size TooMany = tt
     keeps-newest r size NotLent = tt
 
     keeps-lent : (terms : Terms) (r : Layout L) (size : ℕ) (refused : Bool) (o : Option (ℕ × ℕ)) → KeepsBest r.blocks (put_or_lend terms r label size refused o)
     keeps-lent terms r size refused (Some at) = keeps-behind size at r.blocks
-    keeps-lent terms r size refused None = keeps-newest r size (ask (last_need terms size) r.segments refused)
+    keeps-lent terms r size refused None = keeps-newest r size (ask terms (last_need terms size) r.segments refused)
 
     pub keeps-last : (terms : Terms) (r : Layout L) (size : ℕ) (refused : Bool) → KeepsBest r.blocks (last_alloc terms r label size refused)
     keeps-last terms r size refused = keeps-lent terms r size refused (last_place r size)
 
     keeps-cell : (p : Pool L) (size : ℕ) (a : Asked) → KeepsPool p.layout.blocks (put_asked p label size a)
-    keeps-cell p size (Granted n b) = keeps-with size (n, 32) p.layout.blocks
+    keeps-cell p size (Granted g) = keeps-with size (g.number, cell_offset (cell_for (element_with p size)) (carved_in g.number p.carved)) p.layout.blocks
     keeps-cell p size TooMany = tt
     keeps-cell p size NotLent = tt
 
     keeps-carved : (terms : Terms) (p : Pool L) (size : ℕ) (refused : Bool) (o : Option (ℕ × ℕ)) → KeepsPool p.layout.blocks (put_carving terms p label size refused o)
     keeps-carved terms p size refused (Some at) = keeps-with size at p.layout.blocks
-    keeps-carved terms p size refused None = keeps-cell p size (ask (pool_need terms p size) p.layout.segments refused)
+    keeps-carved terms p size refused None = keeps-cell p size (ask terms (pool_need terms p size) p.layout.segments refused)
 
     keeps-free : (terms : Terms) (p : Pool L) (size : ℕ) (refused : Bool) (freed : List (ℕ × ℕ)) → KeepsPool p.layout.blocks (put_free terms p label size refused freed)
     keeps-free terms p size refused (at ∷ freed) = keeps-with size at p.layout.blocks

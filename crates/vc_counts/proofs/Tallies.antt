@@ -1,5 +1,6 @@
 -- What is read of the region of a step's command, before it and after it, against the bytes of all regions.
 use Rattle.std.proofs.Common.{◌≡◌, ℕ, ◌+◌, List, [], Option, Some, None, refl, sym, ap, subst, arith}
+use Rattle.vc_model.specs.Segments.{Grant}
 use Rattle.vc_commands.specs.Home.{Home, Label}
 use Rattle.vc_commands.specs.FreedNames.{FreedNames}
 use Rattle.vc_commands.specs.Sizes.{size_named}
@@ -11,16 +12,16 @@ use Rattle.vc_script.specs.declared.reply.Reply.TheVariants.{Refused}
 use Rattle.vc_steps.specs.Sizes.{size_in_home}
 use Rattle.vc_steps.specs.State.{State, Stepped, home_named, with_region, without_home}
 use Rattle.vc_views.specs.Views.{DictHome}
-use Rattle.vc_counts.specs.Reach.{bytes_freed_by, put_by}
-use Rattle.vc_counts.specs.Working.{busy_home, busy_in_home, reached_at, segments_at, segments_in}
+use Rattle.vc_counts.specs.Reach.{bytes_freed_by, put_by_reply}
+use Rattle.vc_counts.specs.Working.{busy_home, busy_in_home, reached_at, segments_at, segments_at_home}
 use Rattle.vc_counts.specs.declared.reach.Reach.{Reach}
 use Rattle.vc_counts.specs.declared.reach.Reach.TheVariants.{Nothing, Block, Table, Dict, All}
-use Rattle.vc_counts.proofs.Lending.{Lends, lends-fewer, lends-same}
+use Rattle.vc_counts.proofs.GrantedSegments.{Lends, lends-fewer, lends-same}
 use Rattle.vc_counts.proofs.Sums.{busy_homes, busy-with, busy-without, named-with, put_region}
 
 -- from the bytes that a command reached before a step to those after it: all regions' blocks change by as many; and the
 -- segments that were granted stand behind those that its region had
-pub record Tallies (before after : ℕ) (sum sum' : ℕ) (had has granted : List (ℕ × ℕ)) : Type 0 where
+pub record Tallies (before after : ℕ) (sum sum' : ℕ) (had has : List (ℕ × ℕ)) (granted : List Grant) : Type 0 where
   pub busy : sum' + before ≡ sum + after
   pub lent : Lends had has granted
 
@@ -29,7 +30,7 @@ abbrev pub before_by : Reach → Option (List ℕ) → Reply → State → ℕ
 before_by reach name reply s = reached_at reach name s.homes s.dicts + bytes_freed_by reach reply
 
 abbrev pub after_by : Reach → Option (List ℕ) → Reply → State → ℕ
-after_by reach name reply s = reached_at reach name s.homes s.dicts + put_by reach reply
+after_by reach name reply s = reached_at reach name s.homes s.dicts + put_by_reply reach reply
 
 -- so for the region of that name in a step
 abbrev pub TalliesStep : State → Reach → Option (List ℕ) → Stepped → Type 0
@@ -42,7 +43,7 @@ pub idle : (name : Option (List ℕ)) (hs : List Home) → Tallies 0 0 (busy_hom
 idle name hs = record { busy = refl; lent = lends-same (segments_at name hs) (segments_at name hs) refl }
 
 -- or a command is refused
-no-holder : (reach : Reach) (why : Refusal) → bytes_freed_by reach (Refused why) ≡ put_by reach (Refused why)
+no-holder : (reach : Reach) (why : Refusal) → bytes_freed_by reach (Refused why) ≡ put_by_reply reach (Refused why)
 no-holder Nothing why = refl
 no-holder (Block x) why = refl
 no-holder (Table d) why = refl
@@ -83,12 +84,12 @@ module _ (r : List ℕ) (hs : List Home) (h : Home) (found : home_named r hs ≡
     there : home_named r (with_region r region kept hs) ≡ Some (put_region region kept h)
     there = named-with r region kept hs h found
 
-    pub lends-changed : (granted : List (ℕ × ℕ)) → Lends (segments_of h.region) (segments_of region) granted → Lends (segments_at (Some r) hs) (segments_at (Some r) (with_region r region kept hs)) granted
+    pub lends-changed : (granted : List Grant) → Lends (segments_of h.region) (segments_of region) granted → Lends (segments_at (Some r) hs) (segments_at (Some r) (with_region r region kept hs)) granted
     lends-changed granted lends =
-        subst (λ had. Lends had (segments_at (Some r) changed) granted) (sym (ap segments_in found))
-        (subst (λ has. Lends (segments_of h.region) has granted) (sym (ap segments_in there)) lends)
+        subst (λ had. Lends had (segments_at (Some r) changed) granted) (sym (ap segments_at_home found))
+        (subst (λ has. Lends (segments_of h.region) has granted) (sym (ap segments_at_home there)) lends)
 
-    pub busy-changed : (reach : Reach) (reply : Reply) (ds : List DictHome) → IsOfRegion reach → Reaches reach h region kept → busy_homes (with_region r region kept hs) + (reached_at reach (Some r) hs ds + bytes_freed_by reach reply) ≡ busy_homes hs + (reached_at reach (Some r) (with_region r region kept hs) ds + put_by reach reply)
+    pub busy-changed : (reach : Reach) (reply : Reply) (ds : List DictHome) → IsOfRegion reach → Reaches reach h region kept → busy_homes (with_region r region kept hs) + (reached_at reach (Some r) hs ds + bytes_freed_by reach reply) ≡ busy_homes hs + (reached_at reach (Some r) (with_region r region kept hs) ds + put_by_reply reach reply)
     busy-changed Nothing reply ds of reaches = omega (arith, busy-with r region kept hs h found, reaches)
     busy-changed (Block x) reply ds of reaches =
         omega (arith, busy-with r region kept hs h found, reaches, ap (size_in_home x) found, ap (size_in_home x) there)
@@ -102,5 +103,5 @@ module _ (r : List ℕ) (hs : List Home) (h : Home) (found : home_named r hs ≡
   tallies-closed alone =
       record {
         busy = omega (arith, busy-without r hs h found, ap busy_in_home found, ap busy_in_home alone);
-        lent = subst (λ has. Lends (segments_at (Some r) hs) has []) (sym (ap segments_in alone)) (lends-fewer (segments_at (Some r) hs) [] (omega arith));
+        lent = subst (λ has. Lends (segments_at (Some r) hs) has []) (sym (ap segments_at_home alone)) (lends-fewer (segments_at (Some r) hs) [] (omega arith));
       }

@@ -15,9 +15,9 @@ use Rattle.vc_script.specs.declared.command.Command.TheVariants.{Append, Attach,
 use Rattle.vc_script.specs.declared.refusal.Refusal.TheVariants as why
 use Rattle.vc_seg.specs.declared.method.Method.{Method}
 use Rattle.vc_seg.specs.declared.method.Method.TheVariants.{VmBest, VmPool, VmLast, VmDebug, VmProfile}
-use Rattle.vc_steps.specs.Dicts.{dict_command, dict_of, dict_step, on_found, on_seat, region_named}
-use Rattle.vc_steps.specs.State.{State, Stepped, step_with_change, close_home, close_step, step_with_close, home_named, is_busy, open_step, opened_over, step_with_refusal, with_region, without_home}
-use Rattle.vc_steps.specs.Step.{cleared_or, region_of, region_step, shelf_step, step, step_of}
+use Rattle.vc_steps.specs.Dicts.{dict_command, dict_of, dict_step, on_found, on_seat, region_asked_for}
+use Rattle.vc_steps.specs.State.{State, Stepped, step_with_change, close_home, close_step, step_with_close, home_named, is_home_busy, open_step, opened_over, step_with_refusal, with_region, without_home}
+use Rattle.vc_steps.specs.Step.{cleared_or, region_of_command, region_step, shelf_step, step, step_of}
 use Rattle.vc_views.specs.Views.{DictHome, dict_named}
 use Rattle.vc_counts.specs.Reach.{reach_of}
 use Rattle.vc_counts.specs.Working.{region_worked}
@@ -25,7 +25,7 @@ use Rattle.vc_counts.specs.declared.reach.Reach.TheVariants.{Nothing, All}
 use Rattle.vc_counts.proofs.CommandLends.{command-changes}
 use Rattle.vc_counts.proofs.CommandReaches.{command-reaches}
 use Rattle.vc_counts.proofs.DictBytes.{IsSeated}
-use Rattle.vc_counts.proofs.Named.{IsProper, proper-named}
+use Rattle.vc_counts.proofs.OwnNames.{IsProper, proper-named}
 use Rattle.vc_counts.proofs.RegionLends.{either}
 use Rattle.vc_counts.proofs.Sums.{busy-push, busy_homes, named-with, put_region}
 use Rattle.vc_counts.proofs.DictWorks.{HaveOwnNames, command-works, dict-found}
@@ -36,7 +36,7 @@ abbrev pub AreAlone : List Home → Type 0
 AreAlone homes = (r : List ℕ) → home_named r (without_home r homes) ≡ None
 
 -- a command on a region reaches no dictionary
-of-region : (command : Command) (r : List ℕ) → region_of command ≡ Some r → IsOfRegion (reach_of command)
+of-region : (command : Command) (r : List ℕ) → region_of_command command ≡ Some r → IsOfRegion (reach_of command)
 of-region (OpenDict d method q kind) r e = absurd (none-some r e)
 of-region (Insert d bytes) r e = absurd (none-some r e)
 of-region (Append d bytes) r e = absurd (none-some r e)
@@ -69,7 +69,7 @@ module _ (s : State) where
   close-found : (r : List ℕ) (o : Option Home) → home_named r s.homes ≡ o → AreAlone s.homes → TalliesStep s All (Some r) (close_home s r o)
   close-found r None found alone = refuses s All (Some r) why.NoRegion
   close-found r (Some h) found alone =
-      either (TalliesStep s All (Some r)) (is_busy s r) (step_with_refusal s why.Busy) (step_with_close s r h) (refuses s All (Some r) why.Busy)
+      either (TalliesStep s All (Some r)) (is_home_busy s r) (step_with_refusal s why.Busy) (step_with_close s r h) (refuses s All (Some r) why.Busy)
       (tallies-closed r s.homes h found (alone r))
 
   works-close : (r : List ℕ) → AreAlone s.homes → TalliesStep s All (Some r) (close_step s r)
@@ -97,7 +97,7 @@ module _ (s : State) where
     cleared-by command of h false found proper after = region-changed command of h found proper after
 
     cleared-works : (command : Command) → IsOfRegion (reach_of command) → (h : Home) → home_named r s.homes ≡ Some h → AreProper s.homes → AreProper (cleared_or s r command (step_with_change s r (in_region h line command need))).state.homes → TalliesStep s (reach_of command) (Some r) (cleared_or s r command (step_with_change s r (in_region h line command need)))
-    cleared-works (ClearRegion y) of h found proper after = cleared-by (ClearRegion y) of h (is_busy s r) found proper after
+    cleared-works (ClearRegion y) of h found proper after = cleared-by (ClearRegion y) of h (is_home_busy s r) found proper after
     cleared-works command of h found proper after = region-changed command of h found proper after
 
     region-found : (command : Command) → IsOfRegion (reach_of command) → (o : Option Home) → home_named r s.homes ≡ o → AreProper s.homes → AreProper (region_step s r line command need o).state.homes → TalliesStep s (reach_of command) (Some r) (region_step s r line command need o)
@@ -105,7 +105,7 @@ module _ (s : State) where
     region-found command of (Some h) found proper after = cleared-works command of h found proper after
 
   -- a command in a region, or in none
-  works-region : (line : ℕ) (command : Command) (need : Need) (o : Option (List ℕ)) → region_of command ≡ o → shelf_step s command need ≡ step_with_refusal s why.NoRegion → AreProper s.homes → AreProper (step_of s line command need o).state.homes → TalliesStep s (reach_of command) o (step_of s line command need o)
+  works-region : (line : ℕ) (command : Command) (need : Need) (o : Option (List ℕ)) → region_of_command command ≡ o → shelf_step s command need ≡ step_with_refusal s why.NoRegion → AreProper s.homes → AreProper (step_of s line command need o).state.homes → TalliesStep s (reach_of command) o (step_of s line command need o)
   works-region line command need None region e proper after = subst (TalliesStep s (reach_of command) None) (sym e) (refuses s (reach_of command) None why.NoRegion)
   works-region line command need (Some r) region e proper after =
       region-found r line need command (of-region command r region) (home_named r s.homes) refl proper after
@@ -129,7 +129,7 @@ module _ (s : State) where
   acts line command need None o = step_of s line command need o
   acts line command need (Some d) o = dict_step s d command need
 
-  asked-works : (line : ℕ) (command : Command) (need : Need) (d o : Option (List ℕ)) → dict_of command ≡ d → region_of command ≡ o → shelf_step s command need ≡ step_with_refusal s why.NoRegion → HaveOwnNames s.dicts → AreSeated → AreProper s.homes → AreProper (acts line command need d o).state.homes → TalliesStep s (reach_of command) (region_named s d o) (acts line command need d o)
+  asked-works : (line : ℕ) (command : Command) (need : Need) (d o : Option (List ℕ)) → dict_of command ≡ d → region_of_command command ≡ o → shelf_step s command need ≡ step_with_refusal s why.NoRegion → HaveOwnNames s.dicts → AreSeated → AreProper s.homes → AreProper (acts line command need d o).state.homes → TalliesStep s (reach_of command) (region_asked_for s d o) (acts line command need d o)
   asked-works line command need None o is region e lone seated proper after = works-region line command need o region e proper after
   asked-works line command need (Some d) o is region e lone seated proper after = found-works command need d is lone seated (dict_named d s.dicts) refl
 
@@ -138,4 +138,4 @@ module _ (s : State) where
   works line (OpenRegion r method n) need alone lone seated proper after = works-open r method n
   works line (CloseRegion r) need alone lone seated proper after = works-close r alone
   works line (OpenDict d method r kind) need alone lone seated proper after = dict-found s d method kind need r (home_named r s.homes) refl
-  works line command need alone lone seated proper after = asked-works line command need (dict_of command) (region_of command) refl refl refl lone seated proper after
+  works line command need alone lone seated proper after = asked-works line command need (dict_of command) (region_of_command command) refl refl refl lone seated proper after

@@ -1,7 +1,7 @@
 -- What a counted step promises.
 use Rattle.std.specs.Prelude.{◌≡◌, ℕ, ◌<◌, Bool, false, Result, IfOk, IsTrue, OnErr, OnOk}
 use Rattle.vc_counts.specs.CanCount.{CanCount}
-use Rattle.vc_counts.specs.Counts.{busy_in, counts_with_step}
+use Rattle.vc_counts.specs.Counts.{live_bytes, counts_with_step}
 use Rattle.vc_counts.specs.declared.counts.Counts.{Counts}
 use Rattle.vc_script.specs.Needs.{need_shown}
 use Rattle.vc_script.specs.declared.command.Command.{Command}
@@ -17,7 +17,7 @@ pub record CountsStep {E : Type 0} (answer : Result Reply E) (now next : Moment)
   pub counts : IfOk answer (λ reply. after ≡ counts_with_step before (step now.state n command (need_shown reply)))
   pub stays : OnErr answer (after ≡ before)
   -- a command of any later line can be counted then
-  pub can : OnOk answer ((later : ℕ) → n < later → CanCount after (busy_in next.state) later)
+  pub can : OnOk answer ((later : ℕ) → n < later → CanCount after (live_bytes next.state) later)
 
 -- by the answer of a session that had found no memory, or had not, whether it has now: from then on it answers nothing else
 pub record IsCountSpentBy {T E : Type 0} (answer : Result T E) (before after : Bool) : Type 0 where

@@ -39,9 +39,9 @@ holder_freed (Out bytes) = holder_size bytes
 holder_freed reply = 0
 
 -- the bytes that a reply tells of besides a table
-abbrev pub put_by : Reach → Reply → ℕ
-put_by (Table d) reply = holder_put reply
-put_by reach reply = 0
+abbrev pub put_by_reply : Reach → Reply → ℕ
+put_by_reply (Table d) reply = holder_put reply
+put_by_reply reach reply = 0
 
 abbrev pub bytes_freed_by : Reach → Reply → ℕ
 bytes_freed_by (Table d) reply = holder_freed reply

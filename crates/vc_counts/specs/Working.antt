@@ -12,8 +12,8 @@ use Rattle.vc_script.specs.declared.command.Command.{Command}
 use Rattle.vc_script.specs.declared.command.Command.TheVariants.{CloseRegion}
 use Rattle.vc_steps.specs.Account.{state_of}
 use Rattle.vc_steps.specs.DictHomes.{dicts_in}
-use Rattle.vc_steps.specs.Dicts.{dict_of, region_named}
-use Rattle.vc_steps.specs.Homes.{held_in}
+use Rattle.vc_steps.specs.Dicts.{dict_of, region_asked_for}
+use Rattle.vc_steps.specs.Homes.{held_in_session}
 use Rattle.vc_steps.specs.Sizes.{size_in_home}
 use Rattle.vc_steps.specs.State.{State, home_named}
 use Rattle.vc_steps.specs.Step.{opened_in}
@@ -31,13 +31,13 @@ worked_in command = opened_in command
 
 -- the region that a command works in, which is that of its dictionary where it names one
 abbrev pub region_worked : State → Command → Option (List ℕ)
-region_worked s command = region_named s (dict_of command) (worked_in command)
+region_worked s command = region_asked_for s (dict_of command) (worked_in command)
 
 -- the regions and the dictionaries of a session, over no shelf and no kinds
 abbrev pub open_state : {I : Type 0} {V : I → Type 0} {D : Type 0} → ((x : I) × V x → Discipline) → Session D I V → State
 open_state meaning session =
-    state_of [] [] (held_in meaning session)
-    (dicts_in (held_in meaning session) (views_by session.paths session.dicts.entries) session.dicts.entries)
+    state_of [] [] (held_in_session meaning session)
+    (dicts_in (held_in_session meaning session) (views_by session.paths session.dicts.entries) session.dicts.entries)
 
 abbrev pub home_at : Option (List ℕ) → List Home → Option Home
 home_at None homes = None
@@ -55,9 +55,9 @@ busy_in_home (Some h) = busy_home h
 abbrev pub table_bytes : Dictionary → ℕ
 table_bytes d = table_size (slots_of d.table)
 
-abbrev pub table_in : Option DictHome → ℕ
-table_in None = 0
-table_in (Some d) = table_bytes d.dict
+abbrev pub table_at_home : Option DictHome → ℕ
+table_at_home None = 0
+table_at_home (Some d) = table_bytes d.dict
 
 -- the bytes of the holders of objects, and of a dictionary's table and holders
 abbrev pub holders_bytes : List Object → ℕ
@@ -74,17 +74,17 @@ dict_in (Some d) = dict_bytes d.dict
 abbrev pub reached_at : Reach → Option (List ℕ) → List Home → List DictHome → ℕ
 reached_at Nothing name homes dicts = 0
 reached_at (Block x) name homes dicts = size_in_home x (home_at name homes)
-reached_at (Table d) name homes dicts = table_in (dict_named d dicts)
+reached_at (Table d) name homes dicts = table_at_home (dict_named d dicts)
 reached_at (Dict d) name homes dicts = dict_in (dict_named d dicts)
 reached_at All name homes dicts = busy_in_home (home_at name homes)
 
-abbrev pub segments_in : Option Home → List (ℕ × ℕ)
-segments_in None = []
-segments_in (Some h) = segments_of h.region
+abbrev pub segments_at_home : Option Home → List (ℕ × ℕ)
+segments_at_home None = []
+segments_at_home (Some h) = segments_of h.region
 
 -- its segments
 abbrev pub segments_at : Option (List ℕ) → List Home → List (ℕ × ℕ)
-segments_at name homes = segments_in (home_at name homes)
+segments_at name homes = segments_at_home (home_at name homes)
 
 -- of segments those behind the first ones, counted and in bytes
 abbrev pub tally_behind : ℕ → List (ℕ × ℕ) → Tally

@@ -1,7 +1,7 @@
 // The counts of a run.
 ghost use Rattle.std.specs.Prelude.{◌≡◌, ◌+◌, ◌<◌, ◌≤◌, ◌^◌};
 ghost use Rattle.vc_counts.specs.CanCount.{IsInRange, counted_commands};
-ghost use Rattle.vc_counts.specs.Counts.{no_counts};
+ghost use Rattle.vc_counts.specs.Counts.{nothing_counted};
 ghost use Rattle.vc_counts.specs.Working.{counts_after};
 
 use vc_layouts::Tally;
@@ -26,7 +26,7 @@ pub struct Counts {
 impl Counts {
     /// Of a run with no command, over no region.
     pub fn new() -> Counts
-        ensures { result ≡ no_counts }
+        ensures { result ≡ nothing_counted }
     {
         Counts {
             done: 0,

@@ -8,8 +8,8 @@ ghost use Rattle.vc_views.specs.Dicts.{cells_held, region_named, region_seen};
 use indexmap::IndexMap;
 use vc_base::{Cells, Name};
 use vc_dict::Dict;
-use vc_region::Region;
 use vc_steps::{DictEntry, HomeEntry};
+use vc_views::best_of;
 
 // Those of a dictionary over some cells, one behind another.
 fn holders_over<C: Cells>(cells: &C, dict: &Dict) -> u64
@@ -34,11 +34,5 @@ pub(crate) fn holders_bytes(homes: &IndexMap<Name, HomeEntry>, entry: &DictEntry
         (cells_held (region_named (map region_seen homes.now.entries) entry.now.home))).objects }
     ensures few { result < 2 ^ 43 }
 {
-    let Some(i) = homes.get_index_of(&entry.home) else {
-        unreachable!()
-    };
-    let Region::Best(best) = &homes[i].region else {
-        unreachable!()
-    };
-    holders_over(best, &entry.dict)
+    holders_over(best_of(homes, &entry.home), &entry.dict)
 }

@@ -1,7 +1,7 @@
 // What of its region a command may put, resize or free.
 ghost use Rattle.std.specs.Prelude.{◌≡◌};
 ghost use Rattle.vc_objects.specs.Objects.{holder_size};
-ghost use Rattle.vc_counts.specs.Reach.{bytes_freed_by, holder_freed, holder_put, put_by, reach_of};
+ghost use Rattle.vc_counts.specs.Reach.{bytes_freed_by, holder_freed, holder_put, put_by_reply, reach_of};
 
 use vc_base::Name;
 use vc_script::{Bytes, Command, Reply};
@@ -74,7 +74,7 @@ fn holder_freed(reply: &Reply) -> u64
 
 // The bytes that the reply of a command tells were put.
 pub(crate) fn put_by(reach: &Reach, reply: &Reply) -> u64
-    ensures { result ≡ put_by reach.now reply.now }
+    ensures { result ≡ put_by_reply reach.now reply.now }
 {
     match reach {
         Reach::Table(_) => holder_put(reply),

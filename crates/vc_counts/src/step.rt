@@ -4,13 +4,13 @@ ghost use Rattle.std.specs.List.{IsDistinct};
 ghost use Rattle.std.specs.Map.{keys_of};
 ghost use Rattle.vc_counts.specs.CanCount.{CanCount};
 ghost use Rattle.vc_counts.specs.Counting.{CountsStep, IsCountSpentBy};
-ghost use Rattle.vc_counts.specs.Counts.{busy_in};
+ghost use Rattle.vc_counts.specs.Counts.{live_bytes};
 ghost use Rattle.vc_counts.specs.Holders.{AreSomeDicts};
-ghost use Rattle.vc_counts.specs.Working.{busy_in_home, dict_in, open_state, reached_at, region_worked, segments_at, table_in, tally_behind, worked_in};
+ghost use Rattle.vc_counts.specs.Working.{busy_in_home, dict_in, open_state, reached_at, region_worked, segments_at, table_at_home, tally_behind, worked_in};
 ghost use Rattle.vc_objects.specs.Objects.{slots_of, table_size};
 ghost use Rattle.vc_objects.specs.Parts.{table_of};
 ghost use Rattle.vc_script.specs.Needs.{is_refusal};
-ghost use Rattle.vc_steps.specs.Homes.{IsSessionOver, held_in, state_over};
+ghost use Rattle.vc_steps.specs.Homes.{IsSessionOver, held_in_session, state_over};
 ghost use Rattle.vc_steps.specs.Sizes.{AreNamed};
 ghost use Rattle.vc_steps.specs.State.{home_named};
 ghost use Rattle.vc_steps.specs.Steps.{RunsOver};
@@ -86,7 +86,7 @@ fn table_bytes(dict: &Dict) -> u64
 
 // Those of the table of the dictionary of that name, where it is open.
 fn table_named<D>(session: &Session<D>, name: &Name) -> u64
-    ensures { result ≡ table_in (dict_named name.now (open_state state session.now).dicts) }
+    ensures { result ≡ table_at_home (dict_named name.now (open_state state session.now).dicts) }
 {
     match session.dicts.get(name) {
         Some(entry) => table_bytes(&entry.dict),
@@ -97,7 +97,7 @@ fn table_named<D>(session: &Session<D>, name: &Name) -> u64
 // The bytes of the table and of the holders of the dictionary of that name, where it is open.
 fn dict_named<D>(session: &Session<D>, name: &Name) -> u64
     requires labels { length session.now.labels.items ≡ length session.now.homes.entries }
-    requires dicts { AreSomeDicts (held_in state session.now) session.now.dicts.entries }
+    requires dicts { AreSomeDicts (held_in_session state session.now) session.now.dicts.entries }
     ensures { result ≡ dict_in (dict_named name.now (open_state state session.now).dicts) }
 {
     match session.dicts.get(name) {
@@ -109,8 +109,8 @@ fn dict_named<D>(session: &Session<D>, name: &Name) -> u64
 // The bytes of what a command reaches in a region, but for a holder that its reply tells of.
 fn reached_at<D>(session: &Session<D>, reach: &Reach, region: &Option<Name>) -> u64
     requires labels { length session.now.labels.items ≡ length session.now.homes.entries }
-    requires names { AreNamed (held_in state session.now) }
-    requires dicts { AreSomeDicts (held_in state session.now) session.now.dicts.entries }
+    requires names { AreNamed (held_in_session state session.now) }
+    requires dicts { AreSomeDicts (held_in_session state session.now) session.now.dicts.entries }
     ensures { result ≡ reached_at reach.now region.now
         (open_state state session.now).homes (open_state state session.now).dicts }
 {
@@ -180,7 +180,7 @@ pub fn counted_step<D: DictDisc>(
     counts: &mut Counts,
 ) -> Result<Reply, OutOfMemory>
     requires session { IsSessionOver state D.rules shelf.old session.old kinds.old.items }
-    requires counts { CanCount counts.old (busy_in
+    requires counts { CanCount counts.old (live_bytes
         (state_over state (rules_in D.rules kinds.old.items) shelf.old session.old)) line }
     ensures runs { RunsOver state D.rules D.gone shelf.old session.old kinds.old.items
         shelf.new session.new kinds.new.items

@@ -34,11 +34,11 @@ use Rattle.vc_steps.specs.Moment.{Moment, moment_at_end, over_sink}
 use Rattle.vc_session.specs.Engine.{RunsLines, RunsScript}
 use Rattle.vc_session.specs.ProperState.{IsProperHome}
 use Rattle.vc_session.specs.Progress.{Progress}
-use Rattle.vc_session.specs.Replay.{IsReplay, IsRun, Told}
+use Rattle.vc_session.specs.Replay.{IsReplay, IsRunOf, Told}
 use Rattle.vc_session.specs.Run.{script}
 use Rattle.vc_session.specs.SoFar.{AtEnd}
 use Rattle.vc_session.specs.Streams.{Flows}
-use Rattle.vc_session.specs.Text.{body_of, counts_of, good_lines, is_quiet, lines_text, stat_line, stat_text, stats_by, summary, summary_by, tail_lines, text_of}
+use Rattle.vc_session.specs.Text.{cut_short_text, counts_of, good_lines, is_quiet, lines_text, stat_line, numbers_text, stats_by, summary, summary_by, tail_lines, text_of}
 use Rattle.vc_session.proofs.Progress.{progress-end, told-more}
 use Rattle.vc_session.proofs.ShownNeeds.{IsUnnumbered, NoLine, none-unnumbered}
 use Rattle.vc_words.specs.declared.words.Words.{Words}
@@ -88,13 +88,13 @@ summary-same false lines c d same = refl
 summary-same true lines c d same = ap (summary lines) (same refl)
 
 -- a run at its last command, with what is written behind its replies
-pub text-ends : {start now : Moment} {counts : Counts} {text : List ℕ} {count : ℕ} {done : List (ℕ × Command)} (w : Words) (lines : ℕ) (after : Option (List ℕ)) (tail : List ℕ) → Progress (is_quiet w) start now counts text count done → count < 2 ^ 64 → tail ≡ lines_text (tail_lines w lines counts now.state.homes) → Told start.written after (text ++ tail) → IsRun (is_quiet w) (text_of w lines) start (moment_at_end (over_sink now after)) done
+pub text-ends : {start now : Moment} {counts : Counts} {text : List ℕ} {count : ℕ} {done : List (ℕ × Command)} (w : Words) (lines : ℕ) (after : Option (List ℕ)) (tail : List ℕ) → Progress (is_quiet w) start now counts text count done → count < 2 ^ 64 → tail ≡ lines_text (tail_lines w lines counts now.state.homes) → Told start.written after (text ++ tail) → IsRunOf (is_quiet w) (text_of w lines) start (moment_at_end (over_sink now after)) done
 text-ends {now = now} {counts = counts} w lines after tail p few is told =
     progress-end p (text_of w lines) tail after few
     (λ quiet n below. subst (λ t. NoLine n (ended_lines t)) (sym is) (tail-none w lines counts now.state.homes p.proper_state n below))
-    (ap (λ s. body_of (is_quiet w) p.ran ++ lines_text (tail_lines w lines (counts_of p.ran) s.homes)) p.state
-    ∙ (ap (λ ls. body_of (is_quiet w) p.ran ++ lines_text (ls ++ stats_by w.stat now.state.homes)) (summary-same (is_quiet w) lines (counts_of p.ran) counts (λ quiet. sym (p.counted quiet)))
-    ∙ ap (λ t. body_of (is_quiet w) p.ran ++ t) (sym is)))
+    (ap (λ s. cut_short_text (is_quiet w) p.ran ++ lines_text (tail_lines w lines (counts_of p.ran) s.homes)) p.state
+    ∙ (ap (λ ls. cut_short_text (is_quiet w) p.ran ++ lines_text (ls ++ stats_by w.stat now.state.homes)) (summary-same (is_quiet w) lines (counts_of p.ran) counts (λ quiet. sym (p.counted quiet)))
+    ∙ ap (λ t. cut_short_text (is_quiet w) p.ran ++ t) (sym is)))
     told
 
 good-same : (bad : Option (ℕ × LineFault)) (lines total : ℕ) → (bad ≡ None → lines ≡ total) → good_lines bad lines ≡ good_lines bad total
@@ -108,7 +108,7 @@ script-ends tool w start now counts lines bad (Some input) left after tail is wr
     record {
       first = e.first;
       stops = e.stops;
-      run = subst (λ n. IsRun (is_quiet w) (text_of w n) start (moment_at_end (over_sink now after)) (script tool input)) (good-same bad lines (length (judged_lines input)) e.whole)
+      run = subst (λ n. IsRunOf (is_quiet w) (text_of w n) start (moment_at_end (over_sink now after)) (script tool input)) (good-same bad lines (length (judged_lines input)) e.whole)
           (text-ends w (good_lines bad lines) after tail e.progress (omega (arith, e.few)) is (told-more start.written now.written after e.text tail e.told written));
     }
 
@@ -133,14 +133,14 @@ script-told tool w quiet start last counts count number lines bad old mid new no
 
 -- a region's entry tells its numbers
 abbrev pub entry_text : {I : Type 0} {V : I → Type 0} → List ℕ × HomeEntry I V → List ℕ
-entry_text e = stat_text e.0 (stat_of (region_of e.1.region))
+entry_text e = numbers_text e.0 (stat_of (region_of e.1.region))
 
 stats-entries : {I : Type 0} {V : I → Type 0} (meaning : (x : I) × V x → Discipline) (es : List (List ℕ × HomeEntry I V)) (ls : List Labels) → length ls ≡ length es → map stat_line (map home_of (held_all meaning es ls)) ≡ map entry_text es
 stats-entries meaning [] [] same = refl
 stats-entries meaning [] (l ∷ ls) same = absurd (omega (arith, same))
 stats-entries meaning (e ∷ es) [] same = absurd (omega (arith, same))
 stats-entries meaning (e ∷ es) (l ∷ ls) same =
-    ap (λ stat. stat_text e.0 stat ∷ map stat_line (map home_of (held_all meaning es ls))) (stat-relabelled (name_of l) (rest_in e.1.region) ∙ rest-stat (region_of e.1.region))
+    ap (λ stat. numbers_text e.0 stat ∷ map stat_line (map home_of (held_all meaning es ls))) (stat-relabelled (name_of l) (rest_in e.1.region) ∙ rest-stat (region_of e.1.region))
     ∙ ap (λ texts. entry_text e ∷ texts) (stats-entries meaning es ls (omega (arith, same)))
 
 -- one more item
@@ -164,7 +164,7 @@ summary-none true lines c old plain = absurd (false≢true (sym plain))
 four : (old word name text : List ℕ) → (((old ++ word) ++ name) ++ 32 ∷ []) ++ (text ++ 10 ∷ []) ≡ old ++ ((((word ++ name) ++ 32 ∷ []) ++ text) ++ 10 ∷ [])
 four old word name text = simp append_assoc
 
-pub stat-put : (name : List ℕ) (stat : Stat) (old : List ℕ) → (((old ++ codes "stat ") ++ name) ++ 32 ∷ []) ++ line_of (Stats stat) ≡ old ++ (stat_text name stat ++ 10 ∷ [])
+pub stat-put : (name : List ℕ) (stat : Stat) (old : List ℕ) → (((old ++ codes "stat ") ++ name) ++ 32 ∷ []) ++ line_of (Stats stat) ≡ old ++ (numbers_text name stat ++ 10 ∷ [])
 stat-put name stat old = four old (codes "stat ") name (printed (Stats stat))
 
 pub stats-none : (asked : Bool) (homes : List Home) (old : List ℕ) → asked ≡ false → old ≡ old ++ lines_text (stats_by asked homes)

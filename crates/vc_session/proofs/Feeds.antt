@@ -10,7 +10,7 @@ use Rattle.vc_script.specs.Judged.{line_limit, last_number, judged_from, judged_
 use Rattle.vc_script.specs.Cutting.{Cutting, IsCutting}
 use Rattle.vc_script.specs.Cutter.{result_of_feed, with_byte, with_whole_line}
 use Rattle.vc_script.proofs.Pieces.{judge-ok}
-use Rattle.vc_session.specs.SoFar.{Found, ended_rest, fuel}
+use Rattle.vc_session.specs.SoFar.{FoundSoFar, ended_rest, fuel}
 
 abbrev pub Feeds : Cut → Cutting → ℕ → Cutting → List ℕ → List ℕ → Type 0
 Feeds Whole after used s xs behind =
@@ -31,7 +31,7 @@ feeds-byte More after used s b bs behind less same feeds =
 feeds-byte (Bad fault) after used s b bs behind less same feeds = tt
 
 module _ (s : Cutting) (b : ℕ) (bs behind : List ℕ) (is : IsCutting s) (number : s.count ≢ last_number) where
-  abbrev ended_or : Bool → Found
+  abbrev ended_or : Bool → FoundSoFar
   ended_or t = judged_from (s.count + 1) (cond t (s.kept ∷ ended_after [] (bs ++ behind)) (ended_after (s.kept ++ b ∷ []) (bs ++ behind)))
 
   feeds-line : eqb b 10 ≡ true → Feeds Whole (with_whole_line s) 1 s (b ∷ bs) behind

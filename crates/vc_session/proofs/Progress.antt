@@ -2,11 +2,12 @@
 use Rattle.std.proofs.Common.{◌≡◌, ℕ, ◌+◌, ◌<◌, ◌≤◌, ◌^◌, Bool, true, false, not, cond, List, [], ◌∷◌, ◌++◌, Option, Some, None, length, map, max, refl, sym, ap, ◌∙◌, subst, arith}
 use Rattle.std.specs.Prelude.{IsTrue, sum, count_by}
 use Rattle.std.specs.List.{AllByRecursion}
-use Rattle.std.proofs.lemmas.List.{append_assoc, append-nil, length-append, map-append}
+use Rattle.std.proofs.lemmas.List.{append_assoc, append-nil, map-append}
 use Rattle.std.proofs.lemmas.Grind.{flat_map-append}
 use Rattle.std.proofs.lemmas.List.Sums.{sum_by-append, sum_by_push}
+use Rattle.vc_model.specs.Segments.{Grant}
 use Rattle.vc_base.proofs.Quantifiers.{all-push, all-weaken}
-use Rattle.vc_counts.specs.Counts.{busy_in, counts_with_step}
+use Rattle.vc_counts.specs.Counts.{live_bytes, counts_with_step}
 use Rattle.vc_counts.specs.declared.counts.Counts.{Counts}
 use Rattle.vc_script.specs.declared.command.Command.{Command}
 use Rattle.vc_script.specs.declared.reply.Reply.{Reply}
@@ -21,15 +22,15 @@ use Rattle.vc_steps.specs.Refusals.{refusal_at}
 use Rattle.vc_steps.specs.State.{State, Stepped}
 use Rattle.vc_steps.specs.Step.{step}
 use Rattle.vc_steps.specs.Told.{ended_told, tell}
-use Rattle.vc_steps.proofs.Settling.{settles-same, settles-trans}
-use Rattle.vc_steps.proofs.Told.{tell-append}
+use Rattle.vc_steps.proofs.SettledShelf.{settles-same, settles-trans}
+use Rattle.vc_steps.proofs.KindsTold.{tell-append}
 use Rattle.vc_session.specs.Engine.{IsIdle, IsStep}
 use Rattle.vc_session.specs.Progress.{Progress}
 use Rattle.vc_session.specs.ProperState.{IsProperState}
-use Rattle.vc_session.specs.QuietText.{body_by, line_by, needs_by}
-use Rattle.vc_session.specs.Replay.{IsRun, Told, all_told, run_by}
-use Rattle.vc_session.specs.Run.{Ran, lines_of, nothing_ran, run}
-use Rattle.vc_session.specs.Text.{body_of, counts_of}
+use Rattle.vc_session.specs.QuietText.{body_by, line_by, needs_by_text}
+use Rattle.vc_session.specs.Replay.{IsRunOf, Told, all_told, run_by}
+use Rattle.vc_session.specs.Run.{Ran, lines_of, nothing_ran, run_from}
+use Rattle.vc_session.specs.Text.{cut_short_text, counts_of}
 use Rattle.vc_session.proofs.ProperSteps.{proper-step}
 use Rattle.vc_session.proofs.Runs.{one_more, run-push, step_after}
 use Rattle.vc_session.proofs.ShownNeeds.{NoLine, shows-needs}
@@ -56,7 +57,7 @@ progress-start quiet start counts all none = record {
   within = tt;
   proper = tt;
   proper_state = all;
-  run = λ needs shows. refl;
+  run_from = λ needs shows. refl;
   state = refl;
   settles = settles-same start.accounts;
   gone = refl;
@@ -73,7 +74,7 @@ progress-over written p = record {
   within = p.within;
   proper = p.proper;
   proper_state = p.proper_state;
-  run = p.run;
+  run_from = p.run;
   state = p.state;
   settles = p.settles;
   gone = p.gone;
@@ -90,7 +91,7 @@ progress-same {start = start} {now = now} {next = next} p idle = record {
   within = p.within;
   proper = p.proper;
   proper_state = subst IsProperState (sym idle.state) p.proper_state;
-  run = p.run;
+  run_from = p.run;
   state = p.state ∙ sym idle.state;
   settles = subst (Settles start.accounts next.accounts) (append-nil p.ran.refusals) (settles-trans start.accounts now.accounts next.accounts p.ran.refusals [] p.settles idle.settles);
   gone = idle.gone ∙ p.gone;
@@ -108,11 +109,11 @@ same_counts done done' refused refused' segments segments' bytes bytes' busy pea
 
 pub counts-push : (r : Ran) (c : ℕ × Command) (t : Stepped) → counts_of (one_more r c t) ≡ counts_with_step (counts_of r) t
 counts-push r c t =
-    same_counts _ _ _ _ _ _ _ _ (busy_in t.state) (max r.peak (busy_in t.state))
+    same_counts _ _ _ _ _ _ _ _ (live_bytes t.state) (max r.peak (live_bytes t.state))
     (sum_by_push (λ (x : ℕ × Reply). cond (not (is_refusal x.1)) 1 0) r.replies (c.0, t.reply) ∙ ap (λ n. count_by (λ (x : ℕ × Reply). not (is_refusal x.1)) r.replies + n) (cond-not (is_refusal t.reply)))
     (sum_by_push (λ (x : ℕ × Reply). cond (is_refusal x.1) 1 0) r.replies (c.0, t.reply))
-    (length-append r.granted t.granted)
-    (ap sum (map-append (λ (g : ℕ × ℕ). g.1) r.granted t.granted) ∙ sum_by-append (λ n. n) (map (λ (g : ℕ × ℕ). g.1) r.granted) (map (λ (g : ℕ × ℕ). g.1) t.granted))
+    (sum_by-append (λ (g : Grant). cond g.fresh 1 0) r.granted t.granted)
+    (ap sum (map-append (λ (g : Grant). g.bytes) r.granted t.granted) ∙ sum_by-append (λ n. n) (map (λ (g : Grant). g.bytes) r.granted) (map (λ (g : Grant). g.bytes) t.granted))
 
 -- one more reply
 body-push : (quiet : Bool) (replies : List (ℕ × Reply)) (r : ℕ × Reply) → body_by quiet (replies ++ r ∷ []) ≡ body_by quiet replies ++ line_by quiet r
@@ -135,7 +136,7 @@ module _ {quiet : Bool} {start now : Moment} {before : Counts} {text : List ℕ}
     within = within-next;
     proper = p.proper;
     proper_state = p.proper_state;
-    run = p.run;
+    run_from = p.run;
     state = p.state;
     settles = p.settles;
     gone = p.gone;
@@ -159,7 +160,7 @@ module _ {quiet : Bool} {start now : Moment} {before : Counts} {text : List ℕ}
       refusals = p.ran.refusals ++ refusal_at now.state c i.reply;
       told = p.ran.told ++ t.told;
       granted = p.ran.granted ++ t.granted;
-      peak = max p.ran.peak (busy_in next.state);
+      peak = max p.ran.peak (live_bytes next.state);
     }
 
     abbrev with_step : Reply → State → State → Ran
@@ -169,7 +170,7 @@ module _ {quiet : Bool} {start now : Moment} {before : Counts} {text : List ℕ}
       refusals = p.ran.refusals ++ refusal_at was c reply;
       told = p.ran.told ++ t.told;
       granted = p.ran.granted ++ t.granted;
-      peak = max p.ran.peak (busy_in state);
+      peak = max p.ran.peak (live_bytes state);
     }
 
     pushed-stepped : pushed ≡ stepped_ran
@@ -186,7 +187,7 @@ module _ {quiet : Bool} {start now : Moment} {before : Counts} {text : List ℕ}
     lines_next : lines_of (done ++ (n, c) ∷ []) ≡ lines_of done ++ n ∷ []
     lines_next = map-append (λ (d : ℕ × Command). d.0) done ((n, c) ∷ [])
 
-    run_next : (needs : List (ℕ × Need)) → ShowsNeeds needs (p.ran.replies ++ (n, i.reply) ∷ []) → run start.state (done ++ (n, c) ∷ []) needs ≡ stepped_ran
+    run_next : (needs : List (ℕ × Need)) → ShowsNeeds needs (p.ran.replies ++ (n, i.reply) ∷ []) → run_from start.state (done ++ (n, c) ∷ []) needs ≡ stepped_ran
     run_next needs shows =
         let parts = all-front (λ (x : ℕ × Reply). need_at needs x.0 ≡ need_shown x.1) p.ran.replies (n, i.reply) shows in
         run-push start.state done needs (n, c)
@@ -204,7 +205,7 @@ module _ {quiet : Bool} {start now : Moment} {before : Counts} {text : List ℕ}
       within = subst (AllByRecursion (λ m. m ≤ n)) (sym lines_next) (all-push (λ m. m ≤ n) (lines_of done) n within-next (omega arith));
       proper = all-push (λ (r : ℕ × Reply). IsProperReply r.1) p.ran.replies (n, i.reply) p.proper proper_next.0;
       proper_state = proper_next.1;
-      run = run_next;
+      run_from = run_next;
       state = refl;
       settles = settles-trans start.accounts now.accounts next.accounts p.ran.refusals (refusal_at now.state c i.reply) p.settles i.steps.settles;
       gone =
@@ -229,15 +230,15 @@ module _ {quiet : Bool} {start now : Moment} {counts : Counts} {text : List ℕ}
       (all-weaken (λ n. n ≤ count) (λ n. n < 2 ^ 64) (lines_of done) (λ n le. omega (arith, le, few)) p.within)
 
   -- the text shows the needs of its replies
-  shows : (tail : List ℕ) → count < 2 ^ 64 → (quiet ≡ true → (n : ℕ) → n < 2 ^ 64 → NoLine n (ended_lines tail)) → ShowsNeeds (needs_by quiet (lines_of done) (text ++ tail)) p.ran.replies
+  shows : (tail : List ℕ) → count < 2 ^ 64 → (quiet ≡ true → (n : ℕ) → n < 2 ^ 64 → NoLine n (ended_lines tail)) → ShowsNeeds (needs_by_text quiet (lines_of done) (text ++ tail)) p.ran.replies
   shows tail few none =
-      subst (λ t. ShowsNeeds (needs_by quiet (lines_of done) (t ++ tail)) p.ran.replies) (sym p.told)
-      (subst (λ ns. ShowsNeeds (needs_by quiet ns (body_of quiet p.ran ++ tail)) p.ran.replies) (sym p.lines)
+      subst (λ t. ShowsNeeds (needs_by_text quiet (lines_of done) (t ++ tail)) p.ran.replies) (sym p.told)
+      (subst (λ ns. ShowsNeeds (needs_by_text quiet ns (cut_short_text quiet p.ran ++ tail)) p.ran.replies) (sym p.lines)
       (shows-needs quiet p.ran.replies tail (few_lines few) (subst AreAscending p.lines p.rising) p.proper none))
 
-  pub progress-end : (said : Ran → List ℕ) (tail : List ℕ) (after : Option (List ℕ)) → count < 2 ^ 64 → (quiet ≡ true → (n : ℕ) → n < 2 ^ 64 → NoLine n (ended_lines tail)) → said p.ran ≡ body_of quiet p.ran ++ tail → Told start.written after (text ++ tail) → IsRun quiet said start (moment_at_end (over_sink now after)) done
+  pub progress-end : (said : Ran → List ℕ) (tail : List ℕ) (after : Option (List ℕ)) → count < 2 ^ 64 → (quiet ≡ true → (n : ℕ) → n < 2 ^ 64 → NoLine n (ended_lines tail)) → said p.ran ≡ cut_short_text quiet p.ran ++ tail → Told start.written after (text ++ tail) → IsRunOf quiet said start (moment_at_end (over_sink now after)) done
   progress-end said tail after few none says told =
-      let ran : run_by quiet start done (text ++ tail) ≡ p.ran = p.run (needs_by quiet (lines_of done) (text ++ tail)) (shows tail few none) in
+      let ran : run_by quiet start done (text ++ tail) ≡ p.ran = p.run (needs_by_text quiet (lines_of done) (text ++ tail)) (shows tail few none) in
       record {
         written = text ++ tail;
         text = ap (λ t. t ++ tail) p.told ∙ (sym says ∙ ap said (sym ran));

@@ -30,16 +30,16 @@ use Rattle.vc_script.specs.Proper.{IsName, IsProperCommand, IsSite}
 use Rattle.vc_script.specs.ProperReply.{IsProperReply, is_row_site}
 use Rattle.vc_script.specs.Words.{is_name}
 use Rattle.vc_commands.specs.Home.{Changed, Home, Label, changed_to, is_home, reply_alone, refusal_alone}
-use Rattle.vc_steps.specs.State.{State, Stepped, step_with_change, close_home, step_with_close, is_busy, unless_busy, home_named, opened_over, step_with_refusal, with_region, without_home}
+use Rattle.vc_steps.specs.State.{State, Stepped, step_with_change, close_home, step_with_close, is_home_busy, unless_busy, home_named, opened_over, step_with_refusal, with_region, without_home}
 use Rattle.vc_views.specs.Views.{DictHome, dict_named, is_dict, is_linked_in, is_viewed_in, seen_through}
 use Rattle.vc_commands.specs.Looking.{is_look}
 use Rattle.vc_steps.proofs.ViewReplies.{look-any, some-map, view-any}
 use Rattle.vc_commands.specs.Blocks.{change_by_free, free_block, has_label, has_room, is_align, is_block, is_size, kept_freed, no_block, align_refused, put_by, site_of, size_refused, put_in, put_new, read_block, resize_block, with_named, write_block}
 use Rattle.vc_commands.specs.Whole.{addr_reply, item_of, kept_cleared, segment_reply, with_label, with_labels}
 use Rattle.vc_commands.specs.FreedNames.{FreedNames, by_name, line_of, with_line, without_name}
-use Rattle.vc_steps.specs.Step.{cleared_or, region_of, region_step, shelf_step, step, step_of, step_on}
+use Rattle.vc_steps.specs.Step.{cleared_or, region_of_command, region_step, shelf_step, step, step_of, step_on}
 use Rattle.vc_commands.specs.RegionCommands.{in_region, is_for_block}
-use Rattle.vc_steps.specs.Dicts.{dict_changed, dict_command, dict_of, dict_opened, dict_refused, dict_shut, look_step, on_found, on_seat, open_dict_in, open_dict_unless, seat_of, shut_in, view_set}
+use Rattle.vc_steps.specs.Dicts.{dict_changed, dict_command, dict_of, dict_opened, dict_refused, dict_shut, look_step, on_found, on_seat, open_dict_in, open_dict_unless, seat_at_home, shut_in, view_set}
 use Rattle.vc_session.proofs.ProperDicts.{IsProperGrown, proper-best, proper-in_dict, proper-layout, proper-open, proper-region_without}
 use Rattle.std.proofs.lemmas.Slice.Eq.{bytes_eq-Decides}
 use Rattle.vc_base.specs.declared.dict_method.DictMethod.{DictMethod}
@@ -348,7 +348,7 @@ step-cond true a b p q = p
 step-cond false a b p q = q
 
 proper-unless_busy : (s : State) (r : List ℕ) (t : Stepped) → IsProperState s → IsProperStep t → IsProperStep (unless_busy s r t)
-proper-unless_busy s r t all there = step-cond (is_busy s r) (step_with_refusal s why.Busy) t (tt, all) there
+proper-unless_busy s r t all there = step-cond (is_home_busy s r) (step_with_refusal s why.Busy) t (tt, all) there
 
 proper-closed : (s : State) (r : List ℕ) (o : Option Home) → IsName r → IsProperState s → IsProperStep (close_home s r o)
 proper-closed s r None name all = (tt, all)
@@ -437,10 +437,10 @@ proper-shut s d (Some h) all here =
     let left = region_without (layout_in h.region) d.dict in
     proper-with_region h.name (OfBest left) h.kept s.homes (proper-best left (proper-region_without (layout_in h.region) d.dict (proper-layout h.region here.0))) here.1 tt all
 
-proper-dict_changed : (s : State) (d : DictHome) (h : Home) (rules : Rules) (c : Command) (need : Need) → IsProperCommand c → IsProperState s → IsProperHome h → IsProperStep (dict_changed s d h (in_dict (seat_of d h rules) c need))
+proper-dict_changed : (s : State) (d : DictHome) (h : Home) (rules : Rules) (c : Command) (need : Need) → IsProperCommand c → IsProperState s → IsProperHome h → IsProperStep (dict_changed s d h (in_dict (seat_at_home d h rules) c need))
 proper-dict_changed s d h rules c need proper all here =
     let done = proper-in_dict rules h.terms (layout_in h.region) d.dict c need proper (proper-layout h.region here.0) in
-    let after = (in_dict (seat_of d h rules) c need).region in
+    let after = (in_dict (seat_at_home d h rules) c need).region in
     (done.0, proper-with_region h.name (OfBest after) h.kept s.homes (proper-best after done.1) here.1 tt all)
 
 -- a name where there is one
@@ -458,10 +458,10 @@ proper-dict_command s (View name viewed) need d h rules proper known all here =
     (λ x named. some-map (λ e. IsName e.name) (λ e. IsProperStep (view_set s d (Some e.name))) (λ e name. ((known, name), all)) (dict_named x s.dicts) (proper-dict_named x s.dicts named))
     viewed (site-name viewed proper.1))
 proper-dict_command s (Remethod name method) need d h rules proper known all here =
-    step-cond (is_linked_in s.dicts d) (step_with_refusal s why.Viewed) (dict_changed s d h (in_dict (seat_of d h rules) (Remethod name method) need)) (tt, all)
+    step-cond (is_linked_in s.dicts d) (step_with_refusal s why.Viewed) (dict_changed s d h (in_dict (seat_at_home d h rules) (Remethod name method) need)) (tt, all)
     (proper-dict_changed s d h rules (Remethod name method) need proper all here)
 proper-dict_command s command need d h rules proper known all here =
-    step-cond (is_look command) (look_step s rules command d) (dict_changed s d h (in_dict (seat_of d h rules) command need))
+    step-cond (is_look command) (look_step s rules command d) (dict_changed s d h (in_dict (seat_at_home d h rules) command need))
     (look-any IsProperReply tt (λ bytes. tt) (λ objects. tt) tt rules command (seen_through rules s.dicts d), all)
     (proper-dict_changed s d h rules command need proper all here)
 
@@ -497,7 +497,7 @@ proper-dict_of (Shut d) proper = proper
 proper-dict_of command proper = tt
 
 proper-step_on : (s : State) (line : ℕ) (c : Command) (need : Need) (o : Option (List ℕ)) → IsProperCommand c → IsProperState s → IfSome o IsName → IsProperStep (step_on s line c need o)
-proper-step_on s line c need None proper all name = proper-of s line c need (region_of c) proper all
+proper-step_on s line c need None proper all name = proper-of s line c need (region_of_command c) proper all
 proper-step_on s line c need (Some d) proper all name =
     proper-on_found s c need (dict_named d s.dicts) proper all (proper-dict_named d s.dicts name)
 

@@ -12,12 +12,12 @@ use Rattle.vc_commands.specs.Held.{Held, home_of}
 use Rattle.vc_steps.specs.Account.{Settles, accounts, settled_accounts, state_of}
 use Rattle.vc_paths.specs.Links.{no_links}
 use Rattle.vc_views.specs.Numbers.{views_by}
-use Rattle.vc_steps.proofs.Starting.{new-stands, none-held}
+use Rattle.vc_steps.proofs.NewSession.{new-stands, none-held}
 use Rattle.vc_steps.specs.DictHomes.{dicts_in}
-use Rattle.vc_steps.specs.Homes.{held_in, slots_on}
-use Rattle.vc_steps.specs.Moment.{Moment, moment, over_sink, rest_by, rest_of}
+use Rattle.vc_steps.specs.Homes.{held_in_session, slots_on}
+use Rattle.vc_steps.specs.Moment.{Moment, moment, over_sink, moment_at_rest_by, moment_at_rest}
 use Rattle.vc_session.specs.ProperState.{IsProperHome, IsProperOver}
-use Rattle.vc_session.specs.Replay.{IsCutShort, IsGenerated, IsReplay, IsRun, Told, run_by}
+use Rattle.vc_session.specs.Replay.{IsCutShort, IsGenerated, IsReplay, IsRunOf, Told, run_by}
 use Rattle.vc_session.specs.Engine.{RunsScript}
 use Rattle.vc_session.specs.Run.{Ran}
 use Rattle.vc_session.specs.Headline.{Headline}
@@ -38,7 +38,7 @@ pub record Rests (now after : Moment) : Type 0 where
   pub gone : after.gone ≡ now.gone
 
 module _ {before now after : Moment} (rests : Rests now after) where
-  pub run-rest : {quiet : Bool} {said : Ran → List ℕ} {commands : List (ℕ × Command)} → IsRun quiet said before now commands → IsRun quiet said before after commands
+  pub run-rest : {quiet : Bool} {said : Ran → List ℕ} {commands : List (ℕ × Command)} → IsRunOf quiet said before now commands → IsRunOf quiet said before after commands
   run-rest {quiet} {said} {commands} r =
       record {
         written = r.written;
@@ -96,7 +96,7 @@ runs-rest tool w start before now after old new answer same rests r =
 
 -- a session in which nothing is open
 module _ {I : Type 0} {V : I → Type 0} {D : Type 0} (meaning : (x : I) × V x → Discipline) (rules : D → Rules) (gone : D → Gone) (shelf : Shelf I V) (session : Session D I V) (kinds : List D) (none : (session.homes.entries ≡ []) × (session.labels.items ≡ []) × (session.dicts.entries ≡ []) × (session.paths ≡ no_links)) where
-  no_held : held_in meaning session ≡ []
+  no_held : held_in_session meaning session ≡ []
   no_held = none-held meaning rules shelf session kinds none
 
   pub new-session : IsProperOver meaning rules shelf session kinds
@@ -114,7 +114,7 @@ module _ {I : Type 0} {V : I → Type 0} {D : Type 0} (meaning : (x : I) × V x 
     gone = gone_in gone kinds;
   }
 
-  pub new-moment : moment meaning rules gone shelf session kinds ≡ rest_of meaning rules gone shelf kinds
+  pub new-moment : moment meaning rules gone shelf session kinds ≡ moment_at_rest meaning rules gone shelf kinds
   new-moment = ap (λ hs. moment_of hs session.dicts.entries) no_held ∙ ap (λ es. moment_of [] es) none.2
 
 map-none : {A B : Type 0} (f : A → B) (xs ys : List A) → map f xs ≡ map f ys → ys ≡ [] → xs ≡ []
@@ -122,7 +122,7 @@ map-none f [] ys same none = refl
 map-none f (x ∷ xs) ys same none = let empty : map f (x ∷ xs) ≡ [] = same ∙ ap (λ zs. map f zs) none in absurd cc
 
 -- what a tool without kinds promises
-pub headline-none : {I : Type 0} {V : I → Type 0} {K : Type 0} (meaning : (x : I) × V x → Discipline) (rules : K → Rules) (gone : K → Gone) (shelf shelf' : Shelf I V) (kinds kinds' : List K) {tool : Tool} {asked : Option Words} {old new : Streams} {status : Status} → kinds ≡ [] → Headline tool asked (rest_of meaning rules gone shelf kinds) (rest_of meaning rules gone shelf' kinds') old new status → Headline tool asked (rest_by meaning [] [] shelf) (rest_by meaning [] [] shelf') old new status
+pub headline-none : {I : Type 0} {V : I → Type 0} {K : Type 0} (meaning : (x : I) × V x → Discipline) (rules : K → Rules) (gone : K → Gone) (shelf shelf' : Shelf I V) (kinds kinds' : List K) {tool : Tool} {asked : Option Words} {old new : Streams} {status : Status} → kinds ≡ [] → Headline tool asked (moment_at_rest meaning rules gone shelf kinds) (moment_at_rest meaning rules gone shelf' kinds') old new status → Headline tool asked (moment_at_rest_by meaning [] [] shelf) (moment_at_rest_by meaning [] [] shelf') old new status
 headline-none meaning rules gone shelf shelf' kinds kinds' {tool} {asked} {old} {new} {status} none h =
-    subst (λ ks. Headline tool asked (rest_by meaning [] [] shelf) (rest_of meaning rules gone shelf' ks) old new status) (map-none rules kinds' kinds h.rules none)
-    (subst (λ ks. Headline tool asked (rest_of meaning rules gone shelf ks) (rest_of meaning rules gone shelf' kinds') old new status) none h)
+    subst (λ ks. Headline tool asked (moment_at_rest_by meaning [] [] shelf) (moment_at_rest meaning rules gone shelf' ks) old new status) (map-none rules kinds' kinds h.rules none)
+    (subst (λ ks. Headline tool asked (moment_at_rest meaning rules gone shelf ks) (moment_at_rest meaning rules gone shelf' kinds') old new status) none h)

@@ -1,6 +1,7 @@
 -- A run with one more step.
 use Rattle.std.proofs.Common.{◌≡◌, ℕ, List, [], ◌∷◌, ◌++◌, max, arith, sym, ap, ◌∙◌}
-use Rattle.vc_counts.specs.Counts.{busy_in}
+use Rattle.vc_model.specs.Segments.{Grant}
+use Rattle.vc_counts.specs.Counts.{live_bytes}
 use Rattle.std.proofs.lemmas.List.{append_assoc, append-nil}
 use Rattle.vc_script.specs.declared.command.Command.{Command}
 use Rattle.vc_script.specs.declared.reply.Reply.{Reply}
@@ -8,7 +9,7 @@ use Rattle.vc_script.specs.Needs.{Need, need_at}
 use Rattle.vc_steps.specs.State.{State, Stepped}
 use Rattle.vc_steps.specs.Step.{step}
 use Rattle.vc_steps.specs.Refusals.{refusal_at}
-use Rattle.vc_session.specs.Run.{Ran, run_with_step, run}
+use Rattle.vc_session.specs.Run.{Ran, run_with_step, run_from}
 
 abbrev pub one_more : Ran → ℕ × Command → Stepped → Ran
 one_more r c t =
@@ -18,14 +19,14 @@ one_more r c t =
       refusals = r.refusals ++ refusal_at r.state c.1 t.reply;
       told = r.told ++ t.told;
       granted = r.granted ++ t.granted;
-      peak = max r.peak (busy_in t.state);
+      peak = max r.peak (live_bytes t.state);
     }
 
 -- the step behind a run
 abbrev pub step_after : Ran → ℕ × Command → List (ℕ × Need) → Stepped
 step_after r c needs = step r.state c.0 c.1 (need_at needs c.0)
 
-same_ran : (replies : List (ℕ × Reply)) (state : State) (refusals refusals' : List ℕ) (told told' : List (ℕ × List ℕ)) (granted granted' : List (ℕ × ℕ)) (peak peak' : ℕ) → refusals ≡ refusals' → told ≡ told' → granted ≡ granted' → peak ≡ peak' → (let a : Ran = record { replies = replies; state = state; refusals = refusals; told = told; granted = granted; peak = peak } in a) ≡ record { replies = replies; state = state; refusals = refusals'; told = told'; granted = granted'; peak = peak' }
+same_ran : (replies : List (ℕ × Reply)) (state : State) (refusals refusals' : List ℕ) (told told' : List (ℕ × List ℕ)) (granted granted' : List Grant) (peak peak' : ℕ) → refusals ≡ refusals' → told ≡ told' → granted ≡ granted' → peak ≡ peak' → (let a : Ran = record { replies = replies; state = state; refusals = refusals; told = told; granted = granted; peak = peak } in a) ≡ record { replies = replies; state = state; refusals = refusals'; told = told'; granted = granted'; peak = peak' }
 same_ran replies state refusals refusals' told told' granted granted' peak peak' e0 e1 e2 e3 = cc
 
 max_assoc : (a b c : ℕ) → max a (max b c) ≡ max (max a b) c
@@ -41,13 +42,13 @@ ran-one_more s d t r c u =
     (sym (append_assoc (refusal_at s d.1 t.reply) r.refusals (refusal_at r.state c.1 u.reply)))
     (sym (append_assoc t.told r.told u.told))
     (sym (append_assoc t.granted r.granted u.granted))
-    (max_assoc (busy_in t.state) r.peak (busy_in u.state))
+    (max_assoc (live_bytes t.state) r.peak (live_bytes u.state))
 
-pub run-push : (s : State) (cs : List (ℕ × Command)) (needs : List (ℕ × Need)) (c : ℕ × Command) → run s (cs ++ c ∷ []) needs ≡ one_more (run s cs needs) c (step_after (run s cs needs) c needs)
+pub run-push : (s : State) (cs : List (ℕ × Command)) (needs : List (ℕ × Need)) (c : ℕ × Command) → run_from s (cs ++ c ∷ []) needs ≡ one_more (run_from s cs needs) c (step_after (run_from s cs needs) c needs)
 run-push s [] needs c =
     let t = step s c.0 c.1 (need_at needs c.0) in
-    same_ran ((c.0, t.reply) ∷ []) t.state _ _ _ _ _ _ _ _ (append-nil (refusal_at s c.1 t.reply)) (append-nil t.told) (append-nil t.granted) (max_zero (busy_in t.state))
+    same_ran ((c.0, t.reply) ∷ []) t.state _ _ _ _ _ _ _ _ (append-nil (refusal_at s c.1 t.reply)) (append-nil t.told) (append-nil t.granted) (max_zero (live_bytes t.state))
 run-push s (d ∷ ds) needs c =
     let t = step s d.0 d.1 (need_at needs d.0) in
     ap (run_with_step s d t) (run-push t.state ds needs c)
-    ∙ ran-one_more s d t (run t.state ds needs) c (step_after (run t.state ds needs) c needs)
+    ∙ ran-one_more s d t (run_from t.state ds needs) c (step_after (run_from t.state ds needs) c needs)

@@ -19,7 +19,7 @@ use Rattle.vc_script.specs.Words.{is_digit}
 use Rattle.vc_script.proofs.Heads.{need_of-printed}
 use Rattle.vc_script.proofs.Newlines.{OneLine, list_all-decimal, line-printed, stays, line-both}
 use Rattle.vc_script.proofs.Texts.{needs_shown, shows-needs_shown, ended_after-whole}
-use Rattle.vc_session.specs.QuietText.{body_by, has_line, line_by, needs_by, numbered_line, quiet_need}
+use Rattle.vc_session.specs.QuietText.{body_by, has_line, line_by, needs_by_text, numbered_line, quiet_need}
 
 -- a line is cut where the newline behind it stands
 ended-line : (xs rest : List ℕ) → OneLine xs → ended_lines ((xs ++ 10 ∷ []) ++ rest) ≡ xs ∷ ended_lines rest
@@ -199,7 +199,7 @@ none-all tail none [] below = tt
 none-all tail none (r ∷ rs) below = (none r.0 below.0, none-all tail none rs below.1)
 
 -- a quiet text shows the needs of its replies, where no line behind it has a number in front
-shows-quiet : (rs : List (ℕ × Reply)) (tail : List ℕ) → Below rs → AreAscending (numbers_of rs) → AllByRecursion (λ r. IsProperReply r.1) rs → ((n : ℕ) → n < 2 ^ 64 → NoLine n (ended_lines tail)) → ShowsNeeds (needs_by true (numbers_of rs) (body_by true rs ++ tail)) rs
+shows-quiet : (rs : List (ℕ × Reply)) (tail : List ℕ) → Below rs → AreAscending (numbers_of rs) → AllByRecursion (λ r. IsProperReply r.1) rs → ((n : ℕ) → n < 2 ^ 64 → NoLine n (ended_lines tail)) → ShowsNeeds (needs_by_text true (numbers_of rs) (body_by true rs ++ tail)) rs
 shows-quiet rs tail below rising proper none =
     subst (λ needs. ShowsNeeds needs rs)
     (sym (ap (λ ls. map (λ n. (n, quiet_need ls n)) (numbers_of rs)) (ended-body rs tail proper)
@@ -228,7 +228,7 @@ none-unnumbered n (l ∷ ls) below each =
     (both-none n (l ∷ []) (ended_lines rest) (unnumbered-none n l below each.0) (none-unnumbered n ls below each.1))
 
 -- the k-th line of a text that isn't quiet belongs to the k-th command, whatever is behind it
-needs-plain : (rs : List (ℕ × Reply)) (tail : List ℕ) → AllByRecursion (λ r. IsProperReply r.1) rs → needs_by false (numbers_of rs) (body_by false rs ++ tail) ≡ needs_shown rs
+needs-plain : (rs : List (ℕ × Reply)) (tail : List ℕ) → AllByRecursion (λ r. IsProperReply r.1) rs → needs_by_text false (numbers_of rs) (body_by false rs ++ tail) ≡ needs_shown rs
 needs-plain [] tail proper = refl
 needs-plain (r ∷ rs) tail proper =
     let rest = body_by false rs ++ tail in
@@ -238,7 +238,7 @@ needs-plain (r ∷ rs) tail proper =
     ∙ ap (λ needs. (r.0, need_shown r.1) ∷ needs) (needs-plain rs tail proper.1))
 
 -- a text shows the needs of its replies
-pub shows-needs : (quiet : Bool) (rs : List (ℕ × Reply)) (tail : List ℕ) → AllByRecursion (λ n. n < 2 ^ 64) (numbers_of rs) → AreAscending (numbers_of rs) → AllByRecursion (λ r. IsProperReply r.1) rs → (quiet ≡ true → (n : ℕ) → n < 2 ^ 64 → NoLine n (ended_lines tail)) → ShowsNeeds (needs_by quiet (numbers_of rs) (body_by quiet rs ++ tail)) rs
+pub shows-needs : (quiet : Bool) (rs : List (ℕ × Reply)) (tail : List ℕ) → AllByRecursion (λ n. n < 2 ^ 64) (numbers_of rs) → AreAscending (numbers_of rs) → AllByRecursion (λ r. IsProperReply r.1) rs → (quiet ≡ true → (n : ℕ) → n < 2 ^ 64 → NoLine n (ended_lines tail)) → ShowsNeeds (needs_by_text quiet (numbers_of rs) (body_by quiet rs ++ tail)) rs
 shows-needs false rs tail below rising proper none =
     subst (λ needs. ShowsNeeds needs rs) (sym (needs-plain rs tail proper)) (shows-needs_shown rs rising)
 shows-needs true rs tail below rising proper none = shows-quiet rs tail below rising proper (none refl)

@@ -23,13 +23,13 @@ use Rattle.vc_session.specs.Engine.{IsIdle, LineRan}
 use Rattle.vc_steps.specs.Moment.{Moment, moment_at_end, over_sink}
 use Rattle.vc_session.specs.Progress.{Progress}
 use Rattle.vc_session.specs.ProperState.{IsProperState}
-use Rattle.vc_session.specs.Replay.{IsCutShort, IsRun, ShowsNoFault, Stops, StopsAtFault, Told}
-use Rattle.vc_session.specs.Run.{commands, fault_in, nothing_ran, script, wholly_read}
-use Rattle.vc_session.specs.SoFar.{AtEnd, Found, Reading, Running, SoFar, ended_rest, fuel, judged_rest}
-use Rattle.vc_session.specs.Text.{body_of, counts_of}
+use Rattle.vc_session.specs.Replay.{IsCutShort, IsRunOf, ShowsNoFault, Stops, StopsAtFault, Told}
+use Rattle.vc_session.specs.Run.{commands_in, fault_in, nothing_ran, script, wholly_read}
+use Rattle.vc_session.specs.SoFar.{AtEnd, FoundSoFar, Reading, Running, SoFar, ended_rest, fuel, judged_rest}
+use Rattle.vc_session.specs.Text.{cut_short_text, counts_of}
 use Rattle.vc_session.proofs.Feeds.{Feeds, fed-feeds}
 use Rattle.vc_session.proofs.Progress.{progress-end, progress-over}
-use Rattle.vc_session.proofs.Running.{bad-line, running-line, running-over, running-same, running-start}
+use Rattle.vc_session.proofs.RunMiddle.{bad-line, running-line, running-over, running-same, running-start}
 
 if_some : (o : Option (List ℕ)) (P Q : List ℕ → Type 0) → ((x : List ℕ) → P x → Q x) → IfSome o P → IfSome o Q
 if_some None P Q f p = tt
@@ -55,7 +55,7 @@ few-begun s is some =
       | inr other ↦ omega (arith, other.1, is.few)
     ]
 
-module _ {tool : Tool} {quiet : Bool} {start now : Moment} {counts : Counts} {text : List ℕ} {count : ℕ} {whole : Found} (running : Running tool quiet start now counts text count whole) {input : List ℕ} {left : Option (List ℕ)} {s : Cutting} (is : IsCutting s) (r : Reading tool input left s [] whole) where
+module _ {tool : Tool} {quiet : Bool} {start now : Moment} {counts : Counts} {text : List ℕ} {count : ℕ} {whole : FoundSoFar} (running : Running tool quiet start now counts text count whole) {input : List ℕ} {left : Option (List ℕ)} {s : Cutting} (is : IsCutting s) (r : Reading tool input left s [] whole) where
   read_lines : wholly_read (r.before ++ r.last) ≡ whole ++ []
   read_lines = ap wholly_read (sym (append-nil (r.before ++ r.last))) ∙ r.ended []
 
@@ -100,8 +100,8 @@ module _ {tool : Tool} {quiet : Bool} {start now : Moment} {counts : Counts} {te
     unread = same ∙ r.unread;
     no_fault = shows-none;
     run =
-        subst (IsRun quiet (body_of quiet) start (moment_at_end (over_sink now after))) (sym (ap (commands tool) read_lines ∙ (running.script [] ∙ append-nil running.done)))
-        (progress-end running.progress (body_of quiet) [] after (omega (arith, few)) (λ is_quiet n below xs. refl) (sym (append-nil (body_of quiet running.progress.ran))) (subst (Told start.written after) (sym (append-nil text)) told));
+        subst (IsRunOf quiet (cut_short_text quiet) start (moment_at_end (over_sink now after))) (sym (ap (commands_in tool) read_lines ∙ (running.script [] ∙ append-nil running.done)))
+        (progress-end running.progress (cut_short_text quiet) [] after (omega (arith, few)) (λ is_quiet n below xs. refl) (sym (append-nil (cut_short_text quiet running.progress.ran))) (subst (Told start.written after) (sym (append-nil text)) told));
   }
 
 reading-start : (tool : Tool) (o : Option (List ℕ)) → IfSome o (λ input. Reading tool input o new_cutting [] [])
@@ -118,7 +118,7 @@ reading-start tool (Some input) = record {
   ended = λ more. refl;
 }
 
-reading-whole : {tool : Tool} {input : List ℕ} {left : Option (List ℕ)} (s after : Cutting) (used : ℕ) (xs : List ℕ) (whole : Found) → ((behind : List ℕ) → Tells Whole after used s xs behind) → ((behind : List ℕ) → Feeds Whole after used s xs behind) → Reading tool input left s xs whole → Reading tool input left after (drop used xs) (whole ++ (after.count, Ok after.line) ∷ [])
+reading-whole : {tool : Tool} {input : List ℕ} {left : Option (List ℕ)} (s after : Cutting) (used : ℕ) (xs : List ℕ) (whole : FoundSoFar) → ((behind : List ℕ) → Tells Whole after used s xs behind) → ((behind : List ℕ) → Feeds Whole after used s xs behind) → Reading tool input left s xs whole → Reading tool input left after (drop used xs) (whole ++ (after.count, Ok after.line) ∷ [])
 reading-whole s after used xs whole tells feeds r = record {
   before = r.before;
   last = r.last;
@@ -134,7 +134,7 @@ reading-whole s after used xs whole tells feeds r = record {
 used-up : (xs : List ℕ) (used : ℕ) → used ≡ length xs → drop used xs ≡ []
 used-up xs used e = drop_all used xs (omega (arith, e))
 
-reading-more : {tool : Tool} {input : List ℕ} {left : Option (List ℕ)} (s after : Cutting) (used : ℕ) (xs : List ℕ) (whole : Found) → ((behind : List ℕ) → Tells More after used s xs behind) → ((behind : List ℕ) → Feeds More after used s xs behind) → Reading tool input left s xs whole → Reading tool input left after (drop used xs) whole
+reading-more : {tool : Tool} {input : List ℕ} {left : Option (List ℕ)} (s after : Cutting) (used : ℕ) (xs : List ℕ) (whole : FoundSoFar) → ((behind : List ℕ) → Tells More after used s xs behind) → ((behind : List ℕ) → Feeds More after used s xs behind) → Reading tool input left s xs whole → Reading tool input left after (drop used xs) whole
 reading-more s after used xs whole tells feeds r = let none = used-up xs used (feeds []).1.1.1.0 in record {
   before = r.before;
   last = r.last;
@@ -158,9 +158,9 @@ pub so_far-start : (tool : Tool) (quiet : Bool) (start : Moment) (counts : Count
 so_far-start tool quiet start counts told all none = record { whole = []; running = running-start tool quiet start counts all none; reading = reading-start tool told }
 
 -- the end of a run whose lines are found
-at-end-of : {tool : Tool} {quiet : Bool} {start now : Moment} {counts : Counts} {text : List ℕ} {count : ℕ} {whole : Found} (input : List ℕ) (left after : Option (List ℕ)) (lines : ℕ) (found : Found) (bad : Option (ℕ × LineFault)) → count ≤ last_number → Running tool quiet start now counts text count whole → judged_lines input ≡ whole ++ found → commands tool found ≡ [] → fault_in tool found ≡ bad → (bad ≡ None → lines ≡ length (judged_lines input)) → Stops tool input bad left → Told start.written after text → AtEnd tool quiet start (over_sink now after) counts lines input bad left
+at-end-of : {tool : Tool} {quiet : Bool} {start now : Moment} {counts : Counts} {text : List ℕ} {count : ℕ} {whole : FoundSoFar} (input : List ℕ) (left after : Option (List ℕ)) (lines : ℕ) (found : FoundSoFar) (bad : Option (ℕ × LineFault)) → count ≤ last_number → Running tool quiet start now counts text count whole → judged_lines input ≡ whole ++ found → commands_in tool found ≡ [] → fault_in tool found ≡ bad → (bad ≡ None → lines ≡ length (judged_lines input)) → Stops tool input bad left → Told start.written after text → AtEnd tool quiet start (over_sink now after) counts lines input bad left
 at-end-of {tool} {quiet} {start} {now} {counts} {text} {count} {whole} input left after lines found bad few r all none first size stops told =
-    let done : script tool input ≡ r.done = ap (commands tool) all ∙ (r.script found ∙ (ap (λ cs. r.done ++ cs) none ∙ append-nil r.done)) in
+    let done : script tool input ≡ r.done = ap (commands_in tool) all ∙ (r.script found ∙ (ap (λ cs. r.done ++ cs) none ∙ append-nil r.done)) in
     record {
       text = text;
       count = count;
@@ -173,13 +173,13 @@ at-end-of {tool} {quiet} {start} {now} {counts} {text} {count} {whole} input lef
     }
 
 -- where a line is bad the number of lines isn't asked for
-some-bad : (bad : ℕ × LineFault) (lines : ℕ) (found : Found) → (let o : Option (ℕ × LineFault) = Some bad in o) ≡ None → lines ≡ length found
+some-bad : (bad : ℕ × LineFault) (lines : ℕ) (found : FoundSoFar) → (let o : Option (ℕ × LineFault) = Some bad in o) ≡ None → lines ≡ length found
 some-bad bad lines found none = absurd (none-some bad (sym none))
 
-stops-at : {tool : Tool} {input : List ℕ} {left : Option (List ℕ)} {s : Cutting} {rest : List ℕ} {whole : Found} → Reading tool input left s rest whole → StopsAtFault tool input left
+stops-at : {tool : Tool} {input : List ℕ} {left : Option (List ℕ)} {s : Cutting} {rest : List ℕ} {whole : FoundSoFar} → Reading tool input left s rest whole → StopsAtFault tool input left
 stops-at r = record { before = r.before; last = r.last; rest = r.behind; split = r.split; short = r.size; no_fault = r.no_fault; unread = r.unread }
 
-judged-input : {tool : Tool} {input : List ℕ} {left : Option (List ℕ)} {s : Cutting} {rest : List ℕ} {whole : Found} (r : Reading tool input left s rest whole) → judged_lines input ≡ whole ++ judged_rest s (rest ++ r.behind)
+judged-input : {tool : Tool} {input : List ℕ} {left : Option (List ℕ)} {s : Cutting} {rest : List ℕ} {whole : FoundSoFar} (r : Reading tool input left s rest whole) → judged_lines input ≡ whole ++ judged_rest s (rest ++ r.behind)
 judged-input r = ap judged_lines r.split ∙ r.lines r.behind
 
 module _ {tool : Tool} {quiet : Bool} {start now : Moment} {counts : Counts} {text : List ℕ} {told left : Option (List ℕ)} {s : Cutting} where
@@ -240,7 +240,7 @@ so_far-bad_line {tool} {quiet} {start} next_moment counts {told} {left} {s} {res
     at-end-of input left after lines ((next.count, Ok next.line) ∷ behind) (Some bad) is.few (running-same r.running line.idle) (judged-input reading ∙ ap (λ ls. r.whole ++ ls) (fed-tells-all s rest next Whole used is e reading.behind).0) (line.none behind) (line.first behind) (some-bad bad lines (judged_lines input)) (stops-at reading) (idle-told front old new start.written after held holds line.idle written)) r.reading
 
 -- nothing is behind the bytes of a source that is at its end
-none-behind : {tool : Tool} {input : List ℕ} {left : Option (List ℕ)} {s : Cutting} {whole : Found} (r : Reading tool input left s [] whole) → left ≡ Some [] → judged_lines input ≡ whole ++ judged_rest s []
+none-behind : {tool : Tool} {input : List ℕ} {left : Option (List ℕ)} {s : Cutting} {whole : FoundSoFar} (r : Reading tool input left s [] whole) → left ≡ Some [] → judged_lines input ≡ whole ++ judged_rest s []
 none-behind {s = s} {whole = whole} r at_end = judged-input r ∙ ap (λ xs. whole ++ judged_rest s xs) (same_Some r.behind [] (sym r.unread ∙ at_end))
 
 module _ {tool : Tool} {quiet : Bool} {start now : Moment} {before : Counts} {told left : Option (List ℕ)} {s : Cutting} (is : IsCutting s) where
@@ -255,7 +255,7 @@ module _ {tool : Tool} {quiet : Bool} {start now : Moment} {before : Counts} {to
     pub so_far-end_good : (front old new : List ℕ) (after : Option (List ℕ)) → n ≤ last_number → now.written ≡ Some old → next.written ≡ Some new → SoFar tool quiet start now before (front ++ old) told left s [] → IfSome told (λ input. left ≡ Some []) → LineRan quiet now next before counts n (answer tool line) None → Told start.written after (front ++ new) → IfSome told (λ input. AtEnd tool quiet start (over_sink next after) counts n input None left)
     so_far-end_good front old new after few held holds r at_end ran written = if_both told _ _ _ (λ input reading end.
         let running = running-line front old new n line held holds follows r.running ran in
-        let whole : Found = r.whole ++ (n, Ok line) ∷ [] in
+        let whole : FoundSoFar = r.whole ++ (n, Ok line) ∷ [] in
         let all : judged_lines input ≡ whole = none-behind reading end ∙ ap (λ ls. r.whole ++ ls) last in
         at-end-of input left after n [] None few running (all ∙ sym (append-nil whole)) refl refl (λ none. sym running.size ∙ sym (ap length all)) end written) r.reading at_end
 
@@ -323,7 +323,7 @@ pub end-whole : (s next : Cutting) (cut : Cut) → IsCutting s → next ≡ afte
 end-whole s next cut is state e whole =
     sym (end-tells s is)
     ∙ (ap (λ k. found_then k (after_end s s.kept) [] []) (sym e ∙ whole)
-    ∙ ap (λ a. let found : Found = (a.count, Ok a.line) ∷ [] in found) (sym state))
+    ∙ ap (λ a. let found : FoundSoFar = (a.count, Ok a.line) ∷ [] in found) (sym state))
 
 end-count-by : (s : Cutting) (kept : List ℕ) → end_cut kept ≡ Whole → (after_end s kept).count ≡ s.count + 1
 end-count-by s [] whole = absurd cc

@@ -2,7 +2,7 @@
 use Rattle.std.specs.Prelude.{◌≡◌, ℕ, ◌<◌, ◌≤◌, List, Bool, Result, IfOk, IsTrue, OnOk, map}
 use Rattle.std.specs.List.{AllByRecursion}
 use Rattle.vc_counts.specs.CanCount.{CanCount}
-use Rattle.vc_counts.specs.Counts.{busy_in}
+use Rattle.vc_counts.specs.Counts.{live_bytes}
 use Rattle.vc_counts.specs.declared.counts.Counts.{Counts}
 use Rattle.vc_dtdisc.specs.Rules.{Rules}
 use Rattle.vc_model.specs.Discipline.{Discipline}
@@ -11,8 +11,8 @@ use Rattle.vc_script.specs.Needs.{AreAscending, Need, ShowsNeeds}
 use Rattle.vc_script.specs.ProperReply.{IsProperReply}
 use Rattle.vc_seg.specs.declared.shelf.Shelf.{Shelf}
 use Rattle.vc_session.specs.ProperState.{IsProperOver, IsProperState}
-use Rattle.vc_session.specs.Run.{Ran, lines_of, nothing_ran, run}
-use Rattle.vc_session.specs.Text.{body_of, counts_of}
+use Rattle.vc_session.specs.Run.{Ran, lines_of, nothing_ran, run_from}
+use Rattle.vc_session.specs.Text.{cut_short_text, counts_of}
 use Rattle.vc_steps.specs.Account.{Settles}
 use Rattle.vc_steps.specs.Homes.{state_over}
 use Rattle.vc_steps.specs.Moment.{Moment}
@@ -28,16 +28,16 @@ pub record Progress (quiet : Bool) (start now : Moment) (counts : Counts) (text 
   pub within : AllByRecursion (λ n. n ≤ count) (lines_of done)
   pub proper : AllByRecursion (λ r. IsProperReply r.1) ran.replies
   pub proper_state : IsProperState now.state
-  pub run : (needs : List (ℕ × Need)) → ShowsNeeds needs ran.replies → run start.state done needs ≡ ran
+  pub run_from : (needs : List (ℕ × Need)) → ShowsNeeds needs ran.replies → run_from start.state done needs ≡ ran
   pub state : ran.state ≡ now.state
   pub settles : Settles start.accounts now.accounts ran.refusals
   pub gone : now.gone ≡ tell ran.told start.gone
-  pub told : text ≡ body_of quiet ran
+  pub told : text ≡ cut_short_text quiet ran
   pub counted : IsTrue quiet → counts ≡ counts_of ran
 
 -- a quiet run can count a command on any line behind that number
 abbrev pub CanCountOn : Bool → Counts → State → ℕ → Type 0
-CanCountOn quiet counts s count = IsTrue quiet → (line : ℕ) → count < line → CanCount counts (busy_in s) line
+CanCountOn quiet counts s count = IsTrue quiet → (line : ℕ) → count < line → CanCount counts (live_bytes s) line
 
 -- a session that stands over a shelf and kinds can begin a run with these counts: of no command
 pub record CanBegin {I : Type 0} {V : I → Type 0} {D : Type 0} (quiet : Bool) (meaning : (x : I) × V x → Discipline) (rules : D → Rules) (shelf : Shelf I V) (session : Session D I V) (kinds : List D) (counts : Counts) : Type 0 where

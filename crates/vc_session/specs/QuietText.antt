@@ -38,6 +38,6 @@ quiet_need printed n =
     else NoNeed))
 
 -- of the commands of these lines, the needs that a text shows
-abbrev pub needs_by : Bool → List ℕ → List ℕ → List (ℕ × Need)
-needs_by false lines written = needs_of lines written
-needs_by true lines written = map (λ n. (n, quiet_need (ended_lines written) n)) lines
+abbrev pub needs_by_text : Bool → List ℕ → List ℕ → List (ℕ × Need)
+needs_by_text false lines written = needs_of lines written
+needs_by_text true lines written = map (λ n. (n, quiet_need (ended_lines written) n)) lines

@@ -12,9 +12,9 @@ use Rattle.vc_steps.specs.Moment.{Moment}
 use Rattle.vc_steps.specs.Told.{ended_told, tell}
 use Rattle.vc_script.specs.Judged.{judged_lines}
 use Rattle.vc_generate.specs.Generated.{commands_of_seed}
-use Rattle.vc_session.specs.QuietText.{needs_by}
-use Rattle.vc_session.specs.Run.{Ran, commands, fault_in, first_bad, lines_of, run, script, wholly_read}
-use Rattle.vc_session.specs.Text.{body_of, good_lines, is_quiet, text_of}
+use Rattle.vc_session.specs.QuietText.{needs_by_text}
+use Rattle.vc_session.specs.Run.{Ran, commands_in, fault_in, first_bad, lines_of, run_from, script, wholly_read}
+use Rattle.vc_session.specs.Text.{cut_short_text, good_lines, is_quiet, text_of}
 use Rattle.vc_words.specs.declared.words.Words.{Words}
 
 -- what a sink told, followed by a piece
@@ -56,19 +56,19 @@ err_line tool bad = message tool (codes "line " ++ decimal bad.0 ++ codes ": " +
 
 -- the run of commands for the needs that a text shows, by whether it is a quiet one
 abbrev pub run_by : Bool → Moment → List (ℕ × Command) → List ℕ → Ran
-run_by quiet before commands written = run before.state commands (needs_by quiet (lines_of commands) written)
+run_by quiet before commands_in written = run_from before.state commands_in (needs_by_text quiet (lines_of commands_in) written)
 
 -- what a run and its end tell
 abbrev pub all_told : Ran → List (ℕ × List ℕ)
 all_told r = r.told ++ ended_told r.state
 
 -- a run of commands, quiet or not, whose text is said by a function of the run: what was written is the text of the run for the needs that it shows, the shelf settles with the run's refusals, and the kinds were told of what went in it and at its end
-pub record IsRun (quiet : Bool) (said : Ran → List ℕ) (before after : Moment) (commands : List (ℕ × Command)) : Type 0 where
+pub record IsRunOf (quiet : Bool) (said : Ran → List ℕ) (before after : Moment) (commands_in : List (ℕ × Command)) : Type 0 where
   pub written : List ℕ
-  pub text : written ≡ said (run_by quiet before commands written)
+  pub text : written ≡ said (run_by quiet before commands_in written)
   pub told : Told before.written after.written written
-  pub settles : Settles before.accounts after.accounts (run_by quiet before commands written).refusals
-  pub gone : after.gone ≡ tell (all_told (run_by quiet before commands written)) before.gone
+  pub settles : Settles before.accounts after.accounts (run_by quiet before commands_in written).refusals
+  pub gone : after.gone ≡ tell (all_told (run_by quiet before commands_in written)) before.gone
 
 -- bytes that show no fault: their whole lines are good, and no line is too long or past the last number, the one that has begun among them
 pub record ShowsNoFault (tool : Tool) (bytes : List ℕ) : Type 0 where
@@ -94,7 +94,7 @@ Stops tool input (Some bad) left = StopsAtFault tool input left
 pub record IsReplay (tool : Tool) (w : Words) (before after : Moment) (input : List ℕ) (bad : Option (ℕ × LineFault)) (left : Option (List ℕ)) : Type 0 where
   pub first : bad ≡ first_bad tool input
   pub stops : Stops tool input bad left
-  pub run : IsRun (is_quiet w) (text_of w (good_lines bad (length (judged_lines input)))) before after (script tool input)
+  pub run_from : IsRunOf (is_quiet w) (text_of w (good_lines bad (length (judged_lines input)))) before after (script tool input)
 
 -- a run that a failed read ended: the lines that were wholly read were run, and no byte that was read shows a fault
 pub record IsCutShort (tool : Tool) (quiet : Bool) (before after : Moment) (input : List ℕ) (left : Option (List ℕ)) : Type 0 where
@@ -103,7 +103,7 @@ pub record IsCutShort (tool : Tool) (quiet : Bool) (before after : Moment) (inpu
   pub split : input ≡ bytes ++ rest
   pub unread : left ≡ Some rest
   pub no_fault : ShowsNoFault tool bytes
-  pub run : IsRun quiet (body_of quiet) before after (commands tool (wholly_read bytes))
+  pub run_from : IsRunOf quiet (cut_short_text quiet) before after (commands_in tool (wholly_read bytes))
 
 -- commands on the lines from a number on
 abbrev pub on_lines : ℕ → List Command → List (ℕ × Command)
@@ -116,7 +116,7 @@ generated_script tool w n = on_lines 1 (commands_of_seed tool n w.seed)
 
 -- a quiet run of these; no source is read, and none is spoken of
 pub record IsGenerated (tool : Tool) (w : Words) (n : ℕ) (before after : Moment) : Type 0 where
-  pub run : IsRun true (text_of w (length (commands_of_seed tool n w.seed))) before after (generated_script tool w n)
+  pub run_from : IsRunOf true (text_of w (length (commands_of_seed tool n w.seed))) before after (generated_script tool w n)
 
 -- from one moment to another, and from what a source tells to what it has left: so many generated commands were run, of which no line is bad, or else the source's script, up to this bad line
 abbrev pub ReplaysBy : Option ℕ → Tool → Words → Moment → Moment → Option (List ℕ) → Option (List ℕ) → Option (ℕ × LineFault) → Type 0

@@ -6,7 +6,7 @@ use Rattle.vc_dtdisc.specs.Shapes.{rules_of}
 use Rattle.vc_dtdisc.specs.declared.shape.Shape.TheVariants.{Whole, Field, Text, Fold, Reverse, Clip}
 use Rattle.vc_region.specs.Region.{OfBest}
 use Rattle.vc_script.specs.declared.tool.Tool.TheVariants.{Vmreplay}
-use Rattle.vc_session.specs.Run.{Ran, run, script}
+use Rattle.vc_session.specs.Run.{Ran, run_from, script}
 use Rattle.vc_session.specs.Text.{text_of}
 use Rattle.vc_words.specs.declared.words.Words.{Words}
 use Rattle.vc_commands.specs.Home.{Label}
@@ -124,4 +124,4 @@ moved_state =
 
 -- what a script of regions writes from a state, where no segment is refused
 abbrev pub text_from : State → List ℕ → List ℕ
-text_from s input = plain_text (run s (script Vmreplay input) [])
+text_from s input = plain_text (run_from s (script Vmreplay input) [])

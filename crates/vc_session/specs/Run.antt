@@ -1,6 +1,7 @@
 -- The commands of an input, a run of them, and its text.
 use Rattle.std.specs.Prelude.{ℕ, List, [], ◌∷◌, ◌++◌, Option, Some, None, Result, Ok, Err, map, max}
-use Rattle.vc_counts.specs.Counts.{busy_in}
+use Rattle.vc_counts.specs.Counts.{live_bytes}
+use Rattle.vc_model.specs.Segments.{Grant}
 use Rattle.vc_script.specs.declared.command.Command.{Command}
 use Rattle.vc_script.specs.declared.line_answer.LineAnswer.{LineAnswer}
 use Rattle.vc_script.specs.declared.line_answer.LineAnswer.TheVariants.{Blank, Is, Bad}
@@ -26,12 +27,12 @@ command_in_turn tool n (Ok line) behind = command_then n (answer tool line) behi
 command_in_turn tool n (Err fault) behind = []
 
 -- the commands of lines before the first bad one, each with its line's number
-abbrev pub commands : Tool → List (ℕ × Result (List ℕ) LineFault) → List (ℕ × Command)
-commands tool [] = []
-commands tool (line ∷ rest) = command_in_turn tool line.0 line.1 (commands tool rest)
+abbrev pub commands_in : Tool → List (ℕ × Result (List ℕ) LineFault) → List (ℕ × Command)
+commands_in tool [] = []
+commands_in tool (line ∷ rest) = command_in_turn tool line.0 line.1 (commands_in tool rest)
 
 abbrev pub script : Tool → List ℕ → List (ℕ × Command)
-script tool input = commands tool (judged_lines input)
+script tool input = commands_in tool (judged_lines input)
 
 abbrev pub fault_then : ℕ → LineAnswer → Option (ℕ × LineFault) → Option (ℕ × LineFault)
 fault_then n Blank behind = behind
@@ -54,13 +55,13 @@ first_bad tool input = fault_in tool (judged_lines input)
 abbrev pub wholly_read : List ℕ → List (ℕ × Result (List ℕ) LineFault)
 wholly_read bytes = judged_from 1 (ended_lines bytes)
 
--- a run: its replies, each with the number of its line; its last state; the place of the discipline at each refusal of a segment; what was told to kinds; the segments that were granted, as number and bytes; and the most bytes that the blocks of all regions had after a command
+-- a run: its replies, each with the number of its line; its last state; the place of the discipline at each refusal of a segment; what was told to kinds; what was granted of segments; and the most bytes that the blocks of all regions had after a command
 pub record Ran : Type 0 where
   pub replies : List (ℕ × Reply)
   pub state : State
   pub refusals : List ℕ
   pub told : List (ℕ × List ℕ)
-  pub granted : List (ℕ × ℕ)
+  pub granted : List Grant
   pub peak : ℕ
 
 -- a run of no command
@@ -76,14 +77,14 @@ run_with_step s c t rest =
       refusals = refusal_at s c.1 t.reply ++ rest.refusals;
       told = t.told ++ rest.told;
       granted = t.granted ++ rest.granted;
-      peak = max (busy_in t.state) rest.peak;
+      peak = max (live_bytes t.state) rest.peak;
     }
 
 -- the steps in order, each with its line and with the need of that line
-abbrev pub run : State → List (ℕ × Command) → List (ℕ × Need) → Ran
-run s [] needs = nothing_ran s
-run s (c ∷ cs) needs = let t = step s c.0 c.1 (need_at needs c.0) in run_with_step s c t (run t.state cs needs)
+abbrev pub run_from : State → List (ℕ × Command) → List (ℕ × Need) → Ran
+run_from s [] needs = nothing_ran s
+run_from s (c ∷ cs) needs = let t = step s c.0 c.1 (need_at needs c.0) in run_with_step s c t (run_from t.state cs needs)
 
 -- the lines of commands
 abbrev pub lines_of : List (ℕ × Command) → List ℕ
-lines_of commands = map (λ c. c.0) commands
+lines_of commands_in = map (λ c. c.0) commands_in

@@ -13,31 +13,31 @@ use Rattle.vc_steps.specs.Moment.{Moment, over_sink}
 use Rattle.vc_steps.specs.State.{State}
 use Rattle.vc_session.specs.Progress.{CanCountOn, Progress}
 use Rattle.vc_session.specs.Replay.{ShowsNoFault, Stops, Told}
-use Rattle.vc_session.specs.Run.{commands, fault_in, first_bad, script, wholly_read}
+use Rattle.vc_session.specs.Run.{commands_in, fault_in, first_bad, script, wholly_read}
 
 -- lines by their numbers, or what is wrong with them
-abbrev pub Found : Type 0
-Found = List (ℕ × Result (List ℕ) LineFault)
+abbrev pub FoundSoFar : Type 0
+FoundSoFar = List (ℕ × Result (List ℕ) LineFault)
 
 -- so many lines were run, whatever is behind them
-pub record Running (tool : Tool) (quiet : Bool) (start now : Moment) (counts : Counts) (text : List ℕ) (count : ℕ) (whole : Found) : Type 0 where
+pub record Running (tool : Tool) (quiet : Bool) (start now : Moment) (counts : Counts) (text : List ℕ) (count : ℕ) (whole : FoundSoFar) : Type 0 where
   pub done : List (ℕ × Command)
   pub progress : Progress quiet start now counts text count done
   pub size : length whole ≡ count
   pub short : AllByRecursion (λ line. IsOk line.1) whole
-  pub script : (behind : Found) → commands tool (whole ++ behind) ≡ done ++ commands tool behind
-  pub good : (behind : Found) → fault_in tool (whole ++ behind) ≡ fault_in tool behind
+  pub script : (behind : FoundSoFar) → commands_in tool (whole ++ behind) ≡ done ++ commands_in tool behind
+  pub good : (behind : FoundSoFar) → fault_in tool (whole ++ behind) ≡ fault_in tool behind
 
 -- what is judged of the bytes behind those that were fed
-abbrev pub judged_rest : Cutting → List ℕ → Found
+abbrev pub judged_rest : Cutting → List ℕ → FoundSoFar
 judged_rest s bytes = judged_from (s.count + 1) (lines_after s.kept bytes)
 
 -- the lines that are ended in them
-abbrev pub ended_rest : Cutting → List ℕ → Found
+abbrev pub ended_rest : Cutting → List ℕ → FoundSoFar
 ended_rest s bytes = judged_from (s.count + 1) (ended_after s.kept bytes)
 
 -- of an input these lines were found, and the rest of the last piece is left with what is behind it
-pub record Reading (tool : Tool) (input : List ℕ) (left : Option (List ℕ)) (s : Cutting) (rest : List ℕ) (whole : Found) : Type 0 where
+pub record Reading (tool : Tool) (input : List ℕ) (left : Option (List ℕ)) (s : Cutting) (rest : List ℕ) (whole : FoundSoFar) : Type 0 where
   pub before : List ℕ
   pub last : List ℕ
   pub behind : List ℕ
@@ -50,7 +50,7 @@ pub record Reading (tool : Tool) (input : List ℕ) (left : Option (List ℕ)) (
 
 -- what was run so far of a source that told its bytes at the start, or didn't
 pub record SoFar (tool : Tool) (quiet : Bool) (start now : Moment) (counts : Counts) (text : List ℕ) (told left : Option (List ℕ)) (s : Cutting) (rest : List ℕ) : Type 0 where
-  pub whole : Found
+  pub whole : FoundSoFar
   pub running : Running tool quiet start now counts text s.count whole
   pub reading : IfSome told (λ input. Reading tool input left s rest whole)
 

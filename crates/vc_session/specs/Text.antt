@@ -1,9 +1,9 @@
 -- What a run writes, by the words that its tool was given: replies or refused segments, and what stands behind them.
-use Rattle.std.specs.Prelude.{ℕ, ◌-◌, List, [], ◌∷◌, ◌++◌, Option, Some, None, Bool, true, false, codes, decimal, length, map, sum, count_by, not, ◌||◌}
+use Rattle.std.specs.Prelude.{ℕ, ◌-◌, List, [], ◌∷◌, ◌++◌, Option, Some, None, Bool, true, false, codes, decimal, map, sum, count_by, not, ◌||◌}
 use Rattle.std.specs.List.{flat_map}
 use Rattle.std.specs.Option.{is_some}
 use Rattle.vc_commands.specs.Home.{Home}
-use Rattle.vc_counts.specs.Counts.{busy_in}
+use Rattle.vc_counts.specs.Counts.{live_bytes}
 use Rattle.vc_counts.specs.declared.counts.Counts.{Counts}
 use Rattle.vc_region.specs.Stat.{stat_of}
 use Rattle.vc_script.specs.declared.line_fault.LineFault.{LineFault}
@@ -25,9 +25,9 @@ counts_of r =
     record {
       done = count_by (λ x. not (is_refusal x.1)) r.replies;
       refused = count_by (λ x. is_refusal x.1) r.replies;
-      segments = length r.granted;
-      bytes = sum (map (λ g. g.1) r.granted);
-      busy = busy_in r.state;
+      segments = count_by (λ g. g.fresh) r.granted;
+      bytes = sum (map (λ g. g.bytes) r.granted);
+      busy = live_bytes r.state;
       peak = r.peak;
     }
 
@@ -51,11 +51,11 @@ summary_by false lines c = []
 summary_by true lines c = summary lines c
 
 -- a region's numbers, behind its name
-abbrev pub stat_text : List ℕ → Stat → List ℕ
-stat_text name stat = codes "stat " ++ name ++ codes " " ++ printed (Stats stat)
+abbrev pub numbers_text : List ℕ → Stat → List ℕ
+numbers_text name stat = codes "stat " ++ name ++ codes " " ++ printed (Stats stat)
 
 abbrev pub stat_line : Home → List ℕ
-stat_line h = stat_text h.name (stat_of h.region)
+stat_line h = numbers_text h.name (stat_of h.region)
 
 -- a line for each region, in order of opening, where they are asked for
 abbrev pub stats_by : Bool → List Home → List (List ℕ)
@@ -71,9 +71,9 @@ abbrev pub lines_text : List (List ℕ) → List ℕ
 lines_text lines = flat_map (λ line. line ++ 10 ∷ []) lines
 
 -- what a run that was cut short writes
-abbrev pub body_of : Bool → Ran → List ℕ
-body_of quiet r = body_by quiet r.replies
+abbrev pub cut_short_text : Bool → Ran → List ℕ
+cut_short_text quiet r = body_by quiet r.replies
 
 -- what a run of so many lines writes
 abbrev pub text_of : Words → ℕ → Ran → List ℕ
-text_of w lines r = body_of (is_quiet w) r ++ lines_text (tail_lines w lines (counts_of r) r.state.homes)
+text_of w lines r = cut_short_text (is_quiet w) r ++ lines_text (tail_lines w lines (counts_of r) r.state.homes)

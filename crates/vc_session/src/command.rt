@@ -1,7 +1,7 @@
 // What one command does, and what is written of its reply.
 ghost use Rattle.std.specs.Prelude.{Some, IsTrue};
 ghost use Rattle.vc_counts.specs.CanCount.{CanCount};
-ghost use Rattle.vc_counts.specs.Counts.{busy_in};
+ghost use Rattle.vc_counts.specs.Counts.{live_bytes};
 ghost use Rattle.vc_session.specs.Engine.{IsStep, RunsLine};
 ghost use Rattle.vc_session.specs.Progress.{CountsOn};
 ghost use Rattle.vc_steps.specs.Homes.{IsSessionOver, state_over};
@@ -29,7 +29,7 @@ fn run_command<D: DictDisc>(
     counts: &mut Counts,
 ) -> Result<Reply, OutOfMemory>
     requires session { IsSessionOver state D.rules shelf.old session.old kinds.old.items }
-    requires counts { IsTrue quiet → CanCount counts.old (busy_in
+    requires counts { IsTrue quiet → CanCount counts.old (live_bytes
         (state_over state (rules_in D.rules kinds.old.items) shelf.old session.old)) n }
     ensures { RunsOver state D.rules D.gone shelf.old session.old kinds.old.items
         shelf.new session.new kinds.new.items
@@ -54,7 +54,7 @@ pub(crate) fn run_answer<D: DictDisc>(
     replies: &mut Vec<u8>,
 ) -> Result<(), OutOfMemory>
     requires session { IsSessionOver state D.rules shelf.old session.old kinds.old.items }
-    requires counts { IsTrue quiet → CanCount counts.old (busy_in
+    requires counts { IsTrue quiet → CanCount counts.old (live_bytes
         (state_over state (rules_in D.rules kinds.old.items) shelf.old session.old)) n }
     ensures { RunsOver state D.rules D.gone shelf.old session.old kinds.old.items
         shelf.new session.new kinds.new.items

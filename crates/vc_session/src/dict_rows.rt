@@ -2,11 +2,11 @@
 ghost use Rattle.std.specs.Prelude.{◌≡◌, ◌++◌, [], codes};
 ghost use Rattle.vc_script.specs.declared.tool.Tool.TheVariants.{Dtrun};
 ghost use Rattle.vc_session.specs.Rows.{plain_text, with_kinds};
-ghost use Rattle.vc_session.specs.Run.{run, script};
+ghost use Rattle.vc_session.specs.Run.{run_from, script};
 
 /// A list: an object goes before the current one, or behind it.
 pub fn list_of_letters()
-    ensures { plain_text (run with_kinds (script Dtrun
+    ensures { plain_text (run_from with_kinds (script Dtrun
         (codes "open r best 1\ndict l list r 1\ninsert l a\ninsert l b\nappend l c\nfirst l\n"
         ++ codes "insert l d\ndelete l d\nappend l e\nwalk l\n")) [])
         ≡ codes "r open\nl open\nnew a\nnew b\nnew c\nfound b\nnew d\ngone d\nnew e\n"
@@ -15,7 +15,7 @@ pub fn list_of_letters()
 
 /// A queue keeps the order of coming, and a region in which it lies is neither cleared nor closed before it is shut.
 pub fn queue_in_region()
-    ensures { plain_text (run with_kinds (script Dtrun
+    ensures { plain_text (run_from with_kinds (script Dtrun
         (codes "open r best 1\ndict q queue r 1\ninsert q a\ninsert q b\ninsert q a\nsearch q a\n"
         ++ codes "next q a\nprev q a\ndelete q a\nwalk q\nclear r\nempty q\nshut q\nclose r\n")) [])
         ≡ codes "r open\nq open\nnew a\nnew b\nnew a\nfound a\nnone\nnone\ngone a\n2 b a\n"
@@ -24,7 +24,7 @@ pub fn queue_in_region()
 
 /// A bag becomes a set that keeps one of the objects that match, and only its table is left when it is emptied.
 pub fn bag_to_set()
-    ensures { plain_text (run with_kinds (script Dtrun
+    ensures { plain_text (run_from with_kinds (script Dtrun
         (codes "open r best 1\ndict d bag r 1\ninsert d a\ninsert d a\ndetach d a\ncount d\n"
         ++ codes "attach d b\nmethod d set\nwalk d\nmethod d set\nempty d\nblocks r\n")) [])
         ≡ codes "r open\nd open\nnew a\nnew a\nout a\n1\nnew b\nd method set\n2 a b\n"
@@ -33,7 +33,7 @@ pub fn bag_to_set()
 
 /// An ordered set stands in the order of its keys, and keeps the object that another one matches.
 pub fn ordered_set_of_fruit()
-    ensures { plain_text (run with_kinds (script Dtrun
+    ensures { plain_text (run_from with_kinds (script Dtrun
         (codes "open r best 1\ndict d oset r 1\ninsert d pear\ninsert d apple\ninsert d pear\n"
         ++ codes "walk d\n")) [])
         ≡ codes "r open\nd open\nnew pear\nnew apple\nold pear\n2 apple pear\n" }
@@ -42,7 +42,7 @@ pub fn ordered_set_of_fruit()
 /// An ordered bag without regard to the case of letters: those that match stand in the order of coming, and the first
 /// goes.
 pub fn ordered_bag_without_case()
-    ensures { plain_text (run with_kinds (script Dtrun
+    ensures { plain_text (run_from with_kinds (script Dtrun
         (codes "open r best 1\ndict d obag r 3\ninsert d b\ninsert d A\ninsert d B\nwalk d\n"
         ++ codes "delete d b\nwalk d\n")) [])
         ≡ codes "r open\nd open\nnew b\nnew A\nnew B\n3 A b B\ngone b\n2 A B\n" }
@@ -50,7 +50,7 @@ pub fn ordered_bag_without_case()
 
 /// Of a stack and of a queue the first object goes where none is named, and of a set none.
 pub fn unnamed_deletes()
-    ensures { plain_text (run with_kinds (script Dtrun
+    ensures { plain_text (run_from with_kinds (script Dtrun
         (codes "open r best 1\ndict s stack r 1\ninsert s a\ninsert s b\ninsert s c\nwalk s\n"
         ++ codes "delete s\ndict q queue r 1\ninsert q a\ninsert q b\nwalk q\ndelete q\n"
         ++ codes "dict t set r 1\ninsert t a\ndelete t\n")) [])
@@ -60,7 +60,7 @@ pub fn unnamed_deletes()
 
 /// A bag becomes an ordered set without the later of two that match, and that a stack in its order.
 pub fn bag_to_stack()
-    ensures { plain_text (run with_kinds (script Dtrun
+    ensures { plain_text (run_from with_kinds (script Dtrun
         (codes "open r best 1\ndict d bag r 3\ninsert d b\ninsert d B\ninsert d a\n"
         ++ codes "method d oset\nwalk d\nmethod d stack\ninsert d z\nwalk d\n")) [])
         ≡ codes "r open\nd open\nnew b\nnew B\nnew a\nd method oset\n2 a b\nd method stack\n"
@@ -69,7 +69,7 @@ pub fn bag_to_stack()
 
 /// A text ends at a zero byte; a clip has eight bytes where it is made, and all of them where it is attached.
 pub fn text_and_clip()
-    ensures { plain_text (run with_kinds (script Dtrun
+    ensures { plain_text (run_from with_kinds (script Dtrun
         (codes "open r best 1\ndict d set r 2\ninsert d a%00x\ninsert d a%00y\n"
         ++ codes "dict c set r 6\ninsert c abcdefghij\nattach c abcdefghij\ndelete c abcdefgh\n"
         ++ codes "attach c abcdefghij\nmatch c abcdefgh\nmatch c abcdefghij\n")) [])

@@ -1,7 +1,7 @@
 // The lines of a source, run in order as they come.
 ghost use Rattle.std.specs.Prelude.{◌≡◌, [], Some, IfOk, IsTrue};
 ghost use Rattle.vc_counts.specs.CanCount.{CanCount};
-ghost use Rattle.vc_counts.specs.Counts.{busy_in};
+ghost use Rattle.vc_counts.specs.Counts.{live_bytes};
 ghost use Rattle.vc_script.specs.Answer.{answer};
 ghost use Rattle.vc_script.specs.Cutting.{new_cutting};
 ghost use Rattle.vc_session.specs.Engine.{LineRan, RunsLines};
@@ -75,7 +75,7 @@ fn run_line<D: DictDisc>(
     replies: &mut Vec<u8>,
 ) -> Result<Option<LineFault>, OutOfMemory>
     requires session { IsSessionOver state D.rules shelf.old session.old kinds.old.items }
-    requires counts { IsTrue quiet → CanCount counts.old (busy_in
+    requires counts { IsTrue quiet → CanCount counts.old (live_bytes
         (state_over state (rules_in D.rules kinds.old.items) shelf.old session.old)) n }
     ensures { RunsOver state D.rules D.gone shelf.old session.old kinds.old.items
         shelf.new session.new kinds.new.items

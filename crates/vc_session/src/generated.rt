@@ -2,7 +2,7 @@
 ghost use Rattle.std.specs.Prelude.{◌≡◌, ℕ, ◌<◌, ◌≤◌, ◌^◌, List, [], ◌++◌, Some, true, IfOk, IfSome, OnErr, OnOk, length};
 ghost use Rattle.std.specs.List.{AllByRecursion};
 ghost use Rattle.vc_counts.specs.CanCount.{CanCount};
-ghost use Rattle.vc_counts.specs.Counts.{busy_in};
+ghost use Rattle.vc_counts.specs.Counts.{live_bytes};
 ghost use Rattle.vc_generate.specs.Generated.{commands_of_seed};
 ghost use Rattle.vc_model.specs.Count.{Rose};
 ghost use Rattle.vc_script.specs.Proper.{IsProperCommand};
@@ -12,7 +12,7 @@ ghost use Rattle.vc_session.specs.Progress.{CanBegin, CountsOn};
 ghost use Rattle.vc_session.specs.ProperState.{IsProperOver};
 ghost use Rattle.vc_session.specs.Replay.{Told};
 ghost use Rattle.vc_steps.specs.Homes.{IsSessionOver, state_over};
-ghost use Rattle.vc_steps.specs.Moment.{Keeps, moment_at_end, over_sink, rest_of};
+ghost use Rattle.vc_steps.specs.Moment.{Keeps, moment_at_end, over_sink, moment_at_rest};
 ghost use Rattle.vc_steps.specs.Steps.{RunsOver};
 ghost use Rattle.vc_steps.specs.Told.{KeepRules, rules_in};
 
@@ -81,7 +81,7 @@ fn run_made<D: DictDisc>(
     gathered: &mut Vec<u8>,
 ) -> Result<(), OutOfMemory>
     requires session { IsSessionOver state D.rules shelf.old session.old kinds.old.items }
-    requires counts { CanCount counts.old (busy_in
+    requires counts { CanCount counts.old (live_bytes
         (state_over state (rules_in D.rules kinds.old.items) shelf.old session.old)) line }
     ensures { RunsOver state D.rules D.gone shelf.old session.old kinds.old.items
         shelf.new session.new kinds.new.items
@@ -177,12 +177,12 @@ pub(crate) fn run_generated<D: DictDisc, O: Sink>(
     out: &mut O,
 ) -> Result<(), Stop>
     ensures runs { IfSome asked.now.words.generate (λ n. RunsGenerated tool asked.now.words n result
-        (rest_of state D.rules D.gone shelf.old kinds.old.items)
-        (rest_of state D.rules D.gone shelf.new kinds.new.items)
+        (moment_at_rest state D.rules D.gone shelf.old kinds.old.items)
+        (moment_at_rest state D.rules D.gone shelf.new kinds.new.items)
         (O.written out.old) (O.written out.new) (O.failures out.old) (O.failures out.new)) }
     ensures keeps { Keeps
-        (rest_of state D.rules D.gone shelf.old kinds.old.items)
-        (rest_of state D.rules D.gone shelf.new kinds.new.items) }
+        (moment_at_rest state D.rules D.gone shelf.old kinds.old.items)
+        (moment_at_rest state D.rules D.gone shelf.new kinds.new.items) }
     ensures rules { KeepRules D.rules kinds.old.items kinds.new.items }
 {
     let Some(n) = asked.words.generate else {

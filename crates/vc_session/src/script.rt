@@ -5,7 +5,7 @@ ghost use Rattle.vc_session.specs.Engine.{RunsScript};
 ghost use Rattle.vc_session.specs.ProperState.{IsProperOver};
 ghost use Rattle.vc_session.specs.Streams.{flows};
 ghost use Rattle.vc_session.specs.Text.{good_lines};
-ghost use Rattle.vc_steps.specs.Moment.{Keeps, moment_at_end, rest_of};
+ghost use Rattle.vc_steps.specs.Moment.{Keeps, moment_at_end, moment_at_rest};
 ghost use Rattle.vc_steps.specs.Steps.{RunsOver};
 ghost use Rattle.vc_steps.specs.Told.{KeepRules};
 
@@ -87,13 +87,13 @@ pub(crate) fn run_source<D: DictDisc, S: Source, O: Sink>(
     out: &mut O,
 ) -> Result<Option<(u32, LineFault)>, Stop>
     ensures runs { RunsScript tool words.now result
-        (rest_of state D.rules D.gone shelf.old kinds.old.items)
-        (rest_of state D.rules D.gone shelf.new kinds.new.items)
+        (moment_at_rest state D.rules D.gone shelf.old kinds.old.items)
+        (moment_at_rest state D.rules D.gone shelf.new kinds.new.items)
         (flows S.left S.failures O.written O.failures source.old out.old)
         (flows S.left S.failures O.written O.failures source.new out.new) }
     ensures keeps { Keeps
-        (rest_of state D.rules D.gone shelf.old kinds.old.items)
-        (rest_of state D.rules D.gone shelf.new kinds.new.items) }
+        (moment_at_rest state D.rules D.gone shelf.old kinds.old.items)
+        (moment_at_rest state D.rules D.gone shelf.new kinds.new.items) }
     ensures rules { KeepRules D.rules kinds.old.items kinds.new.items }
 {
     let mut cutter = LineCutter::new(alloc)?;

@@ -3,8 +3,8 @@ ghost use Rattle.std.specs.Prelude.{◌≡◌, [], ◌∷◌, ◌++◌, decimal,
 ghost use Rattle.vc_commands.specs.Held.{home_of};
 ghost use Rattle.vc_region.specs.Parts.{region_of};
 ghost use Rattle.vc_region.specs.Stat.{stat_of};
-ghost use Rattle.vc_session.specs.Text.{is_quiet, lines_text, stat_text, stats_by, summary_by, tail_lines};
-ghost use Rattle.vc_steps.specs.Homes.{held_in};
+ghost use Rattle.vc_session.specs.Text.{is_quiet, lines_text, numbers_text, stats_by, summary_by, tail_lines};
+ghost use Rattle.vc_steps.specs.Homes.{held_in_session};
 
 use itoa::Buffer;
 use std::alloc::{AllocError, Global};
@@ -64,7 +64,7 @@ fn gather_stat(
     gathered: &mut Vec<u8>,
 ) -> Result<(), OutOfMemory>
     ensures { OnOk result (gathered.new.items ≡ gathered.old.items
-        ++ (stat_text name.now (stat_of (region_of home.now.region)) ++ 10 ∷ [])) }
+        ++ (numbers_text name.now (stat_of (region_of home.now.region)) ++ 10 ∷ [])) }
 {
     let stat = print_reply(alloc, &Reply::Stats(home.region.stat()))?;
     gathered.extend_from_slice(b"stat ")?;
@@ -83,7 +83,7 @@ fn gather_stats<D>(
 ) -> Result<(), OutOfMemory>
     requires { length session.now.labels.items ≡ length session.now.homes.entries }
     ensures { OnOk result (gathered.new.items ≡ gathered.old.items
-        ++ lines_text (stats_by asked (map home_of (held_in state session.now)))) }
+        ++ lines_text (stats_by asked (map home_of (held_in_session state session.now)))) }
 {
     if !asked {
         return Ok(());
@@ -109,7 +109,7 @@ pub(crate) fn gather_tail<D>(
 ) -> Result<(), OutOfMemory>
     requires { length session.now.labels.items ≡ length session.now.homes.entries }
     ensures { OnOk result (gathered.new.items ≡ gathered.old.items ++ lines_text
-        (tail_lines words.now lines counts.now (map home_of (held_in state session.now)))) }
+        (tail_lines words.now lines counts.now (map home_of (held_in_session state session.now)))) }
 {
     gather_summary(is_quiet(words), lines, counts, gathered)?;
     gather_stats(alloc, words.stat, session, gathered)

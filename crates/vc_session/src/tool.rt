@@ -2,9 +2,9 @@
 ghost use Rattle.std.specs.Prelude.{◌≡◌, [], Some, IsSome, map, string_bytes};
 ghost use Rattle.vc_script.specs.declared.tool.Tool.TheVariants.{Dtrun, Vmreplay};
 ghost use Rattle.vc_session.specs.Engine.{RunsAsked};
-ghost use Rattle.vc_session.specs.Promises.{Promises, lent_state};
+ghost use Rattle.vc_session.specs.Promises.{Promises, borrowed};
 ghost use Rattle.vc_session.specs.Streams.{flows, streams};
-ghost use Rattle.vc_steps.specs.Moment.{Keeps, rest_by, rest_of};
+ghost use Rattle.vc_steps.specs.Moment.{Keeps, moment_at_rest_by, moment_at_rest};
 ghost use Rattle.vc_steps.specs.Told.{KeepRules};
 ghost use Rattle.vc_words.specs.Words.{words_of};
 
@@ -32,14 +32,14 @@ fn run_asked<D: DictDisc, S: Source, O: Sink>(
     out: &mut O,
 ) -> Result<Option<(u32, LineFault)>, Stop>
     ensures runs { RunsAsked tool asked.now.words result
-        (rest_of state D.rules D.gone shelf.old kinds.old.items)
-        (rest_of state D.rules D.gone shelf.new kinds.new.items)
+        (moment_at_rest state D.rules D.gone shelf.old kinds.old.items)
+        (moment_at_rest state D.rules D.gone shelf.new kinds.new.items)
         (flows S.left S.failures O.written O.failures source.old out.old)
         (flows S.left S.failures O.written O.failures source.new out.new) }
     ensures generated { IsSome asked.now.words.generate → source.new ≡ source.old }
     ensures keeps { Keeps
-        (rest_of state D.rules D.gone shelf.old kinds.old.items)
-        (rest_of state D.rules D.gone shelf.new kinds.new.items) }
+        (moment_at_rest state D.rules D.gone shelf.old kinds.old.items)
+        (moment_at_rest state D.rules D.gone shelf.new kinds.new.items) }
     ensures rules { KeepRules D.rules kinds.old.items kinds.new.items }
 {
     match asked.words.generate {
@@ -63,9 +63,9 @@ fn run_words<D: DictDisc, S: Source, O: Sink, E: Sink>(
     err: &mut E,
 ) -> Status
     ensures { Promises tool (Some asked.now.words) result
-        (lent_state shelf.old kinds.old source.old out.old err.old)
-        (lent_state shelf.new kinds.new source.new out.new err.new)
-        (λ shelf kinds. rest_of state D.rules D.gone shelf kinds.items)
+        (borrowed shelf.old kinds.old source.old out.old err.old)
+        (borrowed shelf.new kinds.new source.new out.new err.new)
+        (λ shelf kinds. moment_at_rest state D.rules D.gone shelf kinds.items)
         (streams S.left S.failures O.written O.failures E.written E.failures) }
 {
     match run_asked(alloc, tool, asked, shelf, kinds, source, out) {
@@ -101,9 +101,9 @@ fn run_tool<D: DictDisc, S: Source, O: Sink, E: Sink>(
     err: &mut E,
 ) -> Status
     ensures { Promises tool (words_of (map string_bytes words.now)) result
-        (lent_state shelf.old kinds.old source.old out.old err.old)
-        (lent_state shelf.new kinds.new source.new out.new err.new)
-        (λ shelf kinds. rest_of state D.rules D.gone shelf kinds.items)
+        (borrowed shelf.old kinds.old source.old out.old err.old)
+        (borrowed shelf.new kinds.new source.new out.new err.new)
+        (λ shelf kinds. moment_at_rest state D.rules D.gone shelf kinds.items)
         (streams S.left S.failures O.written O.failures E.written E.failures) }
 {
     match read_words(alloc, words) {
@@ -138,9 +138,9 @@ pub fn replay<S: Source, O: Sink, E: Sink>(
     err: &mut E,
 ) -> Status
     ensures { Promises Vmreplay (words_of (map string_bytes words.now)) result
-        (lent_state shelf.old (tt {0}) source.old out.old err.old)
-        (lent_state shelf.new (tt {0}) source.new out.new err.new)
-        (λ shelf _. rest_by state [] [] shelf)
+        (borrowed shelf.old (tt {0}) source.old out.old err.old)
+        (borrowed shelf.new (tt {0}) source.new out.new err.new)
+        (λ shelf _. moment_at_rest_by state [] [] shelf)
         (streams S.left S.failures O.written O.failures E.written E.failures) }
 {
     let mut kinds: Vec<BuiltIn> = Vec::new(alloc);
@@ -168,9 +168,9 @@ pub fn dtrun<D: DictDisc, S: Source, O: Sink, E: Sink>(
     err: &mut E,
 ) -> Status
     ensures { Promises Dtrun (words_of (map string_bytes words.now)) result
-        (lent_state shelf.old kinds.old source.old out.old err.old)
-        (lent_state shelf.new kinds.new source.new out.new err.new)
-        (λ shelf kinds. rest_of state D.rules D.gone shelf kinds.items)
+        (borrowed shelf.old kinds.old source.old out.old err.old)
+        (borrowed shelf.new kinds.new source.new out.new err.new)
+        (λ shelf kinds. moment_at_rest state D.rules D.gone shelf kinds.items)
         (streams S.left S.failures O.written O.failures E.written E.failures) }
 {
     run_tool(alloc, Tool::Dtrun, words, shelf, kinds, source, out, err)

@@ -2,12 +2,12 @@
 ghost use Rattle.std.specs.Prelude.{◌≡◌, ◌++◌, [], codes};
 ghost use Rattle.vc_script.specs.declared.tool.Tool.TheVariants.{Dtrun};
 ghost use Rattle.vc_session.specs.Rows.{plain_text, with_kinds};
-ghost use Rattle.vc_session.specs.Run.{run, script};
+ghost use Rattle.vc_session.specs.Run.{run_from, script};
 
 /// A set over another one hides what it matches there, until that goes; neither is shut or turned while it is viewed,
 /// and the lower one can't view the upper one.
 pub fn set_over_set()
-    ensures { plain_text (run with_kinds (script Dtrun
+    ensures { plain_text (run_from with_kinds (script Dtrun
         (codes "open r best 1\ndict up set r 5\ndict low set r 5\ninsert up key1-up\n"
         ++ codes "insert low key1-low\ninsert low key2\nview up low\nsearch up key1\nwalk up\n"
         ++ codes "delete up key1\nsearch up key1\nwalk up\nview low up\nshut low\nmethod up bag\n"
@@ -19,7 +19,7 @@ pub fn set_over_set()
 
 /// An ordered set over another one is seen with it in the order of keys.
 pub fn ordered_over_ordered()
-    ensures { plain_text (run with_kinds (script Dtrun
+    ensures { plain_text (run_from with_kinds (script Dtrun
         (codes "open r best 1\ndict a oset r 1\ndict b oset r 1\ninsert a pear\ninsert b apple\n"
         ++ codes "insert b pear\ninsert b zebra\nview a b\nwalk a\nfirst a\nnext a pear\n"
         ++ codes "next a quince\nlast a\nprev a apple\n")) [])
@@ -30,7 +30,7 @@ pub fn ordered_over_ordered()
 /// A bag hides no equal objects of its own layer, and all equal ones below; a removal acts on the first one alone, and
 /// none views itself.
 pub fn bag_over_bag()
-    ensures { plain_text (run with_kinds (script Dtrun
+    ensures { plain_text (run_from with_kinds (script Dtrun
         (codes "open r best 1\ndict a bag r 1\ndict b bag r 1\ninsert b x\ninsert b x\n"
         ++ codes "insert b y\nview a b\nwalk a\ninsert a x\nwalk a\ndelete a y\nview a a\n"
         ++ codes "view a -\nwalk a\n")) [])

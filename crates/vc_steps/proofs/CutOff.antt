@@ -2,7 +2,7 @@
 use Rattle.std.proofs.Common.{◌≡◌, inl}
 use Rattle.vc_script.specs.declared.command.Command.{Command}
 use Rattle.vc_script.specs.declared.command.Command.TheVariants.{Insert, Attach}
-use Rattle.vc_steps.specs.Lacks.{IsCutOff}
+use Rattle.vc_steps.specs.WantedSegments.{IsCutOff}
 use Rattle.vc_steps.specs.State.{State}
 
 pub cut-same : (s : State) (command : Command) (after : State) → after ≡ s → IsCutOff s command after

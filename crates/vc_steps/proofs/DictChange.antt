@@ -13,10 +13,10 @@ use Rattle.vc_objects.specs.Parts.{IsWhole, dictionary_of}
 use Rattle.vc_region.specs.Region.{is_best}
 use Rattle.vc_commands.specs.Held.{Held}
 use Rattle.vc_steps.specs.Account.{held_named}
-use Rattle.vc_steps.specs.DictHomes.{AreApart, AreDicts, IsDictOf, cells_held, dict_home, dicts_in, dict_over}
+use Rattle.vc_steps.specs.DictHomes.{AreApartIn, AreDicts, IsDictOf, cells_of_held, dict_home, dicts_in, dict_over}
 use Rattle.vc_views.proofs.LinkLists.{all-remove, found-set}
 use Rattle.vc_steps.proofs.DictsStay.{Entry, Vs, home_of_entry}
-use Rattle.vc_views.proofs.Kept.{dictionary-kept, owned-there, whole-kept}
+use Rattle.vc_views.proofs.OwnBlocks.{dictionary-kept, owned-there, whole-kept}
 use Rattle.vc_commands.proofs.Firsts.{IsFirst, find-first, find-set}
 
 -- a region keeps its name and its cells, but for the blocks at these addresses before and at those after, and what is new was no cell
@@ -66,7 +66,7 @@ module _ (kinds : List Rules) (hs : List Held) (j : ℕ) (h g : Held) (mine mine
       whole-was = subst (λ (k : Held). IsWhole d.rules f.1.dict k.cells) (same_Some d.home h (sym d.found ∙ was)) d.whole
 
       own-was : (dict_over hs f) ≡ dictionary_of f.1.dict h.cells
-      own-was = ap (λ o. dictionary_of f.1.dict (cells_held o)) was
+      own-was = ap (λ o. dictionary_of f.1.dict (cells_of_held o)) was
 
       module _ (clear : IsClear hs h.name mine f) where
         apart-mine : (a : ℕ) → contains (own_blocks (dictionary_of f.1.dict h.cells)) a ≡ true → contains mine a ≡ false
@@ -84,7 +84,7 @@ module _ (kinds : List Rules) (hs : List Held) (j : ℕ) (h g : Held) (mine mine
 
         home-here : dict_over gs f ≡ dict_over hs f
         home-here =
-            ap (λ o. dictionary_of f.1.dict (cells_held o)) now
+            ap (λ o. dictionary_of f.1.dict (cells_of_held o)) now
             ∙ (dictionary-kept d.rules f.1.dict h.cells whole-was g.cells cells-kept ∙ sym own-was)
 
         dict-here : IsDictOf kinds gs f
@@ -100,7 +100,7 @@ module _ (kinds : List Rules) (hs : List Held) (j : ℕ) (h g : Held) (mine mine
     -- it lies in another one
     module _ (away : bytes_eq h.name f.1.home ≡ false) where
       home-away : dict_over gs f ≡ dict_over hs f
-      home-away = ap (λ o. dictionary_of f.1.dict (cells_held o)) (other-named f.1.home away)
+      home-away = ap (λ o. dictionary_of f.1.dict (cells_of_held o)) (other-named f.1.home away)
 
       dict-away : IsDictOf kinds gs f
       dict-away = record {
@@ -124,12 +124,12 @@ module _ (kinds : List Rules) (hs : List Held) (j : ℕ) (h g : Held) (mine mine
         false_from_ne_true (contains (own_blocks (dict_over hs f)) a)
         (λ own. false≢true (sym (apart-new here clear a (subst (λ (x : Dictionary). contains (own_blocks x) a ≡ true) (own-was here) own)) ∙ m))
 
-  apart-one : (f x : Entry) → IsDictOf kinds hs f → IsClear hs h.name mine f → IsDictOf kinds hs x → IsClear hs h.name mine x → AreApart hs f x → AreApart gs f x
+  apart-one : (f x : Entry) → IsDictOf kinds hs f → IsClear hs h.name mine f → IsDictOf kinds hs x → IsClear hs h.name mine x → AreApartIn hs f x → AreApartIn gs f x
   apart-one f x df cf dx cx apart = λ here a own.
       subst (λ (k : Dictionary). contains (own_blocks k) a ≡ false) (sym (home-kept x dx cx))
       (apart here a (subst (λ (k : Dictionary). contains (own_blocks k) a ≡ true) (home-kept f df cf) own))
 
-  apart-all : (f : Entry) → IsDictOf kinds hs f → IsClear hs h.name mine f → (es : List Entry) → AreDicts kinds hs es → AllByRecursion (IsClear hs h.name mine) es → AllByRecursion (AreApart hs f) es → AllByRecursion (AreApart gs f) es
+  apart-all : (f : Entry) → IsDictOf kinds hs f → IsClear hs h.name mine f → (es : List Entry) → AreDicts kinds hs es → AllByRecursion (IsClear hs h.name mine) es → AllByRecursion (AreApartIn hs f) es → AllByRecursion (AreApartIn gs f) es
   apart-all f df cf [] ds cs ps = tt
   apart-all f df cf (x ∷ es) ds cs ps = (apart-one f x df cf ds.0 cs.0 ps.0, apart-all f df cf es ds.2 cs.1 ps.1)
 
@@ -145,21 +145,21 @@ module _ (kinds : List Rules) (hs : List Held) (j : ℕ) (h g : Held) (mine mine
 
   -- the dictionary that has the new blocks
   module _ (n : Entry) (dn : IsDictOf kinds gs n) (lies : bytes_eq h.name n.1.home ≡ true) (own : own_blocks (dict_over gs n) ≡ mine') where
-    new-before : (f : Entry) → IsDictOf kinds hs f → IsClear hs h.name mine f → AreApart gs n f
+    new-before : (f : Entry) → IsDictOf kinds hs f → IsClear hs h.name mine f → AreApartIn gs n f
     new-before f df cf = λ here a m.
         subst (λ (k : Dictionary). contains (own_blocks k) a ≡ false) (sym (home-kept f df cf))
         (clear-after f df cf (ap (λ r. bytes_eq r f.1.home) (same_bytes h.name n.1.home lies) ∙ here) a (subst (λ xs. contains xs a ≡ true) own m))
 
-    new-behind : (f : Entry) → IsDictOf kinds hs f → IsClear hs h.name mine f → AreApart gs f n
+    new-behind : (f : Entry) → IsDictOf kinds hs f → IsClear hs h.name mine f → AreApartIn gs f n
     new-behind f df cf = λ here a m.
         false_from_ne_true (contains (own_blocks (dict_over gs n)) a)
         (λ m'. false≢true (sym (new-before f df cf (bytes_eq-swapped n.1.home f.1.home ∙ here) a m') ∙ m))
 
-    new-apart : (es : List Entry) → AreDicts kinds hs es → AllByRecursion (IsClear hs h.name mine) es → AllByRecursion (AreApart gs n) es
+    new-apart : (es : List Entry) → AreDicts kinds hs es → AllByRecursion (IsClear hs h.name mine) es → AllByRecursion (AreApartIn gs n) es
     new-apart [] ds cs = tt
     new-apart (e ∷ es) ds cs = (new-before e ds.0 cs.0, new-apart es ds.2 cs.1)
 
-    apart-push : (f : Entry) → IsDictOf kinds hs f → IsClear hs h.name mine f → (es : List Entry) → AreDicts kinds hs es → AllByRecursion (IsClear hs h.name mine) es → AllByRecursion (AreApart hs f) es → AllByRecursion (AreApart gs f) (es ++ n ∷ [])
+    apart-push : (f : Entry) → IsDictOf kinds hs f → IsClear hs h.name mine f → (es : List Entry) → AreDicts kinds hs es → AllByRecursion (IsClear hs h.name mine) es → AllByRecursion (AreApartIn hs f) es → AllByRecursion (AreApartIn gs f) (es ++ n ∷ [])
     apart-push f df cf [] ds cs ps = (new-behind f df cf, tt)
     apart-push f df cf (x ∷ es) ds cs ps = (apart-one f x df cf ds.0 cs.0 ps.0, apart-push f df cf es ds.2 cs.1 ps.1)
 
@@ -173,7 +173,7 @@ module _ (kinds : List Rules) (hs : List Held) (j : ℕ) (h g : Held) (mine mine
     homes-push vs (e ∷ es) ds cs =
         ap (λ k. home_of_entry vs e k ∷ dicts_in gs vs (es ++ n ∷ [])) (home-kept e ds.0 cs.0) ∙ ap (λ ks. dict_home hs vs e ∷ ks) (homes-push vs es ds.2 cs.1)
 
-    apart-set : (f : Entry) → IsDictOf kinds hs f → IsClear hs h.name mine f → (es : List Entry) (i : ℕ) (e : Entry) → slice_get es i ≡ Some e → AreDicts kinds hs es → AllByRecursion (IsClear hs h.name mine) (remove es i) → AllByRecursion (AreApart hs f) es → AllByRecursion (AreApart gs f) (set es i n)
+    apart-set : (f : Entry) → IsDictOf kinds hs f → IsClear hs h.name mine f → (es : List Entry) (i : ℕ) (e : Entry) → slice_get es i ≡ Some e → AreDicts kinds hs es → AllByRecursion (IsClear hs h.name mine) (remove es i) → AllByRecursion (AreApartIn hs f) es → AllByRecursion (AreApartIn gs f) (set es i n)
     apart-set f df cf [] i e there ds cs ps = absurd (none-some e there)
     apart-set f df cf (x ∷ es) zero e there ds cs ps = (new-behind f df cf, apart-all f df cf es ds.2 cs ps.1)
     apart-set f df cf (x ∷ es) (suc i) e there ds cs ps = (apart-one f x df cf ds.0 cs.0 ps.0, apart-set f df cf es i e there ds.2 cs.1 ps.1)
@@ -212,20 +212,20 @@ module _ (kinds : List Rules) (hs : List Held) where
   dicts-remove [] zero ds = tt
   dicts-remove [] (suc i) ds = tt
   dicts-remove (e ∷ es) zero ds = ds.2
-  dicts-remove (e ∷ es) (suc i) ds = (ds.0, all-remove (AreApart hs e) es i ds.1, dicts-remove es i ds.2)
+  dicts-remove (e ∷ es) (suc i) ds = (ds.0, all-remove (AreApartIn hs e) es i ds.1, dicts-remove es i ds.2)
 
   module _ (r : List ℕ) (e : Entry) (lies : bytes_eq r e.1.home ≡ true) where
-    clear-behind : (f : Entry) → AreApart hs e f → IsClear hs r (own_blocks (dict_over hs e)) f
+    clear-behind : (f : Entry) → AreApartIn hs e f → IsClear hs r (own_blocks (dict_over hs e)) f
     clear-behind f apart = λ here a m. apart (ap (λ n. bytes_eq n f.1.home) (sym (same_bytes r e.1.home lies)) ∙ here) a m
 
-    clear-before : (f : Entry) → AreApart hs f e → IsClear hs r (own_blocks (dict_over hs e)) f
+    clear-before : (f : Entry) → AreApartIn hs f e → IsClear hs r (own_blocks (dict_over hs e)) f
     clear-before f apart = λ here a m.
         false_from_ne_true (contains (own_blocks (dict_over hs f)) a)
         (λ own.
         false≢true
         (sym (apart (bytes_eq-swapped f.1.home e.1.home ∙ (ap (λ n. bytes_eq n f.1.home) (sym (same_bytes r e.1.home lies)) ∙ here)) a own) ∙ m))
 
-    clear-all : (es : List Entry) → AllByRecursion (AreApart hs e) es → AllByRecursion (IsClear hs r (own_blocks (dict_over hs e))) es
+    clear-all : (es : List Entry) → AllByRecursion (AreApartIn hs e) es → AllByRecursion (IsClear hs r (own_blocks (dict_over hs e))) es
     clear-all [] ps = tt
     clear-all (x ∷ es) ps = (clear-behind x ps.0, clear-all es ps.1)
 
@@ -233,5 +233,5 @@ module _ (kinds : List Rules) (hs : List Held) where
     pub clear-others : (es : List Entry) (i : ℕ) → slice_get es i ≡ Some e → AreDicts kinds hs es → AllByRecursion (IsClear hs r (own_blocks (dict_over hs e))) (remove es i)
     clear-others [] i there ds = absurd (none-some e there)
     clear-others (x ∷ es) zero there ds =
-        clear-all es (subst (λ z. AllByRecursion (AreApart hs z) es) (same_Some x e there) ds.1)
-    clear-others (x ∷ es) (suc i) there ds = (clear-before x (all-at (AreApart hs x) es i e there ds.1), clear-others es i there ds.2)
+        clear-all es (subst (λ z. AllByRecursion (AreApartIn hs z) es) (same_Some x e there) ds.1)
+    clear-others (x ∷ es) (suc i) there ds = (clear-before x (all-at (AreApartIn hs x) es i e there ds.1), clear-others es i there ds.2)

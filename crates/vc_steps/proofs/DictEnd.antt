@@ -20,7 +20,7 @@ use Rattle.vc_steps.specs.State.{State, Stepped, home_named, step_with_refusal}
 use Rattle.vc_steps.specs.Step.{GivesStep}
 use Rattle.vc_steps.specs.Told.{tell}
 use Rattle.vc_steps.proofs.DictChange.{dict-at}
-use Rattle.vc_steps.proofs.DictNamed.{dict-found}
+use Rattle.vc_steps.proofs.DictByName.{dict-found}
 use Rattle.vc_steps.proofs.DictsStay.{Entry, Vs}
 use Rattle.vc_commands.proofs.Firsts.{IsFirst}
 use Rattle.vc_steps.proofs.Sessions.{Slots}

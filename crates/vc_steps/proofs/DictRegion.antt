@@ -17,7 +17,7 @@ use Rattle.vc_commands.specs.RegionRun.{held_of}
 use Rattle.vc_commands.proofs.Answers.{KeepsOut, changed-by}
 use Rattle.vc_steps.proofs.DictChange.{Touches}
 use Rattle.vc_steps.proofs.RegionAt.{RegionAt}
-use Rattle.vc_steps.proofs.Unlabelled.{named-labelled}
+use Rattle.vc_steps.proofs.OwnLabels.{named-labelled}
 
 -- an entry of a best region
 abbrev pub best_entry : {I : Type 0} {V : I → Type 0} → ℕ → best.Best I V → HomeEntry I V

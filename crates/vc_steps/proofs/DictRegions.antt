@@ -14,7 +14,7 @@ use Rattle.vc_commands.specs.Held.{Held}
 use Rattle.vc_commands.specs.declared.region.home.HomeEntry.{HomeEntry}
 use Rattle.vc_commands.specs.declared.region.labels.Labels.{Labels}
 use Rattle.vc_steps.specs.Account.{held_named}
-use Rattle.vc_steps.specs.DictHomes.{AreApart, AreDicts, IsDictOf, cells_held, dict_over}
+use Rattle.vc_steps.specs.DictHomes.{AreApartIn, AreDicts, IsDictOf, cells_of_held, dict_over}
 use Rattle.vc_steps.specs.Homes.{held_all}
 use Rattle.vc_steps.proofs.DictsStay.{Entry}
 use Rattle.vc_views.specs.Dicts.{AreApartOver, AreDictsOver, DictRegion, IsDictOver, dictionary_over, region_named, region_seen}
@@ -31,7 +31,7 @@ regions-held meaning [] labels same = refl
 regions-held meaning (e ∷ es) [] same = absurd (omega (arith, same))
 regions-held meaning (e ∷ es) (l ∷ ls) same = ap (λ rs. region_seen e ∷ rs) (regions-held meaning es ls (omega (arith, same)))
 
-cells-seen : (o : Option Held) → views.cells_held (option_map held_seen o) ≡ cells_held o
+cells-seen : (o : Option Held) → views.cells_held (option_map held_seen o) ≡ cells_of_held o
 cells-seen None = refl
 cells-seen (Some h) = refl
 
@@ -71,7 +71,7 @@ module _ (hs : List Held) where
           whole = subst (λ (r : DictRegion). IsWhole is.rules e.1.dict r.cells) (sym h.2) is.whole;
         }
 
-    apart-to : (e : Entry) (es : List Entry) → AllByRecursion (AreApart hs e) es → AllByRecursion (AreApartOver seen e) es
+    apart-to : (e : Entry) (es : List Entry) → AllByRecursion (AreApartIn hs e) es → AllByRecursion (AreApartOver seen e) es
     apart-to e [] all = tt
     apart-to e (f ∷ fs) all = (
       (λ near a mine.
@@ -80,7 +80,7 @@ module _ (hs : List Held) where
       apart-to e fs all.1,
     )
 
-    apart-from : (e : Entry) (es : List Entry) → AllByRecursion (AreApartOver seen e) es → AllByRecursion (AreApart hs e) es
+    apart-from : (e : Entry) (es : List Entry) → AllByRecursion (AreApartOver seen e) es → AllByRecursion (AreApartIn hs e) es
     apart-from e [] all = tt
     apart-from e (f ∷ fs) all = (
       (λ near a mine.

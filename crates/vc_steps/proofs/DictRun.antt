@@ -6,7 +6,7 @@ use Rattle.std.specs.Map.{keys_of}
 use Rattle.std.proofs.lemmas.Bool.{cases_Bool, false≢true}
 use Rattle.std.proofs.lemmas.Option.{same_Some}
 use Rattle.indexmap.specs.IndexMap.{set_value_at}
-use Rattle.vc_model.specs.Discipline.{Discipline}
+use Rattle.vc_model.specs.Discipline.{Discipline, HasOut}
 use Rattle.vc_model.specs.Numbered.{at_number}
 use Rattle.vc_dict.specs.declared.dict.Dict.{Dict}
 use Rattle.vc_dtdisc.specs.Rules.{Gone, Rules}
@@ -26,13 +26,13 @@ use Rattle.vc_script.specs.declared.refusal.Refusal.TheVariants as why
 use Rattle.vc_script.specs.declared.reply.Reply.{Reply}
 use Rattle.vc_commands.specs.declared.dict.entry.DictEntry.{DictEntry}
 use Rattle.vc_commands.specs.Held.{Held, IsChange, home_of}
-use Rattle.vc_steps.specs.Account.{IsHeld, IsSession, Settles, accounts, settled_accounts, state_of}
+use Rattle.vc_steps.specs.Account.{IsHeldFrom, IsSession, Settles, accounts, settled_accounts, state_of}
 use Rattle.vc_steps.specs.DictHomes.{AreDicts, IsDictOf, dict_home, dicts_in}
-use Rattle.vc_steps.specs.Dicts.{dict_changed, dict_command, dict_of, dict_step, is_turn, runs_alone, seat_of}
+use Rattle.vc_steps.specs.Dicts.{dict_changed, dict_command, dict_of, dict_step, is_turn, runs_alone, seat_at_home}
 use Rattle.vc_views.specs.Views.{is_linked_in, DictHome}
 use Rattle.vc_steps.specs.Homes.{held_all}
 use Rattle.vc_commands.specs.RegionRun.{held_of}
-use Rattle.vc_steps.specs.Lacks.{IsCutOff, StepLacksFor}
+use Rattle.vc_steps.specs.WantedSegments.{IsCutOff, StepLacksFor}
 use Rattle.vc_steps.specs.Refusals.{refusal_at}
 use Rattle.vc_steps.specs.State.{State, step_with_refusal}
 use Rattle.vc_commands.specs.Home.{Home}
@@ -44,19 +44,19 @@ use Rattle.vc_views.proofs.LinkChanges.{linked-changed, linked-remade, views-cha
 use Rattle.vc_views.proofs.LinkLemmas.{unlinked}
 use Rattle.vc_steps.proofs.DictMethod.{method-ran}
 use Rattle.vc_steps.proofs.Cells.{at_number_some, set_same}
-use Rattle.vc_steps.proofs.Changing.{session-change, settles-none}
+use Rattle.vc_steps.proofs.RegionChange.{session-change, settles-none}
 use Rattle.vc_steps.proofs.DictChange.{Touches}
-use Rattle.vc_steps.proofs.DictNamed.{value-set}
+use Rattle.vc_steps.proofs.DictByName.{value-set}
 use Rattle.vc_steps.proofs.DictRegion.{best_entry, region-change, touches}
 use Rattle.vc_steps.proofs.DictReplies.{IsOther, other-dict}
 use Rattle.vc_steps.proofs.DictStep.{cut-after, dicts-after, lacks-after, settles-after, step-after}
 use Rattle.vc_steps.proofs.DictsStay.{Entry, Vs}
 use Rattle.vc_steps.proofs.Sessions.{Slots, held-at}
 use Rattle.std.specs.List.{IsDistinct, position}
-use Rattle.vc_steps.proofs.Barred.{free-turn, linked-here}
+use Rattle.vc_steps.proofs.BarredCommands.{free-turn, linked-here}
 use Rattle.vc_steps.proofs.DictThere.{DictIn, its, whole-there}
 use Rattle.vc_steps.proofs.RegionAt.{helds-set, named-set, region-stands, region_at}
-use Rattle.vc_steps.proofs.SessionHere.{SessionHere, helds, state_here, views}
+use Rattle.vc_steps.proofs.SessionHere.{SessionHere, helds, state_here, views, parts}
 
 -- a command runs on a dictionary alone, and turns none that is linked
 pub record RunsAlone (s : State) (d : DictHome) (command : Command) : Type 0 where
@@ -64,7 +64,7 @@ pub record RunsAlone (s : State) (d : DictHome) (command : Command) : Type 0 whe
   pub free : is_turn command ≡ true → is_linked_in s.dicts d ≡ false
 
 -- such a command
-pub alone-command : (s : State) (command : Command) (need : Need) (d : DictHome) (h : Home) (rules : Rules) → RunsAlone s d command → dict_command s command need d h rules ≡ dict_changed s d h (in_dict (seat_of d h rules) command need)
+pub alone-command : (s : State) (command : Command) (need : Need) (d : DictHome) (h : Home) (rules : Rules) → RunsAlone s d command → dict_command s command need d h rules ≡ dict_changed s d h (in_dict (seat_at_home d h rules) command need)
 alone-command s (Shut x) need d h rules is = absurd (false≢true is.alone)
 alone-command s (View x viewed) need d h rules is = absurd (false≢true is.alone)
 alone-command s (Search x bytes) need d h rules is = absurd (false≢true is.alone)
@@ -75,24 +75,12 @@ alone-command s (Next x bytes) need d h rules is = absurd (false≢true is.alone
 alone-command s (Prev x bytes) need d h rules is = absurd (false≢true is.alone)
 alone-command s (Walk x) need d h rules is = absurd (false≢true is.alone)
 alone-command s (Remethod x method) need d h rules is =
-    ap (λ t. cond t (step_with_refusal s why.Viewed) (dict_changed s d h (in_dict (seat_of d h rules) (Remethod x method) need))) (is.free refl)
+    ap (λ t. cond t (step_with_refusal s why.Viewed) (dict_changed s d h (in_dict (seat_at_home d h rules) (Remethod x method) need))) (is.free refl)
 alone-command s command need d h rules is = refl
 
 module _ {I : Type 0} {V : I → Type 0} {meaning : (x : I) × V x → Discipline} (place : ℕ) (before : Best I V) (x : DictIn meaning (best_entry place before)) (index : position (bytes_eq x.e.0) (keys_of x.here.es) ≡ Some x.i) where
-  abbrev here : SessionHere meaning
-  here = x.here
-
-  abbrev kinds : List Rules
-  kinds = here.kinds
-
-  abbrev slots : Slots
-  slots = here.slots
-
-  abbrev es : List Entry
-  es = here.es
-
-  abbrev vs : Vs
-  vs = views here
+  open x use {here, i, e}
+  open (parts here) use {kinds, slots, hs, es, vs, s}
 
   abbrev name : List ℕ
   name = x.e.0
@@ -100,26 +88,21 @@ module _ {I : Type 0} {V : I → Type 0} {meaning : (x : I) × V x → Disciplin
   abbrev entry : DictEntry
   entry = x.e.1
 
-  abbrev i : ℕ
-  i = x.i
-
-  abbrev hs : List Held
-  hs = helds here
-
   abbrev h : Held
   h = region_at meaning x.region
-
-  abbrev e : Entry
-  e = x.e
 
   at : slice_get hs x.j ≡ Some h
   at = region-stands meaning x.region
 
-  abbrev s : State
-  s = state_here here
-
   abbrev is : IsDictOf kinds hs e
   is = its x
+
+  is_held : IsHeldFrom slots h
+  is_held = held-at slots hs x.j h at here.held
+
+  -- the region's segments are the last that its discipline lent
+  pub lent-by : HasOut h.disc (segments_of h.region)
+  lent-by = is_held.lent
 
   module _ (rules : Rules) (at_rules : at_number kinds entry.dict.kind ≡ Some rules) where
     rules-are : rules ≡ is.rules
@@ -164,9 +147,7 @@ module _ {I : Type 0} {V : I → Type 0} {meaning : (x : I) × V x → Disciplin
     mine' = own_blocks (dictionary_in new after)
 
     change : IsChange (let k : Held = record h { cells = cells_in after } in k) g
-    change =
-        let is_held : IsHeld slots h = held-at slots hs x.j h at here.held in
-        region-change meaning entry.home place before after x.region.l mine mine' ran.leaves.rest is_held.lent is_held.names
+    change = region-change meaning entry.home place before after x.region.l mine mine' ran.leaves.rest is_held.lent is_held.names
 
     touch : Touches h g mine mine'
     touch = touches meaning entry.home place before after x.region.l mine mine' ran.leaves.rest
@@ -295,7 +276,7 @@ module _ {I : Type 0} {V : I → Type 0} {meaning : (x : I) × V x → Disciplin
         record {
           state = cut-ran command did.works did.err.1;
           gone = is_gone ∙ (ap (set here.gone (entry.dict.kind - 1)) did.err.0 ∙ set_same here.gone (entry.dict.kind - 1) old (at_number_some here.gone entry.dict.kind old at_gone).1);
-          settles = quiet-ran did.asked;
+          settles = quiet-ran did.asked.faults;
         }
 
     -- and each views what it did

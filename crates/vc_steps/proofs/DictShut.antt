@@ -18,7 +18,7 @@ use Rattle.vc_objects.specs.Parts.{dictionary_of, dictionary_in}
 use Rattle.vc_objects.specs.Remove.{region_without}
 use Rattle.vc_objects.proofs.Named.{region_without-named}
 use Rattle.vc_commands.specs.Held.{Held, IsChange, home_of}
-use Rattle.vc_steps.specs.Account.{IsSession, state_of, IsHeld, accounts, settled_accounts}
+use Rattle.vc_steps.specs.Account.{IsSession, state_of, IsHeldFrom, accounts, settled_accounts}
 use Rattle.vc_steps.specs.DictHomes.{AreDicts, dict_home, dicts_in, dict_over}
 use Rattle.vc_steps.specs.Dicts.{shut_in, shut_state, without_dict}
 use Rattle.vc_views.specs.Views.{is_dict, DictHome}
@@ -27,9 +27,9 @@ use Rattle.vc_steps.specs.State.{State, with_region}
 use Rattle.vc_commands.specs.Home.{Home, Label}
 use Rattle.vc_steps.proofs.BestRegions.{best-named}
 use Rattle.vc_steps.proofs.Cells.{map-remove}
-use Rattle.vc_steps.proofs.Changing.{homes-change, session-change, settled-same}
+use Rattle.vc_steps.proofs.RegionChange.{homes-change, session-change, settled-same}
 use Rattle.vc_steps.proofs.DictChange.{IsClear, Touches, clear-others, dicts-kept, dicts-remove, homes-kept}
-use Rattle.vc_steps.proofs.DictNamed.{home-at}
+use Rattle.vc_steps.proofs.DictByName.{home-at}
 use Rattle.vc_steps.proofs.DictsStay.{Entry, Vs}
 use Rattle.vc_steps.proofs.Sessions.{Slots, held-at}
 use Rattle.vc_best.specs.Cells.{cells_in, rest_in}
@@ -48,7 +48,7 @@ use Rattle.vc_steps.specs.Homes.{held_all}
 use Rattle.vc_steps.proofs.DictRegion.{best_entry, region-change, touches}
 use Rattle.vc_steps.proofs.DictThere.{DictIn, dict-is, held-first}
 use Rattle.vc_steps.proofs.RegionAt.{helds-set, named-set, region-first, region-named, region-stands, region_at}
-use Rattle.vc_steps.proofs.SessionHere.{helds, state_here, views}
+use Rattle.vc_steps.proofs.SessionHere.{helds, state_here, views, parts}
 
 without-at : (d : List ℕ) (ks : List DictHome) (i : ℕ) (k : DictHome) → slice_get ks i ≡ Some k → is_dict d k ≡ true → list_any (is_dict d) (take i ks) ≡ false → without_dict d ks ≡ remove ks i
 without-at d [] i k at passes none = absurd (none-some k at)
@@ -72,23 +72,8 @@ none-left hs vs (e ∷ es) d (suc i) none =
 
 -- a dictionary of a session, in its region
 module _ {I : Type 0} {V : I → Type 0} {meaning : (x : I) × V x → Discipline} {v : HomeEntry I V} (x : DictIn meaning v) where
-  abbrev kinds : List Rules
-  kinds = x.here.kinds
-
-  abbrev slots : Slots
-  slots = x.here.slots
-
-  abbrev hs : List Held
-  hs = helds x.here
-
-  abbrev es : List Entry
-  es = x.here.es
-
-  abbrev vs : Vs
-  vs = views x.here
-
-  abbrev e : Entry
-  e = x.e
+  open (parts x.here) use {kinds, slots, hs, es, vs}
+  open x use {e}
 
   abbrev h : Held
   h = region_at meaning x.region
@@ -174,7 +159,7 @@ module _ {I : Type 0} {V : I → Type 0} {meaning : (x : I) × V x → Disciplin
 
     change-after : IsChange (let k : Held = record h_before { cells = cells_in o.after } in k) h_after
     change-after =
-        let is_held : IsHeld x.here.slots h_before = held-at x.here.slots (helds x.here) x.j h_before (region-stands meaning x.region) x.here.held in
+        let is_held : IsHeldFrom x.here.slots h_before = held-at x.here.slots (helds x.here) x.j h_before (region-stands meaning x.region) x.here.held in
         region-change meaning x.e.1.home place before o.after x.region.l mine [] o.leaves is_held.lent is_held.names
 
     abbrev hs' : List Held

@@ -33,11 +33,11 @@ use Rattle.vc_script.specs.declared.reply.Reply.{Reply}
 use Rattle.vc_script.specs.declared.reply.Reply.TheVariants.{Refused}
 use Rattle.vc_commands.specs.Held.{Held, IsChange, home_of}
 use Rattle.vc_steps.specs.Account.{Settles, accounts, held_named, settled_accounts, state_of}
-use Rattle.vc_steps.specs.DictHomes.{AreDicts, IsDictOf, cells_held, dict_home, dicts_in, dict_over}
-use Rattle.vc_steps.specs.Dicts.{dict_changed, dict_command, dict_of, dict_step, on_found, on_seat, region_named, seat_of, with_dict}
+use Rattle.vc_steps.specs.DictHomes.{AreDicts, IsDictOf, cells_of_held, dict_home, dicts_in, dict_over}
+use Rattle.vc_steps.specs.Dicts.{dict_changed, dict_command, dict_of, dict_step, on_found, on_seat, region_asked_for, seat_at_home, with_dict}
 use Rattle.vc_views.specs.Views.{dict_named, is_dict, DictHome}
 use Rattle.vc_commands.specs.Labels.{kept_of, name_of}
-use Rattle.vc_steps.specs.Lacks.{CommandLacks, DictLacks, GrewBy, GrewFor, GrewIn, InHeld, IsCutOff, SeatLacks, StepLacksFor, dict_at}
+use Rattle.vc_steps.specs.WantedSegments.{CommandLacks, DictLacks, GrewBy, GrewFor, GrewIn, InHeld, IsCutOff, SeatLacks, StepLacksFor, dict_at}
 use Rattle.vc_steps.specs.Refusals.{home_place, place_named, refusal_at}
 use Rattle.vc_steps.specs.State.{State, Stepped, home_named, with_region}
 use Rattle.vc_commands.specs.Home.{Home, Label, is_home}
@@ -45,9 +45,9 @@ use Rattle.vc_steps.specs.Step.{GivesStep, opened_in, region_asked}
 use Rattle.vc_steps.specs.Told.{tell}
 use Rattle.vc_steps.proofs.BestRegions.{best-is, best-named}
 use Rattle.vc_steps.proofs.Cells.{set_same}
-use Rattle.vc_steps.proofs.Changing.{homes-change, settles-none, settles-one}
+use Rattle.vc_steps.proofs.RegionChange.{homes-change, settles-none, settles-one}
 use Rattle.vc_steps.proofs.DictChange.{IsClear, Touches, clear-others, dicts-set, homes-set, now-named}
-use Rattle.vc_steps.proofs.DictNamed.{dict-found, dict-set, first-dict, home-at}
+use Rattle.vc_steps.proofs.DictByName.{dict-found, dict-set, first-dict, home-at}
 use Rattle.vc_steps.proofs.DictReplies.{IsOther}
 use Rattle.vc_steps.proofs.DictTold.{tell-each}
 use Rattle.vc_steps.proofs.DictsStay.{Entry, Vs}
@@ -59,7 +59,7 @@ use Rattle.std.specs.Map.{keys_of}
 use Rattle.vc_commands.specs.declared.region.home.HomeEntry.{HomeEntry}
 use Rattle.vc_steps.proofs.DictThere.{DictIn, best-there, dict-is, found-held, held-first, its}
 use Rattle.vc_steps.proofs.RegionAt.{region-first, region-named, region-stands, region_at}
-use Rattle.vc_steps.proofs.SessionHere.{helds, state_here, views}
+use Rattle.vc_steps.proofs.SessionHere.{helds, state_here, views, parts}
 
 table-rose : (o : Option ℕ) (old new : Discipline) → LacksTable o old new → Rose old.faults new.faults
 table-rose None old new lacks = absurd lacks
@@ -67,7 +67,7 @@ table-rose (Some slots) old new lacks = lacks.rose
 
 object-rose : (o : Option ℕ) (bytes : List ℕ) (old new : Discipline) → LacksHolder o bytes old new → Rose old.faults new.faults
 object-rose None bytes old new lacks = lacks.rose
-object-rose (Some slots) bytes old new lacks = subst (λ n. Rose n new.faults) lacks.grown lacks.unserved.rose
+object-rose (Some slots) bytes old new lacks = subst (λ n. Rose n new.faults) lacks.grown.faults lacks.unserved.rose
 
 command-lacks : (s : State) (command : Command) (reply : Reply) (old new : Discipline) (d : List ℕ) → dict_of command ≡ Some d → DictLacks s command reply old new (dict_at s (dict_of command)) → CommandLacks s command reply old new
 command-lacks s (OpenDict x method r k) reply old new d works lacks = absurd (none-some d works)
@@ -75,29 +75,11 @@ command-lacks s command reply old new d works lacks = lacks
 
 -- a dictionary of a session, in its region
 module _ {I : Type 0} {V : I → Type 0} {meaning : (x : I) × V x → Discipline} {v : HomeEntry I V} (x : DictIn meaning v) (index : position (bytes_eq x.e.0) (keys_of x.here.es) ≡ Some x.i) where
-  abbrev kinds : List Rules
-  kinds = x.here.kinds
-
-  abbrev slots : Slots
-  slots = x.here.slots
-
-  abbrev hs : List Held
-  hs = helds x.here
-
-  abbrev es : List Entry
-  es = x.here.es
-
-  abbrev vs : Vs
-  vs = views x.here
+  open (parts x.here) use {kinds, slots, hs, es, vs, s}
+  open x use {e}
 
   abbrev h : Held
   h = region_at meaning x.region
-
-  abbrev e : Entry
-  e = x.e
-
-  abbrev s : State
-  s = state_here x.here
 
   abbrev d : DictHome
   d = dict_home hs vs e
@@ -130,7 +112,7 @@ module _ {I : Type 0} {V : I → Type 0} {meaning : (x : I) × V x → Disciplin
   abbrev pub tags : Seat ℕ
   tags = record { rules = is.rules; terms = h.disc.terms; none = 0; region = layout_in h.region; dict = was }
 
-  seat-is : seat_of d (home_of h) is.rules ≡ relabel_seat (name_of h.labels) tags
+  seat-is : seat_at_home d (home_of h) is.rules ≡ relabel_seat (name_of h.labels) tags
   seat-is =
       let made : Label → Layout Label → Dictionary → Seat Label = λ o r x. record { rules = is.rules; terms = h.disc.terms; none = o; region = r; dict = x } in
       ap (made None (layout_in (home_of h).region)) (dict-is x)
@@ -143,11 +125,11 @@ module _ {I : Type 0} {V : I → Type 0} {meaning : (x : I) × V x → Disciplin
       ∙ (ap (λ o. on_seat s d (dict_command s command need) o (at_number kinds e.1.dict.kind)) found-home
       ∙ ap (λ o. on_seat s d (dict_command s command need) (Some (home_of h)) o) is.kind)
 
-  changed-is : (command : Command) (need : Need) → in_dict (seat_of d (home_of h) is.rules) command need ≡ relabel_changed (name_of h.labels) (in_dict tags command need)
+  changed-is : (command : Command) (need : Need) → in_dict (seat_at_home d (home_of h) is.rules) command need ≡ relabel_changed (name_of h.labels) (in_dict tags command need)
   changed-is command need = ap (λ q. in_dict q command need) seat-is ∙ in_dict-named (name_of h.labels) tags command need
 
   asked-home : (command : Command) → dict_of command ≡ Some e.0 → region_asked s command ≡ Some e.1.home
-  asked-home command works = ap (λ o. region_named s o (opened_in command)) works ∙ ap (option_map (λ (k : DictHome). k.home)) found-dict
+  asked-home command works = ap (λ o. region_asked_for s o (opened_in command)) works ∙ ap (option_map (λ (k : DictHome). k.home)) found-dict
 
   -- the region and the dictionary change
   module _ (g : Held) (new : Dict) {cells : Blocks} (change : IsChange (record h { cells = cells }) g) (touch : Touches h g (own_blocks was) (own_blocks (dictionary_of new g.cells))) (labels : g.labels ≡ h.labels) (kind : new.kind ≡ e.1.dict.kind) (whole : IsWhole is.rules new g.cells) where
@@ -177,7 +159,7 @@ module _ {I : Type 0} {V : I → Type 0} {meaning : (x : I) × V x → Disciplin
     here = (bytes_eq-Decides e.1.home e.1.home).1 refl
 
     own-new : own_blocks (dict_over gs entry_new) ≡ own_blocks now
-    own-new = ap (λ o. own_blocks (dictionary_of new (cells_held o))) now-held
+    own-new = ap (λ o. own_blocks (dictionary_of new (cells_of_held o))) now-held
 
     others-clear : AllByRecursion (IsClear hs e.1.home (own_blocks was)) (remove es x.i)
     others-clear =
@@ -196,7 +178,7 @@ module _ {I : Type 0} {V : I → Type 0} {meaning : (x : I) × V x → Disciplin
     entry-home : (dict : Dictionary) → dict ≡ now → (let k : DictHome = record d { dict = dict } in k) ≡ dict_home gs vs entry_new
     entry-home dict same =
         let made : ℕ → Dictionary → DictHome = λ k x. record { name = e.0; home = e.1.home; kind = k; views = vs e.1.number; dict = x } in
-        ap (λ k. made k dict) (sym kind) ∙ ap (made new.kind) (same ∙ sym (ap (λ o. dictionary_of new (cells_held o)) now-held))
+        ap (λ k. made k dict) (sym kind) ∙ ap (made new.kind) (same ∙ sym (ap (λ o. dictionary_of new (cells_of_held o)) now-held))
 
     abbrev made : List Home → List DictHome → State
     made homes ds = record { shelf = s.shelf; homes = homes; kinds = kinds; dicts = ds }
@@ -215,7 +197,7 @@ module _ {I : Type 0} {V : I → Type 0} {meaning : (x : I) × V x → Disciplin
     relabel-after : (region : Layout ℕ) → region ≡ layout_in g.region → OfBest (relabel_layout (name_of h.labels) region) ≡ (home_of g).region
     relabel-after region same = best-named (name_of h.labels) g.region region touch.best same ∙ ap (λ l. region_with_labels (name_of l) g.region) (sym labels)
 
-    pub step-after : (command : Command) (reply : Reply) (gone gone' : List Gone) (old told : Gone) → dict_command s command (need_shown reply) d (home_of h) is.rules ≡ dict_changed s d (home_of h) (in_dict (seat_of d (home_of h) is.rules) command (need_shown reply)) → GivesDict (in_dict tags command (need_shown reply)) (layout_in g.region) now reply old told → at_number gone e.1.dict.kind ≡ Some old → gone' ≡ set gone (e.1.dict.kind - 1) told → GivesStep (dict_step s e.0 command (need_shown reply)) gone reply after gone'
+    pub step-after : (command : Command) (reply : Reply) (gone gone' : List Gone) (old told : Gone) → dict_command s command (need_shown reply) d (home_of h) is.rules ≡ dict_changed s d (home_of h) (in_dict (seat_at_home d (home_of h) is.rules) command (need_shown reply)) → GivesDict (in_dict tags command (need_shown reply)) (layout_in g.region) now reply old told → at_number gone e.1.dict.kind ≡ Some old → gone' ≡ set gone (e.1.dict.kind - 1) told → GivesStep (dict_step s e.0 command (need_shown reply)) gone reply after gone'
     step-after command reply gone gone' old told plain gives at_gone is_gone =
         let need = need_shown reply in
         let c : DictChanged ℕ = in_dict tags command need in
@@ -246,12 +228,12 @@ module _ {I : Type 0} {V : I → Type 0} {meaning : (x : I) × V x → Disciplin
         settled-here command works (table-rose (table_asked tags command) h.disc g.disc lacks)
     settles-after command (Refused NoSegmentForObject) works other lacks =
         settled-here command works (object-rose (table_asked tags command) (object_asked tags command) h.disc g.disc lacks)
-    settles-after command reply works other lacks = settles-none slots hs x.j h g at x.here.held change lacks
+    settles-after command reply works other lacks = settles-none slots hs x.j h g at x.here.held change lacks.faults
 
     in-held : (command : Command) (reply : Reply) → dict_of command ≡ Some e.0 → LacksBy tags command reply h.disc g.disc → InHeld (held_named hs (region_asked s command)) (held_named gs (region_asked s command)) (CommandLacks s command reply)
     in-held command reply works lacks =
         let P = CommandLacks s command reply in
-        let seat : LacksBy (seat_of d (home_of h) is.rules) command reply h.disc g.disc =
+        let seat : LacksBy (seat_at_home d (home_of h) is.rules) command reply h.disc g.disc =
         subst (λ q. LacksBy q command reply h.disc g.disc) (sym seat-is) (lacks-named (name_of h.labels) tags command reply h.disc g.disc lacks) in
         let one : DictLacks s command reply h.disc g.disc (Some d) =
         subst (λ o. SeatLacks command reply h.disc g.disc d o (at_number kinds e.1.dict.kind)) (sym found-home)

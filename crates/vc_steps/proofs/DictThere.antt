@@ -14,7 +14,7 @@ use Rattle.vc_commands.specs.Home.{is_home}
 use Rattle.vc_commands.specs.declared.region.home.HomeEntry.{HomeEntry}
 use Rattle.vc_commands.proofs.Firsts.{IsFirst, find-first, first-unmap}
 use Rattle.vc_steps.specs.Account.{held_named}
-use Rattle.vc_steps.specs.DictHomes.{IsDictOf, cells_held, dict_over}
+use Rattle.vc_steps.specs.DictHomes.{IsDictOf, cells_of_held, dict_over}
 use Rattle.vc_steps.proofs.DictRegion.{best_at, best_entry}
 use Rattle.vc_steps.proofs.DictsStay.{Entry}
 use Rattle.vc_steps.proofs.RegionAt.{RegionAt, region-first, region-stands, region_at}
@@ -60,4 +60,4 @@ module _ {I : Type 0} {V : I → Type 0} {meaning : (x : I) × V x → Disciplin
   whole-there = subst (λ (k : Held). IsWhole its.rules x.e.1.dict k.cells) home-is its.whole
 
   pub dict-is : dict_over hs x.e ≡ dictionary_of x.e.1.dict (cells_in v.region)
-  dict-is = ap (λ o. dictionary_of x.e.1.dict (cells_held o)) found-held
+  dict-is = ap (λ o. dictionary_of x.e.1.dict (cells_of_held o)) found-held

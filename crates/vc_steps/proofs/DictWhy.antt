@@ -15,11 +15,11 @@ use Rattle.vc_steps.specs.Account.{Account, Settles}
 use Rattle.vc_commands.specs.Held.{Held}
 use Rattle.vc_steps.specs.Dicts.{dict_limit, dict_refused, is_kind}
 use Rattle.vc_views.specs.Views.{is_dict}
-use Rattle.vc_steps.specs.Lacks.{StepLacksFor}
+use Rattle.vc_steps.specs.WantedSegments.{StepLacksFor}
 use Rattle.vc_steps.specs.Refusals.{refusal_at}
 use Rattle.vc_commands.specs.Home.{Home}
 use Rattle.vc_steps.specs.State.{State}
-use Rattle.vc_steps.proofs.Settling.{settles-same}
+use Rattle.vc_steps.proofs.SettledShelf.{settles-same}
 
 -- none of them is the want of a segment
 abbrev pub IsEarly : Refusal → Type 0

@@ -15,7 +15,7 @@ use Rattle.vc_region.specs.Region.{is_best}
 use Rattle.vc_commands.specs.declared.dict.entry.DictEntry.{DictEntry}
 use Rattle.vc_commands.specs.Held.{Held, home_of}
 use Rattle.vc_steps.specs.Account.{held_named}
-use Rattle.vc_steps.specs.DictHomes.{AreApart, AreDicts, IsDictOf, cells_held, dict_home, dicts_in, lies_in, dict_over}
+use Rattle.vc_steps.specs.DictHomes.{AreApartIn, AreDicts, IsDictOf, cells_of_held, dict_home, dicts_in, lies_in, dict_over}
 use Rattle.vc_views.specs.Views.{DictHome}
 use Rattle.vc_views.proofs.LinkLists.{found-push, found-remove, found-set}
 use Rattle.vc_commands.specs.Home.{is_home}
@@ -39,7 +39,7 @@ Stays kinds before after e = IsDictOf kinds before e → IsDictOf kinds after e 
 abbrev pub SameHome : List Held → List Held → Entry → Type 0
 SameHome before after e = dict_over after e ≡ dict_over before e
 
-pub apart-stays : (before after : List Held) (e f : Entry) → SameHome before after e → SameHome before after f → AreApart before e f → AreApart after e f
+pub apart-stays : (before after : List Held) (e f : Entry) → SameHome before after e → SameHome before after f → AreApartIn before e f → AreApartIn after e f
 apart-stays before after e f same same' apart = λ near a mine.
     ap (λ (d : Dictionary). contains (own_blocks d) a) same'
     ∙ apart near a (sym (ap (λ (d : Dictionary). contains (own_blocks d) a) same) ∙ mine)
@@ -49,7 +49,7 @@ module _ (kinds : List Rules) (before after : List Held) where
   homes-stay [] stay are = tt
   homes-stay (e ∷ es) stay are = ((stay.0 are.0).1, homes-stay es stay.1 are.2)
 
-  pub all-apart-stay : (e : Entry) → SameHome before after e → (es : List Entry) → AllByRecursion (SameHome before after) es → AllByRecursion (AreApart before e) es → AllByRecursion (AreApart after e) es
+  pub all-apart-stay : (e : Entry) → SameHome before after e → (es : List Entry) → AllByRecursion (SameHome before after) es → AllByRecursion (AreApartIn before e) es → AllByRecursion (AreApartIn after e) es
   all-apart-stay e same [] all apart = tt
   all-apart-stay e same (f ∷ fs) all apart = (apart-stays before after e f same all.0 apart.0, all-apart-stay e same fs all.1 apart.1)
 
@@ -83,8 +83,8 @@ module _ (kinds : List Rules) (before after : List Held) where
           kind = is.kind;
           whole = over.0;
         },
-        ap (λ o. dictionary_of e.1.dict (cells_held o)) now
-            ∙ (over.1 ∙ ap (λ o. dictionary_of e.1.dict (cells_held o)) (sym was)),
+        ap (λ o. dictionary_of e.1.dict (cells_of_held o)) now
+            ∙ (over.1 ∙ ap (λ o. dictionary_of e.1.dict (cells_of_held o)) (sym was)),
       )
 
   -- over a region of the same cells

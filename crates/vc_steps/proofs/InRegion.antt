@@ -16,7 +16,7 @@ use Rattle.vc_steps.specs.Account.{StepLacks}
 use Rattle.vc_steps.specs.DictHomes.{lies_in}
 use Rattle.vc_commands.specs.FreedNames.{FreedNames}
 use Rattle.vc_commands.specs.Labels.{name_of}
-use Rattle.vc_steps.specs.Lacks.{StepLacksFor}
+use Rattle.vc_steps.specs.WantedSegments.{StepLacksFor}
 use Rattle.vc_commands.specs.Home.{Label, is_home}
 use Rattle.vc_steps.specs.State.{State}
 use Rattle.vc_commands.specs.RegionRun.{GivesRegion}

@@ -31,10 +31,10 @@ use Rattle.vc_steps.proofs.RegionSteps.{moment_over}
 use Rattle.vc_steps.proofs.SameRest.{AllRest, rest-all, session-rest, settled-rest}
 use Rattle.vc_steps.proofs.SessionLayers.{layers-here, rules-here}
 use Rattle.vc_steps.proofs.SeenEntry.{entry-named, number-named}
-use Rattle.vc_steps.proofs.SessionHere.{SessionHere, helds, state_here, views, whole_in}
+use Rattle.vc_steps.proofs.SessionHere.{SessionHere, helds, state_here, views, whole_in, parts}
 use Rattle.vc_steps.proofs.Sessions.{Slots}
 use Rattle.vc_views.specs.Promises.{LooksThrough}
-use Rattle.vc_steps.proofs.DictNamed.{first-dict}
+use Rattle.vc_steps.proofs.DictByName.{first-dict}
 use Rattle.vc_steps.specs.Moment.{Moment}
 use Rattle.vc_steps.proofs.Steps.{halts-same, steps-quiet}
 use Rattle.vc_steps.proofs.ViewReplies.{look-any}
@@ -45,20 +45,8 @@ use Rattle.vc_views.specs.Views.{is_dict}
 
 module _ {I : Type 0} {V : I → Type 0} {E : Type 0} {meaning : (x : I) × V x → Discipline} (here : SessionHere meaning) {homes' : List (List ℕ × HomeEntry I V)} {es' : List Entry} {i : ℕ} {command : Command} {answer : Result Reply E}
     (looked : LooksThrough here.kinds here.homes homes' here.es es' here.links i command answer) where
-  abbrev kinds : List Rules
-  kinds = here.kinds
-
-  abbrev slots : Slots
-  slots = here.slots
-
-  abbrev links : Links
-  links = here.links
-
-  abbrev es : List Entry
-  es = here.es
-
-  abbrev hs : List Held
-  hs = helds here
+  open here use {links}
+  open (parts here) use {kinds, slots, hs, es}
 
   abbrev gs : List Held
   gs = held_all meaning homes' here.labels

@@ -25,7 +25,7 @@ use Rattle.vc_steps.specs.Dicts.{dict_command, dict_step, look_step, with_dict}
 use Rattle.vc_steps.specs.State.{State, Stepped, step_with_reply}
 use Rattle.vc_steps.proofs.DictChange.{dict-at}
 use Rattle.vc_steps.proofs.DictEnd.{step-dict}
-use Rattle.vc_steps.proofs.DictNamed.{dict-set}
+use Rattle.vc_steps.proofs.DictByName.{dict-set}
 use Rattle.vc_steps.proofs.DictRegions.{over-seen, seen}
 use Rattle.vc_steps.proofs.DictsStay.{Entry, Vs}
 use Rattle.vc_steps.proofs.SameRest.{AllRest, current-set, home_seen, homes-rest, homes-seen, links-looked, links-seen, seen_links, seen_views, views-looked, views-seen}

@@ -21,7 +21,7 @@ use Rattle.vc_commands.specs.RegionRun.{held_of}
 use Rattle.vc_steps.specs.State.{open_step, step_with_reply}
 use Rattle.vc_steps.proofs.DictsStay.{Entry, Vs, all-stay, dicts-stay, dicts_in-stay, stays-push}
 use Rattle.vc_steps.proofs.Helds.{any-named, held-new}
-use Rattle.vc_steps.proofs.Opening.{AreNone, open_step-ok, opened-rest, session-open, settled-open}
+use Rattle.vc_steps.proofs.OpenLeaves.{AreNone, open_step-ok, opened-rest, session-open, settled-open}
 use Rattle.vc_steps.proofs.Sessions.{Slots}
 
 -- the region is the last, over a discipline that stood on the shelf

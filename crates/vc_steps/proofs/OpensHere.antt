@@ -3,14 +3,14 @@ use Rattle.std.proofs.Common.{◌≡◌, ◌<◌, ℕ, List, [], ◌∷◌, ◌+
 use Rattle.std.specs.Prelude.{slice_get}
 use Rattle.indexmap.specs.IndexMap.{set_value_at}
 use Rattle.vc_dict.specs.declared.dict.Dict.{Dict}
-use Rattle.vc_model.specs.Discipline.{Discipline}
+use Rattle.vc_model.specs.Discipline.{Discipline, HasOut}
 use Rattle.vc_model.specs.Layout.{Layout}
 use Rattle.vc_model.specs.Numbered.{at_number}
 use Rattle.vc_dtdisc.specs.Rules.{Rules}
 use Rattle.vc_best.specs.Cells.{cells_in}
 use Rattle.vc_best.specs.Parts.{disc_in}
 use Rattle.vc_best.specs.declared.best.Best.{Best}
-use Rattle.vc_region.specs.Region.{OfBest}
+use Rattle.vc_region.specs.Region.{OfBest, segments_of}
 use Rattle.vc_seg.specs.Answer.{IsRefusal}
 use Rattle.vc_seg.specs.declared.fault.RegionFault.{RegionFault}
 use Rattle.vc_objects.specs.Leaves.{LacksTable, Leaves, RefusedBy}
@@ -28,7 +28,7 @@ use Rattle.vc_views.specs.Dicts.{entry_numbered}
 use Rattle.vc_paths.specs.Links.{numbers}
 use Rattle.vc_views.specs.Numbers.{AreLinked, views_by}
 use Rattle.vc_views.proofs.LinkChanges.{linked-more, views-free, views-more}
-use Rattle.vc_steps.specs.Account.{IsHeld, IsSession, Settles, accounts, settled_accounts, state_of}
+use Rattle.vc_steps.specs.Account.{IsHeldFrom, IsSession, Settles, accounts, settled_accounts, state_of}
 use Rattle.vc_steps.specs.DictHomes.{AreDicts, dicts_in}
 use Rattle.vc_steps.specs.Dicts.{dict_refused, open_dict_step}
 use Rattle.vc_steps.specs.Homes.{held_all}
@@ -36,40 +36,32 @@ use Rattle.vc_steps.specs.Moment.{Moment}
 use Rattle.vc_steps.specs.Step.{GivesStep}
 use Rattle.vc_steps.specs.Steps.{Steps, StepsBy}
 use Rattle.vc_steps.specs.Table.{TellsTable}
-use Rattle.vc_steps.proofs.Changing.{session-change, settles-none}
+use Rattle.vc_steps.proofs.RegionChange.{session-change, settles-none}
 use Rattle.vc_steps.proofs.DictChange.{Touches}
-use Rattle.vc_steps.proofs.DictOpening.{OpensIn, dicts-failed, dicts-opened, open-done, steps-failed}
+use Rattle.vc_steps.proofs.DictOpens.{OpensIn, dicts-failed, dicts-opened, open-done, steps-failed}
 use Rattle.vc_steps.proofs.DictRegion.{best_entry, region-change, touches}
 use Rattle.vc_steps.proofs.DictsStay.{Entry, Vs}
 use Rattle.vc_steps.proofs.RegionAt.{helds-set, named-set, region-stands, region_at}
 use Rattle.vc_steps.proofs.RegionSteps.{moment_over}
-use Rattle.vc_steps.proofs.SessionHere.{SessionHere, helds, state_here, views}
+use Rattle.vc_steps.proofs.SessionHere.{SessionHere, helds, state_here, views, parts}
 use Rattle.vc_steps.proofs.Sessions.{Slots, held-at}
 
 module _ {I : Type 0} {V : I → Type 0} {meaning : (x : I) × V x → Discipline} (place : ℕ) (before : Best I V) (x : OpensIn meaning (best_entry place before)) (allowed : dict_refused (state_here x.here) (home_of (region_at meaning x.region)) x.d x.k ≡ None) where
-  abbrev here : SessionHere meaning
-  here = x.here
-
-  abbrev kinds : List Rules
-  kinds = here.kinds
-
-  abbrev slots : Slots
-  slots = here.slots
-
-  abbrev es : List Entry
-  es = here.es
-
-  abbrev vs : Vs
-  vs = views here
-
-  abbrev hs : List Held
-  hs = helds here
+  open x use {here}
+  open (parts here) use {kinds, slots, hs, es, vs}
 
   abbrev h : Held
   h = region_at meaning x.region
 
   at : slice_get hs x.j ≡ Some h
   at = region-stands meaning x.region
+
+  is_held : IsHeldFrom slots h
+  is_held = held-at slots hs x.j h at here.held
+
+  -- the region's segments are the last that its discipline lent
+  pub lent-by : HasOut h.disc (segments_of h.region)
+  lent-by = is_held.lent
 
   abbrev command : Command
   command = OpenDict x.d x.method x.r x.k
@@ -86,9 +78,7 @@ module _ {I : Type 0} {V : I → Type 0} {meaning : (x : I) × V x → Disciplin
     touch = touches meaning x.r place before after x.region.l [] mine leaves
 
     change : IsChange (let k : Held = record h { cells = cells_in after } in k) g
-    change =
-        let is_held : IsHeld slots h = held-at slots hs x.j h at here.held in
-        region-change meaning x.r place before after x.region.l [] mine leaves is_held.lent is_held.names
+    change = region-change meaning x.r place before after x.region.l [] mine leaves is_held.lent is_held.names
 
     abbrev hs' : List Held
     hs' = held_all meaning (set_value_at here.homes x.j (best_entry place after)) here.labels

@@ -24,10 +24,10 @@ use Rattle.vc_steps.specs.DictHomes.{dict_home, dicts_in}
 use Rattle.vc_steps.specs.Dicts.{dict_refused, is_kind}
 use Rattle.vc_steps.specs.Homes.{held_all}
 use Rattle.vc_steps.specs.State.{State}
-use Rattle.vc_steps.proofs.DictNamed.{any-dict}
-use Rattle.vc_steps.proofs.DictRefusing.{best-relabelled, refused-by, refused-exists, refused-kind, refused-method}
+use Rattle.vc_steps.proofs.DictByName.{any-dict}
+use Rattle.vc_steps.proofs.DictRefusals.{best-relabelled, refused-by, refused-exists, refused-kind, refused-method}
 use Rattle.vc_steps.proofs.DictsStay.{Entry}
-use Rattle.vc_steps.proofs.Ending.{if_some-to}
+use Rattle.vc_steps.proofs.SessionEnd.{if_some-to}
 use Rattle.vc_steps.proofs.Helds.{held-read, some-at}
 
 -- the regions and dictionaries of a session, the index of a region, and the name and the number of kind of what is to be opened there

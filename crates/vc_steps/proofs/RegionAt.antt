@@ -19,7 +19,7 @@ use Rattle.vc_steps.specs.Homes.{held_all}
 use Rattle.vc_steps.specs.State.{home_named}
 use Rattle.vc_steps.proofs.Cells.{set_same}
 use Rattle.vc_steps.proofs.Helds.{first-named, held-read, held-set, length-set, name-at, slice-or}
-use Rattle.vc_steps.proofs.Placed.{home-at, labels-at}
+use Rattle.vc_steps.proofs.HomePlaces.{home-at, labels-at}
 
 -- it stands there, with the names of its blocks
 pub record RegionAt {I : Type 0} {V : I → Type 0} (homes : List (List ℕ × HomeEntry I V)) (labels : List Labels) (r : List ℕ) (j : ℕ) (v : HomeEntry I V) : Type 0 where

@@ -19,10 +19,10 @@ use Rattle.vc_steps.specs.Moment.{Moment}
 use Rattle.vc_commands.specs.Home.{Label, is_home}
 use Rattle.vc_steps.specs.State.{State, Stepped}
 use Rattle.vc_commands.specs.RegionRun.{GivesRegion}
-use Rattle.vc_steps.specs.Step.{GivesStep, region_of, step_of}
+use Rattle.vc_steps.specs.Step.{GivesStep, region_of_command, step_of}
 use Rattle.vc_commands.specs.RegionCommands.{block_asked, in_region}
 use Rattle.vc_steps.specs.Steps.{Halts, Steps, StepsBy}
-use Rattle.vc_steps.proofs.Changing.{asked-region, found-change, lacks-change, settles-none, settles-reply, state-same, step-change}
+use Rattle.vc_steps.proofs.RegionChange.{asked-region, found-change, lacks-change, settles-none, settles-reply, state-same, step-change}
 use Rattle.vc_steps.proofs.CutOff.{cut-same}
 use Rattle.vc_steps.proofs.DictsStay.{Entry, Vs, Stays, busy-lies, dicts-stay, dicts_in-stay}
 use Rattle.vc_commands.proofs.Firsts.{IsFirst}
@@ -51,7 +51,7 @@ by-answer : {E : Type 0} (answer : Result Reply E) (now next : Moment) (command 
 by-answer (Ok reply) now next command given ok err s is = subst (λ f. Steps now next command (f (need_shown reply)) reply) (sym is) (ok reply refl)
 by-answer (Err e) now next command given ok err s is = err e refl
 
-module _ (slots : Slots) (hs : List Held) (es : List Entry) (vs : Vs) (i : ℕ) (h g : Held) (at : slice_get hs i ≡ Some h) (session : IsSession slots hs) (line : ℕ) (command : Command) (change : IsChange (left_by command h) g) (r : List ℕ) (first : IsFirst (is_home r) (map home_of hs) i) (dict : dict_of command ≡ None) (works : region_of command ≡ Some r) (free : (x : List ℕ) → command ≡ ClearRegion x → lies_in r es ≡ false) {E : Type 0} (answer : Result Reply E) (gives : IfOk answer (λ reply. GivesRegion (in_region (home_of h) line command (need_shown reply)) ((home_of g).region, (home_of g).kept) reply)) (err : OnErr answer ((let p : Region Label × FreedNames = ((home_of g).region, (home_of g).kept) in p) ≡ ((home_of h).region, (home_of h).kept))) (unserved : answer ≡ Ok (Refused NoSegment) → LacksSegment h g (block_asked command)) (faults : answer ≢ Ok (Refused NoSegment) → g.disc.faults ≡ h.disc.faults) where
+module _ (slots : Slots) (hs : List Held) (es : List Entry) (vs : Vs) (i : ℕ) (h g : Held) (at : slice_get hs i ≡ Some h) (session : IsSession slots hs) (line : ℕ) (command : Command) (change : IsChange (left_by command h) g) (r : List ℕ) (first : IsFirst (is_home r) (map home_of hs) i) (dict : dict_of command ≡ None) (works : region_of_command command ≡ Some r) (free : (x : List ℕ) → command ≡ ClearRegion x → lies_in r es ≡ false) {E : Type 0} (answer : Result Reply E) (gives : IfOk answer (λ reply. GivesRegion (in_region (home_of h) line command (need_shown reply)) ((home_of g).region, (home_of g).kept) reply)) (err : OnErr answer ((let p : Region Label × FreedNames = ((home_of g).region, (home_of g).kept) in p) ≡ ((home_of h).region, (home_of h).kept))) (unserved : answer ≡ Ok (Refused NoSegment) → LacksSegment h g (block_asked command)) (faults : answer ≢ Ok (Refused NoSegment) → g.disc.faults ≡ h.disc.faults) where
   abbrev gs : List Held
   gs = set hs i g
 

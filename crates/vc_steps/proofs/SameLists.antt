@@ -8,7 +8,7 @@ use Rattle.vc_commands.specs.declared.region.labels.Labels.{Labels}
 use Rattle.vc_views.specs.Numbers.{AreLinked}
 use Rattle.vc_steps.specs.Account.{IsSession, accounts, settled_accounts, state_of}
 use Rattle.vc_steps.specs.DictHomes.{AreDicts, dicts_in}
-use Rattle.vc_steps.specs.Homes.{HoldsRegions, KeepsRegions, held_all, held_in, slots_on}
+use Rattle.vc_steps.specs.Homes.{HoldsRegions, KeepsRegions, held_all, held_in_session, slots_on}
 use Rattle.vc_steps.specs.declared.session.Session.{Session}
 use Rattle.vc_steps.proofs.DictsStay.{Entry, Vs}
 use Rattle.vc_steps.proofs.Sessions.{Slots}
@@ -30,13 +30,13 @@ module _ {I : Type 0} {V : I → Type 0} (meaning : (x : I) × V x → Disciplin
 pub keeps-lists : {I : Type 0} {V : I → Type 0} {D : Type 0} {meaning : (x : I) × V x → Discipline} {shelf' : Shelf I V} {session session' : Session D I V} (shelf : Shelf I V) → HoldsRegions meaning shelf session → slots_on meaning shelf' ≡ slots_on meaning shelf
     → session'.homes.entries ≡ session.homes.entries → session'.labels.items ≡ session.labels.items → session'.dicts.entries ≡ session.dicts.entries → session'.paths ≡ session.paths → session'.is_spent ≡ session.is_spent → KeepsRegions meaning session shelf' session'
 keeps-lists {meaning = meaning} {shelf' = shelf'} {session = session} {session' = session'} shelf is slots homes labels dicts paths spent =
-    let held : held_in meaning session' ≡ held_in meaning session = held-lists meaning slots homes labels in
+    let held : held_in_session meaning session' ≡ held_in_session meaning session = held-lists meaning slots homes labels in
     record {
       regions = record {
         named = ap length labels ∙ (is.named ∙ sym (ap length homes));
-        held = subst (λ s. IsSession s (held_in meaning session')) (sym slots) (subst (IsSession (slots_on meaning shelf)) (sym held) is.held);
+        held = subst (λ s. IsSession s (held_in_session meaning session')) (sym slots) (subst (IsSession (slots_on meaning shelf)) (sym held) is.held);
       };
-      dicts = λ kinds all. subst (λ hs. AreDicts kinds hs session'.dicts.entries) (sym held) (subst (AreDicts kinds (held_in meaning session)) (sym dicts) all);
+      dicts = λ kinds all. subst (λ hs. AreDicts kinds hs session'.dicts.entries) (sym held) (subst (AreDicts kinds (held_in_session meaning session)) (sym dicts) all);
       views = λ are. subst (λ l. AreLinked l session'.dicts.entries) (sym paths) (subst (AreLinked session.paths) (sym dicts) are);
       spent = spent;
     }

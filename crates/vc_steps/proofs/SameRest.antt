@@ -12,7 +12,7 @@ use Rattle.vc_region.specs.Cells.{cells_in}
 use Rattle.vc_commands.specs.Held.{Held, home_of}
 use Rattle.vc_commands.specs.declared.region.home.HomeEntry.{HomeEntry}
 use Rattle.vc_commands.specs.declared.region.labels.Labels.{Labels}
-use Rattle.vc_steps.specs.Account.{Account, IsHeld, IsSession, account_after, settled_accounts}
+use Rattle.vc_steps.specs.Account.{Account, IsHeldFrom, IsSession, account_after, settled_accounts}
 use Rattle.vc_steps.specs.DictHomes.{dicts_in}
 use Rattle.vc_steps.specs.Homes.{held_all, held_entry}
 use Rattle.vc_steps.proofs.DictRegions.{over-seen, seen}
@@ -65,8 +65,8 @@ apart-rest p (h ∷ hs) [] all apart = absurd all
 apart-rest p (h ∷ hs) (g ∷ gs) all apart =
     (subst (λ (k : Held). k.place ≢ p) (sym all.0) apart.0, apart-rest p hs gs all.1 apart.1)
 
-held-rest : (slots : Slots) (h g : Held) → SameRest h g → IsHeld slots h → IsHeld slots g
-held-rest slots h g same is = subst (IsHeld slots) (sym same) (record { place = is.place; lent = is.lent; names = is.names })
+held-rest : (slots : Slots) (h g : Held) → SameRest h g → IsHeldFrom slots h → IsHeldFrom slots g
+held-rest slots h g same is = subst (IsHeldFrom slots) (sym same) (record { place = is.place; lent = is.lent; names = is.names })
 
 pub session-rest : (slots : Slots) (hs gs : List Held) → AllRest hs gs → IsSession slots hs → IsSession slots gs
 session-rest slots [] [] all is = is

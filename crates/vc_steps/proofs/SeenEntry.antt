@@ -9,7 +9,7 @@ use Rattle.std.proofs.lemmas.List.Quantifiers.{position-Some}
 use Rattle.std.proofs.lemmas.Option.{same_Some, slice_get-map}
 use Rattle.vc_commands.specs.declared.dict.entry.DictEntry.{DictEntry}
 use Rattle.vc_views.specs.Dicts.{number_at, number_or}
-use Rattle.vc_steps.proofs.DictNamed.{key-at}
+use Rattle.vc_steps.proofs.DictByName.{key-at}
 use Rattle.vc_steps.proofs.DictsStay.{Entry}
 use Rattle.vc_steps.proofs.Helds.{some-at}
 

@@ -23,7 +23,7 @@ use Rattle.vc_commands.specs.declared.region.labels.Labels.{Labels}
 use Rattle.vc_commands.proofs.Firsts.{IsFirst}
 use Rattle.vc_views.specs.Dicts.{layered_by, region_seen}
 use Rattle.vc_views.specs.Numbers.{AreLinked, views_by}
-use Rattle.vc_views.specs.Views.{dict_named, is_dict, refusal_of}
+use Rattle.vc_views.specs.Views.{dict_named, is_dict, refusal_of_view}
 use Rattle.vc_views.proofs.LinkChanges.{linked-ended}
 use Rattle.vc_views.proofs.LinkLemmas.{number-within}
 use Rattle.vc_views.proofs.LinkRefusals.{linked-viewed}
@@ -36,13 +36,13 @@ use Rattle.vc_steps.specs.Moment.{Moment}
 use Rattle.vc_steps.specs.State.{State}
 use Rattle.vc_steps.specs.Steps.{Steps}
 use Rattle.vc_steps.proofs.DictsStay.{Entry}
-use Rattle.vc_steps.proofs.SessionHere.{DictAt, SessionHere, first-at, helds, stands-at, state_here}
+use Rattle.vc_steps.proofs.SessionHere.{DictAt, SessionHere, first-at, helds, stands-at, state_here, parts}
 use Rattle.vc_steps.proofs.RegionSteps.{moment_over}
 use Rattle.vc_steps.proofs.SessionLayers.{layers-here, path-here}
 use Rattle.vc_steps.proofs.Sessions.{Slots}
-use Rattle.vc_steps.proofs.Settling.{keeps-equal}
+use Rattle.vc_steps.proofs.SettledShelf.{keeps-equal}
 use Rattle.vc_steps.proofs.Steps.{steps-quiet}
-use Rattle.vc_steps.proofs.Viewing.{granted-fault, view-done, view-ended, view-missing, view-refused}
+use Rattle.vc_steps.proofs.ViewSteps.{granted-fault, view-done, view-ended, view-missing, view-refused}
 
 -- a session whose links are view paths, and whose dictionaries have names of their own
 pub record ViewsHere {I : Type 0} {V : I → Type 0} (meaning : (x : I) × V x → Discipline) : Type 0 where
@@ -51,35 +51,10 @@ pub record ViewsHere {I : Type 0} {V : I → Type 0} (meaning : (x : I) × V x �
   pub names : IsDistinct bytes_eq (keys_of here.es)
 
 module _ {I : Type 0} {V : I → Type 0} (meaning : (x : I) × V x → Discipline) (seen : ViewsHere meaning) (own : DictAt seen.here.es) where
-  abbrev here : SessionHere meaning
-  here = seen.here
-
-  abbrev kinds : List Rules
-  kinds = here.kinds
-
-  abbrev slots : Slots
-  slots = here.slots
-
-  abbrev homes : List (List ℕ × HomeEntry I V)
-  homes = here.homes
-
-  abbrev labels : List Labels
-  labels = here.labels
-
-  abbrev links : Links
-  links = here.links
-
-  abbrev es : List Entry
-  es = here.es
-
-  abbrev name : List ℕ
-  name = own.name
-
-  abbrev v : DictEntry
-  v = own.v
-
-  abbrev hs : List Held
-  hs = helds here
+  open seen use {here}
+  open here use {homes, labels, links}
+  open (parts here) use {kinds, slots, hs, es}
+  open own use {name, v}
 
   abbrev e : Entry
   e = (name, v)
@@ -180,11 +155,11 @@ module _ {I : Type 0} {V : I → Type 0} (meaning : (x : I) × V x → Disciplin
           (linked-viewed (dict_over hs) all links es seen.names here.are (layers-here meaning kinds homes labels es here.named here.dicts) seen.paths own.i e at other.i f there none))
 
       -- it can't be
-      pub steps-refused : (fault : ViewFault) → view_fault all links v.number u.number ≡ Some fault → links' ≡ links → ViewsTo homes' es' links' (Some other.name) (Refused (refusal_of fault))
+      pub steps-refused : (fault : ViewFault) → view_fault all links v.number u.number ≡ Some fault → links' ≡ links → ViewsTo homes' es' links' (Some other.name) (Refused (refusal_of_view fault))
       steps-refused fault is same =
-          carry (Refused (refusal_of fault)) links same
-          (steps-quiet before before (View name (Some other.name)) (dict_step s name (View name (Some other.name)) (need_shown (Refused (refusal_of fault)))) (Refused (refusal_of fault))
-          (view-refused kinds slots hs links es seen.names here.are seen.paths here.dicts own.i e at first other.i f there first-other all (layers-here meaning kinds homes labels es here.named here.dicts) (need_shown (Refused (refusal_of fault))) fault is)
+          carry (Refused (refusal_of_view fault)) links same
+          (steps-quiet before before (View name (Some other.name)) (dict_step s name (View name (Some other.name)) (need_shown (Refused (refusal_of_view fault)))) (Refused (refusal_of_view fault))
+          (view-refused kinds slots hs links es seen.names here.are seen.paths here.dicts own.i e at first other.i f there first-other all (layers-here meaning kinds homes labels es here.named here.dicts) (need_shown (Refused (refusal_of_view fault))) fault is)
           refl refl (granted-fault fault))
 
       pub links-refused : links' ≡ links → AreLinked links' es'

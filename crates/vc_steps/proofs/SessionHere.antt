@@ -25,7 +25,7 @@ use Rattle.vc_steps.specs.Told.{gone_in, rules_in}
 use Rattle.vc_steps.specs.declared.session.Session.{Session}
 use Rattle.vc_steps.proofs.DictChange.{dict-at}
 use Rattle.vc_steps.proofs.DictEnd.{home-held}
-use Rattle.vc_steps.proofs.DictNamed.{first-dict, key-at, pair-read}
+use Rattle.vc_steps.proofs.DictByName.{first-dict, key-at, pair-read}
 use Rattle.vc_steps.proofs.DictsStay.{Entry, Vs}
 use Rattle.vc_steps.proofs.Helds.{any-named}
 use Rattle.vc_steps.proofs.Sessions.{Slots}
@@ -61,6 +61,15 @@ session_here meaning rules gone shelf session kinds is = record {
   are = is.views;
 }
 
+-- what a session stands for: the rules of its kinds, the disciplines on its shelf, its regions, its dictionaries, what each of these views, and its state
+pub record SessionParts : Type 0 where
+  pub kinds : List Rules
+  pub slots : Slots
+  pub hs : List Held
+  pub es : List Entry
+  pub vs : Vs
+  pub s : State
+
 -- the dictionary of a name and an index
 pub record DictAt (es : List Entry) : Type 0 where
   pub name : List ℕ
@@ -86,6 +95,10 @@ module _ {I : Type 0} {V : I → Type 0} {meaning : (x : I) × V x → Disciplin
 
   abbrev pub state_here : State
   state_here = state_of here.kinds here.slots helds (dicts_in helds views here.es)
+
+  -- the same, to be opened at the head of a proof
+  abbrev pub parts : SessionParts
+  parts = record { kinds = here.kinds; slots = here.slots; hs = helds; es = here.es; vs = views; s = state_here }
 
   -- a dictionary is whole in its region, by its kind
   module _ (i : ℕ) (e : Entry) (there : slice_get here.es i ≡ Some e) where

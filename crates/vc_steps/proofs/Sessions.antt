@@ -8,7 +8,7 @@ use Rattle.vc_model.specs.Numbered.{at_number}
 use Rattle.vc_model.specs.Discipline.{Discipline}
 use Rattle.vc_base.proofs.Lists.{slice_get-set}
 use Rattle.vc_commands.specs.Held.{Held}
-use Rattle.vc_steps.specs.Account.{IsHeld, IsSession}
+use Rattle.vc_steps.specs.Account.{IsHeldFrom, IsSession}
 use Rattle.vc_steps.proofs.Cells.{at_number-from_one, at_number_some, slice_get-set_other}
 use Rattle.vc_steps.proofs.Settle.{IsApart}
 
@@ -34,7 +34,7 @@ taken_stays slots k o p there at =
     (λ other. slice_get-set_other slots k (p - 1) None other ∙ found.1)
     (cases_eq (p - 1) k)
 
-held_stays : (slots : Slots) (k : ℕ) (o : Option Discipline) (h : Held) → slice_get slots k ≡ Some o → IsHeld slots h → IsHeld (set slots k None) h
+held_stays : (slots : Slots) (k : ℕ) (o : Option Discipline) (h : Held) → slice_get slots k ≡ Some o → IsHeldFrom slots h → IsHeldFrom (set slots k None) h
 held_stays slots k o h there held = record { place = taken_stays slots k o h.place there held.place; lent = held.lent; names = held.names }
 
 away-push : (p : ℕ) (hs : List Held) (h : Held) → AllByRecursion (λ g. g.place ≢ p) hs → h.place ≢ p → AllByRecursion (λ g. g.place ≢ p) (hs ++ h ∷ [])
@@ -42,7 +42,7 @@ away-push p [] h all other = (other, tt)
 away-push p (g ∷ hs) h all other = (all.0, away-push p hs h all.1 other)
 
 -- one more region, whose discipline is taken from the shelf
-pub session-push : (slots : Slots) (k : ℕ) (o : Option Discipline) (hs : List Held) (h : Held) → slice_get slots k ≡ Some o → IsSession slots hs → AllByRecursion (λ g. g.place ≢ h.place) hs → IsHeld (set slots k None) h → IsSession (set slots k None) (hs ++ h ∷ [])
+pub session-push : (slots : Slots) (k : ℕ) (o : Option Discipline) (hs : List Held) (h : Held) → slice_get slots k ≡ Some o → IsSession slots hs → AllByRecursion (λ g. g.place ≢ h.place) hs → IsHeldFrom (set slots k None) h → IsSession (set slots k None) (hs ++ h ∷ [])
 session-push slots k o [] h there s away held = (held, tt, tt)
 session-push slots k o (g ∷ hs) h there s away held = (
   held_stays slots k o g there s.0,
@@ -51,9 +51,9 @@ session-push slots k o (g ∷ hs) h there s away held = (
 )
 
 -- what holds of a region at a place
-pub held-at : (slots : Slots) (hs : List Held) (i : ℕ) (h : Held) → slice_get hs i ≡ Some h → IsSession slots hs → IsHeld slots h
+pub held-at : (slots : Slots) (hs : List Held) (i : ℕ) (h : Held) → slice_get hs i ≡ Some h → IsSession slots hs → IsHeldFrom slots h
 held-at slots [] i h at s = absurd (none-some h at)
-held-at slots (g ∷ hs) zero h at s = subst (IsHeld slots) (same_Some g h at) s.0
+held-at slots (g ∷ hs) zero h at s = subst (IsHeldFrom slots) (same_Some g h at) s.0
 held-at slots (g ∷ hs) (suc i) h at s = held-at slots hs i h at s.2
 
 away-set : (p : ℕ) (hs : List Held) (i : ℕ) (h g : Held) → slice_get hs i ≡ Some h → g.place ≡ h.place → AllByRecursion (λ f. f.place ≢ p) hs → AllByRecursion (λ f. f.place ≢ p) (set hs i g)
@@ -62,7 +62,7 @@ away-set p (f ∷ hs) zero h g at same all = ((λ e. all.0 (ap (λ (x : Held). x
 away-set p (f ∷ hs) (suc i) h g at same all = (all.0, away-set p hs i h g at same all.1)
 
 -- a region that changes at its place
-pub session-set : (slots : Slots) (hs : List Held) (i : ℕ) (h g : Held) → slice_get hs i ≡ Some h → g.place ≡ h.place → IsHeld slots g → IsSession slots hs → IsSession slots (set hs i g)
+pub session-set : (slots : Slots) (hs : List Held) (i : ℕ) (h g : Held) → slice_get hs i ≡ Some h → g.place ≡ h.place → IsHeldFrom slots g → IsSession slots hs → IsSession slots (set hs i g)
 session-set slots [] i h g at same held s = absurd (none-some h at)
 session-set slots (f ∷ hs) zero h g at same held s =
     let here : f.place ≡ g.place = ap (λ (x : Held). x.place) (same_Some f h at) ∙ sym same in

@@ -12,9 +12,9 @@ use Rattle.vc_steps.specs.Step.{GivesStep}
 use Rattle.vc_steps.specs.Told.{tell}
 use Rattle.vc_steps.specs.Steps.{Halts, Steps, StepsBy}
 use Rattle.vc_steps.proofs.CutOff.{cut-same}
-use Rattle.vc_steps.proofs.Granted.{granted-lacks, granted-settles}
+use Rattle.vc_steps.proofs.RefusesNothing.{granted-lacks, granted-settles}
 use Rattle.vc_commands.proofs.Grants.{IsGranted}
-use Rattle.vc_steps.proofs.Settling.{keeps-settles, settles-equal}
+use Rattle.vc_steps.proofs.SettledShelf.{keeps-settles, settles-equal}
 
 -- no fault is less after a step
 pub keeps-steps : {E : Type 0} (answer : Result Reply E) (now next : Moment) (command : Command) (given : State → Need → Stepped) → StepsBy answer now next command given → KeepsAccounts now.accounts next.accounts

@@ -10,7 +10,7 @@ use Rattle.vc_region.specs.Region.{segments_of}
 use Rattle.vc_steps.specs.State.{State}
 use Rattle.vc_views.specs.Views.{DictHome}
 use Rattle.vc_commands.specs.RegionCommands.{block_asked}
-use Rattle.vc_steps.specs.Step.{region_of}
+use Rattle.vc_steps.specs.Step.{region_of_command}
 use Rattle.vc_script.specs.declared.command.Command.{Command}
 use Rattle.vc_commands.specs.Held.{out_without, Held, home_of, IsNamed, LacksSegment}
 
@@ -46,7 +46,7 @@ settled_accounts shelf [] = shelf
 settled_accounts shelf (h ∷ hs) = settled_accounts (slice_set shelf (h.place - 1) (Some (account_after h))) hs
 
 -- a region's discipline is taken from its place, and the region's segments are the last that it lent
-pub record IsHeld (shelf : List (Option Discipline)) (h : Held) : Type 0 where
+pub record IsHeldFrom (shelf : List (Option Discipline)) (h : Held) : Type 0 where
   pub place : at_number shelf h.place ≡ Some None
   pub lent : HasOut h.disc (segments_of h.region)
   pub names : IsNamed h.region h.labels
@@ -64,12 +64,12 @@ Lacks (Some h) (Some g) asked = LacksSegment h g asked
 -- from before a step to after it, the region of a command was refused the segment that its block needs
 abbrev pub StepLacks : List Held → List Held → Command → Type 0
 StepLacks before after command =
-    Lacks (held_named before (region_of command)) (held_named after (region_of command)) (block_asked command)
+    Lacks (held_named before (region_of_command command)) (held_named after (region_of_command command)) (block_asked command)
 
 -- open regions over a shelf, each with a place of its own
 abbrev pub IsSession : List (Option Discipline) → List Held → Type 0
 IsSession shelf [] = ⊤
-IsSession shelf (h ∷ hs) = IsHeld shelf h × AllByRecursion (λ g. g.place ≢ h.place) hs × IsSession shelf hs
+IsSession shelf (h ∷ hs) = IsHeldFrom shelf h × AllByRecursion (λ g. g.place ≢ h.place) hs × IsSession shelf hs
 
 -- the faults of a place's discipline
 abbrev pub faults_of : Option (Option Account) → ℕ

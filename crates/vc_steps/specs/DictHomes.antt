@@ -17,13 +17,13 @@ use Rattle.vc_commands.specs.Held.{Held}
 use Rattle.vc_steps.specs.Account.{held_named}
 
 -- the cells of a region, where it is open
-abbrev pub cells_held : Option Held → Blocks
-cells_held None = λ a. None
-cells_held (Some h) = h.cells
+abbrev pub cells_of_held : Option Held → Blocks
+cells_of_held None = λ a. None
+cells_of_held (Some h) = h.cells
 
 -- the cells of the region of that name
 abbrev pub cells_named : List Held → List ℕ → Blocks
-cells_named held r = cells_held (held_named held (Some r))
+cells_named held r = cells_of_held (held_named held (Some r))
 
 -- what a dictionary is over the cells of its region
 abbrev pub dict_over : List Held → List ℕ × DictEntry → Dictionary
@@ -47,15 +47,15 @@ pub record IsDictOf (kinds : List Rules) (held : List Held) (e : List ℕ × Dic
   pub whole : IsWhole rules e.1.dict home.cells
 
 -- two dictionaries of one region have no block in common
-abbrev pub AreApart : List Held → List ℕ × DictEntry → List ℕ × DictEntry → Type 0
-AreApart held e f =
+abbrev pub AreApartIn : List Held → List ℕ × DictEntry → List ℕ × DictEntry → Type 0
+AreApartIn held e f =
     bytes_eq e.1.home f.1.home ≡ true
     → (a : ℕ) → contains (own_blocks (dict_over held e)) a ≡ true → contains (own_blocks (dict_over held f)) a ≡ false
 
 -- each dictionary is whole in its region, and no two have a block in common
 abbrev pub AreDicts : List Rules → List Held → List (List ℕ × DictEntry) → Type 0
 AreDicts kinds held [] = Unit {0}
-AreDicts kinds held (e ∷ es) = IsDictOf kinds held e × AllByRecursion (AreApart held e) es × AreDicts kinds held es
+AreDicts kinds held (e ∷ es) = IsDictOf kinds held e × AllByRecursion (AreApartIn held e) es × AreDicts kinds held es
 
 -- whether one of these dictionaries lies in the region of that name
 abbrev pub lies_in : List ℕ → List (List ℕ × DictEntry) → Bool

@@ -60,8 +60,8 @@ abbrev pub told_of : ℕ → List (List ℕ) → List (ℕ × List ℕ)
 told_of kind objects = map (λ o. (kind, o)) objects
 
 -- where a command on a dictionary works, in its best region
-abbrev pub seat_of : DictHome → Home → Rules → Seat Label
-seat_of d h rules = record { rules = rules; terms = h.terms; none = None; region = layout_in h.region; dict = d.dict }
+abbrev pub seat_at_home : DictHome → Home → Rules → Seat Label
+seat_at_home d h rules = record { rules = rules; terms = h.terms; none = None; region = layout_in h.region; dict = d.dict }
 
 -- the state with the change of a dictionary and of its region
 abbrev pub dict_changed : State → DictHome → Home → DictChanged Label → Stepped
@@ -147,10 +147,10 @@ abbrev pub dict_command : State → Command → Need → DictHome → Home → R
 dict_command s (Shut name) need d h rules = unless_viewed s d (dict_shut s d)
 dict_command s (View name viewed) need d h rules = view_step s d viewed
 dict_command s (Remethod name method) need d h rules =
-    unless_linked s d (dict_changed s d h (in_dict (seat_of d h rules) (Remethod name method) need))
+    unless_linked s d (dict_changed s d h (in_dict (seat_at_home d h rules) (Remethod name method) need))
 dict_command s command need d h rules =
     if is_look command then look_step s rules command d
-    else dict_changed s d h (in_dict (seat_of d h rules) command need)
+    else dict_changed s d h (in_dict (seat_at_home d h rules) command need)
 
 -- what is done with a dictionary, in its region and by its kind's rules
 abbrev pub on_seat : State → DictHome → (DictHome → Home → Rules → Stepped) → Option Home → Option Rules → Stepped
@@ -210,6 +210,6 @@ abbrev pub open_dict_step : State → List ℕ → DictMethod → List ℕ → �
 open_dict_step s d method r k need = open_dict_in s d method k need (home_named r s.homes)
 
 -- the region in which a command asks for segments
-abbrev pub region_named : State → Option (List ℕ) → Option (List ℕ) → Option (List ℕ)
-region_named s None region = region
-region_named s (Some d) region = option_map (λ h. h.home) (dict_named d s.dicts)
+abbrev pub region_asked_for : State → Option (List ℕ) → Option (List ℕ) → Option (List ℕ)
+region_asked_for s None region = region
+region_asked_for s (Some d) region = option_map (λ h. h.home) (dict_named d s.dicts)

@@ -24,8 +24,8 @@ abbrev pub held_all : {I : Type 0} {V : I → Type 0} → ((x : I) × V x → Di
 held_all meaning homes labels = map (held_entry meaning) (zip homes labels)
 
 -- those of a session
-abbrev pub held_in : {I : Type 0} {V : I → Type 0} {D : Type 0} → ((x : I) × V x → Discipline) → Session D I V → List Held
-held_in meaning session = held_all meaning session.homes.entries session.labels.items
+abbrev pub held_in_session : {I : Type 0} {V : I → Type 0} {D : Type 0} → ((x : I) × V x → Discipline) → Session D I V → List Held
+held_in_session meaning session = held_all meaning session.homes.entries session.labels.items
 
 -- the disciplines of a shelf, and their accounts
 abbrev pub slots_on : {I : Type 0} {V : I → Type 0} → ((x : I) × V x → Discipline) → Shelf I V → List (Option Discipline)
@@ -41,23 +41,27 @@ state_on meaning kinds shelf = state_of kinds (slots_on meaning shelf) [] []
 -- the state that kinds, a shelf and a session stand for
 abbrev pub state_over : {I : Type 0} {V : I → Type 0} {D : Type 0} → ((x : I) × V x → Discipline) → List Rules → Shelf I V → Session D I V → State
 state_over meaning kinds shelf session =
-    state_of kinds (slots_on meaning shelf) (held_in meaning session)
-    (dicts_in (held_in meaning session) (views_by session.paths session.dicts.entries) session.dicts.entries)
+    state_of kinds (slots_on meaning shelf) (held_in_session meaning session)
+    (dicts_in (held_in_session meaning session) (views_by session.paths session.dicts.entries) session.dicts.entries)
 
 -- each open region has its names, and a place of its own, whose discipline it holds
 pub record HoldsRegions {I : Type 0} {V : I → Type 0} {D : Type 0} (meaning : (x : I) × V x → Discipline) (shelf : Shelf I V) (session : Session D I V) : Type 0 where
   pub named : length session.labels.items ≡ length session.homes.entries
-  pub held : IsSession (slots_on meaning shelf) (held_in meaning session)
+  pub held : IsSession (slots_on meaning shelf) (held_in_session meaning session)
 
 -- each dictionary is whole in its region, by its kind
 abbrev pub HoldsDicts : {I : Type 0} {V : I → Type 0} {D : Type 0} → ((x : I) × V x → Discipline) → List Rules → Session D I V → Type 0
-HoldsDicts meaning kinds session = AreDicts kinds (held_in meaning session) session.dicts.entries
+HoldsDicts meaning kinds session = AreDicts kinds (held_in_session meaning session) session.dicts.entries
 
 -- a session stands over a shelf and kinds of these rules
 pub record IsSessionOver {I : Type 0} {V : I → Type 0} {D : Type 0} (meaning : (x : I) × V x → Discipline) (rules : D → Rules) (shelf : Shelf I V) (session : Session D I V) (kinds : List D) : Type 0 where
   pub regions : HoldsRegions meaning shelf session
   pub dicts : HoldsDicts meaning (map rules kinds) session
   pub views : AreLinked session.paths session.dicts.entries
+
+-- a session stands over any shelf and any kinds
+abbrev pub StandsOverAny : {I : Type 0} {V : I → Type 0} {D : Type 0} → ((x : I) × V x → Discipline) → (D → Rules) → Session D I V → Type 0
+StandsOverAny {I = I} {V = V} {D = D} meaning rules session = (shelf : Shelf I V) (kinds : List D) → IsSessionOver meaning rules shelf session kinds
 
 -- the regions of a session and its dictionaries are whole over a shelf, if they were
 pub record KeepsRegions {I : Type 0} {V : I → Type 0} {D : Type 0} (meaning : (x : I) × V x → Discipline) (session : Session D I V) (shelf' : Shelf I V) (session' : Session D I V) : Type 0 where
@@ -70,4 +74,4 @@ pub record KeepsRegions {I : Type 0} {V : I → Type 0} {D : Type 0} (meaning : 
 
 -- the accounts on the shelf when every open region is closed
 abbrev pub settled_over : {I : Type 0} {V : I → Type 0} {D : Type 0} → ((x : I) × V x → Discipline) → Shelf I V → Session D I V → List (Option Account)
-settled_over meaning shelf session = settled_accounts (accounts_on meaning shelf) (held_in meaning session)
+settled_over meaning shelf session = settled_accounts (accounts_on meaning shelf) (held_in_session meaning session)

@@ -26,6 +26,6 @@ pub use Rattle.vc_script.specs.Needs
 pub use Rattle.vc_script.specs.Print
 pub mod Dicts
 pub mod DictHomes
-pub mod Lacks
+pub mod WantedSegments
 pub mod Table
 pub mod Sizes

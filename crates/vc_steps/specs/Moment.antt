@@ -7,7 +7,7 @@ use Rattle.vc_steps.specs.declared.session.Session.{Session}
 use Rattle.vc_steps.specs.State.{State}
 use Rattle.vc_steps.specs.Account.{Account, KeepsAccounts}
 use Rattle.vc_commands.specs.Held.{Held}
-use Rattle.vc_steps.specs.Homes.{accounts_on, held_in, settled_over, state_on, state_over}
+use Rattle.vc_steps.specs.Homes.{accounts_on, held_in_session, settled_over, state_on, state_over}
 use Rattle.vc_steps.specs.Told.{ended_told, gone_in, rules_in, tell}
 
 -- the state, the open regions with their disciplines, what the replies' sink tells, the accounts of the disciplines once every open region is closed, and what each kind was told of so far
@@ -23,7 +23,7 @@ abbrev pub moment_by : {I : Type 0} {V : I → Type 0} {D : Type 0} → ((x : I)
 moment_by meaning kinds gone shelf session =
     record {
       state = state_over meaning kinds shelf session;
-      regions = held_in meaning session;
+      regions = held_in_session meaning session;
       written = None;
       accounts = settled_over meaning shelf session;
       gone = gone;
@@ -34,8 +34,8 @@ abbrev pub moment : {I : Type 0} {V : I → Type 0} {D : Type 0} → ((x : I) ×
 moment meaning rules gone shelf session kinds = moment_by meaning (rules_in rules kinds) (gone_in gone kinds) shelf session
 
 -- of a shelf over which no region is open, and kinds of these rules that were told so
-abbrev pub rest_by : {I : Type 0} {V : I → Type 0} → ((x : I) × V x → Discipline) → List Rules → List Gone → Shelf I V → Moment
-rest_by meaning kinds gone shelf =
+abbrev pub moment_at_rest_by : {I : Type 0} {V : I → Type 0} → ((x : I) × V x → Discipline) → List Rules → List Gone → Shelf I V → Moment
+moment_at_rest_by meaning kinds gone shelf =
     record {
       state = state_on meaning kinds shelf;
       regions = [];
@@ -45,8 +45,8 @@ rest_by meaning kinds gone shelf =
     }
 
 -- of a shelf over which no region is open, and kinds
-abbrev pub rest_of : {I : Type 0} {V : I → Type 0} {K : Type 0} → ((x : I) × V x → Discipline) → (K → Rules) → (K → Gone) → Shelf I V → List K → Moment
-rest_of meaning rules gone shelf kinds = rest_by meaning (rules_in rules kinds) (gone_in gone kinds) shelf
+abbrev pub moment_at_rest : {I : Type 0} {V : I → Type 0} {K : Type 0} → ((x : I) × V x → Discipline) → (K → Rules) → (K → Gone) → Shelf I V → List K → Moment
+moment_at_rest meaning rules gone shelf kinds = moment_at_rest_by meaning (rules_in rules kinds) (gone_in gone kinds) shelf
 
 -- the same over another sink
 abbrev pub over_sink : Moment → Option (List ℕ) → Moment

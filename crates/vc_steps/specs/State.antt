@@ -4,6 +4,7 @@ use Rattle.std.specs.List.{list_any}
 use Rattle.std.specs.Str.{bytes_eq}
 use Rattle.vc_model.specs.Discipline.{Terms}
 use Rattle.vc_model.specs.Numbered.{at_number}
+use Rattle.vc_model.specs.Segments.{Grant}
 use Rattle.vc_dtdisc.specs.Rules.{Rules}
 use Rattle.vc_objects.specs.Objects.{option_list}
 use Rattle.vc_region.specs.Region.{Region, segments_of}
@@ -27,12 +28,12 @@ pub record State : Type 0 where
   pub kinds : List Rules
   pub dicts : List DictHome
 
--- what a step gives: the state after it, the reply, what was told to kinds (the kind's number and the object), and the segments that were granted, as number and bytes
+-- what a step gives: the state after it, the reply, what was told to kinds (the kind's number and the object), and what was granted of segments
 pub record Stepped : Type 0 where
   pub state : State
   pub reply : Reply
   pub told : List (ℕ × List ℕ)
-  pub granted : List (ℕ × ℕ)
+  pub granted : List Grant
 
 -- a step that tells no kind and is granted no segment
 abbrev pub step_with_reply : State → Reply → Stepped
@@ -72,12 +73,12 @@ without_home r [] = []
 without_home r (h ∷ hs) = if is_home r h then hs else h ∷ without_home r hs
 
 -- whether a dictionary lies in a region
-abbrev pub is_busy : State → List ℕ → Bool
-is_busy s r = list_any (λ d. bytes_eq d.home r) s.dicts
+abbrev pub is_home_busy : State → List ℕ → Bool
+is_home_busy s r = list_any (λ d. bytes_eq d.home r) s.dicts
 
 -- what is done with a region in which no dictionary lies
 abbrev pub unless_busy : State → List ℕ → Stepped → Stepped
-unless_busy s r t = if is_busy s r then step_with_refusal s why.Busy else t
+unless_busy s r t = if is_home_busy s r then step_with_refusal s why.Busy else t
 
 -- a region gives its segments back, and its discipline is at its place again
 abbrev pub step_with_close : State → List ℕ → Home → Stepped

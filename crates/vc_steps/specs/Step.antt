@@ -8,31 +8,31 @@ use Rattle.vc_script.specs.declared.reply.Reply.{Reply}
 use Rattle.vc_dtdisc.specs.Rules.{Gone}
 use Rattle.vc_commands.specs.Home.{Home}
 use Rattle.vc_steps.specs.State.{State, Stepped, step_with_change, close_step, home_named, open_step, step_with_refusal, unless_busy}
-use Rattle.vc_steps.specs.Dicts.{dict_of, dict_step, open_dict_step, region_named}
+use Rattle.vc_steps.specs.Dicts.{dict_of, dict_step, open_dict_step, region_asked_for}
 use Rattle.vc_steps.specs.Told.{tell}
 use Rattle.vc_commands.specs.RegionCommands.{in_region}
 
 -- the region that a command works in
-abbrev pub region_of : Command → Option (List ℕ)
-region_of (ClearRegion r) = Some r
-region_of (Compact r) = Some r
-region_of (Alloc r x size site) = Some r
-region_of (Align r x size align) = Some r
-region_of (Resize r x size may_move) = Some r
-region_of (Free r x) = Some r
-region_of (WriteBlock r x off bytes) = Some r
-region_of (ReadBlock r x off len) = Some r
-region_of (SizeOf r x) = Some r
-region_of (AddrOf r at) = Some r
-region_of (SegmentOf r at) = Some r
-region_of (StatOf r) = Some r
-region_of (Segments r) = Some r
-region_of (Blocks r) = Some r
-region_of (Poke r x off byte) = Some r
-region_of (Check r) = Some r
-region_of (Watch r x) = Some r
-region_of (ProfileOf r) = Some r
-region_of command = None
+abbrev pub region_of_command : Command → Option (List ℕ)
+region_of_command (ClearRegion r) = Some r
+region_of_command (Compact r) = Some r
+region_of_command (Alloc r x size site) = Some r
+region_of_command (Align r x size align) = Some r
+region_of_command (Resize r x size may_move) = Some r
+region_of_command (Free r x) = Some r
+region_of_command (WriteBlock r x off bytes) = Some r
+region_of_command (ReadBlock r x off len) = Some r
+region_of_command (SizeOf r x) = Some r
+region_of_command (AddrOf r at) = Some r
+region_of_command (SegmentOf r at) = Some r
+region_of_command (StatOf r) = Some r
+region_of_command (Segments r) = Some r
+region_of_command (Blocks r) = Some r
+region_of_command (Poke r x off byte) = Some r
+region_of_command (Check r) = Some r
+region_of_command (Watch r x) = Some r
+region_of_command (ProfileOf r) = Some r
+region_of_command command = None
 
 -- whether a command clears a region
 abbrev pub is_clear : Command → Bool
@@ -61,7 +61,7 @@ step_of s line command need (Some r) = region_step s r line command need (home_n
 
 -- a command on a dictionary, on a region, or neither
 abbrev pub step_on : State → ℕ → Command → Need → Option (List ℕ) → Stepped
-step_on s line command need None = step_of s line command need (region_of command)
+step_on s line command need None = step_of s line command need (region_of_command command)
 step_on s line command need (Some d) = dict_step s d command need
 
 -- one step, of the command at a line: the first refusal that applies, else the state changed; the need is the one free choice
@@ -71,10 +71,10 @@ step s line command need = step_on s line command need (dict_of command)
 -- the region in which a command asks for segments
 abbrev pub opened_in : Command → Option (List ℕ)
 opened_in (OpenDict d method r kind) = Some r
-opened_in command = region_of command
+opened_in command = region_of_command command
 
 abbrev pub region_asked : State → Command → Option (List ℕ)
-region_asked s command = region_named s (dict_of command) (opened_in command)
+region_asked s command = region_asked_for s (dict_of command) (opened_in command)
 
 -- what a step gives is this reply and this state, and the kinds are told so
 pub record GivesStep (t : Stepped) (gone : List Gone) (answer : Reply) (after : State) (gone_after : List Gone) : Type 0 where

@@ -12,8 +12,8 @@ use Rattle.vc_steps.specs.Account.{KeepsAccounts, Settles}
 use Rattle.vc_steps.specs.DictHomes.{dict_home}
 use Rattle.vc_views.specs.Numbers.{views_by}
 use Rattle.vc_steps.specs.Dicts.{shut_state, told_of}
-use Rattle.vc_steps.specs.Homes.{IsSessionOver, held_in, settled_over}
-use Rattle.vc_steps.specs.Lacks.{IsCutOff, StepLacksFor}
+use Rattle.vc_steps.specs.Homes.{IsSessionOver, held_in_session, settled_over}
+use Rattle.vc_steps.specs.WantedSegments.{IsCutOff, StepLacksFor}
 use Rattle.vc_steps.specs.Moment.{Moment, moment}
 use Rattle.vc_steps.specs.Refusals.{refusal_at}
 use Rattle.vc_steps.specs.State.{State, Stepped}
@@ -73,7 +73,7 @@ pub record Shuts (now next : Moment) (d : DictHome) : Type 0 where
 
 -- of a session over a shelf the dictionary at an index was ended
 pub record ShutsAt {I : Type 0} {V : I → Type 0} {D : Type 0} (meaning : (x : I) × V x → Discipline) (rules : D → Rules) (gone : D → Gone) (shelf : Shelf I V) (session : Session D I V) (kinds : List D) (session' : Session D I V) (kinds' : List D) (i : ℕ) : Type 0 where
-  pub shuts : IfSome (slice_get session.dicts.entries i) (λ e. Shuts (moment meaning rules gone shelf session kinds) (moment meaning rules gone shelf session' kinds') (dict_home (held_in meaning session) (views_by session.paths session.dicts.entries) e))
+  pub shuts : IfSome (slice_get session.dicts.entries i) (λ e. Shuts (moment meaning rules gone shelf session kinds) (moment meaning rules gone shelf session' kinds') (dict_home (held_in_session meaning session) (views_by session.paths session.dicts.entries) e))
   pub fewer : length session'.dicts.entries + 1 ≡ length session.dicts.entries
   pub homes : length session'.homes.entries ≡ length session.homes.entries
   -- and what viewed none does so still

@@ -8,7 +8,7 @@ ghost use Rattle.vc_seg.specs.Shelf.{place_at};
 ghost use Rattle.vc_region.specs.Cells.{rest_in};
 ghost use Rattle.vc_region.specs.Parts.{disc_in};
 ghost use Rattle.vc_steps.specs.Account.{account_back};
-ghost use Rattle.vc_steps.specs.Homes.{HoldsDicts, HoldsRegions, KeepsRegions, accounts_on, held_in, settled_over, slots_on, state_over};
+ghost use Rattle.vc_steps.specs.Homes.{HoldsDicts, HoldsRegions, KeepsRegions, accounts_on, held_in_session, settled_over, slots_on, state_over};
 ghost use Rattle.vc_steps.specs.DictHomes.{lies_in};
 ghost use Rattle.vc_steps.specs.Closes.{ClosesAt};
 ghost use Rattle.vc_steps.specs.State.{close_step, step_with_reply};
@@ -44,7 +44,7 @@ impl<D> Session<D> {
     pub(crate) fn close_at(&mut self, shelf: &mut Shelf, i: usize) -> u32
         requires session { HoldsRegions state shelf.old self.old }
         requires within { i < length self.old.homes.entries }
-        requires free { IfSome (slice_get (held_in state self.old) i)
+        requires free { IfSome (slice_get (held_in_session state self.old) i)
             (λ h. lies_in h.name self.old.dicts.entries ≡ false) }
         ensures closes { ClosesAt state shelf.old self.old shelf.new self.new i result }
         ensures regions { KeepsRegions state self.old shelf.new self.new }

@@ -8,7 +8,7 @@ ghost use Rattle.vc_steps.specs.Account.{state_of};
 ghost use Rattle.vc_steps.specs.Dicts.{dict_refused, open_dict_step};
 ghost use Rattle.vc_steps.specs.DictHomes.{dicts_in};
 ghost use Rattle.vc_views.specs.Numbers.{views_by};
-ghost use Rattle.vc_steps.specs.Homes.{IsSessionOver, held_in};
+ghost use Rattle.vc_steps.specs.Homes.{IsSessionOver, held_in_session};
 ghost use Rattle.vc_steps.specs.Moment.{moment};
 ghost use Rattle.vc_steps.specs.Table.{TellsTable};
 ghost use Rattle.vc_steps.specs.Steps.{Stays, StepsBy};
@@ -57,9 +57,9 @@ impl<D: DictDisc> Session<D> {
     fn dict_refused(&self, kinds: &Vec<D>, name: &Name, j: usize, kind: u32) -> Option<Refusal>
         requires named { length self.now.labels.items ≡ length self.now.homes.entries }
         requires within { j < length self.now.homes.entries }
-        ensures { IfSome (slice_get (held_in state self.now) j) (λ h. result ≡ dict_refused
-            (state_of (rules_in D.rules kinds.now.items) [] (held_in state self.now)
-            (dicts_in (held_in state self.now)
+        ensures { IfSome (slice_get (held_in_session state self.now) j) (λ h. result ≡ dict_refused
+            (state_of (rules_in D.rules kinds.now.items) [] (held_in_session state self.now)
+            (dicts_in (held_in_session state self.now)
             (views_by self.now.paths self.now.dicts.entries) self.now.dicts.entries)) (home_of h) name.now kind) }
     {
         if self.dicts.contains_key(name) {

@@ -1,12 +1,12 @@
 // A session: its open regions and dictionaries, over a shelf.
 ghost use Rattle.std.specs.Prelude.{◌≡◌, ◌&&◌, [], List, None, Some, false, IfOk, OnErr, OnOk, IsTrue};
 ghost use Rattle.vc_dtdisc.specs.Rules.{Gone, Rules};
-ghost use Rattle.vc_steps.specs.Homes.{HoldsDicts, HoldsRegions, IsSessionOver, KeepsRegions, accounts_on, settled_over, state_over};
+ghost use Rattle.vc_steps.specs.Homes.{HoldsDicts, HoldsRegions, IsSessionOver, KeepsRegions, StandsOverAny, accounts_on, settled_over, state_over};
 ghost use Rattle.vc_steps.specs.DictHomes.{lies_in};
 ghost use Rattle.vc_steps.specs.Dicts.{dict_of};
 ghost use Rattle.vc_paths.specs.Links.{no_links};
 ghost use Rattle.vc_steps.specs.Moment.{moment, moment_by};
-ghost use Rattle.vc_steps.specs.Step.{is_clear, region_of, shelf_step, step, step_of};
+ghost use Rattle.vc_steps.specs.Step.{is_clear, region_of_command, shelf_step, step, step_of};
 ghost use Rattle.vc_steps.specs.Steps.{Lasts, Stays, StepsBy};
 ghost use Rattle.vc_steps.specs.Told.{KeepRules, ended_told, gone_in, rules_in, tell};
 
@@ -23,7 +23,7 @@ use vc_views::end_views;
 
 /// The region that a command works in, None where it names none.
 pub fn region_of(command: &Command) -> Option<Name>
-    ensures { result ≡ region_of command.now }
+    ensures { result ≡ region_of_command command.now }
 {
     match command {
         Command::ClearRegion(name)
@@ -109,6 +109,7 @@ impl<D: DictDisc> Session<D> {
     pub fn new(alloc: Global, tool: Tool) -> Result<Session<D>, OutOfMemory>
         ensures none { IfOk result (λ s. (s.homes.entries ≡ []) × (s.labels.items ≡ [])
             × (s.dicts.entries ≡ []) × (s.paths ≡ no_links)) }
+        ensures stands { IfOk result (StandsOverAny state D.rules) }
         ensures memory { IfOk result (λ s. s.is_spent ≡ false) }
     {
         Session::over(alloc, tool, IndexMap::new(alloc))
@@ -124,6 +125,7 @@ impl<D: DictDisc> Session<D> {
         requires { homes.entries ≡ [] }
         ensures none { IfOk result (λ s. (s.homes.entries ≡ []) × (s.labels.items ≡ [])
             × (s.dicts.entries ≡ []) × (s.paths ≡ no_links)) }
+        ensures stands { IfOk result (StandsOverAny state D.rules) }
         ensures memory { IfOk result (λ s. s.is_spent ≡ false) }
     {
         let _ = tool;
@@ -147,7 +149,7 @@ impl<D: DictDisc> Session<D> {
     ) -> Result<Reply, OutOfMemory>
         requires session { IsSessionOver state D.rules shelf.old self.old kinds.now.items }
         requires dict { dict_of command.now ≡ None }
-        requires region { region_of command.now ≡ None }
+        requires region { region_of_command command.now ≡ None }
         ensures steps { StepsBy result
             (moment state D.rules D.gone shelf.old self.old kinds.now.items)
             (moment state D.rules D.gone shelf.new self.new kinds.now.items)
@@ -182,7 +184,7 @@ impl<D: DictDisc> Session<D> {
     ) -> Result<Reply, OutOfMemory>
         requires regions { HoldsRegions state shelf.now self.old }
         requires dict { dict_of command.now ≡ None }
-        requires region { region_of command.now ≡ Some name.now }
+        requires region { region_of_command command.now ≡ Some name.now }
         ensures steps { (kinds : List Rules) (gone : List Gone) → HoldsDicts state kinds self.old
             → StepsBy result
             (moment_by state kinds gone shelf.now self.old)

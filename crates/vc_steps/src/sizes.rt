@@ -1,7 +1,7 @@
 // The sizes of the blocks that have a name in an open region.
 ghost use Rattle.std.specs.Prelude.{◌≡◌, length, map};
 ghost use Rattle.vc_commands.specs.Held.{home_of};
-ghost use Rattle.vc_steps.specs.Homes.{held_in};
+ghost use Rattle.vc_steps.specs.Homes.{held_in_session};
 ghost use Rattle.vc_steps.specs.Sizes.{AreNamed, size_in_home};
 ghost use Rattle.vc_steps.specs.State.{home_named};
 
@@ -14,9 +14,9 @@ impl<D> Session<D> {
     /// no such block.
     pub fn size_named(&self, region: &Name, block: &Name) -> u32
         requires labels { length self.now.labels.items ≡ length self.now.homes.entries }
-        requires names { AreNamed (held_in state self.now) }
+        requires names { AreNamed (held_in_session state self.now) }
         ensures { result ≡ size_in_home block.now
-            (home_named region.now (map home_of (held_in state self.now))) }
+            (home_named region.now (map home_of (held_in_session state self.now))) }
     {
         match self.homes.get_index_of(region) {
             Some(i) => self.homes[i].size_named(&self.labels[i], block),

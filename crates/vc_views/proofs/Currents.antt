@@ -31,8 +31,8 @@ use Rattle.vc_views.specs.Dicts.{AreDictsOver, DictRegion, DictSeen, IsDictOver,
 use Rattle.vc_views.specs.LayerLaws.{Entry, layer-is}
 use Rattle.vc_views.proofs.AtHolders.{holder-here}
 use Rattle.vc_views.proofs.Firsts.{value-set}
-use Rattle.vc_views.proofs.Looked.{dict-at, pair-at}
-use Rattle.vc_views.proofs.Touching.{AllApart, AreApart, all-apart, are-dicts, each-whole}
+use Rattle.vc_views.proofs.LookLeaves.{dict-at, pair-at}
+use Rattle.vc_views.proofs.BlockChanges.{AllApart, AreApart, all-apart, are-dicts, each-whole}
 
 -- what a command finds is one of the objects
 all-first : {A : Type 0} (P : A → Type 0) (xs : List A) (x : A) → AllByRecursion P xs → first_of xs ≡ Some x → P x

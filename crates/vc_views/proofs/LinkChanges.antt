@@ -16,8 +16,8 @@ use Rattle.vc_dict.specs.declared.dict.Dict.{Dict}
 use Rattle.vc_objects.specs.Objects.{Dictionary}
 use Rattle.vc_paths.specs.Links.{Links, below, is_viewed, links_with, numbers}
 use Rattle.vc_paths.proofs.NewLinkLemmas.{below-linked, below-other}
-use Rattle.vc_views.specs.Dicts.{AreNumbered, entry_numbered, number_in}
-use Rattle.vc_views.specs.Numbers.{AreLinked, IsLinked, home_by, name_numbered, views_by}
+use Rattle.vc_views.specs.Dicts.{HaveViewNumbers, entry_numbered, number_in}
+use Rattle.vc_views.specs.Numbers.{AreLinked, IsViewLink, home_by, name_numbered, views_by}
 use Rattle.vc_views.proofs.LinkLemmas.{others-same, viewed-by, viewer, views-none}
 use Rattle.vc_views.proofs.LinkLists.{all-remove, any-remove, found-push, found-remove, found-set, map-set_same, none-found}
 use Rattle.vc_views.proofs.NamedEntries.{Entry, other-number}
@@ -43,7 +43,7 @@ lower-other : (links : Links) (d n m : ℕ) → is_viewed links d ≡ false → 
 lower-other links d n m none b is = true≢false (sym (viewed-by links n m b) ∙ (ap (is_viewed links) (sym is) ∙ none))
 
 -- numbers of dictionaries stay theirs where dictionaries keep them
-numbered-alike : (es fs : List Entry) → map number_in fs ≡ map number_in es → AreNumbered es → AreNumbered fs
+numbered-alike : (es fs : List Entry) → map number_in fs ≡ map number_in es → HaveViewNumbers es → HaveViewNumbers fs
 numbered-alike es fs same numbered = record {
   distinct = subst AreDistinct (sym same) numbered.distinct;
   below = all-unmap (λ n. n < numbers) number_in fs
@@ -64,7 +64,7 @@ distinct-push (f ∷ fs) new distinct none =
     let apart : number_in new ≢ number_in f = λ is. true≢false (sym ((Decides-eqb (number_in f) (number_in new)).1 (sym is)) ∙ parts.0) in
     (contains-push fs new (number_in f) distinct.0 (not-equal (number_in new) (number_in f) apart), distinct-push fs new distinct.1 parts.1)
 
-numbered-push : (es : List Entry) (new : Entry) → AreNumbered es → entry_numbered (number_in new) es ≡ None → number_in new < numbers → AreNumbered (es ++ new ∷ [])
+numbered-push : (es : List Entry) (new : Entry) → HaveViewNumbers es → entry_numbered (number_in new) es ≡ None → number_in new < numbers → HaveViewNumbers (es ++ new ∷ [])
 numbered-push es new numbered free within = record {
   distinct = distinct-push es new numbered.distinct (none-found (λ e. number_in e == number_in new) es free);
   below = all-push (λ e. number_in e < numbers) es new numbered.below within;
@@ -82,7 +82,7 @@ distinct-remove [] (suc i) distinct = tt
 distinct-remove (f ∷ fs) zero distinct = distinct.1
 distinct-remove (f ∷ fs) (suc i) distinct = (contains-remove fs i (number_in f) distinct.0, distinct-remove fs i distinct.1)
 
-numbered-remove : (es : List Entry) (i : ℕ) → AreNumbered es → AreNumbered (remove es i)
+numbered-remove : (es : List Entry) (i : ℕ) → HaveViewNumbers es → HaveViewNumbers (remove es i)
 numbered-remove es i numbered = record {
   distinct = distinct-remove es i numbered.distinct;
   below = all-remove (λ e. number_in e < numbers) es i numbered.below;
@@ -147,7 +147,7 @@ module _ (links : Links) (es : List Entry) (i : ℕ) (e : Entry) (at : slice_get
 pub linked-ended : (links : Links) (es : List Entry) (d : ℕ) → d < length links → AreLinked links es → AreLinked (links_with d None links) es
 linked-ended links es d within are = record {
   numbered = are.numbered;
-  linked = λ n m b. elim (eqb_tells n d) as (λ _. IsLinked es n m) [
+  linked = λ n m b. elim (eqb_tells n d) as (λ _. IsViewLink es n m) [
     | inl same ↦ absurd (none-some m (sym (ap (below (links_with d None links)) same.1 ∙ below-linked links d None within) ∙ b))
     | inr apart ↦ are.linked n m (sym (below-other links d n None apart.1) ∙ b)
   ];
@@ -173,13 +173,13 @@ ended-more links k within none n before = elim (eqb_tells n k) as (λ _. below (
 ]
 
 -- it is set to another one of the same method and kind
-pub linked-set : (links : Links) (es : List Entry) (d e : ℕ) → d < length links → IsLinked es d e → AreLinked links es → AreLinked (links_with d (Some e) links) es
+pub linked-set : (links : Links) (es : List Entry) (d e : ℕ) → d < length links → IsViewLink es d e → AreLinked links es → AreLinked (links_with d (Some e) links) es
 linked-set links es d e within is are = record {
   numbered = are.numbered;
-  linked = λ n m b. elim (eqb_tells n d) as (λ _. IsLinked es n m) [
+  linked = λ n m b. elim (eqb_tells n d) as (λ _. IsViewLink es n m) [
     | inl same ↦
         let both : Some e ≡ Some m = sym (ap (below (links_with d (Some e) links)) same.1 ∙ below-linked links d (Some e) within) ∙ b in
-        subst (λ z. IsLinked es z m) (sym same.1) (subst (IsLinked es d) (same_Some e m both) is)
+        subst (λ z. IsViewLink es z m) (sym same.1) (subst (IsViewLink es d) (same_Some e m both) is)
     | inr apart ↦ are.linked n m (sym (below-other links d n (Some e) apart.1) ∙ b)
   ];
 }
@@ -312,7 +312,7 @@ module _ (links : Links) (es : List Entry) (are : AreLinked links es) (i : ℕ) 
       (remove es i) (number-gone es i are.numbered.distinct at))
 
 -- where no number has a link
-pub linked-none : (links : Links) (es : List Entry) → ((n : ℕ) → below links n ≡ None) → AreNumbered es → AreLinked links es
+pub linked-none : (links : Links) (es : List Entry) → ((n : ℕ) → below links n ≡ None) → HaveViewNumbers es → AreLinked links es
 linked-none links es none numbered = record {
   numbered = numbered;
   linked = λ n m b. absurd (none-some m (sym (none n) ∙ b));

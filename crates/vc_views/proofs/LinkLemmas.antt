@@ -15,7 +15,7 @@ use Rattle.vc_base.proofs.Quantifiers.{any-map}
 use Rattle.vc_objects.specs.Objects.{Dictionary}
 use Rattle.vc_paths.specs.Links.{ArePaths, Links, below, is_link_to, is_viewed, link_at, links_with, numbers}
 use Rattle.vc_paths.proofs.NewLinkLemmas.{below-linked, below-other}
-use Rattle.vc_views.specs.Dicts.{AreNumbered, entry_numbered, number_in}
+use Rattle.vc_views.specs.Dicts.{HaveViewNumbers, entry_numbered, number_in}
 use Rattle.vc_views.specs.Numbers.{AreLinked, home_by, name_numbered, views_by}
 use Rattle.vc_views.specs.Views.{DictHome, is_linked_in, is_viewed_name, is_viewed_in, views_it, with_view}
 use Rattle.vc_views.proofs.LinkLists.{same-test, stands-any}
@@ -50,7 +50,7 @@ unlinked links n none =
     (parts.0, none-of (below links n) parts.1)
 
 -- the number of a dictionary is one of those of links
-pub number-within : (links : Links) (entries : List Entry) (i : ℕ) (e : Entry) → ArePaths links → AreNumbered entries → slice_get entries i ≡ Some e → number_in e < length links
+pub number-within : (links : Links) (entries : List Entry) (i : ℕ) (e : Entry) → ArePaths links → HaveViewNumbers entries → slice_get entries i ≡ Some e → number_in e < length links
 number-within links entries i e paths numbered at =
     subst (λ z. number_in e < z) (sym paths.all) (all-at (λ f. number_in f < numbers) entries i e numbered.below at)
 

@@ -23,8 +23,8 @@ use Rattle.vc_paths.specs.View.{are_alike, view_fault}
 use Rattle.vc_paths.proofs.NewLinkLemmas.{none-any, some-any, none-short}
 use Rattle.vc_script.specs.declared.refusal.Refusal.TheVariants.{ViewCycle, ViewDiffers, ViewTooDeep}
 use Rattle.vc_views.specs.Dicts.{entry_numbered, number_in}
-use Rattle.vc_views.specs.Numbers.{AreLinked, IsLinked}
-use Rattle.vc_views.specs.Views.{are_like, is_dict, is_too_deep, path_in, path_to, refusal_of, view_refusal, with_view}
+use Rattle.vc_views.specs.Numbers.{AreLinked, IsViewLink}
+use Rattle.vc_views.specs.Views.{are_like, is_dict, is_too_deep, path_in, path_to, refusal_of_view, view_refusal, with_view}
 use Rattle.vc_views.proofs.LinkChanges.{linked-set}
 use Rattle.vc_views.proofs.LinkLemmas.{number-within, view-some}
 use Rattle.vc_views.proofs.LinkLists.{same-test, stands-any}
@@ -81,12 +81,12 @@ module _ (over : Entry → Dictionary) (links : Links) (entries : List Entry) (n
 -- a refusal by three tests is that of a fault by the same, the last of which counts for dictionaries that are alike
 refusal-told : (alike cycle deep long : Bool) → (alike ≡ true → deep ≡ long)
     → (if not alike then Some ViewDiffers else if cycle then Some ViewCycle else if deep then Some ViewTooDeep else None)
-    ≡ option_map refusal_of (if not alike then Some Differs else if cycle then Some Cycle else if long then Some TooDeep else None)
+    ≡ option_map refusal_of_view (if not alike then Some Differs else if cycle then Some Cycle else if long then Some TooDeep else None)
 refusal-told false cycle deep long same = refl
 refusal-told true true deep long same = refl
 refusal-told true false deep long same = ap (λ t. if t then Some ViewTooDeep else None) (same refl) ∙ last long
   where
-    last : (t : Bool) → (if t then Some ViewTooDeep else None) ≡ option_map refusal_of (if t then Some TooDeep else None)
+    last : (t : Bool) → (if t then Some ViewTooDeep else None) ≡ option_map refusal_of_view (if t then Some TooDeep else None)
     last true = refl
     last false = refl
 
@@ -121,7 +121,7 @@ module _ (over : Entry → Dictionary) (all : Layered) (links : Links) (entries 
       ∙ any-map (λ b. b) (λ n. n == number_in d) (path links (number_in e))
 
   -- dictionaries that are alike may be linked
-  linked-alike : are_alike all (number_in d) (number_in e) ≡ true → IsLinked entries (number_in d) (number_in e)
+  linked-alike : are_alike all (number_in d) (number_in e) ≡ true → IsViewLink entries (number_in d) (number_in e)
   linked-alike alike =
       let first = layers (number_in d) d d_found in
       let second = layers (number_in e) e e_found in
@@ -146,7 +146,7 @@ module _ (over : Entry → Dictionary) (all : Layered) (links : Links) (entries 
       (linked-set links entries (number_in d) (number_in e) within (linked-alike alike) are)
 
   -- the refusal of a view by names is that of its fault by numbers
-  pub refusal-named : view_refusal (homes over links entries) (home over links entries d) (home over links entries e) ≡ option_map refusal_of (view_fault all links (number_in d) (number_in e))
+  pub refusal-named : view_refusal (homes over links entries) (home over links entries d) (home over links entries e) ≡ option_map refusal_of_view (view_fault all links (number_in d) (number_in e))
   refusal-named =
       ap₂ (λ alike cycle. if not alike then Some ViewDiffers
       else if cycle then Some ViewCycle

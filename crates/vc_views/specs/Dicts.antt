@@ -79,7 +79,7 @@ abbrev pub entry_numbered : ℕ → List (List ℕ × DictEntry) → Option (Lis
 entry_numbered d entries = find (is_numbered d) entries
 
 -- no two dictionaries have one number, and each number is one of view paths
-pub record AreNumbered (entries : List (List ℕ × DictEntry)) : Type 0 where
+pub record HaveViewNumbers (entries : List (List ℕ × DictEntry)) : Type 0 where
   pub distinct : AreDistinct (map number_in entries)
   pub below : AllByRecursion (λ e. number_in e < numbers) entries
 

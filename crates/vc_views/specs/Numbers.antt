@@ -4,7 +4,7 @@ use Rattle.std.specs.Option.{option_and_then}
 use Rattle.vc_objects.specs.Objects.{Dictionary}
 use Rattle.vc_paths.specs.Links.{Links, below, is_viewed}
 use Rattle.vc_commands.specs.declared.dict.entry.DictEntry.{DictEntry}
-use Rattle.vc_views.specs.Dicts.{AreNumbered, entry_numbered}
+use Rattle.vc_views.specs.Dicts.{HaveViewNumbers, entry_numbered}
 use Rattle.vc_script.specs.declared.command.Command.{Command}
 use Rattle.vc_script.specs.declared.command.Command.TheVariants.{Remethod, Shut}
 use Rattle.vc_views.specs.Views.{DictHome}
@@ -23,7 +23,7 @@ home_by over views e =
     record { name = e.0; home = e.1.home; kind = e.1.dict.kind; views = views e.1.number; dict = over e }
 
 -- from a number to another one there is a link: both are those of dictionaries, of one method and one kind
-pub record IsLinked (entries : List (List ℕ × DictEntry)) (n m : ℕ) : Type 0 where
+pub record IsViewLink (entries : List (List ℕ × DictEntry)) (n m : ℕ) : Type 0 where
   pub upper : List ℕ × DictEntry
   pub lower : List ℕ × DictEntry
   pub upper_is : entry_numbered n entries ≡ Some upper
@@ -33,8 +33,8 @@ pub record IsLinked (entries : List (List ℕ × DictEntry)) (n m : ℕ) : Type 
 
 -- the dictionaries have numbers of their own, and links are between them
 pub record AreLinked (links : Links) (entries : List (List ℕ × DictEntry)) : Type 0 where
-  pub numbered : AreNumbered entries
-  pub linked : (n m : ℕ) → below links n ≡ Some m → IsLinked entries n m
+  pub numbered : HaveViewNumbers entries
+  pub linked : (n m : ℕ) → below links n ≡ Some m → IsViewLink entries n m
 
 -- whether a view stands against a command on the dictionary of a number: it ends one that another one views, or turns one that is viewed or views another one
 abbrev pub is_barred : Links → ℕ → Command → Bool

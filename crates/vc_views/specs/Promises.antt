@@ -15,7 +15,7 @@ use Rattle.vc_paths.specs.Links.{Links}
 use Rattle.vc_paths.specs.Path.{IsPath}
 use Rattle.vc_script.specs.declared.command.Command.{Command}
 use Rattle.vc_script.specs.declared.reply.Reply.{Reply}
-use Rattle.vc_views.specs.Dicts.{AreDictsOver, AreNumbered, DictRegion, cells_held, dict_seen, home_rest, layered_by, number_at, region_named, region_seen, with_current_at}
+use Rattle.vc_views.specs.Dicts.{AreDictsOver, HaveViewNumbers, DictRegion, cells_held, dict_seen, home_rest, layered_by, number_at, region_named, region_seen, with_current_at}
 use Rattle.vc_views.specs.Leaves.{KeepsDicts}
 use Rattle.vc_views.specs.Looks.{place_through, reply_through}
 
@@ -48,7 +48,7 @@ pub record IsLook (all : Layered) (links : Links) (d : ℕ) (command : Command) 
 -- a command looks through the dictionary at an index, where there is one: all dictionaries are whole, under numbers of their own, and that one has a path
 pub record CanLook {I : Type 0} {V : I → Type 0} (kinds : List Rules) (homes : List (List ℕ × HomeEntry I V)) (entries : List (List ℕ × DictEntry)) (links : Links) (i : ℕ) (command : Command) : Type 0 where
   pub dicts : AreDictsOver kinds (map region_seen homes) entries
-  pub numbers : AreNumbered entries
+  pub numbers : HaveViewNumbers entries
   pub index : i < length entries
   pub path : IsPath (layered_over kinds homes entries) links (number_at i entries)
   pub look : is_look command ≡ true

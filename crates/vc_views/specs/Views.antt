@@ -96,7 +96,7 @@ view_refusal dicts d e =
     else None
 
 -- the refusal of a fault of a view
-abbrev pub refusal_of : ViewFault → Refusal
-refusal_of Differs = ViewDiffers
-refusal_of Cycle = ViewCycle
-refusal_of TooDeep = ViewTooDeep
+abbrev pub refusal_of_view : ViewFault → Refusal
+refusal_of_view Differs = ViewDiffers
+refusal_of_view Cycle = ViewCycle
+refusal_of_view TooDeep = ViewTooDeep

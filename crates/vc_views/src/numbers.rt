@@ -8,7 +8,7 @@ ghost use Rattle.vc_paths.specs.Links.{below, numbers};
 ghost use Rattle.vc_commands.specs.Looking.{is_look};
 ghost use Rattle.vc_views.specs.Dicts.{entry_numbered, number_in};
 ghost use Rattle.vc_views.specs.Numbers.{is_barred};
-ghost use Rattle.vc_views.specs.Views.{refusal_of};
+ghost use Rattle.vc_views.specs.Views.{refusal_of_view};
 
 use indexmap::IndexMap;
 use vc_base::Name;
@@ -77,7 +77,7 @@ pub fn is_look(command: &Command) -> bool
 
 /// The refusal of a script for a view that can't be.
 pub fn refusal_of(fault: ViewFault) -> Refusal
-    ensures { result ≡ refusal_of fault }
+    ensures { result ≡ refusal_of_view fault }
 {
     match fault {
         ViewFault::Differs => Refusal::ViewDiffers,

@@ -44,8 +44,8 @@ pub(crate) fn kind_of<'a, D: DictDisc>(kinds: &'a Vec<D>, k: u32) -> &'a D
     &kinds[k as usize - 1]
 }
 
-// The region of a name. It is open and a best one.
-pub(crate) fn best_of<'a>(homes: &'a IndexMap<Name, HomeEntry>, name: &Name) -> &'a Best
+/// The region of a name. It is open and a best one.
+pub fn best_of<'a>(homes: &'a IndexMap<Name, HomeEntry>, name: &Name) -> &'a Best
     requires { IsBestNamed (map region_seen homes.now.entries) name.now }
     ensures { cells_in result.now
         ≡ cells_under (map region_seen homes.now.entries) name.now }

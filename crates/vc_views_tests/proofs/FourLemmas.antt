@@ -19,7 +19,7 @@ use Rattle.vc_paths.proofs.StayLemmas.{path-kept}
 use Rattle.vc_commands.specs.declared.dict.entry.DictEntry.{DictEntry}
 use Rattle.vc_views.specs.Dicts.{AreDictsOver, DictRegion, dictionary_over, layered_by, number_in}
 use Rattle.vc_views.specs.Numbers.{AreLinked}
-use Rattle.vc_views.proofs.Looked.{pair-at}
+use Rattle.vc_views.proofs.LookLeaves.{pair-at}
 use Rattle.vc_views.proofs.NamedEntries.{Entry}
 use Rattle.vc_views.proofs.NamedLayers.{layers-over}
 use Rattle.vc_views.proofs.NumbersToNames.{is-path}

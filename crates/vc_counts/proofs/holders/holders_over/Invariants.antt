@@ -1,7 +1,7 @@
 use Rattle.std.specs.Option.{option_map}
 use Rattle.vc_dict.specs.Listed.{holders_of}
 use Rattle.vc_dtlist.specs.Linked.{number_of}
-use Rattle.vc_counts.proofs.Walked.{Walked}
+use Rattle.vc_counts.proofs.HolderWalk.{Walked}
 use Rattle.vc_counts.proofs.holders.holders_over.Given as goal
 
 -- so many holders were passed and counted, and the one behind them is next

@@ -2,7 +2,7 @@ use Rattle.std.proofs.Common.{sym, ap, ◌∙◌}
 use Rattle.vc_model.specs.Discipline.{Discipline}
 use Rattle.vc_seg.specs.declared.stat.Stat.{Stat}
 use Rattle.vc_counts.specs.Working.{busy_in_home}
-use Rattle.vc_counts.proofs.Found.{busy-found, home-none}
+use Rattle.vc_counts.proofs.FoundHome.{busy-found, home-none}
 use Rattle.vc_counts.proofs.step.busy_named.Given as given
 use Rattle.vc_counts.proofs.step.busy_named.Goals as goal
 

@@ -1,14 +1,14 @@
 use Rattle.std.proofs.Common.{refl, ◌∙◌}
 use Rattle.vc_model.specs.Discipline.{Discipline}
-use Rattle.vc_steps.specs.Homes.{held_in, slots_on, state_over}
+use Rattle.vc_steps.specs.Homes.{held_in_session, slots_on, state_over}
 use Rattle.vc_steps.specs.State.{State}
 use Rattle.vc_steps.specs.Told.{rules_in}
 use Rattle.vc_views.specs.Numbers.{views_by}
 use Rattle.vc_counts.specs.Working.{segments_at}
 use Rattle.vc_counts.proofs.Alone.{alone-held, lone-dicts}
-use Rattle.vc_counts.proofs.Counted.{WasRead, WasRun, can-next, counts-step, part-counted}
-use Rattle.vc_counts.proofs.Named.{are-named, are-proper}
-use Rattle.vc_counts.proofs.Seated.{all-seated}
+use Rattle.vc_counts.proofs.StepCounts.{WasRead, WasRun, can-next, counts-step, part-counted}
+use Rattle.vc_counts.proofs.OwnNames.{are-named, are-proper}
+use Rattle.vc_counts.proofs.HolderBlocks.{all-seated}
 use Rattle.vc_counts.proofs.step.counted_step.Given as given
 use Rattle.vc_counts.proofs.step.counted_step.Goals as goal
 use Rattle.vc_counts.proofs.step.counted_step.Goals.{After-is_refusal}
@@ -27,8 +27,8 @@ was-run : (g : given.Over) (c : After-is_refusal g) → WasRun (before g c) (aft
 was-run g c =
     let M = meaning g in
     let session = c.args.session.now in
-    let held = held_in M session in
-    let held' = held_in M c.step.new.self in
+    let held = held_in_session M session in
+    let held' = held_in_session M c.step.new.self in
     let gives = c.in_ok-reply.ensures.steps.gives in
     record {
       alone = alone-held M session.homes.entries session.labels.items c.requires.session.regions.named c.show_names.ensures.homes;
@@ -54,12 +54,12 @@ was-read g c =
 pub reached_at-held-requires-clause-names : goal.reached_at-held-requires-clause-names
 reached_at-held-requires-clause-names g c =
     let M = meaning g in
-    are-named (slots_on M c.args.shelf.now) (held_in M c.args.session.now) c.requires.session.regions.held
+    are-named (slots_on M c.args.shelf.now) (held_in_session M c.args.session.now) c.requires.session.regions.held
 
 pub reached_at-holds-requires-clause-names : goal.reached_at-holds-requires-clause-names
 reached_at-holds-requires-clause-names g c =
     let M = meaning g in
-    are-named (slots_on M c.step.new.shelf) (held_in M c.step.new.self) c.step.ensures.lasts.stands.regions.held
+    are-named (slots_on M c.step.new.shelf) (held_in_session M c.step.new.self) c.step.ensures.lasts.stands.regions.held
 
 pub reached_at-held-requires-clause-dicts : goal.reached_at-held-requires-clause-dicts
 reached_at-held-requires-clause-dicts g c = record { kinds = _; dicts = c.requires.session.dicts }

@@ -1,6 +1,6 @@
 use Rattle.std.proofs.Common.{Some, None, sym, ◌∙◌}
 use Rattle.vc_model.specs.Discipline.{Discipline}
-use Rattle.vc_counts.proofs.Found.{dict-worked}
+use Rattle.vc_counts.proofs.FoundHome.{dict-worked}
 use Rattle.vc_counts.proofs.step.region_worked.Given as given
 use Rattle.vc_counts.proofs.step.region_worked.Goals as goal
 

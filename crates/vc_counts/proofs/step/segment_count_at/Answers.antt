@@ -1,7 +1,7 @@
 use Rattle.std.proofs.Common.{ℕ, List, length, sym, ap, ◌∙◌}
 use Rattle.vc_model.specs.Discipline.{Discipline}
-use Rattle.vc_counts.specs.Working.{open_state, segments_at, segments_in}
-use Rattle.vc_counts.proofs.Found.{home-none, segments-found}
+use Rattle.vc_counts.specs.Working.{open_state, segments_at, segments_at_home}
+use Rattle.vc_counts.proofs.FoundHome.{home-none, segments-found}
 use Rattle.vc_counts.proofs.step.segment_count_at.Given as given
 use Rattle.vc_counts.proofs.step.segment_count_at.Goals as goal
 
@@ -22,5 +22,5 @@ returns-in-None g c =
     let M = meaning g in
     let session = c.args.session.now in
     ap length
-    (sym (ap segments_in (home-none M session.homes.entries session.labels.items c.in-Some.name c.requires (sym c.in-None.ensures.found)))
+    (sym (ap segments_at_home (home-none M session.homes.entries session.labels.items c.in-Some.name c.requires (sym c.in-None.ensures.found)))
     ∙ ap (λ o. segments_at o (open_state M session).homes) (sym c.in-Some.is))

@@ -1,7 +1,7 @@
 use Rattle.std.proofs.Common.{◌≡◌, ℕ, zero, suc, List, [], refl, sym, ap, ◌∙◌}
 use Rattle.vc_model.specs.Discipline.{Discipline}
-use Rattle.vc_counts.specs.Working.{open_state, segments_at, segments_in, tally_behind}
-use Rattle.vc_counts.proofs.Found.{home-none, segments-found}
+use Rattle.vc_counts.specs.Working.{open_state, segments_at, segments_at_home, tally_behind}
+use Rattle.vc_counts.proofs.FoundHome.{home-none, segments-found}
 use Rattle.vc_layouts.specs.Tally.{tally_of}
 use Rattle.vc_counts.proofs.step.tally_behind_at.Given as given
 use Rattle.vc_counts.proofs.step.tally_behind_at.Goals as goal
@@ -29,5 +29,5 @@ returns-in-None-clause-value g c =
     c.new-in-None.ensures
     ∙ (none-behind c.args.first
     ∙ ap (tally_behind c.args.first)
-    (sym (ap segments_in (home-none M session.homes.entries session.labels.items c.in-Some.name c.requires (sym c.in-None.ensures.found)))
+    (sym (ap segments_at_home (home-none M session.homes.entries session.labels.items c.in-Some.name c.requires (sym c.in-None.ensures.found)))
     ∙ ap (λ o. segments_at o (open_state M session).homes) (sym c.in-Some.is)))

@@ -1,4 +1,4 @@
-use Rattle.vc_session.proofs.Counting.{if_ok-map, on_ok-of}
+use Rattle.vc_session.proofs.QuietCounts.{if_ok-map, on_ok-of}
 use Rattle.vc_session.proofs.command.run_answer.Goals as goal
 
 pub returns : goal.returns

@@ -1,7 +1,7 @@
 use Rattle.std.proofs.Common.{sym, ◌∙◌, refl, rules}
-use Rattle.vc_session.proofs.Counting.{can-on}
-use Rattle.vc_session.proofs.Lasting.{lasts-same}
-use Rattle.vc_steps.proofs.Settling.{settles-same}
+use Rattle.vc_session.proofs.QuietCounts.{can-on}
+use Rattle.vc_session.proofs.SessionLasts.{lasts-same}
+use Rattle.vc_steps.proofs.SettledShelf.{settles-same}
 use Rattle.vc_session.proofs.engine.run_line.Goals as goal
 
 pub returns-in_err-read_line : goal.returns-in_err-read_line

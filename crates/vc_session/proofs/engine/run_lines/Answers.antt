@@ -1,6 +1,6 @@
 use Rattle.std.proofs.Common.{ap, ◌∙◌, ◌++◌, subst, arith, refl, rules, Ok, []}
 use Rattle.vc_model.specs.Stream.{Reads}
-use Rattle.vc_session.proofs.Lasting.{lasts-same, lasts-trans}
+use Rattle.vc_session.proofs.SessionLasts.{lasts-same, lasts-trans}
 use Rattle.vc_session.proofs.Progress.{told-more, told-none}
 use Rattle.vc_session.proofs.SoFar.{at-end, if_err, new-is, so_far-cut_short, so_far-over, so_far-read, so_far-start}
 use Rattle.vc_session.proofs.engine.run_lines.Goals as goal

@@ -1,9 +1,9 @@
 use Rattle.std.proofs.Common.{◌+◌, sym, ap, ◌∙◌, refl, subst, arith}
 use Rattle.std.specs.Prelude.{IsTrue}
 use Rattle.std.proofs.lemmas.List.{length-drop, take_rest}
-use Rattle.vc_session.proofs.Counting.{can-same}
+use Rattle.vc_session.proofs.QuietCounts.{can-same}
 use Rattle.vc_session.specs.SoFar.{Ends}
-use Rattle.vc_session.proofs.Lasting.{lasts-same, lasts-trans}
+use Rattle.vc_session.proofs.SessionLasts.{lasts-same, lasts-trans}
 use Rattle.vc_session.proofs.SoFar.{fed-is, more-count, more-kept, ok-some, so_far-bad_cut, so_far-bad_line, so_far-line, so_far-more, so_far-none, whole-count, whole-kept}
 use Rattle.vc_session.proofs.engine.run_piece.Goals as goal
 

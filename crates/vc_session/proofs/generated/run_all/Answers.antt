@@ -1,5 +1,5 @@
 use Rattle.vc_generate.proofs.ProperGenerated.{proper_generated}
-use Rattle.vc_session.proofs.Generating.{generated-few, generating-told}
+use Rattle.vc_session.proofs.GeneratedRun.{generated-few, generating-told}
 use Rattle.vc_session.proofs.generated.run_all.Goals as goal
 
 pub run_commands-requires-clause-few : goal.run_commands-requires-clause-few

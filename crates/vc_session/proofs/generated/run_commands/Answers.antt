@@ -1,6 +1,6 @@
 use Rattle.std.proofs.Common.{◌+◌, arith, refl}
-use Rattle.vc_session.proofs.Generating.{generating-end, generating-few, generating-start, generating-step, generating-write, next-none}
-use Rattle.vc_session.proofs.Lasting.{lasts-same, lasts-trans}
+use Rattle.vc_session.proofs.GeneratedRun.{generating-end, generating-few, generating-start, generating-step, generating-write, next-none}
+use Rattle.vc_session.proofs.SessionLasts.{lasts-same, lasts-trans}
 use Rattle.vc_session.proofs.generated.run_commands.Goals as goal
 
 pub loop-command-init : goal.loop-command-init

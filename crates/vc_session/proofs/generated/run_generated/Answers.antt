@@ -1,8 +1,8 @@
 use Rattle.std.proofs.Common.{◌≡◌, refl, ◌∙◌, subst, sym}
 use Rattle.vc_model.specs.Discipline.{Discipline}
 use Rattle.vc_steps.specs.Account.{KeepsAccounts}
-use Rattle.vc_steps.specs.Moment.{Moment, moment_at_end, moment, rest_of}
-use Rattle.vc_session.proofs.Generating.{asked-most, generated-rests, if_some}
+use Rattle.vc_steps.specs.Moment.{Moment, moment_at_end, moment, moment_at_rest}
+use Rattle.vc_session.proofs.GeneratedRun.{asked-most, generated-rests, if_some}
 use Rattle.vc_session.proofs.Rest.{new-moment, new-session}
 use Rattle.vc_session.proofs.generated.run_generated.Given as given
 use Rattle.vc_session.proofs.generated.run_generated.Goals as goal
@@ -24,8 +24,8 @@ returns g c =
     let gone = g.D.DictDisc.gone in
     let start = moment M rules gone c.args.shelf.now c.in_ok-session.session c.args.kinds.now.items in
     let last = moment M rules gone c.run_all-ended.new.shelf c.run_all-ended.new.session c.run_all-ended.new.kinds.items in
-    let before = rest_of M rules gone c.args.shelf.now c.args.kinds.now.items in
-    let after = rest_of M rules gone c.end.new.shelf c.end.new.kinds.items in
+    let before = moment_at_rest M rules gone c.args.shelf.now c.args.kinds.now.items in
+    let after = moment_at_rest M rules gone c.end.new.shelf c.end.new.kinds.items in
     let same : start ≡ before = new-moment M rules gone c.args.shelf.now c.in_ok-session.session c.args.kinds.now.items c.in_ok-session.ensures.none in
     record {
       runs =

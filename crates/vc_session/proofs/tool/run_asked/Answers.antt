@@ -1,5 +1,5 @@
 use Rattle.std.proofs.Common.{arith, sym}
-use Rattle.vc_session.proofs.Asking.{asked-failed, asked-generated, asked-script}
+use Rattle.vc_session.proofs.RunAsked.{asked-failed, asked-generated, asked-script}
 use Rattle.vc_session.proofs.tool.run_asked.Goals as goal
 
 pub returns-in-None-clause-runs : goal.returns-in-None-clause-runs

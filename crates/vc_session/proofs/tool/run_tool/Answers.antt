@@ -1,7 +1,7 @@
 use Rattle.std.proofs.Common.{rules, refl, inl, inr, sym}
 use Rattle.std.specs.Prelude.{map, string_bytes}
-use Rattle.vc_session.proofs.Completing.{completes-memory}
-use Rattle.vc_session.proofs.Promising.{promises-taken}
+use Rattle.vc_session.proofs.StatusDue.{completes-memory}
+use Rattle.vc_session.proofs.ToolPromises.{promises-taken}
 use Rattle.vc_session.proofs.Ranges.{in_range}
 use Rattle.vc_session.proofs.tool.run_tool.Goals as goal
 

@@ -1,8 +1,8 @@
 use Rattle.std.proofs.Common.{ℕ, rules, refl, inr, sym}
 use Rattle.std.proofs.lemmas.Option.{none-some}
 use Rattle.vc_script.specs.declared.line_fault.LineFault.{LineFault}
-use Rattle.vc_session.proofs.Completing.{from-source}
-use Rattle.vc_session.proofs.Promising.{promises-asked}
+use Rattle.vc_session.proofs.StatusDue.{from-source}
+use Rattle.vc_session.proofs.ToolPromises.{promises-asked}
 use Rattle.vc_session.proofs.tool.run_words.Goals as goal
 
 pub returns-in-Ok-None : goal.returns-in-Ok-None

@@ -5,7 +5,7 @@ use Rattle.vc_model.specs.Numbered.{at_number}
 use Rattle.vc_region.specs.Parts.{disc_in, region_of, segments_in}
 use Rattle.vc_steps.specs.Account.{account, account_back, accounts}
 use Rattle.vc_steps.specs.Homes.{slots_on}
-use Rattle.vc_steps.proofs.Closing.{account-closed, elsewhere, taken-at}
+use Rattle.vc_steps.proofs.CloseLeaves.{account-closed, elsewhere, taken-at}
 use Rattle.vc_region.proofs.Rest.{rest-segments}
 use Rattle.vc_commands.proofs.Seen.{seen-out}
 use Rattle.vc_steps.proofs.close.close_region.Given as given

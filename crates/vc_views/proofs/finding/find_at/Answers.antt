@@ -8,7 +8,7 @@ use Rattle.vc_views.specs.Dicts.{AreDictsOver, cells_held, dict_seen, layer_of, 
 use Rattle.vc_views.specs.LayerLaws.{layer-is}
 use Rattle.vc_views.proofs.AtHolders.{place-found}
 use Rattle.vc_views.proofs.Firsts.{value-set}
-use Rattle.vc_views.proofs.Looked.{dict-at, dicts-looked, pair-at, seen-looked}
+use Rattle.vc_views.proofs.LookLeaves.{dict-at, dicts-looked, pair-at, seen-looked}
 use Rattle.vc_views.proofs.finding.find_at.Goals as goal
 
 pub kind_of-kind-requires : goal.kind_of-kind-requires

@@ -4,7 +4,7 @@ use Rattle.vc_dtdisc.specs.Finds.{find_key}
 use Rattle.vc_best.specs.Cells.{cells_in}
 use Rattle.vc_objects.specs.Parts.{IsWhole}
 use Rattle.vc_views.proofs.Firsts.{no-other, no-region, region-looked}
-use Rattle.vc_views.proofs.Looked.{held-is, looked, rest-kept}
+use Rattle.vc_views.proofs.LookLeaves.{held-is, looked, rest-kept}
 use Rattle.vc_views.proofs.finding.find_in.Goals as goal
 
 pub unreachable-requires : goal.unreachable-requires

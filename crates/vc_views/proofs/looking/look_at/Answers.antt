@@ -6,7 +6,7 @@ use Rattle.vc_views.specs.Promises.{layered_over}
 use Rattle.vc_views.specs.LayerLaws.{are-layers}
 use Rattle.vc_views.specs.Looks.{place_through, reply_through}
 use Rattle.vc_views.proofs.Currents.{current-none, dicts-current, number-is, own-there, seen-after, still-within}
-use Rattle.vc_views.proofs.Through.{look-halted}
+use Rattle.vc_views.proofs.LookAnswers.{look-halted}
 use Rattle.vc_views.proofs.looking.look_at.Given.{Over}
 use Rattle.vc_views.proofs.looking.look_at.Goals as goal
 use Rattle.vc_views.proofs.looking.look_at.Goals.{In_ok-reply}

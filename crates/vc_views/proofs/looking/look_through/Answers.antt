@@ -3,8 +3,8 @@ use Rattle.std.proofs.lemmas.Option.{same_Some}
 use Rattle.vc_model.specs.Numbered.{at_number}
 use Rattle.vc_views.specs.Dicts.{layered_by, region_seen}
 use Rattle.vc_views.specs.Promises.{layered_over}
-use Rattle.vc_views.proofs.Here.{kind-known, kind-there, kind-told}
-use Rattle.vc_views.proofs.Through.{is-look, leaves-same}
+use Rattle.vc_views.proofs.NumberLayers.{kind-known, kind-there, kind-told}
+use Rattle.vc_views.proofs.LookAnswers.{is-look, leaves-same}
 use Rattle.vc_views.proofs.looking.look_through.Given.{Over}
 use Rattle.vc_views.proofs.looking.look_through.Goals as goal
 use Rattle.vc_views.proofs.looking.look_through.Goals.{After-kind_of-kind}

@@ -2,7 +2,7 @@ use Rattle.std.proofs.Common.{◌≡◌, ◌<◌, ◌≤◌, ◌+◌, ℕ, List,
 use Rattle.std.proofs.lemmas.List.{length-map}
 use Rattle.vc_base.specs.Holders.{contains}
 use Rattle.vc_views.specs.Dicts.{number_in}
-use Rattle.vc_views.proofs.Free.{find-nothing, no-fewer}
+use Rattle.vc_views.proofs.FreeNumbers.{find-nothing, no-fewer}
 use Rattle.vc_views.proofs.NamedEntries.{Entry}
 use Rattle.vc_views.proofs.numbers.free_number.Goals as goal
 

@@ -1,4 +1,4 @@
-use Rattle.vc_steps.proofs.Starting.{new-stands}
+use Rattle.vc_steps.proofs.NewSession.{new-stands}
 use Rattle.vc_views_tests.proofs.given.session.Invariants.{meaning}
 use Rattle.vc_views_tests.proofs.given.session.Goals as goal
 

@@ -1,7 +1,7 @@
 use Rattle.std.proofs.Common.{[], ◌∙◌, subst, sym}
 use Rattle.vc_steps.specs.DictHomes.{AreDicts}
-use Rattle.vc_steps.specs.Homes.{held_in}
-use Rattle.vc_steps.proofs.Ending.{no-dicts}
+use Rattle.vc_steps.specs.Homes.{held_in_session}
+use Rattle.vc_steps.proofs.SessionEnd.{no-dicts}
 use Rattle.vc_steps.proofs.session.Session.close_all.Invariants.{meaning}
 use Rattle.vc_steps.proofs.session.Session.close_all.Goals as goal
 
@@ -11,7 +11,7 @@ loop-self-preserved g c =
     record {
       session = c.close_at.ensures.regions.regions;
       none =
-          no-dicts (held_in M c.close_at.new.self) c.close_at.new.self.dicts.entries
-          (c.close_at.ensures.regions.dicts [] (subst (AreDicts [] (held_in M c.loop-self.self)) (sym c.loop-self.invariant.none) tt));
+          no-dicts (held_in_session M c.close_at.new.self) c.close_at.new.self.dicts.entries
+          (c.close_at.ensures.regions.dicts [] (subst (AreDicts [] (held_in_session M c.loop-self.self)) (sym c.loop-self.invariant.none) tt));
       settled = c.close_at.ensures.settled ∙ c.loop-self.invariant.settled;
     }

@@ -6,9 +6,9 @@ use Rattle.vc_seg.specs.Shelf.{standing}
 use Rattle.vc_commands.specs.Held.{Held}
 use Rattle.vc_steps.specs.Account.{IsSession, account_after, accounts, settled_accounts}
 use Rattle.vc_steps.specs.DictHomes.{AreDicts, lies_in}
-use Rattle.vc_steps.specs.Homes.{accounts_on, held_all, held_in, slots_on}
+use Rattle.vc_steps.specs.Homes.{accounts_on, held_all, held_in_session, slots_on}
 use Rattle.vc_commands.specs.RegionRun.{held_of}
-use Rattle.vc_steps.proofs.Closing.{session-close, settled-close}
+use Rattle.vc_steps.proofs.CloseLeaves.{session-close, settled-close}
 use Rattle.vc_steps.proofs.DictsStay.{all-other, dicts-stay, stays-remove}
 use Rattle.vc_steps.proofs.Helds.{held-entry, held-remove, length-remove, slice-or}
 use Rattle.vc_steps.proofs.Sessions.{held-at}
@@ -25,14 +25,14 @@ close_region-requires g c =
     let own = slice-or labels c.args.i c.remove.result (omega (arith, c.requires.session.named, c.requires.within)) c.remove.ensures.value in
     let h = held_of M c.in-Some.field-0-0 c.in-Some.home c.remove.result in
     let at = held-entry M c.args.self.now.homes.entries labels c.args.i (c.in-Some.field-0-0, c.in-Some.home) c.remove.result (sym c.in-Some.ensures.entry) own in
-    let held = held-at (slots_on M c.args.shelf.now) (held_in M c.args.self.now) c.args.i h at c.requires.session.held in
+    let held = held-at (slots_on M c.args.shelf.now) (held_in_session M c.args.self.now) c.args.i h at c.requires.session.held in
     record { taken = ap standing held.place; lent = held.lent }
 
 pub returns : goal.returns
 returns g c =
     let M = meaning g in
     let slots = slots_on M c.args.shelf.now in
-    let helds = held_in M c.args.self.now in
+    let helds = held_in_session M c.args.self.now in
     let entries = c.args.self.now.homes.entries in
     let labels = c.args.self.now.labels.items in
     let few : c.args.i < length labels = omega (arith, c.requires.session.named, c.requires.within) in

@@ -7,14 +7,14 @@ use Rattle.vc_commands.specs.declared.region.home.HomeEntry.{HomeEntry}
 use Rattle.vc_commands.specs.Held.{Held}
 use Rattle.vc_steps.specs.Account.{account_after, accounts, state_of}
 use Rattle.vc_steps.specs.DictHomes.{dicts_in, lies_in}
-use Rattle.vc_steps.specs.Homes.{accounts_on, held_in, slots_on, state_over}
+use Rattle.vc_steps.specs.Homes.{accounts_on, held_in_session, slots_on, state_over}
 use Rattle.vc_views.specs.Numbers.{views_by}
 use Rattle.vc_steps.specs.State.{close_home, step_with_reply}
 use Rattle.vc_commands.specs.Home.{is_home}
-use Rattle.vc_steps.proofs.Closing.{close-busy, step-close}
+use Rattle.vc_steps.proofs.CloseLeaves.{close-busy, step-close}
 use Rattle.vc_steps.proofs.DictsStay.{all-other, busy-lies, dicts_in-stay, stays-remove}
 use Rattle.vc_commands.proofs.Firsts.{find-none}
-use Rattle.vc_steps.proofs.Ending.{if_some-at, if_some-to}
+use Rattle.vc_steps.proofs.SessionEnd.{if_some-at, if_some-to}
 use Rattle.vc_steps.proofs.RegionAt.{RegionAt, found_at, region-first, region-stands, region_at}
 use Rattle.vc_steps.proofs.Helds.{any-named}
 use Rattle.vc_steps.proofs.session.Session.close_named.Given as given
@@ -42,14 +42,14 @@ returns-then-is_busy-clause-step g c = λ kinds dicts.
     let session = c.args.self.now in
     let es = session.dicts.entries in
     let x = (region g (goal.at.returns-then-is_busy-clause-step g c).In-Some).1 in
-    close-busy (state_over M kinds c.args.shelf.now session) c.args.name.now c.in-Some.i (region-first M x) (busy-lies (held_in M session) (views_by session.paths es) es c.args.name.now ∙ sym c.if-is_busy.ensures)
+    close-busy (state_over M kinds c.args.shelf.now session) c.args.name.now c.in-Some.i (region-first M x) (busy-lies (held_in_session M session) (views_by session.paths es) es c.args.name.now ∙ sym c.if-is_busy.ensures)
 
 pub close_at-requires-clause-free : goal.close_at-requires-clause-free
 close_at-requires-clause-free g c =
     let M = meaning g in
     let session = c.args.self.now in
     let x = (region g (goal.at.close_at-requires-clause-free g c).In-Some).1 in
-    if_some-to (λ (k : Held). lies_in k.name session.dicts.entries ≡ false) (slice_get (held_in M session) c.in-Some.i) (region_at M x) (region-stands M x) (sym c.if-is_busy.ensures)
+    if_some-to (λ (k : Held). lies_in k.name session.dicts.entries ≡ false) (slice_get (held_in_session M session) c.in-Some.i) (region_at M x) (region-stands M x) (sym c.if-is_busy.ensures)
 
 pub returns-else-is_busy-clause-step : goal.returns-else-is_busy-clause-step
 returns-else-is_busy-clause-step g c = λ kinds dicts.
@@ -61,7 +61,7 @@ returns-else-is_busy-clause-step g c = λ kinds dicts.
     let session' = c.close_at.new.self in
     let slots = slots_on M c.args.shelf.now in
     let slots' = slots_on M c.close_at.new.shelf in
-    let helds = held_in M session in
+    let helds = held_in_session M session in
     let es = session.dicts.entries in
     let vs = views_by session.paths es in
     let i = c.in-Some.i in
@@ -72,7 +72,7 @@ returns-else-is_busy-clause-step g c = λ kinds dicts.
     let counted = if_some-at (λ (k : Held). count ≡ length (segments_of k.region)) (slice_get helds i) h at closes.count_is in
     let free : lies_in r es ≡ false = sym c.if-is_busy.ensures in
     let stays = dicts_in-stay kinds helds (remove helds i) vs es (all-other kinds helds (remove helds i) r (λ e other. stays-remove kinds helds i h at e other) es free) dicts in
-    let helds' = held_in M session' in
+    let helds' = held_in_session M session' in
     step-close slots slots' helds i h at c.requires.held here kinds (dicts_in helds vs es) r count (region-first M x) (busy-lies helds vs es r ∙ free) counted
     ∙ (ap (λ ds. step_with_reply (state_of kinds slots' (remove helds i) ds) (Closed r count)) (sym stays)
     ∙ (ap (λ hs. step_with_reply (state_of kinds slots' hs (dicts_in hs vs es)) (Closed r count)) (sym closes.others)

@@ -2,9 +2,9 @@ use Rattle.std.proofs.Common.{ap, ◌∙◌}
 use Rattle.vc_model.specs.Discipline.{Discipline}
 use Rattle.vc_views.specs.Numbers.{views_by}
 use Rattle.vc_views.proofs.LinkChanges.{linked-none}
-use Rattle.vc_steps.specs.Homes.{held_in}
+use Rattle.vc_steps.specs.Homes.{held_in_session}
 use Rattle.vc_steps.specs.Told.{gone_in, tell}
-use Rattle.vc_steps.proofs.Ending.{told-views}
+use Rattle.vc_steps.proofs.SessionEnd.{told-views}
 use Rattle.vc_steps.proofs.session.Session.end.Given as given
 use Rattle.vc_steps.proofs.session.Session.end.Goals as goal
 
@@ -23,4 +23,4 @@ returns-clause-gone g c =
     let es = c.args.self.dicts.entries in
     c.shut_all.ensures.told
     ∙ ap (λ told. tell told (gone_in g.D.DictDisc.gone c.args.kinds.now.items))
-    (told-views (held_in (meaning g) c.args.self) (views_by c.args.self.paths es) (views_by c.end_views.new.paths es) es)
+    (told-views (held_in_session (meaning g) c.args.self) (views_by c.args.self.paths es) (views_by c.end_views.new.paths es) es)

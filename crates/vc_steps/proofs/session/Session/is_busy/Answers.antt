@@ -7,7 +7,7 @@ use Rattle.std.proofs.lemmas.Iterator.{YieldsList}
 use Rattle.std.proofs.lemmas.Iterator.Search.{any_from_yields_List}
 use Rattle.vc_base.proofs.Quantifiers.{any-map}
 use Rattle.vc_commands.specs.declared.dict.entry.DictEntry.{DictEntry}
-use Rattle.vc_views.proofs.Values.{values-yield}
+use Rattle.vc_views.proofs.MapValues.{values-yield}
 use Rattle.vc_steps.proofs.session.Session.is_busy.Goals as goal
 use borrow.Author.Tests.{tests}
 

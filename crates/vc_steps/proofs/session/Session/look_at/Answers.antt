@@ -7,7 +7,7 @@ use Rattle.vc_steps.proofs.LookSteps.{dicts-looked, linked-looked, named-looked,
 use Rattle.vc_steps.proofs.SeenEntry.{entry-named, number-named}
 use Rattle.vc_steps.proofs.SessionLayers.{are-over, path-here}
 use Rattle.vc_steps.proofs.SessionHere.{SessionHere, session_here}
-use Rattle.vc_steps.proofs.Settling.{keeps-equal}
+use Rattle.vc_steps.proofs.SettledShelf.{keeps-equal}
 use Rattle.vc_steps.proofs.session.Session.look_at.Given as given
 use Rattle.vc_steps.proofs.session.Session.look_at.Goals as goal
 use Rattle.vc_steps.proofs.session.Session.look_at.Goals.{After-show_names}

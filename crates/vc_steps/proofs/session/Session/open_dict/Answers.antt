@@ -19,24 +19,24 @@ use Rattle.vc_views.specs.Numbers.{AreLinked, views_by}
 use Rattle.vc_steps.specs.Account.{accounts, settled_accounts, state_of}
 use Rattle.vc_steps.specs.DictHomes.{AreDicts, dict_home, dicts_in}
 use Rattle.vc_steps.specs.Dicts.{dict_limit, dict_refused}
-use Rattle.vc_steps.specs.Homes.{held_in, slots_on, state_over}
+use Rattle.vc_steps.specs.Homes.{held_in_session, slots_on, state_over}
 use Rattle.vc_commands.specs.Labels.{name_of}
 use Rattle.vc_commands.specs.Home.{is_home}
 use Rattle.vc_steps.specs.Told.{gone_in, rules_in}
 use Rattle.vc_commands.proofs.Agreeing.{from_ok}
 use Rattle.vc_steps.proofs.Cells.{at_number-from_one}
-use Rattle.vc_steps.proofs.DictNamed.{any-dict}
-use Rattle.vc_steps.proofs.DictOpening.{OpensIn, open-none, open-refused}
-use Rattle.vc_steps.proofs.DictRefusing.{best-relabelled}
+use Rattle.vc_steps.proofs.DictByName.{any-dict}
+use Rattle.vc_steps.proofs.DictOpens.{OpensIn, open-none, open-refused}
+use Rattle.vc_steps.proofs.DictRefusals.{best-relabelled}
 use Rattle.vc_steps.proofs.DictRegion.{best_at}
 use Rattle.vc_steps.proofs.DictWhy.{IsAllowed, few-within, kind-within, lacks-early, refused-early, refused-none, settles-early}
-use Rattle.vc_steps.proofs.Ending.{if_some-at}
+use Rattle.vc_steps.proofs.SessionEnd.{if_some-at}
 use Rattle.vc_commands.proofs.Firsts.{find-none}
 use Rattle.vc_steps.proofs.Helds.{any-named, slice-or}
-use Rattle.vc_steps.proofs.OpensHere.{DictOpened, dicts-new, dicts-unopened, linked-new, linked-unopened, named-opened, session-opened, steps-opened, steps-unopened}
+use Rattle.vc_steps.proofs.OpensHere.{DictOpened, dicts-new, dicts-unopened, lent-by, linked-new, linked-unopened, named-opened, session-opened, steps-opened, steps-unopened}
 use Rattle.vc_steps.proofs.RegionAt.{RegionAt, found_at, region-stands, region_at, stored_at}
 use Rattle.vc_steps.proofs.SessionHere.{SessionHere, helds, session_here, state_here, views}
-use Rattle.vc_steps.proofs.Settling.{keeps-same, keeps-settles, settles-same}
+use Rattle.vc_steps.proofs.SettledShelf.{keeps-same, keeps-settles, settles-same}
 use Rattle.vc_steps.proofs.Steps.{halts-same, halts-steps, keeps-steps}
 use Rattle.vc_steps.proofs.session.Session.open_dict.Given as given
 use Rattle.vc_steps.proofs.session.Session.open_dict.Goals as goal
@@ -112,7 +112,7 @@ returns-in_err-reserve g c =
     let M = meaning g in
     let kinds = rules_in g.D.DictDisc.rules c.args.kinds.now.items in
     let slots = slots_on M c.args.shelf.now in
-    let helds = held_in M c.args.self.now in
+    let helds = held_in_session M c.args.self.now in
     let kept = c.reserve.ensures.entries in
     record {
       steps = halts-steps c.from_residual.result _ _ _ _ (search rules) (halts-same _ _ _ (ap (λ x. state_of kinds slots helds (dicts_in helds (views_by c.args.self.now.paths x) x)) kept) refl refl);
@@ -153,6 +153,13 @@ free_number-number-requires g c =
     let few = few-within (length all.es) (ap (nat_le dict_limit) (sym many) ∙ (may g a (found g a).1 c.in_default-dict_refused.is).few) in
     let kept = ap length c.reserve.ensures.entries in
     omega (arith, few, kept)
+
+pub open-requires : goal.open-requires
+open-requires g c =
+    let at = goal.at.open-requires g c in
+    let best = c.in-Best.best in
+    let x = opens g at.After-dict_refused (best_at (place g at.After-index_mut) best c.in-Best.is) in
+    record { lent = lent-by c.index_mut.result.now.place best x (sym (why g at.After-dict_refused x.region) ∙ c.in_default-dict_refused.is) }
 
 pub returns-in-Err : goal.returns-in-Err
 returns-in-Err g c =
@@ -210,7 +217,7 @@ returns-in-Ok g c =
       dict = dict;
       after = after;
       opens = c.in-Ok.ensures.ok;
-      asked = c.in-Ok.ensures.asked;
+      asked = c.in-Ok.ensures.asked.faults;
       n = n;
       free = ap (entry_numbered n) (sym kept) ∙ c.free_number-number.ensures.free;
       below = c.free_number-number.ensures.below;

@@ -12,7 +12,7 @@ use Rattle.vc_script.specs.declared.refusal.Refusal.TheVariants.{RegionExists}
 use Rattle.vc_seg.specs.Boxed.{disc_in_box}
 use Rattle.vc_commands.specs.declared.region.home.HomeEntry.{HomeEntry}
 use Rattle.vc_steps.specs.DictHomes.{dicts_in}
-use Rattle.vc_steps.specs.Homes.{held_in, slots_on, state_over}
+use Rattle.vc_steps.specs.Homes.{held_in_session, slots_on, state_over}
 use Rattle.vc_views.specs.Numbers.{views_by}
 use Rattle.vc_steps.specs.State.{not_here}
 use Rattle.vc_steps.specs.State.{step_with_reply}
@@ -20,10 +20,10 @@ use Rattle.vc_commands.proofs.Agreeing.{from_ok}
 use Rattle.vc_steps.proofs.Cells.{at_number_some, set_same}
 use Rattle.vc_steps.proofs.Helds.{any-named}
 use Rattle.vc_steps.proofs.Newest.{IsNewest, newest-dicts, newest-named, newest-session, newest-settled, newest-step}
-use Rattle.vc_steps.proofs.Granted.{open-granted}
+use Rattle.vc_steps.proofs.RefusesNothing.{open-granted}
 use Rattle.vc_steps.proofs.SameLists.{keeps-lists, settled-lists, state-lists}
 use Rattle.vc_steps.proofs.Steps.{halts-same, steps-quiet}
-use Rattle.vc_steps.proofs.Opening.{open_step-named, open_step-not_here}
+use Rattle.vc_steps.proofs.OpenLeaves.{open_step-named, open_step-not_here}
 use Rattle.vc_steps.proofs.session.Session.open_region.Given as given
 use Rattle.vc_steps.proofs.session.Session.open_region.Goals as goal
 
@@ -44,7 +44,7 @@ returns-in_default-clause-steps g c = λ kinds gone dicts.
     let M = meaning g in
     let session = c.args.self.now in
     let slots = slots_on M c.args.shelf.now in
-    let helds = held_in M session in
+    let helds = held_in_session M session in
     let es = session.dicts.entries in
     let vs = views_by session.paths es in
     let same : slots_on M c.take.new.self ≡ slots = ap (slots_of (disc_in_box M)) c.in_default.ensures.none in

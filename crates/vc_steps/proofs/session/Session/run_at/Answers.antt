@@ -10,11 +10,11 @@ use Rattle.vc_views.proofs.Firsts.{no-other}
 use Rattle.vc_commands.specs.declared.dict.entry.DictEntry.{DictEntry}
 use Rattle.vc_views.specs.Numbers.{is_barred}
 use Rattle.vc_steps.proofs.DictsStay.{Entry}
-use Rattle.vc_steps.proofs.Ending.{if_some-at}
+use Rattle.vc_steps.proofs.SessionEnd.{if_some-at}
 use Rattle.vc_steps.specs.Told.{gone_in, rules_in}
 use Rattle.vc_views.proofs.LinkLists.{map-set_same}
 use Rattle.vc_steps.proofs.DictRegion.{best_at, best_entry}
-use Rattle.vc_steps.proofs.DictRun.{CommandRan, DictRan, dicts-ran, linked-ran, named-ran, session-ran, steps-ran, whole-by}
+use Rattle.vc_steps.proofs.DictRun.{CommandRan, DictRan, dicts-ran, lent-by, linked-ran, named-ran, session-ran, steps-ran, whole-by}
 use Rattle.vc_steps.proofs.DictThere.{DictIn, best-there, its}
 use Rattle.vc_steps.proofs.DictTold.{kind-at, kind-within}
 use Rattle.vc_steps.proofs.Helds.{slice-or}
@@ -95,7 +95,14 @@ run-requires g c =
     let kind = its-kind g at in
     let one = c.index_mut-3.result.now in
     let at_rules = kind-at g.D.DictDisc.rules c.args.kinds.now.items c.index_mut-2.result.now.dict.kind one kind.0 kind.1 in
-    record { whole = whole-by c.index_mut.result.now.place c.in-Best.best (lies g at) c.requires.index (g.D.DictDisc.rules one) at_rules }
+    let x = lies g at in
+    let place = c.index_mut.result.now.place in
+    record {
+      ask = record {
+        whole = whole-by place c.in-Best.best x c.requires.index (g.D.DictDisc.rules one) at_rules;
+        lent = lent-by place c.in-Best.best x c.requires.index;
+      };
+    }
 
 pub returns : goal.returns
 returns g c =

@@ -3,7 +3,7 @@ use Rattle.vc_dtdisc.specs.Rules.{Gone}
 use Rattle.vc_steps.specs.Dicts.{dict_of, dict_step}
 use Rattle.vc_steps.specs.Step.{shelf_step, step, step_of, step_on}
 use Rattle.vc_steps.specs.Told.{gone_in, rules_in}
-use Rattle.vc_steps.proofs.Changing.{step-region, step-shelf}
+use Rattle.vc_steps.proofs.RegionChange.{step-region, step-shelf}
 use Rattle.vc_steps.proofs.Steps.{keeps-steps, steps-as}
 use Rattle.vc_steps.proofs.session.Session.run_command.Goals as goal
 

@@ -5,12 +5,12 @@ use Rattle.vc_commands.specs.Held.{home_of}
 use Rattle.vc_views.specs.Numbers.{views_by}
 use Rattle.vc_steps.specs.Account.{IsSession}
 use Rattle.vc_steps.specs.DictHomes.{AreDicts, lies_in}
-use Rattle.vc_steps.specs.Homes.{held_in, slots_on, state_over}
+use Rattle.vc_steps.specs.Homes.{held_in_session, slots_on, state_over}
 use Rattle.vc_commands.specs.RegionRun.{held_of}
 use Rattle.vc_commands.specs.Home.{is_home}
 use Rattle.vc_steps.specs.Step.{is_clear, step_of}
 use Rattle.vc_steps.specs.Steps.{StepsBy}
-use Rattle.vc_steps.proofs.Changing.{session-change, step-busy, step-none}
+use Rattle.vc_steps.proofs.RegionChange.{session-change, step-busy, step-none}
 use Rattle.vc_steps.proofs.DictsStay.{busy-lies}
 use Rattle.vc_commands.proofs.Firsts.{find-first, find-none}
 use Rattle.vc_steps.proofs.Helds.{any-named, first-named}
@@ -18,7 +18,7 @@ use Rattle.vc_steps.proofs.InRegion.{clear-free, clear-is, if_ok_at}
 use Rattle.vc_steps.proofs.RegionAt.{RegionAt, helds-put, label-read, named-put, region-first, region-stands, region_at}
 use Rattle.vc_steps.proofs.RegionSteps.{moment_over, region-ran}
 use Rattle.vc_steps.proofs.Sessions.{held-at}
-use Rattle.vc_steps.proofs.Settling.{settles-same}
+use Rattle.vc_steps.proofs.SettledShelf.{settles-same}
 use Rattle.vc_steps.proofs.session.Session.run_in_region.Given as given
 use Rattle.vc_steps.proofs.session.Session.run_in_region.Goals as goal
 use Rattle.vc_steps.proofs.session.Session.run_in_region.Goals.{After-index_mut-2}
@@ -47,7 +47,7 @@ returns-in_default-clause-steps g c = λ kinds gone dicts.
     record {
       gives =
           step-none (state_over M kinds c.args.shelf.now session) gone c.args.line c.args.command.now r
-          (find-none (is_home r) (map home_of (held_in M session)) (any-named M session.homes.entries session.labels.items r c.requires.regions.named ∙ sym c.in_default.ensures.found));
+          (find-none (is_home r) (map home_of (held_in_session M session)) (any-named M session.homes.entries session.labels.items r c.requires.regions.named ∙ sym c.in_default.ensures.found));
       settles = settles-same _;
       lacks = tt;
     }
@@ -56,7 +56,7 @@ pub returns-then-clears_busy-clause-steps : goal.returns-then-clears_busy-clause
 returns-then-clears_busy-clause-steps g c = λ kinds gone dicts.
     let M = meaning g in
     let session = c.args.self.now in
-    let helds = held_in M session in
+    let helds = held_in_session M session in
     let es = session.dicts.entries in
     let r = c.args.name.now in
     let command = c.args.command.now in
@@ -75,7 +75,7 @@ pub run-requires : goal.run-requires
 run-requires g c =
     let M = meaning g in
     let x = region g (goal.at.run-requires g c).After-index_mut-2 in
-    let held = held-at (slots_on M c.args.shelf.now) (held_in M c.args.self.now) c.in-Some.i (region_at M x) (region-stands M x) c.requires.regions.held in
+    let held = held-at (slots_on M c.args.shelf.now) (held_in_session M c.args.self.now) c.in-Some.i (region_at M x) (region-stands M x) c.requires.regions.held in
     record { names = held.names; lent = held.lent }
 
 pub returns : goal.returns
@@ -85,7 +85,7 @@ returns g c =
     let h = region_at M x in
     let at = region-stands M x in
     let slots = slots_on M c.args.shelf.now in
-    let helds = held_in M c.args.self.now in
+    let helds = held_in_session M c.args.self.now in
     let es = c.args.self.now.dicts.entries in
     let vs = views_by c.args.self.now.paths es in
     let r = c.args.name.now in
@@ -97,7 +97,7 @@ returns g c =
     let after = helds-put M x c.run.new.self c.run.new.labels in
     let ran =
     region-ran slots helds es vs i h k at session c.args.line command change r (region-first M x) c.requires.dict c.requires.region (clear-free command (lies_in r es) (sym c.if-clears_busy.ensures)) c.run.result
-    (if_ok_at c.run.result _ _ (λ reply is runs. runs r) c.run.ensures.runs.step) c.run.ensures.runs.err c.run.ensures.runs.unserved c.run.ensures.runs.faults in
+    (if_ok_at c.run.result _ _ (λ reply is runs. runs r) c.run.ensures.runs.step) c.run.ensures.runs.err c.run.ensures.runs.unserved (λ other. (c.run.ensures.runs.served other).faults) in
     record {
       steps = λ kinds gone dicts.
           subst (λ hs. StepsBy c.run.result (moment_over slots es vs kinds gone helds) (moment_over slots es vs kinds gone hs) command (λ s need. step_of s c.args.line command need (Some r))) (sym after) (ran.0 kinds gone dicts);

@@ -11,18 +11,18 @@ use Rattle.vc_paths.specs.Links.{is_viewed, numbers}
 use Rattle.vc_views.specs.Numbers.{is_barred, views_by}
 use Rattle.vc_views.proofs.NumbersToNames.{all-at}
 use Rattle.vc_steps.specs.Dicts.{dict_command, dict_of, dict_step, on_found}
-use Rattle.vc_steps.specs.Homes.{held_in, state_over}
+use Rattle.vc_steps.specs.Homes.{held_in_session, state_over}
 use Rattle.vc_steps.specs.Moment.{moment}
 use Rattle.vc_steps.specs.Steps.{Steps}
 use Rattle.vc_steps.specs.Told.{gone_in, rules_in}
-use Rattle.vc_steps.proofs.Barred.{barred-refused, runs-alone, viewed-here}
-use Rattle.vc_steps.proofs.Changing.{gives-same}
+use Rattle.vc_steps.proofs.BarredCommands.{barred-refused, runs-alone, viewed-here}
+use Rattle.vc_steps.proofs.RegionChange.{gives-same}
 use Rattle.vc_steps.proofs.DictEnd.{step-dict, step-shut}
-use Rattle.vc_steps.proofs.DictNamed.{dict-none}
+use Rattle.vc_steps.proofs.DictByName.{dict-none}
 use Rattle.vc_steps.proofs.DictsStay.{Entry}
-use Rattle.vc_steps.proofs.Ending.{if_some-at, if_some-to}
+use Rattle.vc_steps.proofs.SessionEnd.{if_some-at, if_some-to}
 use Rattle.vc_steps.proofs.SessionHere.{DictAt, SessionHere, entry_at, first-at, helds, session_here, stands-at, state_here, views, whole_at}
-use Rattle.vc_steps.proofs.Settling.{settles-equal, settles-same}
+use Rattle.vc_steps.proofs.SettledShelf.{settles-equal, settles-same}
 use Rattle.vc_steps.proofs.session.Session.run_on_dict.Given as given
 use Rattle.vc_steps.proofs.session.Session.run_on_dict.Goals as goal
 use Rattle.vc_steps.proofs.session.Session.run_on_dict.Goals.{After-index}
@@ -48,7 +48,7 @@ returns-in_default-clause-steps g c =
     record {
       gives =
           gives-same (dict_step s name command NoNeed) (gone_in g.D.DictDisc.gone c.args.kinds.now.items) (Refused NoDictionary) s
-          (ap (on_found s (dict_command s command NoNeed)) (dict-none (held_in M session) (views_by session.paths es) es name (sym c.in_default.ensures.found)));
+          (ap (on_found s (dict_command s command NoNeed)) (dict-none (held_in_session M session) (views_by session.paths es) es name (sym c.in_default.ensures.found)));
       settles = settles-same _;
       lacks = tt;
     }

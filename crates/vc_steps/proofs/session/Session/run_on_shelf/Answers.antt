@@ -4,8 +4,8 @@ use Rattle.vc_script.specs.declared.command.Command.TheVariants.{CloseRegion}
 use Rattle.vc_steps.specs.Homes.{state_over}
 use Rattle.vc_steps.specs.Moment.{moment}
 use Rattle.vc_steps.specs.Told.{gone_in, rules_in}
-use Rattle.vc_steps.proofs.Granted.{close-granted}
-use Rattle.vc_steps.proofs.Settling.{keeps-equal}
+use Rattle.vc_steps.proofs.RefusesNothing.{close-granted}
+use Rattle.vc_steps.proofs.SettledShelf.{keeps-equal}
 use Rattle.vc_steps.proofs.Steps.{steps-quiet}
 use Rattle.vc_steps.proofs.session.Session.run_on_shelf.Given as given
 use Rattle.vc_steps.proofs.session.Session.run_on_shelf.Goals as goal

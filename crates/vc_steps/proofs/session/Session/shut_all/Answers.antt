@@ -9,12 +9,12 @@ use Rattle.vc_steps.proofs.DictsStay.{Entry}
 use Rattle.vc_steps.proofs.ViewReplies.{some-all}
 use Rattle.vc_steps.specs.Dicts.{shut_state, told_of}
 use Rattle.vc_steps.specs.DictHomes.{AreDicts, dict_home, dicts_in}
-use Rattle.vc_steps.specs.Homes.{held_in, slots_on, state_over}
+use Rattle.vc_steps.specs.Homes.{held_in_session, slots_on, state_over}
 use Rattle.vc_steps.specs.Moment.{moment}
 use Rattle.vc_views.specs.Views.{DictHome}
 use Rattle.vc_steps.specs.Steps.{Shuts}
 use Rattle.vc_steps.specs.Told.{gone_in, rules_in, tell}
-use Rattle.vc_steps.proofs.Ending.{gone-shut, if_some-at, nothing-left}
+use Rattle.vc_steps.proofs.SessionEnd.{gone-shut, if_some-at, nothing-left}
 use Rattle.vc_steps.proofs.Helds.{some-at}
 use Rattle.vc_steps.proofs.session.Session.shut_all.Invariants.{meaning}
 use Rattle.vc_steps.proofs.session.Session.shut_all.Goals as goal
@@ -31,7 +31,7 @@ loop-self-preserved g c =
     let first = c.args.kinds.now.items in
     let kinds = c.loop-self.kinds.items in
     let after = c.shut_at.new.kinds.items in
-    let held = held_in M old in
+    let held = held_in_session M old in
     let front = some-at old.dicts.entries 0 (omega (arith, c.shut_at.ensures.shuts.fewer)) in
     let e = front.0 in
     let shuts : Shuts (moment M g.D.DictDisc.rules g.D.DictDisc.gone shelf old kinds) (moment M g.D.DictDisc.rules g.D.DictDisc.gone shelf new after) (dict_home held vs e) =
@@ -65,7 +65,7 @@ returns g c =
     let each : DictHome → _ = λ d. told_of d.kind (bytes_of d.dict.objects) in
     record {
       none = left;
-      told = sym (ap (λ es. tell (flat_map each (dicts_in (held_in M c.loop-self.self) vs es)) (gone_in g.D.DictDisc.gone c.loop-self.kinds.items)) left) ∙ is.gone;
+      told = sym (ap (λ es. tell (flat_map each (dicts_in (held_in_session M c.loop-self.self) vs es)) (gone_in g.D.DictDisc.gone c.loop-self.kinds.items)) left) ∙ is.gone;
       stands = is.session;
       keeps_rules = is.rules;
       settled = is.settled;

@@ -13,7 +13,7 @@ use Rattle.vc_views.specs.Numbers.{views_by}
 use Rattle.vc_views.proofs.NumbersToNames.{all-at}
 use Rattle.vc_steps.specs.DictHomes.{dict_home}
 use Rattle.vc_steps.specs.Dicts.{told_of}
-use Rattle.vc_steps.specs.Homes.{held_all, held_in, slots_on}
+use Rattle.vc_steps.specs.Homes.{held_all, held_in_session, slots_on}
 use Rattle.vc_steps.specs.Moment.{moment}
 use Rattle.vc_steps.specs.Steps.{Shuts}
 use Rattle.vc_steps.specs.Told.{gone_in, rules_in, tell}
@@ -23,14 +23,14 @@ use Rattle.vc_steps.proofs.DictShut.{DictEnded, below-ended, dicts-ended, linked
 use Rattle.vc_steps.proofs.DictThere.{DictIn, best-there, dict-is, in_best, its, whole-there}
 use Rattle.vc_steps.proofs.DictTold.{kind-at, kind-within, tell-each}
 use Rattle.vc_steps.proofs.DictsStay.{Entry}
-use Rattle.vc_steps.proofs.Ending.{if_some-at, if_some-to}
+use Rattle.vc_steps.proofs.SessionEnd.{if_some-at, if_some-to}
 use Rattle.vc_steps.proofs.Helds.{length-remove, slice-or}
 use Rattle.vc_best.specs.Cells.{cells_in}
 use Rattle.vc_objects.specs.Parts.{dictionary_in}
 use Rattle.vc_steps.proofs.RegionSteps.{moment_over}
 use Rattle.vc_steps.proofs.RegionAt.{stored_at}
 use Rattle.vc_steps.proofs.SessionHere.{SessionHere, home-open, session_here, whole_in}
-use Rattle.vc_steps.proofs.Settling.{keeps-equal}
+use Rattle.vc_steps.proofs.SettledShelf.{keeps-equal}
 use Rattle.vc_steps.proofs.session.Session.shut_at.Given as given
 use Rattle.vc_steps.proofs.session.Session.shut_at.Goals as goal
 use Rattle.vc_steps.proofs.session.Session.shut_at.Goals.{After-index_mut, After-index_mut-2, In-Some}
@@ -141,7 +141,7 @@ returns g c =
         shuts =
             if_some-to
             (λ (f : Entry). Shuts (moment M item gone c.args.shelf.now c.args.self.now items)
-            (moment_over (slots_on M c.args.shelf.now) o.es' (views_by o.links' o.es') o.kinds' (gone_in gone (set items k told)) hs) (dict_home (held_in M c.args.self.now) vs f))
+            (moment_over (slots_on M c.args.shelf.now) o.es' (views_by o.links' o.es') o.kinds' (gone_in gone (set items k told)) hs) (dict_home (held_in_session M c.args.self.now) vs f))
             (slice_get c.args.self.now.dicts.entries c.args.i) x.e x.there
             (record {
               state = state-ended place best x o;

@@ -4,7 +4,7 @@ use Rattle.vc_commands.proofs.Firsts.{find-none}
 use Rattle.vc_commands.specs.Held.{IsNamed, home_of}
 use Rattle.vc_commands.specs.Home.{is_home}
 use Rattle.vc_views.proofs.NumbersToNames.{all-at}
-use Rattle.vc_steps.specs.Homes.{held_in}
+use Rattle.vc_steps.specs.Homes.{held_in_session}
 use Rattle.vc_steps.specs.Sizes.{size_in_home}
 use Rattle.vc_steps.proofs.Helds.{any-named}
 use Rattle.vc_steps.proofs.RegionAt.{RegionAt, label-read, region-named, region-stands, region_at}
@@ -32,7 +32,7 @@ pub size_named-requires : goal.size_named-requires
 size_named-requires g c =
     let M = meaning g in
     let x = region g (goal.at.size_named-requires g c).After-index-in-Some in
-    record { names = all-at (λ h. IsNamed h.region h.labels) (held_in M c.args.self.now) c.in-Some.i (region_at M x) c.requires.names (region-stands M x) }
+    record { names = all-at (λ h. IsNamed h.region h.labels) (held_in_session M c.args.self.now) c.in-Some.i (region_at M x) c.requires.names (region-stands M x) }
 
 pub returns-in-Some : goal.returns-in-Some
 returns-in-Some g c =
@@ -42,4 +42,4 @@ returns-in-Some g c =
 pub returns-in-None : goal.returns-in-None
 returns-in-None g c =
     let M = meaning g in
-    sym (ap (size_in_home c.args.block.now) (find-none (is_home c.args.region.now) (map home_of (held_in M c.args.self.now)) (any-named M c.args.self.now.homes.entries c.args.self.now.labels.items c.args.region.now c.requires.labels ∙ sym c.in-None.ensures.found)))
+    sym (ap (size_in_home c.args.block.now) (find-none (is_home c.args.region.now) (map home_of (held_in_session M c.args.self.now)) (any-named M c.args.self.now.homes.entries c.args.self.now.labels.items c.args.region.now c.requires.labels ∙ sym c.in-None.ensures.found)))

@@ -3,11 +3,11 @@ use Rattle.vc_model.specs.Discipline.{Discipline}
 use Rattle.vc_script.specs.declared.refusal.Refusal.TheVariants as why
 use Rattle.vc_script.specs.declared.reply.Reply.TheVariants.{Refused, Views}
 use Rattle.vc_views.specs.Numbers.{AreLinked, views_by}
-use Rattle.vc_steps.specs.Homes.{held_in}
-use Rattle.vc_steps.proofs.DictNamed.{dict-none}
+use Rattle.vc_steps.specs.Homes.{held_in_session}
+use Rattle.vc_steps.proofs.DictByName.{dict-none}
 use Rattle.vc_steps.proofs.SeenView.{ViewsHere, ViewsTo, links-ended, links-refused, links-set, number-below, path-named, path-other, stands-viewed, steps-ended, steps-missing, steps-refused, steps-set}
 use Rattle.vc_steps.proofs.SessionHere.{DictAt, session_here}
-use Rattle.vc_steps.proofs.Settling.{keeps-same}
+use Rattle.vc_steps.proofs.SettledShelf.{keeps-same}
 use Rattle.vc_steps.proofs.session.Session.view_named.Given as given
 use Rattle.vc_steps.proofs.session.Session.view_named.Goals as goal
 use Rattle.vc_steps.proofs.session.Session.view_named.Goals.{After-index, After-index-2, After-view_at}
@@ -76,7 +76,7 @@ returns-in_default-get_index_of-clause-steps g c =
     let session = c.args.self.now in
     subst (λ o. ViewsTo (meaning g) (here g i) (own g i) session.homes.entries session.dicts.entries session.paths o (Refused why.NoDictionary)) (sym c.in-Some.is)
     (steps-missing (meaning g) (here g i) (own g i) c.in-Some.lower
-    (dict-none (held_in (meaning g) session) (views_by session.paths session.dicts.entries) session.dicts.entries c.in-Some.lower (sym c.in_default-get_index_of.ensures.found)))
+    (dict-none (held_in_session (meaning g) session) (views_by session.paths session.dicts.entries) session.dicts.entries c.in-Some.lower (sym c.in_default-get_index_of.ensures.found)))
 
 pub view_at-requires-clause-first : goal.view_at-requires-clause-first
 view_at-requires-clause-first g c =

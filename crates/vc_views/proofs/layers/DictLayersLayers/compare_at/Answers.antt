@@ -1,6 +1,6 @@
 use Rattle.std.proofs.Common.{map}
 use Rattle.vc_views.specs.Dicts.{region_seen}
-use Rattle.vc_views.proofs.Here.{kind-known}
+use Rattle.vc_views.proofs.NumberLayers.{kind-known}
 use Rattle.vc_views.proofs.layers.DictLayersLayers.compare_at.Goals as goal
 
 pub kind_of-kind-requires : goal.kind_of-kind-requires

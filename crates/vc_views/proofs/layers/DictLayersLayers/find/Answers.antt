@@ -3,7 +3,7 @@ use Rattle.std.specs.Prelude.{find}
 use Rattle.vc_paths.specs.Layers.{Layer, place_with}
 use Rattle.vc_views.specs.Dicts.{has_number, layer_seen, region_seen}
 use Rattle.vc_views.specs.LayerLaws.{found-there, layer-found}
-use Rattle.vc_views.proofs.Here.{still-there}
+use Rattle.vc_views.proofs.NumberLayers.{still-there}
 use Rattle.vc_views.proofs.layers.DictLayersLayers.find.Goals as goal
 
 pub index_of-i-requires : goal.index_of-i-requires

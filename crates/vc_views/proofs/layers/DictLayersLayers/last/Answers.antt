@@ -1,7 +1,7 @@
 use Rattle.std.proofs.Common.{map}
 use Rattle.vc_best.specs.Cells.{cells_in}
 use Rattle.vc_views.specs.Dicts.{region_seen}
-use Rattle.vc_views.proofs.Here.{best-there, last-told, is-kept}
+use Rattle.vc_views.proofs.NumberLayers.{best-there, last-told, is-kept}
 use Rattle.vc_views.proofs.layers.DictLayersLayers.last.Goals as goal
 
 pub best_of-requires : goal.best_of-requires

@@ -1,7 +1,7 @@
 use Rattle.std.proofs.Common.{map, Some, ap, sym, ◌∙◌}
 use Rattle.vc_best.specs.Cells.{cells_in}
 use Rattle.vc_views.specs.Dicts.{region_seen}
-use Rattle.vc_views.proofs.Here.{best-there, bytes-told, has-body}
+use Rattle.vc_views.proofs.NumberLayers.{best-there, bytes-told, has-body}
 use Rattle.vc_views.proofs.layers.DictLayersLayers.object.Goals as goal
 
 pub best_of-requires : goal.best_of-requires

@@ -19,7 +19,7 @@ use Rattle.vc_objects.specs.Objects.{holder_size}
 use Rattle.vc_objects.specs.Parts.{IsWhole, object_of}
 use Rattle.vc_objects.proofs.Owning.{each-object}
 use Rattle.vc_counts.specs.Working.{holders_bytes}
-use Rattle.vc_counts.proofs.Emptied.{holders-cons}
+use Rattle.vc_counts.proofs.EndedBytes.{holders-cons}
 
 -- the one that is next is the first of those that are left
 left-first : (i : ℕ) (hs : List ℕ) (x : ℕ) → first_in (drop i hs) ≡ Some x → drop i hs ≡ x ∷ drop (suc i) hs

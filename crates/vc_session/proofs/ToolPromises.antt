@@ -4,7 +4,7 @@ use Rattle.std.proofs.lemmas.Option.{none-some}
 use Rattle.std.specs.Prelude.{IsSome}
 use Rattle.vc_script.specs.declared.tool.Tool.{Tool}
 use Rattle.vc_steps.specs.Moment.{Moment}
-use Rattle.vc_session.proofs.Completing.{completes}
+use Rattle.vc_session.proofs.StatusDue.{completes}
 use Rattle.vc_session.specs.Headline.{Headline}
 use Rattle.vc_session.specs.Promises.{LentToTool, Promises}
 use Rattle.vc_session.specs.Streams.{Streams}

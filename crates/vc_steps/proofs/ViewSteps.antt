@@ -23,17 +23,17 @@ use Rattle.vc_steps.specs.Dicts.{dict_step, view_found, view_unless}
 use Rattle.vc_steps.specs.State.{State, step_with_refusal, step_with_reply}
 use Rattle.vc_views.specs.Dicts.{number_in}
 use Rattle.vc_views.specs.Numbers.{AreLinked, views_by}
-use Rattle.vc_views.specs.Views.{DictHome, dict_named, is_dict, refusal_of}
+use Rattle.vc_views.specs.Views.{DictHome, dict_named, is_dict, refusal_of_view}
 use Rattle.vc_views.proofs.LinkLemmas.{number-within, view-none, view-some}
 use Rattle.vc_views.proofs.LinkRefusals.{refusal-named}
 use Rattle.vc_views.proofs.NumbersToNames.{AreLayersIn}
 use Rattle.vc_steps.proofs.DictEnd.{step-dict}
-use Rattle.vc_steps.proofs.DictNamed.{dict-found}
+use Rattle.vc_steps.proofs.DictByName.{dict-found}
 use Rattle.vc_steps.proofs.DictsStay.{Entry}
 use Rattle.vc_steps.proofs.Sessions.{Slots}
 
 -- no fault of a view is the want of a segment
-pub granted-fault : (fault : ViewFault) → IsGranted (Refused (refusal_of fault))
+pub granted-fault : (fault : ViewFault) → IsGranted (Refused (refusal_of_view fault))
 granted-fault Differs = tt
 granted-fault Cycle = tt
 granted-fault TooDeep = tt
@@ -69,15 +69,15 @@ module _ (kinds : List Rules) (slots : Slots) (hs : List Held) (links : Links) (
 
   module _ (j : ℕ) (f : Entry) (there : slice_get es j ≡ Some f) (other : IsFirst (is_dict f.0) (dicts_in hs (views_by links es) es) j) (all : Layered) (layers : AreLayersIn (dict_over hs) all es) where
     view-other : (need : Need) (o : Option ViewFault) → view_fault all links (number_in e) (number_in f) ≡ o
-        → dict_step s e.0 (View e.0 (Some f.0)) need ≡ view_unless s d (dict_home hs (views_by links es) f) (option_map refusal_of o)
+        → dict_step s e.0 (View e.0 (Some f.0)) need ≡ view_unless s d (dict_home hs (views_by links es) f) (option_map refusal_of_view o)
     view-other need o fault =
         step-dict kinds slots hs es (views_by links es) i e at first dicts (View e.0 (Some f.0)) need
         ∙ (ap (view_found s d) (dict-found hs (views_by links es) es f.0 j f there other)
         ∙ ap (view_unless s d (dict_home hs (views_by links es) f))
-        (refusal-named (dict_over hs) all links es names are layers paths i e at j f there ∙ ap (option_map refusal_of) fault))
+        (refusal-named (dict_over hs) all links es names are layers paths i e at j f there ∙ ap (option_map refusal_of_view) fault))
 
     -- it can't be
-    pub view-refused : (need : Need) (fault : ViewFault) → view_fault all links (number_in e) (number_in f) ≡ Some fault → dict_step s e.0 (View e.0 (Some f.0)) need ≡ step_with_refusal s (refusal_of fault)
+    pub view-refused : (need : Need) (fault : ViewFault) → view_fault all links (number_in e) (number_in f) ≡ Some fault → dict_step s e.0 (View e.0 (Some f.0)) need ≡ step_with_refusal s (refusal_of_view fault)
     view-refused need fault is = view-other need (Some fault) is
 
     -- it is set

@@ -1,7 +1,8 @@
 -- What is counted by what is read of one region is what the step did.
 use Rattle.std.proofs.Common.{◌≡◌, ℕ, ◌+◌, ◌-◌, ◌<◌, ◌≤◌, Bool, true, false, cond, List, [], length, map, refl, sym, ap, ◌∙◌, arith}
-use Rattle.std.specs.Prelude.{max, sum}
+use Rattle.std.specs.Prelude.{count_by, max, sum}
 use Rattle.std.proofs.lemmas.List.{length-map}
+use Rattle.vc_model.specs.Segments.{Grant}
 use Rattle.vc_layouts.specs.Tally.{tally_of}
 use Rattle.vc_layouts.specs.declared.tally.Tally.{Tally}
 use Rattle.vc_layouts.proofs.Tallies.{tally_of-bytes, tally_of-count}
@@ -9,9 +10,10 @@ use Rattle.vc_commands.specs.Home.{Home}
 use Rattle.vc_script.specs.Needs.{is_refusal}
 use Rattle.vc_steps.specs.State.{State, Stepped}
 use Rattle.vc_counts.specs.CanCount.{CanCount, IsInRange, counted_commands}
-use Rattle.vc_counts.specs.Counts.{busy_in, counts_with_step, no_counts}
+use Rattle.vc_counts.specs.Counts.{live_bytes, counts_with_step, nothing_counted}
 use Rattle.vc_counts.specs.Working.{counts_after, tally_behind}
 use Rattle.vc_counts.specs.declared.counts.Counts.{Counts}
+use Rattle.vc_counts.proofs.GrantedSegments.{fresh-count, granted-sizes}
 use Rattle.vc_counts.proofs.Sums.{busy_homes}
 use Rattle.vc_counts.proofs.Tallies.{Tallies}
 
@@ -19,26 +21,27 @@ abbrev made : ℕ → ℕ → ℕ → ℕ → ℕ → ℕ → Counts
 made done refused segments bytes busy peak =
     record { done = done; refused = refused; segments = segments; bytes = bytes; busy = busy; peak = max peak busy }
 
-pub counts-after : (c : Counts) (s : State) (t : Stepped) (before after : ℕ) (had has : List (ℕ × ℕ)) → c.busy ≡ busy_in s → Tallies before after (busy_in s) (busy_in t.state) had has t.granted → counts_after c (is_refusal t.reply) before after (tally_behind (length had) has) ≡ counts_with_step c t
+pub counts-after : (c : Counts) (s : State) (t : Stepped) (before after : ℕ) (had has : List (ℕ × ℕ)) → c.busy ≡ live_bytes s → Tallies before after (live_bytes s) (live_bytes t.state) had has t.granted → counts_after c (is_refusal t.reply) before after (tally_behind (length had) has) ≡ counts_with_step c t
 counts-after c s t before after had has now tallies =
     let b = is_refusal t.reply in
     let done = c.done + cond b 0 1 in
     let refused = c.refused + cond b 1 0 in
-    let sizes = map (λ (g : ℕ × ℕ). g.1) t.granted in
-    let lent : tally_behind (length had) has ≡ tally_of sizes = ap (λ gs. tally_of (map (λ (g : ℕ × ℕ). g.1) gs)) (sym tallies.lent) in
-    let count : (tally_behind (length had) has).count ≡ length t.granted = ap (λ (x : Tally). x.count) lent ∙ (tally_of-count sizes ∙ length-map t.granted (λ (g : ℕ × ℕ). g.1)) in
+    let sizes = map (λ (g : Grant). g.bytes) t.granted in
+    let fresh = count_by (λ (g : Grant). g.fresh) t.granted in
+    let lent : tally_behind (length had) has ≡ tally_of sizes = ap (λ ss. tally_of (map (λ (s : ℕ × ℕ). s.1) ss)) (sym tallies.lent.segments) ∙ ap tally_of (granted-sizes t.granted) in
+    let count : (tally_behind (length had) has).count ≡ fresh = ap (λ (x : Tally). x.count) lent ∙ (tally_of-count sizes ∙ (length-map t.granted (λ (g : Grant). g.bytes) ∙ sym (fresh-count t.granted tallies.lent.fresh))) in
     let bytes : (tally_behind (length had) has).bytes ≡ sum sizes = ap (λ (x : Tally). x.bytes) lent ∙ tally_of-bytes sizes in
-    let busy : c.busy + after - before ≡ busy_in t.state = omega (arith, now, tallies.busy) in
+    let busy : c.busy + after - before ≡ live_bytes t.state = omega (arith, now, tallies.busy) in
     ap (λ n. made done refused (c.segments + n) (c.bytes + (tally_behind (length had) has).bytes) (c.busy + after - before) c.peak) count
-    ∙ (ap (λ n. made done refused (c.segments + length t.granted) (c.bytes + n) (c.busy + after - before) c.peak) bytes
-    ∙ ap (λ n. made done refused (c.segments + length t.granted) (c.bytes + sum sizes) n c.peak) busy)
+    ∙ (ap (λ n. made done refused (c.segments + fresh) (c.bytes + n) (c.busy + after - before) c.peak) bytes
+    ∙ ap (λ n. made done refused (c.segments + fresh) (c.bytes + sum sizes) n c.peak) busy)
 
 one-more : (b : Bool) (c : Counts) (n : ℕ) → counted_commands c < n → c.done + cond b 0 1 + (c.refused + cond b 1 0) < n + 1
 one-more true c n below = omega (arith, below)
 one-more false c n below = omega (arith, below)
 
 -- one more command was counted
-pub can-later : (c : Counts) (s : State) (t : Stepped) (line later : ℕ) → counted_commands c < line → line < later → IsInRange (counts_with_step c t) → CanCount (counts_with_step c t) (busy_in t.state) later
+pub can-later : (c : Counts) (s : State) (t : Stepped) (line later : ℕ) → counted_commands c < line → line < later → IsInRange (counts_with_step c t) → CanCount (counts_with_step c t) (live_bytes t.state) later
 can-later c s t line later before behind range =
     record { range = range; now = refl; before = omega (arith, behind, one-more (is_refusal t.reply) c line before) }
 
@@ -46,7 +49,7 @@ none-open : (hs : List Home) → hs ≡ [] → 0 ≡ busy_homes hs
 none-open hs none = ap busy_homes (sym none)
 
 -- before the first command, where no region is open
-pub can-begin : (s : State) (line : ℕ) → s.homes ≡ [] → 1 ≤ line → CanCount no_counts (busy_in s) line
+pub can-begin : (s : State) (line : ℕ) → s.homes ≡ [] → 1 ≤ line → CanCount nothing_counted (live_bytes s) line
 can-begin s line none first =
     record {
       range = record { segments = omega arith; bytes = omega arith; busy = omega arith };

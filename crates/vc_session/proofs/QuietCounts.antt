@@ -2,7 +2,7 @@
 use Rattle.std.proofs.Common.{◌≡◌, ℕ, ◌<◌, ◌≤◌, Bool, List, [], map, Result, Ok, Err, OnOk, arith, ap, sym}
 use Rattle.std.specs.Prelude.{IfOk, IsTrue, sum}
 use Rattle.vc_counts.specs.CanCount.{CanCount}
-use Rattle.vc_counts.specs.Counts.{busy_in, no_counts}
+use Rattle.vc_counts.specs.Counts.{live_bytes, nothing_counted}
 use Rattle.vc_counts.specs.declared.counts.Counts.{Counts}
 use Rattle.vc_commands.specs.Held.{home_of}
 use Rattle.vc_dtdisc.specs.Rules.{Rules}
@@ -35,17 +35,17 @@ pub can-same : (quiet : Bool) (c : Counts) (busy n m : ℕ) → m ≡ n → (IsT
 can-same quiet c busy n m same can is_quiet line later = can is_quiet line (omega (arith, same, later))
 
 -- no block stands where no region is open
-pub busy-none : {I : Type 0} {V : I → Type 0} {D : Type 0} (meaning : (x : I) × V x → Discipline) (kinds : List Rules) (shelf : Shelf I V) (session : Session D I V) → session.homes.entries ≡ [] → busy_in (state_over meaning kinds shelf session) ≡ 0
+pub busy-none : {I : Type 0} {V : I → Type 0} {D : Type 0} (meaning : (x : I) × V x → Discipline) (kinds : List Rules) (shelf : Shelf I V) (session : Session D I V) → session.homes.entries ≡ [] → live_bytes (state_over meaning kinds shelf session) ≡ 0
 busy-none meaning kinds shelf session none =
     ap (λ es. sum (map (λ h. (stat_of h.region).sbusy) (map home_of (held_all meaning es session.labels.items)))) none
 
 -- a quiet run counts from 0 on
-pub can-first : (quiet : Bool) (s : State) → busy_in s ≡ 0 → CanCountOn quiet no_counts s 0
+pub can-first : (quiet : Bool) (s : State) → live_bytes s ≡ 0 → CanCountOn quiet nothing_counted s 0
 can-first quiet s none = λ is_quiet line later. record {
   range = record { segments = omega arith; bytes = omega arith; busy = omega arith };
   now = sym none;
   before = later;
 }
 
-pub counts-first : (s : State) → busy_in s ≡ 0 → no_counts ≡ counts_of (nothing_ran s)
+pub counts-first : (s : State) → live_bytes s ≡ 0 → nothing_counted ≡ counts_of (nothing_ran s)
 counts-first s none = ap (λ busy. let c : Counts = record { done = 0; refused = 0; segments = 0; bytes = 0; busy = busy; peak = 0 } in c) (sym none)

@@ -17,7 +17,7 @@ use Rattle.vc_commands.specs.Home.{Home}
 use Rattle.vc_commands.specs.Looking.{is_look}
 use Rattle.vc_steps.specs.Account.{state_of}
 use Rattle.vc_steps.specs.DictHomes.{dict_home, dict_over, dicts_in}
-use Rattle.vc_steps.specs.Dicts.{dict_changed, dict_command, dict_shut, is_turn, runs_alone, seat_of}
+use Rattle.vc_steps.specs.Dicts.{dict_changed, dict_command, dict_shut, is_turn, runs_alone, seat_at_home}
 use Rattle.vc_steps.specs.State.{State, step_with_refusal}
 use Rattle.vc_views.specs.Dicts.{number_in}
 use Rattle.vc_views.specs.Numbers.{AreLinked, is_barred, views_by}
@@ -53,6 +53,6 @@ module _ (kinds : List Rules) (slots : Slots) (hs : List Held) (links : Links) (
   barred-refused (Shut x) need h rules barred =
       ap (λ t. cond t (step_with_refusal s why.Viewed) (dict_shut s (dict_home hs (views_by links es) e))) (viewed-here ∙ barred)
   barred-refused (Remethod x method) need h rules barred =
-      ap (λ t. cond t (step_with_refusal s why.Viewed) (dict_changed s (dict_home hs (views_by links es) e) h (in_dict (seat_of (dict_home hs (views_by links es) e) h rules) (Remethod x method) need)))
+      ap (λ t. cond t (step_with_refusal s why.Viewed) (dict_changed s (dict_home hs (views_by links es) e) h (in_dict (seat_at_home (dict_home hs (views_by links es) e) h rules) (Remethod x method) need)))
       (linked-here ∙ barred)
   barred-refused command need h rules barred = absurd (false≢true barred)

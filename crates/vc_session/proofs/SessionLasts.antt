@@ -6,7 +6,7 @@ use Rattle.vc_seg.specs.declared.shelf.Shelf.{Shelf}
 use Rattle.vc_steps.specs.declared.session.Session.{Session}
 use Rattle.vc_steps.specs.Homes.{IsSessionOver, settled_over}
 use Rattle.vc_steps.specs.Steps.{Lasts}
-use Rattle.vc_steps.proofs.Settling.{keeps-same, keeps-trans}
+use Rattle.vc_steps.proofs.SettledShelf.{keeps-same, keeps-trans}
 
 pub lasts-same : {I : Type 0} {V : I → Type 0} {D : Type 0} {meaning : (x : I) × V x → Discipline} {rules : D → Rules} {shelf : Shelf I V} {session : Session D I V} {kinds : List D} → IsSessionOver meaning rules shelf session kinds → Lasts meaning rules shelf session kinds shelf session kinds
 lasts-same {meaning = meaning} {shelf = shelf} {session = session} stands =

@@ -41,13 +41,13 @@ use Rattle.vc_region.specs.Region.{is_best, layout_in, region_with_labels}
 use Rattle.vc_region.specs.declared.region.Region.{Region}
 use Rattle.vc_region.specs.declared.region.Region.TheVariants.{Best, Pool, Last, Debug, Profile}
 use Rattle.vc_region.proofs.RestList.{view-found}
-use Rattle.vc_steps.specs.DictHomes.{AreDicts, IsDictOf, cells_held, dict_home, dict_over, dicts_in}
+use Rattle.vc_steps.specs.DictHomes.{AreDicts, IsDictOf, cells_of_held, dict_home, dict_over, dicts_in}
 use Rattle.vc_steps.specs.Homes.{held_all}
 use Rattle.vc_steps.specs.State.{home_named}
 use Rattle.vc_steps.proofs.DictsStay.{Entry, Vs}
 use Rattle.vc_views.specs.Views.{DictHome, dict_named, is_dict}
 use Rattle.vc_counts.proofs.DictBytes.{HasTable, IsBeside, IsSeated}
-use Rattle.vc_counts.proofs.Sized.{HasSized, size_found}
+use Rattle.vc_counts.proofs.BlockSizes.{HasSized, size_found}
 
 module _ (f : ℕ → Label) where
   size-relabelled : (o : Option (Block ℕ)) → size_found (option_map (relabel_block f) o) ≡ size_found o
@@ -137,7 +137,7 @@ module _ (kinds : List Rules) (held : List Held) (celled : AllByRecursion IsCell
       let k : Held = is.home in
       let c : IsCelled k = among-all IsCelled k held (among-find (λ (g : Held). bytes_eq g.name e.1.home) held k is.found) celled in
       let same : home_of k ≡ h = same_Some (home_of k) h (sym (find-map home_of (is_home e.1.home) held ∙ ap (option_map home_of) is.found) ∙ at) in
-      let own : dict_over held e ≡ dictionary_of e.1.dict k.cells = ap (λ o. dictionary_of e.1.dict (cells_held o)) is.found in
+      let own : dict_over held e ≡ dictionary_of e.1.dict k.cells = ap (λ o. dictionary_of e.1.dict (cells_of_held o)) is.found in
       let r : Layout Label = layout_in (home_of k).region in
       subst (λ (g : Home). ∥ IsSeated (layout_in g.region) (dict_over held e) ∥₁) same
       (subst (λ (x : Dictionary). ∥ IsSeated r x ∥₁) (sym own)

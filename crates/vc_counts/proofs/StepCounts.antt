@@ -8,13 +8,13 @@ use Rattle.vc_script.specs.declared.reply.Reply.{Reply}
 use Rattle.vc_steps.specs.State.{State, Stepped}
 use Rattle.vc_steps.specs.Step.{step}
 use Rattle.vc_counts.specs.CanCount.{CanCount, IsInRange}
-use Rattle.vc_counts.specs.Counts.{busy_in, counts_with_step}
-use Rattle.vc_counts.specs.Reach.{bytes_freed_by, put_by, reach_of}
+use Rattle.vc_counts.specs.Counts.{live_bytes, counts_with_step}
+use Rattle.vc_counts.specs.Reach.{bytes_freed_by, put_by_reply, reach_of}
 use Rattle.vc_counts.specs.Working.{counts_after, reached_at, region_worked, segments_at, tally_behind}
 use Rattle.vc_counts.specs.declared.counts.Counts.{Counts}
 use Rattle.vc_counts.specs.declared.reach.Reach.{Reach}
-use Rattle.vc_counts.proofs.Counting.{can-later, counts-after}
-use Rattle.vc_counts.proofs.Named.{IsProper}
+use Rattle.vc_counts.proofs.CountsAfter.{can-later, counts-after}
+use Rattle.vc_counts.proofs.OwnNames.{IsProper}
 use Rattle.vc_counts.proofs.Tallies.{TalliesStep, after_by, before_by}
 use Rattle.vc_counts.proofs.DictWorks.{HaveOwnNames}
 use Rattle.vc_counts.proofs.Works.{AreAlone, AreSeated, works}
@@ -36,17 +36,17 @@ pub record WasRead (s s' : State) (command : Command) (reply : Reply) (name : Op
   pub before : held ≡ reached_at reached name s.homes s.dicts
   pub freed : gone ≡ bytes_freed_by reached reply
   pub after : holds ≡ reached_at reached name s'.homes s'.dicts
-  pub put : more ≡ put_by reached reply
+  pub put : more ≡ put_by_reply reached reply
 
-module _ (c : Counts) (s s' : State) (line : ℕ) (command : Command) (reply : Reply) (can : CanCount c (busy_in s) line) (run : WasRun s s' line command reply) where
+module _ (c : Counts) (s s' : State) (line : ℕ) (command : Command) (reply : Reply) (can : CanCount c (live_bytes s) line) (run : WasRun s s' line command reply) where
   abbrev this_step : Stepped
   this_step = step s line command (need_shown reply)
 
   -- and a command of a later line can be counted
-  pub can-next : (counts : Counts) → counts ≡ counts_with_step c this_step → IsInRange counts → (later : ℕ) → line < later → CanCount counts (busy_in s') later
+  pub can-next : (counts : Counts) → counts ≡ counts_with_step c this_step → IsInRange counts → (later : ℕ) → line < later → CanCount counts (live_bytes s') later
   can-next counts same range later behind =
-      subst (λ (x : Counts). CanCount x (busy_in s') later) (sym same)
-      (subst (λ (x : State). CanCount (counts_with_step c this_step) (busy_in x) later) run.state (can-later c s this_step line later can.before behind (subst IsInRange same range)))
+      subst (λ (x : Counts). CanCount x (live_bytes s') later) (sym same)
+      (subst (λ (x : State). CanCount (counts_with_step c this_step) (live_bytes x) later) run.state (can-later c s this_step line later can.before behind (subst IsInRange same range)))
 
   module _ (name : Option (List ℕ)) (reached : Reach) (held gone holds more : ℕ) (read : WasRead s s' command reply name reached held gone holds more) where
     tallied : TalliesStep s (reach_of command) name this_step
@@ -67,7 +67,7 @@ module _ (c : Counts) (s s' : State) (line : ℕ) (command : Command) (reply : R
         omega (
           arith,
           read.after ∙ (ap (λ k. reached_at k name s'.homes s'.dicts) read.reach ∙ ap (λ (x : State). reached_at (reach_of command) name x.homes x.dicts) (sym run.state)),
-          read.put ∙ (ap (λ k. put_by k reply) read.reach ∙ ap (put_by (reach_of command)) (sym run.replied)),
+          read.put ∙ (ap (λ k. put_by_reply k reply) read.reach ∙ ap (put_by_reply (reach_of command)) (sym run.replied)),
         )
 
     -- what is taken off the bytes that were counted is among them and those that come

@@ -12,9 +12,9 @@ use Rattle.vc_script.specs.declared.reply.Reply.TheVariants.{Refused}
 use Rattle.vc_seg.specs.declared.method.Method.{Method}
 use Rattle.vc_steps.specs.Account.{Account, Settles}
 use Rattle.vc_commands.specs.Held.{Held}
-use Rattle.vc_steps.specs.Lacks.{StepLacksFor}
+use Rattle.vc_steps.specs.WantedSegments.{StepLacksFor}
 use Rattle.vc_steps.specs.Refusals.{refusal_at}
-use Rattle.vc_steps.specs.State.{State, Stepped, close_home, close_step, step_with_close, home_named, is_busy, open_step, opened_over, step_with_refusal, step_with_reply}
+use Rattle.vc_steps.specs.State.{State, Stepped, close_home, close_step, step_with_close, home_named, is_home_busy, open_step, opened_over, step_with_refusal, step_with_reply}
 use Rattle.vc_commands.specs.Home.{Home, Label, is_home}
 use Rattle.vc_commands.proofs.Grants.{IsGranted}
 
@@ -50,7 +50,7 @@ granted-open s r method n =
 
 granted-close_home : (s : State) (r : List ℕ) (o : Option Home) → IsGranted (close_home s r o).reply
 granted-close_home s r None = tt
-granted-close_home s r (Some h) = holds-cond IsGranted (is_busy s r) (step_with_refusal s why.Busy) (step_with_close s r h) tt tt
+granted-close_home s r (Some h) = holds-cond IsGranted (is_home_busy s r) (step_with_refusal s why.Busy) (step_with_close s r h) tt tt
 
 -- the reply where a region is opened or closed
 pub open-granted : (s after : State) (r : List ℕ) (method : Method) (n : ℕ) (reply : Reply) → open_step s r method n ≡ step_with_reply after reply → IsGranted reply

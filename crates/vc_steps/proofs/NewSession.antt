@@ -9,7 +9,7 @@ use Rattle.vc_paths.specs.Links.{link_at, no_links, numbers}
 use Rattle.vc_seg.specs.declared.shelf.Shelf.{Shelf}
 use Rattle.vc_steps.specs.Account.{IsSession}
 use Rattle.vc_steps.specs.DictHomes.{AreDicts}
-use Rattle.vc_steps.specs.Homes.{IsSessionOver, held_entry, held_in, slots_on}
+use Rattle.vc_steps.specs.Homes.{IsSessionOver, held_entry, held_in_session, slots_on}
 use Rattle.vc_steps.specs.declared.session.Session.{Session}
 use Rattle.vc_views.specs.Numbers.{AreLinked}
 
@@ -28,7 +28,7 @@ none-linked = record {
 -- it stands over any shelf and any kinds
 module _ {I : Type 0} {V : I → Type 0} {D : Type 0} (meaning : (x : I) × V x → Discipline) (rules : D → Rules) (shelf : Shelf I V) (session : Session D I V) (kinds : List D)
     (none : (session.homes.entries ≡ []) × (session.labels.items ≡ []) × (session.dicts.entries ≡ []) × (session.paths ≡ no_links)) where
-  pub none-held : held_in meaning session ≡ []
+  pub none-held : held_in_session meaning session ≡ []
   none-held = ap (λ es. map (held_entry meaning) (zip es session.labels.items)) none.0
 
   pub new-stands : IsSessionOver meaning rules shelf session kinds
@@ -37,6 +37,6 @@ module _ {I : Type 0} {V : I → Type 0} {D : Type 0} (meaning : (x : I) × V x 
       named = ap length none.1 ∙ sym (ap length none.0);
       held = subst (IsSession (slots_on meaning shelf)) (sym none-held) tt;
     };
-    dicts = subst (AreDicts (map rules kinds) (held_in meaning session)) (sym none.2) tt;
+    dicts = subst (AreDicts (map rules kinds) (held_in_session meaning session)) (sym none.2) tt;
     views = subst (λ links. AreLinked links session.dicts.entries) (sym none.3) (subst (AreLinked no_links) (sym none.2) none-linked);
   }

@@ -16,19 +16,19 @@ use Rattle.vc_script.specs.declared.reply.Reply.TheVariants.{Refused}
 use Rattle.vc_script.specs.declared.refusal.Refusal.TheVariants.{Busy, NoRegion, NoSegment, NoSegmentForTable, NoSegmentForObject}
 use Rattle.vc_script.specs.Needs.{Need, NoNeed, need_shown}
 use Rattle.vc_dtdisc.specs.Rules.{Gone, Rules}
-use Rattle.vc_steps.specs.State.{State, Stepped, step_with_change, home_named, is_busy, step_with_refusal, step_with_reply, with_region}
+use Rattle.vc_steps.specs.State.{State, Stepped, step_with_change, home_named, is_home_busy, step_with_refusal, step_with_reply, with_region}
 use Rattle.vc_views.specs.Views.{DictHome}
 use Rattle.vc_commands.specs.Home.{Label, Home, is_home}
 use Rattle.vc_region.specs.Region.{Region}
 use Rattle.vc_commands.specs.FreedNames.{FreedNames}
-use Rattle.vc_steps.specs.Dicts.{dict_of, region_named}
+use Rattle.vc_steps.specs.Dicts.{dict_of, region_asked_for}
 use Rattle.vc_commands.specs.RegionRun.{GivesRegion}
-use Rattle.vc_steps.specs.Step.{GivesStep, cleared_or, opened_in, region_asked, region_of, region_step, shelf_step, step, step_of, step_on}
+use Rattle.vc_steps.specs.Step.{GivesStep, cleared_or, opened_in, region_asked, region_of_command, region_step, shelf_step, step, step_of, step_on}
 use Rattle.vc_commands.specs.RegionCommands.{in_region}
 use Rattle.vc_steps.specs.Refusals.{refusal_at, place_named, home_place}
 use Rattle.vc_steps.specs.Told.{tell}
 use Rattle.vc_commands.proofs.Firsts.{IsFirst, first-unmap}
-use Rattle.vc_steps.specs.Account.{Account, CountsFaults, Lacks, held_named, IsHeld, IsSession, Settles, account, accounts, account_after, settled_accounts, state_of, without_faults}
+use Rattle.vc_steps.specs.Account.{Account, CountsFaults, Lacks, held_named, IsHeldFrom, IsSession, Settles, account, accounts, account_after, settled_accounts, state_of, without_faults}
 use Rattle.vc_commands.specs.Held.{Held, LacksSegment, IsChange, home_of}
 use Rattle.vc_views.proofs.LinkLists.{map-set_same}
 use Rattle.vc_steps.proofs.Cells.{at_number-from_one, at_number_some, set_same}
@@ -36,7 +36,7 @@ use Rattle.vc_commands.proofs.Firsts.{find-first, find-set}
 use Rattle.vc_steps.proofs.FirstHome.{with_region-first}
 use Rattle.vc_steps.proofs.Settle.{settled-change, settled-at}
 use Rattle.vc_commands.proofs.Grants.{IsPlain}
-use Rattle.vc_steps.proofs.Settling.{OnlyAt, counts-equal, counts-one, settles-set}
+use Rattle.vc_steps.proofs.SettledShelf.{OnlyAt, counts-equal, counts-one, settles-set}
 use Rattle.vc_steps.proofs.Sessions.{Slots, apart-session, held-at, session-set}
 
 one_here : (p : ℕ) → count_by (λ q. q == p) (p ∷ []) ≡ 1
@@ -62,42 +62,42 @@ gives-same t gone reply after eq =
     }
 
 -- a command that works on no dictionary and in no region
-pub step-shelf : (s : State) (line : ℕ) (command : Command) (need : Need) → dict_of command ≡ None → region_of command ≡ None → step s line command need ≡ shelf_step s command need
+pub step-shelf : (s : State) (line : ℕ) (command : Command) (need : Need) → dict_of command ≡ None → region_of_command command ≡ None → step s line command need ≡ shelf_step s command need
 step-shelf s line command need dict region = ap (step_on s line command need) dict ∙ ap (step_of s line command need) region
 
 -- one that works in a region
-pub step-region : (s : State) (line : ℕ) (command : Command) (need : Need) (r : List ℕ) → dict_of command ≡ None → region_of command ≡ Some r → step s line command need ≡ step_of s line command need (Some r)
+pub step-region : (s : State) (line : ℕ) (command : Command) (need : Need) (r : List ℕ) → dict_of command ≡ None → region_of_command command ≡ Some r → step s line command need ≡ step_of s line command need (Some r)
 step-region s line command need r dict region = ap (step_on s line command need) dict ∙ ap (step_of s line command need) region
 
-opened_in-region : (command : Command) (r : List ℕ) → region_of command ≡ Some r → opened_in command ≡ Some r
+opened_in-region : (command : Command) (r : List ℕ) → region_of_command command ≡ Some r → opened_in command ≡ Some r
 opened_in-region (OpenDict d method x k) r e = absurd (none-some r e)
 opened_in-region command r e = e
 
 -- asks for segments there
-pub asked-region : (s : State) (command : Command) (r : List ℕ) → dict_of command ≡ None → region_of command ≡ Some r → region_asked s command ≡ Some r
-asked-region s command r dict region = ap (λ d. region_named s d (opened_in command)) dict ∙ opened_in-region command r region
+pub asked-region : (s : State) (command : Command) (r : List ℕ) → dict_of command ≡ None → region_of_command command ≡ Some r → region_asked s command ≡ Some r
+asked-region s command r dict region = ap (λ d. region_asked_for s d (opened_in command)) dict ∙ opened_in-region command r region
 
 -- and is not run where that isn't open
 pub step-none : (s : State) (gone : List Gone) (line : ℕ) (command : Command) (r : List ℕ) → home_named r s.homes ≡ None → GivesStep (step_of s line command NoNeed (Some r)) gone (Refused NoRegion) s gone
 step-none s gone line command r none =
     gives-same (step_of s line command NoNeed (Some r)) gone (Refused NoRegion) s (ap (region_step s r line command NoNeed) none)
 
-cleared-busy : (s : State) (r x : List ℕ) (command : Command) (t : Stepped) → command ≡ ClearRegion x → is_busy s r ≡ true → cleared_or s r command t ≡ step_with_refusal s Busy
+cleared-busy : (s : State) (r x : List ℕ) (command : Command) (t : Stepped) → command ≡ ClearRegion x → is_home_busy s r ≡ true → cleared_or s r command t ≡ step_with_refusal s Busy
 cleared-busy s r x command t is busy = ap (λ c. cleared_or s r c t) is ∙ ap (λ b. cond b (step_with_refusal s Busy) t) busy
 
-cleared-free : (s : State) (r : List ℕ) (command : Command) (t : Stepped) → ((x : List ℕ) → command ≡ ClearRegion x → is_busy s r ≡ false) → cleared_or s r command t ≡ t
+cleared-free : (s : State) (r : List ℕ) (command : Command) (t : Stepped) → ((x : List ℕ) → command ≡ ClearRegion x → is_home_busy s r ≡ false) → cleared_or s r command t ≡ t
 cleared-free s r (ClearRegion x) t free = ap (λ b. cond b (step_with_refusal s Busy) t) (free x refl)
 cleared-free s r command t free = refl
 
 -- nor is a region cleared in which a dictionary lies
-pub step-busy : (s : State) (gone : List Gone) (line : ℕ) (command : Command) (r x : List ℕ) (h : Home) → home_named r s.homes ≡ Some h → command ≡ ClearRegion x → is_busy s r ≡ true → GivesStep (step_of s line command NoNeed (Some r)) gone (Refused Busy) s gone
+pub step-busy : (s : State) (gone : List Gone) (line : ℕ) (command : Command) (r x : List ℕ) (h : Home) → home_named r s.homes ≡ Some h → command ≡ ClearRegion x → is_home_busy s r ≡ true → GivesStep (step_of s line command NoNeed (Some r)) gone (Refused Busy) s gone
 step-busy s gone line command r x h found is busy =
     gives-same (step_of s line command NoNeed (Some r)) gone (Refused Busy) s
     (ap (region_step s r line command NoNeed) found ∙ cleared-busy s r x command (step_with_change s r (in_region h line command NoNeed)) is busy)
 
 -- whatever the cells were before the change
 module _ (slots : Slots) (hs : List Held) (i : ℕ) (h g : Held) (at : slice_get hs i ≡ Some h) (session : IsSession slots hs) {cells : Blocks} (change : IsChange (record h { cells = cells }) g) where
-  held : IsHeld slots h
+  held : IsHeldFrom slots h
   held = held-at slots hs i h at session
 
   pub session-change : IsSession slots (set hs i g)
@@ -169,7 +169,7 @@ module _ (slots : Slots) (hs : List Held) (i : ℕ) (h g : Held) (at : slice_get
       let item : first.item ≡ home_of h = same_Some first.item (home_of h) (sym first.at ∙ (slice_get-map home_of hs i ∙ ap (option_map home_of) at)) in
       find-first (is_home r) (map home_of hs) i first ∙ ap (λ k. Some k) item
 
-  pub step-change : (kinds : List Rules) (ds : List DictHome) (gone : List Gone) (r : List ℕ) (line : ℕ) (command : Command) (reply : Reply) → IsFirst (is_home r) (map home_of hs) i → ((x : List ℕ) → command ≡ ClearRegion x → is_busy (state_of kinds slots hs ds) r ≡ false) → GivesRegion (in_region (home_of h) line command (need_shown reply)) ((home_of g).region, (home_of g).kept) reply → GivesStep (step_of (state_of kinds slots hs ds) line command (need_shown reply) (Some r)) gone reply (state_of kinds slots (set hs i g) ds) gone
+  pub step-change : (kinds : List Rules) (ds : List DictHome) (gone : List Gone) (r : List ℕ) (line : ℕ) (command : Command) (reply : Reply) → IsFirst (is_home r) (map home_of hs) i → ((x : List ℕ) → command ≡ ClearRegion x → is_home_busy (state_of kinds slots hs ds) r ≡ false) → GivesRegion (in_region (home_of h) line command (need_shown reply)) ((home_of g).region, (home_of g).kept) reply → GivesStep (step_of (state_of kinds slots hs ds) line command (need_shown reply) (Some r)) gone reply (state_of kinds slots (set hs i g) ds) gone
   step-change kinds ds gone r line command reply first free gives =
       let s = state_of kinds slots hs ds in
       let need = need_shown reply in

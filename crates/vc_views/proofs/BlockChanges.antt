@@ -13,7 +13,7 @@ use Rattle.vc_objects.specs.Parts.{IsWhole, dictionary_of}
 use Rattle.vc_views.specs.Dicts.{AreApartOver, AreDictsOver, DictRegion, DictSeen, IsDictOver, cells_held, dict_seen, dictionary_over, number_in, region_named}
 use Rattle.vc_views.specs.LayerLaws.{Entry}
 use Rattle.vc_views.specs.Leaves.{IsTouched}
-use Rattle.vc_views.proofs.Kept.{dictionary-kept, whole-kept}
+use Rattle.vc_views.proofs.OwnBlocks.{dictionary-kept, whole-kept}
 
 -- two dictionaries of one region have no block in common, by what is seen of them
 abbrev pub AreApart : DictSeen → DictSeen → Type 0

@@ -11,7 +11,7 @@ use Rattle.vc_objects.specs.Objects.{Dictionary, Table, holder_size, table_size}
 use Rattle.vc_objects.specs.Remove.{without_objects, freed_all, region_without}
 use Rattle.vc_counts.specs.Working.{dict_bytes, holders_bytes}
 use Rattle.vc_counts.proofs.DictBytes.{AreHeld, HasTable, IsBeside, IsSeated, bytes_in, table-gone}
-use Rattle.vc_counts.proofs.Sized.{bytes-without, sized-left}
+use Rattle.vc_counts.proofs.BlockSizes.{bytes-without, sized-left}
 
 pub holders-cons : (o : Object) (os : List Object) → holders_bytes (o ∷ os) ≡ holder_size o.bytes + holders_bytes os
 holders-cons o os =

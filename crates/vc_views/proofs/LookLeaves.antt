@@ -33,7 +33,7 @@ use Rattle.vc_views.specs.LayerLaws.{Entry}
 use Rattle.vc_views.specs.Leaves.{LooksAt}
 use Rattle.vc_views.proofs.LinkLists.{found-set, map-set_same}
 use Rattle.vc_views.proofs.Firsts.{named-first, named-found, value-read, value-set}
-use Rattle.vc_views.proofs.Touching.{IsClear, clear-others, dicts-set, each-whole, seen-set}
+use Rattle.vc_views.proofs.BlockChanges.{IsClear, clear-others, dicts-set, each-whole, seen-set}
 
 -- a look asks no discipline, so any meaning of boxes serves
 abbrev no_discipline : Discipline

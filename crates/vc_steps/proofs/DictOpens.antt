@@ -33,11 +33,11 @@ use Rattle.vc_script.specs.declared.reply.Reply.{Reply}
 use Rattle.vc_script.specs.declared.reply.Reply.TheVariants as reply
 use Rattle.vc_commands.specs.Held.{Held, IsChange, home_of}
 use Rattle.vc_steps.specs.Account.{Settles, accounts, held_named, settled_accounts, state_of}
-use Rattle.vc_steps.specs.DictHomes.{AreDicts, IsDictOf, cells_held, dict_home, dicts_in, dict_over}
+use Rattle.vc_steps.specs.DictHomes.{AreDicts, IsDictOf, cells_of_held, dict_home, dicts_in, dict_over}
 use Rattle.vc_steps.specs.Dicts.{dict_opened, dict_refused, open_dict_in, open_dict_step, open_dict_unless}
 use Rattle.vc_commands.specs.FreedNames.{FreedNames}
 use Rattle.vc_commands.specs.Labels.{kept_of, name_of}
-use Rattle.vc_steps.specs.Lacks.{InHeld, StepLacksFor}
+use Rattle.vc_steps.specs.WantedSegments.{InHeld, StepLacksFor}
 use Rattle.vc_steps.specs.Table.{TellsTable, table_reply}
 use Rattle.vc_steps.specs.Refusals.{home_place, refusal_at}
 use Rattle.vc_steps.specs.State.{State, Stepped, home_named, with_region}
@@ -48,14 +48,14 @@ use Rattle.vc_steps.proofs.RegionSteps.{moment_over}
 use Rattle.vc_steps.specs.Steps.{StepsBy}
 use Rattle.vc_steps.specs.Told.{tell}
 use Rattle.vc_steps.proofs.BestRegions.{best-named}
-use Rattle.vc_steps.proofs.Changing.{gives-same, homes-change, settles-none, settles-one, state-same}
+use Rattle.vc_steps.proofs.RegionChange.{gives-same, homes-change, settles-none, settles-one, state-same}
 use Rattle.vc_steps.proofs.DictChange.{Touches, clear-none, dicts-kept, dicts-push, homes-kept, homes-push, now-named, was-named}
 use Rattle.vc_steps.proofs.DictsStay.{Entry, Vs}
 use Rattle.vc_commands.proofs.Firsts.{IsFirst, first-unmap}
 use Rattle.vc_commands.proofs.Names.{name-none}
 use Rattle.vc_commands.specs.declared.region.home.HomeEntry.{HomeEntry}
 use Rattle.vc_steps.proofs.RegionAt.{RegionAt, region-first, region-named, region-stands, region_at}
-use Rattle.vc_steps.proofs.SessionHere.{SessionHere, helds, state_here, views}
+use Rattle.vc_steps.proofs.SessionHere.{SessionHere, helds, state_here, views, parts}
 use Rattle.vc_steps.proofs.Sessions.{Slots}
 
 -- what a fault tells where no table is put
@@ -92,41 +92,11 @@ pub record OpensIn {I : Type 0} {V : I → Type 0} (meaning : (x : I) × V x →
   pub k : ℕ
 
 module _ {I : Type 0} {V : I → Type 0} {meaning : (x : I) × V x → Discipline} {v : HomeEntry I V} (x : OpensIn meaning v) where
-  abbrev kinds : List Rules
-  kinds = x.here.kinds
-
-  abbrev slots : Slots
-  slots = x.here.slots
-
-  abbrev hs : List Held
-  hs = helds x.here
-
-  abbrev es : List Entry
-  es = x.here.es
-
-  abbrev vs : Vs
-  vs = views x.here
-
-  abbrev r : List ℕ
-  r = x.r
-
-  abbrev d : List ℕ
-  d = x.d
-
-  abbrev method : DictMethod
-  method = x.method
-
-  abbrev k : ℕ
-  k = x.k
-
-  abbrev j : ℕ
-  j = x.j
+  open (parts x.here) use {kinds, slots, hs, es, vs, s}
+  open x use {r, d, method, k, j}
 
   abbrev h : Held
   h = region_at meaning x.region
-
-  abbrev s : State
-  s = state_here x.here
 
   at : slice_get hs j ≡ Some h
   at = region-stands meaning x.region
@@ -178,7 +148,7 @@ module _ {I : Type 0} {V : I → Type 0} {meaning : (x : I) × V x → Disciplin
         subst (λ x. Settled (refusal_at s (OpenDict d method r k) x)) (same_Some (reply.Refused NoSegmentForTable) told same)
         (subst (λ o. Settled (home_place o)) (sym home-found) (settles-one slots hs j h g at x.here.held change asked.rose))
     settles-failed fault told same asked =
-        subst (λ x. Settled (refusal_at s (OpenDict d method r k) x)) (same_Some (reply.Refused why.TooManySegments) told same) (settles-none slots hs j h g at x.here.held change asked)
+        subst (λ x. Settled (refusal_at s (OpenDict d method r k) x)) (same_Some (reply.Refused why.TooManySegments) told same) (settles-none slots hs j h g at x.here.held change asked.faults)
 
     -- and was wanting for the table
     pub lacks-failed : (fault : RegionFault) (told : Reply) → table_reply fault ≡ Some told → RefusedBy fault (LacksTable (Some 16) h.disc g.disc) h.disc g.disc → Touches h g [] [] → StepLacksFor s hs gs (OpenDict d method r k) told
@@ -206,9 +176,9 @@ module _ {I : Type 0} {V : I → Type 0} {meaning : (x : I) × V x → Disciplin
   -- no block is put for its table, by the answer to the fault
   module _ (g : Held) {cells : Blocks} (change : IsChange (record h { cells = cells }) g) (gone : List Gone) where
     no-fault : (fault : RegionFault) → table_reply fault ≡ None → RefusedBy fault (LacksTable (Some 16) h.disc g.disc) h.disc g.disc → g.disc.faults ≡ h.disc.faults
-    no-fault code.OutOfMemory none asked = asked
+    no-fault code.OutOfMemory none asked = asked.faults
     no-fault code.NoSegment none asked = absurd (none-some _ (sym none))
-    no-fault fault none asked = asked
+    no-fault fault none asked = asked.faults
 
     pub steps-failed : {E : Type 0} (fault : RegionFault) (answer : Result Reply E) → TellsTable fault answer → RefusedBy fault (LacksTable (Some 16) h.disc g.disc) h.disc g.disc → IsRefusal (open_dictionary h.disc.terms (layout_in h.region) 0 method) fault → dict_refused s (home_of h) d k ≡ None → Touches h g [] [] → g.region ≡ h.region → g.labels ≡ h.labels → StepsBy answer (moment_over slots es vs kinds gone hs) (moment_over slots es vs kinds gone (set hs j g)) (OpenDict d method r k) (λ st. open_dict_step st d method r k)
     steps-failed fault (Ok told) tells asked refusal none touch region labels =
@@ -249,7 +219,7 @@ module _ {I : Type 0} {V : I → Type 0} {meaning : (x : I) × V x → Disciplin
     }
 
     opened-own : own_blocks (dict_over after_hs entry_opened) ≡ mine
-    opened-own = ap (λ o. own_blocks (dictionary_of new (cells_held o))) opened-held
+    opened-own = ap (λ o. own_blocks (dictionary_of new (cells_of_held o))) opened-held
 
     pub dicts-opened : AreDicts kinds after_hs (es ++ entry_opened ∷ [])
     dicts-opened =
@@ -268,7 +238,7 @@ module _ {I : Type 0} {V : I → Type 0} {meaning : (x : I) × V x → Disciplin
     entry-is : (dict : Dictionary) → dict ≡ dictionary_of new g.cells → (let x : DictHome = record { name = d; home = r; kind = k; views = None; dict = dict } in x) ≡ dict_home after_hs vs entry_opened
     entry-is dict same =
         let one : List ℕ → ℕ → Option (List ℕ) → Dictionary → DictHome = λ n m v x. record { name = d; home = n; kind = m; views = v; dict = x } in
-        ap (λ m. one r m None dict) (sym kind) ∙ (ap (λ v. one r new.kind v dict) (sym free) ∙ ap (one r new.kind (vs n)) (same ∙ sym (ap (λ o. dictionary_of new (cells_held o)) opened-held)))
+        ap (λ m. one r m None dict) (sym kind) ∙ (ap (λ v. one r new.kind v dict) (sym free) ∙ ap (one r new.kind (vs n)) (same ∙ sym (ap (λ o. dictionary_of new (cells_of_held o)) opened-held)))
 
     region-opened : (region : Layout ℕ) → layout_in g.region ≡ region → with_region r (OfBest (relabel_layout (name_of h.labels) region)) (home_of h).kept s.homes ≡ map home_of after_hs
     region-opened region same =

@@ -16,7 +16,7 @@ use Rattle.vc_script.specs.declared.reply.Reply.{Reply}
 use Rattle.vc_script.specs.declared.reply.Reply.TheVariants.{Refused}
 use Rattle.vc_commands.specs.Held.{Held}
 use Rattle.vc_steps.specs.Account.{StepLacks, held_named}
-use Rattle.vc_steps.specs.Dicts.{dict_of, seat_of, with_dict}
+use Rattle.vc_steps.specs.Dicts.{dict_of, seat_at_home, with_dict}
 use Rattle.vc_steps.specs.State.{State, home_named, with_region}
 use Rattle.vc_views.specs.Views.{DictHome, dict_named}
 use Rattle.vc_commands.specs.Home.{Home, Label}
@@ -24,7 +24,7 @@ use Rattle.vc_steps.specs.Step.{region_asked}
 
 -- by where a command on a dictionary works
 abbrev pub SeatLacks : Command → Reply → Discipline → Discipline → DictHome → Option Home → Option Rules → Type 0
-SeatLacks command reply old new d (Some h) (Some rules) = LacksBy (seat_of d h rules) command reply old new
+SeatLacks command reply old new d (Some h) (Some rules) = LacksBy (seat_at_home d h rules) command reply old new
 SeatLacks command reply old new d (Some h) None = ⊥
 SeatLacks command reply old new d None rules = ⊥
 

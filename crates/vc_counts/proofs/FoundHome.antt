@@ -30,15 +30,15 @@ use Rattle.vc_steps.proofs.Helds.{any-named}
 use Rattle.vc_steps.proofs.RegionAt.{RegionAt, region-named, region_at, stored_at}
 use Rattle.vc_steps.proofs.DictRegions.{dicts-to, held_seen, over-seen, regions-held}
 use Rattle.vc_steps.specs.DictHomes.{cells_named, dict_home, dicts_in}
-use Rattle.vc_steps.specs.Dicts.{dict_of, region_named}
-use Rattle.vc_steps.specs.Homes.{held_all, held_in}
+use Rattle.vc_steps.specs.Dicts.{dict_of, region_asked_for}
+use Rattle.vc_steps.specs.Homes.{held_all, held_in_session}
 use Rattle.vc_steps.specs.State.{home_named}
 use Rattle.vc_steps.specs.declared.session.Session.{Session}
 use Rattle.vc_views.specs.Dicts.{AreDictsOver, DictRegion, IsDictOver, dictionary_over, region_seen}
 use Rattle.vc_views.specs.Numbers.{views_by}
 use Rattle.vc_views.specs.Views.{DictHome, dict_named}
 use Rattle.vc_counts.specs.Holders.{AreSomeDicts, IsWholeIn}
-use Rattle.vc_counts.specs.Working.{busy_in_home, dict_bytes, dict_in, holders_bytes, open_state, region_worked, segments_at, segments_in, table_bytes, table_in, worked_in}
+use Rattle.vc_counts.specs.Working.{busy_in_home, dict_bytes, dict_in, holders_bytes, open_state, region_worked, segments_at, segments_at_home, table_bytes, table_at_home, worked_in}
 
 module _ {I : Type 0} {V : I → Type 0} (meaning : (x : I) × V x → Discipline) (homes : List (List ℕ × HomeEntry I V)) (labels : List Labels) (r : List ℕ) (named : length labels ≡ length homes) where
   abbrev hs : List Held
@@ -60,7 +60,7 @@ module _ {I : Type 0} {V : I → Type 0} (meaning : (x : I) × V x → Disciplin
     busy-found = sym (ap busy_in_home there ∙ ap (λ (t : Stat). t.sbusy) (stat-relabelled (name_of own.l) (rest_in h.region) ∙ rest-stat (region_of h.region)))
 
     pub segments-found : segments_of (region_of h.region) ≡ segments_at (Some r) (map home_of hs)
-    segments-found = sym (ap segments_in there ∙ (segments-relabelled (name_of own.l) (rest_in h.region) ∙ rest-segments (region_of h.region)))
+    segments-found = sym (ap segments_at_home there ∙ (segments-relabelled (name_of own.l) (rest_in h.region) ∙ rest-segments (region_of h.region)))
 
 -- what the entry of a name tells of its dictionary, whatever the cells of its region
 module _ (hs : List Held) (views : ℕ → Option (List ℕ)) {A : Type 0} (told : DictHome → A) (by_entry : DictEntry → A) (same : (e : List ℕ × DictEntry) → told (dict_home hs views e) ≡ by_entry e.1) (d : List ℕ) where
@@ -78,8 +78,8 @@ module _ (hs : List Held) (views : ℕ → Option (List ℕ)) {A : Type 0} (told
 pub dict-worked : {I : Type 0} {V : I → Type 0} {D : Type 0} (meaning : (x : I) × V x → Discipline) (session : Session D I V) (command : Command) (d : List ℕ) (o : Option DictEntry) → dict_of command ≡ Some d → o ≡ lookup (bytes_eq d) session.dicts.entries → option_map (λ (e : DictEntry). e.home) o ≡ region_worked (open_state meaning session) command
 dict-worked meaning session command d o name entry =
     ap (option_map (λ (e : DictEntry). e.home)) entry
-    ∙ (sym (dict-told (held_in meaning session) (views_by session.paths session.dicts.entries) (λ h. h.home) (λ e. e.home) (λ e. refl) d session.dicts.entries)
-    ∙ ap (λ x. region_named (open_state meaning session) x (worked_in command)) (sym name))
+    ∙ (sym (dict-told (held_in_session meaning session) (views_by session.paths session.dicts.entries) (λ h. h.home) (λ e. e.home) (λ e. refl) d session.dicts.entries)
+    ∙ ap (λ x. region_asked_for (open_state meaning session) x (worked_in command)) (sym name))
 
 -- the bytes of the table that an entry tells
 abbrev pub entry_table : DictEntry → ℕ
@@ -98,10 +98,10 @@ module _ (read : Dictionary → ℕ) where
     here = dict_named d (open_state meaning session).dicts
 
     abbrev by_entry : DictEntry → ℕ
-    by_entry e = read (dictionary_of e.dict (cells_named (held_in meaning session) e.home))
+    by_entry e = read (dictionary_of e.dict (cells_named (held_in_session meaning session) e.home))
 
     read-told : reads here ≡ option_map by_entry (lookup (bytes_eq d) session.dicts.entries)
-    read-told = dict-told (held_in meaning session) (views_by session.paths session.dicts.entries) (λ h. read h.dict) by_entry (λ e. refl) d session.dicts.entries
+    read-told = dict-told (held_in_session meaning session) (views_by session.paths session.dicts.entries) (λ h. read h.dict) by_entry (λ e. refl) d session.dicts.entries
 
     read-found : (e : DictEntry) → Some e ≡ lookup (bytes_eq d) session.dicts.entries → by_entry e ≡ read_in here
     read-found e entry = sym (ap (λ o. unwrap_or o 0) (read-told ∙ ap (option_map by_entry) (sym entry)))
@@ -109,7 +109,7 @@ module _ (read : Dictionary → ℕ) where
     read-lacks : None ≡ lookup (bytes_eq d) session.dicts.entries → 0 ≡ read_in here
     read-lacks entry = sym (ap (λ o. unwrap_or o 0) (read-told ∙ ap (option_map by_entry) (sym entry)))
 
-table-in : (o : Option DictHome) → read_in table_bytes o ≡ table_in o
+table-in : (o : Option DictHome) → read_in table_bytes o ≡ table_at_home o
 table-in None = refl
 table-in (Some h) = refl
 
@@ -119,10 +119,10 @@ dict-in (Some h) = refl
 
 module _ {I : Type 0} {V : I → Type 0} {D : Type 0} (meaning : (x : I) × V x → Discipline) (session : Session D I V) (d : List ℕ) where
   -- that of the dictionary of a name, where the session has one, and its holders too
-  pub table-found : (e : DictEntry) → Some e ≡ lookup (bytes_eq d) session.dicts.entries → entry_table e ≡ table_in (dict_named d (open_state meaning session).dicts)
+  pub table-found : (e : DictEntry) → Some e ≡ lookup (bytes_eq d) session.dicts.entries → entry_table e ≡ table_at_home (dict_named d (open_state meaning session).dicts)
   table-found e entry = read-found table_bytes meaning session d e entry ∙ table-in (dict_named d (open_state meaning session).dicts)
 
-  pub table-lacks : None ≡ lookup (bytes_eq d) session.dicts.entries → 0 ≡ table_in (dict_named d (open_state meaning session).dicts)
+  pub table-lacks : None ≡ lookup (bytes_eq d) session.dicts.entries → 0 ≡ table_at_home (dict_named d (open_state meaning session).dicts)
   table-lacks entry = read-lacks table_bytes meaning session d entry ∙ table-in (dict_named d (open_state meaning session).dicts)
 
   pub dict-lacks : None ≡ lookup (bytes_eq d) session.dicts.entries → 0 ≡ dict_in (dict_named d (open_state meaning session).dicts)
@@ -130,7 +130,7 @@ module _ {I : Type 0} {V : I → Type 0} {D : Type 0} (meaning : (x : I) × V x 
 
   pub dict-found : length session.labels.items ≡ length session.homes.entries → (e : DictEntry) → Some e ≡ lookup (bytes_eq d) session.dicts.entries → entry_table e + holders_bytes (dictionary_over (map region_seen session.homes.entries) (d, e)).objects ≡ dict_in (dict_named d (open_state meaning session).dicts)
   dict-found labels e entry =
-      let held : List Held = held_in meaning session in
+      let held : List Held = held_in_session meaning session in
       ap (λ (x : Dictionary). entry_table e + holders_bytes x.objects)
       (ap (λ regions. dictionary_over regions (d, e)) (regions-held meaning session.homes.entries session.labels.items labels) ∙ over-seen held (d, e))
       ∙ (read-found dict_bytes meaning session d e entry ∙ dict-in (dict_named d (open_state meaning session).dicts))
@@ -149,8 +149,8 @@ whole-among kinds regions d (x ∷ es) are v e =
     (λ (t : bytes_eq d x.0 ≡ false). whole-among kinds regions d es are.2 v (sym (ap (λ b. cond b (Some x.1) (lookup (bytes_eq d) es)) t) ∙ e))
     (cases_Bool (bytes_eq d x.0))
 
-pub whole-found : {I : Type 0} {V : I → Type 0} {D : Type 0} (meaning : (x : I) × V x → Discipline) (session : Session D I V) (d : List ℕ) → length session.labels.items ≡ length session.homes.entries → AreSomeDicts (held_in meaning session) session.dicts.entries → (e : DictEntry) → Some e ≡ lookup (bytes_eq d) session.dicts.entries → IsWholeIn (map region_seen session.homes.entries) e
+pub whole-found : {I : Type 0} {V : I → Type 0} {D : Type 0} (meaning : (x : I) × V x → Discipline) (session : Session D I V) (d : List ℕ) → length session.labels.items ≡ length session.homes.entries → AreSomeDicts (held_in_session meaning session) session.dicts.entries → (e : DictEntry) → Some e ≡ lookup (bytes_eq d) session.dicts.entries → IsWholeIn (map region_seen session.homes.entries) e
 whole-found meaning session d labels are e entry =
-    let held : List Held = held_in meaning session in
+    let held : List Held = held_in_session meaning session in
     subst (λ regions. IsWholeIn regions e) (sym (regions-held meaning session.homes.entries session.labels.items labels))
     (whole-among are.kinds (map held_seen held) d session.dicts.entries (dicts-to held are.kinds session.dicts.entries are.dicts) e (sym entry))

@@ -28,10 +28,10 @@ use Rattle.vc_script.specs.declared.command.Command.TheVariants.{Remethod}
 use Rattle.vc_counts.specs.Working.{dict_bytes, holders_bytes}
 use Rattle.vc_counts.proofs.Clear.{KeepsSized, keeps-alloc}
 use Rattle.vc_counts.proofs.DictBytes.{AreHeld, HasTable, IsBeside, IsSeated, PutsBytes, bytes_in, puts-alloc, table-gone}
-use Rattle.vc_counts.proofs.Emptied.{holders-cons, holders-gone, table-left}
-use Rattle.vc_counts.proofs.Parted.{weight, weight-parted}
+use Rattle.vc_counts.proofs.EndedBytes.{holders-cons, holders-gone, table-left}
+use Rattle.vc_counts.proofs.ObjectParts.{weight, weight-parted}
 use Rattle.vc_counts.proofs.RegionLends.{either}
-use Rattle.vc_counts.proofs.Sized.{HasSized, size_found}
+use Rattle.vc_counts.proofs.BlockSizes.{HasSized, size_found}
 
 -- the bytes of holders as a count
 abbrev size_of : Object → ℕ

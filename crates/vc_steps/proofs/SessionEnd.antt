@@ -19,7 +19,7 @@ use Rattle.vc_views.specs.Views.{DictHome}
 use Rattle.vc_commands.specs.Home.{Home}
 use Rattle.vc_steps.specs.Told.{ended_told, tell}
 use Rattle.vc_steps.proofs.Cells.{at_number_some}
-use Rattle.vc_steps.proofs.Told.{tell-append}
+use Rattle.vc_steps.proofs.KindsTold.{tell-append}
 
 -- with no kind there is no dictionary
 pub no-dicts : (held : List Held) (es : List (List ℕ × DictEntry)) → AreDicts [] held es → es ≡ []

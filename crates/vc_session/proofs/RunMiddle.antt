@@ -17,8 +17,8 @@ use Rattle.vc_session.specs.Engine.{IsIdle, IsStep, LineRan}
 use Rattle.vc_session.specs.ProperState.{IsProperState}
 use Rattle.vc_session.specs.QuietText.{line_by}
 use Rattle.vc_session.specs.Replay.{Told}
-use Rattle.vc_session.specs.Run.{command_then, commands, fault_in, fault_then, nothing_ran}
-use Rattle.vc_session.specs.SoFar.{Found, Running}
+use Rattle.vc_session.specs.Run.{command_then, commands_in, fault_in, fault_then, nothing_ran}
+use Rattle.vc_session.specs.SoFar.{FoundSoFar, Running}
 use Rattle.vc_session.specs.Text.{counts_of}
 use Rattle.vc_session.proofs.Progress.{progress-blank, progress-over, progress-same, progress-start, progress-step}
 
@@ -33,14 +33,14 @@ running-start tool quiet start counts all none = record {
 }
 
 -- the same run, over another sink
-pub running-over : {tool : Tool} {quiet : Bool} {start now : Moment} {counts : Counts} {front : List ℕ} {count : ℕ} {whole : Found} (written : Option (List ℕ)) → Running tool quiet start now counts front count whole → Running tool quiet start (over_sink now written) counts front count whole
+pub running-over : {tool : Tool} {quiet : Bool} {start now : Moment} {counts : Counts} {front : List ℕ} {count : ℕ} {whole : FoundSoFar} (written : Option (List ℕ)) → Running tool quiet start now counts front count whole → Running tool quiet start (over_sink now written) counts front count whole
 running-over written r = record { done = r.done; progress = progress-over written r.progress; size = r.size; short = r.short; script = r.script; good = r.good }
 
 -- a run stays what it is where nothing changed
-pub running-same : {tool : Tool} {quiet : Bool} {start now next : Moment} {before counts : Counts} {front : List ℕ} {count : ℕ} {whole : Found} → Running tool quiet start now before front count whole → IsIdle now next before counts → Running tool quiet start next counts front count whole
+pub running-same : {tool : Tool} {quiet : Bool} {start now next : Moment} {before counts : Counts} {front : List ℕ} {count : ℕ} {whole : FoundSoFar} → Running tool quiet start now before front count whole → IsIdle now next before counts → Running tool quiet start next counts front count whole
 running-same r idle = record { done = r.done; progress = progress-same r.progress idle; size = r.size; short = r.short; script = r.script; good = r.good }
 
-module _ {tool : Tool} {quiet : Bool} {start now : Moment} {before : Counts} {front : List ℕ} {count : ℕ} {whole : Found} (n : ℕ) (line : List ℕ) (follows : n ≡ count + 1) (r : Running tool quiet start now before front count whole) where
+module _ {tool : Tool} {quiet : Bool} {start now : Moment} {before : Counts} {front : List ℕ} {count : ℕ} {whole : FoundSoFar} (n : ℕ) (line : List ℕ) (follows : n ≡ count + 1) (r : Running tool quiet start now before front count whole) where
   size_next : length (whole ++ (n, Ok line) ∷ []) ≡ n
   size_next = length_push whole (n, Ok line) ∙ (ap (λ k. k + 1) r.size ∙ sym follows)
 
@@ -51,7 +51,7 @@ module _ {tool : Tool} {quiet : Bool} {start now : Moment} {before : Counts} {fr
     progress = progress-blank n (omega (arith, follows)) r.progress;
     size = size_next;
     short = all-push _ whole (n, Ok line) r.short refl;
-    script = λ behind. ap (commands tool) (append_assoc whole ((n, Ok line) ∷ []) behind) ∙ (r.script ((n, Ok line) ∷ behind) ∙ ap (λ a. r.done ++ command_then n a (commands tool behind)) blank);
+    script = λ behind. ap (commands_in tool) (append_assoc whole ((n, Ok line) ∷ []) behind) ∙ (r.script ((n, Ok line) ∷ behind) ∙ ap (λ a. r.done ++ command_then n a (commands_in tool behind)) blank);
     good = λ behind. ap (fault_in tool) (append_assoc whole ((n, Ok line) ∷ []) behind) ∙ (r.good ((n, Ok line) ∷ behind) ∙ ap (λ a. fault_then n a (fault_in tool behind)) blank);
   }
 
@@ -63,10 +63,10 @@ module _ {tool : Tool} {quiet : Bool} {start now : Moment} {before : Counts} {fr
     size = size_next;
     short = all-push _ whole (n, Ok line) r.short refl;
     script = λ behind.
-        ap (commands tool) (append_assoc whole ((n, Ok line) ∷ []) behind)
+        ap (commands_in tool) (append_assoc whole ((n, Ok line) ∷ []) behind)
         ∙ (r.script ((n, Ok line) ∷ behind)
-        ∙ (ap (λ a. r.done ++ command_then n a (commands tool behind)) is
-        ∙ sym (append_assoc r.done ((n, c) ∷ []) (commands tool behind))));
+        ∙ (ap (λ a. r.done ++ command_then n a (commands_in tool behind)) is
+        ∙ sym (append_assoc r.done ((n, c) ∷ []) (commands_in tool behind))));
     good = λ behind. ap (fault_in tool) (append_assoc whole ((n, Ok line) ∷ []) behind) ∙ (r.good ((n, Ok line) ∷ behind) ∙ ap (λ a. fault_then n a (fault_in tool behind)) is);
   }
 
@@ -75,7 +75,7 @@ pub put-behind : (old new piece : List ℕ) (was now : Option (List ℕ)) → wa
 put-behind old new piece was now e0 e1 told =
     same_Some new (old ++ piece) (sym e1 ∙ subst (λ (o : Option (List ℕ)). Told o now piece) e0 told)
 
-module _ {tool : Tool} {quiet : Bool} {start now next : Moment} {before counts : Counts} {whole : Found} (front old new : List ℕ) {count : ℕ} (n : ℕ) (line : List ℕ) (held : now.written ≡ Some old) (holds : next.written ≡ Some new) (follows : n ≡ count + 1) (r : Running tool quiet start now before (front ++ old) count whole) where
+module _ {tool : Tool} {quiet : Bool} {start now next : Moment} {before counts : Counts} {whole : FoundSoFar} (front old new : List ℕ) {count : ℕ} (n : ℕ) (line : List ℕ) (held : now.written ≡ Some old) (holds : next.written ≡ Some new) (follows : n ≡ count + 1) (r : Running tool quiet start now before (front ++ old) count whole) where
   running-by : (a : LineAnswer) → answer tool line ≡ a → LineRan quiet now next before counts n a None → Running tool quiet start next counts (front ++ new) n (whole ++ (n, Ok line) ∷ [])
   running-by Blank is ran =
       subst (λ xs. Running tool quiet start next counts (front ++ xs) n (whole ++ (n, Ok line) ∷ []))
@@ -93,15 +93,15 @@ module _ {tool : Tool} {quiet : Bool} {start now next : Moment} {before counts :
 
 -- a bad line ends the commands, and changes nothing
 pub record BadLine (tool : Tool) (now next : Moment) (before counts : Counts) (n : ℕ) (line : List ℕ) (fault : LineFault) : Type 0 where
-  pub none : (behind : Found) → commands tool ((n, Ok line) ∷ behind) ≡ []
-  pub first : (behind : Found) → fault_in tool ((n, Ok line) ∷ behind) ≡ Some (n, fault)
+  pub none : (behind : FoundSoFar) → commands_in tool ((n, Ok line) ∷ behind) ≡ []
+  pub first : (behind : FoundSoFar) → fault_in tool ((n, Ok line) ∷ behind) ≡ Some (n, fault)
   pub idle : IsIdle now next before counts
 
 bad-by : (quiet : Bool) {now next : Moment} {before counts : Counts} (tool : Tool) (n : ℕ) (line : List ℕ) (fault : LineFault) (a : LineAnswer) → answer tool line ≡ a → LineRan quiet now next before counts n a (Some fault) → BadLine tool now next before counts n line fault
 bad-by quiet tool n line fault Blank is ran = absurd (none-some fault (sym ran.0))
 bad-by quiet tool n line fault (Is c) is ran = absurd (none-some fault (sym ran.0))
 bad-by quiet tool n line fault (Bad why) is ran = record {
-  none = λ behind. ap (λ a. command_then n a (commands tool behind)) is;
+  none = λ behind. ap (λ a. command_then n a (commands_in tool behind)) is;
   first = λ behind. ap (λ a. fault_then n a (fault_in tool behind)) is ∙ ap (λ f. Some (n, f)) (sym (same_Some fault why ran.0));
   idle = ran.1;
 }

@@ -23,7 +23,7 @@ use Rattle.vc_session.specs.Generating.{Generating, RanAll, RunsCommands}
 use Rattle.vc_session.specs.Progress.{Progress}
 use Rattle.vc_session.specs.ProperState.{IsProperState}
 use Rattle.vc_session.specs.QuietText.{line_by}
-use Rattle.vc_session.specs.Replay.{IsGenerated, IsRun, Told, on_lines}
+use Rattle.vc_session.specs.Replay.{IsGenerated, IsRunOf, Told, on_lines}
 use Rattle.vc_session.specs.Run.{nothing_ran}
 use Rattle.vc_session.specs.declared.engine.Stop.{Stop}
 use Rattle.vc_session.specs.Text.{counts_of, is_quiet, lines_text, tail_lines, text_of}
@@ -139,12 +139,12 @@ generating-ends {start} {now} {told} {told'} {counts} {lines} tool w n after tai
     let few : lines < 2 ^ 64 = omega (arith, r.count, generated-most tool n w.seed most) in
     let progress : Progress (is_quiet w) (over_sink start told) (over_sink now told') counts r.text lines (on_lines 1 commands) =
     subst (λ q. Progress q (over_sink start told) (over_sink now told') counts r.text lines (on_lines 1 commands)) (sym quiet) r.progress in
-    let run : IsRun (is_quiet w) (text_of w lines) (over_sink start told) (over_sink (moment_at_end now) after) (on_lines 1 commands) =
+    let run : IsRunOf (is_quiet w) (text_of w lines) (over_sink start told) (over_sink (moment_at_end now) after) (on_lines 1 commands) =
     text-ends w lines after tail progress few ends (told-more told told' after r.text tail r.tells wrote) in
     record {
       run =
-          subst (λ q. IsRun q (text_of w (length commands)) (over_sink start told) (over_sink (moment_at_end now) after) (on_lines 1 commands)) quiet
-          (subst (λ k. IsRun (is_quiet w) (text_of w k) (over_sink start told) (over_sink (moment_at_end now) after) (on_lines 1 commands)) r.count run);
+          subst (λ q. IsRunOf q (text_of w (length commands)) (over_sink start told) (over_sink (moment_at_end now) after) (on_lines 1 commands)) quiet
+          (subst (λ k. IsRunOf (is_quiet w) (text_of w k) (over_sink start told) (over_sink (moment_at_end now) after) (on_lines 1 commands)) r.count run);
     }
 
 -- the same of the answers of what was called

@@ -13,7 +13,7 @@ use Rattle.vc_script.specs.declared.reply.Reply.TheVariants.{Closed}
 use Rattle.vc_region.proofs.Relabel.{segments-relabelled}
 use Rattle.vc_dtdisc.specs.Rules.{Rules}
 use Rattle.vc_commands.specs.Labels.{name_of}
-use Rattle.vc_steps.specs.State.{State, step_with_reply, close_home, close_step, step_with_close, home_named, is_busy, step_with_refusal, without_home}
+use Rattle.vc_steps.specs.State.{State, step_with_reply, close_home, close_step, step_with_close, home_named, is_home_busy, step_with_refusal, without_home}
 use Rattle.vc_views.specs.Views.{DictHome}
 use Rattle.vc_commands.specs.Home.{Home, is_home}
 use Rattle.vc_steps.specs.Account.{Account, IsSession, account, accounts, account_after, account_back, settled_accounts, state_of}
@@ -33,7 +33,7 @@ account-closed d e segments has back =
     let out : take (length d.out - length segments) d.out ≡ e.out =
     front-out has.0 segments d.out has.1 ∙ sym (back.out has.0 has.1 ∙ append-nil has.0) in
     ap (λ o. let a : Account = record { out = o; terms = e.terms; faults = e.faults } in a) (sym out)
-    ∙ (ap (λ t. let a : Account = record { out = (account_back d segments).out; terms = t; faults = e.faults } in a) back.terms
+    ∙ (ap (λ t. let a : Account = record { out = (account_back d segments).out; terms = t; faults = e.faults } in a) back.kept.terms
     ∙ ap (λ f. let a : Account = record { out = (account_back d segments).out; terms = d.terms; faults = f } in a) back.faults)
 
 -- another place stays
@@ -100,7 +100,7 @@ without_home-at r (g ∷ hs) (suc i) h at passes none =
     ap (λ b. cond b hs (g ∷ without_home r hs)) parts.0 ∙ ap (λ ks. g ∷ ks) (without_home-at r hs i h at passes parts.1)
 
 -- a region in which a dictionary lies is not closed
-pub close-busy : (s : State) (r : List ℕ) (i : ℕ) → IsFirst (is_home r) s.homes i → is_busy s r ≡ true → close_step s r ≡ step_with_refusal s Busy
+pub close-busy : (s : State) (r : List ℕ) (i : ℕ) → IsFirst (is_home r) s.homes i → is_home_busy s r ≡ true → close_step s r ≡ step_with_refusal s Busy
 close-busy s r i first busy =
     ap (close_home s r) (find-first (is_home r) s.homes i first) ∙ ap (λ b. cond b (step_with_refusal s Busy) (step_with_close s r first.item)) busy
 
@@ -118,7 +118,7 @@ module _ (slots slots' : Slots) (hs : List Held) (i : ℕ) (h : Held) (at : slic
       ∙ (map-set (option_map (λ (a : Account). a.terms)) (accounts slots) (h.place - 1) (Some (account_after h))
       ∙ ap (λ rs. set rs (h.place - 1) (Some h.disc.terms)) (terms_of slots)))
 
-  pub step-close : (kinds : List Rules) (ds : List DictHome) (r : List ℕ) (count : ℕ) → IsFirst (is_home r) (map home_of hs) i → is_busy (state_of kinds slots hs ds) r ≡ false → count ≡ length (segments_of h.region) → close_step (state_of kinds slots hs ds) r ≡ step_with_reply (state_of kinds slots' (remove hs i) ds) (Closed r count)
+  pub step-close : (kinds : List Rules) (ds : List DictHome) (r : List ℕ) (count : ℕ) → IsFirst (is_home r) (map home_of hs) i → is_home_busy (state_of kinds slots hs ds) r ≡ false → count ≡ length (segments_of h.region) → close_step (state_of kinds slots hs ds) r ≡ step_with_reply (state_of kinds slots' (remove hs i) ds) (Closed r count)
   step-close kinds ds r count first free counted =
       let item : first.item ≡ home_of h = same_Some first.item (home_of h) (sym first.at ∙ (slice_get-map home_of hs i ∙ ap (option_map home_of) at)) in
       let found : home_named r (map home_of hs) ≡ Some (home_of h) = find-first (is_home r) (map home_of hs) i first ∙ ap (λ k. Some k) item in
