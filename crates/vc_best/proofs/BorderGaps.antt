@@ -31,7 +31,7 @@ use Rattle.vc_best.proofs.Layouts.{behind_of}
 use Rattle.vc_best.proofs.Merges.{merged-in}
 use Rattle.vc_best.proofs.Nexts.{next-extent, next-off, next-place}
 use Rattle.vc_best.proofs.Outs.{inside-not, next-kept}
-use Rattle.vc_best.proofs.Releases.{busy-free}
+use Rattle.vc_best.proofs.FreeBlocks.{busy-free}
 use Rattle.vc_best.proofs.Sets.{tiling-set}
 
 -- what stands behind a place where no two free extents stand beside each other

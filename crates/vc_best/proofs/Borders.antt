@@ -17,7 +17,7 @@ use Rattle.vc_best.proofs.Cuts.{behind-here, change_at-here, extent_in-here}
 use Rattle.vc_best.proofs.Known.{IsCut, end-of, now-same, off-of, then-behind, then-extent, then-steps}
 use Rattle.vc_best.proofs.Layouts.{behind_of}
 use Rattle.vc_best.proofs.Merges.{merged-weaker}
-use Rattle.vc_best.proofs.Releases.{absorb-busy, absorbed, absorbed-name}
+use Rattle.vc_best.proofs.FreeBlocks.{absorb-busy, absorbed, absorbed-name}
 
 -- the free bytes of an extent
 pub free-busy : (o : Option Extent) (y : Extent) → o ≡ Some y → 0 < y.size → free_bytes o ≡ 0

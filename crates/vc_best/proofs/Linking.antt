@@ -20,7 +20,7 @@ use Rattle.vc_best.specs.Changes.{absorb}
 use Rattle.vc_best.proofs.Known.{cut-of}
 use Rattle.vc_best.proofs.Nexts.{next-extent, next-off, some-address}
 use Rattle.vc_best.proofs.Outs.{contains-append}
-use Rattle.vc_best.proofs.Releases.{busy-free, extent, lower-before}
+use Rattle.vc_best.proofs.FreeBlocks.{busy-free, extent, lower-before}
 
 -- the name of an extent beside one
 pub name-none : (n : ℕ) (o : Option Extent) → o ≡ None → free_name n o ≡ []

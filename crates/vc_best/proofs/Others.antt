@@ -16,7 +16,7 @@ use Rattle.vc_base.proofs.Places.{at-place}
 use Rattle.vc_seg.specs.declared.fault.RegionFault.{RegionFault}
 use Rattle.vc_best.specs.Standing.{IsPutByAsking, IsPutInGap}
 use Rattle.vc_best.proofs.Asking.{Answers-in_gap}
-use Rattle.vc_best.proofs.Resizes.{IsNew, none-at, place-new}
+use Rattle.vc_best.proofs.ResizeAnswers.{IsNew, none-at, place-new}
 
 -- one block changes and stays where it is
 changed : (f : Block ℕ → Block ℕ) → ((at : ℕ × ℕ) (b : Block ℕ) → is_at at (f b) ≡ is_at at b) → (at : ℕ × ℕ) (bs : List (Block ℕ)) → without_block at (change_block f at bs) ≡ without_block at bs

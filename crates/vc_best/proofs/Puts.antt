@@ -21,7 +21,7 @@ use Rattle.vc_best.specs.Changes.{carve}
 use Rattle.vc_best.specs.Free.{IsMerged, free_runs}
 use Rattle.vc_best.specs.Standing.{CanPutBlock, IsLeastOut, IsPutInGap}
 use Rattle.vc_best.proofs.Bests.{best-address, best-free, best-from, least-by}
-use Rattle.vc_best.proofs.Carving.{carve-busy, merged-carved}
+use Rattle.vc_best.proofs.ZeroBlocks.{carve-busy, merged-carved}
 use Rattle.vc_best.proofs.FreeRuns.{IsGap, gap-holds, gap-is}
 use Rattle.vc_best.proofs.Frees.{gaps-of}
 use Rattle.vc_best.proofs.Held.{AreMost}

@@ -15,7 +15,7 @@ use Rattle.vc_model.proofs.Owned.{address-place_of}
 use Rattle.vc_seg.specs.declared.fault.RegionFault.{RegionFault}
 use Rattle.vc_best.specs.Standing.{IsPutByAsking, IsPutInGap}
 use Rattle.vc_best.proofs.Asking.{Answers-in_gap}
-use Rattle.vc_best.proofs.Resizes.{new-found}
+use Rattle.vc_best.proofs.ResizeAnswers.{new-found}
 
 abbrev label_of : Option (Block ℕ) → Option ℕ
 label_of o = option_map (λ b. b.label) o

@@ -1,10 +1,8 @@
 -- What becomes of the extents of a segment where a block comes or goes.
-use Rattle.std.specs.Prelude.{◌≡◌, ℕ, ◌+◌, ◌-◌, List, [], ◌∷◌, ◌++◌, map, nat_lt, replicate, ◌==◌, if◌then◌else◌}
+use Rattle.std.specs.Prelude.{ℕ, ◌+◌, ◌-◌, List, [], ◌∷◌, ◌++◌, nat_lt, replicate, ◌==◌, if◌then◌else◌}
 use Rattle.vc_model.specs.Segments.{span}
-use Rattle.vc_seg.specs.Segment.{Bytes, pair_of}
 use Rattle.vc_extent.specs.Extent.{Extent, busy_extent, free_extent, no_links}
 use Rattle.vc_extent.specs.Change.{split}
-use Rattle.vc_extent.specs.Tiling.{change_extent, tiling}
 use Rattle.vc_best.specs.Free.{is_free}
 
 -- what of a free extent lies before an offset is split from it, where anything does

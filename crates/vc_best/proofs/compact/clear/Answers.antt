@@ -2,8 +2,8 @@ use Rattle.std.proofs.Common.{ℕ, List, All, ◌+◌, refl, ◌∙◌}
 use Rattle.vc_extent.specs.Change.{IsOneFree, one_free}
 use Rattle.vc_extent.specs.Extent.{Extent}
 use Rattle.vc_extent.specs.Tiling.{change_in, tiling}
-use Rattle.vc_best.proofs.Cleared.{below-first, below-last, still-free}
-use Rattle.vc_best.proofs.Clears.{all-free, apart-tiling, free-first, free-merged, free-more, layout-cleared, segments-of}
+use Rattle.vc_best.proofs.EmptyGaps.{below-first, below-last, still-free}
+use Rattle.vc_best.proofs.EmptySegments.{all-free, apart-tiling, free-first, free-merged, free-more, layout-cleared, segments-of}
 use Rattle.vc_best.proofs.compact.clear.Given.{Over}
 use Rattle.vc_best.proofs.compact.clear.Goals as goal
 use Rattle.vc_best.proofs.compact.clear.Goals.{After-loop-number}

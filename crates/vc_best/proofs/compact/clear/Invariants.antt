@@ -2,7 +2,7 @@ use Rattle.std.proofs.Common.{◌≡◌, map}
 use Rattle.vc_seg.specs.Segment.{pair_of}
 use Rattle.vc_extent.specs.Tiling.{tiling}
 use Rattle.vc_best.specs.GapsChange.{HasGapsBelow}
-use Rattle.vc_best.proofs.Clears.{AreFree}
+use Rattle.vc_best.proofs.EmptySegments.{AreFree}
 use Rattle.vc_best.proofs.compact.clear.Given as goal
 
 -- the segments below the number are free, and in the tree

@@ -6,8 +6,8 @@ use Rattle.vc_extent.specs.Tiling.{IsThere, tiling}
 use Rattle.vc_gaps.specs.ButLinks.{plain}
 use Rattle.vc_gaps.specs.GapTree.{CanLinkGap, GapLinked}
 use Rattle.vc_best.proofs.Backs.{some-of}
-use Rattle.vc_best.proofs.Cleared.{below-linked, below-none, can-clear}
-use Rattle.vc_best.proofs.Clears.{change-none, no-value, none-there}
+use Rattle.vc_best.proofs.EmptyGaps.{below-linked, below-none, can-clear}
+use Rattle.vc_best.proofs.EmptySegments.{change-none, no-value, none-there}
 use Rattle.vc_best.proofs.compact.clear_one.Given.{Over}
 use Rattle.vc_best.proofs.compact.clear_one.Goals as goal
 use Rattle.vc_best.proofs.compact.clear_one.Goals.{Else-is_some, Then-is_some}

@@ -16,7 +16,7 @@ use Rattle.vc_gaps.specs.GapTree.{HasGaps}
 use Rattle.vc_gaps.proofs.Added.{gaps-removed}
 use Rattle.vc_best.specs.Free.{IsMerged, is_merged}
 use Rattle.vc_best.proofs.Backs.{kept-none, one-gone, out-gone, some-of}
-use Rattle.vc_best.proofs.Cleared.{first-off, one-first, start-address}
+use Rattle.vc_best.proofs.EmptyGaps.{first-off, one-first, start-address}
 use Rattle.vc_best.proofs.Layouts.{behind_of}
 use Rattle.vc_best.proofs.Linking.{in-tree}
 use Rattle.vc_best.proofs.Plain.{layout-stays, merged-stays, one_free-stays}

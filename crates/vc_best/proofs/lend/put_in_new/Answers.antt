@@ -14,7 +14,7 @@ use Rattle.vc_extent.specs.declared.extents.Extents.{Extents}
 use Rattle.vc_best.specs.Blocks.{layout_by}
 use Rattle.vc_best.specs.Standing.{AreWhole, IsPutInGap}
 use Rattle.vc_best.proofs.Asking.{Answers-fault, Answers-granted, Served-granted}
-use Rattle.vc_best.proofs.Counted.{put-count}
+use Rattle.vc_best.proofs.BlockCounts.{put-count}
 use Rattle.vc_best.proofs.Lends.{lent-out, segments-by}
 use Rattle.vc_best.proofs.Rounding.{IsAligned-from_IsAlign, IsSegmentSize-need}
 use Rattle.vc_best.proofs.Segments.{layout-added}

@@ -3,11 +3,11 @@ use Rattle.std.proofs.Math.Logic.{∥∥₁_elim}
 use Rattle.vc_model.specs.Addr.{address, place_of}
 use Rattle.vc_extent.specs.Extent.{Extent}
 use Rattle.vc_extent.specs.Tiling.{extent_of, next_of, tiling}
-use Rattle.vc_best.proofs.Freed.{gaps-joined_next, gaps-unjoined, joined-free}
+use Rattle.vc_best.proofs.FreeGaps.{gaps-joined_next, gaps-unjoined, joined-free}
 use Rattle.vc_best.proofs.Known.{cut-of}
 use Rattle.vc_best.proofs.Linking.{name-busy, name-none, next-size}
 use Rattle.vc_best.proofs.Nexts.{no-address, not-busy, some-address}
-use Rattle.vc_best.proofs.Releases.{absorb-busy_next, absorb-free_next, absorb-none}
+use Rattle.vc_best.proofs.FreeBlocks.{absorb-busy_next, absorb-free_next, absorb-none}
 use Rattle.vc_best.proofs.Sets.{tiling-set}
 use Rattle.vc_best.proofs.release.absorb_next.Goals as goal
 use Rattle.vc_best.proofs.release.absorb_next.Goals.{After-is_busy}

@@ -7,10 +7,10 @@ use Rattle.vc_base.proofs.Sets.{bytes-set}
 use Rattle.vc_extent.specs.Tiling.{extent_of, previous_of, tiling}
 use Rattle.vc_best.proofs.Known.{cut-of}
 use Rattle.vc_best.proofs.Nexts.{no-address, not-busy, some-address}
-use Rattle.vc_best.proofs.Released.{layout-absorbed, layout-marked}
-use Rattle.vc_best.proofs.Freed.{gaps-alone, gaps-both}
+use Rattle.vc_best.proofs.LeftBlocks.{layout-absorbed, layout-marked}
+use Rattle.vc_best.proofs.FreeGaps.{gaps-alone, gaps-both}
 use Rattle.vc_best.proofs.Linking.{name-none}
-use Rattle.vc_best.proofs.Releases.{before-busy, before-free, is-freed, merged-busy, merged-first, merged-free, named-later, next-freed, next-later}
+use Rattle.vc_best.proofs.FreeBlocks.{before-busy, before-free, is-freed, merged-busy, merged-first, merged-free, named-later, next-freed, next-later}
 use Rattle.vc_best.proofs.Sets.{merged-prop}
 use Rattle.vc_best.specs.Beside.{free_next}
 use Rattle.vc_best.proofs.release.release.Goals as goal

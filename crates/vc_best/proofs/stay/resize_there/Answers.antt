@@ -12,7 +12,7 @@ use Rattle.vc_best.proofs.Merges.{merged-one}
 use Rattle.vc_gaps.specs.GapTree.{HasGaps}
 use Rattle.vc_best.specs.Beside.{free_next}
 use Rattle.vc_best.proofs.Outs.{gaps-written, next-written, written-busy}
-use Rattle.vc_best.proofs.Resized.{moved-busy, moved-extent, moved-merged, there-cut, there-filled}
+use Rattle.vc_best.proofs.OtherSizes.{moved-busy, moved-extent, moved-merged, there-cut, there-filled}
 use Rattle.vc_best.proofs.Sets.{merged-prop}
 use Rattle.vc_best.proofs.stay.resize_there.Goals as goal
 use Rattle.vc_best.proofs.stay.resize_there.Given.{Over}

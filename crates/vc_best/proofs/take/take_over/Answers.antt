@@ -3,7 +3,7 @@ use Rattle.vc_model.specs.Addr.{place_of}
 use Rattle.vc_extent.specs.Tiling.{extent_of, tiling}
 use Rattle.vc_best.specs.Blocks.{layout_by}
 use Rattle.vc_best.proofs.Moves.{body-long, copied-busy, copied-layout, copied-merged, take-both, taken-over}
-use Rattle.vc_best.proofs.Counted.{freed-count, written-count}
+use Rattle.vc_best.proofs.BlockCounts.{freed-count, written-count}
 use Rattle.vc_best.proofs.Found.{has-of}
 use Rattle.vc_best.proofs.Held.{most-written}
 use Rattle.vc_best.proofs.Outs.{gaps-written}

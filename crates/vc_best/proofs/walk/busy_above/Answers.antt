@@ -6,7 +6,7 @@ use Rattle.vc_extent.specs.Tiling.{extents_of, tiling}
 use Rattle.vc_best.specs.Blocks.{all_busy, busy_in}
 use Rattle.vc_best.specs.Next.{IsFirst}
 use Rattle.vc_best.proofs.Ahead.{first-lower, first-none, first-seg, first-some, skip, widen}
-use Rattle.vc_best.proofs.Started.{busy-after, last-number}
+use Rattle.vc_best.proofs.Starts.{busy-after, last-number}
 use Rattle.vc_best.proofs.walk.busy_above.Goals as goal
 
 pub returns-then-is_none-clause-first : goal.returns-then-is_none-clause-first

@@ -11,7 +11,7 @@ use Rattle.vc_best.specs.Blocks.{layout_by}
 use Rattle.vc_best.specs.Standing.{AreAllowed, AreWhole, IsPutInGap}
 use Rattle.vc_best.proofs.Asking.{Answers-in_gap, Asks-in_gap, IsPutByAsking-same}
 use Rattle.vc_best.proofs.Bests.{least-found, least-none}
-use Rattle.vc_best.proofs.Counted.{put-count}
+use Rattle.vc_best.proofs.BlockCounts.{put-count}
 use Rattle.vc_best.proofs.Counting.{blocks-few}
 use Rattle.vc_best.proofs.Held.{AreHeld, AreMost, held, merged-of, most-of, tree-of}
 use Rattle.vc_best.proofs.Others.{others-asked, others-in_gap}

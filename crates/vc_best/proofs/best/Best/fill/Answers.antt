@@ -1,7 +1,7 @@
 use Rattle.std.proofs.Common.{replicate}
 use Rattle.vc_best.proofs.Found.{busy-of}
 use Rattle.vc_best.proofs.Held.{range-within}
-use Rattle.vc_best.proofs.Written.{written, written-counted, written-gaps, written-held}
+use Rattle.vc_best.proofs.Writes.{written, written-counted, written-gaps, written-held}
 use Rattle.vc_best.proofs.best.Best.fill.Goals as goal
 
 pub fill-requires-clause-busy : goal.fill-requires-clause-busy

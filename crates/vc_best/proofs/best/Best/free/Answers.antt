@@ -3,7 +3,7 @@ use Rattle.vc_model.specs.Addr.{place_of}
 use Rattle.vc_model.specs.Layout.{Layout}
 use Rattle.vc_seg.specs.OneBlock.{IsBlockFreed}
 use Rattle.vc_best.specs.Blocks.{layout_by}
-use Rattle.vc_best.proofs.Counted.{freed-count}
+use Rattle.vc_best.proofs.BlockCounts.{freed-count}
 use Rattle.vc_best.proofs.Found.{busy-of}
 use Rattle.vc_best.proofs.Held.{held, kept-of, most-of, most-without}
 use Rattle.vc_best.proofs.HeldHeads.{held-heads}

@@ -7,8 +7,8 @@ use Rattle.vc_extent.specs.Tiling.{tiling}
 use Rattle.vc_best.specs.Blocks.{layout_by}
 use Rattle.vc_best.proofs.Asking.{Served-later, Served-unasked}
 use Rattle.vc_best.proofs.Others.{others-moved, others-sized}
-use Rattle.vc_best.proofs.Resizes.{resize-stays, resize-fixed, resize-moves, resize-refused, new-among, new-room, old-among, old-found, none-stays}
-use Rattle.vc_best.proofs.Counted.{sized-count}
+use Rattle.vc_best.proofs.ResizeAnswers.{resize-stays, resize-fixed, resize-moves, resize-refused, new-among, new-room, old-among, old-found, none-stays}
+use Rattle.vc_best.proofs.BlockCounts.{sized-count}
 use Rattle.vc_best.proofs.Found.{busy-of}
 use Rattle.vc_best.proofs.Held.{held, kept-of, merged-of, most-of}
 use Rattle.vc_best.proofs.Stays.{label-by, most-sized, moved-most, moved-segments, size-by, stays-by}

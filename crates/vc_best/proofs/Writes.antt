@@ -14,7 +14,7 @@ use Rattle.vc_extent.specs.Tiling.{AreExtents, IsBusy, change_extent, extent_of,
 use Rattle.vc_gaps.specs.GapTree.{HasGaps}
 use Rattle.vc_best.specs.Blocks.{layout_by}
 use Rattle.vc_best.specs.Free.{IsMerged}
-use Rattle.vc_best.proofs.Counted.{written-count}
+use Rattle.vc_best.proofs.BlockCounts.{written-count}
 use Rattle.vc_best.proofs.Found.{busy-of}
 use Rattle.vc_best.proofs.Held.{AreHeld, held, layout-written, merged-of, most-of, most-written, tree-of}
 use Rattle.vc_best.proofs.Known.{cut-of}

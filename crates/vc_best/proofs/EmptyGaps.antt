@@ -24,7 +24,7 @@ use Rattle.vc_gaps.proofs.Carried.{tree-carried, tree-none}
 use Rattle.vc_gaps.proofs.GapTrees.{free-bool}
 use Rattle.vc_gaps.proofs.Named.{extents_of-other}
 use Rattle.vc_best.specs.GapsChange.{HasGapsBelow}
-use Rattle.vc_best.proofs.Clears.{AreFree}
+use Rattle.vc_best.proofs.EmptySegments.{AreFree}
 use Rattle.vc_best.proofs.Known.{cut-of, segment-of}
 use Rattle.vc_best.proofs.Lies.{Lies}
 use Rattle.vc_best.proofs.Plain.{plain-one_free, one_free-plain}

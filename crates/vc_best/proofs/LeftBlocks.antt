@@ -8,7 +8,7 @@ use Rattle.vc_extent.specs.Tiling.{AreExtents, IsBusy, IsFree, change_extent, ex
 use Rattle.vc_best.specs.Blocks.{layout_by}
 use Rattle.vc_best.specs.Changes.{absorb}
 use Rattle.vc_best.proofs.Layouts.{behind_of, layout-freed, layout-same}
-use Rattle.vc_best.proofs.Releases.{absorb-busy}
+use Rattle.vc_best.proofs.FreeBlocks.{absorb-busy}
 
 -- a free extent that takes the next free one leaves the blocks
 pub layout-absorbed : (s r : List Bytes) (i j : List ℕ) (a : ℕ) → ∥ AreExtents s i ∥₁ → ∥ AreExtents r j ∥₁ → IsFree (tiling s) a → tiling r ≡ change_extent a absorb (tiling s) → map pair_of r ≡ map pair_of s → layout_by r ≡ layout_by s

@@ -19,7 +19,7 @@ use Rattle.vc_best.proofs.Known.{cut-of}
 use Rattle.vc_best.proofs.Lies.{Lies}
 use Rattle.vc_best.proofs.Nexts.{next-off}
 use Rattle.vc_best.proofs.Outs.{gaps-swap, inside-not}
-use Rattle.vc_best.proofs.Releases.{busy-free}
+use Rattle.vc_best.proofs.FreeBlocks.{busy-free}
 
 -- nothing free is behind it
 pub gaps-unjoined : (t : Tiling) (a : ℕ) → free_next t a ≡ [] → GapsChange t t (a ∷ free_next t a) (a ∷ [])
