@@ -2,6 +2,11 @@
 use Rattle.std.specs.Prelude.{◌≡◌, ◌≢◌, ℕ, Bool, true, false, not, ◌==◌, ◌&&◌, if◌then◌else◌}
 use Rattle.vc_splay.specs.Store.{Store, with_kid, with_parent}
 
+-- nodes have this store now, and all but their links stayed
+pub record Becomes {N : Type 0} (store_of : N → Store) (stays : N → N → Type 0) (old new : N) (made : Store) : Type 0 where
+  pub store : store_of new ≡ made
+  pub rest : stays old new
+
 -- two names as they are at true, and the other way round at false
 pub record AreTurned (side : Bool) (a b first second : ℕ) : Type 0 where
   pub first_is : first ≡ (if side then a else b)

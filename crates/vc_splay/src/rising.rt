@@ -2,7 +2,7 @@ ghost use Rattle.std.specs.Prelude.{◌≡◌, not, true};
 ghost use Rattle.vc_splay.specs.Moves.{CanRise, CanStep, Context, IsRising, IsTaken, Step, Topped, plug};
 ghost use Rattle.vc_splay.specs.Stands.{TreeAfter};
 ghost use Rattle.vc_splay.specs.Tree.{Tree, names};
-ghost use Rattle.vc_splay.specs.Writes.{AreTurned, CanSettleNode, CanTurnNodes, store_with_root, zig_zag, zig_zig};
+ghost use Rattle.vc_splay.specs.Writes.{AreTurned, Becomes, CanSettleNode, CanTurnNodes, store_with_root, zig_zag, zig_zig};
 
 use crate::Nodes;
 use crate::sides::{hang, kid, side_of, turned};
@@ -115,8 +115,8 @@ fn risen(side: bool, near: u32, far: u32, below: u32, above: u32) -> Rising
 fn zig_zig<N: Nodes>(nodes: &mut N, side: bool, inner: u32, above: u32, top: u32)
     requires { CanTurnNodes (N.store nodes.old) above top
         ((N.store nodes.old).kid (not side) above) inner }
-    ensures store { N.store nodes.new ≡ zig_zig side inner above top (N.store nodes.old) }
-    ensures rest { N.stays nodes.old nodes.new }
+    ensures { Becomes N.store N.stays nodes.old nodes.new
+        (zig_zig side inner above top (N.store nodes.old)) }
 {
     let sibling = kid(nodes, !side, above);
     hang(nodes, side, top, sibling);
@@ -128,8 +128,8 @@ fn zig_zig<N: Nodes>(nodes: &mut N, side: bool, inner: u32, above: u32, top: u32
 #[inline(always)]
 fn zig_zag<N: Nodes>(nodes: &mut N, side: bool, near: u32, inner: u32, above: u32, top: u32)
     requires { CanTurnNodes (N.store nodes.old) above top near inner }
-    ensures store { N.store nodes.new ≡ zig_zag side near inner above top (N.store nodes.old) }
-    ensures rest { N.stays nodes.old nodes.new }
+    ensures { Becomes N.store N.stays nodes.old nodes.new
+        (zig_zag side near inner above top (N.store nodes.old)) }
 {
     hang(nodes, side, above, inner);
     hang(nodes, !side, top, near);
@@ -139,8 +139,8 @@ fn zig_zag<N: Nodes>(nodes: &mut N, side: bool, near: u32, inner: u32, above: u3
 #[inline(always)]
 fn settle<N: Nodes>(nodes: &mut N, at: u32, left: u32, right: u32)
     requires { CanSettleNode (N.store nodes.old) at left right }
-    ensures store { N.store nodes.new ≡ store_with_root at left right (N.store nodes.old) }
-    ensures rest { N.stays nodes.old nodes.new }
+    ensures { Becomes N.store N.stays nodes.old nodes.new
+        (store_with_root at left right (N.store nodes.old)) }
 {
     hang(nodes, true, at, left);
     hang(nodes, false, at, right);

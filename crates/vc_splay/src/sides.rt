@@ -1,6 +1,6 @@
 ghost use Rattle.std.specs.Prelude.{◌≡◌, ◌≢◌, true, ◌==◌};
 ghost use Rattle.vc_splay.specs.Store.{with_kid};
-ghost use Rattle.vc_splay.specs.Writes.{AreTurned, CanHang, with_child, with_kid_of, with_parent_of};
+ghost use Rattle.vc_splay.specs.Writes.{AreTurned, Becomes, CanHang, with_child, with_kid_of, with_parent_of};
 
 use crate::{Links, Nodes};
 
@@ -26,8 +26,8 @@ pub(crate) fn side_of<N: Links>(nodes: &N, n: u32, child: u32) -> bool
 #[inline(always)]
 pub(crate) fn set_kid<N: Nodes>(nodes: &mut N, side: bool, n: u32, v: u32)
     requires { (N.store nodes.old).has n ≡ true }
-    ensures store { N.store nodes.new ≡ with_kid side n v (N.store nodes.old) }
-    ensures rest { N.stays nodes.old nodes.new }
+    ensures { Becomes N.store N.stays nodes.old nodes.new
+        (with_kid side n v (N.store nodes.old)) }
 {
     if side {
         nodes.set_left(n, v);
@@ -40,8 +40,8 @@ pub(crate) fn set_kid<N: Nodes>(nodes: &mut N, side: bool, n: u32, v: u32)
 #[inline(always)]
 pub(crate) fn set_kid_of<N: Nodes>(nodes: &mut N, side: bool, n: u32, v: u32)
     requires { n ≢ 0 → (N.store nodes.old).has n ≡ true }
-    ensures store { N.store nodes.new ≡ with_kid_of side n v (N.store nodes.old) }
-    ensures rest { N.stays nodes.old nodes.new }
+    ensures { Becomes N.store N.stays nodes.old nodes.new
+        (with_kid_of side n v (N.store nodes.old)) }
 {
     if n != 0 {
         set_kid(nodes, side, n, v);
@@ -52,8 +52,8 @@ pub(crate) fn set_kid_of<N: Nodes>(nodes: &mut N, side: bool, n: u32, v: u32)
 #[inline(always)]
 pub(crate) fn set_up_of<N: Nodes>(nodes: &mut N, n: u32, v: u32)
     requires { n ≢ 0 → (N.store nodes.old).has n ≡ true }
-    ensures store { N.store nodes.new ≡ with_parent_of n v (N.store nodes.old) }
-    ensures rest { N.stays nodes.old nodes.new }
+    ensures { Becomes N.store N.stays nodes.old nodes.new
+        (with_parent_of n v (N.store nodes.old)) }
 {
     if n != 0 {
         nodes.set_up(n, v);
@@ -64,8 +64,8 @@ pub(crate) fn set_up_of<N: Nodes>(nodes: &mut N, n: u32, v: u32)
 #[inline(always)]
 pub(crate) fn hang<N: Nodes>(nodes: &mut N, side: bool, n: u32, child: u32)
     requires { CanHang (N.store nodes.old) n child }
-    ensures store { N.store nodes.new ≡ with_child side n child (N.store nodes.old) }
-    ensures rest { N.stays nodes.old nodes.new }
+    ensures { Becomes N.store N.stays nodes.old nodes.new
+        (with_child side n child (N.store nodes.old)) }
 {
     set_kid(nodes, side, n, child);
     set_up_of(nodes, child, n);

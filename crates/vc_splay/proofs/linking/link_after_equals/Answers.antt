@@ -1,7 +1,6 @@
-use Rattle.std.proofs.Common.{ap, ◌∙◌, subst, sym}
-use Rattle.vc_splay.specs.Store.{Store}
+use Rattle.std.proofs.Common.{subst, sym}
 use Rattle.vc_splay.specs.Tree.{Leaf, Node}
-use Rattle.vc_splay.proofs.LeafLemmas.{Hung, above_held, apart_each, find_of_link, gap_least, gap_most, has_kid_of, hung, link_end}
+use Rattle.vc_splay.proofs.LeafLemmas.{Hung, above_held, apart_each, find_of_link, gap_least, gap_most, hung, link_end}
 use Rattle.vc_splay.proofs.linking.link_after_equals.Goals as goal
 
 pub descend_behind-above-requires : goal.descend_behind-above-requires

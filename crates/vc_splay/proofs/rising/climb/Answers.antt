@@ -1,4 +1,3 @@
-use Rattle.std.proofs.Common.{refl, ◌∙◌}
 use Rattle.vc_splay.proofs.SplayLemmas.{climb_end, climb_less, climb_on, climb_start}
 use Rattle.vc_splay.proofs.rising.climb.Goals as goal
 

@@ -1,8 +1,6 @@
-use Rattle.std.proofs.Common.{ap, ◌∙◌}
-use Rattle.vc_splay.specs.Store.{Store}
 use Rattle.vc_splay.specs.Tree.{names}
 use Rattle.vc_splay.specs.Moves.{plug}
-use Rattle.vc_splay.proofs.SplayLemmas.{can_settle, has-settled, settled_tree}
+use Rattle.vc_splay.proofs.SplayLemmas.{can_settle, settled_tree}
 use Rattle.vc_splay.proofs.rising.rise.Goals as goal
 
 pub settle-requires : goal.settle-requires

@@ -14,6 +14,9 @@ pub set_up-requires : goal.set_up-requires
 unfolding with_child with_kid with_parent_of
 set_up-requires g c = rw (c.hang-2.ensures.store, c.hang.ensures.store) c.requires.held
 
-pub returns-clause-store : goal.returns-clause-store
+pub returns : goal.returns
 unfolding store_with_root
-returns-clause-store g c = rw (c.set_up.ensures.store, c.hang-2.ensures.store, c.hang.ensures.store) refl
+returns g c = record {
+  store = rw (c.set_up.ensures.store, c.hang-2.ensures.store, c.hang.ensures.store) refl;
+  rest = g.met.N.Nodes.transitive c.args.nodes.now c.hang-2.new.nodes c.set_up.new.self (g.met.N.Nodes.transitive c.args.nodes.now c.hang.new.nodes c.hang-2.new.nodes c.hang.ensures.rest c.hang-2.ensures.rest) c.set_up.ensures.rest;
+}

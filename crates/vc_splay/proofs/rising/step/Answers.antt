@@ -1,6 +1,5 @@
 use Rattle.std.proofs.Common.{◌∙◌, sym}
-use Rattle.vc_splay.proofs.HangLemmas.{has-child}
-use Rattle.vc_splay.proofs.CaseLemmas.{Read, double_other, double_same, has-zig_zag, has-zig_zig, single, turned}
+use Rattle.vc_splay.proofs.CaseLemmas.{Read, double_other, double_same, single, turned}
 use Rattle.vc_splay.proofs.rising.step.Goals as goal
 
 pub hang-requires : goal.hang-requires

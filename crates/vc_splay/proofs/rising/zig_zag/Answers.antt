@@ -10,6 +10,9 @@ pub hang-requires-2 : goal.hang-requires-2
 unfolding with_child with_kid with_parent_of
 hang-requires-2 g c = rw c.hang.ensures.store (record { held = c.requires.top_held; child_held = c.requires.first_held })
 
-pub returns-clause-store : goal.returns-clause-store
+pub returns : goal.returns
 unfolding zig_zag
-returns-clause-store g c = rw (c.hang-2.ensures.store, c.hang.ensures.store) refl
+returns g c = record {
+  store = rw (c.hang-2.ensures.store, c.hang.ensures.store) refl;
+  rest = g.met.N.Nodes.transitive c.args.nodes.now c.hang.new.nodes c.hang-2.new.nodes c.hang.ensures.rest c.hang-2.ensures.rest;
+}

@@ -14,6 +14,9 @@ pub hang-requires-3 : goal.hang-requires-3
 unfolding with_child with_kid with_parent_of
 hang-requires-3 g c = rw (c.hang-2.ensures.store, c.hang.ensures.store) (record { held = c.requires.above_held; child_held = c.requires.second_held })
 
-pub returns-clause-store : goal.returns-clause-store
+pub returns : goal.returns
 unfolding zig_zig
-returns-clause-store g c = rw (c.hang-3.ensures.store, c.hang-2.ensures.store, c.hang.ensures.store, c.kid-sibling.ensures) refl
+returns g c = record {
+  store = rw (c.hang-3.ensures.store, c.hang-2.ensures.store, c.hang.ensures.store, c.kid-sibling.ensures) refl;
+  rest = g.met.N.Nodes.transitive c.args.nodes.now c.hang-2.new.nodes c.hang-3.new.nodes (g.met.N.Nodes.transitive c.args.nodes.now c.hang.new.nodes c.hang-2.new.nodes c.hang.ensures.rest c.hang-2.ensures.rest) c.hang-3.ensures.rest;
+}

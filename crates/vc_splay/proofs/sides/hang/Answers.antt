@@ -10,6 +10,9 @@ pub set_up_of-requires : goal.set_up_of-requires
 unfolding with_kid
 set_up_of-requires g c = rw c.set_kid.ensures.store c.requires.child_held
 
-pub returns-clause-store : goal.returns-clause-store
+pub returns : goal.returns
 unfolding with_child
-returns-clause-store g c = rw (c.set_up_of.ensures.store, c.set_kid.ensures.store) refl
+returns g c = record {
+  store = rw (c.set_up_of.ensures.store, c.set_kid.ensures.store) refl;
+  rest = g.met.N.Nodes.transitive c.args.nodes.now c.set_kid.new.nodes c.set_up_of.new.nodes c.set_kid.ensures.rest c.set_up_of.ensures.rest;
+}

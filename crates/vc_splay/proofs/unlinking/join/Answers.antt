@@ -3,7 +3,7 @@ use Rattle.vc_splay.specs.Stands.{TreeAfter}
 use Rattle.vc_splay.specs.Store.{Store}
 use Rattle.vc_splay.specs.Tree.{names}
 use Rattle.vc_splay.proofs.LeafLemmas.{has_kid}
-use Rattle.vc_splay.proofs.UnlinkLemmas.{back_held, has_joined, has_parent_of, join_back, join_both, join_front, last_in_tree}
+use Rattle.vc_splay.proofs.UnlinkLemmas.{back_held, join_back, join_both, join_front, last_in_tree}
 use Rattle.vc_splay.proofs.unlinking.join.Goals as goal
 
 pub returns-then-left-eq0-clause-tree : goal.returns-then-left-eq0-clause-tree

@@ -1,11 +1,10 @@
-use Rattle.std.proofs.Common.{◌≡◌, ap, subst, sym, true, ◌∙◌}
+use Rattle.std.proofs.Common.{◌≡◌, subst, sym, true}
 use Rattle.vc_base.specs.Holders.{contains}
 use Rattle.vc_splay.specs.Moves.{Topped}
-use Rattle.vc_splay.specs.Store.{Store}
 use Rattle.vc_splay.specs.Tree.{names}
 use Rattle.vc_splay.proofs.HangLemmas.{IsCut-held}
 use Rattle.vc_splay.proofs.SplayLemmas.{IsIn-each, IsIn-held, start}
-use Rattle.vc_splay.proofs.UnlinkLemmas.{Split, has_parent_of, split_at, unlink_end}
+use Rattle.vc_splay.proofs.UnlinkLemmas.{Split, split_at, unlink_end}
 use Rattle.vc_splay.proofs.unlinking.unlink.Goals as goal
 
 pub in_hand-hand-requires : goal.in_hand-hand-requires
