@@ -75,6 +75,11 @@ abbrev pub Relinks : ℕ → DtList → Blocks → DtList → Blocks → (List �
 Relinks at old before new after change =
     (holders : List ℕ) → LinksFor old before holders → Relinked at holders before new after (change holders)
 
+-- so with one more or one less: its holders change so in these cells, of which the rest stays
+pub record TurnsIn {C : Type 0} (blocks : C → Blocks) (RestStays : C → C → Type 0) (at : ℕ) (from : DtList) (old : C) (to : DtList) (new : C) (change : List ℕ → List ℕ) : Type 0 where
+  pub list : Turns at from (blocks old) to (blocks new) change
+  pub rest : RestStays old new
+
 -- some holders are linked, and this one may join them
 pub record CanJoin (list : DtList) (blocks : Blocks) (at : ℕ) : Type 0 where
   pub holders : List ℕ

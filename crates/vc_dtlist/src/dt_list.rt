@@ -2,7 +2,7 @@ ghost use Rattle.std.specs.Prelude.{◌≡◌, ℕ, List, [], ◌∷◌, ◌++�
 ghost use Rattle.std.specs.Option.{option_map};
 ghost use Rattle.vc_base.specs.Cells.{Blocks};
 ghost use Rattle.vc_base.specs.Holders.{first_in, inserted_after, inserted_before, last_in, next_in, previous_in, without};
-ghost use Rattle.vc_dtlist.specs.Linked.{CanAdd, CanJoin, CanPlace, Finds, IsIn, IsJoined, IsList, JoinsBetween, LinksBetween, Relinks, StandsFor, Turns, number_of};
+ghost use Rattle.vc_dtlist.specs.Linked.{CanAdd, CanJoin, CanPlace, Finds, IsIn, IsJoined, IsList, JoinsBetween, LinksBetween, Relinks, StandsFor, TurnsIn, number_of};
 ghost use Rattle.vc_dtlist.specs.Sought.{Seeks, stands_so};
 
 use crate::Sought;
@@ -35,9 +35,8 @@ impl DtList {
     /// Puts a holder at the front. It has at least 33 bytes and isn't in the list.
     pub fn push_front<C: Cells>(&mut self, cells: &mut C, at: Addr)
         requires { CanAdd self.old (C.blocks cells.old) at.0 }
-        ensures list { Turns at.0 self.old (C.blocks cells.old) self.new (C.blocks cells.new)
+        ensures { TurnsIn C.blocks C.RestStays at.0 self.old cells.old self.new cells.new
             (λ xs. at.0 ∷ xs) }
-        ensures rest { C.RestStays cells.old cells.new }
     {
         let first = self.first;
         self.link(cells, Addr::NONE, at, first);
@@ -46,9 +45,8 @@ impl DtList {
     /// Puts a holder at the end. It has at least 33 bytes and isn't in the list.
     pub fn push_back<C: Cells>(&mut self, cells: &mut C, at: Addr)
         requires { CanAdd self.old (C.blocks cells.old) at.0 }
-        ensures list { Turns at.0 self.old (C.blocks cells.old) self.new (C.blocks cells.new)
+        ensures { TurnsIn C.blocks C.RestStays at.0 self.old cells.old self.new cells.new
             (λ xs. xs ++ at.0 ∷ []) }
-        ensures rest { C.RestStays cells.old cells.new }
     {
         let last = self.last;
         self.link(cells, last, at, Addr::NONE);
@@ -110,9 +108,8 @@ impl DtList {
     /// Takes a holder of the list out. It keeps its bytes behind the words.
     pub fn unlink<C: Cells>(&mut self, cells: &mut C, at: Addr)
         requires { IsIn self.old (C.blocks cells.old) at.0 }
-        ensures list { Turns at.0 self.old (C.blocks cells.old) self.new (C.blocks cells.new)
+        ensures { TurnsIn C.blocks C.RestStays at.0 self.old cells.old self.new cells.new
             (without at.0) }
-        ensures rest { C.RestStays cells.old cells.new }
     {
         self.part(cells, at);
     }
@@ -121,9 +118,8 @@ impl DtList {
     pub fn before<C: Cells>(&mut self, cells: &mut C, mark: Addr, at: Addr)
         requires mark { IsIn self.old (C.blocks cells.old) mark.0 }
         requires at { CanAdd self.old (C.blocks cells.old) at.0 }
-        ensures list { Turns at.0 self.old (C.blocks cells.old) self.new (C.blocks cells.new)
+        ensures { TurnsIn C.blocks C.RestStays at.0 self.old cells.old self.new cells.new
             (inserted_before mark.0 at.0) }
-        ensures rest { C.RestStays cells.old cells.new }
     {
         let previous = neighbour(cells, mark, 0);
         self.link(cells, previous, at, mark);
@@ -133,9 +129,8 @@ impl DtList {
     pub fn after<C: Cells>(&mut self, cells: &mut C, mark: Addr, at: Addr)
         requires mark { IsIn self.old (C.blocks cells.old) mark.0 }
         requires at { CanAdd self.old (C.blocks cells.old) at.0 }
-        ensures list { Turns at.0 self.old (C.blocks cells.old) self.new (C.blocks cells.new)
+        ensures { TurnsIn C.blocks C.RestStays at.0 self.old cells.old self.new cells.new
             (inserted_after mark.0 at.0) }
-        ensures rest { C.RestStays cells.old cells.new }
     {
         let next = neighbour(cells, mark, 1);
         self.link(cells, mark, at, next);

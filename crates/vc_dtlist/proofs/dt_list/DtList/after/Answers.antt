@@ -30,18 +30,21 @@ link-requires g c =
       next = c.neighbour-next.ensures ∙ next_word b p.front mark p.rest one.links.chain;
     }
 
-pub returns-clause-list : goal.returns-clause-list
-returns-clause-list g c = λ holders h.
-    let list = c.args.self.now in
-    let b = g.C.Cells.blocks c.args.cells.now in
-    let mark = c.args.mark.0 in
-    let at = c.args.at.0 in
-    let p = split_in list b mark c.requires.mark holders h in
-    let one : StandsFor list b (p.front ++ mark ∷ p.rest) = subst (λ z. StandsFor list b z) p.whole h in
-    let e = append_assoc p.front (mark ∷ []) p.rest in
-    let s : StandsFor list b ((p.front ++ mark ∷ []) ++ p.rest) = subst (λ z. StandsFor list b z) (sym e) one in
-    Turned-same at ((p.front ++ mark ∷ []) ++ p.rest) holders b c.link.new.self (g.C.Cells.blocks c.link.new.cells)
-    ((p.front ++ mark ∷ []) ++ at ∷ p.rest) (inserted_after mark at holders) (e ∙ sym p.whole)
-    (append_assoc p.front (mark ∷ []) (at ∷ p.rest) ∙ sym (inserted_after-split p.front mark p.rest at p.before) ∙ ap (inserted_after mark at) (sym p.whole))
-    (c.link.ensures.list (p.front ++ mark ∷ []) p.rest s (apart_in list b at c.requires.at ((p.front ++ mark ∷ []) ++ p.rest) s)
-    (sym (last_of-append 0 p.front (mark ∷ []))) (c.neighbour-next.ensures ∙ next_word b p.front mark p.rest one.links.chain))
+pub returns : goal.returns
+returns g c = record {
+  list = λ holders h.
+      let list = c.args.self.now in
+      let b = g.C.Cells.blocks c.args.cells.now in
+      let mark = c.args.mark.0 in
+      let at = c.args.at.0 in
+      let p = split_in list b mark c.requires.mark holders h in
+      let one : StandsFor list b (p.front ++ mark ∷ p.rest) = subst (λ z. StandsFor list b z) p.whole h in
+      let e = append_assoc p.front (mark ∷ []) p.rest in
+      let s : StandsFor list b ((p.front ++ mark ∷ []) ++ p.rest) = subst (λ z. StandsFor list b z) (sym e) one in
+      Turned-same at ((p.front ++ mark ∷ []) ++ p.rest) holders b c.link.new.self (g.C.Cells.blocks c.link.new.cells)
+      ((p.front ++ mark ∷ []) ++ at ∷ p.rest) (inserted_after mark at holders) (e ∙ sym p.whole)
+      (append_assoc p.front (mark ∷ []) (at ∷ p.rest) ∙ sym (inserted_after-split p.front mark p.rest at p.before) ∙ ap (inserted_after mark at) (sym p.whole))
+      (c.link.ensures.list (p.front ++ mark ∷ []) p.rest s (apart_in list b at c.requires.at ((p.front ++ mark ∷ []) ++ p.rest) s)
+      (sym (last_of-append 0 p.front (mark ∷ []))) (c.neighbour-next.ensures ∙ next_word b p.front mark p.rest one.links.chain));
+  rest = c.link.ensures.rest;
+}

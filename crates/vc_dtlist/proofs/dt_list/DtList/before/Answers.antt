@@ -29,16 +29,19 @@ link-requires g c =
       next = refl;
     }
 
-pub returns-clause-list : goal.returns-clause-list
-returns-clause-list g c = λ holders h.
-    let list = c.args.self.now in
-    let b = g.C.Cells.blocks c.args.cells.now in
-    let mark = c.args.mark.0 in
-    let at = c.args.at.0 in
-    let p = split_in list b mark c.requires.mark holders h in
-    let s : StandsFor list b (p.front ++ mark ∷ p.rest) = subst (λ z. StandsFor list b z) p.whole h in
-    Turned-same at (p.front ++ mark ∷ p.rest) holders b c.link.new.self (g.C.Cells.blocks c.link.new.cells)
-    (p.front ++ at ∷ mark ∷ p.rest) (inserted_before mark at holders) (sym p.whole)
-    (sym (inserted_before-split p.front mark p.rest at p.before) ∙ ap (inserted_before mark at) (sym p.whole))
-    (c.link.ensures.list p.front (mark ∷ p.rest) s (apart_in list b at c.requires.at (p.front ++ mark ∷ p.rest) s)
-    (c.neighbour-previous.ensures ∙ previous_word b p.front mark p.rest s.links.chain) refl)
+pub returns : goal.returns
+returns g c = record {
+  list = λ holders h.
+      let list = c.args.self.now in
+      let b = g.C.Cells.blocks c.args.cells.now in
+      let mark = c.args.mark.0 in
+      let at = c.args.at.0 in
+      let p = split_in list b mark c.requires.mark holders h in
+      let s : StandsFor list b (p.front ++ mark ∷ p.rest) = subst (λ z. StandsFor list b z) p.whole h in
+      Turned-same at (p.front ++ mark ∷ p.rest) holders b c.link.new.self (g.C.Cells.blocks c.link.new.cells)
+      (p.front ++ at ∷ mark ∷ p.rest) (inserted_before mark at holders) (sym p.whole)
+      (sym (inserted_before-split p.front mark p.rest at p.before) ∙ ap (inserted_before mark at) (sym p.whole))
+      (c.link.ensures.list p.front (mark ∷ p.rest) s (apart_in list b at c.requires.at (p.front ++ mark ∷ p.rest) s)
+      (c.neighbour-previous.ensures ∙ previous_word b p.front mark p.rest s.links.chain) refl);
+  rest = c.link.ensures.rest;
+}

@@ -18,11 +18,14 @@ link-requires g c =
       next = refl;
     }
 
-pub returns-clause-list : goal.returns-clause-list
-returns-clause-list g c = λ holders s.
-    let blocks = g.C.Cells.blocks in
-    let at = c.args.at.0 in
-    let e = append-nil holders in
-    let apart = apart_in c.args.self.now (blocks c.args.cells.now) at c.requires holders s in
-    subst (λ z. Turned at z (blocks c.args.cells.now) c.link.new.self (blocks c.link.new.cells) (holders ++ at ∷ [])) e
-    (c.link.ensures.list holders [] (subst (λ z. StandsFor c.args.self.now (blocks c.args.cells.now) z) (sym e) s) (subst (λ z. contains z at ≡ false) (sym e) apart) s.links.last refl)
+pub returns : goal.returns
+returns g c = record {
+  list = λ holders s.
+      let blocks = g.C.Cells.blocks in
+      let at = c.args.at.0 in
+      let e = append-nil holders in
+      let apart = apart_in c.args.self.now (blocks c.args.cells.now) at c.requires holders s in
+      subst (λ z. Turned at z (blocks c.args.cells.now) c.link.new.self (blocks c.link.new.cells) (holders ++ at ∷ [])) e
+      (c.link.ensures.list holders [] (subst (λ z. StandsFor c.args.self.now (blocks c.args.cells.now) z) (sym e) s) (subst (λ z. contains z at ≡ false) (sym e) apart) s.links.last refl);
+  rest = c.link.ensures.rest;
+}

@@ -2,6 +2,9 @@ use Rattle.std.proofs.Common.{refl, []}
 use Rattle.vc_dtlist.proofs.TurnLemmas.{apart_in}
 use Rattle.vc_dtlist.proofs.dt_list.DtList.push_front.Goals as goal
 
-pub returns-clause-list : goal.returns-clause-list
-returns-clause-list g c = λ holders s.
-    c.link.ensures.list [] holders s (apart_in c.args.self.now (g.C.Cells.blocks c.args.cells.now) c.args.at.0 c.requires holders s) refl s.links.first
+pub returns : goal.returns
+returns g c = record {
+  list = λ holders s.
+      c.link.ensures.list [] holders s (apart_in c.args.self.now (g.C.Cells.blocks c.args.cells.now) c.args.at.0 c.requires holders s) refl s.links.first;
+  rest = c.link.ensures.rest;
+}
