@@ -1,13 +1,13 @@
 -- Generated commands are proper.
-use Rattle.std.proofs.Common.{◌≡◌, ℕ, ◌%◌, ◌^◌, ◌<◌, ◌≤◌, Bool, true, false, cond, leb, eqb, ltb, ◌||◌, List, [], ◌∷◌, ◌++◌, length, map, lit<, refl, arith}
+use Rattle.std.proofs.Common.{ℕ, ◌%◌, ◌^◌, ◌<◌, ◌≤◌, Bool, true, false, cond, leb, eqb, ltb, List, [], ◌∷◌, ◌++◌, length, map, lit<, refl, arith}
 use Rattle.std.specs.Prelude.{decimal}
 use Rattle.std.specs.List.{AllByRecursion, list_all}
-use Rattle.std.proofs.lemmas.Bool.{and_from, and_parts, le-leb, or_left, or_right}
+use Rattle.std.proofs.lemmas.Bool.{and_from, le-leb}
 use Rattle.std.proofs.lemmas.Fmt.{length-decimal-le}
 use Rattle.vc_script.proofs.Heads.{digit-name}
 use Rattle.vc_script.proofs.Newlines.{list_all-decimal}
 use Rattle.vc_script.specs.Proper.{IsName, IsProperCommand}
-use Rattle.vc_script.specs.Words.{is_digit, is_letter, is_name_byte}
+use Rattle.vc_script.specs.Words.{is_name_byte}
 use Rattle.vc_script.specs.declared.command.Command.{Command}
 use Rattle.vc_script.specs.declared.tool.Tool.{Tool}
 use Rattle.vc_script.specs.declared.tool.Tool.TheVariants.{Dtrun, Vmreplay}
