@@ -5,11 +5,11 @@ use Rattle.std.proofs.lemmas.Option.{same_Some}
 use Rattle.vc_model.specs.Best.{best_alloc, best_need, place_in, put, put_in_new, put_or_ask, zeros}
 use Rattle.vc_model.specs.Discipline.{Terms}
 use Rattle.vc_model.specs.Last.{last_resize}
-use Rattle.vc_model.specs.Layout.{Block, Layout, is_at, lies_before, with_block, with_segment, without_block}
+use Rattle.vc_model.specs.Layout.{Block, Layout, is_at, lies_before, with_block, with_grant, without_block}
 use Rattle.vc_model.specs.Outcome.{Outcome, Done, Refused, Fixed, Put, outcome_as, put_as}
 use Rattle.vc_model.specs.Pool.{pool_resize}
 use Rattle.vc_model.specs.Resize.{best_resize, can_stay, outcome_of_move, resize_block, resize_found, stays}
-use Rattle.vc_model.specs.Segments.{Asked, Granted, TooMany, NotLent, ask}
+use Rattle.vc_model.specs.Segments.{Asked, Grant, Granted, TooMany, NotLent, ask}
 use Rattle.vc_model.specs.Touch.{change_block, find_block, rewritten_block}
 use Rattle.vc_model.proofs.Owned.{found-is}
 use Rattle.vc_base.proofs.Places.{at-itself}
@@ -29,18 +29,18 @@ abbrev Adds : List (Block ℕ) → ℕ → ℕ → Outcome (Put (Layout ℕ)) �
 Adds bs label size (Done p) = p.region.blocks ≡ with_block (zeros label size p.at) bs
 Adds bs label size (Refused why) = Unit {0}
 
-adds-put : (r : Layout ℕ) (label size : ℕ) (granted at : Option (ℕ × ℕ)) → Adds r.blocks label size (put r label size granted at)
+adds-put : (r : Layout ℕ) (label size : ℕ) (granted : Option Grant) (at : Option (ℕ × ℕ)) → Adds r.blocks label size (put r label size granted at)
 adds-put r label size granted None = tt
 adds-put r label size granted (Some at) = refl
 
 adds-new : (r : Layout ℕ) (label size align : ℕ) (asked : Asked) → Adds r.blocks label size (put_in_new r label size align asked)
-adds-new r label size align (Granted number bytes) = adds-put (with_segment r (number, bytes)) label size (Some (number, bytes)) (place_in (with_segment r (number, bytes)) size align)
+adds-new r label size align (Granted grant) = adds-put (with_grant r grant) label size (Some grant) (place_in (with_grant r grant) size align)
 adds-new r label size align TooMany = tt
 adds-new r label size align NotLent = tt
 
 adds-place : (terms : Terms) (r : Layout ℕ) (label size align : ℕ) (refused : Bool) (at : Option (ℕ × ℕ)) → Adds r.blocks label size (put_or_ask terms r label size align refused at)
 adds-place terms r label size align refused (Some at) = refl
-adds-place terms r label size align refused None = adds-new r label size align (ask (best_need terms size align) r.segments refused)
+adds-place terms r label size align refused None = adds-new r label size align (ask terms (best_need terms size align) r.segments refused)
 
 -- a block tells the place that it is at
 at-is : (at : ℕ × ℕ) (b : Block ℕ) → is_at at b ≡ true → at ≡ (b.seg, b.off)

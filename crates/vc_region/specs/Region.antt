@@ -1,18 +1,20 @@
 -- A region by its method, and each call of it by cases on the method.
-use Rattle.std.specs.Prelude.{◌≡◌, ℕ, ℤ, List, [], Bool, true, false, Option, Some, None}
+use Rattle.std.specs.Prelude.{ℕ, ℤ, List, [], Bool, true, false, Option, Some, None}
+use Rattle.vc_model.specs.Addr.{place_of}
 use Rattle.vc_model.specs.Discipline.{Terms}
 use Rattle.vc_model.specs.Layout.{Block, Layout, relabel_layout}
 use Rattle.vc_model.specs.Outcome.{Outcome, Done, Refused, Put, WrongMethod, done_as, outcome_as}
 use Rattle.vc_model.specs.Best.{best_alloc, best_need, without_block_at}
-use Rattle.vc_model.specs.Resize.{best_resize, can_stay}
+use Rattle.vc_model.specs.Resize.{best_resize}
 use Rattle.vc_model.specs.Touch.{with_bytes_at}
 use Rattle.vc_model.specs.Compact.{cleared_layout, compact_count, compacted_layout}
 use Rattle.vc_model.specs.Pool.{Pool, pool_alloc, pool_clear, pool_compact, pool_free, pool_need, pool_resize, relabel_pool}
-use Rattle.vc_model.specs.Last.{can_end, last_alloc, last_free, last_need, last_place, last_resize, latest}
+use Rattle.vc_model.specs.Last.{last_alloc, last_free, last_need, last_resize}
 use Rattle.vc_seg.specs.declared.profile_row.ProfileRow.{ProfileRow}
-use Rattle.vc_best.specs.Ask.{AsksForSegment}
+use Rattle.vc_best.specs.Ask.{AsksForSegment, AsksToMove}
 use Rattle.vc_pool.specs.Ask.{LacksCell}
-use Rattle.vc_audit.specs.Debug.{Debug, DebugAsks, damaged_blocks, debug_alloc, debug_clear, debug_compact, debug_compact_count, debug_free, debug_need, debug_resize, debug_write, next_damaged, with_poke, relabel_debug, stays_debug, user_layout, watched_at, with_watch}
+use Rattle.vc_last.specs.Ask.{LacksPlace, MovesToNew}
+use Rattle.vc_audit.specs.Debug.{Debug, DebugAsks, DebugAsksToMove, damaged_blocks, debug_alloc, debug_clear, debug_compact, debug_compact_count, debug_free, debug_need, debug_resize, debug_write, next_damaged, with_poke, relabel_debug, user_layout, watched_at, with_watch}
 use Rattle.vc_audit.specs.Profile.{Profile, bare_layout, profile_alloc, profile_clear, profile_compact, profile_free, profile_resize, profile_rows, profile_write, relabel_profile, row_at}
 
 -- what a region of each method is
@@ -76,14 +78,6 @@ region_resize terms (OfDebug debug) at size may_move refused =
 region_resize terms (OfProfile profile) at size may_move refused =
     outcome_as OfProfile (profile_resize terms profile at size may_move refused)
 
--- a block can't have a size where it is, and so goes elsewhere where it may: in a last region the latest alone, in a pool none
-abbrev pub MustMove : {L : Type 0} → Region L → ℕ → Block L → Type 0
-MustMove (OfBest layout) size b = can_stay layout size b ≡ false
-MustMove (OfPool pool) size b = ⊥
-MustMove (OfLast layout) size b = (latest layout ≡ Some b) × (can_end layout size b ≡ false)
-MustMove (OfDebug debug) size b = stays_debug debug size b ≡ false
-MustMove (OfProfile profile) size b = can_stay (bare_layout profile) size b ≡ false
-
 -- the bytes of the segment that a call asks for, where it needs one
 abbrev pub region_need : {L : Type 0} → Terms → Region L → ℕ → ℕ → ℕ
 region_need terms (OfBest layout) size align = best_need terms size align
@@ -93,20 +87,28 @@ region_need terms (OfDebug debug) size align = debug_need terms size
 region_need terms (OfProfile profile) size align = best_need terms size align
 
 -- a block asks for a segment, by the method: no gap holds it, no cell is free, or the newest segment has no place behind its last block
-abbrev pub RegionAsks : {L : Type 0} → Region L → ℕ → ℕ → Type 0
-RegionAsks (OfBest layout) size align = AsksForSegment layout size align
-RegionAsks (OfPool pool) size align = LacksCell pool size
-RegionAsks (OfLast layout) size align = last_place layout size ≡ None
-RegionAsks (OfDebug debug) size align = DebugAsks debug size
-RegionAsks (OfProfile profile) size align = AsksForSegment (bare_layout profile) size align
+abbrev pub RegionAsks : {L : Type 0} → Terms → Region L → ℕ → ℕ → Type 0
+RegionAsks terms (OfBest layout) size align = AsksForSegment terms layout size align
+RegionAsks terms (OfPool pool) size align = LacksCell pool size
+RegionAsks terms (OfLast layout) size align = LacksPlace terms layout size
+RegionAsks terms (OfDebug debug) size align = DebugAsks terms debug size
+RegionAsks terms (OfProfile profile) size align = AsksForSegment terms (bare_layout profile) size align
+
+-- the block at an address asks for one where it gets another size: it can't stay, and may move; in a pool it never does
+abbrev pub RegionAsksToMove : {L : Type 0} → Terms → Region L → ℕ → ℕ → Bool → Type 0
+RegionAsksToMove terms (OfBest layout) a size may_move = AsksToMove terms layout a size may_move
+RegionAsksToMove terms (OfPool pool) a size may_move = ⊥
+RegionAsksToMove terms (OfLast layout) a size may_move = MovesToNew terms layout (place_of a) size may_move
+RegionAsksToMove terms (OfDebug debug) a size may_move = DebugAsksToMove terms debug a size may_move
+RegionAsksToMove terms (OfProfile profile) a size may_move = AsksToMove terms (bare_layout profile) a size may_move
 
 -- a new block asks for memory: where it asks for a segment, and in a profile region, which keeps lists, at any time
-abbrev pub AsksForMemory : {L : Type 0} → Region L → ℕ → ℕ → Type 0
-AsksForMemory (OfBest layout) size align = RegionAsks (OfBest layout) size align
-AsksForMemory (OfPool pool) size align = RegionAsks (OfPool pool) size align
-AsksForMemory (OfLast layout) size align = RegionAsks (OfLast layout) size align
-AsksForMemory (OfDebug debug) size align = RegionAsks (OfDebug debug) size align
-AsksForMemory (OfProfile profile) size align = Unit {0}
+abbrev pub AsksForMemory : {L : Type 0} → Terms → Region L → ℕ → ℕ → Type 0
+AsksForMemory terms (OfBest layout) size align = RegionAsks terms (OfBest layout) size align
+AsksForMemory terms (OfPool pool) size align = RegionAsks terms (OfPool pool) size align
+AsksForMemory terms (OfLast layout) size align = RegionAsks terms (OfLast layout) size align
+AsksForMemory terms (OfDebug debug) size align = RegionAsks terms (OfDebug debug) size align
+AsksForMemory terms (OfProfile profile) size align = Unit {0}
 
 -- the block at a place goes
 abbrev pub region_free : {L : Type 0} → Region L → ℕ × ℕ → Outcome (Region L)

@@ -1,11 +1,9 @@
-ghost use Rattle.std.specs.Prelude.{◌≡◌, ◌≤◌, Some, IfOk, IsErrOf, IsTrue, length};
-ghost use Rattle.vc_model.specs.Addr.{place_of};
-ghost use Rattle.vc_model.specs.Best.{zeros};
-ghost use Rattle.vc_model.specs.Layout.{without_block};
+ghost use Rattle.std.specs.Prelude.{◌≤◌, IfOk, IsErrOf, IsTrue, length};
+ghost use Rattle.vc_model.specs.Discipline.{HasOut};
 ghost use Rattle.vc_model.specs.Place.{IsAlign};
 ghost use Rattle.vc_region.specs.Region.{AsksForMemory, aligns, region_align, region_alloc, region_need};
-ghost use Rattle.vc_model.specs.Touch.{HasBlock, find_block};
 ghost use Rattle.vc_seg.specs.Answer.{Answers, Asks};
+ghost use Rattle.vc_seg.specs.OneBlock.{IsBlockPut, IsSize};
 ghost use Rattle.vc_region.specs.Parts.{blocks_in, disc_in, region_of, segments_in};
 
 use crate::region::{Region, Uncounted};
@@ -18,8 +16,8 @@ impl Region {
     /// any time. `PoolSize` comes exactly in a pool, where the size is above the element size. The site,
     /// of 1 to 32 bytes, is used in a profile region alone.
     pub fn alloc(&mut self, size: u32, tag: u32, site: &[u8]) -> Result<Addr, RegionFault>
-        requires some { 1 ≤ size }
-        requires most { size ≤ 16777216 }
+        requires size { IsSize size }
+        requires lent { HasOut (disc_in state self.old) (segments_in self.old) }
         requires named { 1 ≤ length site.now }
         requires short { length site.now ≤ 32 }
 
@@ -30,14 +28,11 @@ impl Region {
             (segments_in self.old) (segments_in self.new)
             (region_need (disc_in state self.old).terms (region_of self.old) size 32) }
         ensures no_memory { IsErrOf result RegionFault.OutOfMemory
-            → AsksForMemory (region_of self.old) size 32 }
+            → AsksForMemory (disc_in state self.old).terms (region_of self.old) size 32 }
 
         // The block has an address of its own, and the others stay.
-        ensures there { IfOk result (λ a. find_block (place_of a.0) (blocks_in self.new)
-            ≡ Some (zeros tag size (place_of a.0))) }
-        ensures fresh { IfOk result (λ a. ¬ HasBlock (blocks_in self.old) a.0) }
-        ensures others { IfOk result (λ a. without_block (place_of a.0) (blocks_in self.new)
-            ≡ blocks_in self.old) }
+        ensures put { IfOk result
+            (λ a. IsBlockPut tag size a.0 (blocks_in self.old) (blocks_in self.new)) }
     {
         match self {
             Region::Best(best) => {
@@ -60,8 +55,8 @@ impl Region {
         tag: u32,
         site: &[u8],
     ) -> Result<Addr, RegionFault>
-        requires some { 1 ≤ size }
-        requires most { size ≤ 16777216 }
+        requires size { IsSize size }
+        requires lent { HasOut (disc_in state self.old) (segments_in self.old) }
         requires align { IsAlign align }
         requires named { 1 ≤ length site.now }
         requires short { length site.now ≤ 32 }
@@ -75,14 +70,11 @@ impl Region {
         ensures no_memory { IsErrOf result RegionFault.OutOfMemory
             → IsTrue (aligns (region_of self.old)) }
         ensures no_place { IsErrOf result RegionFault.OutOfMemory
-            → AsksForMemory (region_of self.old) size align }
+            → AsksForMemory (disc_in state self.old).terms (region_of self.old) size align }
 
         // The block has an address of its own, and the others stay.
-        ensures there { IfOk result (λ a. find_block (place_of a.0) (blocks_in self.new)
-            ≡ Some (zeros tag size (place_of a.0))) }
-        ensures fresh { IfOk result (λ a. ¬ HasBlock (blocks_in self.old) a.0) }
-        ensures others { IfOk result (λ a. without_block (place_of a.0) (blocks_in self.new)
-            ≡ blocks_in self.old) }
+        ensures put { IfOk result
+            (λ a. IsBlockPut tag size a.0 (blocks_in self.old) (blocks_in self.new)) }
     {
         match self {
             Region::Best(best) => {

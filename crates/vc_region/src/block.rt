@@ -2,7 +2,8 @@ ghost use Rattle.std.specs.Prelude.{◌≡◌, Some, length, take, drop, option_
 ghost use Rattle.vc_model.specs.Addr.{place_of};
 ghost use Rattle.vc_model.specs.Layout.{without_block};
 ghost use Rattle.vc_region.specs.Region.{region_write};
-ghost use Rattle.vc_model.specs.Touch.{HasBlock, HasRange, find_block};
+ghost use Rattle.vc_model.specs.Touch.{HasBlock, find_block};
+ghost use Rattle.vc_seg.specs.OneBlock.{IsInBlock};
 ghost use Rattle.vc_region.specs.Parts.{blocks_in, disc_in, region_of};
 
 use crate::region::Region;
@@ -43,8 +44,7 @@ impl Region {
 
     /// The bytes of a range of the block at that address. The range lies in the block.
     pub fn read(&self, a: Addr, off: u32, len: u32) -> &[u8]
-        requires block { HasBlock (blocks_in self.now) a.0 }
-        requires range { HasRange (blocks_in self.now) a.0 off len }
+        requires { IsInBlock (blocks_in self.now) a.0 off len }
         ensures { option_map (λ b. take len (drop off b.bytes))
             (find_block (place_of a.0) (blocks_in self.now))
             ≡ Some result.now }
@@ -60,8 +60,7 @@ impl Region {
 
     /// Puts bytes into the block at that address, from an offset on. They lie in the block.
     pub fn write(&mut self, a: Addr, off: u32, src: &[u8])
-        requires block { HasBlock (blocks_in self.old) a.0 }
-        requires range { HasRange (blocks_in self.old) a.0 off (length src.now) }
+        requires { IsInBlock (blocks_in self.old) a.0 off (length src.now) }
         ensures region { region_of self.new
             ≡ region_write (region_of self.old) (place_of a.0) off src.now }
         ensures disc { disc_in state self.new ≡ disc_in state self.old }

@@ -1,9 +1,7 @@
-ghost use Rattle.std.specs.Prelude.{◌≡◌, ℕ, ◌+◌, ◌<◌, ◌≤◌, IsErrOf, OnOk, length};
-ghost use Rattle.std.specs.List.{HoldsAt, remove};
+ghost use Rattle.std.specs.Prelude.{◌≡◌, ◌≤◌, IsErrOf, OnOk};
 ghost use Rattle.vc_model.specs.Addr.{place_of};
 ghost use Rattle.vc_model.specs.Compact.{cleared_layout};
 ghost use Rattle.vc_model.specs.Discipline.{HasOut, TookBack};
-ghost use Rattle.vc_model.specs.Layout.{address_of};
 ghost use Rattle.vc_model.specs.Pool.{pool_clear};
 ghost use Rattle.vc_audit.specs.Debug.{debug_clear};
 ghost use Rattle.vc_audit.specs.DebugParts.{debug_of};
@@ -16,6 +14,7 @@ ghost use Rattle.vc_best.specs.Parts.{layout_of};
 ghost use Rattle.vc_last.specs.Parts.{layout_of as last_of};
 ghost use Rattle.vc_pool.specs.Parts.{pool_of};
 ghost use Rattle.vc_seg.specs.Boxed.{disc_in_box};
+ghost use Rattle.vc_seg.specs.OneBlock.{IsBlockFreed};
 ghost use Rattle.vc_region.specs.Parts.{blocks_in, disc_in, region_of, segments_in};
 
 use crate::region::{Region, Uncounted};
@@ -85,12 +84,8 @@ impl Region {
         ensures memory { ¬ IsErrOf result RegionFault.OutOfMemory }
 
         // It is the one block at that address that goes.
-        ensures one_less { OnOk result (length (blocks_in self.new) + 1
-            ≡ length (blocks_in self.old)) }
-        ensures freed { OnOk result ((i : ℕ) → i < length (blocks_in self.old)
-            → HoldsAt (λ b. address_of b ≡ a.0) (blocks_in self.old) i
-            → blocks_in self.new ≡ remove (blocks_in self.old) i) }
-        ensures none_left { OnOk result (¬ HasBlock (blocks_in self.new) a.0) }
+        ensures freed { OnOk result
+            (IsBlockFreed a.0 (blocks_in self.old) (blocks_in self.new)) }
     {
         match self {
             Region::Best(best) => {

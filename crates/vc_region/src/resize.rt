@@ -1,10 +1,11 @@
-ghost use Rattle.std.specs.Prelude.{◌≡◌, ◌≤◌, IfOk, IfSome, IsErrOf, IsTrue, option_map};
+ghost use Rattle.std.specs.Prelude.{◌≡◌, IfOk, IsErrOf};
 ghost use Rattle.vc_model.specs.Addr.{place_of};
-ghost use Rattle.vc_model.specs.Layout.{without_block};
+ghost use Rattle.vc_model.specs.Discipline.{HasOut};
 ghost use Rattle.vc_model.specs.Pool.{pool_resize};
-ghost use Rattle.vc_region.specs.Region.{MustMove, RegionAsks, region_need, region_resize};
-ghost use Rattle.vc_model.specs.Touch.{HasBlock, find_block};
+ghost use Rattle.vc_region.specs.Region.{RegionAsksToMove, region_need, region_resize};
+ghost use Rattle.vc_model.specs.Touch.{HasBlock};
 ghost use Rattle.vc_seg.specs.Answer.{Answers, Asks};
+ghost use Rattle.vc_seg.specs.OneBlock.{IsBlockKept, IsSize};
 ghost use Rattle.vc_pool.specs.Parts.{pool_of};
 ghost use Rattle.vc_seg.specs.Boxed.{disc_in_box};
 ghost use Rattle.vc_region.specs.Parts.{blocks_in, disc_in, region_of, segments_in};
@@ -17,18 +18,14 @@ use vc_seg::{BoxedDisc, RegionFault, SegDisc};
 // A block of a pool gets another size where it is.
 fn resize_in_pool(pool: &mut Pool, a: Addr, size: u32) -> Result<Addr, RegionFault>
     requires block { HasBlock (pool_of pool.old).layout.blocks a.0 }
-    requires some { 1 ≤ size }
-    requires most { size ≤ 16777216 }
+    requires size { IsSize size }
     ensures answer { Answers (λ _. pool_resize (pool_of pool.old) (place_of a.0) size) result
         (pool_of pool.old) (pool_of pool.new) }
     ensures disc { disc_in_box state pool.new.disc ≡ disc_in_box state pool.old.disc }
     ensures memory { ¬ IsErrOf result RegionFault.OutOfMemory }
     ensures address { IfOk result (λ to. to ≡ a) }
-    ensures there { IfOk result (λ _. option_map (λ b. b.label)
-        (find_block (place_of a.0) (pool_of pool.new).layout.blocks)
-        ≡ option_map (λ b. b.label) (find_block (place_of a.0) (pool_of pool.old).layout.blocks)) }
-    ensures others { IfOk result (λ _. without_block (place_of a.0) (pool_of pool.new).layout.blocks
-        ≡ without_block (place_of a.0) (pool_of pool.old).layout.blocks) }
+    ensures kept { IfOk result
+        (λ _. IsBlockKept a.0 a.0 (pool_of pool.old).layout.blocks (pool_of pool.new).layout.blocks) }
 {
     match pool.resize(a, size) {
         Ok(()) => Ok(a),
@@ -44,8 +41,8 @@ impl Region {
     /// `alloc`, and come only where it moves, `OutOfMemory` only where a segment is asked for by that.
     pub fn resize(&mut self, a: Addr, size: u32, may_move: bool) -> Result<Addr, RegionFault>
         requires block { HasBlock (blocks_in self.old) a.0 }
-        requires some { 1 ≤ size }
-        requires most { size ≤ 16777216 }
+        requires size { IsSize size }
+        requires lent { HasOut (disc_in state self.old) (segments_in self.old) }
 
         ensures answer { Answers
             (region_resize (disc_in state self.old).terms
@@ -55,17 +52,12 @@ impl Region {
             (segments_in self.old) (segments_in self.new)
             (region_need (disc_in state self.old).terms (region_of self.old) size 32) }
         ensures no_memory { IsErrOf result RegionFault.OutOfMemory
-            → IfSome (find_block (place_of a.0) (blocks_in self.old))
-            (MustMove (region_of self.old) size) × IsTrue may_move }
-        ensures no_place { IsErrOf result RegionFault.OutOfMemory
-            → RegionAsks (region_of self.old) size 32 }
+            → RegionAsksToMove (disc_in state self.old).terms
+            (region_of self.old) a.0 size may_move }
 
         // The block keeps its tag, and the others stay.
-        ensures there { IfOk result (λ to. option_map (λ b. b.label)
-            (find_block (place_of to.0) (blocks_in self.new))
-            ≡ option_map (λ b. b.label) (find_block (place_of a.0) (blocks_in self.old))) }
-        ensures others { IfOk result (λ to. without_block (place_of to.0) (blocks_in self.new)
-            ≡ without_block (place_of a.0) (blocks_in self.old)) }
+        ensures kept { IfOk result
+            (λ to. IsBlockKept a.0 to.0 (blocks_in self.old) (blocks_in self.new)) }
     {
         match self {
             Region::Best(best) => {

@@ -1,7 +1,7 @@
-ghost use Rattle.std.specs.Prelude.{◌≡◌, ℕ, ◌⊎◌, IfSome, option_map};
-ghost use Rattle.vc_model.specs.Layout.{address_of};
+ghost use Rattle.std.specs.Prelude.{◌≡◌, ◌⊎◌};
 ghost use Rattle.vc_model.specs.Touch.{HasBlock};
-ghost use Rattle.vc_model.specs.Walk.{block_at, next_block, next_segment, segment_at};
+ghost use Rattle.vc_model.specs.Walk.{next_segment, segment_at};
+ghost use Rattle.vc_seg.specs.OneBlock.{IsBlockAt, IsNextBlock};
 ghost use Rattle.vc_region.specs.Stat.{stat_of};
 ghost use Rattle.vc_region.specs.Parts.{blocks_in, region_of, segments_in};
 
@@ -14,10 +14,7 @@ impl Region {
     /// The block whose bytes hold the byte at an offset of a segment, and the offset in the block. None where no block
     /// does.
     pub fn block_at(&self, seg: u32, off: u32) -> Option<(Addr, u32)>
-        ensures value { option_map {U = ℕ × ℕ} (λ f. (f.0.0, f.1)) result
-            ≡ option_map {U = ℕ × ℕ} (λ f. (address_of f.0, f.1))
-            (block_at (seg, off) (blocks_in self.now)) }
-        ensures live { IfSome result (λ f. HasBlock (blocks_in self.now) f.0.0) }
+        ensures { IsBlockAt result (seg, off) (blocks_in self.now) }
     {
         match self {
             Region::Best(best) => best.block_at(seg, off),
@@ -57,9 +54,7 @@ impl Region {
     /// The block behind one in order of addresses. A walk begins with `Addr::NONE`, and ends with None.
     pub fn next_block(&self, after: Addr) -> Option<Addr>
         requires { (after.0 ≡ 0) ⊎ HasBlock (blocks_in self.now) after.0 }
-        ensures value { option_map (λ a. a.0) result
-            ≡ option_map address_of (next_block after.0 (blocks_in self.now)) }
-        ensures live { IfSome result (λ a. HasBlock (blocks_in self.now) a.0) }
+        ensures { IsNextBlock result after.0 (blocks_in self.now) }
     {
         match self {
             Region::Best(best) => best.next_block(after),
