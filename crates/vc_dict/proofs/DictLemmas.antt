@@ -1,24 +1,24 @@
 -- A dictionary after its list, its hash or its ordered one changed.
-use Rattle.std.proofs.Common.{◌≡◌, ℕ, ◌<◌, ◌^◌, List, [], ◌∷◌, true, false, Option, Some, None, unwrap_or, length, refl, sym, ap, ◌∙◌, subst, arith}
+use Rattle.std.proofs.Common.{◌≡◌, ℕ, ◌<◌, ◌^◌, List, [], ◌∷◌, true, Option, Some, None, unwrap_or, length, refl, sym, ap, ◌∙◌, subst, arith}
 use Rattle.std.specs.Option.{option_map}
 use Rattle.std.proofs.lemmas.Bool.{true≢false}
 use Rattle.vc_base.specs.declared.addr.Addr.{Addr}
 use Rattle.vc_base.specs.Cells.{Blocks}
-use Rattle.vc_base.specs.Holders.{KeepsBut, contains}
+use Rattle.vc_base.proofs.Members.{apart-cons}
+use Rattle.vc_base.specs.Holders.{contains}
 use Rattle.vc_dtdisc.specs.Rules.{Rules}
 use Rattle.vc_dtlist.specs.declared.dt_list.DtList.{DtList}
 use Rattle.vc_dtlist.specs.TableWrites.{KeepsTables}
-use Rattle.vc_dtlist.specs.Linked.{StandsFor, number_of}
-use Rattle.vc_dtlist.proofs.KeptLemmas.{KeepsTables-but}
+use Rattle.vc_dtlist.specs.Linked.{Turned, number_of}
+use Rattle.vc_dtlist.proofs.KeptLemmas.{KeepsBut-none, KeepsTables-but}
 use Rattle.vc_dthash.specs.declared.dt_hash.DtHash.{DtHash}
-use Rattle.vc_dthash.specs.Hashed.{HashFor, HashTurned}
+use Rattle.vc_dthash.specs.Hashed.{HashTurned}
 use Rattle.vc_dtord.specs.declared.dt_ord.DtOrd.{DtOrd}
-use Rattle.vc_dtord.specs.Ordered.{OrdFor}
+use Rattle.vc_dtord.specs.Ordered.{OrdTurned}
 use Rattle.vc_dict.specs.declared.dict.Dict.{Dict}
-use Rattle.vc_base.specs.Methods.{has_table, is_ordered}
-use Rattle.vc_base.proofs.Members.{apart-cons}
-use Rattle.vc_dict.specs.Stands.{Became, HeadsFor, IsMember, Stands, hash_of, heads_of}
-use Rattle.vc_dict.proofs.HeadLemmas.{heads-hash, heads-links, heads-order, ordered_plain}
+use Rattle.vc_dict.specs.declared.heads.Heads.{Heads}
+use Rattle.vc_dict.specs.declared.heads.Heads.TheVariants.{Hash, Links, Order}
+use Rattle.vc_dict.specs.Stands.{Became, HeadsFor, HeadsTurned, IsMember, Stands, table_at, table_in}
 use Rattle.vc_dict.proofs.OwnLemmas.{count-fits, holders-told}
 
 -- it counts fewer than 2^32 holders, and stands for one list alone
@@ -28,47 +28,31 @@ few rules d b xs s = let h = count-fits rules d b xs s in omega (arith, s.count)
 pub Stands-unique : (rules rules' : Rules) (d : Dict) (b : Blocks) (xs ys : List ℕ) → Stands rules d b xs → Stands rules' d b ys → xs ≡ ys
 Stands-unique rules rules' d b xs ys s t = sym (holders-told rules d b xs s) ∙ holders-told rules' d b ys t
 
--- a hash changed
-pub Became-hash : (rules : Rules) (d : Dict) (hash : DtHash) (b b' : Blocks) (at : ℕ) (xs ys : List ℕ) → has_table d.method ≡ true → HashTurned rules at xs (hash_of d) b hash b' ys → Became rules (at ∷ xs) d b (record d { first = hash.first; last = hash.last; count = hash.count }) b' ys d.current.0
-Became-hash rules d hash b b' at xs ys h t =
-    let new : Dict = record d { first = hash.first; last = hash.last; count = hash.count } in
-    let stands : HashFor rules (hash_of new) b' ys = subst (λ z. HashFor rules (record hash { table = z; slots = d.slots }) b' ys) t.table (subst (λ z. HashFor rules (record hash { slots = z }) b' ys) t.slots t.stands) in
-    record {
-      stands = record {
-        heads = subst (λ z. HeadsFor rules z b' ys) (sym (heads-hash new h)) stands;
-        count = stands.count;
-        plain = λ e. absurd (true≢false (sym h ∙ e));
-      };
-      current = refl;
-      method = refl;
-      kind = refl;
-      table = refl;
-      slots = refl;
-      keeps = t.keeps;
-    }
-
--- a list or an ordered one changed
-pub Became-plain : (rules : Rules) (d : Dict) (first last root : Addr) (n : ℕ) (b b' : Blocks) (written xs ys : List ℕ) → Stands rules d b xs → HeadsFor rules (heads_of (record d { first = first; last = last; root = root; count = n })) b' ys → n ≡ length ys → KeepsBut written b b'
-    → Became rules written d b (record d { first = first; last = last; root = root; count = n }) b' ys d.current.0
-Became-plain rules d first last root n b b' written xs ys s heads count keeps = record {
-  stands = record { heads = heads; count = count; plain = λ h. record { table = (s.plain h).table; slots = (s.plain h).slots } };
+-- its heads changed, how many it counts, and the current one
+pub Became-heads : (rules : Rules) (d : Dict) (heads : Heads) (n : ℕ) (current : Addr) (b b' : Blocks) (written xs ys : List ℕ) → Stands rules d b xs → HeadsTurned rules written d.heads b heads b' ys → n ≡ length ys → Became rules written d b (record d { heads = heads; count = n; current = current }) b' ys current.0
+Became-heads rules d heads n current b b' written xs ys s t count = record {
+  stands = record { form = t.form d.method s.form; heads = t.stands; count = count };
   current = refl;
   method = refl;
   kind = refl;
-  table = refl;
-  slots = refl;
-  keeps = KeepsTables-but (d.table.0 ∷ []) written b b' keeps;
+  table = t.table;
+  slots = t.slots;
+  keeps = t.keeps;
 }
 
-pub Became-ord : (rules : Rules) (d : Dict) (ord : DtOrd) (n : ℕ) (b b' : Blocks) (written xs ys : List ℕ) → is_ordered d.method ≡ true → Stands rules d b xs → OrdFor rules ord b' ys → n ≡ length ys → KeepsBut written b b' → Became rules written d b (record d { root = ord.root; count = n }) b' ys d.current.0
-Became-ord rules d ord n b b' written xs ys o s stands count keeps =
-    let new : Dict = record d { root = ord.root; count = n } in
-    Became-plain rules d d.first d.last ord.root n b b' written xs ys s (subst (λ z. HeadsFor rules z b' ys) (sym (heads-order new (ordered_plain d.method o) o)) stands) count keeps
+-- a hash changed, a tree, or a list
+pub turned-hash : (rules : Rules) (hash new : DtHash) (at : ℕ) (b b' : Blocks) (xs ys : List ℕ) → HashTurned rules at xs hash b new b' ys → HeadsTurned rules (at ∷ xs) (Hash hash) b (Hash new) b' ys
+turned-hash rules hash new at b b' xs ys t = record { stands = t.stands; form = λ method f. f; table = t.table; slots = t.slots; keeps = t.keeps }
 
-pub Became-list : (rules : Rules) (d : Dict) (list : DtList) (n : ℕ) (b b' : Blocks) (written xs ys : List ℕ) → has_table d.method ≡ false → is_ordered d.method ≡ false → Stands rules d b xs → StandsFor list b' ys → n ≡ length ys → KeepsBut written b b' → Became rules written d b (record d { first = list.first; last = list.last; count = n }) b' ys d.current.0
-Became-list rules d list n b b' written xs ys h o s stands count keeps =
-    let new : Dict = record d { first = list.first; last = list.last; count = n } in
-    Became-plain rules d list.first list.last d.root n b b' written xs ys s (subst (λ z. HeadsFor rules z b' ys) (sym (heads-links new h o)) stands) count keeps
+pub turned-ord : (rules : Rules) (ord new : DtOrd) (written : List ℕ) (b b' : Blocks) (ys : List ℕ) → OrdTurned rules written b new b' ys → HeadsTurned rules written (Order ord) b (Order new) b' ys
+turned-ord rules ord new written b b' ys t = record { stands = t.stands; form = λ method f. f; table = refl; slots = refl; keeps = KeepsTables-but (0 ∷ []) written b b' t.keeps }
+
+pub turned-list : (rules : Rules) (list new : DtList) (at : ℕ) (b b' : Blocks) (xs ys : List ℕ) → Turned at xs b new b' ys → HeadsTurned rules (at ∷ xs) (Links list) b (Links new) b' ys
+turned-list rules list new at b b' xs ys t = record { stands = t.stands; form = λ method f. f; table = refl; slots = refl; keeps = KeepsTables-but (0 ∷ []) (at ∷ xs) b b' t.keeps }
+
+-- nothing changed
+pub turned-none : (rules : Rules) (heads : Heads) (written : List ℕ) (b : Blocks) (ys : List ℕ) → HeadsFor rules heads b ys → HeadsTurned rules written heads b heads b ys
+turned-none rules heads written b ys s = record { stands = s; form = λ method f. f; table = refl; slots = refl; keeps = KeepsTables-but ((table_at heads).0 ∷ []) written b b (KeepsBut-none written b) }
 
 -- one of the holders needs no naming beside them
 pub KeepsTables-within : (tables xs : List ℕ) (at : ℕ) (b b' : Blocks) → contains xs at ≡ true → KeepsTables tables (at ∷ xs) b b' → KeepsTables tables xs b b'
@@ -87,7 +71,7 @@ Became-within rules xs at d d' b b' ys current w t = record {
   kind = t.kind;
   table = t.table;
   slots = t.slots;
-  keeps = KeepsTables-within (d.table.0 ∷ []) xs at b b' w t.keeps;
+  keeps = KeepsTables-within ((table_in d).0 ∷ []) xs at b b' w t.keeps;
 }
 
 -- the members of one list
@@ -111,7 +95,7 @@ Became-trans rules xs d e f a b c ys zs current current' t u = record {
   kind = u.kind ∙ t.kind;
   table = u.table ∙ t.table;
   slots = u.slots ∙ t.slots;
-  keeps = KeepsTables-trans (d.table.0 ∷ []) xs a b c t.keeps (subst (λ z. KeepsTables (z.0 ∷ []) xs b c) t.table u.keeps);
+  keeps = KeepsTables-trans ((table_in d).0 ∷ []) xs a b c t.keeps (subst (λ z. KeepsTables (z.0 ∷ []) xs b c) t.table u.keeps);
 }
 
 -- the current one is another
@@ -127,7 +111,7 @@ Became-current rules written d at b b' d' ys t = record {
 }
 
 pub Stands-current : (rules : Rules) (d : Dict) (at : Addr) (b : Blocks) (xs : List ℕ) → Stands rules d b xs → Stands rules (record d { current = at }) b xs
-Stands-current rules d at b xs s = record { heads = s.heads; count = s.count; plain = λ h. record { table = (s.plain h).table; slots = (s.plain h).slots } }
+Stands-current rules d at b xs s = record { form = s.form; heads = s.heads; count = s.count }
 
 -- an address that may be none
 pub or_none : (o : Option Addr) (other : Addr) (p : Option ℕ) → option_map number_of o ≡ p → other.0 ≡ 0 → (unwrap_or o other).0 ≡ unwrap_or p 0

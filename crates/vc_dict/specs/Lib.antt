@@ -4,7 +4,7 @@ pub mod Orders
 pub mod Stands
 pub mod Passes
 pub mod Flattening
-pub mod Planting
+pub mod Forming
 pub mod Weeding
 pub mod Turned
 pub mod Rows

@@ -1,16 +1,15 @@
 -- Which holders a dictionary stands for.
-use Rattle.std.specs.Prelude.{◌≡◌, ◌≢◌, ℕ, ◌%◌, Bool, List, [], ◌∷◌, None, true, false, length, if◌then◌else◌}
+use Rattle.std.specs.Prelude.{◌≡◌, ◌≢◌, ℕ, ◌%◌, Bool, List, [], ◌∷◌, None, true, false, length}
+use Rattle.vc_base.specs.declared.addr.Addr.{Addr}
+use Rattle.vc_base.specs.declared.dict_method.DictMethod.{DictMethod}
 use Rattle.vc_base.specs.Cells.{Blocks, IsHolder}
 use Rattle.vc_base.specs.Holders.{contains}
 use Rattle.vc_dtdisc.specs.Finds.{find_key, object_at}
 use Rattle.vc_dtdisc.specs.Rules.{Rules}
-use Rattle.vc_dtlist.specs.declared.dt_list.DtList.{DtList}
 use Rattle.vc_dtlist.specs.TableWrites.{KeepsTables}
 use Rattle.vc_dtlist.specs.Linked.{StandsFor}
-use Rattle.vc_dthash.specs.declared.dt_hash.DtHash.{DtHash}
 use Rattle.vc_dthash.specs.Chained.{chain_of, hash_at}
 use Rattle.vc_dthash.specs.Hashed.{HashFor, IsTable}
-use Rattle.vc_dtord.specs.declared.dt_ord.DtOrd.{DtOrd}
 use Rattle.vc_dtord.specs.Ordered.{OrdFor}
 use Rattle.vc_dict.specs.declared.dict.Dict.{Dict}
 use Rattle.vc_dict.specs.declared.heads.Heads.{Heads}
@@ -18,34 +17,39 @@ use Rattle.vc_dict.specs.declared.heads.Heads.TheVariants.{Hash, Links, Order}
 use Rattle.vc_base.specs.Methods.{has_table, is_list, is_ordered, is_set}
 use Rattle.vc_dict.specs.Methods.{wanted_by}
 
--- its heads as those of a list, of a hash and of an ordered one: a method uses its own, whatever the others say
-abbrev pub list_of : Dict → DtList
-list_of dict = record { first = dict.first; last = dict.last }
+-- whether heads are of a method's form: a hash for a set or bag, an ordered one for an ordered set or bag, and else a list
+abbrev pub IsForm : DictMethod → Heads → Type 0
+IsForm method (Hash hash) = has_table method ≡ true
+IsForm method (Order ord) = is_ordered method ≡ true
+IsForm method (Links list) = (has_table method ≡ false) × (is_ordered method ≡ false)
 
-abbrev pub hash_of : Dict → DtHash
-hash_of dict = record {
-  first = dict.first;
-  last = dict.last;
-  table = dict.table;
-  slots = dict.slots;
-  count = dict.count;
-}
+-- the table of a hash and its slots; other heads have none
+abbrev pub table_at : Heads → Addr
+table_at (Hash hash) = hash.table
+table_at (Order ord) = record { 0 = 0 }
+table_at (Links list) = record { 0 = 0 }
 
-abbrev pub ord_of : Dict → DtOrd
-ord_of dict = record { root = dict.root }
+abbrev pub slots_at : Heads → ℕ
+slots_at (Hash hash) = hash.slots
+slots_at (Order ord) = 0
+slots_at (Links list) = 0
 
--- by its method: those of a hash for a set or bag, of an ordered one for an ordered set or bag, and else of a list
-abbrev pub heads_of : Dict → Heads
-heads_of dict =
-    if has_table dict.method
-    then Hash (hash_of dict)
-    else if is_ordered dict.method then Order (ord_of dict) else Links (list_of dict)
+abbrev pub table_in : Dict → Addr
+table_in dict = table_at dict.heads
+
+abbrev pub slots_in : Dict → ℕ
+slots_in dict = slots_at dict.heads
 
 -- heads stand for these holders in their own form
 abbrev pub HeadsFor : Rules → Heads → Blocks → List ℕ → Type 0
 HeadsFor rules (Hash hash) blocks holders = HashFor rules hash blocks holders
 HeadsFor rules (Order ord) blocks holders = OrdFor rules ord blocks holders
 HeadsFor rules (Links list) blocks holders = StandsFor list blocks holders
+
+-- they do so for some holders
+pub record IsHeads (rules : Rules) (heads : Heads) (blocks : Blocks) : Type 0 where
+  pub holders : List ℕ
+  pub stands : HeadsFor rules heads blocks holders
 
 -- they do so for so many holders, by some kind's rules
 pub record AreHeads (heads : Heads) (blocks : Blocks) (count : ℕ) : Type 0 where
@@ -54,26 +58,48 @@ pub record AreHeads (heads : Heads) (blocks : Blocks) (count : ℕ) : Type 0 whe
   pub stands : HeadsFor rules heads blocks holders
   pub length : count ≡ length holders
 
--- neither a table nor slots
-pub record HasNoTable (dict : Dict) : Type 0 where
-  pub table : dict.table.0 ≡ 0
-  pub slots : dict.slots ≡ 0
+-- they do so for some holders by some kind's rules, and this is one of them
+pub record HasHolder (heads : Heads) (blocks : Blocks) (at : ℕ) : Type 0 where
+  pub rules : Rules
+  pub holders : List ℕ
+  pub stands : HeadsFor rules heads blocks holders
+  pub within : contains holders at ≡ true
 
--- its heads stand for these holders, which it counts; where the method has no table, nor has it
+-- they are of a method's form and stand for some holders, and this one may join them behind the current one or before it
+pub record CanJoin (rules : Rules) (method : DictMethod) (heads : Heads) (blocks : Blocks) (current at : ℕ) (append : Bool) : Type 0 where
+  pub holders : List ℕ
+  pub form : IsForm method heads
+  pub stands : HeadsFor rules heads blocks holders
+  pub apart : contains ((table_at heads).0 ∷ holders) at ≡ false
+  pub holder : IsHolder blocks at
+  pub mark : contains (0 ∷ holders) current ≡ true
+  pub room : wanted_by method (slots_at heads) (length holders) 1 ≡ None
+  pub list : append ≡ true → is_list method ≡ true
+
+-- from old to new their holders change so; their form and table stay, and the blocks keep all but the words of some holders
+-- and of the table
+pub record HeadsTurned (rules : Rules) (written : List ℕ) (old : Heads) (before : Blocks) (new : Heads) (after : Blocks) (changed : List ℕ) : Type 0 where
+  pub stands : HeadsFor rules new after changed
+  pub form : (method : DictMethod) → IsForm method old → IsForm method new
+  pub table : table_at new ≡ table_at old
+  pub slots : slots_at new ≡ slots_at old
+  pub keeps : KeepsTables ((table_at old).0 ∷ []) written before after
+
+-- its heads are of its method's form and stand for these holders, which it counts
 pub record Stands (rules : Rules) (dict : Dict) (blocks : Blocks) (holders : List ℕ) : Type 0 where
-  pub heads : HeadsFor rules (heads_of dict) blocks holders
+  pub form : IsForm dict.method dict.heads
+  pub heads : HeadsFor rules dict.heads blocks holders
   pub count : dict.count ≡ length holders
-  pub plain : has_table dict.method ≡ false → HasNoTable dict
 
 -- so many compares does a search for a key make at most: one for each holder of the key's slot in a set or bag, and else
 -- one for each holder
+abbrev pub heads_compares : Rules → Heads → Blocks → List ℕ → List ℕ → ℕ
+heads_compares rules (Hash hash) blocks key holders = length (chain_of (hash_at rules blocks) hash.slots (rules.hash key % hash.slots) holders)
+heads_compares rules (Order ord) blocks key holders = length holders
+heads_compares rules (Links list) blocks key holders = length holders
+
 abbrev pub compares_by : Rules → Dict → Blocks → List ℕ → List ℕ → ℕ
-compares_by rules dict blocks key holders =
-    length (
-    if has_table dict.method
-    then chain_of (hash_at rules blocks) dict.slots (rules.hash key % dict.slots) holders
-    else holders
-    )
+compares_by rules dict blocks key holders = heads_compares rules dict.heads blocks key holders
 
 -- it stands for some holders
 pub record IsDict (rules : Rules) (dict : Dict) (blocks : Blocks) : Type 0 where
@@ -101,10 +127,10 @@ pub record IsIn (dict : Dict) (blocks : Blocks) (at : ℕ) : Type 0 where
 pub record CanLink (rules : Rules) (dict : Dict) (blocks : Blocks) (at : ℕ) (append : Bool) : Type 0 where
   pub holders : List ℕ
   pub stands : Stands rules dict blocks holders
-  pub apart : contains (dict.table.0 ∷ holders) at ≡ false
+  pub apart : contains ((table_in dict).0 ∷ holders) at ≡ false
   pub holder : IsHolder blocks at
   pub current : contains (0 ∷ holders) dict.current.0 ≡ true
-  pub room : wanted_by dict.method dict.slots dict.count 1 ≡ None
+  pub room : wanted_by dict.method (slots_in dict) dict.count 1 ≡ None
   pub lone : is_set dict.method ≡ true → find_key rules blocks (rules.key (object_at blocks at)) holders ≡ None
   pub list : append ≡ true → is_list dict.method ≡ true
 
@@ -114,7 +140,7 @@ pub record CanAdopt (rules : Rules) (dict : Dict) (blocks : Blocks) (table slots
   pub stands : Stands rules dict blocks holders
   pub method : has_table dict.method ≡ true
   pub fits : IsTable blocks holders table slots
-  pub another : table ≢ dict.table.0
+  pub another : table ≢ (table_in dict).0
 
 -- from old to new its holders change so, and the current one; its method, kind and table stay, and the blocks keep all
 -- but the words of some holders and of the table
@@ -123,9 +149,9 @@ pub record Became (rules : Rules) (written : List ℕ) (old : Dict) (before : Bl
   pub current : new.current.0 ≡ at
   pub method : new.method ≡ old.method
   pub kind : new.kind ≡ old.kind
-  pub table : new.table ≡ old.table
-  pub slots : new.slots ≡ old.slots
-  pub keeps : KeepsTables (old.table.0 ∷ []) written before after
+  pub table : table_in new ≡ table_in old
+  pub slots : slots_in new ≡ slots_in old
+  pub keeps : KeepsTables ((table_in old).0 ∷ []) written before after
 
 -- from old to new it has that table in place of its own
 pub record Adopted (rules : Rules) (block size : ℕ) (holders : List ℕ) (old : Dict) (before : Blocks) (new : Dict) (after : Blocks) : Type 0 where
@@ -133,6 +159,6 @@ pub record Adopted (rules : Rules) (block size : ℕ) (holders : List ℕ) (old 
   pub current : new.current ≡ old.current
   pub method : new.method ≡ old.method
   pub kind : new.kind ≡ old.kind
-  pub table : new.table.0 ≡ block
-  pub slots : new.slots ≡ size
-  pub keeps : KeepsTables (old.table.0 ∷ block ∷ []) holders before after
+  pub table : (table_in new).0 ≡ block
+  pub slots : slots_in new ≡ size
+  pub keeps : KeepsTables ((table_in old).0 ∷ block ∷ []) holders before after

@@ -10,7 +10,7 @@ use Rattle.vc_dict.specs.declared.dict.Dropped.{Dropped}
 use Rattle.vc_base.specs.Methods.{has_table}
 use Rattle.vc_dict.specs.Methods.{slots_between}
 use Rattle.vc_dict.specs.Orders.{dropped_by, kept_by, ordered_by}
-use Rattle.vc_dict.specs.Stands.{Stands}
+use Rattle.vc_dict.specs.Stands.{Stands, slots_in, table_in}
 
 -- it stands for some holders; where the change needs a table this is one of so many slots, and else there is none
 pub record CanRemethod (rules : Rules) (dict : Dict) (blocks : Blocks) (method : DictMethod) (table slots : ℕ) : Type 0 where
@@ -37,10 +37,10 @@ pub record Remethoded (rules : Rules) (turned : DictMethod) (block size : ℕ) (
   pub method : new.method ≡ turned
   pub kind : new.kind ≡ old.kind
   pub current : new.current.0 ≡ 0
-  pub table : new.table.0 ≡ (if has_table turned && has_table old.method then old.table.0 else block)
-  pub slots : new.slots ≡ (if has_table turned && has_table old.method then old.slots else size)
-  pub left : answer.table.0 ≡ (if has_table turned then 0 else old.table.0)
-  pub keeps : KeepsTables (old.table.0 ∷ block ∷ []) holders before after
+  pub table : (table_in new).0 ≡ (if has_table turned && has_table old.method then (table_in old).0 else block)
+  pub slots : slots_in new ≡ (if has_table turned && has_table old.method then slots_in old else size)
+  pub left : answer.table.0 ≡ (if has_table turned then 0 else (table_in old).0)
+  pub keeps : KeepsTables ((table_in old).0 ∷ block ∷ []) holders before after
 
 -- the present method changes nothing
 pub record Unchanged (old : Dict) (before : Blocks) (new : Dict) (after : Blocks) (answer : Dropped) : Type 0 where

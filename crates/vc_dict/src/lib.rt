@@ -6,10 +6,12 @@ mod chained;
 mod dict;
 mod dropping;
 mod flat;
+mod forming;
 mod heads;
 mod neighbours;
 mod pass;
 mod places;
+mod remethod;
 mod rows;
 mod weeded;
 

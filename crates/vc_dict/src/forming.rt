@@ -1,0 +1,50 @@
+ghost use Rattle.std.specs.Prelude.{◌≡◌, ℕ, List, true, if◌then◌else◌};
+ghost use Rattle.vc_base.specs.Methods.{has_table, is_ordered};
+ghost use Rattle.vc_dict.specs.Forming.{CanTakeForm, IsInForm};
+ghost use Rattle.vc_dict.specs.Passes.{IsCounted};
+ghost use Rattle.vc_dict.specs.Stands.{IsForm, slots_at, table_at};
+
+use crate::heads::Heads;
+use crate::pass::into_tree;
+use vc_base::{Addr, Cells, DictMethod, Steps};
+use vc_dtdisc::DictDisc;
+use vc_dthash::DtHash;
+use vc_dtlist::DtList;
+
+// The heads of a method for the holders of a list, of which there are so many: those of a hash with that table, in whose
+// chains they are, those of a tree, into which they are put, or the list.
+pub(crate) fn in_form<C: Cells, D: DictDisc, L>(
+    method: DictMethod,
+    list: DtList,
+    count: u64,
+    table: Addr,
+    slots: u32,
+    cells: &mut C,
+    kind: &D,
+    steps: &mut Steps<L>,
+) -> Heads
+    requires { is_ordered method ≡ true → IsCounted list (C.blocks cells.old) count }
+    ensures form { IsForm method result }
+    ensures table { table_at result ≡ (if has_table method then table else record { 0 = 0 }) }
+    ensures slots { slots_at result ≡ (if has_table method then slots else 0) }
+    ensures heads { (holders : List ℕ)
+        → CanTakeForm (D.rules kind.now) method
+        (record { first = list.first; last = list.last; table = table; slots = slots; count = count })
+        (C.blocks cells.old) holders
+        → IsInForm (D.rules kind.now) holders (C.blocks cells.old) result (C.blocks cells.new) }
+    ensures rest { C.RestStays cells.old cells.new }
+{
+    if method.has_table() {
+        Heads::Hash(DtHash {
+            first: list.first,
+            last: list.last,
+            table,
+            slots,
+            count,
+        })
+    } else if method.is_ordered() {
+        Heads::Order(into_tree(list, count, cells, kind, steps))
+    } else {
+        Heads::Links(list)
+    }
+}
