@@ -39,6 +39,7 @@ use Rattle.vc_views.specs.Numbers.{views_by}
 use Rattle.vc_views.specs.Views.{DictHome, dict_named}
 use Rattle.vc_counts.specs.Holders.{AreSomeDicts, IsWholeIn}
 use Rattle.vc_counts.specs.Working.{busy_in_home, dict_bytes, dict_in, holders_bytes, open_state, region_worked, segments_at, segments_at_home, table_bytes, table_at_home, worked_in}
+use Rattle.vc_dict.specs.Stands.{slots_in, table_in}
 
 module _ {I : Type 0} {V : I → Type 0} (meaning : (x : I) × V x → Discipline) (homes : List (List ℕ × HomeEntry I V)) (labels : List Labels) (r : List ℕ) (named : length labels ≡ length homes) where
   abbrev hs : List Held
@@ -83,7 +84,7 @@ dict-worked meaning session command d o name entry =
 
 -- the bytes of the table that an entry tells
 abbrev pub entry_table : DictEntry → ℕ
-entry_table e = table_size (slots_of (table_of e.dict.table.0 e.dict.slots))
+entry_table e = table_size (slots_of (table_of (table_in e.dict).0 (slots_in e.dict)))
 
 -- what is read of a dictionary, by the entry of its name
 module _ (read : Dictionary → ℕ) where

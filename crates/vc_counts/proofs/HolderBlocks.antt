@@ -48,6 +48,7 @@ use Rattle.vc_steps.proofs.DictsStay.{Entry, Vs}
 use Rattle.vc_views.specs.Views.{DictHome, dict_named, is_dict}
 use Rattle.vc_counts.proofs.DictBytes.{HasTable, IsBeside, IsSeated}
 use Rattle.vc_counts.proofs.BlockSizes.{HasSized, size_found}
+use Rattle.vc_dict.specs.Stands.{slots_in, table_in}
 
 module _ (f : ℕ → Label) where
   size-relabelled : (o : Option (Block ℕ)) → size_found (option_map (relabel_block f) o) ≡ size_found o
@@ -95,19 +96,19 @@ are-celled meaning (e ∷ es) (l ∷ ls) =
 
 -- the blocks of a whole dictionary
 module _ (rules : Rules) (d : Dict) (cells : Blocks) (whole : IsWhole rules d cells) (r : Layout Label) (sized : (a : ℕ) → IsSome (cells a) → HasSized r.blocks a (length (bytes_at cells a))) where
-  its-table : HasTable r (table_of d.table.0 d.slots)
-  its-table = elim (eqb_tells d.table.0 0) as (λ _. HasTable r (table_of d.table.0 d.slots)) [
+  its-table : HasTable r (table_of (table_in d).0 (slots_in d))
+  its-table = elim (eqb_tells (table_in d).0 0) as (λ _. HasTable r (table_of (table_in d).0 (slots_in d))) [
     | inl none ↦ rw none.0 tt
     | inr some ↦
         let t = (Stands-table rules d cells (holders_of d cells) whole.stands).some some.1 in
-        rw some.0 (subst (HasSized r.blocks d.table.0) t.size (sized d.table.0 t.there))
+        rw some.0 (subst (HasSized r.blocks (table_in d).0) t.size (sized (table_in d).0 t.there))
   ]
 
-  its-beside : IsBeside (table_of d.table.0 d.slots) (dictionary_of d cells).objects
-  its-beside = elim (eqb_tells d.table.0 0) as (λ _. IsBeside (table_of d.table.0 d.slots) (dictionary_of d cells).objects) [
+  its-beside : IsBeside (table_of (table_in d).0 (slots_in d)) (dictionary_of d cells).objects
+  its-beside = elim (eqb_tells (table_in d).0 0) as (λ _. IsBeside (table_of (table_in d).0 (slots_in d)) (dictionary_of d cells).objects) [
     | inl none ↦ rw none.0 tt
     | inr some ↦
-        rw some.0 (ap (λ xs. contains xs d.table.0) (addresses-mapped cells (holders_of d cells)) ∙ table-apart rules d cells (holders_of d cells) whole.stands)
+        rw some.0 (ap (λ xs. contains xs (table_in d).0) (addresses-mapped cells (holders_of d cells)) ∙ table-apart rules d cells (holders_of d cells) whole.stands)
   ]
 
   its-holder : (a : ℕ) → contains (holders_of d cells) a ≡ true → HasSized r.blocks a (holder_size (object_at cells a))

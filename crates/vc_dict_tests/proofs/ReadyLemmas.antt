@@ -20,7 +20,7 @@ use Rattle.vc_dict.specs.declared.dict.Dict.{Dict}
 use Rattle.vc_dict.specs.declared.dict.Dropped.{Dropped}
 use Rattle.vc_dict.specs.Changes.{current_without, order_by_link, order_without}
 use Rattle.vc_dict.specs.Orders.{kept_by, ordered_by}
-use Rattle.vc_dict.specs.Stands.{Adopted, Became, IsDict, IsKept, Stands}
+use Rattle.vc_dict.specs.Stands.{Adopted, Became, IsDict, IsKept, Stands, table_in}
 use Rattle.vc_dict.specs.Turned.{Remethoded, Unchanged}
 use Rattle.vc_dict.proofs.CurrentLemmas.{apart-linked, current-removed, within-linked}
 use Rattle.vc_dict.proofs.OwnLemmas.{table-apart}
@@ -67,7 +67,7 @@ ready-found rules d d' b b' n r t = record {
   current = subst (λ z. contains (0 ∷ r.holders) z ≡ true) (sym t.current) r.current;
   fresh = r.fresh;
   few = r.few;
-  sized = sized-kept (d.table.0 ∷ []) r.holders b b' t.keeps r.sized;
+  sized = sized-kept ((table_in d).0 ∷ []) r.holders b b' t.keeps r.sized;
 }
 
 pub ready-linked : (rules : Rules) (d d' : Dict) (b b' : Blocks) (at : ℕ) (append : Bool) (r : IsReady rules d b at) → at ≤ 3 → Became rules (at ∷ r.holders) d b d' b' (order_by_link append d.method rules b d.current.0 at r.holders) at → IsReady rules d' b' (at + 1)
@@ -79,7 +79,7 @@ ready-linked rules d d' b b' at append r few t =
       current = subst (λ z. contains (0 ∷ ys) z ≡ true) (sym t.current) (within-tail 0 ys at (within-linked append d.method rules b d.current.0 at r.holders));
       fresh = λ a h. apart-linked append d.method rules b d.current.0 at r.holders a (omega arith) (r.fresh a (omega arith));
       few = omega arith;
-      sized = sized-kept (d.table.0 ∷ []) (at ∷ r.holders) b b' t.keeps r.sized;
+      sized = sized-kept ((table_in d).0 ∷ []) (at ∷ r.holders) b b' t.keeps r.sized;
     }
 
 apart-removed_one : (found : Option ℕ) (xs : List ℕ) (a : ℕ) → contains xs a ≡ false → contains (order_without found xs) a ≡ false
@@ -95,7 +95,7 @@ ready-removed rules d d' b b' n found r t =
       current = subst (λ z. contains (0 ∷ ys) z ≡ true) (sym t.current) (current-removed found d.current.0 r.holders r.current);
       fresh = λ a h. apart-removed_one found r.holders a (r.fresh a h);
       few = r.few;
-      sized = sized-kept (d.table.0 ∷ []) r.holders b b' t.keeps r.sized;
+      sized = sized-kept ((table_in d).0 ∷ []) r.holders b b' t.keeps r.sized;
     }
 
 pub ready-adopted : (rules : Rules) (d d' : Dict) (b b' : Blocks) (n block size : ℕ) (r : IsReady rules d b n) → Adopted rules block size r.holders d b d' b' → IsReady rules d' b' n
@@ -105,7 +105,7 @@ ready-adopted rules d d' b b' n block size r t = record {
   current = subst (λ z. contains (0 ∷ r.holders) z.0 ≡ true) (sym t.current) r.current;
   fresh = r.fresh;
   few = r.few;
-  sized = sized-kept (d.table.0 ∷ block ∷ []) r.holders b b' t.keeps r.sized;
+  sized = sized-kept ((table_in d).0 ∷ block ∷ []) r.holders b b' t.keeps r.sized;
 }
 
 pub ready-turned : (rules : Rules) (method : DictMethod) (d d' : Dict) (b b' : Blocks) (n block size : ℕ) (answer : Dropped) (r : IsReady rules d b n) → Remethoded rules method block size r.holders d b d' b' answer → IsReady rules d' b' n
@@ -118,7 +118,7 @@ ready-turned rules method d d' b b' n block size answer r t =
       current = rw t.current refl;
       fresh = λ a h. within_kept_by method rules b ordered a (within_ordered method rules b r.holders a (r.fresh a h));
       few = r.few;
-      sized = sized-kept (d.table.0 ∷ block ∷ []) r.holders b b' t.keeps r.sized;
+      sized = sized-kept ((table_in d).0 ∷ block ∷ []) r.holders b b' t.keeps r.sized;
     }
 
 pub ready-unchanged : (rules : Rules) (d d' : Dict) (b b' : Blocks) (n : ℕ) (answer : Dropped) → Unchanged d b d' b' answer → IsReady rules d b n → IsReady rules d' b' n
@@ -138,12 +138,12 @@ table-fits rules d b n table r least most few = record {
 no_table : (table a : ℕ) (xs : List ℕ) → contains xs table ≡ false → contains xs a ≡ true → contains (table ∷ []) a ≡ false
 no_table table a xs apart h = apart-cons table [] a (λ e. absurd (true≢false (sym h ∙ subst (λ z. contains xs z ≡ false) e apart))) refl
 
-pub lone-kept : (rules : Rules) (d d' : Dict) (b b' : Blocks) (xs others : List ℕ) (at : ℕ) (key : List ℕ) → Stands rules d b xs → KeepsTables (d.table.0 ∷ []) others b b' → d.table.0 ≢ at → key ≡ rules.key (object_at b at) → find_key rules b key xs ≡ None → find_key rules b' (rules.key (object_at b' at)) xs ≡ None
+pub lone-kept : (rules : Rules) (d d' : Dict) (b b' : Blocks) (xs others : List ℕ) (at : ℕ) (key : List ℕ) → Stands rules d b xs → KeepsTables ((table_in d).0 ∷ []) others b b' → (table_in d).0 ≢ at → key ≡ rules.key (object_at b at) → find_key rules b key xs ≡ None → find_key rules b' (rules.key (object_at b' at)) xs ≡ None
 lone-kept rules d d' b b' xs others at key s k ne e none =
     let apart = table-apart rules d b xs s in
-    ap (λ o. find_key rules b' (rules.key o) xs) (k.bodies at (apart-cons d.table.0 [] at ne refl))
+    ap (λ o. find_key rules b' (rules.key o) xs) (k.bodies at (apart-cons (table_in d).0 [] at ne refl))
     ∙ ap (λ z. find_key rules b' z xs) (sym e)
-    ∙ key_same rules b b' key xs (λ a h. k.bodies a (no_table d.table.0 a xs apart h))
+    ∙ key_same rules b b' key xs (λ a h. k.bodies a (no_table (table_in d).0 a xs apart h))
     ∙ none
 
 -- one that is an end of a list, or a neighbour in it, is in it

@@ -15,7 +15,7 @@ use Rattle.vc_dtdisc.specs.Finds.{object_at}
 use Rattle.vc_dtdisc.specs.Objects.{Object}
 use Rattle.vc_dtdisc.specs.Rules.{IsObject, Rules}
 use Rattle.vc_dict.specs.Listed.{holders_of}
-use Rattle.vc_dict.specs.Stands.{Adopted, CanAdopt, Stands}
+use Rattle.vc_dict.specs.Stands.{Adopted, CanAdopt, Stands, slots_in, table_in}
 use Rattle.vc_dict.specs.declared.dict.Dict.{Dict}
 use Rattle.vc_dict.proofs.OwnLemmas.{Stands-own, Stands-table, holder-there, holders-told, table-apart}
 use Rattle.vc_objects.specs.Objects.{Dictionary, Table, own_blocks}
@@ -53,14 +53,14 @@ module _ (rules : Rules) (d0 : Dict) (B0 B1 : Blocks) (t slots : ℕ) (can : Can
       (λ (apart : contains hs t ≡ false). apart)
       (cases_Bool (contains hs t))
 
-  other-table : d0.table.0 ≢ t
-  other-table = elim (eqb_tells d0.table.0 0) as (λ _. d0.table.0 ≢ t) [
+  other-table : (table_in d0).0 ≢ t
+  other-table = elim (eqb_tells (table_in d0).0 0) as (λ _. (table_in d0).0 ≢ t) [
     | inl same ↦ λ e. let some = cell.address.some in let z = same.1 in omega (arith, e, some, z)
-    | inr apart ↦ cell-apart d0.table.0 ((Stands-table _ _ _ _ can.stands).some apart.1).there
+    | inr apart ↦ cell-apart (table_in d0).0 ((Stands-table _ _ _ _ can.stands).some apart.1).there
   ]
 
-  own-apart : (a : ℕ) → contains (d0.table.0 ∷ hs) a ≡ true → a ≢ t
-  own-apart a w = elim (eqb_tells d0.table.0 a) as (λ _. a ≢ t) [
+  own-apart : (a : ℕ) → contains ((table_in d0).0 ∷ hs) a ≡ true → a ≢ t
+  own-apart a w = elim (eqb_tells (table_in d0).0 a) as (λ _. a ≢ t) [
     | inl same ↦ λ e. other-table (same.1 ∙ e)
     | inr apart ↦ holder-apart a (rw apart.0 at w)
   ]
@@ -90,19 +90,19 @@ module _ (rules : Rules) (d0 : Dict) (B0 B1 : Blocks) (t slots : ℕ) (can : Can
   }
 
   -- the table before it stands still
-  pub old-there : (d1 : Dict) (B2 : Blocks) → Adopted rules t slots (holders_of d0 B0) d0 B1 d1 B2 → (a : ℕ) → a ≡ d0.table.0 → a ≢ 0 → IsSome (B2 a)
+  pub old-there : (d1 : Dict) (B2 : Blocks) → Adopted rules t slots (holders_of d0 B0) d0 B1 d1 B2 → (a : ℕ) → a ≡ (table_in d0).0 → a ≢ 0 → IsSome (B2 a)
   old-there d1 B2 adopted a is some =
       let there : IsSome (B0 a) = subst (λ n. IsSome (B0 n)) (sym is) ((Stands-table _ _ _ _ can.stands).some (λ z. some (is ∙ z))).there in
       adopted.keeps.there a ∙ (ap is_some (kept-placed a (cell-apart a there)) ∙ there)
 
-  module _ (d1 : Dict) (B2 B3 : Blocks) (adopted : Adopted rules t slots (holders_of d0 B0) d0 B1 d1 B2) (after : (a : ℕ) → a ≢ d0.table.0 → B3 a ≡ B2 a) where
-    outside : (a : ℕ) → contains hs a ≡ true → a ≢ d0.table.0
+  module _ (d1 : Dict) (B2 B3 : Blocks) (adopted : Adopted rules t slots (holders_of d0 B0) d0 B1 d1 B2) (after : (a : ℕ) → a ≢ (table_in d0).0 → B3 a ≡ B2 a) where
+    outside : (a : ℕ) → contains hs a ≡ true → a ≢ (table_in d0).0
     outside a w e = true≢false (sym (ap (contains hs) (sym e) ∙ w) ∙ table-apart rules d0 B0 hs can.stands)
 
     stands-then : Stands rules d1 B3 hs
     stands-then =
         Stands-own rules d1 B2 B3 hs
-        (λ a some w. after a (elim (eqb_tells d1.table.0 a) as (λ _. a ≢ d0.table.0) [
+        (λ a some w. after a (elim (eqb_tells (table_in d1).0 a) as (λ _. a ≢ (table_in d0).0) [
           | inl same ↦ λ e. other-table (sym e ∙ (sym same.1 ∙ adopted.table))
           | inr apart ↦ outside a (rw apart.0 at w)
         ]))
@@ -114,20 +114,20 @@ module _ (rules : Rules) (d0 : Dict) (B0 B1 : Blocks) (t slots : ℕ) (can : Can
     object : (a : ℕ) → contains hs a ≡ true → object_at B3 a ≡ object_at B0 a
     object a w =
         let bytes : Option (List ℕ) → List ℕ = λ o. body_of (unwrap_or o []) in
-        let apart : contains (d0.table.0 ∷ t ∷ []) a ≡ false = apart-cons d0.table.0 (t ∷ []) a (λ e. outside a w (sym e)) (apart-cons t [] a (λ e. holder-apart a w (sym e)) refl) in
+        let apart : contains ((table_in d0).0 ∷ t ∷ []) a ≡ false = apart-cons (table_in d0).0 (t ∷ []) a (λ e. outside a w (sym e)) (apart-cons t [] a (λ e. holder-apart a w (sym e)) refl) in
         ap bytes (after a (outside a w)) ∙ (adopted.keeps.bodies a apart ∙ ap bytes (kept-placed a (holder-apart a w)))
 
     objects : map (object_of B3) (holders_of d1 B3) ≡ map (object_of B0) hs
     objects = ap (map (object_of B3)) told ∙ objects-kept B0 B3 hs object
 
-    there : d1.table.0 ≢ 0
+    there : (table_in d1).0 ≢ 0
     there e = let some = cell.address.some in let is = adopted.table in omega (arith, some, is, e)
 
     pub dictionary-grown : dictionary_of d1 B3 ≡ record { method = d0.method; objects = map (object_of B0) (holders_of d0 B0); current = some_address d0.current.0; table = Some (record { at = t; slots = slots }) }
     dictionary-grown =
-        same-dictionary d1.method d0.method (map (object_of B3) (holders_of d1 B3)) (map (object_of B0) hs) (some_address d1.current.0) (some_address d0.current.0) (table_of d1.table.0 d1.slots) (Some (record { at = t; slots = slots }))
+        same-dictionary d1.method d0.method (map (object_of B3) (holders_of d1 B3)) (map (object_of B0) hs) (some_address d1.current.0) (some_address d0.current.0) (table_of (table_in d1).0 (slots_in d1)) (Some (record { at = t; slots = slots }))
         adopted.method objects (ap (λ (c : Addr). some_address c.0) adopted.current)
-        (some-table d1.table.0 d1.slots there ∙ (ap (λ n. Some (record { at = n; slots = d1.slots })) adopted.table ∙ ap (λ n. Some (record { at = t; slots = n })) adopted.slots))
+        (some-table (table_in d1).0 (slots_in d1) there ∙ (ap (λ n. Some (record { at = n; slots = slots_in d1 })) adopted.table ∙ ap (λ n. Some (record { at = t; slots = n })) adopted.slots))
 
     pub whole-grown : IsWhole rules d1 B3
     whole-grown = record {
@@ -143,10 +143,10 @@ module _ (rules : Rules) (d0 : Dict) (B0 B1 : Blocks) (t slots : ℕ) (can : Can
     others-grown none none' a old new = elim (eqb_tells a 0) as (λ _. B3 a ≡ B0 a) [
       | inl same ↦ subst (λ n. B3 n ≡ B0 n) (sym same.1) (none ∙ sym none')
       | inr some ↦
-          let table : d0.table.0 ≢ a = apart-table d0 B0 a some.1 old in
+          let table : (table_in d0).0 ≢ a = apart-table d0 B0 a some.1 old in
           let block : t ≢ a = subst (λ n. n ≢ a) adopted.table (apart-table d1 B3 a some.1 new) in
           after a (λ e. table (sym e))
-          ∙ (adopted.keeps.others a (apart-cons d0.table.0 (t ∷ []) a table (apart-cons t [] a block refl)) (apart-holders d0 B0 a old)
+          ∙ (adopted.keeps.others a (apart-cons (table_in d0).0 (t ∷ []) a table (apart-cons t [] a block refl)) (apart-holders d0 B0 a old)
           ∙ kept-placed a (λ e. block (sym e)))
     ]
 

@@ -19,7 +19,7 @@ use Rattle.vc_dict.specs.Listed.{holders_of}
 use Rattle.vc_base.specs.Methods.{has_table}
 use Rattle.vc_base.proofs.Members.{within-tail}
 use Rattle.vc_dict.specs.Methods.{slots_between}
-use Rattle.vc_dict.specs.Stands.{Stands}
+use Rattle.vc_dict.specs.Stands.{Stands, table_in}
 use Rattle.vc_dict.proofs.OwnLemmas.{Stands-own, Stands-table, holder-address, holder-there, holders-told}
 use Rattle.vc_objects.specs.Objects.{Dictionary}
 use Rattle.vc_objects.specs.Parts.{IsWhole, dictionary_of, object_of}
@@ -45,13 +45,13 @@ module _ (rules : Rules) (method : DictMethod) (d : Dict) (b b1 : Blocks) (t s :
     | inr some ↦ ap (λ (f : Blocks). f a) (brought.made some.1) ∙ put_other a t (replicate (8 * s) 0) b ne
   ]
 
-  own-there : (a : ℕ) → a ≢ 0 → contains (d.table.0 ∷ hs) a ≡ true → IsSome (b a)
-  own-there a some w = elim (eqb_tells d.table.0 a) as (λ _. IsSome (b a)) [
+  own-there : (a : ℕ) → a ≢ 0 → contains ((table_in d).0 ∷ hs) a ≡ true → IsSome (b a)
+  own-there a some w = elim (eqb_tells (table_in d).0 a) as (λ _. IsSome (b a)) [
     | inl same ↦ subst (λ z. IsSome (b z)) same.1 ((Stands-table _ _ _ _ whole.stands).some (λ z. some (sym same.1 ∙ z))).there
     | inr apart ↦ (holder-there rules d b hs a whole.stands (rw apart.0 at w)).there
   ]
 
-  own-brought : (a : ℕ) → a ≢ 0 → contains (d.table.0 ∷ hs) a ≡ true → b1 a ≡ b a
+  own-brought : (a : ℕ) → a ≢ 0 → contains ((table_in d).0 ∷ hs) a ≡ true → b1 a ≡ b a
   own-brought a some w = other-brought a (cell-apart a some (own-there a some w))
 
   stands-brought : Stands rules d b1 hs
@@ -66,7 +66,7 @@ module _ (rules : Rules) (method : DictMethod) (d : Dict) (b b1 : Blocks) (t s :
   objects-brought : map (object_of b1) (holders_of d b1) ≡ map (object_of b) hs
   objects-brought =
       ap (map (object_of b1)) told-brought
-      ∙ objects-kept b b1 hs (λ a h. ap (λ o. body_of (unwrap_or o [])) (own-brought a (some-holder a h) (within-tail d.table.0 hs a h)))
+      ∙ objects-kept b b1 hs (λ a h. ap (λ o. body_of (unwrap_or o [])) (own-brought a (some-holder a h) (within-tail (table_in d).0 hs a h)))
 
   pub dictionary-brought : dictionary_of d b1 ≡ dictionary_of d b
   dictionary-brought =

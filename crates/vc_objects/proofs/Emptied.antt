@@ -28,6 +28,7 @@ use Rattle.vc_objects.proofs.Leaving.{keeps-same, leaves-self, leaves-trans}
 use Rattle.vc_objects.proofs.Owning.{owned-within}
 use Rattle.vc_objects.proofs.Taken.{fewer-owned}
 use Rattle.vc_objects.proofs.Unlabelled.{left-cell}
+use Rattle.vc_dict.specs.Stands.{slots_in, table_in}
 
 -- a dictionary with other objects
 abbrev pub with_objects : Dictionary → List Object → Dictionary
@@ -70,7 +71,7 @@ none_current c h = elim (eqb_tells 0 c) as (λ _. c ≡ 0) [
 
 pub emptied-none : (rules : Rules) (d : Dict) (b : Blocks) → IsWhole rules d b → (dictionary_of d b).objects ≡ [] → dictionary_of d b ≡ without_objects (dictionary_of d b)
 emptied-none rules d b whole none =
-    let with : List Object → ℕ → Dictionary = λ os c. record { method = d.method; objects = os; current = some_address c; table = table_of d.table.0 d.slots } in
+    let with : List Object → ℕ → Dictionary = λ os c. record { method = d.method; objects = os; current = some_address c; table = table_of (table_in d).0 (slots_in d) } in
     let lone : contains (0 ∷ []) d.current.0 ≡ true = subst (λ z. contains (0 ∷ z) d.current.0 ≡ true) (no_holders b (holders_of d b) none) whole.current in
     ap (λ os. with os d.current.0) none ∙ ap (λ c. with [] c) (none_current d.current.0 lone)
 
@@ -82,13 +83,13 @@ emptied-fewer d a h =
 
 module _ {I : Type 0} {V : I → Type 0} (meaning : (x : I) × V x → Discipline) where
   -- the table goes, too
-  pub leaves-table : (r s : Best I V) (d : Dict) → d.table.0 ≢ 0 → FreesCell meaning r d.table.0 s → Leaves meaning r s (own_blocks (dictionary_in d r)) []
+  pub leaves-table : (r s : Best I V) (d : Dict) → (table_in d).0 ≢ 0 → FreesCell meaning r (table_in d).0 s → Leaves meaning r s (own_blocks (dictionary_in d r)) []
   leaves-table r s d ne free = record {
     disc = keeps-same (disc_in meaning r) (disc_in meaning s) (segments_in r) (segments_in s) free.around.disc free.around.segments;
     labelled = free.around.labelled;
     others = λ a apart _.
-        let own : contains (own_blocks (dictionary_in d r)) d.table.0 ≡ true = owned-within d (cells_in r) d.table.0 ne ∙ within-head d.table.0 (holders_of d (cells_in r)) in
-        ap (λ (f : Blocks). f a) free.cells ∙ left-cell (cells_in r) d.table.0 a (differs (own_blocks (dictionary_in d r)) d.table.0 a own apart);
+        let own : contains (own_blocks (dictionary_in d r)) (table_in d).0 ≡ true = owned-within d (cells_in r) (table_in d).0 ne ∙ within-head (table_in d).0 (holders_of d (cells_in r)) in
+        ap (λ (f : Blocks). f a) free.cells ∙ left-cell (cells_in r) (table_in d).0 a (differs (own_blocks (dictionary_in d r)) (table_in d).0 a own apart);
     fresh = λ a within _. absurd (true≢false (sym within));
   }
 

@@ -11,7 +11,7 @@ use Rattle.vc_dtdisc.specs.Rules.{IsObject, Rules}
 use Rattle.vc_dict.specs.Listed.{holders_of}
 use Rattle.vc_base.specs.Methods.{has_table}
 use Rattle.vc_dict.specs.Methods.{wanted_by}
-use Rattle.vc_dict.specs.Stands.{Stands}
+use Rattle.vc_dict.specs.Stands.{Stands, slots_in, table_in}
 use Rattle.vc_dict.specs.declared.dict.Dict.{Dict}
 use Rattle.vc_dict.proofs.OwnLemmas.{holders-told}
 use Rattle.vc_model.specs.Discipline.{Terms}
@@ -39,8 +39,8 @@ pub record IsNew (rules : Rules) (d : Dict) (b : Blocks) (method : DictMethod) :
   pub empty : Stands rules d b []
   pub same : d.method ≡ method
   pub current : d.current.0 ≡ 0
-  pub table : d.table.0 ≡ 0
-  pub slots : d.slots ≡ 0
+  pub table : (table_in d).0 ≡ 0
+  pub slots : slots_in d ≡ 0
 
 module _ (rules : Rules) (d : Dict) (b : Blocks) (method : DictMethod) (is : IsNew rules d b method) where
   none : holders_of d b ≡ []
@@ -48,15 +48,15 @@ module _ (rules : Rules) (d : Dict) (b : Blocks) (method : DictMethod) (is : IsN
 
   pub dictionary-empty : dictionary_of d b ≡ empty_dictionary method
   dictionary-empty =
-      same-dictionary d.method method (map (object_of b) (holders_of d b)) [] (some_address d.current.0) None (table_of d.table.0 d.slots) None is.same
-      (ap (map (object_of b)) none) (ap some_address is.current) (ap (λ n. table_of n d.slots) is.table)
+      same-dictionary d.method method (map (object_of b) (holders_of d b)) [] (some_address d.current.0) None (table_of (table_in d).0 (slots_in d)) None is.same
+      (ap (map (object_of b)) none) (ap some_address is.current) (ap (λ n. table_of n (slots_in d)) is.table)
 
   pub owned-none : own_blocks (dictionary_of d b) ≡ []
   owned-none = ap own_blocks dictionary-empty
 
-  pub wants-first : wanted_by d.method d.slots d.count 1 ≡ (if has_table method then Some 16 else None)
+  pub wants-first : wanted_by d.method (slots_in d) d.count 1 ≡ (if has_table method then Some 16 else None)
   wants-first =
-      ap (λ m. wanted_by m d.slots d.count 1) is.same
+      ap (λ m. wanted_by m (slots_in d) d.count 1) is.same
       ∙ (ap (λ s. wanted_by method s d.count 1) is.slots ∙ ap (λ n. wanted_by method 0 n 1) is.empty.count)
 
   standing : Stands rules d b (holders_of d b)
@@ -69,7 +69,7 @@ module _ (rules : Rules) (d : Dict) (b : Blocks) (method : DictMethod) (is : IsN
   objects-none = subst (λ xs. AllByRecursion (λ o. IsObject o.bytes) (map (object_of b) xs)) (sym none) tt
 
   -- a set or bag can get the first table
-  pub grows-first : (n : ℕ) → wanted_by d.method d.slots d.count 1 ≡ Some n → CanGrow rules d b n
+  pub grows-first : (n : ℕ) → wanted_by d.method (slots_in d) d.count 1 ≡ Some n → CanGrow rules d b n
   grows-first n wants =
       let by = by_first (has_table method) n (sym wants-first ∙ wants) in
       let long : length (holders_of d b) ≡ 0 = ap length none in
@@ -82,11 +82,11 @@ module _ (rules : Rules) (d : Dict) (b : Blocks) (method : DictMethod) (is : IsN
         enough = λ _. omega (arith, long);
       }
 
-  pub first-slots : (n : ℕ) → wanted_by d.method d.slots d.count 1 ≡ Some n → n ≡ 16
+  pub first-slots : (n : ℕ) → wanted_by d.method (slots_in d) d.count 1 ≡ Some n → n ≡ 16
   first-slots n wants = (by_first (has_table method) n (sym wants-first ∙ wants)).1
 
   -- the others are whole without one
-  pub whole-empty : wanted_by d.method d.slots d.count 1 ≡ None → IsWhole rules d b
+  pub whole-empty : wanted_by d.method (slots_in d) d.count 1 ≡ None → IsWhole rules d b
   whole-empty wants = record {
     stands = standing;
     current = current-none;
@@ -95,16 +95,16 @@ module _ (rules : Rules) (d : Dict) (b : Blocks) (method : DictMethod) (is : IsN
   }
 
   -- what opening gives, without a table and with one
-  pub opened-plain : (terms : Terms) (R : Layout ℕ) → wanted_by d.method d.slots d.count 1 ≡ None → HasGrown (open_dictionary terms R 0 method false) R (dictionary_of d b)
+  pub opened-plain : (terms : Terms) (R : Layout ℕ) → wanted_by d.method (slots_in d) d.count 1 ≡ None → HasGrown (open_dictionary terms R 0 method false) R (dictionary_of d b)
   opened-plain terms R wants =
       subst (λ o. HasGrown (grown_to terms R 0 (empty_dictionary method) false o) R (dictionary_of d b)) (sym (sym wants-first ∙ wants)) (refl, dictionary-empty)
 
-  pub opened-refused : (terms : Terms) (R : Layout ℕ) (n : ℕ) (why : RegionFault) → wanted_by d.method d.slots d.count 1 ≡ Some n → IsRefusal (λ refused. grown_to terms R 0 (dictionary_of d b) refused (Some n)) why → IsRefusal (open_dictionary terms R 0 method) why
+  pub opened-refused : (terms : Terms) (R : Layout ℕ) (n : ℕ) (why : RegionFault) → wanted_by d.method (slots_in d) d.count 1 ≡ Some n → IsRefusal (λ refused. grown_to terms R 0 (dictionary_of d b) refused (Some n)) why → IsRefusal (open_dictionary terms R 0 method) why
   opened-refused terms R n why wants h =
       subst (λ o. IsRefusal (λ refused. grown_to terms R 0 (empty_dictionary method) refused o) why) (sym (sym wants-first ∙ wants))
       (subst (λ D. IsRefusal (λ refused. grown_to terms R 0 D refused (Some n)) why) dictionary-empty h)
 
-  pub opened-table : (terms : Terms) (R R' : Layout ℕ) (D' : Dictionary) (n : ℕ) → wanted_by d.method d.slots d.count 1 ≡ Some n → HasGrown (grown_to terms R 0 (dictionary_of d b) false (Some n)) R' D'
+  pub opened-table : (terms : Terms) (R R' : Layout ℕ) (D' : Dictionary) (n : ℕ) → wanted_by d.method (slots_in d) d.count 1 ≡ Some n → HasGrown (grown_to terms R 0 (dictionary_of d b) false (Some n)) R' D'
       → HasGrown (open_dictionary terms R 0 method false) R' D'
   opened-table terms R R' D' n wants h =
       subst (λ o. HasGrown (grown_to terms R 0 (empty_dictionary method) false o) R' D') (sym (sym wants-first ∙ wants))

@@ -12,7 +12,7 @@ use Rattle.vc_dthash.specs.Slots.{IsSlots, most_slots, slots_for, wanted_slots}
 use Rattle.vc_dict.specs.Listed.{holders_of}
 use Rattle.vc_base.specs.Methods.{has_table}
 use Rattle.vc_dict.specs.Methods.{wanted_by}
-use Rattle.vc_dict.specs.Stands.{Stands}
+use Rattle.vc_dict.specs.Stands.{Stands, slots_in, table_in}
 use Rattle.vc_dict.specs.declared.dict.Dict.{Dict}
 use Rattle.vc_dict.proofs.OwnLemmas.{Stands-table, holders-told}
 use Rattle.vc_objects.specs.Insert.{slots_wanted}
@@ -30,10 +30,10 @@ slots-told at slots none =
     ]
 
 -- what a dictionary wants is what its heads want
-pub wanted-told : (rules : Rules) (d : Dict) (b : Blocks) (xs : List ℕ) → Stands rules d b xs → slots_wanted (dictionary_of d b) ≡ wanted_by d.method d.slots d.count 1
+pub wanted-told : (rules : Rules) (d : Dict) (b : Blocks) (xs : List ℕ) → Stands rules d b xs → slots_wanted (dictionary_of d b) ≡ wanted_by d.method (slots_in d) d.count 1
 wanted-told rules d b xs s =
-    ap (λ slots. wanted_by d.method slots (length (map (object_of b) (holders_of d b))) 1) (slots-told d.table.0 d.slots (Stands-table _ _ _ _ s).none)
-    ∙ ap (λ count. wanted_by d.method d.slots count 1) (length-map (holders_of d b) (object_of b) ∙ (ap length (holders-told rules d b xs s) ∙ sym s.count))
+    ap (λ slots. wanted_by d.method slots (length (map (object_of b) (holders_of d b))) 1) (slots-told (table_in d).0 (slots_in d) (Stands-table _ _ _ _ s).none)
+    ∙ ap (λ count. wanted_by d.method (slots_in d) count 1) (length-map (holders_of d b) (object_of b) ∙ (ap length (holders-told rules d b xs s) ∙ sym s.count))
 
 by_grow : (p q : Bool) (m n : ℕ) → (if p && q then Some m else None) ≡ Some n → (n ≡ m) × (q ≡ true)
 by_grow true true m n e = (sym (same_Some m n e), refl)
@@ -75,17 +75,17 @@ doubled-slots slots is small =
     record { doublings = suc is.doublings; few = omega (arith, few); value = omega (arith, value, more) }
 
 -- where slots are wanted a set or bag can get a table of these, and then none are wanted
-module _ (rules : Rules) (d : Dict) (b : Blocks) (n : ℕ) (whole : IsWhole rules d b) (wants : wanted_by d.method d.slots d.count 1 ≡ Some n) where
-  grows : (n ≡ 2 * d.slots) × (d.slots < most_slots)
+module _ (rules : Rules) (d : Dict) (b : Blocks) (n : ℕ) (whole : IsWhole rules d b) (wants : wanted_by d.method (slots_in d) d.count 1 ≡ Some n) where
+  grows : (n ≡ 2 * (slots_in d)) × ((slots_in d) < most_slots)
   grows =
-      let by = by_table (has_table d.method) (wanted_slots d.slots d.count 1) n wants in
+      let by = by_table (has_table d.method) (wanted_slots (slots_in d) d.count 1) n wants in
       let t = (Stands-table _ _ _ _ whole.stands).some (whole.table by.0) in
-      let some = slots-least d.slots t.slots_allowed in
-      doubles d.slots d.count n (λ e. let z = e in omega (arith, some, z)) by.1
+      let some = slots-least (slots_in d) t.slots_allowed in
+      doubles (slots_in d) d.count n (λ e. let z = e in omega (arith, some, z)) by.1
 
   pub can-grow : CanGrow rules d b n
   can-grow =
-      let by = by_table (has_table d.method) (wanted_slots d.slots d.count 1) n wants in
+      let by = by_table (has_table d.method) (wanted_slots (slots_in d) d.count 1) n wants in
       let t = (Stands-table _ _ _ _ whole.stands).some (whole.table by.0) in
       let fits = t.enough grows.1 in
       record {
@@ -93,15 +93,15 @@ module _ (rules : Rules) (d : Dict) (b : Blocks) (n : ℕ) (whole : IsWhole rule
         current = whole.current;
         objects = whole.objects;
         method = by.0;
-        allowed = subst IsSlots (sym grows.0) (doubled-slots d.slots t.slots_allowed grows.1);
+        allowed = subst IsSlots (sym grows.0) (doubled-slots (slots_in d) t.slots_allowed grows.1);
         enough = λ few. let twice = grows.0 in omega (arith, fits, twice);
       }
 
   pub no-more : wanted_slots n d.count 1 ≡ None
   no-more =
-      let by = by_table (has_table d.method) (wanted_slots d.slots d.count 1) n wants in
+      let by = by_table (has_table d.method) (wanted_slots (slots_in d) d.count 1) n wants in
       let t = (Stands-table _ _ _ _ whole.stands).some (whole.table by.0) in
-      let some = slots-least d.slots t.slots_allowed in
+      let some = slots-least (slots_in d) t.slots_allowed in
       let fits = t.enough grows.1 in
       let twice = grows.0 in
       let count = whole.stands.count in
@@ -109,6 +109,6 @@ module _ (rules : Rules) (d : Dict) (b : Blocks) (n : ℕ) (whole : IsWhole rule
 
   pub no-more-told : wanted_by d.method n (length (dictionary_of d b).objects) 1 ≡ None
   no-more-told =
-      let by = by_table (has_table d.method) (wanted_slots d.slots d.count 1) n wants in
+      let by = by_table (has_table d.method) (wanted_slots (slots_in d) d.count 1) n wants in
       ap (λ count. wanted_by d.method n count 1) (length-map (holders_of d b) (object_of b) ∙ sym whole.stands.count)
       ∙ (ap (λ t. if t then wanted_slots n d.count 1 else None) by.0 ∙ no-more)

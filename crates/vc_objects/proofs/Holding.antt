@@ -19,7 +19,7 @@ use Rattle.vc_dict.specs.Changes as changes
 use Rattle.vc_dict.specs.Listed.{holders_of}
 use Rattle.vc_base.specs.Methods.{has_table, is_list, is_set}
 use Rattle.vc_base.proofs.Members.{apart-cons, within-tail}
-use Rattle.vc_dict.specs.Stands.{Became, CanLink, Stands}
+use Rattle.vc_dict.specs.Stands.{Became, CanLink, Stands, slots_in, table_in}
 use Rattle.vc_dict.specs.declared.dict.Dict.{Dict}
 use Rattle.vc_dict.proofs.CurrentLemmas.{apart-linked, within-linked}
 use Rattle.vc_dict.proofs.OwnLemmas.{Stands-own, Stands-table, holder-there, holders-told, table-apart}
@@ -89,14 +89,14 @@ module _ (rules : Rules) (d0 : Dict) (B0 B1 B2 : Blocks) (at : ℕ) (bytes : Lis
       (λ (apart : contains hs at ≡ false). apart)
       (cases_Bool (contains hs at))
 
-  other-table : d0.table.0 ≢ at
-  other-table = elim (eqb_tells d0.table.0 0) as (λ _. d0.table.0 ≢ at) [
+  other-table : (table_in d0).0 ≢ at
+  other-table = elim (eqb_tells (table_in d0).0 0) as (λ _. (table_in d0).0 ≢ at) [
     | inl same ↦ λ e. let some = cell.address.some in let z = same.1 in omega (arith, e, some, z)
-    | inr apart ↦ cell-apart d0.table.0 ((Stands-table _ _ _ _ whole.stands).some apart.1).there
+    | inr apart ↦ cell-apart (table_in d0).0 ((Stands-table _ _ _ _ whole.stands).some apart.1).there
   ]
 
-  own-apart : (a : ℕ) → contains (d0.table.0 ∷ hs) a ≡ true → a ≢ at
-  own-apart a w = elim (eqb_tells d0.table.0 a) as (λ _. a ≢ at) [
+  own-apart : (a : ℕ) → contains ((table_in d0).0 ∷ hs) a ≡ true → a ≢ at
+  own-apart a w = elim (eqb_tells (table_in d0).0 a) as (λ _. a ≢ at) [
     | inl same ↦ λ e. other-table (same.1 ∙ e)
     | inr apart ↦ holder-apart a (rw apart.0 at w)
   ]
@@ -120,7 +120,7 @@ module _ (rules : Rules) (d0 : Dict) (B0 B1 B2 : Blocks) (at : ℕ) (bytes : Lis
   can-link append room lone list = record {
     holders = hs;
     stands = stands-put;
-    apart = apart-cons d0.table.0 hs at other-table none-there;
+    apart = apart-cons (table_in d0).0 hs at other-table none-there;
     holder = holder;
     current = whole.current;
     room = sym (wanted-told rules d0 B0 hs whole.stands) ∙ room;
@@ -146,11 +146,11 @@ module _ (rules : Rules) (d0 : Dict) (B0 B1 B2 : Blocks) (at : ℕ) (bytes : Lis
         (λ (apart : contains hs a ≡ false). absurd (true≢false (sym w ∙ apart-linked append d0.method rules B2 d0.current.0 at hs a ne apart)))
         (cases_Bool (contains hs a))
 
-    no-table : contains ys d0.table.0 ≡ false
-    no-table = apart-linked append d0.method rules B2 d0.current.0 at hs d0.table.0 (λ e. other-table (sym e)) (table-apart rules d0 B0 hs whole.stands)
+    no-table : contains ys (table_in d0).0 ≡ false
+    no-table = apart-linked append d0.method rules B2 d0.current.0 at hs (table_in d0).0 (λ e. other-table (sym e)) (table-apart rules d0 B0 hs whole.stands)
 
     body-kept : (a : ℕ) → contains ys a ≡ true → object_at B3 a ≡ object_at B2 a
-    body-kept a w = became.keeps.bodies a (apart-cons d0.table.0 [] a (λ e. true≢false (sym (ap (contains ys) e ∙ w) ∙ no-table)) refl)
+    body-kept a w = became.keeps.bodies a (apart-cons (table_in d0).0 [] a (λ e. true≢false (sym (ap (contains ys) e ∙ w) ∙ no-table)) refl)
 
     objects-linked : map (object_of B3) (holders_of d1 B3) ≡ linked_among address_of bytes_of append d0.method rules (some_address d0.current.0) (record { at = at; bytes = bytes }) (map (object_of B0) hs)
     objects-linked =
@@ -164,9 +164,9 @@ module _ (rules : Rules) (d0 : Dict) (B0 B1 B2 : Blocks) (at : ℕ) (bytes : Lis
     pub dictionary-held : dictionary_of d1 B3 ≡ with_object rules append bytes (dictionary_of d0 B0) at
     dictionary-held =
         same-dictionary d1.method d0.method (map (object_of B3) (holders_of d1 B3)) (linked_among address_of bytes_of append d0.method rules (some_address d0.current.0) (record { at = at; bytes = bytes }) (map (object_of B0) hs))
-        (some_address d1.current.0) (Some at) (table_of d1.table.0 d1.slots) (table_of d0.table.0 d0.slots)
+        (some_address d1.current.0) (Some at) (table_of (table_in d1).0 (slots_in d1)) (table_of (table_in d0).0 (slots_in d0))
         became.method objects-linked (ap some_address became.current ∙ some)
-        (ap (λ (t : Addr). table_of t.0 d1.slots) became.table ∙ ap (table_of d0.table.0) became.slots)
+        (ap (λ (t : Addr). table_of t.0 (slots_in d1)) became.table ∙ ap (table_of (table_in d0).0) became.slots)
       where
         some : some_address at ≡ Some at
         some = elim (eqb_tells at 0) as (λ _. some_address at ≡ Some at) [
@@ -195,11 +195,11 @@ module _ (rules : Rules) (d0 : Dict) (B0 B1 B2 : Blocks) (at : ℕ) (bytes : Lis
     others-held none none' a old new = elim (eqb_tells a 0) as (λ _. B3 a ≡ B0 a) [
       | inl same ↦ subst (λ n. B3 n ≡ B0 n) (sym same.1) (none ∙ sym none')
       | inr some ↦
-          let table : d0.table.0 ≢ a = apart-table d0 B0 a some.1 old in
+          let table : (table_in d0).0 ≢ a = apart-table d0 B0 a some.1 old in
           let holders = apart-holders d0 B0 a old in
           let gone : contains ys a ≡ false = ap (λ xs. contains xs a) (sym told) ∙ apart-holders d1 B3 a new in
           let ne : at ≢ a = λ e. true≢false (sym (within-linked append d0.method rules B2 d0.current.0 at hs) ∙ (ap (contains ys) e ∙ gone)) in
-          became.keeps.others a (apart-cons d0.table.0 [] a table refl) (apart-cons at hs a ne holders) ∙ kept a (λ e. ne (sym e))
+          became.keeps.others a (apart-cons (table_in d0).0 [] a table refl) (apart-cons at hs a ne holders) ∙ kept a (λ e. ne (sym e))
     ]
 
     pub fresh-held : (a : ℕ) → contains (own_blocks (dictionary_of d1 B3)) a ≡ true → contains (own_blocks (dictionary_of d0 B0)) a ≡ false → B0 a ≡ None
@@ -209,7 +209,7 @@ module _ (rules : Rules) (d0 : Dict) (B0 B1 B2 : Blocks) (at : ℕ) (bytes : Lis
           absurd (true≢false (sym new ∙ apart-owned d1 B3 a (no-longer a old) (ap (λ xs. contains xs a) told ∙ apart-linked append d0.method rules B2 d0.current.0 at hs a apart.1 (apart-holders d0 B0 a old))))
     ]
       where
-        no-longer : (a : ℕ) → contains (own_blocks (dictionary_of d0 B0)) a ≡ false → d1.table.0 ≢ 0 → d1.table.0 ≢ a
+        no-longer : (a : ℕ) → contains (own_blocks (dictionary_of d0 B0)) a ≡ false → (table_in d1).0 ≢ 0 → (table_in d1).0 ≢ a
         no-longer a old some e =
-            let same : d1.table.0 ≡ d0.table.0 = ap (λ (t : Addr). t.0) became.table in
+            let same : (table_in d1).0 ≡ (table_in d0).0 = ap (λ (t : Addr). t.0) became.table in
             apart-table d0 B0 a (λ z. some (e ∙ z)) old (sym same ∙ e)

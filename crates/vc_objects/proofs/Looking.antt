@@ -12,7 +12,7 @@ use Rattle.vc_dtdisc.specs.Rules.{IsObject, Rules}
 use Rattle.vc_dict.specs.Listed.{holders_of}
 use Rattle.vc_base.specs.Methods.{has_table}
 use Rattle.vc_base.proofs.Members.{apart-head, apart-tail, apart-cons}
-use Rattle.vc_dict.specs.Stands.{Became, Stands}
+use Rattle.vc_dict.specs.Stands.{Became, Stands, slots_in, table_in}
 use Rattle.vc_dict.specs.declared.dict.Dict.{Dict}
 use Rattle.vc_dict.proofs.OwnLemmas.{holders-told, table-apart}
 use Rattle.vc_best.specs.Cells.{StaysButCells, cells_in, labelled_blocks}
@@ -36,11 +36,11 @@ dictionary-same m m' os os' c c' t t' s s' e f g h i =
     ap (λ z. dictionary z os c t s) e ∙ ap (λ z. dictionary m' z c t s) f ∙ ap (λ z. dictionary m' os' z t s) g ∙ ap (λ z. dictionary m' os' c' z s) h ∙ ap (λ z. dictionary m' os' c' t' z) i
 
 -- the dictionary that stands for these holders
-pub dictionary-told : (rules : Rules) (d : Dict) (b : Blocks) (xs : List ℕ) → Stands rules d b xs → dictionary_of d b ≡ dictionary d.method (map (object_of b) xs) d.current.0 d.table.0 d.slots
-dictionary-told rules d b xs s = ap (λ z. dictionary d.method (map (object_of b) z) d.current.0 d.table.0 d.slots) (holders-told rules d b xs s)
+pub dictionary-told : (rules : Rules) (d : Dict) (b : Blocks) (xs : List ℕ) → Stands rules d b xs → dictionary_of d b ≡ dictionary d.method (map (object_of b) xs) d.current.0 (table_in d).0 (slots_in d)
+dictionary-told rules d b xs s = ap (λ z. dictionary d.method (map (object_of b) z) d.current.0 (table_in d).0 (slots_in d)) (holders-told rules d b xs s)
 
 -- it is whole where it stands for these holders and the rest holds of them
-pub IsWhole-told : (rules : Rules) (d : Dict) (b : Blocks) (xs : List ℕ) → Stands rules d b xs → contains (0 ∷ xs) d.current.0 ≡ true → (has_table d.method ≡ true → d.table.0 ≢ 0) → AllByRecursion (λ o. IsObject o.bytes) (map (object_of b) xs) → IsWhole rules d b
+pub IsWhole-told : (rules : Rules) (d : Dict) (b : Blocks) (xs : List ℕ) → Stands rules d b xs → contains (0 ∷ xs) d.current.0 ≡ true → (has_table d.method ≡ true → (table_in d).0 ≢ 0) → AllByRecursion (λ o. IsObject o.bytes) (map (object_of b) xs) → IsWhole rules d b
 IsWhole-told rules d b xs s current table objects =
     let told : xs ≡ holders_of d b = sym (holders-told rules d b xs s) in
     record {
@@ -51,9 +51,9 @@ IsWhole-told rules d b xs s current table objects =
     }
 
 -- each of the holders is apart from the table
-pub apart-table : (rules : Rules) (d : Dict) (b : Blocks) (xs : List ℕ) (a : ℕ) → Stands rules d b xs → contains xs a ≡ true → contains (d.table.0 ∷ []) a ≡ false
+pub apart-table : (rules : Rules) (d : Dict) (b : Blocks) (xs : List ℕ) (a : ℕ) → Stands rules d b xs → contains xs a ≡ true → contains ((table_in d).0 ∷ []) a ≡ false
 apart-table rules d b xs a s w =
-    apart-cons d.table.0 [] a (λ e. true≢false (sym w ∙ ap (λ z. contains xs z) (sym e) ∙ table-apart rules d b xs s)) refl
+    apart-cons (table_in d).0 [] a (λ e. true≢false (sym w ∙ ap (λ z. contains xs z) (sym e) ∙ table-apart rules d b xs s)) refl
 
 module _ {I : Type 0} {V : I → Type 0} (meaning : (x : I) × V x → Discipline) (rules : Rules) (before after : Best I V) (old new : Dict) (whole : IsWhole rules old (cells_in before))
     (t : Became rules (holders_of old (cells_in before)) old (cells_in before) new (cells_in after) (holders_of old (cells_in before)) old.current.0) (stays : StaysButCells before after) where
@@ -66,7 +66,7 @@ module _ {I : Type 0} {V : I → Type 0} (meaning : (x : I) × V x → Disciplin
   same-dictionary =
       let xs = holders_of old (cells_in before) in
       dictionary-told rules new (cells_in after) xs t.stands
-      ∙ dictionary-same new.method old.method (map (object_of (cells_in after)) xs) (map (object_of (cells_in before)) xs) new.current.0 old.current.0 new.table.0 old.table.0 new.slots old.slots
+      ∙ dictionary-same new.method old.method (map (object_of (cells_in after)) xs) (map (object_of (cells_in before)) xs) new.current.0 old.current.0 (table_in new).0 (table_in old).0 (slots_in new) (slots_in old)
       t.method same-objects t.current (ap (λ z. z.0) t.table) t.slots
 
   still-whole : IsWhole rules new (cells_in after)
@@ -82,8 +82,8 @@ module _ {I : Type 0} {V : I → Type 0} (meaning : (x : I) × V x → Disciplin
     | inl zero ↦ ap (cells_in after) zero.1 ∙ none-at after ∙ sym (none-at before) ∙ ap (cells_in before) (sym zero.1)
     | inr some ↦
         let xs = holders_of old (cells_in before) in
-        let neither : contains (old.table.0 ∷ xs) a ≡ false = sym (owned-within old (cells_in before) a some.1) ∙ apart in
-        t.keeps.others a (apart-cons old.table.0 [] a (apart-head old.table.0 xs a neither) refl) (apart-tail old.table.0 xs a neither)
+        let neither : contains ((table_in old).0 ∷ xs) a ≡ false = sym (owned-within old (cells_in before) a some.1) ∙ apart in
+        t.keeps.others a (apart-cons (table_in old).0 [] a (apart-head (table_in old).0 xs a neither) refl) (apart-tail (table_in old).0 xs a neither)
   ]
 
   -- a call that changes no holder only looks

@@ -14,6 +14,7 @@ use Rattle.vc_dict.specs.declared.dict.Dict.{Dict}
 use Rattle.vc_objects.specs.Objects.{Table, option_list, own_blocks}
 use Rattle.vc_objects.specs.Parts.{dictionary_of, object_of}
 use Rattle.vc_objects.proofs.Mapped.{addresses-mapped}
+use Rattle.vc_dict.specs.Stands.{slots_in, table_in}
 
 -- a table at an address, or none at 0
 abbrev pub table_at : ℕ → List ℕ
@@ -23,8 +24,8 @@ own_by : (t : Bool) (at slots : ℕ) (os : List Object) (xs : List ℕ) → map 
 own_by true at slots os xs e = e
 own_by false at slots os xs e = ap (λ ys. at ∷ ys) e
 
-pub owned-told : (d : Dict) (b : Blocks) → own_blocks (dictionary_of d b) ≡ table_at d.table.0 ++ holders_of d b
-owned-told d b = own_by (d.table.0 == 0) d.table.0 d.slots (dictionary_of d b).objects (holders_of d b) (addresses-mapped b (holders_of d b))
+pub owned-told : (d : Dict) (b : Blocks) → own_blocks (dictionary_of d b) ≡ table_at (table_in d).0 ++ holders_of d b
+owned-told d b = own_by ((table_in d).0 == 0) (table_in d).0 (slots_in d) (dictionary_of d b).objects (holders_of d b) (addresses-mapped b (holders_of d b))
 
 -- but for 0 they are the table and the holders, and 0 is one where it is a holder
 within-own : (table : ℕ) (xs : List ℕ) (a : ℕ) → a ≢ 0 → contains (table_at table ++ xs) a ≡ contains (table ∷ xs) a
@@ -39,24 +40,24 @@ zero-own table xs = elim (eqb_tells table 0) as (λ _. contains (table_at table 
   | inr some ↦ rw (some.0, some.0) refl
 ]
 
-pub owned-within : (d : Dict) (b : Blocks) (a : ℕ) → a ≢ 0 → contains (own_blocks (dictionary_of d b)) a ≡ contains (d.table.0 ∷ holders_of d b) a
-owned-within d b a ne = ap (λ ys. contains ys a) (owned-told d b) ∙ within-own d.table.0 (holders_of d b) a ne
+pub owned-within : (d : Dict) (b : Blocks) (a : ℕ) → a ≢ 0 → contains (own_blocks (dictionary_of d b)) a ≡ contains ((table_in d).0 ∷ holders_of d b) a
+owned-within d b a ne = ap (λ ys. contains ys a) (owned-told d b) ∙ within-own (table_in d).0 (holders_of d b) a ne
 
 pub owned-zero : (d : Dict) (b : Blocks) → contains (own_blocks (dictionary_of d b)) 0 ≡ contains (holders_of d b) 0
-owned-zero d b = ap (λ ys. contains ys 0) (owned-told d b) ∙ zero-own d.table.0 (holders_of d b)
+owned-zero d b = ap (λ ys. contains ys 0) (owned-told d b) ∙ zero-own (table_in d).0 (holders_of d b)
 
 -- which addresses it doesn't own
 module _ (d : Dict) (b : Blocks) where
   pub apart-holders : (a : ℕ) → contains (own_blocks (dictionary_of d b)) a ≡ false → contains (holders_of d b) a ≡ false
-  apart-holders a h = apart-rest (table_at d.table.0) (holders_of d b) a (subst (λ xs. contains xs a ≡ false) (owned-told d b) h)
+  apart-holders a h = apart-rest (table_at (table_in d).0) (holders_of d b) a (subst (λ xs. contains xs a ≡ false) (owned-told d b) h)
 
-  pub apart-table : (a : ℕ) → a ≢ 0 → contains (own_blocks (dictionary_of d b)) a ≡ false → d.table.0 ≢ a
-  apart-table a some h = apart-head d.table.0 (holders_of d b) a (sym (owned-within d b a some) ∙ h)
+  pub apart-table : (a : ℕ) → a ≢ 0 → contains (own_blocks (dictionary_of d b)) a ≡ false → (table_in d).0 ≢ a
+  apart-table a some h = apart-head (table_in d).0 (holders_of d b) a (sym (owned-within d b a some) ∙ h)
 
-  pub apart-owned : (a : ℕ) → (d.table.0 ≢ 0 → d.table.0 ≢ a) → contains (holders_of d b) a ≡ false → contains (own_blocks (dictionary_of d b)) a ≡ false
+  pub apart-owned : (a : ℕ) → ((table_in d).0 ≢ 0 → (table_in d).0 ≢ a) → contains (holders_of d b) a ≡ false → contains (own_blocks (dictionary_of d b)) a ≡ false
   apart-owned a table holders = elim (eqb_tells a 0) as (λ _. contains (own_blocks (dictionary_of d b)) a ≡ false) [
     | inl zero ↦ subst (λ n. contains (own_blocks (dictionary_of d b)) n ≡ false) (sym zero.1) (owned-zero d b ∙ subst (λ n. contains (holders_of d b) n ≡ false) zero.1 holders)
-    | inr some ↦ owned-within d b a some.1 ∙ apart-cons d.table.0 (holders_of d b) a (λ e. table (λ z. some.1 (sym e ∙ z)) e) holders
+    | inr some ↦ owned-within d b a some.1 ∙ apart-cons (table_in d).0 (holders_of d b) a (λ e. table (λ z. some.1 (sym e ∙ z)) e) holders
   ]
 
 -- what holds of each object in some holders, and of those of each of them

@@ -26,6 +26,7 @@ use Rattle.vc_objects.specs.Turning.{BringsCell}
 use Rattle.vc_objects.proofs.Bringing.{other-brought, told-brought}
 use Rattle.vc_objects.proofs.Leaving.{keeps-same, keeps-trans, leaves-still, none-at}
 use Rattle.vc_objects.proofs.Owning.{owned-within}
+use Rattle.vc_dict.specs.Stands.{table_in}
 
 -- so many objects are counted
 pub counts-objects : (rules : Rules) (d : Dict) (b : Blocks) → IsWhole rules d b → length (dictionary_of d b).objects ≡ d.count
@@ -53,33 +54,33 @@ module _ {I : Type 0} {V : I → Type 0} (meaning : (x : I) × V x → Disciplin
 
   -- it was turned
   module _ (method : DictMethod) (d' : Dict) (r r1 r2 : Best I V) (t s : ℕ) (whole : IsWhole rules d (cells_in r)) (brought : BringsCell (slots_between d.method method d.count) (cells_in r) (cells_in r1) t s)
-      (table : d'.table.0 ≡ (if has_table method && has_table d.method then d.table.0 else t))
+      (table : (table_in d').0 ≡ (if has_table method && has_table d.method then (table_in d).0 else t))
       (within : (a : ℕ) → contains (holders_of d (cells_in r1)) a ≡ false → contains (holders_of d' (cells_in r2)) a ≡ false)
-      (others : (a : ℕ) → a ≢ 0 → a ≢ t → a ≢ d.table.0 → contains (holders_of d (cells_in r1)) a ≡ false → cells_in r2 a ≡ cells_in r1 a) where
+      (others : (a : ℕ) → a ≢ 0 → a ≢ t → a ≢ (table_in d).0 → contains (holders_of d (cells_in r1)) a ≡ false → cells_in r2 a ≡ cells_in r1 a) where
     abbrev old : Blocks
     old = cells_in r
 
     told : (a : ℕ) → contains (holders_of d old) a ≡ false → contains (holders_of d (cells_in r1)) a ≡ false
     told a h = ap (λ xs. contains xs a) (told-brought rules method d old (cells_in r1) t s whole brought) ∙ h
 
-    not-new : (a : ℕ) → a ≢ 0 → d'.table.0 ≢ a → a ≢ t
+    not-new : (a : ℕ) → a ≢ 0 → (table_in d').0 ≢ a → a ≢ t
     not-new a some ne e =
-        ne (then_by (has_table method) (has_table d.method) d.table.0 t d'.table.0 (slots_for d.count) s table brought.wants (λ z. some (e ∙ z)) ∙ sym e)
+        ne (then_by (has_table method) (has_table d.method) (table_in d).0 t (table_in d').0 (slots_for d.count) s table brought.wants (λ z. some (e ∙ z)) ∙ sym e)
 
     others-stay : (a : ℕ) → contains (own_blocks (dictionary_in d r)) a ≡ false → contains (own_blocks (dictionary_in d' r2)) a ≡ false → cells_in r2 a ≡ cells_in r a
     others-stay a mine mine' = elim (eqb_tells a 0) as (λ _. cells_in r2 a ≡ cells_in r a) [
       | inl same ↦ subst (λ n. cells_in r2 n ≡ cells_in r n) (sym same.1) (none-at r2 ∙ sym (none-at r))
       | inr some ↦
-          let h : contains (d.table.0 ∷ holders_of d old) a ≡ false = sym (owned-within d old a some.1) ∙ mine in
-          let k : contains (d'.table.0 ∷ holders_of d' (cells_in r2)) a ≡ false = sym (owned-within d' (cells_in r2) a some.1) ∙ mine' in
-          let new = not-new a some.1 (apart-head d'.table.0 (holders_of d' (cells_in r2)) a k) in
-          others a some.1 new (λ e. apart-head d.table.0 (holders_of d old) a h (sym e)) (told a (apart-tail d.table.0 (holders_of d old) a h))
+          let h : contains ((table_in d).0 ∷ holders_of d old) a ≡ false = sym (owned-within d old a some.1) ∙ mine in
+          let k : contains ((table_in d').0 ∷ holders_of d' (cells_in r2)) a ≡ false = sym (owned-within d' (cells_in r2) a some.1) ∙ mine' in
+          let new = not-new a some.1 (apart-head (table_in d').0 (holders_of d' (cells_in r2)) a k) in
+          others a some.1 new (λ e. apart-head (table_in d).0 (holders_of d old) a h (sym e)) (told a (apart-tail (table_in d).0 (holders_of d old) a h))
           ∙ other-brought rules method d old (cells_in r1) t s whole brought a new
     ]
 
-    new-table : (a : ℕ) → a ≢ 0 → contains (d.table.0 ∷ holders_of d old) a ≡ false → d'.table.0 ≡ a → old a ≡ None
-    new-table a some h e = elim (which_by (has_table method && has_table d.method) d.table.0 t d'.table.0 table) as (λ _. old a ≡ None) [
-      | inl same ↦ absurd (apart-head d.table.0 (holders_of d old) a h (sym same ∙ e))
+    new-table : (a : ℕ) → a ≢ 0 → contains ((table_in d).0 ∷ holders_of d old) a ≡ false → (table_in d').0 ≡ a → old a ≡ None
+    new-table a some h e = elim (which_by (has_table method && has_table d.method) (table_in d).0 t (table_in d').0 table) as (λ _. old a ≡ None) [
+      | inl same ↦ absurd (apart-head (table_in d).0 (holders_of d old) a h (sym same ∙ e))
       | inr new ↦ subst (λ z. old z ≡ None) (sym new ∙ e) (brought.fresh (λ z. some (sym e ∙ (new ∙ z))))
     ]
 
@@ -87,11 +88,11 @@ module _ {I : Type 0} {V : I → Type 0} (meaning : (x : I) × V x → Disciplin
     fresh-then a mine' mine = elim (eqb_tells a 0) as (λ _. cells_in r a ≡ None) [
       | inl same ↦ subst (λ n. cells_in r n ≡ None) (sym same.1) (none-at r)
       | inr some ↦
-          let h : contains (d.table.0 ∷ holders_of d old) a ≡ false = sym (owned-within d old a some.1) ∙ mine in
-          let k : contains (d'.table.0 ∷ holders_of d' (cells_in r2)) a ≡ true = sym (owned-within d' (cells_in r2) a some.1) ∙ mine' in
-          elim (eqb_tells d'.table.0 a) as (λ _. cells_in r a ≡ None) [
+          let h : contains ((table_in d).0 ∷ holders_of d old) a ≡ false = sym (owned-within d old a some.1) ∙ mine in
+          let k : contains ((table_in d').0 ∷ holders_of d' (cells_in r2)) a ≡ true = sym (owned-within d' (cells_in r2) a some.1) ∙ mine' in
+          elim (eqb_tells (table_in d').0 a) as (λ _. cells_in r a ≡ None) [
             | inl here ↦ new-table a some.1 h here.1
-            | inr apart ↦ absurd (true≢false (sym (rw apart.0 at k) ∙ within a (told a (apart-tail d.table.0 (holders_of d old) a h))))
+            | inr apart ↦ absurd (true≢false (sym (rw apart.0 at k) ∙ within a (told a (apart-tail (table_in d).0 (holders_of d old) a h))))
           ]
     ]
 

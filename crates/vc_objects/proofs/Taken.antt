@@ -16,7 +16,7 @@ use Rattle.vc_dict.specs.Changes as changes
 use Rattle.vc_dict.specs.Listed.{holders_of}
 use Rattle.vc_base.specs.Methods.{has_table}
 use Rattle.vc_base.proofs.Members.{apart-head, apart-tail, apart-cons, apart-front, apart-rest, within-head, differs}
-use Rattle.vc_dict.specs.Stands.{Became, Stands}
+use Rattle.vc_dict.specs.Stands.{Became, Stands, slots_in, table_in}
 use Rattle.vc_dict.specs.declared.dict.Dict.{Dict}
 use Rattle.vc_dict.proofs.CurrentLemmas.{current-removed}
 use Rattle.vc_dict.proofs.OwnLemmas.{Stands-own, holder-there, holders-distinct, none-at_0, table-apart}
@@ -112,13 +112,13 @@ module _ {I : Type 0} {V : I → Type 0} (rules : Rules) (before mid : Best I V)
         let xs = holders_of old (cells_in before) in
         true≢false (sym h ∙ ap (contains (without at xs)) (sym e) ∙ gone-apart at xs (holders-distinct _ _ _ _ taken.whole.stands))
 
-    table_differs : at ≢ new.table.0
+    table_differs : at ≢ (table_in new).0
     table_differs e =
         let xs = holders_of old (cells_in before) in
-        differs xs at old.table.0 taken.within (table-apart rules old (cells_in before) xs taken.whole.stands) (e ∙ ap (λ z. z.0) taken.became.table)
+        differs xs at (table_in old).0 taken.within (table-apart rules old (cells_in before) xs taken.whole.stands) (e ∙ ap (λ z. z.0) taken.became.table)
 
-    own_apart : (a : ℕ) → contains (new.table.0 ∷ without at (holders_of old (cells_in before))) a ≡ true → at ≢ a
-    own_apart a h = elim (eqb_tells new.table.0 a) as (λ _. at ≢ a) [
+    own_apart : (a : ℕ) → contains ((table_in new).0 ∷ without at (holders_of old (cells_in before))) a ≡ true → at ≢ a
+    own_apart a h = elim (eqb_tells (table_in new).0 a) as (λ _. at ≢ a) [
       | inl same ↦ λ e. table_differs (e ∙ sym same.1)
       | inr apart ↦ others_apart a (rw apart.0 at h)
     ]
@@ -140,9 +140,9 @@ module _ {I : Type 0} {V : I → Type 0} (rules : Rules) (before mid : Best I V)
         let xs = holders_of old (cells_in before) in
         let os = without_object address_of at (dictionary_in old before).objects in
         let zero : contains xs 0 ≡ false = none-at_0 _ _ _ _ taken.whole.stands in
-        let with : Option ℕ → Dictionary = λ c. record { method = old.method; objects = os; current = c; table = table_of old.table.0 old.slots } in
+        let with : Option ℕ → Dictionary = λ c. record { method = old.method; objects = os; current = c; table = table_of (table_in old).0 (slots_in old) } in
         dictionary-told rules new (cells_in after) (without at xs) stands-after
-        ∙ dictionary-same new.method old.method (map (object_of (cells_in after)) (without at xs)) os new.current.0 (changes.current_without (Some at) old.current.0 xs) new.table.0 old.table.0 new.slots old.slots
+        ∙ dictionary-same new.method old.method (map (object_of (cells_in after)) (without at xs)) os new.current.0 (changes.current_without (Some at) old.current.0 xs) (table_in new).0 (table_in old).0 (slots_in new) (slots_in old)
         taken.became.method objects-after taken.became.current (ap (λ z. z.0) taken.became.table) taken.became.slots
         ∙ ap with (sym (current-mapped (cells_in before) at old.current.0 xs zero))
 
@@ -159,9 +159,9 @@ module _ {I : Type 0} {V : I → Type 0} (rules : Rules) (before mid : Best I V)
       | inl zero ↦ ap (cells_in after) zero.1 ∙ none-at after ∙ sym (none-at before) ∙ ap (cells_in before) (sym zero.1)
       | inr some ↦
           let xs = holders_of old (cells_in before) in
-          let apart : contains (old.table.0 ∷ xs) a ≡ false = sym (owned-within old (cells_in before) a some.1) ∙ apart_own in
-          let other : contains xs a ≡ false = apart-tail old.table.0 xs a apart in
-          left a (differs xs at a taken.within other) ∙ taken.became.keeps.others a (apart-cons old.table.0 [] a (apart-head old.table.0 xs a apart) refl) other
+          let apart : contains ((table_in old).0 ∷ xs) a ≡ false = sym (owned-within old (cells_in before) a some.1) ∙ apart_own in
+          let other : contains xs a ≡ false = apart-tail (table_in old).0 xs a apart in
+          left a (differs xs at a taken.within other) ∙ taken.became.keeps.others a (apart-cons (table_in old).0 [] a (apart-head (table_in old).0 xs a apart) refl) other
     ]
 
     pub leaves-taken : LeavesRest meaning rules before old after new

@@ -19,7 +19,7 @@ use Rattle.vc_dict.specs.Listed.{holders_of}
 use Rattle.vc_base.specs.Methods.{has_table}
 use Rattle.vc_base.proofs.Members.{apart-cons}
 use Rattle.vc_dict.specs.Orders as orders
-use Rattle.vc_dict.specs.Stands.{Stands}
+use Rattle.vc_dict.specs.Stands.{Stands, slots_in, table_in}
 use Rattle.vc_dict.specs.Turned.{CanRemethod, Remethoded}
 use Rattle.vc_dict.proofs.OwnLemmas.{Stands-own, Stands-table, holder-address, holders-distinct, holders-told, none-at_0, table-apart}
 use Rattle.vc_dict.proofs.PassLemmas.{differs}
@@ -87,7 +87,7 @@ module _ (rules : Rules) (method : DictMethod) (d : Dict) (b : Blocks) (t s : �
   can-remethod = record { holders = hs; stands = can.whole.stands; needs = can.needs; fits = can.fits; none = can.none }
 
   -- neither table is one of the holders
-  old-apart : contains hs d.table.0 ≡ false
+  old-apart : contains hs (table_in d).0 ≡ false
   old-apart = table-apart rules d b hs can.whole.stands
 
   new-apart : contains hs t ≡ false
@@ -96,8 +96,8 @@ module _ (rules : Rules) (method : DictMethod) (d : Dict) (b : Blocks) (t s : �
     | inr apart ↦ (can.fits apart.1).apart
   ]
 
-  tables-apart : (a : ℕ) → contains hs a ≡ true → contains (d.table.0 ∷ t ∷ []) a ≡ false
-  tables-apart a h = apart-cons d.table.0 (t ∷ []) a (differs hs a d.table.0 h old-apart) (apart-cons t [] a (differs hs a t h new-apart) refl)
+  tables-apart : (a : ℕ) → contains hs a ≡ true → contains ((table_in d).0 ∷ t ∷ []) a ≡ false
+  tables-apart a h = apart-cons (table_in d).0 (t ∷ []) a (differs hs a (table_in d).0 h old-apart) (apart-cons t [] a (differs hs a t h new-apart) refl)
 
   module _ (d' : Dict) (b2 : Blocks) (answer : Dropped) (done : Remethoded rules method t s (holders_of d b) d b d' b2 answer) where
     -- those that were dropped
@@ -133,29 +133,29 @@ module _ (rules : Rules) (method : DictMethod) (d : Dict) (b : Blocks) (t s : �
         ∙ ap (dropped_by bytes_of method rules) (sym (ordered_by-map (object_of b) bytes_of method rules hs)))
 
     -- the table that is left
-    left-told : answer.table.0 ≢ 0 → (has_table method ≡ false) × (answer.table.0 ≡ d.table.0)
-    left-told ne = left_by (has_table method) answer.table.0 d.table.0 done.left ne
+    left-told : answer.table.0 ≢ 0 → (has_table method ≡ false) × (answer.table.0 ≡ (table_in d).0)
+    left-told ne = left_by (has_table method) answer.table.0 (table_in d).0 done.left ne
 
     pub left-there : (b3 : Blocks) → ((a : ℕ) → contains gs a ≡ false → b3 a ≡ b2 a) → answer.table.0 ≢ 0 → IsSome (b3 answer.table.0)
     left-there b3 same ne =
         let e = (left-told ne).1 in
         subst (λ z. IsSome (b3 z)) (sym e)
-        (ap is_some (same d.table.0 (apart-drops method rules b hs d.table.0 old-apart)) ∙ (done.keeps.there d.table.0 ∙ ((Stands-table _ _ _ _ can.whole.stands).some (λ z. ne (e ∙ z))).there))
+        (ap is_some (same (table_in d).0 (apart-drops method rules b hs (table_in d).0 old-apart)) ∙ (done.keeps.there (table_in d).0 ∙ ((Stands-table _ _ _ _ can.whole.stands).some (λ z. ne (e ∙ z))).there))
 
-    pub left-table : (r : Layout ℕ) → without_table r (table_of answer.table.0 d.slots) ≡ without_table r (table_left (dictionary_of d b) method)
-    left-table r = ap (without_table r) (ap (λ z. table_of z d.slots) done.left ∙ gone_by (has_table method) d.table.0 d.slots)
+    pub left-table : (r : Layout ℕ) → without_table r (table_of answer.table.0 (slots_in d)) ≡ without_table r (table_left (dictionary_of d b) method)
+    left-table r = ap (without_table r) (ap (λ z. table_of z (slots_in d)) done.left ∙ gone_by (has_table method) (table_in d).0 (slots_in d))
 
-    not-left : (a : ℕ) → a ≢ 0 → a ≢ d.table.0 → a ≢ answer.table.0
+    not-left : (a : ℕ) → a ≢ 0 → a ≢ (table_in d).0 → a ≢ answer.table.0
     not-left a some ne e = ne (e ∙ (left-told (λ z. some (e ∙ z))).1)
 
-    table-zero : has_table method ≡ false → d'.table.0 ≡ 0
+    table-zero : has_table method ≡ false → (table_in d').0 ≡ 0
     table-zero h = (done.stands.plain (ap has_table done.method ∙ h)).table
 
-    own-apart : contains hs d'.table.0 ≡ false
-    own-apart = subst (λ z. contains hs z ≡ false) (sym done.table) (apart_by (has_table method && has_table d.method) hs d.table.0 t old-apart new-apart)
+    own-apart : contains hs (table_in d').0 ≡ false
+    own-apart = subst (λ z. contains hs z ≡ false) (sym done.table) (apart_by (has_table method && has_table d.method) hs (table_in d).0 t old-apart new-apart)
 
     module _ (b' : Blocks) (stays : (a : ℕ) → contains (drops method rules b (holders_of d b)) a ≡ false → a ≢ answer.table.0 → b' a ≡ b2 a) where
-      table-stays : (a : ℕ) → a ≢ 0 → d'.table.0 ≡ a → b' a ≡ b2 a
+      table-stays : (a : ℕ) → a ≢ 0 → (table_in d').0 ≡ a → b' a ≡ b2 a
       table-stays a some e =
           stays a (apart-drops method rules b hs a (subst (λ z. contains hs z ≡ false) e own-apart))
           (λ same. some (sym e ∙ table-zero (left-told (λ z. some (same ∙ z))).0))
@@ -163,10 +163,10 @@ module _ (rules : Rules) (method : DictMethod) (d : Dict) (b : Blocks) (t s : �
       holder-stays : (a : ℕ) → a ≢ 0 → contains ks a ≡ true → b' a ≡ b2 a
       holder-stays a some h =
           stays a (keeps-apart method rules b hs (holders-distinct _ _ _ _ can.whole.stands) a h)
-          (not-left a some (λ e. differs hs a d.table.0 (within-keeps method rules b hs a h) old-apart (sym e)))
+          (not-left a some (λ e. differs hs a (table_in d).0 (within-keeps method rules b hs a h) old-apart (sym e)))
 
-      own-stays : (a : ℕ) → a ≢ 0 → contains (d'.table.0 ∷ ks) a ≡ true → b' a ≡ b2 a
-      own-stays a some w = elim (eqb_tells d'.table.0 a) as (λ _. b' a ≡ b2 a) [
+      own-stays : (a : ℕ) → a ≢ 0 → contains ((table_in d').0 ∷ ks) a ≡ true → b' a ≡ b2 a
+      own-stays a some w = elim (eqb_tells (table_in d').0 a) as (λ _. b' a ≡ b2 a) [
         | inl same ↦ table-stays a some same.1
         | inr apart ↦ holder-stays a some (rw apart.0 at w)
       ]
@@ -189,22 +189,22 @@ module _ (rules : Rules) (method : DictMethod) (d : Dict) (b : Blocks) (t s : �
       pub dictionary-turned : dictionary_of d' b' ≡ turned_to rules method (dictionary_of d b) (table_of t s)
       dictionary-turned =
           fields-same d'.method method (map (object_of b') (holders_of d' b')) (kept_by bytes_of method rules (ordered_by bytes_of method rules (map (object_of b) hs))) (some_address d'.current.0) None
-          (table_of d'.table.0 d'.slots) (if has_table method then (if has_table d.method then table_of d.table.0 d.slots else table_of t s) else None)
+          (table_of (table_in d').0 (slots_in d')) (if has_table method then (if has_table d.method then table_of (table_in d).0 (slots_in d) else table_of t s) else None)
           done.method
           (objects-then ∙ (sym (kept_by-map (object_of b) bytes_of method rules (orders.ordered_by method rules b hs)) ∙ ap (kept_by bytes_of method rules) (sym (ordered_by-map (object_of b) bytes_of method rules hs))))
           (ap some_address done.current)
-          (ap (λ z. table_of z d'.slots) done.table ∙ (ap (λ z. table_of (if has_table method && has_table d.method then d.table.0 else t) z) done.slots
-          ∙ table_by (has_table method) (has_table d.method) d.table.0 d.slots t s none-then))
+          (ap (λ z. table_of z (slots_in d')) done.table ∙ (ap (λ z. table_of (if has_table method && has_table d.method then (table_in d).0 else t) z) done.slots
+          ∙ table_by (has_table method) (has_table d.method) (table_in d).0 (slots_in d) t s none-then))
         where
           none-then : has_table method ≡ false → t ≡ 0
-          none-then h = sym (ap (λ z. if z && has_table d.method then d.table.0 else t) h) ∙ (sym done.table ∙ table-zero h)
+          none-then h = sym (ap (λ z. if z && has_table d.method then (table_in d).0 else t) h) ∙ (sym done.table ∙ table-zero h)
 
       pub whole-turned : IsWhole rules d' b'
       whole-turned = record {
         stands = subst (λ xs. Stands rules d' b' xs) (sym told) stands-then;
         current = ap (λ z. contains (0 ∷ holders_of d' b') z) done.current;
         table = λ h. subst (λ z. z ≢ 0) (sym done.table)
-            (some_by (has_table method) (has_table d.method) d.table.0 t s (slots_for d.count) (sym (ap has_table done.method) ∙ h) can.whole.table can.needs);
+            (some_by (has_table method) (has_table d.method) (table_in d).0 t s (slots_for d.count) (sym (ap has_table done.method) ∙ h) can.whole.table can.needs);
         objects =
             subst (λ os. AllByRecursion (λ o. IsObject o.bytes) os) (sym objects-then)
             (all-objects IsObject b ks (λ a h. each-object IsObject b hs can.whole.objects a (within-keeps method rules b hs a h)));
@@ -213,16 +213,16 @@ module _ (rules : Rules) (method : DictMethod) (d : Dict) (b : Blocks) (t s : �
       pub within-turned : (a : ℕ) → contains hs a ≡ false → contains (holders_of d' b') a ≡ false
       within-turned a h = ap (λ xs. contains xs a) told ∙ apart-keeps method rules b hs a h
 
-      pub others-turned : (a : ℕ) → a ≢ 0 → a ≢ t → a ≢ d.table.0 → contains hs a ≡ false → b' a ≡ b a
+      pub others-turned : (a : ℕ) → a ≢ 0 → a ≢ t → a ≢ (table_in d).0 → contains hs a ≡ false → b' a ≡ b a
       others-turned a some new old h =
           stays a (apart-drops method rules b hs a h) (not-left a some old)
-          ∙ done.keeps.others a (apart-cons d.table.0 (t ∷ []) a (λ e. old (sym e)) (apart-cons t [] a (λ e. new (sym e)) refl)) h
+          ∙ done.keeps.others a (apart-cons (table_in d).0 (t ∷ []) a (λ e. old (sym e)) (apart-cons t [] a (λ e. new (sym e)) refl)) h
 
 -- so it is with what a best region holds
 module _ {I : Type 0} {V : I → Type 0} (rules : Rules) (method : DictMethod) (d : Dict) (t s : ℕ) (before turned dropped after : Best I V) (can : CanTurn rules d (cells_in before) method t s)
     (d' : Dict) (answer : Dropped) (done : Remethoded rules method t s (holders_of d (cells_in before)) d (cells_in before) d' (cells_in turned) answer) (same : rest_in turned ≡ rest_in before)
     (told told' : Gone) (frees : Frees (drops method rules (cells_in before) (holders_of d (cells_in before))) (cells_in turned) (rest_in turned) told (cells_in dropped) (rest_in dropped) told')
-    (table : rest_in after ≡ without_table (rest_in dropped) (table_of answer.table.0 d.slots)) (others : (a : ℕ) → a ≢ answer.table.0 → cells_in after a ≡ cells_in dropped a) where
+    (table : rest_in after ≡ without_table (rest_in dropped) (table_of answer.table.0 (slots_in d))) (others : (a : ℕ) → a ≢ answer.table.0 → cells_in after a ≡ cells_in dropped a) where
   gone-told : map (object_of (cells_in turned)) (drops method rules (cells_in before) (holders_of d (cells_in before))) ≡ objects_dropped rules method (dictionary_in d before)
   gone-told = drops-told rules method d (cells_in before) t s can d' (cells_in turned) answer done
 

@@ -9,7 +9,7 @@ use Rattle.vc_dtdisc.specs.Rules.{IsObject, Rules}
 use Rattle.vc_dthash.specs.Slots.{IsSlots, most_slots}
 use Rattle.vc_dict.specs.Listed.{holders_of}
 use Rattle.vc_base.specs.Methods.{has_table}
-use Rattle.vc_dict.specs.Stands.{Stands}
+use Rattle.vc_dict.specs.Stands.{Stands, slots_in, table_in}
 use Rattle.vc_dict.specs.declared.dict.Dict.{Dict}
 use Rattle.vc_best.specs.Cells.{cells_in}
 use Rattle.vc_best.specs.declared.best.Best.{Best}
@@ -30,7 +30,7 @@ dictionary_of dict blocks =
       method = dict.method;
       objects = map (object_of blocks) (holders_of dict blocks);
       current = some_address dict.current.0;
-      table = table_of dict.table.0 dict.slots;
+      table = table_of (table_in dict).0 (slots_in dict);
     }
 
 -- over the cells of a region
@@ -41,7 +41,7 @@ dictionary_in dict region = dictionary_of dict (cells_in region)
 pub record IsWhole (rules : Rules) (dict : Dict) (blocks : Blocks) : Type 0 where
   pub stands : Stands rules dict blocks (holders_of dict blocks)
   pub current : contains (0 ∷ holders_of dict blocks) dict.current.0 ≡ true
-  pub table : has_table dict.method ≡ true → dict.table.0 ≢ 0
+  pub table : has_table dict.method ≡ true → (table_in dict).0 ≢ 0
   pub objects : AllByRecursion (λ o. IsObject o.bytes) (dictionary_of dict blocks).objects
 
 -- a set or bag is whole but for its table, and may get one of so many slots

@@ -21,6 +21,7 @@ use Rattle.vc_objects.specs.Objects.{table_size}
 use Rattle.vc_objects.specs.Parts.{IsWhole, dictionary_in, object_of, table_of}
 use Rattle.vc_objects.specs.Remove.{bytes_of, freed_all}
 use Rattle.vc_objects.specs.Turn.{Brought, objects_dropped, table_left, turned_to}
+use Rattle.vc_dict.specs.Stands.{table_in}
 
 -- the region and the table are those of an outcome
 abbrev pub HasBrought : Outcome (Brought ℕ) → Layout ℕ → ℕ → ℕ → Type 0
@@ -71,10 +72,10 @@ pub record TurnsTo {I : Type 0} {V : I → Type 0}
       ≡ told_each (bytes_of (objects_dropped rules method (dictionary_in old before))) told
   pub whole : IsWhole rules new (cells_in after)
   pub kind : new.kind ≡ old.kind
-  pub table : new.table.0
-      ≡ (if has_table method && has_table old.method then old.table.0 else at)
+  pub table : (table_in new).0
+      ≡ (if has_table method && has_table old.method then (table_in old).0 else at)
   -- its holders are some of those that it had, and all other cells stay
   pub within : (a : ℕ) → contains (holders_of old (cells_in before)) a ≡ false
       → contains (holders_of new (cells_in after)) a ≡ false
-  pub others : (a : ℕ) → a ≢ 0 → a ≢ at → a ≢ old.table.0
+  pub others : (a : ℕ) → a ≢ 0 → a ≢ at → a ≢ (table_in old).0
       → contains (holders_of old (cells_in before)) a ≡ false → cells_in after a ≡ cells_in before a

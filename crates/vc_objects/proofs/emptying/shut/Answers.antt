@@ -8,6 +8,7 @@ use Rattle.vc_objects.specs.Parts.{dictionary_in}
 use Rattle.vc_objects.proofs.Emptied.{emptied-fewer, leaves-none, leaves-table}
 use Rattle.vc_objects.proofs.Leaving.{leaves-trans}
 use Rattle.vc_objects.proofs.emptying.shut.Goals as goal
+use Rattle.vc_dict.specs.Stands.{table_in}
 
 pub returns-then-ne-clause-leaves : goal.returns-then-ne-clause-leaves
 returns-then-ne-clause-leaves g c =
@@ -15,7 +16,7 @@ returns-then-ne-clause-leaves g c =
     let left = own_blocks (dictionary_in c.empty.new.dict c.empty.new.best) in
     let fewer : (a : ℕ) → contains mine a ≡ false → contains left a ≡ false =
     λ a h. ap (λ (d : Dictionary). contains (own_blocks d) a) c.empty.ensures.empties.dict ∙ emptied-fewer (dictionary_in c.args.dict c.args.best.now) a h in
-    let some : c.empty.new.dict.table.0 ≢ 0 =
+    let some : (table_in c.empty.new.dict).0 ≢ 0 =
     λ zero. true≢false (sym c.if-ne.true ∙ c.ne.ensures ∙ ap (λ z. not (z == 0)) (ap (λ a. a.0) c.table-table.ensures ∙ zero)) in
     leaves-trans (λ z. (goal.SegDisc-dyn g z).state z.1) c.args.best.now c.empty.new.best c.free_cell.new.best mine left [] c.empty.ensures.empties.leaves.rest
     (leaves-table (λ z. (goal.SegDisc-dyn g z).state z.1) c.empty.new.best c.free_cell.new.best c.empty.new.dict some

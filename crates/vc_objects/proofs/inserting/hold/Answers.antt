@@ -18,6 +18,7 @@ use Rattle.vc_objects.proofs.Leaving.{asked-keeps, leaves-put, none-at}
 use Rattle.vc_objects.proofs.Remains.{leaves-refused}
 use Rattle.vc_objects.proofs.inserting.hold.Given.{Over}
 use Rattle.vc_objects.proofs.inserting.hold.Goals as goal
+use Rattle.vc_dict.specs.Stands.{slots_in, table_in}
 
 -- what a region's boxed discipline means
 abbrev meaning : (g : Over) → (x : g.dyn-1.0.I) × (g.dyn-1.0.entry x).0.Denot → Discipline
@@ -77,7 +78,7 @@ returns-in-Ok g c =
             (others-held rules dict b0 b1 b2 at object whole puts.made is written c.args.append dict' b3 became (none-at new) (none-at old))
             (fresh-held rules dict b0 b1 b2 at object whole puts.made is written c.args.append dict' b3 became);
       };
-      table = ap (λ (t : Addr). table_of t.0 dict'.slots) became.table ∙ ap (table_of dict.table.0) became.slots;
+      table = ap (λ (t : Addr). table_of t.0 (slots_in dict')) became.table ∙ ap (table_of (table_in dict).0) became.slots;
       compares =
           let linked = c.link.ensures.steps (holders_of dict b0) (stands-put rules dict b0 b1 b2 at object whole puts.made is written) in
           subst (λ (n : ℕ). c.link.new.steps ≤ c.args.steps.now + n) (sym (length-map (holders_of dict b0) (object_of b0))) linked;

@@ -17,6 +17,7 @@ use Rattle.vc_objects.proofs.Doubling.{slots-most, table-sized}
 use Rattle.vc_objects.proofs.Leaving.{asked-keeps, leaves-put, leaves-still, none-at}
 use Rattle.vc_objects.proofs.tables.put_table.Given.{Over}
 use Rattle.vc_objects.proofs.tables.put_table.Goals as goal
+use Rattle.vc_dict.specs.Stands.{slots_in, table_in}
 
 -- what a region's boxed discipline means
 abbrev meaning : (g : Over) → (x : g.dyn-1.0.I) × (g.dyn-1.0.entry x).0.Denot → Discipline
@@ -59,15 +60,15 @@ returns-in-Ok g c =
     let puts = c.in-Ok.ensures.puts in
     let adopted = c.adopt_table-old.ensures.dict (holders_of dict (cells_in old)) (stands-placed rules dict (cells_in old) (cells_in mid) at slots c.requires.grows puts.made) in
     let table = ap (λ (t : Addr). t.0) c.adopt_table-old.ensures.old in
-    let after : (a : ℕ) → a ≢ dict.table.0 → cells_in new a ≡ cells_in adopts a = λ a ne. c.free_table.ensures.others a (λ e. ne (e ∙ table)) in
+    let after : (a : ℕ) → a ≢ (table_in dict).0 → cells_in new a ≡ cells_in adopts a = λ a ne. c.free_table.ensures.others a (λ e. ne (e ∙ table)) in
     let around = c.free_table.ensures.around in
     record {
       grows = record {
         ok =
             grown-put _ (dictionary_in dict old) slots at (rest_in mid) (rest_in new) (dictionary_in dict' new) puts.answer
-            (c.free_table.ensures.rest dict.slots
-            ∙ (ap (λ (q : Layout ℕ). without_table q (table_of c.adopt_table-old.result.0 dict.slots)) c.adopt_table-old.ensures.rest.layout
-            ∙ ap (λ (n : ℕ). without_table (rest_in mid) (table_of n dict.slots)) table))
+            (c.free_table.ensures.rest (slots_in dict)
+            ∙ (ap (λ (q : Layout ℕ). without_table q (table_of c.adopt_table-old.result.0 (slots_in dict))) c.adopt_table-old.ensures.rest.layout
+            ∙ ap (λ (n : ℕ). without_table (rest_in mid) (table_of n (slots_in dict))) table))
             (dictionary-grown rules dict (cells_in old) (cells_in mid) at slots c.requires.grows puts.made dict' (cells_in adopts) (cells_in new) adopted after);
         err = tt;
         asked = asked-then (meaning g) old mid new _ puts.asks (around.disc ∙ stays-disc (meaning g) mid adopts c.adopt_table-old.ensures.rest);

@@ -8,6 +8,7 @@ use Rattle.vc_objects.proofs.Turned.{can-remethod, count-dropped, fewer-turned, 
 use Rattle.vc_objects.proofs.turning.turn_to.Goals as goal
 use Rattle.vc_objects.proofs.turning.turn_to.Given.{Over}
 use Rattle.vc_objects.proofs.turning.turn_to.Goals.{After-drop_all, After-remethod-dropped}
+use Rattle.vc_dict.specs.Stands.{slots_in}
 
 -- the dictionary was turned, and then what it dropped went
 turned : (g : Over) (c : After-remethod-dropped g)
@@ -58,4 +59,4 @@ returns-clause-turns g c =
     turns-to (g.D.DictDisc.rules c.args.kind.now) c.args.method c.args.dict.now c.args.table.at.0 c.args.table.slots c.args.best.now c.remethod-dropped.new.cells c.drop_all.new.best c.free_table.new.best c.requires.can
     c.remethod-dropped.new.self c.remethod-dropped.result (turned g (goal.at.returns-clause-turns g c).After-remethod-dropped) c.remethod-dropped.ensures.rest.layout
     (g.D.DictDisc.gone c.args.kind.now) (g.D.DictDisc.gone c.drop_all.new.kind) (gone g (goal.at.returns-clause-turns g c).After-drop_all)
-    (c.free_table.ensures.rest c.args.dict.now.slots) c.free_table.ensures.others
+    (c.free_table.ensures.rest (slots_in c.args.dict.now)) c.free_table.ensures.others

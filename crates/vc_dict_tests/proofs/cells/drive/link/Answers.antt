@@ -5,6 +5,7 @@ use Rattle.vc_dtdisc.specs.Finds.{object_at}
 use Rattle.vc_dict_tests.specs.Ready.{IsReady}
 use Rattle.vc_dict_tests.proofs.ReadyLemmas.{lone-kept, none-by, ready-found, ready-linked}
 use Rattle.vc_dict_tests.proofs.cells.drive.link.Goals as goal
+use Rattle.vc_dict.specs.Stands.{table_in}
 
 pub link-requires : goal.link-requires
 unfolding ready-found
@@ -20,15 +21,15 @@ link-requires g c =
     let r' : IsReady kinds d' b' at = ready-found kinds d d' b b' at r t in
     let least : 1 ≤ at = omega arith in
     let most : at ≤ 3 = omega arith in
-    let ne : d'.table.0 ≢ at = omega (arith, ap (λ (z : Addr). z.0) c.table.ensures) in
-    let ne_old : d.table.0 ≢ at = omega (arith, ap (λ (z : Addr). z.0) c.table.ensures, ap (λ (z : Addr). z.0) t.table) in
+    let ne : (table_in d').0 ≢ at = omega (arith, ap (λ (z : Addr). z.0) c.table.ensures) in
+    let ne_old : (table_in d).0 ≢ at = omega (arith, ap (λ (z : Addr). z.0) c.table.ensures, ap (λ (z : Addr). z.0) t.table) in
     let is_none : c.is_none.result ≡ true = search rules in
     let copied : c.in_ok-object.object.items ≡ object_at b at = search rules in
     let key : c.key.result.now ≡ kinds.key (object_at b at) = c.key.ensures ∙ ap kinds.key (c.as_slice.ensures.value ∙ copied) in
     record {
       holders = r.holders;
       stands = t.stands;
-      apart = apart-cons d'.table.0 r.holders at ne (r.fresh at (omega arith));
+      apart = apart-cons (table_in d').0 r.holders at ne (r.fresh at (omega arith));
       holder = r'.sized.holders at least most;
       current = r'.current;
       room = sym c.wants_table.ensures ∙ none-by c.wants_table.result c.is_none.result c.is_none.ensures is_none;
