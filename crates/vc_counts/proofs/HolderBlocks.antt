@@ -49,6 +49,7 @@ use Rattle.vc_views.specs.Views.{DictHome, dict_named, is_dict}
 use Rattle.vc_counts.proofs.DictBytes.{HasTable, IsBeside, IsSeated}
 use Rattle.vc_counts.proofs.BlockSizes.{HasSized, size_found}
 use Rattle.vc_dict.specs.Stands.{slots_in, table_in}
+use Rattle.vc_dict.proofs.HeadLemmas.{no-table-in}
 
 module _ (f : ℕ → Label) where
   size-relabelled : (o : Option (Block ℕ)) → size_found (option_map (relabel_block f) o) ≡ size_found o
@@ -129,7 +130,7 @@ module _ (rules : Rules) (d : Dict) (cells : Blocks) (whole : IsWhole rules d ce
     objects = its-objects (holders_of d cells) its-holder;
     distinct = subst AreDistinct (sym (addresses-mapped cells (holders_of d cells))) (holders-distinct rules d cells (holders_of d cells) whole.stands);
     beside = its-beside;
-    plain = λ none. rw (whole.stands.plain none).table refl;
+    plain = λ none. rw (no-table-in _ _ _ _ none whole.stands) refl;
   }
 
 module _ (kinds : List Rules) (held : List Held) (celled : AllByRecursion IsCelled held) where

@@ -81,6 +81,15 @@ HeadsFor-table rules (Hash hash) b xs s = s.table
 HeadsFor-table rules (Order ord) b xs s = record { none = λ _. refl; some = λ ne. absurd (ne refl) }
 HeadsFor-table rules (Links list) b xs s = record { none = λ _. refl; some = λ ne. absurd (ne refl) }
 
+-- a dictionary of another method has none
+none-by : (method : DictMethod) (heads : Heads) → has_table method ≡ false → IsForm method heads → (table_at heads).0 ≡ 0
+none-by method (Hash hash) h f = absurd (true≢false (sym f ∙ h))
+none-by method (Order ord) h f = refl
+none-by method (Links list) h f = refl
+
+pub no-table-in : (rules : Rules) (d : Dict) (b : Blocks) (xs : List ℕ) → has_table d.method ≡ false → Stands rules d b xs → (table_in d).0 ≡ 0
+no-table-in rules d b xs h s = none-by d.method d.heads h s.form
+
 -- without a table in a set or bag there is no holder
 pub empty-hash : (rules : Rules) (method : DictMethod) (heads : Heads) (b : Blocks) (xs : List ℕ) → has_table method ≡ true → IsForm method heads → HeadsFor rules heads b xs → (table_at heads).0 ≡ 0 → xs ≡ []
 empty-hash rules method (Hash hash) b xs h f s zero = s.empty zero

@@ -36,6 +36,7 @@ use Rattle.vc_objects.specs.Turning.{CanTurn, Frees, HasDropped, TurnsTo}
 use Rattle.vc_objects.proofs.Mapped.{objects-kept}
 use Rattle.vc_objects.proofs.Parted.{apart-drops, apart-keeps, distinct-drops, drops, keeps, keeps-apart, length-parted, within-drops, within-keeps}
 use Rattle.vc_objects.proofs.Owning.{all-objects, each-object}
+use Rattle.vc_dict.proofs.HeadLemmas.{no-table-in}
 
 -- by the truth of tests on the methods
 apart_by : (u : Bool) (xs : List ℕ) (x y : ℕ) → contains xs x ≡ false → contains xs y ≡ false → contains xs (if u then x else y) ≡ false
@@ -149,7 +150,7 @@ module _ (rules : Rules) (method : DictMethod) (d : Dict) (b : Blocks) (t s : �
     not-left a some ne e = ne (e ∙ (left-told (λ z. some (e ∙ z))).1)
 
     table-zero : has_table method ≡ false → (table_in d').0 ≡ 0
-    table-zero h = (done.stands.plain (ap has_table done.method ∙ h)).table
+    table-zero h = no-table-in _ _ _ _ (ap has_table done.method ∙ h) done.stands
 
     own-apart : contains hs (table_in d').0 ≡ false
     own-apart = subst (λ z. contains hs z ≡ false) (sym done.table) (apart_by (has_table method && has_table d.method) hs (table_in d).0 t old-apart new-apart)
