@@ -75,6 +75,15 @@ by_hash rules method (Links list) b xs h f s = absurd (true≢false (sym h ∙ f
 pub as_hash : (rules : Rules) (d : Dict) (b : Blocks) (xs : List ℕ) → has_table d.method ≡ true → Stands rules d b xs → (hash : DtHash) × (d.heads ≡ Hash hash) × HashFor rules hash b xs
 as_hash rules d b xs h s = by_hash rules d.method d.heads b xs h s.form s.heads
 
+-- and where it is ordered
+by_ord : (rules : Rules) (method : DictMethod) (heads : Heads) (b : Blocks) (xs : List ℕ) → is_ordered method ≡ true → IsForm method heads → HeadsFor rules heads b xs → (ord : DtOrd) × OrdFor rules ord b xs
+by_ord rules method (Hash hash) b xs o f s = absurd (true≢false (sym o ∙ table_unordered method f))
+by_ord rules method (Order ord) b xs o f s = (ord, s)
+by_ord rules method (Links list) b xs o f s = absurd (true≢false (sym o ∙ f.1))
+
+pub as_ord : (rules : Rules) (d : Dict) (b : Blocks) (xs : List ℕ) → is_ordered d.method ≡ true → Stands rules d b xs → (ord : DtOrd) × OrdFor rules ord b xs
+as_ord rules d b xs o s = by_ord rules d.method d.heads b xs o s.form s.heads
+
 -- they have a table, or none with no slots
 pub HeadsFor-table : (rules : Rules) (heads : Heads) (b : Blocks) (xs : List ℕ) → HeadsFor rules heads b xs → HasTable b xs (table_at heads).0 (slots_at heads)
 HeadsFor-table rules (Hash hash) b xs s = s.table

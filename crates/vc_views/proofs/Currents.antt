@@ -170,7 +170,7 @@ module _ (kinds : List Rules) (old new : List DictRegion) (es es' : List Entry) 
 
     whole-current : IsWhole is.rules current_dict is.home.cells
     whole-current = record {
-      stands = record { heads = is.whole.stands.heads; count = is.whole.stands.count; plain = λ h. let p = is.whole.stands.plain h in record { table = p.table; slots = p.slots } };
+      stands = record { form = is.whole.stands.form; heads = is.whole.stands.heads; count = is.whole.stands.count };
       current = ap (λ b. (0 == at.0) || b) within ∙ or-true (0 == at.0);
       table = is.whole.table;
       objects = is.whole.objects;

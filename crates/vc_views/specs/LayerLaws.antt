@@ -4,11 +4,9 @@ use Rattle.std.specs.Prelude.{◌==◌, find, slice_get}
 use Rattle.std.proofs.lemmas.Bool.{cases_Bool}
 use Rattle.std.proofs.lemmas.Option.{none-some, same_Some}
 use Rattle.vc_model.specs.Numbered.{at_number}
-use Rattle.vc_base.specs.declared.dict_method.DictMethod.{DictMethod}
-use Rattle.vc_base.specs.declared.dict_method.DictMethod.TheVariants.{DtSet, DtBag, DtOset, DtObag, DtList, DtStack, DtQueue}
 use Rattle.vc_base.specs.Cells.{Blocks}
 use Rattle.vc_base.specs.Holders.{AreDistinct}
-use Rattle.vc_base.specs.Methods.{has_table, is_ordered}
+use Rattle.vc_base.specs.Methods.{is_ordered}
 use Rattle.vc_base.proofs.Lists.{find-map}
 use Rattle.vc_dtdisc.specs.Objects.{IsSorted, bytes_of}
 use Rattle.vc_dtdisc.specs.Rules.{AreLawful, Rules}
@@ -34,19 +32,10 @@ abbrev pub layer_over : Rules → DictEntry → Blocks → Layer
 layer_over rules v b = record { method = v.dict.method; kind = v.dict.kind; rules = rules; objects = map (object_of b) (holders_of v.dict b) }
 
 module _ (b : Blocks) where
-  ordered-plain : (m : DictMethod) → is_ordered m ≡ true → has_table m ≡ false
-  ordered-plain DtSet h = cc
-  ordered-plain DtBag h = cc
-  ordered-plain DtOset h = refl
-  ordered-plain DtObag h = refl
-  ordered-plain DtList h = refl
-  ordered-plain DtStack h = refl
-  ordered-plain DtQueue h = refl
-
   -- the objects of an ordered dictionary stand in order
   ordered-there : (rules : Rules) (d : Dict) (xs : List ℕ) → Stands rules d b xs → is_ordered d.method ≡ true → IsSorted bytes_of rules (map (object_of b) xs)
   ordered-there rules d xs s h =
-      subst (λ T. T) (sym (IsSorted-map (object_of b) bytes_of rules xs)) (as_ord rules d b xs (ordered-plain d.method h) h s).sorted
+      subst (λ T. T) (sym (IsSorted-map (object_of b) bytes_of rules xs)) (as_ord rules d b xs h s).1.sorted
 
 pub some-there : {A : Type 0} (o : Option A) → IsSome o → (x : A) × (o ≡ Some x)
 some-there None h = cc
