@@ -66,16 +66,7 @@ list-unordered ByList l = refl
 list-unordered DtStack l = refl
 list-unordered DtQueue l = refl
 
--- what they stand for where the method has a table
-by_hash : (rules : Rules) (method : DictMethod) (heads : Heads) (b : Blocks) (xs : List ℕ) → has_table method ≡ true → IsForm method heads → HeadsFor rules heads b xs → (hash : DtHash) × (heads ≡ Hash hash) × HashFor rules hash b xs
-by_hash rules method (Hash hash) b xs h f s = (hash, refl, s)
-by_hash rules method (Order ord) b xs h f s = absurd (true≢false (sym f ∙ table_unordered method h))
-by_hash rules method (Links list) b xs h f s = absurd (true≢false (sym h ∙ f.0))
-
-pub as_hash : (rules : Rules) (d : Dict) (b : Blocks) (xs : List ℕ) → has_table d.method ≡ true → Stands rules d b xs → (hash : DtHash) × (d.heads ≡ Hash hash) × HashFor rules hash b xs
-as_hash rules d b xs h s = by_hash rules d.method d.heads b xs h s.form s.heads
-
--- and where it is ordered
+-- what they stand for where the method is ordered
 by_ord : (rules : Rules) (method : DictMethod) (heads : Heads) (b : Blocks) (xs : List ℕ) → is_ordered method ≡ true → IsForm method heads → HeadsFor rules heads b xs → (ord : DtOrd) × OrdFor rules ord b xs
 by_ord rules method (Hash hash) b xs o f s = absurd (true≢false (sym o ∙ table_unordered method f))
 by_ord rules method (Order ord) b xs o f s = (ord, s)

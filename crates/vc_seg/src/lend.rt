@@ -16,9 +16,31 @@ pub fn round_of(disc: &Box<dyn SegDisc>) -> u32
     disc.round()
 }
 
-/// A segment of zeros that a discipline lends to a region under that number, as `SegDisc::lend`: the size in bytes is a
-/// multiple of its round, from 64 to 33,554,432. `NoSegment` comes where the discipline refuses, and `OutOfMemory` for want
-/// of memory. A region asks for a segment by this call alone.
+/// A segment of zeros that a discipline lends under that number, as `SegDisc::lend`: the size in bytes is a multiple of
+/// its round, from 64 to 33,554,432. A region asks for a segment by this call alone.
+pub fn obtain(
+    disc: &mut Box<dyn SegDisc>,
+    alloc: Global,
+    number: u32,
+    size: u32,
+) -> Result<Segment, LendFault>
+    requires size { IsSegmentSize size }
+    requires multiple { size % (state disc.old).terms.round ≡ 0 }
+
+    ensures segment { IfOk result (λ segment. segment ≡ zero_segment number size) }
+    ensures lent { OnOk result (Lent (state disc.old) (state disc.new) number size) }
+
+    // Refused comes only where the faults rose, and where the room is told, only where the size is above it.
+    ensures refused { IsErrOf result LendFault.Refused
+        → Unserved (state disc.old) (state disc.new) size }
+    ensures no_memory { IsErrOf result LendFault.OutOfMemory
+        → state disc.new ≡ state disc.old }
+{
+    disc.lend(alloc, number, size)
+}
+
+/// A segment of zeros that a discipline lends to a region under that number, as `obtain`. `NoSegment` comes where the
+/// discipline refuses, and `OutOfMemory` for want of memory.
 pub fn lend_segment(
     disc: &mut Box<dyn SegDisc>,
     alloc: Global,
@@ -36,7 +58,7 @@ pub fn lend_segment(
         → Unserved (state disc.old) (state disc.new) bytes }
     ensures no_memory { IsErrOf result RegionFault.OutOfMemory → state disc.new ≡ state disc.old }
 {
-    match disc.lend(alloc, number, bytes) {
+    match obtain(disc, alloc, number, bytes) {
         Ok(segment) => Ok(segment),
         Err(LendFault::Refused) => Err(RegionFault::NoSegment),
         Err(LendFault::OutOfMemory) => Err(RegionFault::OutOfMemory),

@@ -33,7 +33,7 @@ pub use disc::SegDisc;
 pub use fault::{LendFault, RegionFault};
 pub use fuse::FuseDisc;
 pub use heap::HeapDisc;
-pub use lend::{lend_next, lend_segment, round_of};
+pub use lend::{lend_next, lend_segment, obtain, round_of};
 pub use method::Method;
 pub use number::{find_number, lowest_unused};
 pub use numbered::Numbered;
