@@ -16,7 +16,7 @@ mod watch;
 pub use rows::{debug_damage, debug_marks, debug_places, debug_resizing};
 use vc_best::Best;
 
-/// Marks a counter of steps that no one reads.
+// Marks a counter of steps that no one reads.
 struct Uncounted;
 
 /// A region by exact best fit that finds damage around its blocks, after Vmalloc's `Vmdebug`. In front of the user's
@@ -25,7 +25,7 @@ struct Uncounted;
 pub struct Debug {
     /// The region whose blocks hold the guards and the user's bytes.
     pub best: Best,
-    /// The marks of the blocks that are watched: the address of the user's bytes and the line.
+    // The marks of the blocks that are watched: the address of the user's bytes and the line.
     marks: Vec<(u32, u32)>,
     /// Each block has room for its guards.
     pub ghost guarded: { HasGuards (layout_of best).blocks },

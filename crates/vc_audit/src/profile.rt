@@ -21,7 +21,7 @@ use vc_base::{Name, OutOfMemory};
 use vc_best::Best;
 use vc_seg::{BoxedDisc, SegDisc};
 
-/// Marks a counter of steps that no one reads.
+// Marks a counter of steps that no one reads.
 pub(crate) struct Uncounted;
 
 /// A region by exact best fit in which each block has a site, after Vmalloc's `Vmprofile`. For each site it counts the

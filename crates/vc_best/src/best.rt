@@ -28,7 +28,7 @@ use vc_extent::Extents;
 use vc_gaps::fit;
 use vc_seg::{RegionFault, SegDisc, Stat, next_segment, segment_at, span_of};
 
-/// Marks the steps of calls that nobody counts.
+// Marks the steps of calls that nobody counts.
 struct Uncounted;
 
 /// A region by exact best fit over the segments of a discipline, after Vmalloc's `Vmbest`. Sizes and offsets are in

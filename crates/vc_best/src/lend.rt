@@ -14,8 +14,8 @@ use vc_base::{Addr, Steps};
 use vc_extent::Extents;
 use vc_seg::{RegionFault, SegDisc, lend_segment, round_of, rounded_up, span_of};
 
-/// Asks for a segment of that many bytes under the least number that no segment has, and puts it behind the others as one
-/// free extent. It answers the number.
+// Asks for a segment of that many bytes under the least number that no segment has, and puts it behind the others as one
+// free extent. It answers the number.
 fn lend_next(
     extents: &mut Extents,
     disc: &mut Box<dyn SegDisc>,
@@ -41,7 +41,7 @@ fn lend_next(
     Ok(number)
 }
 
-/// A block of zeros, which has no place, in a segment that the discipline lends for it.
+// A block of zeros, which has no place, in a segment that the discipline lends for it.
 pub(crate) fn put_in_new<L>(
     extents: &mut Extents,
     root: &mut Addr,

@@ -11,7 +11,7 @@ ghost use Rattle.vc_best.specs.Free.{IsMerged};
 use vc_base::Addr;
 use vc_extent::Extents;
 
-/// Makes a free extent and the one behind it one, where that is free.
+// Makes a free extent and the one behind it one, where that is free.
 pub(crate) fn absorb_next(extents: &mut Extents, a: Addr)
     requires free { IsFree (tiling extents.old.segs.items) a.0 }
     ensures changed { IsExtentChanged extents.old.segs.items extents.new.segs.items a.0 absorb }
@@ -27,8 +27,8 @@ pub(crate) fn absorb_next(extents: &mut Extents, a: Addr)
     }
 }
 
-/// Frees the block at an address. Its extent becomes one with the free ones before and behind it. It answers the address
-/// of that.
+// Frees the block at an address. Its extent becomes one with the free ones before and behind it. It answers the address
+// of that.
 pub(crate) fn release(extents: &mut Extents, a: Addr) -> Addr
     requires busy { IsBusy (tiling extents.old.segs.items) a.0 }
     requires merged { IsMerged (tiling extents.old.segs.items) }

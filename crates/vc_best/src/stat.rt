@@ -12,14 +12,14 @@ use vc_extent::Extents;
 use vc_layouts::Tally;
 use vc_seg::{Segment, Stat};
 
-/// The blocks and the gaps of a region, counted.
+// The blocks and the gaps of a region, counted.
 #[derive(Clone, Copy)]
 struct Counts {
     blocks: Tally,
     gaps: Tally,
 }
 
-/// With one more extent.
+// With one more extent.
 fn count_extent<L>(extents: &Extents, counts: Counts, a: Addr, steps: &mut Steps<L>) -> Counts
     requires named { IsNamed (tiling extents.now.segs.items) a.0 }
     requires room { HaveRoom counts (extent_of (tiling extents.now.segs.items) a.0 ∷ []) }
@@ -39,7 +39,7 @@ fn count_extent<L>(extents: &Extents, counts: Counts, a: Addr, steps: &mut Steps
     }
 }
 
-/// With the extents of a segment.
+// With the extents of a segment.
 fn count_segment<L>(extents: &Extents, counts: Counts, seg: u32, steps: &mut Steps<L>) -> Counts
     requires there { IsThere seg extents.now.segs.items }
     requires room { HaveRoom counts (extents_of seg (tiling extents.now.segs.items)) }
@@ -54,7 +54,7 @@ fn count_segment<L>(extents: &Extents, counts: Counts, seg: u32, steps: &mut Ste
     counts
 }
 
-/// All extents, counted.
+// All extents, counted.
 fn count_all<L>(extents: &Extents, steps: &mut Steps<L>) -> Counts
     requires room { HaveRoom counts_of_none (all_extents (tiling extents.now.segs.items)) }
     ensures { result ≡ counts_with counts_of_none (all_extents (tiling extents.now.segs.items)) }
@@ -69,7 +69,7 @@ fn count_all<L>(extents: &Extents, steps: &mut Steps<L>) -> Counts
     counts
 }
 
-/// The sizes of these segments.
+// The sizes of these segments.
 fn tally_segments(segs: &[Segment]) -> Tally
     requires { HasRoom (tally_of []) (map (λ s. s.1) (map pair_of segs.now)) }
     ensures { result ≡ tally_of (map (λ s. s.1) (map pair_of segs.now)) }
@@ -81,7 +81,7 @@ fn tally_segments(segs: &[Segment]) -> Tally
     tally
 }
 
-/// The numbers of blocks, gaps and segments, and their sizes in bytes.
+// The numbers of blocks, gaps and segments, and their sizes in bytes.
 pub(crate) fn stat<L>(extents: &Extents, steps: &mut Steps<L>) -> Stat
     requires { IsMerged (tiling extents.now.segs.items) }
     ensures { result ≡ layout_stat (layout_by extents.now.segs.items) }

@@ -13,7 +13,7 @@ use vc_base::{Addr, Steps};
 use vc_extent::Extents;
 use vc_seg::span_of;
 
-/// The bytes from a busy extent's start on up to the next busy one, or to the end of what its segment has for extents.
+// The bytes from a busy extent's start on up to the next busy one, or to the end of what its segment has for extents.
 fn room<L>(extents: &Extents, a: Addr, steps: &mut Steps<L>) -> u32
     requires { IsBusy (tiling extents.now.segs.items) a.0 }
     ensures { result ≡ room_of (tiling extents.now.segs.items) a.0 }
@@ -31,7 +31,7 @@ fn room<L>(extents: &Extents, a: Addr, steps: &mut Steps<L>) -> u32
     }
 }
 
-/// Whether the block at an address can have another size where it is.
+// Whether the block at an address can have another size where it is.
 pub(crate) fn has_room<L>(extents: &Extents, a: Addr, size: u32, steps: &mut Steps<L>) -> bool
     requires busy { IsBusy (tiling extents.now.segs.items) a.0 }
     requires most { size ≤ 16777264 }
@@ -40,7 +40,7 @@ pub(crate) fn has_room<L>(extents: &Extents, a: Addr, size: u32, steps: &mut Ste
     span_of(size) <= room(extents, a, steps)
 }
 
-/// Moves the border behind a block so that it has another size. What is new in it isn't said.
+// Moves the border behind a block so that it has another size. What is new in it isn't said.
 fn move_border<L>(extents: &mut Extents, a: Addr, size: u32, steps: &mut Steps<L>)
     requires { CanResizeThere (tiling extents.old.segs.items) a.0 size }
     ensures moved { IsBorderMoved extents.old.segs.items extents.new.segs.items a.0 size }
@@ -59,7 +59,7 @@ fn move_border<L>(extents: &mut Extents, a: Addr, size: u32, steps: &mut Steps<L
     }
 }
 
-/// Gives the block at an address another size where it is. What is new in it is zero.
+// Gives the block at an address another size where it is. What is new in it is zero.
 pub(crate) fn resize_there<L>(extents: &mut Extents, a: Addr, size: u32, steps: &mut Steps<L>)
     requires { CanResizeThere (tiling extents.old.segs.items) a.0 size }
     ensures layout { layout_by extents.new.segs.items

@@ -7,7 +7,7 @@ use crate::tree::free_block;
 use vc_base::{Addr, Steps};
 use vc_extent::Extents;
 
-/// Moves the bytes of a block, up to a number of them, into the front of another, which has room for them, and frees it.
+// Moves the bytes of a block, up to a number of them, into the front of another, which has room for them, and frees it.
 pub(crate) fn take_over<L>(
     extents: &mut Extents,
     root: &mut Addr,

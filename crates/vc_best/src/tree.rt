@@ -24,7 +24,7 @@ use vc_seg::{rounded_up, span_of};
 
 // Before the bytes of free extents change these are taken out of the tree of gaps, and then those that are left are put in.
 
-/// Takes the free extent behind one, where there is one, out of the tree.
+// Takes the free extent behind one, where there is one, out of the tree.
 fn unlink_next(extents: &mut Extents, root: &mut Addr, a: Addr)
     requires named { IsNamed (tiling extents.old.segs.items) a.0 }
     requires gaps { HasGaps (tiling extents.old.segs.items) root.old.0 [] }
@@ -40,7 +40,7 @@ fn unlink_next(extents: &mut Extents, root: &mut Addr, a: Addr)
     }
 }
 
-/// Takes the free extent before one, where there is one, out of a tree without the one behind.
+// Takes the free extent before one, where there is one, out of a tree without the one behind.
 fn unlink_before(extents: &mut Extents, root: &mut Addr, a: Addr)
     requires named { IsNamed (tiling extents.old.segs.items) a.0 }
     requires gaps { HasGaps (tiling extents.old.segs.items) root.old.0
@@ -58,7 +58,7 @@ fn unlink_before(extents: &mut Extents, root: &mut Addr, a: Addr)
     }
 }
 
-/// Puts the free extent behind one, where there is one, into a tree without it.
+// Puts the free extent behind one, where there is one, into a tree without it.
 fn link_next<L>(extents: &mut Extents, root: &mut Addr, a: Addr, steps: &mut Steps<L>)
     requires named { IsNamed (tiling extents.old.segs.items) a.0 }
     requires gaps { HasGaps (tiling extents.old.segs.items) root.old.0
@@ -155,7 +155,7 @@ pub(crate) fn put_in_gap<L>(
     put_in_out(extents, root, a, size, align, tag, steps)
 }
 
-/// Frees the block at an address. The free extent that it then is, or is part of, is in the tree.
+// Frees the block at an address. The free extent that it then is, or is part of, is in the tree.
 pub(crate) fn free_block<L>(extents: &mut Extents, root: &mut Addr, a: Addr, steps: &mut Steps<L>)
     requires busy { IsBusy (tiling extents.old.segs.items) a.0 }
     requires kept { AreKept extents.old.segs.items root.old.0 }
@@ -169,7 +169,7 @@ pub(crate) fn free_block<L>(extents: &mut Extents, root: &mut Addr, a: Addr, ste
     *root = link_gap(extents, *root, freed, steps);
 }
 
-/// Gives the block at an address another size where it is, as `resize_there` does, and keeps the tree.
+// Gives the block at an address another size where it is, as `resize_there` does, and keeps the tree.
 pub(crate) fn resize_block<L>(
     extents: &mut Extents,
     root: &mut Addr,

@@ -11,7 +11,7 @@ ghost use Rattle.vc_best.specs.Next.{IsFirst};
 use vc_base::Addr;
 use vc_extent::Extents;
 
-/// Whether an extent has a block whose bytes hold the byte at an offset of its segment.
+// Whether an extent has a block whose bytes hold the byte at an offset of its segment.
 fn holds_byte(extents: &Extents, a: Addr, off: u32) -> bool
     requires { IsNamed (tiling extents.now.segs.items) a.0 }
     ensures { IsTrue result ↔ (((place_of a.0).1 ≤ off) × (off
@@ -20,7 +20,7 @@ fn holds_byte(extents: &Extents, a: Addr, off: u32) -> bool
     a.off() <= off && off - a.off() < extents.size_at(a)
 }
 
-/// The extent of a segment whose block holds the byte at an offset.
+// The extent of a segment whose block holds the byte at an offset.
 fn extent_with_byte(extents: &Extents, seg: u32, off: u32) -> Option<Addr>
     requires { IsThere seg extents.now.segs.items }
     ensures value { option_map (λ a. place_of a.0) result ≡ option_map place_of_block
@@ -38,7 +38,7 @@ fn extent_with_byte(extents: &Extents, seg: u32, off: u32) -> Option<Addr>
     None
 }
 
-/// The block whose bytes hold the byte at an offset of a segment, and the offset in the block. None where no block does.
+// The block whose bytes hold the byte at an offset of a segment, and the offset in the block. None where no block does.
 pub(crate) fn block_at(extents: &Extents, seg: u32, off: u32) -> Option<(Addr, u32)>
     ensures { IsBlockAt result (seg, off) (layout_by extents.now.segs.items).blocks }
 {
@@ -49,7 +49,7 @@ pub(crate) fn block_at(extents: &Extents, seg: u32, off: u32) -> Option<(Addr, u
     Some((a, off - a.off()))
 }
 
-/// The first busy extent of a segment from one on.
+// The first busy extent of a segment from one on.
 fn first_busy(extents: &Extents, a: Addr) -> Option<Addr>
     requires { IsNamed (tiling extents.now.segs.items) a.0 }
     ensures first { IsFirst (busy_in (
@@ -70,7 +70,7 @@ fn first_busy(extents: &Extents, a: Addr) -> Option<Addr>
     None
 }
 
-/// The first busy extent of the segment of a number, where there is one.
+// The first busy extent of the segment of a number, where there is one.
 fn first_in(extents: &Extents, number: u32) -> Option<Addr>
     ensures first { IsFirst (busy_in (number, extents_of number (tiling extents.now.segs.items)))
         (address (number, 0)) (option_map (λ r. r.0) result) }
@@ -83,7 +83,7 @@ fn first_in(extents: &Extents, number: u32) -> Option<Addr>
     first_busy(extents, extents.first(number))
 }
 
-/// The first busy extent of the segments from a number on, from 1 to 1,024.
+// The first busy extent of the segments from a number on, from 1 to 1,024.
 fn first_in_segments(extents: &Extents, from: u32) -> Option<Addr>
     requires some { 1 ≤ from }
     requires most { from ≤ 1024 }
@@ -100,7 +100,7 @@ fn first_in_segments(extents: &Extents, from: u32) -> Option<Addr>
     None
 }
 
-/// The first busy extent behind one in its segment.
+// The first busy extent behind one in its segment.
 fn busy_behind(extents: &Extents, a: Addr) -> Option<Addr>
     requires { IsNamed (tiling extents.now.segs.items) a.0 }
     ensures first { IsFirst (busy_in (
@@ -115,7 +115,7 @@ fn busy_behind(extents: &Extents, a: Addr) -> Option<Addr>
     first_busy(extents, next)
 }
 
-/// The busy extent with the least address above one that is busy, or above 0.
+// The busy extent with the least address above one that is busy, or above 0.
 fn busy_above(extents: &Extents, after: Addr) -> Option<Addr>
     requires { (after.0 ≡ 0) ⊎ IsBusy (tiling extents.now.segs.items) after.0 }
     ensures first { IsFirst (all_busy (tiling extents.now.segs.items)) (after.0 + 1)
@@ -132,7 +132,7 @@ fn busy_above(extents: &Extents, after: Addr) -> Option<Addr>
     first_in_segments(extents, after.seg() + 1)
 }
 
-/// The block with the least address above that of a block, or above 0.
+// The block with the least address above that of a block, or above 0.
 pub(crate) fn next_block(extents: &Extents, after: Addr) -> Option<Addr>
     requires { (after.0 ≡ 0) ⊎ HasBlock (layout_by extents.now.segs.items).blocks after.0 }
     ensures { IsNextBlock result after.0 (layout_by extents.now.segs.items).blocks }

@@ -1,4 +1,3 @@
-// A set links those that it keeps into its own table one by one, and drops each holder that matches one of its chain.
 ghost use Rattle.std.specs.Prelude.{ℕ, ◌+◌, ◌<◌, ◌≤◌, List, [], true, length};
 ghost use Rattle.vc_base.specs.Cells.{Blocks};
 ghost use Rattle.vc_dtlist.specs.Linked.{StandsFor};

@@ -1,4 +1,3 @@
-// In order of keys matches stand together: an ordered set drops each holder that matches the last one that it kept.
 ghost use Rattle.std.specs.Prelude.{◌≡◌, ℕ, ◌+◌, ◌<◌, ◌≤◌, List, [], length};
 ghost use Rattle.vc_base.specs.Cells.{Blocks, IsHolder};
 ghost use Rattle.vc_dtlist.specs.Linked.{IsList, StandsFor};

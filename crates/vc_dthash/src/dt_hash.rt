@@ -13,7 +13,7 @@ use vc_base::{Addr, Cells, Steps};
 use vc_dtdisc::DictDisc;
 use vc_dtlist::{DtList, found, neighbour, set_word};
 
-/// The most slots of a table.
+// The most slots of a table.
 const MOST_SLOTS: u32 = 2_097_152;
 
 /// A set or bag of holders in order of insertion, and its table: a block of 8 bytes for each slot, or `Addr::NONE` with

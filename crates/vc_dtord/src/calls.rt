@@ -1,4 +1,3 @@
-// The calls that write links, where the cells are lent as nodes.
 ghost use Rattle.std.specs.Prelude.{◌≡◌, ℕ, ◌+◌, ◌≤◌, List, ◌∷◌, length};
 ghost use Rattle.vc_base.specs.Holders.{without};
 ghost use Rattle.vc_dtdisc.specs.Rules.{Rules};

@@ -4,12 +4,12 @@ use vc_base::{Addr, Cells, Steps};
 use vc_dtdisc::DictDisc;
 use vc_splay::Guide;
 
-/// Seeks the holders whose objects have this key.
+// Seeks the holders whose objects have this key.
 #[derive(Drop)]
 pub(crate) struct ByKey<'k, D: DictDisc> {
-    /// The kind, which orders keys.
+    // The kind, which orders keys.
     pub(crate) kind: &'k D,
-    /// The key.
+    // The key.
     pub(crate) key: &'k [u8],
 }
 
@@ -29,10 +29,10 @@ impl<'a, 'k, C: Cells, D: DictDisc> Guide<Holders<'a, C>> for ByKey<'k, D> {
         stands_to-stays (D.rules g.kind.now) (C.blocks a.cells.now) (C.blocks b.cells.now) g.key.now n h.3 };
 }
 
-/// Seeks the holders whose objects have the key of the one at the mark.
+// Seeks the holders whose objects have the key of the one at the mark.
 #[derive(Drop)]
 pub(crate) struct ByMark<'k, D: DictDisc> {
-    /// The kind, which orders keys.
+    // The kind, which orders keys.
     pub(crate) kind: &'k D,
 }
 

@@ -2,10 +2,10 @@ use crate::words::link_at;
 use vc_base::Cells;
 use vc_splay::Links;
 
-/// The holders in cells that are lent for reading, as a store of nodes.
+// The holders in cells that are lent for reading, as a store of nodes.
 #[derive(Drop)]
 pub(crate) struct Seen<'a, C: Cells> {
-    /// The cells.
+    // The cells.
     pub(crate) cells: &'a C,
 }
 

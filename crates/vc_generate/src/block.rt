@@ -1,4 +1,3 @@
-// The command of a word on the blocks.
 ghost use Rattle.std.specs.Prelude.{◌≡◌, ℕ, ◌+◌, ◌/◌, ◌%◌, ◌≤◌, ◌++◌, codes, decimal, length};
 ghost use Rattle.vc_generate.specs.Generated.{block_command, is_resize, is_taken, place_in_word, taken_after};
 

@@ -1,4 +1,3 @@
-// The commands before and behind those of the words.
 ghost use Rattle.std.specs.Prelude.{◌≡◌, ◌+◌, ◌<◌, ◌∷◌, codes, drop, IfSome};
 ghost use Rattle.vc_generate.specs.Generated.{closing, opening};
 ghost use Rattle.vc_generate.specs.Next.{IsNext};

@@ -1,4 +1,3 @@
-// The command of a word on the dictionary.
 ghost use Rattle.std.specs.Prelude.{◌≡◌, ◌/◌, ◌%◌, IfOk};
 ghost use Rattle.vc_generate.specs.Generated.{object_command, generated_object};
 

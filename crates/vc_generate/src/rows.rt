@@ -1,4 +1,3 @@
-// Rows and laws of generated commands. The functions have no code.
 ghost use Rattle.std.specs.Prelude.{◌≡◌, ℕ, ◌+◌, [], ◌∷◌, true, false, Some, None, codes, length};
 ghost use Rattle.std.specs.List.{AllByRecursion};
 ghost use Rattle.vc_base.specs.declared.dict_method.DictMethod.TheVariants.{DtOset};

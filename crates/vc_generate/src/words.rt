@@ -1,4 +1,3 @@
-// The words of a seed.
 ghost use Rattle.std.specs.Prelude.{◌≡◌, ◌∷◌, drop};
 ghost use Rattle.vc_generate.specs.Next.{IsNext};
 ghost use Rattle.vc_generate.specs.Words.{generated_words};

@@ -1,4 +1,3 @@
-// Unlabelled blocks of a best region.
 ghost use Rattle.std.specs.Prelude.{IsSome};
 ghost use Rattle.vc_model.specs.Discipline.{HasOut};
 ghost use Rattle.vc_seg.specs.OneBlock.{IsSize};

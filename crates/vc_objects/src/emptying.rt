@@ -1,4 +1,3 @@
-// Emptying a dictionary, and ending it.
 ghost use Rattle.std.specs.Prelude.{◌≡◌, [], length};
 ghost use Rattle.vc_best.specs.Cells.{cells_in, rest_in};
 ghost use Rattle.vc_best.specs.Parts.{disc_in};

@@ -1,4 +1,3 @@
-// The object that is found. The call changes no dictionary.
 ghost use Rattle.std.specs.Prelude.{◌≡◌, ◌+◌, ◌≤◌, option_map};
 ghost use Rattle.vc_dict.specs.Listed.{holders_of};
 ghost use Rattle.vc_dict.specs.Stands.{compares_by};

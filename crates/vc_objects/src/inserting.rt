@@ -1,4 +1,3 @@
-// Putting objects into a dictionary.
 ghost use Rattle.std.specs.Prelude.{◌≡◌, ◌+◌, ◌≤◌, None, OnOk, length};
 ghost use Rattle.vc_best.specs.Parts.{disc_in};
 ghost use Rattle.vc_objects.specs.Insert.{slots_wanted};

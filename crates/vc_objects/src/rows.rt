@@ -1,4 +1,3 @@
-// Worked rows of what is put, found, taken out and turned.
 ghost use Rattle.std.specs.Prelude.{◌≡◌, ◌∷◌, [], None, Some, false, true, replicate};
 ghost use Rattle.vc_model.specs.Outcome as model;
 ghost use Rattle.vc_model.specs.Outcome.{Done, done_as};

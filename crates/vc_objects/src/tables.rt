@@ -1,4 +1,3 @@
-// The tables of sets and bags.
 ghost use Rattle.std.specs.Prelude.{◌≡◌, ◌≢◌, ℕ, Some, IsSome, OnErr, OnOk};
 ghost use Rattle.vc_model.specs.Discipline.{HasOut};
 ghost use Rattle.vc_best.specs.Cells.{cells_in, rest_in};

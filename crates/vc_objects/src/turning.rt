@@ -1,4 +1,3 @@
-// Turning a dictionary to another method.
 ghost use Rattle.std.specs.Prelude.{◌≡◌, ◌≢◌, ℕ, List, Some, length};
 ghost use Rattle.vc_base.specs.Cells.{IsHolder};
 ghost use Rattle.vc_base.specs.Holders.{AreDistinct};

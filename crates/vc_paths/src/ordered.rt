@@ -264,7 +264,7 @@ fn matching<Y: Layers, L>(
     }
 }
 
-/// The place of the first visible object of an ordered dictionary; none where there is none.
+// The place of the first visible object of an ordered dictionary; none where there is none.
 pub(crate) fn first<Y: Layers, L>(
     paths: &Paths,
     layers: &Y,
@@ -277,7 +277,7 @@ pub(crate) fn first<Y: Layers, L>(
     least_behind(paths, layers, d, None, steps)
 }
 
-/// The place of the last visible object of an ordered dictionary; none where there is none.
+// The place of the last visible object of an ordered dictionary; none where there is none.
 pub(crate) fn last<Y: Layers, L>(
     paths: &Paths,
     layers: &Y,
@@ -290,7 +290,7 @@ pub(crate) fn last<Y: Layers, L>(
     greatest_before(paths, layers, d, None, steps)
 }
 
-/// The place behind that of a visible object of an ordered dictionary; none behind the last.
+// The place behind that of a visible object of an ordered dictionary; none behind the last.
 pub(crate) fn walk_next<Y: Layers, L>(
     paths: &Paths,
     layers: &Y,
@@ -309,7 +309,7 @@ pub(crate) fn walk_next<Y: Layers, L>(
     }
 }
 
-/// The place before that of a visible object of an ordered dictionary; none before the first.
+// The place before that of a visible object of an ordered dictionary; none before the first.
 pub(crate) fn walk_prev<Y: Layers, L>(
     paths: &Paths,
     layers: &Y,

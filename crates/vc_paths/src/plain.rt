@@ -1,4 +1,3 @@
-// What is found through view paths where the method is not ordered.
 ghost use Rattle.std.specs.Prelude.{◌≡◌, ℕ, false, List, Some, IsSome, option_map};
 ghost use Rattle.std.specs.List.{flat_map};
 ghost use Rattle.vc_base.specs.Address.{number_of};
@@ -203,7 +202,7 @@ fn last_above<Y: Layers, L>(
     best
 }
 
-/// The first object that is seen through a dictionary.
+// The first object that is seen through a dictionary.
 pub(crate) fn first<Y: Layers, L>(
     paths: &Paths,
     layers: &mut Y,
@@ -218,7 +217,7 @@ pub(crate) fn first<Y: Layers, L>(
     first_below(paths, layers, d, Some(d), steps)
 }
 
-/// The last object that is seen through a dictionary.
+// The last object that is seen through a dictionary.
 pub(crate) fn last<Y: Layers, L>(
     paths: &Paths,
     layers: &mut Y,
@@ -233,7 +232,7 @@ pub(crate) fn last<Y: Layers, L>(
     last_above(paths, layers, d, None, steps)
 }
 
-/// The object behind the one at a place, among those that are seen through a dictionary.
+// The object behind the one at a place, among those that are seen through a dictionary.
 pub(crate) fn walk_next<Y: Layers, L>(
     paths: &Paths,
     layers: &mut Y,
@@ -256,7 +255,7 @@ pub(crate) fn walk_next<Y: Layers, L>(
     }
 }
 
-/// The object before the one at a place, among those that are seen through a dictionary.
+// The object before the one at a place, among those that are seen through a dictionary.
 pub(crate) fn walk_prev<Y: Layers, L>(
     paths: &Paths,
     layers: &mut Y,

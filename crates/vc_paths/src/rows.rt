@@ -1,4 +1,3 @@
-// Worked rows of paths, of views and of what is seen.
 ghost use Rattle.std.specs.Prelude.{◌≡◌, ◌∷◌, [], None, Some, false, length, true};
 ghost use Rattle.vc_dtdisc.specs.Finding.{before_first, behind_last, first_of, last_of};
 ghost use Rattle.vc_paths.specs.Links.{are_too_long, is_too_long, is_viewed, links_with};

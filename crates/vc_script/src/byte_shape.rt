@@ -1,4 +1,3 @@
-// The words behind the first of commands that take bytes: all words are judged before memory is taken for the bytes.
 ghost use Rattle.std.specs.Prelude.{◌≡◌, [], ◌∷◌, Some, None, map, option_map, IfOk};
 ghost use Rattle.std.specs.Result.{result_map_both};
 ghost use Rattle.percent_encoding.specs.Percent.{percent_decode};

@@ -1,4 +1,3 @@
-// The forms of words.
 ghost use Rattle.std.specs.Prelude.{◌≡◌, IfOk};
 ghost use Rattle.std.specs.Result.{result_map_both};
 ghost use Rattle.percent_encoding.specs.Percent.{percent_decode};

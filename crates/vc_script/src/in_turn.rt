@@ -1,4 +1,3 @@
-// The values of words from the left: the first fault ends the reading.
 ghost use Rattle.std.specs.Prelude.{◌≡◌};
 ghost use Rattle.std.specs.Result.{result_map_both};
 ghost use Rattle.vc_script.specs.Table.{before, no_more};

@@ -1,4 +1,3 @@
-// Laws and rows of the cutting of lines. The functions have no code.
 ghost use Rattle.std.specs.Prelude.{◌≡◌, ℕ, ◌+◌, ◌<◌, List, ◌++◌, [], ◌∷◌, true, codes, length, replicate};
 ghost use Rattle.std.specs.List.{concat};
 ghost use Rattle.vc_script.specs.Cutting.{new_cutting};

@@ -1,4 +1,3 @@
-// The answer to a line, by the grammar.
 ghost use Rattle.std.specs.Prelude.{◌≡◌, ◌≢◌, ◌∷◌, map, IfOk};
 ghost use Rattle.vc_script.specs.Answer.{answer, answer_of, answer_to, is_comment};
 ghost use Rattle.vc_script.specs.Proper.{IsProperAnswer};

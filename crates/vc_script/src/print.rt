@@ -1,4 +1,3 @@
-// Replies as printed lines.
 ghost use Rattle.std.specs.Prelude.{◌≡◌, ◌++◌, IfOk};
 ghost use Rattle.vc_script.specs.Print.{line_of, printed};
 

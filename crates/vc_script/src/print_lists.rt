@@ -1,4 +1,3 @@
-// The items of lists, each with a space before it, put behind what stands in a line.
 ghost use Rattle.std.specs.Prelude.{◌≡◌, ◌++◌, OnOk};
 ghost use Rattle.std.specs.List.{flat_map};
 ghost use Rattle.vc_script.specs.Print.{block_text, damage_text, object_text, row_text, segment_text};

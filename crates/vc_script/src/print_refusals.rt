@@ -1,4 +1,3 @@
-// The printed line of a refusal, without its newline.
 ghost use Rattle.std.specs.Prelude.{◌≡◌, ◌++◌, codes, IfOk};
 ghost use Rattle.vc_script.specs.Print.{refusal_text};
 

@@ -1,4 +1,3 @@
-// Laws and rows of printed replies. The functions have no code.
 ghost use Rattle.std.specs.Prelude.{◌≡◌, ℕ, ◌++◌, List, [], ◌∷◌, Some, None, codes, map, pos, negsuc};
 ghost use Rattle.std.specs.List.{AllByRecursion};
 ghost use Rattle.vc_base.specs.declared.dict_method.DictMethod.TheVariants as dict;

@@ -1,4 +1,3 @@
-// Texts that stand in printed lines.
 ghost use Rattle.std.specs.Prelude.{◌≡◌};
 ghost use Rattle.vc_script.specs.Print.{label_text, method_word, viewed_text};
 

@@ -1,4 +1,3 @@
-// The words behind the first, by their number and then by their forms from the left.
 ghost use Rattle.std.specs.Prelude.{◌≡◌, [], ◌∷◌, Some, None, map};
 ghost use Rattle.std.specs.Result.{result_map_both};
 ghost use Rattle.vc_script.specs.Forms as form;

@@ -1,4 +1,3 @@
-// The commands by their first words, in the order of the table: those over regions.
 ghost use Rattle.std.specs.Prelude.{◌≡◌, map, drop, IfOk};
 ghost use Rattle.vc_script.specs.Answer.{command_in};
 ghost use Rattle.vc_script.specs.Table.{own_rows, table};

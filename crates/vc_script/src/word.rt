@@ -1,4 +1,3 @@
-// The words of a line, and tests of words.
 ghost use Rattle.std.specs.Prelude.{◌≡◌, ◌≤◌, length, map, true, IfOk};
 ghost use Rattle.std.specs.List.{list_all};
 ghost use Rattle.vc_script.specs.Words.{begins_with_byte, digits_value, is_blank, is_digit, is_escaped, is_letter, is_name, is_name_byte, is_number, words};

@@ -1,4 +1,3 @@
-// The numbers among the words.
 ghost use Rattle.std.specs.Prelude.{◌≡◌, option_map};
 ghost use Rattle.vc_words.specs.Words.{count_of, read_if_given, spelled};
 

@@ -1,4 +1,3 @@
-// The words, by the command that clap reads.
 ghost use Rattle.std.specs.Prelude.{◌≡◌, IfOk, false, map, string_bytes};
 ghost use Rattle.clap.specs.Words.{app_of, found_of, rows_of, rule_of};
 ghost use Rattle.vc_words.specs.Words.{asked, command, flag, has_flag, option, words_of};

@@ -1,4 +1,3 @@
-// Rows of the words, proved by computing, and a law. The functions have no code.
 ghost use Rattle.std.specs.Prelude.{◌≡◌, ◌≤◌, ℕ, List, [], ◌∷◌, Some, None, true, false, codes, IfSome};
 ghost use Rattle.vc_words.specs.Words.{words_of};
 

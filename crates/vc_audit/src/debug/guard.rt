@@ -13,7 +13,7 @@ use vc_seg::{BoxedDisc, SegDisc};
 // The byte that guards are made of.
 const GUARD: u8 = 0xA5;
 
-/// The address of the block with guards around the user's bytes at an address.
+// The address of the block with guards around the user's bytes at an address.
 pub(super) fn guarded_addr(a: Addr) -> Addr
     requires { 1 ≤ a.0 }
     ensures { result.0 ≡ a.0 - 1 }
@@ -21,14 +21,14 @@ pub(super) fn guarded_addr(a: Addr) -> Addr
     Addr(a.0 - 1)
 }
 
-/// The same for the address that a walk goes on from, which may be none.
+// The same for the address that a walk goes on from, which may be none.
 pub(super) fn guarded_after(after: Addr) -> Addr
     ensures { result.0 ≡ after.0 - 1 }
 {
     Addr(after.0.saturating_sub(1))
 }
 
-/// The address of the user's bytes in the block with guards at an address.
+// The address of the user's bytes in the block with guards at an address.
 pub(super) fn user_addr(a: Addr) -> Addr
     requires { (place_of a.0).1 + 33 ≤ 33554432 }
     ensures { result.0 ≡ a.0 + 1 }
@@ -36,7 +36,7 @@ pub(super) fn user_addr(a: Addr) -> Addr
     Addr(a.0 + 1)
 }
 
-/// Writes the back guard of a block.
+// Writes the back guard of a block.
 fn write_back_guard(best: &mut Best, at: Addr, size: u32)
     requires range { IsInBlock (blocks_in best.old) at.0 (32 + size) 16 }
     requires most { size ≤ 16777216 }
@@ -49,7 +49,7 @@ fn write_back_guard(best: &mut Best, at: Addr, size: u32)
     best.fill(at, 32 + size, 16, GUARD);
 }
 
-/// Writes both guards of a block.
+// Writes both guards of a block.
 pub(super) fn write_guards(best: &mut Best, at: Addr, size: u32)
     requires range { IsInBlock (blocks_in best.old) at.0 0 (size + 48) }
     requires most { size ≤ 16777216 }
@@ -62,7 +62,7 @@ pub(super) fn write_guards(best: &mut Best, at: Addr, size: u32)
     write_back_guard(best, at, size);
 }
 
-/// Writes zeros behind the user's bytes that are kept of a block, and the back guard.
+// Writes zeros behind the user's bytes that are kept of a block, and the back guard.
 pub(super) fn write_zeros(best: &mut Best, at: Addr, kept: u32, size: u32)
     requires range { IsInBlock (blocks_in best.old) at.0 0 (size + 48) }
     requires within { kept ≤ size }

@@ -5,7 +5,7 @@ use vc_base::{Addr, OutOfMemory};
 
 // A mark is the address of the user's bytes and the line.
 
-/// The line of the block at an address.
+// The line of the block at an address.
 pub(super) fn mark_line(marks: &[(u32, u32)], at: Addr) -> Option<u32>
     ensures { result ≡ line_at at.0 marks.now }
 {
@@ -17,7 +17,7 @@ pub(super) fn mark_line(marks: &[(u32, u32)], at: Addr) -> Option<u32>
     None
 }
 
-/// Drops the mark of the block at an address.
+// Drops the mark of the block at an address.
 pub(super) fn drop_mark(marks: &mut Vec<(u32, u32)>, at: Addr)
     ensures items { marks.new.items ≡ without_mark at.0 marks.old.items }
     ensures fewer { vec_len marks.new ≤ vec_len marks.old }
@@ -26,7 +26,7 @@ pub(super) fn drop_mark(marks: &mut Vec<(u32, u32)>, at: Addr)
     marks.retain(|mark| mark.0 != at.0);
 }
 
-/// Marks the block at an address with a line, in place of the mark that it has.
+// Marks the block at an address with a line, in place of the mark that it has.
 pub(super) fn put_mark(marks: &mut Vec<(u32, u32)>, at: Addr, line: u32) -> Result<(), OutOfMemory>
     ensures ok { OnOk result (marks.new.items ≡ with_mark at.0 line marks.old.items) }
     ensures err { OnErr result (marks.new.items ≡ marks.old.items) }
@@ -37,7 +37,7 @@ pub(super) fn put_mark(marks: &mut Vec<(u32, u32)>, at: Addr, line: u32) -> Resu
     Ok(())
 }
 
-/// A mark, moved to another address where it is that of a block.
+// A mark, moved to another address where it is that of a block.
 fn moved(mark: (u32, u32), from: Addr, to: Addr) -> (u32, u32)
     ensures { result ≡ moved_mark from.0 to.0 mark }
 {
@@ -47,7 +47,7 @@ fn moved(mark: (u32, u32), from: Addr, to: Addr) -> (u32, u32)
     mark
 }
 
-/// Moves the mark of a block to another address.
+// Moves the mark of a block to another address.
 pub(super) fn move_mark(marks: &mut Vec<(u32, u32)>, from: Addr, to: Addr)
     ensures { marks.new.items ≡ moved_marks from.0 to.0 marks.old.items }
 {
