@@ -1,19 +1,22 @@
 //! Runs a script over regions and the dictionaries in them, from standard input to standard output.
 #![tactic(auto)]
 
-ghost use Rattle.std.specs.Prelude.{◌≡◌, None, map, string_bytes, vec_len};
+ghost use Rattle.std.specs.Prelude.{◌≡◌, map, string_bytes, vec_len};
 ghost use Rattle.std.specs.Process.{exit_status};
 ghost use Rattle.vc_main.specs.Places.{shapes};
+ghost use Rattle.vc_script.specs.declared.tool.Tool.TheVariants.{Dtrun};
+ghost use Rattle.vc_session.specs.Promises.{EndsProgram, borrowed};
 ghost use Rattle.vc_session.specs.Status.{number};
-ghost use Rattle.vc_words.specs.Words as asked;
+ghost use Rattle.vc_session.specs.Streams.{streams};
+ghost use Rattle.vc_steps.specs.Moment.{moment_at_rest};
+ghost use Rattle.vc_words.specs.Words.{words_of};
 
 use std::alloc::Global;
-use std::io::{Stderr, Stdin, Stdout};
 use std::process::ExitCode;
-use vc_base::{StdSink, StdSource};
-use vc_dtdisc::BuiltIn;
+use vc_base::{Sink, Source, StdSink, StdSource};
+use vc_dtdisc::{BuiltIn, DictDisc};
 use vc_main::{budgeted, heap_at, kinds, words_of};
-use vc_seg::Shelf;
+use vc_seg::{BoxedDisc, SegDisc, Shelf};
 use vc_session::{Status, dtrun};
 
 // What the program ends with: the number of the status.
@@ -23,23 +26,25 @@ fn exit(status: Status) -> ExitCode
     ExitCode::from(status.number())
 }
 
-// Runs the tool over the disciplines of sixteen places, from standard input to standard output and error.
-fn run(
+// Runs the tool over the disciplines of sixteen places, and answers what the program ends with: the number of its status.
+fn run<S: Source, O: Sink, E: Sink>(
     alloc: Global,
     words: &[String],
     shelf: &mut Shelf,
     kinds: &mut Vec<BuiltIn>,
-    source: &mut StdSource<Stdin>,
-    out: &mut StdSink<Stdout>,
-    err: &mut StdSink<Stderr>,
-) -> Status
+    source: &mut S,
+    out: &mut O,
+    err: &mut E,
+) -> ExitCode
     requires places { vec_len shelf.old.slots ≡ 16 }
     requires kinds { map (λ kind. kind.shape) kinds.old.items ≡ shapes }
-    ensures refused_words { asked.words_of (map string_bytes words.now) ≡ None
-        → (source.new ≡ source.old) × (out.new ≡ out.old) }
-    ensures quiet { result ≡ Status.Ok → err.new ≡ err.old }
+    ensures { EndsProgram Dtrun (words_of (map string_bytes words.now)) (exit_status result)
+        (borrowed shelf.old kinds.old source.old out.old err.old)
+        (borrowed shelf.new kinds.new source.new out.new err.new)
+        (λ shelf kinds. moment_at_rest state ⟦<BuiltIn as DictDisc>⟧.rules ⟦<BuiltIn as DictDisc>⟧.gone shelf kinds.items)
+        (streams S.left S.failures O.written O.failures E.written E.failures) }
 {
-    dtrun(alloc, words, shelf, kinds, source, out, err)
+    exit(dtrun(alloc, words, shelf, kinds, source, out, err))
 }
 
 // Disciplines 1 to 12 never refuse a segment, and 13 to 16 have a budget. With no memory for them nothing is read or
@@ -72,7 +77,7 @@ fn main(rt: HostRuntime) -> ExitCode {
     let mut source = StdSource::new(rt.stdin());
     let mut out = StdSink::new(rt.stdout());
     let mut err = StdSink::new(rt.stderr());
-    exit(run(
+    run(
         alloc,
         words.as_slice(),
         &mut shelf,
@@ -80,5 +85,5 @@ fn main(rt: HostRuntime) -> ExitCode {
         &mut source,
         &mut out,
         &mut err,
-    ))
+    )
 }

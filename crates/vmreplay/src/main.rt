@@ -1,17 +1,20 @@
 //! Runs a script over regions, from standard input to standard output.
 #![tactic(auto)]
 
-ghost use Rattle.std.specs.Prelude.{◌≡◌, None, map, string_bytes, vec_len};
+ghost use Rattle.std.specs.Prelude.{◌≡◌, [], map, string_bytes, vec_len};
 ghost use Rattle.std.specs.Process.{exit_status};
+ghost use Rattle.vc_script.specs.declared.tool.Tool.TheVariants.{Vmreplay};
+ghost use Rattle.vc_session.specs.Promises.{EndsProgram, borrowed};
 ghost use Rattle.vc_session.specs.Status.{number};
-ghost use Rattle.vc_words.specs.Words as asked;
+ghost use Rattle.vc_session.specs.Streams.{streams};
+ghost use Rattle.vc_steps.specs.Moment.{moment_at_rest_by};
+ghost use Rattle.vc_words.specs.Words.{words_of};
 
 use std::alloc::Global;
-use std::io::{Stderr, Stdin, Stdout};
 use std::process::ExitCode;
-use vc_base::{StdSink, StdSource};
+use vc_base::{Sink, Source, StdSink, StdSource};
 use vc_main::{budgeted, heap_at, words_of};
-use vc_seg::Shelf;
+use vc_seg::{BoxedDisc, SegDisc, Shelf};
 use vc_session::{Status, replay};
 
 // What the program ends with: the number of the status.
@@ -21,21 +24,23 @@ fn exit(status: Status) -> ExitCode
     ExitCode::from(status.number())
 }
 
-// Runs the tool over the disciplines of sixteen places, from standard input to standard output and error.
-fn run(
+// Runs the tool over the disciplines of sixteen places, and answers what the program ends with: the number of its status.
+fn run<S: Source, O: Sink, E: Sink>(
     alloc: Global,
     words: &[String],
     shelf: &mut Shelf,
-    source: &mut StdSource<Stdin>,
-    out: &mut StdSink<Stdout>,
-    err: &mut StdSink<Stderr>,
-) -> Status
+    source: &mut S,
+    out: &mut O,
+    err: &mut E,
+) -> ExitCode
     requires places { vec_len shelf.old.slots ≡ 16 }
-    ensures refused_words { asked.words_of (map string_bytes words.now) ≡ None
-        → (source.new ≡ source.old) × (out.new ≡ out.old) }
-    ensures quiet { result ≡ Status.Ok → err.new ≡ err.old }
+    ensures { EndsProgram Vmreplay (words_of (map string_bytes words.now)) (exit_status result)
+        (borrowed shelf.old (tt {0}) source.old out.old err.old)
+        (borrowed shelf.new (tt {0}) source.new out.new err.new)
+        (λ shelf _. moment_at_rest_by state [] [] shelf)
+        (streams S.left S.failures O.written O.failures E.written E.failures) }
 {
-    replay(alloc, words, shelf, source, out, err)
+    exit(replay(alloc, words, shelf, source, out, err))
 }
 
 // Disciplines 1 to 12 never refuse a segment, and 13 to 16 have a budget. With no memory for them nothing is read or
@@ -65,12 +70,12 @@ fn main(rt: HostRuntime) -> ExitCode {
     let mut source = StdSource::new(rt.stdin());
     let mut out = StdSink::new(rt.stdout());
     let mut err = StdSink::new(rt.stderr());
-    exit(run(
+    run(
         alloc,
         words.as_slice(),
         &mut shelf,
         &mut source,
         &mut out,
         &mut err,
-    ))
+    )
 }
