@@ -1,3 +1,4 @@
 pub mod ToyLemmas
 pub mod Stages
 pub mod Known
+pub mod Lents

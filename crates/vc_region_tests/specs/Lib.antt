@@ -1,3 +1,4 @@
 pub mod Toy
 pub mod Busy
 pub mod Two
+pub mod Lent

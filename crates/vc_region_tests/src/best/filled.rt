@@ -1,12 +1,16 @@
-use crate::best::calls::{Counted, free, resize, take, with_gaps};
+ghost use Rattle.vc_region_tests.specs.Lent.{IsLent};
+
+use crate::best::calls::{Counted, free, opened, resize, take, with_gaps};
 use std::process::Abort;
 use std::test::Fail;
 use vc_base::Steps;
 use vc_best::Best;
-use vc_seg::HeapDisc;
+use vc_seg::{BoxedDisc, HeapDisc, SegDisc};
 
 // Fills gaps, resizes in place and frees.
-fn fill(rt: &impl Abort, best: &mut Best, steps: &mut Steps<Counted>) {
+fn fill(rt: &impl Abort, best: &mut Best, steps: &mut Steps<Counted>)
+    requires { IsLent state best.old }
+{
     take(rt, best, steps, 112, 32, (1, 64));
     resize(rt, best, steps, (1, 192), 272);
     resize(rt, best, steps, (1, 192), 16);
@@ -25,9 +29,9 @@ fn fill(rt: &impl Abort, best: &mut Best, steps: &mut Steps<Counted>) {
 fn gaps_alone(rt: HostRuntime) -> Result<(), Fail> {
     let disc = Box::new(rt.alloc(), HeapDisc::new(4096))?;
     let mut steps: Steps<Counted> = Steps::new(rt.alloc());
-    match Best::open(rt.alloc(), disc) {
-        Ok(mut best) => with_gaps(&rt, &mut best, &mut steps),
-        Err(_) => assert!(rt; false),
+    match opened(&rt, rt.alloc(), disc) {
+        Some(mut best) => with_gaps(&rt, &mut best, &mut steps),
+        None => assert!(rt; false),
     }
     Ok(())
 }
@@ -36,12 +40,12 @@ fn gaps_alone(rt: HostRuntime) -> Result<(), Fail> {
 fn gaps_filled(rt: HostRuntime) -> Result<(), Fail> {
     let disc = Box::new(rt.alloc(), HeapDisc::new(4096))?;
     let mut steps: Steps<Counted> = Steps::new(rt.alloc());
-    match Best::open(rt.alloc(), disc) {
-        Ok(mut best) => {
+    match opened(&rt, rt.alloc(), disc) {
+        Some(mut best) => {
             with_gaps(&rt, &mut best, &mut steps);
             fill(&rt, &mut best, &mut steps);
         }
-        Err(_) => assert!(rt; false),
+        None => assert!(rt; false),
     }
     Ok(())
 }

@@ -1,9 +1,11 @@
-use crate::best::calls::{Counted, free};
+ghost use Rattle.vc_region_tests.specs.Lent.{IsLent};
+
+use crate::best::calls::{Counted, free, opened};
 use std::process::Abort;
 use std::test::Fail;
 use vc_base::{Addr, OutOfMemory, Steps};
 use vc_best::Best;
-use vc_seg::{HeapDisc, Stat};
+use vc_seg::{BoxedDisc, HeapDisc, SegDisc, Stat};
 
 // So many blocks of 16 bytes, whose addresses are put behind those before.
 fn take_all(
@@ -12,7 +14,10 @@ fn take_all(
     steps: &mut Steps<Counted>,
     count: u32,
     blocks: &mut Vec<Addr>,
-) -> Result<(), OutOfMemory> {
+) -> Result<(), OutOfMemory>
+    requires { IsLent state best.old }
+    ensures { IsLent state best.new }
+{
     for _ in 0..count {
         match best.alloc(16, 32, 0, steps) {
             Ok(a) => blocks.push(a)?,
@@ -23,7 +28,10 @@ fn take_all(
 }
 
 // Frees each second block, in mixed order: the one with number 2 × ((j × 333,333) mod 500,000) for each j from 0 on.
-fn free_half(rt: &impl Abort, best: &mut Best, steps: &mut Steps<Counted>, blocks: &Vec<Addr>) {
+fn free_half(rt: &impl Abort, best: &mut Best, steps: &mut Steps<Counted>, blocks: &Vec<Addr>)
+    requires { IsLent state best.old }
+    ensures { IsLent state best.new }
+{
     for j in 0..500_000u64 {
         let number = 2 * (j * 333_333 % 500_000);
         match blocks.get(number as usize) {
@@ -40,8 +48,8 @@ fn a_million_blocks(rt: HostRuntime) -> Result<(), Fail> {
     let disc = Box::new(rt.alloc(), HeapDisc::new(65_536))?;
     let mut steps: Steps<Counted> = Steps::new(rt.alloc());
     let mut blocks = Vec::new(rt.alloc());
-    match Best::open(rt.alloc(), disc) {
-        Ok(mut best) => {
+    match opened(&rt, rt.alloc(), disc) {
+        Some(mut best) => {
             take_all(&rt, &mut best, &mut steps, 1_000_000, &mut blocks)?;
             free_half(&rt, &mut best, &mut steps, &blocks);
             take_all(&rt, &mut best, &mut steps, 500_000, &mut blocks)?;
@@ -59,7 +67,7 @@ fn a_million_blocks(rt: HostRuntime) -> Result<(), Fail> {
                 }
             );
         }
-        Err(_) => assert!(rt; false),
+        None => assert!(rt; false),
     }
     Ok(())
 }

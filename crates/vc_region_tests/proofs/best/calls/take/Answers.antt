@@ -1,0 +1,5 @@
+use Rattle.vc_region_tests.proofs.Lents.{lent-served}
+use Rattle.vc_region_tests.proofs.best.calls.take.Goals as goal
+
+pub returns-in-Ok : goal.returns-in-Ok
+returns-in-Ok g c = lent-served _ _ _ _ _ c.requires.lent c.in-Ok.ensures.disc

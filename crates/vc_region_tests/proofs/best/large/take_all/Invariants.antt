@@ -1,0 +1,6 @@
+use Rattle.vc_model.specs.Discipline.{Discipline}
+use Rattle.vc_region_tests.specs.Lent.{IsLent}
+use Rattle.vc_region_tests.proofs.best.large.take_all.Given as goal
+
+abbrev pub invariant-loop : goal.invariant-loop
+invariant-loop g l = IsLent (λ p. (g.dyn-1.0.entry p.0).1.state p.1) l.best
