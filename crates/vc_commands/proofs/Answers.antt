@@ -3,8 +3,8 @@ use Rattle.std.proofs.Common.{◌≡◌, ◌≢◌, ℕ, Bool, List, ◌++◌, S
 use Rattle.std.proofs.lemmas.Option.{same_Some, none-some}
 use Rattle.vc_base.specs.declared.addr.Addr.{Addr}
 use Rattle.vc_base.specs.Cells.{Blocks}
-use Rattle.vc_model.proofs.Keeping.{Kept-equal}
-use Rattle.vc_model.specs.Discipline.{Discipline, HasOut, Kept, Served, TookBack, Unserved}
+use Rattle.vc_model.specs.Discipline.{Discipline, HasOut, Kept, NoneRefused, Unserved}
+use Rattle.vc_model.proofs.Keeping.{Kept-equal, Kept-same, NoneRefused-served}
 use Rattle.vc_model.specs.Outcome as model
 use Rattle.vc_model.specs.Outcome.{Fault, Outcome, Put, Refused}
 use Rattle.vc_region.specs.Region.{Region, segments_of}
@@ -58,16 +58,10 @@ pub changed-alike : (h : Held) (disc : Discipline) (region : Region ℕ) (cells 
 changed-alike h disc region cells labels same has alike segments names =
     changed-by h disc region cells labels same has (Kept-equal h.disc disc alike) (out-same h.disc disc (segments_of h.region) (segments_of region) alike segments) names
 
-served-kept : (d e : Discipline) (s s' : List (ℕ × ℕ)) (n : ℕ) → Served d e s s' n → Kept d e
-served-kept d e s s' n served = record { terms = served.terms; faults = omega (arith, served.faults) }
-
-pub took-kept : (d e : Discipline) (s s' : List (ℕ × ℕ)) → TookBack d e s s' → Kept d e
-took-kept d e s s' took = record { terms = took.terms; faults = omega (arith, took.faults) }
-
 pub asks-kept : (result : Result Addr RegionFault) (d e : Discipline) (s s' : List (ℕ × ℕ)) (n : ℕ) → Asks result d e s s' n → Kept d e
-asks-kept (Ok a) d e s s' n asks = served-kept d e s s' n asks
+asks-kept (Ok a) d e s s' n asks = asks.kept
 asks-kept (Err code.NoSegment) d e s s' n asks = asks.kept
-asks-kept (Err fault) d e s s' n asks = served-kept d e s s' n asks
+asks-kept (Err fault) d e s s' n asks = asks.kept
 
 module _ (call : Bool → Outcome (Put (Region ℕ))) (r r' : Region ℕ) (d e : Discipline) (n : ℕ) where
   pub asks-out : (result : Result Addr RegionFault) → Answers call result r r' → Asks result d e (segments_of r) (segments_of r') n → KeepsOut d e (segments_of r) (segments_of r')
@@ -147,13 +141,13 @@ told-no_segment fault (Ok told) tells is = fault-no_segment fault told tells (ap
 told-no_segment fault (Err e) tells is = absurd (subst IsAn (sym is) tt)
 
 -- where no refused segment is told, none was refused
-pub told-served : {E : Type 0} (fault : RegionFault) (result : Result Reply E) (d e : Discipline) (s s' : List (ℕ × ℕ)) (n : ℕ) → TellsFault fault result → Asks (Err fault) d e s s' n → result ≢ Ok (reply.Refused why.NoSegment) → e.faults ≡ d.faults
+pub told-served : {E : Type 0} (fault : RegionFault) (result : Result Reply E) (d e : Discipline) (s s' : List (ℕ × ℕ)) (n : ℕ) → TellsFault fault result → Asks (Err fault) d e s s' n → result ≢ Ok (reply.Refused why.NoSegment) → NoneRefused d e
 told-served code.NoSegment (Ok told) d e s s' n tells asks other = absurd (other (ap (λ q. Ok q) (sym (same_Some (reply.Refused why.NoSegment) told tells))))
 told-served code.NoSegment (Err x) d e s s' n tells asks other = absurd (none-some model.NoSegment (sym tells))
-told-served fault result d e s s' n tells asks other = asks.faults
+told-served fault result d e s s' n tells asks other = NoneRefused-served d e s s' n asks
 
-pub put-served : {E : Type 0} (tag : ℕ) (x : List ℕ) (put : Result Addr RegionFault) (old new : Labels) (result : Result Reply E) (d e : Discipline) (s s' : List (ℕ × ℕ)) (n : ℕ) → NamesPut tag x put old new result → Asks put d e s s' n → result ≢ Ok (reply.Refused why.NoSegment) → e.faults ≡ d.faults
-put-served tag x (Ok a) old new result d e s s' n named asks other = asks.faults
+pub put-served : {E : Type 0} (tag : ℕ) (x : List ℕ) (put : Result Addr RegionFault) (old new : Labels) (result : Result Reply E) (d e : Discipline) (s s' : List (ℕ × ℕ)) (n : ℕ) → NamesPut tag x put old new result → Asks put d e s s' n → result ≢ Ok (reply.Refused why.NoSegment) → NoneRefused d e
+put-served tag x (Ok a) old new result d e s s' n named asks other = NoneRefused-served d e s s' n asks
 put-served tag x (Err fault) old new result d e s s' n named asks other = told-served fault result d e s s' n named.0 asks other
 
 -- what holds of an answer under each name of a region
@@ -173,7 +167,7 @@ gives-unchanged h c w e = record { region_after = ap (λ (k : Changed). k.region
 -- a region whose discipline and lists stay
 pub change-same : (h : Held) (labels : Labels) → HasOut h.disc (segments_of h.region) → IsNamed h.region labels → IsChange h (record { name = h.name; place = h.place; disc = h.disc; region = h.region; cells = h.cells; labels = labels })
 change-same h labels has names =
-    changed-by h h.disc h.region h.cells labels refl has (Kept-equal h.disc h.disc refl) (out-same h.disc h.disc (segments_of h.region) (segments_of h.region) refl refl) names
+    changed-by h h.disc h.region h.cells labels refl has (Kept-same h.disc) (out-same h.disc h.disc (segments_of h.region) (segments_of h.region) refl refl) names
 
 -- what is told leaves the region
 pub gives-changed : (h : Home) (region : Region Label) (c : Changed) (told : Reply) → c ≡ changed_to h region told → GivesRegion c (region, h.kept) told

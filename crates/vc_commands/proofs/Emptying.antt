@@ -6,6 +6,7 @@ use Rattle.std.proofs.lemmas.List.{length-append, take-append-le, take_all}
 use Rattle.slab.specs.Slab.{slab_len}
 use Rattle.vc_base.specs.Cells.{Blocks}
 use Rattle.vc_base.proofs.Texts.{bytes_eq-swapped}
+use Rattle.vc_model.proofs.Keeping.{Kept-equal}
 use Rattle.vc_model.specs.Discipline.{Discipline, HasOut, TookBack}
 use Rattle.vc_region.specs.Region.{Region, blocks_of, keeps_freed, region_clear, region_with_labels, segments_of}
 use Rattle.vc_model.specs.Sound.{HaveOwnPlaces}
@@ -34,7 +35,7 @@ change-same h disc region cells labels same_cells same segments lent names =
     record {
       name = refl;
       place = refl;
-      kept = record { terms = ap (λ (d : Discipline). d.terms) same; faults = omega (arith, ap (λ (d : Discipline). d.faults) same) };
+      kept = Kept-equal h.disc disc same;
       lent = (lent.0, ap (λ (d : Discipline). d.out) same ∙ (lent.1 ∙ ap (λ ss. lent.0 ++ ss) (sym segments)));
       out = ap (λ (d : Discipline). take (length d.out - length (segments_of region)) d.out) same ∙ ap (λ ss. take (length h.disc.out - length ss) h.disc.out) segments;
       names = names;
@@ -55,7 +56,7 @@ change-back h disc region cells labels same_cells took lent names =
     record {
       name = refl;
       place = refl;
-      kept = record { terms = took.terms; faults = omega (arith, took.faults) };
+      kept = took.kept;
       lent = (lent.0, now);
       out =
           ap (λ o. take (length o - length (segments_of region)) o) now

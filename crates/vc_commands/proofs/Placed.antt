@@ -1,6 +1,7 @@
 -- A command that puts a new block under a name in an open region.
 use Rattle.std.proofs.Common.{◌≡◌, ℕ, ◌≤◌, Bool, false, List, [], Option, Some, None, Result, Ok, refl}
 use Rattle.std.specs.Prelude.{IfSome}
+use Rattle.vc_model.proofs.Keeping.{NoneRefused-same}
 use Rattle.vc_base.specs.declared.addr.Addr.{Addr}
 use Rattle.vc_model.specs.Discipline.{Discipline, HasOut}
 use Rattle.vc_model.specs.Outcome.{Outcome, Put, outcome_as}
@@ -40,7 +41,7 @@ refused-runs meaning entry labels x words called asked refusal names other is = 
       gives-unchanged (home_of h) (put_new (home_of h) x (words (home_of h)) outcome) refusal (put_new-refused h x (words (home_of h)) outcome refusal names (is r));
   err = tt;
   unserved = λ e. absurd (none-no_segment refusal (refused-other labels x (words (home_of (held_of meaning [] entry labels))) refusal (other []) (is [])) e);
-  faults = λ _. refl;
+  served = λ _. NoneRefused-same _;
 }
 
 -- room for its name changes nothing else
@@ -104,7 +105,7 @@ module _ {I : Type 0} {V : I → Type 0} {E : Type 0} {meaning : (x : I) × V x 
     step = if_ok-all result _ (λ r. step-put (held r) x (words (home_of (held r))) (putting r) (rest_in is) new put result p.named p.seen.answer);
     err = err-put (held []) x (words (home_of (held []))) (putting []) (rest_in is) new put result p.named p.seen.answer;
     unserved = λ e. unserved-put (held []) x (words (home_of (held []))) (putting []) (rest_in is) new disc need size put result p.named asked e;
-    faults = λ other. put-served tag x put mid new result _ _ _ _ _ p.named p.asks other;
+    served = λ other. put-served tag x put mid new result _ _ _ _ _ p.named p.asks other;
   }
 
   pub placed-change : HasOut (disc_in meaning entry.region) (segments_of (rest_in entry.region)) → ChangesRegion meaning entry labels (record entry { region = is }) new

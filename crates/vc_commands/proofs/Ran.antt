@@ -2,10 +2,11 @@
 use Rattle.std.proofs.Common.{◌≡◌, ℕ, List, Bool, true, false, Option, None, refl, sym, ap, ◌∙◌, subst, inl}
 use Rattle.std.specs.Prelude.{IfOk, OnErr, Result, Ok, Err, length}
 use Rattle.std.proofs.lemmas.Bool.{false≢true}
+use Rattle.vc_model.proofs.Keeping.{NoneRefused-equal}
 use Rattle.vc_model.specs.Layout.{Layout}
 use Rattle.vc_base.specs.declared.dict_method.DictMethod.{DictMethod}
 use Rattle.vc_base.specs.declared.dict_method.DictMethod.TheVariants.{DtSet, DtBag, DtOset, DtObag, DtList, DtStack, DtQueue}
-use Rattle.vc_model.specs.Discipline.{Discipline}
+use Rattle.vc_model.specs.Discipline.{Discipline, NoneRefused}
 use Rattle.vc_base.specs.Methods.{is_list}
 use Rattle.vc_dict.specs.Methods.{wanted_by}
 use Rattle.vc_dtdisc.specs.Rules.{Gone}
@@ -33,14 +34,14 @@ table-needed e = cc
 object-needed : ForObject ≡ NoNeed → ⊥
 object-needed e = cc
 
-pub unneeded : (slots : Option ℕ) (object : List ℕ) (reply : Reply) (old new : Discipline) → new.faults ≡ old.faults → need_shown reply ≡ NoNeed → LacksFor slots object reply old new
+pub unneeded : (slots : Option ℕ) (object : List ℕ) (reply : Reply) (old new : Discipline) → NoneRefused old new → need_shown reply ≡ NoNeed → LacksFor slots object reply old new
 unneeded slots object (Refused NoSegmentForTable) old new same h = absurd (table-needed h)
 unneeded slots object (Refused NoSegmentForObject) old new same h = absurd (object-needed h)
 unneeded slots object reply old new same h = same
 
 pub unasked : {E : Type 0} (result : Result Reply E) (slots : Option ℕ) (object : List ℕ) (old new : Discipline) → new ≡ old → IfOk result (λ reply. need_shown reply ≡ NoNeed) → AskedFor result slots object old new
-unasked (Ok reply) slots object old new same h = unneeded slots object reply old new (ap (λ (d : Discipline). d.faults) same) h
-unasked (Err why) slots object old new same h = ap (λ (d : Discipline). d.faults) same
+unasked (Ok reply) slots object old new same h = unneeded slots object reply old new (NoneRefused-equal old new same) h
+unasked (Err why) slots object old new same h = NoneRefused-equal old new same
 
 -- a command that asks, and one that doesn't
 pub asking : {A : Type 0} (command : Command) → asks command ≡ true → asks command ≡ false → A
@@ -84,7 +85,7 @@ by-method true s bytes object reply r d gone gone' old new is g h =
     subst (λ o. LacksFor o object reply old new) (no-table s.dict.method (slots_of s.dict.table) (length s.dict.objects) 1 is) h
 by-method false s bytes object reply r d gone gone' old new is g h =
     let answer : Refused WrongMethod ≡ reply = (rw is at g.reply) in
-    let same : new.faults ≡ old.faults = subst (λ x. LacksFor (slots_wanted s.dict) object x old new) (sym answer) h in
+    let same : NoneRefused old new = subst (λ x. LacksFor (slots_wanted s.dict) object x old new) (sym answer) h in
     subst (λ x. LacksFor None object x old new) answer same
 
 pub append-asked : {E : Type 0} (result : Result Reply E) (s : Seat ℕ) (bytes object : List ℕ) (r : Layout ℕ) (d : Dictionary) (gone gone' : Gone) (old new : Discipline)

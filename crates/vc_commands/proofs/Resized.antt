@@ -1,16 +1,15 @@
 -- A resize of the block of a name in an open region, by what it leaves but for the bytes in cells.
-use Rattle.std.proofs.Common.{◌≡◌, ℕ, Bool, List, Result, IfOk, option_map}
+use Rattle.std.proofs.Common.{◌≡◌, ℕ, Bool, List, Result, IfOk}
 use Rattle.vc_base.specs.declared.addr.Addr.{Addr}
 use Rattle.vc_model.specs.Addr.{place_of}
 use Rattle.vc_model.specs.Discipline.{Discipline, HasOut}
-use Rattle.vc_model.specs.Layout.{without_block}
-use Rattle.vc_model.specs.Touch.{find_block}
 use Rattle.vc_region.specs.Cells.{cells_in, rest_in}
 use Rattle.vc_region.specs.Parts.{disc_in, region_of}
 use Rattle.vc_region.specs.Region.{blocks_of, region_need, region_resize, segments_of}
 use Rattle.vc_region.specs.declared.region.Region.{Region as Open}
 use Rattle.vc_region.proofs.Sound.{own_places}
 use Rattle.vc_seg.specs.Answer.{Answers, Asks}
+use Rattle.vc_seg.specs.OneBlock.{IsBlockKept}
 use Rattle.vc_seg.specs.declared.fault.RegionFault.{RegionFault}
 use Rattle.vc_commands.specs.Held.{Held, IsChange, IsNamed}
 use Rattle.vc_commands.specs.declared.region.labels.Labels.{Labels}
@@ -31,12 +30,11 @@ module _ {I : Type 0} {V : I → Type 0} (meaning : (x : I) × V x → Disciplin
   pub record Resizes : Type 0 where
     pub answer : Answers (region_resize disc.terms (region_of was) (place_of addr.0) size may_move) result (region_of was) (region_of is)
     pub asks : Asks result disc (disc_in meaning is) (segments_of (region_of was)) (segments_of (region_of is)) (region_need disc.terms (region_of was) size 32)
-    pub there : IfOk result (λ to. option_map (λ b. b.label) (find_block (place_of to.0) (blocks_of (region_of is))) ≡ option_map (λ b. b.label) (find_block (place_of addr.0) (blocks_of (region_of was))))
-    pub others : IfOk result (λ to. without_block (place_of to.0) (blocks_of (region_of is)) ≡ without_block (place_of addr.0) (blocks_of (region_of was)))
+    pub kept : IfOk result (λ to. IsBlockKept addr.0 to.0 (blocks_of (region_of was)) (blocks_of (region_of is)))
 
   module _ (resizes : Resizes) where
     pub seen : SeenMoved (region_of was) addr.0 b.block b.found b.first disc.terms size may_move result (region_of is)
-    seen = seen-resize (region_of was) addr.0 b.block b.found b.first disc.terms size may_move result (region_of is) resizes.answer resizes.there resizes.others (own_places was) (own_places is)
+    seen = seen-resize (region_of was) addr.0 b.block b.found b.first disc.terms size may_move result (region_of is) resizes.answer resizes.kept (own_places was) (own_places is)
 
     pub asks : Asks result disc (disc_in meaning is) (segments_of (rest_in was)) (segments_of (rest_in is)) need
     asks = seen-asks result disc (disc_in meaning is) (region_of was) (region_of is) size 32 resizes.asks

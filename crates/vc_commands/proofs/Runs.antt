@@ -1,7 +1,7 @@
 -- What the commands on a region promise together, by the reply that each gives.
 use Rattle.std.proofs.Common.{◌≡◌, ℕ, List, [], Bool, Option, Some, None, Result, Ok, Err, IfOk, OnErr, refl, subst, sym, ℤ}
 use Rattle.std.specs.Prelude.{OnOk}
-use Rattle.vc_model.specs.Discipline.{Discipline}
+use Rattle.vc_model.specs.Discipline.{Discipline, NoneRefused}
 use Rattle.vc_region.specs.Parts.{disc_in}
 use Rattle.vc_script.specs.declared.command.Command.{Command}
 use Rattle.vc_script.specs.declared.command.Command.TheVariants.{ClearRegion, Compact, Alloc, Align, Resize, Free, WriteBlock, ReadBlock, SizeOf, AddrOf, SegmentOf, StatOf, Segments, Blocks, Poke, Check, Watch, ProfileOf}
@@ -41,27 +41,27 @@ module _ {I : Type 0} {V : I → Type 0} (meaning : (x : I) × V x → Disciplin
       (granted (home_of (held_of meaning [] before old)) (need_shown (Refused why.NoSegment))) (ran []).replied refl
 
   pub runs-granted : (asked : Option (ℕ × ℕ)) → ((h : Home) (need : Need) → IsGranted (gives h need).reply) → GivesAll
-      → OnErr result (region_with after new ≡ region_with before old) → (disc_in meaning after.region).faults ≡ (disc_in meaning before.region).faults → RunsHome meaning result gives asked before old after new
-  runs-granted asked granted step err faults = record {
+      → OnErr result (region_with after new ≡ region_with before old) → NoneRefused (disc_in meaning before.region) (disc_in meaning after.region) → RunsHome meaning result gives asked before old after new
+  runs-granted asked granted step err served = record {
     step = step;
     err = err;
     unserved = λ e. absurd (none-unserved granted step e);
-    faults = λ _. faults;
+    served = λ _. served;
   }
 
   -- one for which memory is wanted
   pub runs-halted : (asked : Option (ℕ × ℕ)) → OnOk result ⊥ → region_with after new ≡ region_with before old
-      → (disc_in meaning after.region).faults ≡ (disc_in meaning before.region).faults → RunsHome meaning result gives asked before old after new
-  runs-halted asked is same faults = record {
+      → NoneRefused (disc_in meaning before.region) (disc_in meaning after.region) → RunsHome meaning result gives asked before old after new
+  runs-halted asked is same served = record {
     step = halted-all result (λ reply. RunsRegion meaning (λ h. gives h (need_shown reply)) before old (region_with after new) reply) is;
     err = err-all result same;
     unserved = λ e. absurd (halted-not result (Refused why.NoSegment) is e);
-    faults = λ _. faults;
+    served = λ _. served;
   }
 
   -- one that asks for no block promises it where one is named, too
   pub runs-any : (asked : ℕ × ℕ) → RunsHome meaning result gives None before old after new → RunsHome meaning result gives (Some asked) before old after new
-  runs-any asked runs = record { step = runs.step; err = runs.err; unserved = λ e. absurd (runs.unserved e); faults = runs.faults }
+  runs-any asked runs = record { step = runs.step; err = runs.err; unserved = λ e. absurd (runs.unserved e); served = runs.served }
 
 -- a command that is none on a region is refused
 pub other-region : (h : Home) (line : ℕ) (command : Command) (need : Need)

@@ -21,6 +21,7 @@ use Rattle.vc_best.proofs.RestBlocks.{find_block-zeroed, plain, zeroed-labelled}
 use Rattle.vc_region.proofs.RestCells.{free-cells_kept, put-cells_kept, resize-cells_kept, write-cells_kept}
 use Rattle.vc_region.proofs.RestFound.{by-blocks, rest-label, rest-own, rest-without, rest-without_both, rest-zeros}
 use Rattle.vc_seg.specs.Answer.{Answers, Asks, IsPut, IsRefusal}
+use Rattle.vc_seg.specs.OneBlock.{IsBlockKept, IsBlockPut}
 use Rattle.vc_seg.specs.declared.fault.RegionFault.{RegionFault}
 
 -- the segments that are out
@@ -64,7 +65,13 @@ pub record SeenPut (called : Bool → Outcome (Put (Region ℕ))) (result : Resu
   pub places : HaveOwnPlaces (blocks_of (rest_of r'))
   pub cells : region_cells r' ≡ region_cells r
 
-module _ (terms : Terms) (r r' : Region ℕ) (tag : ℕ) (site : List ℕ) (size : ℕ) (result : Result Addr RegionFault) (first : 1 ≤ tag) (there : IfOk result (λ a. find_block (place_of a.0) (blocks_of r') ≡ Some (zeros tag size (place_of a.0)))) (others : IfOk result (λ a. without_block (place_of a.0) (blocks_of r') ≡ blocks_of r)) (places : HaveOwnPlaces (blocks_of r')) where
+module _ (terms : Terms) (r r' : Region ℕ) (tag : ℕ) (site : List ℕ) (size : ℕ) (result : Result Addr RegionFault) (first : 1 ≤ tag) (put : IfOk result (λ a. IsBlockPut tag size a.0 (blocks_of r) (blocks_of r'))) (places : HaveOwnPlaces (blocks_of r')) where
+  there : IfOk result (λ a. find_block (place_of a.0) (blocks_of r') ≡ Some (zeros tag size (place_of a.0)))
+  there = ok-map result _ _ (λ a is. is.there) put
+
+  others : IfOk result (λ a. without_block (place_of a.0) (blocks_of r') ≡ blocks_of r)
+  others = ok-map result _ _ (λ a is. is.others) put
+
   zeros-there : IfOk result (λ a. find_block (place_of a.0) (blocks_of (rest_of r')) ≡ Some (zeros tag size (place_of a.0)))
   zeros-there = ok-map result _ _ (λ a. rest-zeros r' (place_of a.0) (place_of a.0) tag size) there
 
@@ -120,9 +127,11 @@ module _ (r : Region ℕ) (a : ℕ) (b : Block ℕ) (found : find_block (place_o
 
   pub seen-resize :
       (terms : Terms) (size : ℕ) (may_move : Bool) (result : Result Addr RegionFault) (r' : Region ℕ) → Answers (region_resize terms r p size may_move) result r r'
-      → IfOk result (λ to. option_map (λ b. b.label) (find_block (place_of to.0) (blocks_of r')) ≡ option_map (λ b. b.label) (find_block p (blocks_of r))) → IfOk result (λ to. without_block (place_of to.0) (blocks_of r') ≡ without_block p (blocks_of r))
+      → IfOk result (λ to. IsBlockKept a to.0 (blocks_of r) (blocks_of r'))
       → HaveOwnPlaces (blocks_of r) → HaveOwnPlaces (blocks_of r') → SeenMoved terms size may_move result r'
-  seen-resize terms size may_move result r' answer there others own places =
+  seen-resize terms size may_move result r' answer kept own places =
+      let there : IfOk result (λ to. option_map (λ b. b.label) (find_block (place_of to.0) (blocks_of r')) ≡ option_map (λ b. b.label) (find_block p (blocks_of r))) = ok-map result _ _ (λ to is. is.label) kept in
+      let others : IfOk result (λ to. without_block (place_of to.0) (blocks_of r') ≡ without_block p (blocks_of r)) = ok-map result _ _ (λ to is. is.others) kept in
       let method = answers-method (region_resize terms r p size may_move) r r' (λ to. resize-method terms r p size may_move false to r') result answer in
       record {
         answer = answers-rest-resize terms r r' p size may_move b seen-found (tagged b.label first) result there answer;

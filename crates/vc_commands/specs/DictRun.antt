@@ -4,7 +4,7 @@ use Rattle.std.specs.Prelude.{Result, Ok, Err, IfOk, OnErr}
 use Rattle.vc_model.specs.Layout.{Layout}
 use Rattle.vc_base.specs.declared.addr.Addr.{Addr}
 use Rattle.vc_base.specs.Holders.{contains}
-use Rattle.vc_model.specs.Discipline.{Discipline}
+use Rattle.vc_model.specs.Discipline.{Discipline, NoneRefused}
 use Rattle.vc_dtdisc.specs.Objects.{Object}
 use Rattle.vc_dtdisc.specs.Rules.{Gone, Rules}
 use Rattle.vc_dtlist.specs.Linked.{number_of}
@@ -68,20 +68,20 @@ IsSpentBy s (Insert name bytes) region d = IsSpent s region d
 IsSpentBy s (Attach name bytes) region d = IsSpent s region d
 IsSpentBy s command region d = (region ≡ s.region) × (d ≡ s.dict)
 
--- by a reply: a segment that was refused was asked for, for a table of these slots or a holder of this object, and else no fault was counted
+-- by a reply: a segment that was refused was asked for, for a table of these slots or a holder of this object, and else nothing was
 abbrev pub LacksFor : Option ℕ → List ℕ → Reply → Discipline → Discipline → Type 0
 LacksFor slots object (Refused NoSegmentForTable) old new = LacksTable slots old new
 LacksFor slots object (Refused NoSegmentForObject) old new = LacksHolder slots object old new
-LacksFor slots object reply old new = new.faults ≡ old.faults
+LacksFor slots object reply old new = NoneRefused old new
 
 -- by what a command asks for
 abbrev pub LacksBy : {L : Type 0} → Seat L → Command → Reply → Discipline → Discipline → Type 0
 LacksBy s command reply old new = LacksFor (table_asked s command) (object_asked s command) reply old new
 
--- by an answer: with no memory, too, no fault was counted
+-- by an answer: with no memory, too, nothing was refused
 abbrev pub AskedFor : {E : Type 0} → Result Reply E → Option ℕ → List ℕ → Discipline → Discipline → Type 0
 AskedFor (Ok reply) slots object old new = LacksFor slots object reply old new
-AskedFor (Err why) slots object old new = new.faults ≡ old.faults
+AskedFor (Err why) slots object old new = NoneRefused old new
 
 abbrev pub AskedBy : {E L : Type 0} → Result Reply E → Seat L → Command → Discipline → Discipline → Type 0
 AskedBy result s command old new = AskedFor result (table_asked s command) (object_asked s command) old new

@@ -2,6 +2,7 @@
 use Rattle.std.specs.Prelude.{ℕ, List, Option, None, Bool}
 use Rattle.std.specs.Str.{bytes_eq}
 use Rattle.vc_model.specs.Discipline.{Terms}
+use Rattle.vc_model.specs.Segments.{Grant}
 use Rattle.vc_region.specs.Region.{Region}
 use Rattle.vc_script.specs.declared.reply.Reply.{Reply}
 use Rattle.vc_script.specs.declared.reply.Reply.TheVariants.{Refused}
@@ -24,12 +25,12 @@ pub record Home : Type 0 where
 abbrev pub is_home : List ℕ → Home → Bool
 is_home r h = bytes_eq h.name r
 
--- what a command on one region gives: the region and the names that it keeps after it, the reply, and the segment that was granted
+-- what a command on one region gives: the region and the names that it keeps after it, the reply, and what was granted
 pub record Changed : Type 0 where
   pub region : Region Label
   pub kept : FreedNames
   pub reply : Reply
-  pub granted : Option (ℕ × ℕ)
+  pub granted : Option Grant
 
 -- a command that is granted no segment, and neither frees a name nor takes one
 abbrev pub changed_to : Home → Region Label → Reply → Changed

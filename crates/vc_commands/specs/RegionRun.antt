@@ -8,7 +8,7 @@ use Rattle.vc_script.specs.declared.reply.Reply.TheVariants.{Refused}
 use Rattle.vc_region.specs.Region.{Region, region_with_labels}
 use Rattle.vc_commands.specs.FreedNames.{FreedNames}
 use Rattle.vc_commands.specs.Home.{Changed, Home, Label}
-use Rattle.vc_model.specs.Discipline.{Discipline}
+use Rattle.vc_model.specs.Discipline.{Discipline, NoneRefused}
 use Rattle.vc_region.specs.Cells.{cells_in, rest_in}
 use Rattle.vc_region.specs.Parts.{disc_in}
 use Rattle.vc_commands.specs.Held.{Held, IsChange, LacksSegment, home_of, left_by}
@@ -58,7 +58,7 @@ LacksAsked (Some asked) before after = LacksSegment before after asked
 
 -- what a command on a region promises that may ask for a block of a size and an alignment: it gives what it is to by
 -- the need that its reply shows, and with no memory the region and its names stay; a segment that was refused was asked
--- for, and else no fault was counted
+-- for, and else nothing was
 pub record RunsHome {I : Type 0} {V : I → Type 0} (meaning : (x : I) × V x → Discipline)
     {E : Type 0} (result : Result Reply E) (gives : Home → Need → Changed) (asked : Option (ℕ × ℕ))
     (before : HomeEntry I V) (old : Labels) (after : HomeEntry I V) (new : Labels) : Type 0 where
@@ -67,5 +67,5 @@ pub record RunsHome {I : Type 0} {V : I → Type 0} (meaning : (x : I) × V x �
   pub err : OnErr result (region_with after new ≡ region_with before old)
   pub unserved : result ≡ Ok (Refused NoSegment)
       → LacksAsked asked (held_of meaning [] before old) (held_of meaning [] after new)
-  pub faults : result ≢ Ok (Refused NoSegment)
-      → (disc_in meaning after.region).faults ≡ (disc_in meaning before.region).faults
+  pub served : result ≢ Ok (Refused NoSegment)
+      → NoneRefused (disc_in meaning before.region) (disc_in meaning after.region)

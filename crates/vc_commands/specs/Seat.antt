@@ -2,6 +2,7 @@
 use Rattle.std.specs.Prelude.{ℕ, List, []}
 use Rattle.vc_model.specs.Layout.{Layout}
 use Rattle.vc_model.specs.Discipline.{Terms}
+use Rattle.vc_model.specs.Segments.{Grant}
 use Rattle.vc_dtdisc.specs.Rules.{Rules}
 use Rattle.vc_objects.specs.Objects.{Dictionary}
 use Rattle.vc_script.specs.declared.refusal.Refusal.{Refusal}
@@ -16,13 +17,13 @@ pub record Seat (L : Type 0) : Type 0 where
   pub region : Layout L
   pub dict : Dictionary
 
--- the region and the dictionary after it, the reply, the objects that the kind is told of, and the segments that were granted, as number and bytes
+-- the region and the dictionary after it, the reply, the objects that the kind is told of, and what was granted
 pub record DictChanged (L : Type 0) : Type 0 where
   pub region : Layout L
   pub dict : Dictionary
   pub reply : Reply
   pub told : List (List ℕ)
-  pub granted : List (ℕ × ℕ)
+  pub granted : List Grant
 
 -- a reply that changes nothing
 abbrev pub seat_with_reply : {L : Type 0} → Seat L → Reply → DictChanged L

@@ -6,7 +6,7 @@ ghost use Rattle.vc_best.specs.Cells.{cells_in, rest_in};
 ghost use Rattle.vc_objects.specs.Insert.{slots_wanted};
 ghost use Rattle.vc_objects.specs.Leaves.{Looks};
 ghost use Rattle.vc_objects.specs.Parts.{IsWhole, dictionary_in};
-ghost use Rattle.vc_objects.specs.Promises.{CanPut, IsStill};
+ghost use Rattle.vc_objects.specs.Promises.{CanAsk, CanPut, IsStill};
 ghost use Rattle.vc_commands.specs.DictCommands.{append_in, attach_in, fate_reply, insert_in, insert_made_in};
 ghost use Rattle.vc_commands.specs.DictCommands.{put_object, standing};
 ghost use Rattle.vc_commands.specs.DictRun.{IsOfHolder, IsSpent, RunsDict, object_there, seat_in};
@@ -45,7 +45,7 @@ fn put<D: DictDisc>(
     object: Vec<u8>,
     append: bool,
 ) -> Result<Reply, OutOfMemory>
-    requires can { CanPut (D.rules kind.now) best.old dict.old object.items append }
+    requires can { CanPut state (D.rules kind.now) best.old dict.old object.items append }
 
     ensures runs { RunsDict state result (D.rules kind.now)
         (put_object (seat_in state (D.rules kind.now) best.old dict.old) append object.items)
@@ -90,7 +90,7 @@ fn put_unless<D: DictDisc>(
     kind: &D,
     object: Vec<u8>,
 ) -> Result<Reply, OutOfMemory>
-    requires whole { IsWhole (D.rules kind.now) dict.old (cells_in best.old) }
+    requires ask { CanAsk state (D.rules kind.now) best.old dict.old }
     requires object { IsObject object.items }
 
     ensures runs { RunsDict state result (D.rules kind.now)
@@ -126,7 +126,7 @@ pub(crate) fn insert<D: DictDisc>(
     kind: &D,
     object: &[u8],
 ) -> Result<Reply, OutOfMemory>
-    requires whole { IsWhole (D.rules kind.now) dict.old (cells_in best.old) }
+    requires ask { CanAsk state (D.rules kind.now) best.old dict.old }
 
     ensures runs { RunsDict state result (D.rules kind.now)
         (insert_made_in (seat_in state (D.rules kind.now) best.old dict.old) object.now)
@@ -150,7 +150,7 @@ pub(crate) fn attach<D: DictDisc>(
     kind: &D,
     object: &[u8],
 ) -> Result<Reply, OutOfMemory>
-    requires whole { IsWhole (D.rules kind.now) dict.old (cells_in best.old) }
+    requires ask { CanAsk state (D.rules kind.now) best.old dict.old }
 
     ensures runs { RunsDict state result (D.rules kind.now)
         (attach_in (seat_in state (D.rules kind.now) best.old dict.old) object.now)
@@ -174,7 +174,7 @@ pub(crate) fn append<D: DictDisc>(
     kind: &D,
     object: &[u8],
 ) -> Result<Reply, OutOfMemory>
-    requires whole { IsWhole (D.rules kind.now) dict.old (cells_in best.old) }
+    requires ask { CanAsk state (D.rules kind.now) best.old dict.old }
 
     ensures runs { RunsDict state result (D.rules kind.now)
         (append_in (seat_in state (D.rules kind.now) best.old dict.old) object.now)

@@ -1,9 +1,8 @@
 // Running a command on a dictionary.
 ghost use Rattle.std.specs.Prelude.{◌≡◌, false};
 ghost use Rattle.vc_dtdisc.specs.Rules.{Gone, Rules};
-ghost use Rattle.vc_best.specs.Cells.{cells_in};
 ghost use Rattle.vc_best.specs.Parts.{disc_in};
-ghost use Rattle.vc_objects.specs.Parts.{IsWhole};
+ghost use Rattle.vc_objects.specs.Promises.{CanAsk};
 ghost use Rattle.vc_commands.specs.DictCommands.{asks};
 ghost use Rattle.vc_commands.specs.DictRun.{HaltsCommand, RunsCommand};
 
@@ -29,7 +28,7 @@ pub fn run<D: DictDisc>(
     kind: &mut D,
     command: &Command,
 ) -> Result<Reply, OutOfMemory>
-    requires whole { IsWhole (D.rules kind.old) dict.old (cells_in best.old) }
+    requires ask { CanAsk state (D.rules kind.old) best.old dict.old }
 
     ensures runs { RunsCommand state result (D.rules kind.old) command.now
         best.old dict.old (D.gone kind.old) best.new dict.new (D.gone kind.new) }

@@ -5,7 +5,7 @@ ghost use Rattle.vc_best.specs.Cells.{cells_in};
 ghost use Rattle.vc_best.specs.Parts.{disc_in};
 ghost use Rattle.vc_objects.specs.Leaves.{LeavesRest};
 ghost use Rattle.vc_objects.specs.Parts.{IsWhole};
-ghost use Rattle.vc_objects.specs.Promises.{IsStill};
+ghost use Rattle.vc_objects.specs.Promises.{CanAsk, IsStill};
 ghost use Rattle.vc_script.specs.Needs.{NoNeed, need_shown};
 ghost use Rattle.vc_commands.specs.DictCommands.{empty_in};
 ghost use Rattle.vc_commands.specs.DictRun.{Gives, RunsCommand, seat_in};
@@ -28,7 +28,7 @@ pub(crate) fn remethod<D: DictDisc>(
     name: Name,
     method: DictMethod,
 ) -> Result<Reply, OutOfMemory>
-    requires whole { IsWhole (D.rules kind.old) dict.old (cells_in best.old) }
+    requires ask { CanAsk state (D.rules kind.old) best.old dict.old }
 
     ensures runs { RunsCommand state result (D.rules kind.old) (Command.Remethod name method)
         best.old dict.old (D.gone kind.old) best.new dict.new (D.gone kind.new) }

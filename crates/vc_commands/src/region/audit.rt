@@ -1,7 +1,7 @@
 // The commands on a debug region, and that on a profile region.
 ghost use Rattle.std.specs.Prelude.{◌≡◌, ℕ, ℤ, List, [], ◌++◌, option_map, None, true, IfOk, OnOk};
 ghost use Rattle.std.specs.List.{cons_option, filter_map};
-ghost use Rattle.vc_model.specs.Discipline.{HasOut};
+ghost use Rattle.vc_model.specs.Discipline.{HasOut, NoneRefused};
 ghost use Rattle.vc_region.specs.Cells.{rest_in};
 ghost use Rattle.vc_region.specs.Parts.{disc_in};
 ghost use Rattle.vc_region.specs.Region.{damaged_in, is_debug, is_profile, region_with_labels, rows_in, segments_of};
@@ -94,8 +94,8 @@ impl HomeEntry {
         ensures change { ChangesRegion state
             self.old labels.now self.new labels.now }
         ensures granted { result ≡ Reply.Refused Refusal.NoSegment → ⊥ }
-        ensures faults { (disc_in state self.new.region).faults
-            ≡ (disc_in state self.old.region).faults }
+        ensures served { NoneRefused (disc_in state self.old.region)
+            (disc_in state self.new.region) }
     {
         let Some(at) = labels.find(name) else {
             return Reply::Refused(no_block(labels, name));

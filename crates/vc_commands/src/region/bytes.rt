@@ -1,6 +1,6 @@
 // The commands that read and write the bytes of a block.
 ghost use Rattle.std.specs.Prelude.{◌≡◌, ℕ, List, IfOk};
-ghost use Rattle.vc_model.specs.Discipline.{HasOut};
+ghost use Rattle.vc_model.specs.Discipline.{HasOut, NoneRefused};
 ghost use Rattle.vc_region.specs.Cells.{rest_in};
 ghost use Rattle.vc_region.specs.Parts.{disc_in};
 ghost use Rattle.vc_region.specs.Region.{segments_of};
@@ -31,8 +31,8 @@ impl HomeEntry {
         ensures change { ChangesRegion state
             self.old labels.now self.new labels.now }
         ensures granted { result ≡ Reply.Refused Refusal.NoSegment → ⊥ }
-        ensures faults { (disc_in state self.new.region).faults
-            ≡ (disc_in state self.old.region).faults }
+        ensures served { NoneRefused (disc_in state self.old.region)
+            (disc_in state self.new.region) }
     {
         match labels.find(name) {
             None => Reply::Refused(no_block(labels, name)),

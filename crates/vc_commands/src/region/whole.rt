@@ -1,6 +1,6 @@
 // The commands that change a whole region.
 ghost use Rattle.std.specs.Prelude.{◌≡◌, ℕ, List};
-ghost use Rattle.vc_model.specs.Discipline.{HasOut};
+ghost use Rattle.vc_model.specs.Discipline.{HasOut, NoneRefused};
 ghost use Rattle.vc_region.specs.Cells.{rest_in};
 ghost use Rattle.vc_region.specs.Parts.{disc_in};
 ghost use Rattle.vc_region.specs.Region.{segments_of};
@@ -29,8 +29,8 @@ impl HomeEntry {
             self.old labels.old (region_with self.new labels.new) result }
         ensures change { LeavesRegion state (Command.ClearRegion name)
             self.old labels.old self.new labels.new }
-        ensures faults { (disc_in state self.new.region).faults
-            ≡ (disc_in state self.old.region).faults }
+        ensures served { NoneRefused (disc_in state self.old.region)
+            (disc_in state self.new.region) }
     {
         labels.clear(keeps_freed(&self.region), line);
         self.region.clear();
@@ -49,8 +49,8 @@ impl HomeEntry {
         ensures change { (labels : Labels) → IsNamed (rest_in self.old.region) labels
             → ChangesRegion state
             self.old labels self.new labels }
-        ensures faults { (disc_in state self.new.region).faults
-            ≡ (disc_in state self.old.region).faults }
+        ensures served { NoneRefused (disc_in state self.old.region)
+            (disc_in state self.new.region) }
     {
         Reply::Compacted(name, self.region.compact())
     }

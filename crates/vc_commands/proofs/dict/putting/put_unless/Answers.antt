@@ -1,4 +1,7 @@
-use Rattle.std.proofs.Common.{◌≡◌, None, false, sym, ap, ◌∙◌, subst}
+use Rattle.std.proofs.Common.{◌≡◌, None, false, sym, ap, ◌∙◌, subst, rules, arith}
+use Rattle.std.proofs.lemmas.Bool.{false≢true}
+use Rattle.std.proofs.lemmas.Grind.{common_steps}
+use Rattle.vc_objects.proofs.Leaving.{keeps-out}
 use Rattle.vc_objects.specs.Insert.{slots_wanted}
 use Rattle.vc_commands.specs.DictCommands.{put_object, put_unless, standing}
 use Rattle.vc_commands.specs.DictRun.{IsOfHolder, RunsDict, object_there, seat_in}
@@ -22,3 +25,15 @@ returns-in-None-clause-runs g c =
     (sym none)
     (runs-looked (λ z. (goal.SegDisc-dyn g z).state z.1) c.put.result rules (λ s need. put_object s false bytes need) bytes c.args.best.now c.args.dict.now c.standing.new.best c.standing.new.dict c.put.new.best c.put.new.dict
     (g.D.DictDisc.gone c.args.kind.now) (g.D.DictDisc.gone c.args.kind.now) c.standing.ensures.looks c.put.ensures.runs)
+
+pub put-requires : goal.put-requires
+put-requires g c =
+    let looks = c.standing.ensures.looks in
+    record {
+      can = record {
+        ask = record { whole = looks.leaves.whole; lent = keeps-out _ _ _ _ looks.leaves.rest.disc c.requires.ask.lent };
+        lone = first_of (search rules, grind (arith, common_steps));
+        object = c.requires.object;
+        list = λ e. absurd (false≢true e);
+      };
+    }

@@ -1,5 +1,5 @@
 use Rattle.std.proofs.Common.{[], None, refl, sym, ap}
-use Rattle.vc_model.specs.Discipline.{Discipline}
+use Rattle.vc_model.proofs.Keeping.{NoneRefused-equal, NoneRefused-same}
 use Rattle.vc_best.specs.Cells.{cells_in, rest_in}
 use Rattle.vc_best.specs.Parts.{disc_in}
 use Rattle.vc_objects.specs.Parts.{dictionary_in}
@@ -95,16 +95,16 @@ returns-in-Remethod-clause-err g c =
 
 pub returns-in-Count-clause-runs : goal.returns-in-Count-clause-runs
 returns-in-Count-clause-runs g c = record {
-  step = rw c.in-Count.is (record { region = refl; dict = refl; reply = ap Number (counts-objects (g.D.DictDisc.rules c.args.kind.now) c.args.dict.now (cells_in c.args.best.now) c.requires.whole); told = refl });
-  leaves = leaves-self (λ z. (goal.SegDisc-dyn g z).state z.1) (g.D.DictDisc.rules c.args.kind.now) c.args.best.now c.args.dict.now c.requires.whole;
-  asked = rw c.in-Count.is refl;
+  step = rw c.in-Count.is (record { region = refl; dict = refl; reply = ap Number (counts-objects (g.D.DictDisc.rules c.args.kind.now) c.args.dict.now (cells_in c.args.best.now) c.requires.ask.whole); told = refl });
+  leaves = leaves-self (λ z. (goal.SegDisc-dyn g z).state z.1) (g.D.DictDisc.rules c.args.kind.now) c.args.best.now c.args.dict.now c.requires.ask.whole;
+  asked = rw c.in-Count.is (NoneRefused-same _);
 }
 
 pub returns-in-Empty-clause-runs : goal.returns-in-Empty-clause-runs
 returns-in-Empty-clause-runs g c = record {
   step = rw c.in-Empty.is c.empty.ensures.step;
   leaves = c.empty.ensures.leaves;
-  asked = rw c.in-Empty.is (unneeded None [] c.empty.result (disc_in (λ z. (goal.SegDisc-dyn g z).state z.1) c.args.best.now) (disc_in (λ z. (goal.SegDisc-dyn g z).state z.1) c.empty.new.best) (ap (λ (d : Discipline). d.faults) c.empty.ensures.disc) c.empty.ensures.need);
+  asked = rw c.in-Empty.is (unneeded None [] c.empty.result (disc_in (λ z. (goal.SegDisc-dyn g z).state z.1) c.args.best.now) (disc_in (λ z. (goal.SegDisc-dyn g z).state z.1) c.empty.new.best) (NoneRefused-equal _ _ c.empty.ensures.disc) c.empty.ensures.need);
 }
 
 pub returns-in_default : goal.returns-in_default
@@ -114,10 +114,13 @@ returns-in_default g c =
     record {
       runs = record {
         step = rw told (record { region = refl; dict = refl; reply = refl; told = refl });
-        leaves = leaves-self (λ z. (goal.SegDisc-dyn g z).state z.1) (g.D.DictDisc.rules c.args.kind.now) c.args.best.now c.args.dict.now c.requires.whole;
-        asked = refl;
+        leaves = leaves-self (λ z. (goal.SegDisc-dyn g z).state z.1) (g.D.DictDisc.rules c.args.kind.now) c.args.best.now c.args.dict.now c.requires.ask.whole;
+        asked = NoneRefused-same _;
       };
       rules = refl;
       disc = λ _. refl;
       err = tt;
     }
+
+pub take-requires : goal.take-requires
+take-requires g c = record { whole = c.requires.ask.whole }

@@ -15,7 +15,7 @@ use Rattle.vc_commands.proofs.FoundBlocks.{align-in}
 use Rattle.vc_commands.proofs.Placed.{IsPlaced, placed-change, placed-runs, refused-runs, reserved-change, reserved-with}
 use Rattle.vc_commands.proofs.PutBlocks.{align-commutes, align-legal, align-other, align-words, new-name, new-words, size-range}
 use Rattle.vc_commands.proofs.Runs.{runs-halted}
-use Rattle.vc_commands.proofs.Seen.{seen-align}
+use Rattle.vc_commands.proofs.Seen.{seen-align, seen-out}
 use Rattle.vc_commands.proofs.region.home.HomeEntry.align.Given as given
 use Rattle.vc_commands.proofs.region.home.HomeEntry.align.Goals as goal
 use Rattle.vc_commands.proofs.region.home.HomeEntry.align.Goals.{After-new_refused, In-None}
@@ -41,11 +41,8 @@ legal g c =
     let is : new_refused c.args.labels.now c.args.name (align_refused (rest_in c.args.self.now.region) c.args.size c.args.align) ≡ None = ap (new_refused c.args.labels.now c.args.name) (sym c.align_refused-words.ensures) ∙ (sym c.new_refused.ensures ∙ c.in-None.is) in
     and_parts (is_size c.args.size) (is_align c.args.align) (align-legal (rest_in c.args.self.now.region) c.args.size c.args.align (new-words c.args.labels.now c.args.name _ is))
 
-pub align-requires-clause-some : goal.align-requires-clause-some
-align-requires-clause-some g c = (size-range c.args.size (legal g (goal.at.align-requires-clause-some g c).In-None).0).0
-
-pub align-requires-clause-most : goal.align-requires-clause-most
-align-requires-clause-most g c = (size-range c.args.size (legal g (goal.at.align-requires-clause-most g c).In-None).0).1
+pub align-requires-clause-size : goal.align-requires-clause-size
+align-requires-clause-size g c = let is = size-range c.args.size (legal g (goal.at.align-requires-clause-size g c).In-None).0 in record { some = is.0; most = is.1 }
 
 pub align-requires-clause-align : goal.align-requires-clause-align
 align-requires-clause-align g c = align-in c.args.align (legal g (goal.at.align-requires-clause-align g c).In-None).1
@@ -75,7 +72,7 @@ returns-in_ok-tag-in-None g c =
       commutes = λ r. align-commutes (held_of (meaning g) r c.args.self.now c.args.labels.now) name tag (45 ∷ []) size align;
       stays = align-keeps terms old tag (45 ∷ []) size align false;
       named = subst (λ t. NamesPut t name c.align.result c.reserve.new.self c.name_put.new.labels c.name_put.result) (sym ok.0) c.name_put.ensures;
-      seen = seen-align terms (region_of c.args.self.now.region) (region_of c.align.new.self) tag (45 ∷ []) size c.align.result ok.1 c.align.ensures.there c.align.ensures.others (own_places c.align.new.self) align c.align.ensures.answer;
+      seen = seen-align terms (region_of c.args.self.now.region) (region_of c.align.new.self) tag (45 ∷ []) size c.align.result ok.1 c.align.ensures.put (own_places c.align.new.self) align c.align.ensures.answer;
       asks = c.align.ensures.disc;
     } in
     record { runs = placed-runs done; change = placed-change done c.requires.lent }
@@ -86,3 +83,6 @@ returns-in_err-tag-in-None g c =
       runs = runs-halted _ c.from_residual.result _ _ _ _ _ _ (search rules) (reserved-with (meaning g) c.args.self.now c.reserve.ensures.same) refl;
       change = reserved-change (meaning g) c.args.self.now c.reserve.ensures.same c.reserve.ensures.agree c.requires.names c.requires.lent;
     }
+
+pub align-requires-clause-lent : goal.align-requires-clause-lent
+align-requires-clause-lent g c = seen-out (region_of c.args.self.now.region) (disc_in (meaning g) c.args.self.now.region) c.requires.lent

@@ -13,7 +13,7 @@ use Rattle.vc_commands.proofs.Answers.{change-same}
 use Rattle.vc_commands.proofs.Placed.{IsPlaced, placed-change, placed-runs, refused-runs, reserved-change, reserved-with}
 use Rattle.vc_commands.proofs.PutBlocks.{alloc-commutes, new-words, size-legal, size-other, size-range}
 use Rattle.vc_commands.proofs.Runs.{runs-halted}
-use Rattle.vc_commands.proofs.Seen.{seen-alloc}
+use Rattle.vc_commands.proofs.Seen.{seen-alloc, seen-out}
 use Rattle.vc_commands.proofs.region.home.HomeEntry.allocate.Given as given
 use Rattle.vc_commands.proofs.region.home.HomeEntry.allocate.Goals as goal
 use Rattle.vc_commands.proofs.region.home.HomeEntry.allocate.Goals.{In-None}
@@ -36,11 +36,8 @@ allowed g c = ap (new_refused c.args.labels.now c.args.name) (sym c.size_refused
 sized : (g : given.Over) (c : In-None g) → (1 ≤ c.args.size) × (c.args.size ≤ 16777216)
 sized g c = size-range c.args.size (size-legal c.args.size (new-words c.args.labels.now c.args.name _ (allowed g c)))
 
-pub alloc-requires-clause-some : goal.alloc-requires-clause-some
-alloc-requires-clause-some g c = (sized g (goal.at.alloc-requires-clause-some g c).In-None).0
-
-pub alloc-requires-clause-most : goal.alloc-requires-clause-most
-alloc-requires-clause-most g c = (sized g (goal.at.alloc-requires-clause-most g c).In-None).1
+pub alloc-requires-clause-size : goal.alloc-requires-clause-size
+alloc-requires-clause-size g c = let is = sized g (goal.at.alloc-requires-clause-size g c).In-None in record { some = is.0; most = is.1 }
 
 pub returns-in_ok-tag-in-None : goal.returns-in_ok-tag-in-None
 returns-in_ok-tag-in-None g c =
@@ -64,7 +61,7 @@ returns-in_ok-tag-in-None g c =
           ap (λ s. region_alloc terms (home_of h).region (Some name) s size u) (sym c.site_of.ensures.value) ∙ alloc-commutes h name tag site size f new same u;
       stays = alloc-keeps terms old tag site size false;
       named = subst (λ t. NamesPut t name c.alloc.result c.reserve.new.self c.name_put.new.labels c.name_put.result) (sym ok.0) c.name_put.ensures;
-      seen = seen-alloc terms (region_of c.args.self.now.region) (region_of c.alloc.new.self) tag site size c.alloc.result ok.1 c.alloc.ensures.there c.alloc.ensures.others (own_places c.alloc.new.self) c.alloc.ensures.answer;
+      seen = seen-alloc terms (region_of c.args.self.now.region) (region_of c.alloc.new.self) tag site size c.alloc.result ok.1 c.alloc.ensures.put (own_places c.alloc.new.self) c.alloc.ensures.answer;
       asks = c.alloc.ensures.disc;
     } in
     record { runs = placed-runs done; change = placed-change done c.requires.lent }
@@ -75,3 +72,6 @@ returns-in_err-tag-in-None g c =
       runs = runs-halted _ c.from_residual.result _ _ _ _ _ _ (search rules) (reserved-with (meaning g) c.args.self.now c.reserve.ensures.same) refl;
       change = reserved-change (meaning g) c.args.self.now c.reserve.ensures.same c.reserve.ensures.agree c.requires.names c.requires.lent;
     }
+
+pub alloc-requires-clause-lent : goal.alloc-requires-clause-lent
+alloc-requires-clause-lent g c = seen-out (region_of c.args.self.now.region) (disc_in (meaning g) c.args.self.now.region) c.requires.lent

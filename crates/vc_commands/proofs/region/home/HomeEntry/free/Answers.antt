@@ -1,4 +1,5 @@
 use Rattle.std.proofs.Common.{◌≡◌, None, List, ℕ, refl, ap, ◌∙◌, sym, subst}
+use Rattle.vc_model.proofs.Keeping.{NoneRefused-equal}
 use Rattle.vc_model.specs.Addr.{place_of}
 use Rattle.vc_model.specs.Discipline.{Discipline}
 use Rattle.vc_model.specs.Layout.{address_of}
@@ -68,7 +69,7 @@ returns-in-Ok g c =
     record {
       runs = runs-granted _ _ _ _ _ _ _ None (λ h need. granted-free h name line)
           (λ r. gives-freed (held_of (meaning g) r c.args.self.now c.args.labels.now) has line labels' w new done left (keeps r) c.watch_line-watch.result c.watch_line-watch.ensures)
-          tt (ap (λ (d : Discipline). d.faults) c.free.ensures.disc);
+          tt (NoneRefused-equal _ _ c.free.ensures.disc);
       change = λ r.
           let h = held_of (meaning g) r c.args.self.now labels in
           changed-alike h (disc_in (meaning g) c.free.new.self) new (cells_in c.free.new.self) labels' (cells-freed was a b.block b.found b.first is (own_places c.args.self.now.region) c.in-Ok.ensures.answer) c.requires.lent c.free.ensures.disc (free-segments old new (place_of a) done)
@@ -84,7 +85,7 @@ returns-in-Err g c =
     record {
       runs = runs-granted _ _ _ _ _ _ _ None (λ h need. granted-free h c.args.name.now c.args.line)
           (if_ok-all c.refused.result _ (λ r. step-kept (held_of (meaning g) r c.args.self.now c.args.labels.now) has c.args.line c.in-Err.fault c.refused.result c.refused.ensures kept.0 (rest_in c.free.new.self) kept.1))
-          (err-all c.refused.result (ap (λ q. (region_with_labels (name_of c.args.labels.now) q, kept_of c.args.labels.now)) kept.1)) (ap (λ (d : Discipline). d.faults) c.free.ensures.disc);
+          (err-all c.refused.result (ap (λ q. (region_with_labels (name_of c.args.labels.now) q, kept_of c.args.labels.now)) kept.1)) (NoneRefused-equal _ _ c.free.ensures.disc);
       change = λ r.
           changed-alike (held_of (meaning g) r c.args.self.now c.args.labels.now) (disc_in (meaning g) c.free.new.self) (rest_in c.free.new.self) (cells_in c.free.new.self) c.args.labels.now (ap region_cells c.in-Err.ensures.answer.1) c.requires.lent c.free.ensures.disc
           (ap segments_of kept.1) (subst (λ q. IsNamed q c.args.labels.now) (sym kept.1) c.requires.names);

@@ -1,6 +1,7 @@
 use Rattle.std.proofs.Common.{◌≡◌, List, ℕ, ap, ◌∙◌, subst, sym}
 use Rattle.std.specs.Int.{w64}
 use Rattle.std.proofs.lemmas.Int.{to_z-of_z}
+use Rattle.vc_model.proofs.Keeping.{NoneRefused-equal}
 use Rattle.vc_model.specs.Addr.{place_of}
 use Rattle.vc_model.specs.Discipline.{Discipline}
 use Rattle.vc_region.specs.Region.{region_poke, segments_of}
@@ -83,7 +84,7 @@ returns g c =
           changed-alike (before r) (disc_in (meaning g) c.poke.new.self) new (cells_in c.poke.new.self) c.args.labels.now (ap region_cells poked ∙ poke-cells was at off byte) c.requires.lent c.poke.ensures.disc segments
           (named-poked (before r) has off byte new put (seen-poked was at off byte (region_of c.poke.new.self) poked c.poke.ensures.others) (places_in c.poke.new.self));
       granted = λ e. subst NotNoSegment e tt;
-      faults = ap (λ (d : Discipline). d.faults) c.poke.ensures.disc;
+      served = NoneRefused-equal _ _ c.poke.ensures.disc;
     }
 
 pub watched-watch-requires-clause-method : goal.watched-watch-requires-clause-method

@@ -1,4 +1,5 @@
-use Rattle.std.proofs.Common.{◌+◌, ◌≤◌, Some, ◌&&◌, sym, ap, ◌∙◌, arith}
+use Rattle.std.proofs.Common.{◌+◌, ◌≤◌, Some, ◌&&◌, sym, ap, ◌∙◌, arith, rules}
+use Rattle.std.proofs.lemmas.Grind.{common_steps}
 use Rattle.std.specs.Prelude.{nat_le}
 use Rattle.vc_model.specs.Addr.{place_of}
 use Rattle.vc_model.specs.Discipline.{Discipline}
@@ -28,8 +29,8 @@ named g c = has-name c.requires.names c.in-Some.ensures.some
 pub size-requires : goal.size-requires
 size-requires g c = name-there c.args.self.now.region (named g (goal.at.size-requires g c).In-Some)
 
-pub read-requires-clause-block : goal.read-requires-clause-block
-read-requires-clause-block g c = name-there c.args.self.now.region (named g (goal.at.read-requires-clause-block g c).In-Some)
+pub read-requires : goal.read-requires
+read-requires g c = record { block = name-there c.args.self.now.region (named g (goal.at.read-requires g c).In-Some); range = first_of (search rules, grind (arith, common_steps)) }
 
 pub returns-in-None : goal.returns-in-None
 returns-in-None g c = λ r.

@@ -1,8 +1,10 @@
 use Rattle.std.proofs.Common.{false, Ok, Err, IfSome, refl, sym, subst, ap}
+use Rattle.vc_model.proofs.Keeping.{NoneRefused-same, NoneRefused-served}
 use Rattle.vc_model.specs.Discipline.{Discipline}
 use Rattle.vc_region.specs.Region.{region_with_labels}
 use Rattle.vc_region.specs.Cells.{rest_in}
 use Rattle.vc_script.specs.declared.refusal.Refusal.TheVariants as why
+use Rattle.vc_commands.proofs.Seen.{seen-out}
 use Rattle.vc_commands.specs.Held.{IsNamed, home_of}
 use Rattle.vc_commands.specs.Blocks.{resize_block, resize_in}
 use Rattle.vc_script.specs.Needs.{need_shown}
@@ -28,7 +30,7 @@ returns-in_default g c =
         step = λ r. gives-none (held_of (meaning g) r c.args.self.now c.args.labels.now) c.args.name.now (λ k. resize_block k c.args.name.now c.args.size c.args.may_move (is_for_block (need_shown (Refused c.no_block.result)))) c.no_block.result c.requires.names c.in_default.ensures.none c.no_block.ensures.value;
         err = tt;
         unserved = λ e. absurd (none-no_segment c.no_block.result c.no_block.ensures.granted e);
-        faults = λ _. refl;
+        served = λ _. NoneRefused-same _;
       };
       change = λ r. change-same (held_of (meaning g) r c.args.self.now c.args.labels.now) c.args.labels.now c.requires.lent c.requires.names;
     }
@@ -47,7 +49,7 @@ returns-then-not-is_size g c =
             (resize-size h (named g (goal.at.returns-then-not-is_size g c).In-Some) c.args.size c.args.may_move false (sym c.if-not-is_size.ensures));
         err = tt;
         unserved = λ e. absurd (none-no_segment why.Size (λ is. cc) e);
-        faults = λ _. refl;
+        served = λ _. NoneRefused-same _;
       };
       change = λ r. change-same (held_of (meaning g) r c.args.self.now c.args.labels.now) c.args.labels.now c.requires.lent c.requires.names;
     }
@@ -61,7 +63,7 @@ resize-requires-clause-block g c = name-there c.args.self.now.region (named g (g
 pub returns-in-Ok : goal.returns-in-Ok
 returns-in-Ok g c =
     let has = named g (goal.at.returns-in-Ok g c).In-Some in
-    let done : Resizes (meaning g) c.args.self.now.region c.resize.new.self has c.args.size c.args.may_move (Ok c.in-Ok.to) = record { answer = c.in-Ok.ensures.answer; asks = c.in-Ok.ensures.disc; there = c.in-Ok.ensures.there; others = c.in-Ok.ensures.others } in
+    let done : Resizes (meaning g) c.args.self.now.region c.resize.new.self has c.args.size c.args.may_move (Ok c.in-Ok.to) = record { answer = c.in-Ok.ensures.answer; asks = c.in-Ok.ensures.disc; kept = c.in-Ok.ensures.kept } in
     let rest = seen (meaning g) c.args.self.now.region c.resize.new.self has c.args.size c.args.may_move (Ok c.in-Ok.to) done in
     let new = rest_in c.resize.new.self in
     let labels = c.move_to.new.self in
@@ -75,7 +77,7 @@ returns-in-Ok g c =
             (gives-resized h has c.args.size c.args.may_move (sym c.if-not-is_size.ensures) labels to moved refl c.move_to.ensures.kept new rest.answer c.watch_line-watch.result c.watch_line-watch.ensures);
         err = tt;
         unserved = λ e. absurd (subst NotNoSegment (ap (get_ok (At c.args.name.now c.place_of.result c.watch_line-watch.result)) e) tt);
-        faults = λ other. c.in-Ok.ensures.disc.faults;
+        served = λ other. NoneRefused-served _ _ _ _ _ c.in-Ok.ensures.disc;
       };
       change = λ r.
           resized-change (meaning g) c.args.self.now.region c.resize.new.self has c.args.size c.args.may_move (Ok c.in-Ok.to) done r c.args.self.now.place labels c.requires.lent
@@ -85,7 +87,7 @@ returns-in-Ok g c =
 pub returns-in-Err : goal.returns-in-Err
 returns-in-Err g c =
     let has = named g (goal.at.returns-in-Err g c).In-Some in
-    let done : Resizes (meaning g) c.args.self.now.region c.resize.new.self has c.args.size c.args.may_move (Err c.in-Err.fault) = record { answer = c.in-Err.ensures.answer; asks = c.in-Err.ensures.disc; there = c.in-Err.ensures.there; others = c.in-Err.ensures.others } in
+    let done : Resizes (meaning g) c.args.self.now.region c.resize.new.self has c.args.size c.args.may_move (Err c.in-Err.fault) = record { answer = c.in-Err.ensures.answer; asks = c.in-Err.ensures.disc; kept = c.in-Err.ensures.kept } in
     let rest = seen (meaning g) c.args.self.now.region c.resize.new.self has c.args.size c.args.may_move (Err c.in-Err.fault) done in
     let asked = asks (meaning g) c.args.self.now.region c.resize.new.self has c.args.size c.args.may_move (Err c.in-Err.fault) done in
     record {
@@ -94,9 +96,12 @@ returns-in-Err g c =
             step-fault (held_of (meaning g) r c.args.self.now c.args.labels.now) has c.args.size c.args.may_move (sym c.if-not-is_size.ensures) c.in-Err.fault c.refused.result c.refused.ensures rest.answer.0 (rest_in c.resize.new.self) rest.answer.1);
         err = err-all c.refused.result (ap (λ q. (region_with_labels (name_of c.args.labels.now) q, kept_of c.args.labels.now)) rest.answer.1);
         unserved = λ e. asks-unserved c.in-Err.fault _ _ _ _ _ (told-no_segment c.in-Err.fault c.refused.result c.refused.ensures e) asked;
-        faults = λ other. told-served c.in-Err.fault c.refused.result _ _ _ _ _ c.refused.ensures c.in-Err.ensures.disc other;
+        served = λ other. told-served c.in-Err.fault c.refused.result _ _ _ _ _ c.refused.ensures c.in-Err.ensures.disc other;
       };
       change = λ r.
           resized-change (meaning g) c.args.self.now.region c.resize.new.self has c.args.size c.args.may_move (Err c.in-Err.fault) done r c.args.self.now.place c.args.labels.now c.requires.lent
           (subst (λ q. IsNamed q c.args.labels.now) (sym rest.answer.1) c.requires.names);
     }
+
+pub resize-requires-clause-lent : goal.resize-requires-clause-lent
+resize-requires-clause-lent g c = seen-out (region_of c.args.self.now.region) (disc_in (meaning g) c.args.self.now.region) c.requires.lent

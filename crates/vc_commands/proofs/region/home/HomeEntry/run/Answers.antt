@@ -1,6 +1,7 @@
 use Rattle.std.proofs.Common.{SFits, rules, refl, subst, sym}
 use Rattle.std.specs.Int.{w64}
 use Rattle.std.proofs.lemmas.Int.{to_z-of_z}
+use Rattle.vc_model.proofs.Keeping.{NoneRefused-same}
 use Rattle.vc_model.specs.Discipline.{Discipline}
 use Rattle.vc_script.specs.Needs.{NoNeed}
 use Rattle.vc_script.specs.declared.refusal.Refusal.TheVariants as why
@@ -18,12 +19,12 @@ meaning g p = (g.dyn-1.0.entry p.0).1.state p.1
 
 pub returns-in-ClearRegion-clause-runs : goal.returns-in-ClearRegion-clause-runs
 returns-in-ClearRegion-clause-runs g c =
-    rw c.in-ClearRegion.is (runs-granted _ _ _ _ _ _ _ _ (λ h need. tt) c.clear.ensures.step tt c.clear.ensures.faults)
+    rw c.in-ClearRegion.is (runs-granted _ _ _ _ _ _ _ _ (λ h need. tt) c.clear.ensures.step tt c.clear.ensures.served)
 
 pub returns-in-Compact-clause-runs : goal.returns-in-Compact-clause-runs
 returns-in-Compact-clause-runs g c =
     rw c.in-Compact.is
-    (runs-granted _ _ _ _ _ _ _ _ (λ h need. tt) (λ r. gives-changed (home_of (held_of (meaning g) r c.args.self.now c.args.labels.now)) _ _ c.compact.result (c.compact.ensures.step c.args.labels.now r)) tt c.compact.ensures.faults)
+    (runs-granted _ _ _ _ _ _ _ _ (λ h need. tt) (λ r. gives-changed (home_of (held_of (meaning g) r c.args.self.now c.args.labels.now)) _ _ c.compact.result (c.compact.ensures.step c.args.labels.now r)) tt c.compact.ensures.served)
 
 pub returns-in-Alloc-clause-runs : goal.returns-in-Alloc-clause-runs
 returns-in-Alloc-clause-runs g c =
@@ -43,40 +44,40 @@ returns-in-Free-clause-runs g c =
 
 pub returns-in-WriteBlock-clause-runs : goal.returns-in-WriteBlock-clause-runs
 returns-in-WriteBlock-clause-runs g c =
-    rw (c.in-WriteBlock.is, sym c.as_slice.ensures) (runs-granted _ _ _ _ _ _ _ _ (λ h need. granted-write h c.in-WriteBlock.block c.in-WriteBlock.off c.as_slice.result.now) c.write.ensures.step tt c.write.ensures.faults)
+    rw (c.in-WriteBlock.is, sym c.as_slice.ensures) (runs-granted _ _ _ _ _ _ _ _ (λ h need. granted-write h c.in-WriteBlock.block c.in-WriteBlock.off c.as_slice.result.now) c.write.ensures.step tt c.write.ensures.served)
 
 pub returns-in-ReadBlock-clause-runs : goal.returns-in-ReadBlock-clause-runs
 returns-in-ReadBlock-clause-runs g c =
-    rw c.in-ReadBlock.is (runs-granted _ c.read.result _ _ _ _ _ _ (λ h need. granted-read h c.in-ReadBlock.block c.in-ReadBlock.off c.in-ReadBlock.len) c.read.ensures (err-all c.read.result refl) refl)
+    rw c.in-ReadBlock.is (runs-granted _ c.read.result _ _ _ _ _ _ (λ h need. granted-read h c.in-ReadBlock.block c.in-ReadBlock.off c.in-ReadBlock.len) c.read.ensures (err-all c.read.result refl) (NoneRefused-same _))
 
 pub returns-in-SizeOf-clause-runs : goal.returns-in-SizeOf-clause-runs
 returns-in-SizeOf-clause-runs g c =
-    rw c.in-SizeOf.is (runs-granted _ _ _ _ _ _ _ _ (λ h need. granted-size h c.in-SizeOf.block) c.size.ensures tt refl)
+    rw c.in-SizeOf.is (runs-granted _ _ _ _ _ _ _ _ (λ h need. granted-size h c.in-SizeOf.block) c.size.ensures tt (NoneRefused-same _))
 
 pub returns-in-AddrOf-clause-runs : goal.returns-in-AddrOf-clause-runs
 returns-in-AddrOf-clause-runs g c =
-    rw c.in-AddrOf.is (runs-granted _ _ _ _ _ _ _ _ (λ h need. granted-addr h c.in-AddrOf.at) (λ r. gives-changed (home_of (held_of (meaning g) r c.args.self.now c.args.labels.now)) _ _ c.addr.result (c.addr.ensures r)) tt refl)
+    rw c.in-AddrOf.is (runs-granted _ _ _ _ _ _ _ _ (λ h need. granted-addr h c.in-AddrOf.at) (λ r. gives-changed (home_of (held_of (meaning g) r c.args.self.now c.args.labels.now)) _ _ c.addr.result (c.addr.ensures r)) tt (NoneRefused-same _))
 
 pub returns-in-SegmentOf-clause-runs : goal.returns-in-SegmentOf-clause-runs
 returns-in-SegmentOf-clause-runs g c =
     rw c.in-SegmentOf.is
-    (runs-granted _ _ _ _ _ _ _ _ (λ h need. granted-segment h c.in-SegmentOf.at) (λ r. gives-changed (home_of (held_of (meaning g) r c.args.self.now c.args.labels.now)) _ _ c.segment.result (c.segment.ensures c.args.labels.now r)) tt refl)
+    (runs-granted _ _ _ _ _ _ _ _ (λ h need. granted-segment h c.in-SegmentOf.at) (λ r. gives-changed (home_of (held_of (meaning g) r c.args.self.now c.args.labels.now)) _ _ c.segment.result (c.segment.ensures c.args.labels.now r)) tt (NoneRefused-same _))
 
 pub returns-in-StatOf-clause-runs : goal.returns-in-StatOf-clause-runs
 returns-in-StatOf-clause-runs g c =
-    rw c.in-StatOf.is (runs-granted _ _ _ _ _ _ _ _ (λ h need. tt) (λ r. gives-changed (home_of (held_of (meaning g) r c.args.self.now c.args.labels.now)) _ _ c.stat.result (c.stat.ensures c.args.labels.now r)) tt refl)
+    rw c.in-StatOf.is (runs-granted _ _ _ _ _ _ _ _ (λ h need. tt) (λ r. gives-changed (home_of (held_of (meaning g) r c.args.self.now c.args.labels.now)) _ _ c.stat.result (c.stat.ensures c.args.labels.now r)) tt (NoneRefused-same _))
 
 pub returns-in-Segments-clause-runs : goal.returns-in-Segments-clause-runs
 returns-in-Segments-clause-runs g c =
     rw c.in-Segments.is
     (runs-granted _ c.segments.result _ _ _ _ _ _ (λ h need. tt)
-    (if_ok-map c.segments.result _ _ (λ told eq r. gives-changed (home_of (held_of (meaning g) r c.args.self.now c.args.labels.now)) _ _ told (eq c.args.labels.now r)) c.segments.ensures) (err-all c.segments.result refl) refl)
+    (if_ok-map c.segments.result _ _ (λ told eq r. gives-changed (home_of (held_of (meaning g) r c.args.self.now c.args.labels.now)) _ _ told (eq c.args.labels.now r)) c.segments.ensures) (err-all c.segments.result refl) (NoneRefused-same _))
 
 pub returns-in-Blocks-clause-runs : goal.returns-in-Blocks-clause-runs
 returns-in-Blocks-clause-runs g c =
     rw c.in-Blocks.is
     (runs-granted _ c.blocks-in-Blocks.result _ _ _ _ _ _ (λ h need. tt)
-    (if_ok-map c.blocks-in-Blocks.result _ _ (λ told eq r. gives-changed (home_of (held_of (meaning g) r c.args.self.now c.args.labels.now)) _ _ told (eq r)) c.blocks-in-Blocks.ensures) (err-all c.blocks-in-Blocks.result refl) refl)
+    (if_ok-map c.blocks-in-Blocks.result _ _ (λ told eq r. gives-changed (home_of (held_of (meaning g) r c.args.self.now c.args.labels.now)) _ _ told (eq r)) c.blocks-in-Blocks.ensures) (err-all c.blocks-in-Blocks.result refl) (NoneRefused-same _))
 
 pub returns-in-Poke-clause-runs : goal.returns-in-Poke-clause-runs
 returns-in-Poke-clause-runs g c =
@@ -84,13 +85,13 @@ returns-in-Poke-clause-runs g c =
     rw c.in-Poke.is
     (runs-granted _ _ _ _ _ _ _ _ (λ h need. granted-poke h c.in-Poke.block c.in-Poke.off c.in-Poke.byte)
     (subst (λ z. RunsRegion (meaning g) (λ h. poke_in h c.in-Poke.block z c.in-Poke.byte) c.args.self.now c.args.labels.now (region_with c.poke.new.self c.args.labels.now) c.poke.result)
-    (to_z-of_z w64 c.in-Poke.off fits) c.poke.ensures.step) tt c.poke.ensures.faults)
+    (to_z-of_z w64 c.in-Poke.off fits) c.poke.ensures.step) tt c.poke.ensures.served)
 
 pub returns-in-Check-clause-runs : goal.returns-in-Check-clause-runs
 returns-in-Check-clause-runs g c =
     rw c.in-Check.is
     (runs-granted _ c.check.result _ _ _ _ _ _ (λ h need. granted-check h)
-    (if_ok-map c.check.result _ _ (λ told eq r. gives-changed (home_of (held_of (meaning g) r c.args.self.now c.args.labels.now)) _ _ told (eq r)) c.check.ensures) (err-all c.check.result refl) refl)
+    (if_ok-map c.check.result _ _ (λ told eq r. gives-changed (home_of (held_of (meaning g) r c.args.self.now c.args.labels.now)) _ _ told (eq r)) c.check.ensures) (err-all c.check.result refl) (NoneRefused-same _))
 
 pub returns-in-Watch-clause-runs : goal.returns-in-Watch-clause-runs
 returns-in-Watch-clause-runs g c =
@@ -100,7 +101,7 @@ pub returns-in-ProfileOf-clause-runs : goal.returns-in-ProfileOf-clause-runs
 returns-in-ProfileOf-clause-runs g c =
     rw c.in-ProfileOf.is
     (runs-granted _ c.profile.result _ _ _ _ _ _ (λ h need. granted-profile h)
-    (if_ok-map c.profile.result _ _ (λ told eq r. gives-changed (home_of (held_of (meaning g) r c.args.self.now c.args.labels.now)) _ _ told (eq c.args.labels.now r)) c.profile.ensures) (err-all c.profile.result refl) refl)
+    (if_ok-map c.profile.result _ _ (λ told eq r. gives-changed (home_of (held_of (meaning g) r c.args.self.now c.args.labels.now)) _ _ told (eq c.args.labels.now r)) c.profile.ensures) (err-all c.profile.result refl) (NoneRefused-same _))
 
 pub returns-in_default-clause-runs : goal.returns-in_default-clause-runs
 returns-in_default-clause-runs g c =
@@ -110,7 +111,7 @@ returns-in_default-clause-runs g c =
           (other-region (home_of (held_of (meaning g) r c.args.self.now c.args.labels.now)) c.args.line c.args.command.now NoNeed c.in_default.not-ClearRegion c.in_default.not-Compact c.in_default.not-Alloc c.in_default.not-Align c.in_default.not-Resize c.in_default.not-Free c.in_default.not-WriteBlock c.in_default.not-ReadBlock c.in_default.not-SizeOf c.in_default.not-AddrOf c.in_default.not-SegmentOf c.in_default.not-StatOf c.in_default.not-Segments c.in_default.not-Blocks c.in_default.not-Poke c.in_default.not-Check c.in_default.not-Watch c.in_default.not-ProfileOf);
       err = tt;
       unserved = λ e. absurd (none-no_segment why.NoRegion (λ is. cc) e);
-      faults = λ _. refl;
+      served = λ _. NoneRefused-same _;
     }
 
 pub returns-in-ClearRegion-clause-change : goal.returns-in-ClearRegion-clause-change

@@ -1,4 +1,5 @@
 use Rattle.std.proofs.Common.{◌≡◌, None, List, ℕ, refl, ap, ◌∙◌, sym}
+use Rattle.vc_model.proofs.Keeping.{NoneRefused-equal}
 use Rattle.vc_model.specs.Addr.{place_of}
 use Rattle.vc_model.specs.Discipline.{Discipline}
 use Rattle.vc_region.specs.Region.{region_watch, segments_of}
@@ -69,7 +70,7 @@ returns g c =
     record {
       runs = runs-granted _ _ _ _ _ _ _ None (λ h need. granted-watch h c.args.line c.args.name.now)
           (λ r. gives-watched (before r) has line new (sym c.is_debug.ensures ∙ c.if-not-is_debug.false) put)
-          tt (ap (λ (d : Discipline). d.faults) c.watch.ensures.disc);
+          tt (NoneRefused-equal _ _ c.watch.ensures.disc);
       change = λ r.
           changed-alike (before r) (disc_in (meaning g) c.watch.new.self) new (cells_in c.watch.new.self) c.args.labels.now (ap region_cells c.in_ok-watch.ensures.ok ∙ watch-cells was at line) c.requires.lent c.watch.ensures.disc segments
           (named-watched (before r) has line new put (places_in c.watch.new.self));

@@ -1,5 +1,7 @@
-use Rattle.std.proofs.Common.{◌≡◌, ◌+◌, List, ℕ, length, ap, ◌∙◌, arith, subst}
+use Rattle.std.proofs.Common.{◌≡◌, ◌+◌, List, ℕ, length, ap, ◌∙◌, arith, subst, rules}
+use Rattle.std.proofs.lemmas.Grind.{common_steps}
 use Rattle.std.specs.Prelude.{nat_le}
+use Rattle.vc_model.proofs.Keeping.{NoneRefused-equal}
 use Rattle.vc_model.specs.Addr.{place_of}
 use Rattle.vc_model.specs.Discipline.{Discipline}
 use Rattle.vc_region.specs.Region.{region_write, segments_of}
@@ -33,8 +35,8 @@ size-requires g c = name-there c.args.self.now.region (named g (goal.at.size-req
 pub watch_line-watch-requires : goal.watch_line-watch-requires
 watch_line-watch-requires g c = name-there c.args.self.now.region (named g (goal.at.watch_line-watch-requires g c).In-Some)
 
-pub write-requires-clause-block : goal.write-requires-clause-block
-write-requires-clause-block g c = name-there c.args.self.now.region (named g (goal.at.write-requires-clause-block g c).In-Some)
+pub write-requires : goal.write-requires
+write-requires g c = record { block = name-there c.args.self.now.region (named g (goal.at.write-requires g c).In-Some); range = first_of (search rules, grind (arith, common_steps)) }
 
 pub returns-in-None-clause-step : goal.returns-in-None-clause-step
 returns-in-None-clause-step g c = λ r.
@@ -73,5 +75,5 @@ returns-else-off-bytes g c =
           changed-alike (before r) (disc_in (meaning g) c.write.new.self) new (cells_in c.write.new.self) c.args.labels.now (ap region_cells c.write.ensures.region ∙ cells-written was c.in-Some.at.0 b.block b.found b.first off bytes) c.requires.lent c.write.ensures.disc segments
           (named-written (before r) has off bytes new put (seen-written was c.in-Some.at.0 b.block b.found b.first off bytes (region_of c.write.new.self) c.write.ensures.region c.write.ensures.others) (places_in c.write.new.self));
       granted = λ e. subst NotNoSegment e tt;
-      faults = ap (λ (d : Discipline). d.faults) c.write.ensures.disc;
+      served = NoneRefused-equal _ _ c.write.ensures.disc;
     }
