@@ -18,7 +18,7 @@ use Rattle.vc_dthash.specs.Hashed.{CanLink as HashLink, HasTable, HashFor, list_
 use Rattle.vc_dthash.specs.Slots.{wanted_slots}
 use Rattle.vc_dthash.proofs.HashLemmas.{HashFor-holders, HashFor-same}
 use Rattle.vc_dtord.specs.declared.dt_ord.DtOrd.{DtOrd}
-use Rattle.vc_dtord.specs.Ordered.{CanLink as OrdLink, order_with}
+use Rattle.vc_dtord.specs.Ordered.{CanLink as OrdLink, OrdFor, order_with}
 use Rattle.vc_dtord.proofs.TreeLemmas.{OrdFor-holders, OrdFor-in_order, OrdFor-same}
 use Rattle.vc_dict.specs.declared.dict.Dict.{Dict}
 use Rattle.vc_dict.specs.declared.heads.Heads.{Heads}
