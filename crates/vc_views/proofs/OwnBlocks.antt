@@ -10,7 +10,7 @@ use Rattle.vc_base.proofs.Members.{within-tail}
 use Rattle.vc_dtdisc.specs.Finds.{object_at}
 use Rattle.vc_dtdisc.specs.Rules.{IsObject, Rules}
 use Rattle.vc_dict.specs.Listed.{holders_of}
-use Rattle.vc_dict.specs.Stands.{Stands}
+use Rattle.vc_dict.specs.Stands.{Stands, table_in}
 use Rattle.vc_dict.specs.declared.dict.Dict.{Dict}
 use Rattle.vc_dict.proofs.OwnLemmas.{Stands-own, Stands-table, holder-address, holder-there, holders-told}
 use Rattle.vc_objects.specs.Objects.{Dictionary, own_blocks}
@@ -28,8 +28,8 @@ module _ (rules : Rules) (d : Dict) (b : Blocks) (whole : IsWhole rules d b) whe
       let address : IsAddress 0 = holder-address rules d b xs 0 whole.stands (sym (owned-zero d b) ∙ h) in
       absurd (omega (arith, address.some))
 
-  own-there : (a : ℕ) → a ≢ 0 → contains (d.table.0 ∷ xs) a ≡ true → IsSome (b a)
-  own-there a ne h = elim (eqb_tells d.table.0 a) as (λ _. IsSome (b a)) [
+  own-there : (a : ℕ) → a ≢ 0 → contains ((table_in d).0 ∷ xs) a ≡ true → IsSome (b a)
+  own-there a ne h = elim (eqb_tells (table_in d).0 a) as (λ _. IsSome (b a)) [
     | inl same ↦ subst (λ z. IsSome (b z)) same.1 ((Stands-table _ _ _ _ whole.stands).some (λ e. ne (sym same.1 ∙ e))).there
     | inr apart ↦ (holder-there rules d b xs a whole.stands (rw apart.0 at h)).there
   ]
@@ -42,7 +42,7 @@ module _ (rules : Rules) (d : Dict) (b : Blocks) (whole : IsWhole rules d b) whe
   ]
 
   module _ (new : Blocks) (same : (a : ℕ) → contains (own_blocks (dictionary_of d b)) a ≡ true → new a ≡ b a) where
-    own-same : (a : ℕ) → a ≢ 0 → contains (d.table.0 ∷ xs) a ≡ true → new a ≡ b a
+    own-same : (a : ℕ) → a ≢ 0 → contains ((table_in d).0 ∷ xs) a ≡ true → new a ≡ b a
     own-same a ne h = same a (owned-within d b a ne ∙ h)
 
     stands-new : Stands rules d new xs
@@ -55,7 +55,7 @@ module _ (rules : Rules) (d : Dict) (b : Blocks) (whole : IsWhole rules d b) whe
     object-new a h =
         let address : IsAddress a = holder-address rules d b xs a whole.stands h in
         let some : a ≢ 0 = λ e. absurd (omega (arith, address.some, e)) in
-        ap (λ o. body_of (unwrap_or o [])) (own-same a some (within-tail d.table.0 xs a h))
+        ap (λ o. body_of (unwrap_or o [])) (own-same a some (within-tail (table_in d).0 xs a h))
 
     objects-new : map (object_of new) (holders_of d new) ≡ map (object_of b) xs
     objects-new = ap (map (object_of new)) holders-new ∙ objects-kept b new xs object-new
