@@ -7,6 +7,7 @@ ghost use Rattle.vc_counts.specs.Counting.{CountsStep, IsCountSpentBy};
 ghost use Rattle.vc_counts.specs.Counts.{live_bytes};
 ghost use Rattle.vc_counts.specs.Holders.{AreSomeDicts};
 ghost use Rattle.vc_counts.specs.Working.{busy_in_home, dict_in, open_state, reached_at, region_worked, segments_at, table_at_home, tally_behind, worked_in};
+ghost use Rattle.vc_dict.specs.Stands.{slots_in, table_in};
 ghost use Rattle.vc_objects.specs.Objects.{slots_of, table_size};
 ghost use Rattle.vc_objects.specs.Parts.{table_of};
 ghost use Rattle.vc_script.specs.Needs.{is_refusal};
@@ -74,7 +75,7 @@ fn busy_named<D>(session: &Session<D>, name: &Name) -> u64
 
 // The bytes of a dictionary's table, or 0 where it has none.
 fn table_bytes(dict: &Dict) -> u64
-    ensures bytes { result ≡ table_size (slots_of (table_of dict.now.table.0 dict.now.slots)) }
+    ensures bytes { result ≡ table_size (slots_of (table_of (table_in dict.now).0 (slots_in dict.now))) }
     ensures few { result < 2 ^ 35 }
 {
     if dict.table().is_none() {
