@@ -1,5 +1,4 @@
 -- What a best region asks of its discipline.
-use Rattle.std.specs.Prelude.{ℕ}
 use Rattle.vc_model.specs.Discipline.{Discipline, HasOut}
 use Rattle.vc_best.specs.Parts.{disc_in, segments_in}
 use Rattle.vc_best.specs.declared.best.Best.{Best}

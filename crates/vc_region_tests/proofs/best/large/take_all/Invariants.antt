@@ -1,4 +1,3 @@
-use Rattle.vc_model.specs.Discipline.{Discipline}
 use Rattle.vc_region_tests.specs.Lent.{IsLent}
 use Rattle.vc_region_tests.proofs.best.large.take_all.Given as goal
 

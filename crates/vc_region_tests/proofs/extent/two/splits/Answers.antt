@@ -12,4 +12,4 @@ pub split-b-requires-clause-larger : goal.split-b-requires-clause-larger
 split-b-requires-clause-larger g c = subst (λ (t : List (ℕ × List Extent)). 64 < (extent_of t 1048577).span) (sym c.requires.one) (omega arith)
 
 pub returns-clause-two : goal.returns-clause-two
-returns-clause-two g c = c.split-b.ensures.tiling ∙ ap (change_extent 1048577 (split 64)) c.requires.one
+returns-clause-two g c = c.split-b.ensures.changed.tiling ∙ ap (change_extent 1048577 (split 64)) c.requires.one
