@@ -10,5 +10,5 @@ returns g c =
       need = refl;
       leaves = e.leaves;
       disc = e.disc;
-      rules = c.empty.ensures.rules;
+      rules = e.kind;
     }

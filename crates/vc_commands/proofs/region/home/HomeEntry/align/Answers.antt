@@ -1,4 +1,5 @@
 use Rattle.std.proofs.Common.{◌≡◌, true, false, ◌∷◌, [], List, None, Some, ℕ, ap, refl, rules, subst, sym, ◌∙◌}
+use Rattle.vc_model.proofs.Keeping.{NoneRefused-same}
 use Rattle.std.proofs.lemmas.Bool.{and_parts}
 use Rattle.vc_model.specs.Discipline.{Discipline}
 use Rattle.vc_region.specs.Region.{region_align}
@@ -80,7 +81,7 @@ returns-in_ok-tag-in-None g c =
 pub returns-in_err-tag-in-None : goal.returns-in_err-tag-in-None
 returns-in_err-tag-in-None g c =
     record {
-      runs = runs-halted _ c.from_residual.result _ _ _ _ _ _ (search rules) (reserved-with (meaning g) c.args.self.now c.reserve.ensures.same) refl;
+      runs = runs-halted _ c.from_residual.result _ _ _ _ _ _ (search rules) (reserved-with (meaning g) c.args.self.now c.reserve.ensures.same) (NoneRefused-same _);
       change = reserved-change (meaning g) c.args.self.now c.reserve.ensures.same c.reserve.ensures.agree c.requires.names c.requires.lent;
     }
 

@@ -1,5 +1,5 @@
 use Rattle.std.proofs.Common.{◌≡◌, None, List, ℕ, refl, ap, ◌∙◌, sym, subst}
-use Rattle.vc_model.proofs.Keeping.{NoneRefused-equal}
+use Rattle.vc_model.proofs.Keeping.{NoneRefused-equal, NoneRefused-same}
 use Rattle.vc_model.specs.Addr.{place_of}
 use Rattle.vc_model.specs.Discipline.{Discipline}
 use Rattle.vc_model.specs.Layout.{address_of}
@@ -33,7 +33,7 @@ returns-in_default g c =
     record {
       runs = runs-granted _ _ _ _ _ _ _ None (λ h need. granted-free h c.args.name.now c.args.line)
           (λ r. gives-none (held_of (meaning g) r c.args.self.now c.args.labels.now) c.args.name.now (λ k. free_block k c.args.name.now c.args.line) c.no_block.result c.requires.names c.in_default.ensures.none c.no_block.ensures.value)
-          tt refl;
+          tt (NoneRefused-same _);
       change = λ r. change-same (held_of (meaning g) r c.args.self.now c.args.labels.now) c.args.labels.now c.requires.lent c.requires.names;
     }
 
@@ -62,7 +62,7 @@ returns-in-Ok g c =
     let b = the_block has in
     let i = index (place_of a) b.block (blocks_of was) (seen-found was a b.block b.found b.first) in
     let done = seen-freed was a b.block b.found b.first is c.in-Ok.ensures.answer in
-    let left = seen-left was a b.block b.found b.first is c.in-Ok.ensures.answer (c.in-Ok.ensures.freed i.at i.within (λ d. ap address_of (i.is d) ∙ b.address) ∙ i.gone) in
+    let left = seen-left was a b.block b.found b.first is c.in-Ok.ensures.answer (c.in-Ok.ensures.freed.freed i.at i.within (λ d. ap address_of (i.is d) ∙ b.address) ∙ i.gone) in
     let w = removed-label labels labels' name has.tag (label_of name c.in-Some.at) has.named has.there c.free-in-Ok.result c.free-in-Ok.ensures.some c.free-in-Ok.ensures.none in
     let so = removed-so labels labels' name has.tag _ has.named c.free-in-Ok.result c.free-in-Ok.ensures.kept c.free-in-Ok.ensures.none in
     let keeps : (r : List ℕ) → kept_of labels' ≡ kept_freed (home_of (held_of (meaning g) r c.args.self.now c.args.labels.now)) name line = λ r. kept-after (held_of (meaning g) r c.args.self.now c.args.labels.now) has line labels' c.keeps_freed-keeps.result c.keeps_freed-keeps.ensures so in

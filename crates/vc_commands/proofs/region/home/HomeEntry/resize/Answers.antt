@@ -3,6 +3,7 @@ use Rattle.vc_model.proofs.Keeping.{NoneRefused-same, NoneRefused-served}
 use Rattle.vc_model.specs.Discipline.{Discipline}
 use Rattle.vc_region.specs.Region.{region_with_labels}
 use Rattle.vc_region.specs.Cells.{rest_in}
+use Rattle.vc_region.specs.Parts.{disc_in, region_of}
 use Rattle.vc_script.specs.declared.refusal.Refusal.TheVariants as why
 use Rattle.vc_commands.proofs.Seen.{seen-out}
 use Rattle.vc_commands.specs.Held.{IsNamed, home_of}

@@ -1,5 +1,5 @@
 use Rattle.std.proofs.Common.{◌≡◌, None, List, ℕ, refl, ap, ◌∙◌, sym}
-use Rattle.vc_model.proofs.Keeping.{NoneRefused-equal}
+use Rattle.vc_model.proofs.Keeping.{NoneRefused-equal, NoneRefused-same}
 use Rattle.vc_model.specs.Addr.{place_of}
 use Rattle.vc_model.specs.Discipline.{Discipline}
 use Rattle.vc_region.specs.Region.{region_watch, segments_of}
@@ -39,7 +39,7 @@ returns-in_default g c =
     record {
       runs = runs-granted _ _ _ _ _ _ _ None (λ h need. granted-watch h c.args.line c.args.name.now)
           (λ r. gives-none (held_of (meaning g) r c.args.self.now c.args.labels.now) c.args.name.now (λ k. watch_block k c.args.line c.args.name.now) c.no_block.result c.requires.names c.in_default.ensures.none c.no_block.ensures.value)
-          tt refl;
+          tt (NoneRefused-same _);
       change = λ r. change-same (held_of (meaning g) r c.args.self.now c.args.labels.now) c.args.labels.now c.requires.lent c.requires.names;
     }
 
@@ -51,7 +51,7 @@ returns-then-not-is_debug g c =
           let h = held_of (meaning g) r c.args.self.now c.args.labels.now in
           gives-unchanged (home_of h) (watch_in (home_of h) c.args.line c.args.name.now) why.WrongMethod
           (watch-method h (named g (goal.at.returns-then-not-is_debug g c).In-Some) c.args.line (sym c.is_debug.ensures ∙ c.if-not-is_debug.true)))
-          tt refl;
+          tt (NoneRefused-same _);
       change = λ r. change-same (held_of (meaning g) r c.args.self.now c.args.labels.now) c.args.labels.now c.requires.lent c.requires.names;
     }
 
