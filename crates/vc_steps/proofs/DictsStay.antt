@@ -110,7 +110,7 @@ stays-remove kinds hs i h at e other =
 
 -- whether a dictionary lies in a region
 pub busy-lies : (hs : List Held) (vs : Vs) (es : List Entry) (r : List ℕ) → list_any (λ (d : DictHome). bytes_eq d.home r) (dicts_in hs vs es) ≡ lies_in r es
-busy-lies hs vs es r = any-map (λ (d : DictHome). bytes_eq d.home r) (dict_home hs vs) es
+busy-lies hs vs es r = any-map (dict_home hs vs) (λ (d : DictHome). bytes_eq d.home r) es
 
 pub all-other : (kinds : List Rules) (before after : List Held) (r : List ℕ) → ((e : Entry) → bytes_eq e.1.home r ≡ false → Stays kinds before after e) → (es : List Entry) → lies_in r es ≡ false → AllByRecursion (Stays kinds before after) es
 all-other kinds before after r each [] none = tt

@@ -73,8 +73,8 @@ numbered-push es new numbered free within = record {
 -- where one ends
 contains-remove : (es : List Entry) (i n : ℕ) → contains (map number_in es) n ≡ false → contains (map number_in (remove es i)) n ≡ false
 contains-remove es i n none =
-    any-map (λ x. x == n) number_in (remove es i)
-    ∙ any-remove (λ e. number_in e == n) es i (sym (any-map (λ x. x == n) number_in es) ∙ none)
+    any-map number_in (λ x. x == n) (remove es i)
+    ∙ any-remove (λ e. number_in e == n) es i (sym (any-map number_in (λ x. x == n) es) ∙ none)
 
 distinct-remove : (es : List Entry) (i : ℕ) → AreDistinct (map number_in es) → AreDistinct (map number_in (remove es i))
 distinct-remove [] zero distinct = tt

@@ -99,7 +99,7 @@ module _ (over : Entry → Dictionary) (links : Links) (entries : List Entry) (n
     -- a dictionary is viewed where its number is
     pub viewed-named : is_viewed_in (homes over links entries) e.0 ≡ is_viewed links (number_in e)
     viewed-named =
-        any-map (views_it e.0) (home over links entries) entries
+        any-map (home over links entries) (views_it e.0) entries
         ∙ same-test (list_any (λ f. views_it e.0 (home over links entries f)) entries) (is_viewed links (number_in e)) forth back
 
     -- and is viewed or views one where its number is, or has a link

@@ -75,7 +75,7 @@ module _ (over : Entry → Dictionary) (links : Links) (entries : List Entry) (n
   -- some path by names is too deep where one by numbers is too long
   pub deep-named : is_too_deep (homes over links entries) ≡ are_too_long links
   deep-named =
-      any-map (λ d. nat_lt path_limit (length (path_to (suc path_limit) (homes over links entries) d))) (home over links entries) entries
+      any-map (home over links entries) (λ d. nat_lt path_limit (length (path_to (suc path_limit) (homes over links entries) d))) entries
       ∙ sym (long-test (list_any is_deep entries) refl)
 
 -- a refusal by three tests is that of a fault by the same, the last of which counts for dictionaries that are alike
@@ -116,9 +116,9 @@ module _ (over : Entry → Dictionary) (all : Layered) (links : Links) (entries 
 
   cycle-named : list_any (is_dict d.0) (path_in (homes over links entries) (home over links entries e)) ≡ contains (path links (number_in e)) (number_in d)
   cycle-named =
-      sym (any-map (λ b. b) (is_dict d.0) (path_in (homes over links entries) (home over links entries e)))
+      sym (any-map (is_dict d.0) (λ b. b) (path_in (homes over links entries) (home over links entries e)))
       ∙ ap (list_any (λ b. b)) (path-each over links entries names are (is_dict d.0) (λ n. n == number_in d) named-each j e there)
-      ∙ any-map (λ b. b) (λ n. n == number_in d) (path links (number_in e))
+      ∙ any-map (λ n. n == number_in d) (λ b. b) (path links (number_in e))
 
   -- dictionaries that are alike may be linked
   linked-alike : are_alike all (number_in d) (number_in e) ≡ true → IsViewLink entries (number_in d) (number_in e)

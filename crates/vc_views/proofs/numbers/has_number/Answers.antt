@@ -18,4 +18,4 @@ returns c =
     let chain : YieldsList (TakesFirst (deref {X = DictEntry})) (λ (y : Bor DictEntry). y.now) c.values.result (values_of es) =
     record { runs = subst (λ s. AlwaysYields (TakesFirst (deref {X = DictEntry})) (λ (y : Bor DictEntry). y.now) s (values_of es)) (sym c.values.ensures.rest) (values-yield (values_of es)) } in
     any_from_yields_List {v = λ (y : Bor DictEntry). y.now} (λ (e : DictEntry). e.number == n) _ _ c.any.result c.any.ensures.ran chain (λ x b q k. search (rules, tests))
-    ∙ any-map (λ (e : DictEntry). e.number == n) (λ e. e.1) es ∙ sym (any-map (λ m. m == n) number_in es)
+    ∙ any-map (λ e. e.1) (λ (e : DictEntry). e.number == n) es ∙ sym (any-map number_in (λ m. m == n) es)

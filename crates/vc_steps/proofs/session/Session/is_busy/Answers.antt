@@ -18,4 +18,4 @@ returns g c =
     let chain : YieldsList (TakesFirst (deref {X = DictEntry})) (λ (y : Bor DictEntry). y.now) c.values.result (values_of es) =
     record { runs = subst (λ s. AlwaysYields (TakesFirst (deref {X = DictEntry})) (λ (y : Bor DictEntry). y.now) s (values_of es)) (sym c.values.ensures.rest) (values-yield (values_of es)) } in
     any_from_yields_List {v = λ (y : Bor DictEntry). y.now} (λ (e : DictEntry). bytes_eq e.home r) _ _ c.any.result c.any.ensures.ran chain (λ x b q k. search (rules, tests))
-    ∙ any-map (λ (e : DictEntry). bytes_eq e.home r) (λ e. e.1) es
+    ∙ any-map (λ e. e.1) (λ (e : DictEntry). bytes_eq e.home r) es
