@@ -31,6 +31,7 @@ use Rattle.vc_steps.specs.DictHomes.{AreDicts, IsDictOf, dict_home, dicts_in}
 use Rattle.vc_steps.specs.Dicts.{dict_changed, dict_command, dict_of, dict_step, is_turn, runs_alone, seat_at_home}
 use Rattle.vc_views.specs.Views.{is_linked_in, DictHome}
 use Rattle.vc_steps.specs.Homes.{held_all}
+use Rattle.vc_region.specs.Region.{segments_of}
 use Rattle.vc_commands.specs.RegionRun.{held_of}
 use Rattle.vc_steps.specs.WantedSegments.{IsCutOff, StepLacksFor}
 use Rattle.vc_steps.specs.Refusals.{refusal_at}
