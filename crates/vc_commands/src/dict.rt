@@ -1,4 +1,3 @@
-// The commands on one dictionary.
 mod entry;
 mod look_rows;
 mod looking;

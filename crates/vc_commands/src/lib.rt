@@ -7,5 +7,5 @@ mod region;
 pub use dict::{DictEntry, look, run};
 pub use region::{HomeEntry, Labels};
 
-/// Marks a counter of steps that no one reads.
+// Marks a counter of steps that no one reads.
 struct Uncounted;

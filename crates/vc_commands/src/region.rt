@@ -1,4 +1,3 @@
-// The commands on one region.
 mod audit;
 mod blocks;
 mod bytes;

@@ -1,4 +1,3 @@
-// The counts of a run.
 ghost use Rattle.std.specs.Prelude.{◌≡◌, ◌+◌, ◌<◌, ◌≤◌, ◌^◌};
 ghost use Rattle.vc_counts.specs.CanCount.{IsInRange, counted_commands};
 ghost use Rattle.vc_counts.specs.Counts.{nothing_counted};

@@ -1,4 +1,3 @@
-// The bytes of a dictionary's holders.
 ghost use Rattle.std.specs.Prelude.{◌≡◌, ◌<◌, ◌^◌, map};
 ghost use Rattle.vc_counts.specs.Holders.{IsSomeWhole, IsWholeIn};
 ghost use Rattle.vc_counts.specs.Working.{holders_bytes};

@@ -1,4 +1,3 @@
-// What of its region a command may put, resize or free.
 ghost use Rattle.std.specs.Prelude.{◌≡◌};
 ghost use Rattle.vc_objects.specs.Objects.{holder_size};
 ghost use Rattle.vc_counts.specs.Reach.{bytes_freed_by, holder_freed, holder_put, put_by_reply, reach_of};

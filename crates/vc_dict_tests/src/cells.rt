@@ -1,5 +1,3 @@
-//! Tests of the structures that stand on cells, over a memory of five blocks.
-
 mod five;
 mod one_hash;
 

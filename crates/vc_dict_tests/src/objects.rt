@@ -1,3 +1,1 @@
-//! Tests of dictionaries in best regions.
-
 mod large;

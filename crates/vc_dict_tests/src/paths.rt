@@ -1,5 +1,3 @@
-//! Tests of view paths, over dictionaries of a few objects of one byte each.
-
 mod toy;
 
 pub use toy::Toy;

@@ -11,7 +11,7 @@ use vc_last::Last;
 use vc_pool::Pool;
 use vc_seg::{BoxedDisc, Method, SegDisc};
 
-/// Marks a counter of steps that no one reads.
+// Marks a counter of steps that no one reads.
 pub(crate) struct Uncounted;
 
 /// A region of one of the methods over the segments of a discipline. Its lists of segments and blocks are those of the

@@ -1,4 +1,3 @@
-// The segments of a region.
 ghost use Rattle.std.specs.Prelude.{◌≡◌, ◌≤◌, [], drop, length, map};
 ghost use Rattle.vc_layouts.specs.Tally.{HasRoom, tally_of};
 ghost use Rattle.vc_seg.specs.Segment.{AreSegments, pair_of};
@@ -8,7 +7,7 @@ use crate::region::Region;
 use vc_layouts::Tally;
 use vc_seg::Segment;
 
-/// How many these are, and their sizes.
+// How many these are, and their sizes.
 fn tally(segments: &[Segment]) -> Tally
     requires { HasRoom (tally_of []) (map (λ s. s.1) (map pair_of segments.now)) }
     ensures { result ≡ tally_of (map (λ s. s.1) (map pair_of segments.now)) }
@@ -20,7 +19,7 @@ fn tally(segments: &[Segment]) -> Tally
     tally
 }
 
-/// Those behind the first ones, in order of lending: none where there are no more than these.
+// Those behind the first ones, in order of lending: none where there are no more than these.
 fn tally_behind(segments: &[Segment], first: usize) -> Tally
     requires { AreSegments segments.now }
     ensures value { result ≡ tally_of (map (λ s. s.1) (drop first (map pair_of segments.now))) }

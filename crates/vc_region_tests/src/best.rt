@@ -1,5 +1,3 @@
-//! Tests of best regions.
-
 mod calls;
 mod filled;
 mod large;

@@ -1,3 +1,1 @@
-//! Tests of the tree of gaps, over two segments.
-
 mod tests;

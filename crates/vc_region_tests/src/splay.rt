@@ -1,5 +1,3 @@
-//! Tests of splay trees, over a store of four nodes that is lent.
-
 mod by_key;
 mod lent;
 mod rows;

@@ -1,4 +1,3 @@
-// What the words of a tool ask for.
 ghost use Rattle.std.specs.Prelude.{IsTrue};
 ghost use Rattle.vc_session.specs.Asked.{is_in_range};
 

@@ -1,4 +1,3 @@
-// Whole scripts over debug and profile regions, whose texts are computed by the definitions.
 ghost use Rattle.std.specs.Prelude.{◌≡◌, ◌++◌, ℕ, [], codes, List};
 ghost use Rattle.vc_session.specs.Rows.{at_first, text_from};
 

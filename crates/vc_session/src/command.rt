@@ -1,4 +1,3 @@
-// What one command does, and what is written of its reply.
 ghost use Rattle.std.specs.Prelude.{Some, IsTrue};
 ghost use Rattle.vc_counts.specs.CanCount.{CanCount};
 ghost use Rattle.vc_counts.specs.Counts.{live_bytes};

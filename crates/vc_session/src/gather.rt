@@ -1,4 +1,3 @@
-// What is written of a reply.
 ghost use Rattle.std.specs.Prelude.{◌≡◌, Some, OnOk};
 ghost use Rattle.vc_script.specs.Needs.{need_for, need_shown};
 ghost use Rattle.vc_script.specs.Print.{line_of};

@@ -1,4 +1,3 @@
-// The commands that a tool makes of a seed, as a list, and run one by one.
 ghost use Rattle.std.specs.Prelude.{◌≡◌, ℕ, ◌<◌, ◌≤◌, ◌^◌, List, [], ◌++◌, Some, true, IfOk, IfSome, OnErr, OnOk, length};
 ghost use Rattle.std.specs.List.{AllByRecursion};
 ghost use Rattle.vc_counts.specs.CanCount.{CanCount};

@@ -1,4 +1,3 @@
-// Whole scripts over regions of the other methods, whose texts are computed by the definitions.
 ghost use Rattle.std.specs.Prelude.{◌≡◌, ◌++◌, ℕ, [], ◌∷◌, codes, List};
 ghost use Rattle.vc_script.specs.Needs.{ForBlock};
 ghost use Rattle.vc_script.specs.declared.tool.Tool.TheVariants.{Vmreplay};

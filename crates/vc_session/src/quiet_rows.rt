@@ -1,4 +1,3 @@
-// Runs behind words, whose texts are computed by the definitions.
 ghost use Rattle.std.specs.Prelude.{◌≡◌, [], ◌∷◌, true, codes};
 ghost use Rattle.vc_script.specs.Needs.{ForBlock, NoNeed};
 ghost use Rattle.vc_script.specs.declared.tool.Tool.TheVariants.{Dtrun, Vmreplay};

@@ -1,4 +1,3 @@
-// Whole scripts, whose texts are computed by the definitions.
 ghost use Rattle.std.specs.Prelude.{◌≡◌, ◌++◌, ℕ, [], ◌∷◌, Some, None, codes, List};
 ghost use Rattle.vc_script.specs.Needs.{ForBlock};
 ghost use Rattle.vc_session.specs.Run.{first_bad, run_from, script};

@@ -1,4 +1,3 @@
-// The script of a source, from a session's start to its end.
 ghost use Rattle.std.specs.Prelude.{◌≡◌, [], None, Some, length};
 ghost use Rattle.vc_script.specs.Cutting.{new_cutting};
 ghost use Rattle.vc_session.specs.Engine.{RunsScript};

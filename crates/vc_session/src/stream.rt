@@ -1,4 +1,3 @@
-// Writing all of a piece.
 ghost use Rattle.std.specs.Prelude.{◌≡◌, ℕ, ◌+◌, ◌<◌, ◌≤◌, List, [], ◌++◌, Some, IfSome, IfOk, IfErr, OnOk, OnErr, IsErrOf, length, take};
 ghost use Rattle.vc_model.specs.Count.{Rose};
 

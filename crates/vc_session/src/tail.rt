@@ -1,4 +1,3 @@
-// What stands behind the replies of a run.
 ghost use Rattle.std.specs.Prelude.{◌≡◌, [], ◌∷◌, ◌++◌, decimal, length, map, OnOk};
 ghost use Rattle.vc_commands.specs.Held.{home_of};
 ghost use Rattle.vc_region.specs.Parts.{region_of};

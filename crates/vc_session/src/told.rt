@@ -1,4 +1,3 @@
-// What is told of how a run ended.
 ghost use Rattle.std.specs.Prelude.{◌≡◌, ◌≤◌, OnErr, OnOk, length};
 ghost use Rattle.vc_session.specs.Replay.{Broke, Told, err_line, fault_text, message, tool_name};
 

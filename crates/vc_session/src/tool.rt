@@ -1,4 +1,3 @@
-// The top calls: a script from a source or of generated commands, its replies to one sink, a fault to another.
 ghost use Rattle.std.specs.Prelude.{◌≡◌, [], Some, IsSome, map, string_bytes};
 ghost use Rattle.vc_script.specs.declared.tool.Tool.TheVariants.{Dtrun, Vmreplay};
 ghost use Rattle.vc_session.specs.Engine.{RunsAsked};

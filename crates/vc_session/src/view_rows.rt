@@ -1,4 +1,3 @@
-// Whole scripts over views, whose texts are computed by the definitions.
 ghost use Rattle.std.specs.Prelude.{◌≡◌, ◌++◌, [], codes};
 ghost use Rattle.vc_script.specs.declared.tool.Tool.TheVariants.{Dtrun};
 ghost use Rattle.vc_session.specs.Rows.{plain_text, with_kinds};

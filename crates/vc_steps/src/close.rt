@@ -1,4 +1,3 @@
-// The closing of regions: the segments and the discipline are given back.
 ghost use Rattle.std.specs.Prelude.{◌≡◌, ◌≢◌, false, ℕ, ◌+◌, ◌-◌, ◌<◌, [], List, Some, IfSome, length, remove, slice_get, slice_set};
 ghost use Rattle.vc_model.specs.Discipline.{HasOut};
 ghost use Rattle.vc_model.specs.Numbered.{at_number};

@@ -1,4 +1,3 @@
-// The opening of dictionaries.
 ghost use Rattle.std.specs.Prelude.{◌≡◌, ◌<◌, ◌&&◌, [], IfSome, length, nat_le, slice_get};
 ghost use Rattle.vc_region.specs.Cells.{rest_in};
 ghost use Rattle.vc_region.specs.Region.{is_best};

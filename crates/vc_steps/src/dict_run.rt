@@ -1,4 +1,3 @@
-// The commands on a dictionary.
 ghost use Rattle.std.specs.Prelude.{◌≡◌, Some, IfSome, true, false, slice_get};
 ghost use Rattle.vc_steps.specs.DictHomes.{dict_index};
 ghost use Rattle.vc_steps.specs.DictRuns.{RunsOn};

@@ -1,4 +1,3 @@
-// The ending of a dictionary.
 ghost use Rattle.std.specs.Prelude.{◌≡◌, ℕ, ◌<◌, None, IfSome, false, length, slice_get};
 ghost use Rattle.vc_paths.specs.Links.{below, is_viewed};
 ghost use Rattle.vc_steps.specs.DictRuns.{ShutsAll};

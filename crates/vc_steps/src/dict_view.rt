@@ -1,4 +1,3 @@
-// Views between the dictionaries of a session, and what is seen through them.
 ghost use Rattle.std.specs.Prelude.{◌≡◌, Some, true};
 ghost use Rattle.vc_commands.specs.Looking.{is_look};
 ghost use Rattle.vc_script.specs.Needs.{need_shown};

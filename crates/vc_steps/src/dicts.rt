@@ -1,4 +1,3 @@
-// The dictionaries of a session.
 ghost use Rattle.std.specs.Prelude.{◌≡◌};
 
 use crate::session::Session;

@@ -1,4 +1,3 @@
-// The opening of regions.
 ghost use Rattle.std.specs.Prelude.{◌≡◌, List};
 ghost use Rattle.vc_dtdisc.specs.Rules.{Gone, Rules};
 ghost use Rattle.vc_script.specs.declared.command.Command.TheVariants.{OpenRegion};

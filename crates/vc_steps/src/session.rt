@@ -1,4 +1,3 @@
-// A session: its open regions and dictionaries, over a shelf.
 ghost use Rattle.std.specs.Prelude.{◌≡◌, ◌&&◌, [], List, None, Some, false, IfOk, OnErr, OnOk, IsTrue};
 ghost use Rattle.vc_dtdisc.specs.Rules.{Gone, Rules};
 ghost use Rattle.vc_steps.specs.Homes.{HoldsDicts, HoldsRegions, IsSessionOver, KeepsRegions, StandsOverAny, accounts_on, settled_over, state_over};

@@ -1,4 +1,3 @@
-// The sizes of the blocks that have a name in an open region.
 ghost use Rattle.std.specs.Prelude.{◌≡◌, length, map};
 ghost use Rattle.vc_commands.specs.Held.{home_of};
 ghost use Rattle.vc_steps.specs.Homes.{held_in_session};

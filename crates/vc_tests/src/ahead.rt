@@ -1,5 +1,3 @@
-// Nothing is read ahead: a read comes when the replies to what came before are written, and none behind a failed write,
-// a bad line or the end of the input.
 ghost use Rattle.std.specs.Prelude.{◌≡◌, ◌≤◌, Some, IfOk, OnErr};
 ghost use Rattle.vc_model.specs.Count.{Rose};
 ghost use Rattle.vc_model.specs.Stream.{Reads, Writes};

@@ -1,4 +1,3 @@
-// Whole runs behind words of a command line, over what the programs hand in, with ample memory.
 use crate::given::{kinds, put};
 use crate::same::same_bytes;
 use crate::words::words_of;

@@ -1,4 +1,3 @@
-// Where blocks are placed, and what can be read and written of them.
 use crate::given::{Talk, fine, is_said, put_number, replies};
 use std::alloc::{AllocError, Global};
 use std::test::Fail;

@@ -1,4 +1,3 @@
-// Public calls that no script of the other tests reaches, or whose answers none shows, once each, with ample memory.
 use crate::same::same_bytes;
 use std::io::{ErrorKind, Read, Write};
 use std::process::Abort;

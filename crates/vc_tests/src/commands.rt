@@ -1,4 +1,3 @@
-// The commands that each tool makes of a seed, with ample memory: one by one, and as a list.
 use std::alloc::Global;
 use std::process::Abort;
 use std::test::Fail;

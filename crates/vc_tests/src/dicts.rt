@@ -1,4 +1,3 @@
-// Scripts over dictionaries through the top call of dtrun.
 use crate::given::run_dicts;
 use std::alloc::{AllocError, Global};
 use std::process::Abort;

@@ -1,4 +1,3 @@
-// The edges of every form of words: which lines are taken, and the fault of each other one.
 use std::alloc::Global;
 use vc_script::{LineAnswer, LineFault, Tool, read_line};
 

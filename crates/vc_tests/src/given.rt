@@ -1,4 +1,3 @@
-// What a script through the top calls is given, and what comes out.
 use itoa::Buffer;
 use std::alloc::{AllocError, Global};
 use std::process::Abort;

@@ -1,4 +1,3 @@
-// Dictionaries of the longest objects, and of many: with ample memory no command wants more.
 use crate::given::{Talk, put_number, run_dicts};
 use crate::same::same_bytes;
 use std::alloc::{AllocError, Global};

@@ -1,4 +1,3 @@
-// A lend that finds no memory isn't made again: the discipline would refuse the second call.
 use std::alloc::{AllocError, Global};
 use std::process::Abort;
 use vc_base::{MemSink, MemSource};

@@ -1,4 +1,3 @@
-// Longer scripts, whole and in pieces of seven bytes.
 use crate::given::{Talk, fine, is_said, put_number, replies};
 use std::alloc::{AllocError, Global};
 use std::test::Fail;

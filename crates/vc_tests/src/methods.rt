@@ -1,4 +1,3 @@
-// Scripts over regions of the other methods than best fit, and over a budget.
 use crate::given::{Talk, ample, fine, put, put_number, run};
 use std::alloc::{AllocError, Global};
 use std::process::Abort;

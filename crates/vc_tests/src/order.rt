@@ -1,4 +1,3 @@
-// In what order segments go back, and what comes of a room that is told.
 ghost use Rattle.std.specs.Prelude.{◌≡◌, ◌%◌, Contains, IfOk, OnOk, IsErrOf};
 ghost use Rattle.vc_model.specs.Discipline.{IsRound, IsSegmentSize, Lent, Unserved};
 ghost use Rattle.vc_seg.specs.Budget.{discipline_of};

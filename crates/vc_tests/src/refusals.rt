@@ -1,4 +1,3 @@
-// A lend that is refused, or that finds no memory, isn't made again.
 ghost use Rattle.std.specs.Prelude.{◌≡◌, ◌%◌, Contains, IfOk, OnOk, IsErrOf};
 ghost use Rattle.vc_model.specs.Discipline.{IsRound, IsSegmentSize, Lent, Unserved};
 ghost use Rattle.vc_seg.specs.Budget.{discipline_of};

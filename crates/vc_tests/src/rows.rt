@@ -1,4 +1,3 @@
-// Whole scripts through the top call, and what comes of them.
 use crate::given::{Expected, replies};
 use std::alloc::{AllocError, Global};
 use std::process::Abort;

@@ -1,4 +1,3 @@
-// Scripts whose reads and writes fail, and lines at their limit.
 use crate::given::{Expected, Given, Talk, ample, fine, put, run};
 use std::alloc::{AllocError, Global};
 use std::process::Abort;

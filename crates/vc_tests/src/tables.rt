@@ -1,4 +1,3 @@
-// The tables of sets and bags as they grow: a larger one comes with the 33rd object and with the 65th.
 use crate::given::{Talk, kinds, put, put_number, run_kinds};
 use crate::same::same_bytes;
 use std::alloc::{AllocError, Global};

@@ -1,4 +1,3 @@
-// In what order dictionaries are shut, which objects kinds make, and of which they are told.
 ghost use Rattle.vc_dtdisc.specs.ShapeLaws.{rules-lawful};
 ghost use Rattle.vc_dtdisc.specs.Shapes.{rules_of};
 

@@ -1,4 +1,3 @@
-// Scripts in which dictionaries view others, through the top call of dtrun.
 ghost use Rattle.vc_dtdisc.specs.ShapeLaws.{rules-lawful};
 ghost use Rattle.vc_dtdisc.specs.Shapes.{rules_of};
 

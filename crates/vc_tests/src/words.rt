@@ -1,4 +1,3 @@
-// The words behind a program's name, with ample memory.
 use std::alloc::{AllocError, Global};
 use std::process::Abort;
 use std::test::Fail;

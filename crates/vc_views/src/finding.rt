@@ -1,4 +1,3 @@
-// What is found in a dictionary.
 ghost use Rattle.std.specs.Prelude.{◌≡◌, ◌<◌, ℕ, List, Some, length, map, slice_get};
 ghost use Rattle.std.specs.Option.{option_map};
 ghost use Rattle.vc_dtdisc.specs.Rules.{Rules};

@@ -1,4 +1,3 @@
-// Layers by borrows of a session's maps.
 ghost use Rattle.std.specs.Prelude.{◌≡◌, ◌≤◌, length, map, take};
 ghost use Rattle.std.proofs.Common.{refl, ◌∙◌};
 ghost use Rattle.vc_dtdisc.specs.Rules.{Rules};

@@ -1,4 +1,3 @@
-// The commands that look through a dictionary of a session.
 ghost use Rattle.std.specs.Prelude.{◌≡◌, true, IfOk, map};
 ghost use Rattle.vc_dtdisc.specs.Rules.{Rules};
 ghost use Rattle.vc_commands.specs.Looking.{is_look};

@@ -1,4 +1,3 @@
-// Where the dictionary of a number is, its kind and its region.
 ghost use Rattle.std.specs.Prelude.{◌≡◌, ◌<◌, Some, IsSome, length, map, slice_get};
 ghost use Rattle.std.specs.Option.{option_map};
 ghost use Rattle.vc_model.specs.Numbered.{at_number};

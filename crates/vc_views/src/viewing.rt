@@ -1,4 +1,3 @@
-// The view of one dictionary through another.
 ghost use Rattle.std.specs.Prelude.{◌≡◌, Some, IfErr, IfOk, map};
 ghost use Rattle.std.specs.Result.{result_err};
 ghost use Rattle.vc_dtdisc.specs.Rules.{Rules};

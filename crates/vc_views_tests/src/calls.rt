@@ -1,4 +1,3 @@
-// Each call of `Layers`, and its answers.
 ghost use Rattle.std.specs.Prelude.{◌<◌};
 ghost use Rattle.vc_paths.specs.Layers.{Same};
 ghost use Rattle.vc_views_tests.specs.Four.{AreFour};

@@ -1,4 +1,3 @@
-// A session in which regions and dictionaries are open.
 ghost use Rattle.std.specs.Prelude.{◌≡◌, IfOk};
 ghost use Rattle.vc_dtdisc.specs.Rules.{Rules};
 ghost use Rattle.vc_steps.specs.Homes.{IsSessionOver};

@@ -1,4 +1,3 @@
-// What is seen along view paths.
 ghost use Rattle.vc_paths.specs.Layers.{Same};
 ghost use Rattle.vc_views_tests.specs.Four.{AreFour, AreFourPaths};
 

@@ -1,4 +1,3 @@
-// Where the objects of dictionaries stand.
 ghost use Rattle.std.specs.Prelude.{◌≡◌, ◌<◌, IsSome};
 ghost use Rattle.vc_paths.specs.Layers.{bytes_there};
 ghost use Rattle.vc_views_tests.specs.Four.{AreFour, IsPlaced};

@@ -1,5 +1,3 @@
-// Three dictionaries of one kind in two regions, of which the first views the second and that one the third, and a stack
-// of another kind beside them.
 ghost use Rattle.std.specs.Prelude.{map};
 ghost use Rattle.vc_dtdisc.specs.Rules.{Rules};
 ghost use Rattle.vc_views.specs.Dicts.{AreDictsOver, region_seen};

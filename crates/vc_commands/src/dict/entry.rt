@@ -1,4 +1,3 @@
-// A dictionary that is open.
 use vc_base::Name;
 use vc_dict::Dict;
 

@@ -1,4 +1,3 @@
-// Worked rows of what the commands that look through a view path find and reply.
 ghost use Rattle.std.specs.Prelude.{◌≡◌, ◌∷◌, [], None, Some, replicate, codes};
 ghost use Rattle.vc_commands.specs.DictRows.{name};
 ghost use Rattle.vc_commands.specs.LookRows.{own_there, reply_there};

@@ -1,4 +1,3 @@
-// The commands that look through a view path.
 ghost use Rattle.std.specs.Prelude.{◌≡◌, ◌==◌, Some, None, true, IfOk, IsSome, map, if◌then◌else◌};
 ghost use Rattle.std.specs.Option.{option_map};
 ghost use Rattle.vc_base.specs.Address.{number_of};

@@ -1,4 +1,3 @@
-// The commands that put an object into a dictionary.
 ghost use Rattle.std.specs.Prelude.{◌≡◌, None, true, false, IfOk, OnErr, OnOk};
 ghost use Rattle.vc_base.specs.Methods.{is_list, is_set};
 ghost use Rattle.vc_dtdisc.specs.Rules.{Gone, IsObject, Rules};

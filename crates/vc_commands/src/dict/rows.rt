@@ -1,4 +1,3 @@
-// Worked rows of what commands on a dictionary reply and leave.
 ghost use Rattle.std.specs.Prelude.{◌≡◌, ◌∷◌, [], None, Some, replicate};
 ghost use Rattle.vc_dtdisc.specs.Shapes.{rules_of};
 ghost use Rattle.vc_objects.specs.Rows.{first_table, full_bag, full_region};

@@ -1,4 +1,3 @@
-// Running a command on a dictionary.
 ghost use Rattle.std.specs.Prelude.{◌≡◌, false};
 ghost use Rattle.vc_dtdisc.specs.Rules.{Gone, Rules};
 ghost use Rattle.vc_best.specs.Parts.{disc_in};

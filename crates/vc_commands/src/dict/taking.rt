@@ -1,4 +1,3 @@
-// The commands that take an object out of a dictionary.
 ghost use Rattle.std.specs.Prelude.{◌≡◌, ◌≤◌, [], None, Some, true, false, if◌then◌else◌, IfOk, OnOk};
 ghost use Rattle.std.specs.Vec.{vec_capacity};
 ghost use Rattle.vc_dtdisc.specs.Rules.{Gone, Rules};

@@ -1,4 +1,3 @@
-// The commands on all of a dictionary: another method, and no objects.
 ghost use Rattle.std.specs.Prelude.{◌≡◌, OnErr};
 ghost use Rattle.vc_dtdisc.specs.Rules.{Gone, Rules};
 ghost use Rattle.vc_best.specs.Cells.{cells_in};

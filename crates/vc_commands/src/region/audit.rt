@@ -1,4 +1,3 @@
-// The commands on a debug region, and that on a profile region.
 ghost use Rattle.std.specs.Prelude.{◌≡◌, ℕ, ℤ, List, [], ◌++◌, option_map, None, true, IfOk, OnOk};
 ghost use Rattle.std.specs.List.{cons_option, filter_map};
 ghost use Rattle.vc_model.specs.Discipline.{HasOut, NoneRefused};

@@ -1,4 +1,3 @@
-// The commands that read and write the bytes of a block.
 ghost use Rattle.std.specs.Prelude.{◌≡◌, ℕ, List, IfOk};
 ghost use Rattle.vc_model.specs.Discipline.{HasOut, NoneRefused};
 ghost use Rattle.vc_region.specs.Cells.{rest_in};

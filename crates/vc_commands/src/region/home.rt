@@ -1,4 +1,3 @@
-// A region that is open.
 ghost use Rattle.std.specs.Prelude.{◌≡◌, Some};
 ghost use Rattle.vc_model.specs.Addr.{place_of};
 ghost use Rattle.vc_model.specs.Discipline.{HasOut};

@@ -1,4 +1,3 @@
-// The names of a region's live blocks, and of those that it keeps as freed.
 ghost use Rattle.std.specs.Prelude.{◌≡◌, ℕ, List, [], ◌+◌, ◌^◌, ◌<◌, ◌≤◌, ◌≢◌, Some, None, is_some, length, IsOk, IfOk, IfSome, IfNone, IsSome, OnSome, if◌then◌else◌};
 ghost use Rattle.std.specs.HashMap.{spare};
 ghost use Rattle.slab.specs.Slab.{slab_len, HasRoomFor};

@@ -1,4 +1,3 @@
-// What a region's method allows, and what the region keeps of its blocks besides themselves: freed names and watches.
 ghost use Rattle.std.specs.Prelude.{◌≡◌};
 ghost use Rattle.vc_model.specs.Addr.{place_of};
 ghost use Rattle.vc_model.specs.Touch.{HasBlock};

@@ -1,4 +1,3 @@
-// The sizes of blocks that have a name.
 ghost use Rattle.std.specs.Prelude.{◌≡◌};
 ghost use Rattle.vc_region.specs.Cells.{rest_in};
 ghost use Rattle.vc_commands.specs.Held.{IsNamed};

@@ -1,4 +1,3 @@
-// The commands that tell what is in a region.
 ghost use Rattle.std.specs.Prelude.{◌≡◌, ℕ, List, IfOk};
 ghost use Rattle.vc_region.specs.Cells.{rest_in};
 ghost use Rattle.vc_commands.specs.Held.{IsNamed, home_of};

@@ -1,4 +1,3 @@
-// The commands that change a whole region.
 ghost use Rattle.std.specs.Prelude.{◌≡◌, ℕ, List};
 ghost use Rattle.vc_model.specs.Discipline.{HasOut, NoneRefused};
 ghost use Rattle.vc_region.specs.Cells.{rest_in};
