@@ -3,6 +3,7 @@ use Rattle.std.proofs.Common.{◌≡◌, ℕ, ◌+◌, ◌≤◌, Bool, true, fa
 use Rattle.std.specs.Prelude.{count_by, filter, sum}
 use Rattle.std.specs.List.{AllByRecursion}
 use Rattle.std.proofs.lemmas.List.{append-nil, map-append}
+use Rattle.std.proofs.lemmas.List.Sums.{sum_by-cons}
 use Rattle.vc_model.specs.Segments.{Grant}
 
 -- the segment that is granted where it is a new one
@@ -80,7 +81,9 @@ lends-kept test xs = lends-fewer xs (filter test xs) (fewer test xs)
 -- new segments are counted one by one
 pub fresh-count : (granted : List Grant) → AreFresh granted → count_by (λ (g : Grant). g.fresh) granted ≡ length granted
 fresh-count [] fresh = refl
-fresh-count (g ∷ gs) fresh = omega (arith, ap (λ b. cond b 1 0) fresh.0, fresh-count gs fresh.1)
+fresh-count (g ∷ gs) fresh =
+    let all : count_by (λ (h : Grant). h.fresh) (g ∷ gs) ≡ cond g.fresh 1 0 + count_by (λ (h : Grant). h.fresh) gs = sum_by-cons (λ (h : Grant). cond h.fresh 1 0) g gs in
+    omega (arith, all, ap {B = ℕ} (λ b. cond b 1 0) fresh.0, fresh-count gs fresh.1)
 
 -- and the bytes are those of their pairs
 pub granted-sizes : (granted : List Grant) → map (λ (s : ℕ × ℕ). s.1) (map pair_granted granted) ≡ map (λ (g : Grant). g.bytes) granted

@@ -45,10 +45,10 @@ PutsCell segments o = PutsBy (λ p. p.layout.segments) segments o
 abbrev pub PutsIn : {L : Type 0} → List (ℕ × ℕ) → Outcome (Put (Region L)) → Type 0
 PutsIn segments o = PutsBy segments_of segments o
 
-module _ {L : Type 0} where
-  behind-one : (segments : List (ℕ × ℕ)) (g : Grant) → g.fresh ≡ true → StandBehind segments (segments_with g segments) (g ∷ [])
-  behind-one segments g fresh = record { segments = ap (λ b. cond b (segments ++ (g.number, g.bytes) ∷ []) (with_more g.bytes segments)) fresh; fresh = (fresh, tt) }
+behind-one : (segments : List (ℕ × ℕ)) (g : Grant) → g.fresh ≡ true → StandBehind segments (segments_with g segments) (g ∷ [])
+behind-one segments g fresh = record { segments = ap (λ b. cond b (segments ++ (g.number, g.bytes) ∷ []) (with_more g.bytes segments)) fresh; fresh = (fresh, tt) }
 
+module _ {L : Type 0} where
   puts-new : (r : Layout L) (g : Grant) → g.fresh ≡ true → (label : L) (size : ℕ) (o : Option (ℕ × ℕ)) → Puts r.segments (put (with_grant r g) label size (Some g) o)
   puts-new r g fresh label size None = tt
   puts-new r g fresh label size (Some at) = behind-one r.segments g fresh

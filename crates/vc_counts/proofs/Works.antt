@@ -25,6 +25,7 @@ use Rattle.vc_counts.specs.declared.reach.Reach.TheVariants.{Nothing, All}
 use Rattle.vc_counts.proofs.CommandLends.{command-changes}
 use Rattle.vc_counts.proofs.CommandReaches.{command-reaches}
 use Rattle.vc_counts.proofs.DictBytes.{IsSeated}
+use Rattle.vc_counts.proofs.GrantedSegments.{lends-same}
 use Rattle.vc_counts.proofs.OwnNames.{IsProper, proper-named}
 use Rattle.vc_counts.proofs.RegionLends.{either}
 use Rattle.vc_counts.proofs.Sums.{busy-push, busy_homes, named-with, put_region}
@@ -59,7 +60,7 @@ module _ (s : State) where
   opened-over : (r : List ℕ) (m : Method) (n : ℕ) (o : Option (Option Terms)) → TalliesStep s Nothing None (opened_over s r n (opened_region m) o)
   opened-over r m n None = refuses s Nothing None why.NoSuchDiscipline
   opened-over r m n (Some None) = refuses s Nothing None why.DisciplineInUse
-  opened-over r m n (Some (Some terms)) = record { busy = omega (arith, open-empty m r n terms); lent = refl }
+  opened-over r m n (Some (Some terms)) = record { busy = omega (arith, open-empty m r n terms); lent = lends-same [] [] refl }
 
   works-open : (r : List ℕ) (m : Method) (n : ℕ) → TalliesStep s Nothing None (open_step s r m n)
   works-open r m n =

@@ -28,7 +28,7 @@ pub record Progress (quiet : Bool) (start now : Moment) (counts : Counts) (text 
   pub within : AllByRecursion (λ n. n ≤ count) (lines_of done)
   pub proper : AllByRecursion (λ r. IsProperReply r.1) ran.replies
   pub proper_state : IsProperState now.state
-  pub run_from : (needs : List (ℕ × Need)) → ShowsNeeds needs ran.replies → run_from start.state done needs ≡ ran
+  pub run : (needs : List (ℕ × Need)) → ShowsNeeds needs ran.replies → run_from start.state done needs ≡ ran
   pub state : ran.state ≡ now.state
   pub settles : Settles start.accounts now.accounts ran.refusals
   pub gone : now.gone ≡ tell ran.told start.gone

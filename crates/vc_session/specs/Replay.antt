@@ -94,7 +94,7 @@ Stops tool input (Some bad) left = StopsAtFault tool input left
 pub record IsReplay (tool : Tool) (w : Words) (before after : Moment) (input : List ℕ) (bad : Option (ℕ × LineFault)) (left : Option (List ℕ)) : Type 0 where
   pub first : bad ≡ first_bad tool input
   pub stops : Stops tool input bad left
-  pub run_from : IsRunOf (is_quiet w) (text_of w (good_lines bad (length (judged_lines input)))) before after (script tool input)
+  pub run : IsRunOf (is_quiet w) (text_of w (good_lines bad (length (judged_lines input)))) before after (script tool input)
 
 -- a run that a failed read ended: the lines that were wholly read were run, and no byte that was read shows a fault
 pub record IsCutShort (tool : Tool) (quiet : Bool) (before after : Moment) (input : List ℕ) (left : Option (List ℕ)) : Type 0 where
@@ -103,7 +103,7 @@ pub record IsCutShort (tool : Tool) (quiet : Bool) (before after : Moment) (inpu
   pub split : input ≡ bytes ++ rest
   pub unread : left ≡ Some rest
   pub no_fault : ShowsNoFault tool bytes
-  pub run_from : IsRunOf quiet (cut_short_text quiet) before after (commands_in tool (wholly_read bytes))
+  pub run : IsRunOf quiet (cut_short_text quiet) before after (commands_in tool (wholly_read bytes))
 
 -- commands on the lines from a number on
 abbrev pub on_lines : ℕ → List Command → List (ℕ × Command)
@@ -116,7 +116,7 @@ generated_script tool w n = on_lines 1 (commands_of_seed tool n w.seed)
 
 -- a quiet run of these; no source is read, and none is spoken of
 pub record IsGenerated (tool : Tool) (w : Words) (n : ℕ) (before after : Moment) : Type 0 where
-  pub run_from : IsRunOf true (text_of w (length (commands_of_seed tool n w.seed))) before after (generated_script tool w n)
+  pub run : IsRunOf true (text_of w (length (commands_of_seed tool n w.seed))) before after (generated_script tool w n)
 
 -- from one moment to another, and from what a source tells to what it has left: so many generated commands were run, of which no line is bad, or else the source's script, up to this bad line
 abbrev pub ReplaysBy : Option ℕ → Tool → Words → Moment → Moment → Option (List ℕ) → Option (List ℕ) → Option (ℕ × LineFault) → Type 0
