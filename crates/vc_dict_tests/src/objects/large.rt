@@ -2,6 +2,7 @@ ghost use Rattle.std.specs.Prelude.{◌≡◌, false};
 ghost use Rattle.vc_base.specs.Methods.{is_set};
 ghost use Rattle.vc_best.specs.Cells.{cells_in};
 ghost use Rattle.vc_objects.specs.Parts.{IsWhole};
+ghost use Rattle.vc_objects.specs.Promises.{CanAsk};
 
 use std::alloc::AllocError;
 use std::process::Abort;
@@ -11,7 +12,7 @@ use vc_best::Best;
 use vc_dict::Dict;
 use vc_dtdisc::{BuiltIn, DictDisc, Shape};
 use vc_objects::{Fate, find, insert, open};
-use vc_seg::HeapDisc;
+use vc_seg::{BoxedDisc, HeapDisc, SegDisc};
 
 // Marks the compares of these calls.
 struct Compares;
@@ -45,8 +46,8 @@ fn put<D: DictDisc>(
     number: u32,
     steps: &mut Steps<Compares>,
 ) -> Addr
-    requires { IsWhole (D.rules kind.now) dict.old (cells_in best.old) }
-    ensures { IsWhole (D.rules kind.now) dict.new (cells_in best.new) }
+    requires { CanAsk state (D.rules kind.now) best.old dict.old }
+    ensures { CanAsk state (D.rules kind.now) best.new dict.new }
 {
     bag_only(rt, dict.method);
     match insert(best, dict, kind, &digits(number), false, steps) {
@@ -86,8 +87,8 @@ fn put_all<D: DictDisc>(
     holders: &mut Vec<Addr>,
     steps: &mut Steps<Compares>,
 ) -> Result<(), AllocError>
-    requires { IsWhole (D.rules kind.now) dict.old (cells_in best.old) }
-    ensures { IsWhole (D.rules kind.now) dict.new (cells_in best.new) }
+    requires { CanAsk state (D.rules kind.now) best.old dict.old }
+    ensures { CanAsk state (D.rules kind.now) best.new dict.new }
 {
     for number in 0..count {
         holders.push(put(rt, best, dict, kind, number, steps))?;

@@ -1,0 +1,17 @@
+use Rattle.std.proofs.Common.{◌≡◌, ℕ, List, [], ◌++◌, sym, ap, subst}
+use Rattle.std.proofs.lemmas.List.{append-nil}
+use Rattle.vc_model.specs.Layout.{Layout}
+use Rattle.vc_best.specs.Parts.{layout_of}
+use Rattle.vc_objects.proofs.Leaving.{keeps-out}
+use Rattle.vc_dict_tests.proofs.objects.large.three_hundred_thousand_objects.Goals as goal
+
+-- a region with no segment has none out
+lent-none : (out : List (ℕ × ℕ)) (r : Layout ℕ) → r.segments ≡ [] → (rest : List (ℕ × ℕ)) × (out ≡ rest ++ r.segments)
+lent-none out r none = (out, subst (λ ss. out ≡ out ++ ss) (sym none) (sym (append-nil out)))
+
+pub put_all-requires : goal.put_all-requires
+put_all-requires g c = record {
+  whole = c.in-Ok-open.ensures.ok.whole;
+  lent = keeps-out _ _ _ _ c.in-Ok-open.ensures.ok.leaves.disc
+      (lent-none _ (layout_of c.in-Ok.best) (ap (λ (r : Layout ℕ). r.segments) c.in-Ok.ensures.ok.0));
+}
