@@ -139,7 +139,7 @@ next_by b test alike table k chain passed at start now (y ∷ ys) c many within 
     let here : contains chain y ≡ true = within y (within-head y ys) in
     let same : test y ≡ test at = ap test (sym l.0) in
     let fewer_left : (after : ℕ) → after ≤ now + 1 → (alike at ≡ false → after ≡ now) → after + length (filter alike ys) ≤ start + length (filter alike chain)
-        = λ after f e. filter-step alike y ys now after (start + length (filter alike chain)) f (λ t. e (ap alike l.0 ∙ t)) few in
+    = λ after f e. filter-step alike y ys now after (start + length (filter alike chain)) f (λ t. e (ap alike l.0 ∙ t)) few in
     record {
       within = subst (λ z. contains chain z ≡ true) (sym l.0) here;
       words = subst (λ z. HasBytes b z 32) (sym l.0) (fewer b y (c.holders y here));
