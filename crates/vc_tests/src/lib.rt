@@ -16,6 +16,8 @@ mod dicts;
 #[cfg(test)]
 mod forms;
 #[cfg(test)]
+mod generated;
+#[cfg(test)]
 mod given;
 #[cfg(test)]
 mod large;

@@ -94,33 +94,112 @@ fn trace(rt: HostRuntime) -> Result<(), Fail> {
     Ok(())
 }
 
+// A region of a method whose blocks of a size take a segment each, at that offset, and what it says of two further blocks.
+#[derive(Clone, Copy)]
+struct Filled {
+    method: &'static [u8],
+    size: u32,
+    off: u32,
+    script: &'static [u8],
+    out: &'static [u8],
+}
+
+const FILLED: &[Filled] = &[
+    Filled {
+        method: b"best",
+        size: 4000,
+        off: 32,
+        script: b"alloc r z 4000\nresize r a9 5000 move\nalloc r z 16\n",
+        out: b"refused: too many segments\nrefused: too many segments\nz 1:4064\n",
+    },
+    Filled {
+        method: b"pool",
+        size: 4000,
+        off: 32,
+        script: b"alloc r z 4000\nalloc r z 16\n",
+        out: b"refused: too many segments\nrefused: too many segments\n",
+    },
+    Filled {
+        method: b"last",
+        size: 4000,
+        off: 32,
+        script: b"alloc r z 4000\nresize r a1023 5000 move\nalloc r z 16\n",
+        out: b"refused: too many segments\nrefused: too many segments\nz 1023:4064\n",
+    },
+    Filled {
+        method: b"debug",
+        size: 3900,
+        off: 64,
+        script: b"alloc r z 3900\nresize r a9 5000 move\n",
+        out: b"refused: too many segments\nrefused: too many segments\n",
+    },
+    Filled {
+        method: b"profile",
+        size: 4000,
+        off: 32,
+        script: b"alloc r z 4000\nalign r z 100 64\nresize r a9 5000 move\nalloc r z 16\n",
+        out: b"refused: too many segments\nrefused: too many segments\nrefused: too many segments\nz 1:4064\n",
+    },
+];
+
 // A block that takes a segment of its own, of the same number.
-fn takes_segment(talk: &mut Talk, i: u32) -> Result<(), AllocError> {
+fn takes_segment(talk: &mut Talk, filled: Filled, i: u32) -> Result<(), AllocError> {
     talk.say(b"alloc r a", b"a")?;
     put_number(&mut talk.script, i)?;
     put_number(&mut talk.out, i)?;
-    talk.say(b" 4000\n", b" ")?;
+    talk.say(b" ", b" ")?;
+    put_number(&mut talk.script, filled.size)?;
     put_number(&mut talk.out, i)?;
-    talk.say(b"", b":32\n")
+    talk.say(b"\n", b":")?;
+    put_number(&mut talk.out, filled.off)?;
+    talk.say(b"", b"\n")
 }
 
-fn all_segments(alloc: Global) -> Result<Talk, AllocError> {
+fn all_segments(alloc: Global, filled: Filled) -> Result<Talk, AllocError> {
     let mut talk = Talk::new(alloc);
-    talk.say(b"open r best 1\n", b"r open\n")?;
+    talk.say(b"open r ", b"r open\n")?;
+    talk.say(filled.method, b"")?;
+    talk.say(b" 1\n", b"")?;
     for i in 1..1024 {
-        takes_segment(&mut talk, i)?;
+        takes_segment(&mut talk, filled, i)?;
     }
-    talk.say(
-        b"alloc r z 4000\nalloc r z 16\n",
-        b"refused: too many segments\nz 1:4064\n",
-    )?;
+    talk.say(filled.script, filled.out)?;
     Ok(talk)
 }
 
-// Each block takes a segment, up to 1,023 of them. Another is refused, and a small one goes into the first gap.
+// Each block takes a segment, up to 1,023 of them. Another is refused, and a small one goes into a gap.
 #[test]
 fn too_many_segments(rt: HostRuntime) -> Result<(), Fail> {
-    let talk = all_segments(rt.alloc())?;
+    for filled in FILLED {
+        let talk = all_segments(rt.alloc(), *filled)?;
+        is_said(&rt, rt.alloc(), &talk)?;
+    }
+    Ok(())
+}
+
+// 2,000 sites, each with a block that is freed again.
+fn many_sites(alloc: Global) -> Result<Talk, AllocError> {
+    let mut talk = Talk::new(alloc);
+    talk.say(b"open r profile 1\n", b"r open\n")?;
+    for i in 1000..3000 {
+        talk.say(b"alloc r a 10 @s", b"a 1:32\n")?;
+        put_number(&mut talk.script, i)?;
+        talk.say(b"\nfree r a\n", b"a freed\n")?;
+    }
+    talk.say(b"profile r\n", b"profile 2000")?;
+    for i in 1000..3000 {
+        talk.say(b"", b" s")?;
+        put_number(&mut talk.out, i)?;
+        talk.say(b"", b"=0,0,10")?;
+    }
+    talk.say(b"", b"\n")?;
+    Ok(talk)
+}
+
+// There is a row of each, in order of first use.
+#[test]
+fn sites(rt: HostRuntime) -> Result<(), Fail> {
+    let talk = many_sites(rt.alloc())?;
     is_said(&rt, rt.alloc(), &talk)?;
     Ok(())
 }

@@ -4,7 +4,7 @@ ghost use Rattle.vc_seg.specs.Budget.{discipline_of};
 ghost use Rattle.vc_seg.specs.Returned.{Returned};
 ghost use Rattle.vc_seg.specs.Segment.{pair_of, zero_segment};
 
-use crate::given::{ample, fine, put, run};
+use crate::given::{Talk, ample, fine, put, put_number, run};
 use std::alloc::{AllocError, Global};
 use std::cell::Cell;
 use std::process::Abort;
@@ -146,16 +146,17 @@ c 3:32\n\
 b freed\n\
 ";
 
-// Puts the discipline of that digit.
+// Puts the discipline of that budget and digit.
 fn put_noting(
     rt: &impl Abort,
     alloc: Global,
     shelf: &mut Shelf,
+    budget: u64,
     digit: u128,
     notes: &Rc<Cell<u128>>,
 ) -> Result<(), AllocError> {
     let disc = Noting {
-        inner: BudgetDisc::new(4096, 16_384),
+        inner: BudgetDisc::new(4096, budget),
         digit,
         notes: notes.clone()?,
     };
@@ -166,7 +167,7 @@ fn put_noting(
 fn shelf_of(rt: &impl Abort, alloc: Global, notes: &Rc<Cell<u128>>) -> Result<Shelf, AllocError> {
     let mut shelf = Shelf::new(alloc);
     for digit in [1, 2, 3, 4] {
-        put_noting(rt, alloc, &mut shelf, digit, notes)?;
+        put_noting(rt, alloc, &mut shelf, 16_384, digit, notes)?;
     }
     Ok(shelf)
 }
@@ -205,5 +206,169 @@ fn order(rt: HostRuntime) -> Result<(), Fail> {
     }
     let found = noted(&rt, alloc, OTHER_METHODS, OTHER_REPLIES, 4096)?;
     assert!(rt; found == 111_213_212_223_313_233_414_243);
+    Ok(())
+}
+
+// A region of a method whose blocks of a size take a segment each, at that offset.
+#[derive(Clone, Copy)]
+struct Six {
+    method: &'static [u8],
+    size: u32,
+    off: u32,
+    freed: &'static [Freed],
+}
+
+// Which of six blocks are freed, in order of their names. `compact` then gives back so many segments, and `close` the
+// others; the notes are of both.
+#[derive(Clone, Copy)]
+struct Freed {
+    names: &'static [u8],
+    compacted: u32,
+    closed: u32,
+    notes: u128,
+}
+
+const FREED: &[Freed] = &[
+    Freed {
+        names: b"",
+        compacted: 0,
+        closed: 6,
+        notes: 111_213_141_516,
+    },
+    Freed {
+        names: b"ebfc",
+        compacted: 4,
+        closed: 2,
+        notes: 121_315_161_114,
+    },
+    Freed {
+        names: b"fabcde",
+        compacted: 6,
+        closed: 0,
+        notes: 111_213_141_516,
+    },
+];
+
+// Only the block allocated latest is freed.
+const FREED_LATEST: &[Freed] = &[
+    Freed {
+        names: b"",
+        compacted: 0,
+        closed: 6,
+        notes: 111_213_141_516,
+    },
+    Freed {
+        names: b"fedc",
+        compacted: 4,
+        closed: 2,
+        notes: 131_415_161_112,
+    },
+    Freed {
+        names: b"fedcba",
+        compacted: 6,
+        closed: 0,
+        notes: 111_213_141_516,
+    },
+];
+
+const SIX: &[Six] = &[
+    Six {
+        method: b"best",
+        size: 4000,
+        off: 32,
+        freed: FREED,
+    },
+    Six {
+        method: b"pool",
+        size: 4000,
+        off: 32,
+        freed: FREED,
+    },
+    Six {
+        method: b"last",
+        size: 4000,
+        off: 32,
+        freed: FREED_LATEST,
+    },
+    Six {
+        method: b"debug",
+        size: 3900,
+        off: 64,
+        freed: FREED,
+    },
+    Six {
+        method: b"profile",
+        size: 4000,
+        off: 32,
+        freed: FREED,
+    },
+];
+
+// The block of that name takes the segment of that number.
+fn takes(talk: &mut Talk, six: Six, name: u8, number: u32) -> Result<(), AllocError> {
+    talk.say(b"alloc r ", &[name])?;
+    talk.say(&[name], b" ")?;
+    talk.say(b" ", b"")?;
+    put_number(&mut talk.script, six.size)?;
+    put_number(&mut talk.out, number)?;
+    talk.say(b"\n", b":")?;
+    put_number(&mut talk.out, six.off)?;
+    talk.say(b"", b"\n")
+}
+
+fn frees(talk: &mut Talk, names: &[u8]) -> Result<(), AllocError> {
+    for name in names {
+        talk.say(b"free r ", &[*name])?;
+        talk.say(&[*name], b" freed")?;
+        talk.say(b"\n", b"\n")?;
+    }
+    Ok(())
+}
+
+// Six blocks are put, some are freed, and the region is compacted and closed.
+fn six_segments(alloc: Global, six: Six, freed: Freed) -> Result<Talk, AllocError> {
+    let mut talk = Talk::new(alloc);
+    talk.say(b"open r ", b"r open\n")?;
+    talk.say(six.method, b"")?;
+    talk.say(b" 1\n", b"")?;
+    for (name, number) in [
+        (b'a', 1),
+        (b'b', 2),
+        (b'c', 3),
+        (b'd', 4),
+        (b'e', 5),
+        (b'f', 6),
+    ] {
+        takes(&mut talk, six, name, number)?;
+    }
+    frees(&mut talk, freed.names)?;
+    talk.say(b"compact r\nclose r\n", b"r compacted ")?;
+    put_number(&mut talk.out, freed.compacted)?;
+    talk.say(b"", b"\nr closed ")?;
+    put_number(&mut talk.out, freed.closed)?;
+    talk.say(b"", b"\n")?;
+    Ok(talk)
+}
+
+// What a discipline with room for six segments notes of that.
+fn is_noted(rt: &impl Abort, alloc: Global, six: Six, freed: Freed) -> Result<(), AllocError> {
+    let talk = six_segments(alloc, six, freed)?;
+    let notes = Rc::new(alloc, Cell::new(0))?;
+    let mut shelf = Shelf::new(alloc);
+    put_noting(rt, alloc, &mut shelf, 24_576, 1, &notes)?;
+    let given = ample(talk.script.as_slice(), 4096);
+    run(rt, alloc, &[], &mut shelf, given, fine(talk.out.as_slice()))?;
+    assert!(rt; notes.get() == freed.notes);
+    Ok(())
+}
+
+// In regions of each method, six segments go back in ascending order.
+#[test]
+fn ascending(rt: HostRuntime) -> Result<(), Fail> {
+    for six in SIX {
+        for freed in six.freed {
+            is_noted(&rt, rt.alloc(), *six, *freed)?;
+        }
+    }
     Ok(())
 }

@@ -15,11 +15,12 @@ use vc_dtdisc::{BuiltIn, Shape};
 use vc_seg::{BudgetDisc, LendFault, SegDisc, Segment, Shelf};
 use vc_session::Status;
 
-// A discipline that tells its room and counts its lends. The lend of one number finds no memory.
+// A discipline that tells its room, counts its lends and notes its faults. The lend of one number finds no memory.
 #[derive(Drop)]
 struct Counting {
     inner: BudgetDisc,
     lends: Rc<Cell<u32>>,
+    faults: Rc<Cell<u64>>,
     without_memory: u32,
 }
 
@@ -44,7 +45,9 @@ impl SegDisc for Counting {
         if count == self.without_memory {
             return Err(LendFault::OutOfMemory);
         }
-        self.inner.lend(alloc, number, size)
+        let lent = self.inner.lend(alloc, number, size);
+        self.faults.set(self.inner.faults());
+        lent
     }
 
     fn take_back(&mut self, seg: Segment) {
@@ -59,15 +62,17 @@ struct Ends {
     status: Status,
     err: &'static [u8],
     lends: u32,
+    faults: u64,
 }
 
 // With memory for every lend.
-fn served(lends: u32) -> Ends {
+fn served(lends: u32, faults: u64) -> Ends {
     Ends {
         without_memory: 0,
         status: Status::Ok,
         err: b"",
         lends,
+        faults,
     }
 }
 
@@ -78,16 +83,19 @@ fn unserved(lends: u32) -> Ends {
         status: Status::Memory,
         err: b"dtrun: out of memory\n",
         lends,
+        faults: 0,
     }
 }
 
-// Runs a script over one discipline with a budget of 4,096 bytes, looks at its end and at the number of lends, and
-// gives what was written.
+// Runs a script over one discipline with a budget of 4,096 bytes, looks at its end and at the numbers of lends and of
+// faults, and gives what was written.
 fn ran(rt: &impl Abort, alloc: Global, script: &[u8], ends: Ends) -> Result<Vec<u8>, AllocError> {
     let lends = Rc::new(alloc, Cell::new(0))?;
+    let faults = Rc::new(alloc, Cell::new(0))?;
     let disc = Counting {
         inner: BudgetDisc::new(4096, 4096),
         lends: lends.clone()?,
+        faults: faults.clone()?,
         without_memory: ends.without_memory,
     };
     let mut shelf = Shelf::new(alloc);
@@ -104,14 +112,16 @@ fn ran(rt: &impl Abort, alloc: Global, script: &[u8], ends: Ends) -> Result<Vec<
         ends.err,
     )?;
     assert!(rt; lends.get() == ends.lends);
+    assert!(rt; faults.get() == ends.faults);
     Ok(out)
 }
 
-// A script and its replies. One segment is lent, and each refusal is one lend more.
+// A script and its replies. Each refusal is a lend that raises the faults once, and the others lend a segment.
 struct Row {
     script: &'static [u8],
     out: &'static [u8],
     lends: u32,
+    faults: u64,
 }
 
 const ROWS: &[Row] = &[
@@ -119,56 +129,98 @@ const ROWS: &[Row] = &[
         script: b"open r best 1\nalloc r a 4000\nalloc r b 4000\n",
         out: b"r open\na 1:32\nrefused: no segment\n",
         lends: 2,
+        faults: 1,
     },
     Row {
         script: b"open r best 1\nalloc r a 4000\nalign r b 4000 64\n",
         out: b"r open\na 1:32\nrefused: no segment\n",
         lends: 2,
+        faults: 1,
     },
     Row {
         script: b"open r best 1\nalloc r a 4000\nresize r a 5000 move\n",
         out: b"r open\na 1:32\nrefused: no segment\n",
         lends: 2,
+        faults: 1,
     },
     Row {
         script: b"open r pool 1\nalloc r a 4000\nalloc r b 4000\n",
         out: b"r open\na 1:32\nrefused: no segment\n",
         lends: 2,
+        faults: 1,
     },
     Row {
         script: b"open r last 1\nalloc r a 4000\nalloc r b 4000\nresize r a 5000 move\n",
         out: b"r open\na 1:32\nrefused: no segment\nrefused: no segment\n",
         lends: 3,
+        faults: 2,
     },
     Row {
         script: b"open r debug 1\nalloc r a 3900\nalloc r b 3900\nresize r a 5000 move\n",
         out: b"r open\na 1:64\nrefused: no segment\nrefused: no segment\n",
         lends: 3,
+        faults: 2,
     },
     Row {
         script: b"open r profile 1\nalloc r a 4000\nalloc r b 4000\nalign r b 4000 64\nresize r a 5000 move\n",
         out: b"r open\na 1:32\nrefused: no segment\nrefused: no segment\nrefused: no segment\n",
         lends: 4,
+        faults: 3,
     },
     Row {
         script: b"open r best 1\nalloc r a 4000\ndict d list r 1\ninsert d x\n",
         out: b"r open\na 1:32\nd open\nrefused: no segment for object\n",
         lends: 2,
+        faults: 1,
     },
     Row {
         script: b"open r best 1\nalloc r a 4000\ndict d list r 1\nappend d x\nattach d x\n",
         out: b"r open\na 1:32\nd open\nrefused: no segment for object\nrefused: no segment for object\n",
         lends: 3,
+        faults: 2,
     },
     Row {
         script: b"open r best 1\nalloc r a 4000\ndict d list r 1\nmethod d set\n",
         out: b"r open\na 1:32\nd open\nrefused: no segment for table\n",
         lends: 2,
+        faults: 1,
     },
     Row {
         script: b"open r best 1\nalloc r a 4000\ndict d set r 1\n",
         out: b"r open\na 1:32\nrefused: no segment for table\n",
         lends: 2,
+        faults: 1,
+    },
+    // Blocks of more than a megabyte.
+    Row {
+        script: b"open r best 1\nalloc r a 2000000\nalign r a 2000000 4096\nalloc r b 4000\nresize r b 2000000 move\n",
+        out: b"r open\nrefused: no segment\nrefused: no segment\nb 1:32\nrefused: no segment\n",
+        lends: 4,
+        faults: 3,
+    },
+    Row {
+        script: b"open r pool 1\nalloc r a 2000000\n",
+        out: b"r open\nrefused: no segment\n",
+        lends: 1,
+        faults: 1,
+    },
+    Row {
+        script: b"open r last 1\nalloc r a 2000000\nalloc r b 4000\nresize r b 2000000 move\n",
+        out: b"r open\nrefused: no segment\nb 1:32\nrefused: no segment\n",
+        lends: 3,
+        faults: 2,
+    },
+    Row {
+        script: b"open r debug 1\nalloc r a 2000000\nalloc r b 3900\nresize r b 2000000 move\n",
+        out: b"r open\nrefused: no segment\nb 1:64\nrefused: no segment\n",
+        lends: 3,
+        faults: 2,
+    },
+    Row {
+        script: b"open r profile 1\nalloc r a 2000000\nalign r a 2000000 4096\nalloc r b 4000\nresize r b 2000000 move\n",
+        out: b"r open\nrefused: no segment\nrefused: no segment\nb 1:32\nrefused: no segment\n",
+        lends: 4,
+        faults: 3,
     },
 ];
 
@@ -193,26 +245,92 @@ fn full_table(alloc: Global) -> Result<Talk, AllocError> {
 fn refused(rt: HostRuntime) -> Result<(), Fail> {
     let alloc = rt.alloc();
     for row in ROWS {
-        let out = ran(&rt, alloc, row.script, served(row.lends))?;
+        let out = ran(&rt, alloc, row.script, served(row.lends, row.faults))?;
         same_bytes(&rt, out.as_slice(), row.out);
     }
     let talk = full_table(alloc)?;
-    let out = ran(&rt, alloc, talk.script.as_slice(), served(2))?;
+    let out = ran(&rt, alloc, talk.script.as_slice(), served(2, 1))?;
     same_bytes(&rt, out.as_slice(), talk.out.as_slice());
     Ok(())
 }
 
-// The last lend of each script finds no memory, and a further one would.
+// A script whose last line asks for the segment of that number, and the replies to the lines before it.
+struct Wanting {
+    script: &'static [u8],
+    lends: u32,
+    out: &'static [u8],
+}
+
+const WANTING: &[Wanting] = &[
+    Wanting {
+        script: b"open r best 1\nalloc r a 100\n",
+        lends: 1,
+        out: b"r open\n",
+    },
+    Wanting {
+        script: b"open r best 1\nalloc r a 2000000\n",
+        lends: 1,
+        out: b"r open\n",
+    },
+    Wanting {
+        script: b"open r best 1\nalign r a 100 64\n",
+        lends: 1,
+        out: b"r open\n",
+    },
+    Wanting {
+        script: b"open r best 1\nalloc r a 100\nresize r a 5000 move\n",
+        lends: 2,
+        out: b"r open\na 1:32\n",
+    },
+    Wanting {
+        script: b"open r best 1\nalloc r a 100\nresize r a 2000000 move\n",
+        lends: 2,
+        out: b"r open\na 1:32\n",
+    },
+    Wanting {
+        script: b"open r pool 1\nalloc r a 2000000\n",
+        lends: 1,
+        out: b"r open\n",
+    },
+    Wanting {
+        script: b"open r last 1\nalloc r a 2000000\n",
+        lends: 1,
+        out: b"r open\n",
+    },
+    Wanting {
+        script: b"open r last 1\nalloc r a 100\nresize r a 2000000 move\n",
+        lends: 2,
+        out: b"r open\na 1:32\n",
+    },
+    Wanting {
+        script: b"open r debug 1\nalloc r a 100\nresize r a 2000000 move\n",
+        lends: 2,
+        out: b"r open\na 1:64\n",
+    },
+    Wanting {
+        script: b"open r profile 1\nalloc r a 100 @s\nresize r a 2000000 move\n",
+        lends: 2,
+        out: b"r open\na 1:32\n",
+    },
+    Wanting {
+        script: b"open r best 1\ndict d list r 1\ninsert d x\n",
+        lends: 1,
+        out: b"r open\nd open\n",
+    },
+    Wanting {
+        script: b"open r best 1\ndict d list r 1\nmethod d set\n",
+        lends: 1,
+        out: b"r open\nd open\n",
+    },
+];
+
+// The last lend of each script finds no memory, and a further one would. What is written is a front of the replies to
+// the lines before.
 #[test]
 fn without_memory(rt: HostRuntime) -> Result<(), Fail> {
-    for (script, lends) in [
-        (b"open r best 1\nalloc r a 100\n".as_slice(), 1),
-        (b"open r best 1\nalign r a 100 64\n", 1),
-        (b"open r best 1\nalloc r a 100\nresize r a 5000 move\n", 2),
-        (b"open r best 1\ndict d list r 1\ninsert d x\n", 1),
-        (b"open r best 1\ndict d list r 1\nmethod d set\n", 1),
-    ] {
-        let _ = ran(&rt, rt.alloc(), script, unserved(lends))?;
+    for row in WANTING {
+        let out = ran(&rt, rt.alloc(), row.script, unserved(row.lends))?;
+        assert!(rt; row.out.starts_with(out.as_slice()));
     }
     Ok(())
 }

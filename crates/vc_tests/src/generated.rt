@@ -1,0 +1,62 @@
+use crate::given::{Expected, Given, ample, put, put_number, run};
+use crate::words::words_of;
+use std::alloc::{AllocError, Global};
+use std::process::Abort;
+use std::test::Fail;
+use vc_script::{Command, Tool};
+use vc_seg::{BudgetDisc, Shelf};
+use vc_session::{Status, generate};
+
+// What is written of the first thousand commands of seed 42 where no segment is lent: a line for each block that is
+// asked for, and the counts.
+fn refused_blocks(rt: &impl Abort, alloc: Global) -> Result<Vec<u8>, AllocError> {
+    let mut text = Vec::new(alloc);
+    let mut line = 0u32;
+    match generate(alloc, Tool::Vmreplay, 1000, 42) {
+        Ok(commands) => {
+            for command in commands.iter() {
+                line = line.wrapping_add(1);
+                if matches!(command, Command::Alloc(..)) {
+                    put_number(&mut text, line)?;
+                    text.extend_from_slice(b" refused: no segment\n")?;
+                }
+            }
+        }
+        Err(_) => assert!(rt; false),
+    }
+    text.extend_from_slice(b"lines 1002\ndone 2\nrefused 1000\nlent 0 0\npeak 0\n")?;
+    Ok(text)
+}
+
+// So many bytes of the beginning.
+fn front<'a>(rt: &impl Abort, bytes: &'a [u8], len: usize) -> &'a [u8] {
+    assert!(rt; len <= bytes.len());
+    &bytes[..len]
+}
+
+// The lines are three writes, the first two of which are the first to come to 4,096 bytes, and the counts a fourth one.
+#[test]
+fn generated(rt: HostRuntime) -> Result<(), Fail> {
+    let alloc = rt.alloc();
+    let text = refused_blocks(&rt, alloc)?;
+    let words = words_of(alloc, "--gen 1000 --seed 42")?;
+    for (fails, status, len, err) in [
+        (1, Status::Write, 0, b"vmreplay: write failed\n".as_slice()),
+        (2, Status::Write, 4106, b"vmreplay: write failed\n"),
+        (3, Status::Write, 8210, b"vmreplay: write failed\n"),
+        (4, Status::Write, 12_075, b"vmreplay: write failed\n"),
+        (5, Status::Ok, 12_122, b""),
+    ] {
+        let mut shelf = Shelf::new(alloc);
+        put(&rt, &mut shelf, Box::new(alloc, BudgetDisc::new(4096, 0))?);
+        let given = Given {
+            writes: &[fails],
+            ..ample(b"", 20_000)
+        };
+        let out = front(&rt, text.as_slice(), len);
+        let expected = Expected { status, out, err };
+        run(&rt, alloc, words.as_slice(), &mut shelf, given, expected)?;
+    }
+    assert!(rt; text.len() == 12_122);
+    Ok(())
+}
