@@ -56,19 +56,19 @@ err_line tool bad = message tool (codes "line " ++ decimal bad.0 ++ codes ": " +
 
 -- the run of commands for the needs that a text shows, by whether it is a quiet one
 abbrev pub run_by : Bool → Moment → List (ℕ × Command) → List ℕ → Ran
-run_by quiet before commands_in written = run_from before.state commands_in (needs_by_text quiet (lines_of commands_in) written)
+run_by quiet before commands written = run_from before.state commands (needs_by_text quiet (lines_of commands) written)
 
 -- what a run and its end tell
 abbrev pub all_told : Ran → List (ℕ × List ℕ)
 all_told r = r.told ++ ended_told r.state
 
 -- a run of commands, quiet or not, whose text is said by a function of the run: what was written is the text of the run for the needs that it shows, the shelf settles with the run's refusals, and the kinds were told of what went in it and at its end
-pub record IsRunOf (quiet : Bool) (said : Ran → List ℕ) (before after : Moment) (commands_in : List (ℕ × Command)) : Type 0 where
+pub record IsRunOf (quiet : Bool) (said : Ran → List ℕ) (before after : Moment) (commands : List (ℕ × Command)) : Type 0 where
   pub written : List ℕ
-  pub text : written ≡ said (run_by quiet before commands_in written)
+  pub text : written ≡ said (run_by quiet before commands written)
   pub told : Told before.written after.written written
-  pub settles : Settles before.accounts after.accounts (run_by quiet before commands_in written).refusals
-  pub gone : after.gone ≡ tell (all_told (run_by quiet before commands_in written)) before.gone
+  pub settles : Settles before.accounts after.accounts (run_by quiet before commands written).refusals
+  pub gone : after.gone ≡ tell (all_told (run_by quiet before commands written)) before.gone
 
 -- bytes that show no fault: their whole lines are good, and no line is too long or past the last number, the one that has begun among them
 pub record ShowsNoFault (tool : Tool) (bytes : List ℕ) : Type 0 where

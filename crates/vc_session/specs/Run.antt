@@ -87,4 +87,4 @@ run_from s (c ∷ cs) needs = let t = step s c.0 c.1 (need_at needs c.0) in run_
 
 -- the lines of commands
 abbrev pub lines_of : List (ℕ × Command) → List ℕ
-lines_of commands_in = map (λ c. c.0) commands_in
+lines_of commands = map (λ c. c.0) commands

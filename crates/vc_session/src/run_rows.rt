@@ -179,7 +179,7 @@ pub fn kept_name()
         ++ codes "refused: no block\nb 1:64\nb 1\n" }
 {}
 
-/// FreedNames names stand by name. A second free takes the new line, and all names of a region are kept with one line.
+/// Kept names stand by name. A second free takes the new line, and all names of a region are kept with one line.
 pub fn names_kept()
     ensures put { with_line (codes "a") 7 ((codes "b", 3) ∷ [])
         ≡ (codes "a", 7) ∷ (codes "b", 3) ∷ [] }
