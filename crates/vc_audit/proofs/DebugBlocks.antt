@@ -1,15 +1,5 @@
 -- The user's blocks of a debug region, by their addresses.
-use Rattle.std.proofs.Common.{◌≡◌, ℕ, ◌+◌, ◌-◌, ◌<◌, ◌≤◌, ◌*◌, ◌/◌, ◌%◌, true, false, ◌&&◌, List, [], ◌∷◌, Contains, length, get_or, map, option_map, refl, sym, ap, ◌∙◌, subst, ⊎_elim, eqb, arith}
-use Rattle.std.proofs.lemmas.Bool.{cases_Bool}
-use Rattle.std.proofs.lemmas.Bool.Decides.{nat_tests}
-use Rattle.std.proofs.lemmas.List.{length-map, get_or-map}
-use Rattle.std.proofs.Math.Bridge.{le_prop}
-use Rattle.std.proofs.Math.Logic.{∥∥₁_elim}
-use Rattle.vc_model.specs.Addr.{address, place_of}
-use Rattle.vc_model.specs.Layout.{Block, Layout, address_of, is_at, without_block}
-use Rattle.vc_model.specs.Segments.{span}
-use Rattle.vc_model.specs.Sound.{IsSound}
-use Rattle.vc_model.specs.Touch.{HasBlock, find_block}
+use Rattle.vc_base.proofs.Common.{◌≡◌, ℕ, ◌+◌, ◌-◌, ◌*◌, ◌/◌, ◌%◌, ◌<◌, ◌≤◌, true, false, ◌&&◌, eqb, List, [], ◌∷◌, map, length, get_or, Contains, option_map, sym, refl, ap, ◌∙◌, subst, ⊎_elim, arith, le_prop, ∥∥₁_elim, nat_tests, cases_Bool, get_or-map, length-map, address, place_of, Block, Layout, address_of, is_at, without_block, span, IsSound, HasBlock, find_block}
 use Rattle.vc_audit.specs.Debug.{guarded_place, user_block, user_place}
 use Rattle.vc_audit.specs.DebugGuard.{HasGuards}
 

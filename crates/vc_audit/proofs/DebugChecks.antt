@@ -1,13 +1,5 @@
 -- The damaged blocks in order.
-use Rattle.std.proofs.Common.{◌≡◌, ℕ, ◌+◌, ◌-◌, ◌<◌, ◌≤◌, Bool, true, false, cond, List, [], ◌∷◌, Option, Some, None, IfSome, filter, length, option_map, refl, sym, ap, ◌∙◌, drop, take, length-take, arith}
-use Rattle.std.specs.Prelude.{ℤ, find, nat_lt}
-use Rattle.std.specs.List.{AllByRecursion, cons_option, filter_map}
-use Rattle.std.proofs.lemmas.Option.{none-some, same_Some}
-use Rattle.vc_model.specs.Addr.{place_of}
-use Rattle.vc_model.specs.Layout.{Block, address_of}
-use Rattle.vc_model.specs.Sound.{HaveOwnPlaces}
-use Rattle.vc_model.specs.Touch.{find_block}
-use Rattle.vc_model.specs.Walk.{by_address, next_block}
+use Rattle.vc_base.proofs.Common.{◌≡◌, ℕ, ◌+◌, ◌-◌, ◌<◌, ◌≤◌, Bool, true, false, cond, List, [], ◌∷◌, length, take, drop, ℤ, IfSome, nat_lt, Some, None, filter, Option, option_map, find, filter_map, sym, refl, ap, ◌∙◌, arith, length-take, none-some, same_Some, AllByRecursion, cons_option, place_of, Block, address_of, HaveOwnPlaces, find_block, by_address, next_block}
 use Rattle.vc_model.proofs.Places.{among-above, found-there}
 use Rattle.vc_model.proofs.Sorting as sorting
 use Rattle.vc_audit.specs.Debug.{Debug, damage, damage_of, next_damaged, user_block}

@@ -1,16 +1,7 @@
 -- Bytes that are written into a block with guards leave its size and all addresses, and sizes have room for guards.
-use Rattle.std.proofs.Common.{◌≡◌, ℕ, ◌+◌, ◌-◌, ◌<◌, ◌≤◌, true, false, List, [], ◌∷◌, Option, Some, None, IfSome, Contains, drop, map, option_map, refl, sym, ap, ◌∙◌, subst, take, ⊎_elim, eqb, arith}
-use Rattle.std.specs.List.{AllByRecursion}
-use Rattle.std.proofs.lemmas.Bool.{and_from, cases_Bool, eq-eqb}
+use Rattle.vc_base.proofs.Common.{◌≡◌, ℕ, ◌+◌, ◌-◌, ◌<◌, ◌≤◌, true, false, eqb, List, [], ◌∷◌, map, take, drop, IfSome, Some, None, Contains, Option, option_map, sym, refl, ap, ◌∙◌, subst, ⊎_elim, arith, take-take, drop-drop, eq-eqb, ∥∥₁_elim, and_from, cases_Bool, drop-take, none-some, same_Some, AllByRecursion, place_of, Block, Layout, address_of, is_at, without_block, IsSound, HasBlock, HasRange, change_block, find_block, rewritten_block}
 use Rattle.std.proofs.lemmas.Map.Made.{Contains-tail}
-use Rattle.std.proofs.Math.Logic.{∥∥₁_elim}
-use Rattle.std.proofs.lemmas.Option.{same_Some, none-some}
-use Rattle.std.proofs.lemmas.List.{drop-drop, drop-take, take-take}
 use Rattle.std.proofs.lemmas.List.Elements.{All-from_recursion}
-use Rattle.vc_model.specs.Addr.{place_of}
-use Rattle.vc_model.specs.Layout.{Block, Layout, address_of, is_at, without_block}
-use Rattle.vc_model.specs.Sound.{IsSound}
-use Rattle.vc_model.specs.Touch.{HasBlock, HasRange, change_block, find_block, rewritten_block}
 use Rattle.vc_model.proofs.Pairs.{all-recursion}
 use Rattle.vc_model.proofs.Places.{among-all, among-find}
 use Rattle.vc_audit.specs.Debug.{user_block}

@@ -1,8 +1,6 @@
 -- What freeing a block with guards leaves of the user's blocks.
-use Rattle.std.proofs.Common.{◌≡◌, ℕ, suc, ◌+◌, ◌<◌, List, ◌++◌, drop, get_or, length, map, sym, ap, ◌∙◌, take, arith}
-use Rattle.std.specs.List.{HoldsAt, remove}
-use Rattle.std.proofs.lemmas.List.{drop-map, get_or-map, length-map, map-append, take-map}
-use Rattle.vc_model.specs.Layout.{Block, address_of}
+use Rattle.vc_base.proofs.Common.{◌≡◌, ℕ, suc, ◌+◌, ◌<◌, List, ◌++◌, map, length, get_or, take, drop, HoldsAt, remove, sym, ap, ◌∙◌, arith, drop-map, get_or-map, length-map, map-append, Block, address_of}
+use Rattle.std.proofs.lemmas.List.{take-map}
 use Rattle.vc_audit.specs.Debug.{user_block}
 use Rattle.vc_audit.proofs.DebugBlocks.{address-user}
 

@@ -1,6 +1,6 @@
 -- A loop that changes each item of a list.
-use Rattle.std.proofs.Common.{◌≡◌, ℕ, ◌+◌, ◌<◌, List, ◌++◌, ◌∷◌, [], length, get_or, drop, map, take, set, ap, sym, ◌∙◌, arith}
-use Rattle.std.proofs.lemmas.List.{take_more_set, map_more, drop_more, drop-set-lt}
+use Rattle.vc_base.proofs.Common.{◌≡◌, ℕ, ◌+◌, ◌<◌, List, [], ◌∷◌, ◌++◌, map, length, get_or, take, drop, set, sym, ap, ◌∙◌, arith, drop-set-lt, drop_more}
+use Rattle.std.proofs.lemmas.List.{take_more_set, map_more}
 
 module _ {A : Type 0} (f : A → A) (xs init : List A) (i : ℕ) (y d : A) (long : length xs ≡ length init) (lt : i < length init) (rest : drop i xs ≡ drop i init) where
   -- what is left stays as it was

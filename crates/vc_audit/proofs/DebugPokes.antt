@@ -1,8 +1,6 @@
 -- Bytes in the guards of a block, by their offsets from the user's bytes on.
-use Rattle.std.proofs.Common.{◌≡◌, ℕ, ◌+◌, ◌-◌, ◌≤◌, Option, Some, None, IfSome, option_map, refl, arith}
-use Rattle.std.specs.Prelude.{ℤ, pos, negsuc, ◌<ℤ◌}
+use Rattle.vc_base.proofs.Common.{◌≡◌, ℕ, ◌+◌, ◌-◌, ◌≤◌, ℤ, pos, negsuc, ◌<ℤ◌, IfSome, Some, None, Option, option_map, refl, arith, Block}
 use Rattle.std.proofs.lemmas.Int.{ints}
-use Rattle.vc_model.specs.Layout.{Block}
 use Rattle.vc_audit.specs.Debug.{guarded_offset, user_block}
 
 abbrev Bounds : Option (Block ℕ) → Type 0

@@ -1,19 +1,7 @@
 -- What putting and resizing a block with guards leaves of the user's blocks.
-use Rattle.std.proofs.Common.{◌≡◌, ℕ, suc, ◌+◌, ◌-◌, ◌≤◌, Bool, true, false, List, [], ◌∷◌, ◌++◌, Option, Some, None, IfSome, drop, length, map, min, option_map, refl, replicate, sym, ap, ◌∙◌, subst, take, ⊎_elim, eqb, arith, append_assoc, length-take}
-use Rattle.std.specs.Prelude.{unwrap_or}
-use Rattle.std.proofs.lemmas.Bool.{cases_Bool, and_parts, eqb-true}
-use Rattle.std.proofs.lemmas.Option.{none-some}
-use Rattle.std.proofs.lemmas.List.{drop_at, drop-replicate, length-replicate, take-append-le, take-replicate, take-take}
+use Rattle.vc_base.proofs.Common.{◌≡◌, ℕ, suc, ◌+◌, ◌-◌, ◌≤◌, min, Bool, true, false, eqb, List, [], ◌∷◌, ◌++◌, map, length, take, drop, replicate, IfSome, Some, None, Option, option_map, unwrap_or, sym, refl, ap, ◌∙◌, subst, ⊎_elim, append_assoc, arith, length-take, take-take, drop_at, eqb-true, and_parts, cases_Bool, length-replicate, take-append-le, none-some, address, place_of, zeros, with_bytes, Terms, Block, Layout, address_of, is_at, without_block, Done, Outcome, Put, Refused, best_resize, can_stay, IsSound, HasBlock, change_block, find_block, rewritten_block}
+use Rattle.std.proofs.lemmas.List.{drop-replicate, take-replicate}
 use Rattle.std.proofs.Math.Seq.{take-append-add}
-use Rattle.vc_model.specs.Addr.{address, place_of}
-use Rattle.vc_model.specs.Best.{zeros}
-use Rattle.vc_model.specs.Bytes.{with_bytes}
-use Rattle.vc_model.specs.Layout.{Block, Layout, address_of, is_at, without_block}
-use Rattle.vc_model.specs.Outcome.{Outcome, Done, Refused, Put}
-use Rattle.vc_model.specs.Discipline.{Terms}
-use Rattle.vc_model.specs.Resize.{best_resize, can_stay}
-use Rattle.vc_model.specs.Sound.{IsSound}
-use Rattle.vc_model.specs.Touch.{HasBlock, change_block, find_block, rewritten_block}
 use Rattle.vc_model.proofs.Owned.{address-place_of}
 use Rattle.vc_seg.specs.Answer.{IsPut, IsRefusal}
 use Rattle.vc_seg.specs.declared.fault.RegionFault.{RegionFault}

@@ -1,15 +1,5 @@
 -- Every call of a debug region commutes with a change of its labels.
-use Rattle.std.proofs.Common.{◌≡◌, ℕ, ◌+◌, ◌-◌, Bool, true, false, cond, List, [], ◌∷◌, Option, Some, None, map, min, option_map, refl, replicate, sym, ap, ◌∙◌}
-use Rattle.std.specs.Prelude.{ℤ, find, nat_lt, sum, unwrap_or}
-use Rattle.std.specs.List.{AllByRecursion, cons_option, filter_map}
-use Rattle.vc_model.specs.Best.{best_alloc}
-use Rattle.vc_model.specs.Discipline.{Terms}
-use Rattle.vc_model.specs.Layout.{Block, Layout, address_of, relabel_block, relabel_layout}
-use Rattle.vc_model.specs.Numbers.{greatest}
-use Rattle.vc_model.specs.Outcome.{Outcome, Done, Refused, Put, outcome_as}
-use Rattle.vc_model.specs.Resize.{best_resize}
-use Rattle.vc_model.specs.Touch.{find_block, rewritten_block, with_bytes_at}
-use Rattle.vc_model.specs.Walk.{by_address}
+use Rattle.vc_base.proofs.Common.{◌≡◌, ℕ, ◌+◌, ◌-◌, min, Bool, true, false, cond, List, [], ◌∷◌, map, replicate, ℤ, nat_lt, Some, None, sum, Option, option_map, find, filter_map, unwrap_or, sym, refl, ap, ◌∙◌, AllByRecursion, cons_option, best_alloc, Terms, Block, Layout, address_of, relabel_block, relabel_layout, greatest, Done, Outcome, Put, Refused, outcome_as, best_resize, find_block, rewritten_block, with_bytes_at, by_address}
 use Rattle.vc_model.proofs.Relabel.{best_alloc-relabel, best_resize-relabel, by_address-relabel, can_stay-relabel, change_block-relabel, compact_count-relabel, compacted-relabel, find_block-relabel, relabel-alike, relabel_outcome, without_block-relabel}
 use Rattle.vc_seg.proofs.Stats.{layout_stat-relabel}
 use Rattle.vc_seg.specs.Stat.{layout_stat}

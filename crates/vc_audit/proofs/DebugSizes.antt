@@ -1,10 +1,5 @@
 -- The user's sizes in sum and the greatest of them.
-use Rattle.std.proofs.Common.{◌≡◌, ℕ, ◌+◌, ◌-◌, ◌*◌, ◌≤◌, List, [], ◌∷◌, fold, length, map, max, refl, sym, ap, ◌∙◌, arith}
-use Rattle.std.specs.Prelude.{sum}
-use Rattle.std.specs.List.{AllByRecursion}
-use Rattle.std.proofs.lemmas.List.Sums.{sum_by-cons}
-use Rattle.vc_model.specs.Layout.{Block}
-use Rattle.vc_model.specs.Numbers.{greatest}
+use Rattle.vc_base.proofs.Common.{◌≡◌, ℕ, ◌+◌, ◌-◌, ◌*◌, ◌≤◌, max, List, [], ◌∷◌, map, length, fold, sum, sym, refl, ap, ◌∙◌, arith, sum_by-cons, AllByRecursion, Block, greatest}
 use Rattle.vc_model.proofs.Pairs.{all-recursion}
 use Rattle.vc_seg.specs.Stat.{layout_stat}
 use Rattle.vc_seg.specs.declared.stat.Stat.{Stat}

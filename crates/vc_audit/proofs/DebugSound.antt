@@ -1,11 +1,5 @@
 -- The user's blocks of a debug region stand at places of their own, in segments with numbers of their own.
-use Rattle.std.proofs.Common.{◌≡◌, ℕ, ◌+◌, ◌<◌, ◌≤◌, List, get_or, length, map, sym, ap, ◌∙◌, arith}
-use Rattle.std.proofs.Math.Bridge.{le_prop}
-use Rattle.std.proofs.Math.Logic.{∥∥₁_elim}
-use Rattle.std.proofs.lemmas.List.{get_or-map, length-map}
-use Rattle.vc_model.specs.Addr.{place_of}
-use Rattle.vc_model.specs.Layout.{Block, address_of}
-use Rattle.vc_model.specs.Sound.{HaveOwnNumbers, HaveOwnPlaces}
+use Rattle.vc_base.proofs.Common.{◌≡◌, ℕ, ◌+◌, ◌<◌, ◌≤◌, List, map, length, get_or, sym, ap, ◌∙◌, arith, le_prop, ∥∥₁_elim, get_or-map, length-map, place_of, Block, address_of, HaveOwnNumbers, HaveOwnPlaces}
 use Rattle.vc_best.specs.Parts.{layout_of}
 use Rattle.vc_audit.specs.declared.debug.Debug.{Debug}
 use Rattle.vc_audit.specs.DebugParts.{blocks_in, segments_in}

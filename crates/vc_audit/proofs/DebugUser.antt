@@ -1,9 +1,5 @@
 -- The user's block at an address of a debug region, by the block with guards in which it is.
-use Rattle.std.proofs.Common.{◌≡◌, ℕ, ◌+◌, ◌-◌, ◌≤◌, Option, IfSome, option_map, subst}
-use Rattle.std.specs.Prelude.{ℤ, pos, ◌<ℤ◌}
-use Rattle.vc_model.specs.Addr.{place_of}
-use Rattle.vc_model.specs.Layout.{Block, Layout}
-use Rattle.vc_model.specs.Touch.{HasBlock, HasRange, find_block}
+use Rattle.vc_base.proofs.Common.{◌≡◌, ℕ, ◌+◌, ◌-◌, ◌≤◌, ℤ, pos, ◌<ℤ◌, IfSome, Option, option_map, subst, place_of, Block, Layout, HasBlock, HasRange, find_block}
 use Rattle.vc_best.specs.Parts.{layout_of}
 use Rattle.vc_audit.specs.Debug.{guarded_offset, user_block}
 use Rattle.vc_audit.specs.DebugParts.{blocks_in}

@@ -1,20 +1,5 @@
 -- The user's blocks in order, and the one that holds a byte.
-use Rattle.std.proofs.Common.{◌≡◌, ℕ, ◌+◌, ◌-◌, ◌<◌, ◌≤◌, AllPairs, Bool, true, false, ◌&&◌, ◌⊎◌, cond, List, [], ◌∷◌, Option, Some, None, filter, fold, get_or, map, option_map, refl, sym, ap, ◌∙◌, subst, inl, inr, ⊎_elim, eqb, ltb, arith}
-use Rattle.std.specs.Prelude.{find, nat_lt, nat_le}
-use Rattle.std.specs.List.{AllByRecursion}
-use Rattle.std.proofs.lemmas.Bool.{and_from, and_parts, cases_Bool, eq-eqb, eqb-true}
-use Rattle.std.proofs.lemmas.Bool.Decides.{nat_tests}
-use Rattle.std.proofs.lemmas.Option.{none-some, same_Some}
-use Rattle.std.proofs.Math.Bridge.{le_prop}
-use Rattle.std.proofs.Math.Nat.{ℕ_set}
-use Rattle.std.proofs.Math.Logic.{∥∥₁_elim}
-use Rattle.vc_model.specs.Addr.{place_of}
-use Rattle.vc_model.specs.Layout.{Block, Layout, address_of, footprint}
-use Rattle.vc_model.specs.Order.{lesser_by}
-use Rattle.vc_model.specs.Segments.{span}
-use Rattle.vc_model.specs.Sound.{EndsBefore, HaveOwnPlaces, IsSound}
-use Rattle.vc_model.specs.Touch.{HasBlock, find_block}
-use Rattle.vc_model.specs.Walk.{block_at, holds_byte, next_block}
+use Rattle.vc_base.proofs.Common.{◌≡◌, ℕ, ◌+◌, ◌-◌, ◌<◌, ◌≤◌, Bool, true, false, cond, ◌&&◌, eqb, ltb, ◌⊎◌, List, [], ◌∷◌, map, get_or, nat_lt, nat_le, Some, None, fold, filter, Option, option_map, AllPairs, find, sym, refl, ap, ◌∙◌, subst, inl, inr, ⊎_elim, arith, eq-eqb, eqb-true, le_prop, ∥∥₁_elim, ℕ_set, nat_tests, and_from, and_parts, cases_Bool, none-some, same_Some, AllByRecursion, place_of, Block, Layout, address_of, footprint, lesser_by, span, EndsBefore, HaveOwnPlaces, IsSound, HasBlock, find_block, block_at, holds_byte, next_block}
 use Rattle.vc_model.proofs.Pairs.{AllPairs-head, AllPairs-tail, all-recursion}
 use Rattle.vc_model.proofs.Places.{among-find, found-there, own-places}
 use Rattle.vc_base.proofs.Places.{span-least}

@@ -1,18 +1,6 @@
 -- What a profile region counts when a block is put.
-use Rattle.std.proofs.Common.{◌≡◌, ◌≢◌, ℕ, suc, ◌+◌, ◌*◌, ◌<◌, ◌≤◌, eqb, false, Bool, cond, List, [], ◌∷◌, Some, IsSome, Option, None, is_some, length, map, refl, sym, ap, ◌∙◌, subst, arith}
-use Rattle.std.specs.Prelude.{unwrap_or}
-use Rattle.std.specs.List.{AllByRecursion, IsDistinct}
-use Rattle.std.specs.Map.{keys_of, lookup}
-use Rattle.std.specs.Str.{bytes_eq}
-use Rattle.std.proofs.lemmas.Bool.{eq-eqb}
-use Rattle.std.proofs.lemmas.Bool.Decides.{nat_tests}
-use Rattle.std.proofs.lemmas.List.{length-map}
+use Rattle.vc_base.proofs.Common.{◌≡◌, ℕ, suc, ◌+◌, ◌*◌, ◌<◌, ◌≤◌, Bool, false, cond, eqb, ◌≢◌, List, [], ◌∷◌, map, length, is_some, IsSome, Some, None, Option, bytes_eq, unwrap_or, sym, refl, ap, ◌∙◌, subst, arith, eq-eqb, nat_tests, length-map, AllByRecursion, IsDistinct, keys_of, lookup, best_alloc, zeros, Terms, Block, Layout, address_of, relabel_block, with_block, Outcome, Put, HasBlock}
 use Rattle.indexmap.specs.IndexMap.{insert_entry}
-use Rattle.vc_model.specs.Best.{best_alloc, zeros}
-use Rattle.vc_model.specs.Discipline.{Terms}
-use Rattle.vc_model.specs.Layout.{Block, Layout, address_of, relabel_block, with_block}
-use Rattle.vc_model.specs.Outcome.{Outcome, Put}
-use Rattle.vc_model.specs.Touch.{HasBlock}
 use Rattle.vc_model.proofs.Relabel.{best_alloc-relabel, relabel_outcome}
 use Rattle.vc_base.proofs.Quantifiers.{all-weaken, all-both, all-map}
 use Rattle.vc_base.proofs.Texts.{own_bytes}

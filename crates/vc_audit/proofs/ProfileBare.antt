@@ -1,9 +1,5 @@
 -- The layout without its sites is that of the best region, and its sites are those that are kept.
-use Rattle.std.proofs.Common.{◌≡◌, ℕ, true, false, cond, List, [], ◌∷◌, Option, Some, map, option_map, refl, sym, ap, ◌∙◌, subst}
-use Rattle.std.specs.Prelude.{unwrap_or}
-use Rattle.std.specs.List.{AllByRecursion}
-use Rattle.vc_model.specs.Layout.{Block, Layout, address_of, is_at, relabel_block, relabel_layout, without_block}
-use Rattle.vc_model.specs.Touch.{find_block}
+use Rattle.vc_base.proofs.Common.{◌≡◌, ℕ, true, false, cond, List, [], ◌∷◌, map, Some, Option, option_map, unwrap_or, sym, refl, ap, ◌∙◌, subst, AllByRecursion, Block, Layout, address_of, is_at, relabel_block, relabel_layout, without_block, find_block}
 use Rattle.vc_audit.specs.ProfileSites.{site_at}
 use Rattle.vc_audit.specs.ProfileSums.{with_sites, with_its_site}
 use Rattle.vc_audit.specs.declared.profile.sites.Sited.{Sited}

@@ -1,9 +1,5 @@
 -- A profile region whose blocks all go, and its rows.
-use Rattle.std.proofs.Common.{◌≡◌, ℕ, zero, suc, ◌+◌, ◌≤◌, List, [], ◌∷◌, Option, Some, length, map, slice_get, option_map, refl, sym, ap, ◌∙◌, arith}
-use Rattle.std.specs.List.{AllByRecursion}
-use Rattle.std.proofs.lemmas.Option.{same_Some, slice_get-map}
-use Rattle.vc_model.specs.Compact.{cleared_layout}
-use Rattle.vc_model.specs.Layout.{Block, Layout}
+use Rattle.vc_base.proofs.Common.{◌≡◌, ℕ, zero, suc, ◌+◌, ◌≤◌, List, [], ◌∷◌, map, length, slice_get, Some, Option, option_map, sym, refl, ap, ◌∙◌, arith, same_Some, slice_get-map, AllByRecursion, cleared_layout, Block, Layout}
 use Rattle.vc_seg.specs.declared.profile_row.ProfileRow.{ProfileRow}
 use Rattle.vc_audit.specs.Profile.{Profile, rows_with_peaks, profile_clear, row_of, site_blocks}
 use Rattle.vc_audit.specs.ProfileSums.{IsCounted, IsRow, Rows, clear_at, cleared_rows, row_without_blocks, peaks_of}

@@ -1,12 +1,5 @@
 -- The sums of a site over blocks of which one is put, changed or taken out.
-use Rattle.std.proofs.Common.{◌≡◌, ℕ, suc, ◌+◌, ◌*◌, ◌≤◌, true, false, cond, List, [], ◌∷◌, Some, length, map, filter, refl, sym, ap, ◌∙◌, ⊎_elim, arith}
-use Rattle.std.specs.Prelude.{sum}
-use Rattle.std.specs.List.{AllByRecursion}
-use Rattle.std.proofs.lemmas.Bool.{cases_Bool}
-use Rattle.std.proofs.lemmas.List.Sums.{sum_by-cons}
-use Rattle.std.proofs.lemmas.Option.{none-some}
-use Rattle.vc_model.specs.Layout.{Block, is_at, lies_before, with_block, without_block}
-use Rattle.vc_model.specs.Touch.{change_block, find_block}
+use Rattle.vc_base.proofs.Common.{◌≡◌, ℕ, suc, ◌+◌, ◌*◌, ◌≤◌, true, false, cond, List, [], ◌∷◌, map, length, Some, sum, filter, sym, refl, ap, ◌∙◌, ⊎_elim, arith, cases_Bool, sum_by-cons, none-some, AllByRecursion, Block, is_at, lies_before, with_block, without_block, change_block, find_block}
 use Rattle.vc_audit.specs.Profile.{has_site, site_blocks, site_bytes, site_sizes}
 use Rattle.vc_audit.proofs.ProfileLists.{first_at, later_at, without-here, without-later}
 

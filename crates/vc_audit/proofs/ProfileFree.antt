@@ -1,15 +1,6 @@
 -- What a profile region counts when a block goes.
-use Rattle.std.proofs.Common.{◌≡◌, ◌≢◌, ℕ, ◌+◌, ◌-◌, ◌≤◌, false, cond, List, [], Some, IsSome, map, option_map, refl, sym, ap, ◌∙◌, subst, arith}
-use Rattle.std.specs.Prelude.{unwrap_or}
-use Rattle.std.specs.List.{AllByRecursion, IsDistinct}
-use Rattle.std.specs.Map.{keys_of, lookup}
-use Rattle.std.specs.Str.{bytes_eq}
+use Rattle.vc_base.proofs.Common.{◌≡◌, ℕ, ◌+◌, ◌-◌, ◌≤◌, false, cond, ◌≢◌, List, [], map, IsSome, Some, option_map, bytes_eq, unwrap_or, sym, refl, ap, ◌∙◌, subst, arith, AllByRecursion, IsDistinct, keys_of, lookup, place_of, without_block_at, Block, Layout, address_of, without_block, HaveOwnPlaces, find_block}
 use Rattle.indexmap.specs.IndexMap.{insert_entry}
-use Rattle.vc_model.specs.Addr.{place_of}
-use Rattle.vc_model.specs.Best.{without_block_at}
-use Rattle.vc_model.specs.Layout.{Block, Layout, address_of, without_block}
-use Rattle.vc_model.specs.Sound.{HaveOwnPlaces}
-use Rattle.vc_model.specs.Touch.{find_block}
 use Rattle.vc_base.proofs.Quantifiers.{all-weaken, all-both}
 use Rattle.vc_base.proofs.Texts.{own_bytes}
 use Rattle.vc_audit.specs.Profile.{Profile, rows_with_peaks, profile_free, site_blocks, site_bytes}

@@ -1,15 +1,6 @@
 -- Blocks whose sites are kept, and the row of any site.
-use Rattle.std.proofs.Common.{◌≡◌, ℕ, ◌+◌, eqb, true, false, cond, IsSome, List, [], ◌∷◌, Option, Some, None, map, option_map, refl, sym, ap, ◌∙◌, subst, ⊎_elim, arith}
-use Rattle.std.specs.Prelude.{unwrap_or}
-use Rattle.std.specs.List.{AllByRecursion}
-use Rattle.std.specs.Map.{lookup}
-use Rattle.std.specs.Str.{bytes_eq}
-use Rattle.std.proofs.lemmas.Bool.{cases_Bool, eqb-true, and_parts}
-use Rattle.std.proofs.lemmas.Option.{same_Some, none-some}
+use Rattle.vc_base.proofs.Common.{◌≡◌, ℕ, ◌+◌, true, false, cond, eqb, List, [], ◌∷◌, map, IsSome, Some, None, Option, option_map, bytes_eq, unwrap_or, sym, refl, ap, ◌∙◌, subst, ⊎_elim, arith, eqb-true, and_parts, cases_Bool, none-some, same_Some, AllByRecursion, lookup, address, place_of, Block, address_of, is_at, find_block}
 use Rattle.indexmap.specs.IndexMap.{insert_entry}
-use Rattle.vc_model.specs.Addr.{address, place_of}
-use Rattle.vc_model.specs.Layout.{Block, address_of, is_at}
-use Rattle.vc_model.specs.Touch.{find_block}
 use Rattle.vc_model.proofs.Owned.{address-place_of}
 use Rattle.vc_base.proofs.Texts.{same_bytes, own_bytes}
 use Rattle.vc_audit.specs.Profile.{has_site}

@@ -1,11 +1,5 @@
 -- Lists of blocks with any labels, and the one at a place.
-use Rattle.std.proofs.Common.{◌≡◌, ◌≢◌, ℕ, true, false, cond, List, [], ◌∷◌, Some, AllPairs, map, sym, ap, ◌∙◌, subst, ⊎_elim}
-use Rattle.std.specs.List.{AllByRecursion}
-use Rattle.std.proofs.lemmas.Bool.{cases_Bool}
-use Rattle.std.proofs.lemmas.Option.{same_Some, none-some}
-use Rattle.vc_model.specs.Layout.{Block, address_of, is_at, lies_before, with_block, without_block}
-use Rattle.vc_model.specs.Sound.{HaveOwnPlaces}
-use Rattle.vc_model.specs.Touch.{change_block, find_block}
+use Rattle.vc_base.proofs.Common.{◌≡◌, ℕ, true, false, cond, ◌≢◌, List, [], ◌∷◌, map, Some, AllPairs, sym, ap, ◌∙◌, subst, ⊎_elim, cases_Bool, none-some, same_Some, AllByRecursion, Block, address_of, is_at, lies_before, with_block, without_block, HaveOwnPlaces, change_block, find_block}
 use Rattle.vc_model.proofs.Pairs.{AllPairs-head, AllPairs-tail, all-recursion}
 use Rattle.vc_base.proofs.Quantifiers.{all-weaken}
 

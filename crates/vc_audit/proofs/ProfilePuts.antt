@@ -1,15 +1,7 @@
 -- What puts and resizes make of blocks with any labels, and of the region without their sites.
-use Rattle.std.proofs.Common.{◌≡◌, ℕ, Bool, true, false, cond, List, Option, Some, None, refl, sym, ap, ◌∙◌, subst}
-use Rattle.std.specs.Prelude.{take}
-use Rattle.std.specs.List.{AllByRecursion}
-use Rattle.vc_model.specs.Addr.{address, place_of}
-use Rattle.vc_model.specs.Best.{best_alloc, best_need, place_in, put, put_in_new, put_or_ask, zeros}
-use Rattle.vc_model.specs.Discipline.{Terms}
-use Rattle.vc_model.specs.Layout.{Block, Layout, relabel_layout, with_block, with_grant}
-use Rattle.vc_model.specs.Outcome.{Fault, Fixed, Outcome, Done, Put, Refused, outcome_as}
-use Rattle.vc_model.specs.Resize.{best_resize, can_stay, outcome_of_move, resize_block, resize_found, sized_block, stays}
-use Rattle.vc_model.specs.Segments.{Asked, Grant, Granted, NotLent, TooMany, ask}
-use Rattle.vc_model.specs.Touch.{find_block, rewritten_block}
+use Rattle.vc_base.proofs.Common.{◌≡◌, ℕ, Bool, true, false, cond, List, take, Some, None, Option, sym, refl, ap, ◌∙◌, subst, AllByRecursion, address, place_of, best_alloc, best_need, place_in, put_in_new, put_or_ask, zeros, Terms, Block, Layout, relabel_layout, with_block, with_grant, Done, Fault, Fixed, Outcome, Put, Refused, outcome_as, best_resize, can_stay, outcome_of_move, resize_found, sized_block, stays, Asked, Grant, Granted, NotLent, TooMany, ask, find_block, rewritten_block}
+use Rattle.vc_model.specs.Best.{put}
+use Rattle.vc_model.specs.Resize.{resize_block}
 use Rattle.vc_model.proofs.Relabel.{relabel_outcome}
 use Rattle.vc_seg.specs.Answer.{IsPut, IsRefusal}
 use Rattle.vc_seg.specs.declared.fault.RegionFault.{RegionFault}

@@ -1,14 +1,5 @@
 -- Every call of a profile region commutes with a change of its labels that leaves the sites.
-use Rattle.std.proofs.Common.{◌≡◌, ℕ, Bool, true, false, cond, List, [], ◌∷◌, map, max, filter, length, refl, sym, ap, ◌∙◌}
-use Rattle.std.specs.Prelude.{sum}
-use Rattle.std.specs.List.{AllByRecursion}
-use Rattle.vc_model.specs.Best.{best_alloc, without_block_at}
-use Rattle.vc_model.specs.Compact.{cleared_layout, compact_count, compacted_layout}
-use Rattle.vc_model.specs.Discipline.{Terms}
-use Rattle.vc_model.specs.Layout.{Block, Layout, relabel_block, relabel_layout}
-use Rattle.vc_model.specs.Outcome.{Outcome, Done, Refused, Put, outcome_as}
-use Rattle.vc_model.specs.Resize.{best_resize}
-use Rattle.vc_model.specs.Touch.{rewritten_block, with_bytes_at}
+use Rattle.vc_base.proofs.Common.{◌≡◌, ℕ, max, Bool, true, false, cond, List, [], ◌∷◌, map, length, sum, filter, sym, refl, ap, ◌∙◌, AllByRecursion, best_alloc, without_block_at, cleared_layout, compact_count, compacted_layout, Terms, Block, Layout, relabel_block, relabel_layout, Done, Outcome, Put, Refused, outcome_as, best_resize, rewritten_block, with_bytes_at}
 use Rattle.vc_model.proofs.Relabel.{best_alloc-relabel, best_resize-relabel, change_block-relabel, compacted-relabel, compact_count-relabel, relabel-alike, relabel_outcome, without_block-relabel}
 use Rattle.vc_seg.proofs.Stats.{layout_stat-relabel}
 use Rattle.vc_seg.specs.Stat.{layout_stat}

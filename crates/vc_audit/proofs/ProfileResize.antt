@@ -1,19 +1,6 @@
 -- What a profile region counts when a block gets another size.
-use Rattle.std.proofs.Common.{◌≡◌, ◌≢◌, ℕ, suc, ◌+◌, ◌-◌, ◌≤◌, false, Bool, cond, List, [], ◌∷◌, Some, IsSome, is_some, map, option_map, refl, sym, ap, ◌∙◌, subst, ⊎_elim, arith}
-use Rattle.std.specs.Prelude.{unwrap_or}
-use Rattle.std.specs.List.{AllByRecursion}
-use Rattle.std.specs.Map.{lookup}
-use Rattle.std.specs.Str.{bytes_eq}
-use Rattle.std.proofs.lemmas.Bool.{cases_Bool}
-use Rattle.std.proofs.lemmas.Option.{none-some}
+use Rattle.vc_base.proofs.Common.{◌≡◌, ℕ, suc, ◌+◌, ◌-◌, ◌≤◌, Bool, false, cond, ◌≢◌, List, [], ◌∷◌, map, is_some, IsSome, Some, option_map, bytes_eq, unwrap_or, sym, refl, ap, ◌∙◌, subst, ⊎_elim, arith, cases_Bool, none-some, AllByRecursion, lookup, place_of, Terms, Block, Layout, address_of, is_at, relabel_block, relabel_layout, without_block, Outcome, Put, best_resize, HaveOwnPlaces, HasBlock, find_block}
 use Rattle.indexmap.specs.IndexMap.{insert_entry}
-use Rattle.vc_model.specs.Addr.{place_of}
-use Rattle.vc_model.specs.Discipline.{Terms}
-use Rattle.vc_model.specs.Layout.{Block, Layout, address_of, is_at, relabel_block, relabel_layout, without_block}
-use Rattle.vc_model.specs.Outcome.{Outcome, Put}
-use Rattle.vc_model.specs.Resize.{best_resize}
-use Rattle.vc_model.specs.Sound.{HaveOwnPlaces}
-use Rattle.vc_model.specs.Touch.{HasBlock, find_block}
 use Rattle.vc_model.proofs.Relabel.{best_resize-relabel, relabel_outcome}
 use Rattle.vc_base.proofs.Quantifiers.{all-weaken, all-both, all-map, all-unmap}
 use Rattle.vc_base.proofs.Texts.{own_bytes}

@@ -1,14 +1,6 @@
 -- The rows as the row of one site changes.
-use Rattle.std.proofs.Common.{◌≡◌, ℕ, ◌≤◌, Bool, true, false, cond, is_some, IsSome, List, [], ◌∷◌, Some, None, max, refl, sym, ap, ◌∙◌, subst, ⊎_elim, arith}
-use Rattle.std.specs.Prelude.{unwrap_or}
-use Rattle.std.specs.List.{AllByRecursion, IsDistinct}
-use Rattle.std.specs.Map.{keys_of, lookup}
-use Rattle.std.specs.Str.{bytes_eq}
-use Rattle.std.proofs.lemmas.Bool.{cases_Bool}
-use Rattle.std.proofs.lemmas.Map.Keys.{IsDistinct-head, IsDistinct-tail}
-use Rattle.std.proofs.lemmas.Slice.Eq.{bytes_eq-Decides}
+use Rattle.vc_base.proofs.Common.{◌≡◌, ℕ, ◌≤◌, max, Bool, true, false, cond, List, [], ◌∷◌, is_some, IsSome, Some, None, bytes_eq, unwrap_or, sym, refl, ap, ◌∙◌, subst, ⊎_elim, arith, cases_Bool, IsDistinct-head, IsDistinct-tail, bytes_eq-Decides, AllByRecursion, IsDistinct, keys_of, lookup, Block}
 use Rattle.indexmap.specs.IndexMap.{insert_entry}
-use Rattle.vc_model.specs.Layout.{Block}
 use Rattle.vc_base.proofs.Texts.{same_bytes, own_bytes}
 use Rattle.vc_audit.specs.Profile.{rows_with_peaks, site_blocks, site_bytes, with_site}
 use Rattle.vc_audit.specs.ProfileSums.{IsRow, Rows, new_row, peaks_of, row_for}

@@ -1,11 +1,7 @@
 -- What is found among sites by address, and what an edit of them does.
-use Rattle.std.proofs.Common.{◌≡◌, ◌≢◌, ℕ, zero, suc, ◌+◌, ◌-◌, ◌<◌, eqb, [], ◌∷◌, List, cond, length, get_or, set, Some, None, Result, Ok, Err, IfOk, IfErr, refl, sym, ap, ◌∙◌, subst, arith}
-use Rattle.std.specs.List.{insert, remove}
+use Rattle.vc_base.proofs.Common.{◌≡◌, ℕ, zero, suc, ◌+◌, ◌-◌, ◌<◌, cond, eqb, ◌≢◌, List, [], ◌∷◌, length, get_or, set, IfOk, IfErr, Some, None, Ok, Err, Result, insert, remove, nat_cmp, sym, refl, ap, ◌∙◌, subst, arith, nat_tests, common_steps, ordering_index}
 use Rattle.std.specs.List.Sorted.{IsBinarySearchResult, IsNonDecreasingBy, IsSearchInRange}
-use Rattle.std.specs.Ordering.{nat_cmp, ordering_index}
-use Rattle.std.proofs.lemmas.Bool.Decides.{nat_tests}
 use Rattle.std.proofs.lemmas.Cmp.{ranked}
-use Rattle.std.proofs.lemmas.Grind.{common_steps}
 use Rattle.std.proofs.lemmas.List.Edits.{length-insert, get_or-insert_below, get_or-insert_at, get_or-insert_above}
 use Rattle.std.proofs.lemmas.List.Quantifiers.{all_pairs_remove}
 use Rattle.vc_audit.specs.ProfileSites.{IsAscending, IsAt, IsGap, site_at}

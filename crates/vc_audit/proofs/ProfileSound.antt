@@ -1,9 +1,5 @@
 -- A profile region has blocks at places of their own, in segments with numbers of their own.
-use Rattle.std.proofs.Common.{ℕ, ◌≤◌, length}
-use Rattle.std.proofs.Math.Bridge.{le_prop}
-use Rattle.std.proofs.Math.Nat.{ℕ_set}
-use Rattle.std.proofs.Math.Logic.{∥∥₁_elim}
-use Rattle.vc_model.specs.Sound.{HaveOwnNumbers, HaveOwnPlaces}
+use Rattle.vc_base.proofs.Common.{ℕ, ◌≤◌, length, le_prop, ∥∥₁_elim, ℕ_set, HaveOwnNumbers, HaveOwnPlaces}
 use Rattle.vc_model.proofs.Places.{own-places}
 use Rattle.vc_best.specs.Parts.{layout_of}
 use Rattle.vc_best.specs.declared.best.Best.{Best}

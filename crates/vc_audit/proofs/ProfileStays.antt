@@ -1,9 +1,5 @@
 -- Calls that leave every site's sums: bytes are written, and segments go.
-use Rattle.std.proofs.Common.{◌≡◌, ℕ, List, [], map, refl, sym, ap, ◌∙◌, subst}
-use Rattle.std.specs.List.{AllByRecursion}
-use Rattle.vc_model.specs.Compact.{compacted_layout}
-use Rattle.vc_model.specs.Layout.{Block, Layout, address_of}
-use Rattle.vc_model.specs.Touch.{change_block, rewritten_block, with_bytes_at}
+use Rattle.vc_base.proofs.Common.{◌≡◌, ℕ, List, [], map, sym, refl, ap, ◌∙◌, subst, AllByRecursion, compacted_layout, Block, Layout, address_of, change_block, rewritten_block, with_bytes_at}
 use Rattle.vc_model.proofs.Relabel.{change_block-relabel, compacted-relabel}
 use Rattle.vc_base.proofs.Quantifiers.{all-weaken, all-map}
 use Rattle.vc_audit.specs.Profile.{Profile, profile_compact, profile_write, site_blocks, site_bytes}

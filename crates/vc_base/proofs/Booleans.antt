@@ -1,5 +1,5 @@
 -- Laws of booleans that std has not.
-use Rattle.std.proofs.Common.{◌≡◌, Bool, true, false, ◌||◌, refl}
+use Rattle.vc_base.proofs.Common.{◌≡◌, Bool, true, false, ◌||◌, refl}
 
 pub or-swap : (a b c : Bool) → (a || (b || c)) ≡ (b || (a || c))
 or-swap true true c = refl

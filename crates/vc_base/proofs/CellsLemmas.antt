@@ -1,15 +1,10 @@
 -- What words, and the blocks of cells, keep of one another.
-use Rattle.std.proofs.Common.{◌≡◌, ◌≢◌, ℕ, ◌+◌, ◌*◌, ◌<◌, ◌≤◌, ◌^◌, List, [], ◌++◌, length, take, drop, refl, sym, ap, ◌∙◌, arith, Some, IsSome, is_some, w64, length-append, append_assoc, unwrap_or, cond, inl, inr, subst}
-use Rattle.std.proofs.lemmas.Bool.Decides.{eqb_tells}
-use Rattle.std.specs.Int.{to_le_bytes, from_le_bytes}
-use Rattle.std.proofs.lemmas.List.{length-take, length-take-le, take-append-le, drop-take, take-take}
+use Rattle.vc_base.proofs.Common.{◌≡◌, ℕ, ◌+◌, ◌*◌, ◌^◌, ◌<◌, ◌≤◌, cond, ◌≢◌, List, [], ◌++◌, length, take, drop, is_some, IsSome, Some, unwrap_or, sym, refl, ap, ◌∙◌, subst, inl, inr, append_assoc, arith, length-append, length-take, length-take-le, take-take, w64, eq-eqb, ne_eqb, eqb_tells, cases_lt, drop-take, take-append-le, from_le_bytes, to_le_bytes, Blocks, HasBytes, WordWritten, WordsWritten, body_of, bytes_at, with_number, with_word, word, with_bytes}
 use Rattle.std.proofs.lemmas.Slice.{drop-append-drop}
-use Rattle.std.proofs.lemmas.Bool.{eq-eqb, ne_eqb, cases_lt}
 use Rattle.std.proofs.Math.Seq.{drop-append_seam, take-append_seam}
 use Rattle.std.proofs.lemmas.Nat.{from_le_bytes-to_le_bytes_8}
-use Rattle.vc_model.specs.Bytes.{with_bytes}
 use Rattle.vc_base.proofs.Overwrites.{length-with_bytes}
-use Rattle.vc_base.specs.Cells.{Blocks, HasBytes, body_of, bytes_at, put, with_word, word, with_number, WordsWritten, WordWritten}
+use Rattle.vc_base.specs.Cells.{put}
 
 drop_front : (n : ℕ) (xs ys : List ℕ) → length xs ≡ n → drop n (xs ++ ys) ≡ ys
 drop_front n xs ys e = rw (← e) (drop-append_seam xs ys)

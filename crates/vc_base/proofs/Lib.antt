@@ -1,5 +1,6 @@
 pub mod Booleans
 pub mod CellsLemmas
+pub mod Common
 pub mod Lists
 pub mod Members
 pub mod Methods

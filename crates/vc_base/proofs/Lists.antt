@@ -1,9 +1,5 @@
 -- Items of lists: what is found, read, written and kept.
-use Rattle.std.proofs.Common.{◌≡◌, List, [], ◌∷◌, Bool, true, Some, filter, find, map, option_map, ℕ, ◌+◌, ◌≤◌, zero, suc, length, take, drop, set, refl, sym, ap, ◌∙◌, ⊎_elim, arith}
-use Rattle.std.specs.List.{slice_get}
-use Rattle.std.proofs.lemmas.Bool.{cases_Bool}
-use Rattle.std.proofs.lemmas.Option.{none-some}
-use Rattle.std.proofs.lemmas.List.{length-take, length-drop}
+use Rattle.vc_base.proofs.Common.{◌≡◌, ℕ, zero, suc, ◌+◌, ◌≤◌, Bool, true, List, [], ◌∷◌, map, length, take, drop, set, slice_get, Some, filter, option_map, find, sym, refl, ap, ◌∙◌, ⊎_elim, arith, length-drop, length-take, cases_Bool, none-some}
 
 -- lists that are one have one first item and one rest
 pub head-same : {A : Type 0} (x y : A) (xs ys : List A) → x ∷ xs ≡ y ∷ ys → x ≡ y

@@ -1,8 +1,6 @@
 -- Which addresses a list has, and at which place one stands in it.
-use Rattle.std.proofs.Common.{◌≡◌, ◌≢◌, ◌⊎◌, ℕ, ⊎_elim, inl, inr, List, [], ◌∷◌, ◌++◌, Bool, true, false, Some, None, if◌then◌else◌, refl, sym, ap, ◌∙◌}
-use Rattle.std.proofs.lemmas.Bool.{eq-eqb, ne_eqb, true≢false}
-use Rattle.std.proofs.lemmas.Bool.Decides.{eqb_tells}
-use Rattle.vc_base.specs.Holders.{AreDistinct, contains, first_in, last_in, last_of, next_in, previous_in, without}
+use Rattle.vc_base.proofs.Common.{◌≡◌, ℕ, Bool, true, false, ◌≢◌, ◌⊎◌, List, [], ◌∷◌, ◌++◌, if◌then◌else◌, Some, None, sym, refl, ap, ◌∙◌, inl, inr, ⊎_elim, true≢false, eq-eqb, ne_eqb, eqb_tells, AreDistinct, contains, first_in, last_in, next_in, previous_in, without}
+use Rattle.vc_base.specs.Holders.{last_of}
 
 -- the first of a list is in it, so is one of the rest, and so is the last
 pub within-head : (x : ℕ) (xs : List ℕ) → contains (x ∷ xs) x ≡ true

@@ -1,9 +1,7 @@
 -- The number of a method tells which it is.
-use Rattle.std.proofs.Common.{◌≡◌, ◌≢◌, ℕ, ◌==◌, true, false, if◌then◌else◌, refl, sym, ap, ◌∙◌}
-use Rattle.std.proofs.lemmas.Bool.{eqb-true, ne_eqb}
+use Rattle.vc_base.proofs.Common.{◌≡◌, ℕ, true, false, ◌≢◌, if◌then◌else◌, ◌==◌, sym, refl, ap, ◌∙◌, ne_eqb, eqb-true, method_number}
 use Rattle.vc_base.specs.declared.dict_method.DictMethod.{DictMethod}
 use Rattle.vc_base.specs.declared.dict_method.DictMethod.TheVariants.{DtSet, DtBag, DtOset, DtObag, DtList, DtStack, DtQueue}
-use Rattle.vc_base.specs.Methods.{method_number}
 
 method_of : ℕ → DictMethod
 method_of n =

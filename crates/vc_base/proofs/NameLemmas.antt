@@ -1,5 +1,5 @@
-use Rattle.std.proofs.Common.{refl, replicate, ℕ, ◌≤◌, List, ◌++◌, length, arith, drop, length-append}
-use Rattle.std.proofs.lemmas.List.{drop-replicate, length-replicate}
+use Rattle.vc_base.proofs.Common.{ℕ, ◌≤◌, List, ◌++◌, length, drop, replicate, refl, arith, length-append, length-replicate}
+use Rattle.std.proofs.lemmas.List.{drop-replicate}
 use Rattle.std.proofs.Math.Seq.{take-append_seam}
 use Rattle.vc_base.specs.Name.{IsPadded}
 

@@ -1,6 +1,5 @@
 -- What may be there, mapped or not.
-use Rattle.std.proofs.Common.{◌≡◌, Bool, true, false, Option, Some, None, not, is_some, option_map, refl, ap, ◌∙◌}
-use Rattle.std.proofs.lemmas.Bool.{true≢false}
+use Rattle.vc_base.proofs.Common.{◌≡◌, Bool, true, false, not, is_some, Some, None, Option, option_map, refl, ap, ◌∙◌, true≢false}
 
 pub some_same : {A : Type 0} {x y : A} → Some x ≡ Some y → x ≡ y
 some_same h = cc

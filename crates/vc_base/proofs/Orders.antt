@@ -1,7 +1,5 @@
 -- How one order decides another.
-use Rattle.std.proofs.Common.{◌≡◌, true, false, Ordering, Less, Equal, Greater, refl, sym}
-use Rattle.std.specs.Ordering.{is_eq, is_gt, ordering_reverse}
-use Rattle.std.proofs.lemmas.Bool.{true≢false}
+use Rattle.vc_base.proofs.Common.{◌≡◌, true, false, is_eq, is_gt, Ordering, Less, Equal, Greater, sym, refl, true≢false, ordering_reverse}
 
 pub is-equal : (o : Ordering) → is_eq o ≡ true → o ≡ Equal
 is-equal Less e = absurd (true≢false (sym e))

@@ -1,7 +1,5 @@
 -- Parts of bytes into which others were written.
-use Rattle.std.proofs.Common.{◌≡◌, ℕ, ◌+◌, ◌≤◌, List, length, take, drop, arith}
-use Rattle.std.proofs.lemmas.List.{same_lists, places}
-use Rattle.vc_model.specs.Bytes.{with_bytes}
+use Rattle.vc_base.proofs.Common.{◌≡◌, ℕ, ◌+◌, ◌≤◌, List, length, take, drop, arith, places, same_lists, with_bytes}
 
 pub length-with_bytes : (off : ℕ) (src bytes : List ℕ) → off + length src ≤ length bytes → length (with_bytes off src bytes) ≡ length bytes
 length-with_bytes off src bytes h = grind (arith, places)

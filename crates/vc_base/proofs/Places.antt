@@ -1,8 +1,5 @@
 -- Places in a layout, and the spans of blocks there.
-use Rattle.std.proofs.Common.{◌≡◌, ℕ, ◌+◌, ◌≤◌, true, eqb, refl, ap, ◌∙◌, arith}
-use Rattle.std.proofs.lemmas.Bool.{and_from, and_parts, eq-eqb, eqb-true}
-use Rattle.vc_model.specs.Layout.{Block, is_at}
-use Rattle.vc_model.specs.Segments.{span}
+use Rattle.vc_base.proofs.Common.{◌≡◌, ℕ, ◌+◌, ◌≤◌, true, eqb, refl, ap, ◌∙◌, arith, eq-eqb, eqb-true, and_from, and_parts, Block, is_at, span}
 
 -- a block has bytes before it and behind it
 pub span-least : (size : ℕ) → size + 16 ≤ span size

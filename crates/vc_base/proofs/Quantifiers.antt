@@ -1,8 +1,5 @@
 -- What holds of each item of a list, or of one.
-use Rattle.std.proofs.Common.{◌≡◌, List, [], ◌∷◌, ◌++◌, Bool, true, All, map, ◌||◌, refl, ap, ◌∙◌, subst, arith}
-use Rattle.std.specs.List.{AllByRecursion, list_any}
-use Rattle.std.proofs.lemmas.Bool.{or_right}
-use Rattle.std.proofs.lemmas.List.{get_or-map, length-map}
+use Rattle.vc_base.proofs.Common.{◌≡◌, Bool, true, ◌||◌, List, [], ◌∷◌, ◌++◌, map, All, refl, ap, ◌∙◌, subst, arith, or_right, get_or-map, length-map, AllByRecursion, list_any}
 
 -- what holds of each item, where it gives another fact
 pub all-weaken : {A : Type 0} (P Q : A → Type 0) (xs : List A) → ((x : A) → P x → Q x) → AllByRecursion P xs → AllByRecursion Q xs

@@ -1,8 +1,6 @@
 -- Bytes and blocks are sets.
-use Rattle.std.proofs.Common.{ℕ, List}
-use Rattle.std.proofs.Math.Nat.{ℕ_set}
+use Rattle.vc_base.proofs.Common.{ℕ, List, ℕ_set, Block}
 use mathlib.Core.List.{is_set}
-use Rattle.vc_model.specs.Layout.{Block}
 
 pub bytes-set : IsSet (List ℕ)
 bytes-set = is_set ℕ_set

@@ -1,8 +1,5 @@
 -- When two lists of bytes are one.
-use Rattle.std.proofs.Common.{◌≡◌, ℕ, List, true, refl, sym, ◌∙◌, ⊎_elim}
-use Rattle.std.specs.Str.{bytes_eq}
-use Rattle.std.proofs.lemmas.Bool.{cases_Bool}
-use Rattle.std.proofs.lemmas.Slice.Eq.{bytes_eq-Decides}
+use Rattle.vc_base.proofs.Common.{◌≡◌, ℕ, true, List, bytes_eq, sym, refl, ◌∙◌, ⊎_elim, cases_Bool, bytes_eq-Decides}
 
 pub same_bytes : (x y : List ℕ) → bytes_eq x y ≡ true → x ≡ y
 same_bytes x y e = (bytes_eq-Decides x y).0 e

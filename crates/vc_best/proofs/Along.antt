@@ -1,7 +1,5 @@
 -- Segment after segment.
-use Rattle.std.proofs.Common.{◌≡◌, ◌≢◌, ℕ, zero, suc, ◌<◌, List, [], ◌∷◌, AllPairs, true, false, length, get_or, drop, refl, ap, ◌∙◌, ⊎_elim, eqb, arith}
-use Rattle.std.proofs.Math.Logic.{∥∥₁_elim}
-use Rattle.std.proofs.lemmas.Bool.{cases_Bool, eq-eqb, eqb-true}
+use Rattle.vc_base.proofs.Common.{◌≡◌, ℕ, zero, suc, ◌<◌, true, false, eqb, ◌≢◌, List, [], ◌∷◌, length, get_or, drop, AllPairs, refl, ap, ◌∙◌, ⊎_elim, arith, eq-eqb, eqb-true, ∥∥₁_elim, cases_Bool}
 use Rattle.vc_model.proofs.Pairs.{AllPairs-head, AllPairs-tail}
 use Rattle.vc_seg.specs.Segment.{Bytes}
 use Rattle.vc_extent.specs.Extent.{Extent, extents}

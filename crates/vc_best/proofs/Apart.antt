@@ -1,11 +1,5 @@
 -- Blocks with heads that don't overlap.
-use Rattle.std.proofs.Common.{◌≡◌, ℕ, ◌<◌, ◌≤◌, ◌⊎◌, List, [], ◌∷◌, true, false, All, AllPairs, sym, ◌∙◌, inl, inr, ⊎_elim, eqb, ltb, arith}
-use Rattle.std.specs.Prelude.{◌==◌, ◌&&◌}
-use Rattle.std.proofs.lemmas.Bool.{cases_Bool, or_cases, or_parts, and_parts, and_from, eqb-true, eq-eqb, ltb-true, ltb-false, lt-ltb}
-use Rattle.std.proofs.lemmas.List.Elements.{All-head, All-tail, All-nil, All-weaker, All-cons}
-use Rattle.std.proofs.lemmas.List.Kept.{AllPairs-cons}
-use Rattle.vc_model.specs.Layout.{Block, footprint, lies_before, with_block}
-use Rattle.vc_model.specs.Sound.{EndsBefore, IsApart}
+use Rattle.vc_base.proofs.Common.{◌≡◌, ℕ, ◌<◌, ◌≤◌, true, false, ◌&&◌, eqb, ltb, ◌⊎◌, List, [], ◌∷◌, ◌==◌, All, AllPairs, sym, ◌∙◌, inl, inr, ⊎_elim, arith, ltb-false, ltb-true, lt-ltb, eq-eqb, eqb-true, and_from, and_parts, cases_Bool, or_cases, or_parts, All-cons, All-head, All-nil, All-tail, All-weaker, AllPairs-cons, Block, footprint, lies_before, with_block, EndsBefore, IsApart}
 use Rattle.vc_model.proofs.Pairs.{AllPairs-head, AllPairs-tail}
 use Rattle.vc_base.proofs.Places.{span-least}
 use Rattle.vc_layouts.specs.InOrder.{in_order}

@@ -1,13 +1,7 @@
 -- What a call that may ask for a segment answers, and leaves of the discipline.
-use Rattle.std.proofs.Common.{◌≡◌, ℕ, List, [], ◌∷◌, ◌++◌, true, false, Bool, Option, None, Some, refl, ap, sym, ◌∙◌, subst}
-use Rattle.std.specs.Prelude.{Result, Ok, Err}
-use Rattle.vc_model.specs.Addr.{place_of}
-use Rattle.vc_model.specs.Best.{best_alloc, best_need, place_in, put, put_at, put_in_new, put_or_ask}
-use Rattle.vc_model.specs.Discipline.{Discipline, Lent, Served, Terms}
+use Rattle.vc_base.proofs.Common.{◌≡◌, ℕ, Bool, true, false, List, [], ◌∷◌, ◌++◌, Some, None, Ok, Err, Option, Result, sym, refl, ap, ◌∙◌, subst, place_of, best_alloc, best_need, place_in, put_at, put_in_new, put_or_ask, Discipline, Lent, Served, Terms, Layout, with_grant, Outcome, Put, Grant, Granted, ask}
+use Rattle.vc_model.specs.Best.{put}
 use Rattle.vc_model.proofs.Keeping.{Kept-same}
-use Rattle.vc_model.specs.Layout.{Layout, with_grant}
-use Rattle.vc_model.specs.Outcome.{Outcome, Put}
-use Rattle.vc_model.specs.Segments.{Grant, Granted, ask}
 use Rattle.vc_base.specs.declared.addr.Addr.{Addr}
 use Rattle.vc_model.proofs.Owned.{address-place_of}
 use Rattle.vc_seg.specs.declared.fault.RegionFault.{RegionFault}

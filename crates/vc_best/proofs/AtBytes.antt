@@ -1,10 +1,5 @@
 -- The block that holds a byte, among the blocks of a segment.
-use Rattle.std.proofs.Common.{◌≡◌, ℕ, ◌+◌, ◌-◌, ◌<◌, ◌≤◌, List, [], ◌∷◌, Bool, IsTrue, true, false, Option, Some, None, length, map, eqb, leb, ltb, refl, ap, sym, ◌∙◌, ⊎_elim, arith}
-use Rattle.std.specs.Prelude.{find, option_map, ◌&&◌}
-use Rattle.std.proofs.lemmas.Bool.{and_from, and_parts, cases_Bool, eq-eqb, le-leb, leb-true, lt-ltb, ltb-true}
-use Rattle.vc_model.specs.Addr.{address, place_of}
-use Rattle.vc_model.specs.Layout.{Block, address_of, place_of_block}
-use Rattle.vc_model.specs.Walk.{block_at, holds_byte}
+use Rattle.vc_base.proofs.Common.{◌≡◌, ℕ, ◌+◌, ◌-◌, ◌<◌, ◌≤◌, Bool, true, false, ◌&&◌, eqb, ltb, leb, List, [], ◌∷◌, map, length, IsTrue, Some, None, Option, option_map, find, sym, refl, ap, ◌∙◌, ⊎_elim, arith, ltb-true, lt-ltb, eq-eqb, le-leb, leb-true, and_from, and_parts, cases_Bool, address, place_of, Block, address_of, place_of_block, block_at, holds_byte}
 use Rattle.vc_model.proofs.Owned.{address-place_of}
 use Rattle.vc_seg.specs.Segment.{Bytes, pair_of}
 use Rattle.vc_extent.specs.Tiling.{extents_of, size_of, tiling}

@@ -1,13 +1,6 @@
 -- Which segments stay, as number and size, and what is back where one goes.
-use Rattle.std.proofs.Common.{◌≡◌, ℕ, ◌+◌, ◌≤◌, List, [], ◌∷◌, ◌++◌, Bool, true, false, not, All, Contains, Option, None, Some, IsSome, length, get_or, map, filter, refl, ap, sym, ◌∙◌, ⊎_elim, eqb, arith}
-use Rattle.std.specs.Prelude.{◌==◌}
-use Rattle.std.specs.Option.{is_some}
-use Rattle.std.specs.List.{remove}
-use Rattle.std.proofs.lemmas.Bool.{cases_Bool, eq-eqb, or_right}
-use Rattle.std.proofs.lemmas.List.{length-map}
+use Rattle.vc_base.proofs.Common.{◌≡◌, ℕ, ◌+◌, ◌≤◌, Bool, true, false, not, eqb, List, [], ◌∷◌, ◌++◌, map, length, get_or, is_some, IsSome, ◌==◌, Some, None, All, Contains, filter, Option, remove, sym, refl, ap, ◌∙◌, ⊎_elim, arith, eq-eqb, cases_Bool, or_right, All-cons, All-map, All-nil, All-weaker, length-map, without_last}
 use Rattle.std.proofs.lemmas.List.Edits.{length-remove}
-use Rattle.std.proofs.lemmas.List.Elements.{All-cons, All-map, All-nil, All-weaker}
-use Rattle.vc_model.specs.Discipline.{without_last}
 use Rattle.vc_seg.specs.Back.{has_other_number, is_kept}
 use Rattle.vc_seg.specs.Segment.{AreSegments, Bytes, pair_of}
 use Rattle.vc_seg.proofs.Backs.{remove-own, without_last-own}

@@ -1,10 +1,7 @@
 -- The gap that the tree answers, as the least free run that holds a block.
-use Rattle.std.proofs.Common.{◌≡◌, ℕ, ◌+◌, List, Option, Some, None, filter, option_map, refl, ap, sym, subst, ◌∙◌, arith}
+use Rattle.vc_base.proofs.Common.{◌≡◌, ℕ, ◌+◌, List, Some, None, filter, Option, option_map, sym, refl, ap, ◌∙◌, subst, arith, address, place_of, Run, holds, least}
 use Rattle.vc_base.specs.declared.addr.Addr.{Addr}
 use Rattle.vc_model.proofs.Owned.{address-place_of}
-use Rattle.vc_model.specs.Addr.{address, place_of}
-use Rattle.vc_model.specs.Gap.{Run}
-use Rattle.vc_model.specs.Place.{holds, least}
 use Rattle.vc_seg.specs.Segment.{Bytes}
 use Rattle.vc_extent.specs.Tiling.{AreExtents, IsFree, extent_of, extents_of, tiling}
 use Rattle.vc_gaps.specs.ButLinks.{Tiling, plain}

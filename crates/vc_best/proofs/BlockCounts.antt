@@ -1,13 +1,5 @@
 -- How many blocks there are after a call.
-use Rattle.std.proofs.Common.{◌≡◌, ℕ, ◌+◌, List, [], ◌∷◌, true, false, length, refl, ap, ◌∙◌, ⊎_elim, arith}
-use Rattle.std.proofs.Math.Logic.{∥∥₁_elim}
-use Rattle.std.proofs.Math.Nat.{ℕ_set}
-use Rattle.std.proofs.lemmas.Bool.{cases_Bool}
-use Rattle.vc_model.specs.Addr.{place_of}
-use Rattle.vc_model.specs.Best.{without_block_at, zeros}
-use Rattle.vc_model.specs.Layout.{Block, Layout, is_at}
-use Rattle.vc_model.specs.Resize.{resize_there, sized_block}
-use Rattle.vc_model.specs.Touch.{HasBlock, change_block, rewritten_block, with_bytes_at}
+use Rattle.vc_base.proofs.Common.{◌≡◌, ℕ, ◌+◌, true, false, List, [], ◌∷◌, length, refl, ap, ◌∙◌, ⊎_elim, arith, ∥∥₁_elim, ℕ_set, cases_Bool, place_of, without_block_at, zeros, Block, Layout, is_at, resize_there, sized_block, HasBlock, change_block, rewritten_block, with_bytes_at}
 use Rattle.vc_seg.specs.Segment.{Bytes}
 use Rattle.vc_layouts.specs.Put.{with_zeros}
 use Rattle.vc_extent.specs.Tiling.{AreExtents}

@@ -1,20 +1,9 @@
 -- A block of zeros in a free extent, call by call.
-use Rattle.std.proofs.Common.{◌≡◌, ◌≢◌, All, ℕ, ◌+◌, ◌-◌, ◌%◌, ◌<◌, ◌≤◌, ◌||◌, List, [], ◌∷◌, ◌++◌, true, false, IfSome, Option, None, Some, cond, ltb, length, replicate, refl, ap, sym, subst, ◌∙◌, ⊎_elim, arith}
-use Rattle.std.proofs.Math.Bridge.{le_prop}
-use Rattle.std.proofs.Math.Logic.{∥∥₁_elim}
-use Rattle.std.proofs.Math.Nat.{ℕ_set}
-use Rattle.std.proofs.lemmas.Bool.{cases_Bool, ltb-true, ltb-false, lt-ltb, le-ltb, ne_eqb}
-use Rattle.std.proofs.Math.ListN.{drop_of_length-le}
-use Rattle.std.proofs.lemmas.List.{append-nil, length-replicate}
-use Rattle.std.proofs.lemmas.List.Elements.{All-nil, All-cons}
+use Rattle.vc_base.proofs.Common.{◌≡◌, ℕ, ◌+◌, ◌-◌, ◌%◌, ◌<◌, ◌≤◌, true, false, cond, ◌||◌, ltb, ◌≢◌, List, [], ◌∷◌, ◌++◌, length, replicate, IfSome, Some, None, All, Option, sym, refl, ap, ◌∙◌, subst, ⊎_elim, append-nil, arith, drop_of_length-le, ltb-false, ltb-true, le-ltb, lt-ltb, ne_eqb, le_prop, ∥∥₁_elim, ℕ_set, cases_Bool, All-cons, All-nil, length-replicate, contains, address, place_of, with_bytes, span}
 use Rattle.vc_layouts.proofs.Blocks.{place_of-address}
-use Rattle.vc_model.specs.Addr.{address, place_of}
-use Rattle.vc_model.specs.Bytes.{with_bytes}
-use Rattle.vc_model.specs.Segments.{span}
 use Rattle.vc_extent.specs.Extent.{Extent, busy_extent, free_extent, no_links}
 use Rattle.vc_extent.specs.Change.{change_at, extent_in, mark_busy, split, write}
 use Rattle.vc_extent.specs.Tiling.{AreExtents, IsFree, change_extent, extent_of, tiling}
-use Rattle.vc_base.specs.Holders.{contains}
 use Rattle.vc_base.specs.declared.addr.Addr.{Addr}
 use Rattle.vc_base.proofs.Members.{within-head}
 use Rattle.vc_base.proofs.Places.{span-least}

@@ -1,18 +1,7 @@
 -- The cells of a best region: where they are, and what writing into one does.
-use Rattle.std.proofs.Common.{◌≡◌, ◌≢◌, ℕ, ◌+◌, ◌≤◌, List, [], ◌∷◌, true, false, cond, Option, Some, None, IsSome, IfSome, length, map, take, drop, option_map, unwrap_or, refl, sym, ap, ◌∙◌, subst, inl, inr, ⊎_elim, arith}
-use Rattle.std.proofs.Math.Bridge.{le_prop}
-use Rattle.std.proofs.Math.Nat.{ℕ_set}
-use Rattle.std.proofs.Math.Logic.{∥∥₁_elim}
-use Rattle.std.proofs.lemmas.Bool.{cases_Bool}
-use Rattle.std.proofs.lemmas.Bool.Decides.{eqb_tells}
-use Rattle.std.proofs.lemmas.Option.{same_Some, none-some}
-use Rattle.vc_base.specs.Cells.{Blocks, HasBytes, bytes_at, put}
+use Rattle.vc_base.proofs.Common.{◌≡◌, ℕ, ◌+◌, ◌≤◌, true, false, cond, ◌≢◌, List, [], ◌∷◌, map, length, take, drop, IfSome, IsSome, Some, None, Option, option_map, unwrap_or, sym, refl, ap, ◌∙◌, subst, inl, inr, ⊎_elim, arith, le_prop, ∥∥₁_elim, ℕ_set, eqb_tells, cases_Bool, none-some, same_Some, Blocks, HasBytes, bytes_at, place_of, with_bytes, Block, Layout, is_at, HasWholeBlocks, HasBlock, change_block, find_block, rewritten_block, with_bytes_at}
+use Rattle.vc_base.specs.Cells.{put}
 use Rattle.vc_base.proofs.CellsLemmas.{put_other, put_same}
-use Rattle.vc_model.specs.Addr.{place_of}
-use Rattle.vc_model.specs.Bytes.{with_bytes}
-use Rattle.vc_model.specs.Layout.{Block, Layout, is_at}
-use Rattle.vc_model.specs.Sound.{HasWholeBlocks}
-use Rattle.vc_model.specs.Touch.{HasBlock, change_block, find_block, rewritten_block, with_bytes_at}
 use Rattle.vc_model.proofs.Owned.{at-address, found-has, found-is}
 use Rattle.vc_seg.specs.OneBlock.{IsInBlock}
 use Rattle.vc_best.specs.Cells.{cell_bytes, cells_of, block_shown, zeroed_layout, is_unlabelled}

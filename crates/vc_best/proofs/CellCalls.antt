@@ -1,17 +1,7 @@
 -- What the calls of a best region do to its cells: one on an unlabelled block does it to the cell there, and one on a labelled block does nothing.
-use Rattle.std.proofs.Common.{◌≡◌, ◌≢◌, ℕ, List, [], ◌∷◌, true, false, cond, All, Option, Some, None, option_map, replicate, refl, sym, ap, ◌∙◌, subst, inl, inr, ⊎_elim}
-use Rattle.std.proofs.lemmas.Bool.{cases_Bool, eq-eqb, ne_eqb}
-use Rattle.std.proofs.lemmas.Bool.Decides.{eqb_tells}
-use Rattle.std.proofs.lemmas.List.Elements.{All-head, All-tail}
-use Rattle.std.proofs.lemmas.Option.{none-some}
+use Rattle.vc_base.proofs.Common.{◌≡◌, ℕ, true, false, cond, ◌≢◌, List, [], ◌∷◌, replicate, Some, None, All, Option, option_map, sym, refl, ap, ◌∙◌, subst, inl, inr, ⊎_elim, eq-eqb, ne_eqb, eqb_tells, cases_Bool, All-head, All-tail, none-some, place_of, without_block_at, zeros, Discipline, Block, Layout, address_of, is_at, without_block, HaveOwnPlaces, change_block, find_block, rewritten_block, with_bytes_at}
 use Rattle.vc_base.specs.Cells.{put}
 use Rattle.vc_base.proofs.CellsLemmas.{put_other, put_same}
-use Rattle.vc_model.specs.Addr.{place_of}
-use Rattle.vc_model.specs.Best.{without_block_at, zeros}
-use Rattle.vc_model.specs.Discipline.{Discipline}
-use Rattle.vc_model.specs.Layout.{Block, Layout, address_of, is_at, without_block}
-use Rattle.vc_model.specs.Sound.{HaveOwnPlaces}
-use Rattle.vc_model.specs.Touch.{change_block, find_block, rewritten_block, with_bytes_at}
 use Rattle.vc_model.proofs.Owned.{at-address, left-elsewhere, not-there}
 use Rattle.vc_seg.specs.Boxed.{disc_in_box}
 use Rattle.vc_best.specs.Parts.{disc_in, segments_in}

@@ -1,14 +1,6 @@
 -- The counts of all extents are those of the blocks and of the gaps, and stay in 64 bits.
-use Rattle.std.proofs.Common.{◌≡◌, ℕ, suc, ◌+◌, ◌-◌, ◌*◌, ◌≤◌, List, [], ◌∷◌, ◌++◌, true, false, All, length, map, filter, sum, refl, ap, sym, ◌∙◌, ⊎_elim, ltb, arith}
-use Rattle.std.proofs.Math.Bridge.{le_prop}
-use Rattle.std.proofs.Math.Logic.{∥∥₁_elim}
-use Rattle.std.proofs.lemmas.Bool.{cases_Bool}
-use Rattle.std.proofs.lemmas.List.{length-append, length-map, map-append}
-use Rattle.std.proofs.lemmas.List.Elements.{All-head, All-map, All-tail, filter-append}
-use Rattle.std.proofs.lemmas.List.Sums.{sum_by-append, sum_by-cons}
-use Rattle.vc_model.specs.Gap.{bytes_of}
-use Rattle.vc_model.specs.Layout.{Block, lies_before, with_block}
-use Rattle.vc_model.specs.Numbers.{block_bytes, block_count, gap_bytes, gap_count, gaps_of, greatest, greatest_block, greatest_gap}
+use Rattle.vc_base.proofs.Common.{◌≡◌, ℕ, suc, ◌+◌, ◌-◌, ◌*◌, ◌≤◌, true, false, ltb, List, [], ◌∷◌, ◌++◌, map, length, All, sum, filter, sym, refl, ap, ◌∙◌, ⊎_elim, arith, length-append, le_prop, ∥∥₁_elim, cases_Bool, All-head, All-map, All-tail, filter-append, sum_by-append, sum_by-cons, length-map, map-append, bytes_of, Block, lies_before, with_block, block_count, gaps_of, greatest}
+use Rattle.vc_model.specs.Numbers.{block_bytes, gap_bytes, gap_count, greatest_block, greatest_gap}
 use Rattle.vc_seg.specs.Segment.{Bytes, pair_of}
 use Rattle.vc_layouts.specs.Tally.{HasRoom, tally_of}
 use Rattle.vc_layouts.proofs.Tallies.{sizes-most, tallied-order, tally_of-bytes, tally_of-count, tally_of-most}

@@ -1,8 +1,5 @@
 -- Counts, taken on extent by extent.
-use Rattle.std.proofs.Common.{◌≡◌, ℕ, List, ◌++◌, map, filter, ap, subst, ◌∙◌, arith}
-use Rattle.std.proofs.lemmas.List.{length-append, map-append}
-use Rattle.std.proofs.lemmas.List.Sums.{sum_by-append}
-use Rattle.std.proofs.lemmas.List.Elements.{filter-append}
+use Rattle.vc_base.proofs.Common.{◌≡◌, ℕ, List, ◌++◌, map, filter, ap, ◌∙◌, subst, arith, length-append, filter-append, sum_by-append, map-append}
 use Rattle.vc_layouts.specs.Tally.{HasRoom, tallied_all}
 use Rattle.vc_layouts.proofs.Tallies.{HasRoom-rest, tallied_all-append}
 use Rattle.vc_extent.specs.Extent.{Extent}

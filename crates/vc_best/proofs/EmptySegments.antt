@@ -1,13 +1,6 @@
 -- Segments that become one free extent each, by ascending number.
-use Rattle.std.proofs.Common.{◌≡◌, ◌≢◌, ℕ, ◌+◌, ◌<◌, ◌≤◌, List, [], ◌∷◌, Bool, true, false, All, AllPairs, length, Option, None, Some, get_or, map, refl, ap, sym, ◌∙◌, ⊎_elim, eqb, arith}
-use Rattle.std.specs.Option.{is_some}
-use Rattle.std.proofs.Math.Nat.{ℕ_set}
-use Rattle.std.proofs.Math.Bridge.{le_prop}
-use Rattle.std.proofs.Math.Logic.{∥∥₁_elim}
-use Rattle.std.proofs.lemmas.Bool.{cases_Bool, eqb-true, eqb-false, ne_eqb}
-use Rattle.std.proofs.lemmas.List.Elements.{All-head, All-tail, All-nil, All-cons, All-map}
+use Rattle.vc_base.proofs.Common.{◌≡◌, ℕ, ◌+◌, ◌<◌, ◌≤◌, Bool, true, false, eqb, ◌≢◌, List, [], ◌∷◌, map, length, get_or, is_some, Some, None, All, Option, AllPairs, sym, refl, ap, ◌∙◌, ⊎_elim, arith, ne_eqb, eqb-true, le_prop, ∥∥₁_elim, ℕ_set, cases_Bool, eqb-false, All-cons, All-head, All-map, All-nil, All-tail, cleared_layout}
 use Rattle.vc_layouts.proofs.Lists.{AllPairs-map}
-use Rattle.vc_model.specs.Compact.{cleared_layout}
 use Rattle.vc_model.proofs.Pairs.{AllPairs-head, AllPairs-tail}
 use Rattle.vc_seg.specs.Segment.{AreSegments, Bytes, pair_of}
 use Rattle.vc_extent.specs.Extent.{Extent, extents}

@@ -1,17 +1,6 @@
 -- The first block from an address on, and the block that holds a byte.
-use Rattle.std.proofs.Common.{◌≡◌, ◌≢◌, ℕ, zero, suc, ◌+◌, ◌-◌, ◌%◌, ◌<◌, ◌≤◌, List, [], ◌∷◌, ◌++◌, Bool, true, false, Option, Some, None, IfSome, All, AllPairs, length, get_or, filter, refl, ap, sym, subst, ◌∙◌, ⊎_elim, eqb, ltb, leb, arith}
-use Rattle.std.specs.Prelude.{◌&&◌, find, option_map}
-use Rattle.std.proofs.Math.Nat.{ℕ_set}
+use Rattle.vc_base.proofs.Common.{◌≡◌, ℕ, zero, suc, ◌+◌, ◌-◌, ◌%◌, ◌<◌, ◌≤◌, Bool, true, false, ◌&&◌, eqb, ltb, leb, ◌≢◌, List, [], ◌∷◌, ◌++◌, length, get_or, IfSome, Some, None, All, filter, Option, option_map, AllPairs, find, sym, refl, ap, ◌∙◌, subst, ⊎_elim, arith, ltb-true, le-ltb, lt-ltb, le_prop, ∥∥₁_elim, ℕ_set, and_left, cases_Bool, cases_lt, All-append, All-cons, All-head, All-nil, All-tail, All-weaker, get_or-map, length-map, address, place_of, Block, address_of, HasBlock, holds_byte, next_block}
 use mathlib.Core.Sum.{⊎_set}
-use Rattle.std.proofs.Math.Bridge.{le_prop}
-use Rattle.std.proofs.Math.Logic.{∥∥₁_elim}
-use Rattle.std.proofs.lemmas.Bool.{cases_Bool, cases_lt, and_left, lt-ltb, le-ltb, ltb-true}
-use Rattle.std.proofs.lemmas.List.Elements.{All-append, All-cons, All-head, All-nil, All-tail, All-weaker}
-use Rattle.std.proofs.lemmas.List.{get_or-map, length-map}
-use Rattle.vc_model.specs.Addr.{address, place_of}
-use Rattle.vc_model.specs.Layout.{Block, address_of}
-use Rattle.vc_model.specs.Touch.{HasBlock}
-use Rattle.vc_model.specs.Walk.{holds_byte, next_block}
 use Rattle.vc_base.specs.declared.addr.Addr.{Addr}
 use Rattle.vc_base.proofs.Places.{span-least}
 use Rattle.vc_model.proofs.Pairs.{AllPairs-head, AllPairs-tail}

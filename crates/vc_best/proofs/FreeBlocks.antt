@@ -1,8 +1,5 @@
 -- A block that is freed, and the free extents before and behind it.
-use Rattle.std.proofs.Common.{◌≡◌, ◌≢◌, ℕ, ◌+◌, ◌-◌, ◌%◌, ◌<◌, ◌≤◌, ◌⊎◌, List, [], ◌∷◌, ◌++◌, Bool, true, false, Option, Some, None, All, not, eqb, filter, refl, ap, sym, subst, ◌∙◌, inl, inr, ⊎_elim, arith}
-use Rattle.std.specs.Prelude.{◌&&◌}
-use Rattle.std.proofs.lemmas.Bool.{cases_Bool, eq-eqb, ne_eqb, lt-ltb, le-ltb, and_parts, and_from}
-use Rattle.vc_model.specs.Addr.{address, place_of}
+use Rattle.vc_base.proofs.Common.{◌≡◌, ℕ, ◌+◌, ◌-◌, ◌%◌, ◌<◌, ◌≤◌, Bool, true, false, not, ◌&&◌, eqb, ◌≢◌, ◌⊎◌, List, [], ◌∷◌, ◌++◌, Some, None, All, filter, Option, sym, refl, ap, ◌∙◌, subst, inl, inr, ⊎_elim, arith, le-ltb, lt-ltb, eq-eqb, ne_eqb, and_from, and_parts, cases_Bool, All-cons, All-nil, address, place_of}
 use Rattle.vc_model.proofs.Owned.{address-place_of}
 use Rattle.vc_layouts.proofs.Blocks.{place_of-address}
 use Rattle.vc_extent.specs.Extent.{Extent, free_extent, no_links}
@@ -12,7 +9,6 @@ use Rattle.vc_best.specs.Beside.{free_before, free_name, free_next}
 use Rattle.vc_best.specs.Blocks.{busy_in, is_busy}
 use Rattle.vc_best.specs.Changes.{absorb}
 use Rattle.vc_best.specs.Free.{IsMerged, is_free, is_merged}
-use Rattle.std.proofs.lemmas.List.Elements.{All-nil, All-cons}
 use Rattle.vc_extent.specs.Tiling.{change_in}
 use Rattle.vc_best.proofs.Cuts.{Cut, behind-here, change_at-here, change_at-skip, change_in-same, cut, cut-change, extent_in-here, lower-other}
 use Rattle.vc_extent.specs.Change.{join}

@@ -1,13 +1,5 @@
 -- What is true of each free run.
-use Rattle.std.proofs.Common.{◌≡◌, ℕ, ◌+◌, ◌-◌, ◌%◌, ◌<◌, ◌≤◌, List, [], ◌∷◌, true, false, not, Some, None, All, length, get_or, filter, refl, ap, sym, ◌∙◌, arith}
-use Rattle.std.proofs.Math.Nat.{ℕ_set}
-use Rattle.std.proofs.Math.Bridge.{le_prop}
-use Rattle.std.proofs.Math.Logic.{∥∥₁_elim}
-use Rattle.std.proofs.lemmas.Bool.{eq-eqb, ne_eqb, ltb-false}
-use Rattle.std.proofs.lemmas.List.Elements.{All-cons, All-filter, All-map, All-nil, All-weaker, filter_passes}
-use Rattle.vc_model.specs.Addr.{address, place_of}
-use Rattle.vc_model.specs.Gap.{Run}
-use Rattle.vc_model.specs.Place.{holds, least}
+use Rattle.vc_base.proofs.Common.{◌≡◌, ℕ, ◌+◌, ◌-◌, ◌%◌, ◌<◌, ◌≤◌, true, false, not, List, [], ◌∷◌, length, get_or, Some, None, All, filter, sym, refl, ap, ◌∙◌, arith, ltb-false, eq-eqb, ne_eqb, le_prop, ∥∥₁_elim, ℕ_set, All-cons, All-filter, All-map, All-nil, All-weaker, filter_passes, address, place_of, Run, holds, least}
 use Rattle.vc_layouts.proofs.Blocks.{place_of-address}
 use Rattle.vc_seg.specs.Segment.{Bytes}
 use Rattle.vc_extent.specs.Extent.{Extent, extents}

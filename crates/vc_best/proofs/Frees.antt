@@ -1,15 +1,5 @@
 -- The gaps are the free runs, where no two free extents stand beside each other.
-use Rattle.std.proofs.Common.{◌≡◌, ◌≢◌, ℕ, ◌+◌, ◌-◌, ◌%◌, ◌<◌, ◌≤◌, List, [], ◌∷◌, ◌++◌, All, AllPairs, true, false, map, filter, length, get_or, refl, ap, sym, ◌∙◌, ⊎_elim, eqb, ltb, arith}
-use Rattle.std.specs.Prelude.{◌&&◌}
-use Rattle.std.proofs.Math.Logic.{∥∥₁_elim}
-use Rattle.std.proofs.lemmas.Bool.{cases_Bool, and_from, and_parts, or_right, eqb-true, eqb-false, eq-eqb, ne_eqb, le-ltb, lt-ltb, ltb-true}
-use Rattle.std.proofs.lemmas.List.{append-nil}
-use Rattle.std.proofs.lemmas.List.Elements.{All-cons, All-head, All-nil, All-tail, All-weaker, filter-append}
-use Rattle.vc_model.specs.Gap.{Run, gaps_between, run_of}
-use Rattle.vc_model.specs.Layout.{Block, footprint, footprints, lies_before, with_block}
-use Rattle.vc_model.specs.Numbers.{gaps_of}
-use Rattle.vc_model.specs.Segments.{span}
-use Rattle.vc_model.specs.Sound.{IsApart}
+use Rattle.vc_base.proofs.Common.{◌≡◌, ℕ, ◌+◌, ◌-◌, ◌%◌, ◌<◌, ◌≤◌, true, false, ◌&&◌, eqb, ltb, ◌≢◌, List, [], ◌∷◌, ◌++◌, map, length, get_or, All, filter, AllPairs, sym, refl, ap, ◌∙◌, ⊎_elim, append-nil, arith, ltb-true, le-ltb, lt-ltb, eq-eqb, ne_eqb, eqb-true, ∥∥₁_elim, and_from, and_parts, cases_Bool, eqb-false, or_right, All-cons, All-head, All-nil, All-tail, All-weaker, filter-append, Run, gaps_between, run_of, Block, footprint, footprints, lies_before, with_block, gaps_of, span, IsApart}
 use Rattle.vc_model.proofs.Pairs.{AllPairs-head, AllPairs-tail}
 use Rattle.vc_seg.specs.Segment.{Bytes, pair_of}
 use Rattle.vc_layouts.specs.InOrder.{in_order}

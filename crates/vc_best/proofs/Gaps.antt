@@ -1,10 +1,7 @@
 -- What is true of each of some runs is true of the least.
-use Rattle.std.proofs.Common.{◌≡◌, List, [], ◌∷◌, Option, None, Some, All, fold, refl, subst, ⊎_elim}
-use Rattle.std.specs.List.{flat_map}
-use Rattle.std.proofs.lemmas.Bool.{cases_Bool}
-use Rattle.std.proofs.lemmas.List.Elements.{All-head, All-tail, All-nil, All-append}
-use Rattle.vc_model.specs.Gap.{Run, comes_before}
-use Rattle.vc_model.specs.Place.{least, lesser}
+use Rattle.vc_base.proofs.Common.{◌≡◌, List, [], ◌∷◌, Some, None, fold, All, Option, flat_map, refl, subst, ⊎_elim, cases_Bool, All-append, All-head, All-nil, All-tail, Run, least}
+use Rattle.vc_model.specs.Gap.{comes_before}
+use Rattle.vc_model.specs.Place.{lesser}
 
 pub All-flat_map : {A B : Type 0} (P : B → Type 0) (f : A → List B) (xs : List A) → All (λ x. All P (f x)) xs → All P (flat_map f xs)
 All-flat_map P f [] h = All-nil P

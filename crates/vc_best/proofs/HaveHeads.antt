@@ -1,8 +1,5 @@
 -- Blocks with heads, by address, that don't overlap.
-use Rattle.std.specs.Prelude.{◌≡◌, ℕ, ◌%◌, ◌<◌, ◌≤◌, List, All, AllPairs}
-use Rattle.vc_model.specs.Discipline.{IsSegmentSize}
-use Rattle.vc_model.specs.Layout.{Block, Layout, footprint}
-use Rattle.vc_model.specs.Sound.{EndsBefore, HaveOwnNumbers, IsUsable}
+use Rattle.vc_base.proofs.Common.{◌≡◌, ℕ, ◌%◌, ◌<◌, ◌≤◌, List, All, AllPairs, IsSegmentSize, Block, Layout, footprint, EndsBefore, HaveOwnNumbers, IsUsable}
 
 -- blocks by address, of which no two overlap
 abbrev pub AreApart : {L : Type 0} → List (Block L) → Type 0

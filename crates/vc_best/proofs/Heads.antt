@@ -1,7 +1,5 @@
 -- What is true of blocks with heads.
-use Rattle.std.proofs.Common.{ℕ, get_or, inl}
-use Rattle.vc_model.specs.Layout.{Layout}
-use Rattle.vc_model.specs.Sound.{IsSound}
+use Rattle.vc_base.proofs.Common.{ℕ, get_or, inl, Layout, IsSound}
 use Rattle.vc_layouts.proofs.Blocks.{place_of-address}
 use Rattle.vc_best.proofs.HaveHeads.{HaveHeads}
 

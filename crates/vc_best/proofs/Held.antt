@@ -1,15 +1,5 @@
 -- What a best region keeps true of its blocks.
-use Rattle.std.proofs.Common.{◌≡◌, ℕ, ◌+◌, ◌≤◌, List, [], ◌∷◌, All, IfSome, Option, Some, Bool, true, false, map, refl, sym, subst, ⊎_elim}
-use Rattle.std.proofs.Math.Bridge.{le_prop}
-use Rattle.std.proofs.Math.Logic.{∥∥₁_elim}
-use Rattle.std.specs.List.{find}
-use Rattle.std.proofs.lemmas.Bool.{cases_Bool, lt-ltb}
-use Rattle.std.proofs.lemmas.List.Elements.{All-head, All-tail}
-use Rattle.vc_model.specs.Addr.{place_of}
-use Rattle.vc_model.specs.Best.{without_block_at}
-use Rattle.vc_model.specs.Layout.{Block, Layout, is_at}
-use Rattle.vc_model.specs.Sound.{HasWholeBlocks, IsSound}
-use Rattle.vc_model.specs.Touch.{HasBlock, HasRange, find_block, rewritten_block, with_bytes_at}
+use Rattle.vc_base.proofs.Common.{◌≡◌, ℕ, ◌+◌, ◌≤◌, Bool, true, false, List, [], ◌∷◌, map, IfSome, Some, All, Option, find, sym, refl, subst, ⊎_elim, lt-ltb, le_prop, ∥∥₁_elim, cases_Bool, All-head, All-tail, place_of, without_block_at, Block, Layout, is_at, HasWholeBlocks, IsSound, HasBlock, HasRange, find_block, rewritten_block, with_bytes_at}
 use Rattle.vc_seg.specs.Segment.{Bytes, pair_of}
 use Rattle.vc_extent.specs.Extent.{Extent}
 use Rattle.vc_extent.specs.Change.{write}

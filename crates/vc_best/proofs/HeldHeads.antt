@@ -1,16 +1,6 @@
 -- A best region's blocks have heads, whatever shows that its segments are tiled.
-use Rattle.std.proofs.Common.{◌≡◌, ℕ, suc, ◌+◌, ◌≤◌, List, [], ◌∷◌, Bool, true, false, All, get_or, eqb, leb, ltb, refl, ap, ◌∙◌, inl, inr, ⊎_elim, arith}
-use Rattle.std.specs.Prelude.{◌==◌, ◌&&◌}
+use Rattle.vc_base.proofs.Common.{◌≡◌, ℕ, suc, ◌+◌, ◌≤◌, Bool, true, false, ◌&&◌, eqb, ltb, leb, List, [], ◌∷◌, get_or, ◌==◌, All, refl, ap, ◌∙◌, inl, inr, ⊎_elim, arith, ltb-false, ltb-true, eq-eqb, eqb-true, le-leb, leb-true, le_prop, ∥∥₁_elim, ℕ_set, and_from, and_parts, cases_Bool, or_cases, list_any_at, Run, Block, footprint, is_usable, IsUsable}
 use Rattle.std.proofs.Math.Bool.{Bool-set}
-use Rattle.std.proofs.Math.Nat.{ℕ_set}
-use Rattle.std.proofs.Math.Bridge.{le_prop}
-use Rattle.std.proofs.Math.Logic.{∥∥₁_elim}
-use Rattle.std.proofs.lemmas.Bool.{and_from, and_parts, cases_Bool, eq-eqb, eqb-true, le-leb, leb-true, ltb-false, ltb-true, or_cases}
-use Rattle.std.proofs.lemmas.List.Folds.{list_any_at}
-use Rattle.vc_model.specs.Gap.{Run}
-use Rattle.vc_model.specs.Layout.{Block, footprint}
-use Rattle.vc_model.specs.Resize.{is_usable}
-use Rattle.vc_model.specs.Sound.{IsUsable}
 use Rattle.vc_seg.specs.Segment.{Bytes}
 use Rattle.vc_extent.specs.Tiling.{AreExtents}
 use Rattle.vc_best.specs.Blocks.{layout_by}

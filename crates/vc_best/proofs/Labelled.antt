@@ -1,12 +1,5 @@
 -- The labelled blocks of a best region: a call on an unlabelled one leaves them, and so do zeros for the bytes of its cells.
-use Rattle.std.proofs.Common.{◌≡◌, ℕ, true, false, cond, List, [], ◌∷◌, Option, Some, map, filter, option_map, refl, sym, ap, ◌∙◌, ⊎_elim}
-use Rattle.std.specs.Prelude.{nat_lt}
-use Rattle.std.proofs.lemmas.Bool.{cases_Bool, eqb-true}
-use Rattle.std.proofs.lemmas.Option.{same_Some}
-use Rattle.vc_model.specs.Addr.{place_of}
-use Rattle.vc_model.specs.Best.{without_block_at, zeros}
-use Rattle.vc_model.specs.Layout.{Block, Layout, is_at, without_block}
-use Rattle.vc_model.specs.Touch.{find_block}
+use Rattle.vc_base.proofs.Common.{◌≡◌, ℕ, true, false, cond, List, [], ◌∷◌, map, nat_lt, Some, filter, Option, option_map, sym, refl, ap, ◌∙◌, ⊎_elim, eqb-true, cases_Bool, same_Some, place_of, without_block_at, zeros, Block, Layout, is_at, without_block, find_block}
 use Rattle.vc_best.specs.Cells.{is_unlabelled, labelled_blocks, block_shown, zeroed_layout}
 use Rattle.vc_best.proofs.RestBlocks.{zeroed-labelled}
 

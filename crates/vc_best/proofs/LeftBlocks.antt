@@ -1,7 +1,5 @@
 -- What is left of the blocks where one is freed.
-use Rattle.std.proofs.Common.{◌≡◌, ℕ, List, map, refl}
-use Rattle.vc_model.specs.Addr.{place_of}
-use Rattle.vc_model.specs.Best.{without_block_at}
+use Rattle.vc_base.proofs.Common.{◌≡◌, ℕ, List, map, refl, place_of, without_block_at}
 use Rattle.vc_seg.specs.Segment.{Bytes, pair_of}
 use Rattle.vc_extent.specs.Change.{mark_free}
 use Rattle.vc_extent.specs.Tiling.{AreExtents, IsBusy, IsFree, change_extent, extent_of, tiling}

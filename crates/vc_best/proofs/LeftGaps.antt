@@ -1,7 +1,5 @@
 -- The gaps that runs by address leave. They are those of the region, where the runs are sorted first.
-use Rattle.std.specs.Prelude.{ℕ, ◌-◌, List, filter, ◌==◌}
-use Rattle.std.specs.List.{flat_map}
-use Rattle.vc_model.specs.Gap.{Run, gaps_between}
+use Rattle.vc_base.proofs.Common.{ℕ, ◌-◌, List, ◌==◌, filter, flat_map, Run, gaps_between}
 
 -- the gaps of one segment
 abbrev pub gaps_left_in : List Run → ℕ × ℕ → List Run

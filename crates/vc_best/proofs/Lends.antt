@@ -1,15 +1,6 @@
 -- A segment that was lent, for a block that no gap holds.
-use Rattle.std.proofs.Common.{◌≡◌, ◌≢◌, ℕ, ◌+◌, ◌-◌, ◌≤◌, List, [], ◌∷◌, ◌++◌, true, false, All, None, Some, eqb, filter, map, refl, ap, sym, subst, ◌∙◌, arith}
-use Rattle.std.proofs.lemmas.Bool.{eq-eqb, le-leb, ne_eqb}
+use Rattle.vc_base.proofs.Common.{◌≡◌, ℕ, ◌+◌, ◌-◌, ◌≤◌, true, false, eqb, ◌≢◌, List, [], ◌∷◌, ◌++◌, map, Some, None, All, filter, sym, refl, ap, ◌∙◌, subst, arith, eq-eqb, ne_eqb, le-leb, All-head, All-map, All-push, All-tail, filter-append, address, place_of, place_in, IsSegmentSize, Terms, Run, Layout, with_grant, holds, least, lowest_offset, new_segment, span}
 use Rattle.std.proofs.lemmas.Grind.{flat_map-append}
-use Rattle.std.proofs.lemmas.List.Elements.{All-head, All-map, All-push, All-tail, filter-append}
-use Rattle.vc_model.specs.Addr.{address, place_of}
-use Rattle.vc_model.specs.Best.{place_in}
-use Rattle.vc_model.specs.Discipline.{IsSegmentSize, Terms}
-use Rattle.vc_model.specs.Gap.{Run}
-use Rattle.vc_model.specs.Layout.{Layout, with_grant}
-use Rattle.vc_model.specs.Place.{holds, least, lowest_offset}
-use Rattle.vc_model.specs.Segments.{new_segment, span}
 use Rattle.vc_base.proofs.Options.{option_map-None}
 use Rattle.vc_seg.specs.Segment.{Bytes, pair_of}
 use Rattle.vc_extent.specs.Extent.{Extent, extents, free_extent, no_links}

@@ -1,12 +1,5 @@
 -- The free extents beside one that are taken out of the tree of gaps and put into it.
-use Rattle.std.proofs.Common.{◌≡◌, ℕ, ◌<◌, List, [], ◌∷◌, ◌++◌, true, false, ◌||◌, Option, Some, None, refl, ap, sym, ◌∙◌, ⊎_elim, arith, option_map}
-use Rattle.std.proofs.Math.Bridge.{le_prop}
-use Rattle.std.proofs.Math.Logic.{∥∥₁_elim}
-use Rattle.std.proofs.Math.Nat.{ℕ_set}
-use Rattle.std.proofs.lemmas.Bool.{cases_Bool, lt-ltb, ne_eqb}
-use Rattle.std.proofs.Math.Bool.{or-false}
-use Rattle.vc_base.specs.Holders.{contains}
-use Rattle.vc_model.specs.Addr.{address, place_of}
+use Rattle.vc_base.proofs.Common.{◌≡◌, ℕ, ◌<◌, true, false, ◌||◌, List, [], ◌∷◌, ◌++◌, Some, None, Option, option_map, sym, refl, ap, ◌∙◌, ⊎_elim, arith, lt-ltb, ne_eqb, or-false, le_prop, ∥∥₁_elim, ℕ_set, cases_Bool, contains, address, place_of}
 use Rattle.vc_seg.specs.Segment.{Bytes}
 use Rattle.vc_extent.specs.Change.{mark_free}
 use Rattle.vc_extent.specs.Extent.{Extent}

@@ -1,11 +1,7 @@
 -- No two free extents stand beside each other, before and after a change.
-use Rattle.std.proofs.Common.{◌≡◌, ℕ, ◌-◌, List, [], ◌∷◌, ◌++◌, Bool, true, false, not, All, eqb, refl, ap, sym, ◌∙◌, ⊎_elim}
-use Rattle.std.specs.Prelude.{◌&&◌}
-use Rattle.std.proofs.lemmas.Bool.{cases_Bool, and_parts, and_from}
-use Rattle.std.proofs.lemmas.List.Elements.{All-cons, All-head, All-tail}
+use Rattle.vc_base.proofs.Common.{◌≡◌, ℕ, ◌-◌, Bool, true, false, not, ◌&&◌, eqb, List, [], ◌∷◌, ◌++◌, All, sym, refl, ap, ◌∙◌, ⊎_elim, and_from, and_parts, cases_Bool, All-cons, All-head, All-tail, place_of}
 use Rattle.vc_extent.specs.Extent.{Extent}
 use Rattle.vc_extent.specs.Tiling.{change_in, extents_of}
-use Rattle.vc_model.specs.Addr.{place_of}
 use Rattle.vc_extent.specs.Change.{change_at}
 use Rattle.vc_extent.specs.Tiling.{change_extent, extent_of}
 use Rattle.vc_best.proofs.Cuts.{cut-change}

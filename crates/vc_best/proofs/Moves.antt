@@ -1,14 +1,5 @@
 -- A block whose bytes go to another, and that is freed then.
-use Rattle.std.proofs.Common.{◌≡◌, ℕ, ◌≤◌, ◌⊎◌, Contains, List, [], ◌∷◌, true, false, IfSome, Option, length, map, take, refl, ap, sym, subst, ◌∙◌, ⊎_elim, arith}
-use Rattle.std.proofs.Math.Nat.{ℕ_set}
-use Rattle.std.proofs.Math.Logic.{∥∥₁_elim}
-use Rattle.std.proofs.lemmas.Bool.{cases_Bool}
-use Rattle.std.proofs.lemmas.List.{take_all}
-use Rattle.vc_model.specs.Addr.{place_of}
-use Rattle.vc_model.specs.Bytes.{with_bytes}
-use Rattle.vc_model.specs.Layout.{Block, Layout, address_of, is_at}
-use Rattle.vc_model.specs.Best.{without_block_at}
-use Rattle.vc_model.specs.Touch.{HasBlock, change_block, find_block, rewritten_block, with_bytes_at}
+use Rattle.vc_base.proofs.Common.{◌≡◌, ℕ, ◌≤◌, true, false, ◌⊎◌, List, [], ◌∷◌, map, length, take, IfSome, Contains, Option, sym, refl, ap, ◌∙◌, subst, ⊎_elim, arith, take_all, ∥∥₁_elim, ℕ_set, cases_Bool, place_of, without_block_at, with_bytes, Block, Layout, address_of, is_at, HasBlock, change_block, find_block, rewritten_block, with_bytes_at}
 use Rattle.vc_seg.specs.Segment.{Bytes, pair_of}
 use Rattle.vc_extent.specs.Extent.{busy_extent}
 use Rattle.vc_extent.specs.Change.{write}

@@ -1,13 +1,7 @@
 -- Blocks by address leave gaps that need no sorting.
-use Rattle.std.proofs.Common.{◌≡◌, ℕ, ◌-◌, ◌<◌, ◌≤◌, List, [], ◌∷◌, ◌++◌, Bool, Some, All, AllPairs, length, get_or, filter, fold, refl, ap, ◌∙◌, ⊎_elim, eqb, ltb, arith}
-use Rattle.std.specs.Prelude.{find}
-use Rattle.std.proofs.lemmas.Bool.{cases_Bool, le-ltb, lt-ltb, eqb-true}
-use Rattle.std.proofs.lemmas.List.Elements.{All-head, All-tail, All-map, All-filter, filter_passes}
-use Rattle.std.proofs.lemmas.List.Kept.{AllPairs-filter}
-use Rattle.vc_model.specs.Gap.{Run, gaps, gaps_between, runs_in}
-use Rattle.vc_model.specs.Layout.{Block, footprint, footprints}
-use Rattle.vc_model.specs.Order.{least_above, lesser_by, put_by, sorted_by}
-use Rattle.vc_model.specs.Sound.{EndsBefore}
+use Rattle.vc_base.proofs.Common.{◌≡◌, ℕ, ◌-◌, ◌<◌, ◌≤◌, Bool, eqb, ltb, List, [], ◌∷◌, ◌++◌, length, get_or, Some, fold, All, filter, AllPairs, find, refl, ap, ◌∙◌, ⊎_elim, arith, le-ltb, lt-ltb, eqb-true, cases_Bool, All-filter, All-head, All-map, All-tail, filter_passes, AllPairs-filter, Run, gaps, gaps_between, Block, footprint, footprints, least_above, lesser_by, put_by, EndsBefore}
+use Rattle.vc_model.specs.Gap.{runs_in}
+use Rattle.vc_model.specs.Order.{sorted_by}
 use Rattle.vc_model.proofs.Pairs.{AllPairs-head, AllPairs-tail}
 use Rattle.vc_base.proofs.Places.{span-least}
 use Rattle.vc_layouts.proofs.Lists.{AllPairs-map}

@@ -1,17 +1,5 @@
 -- A block of another size where it is.
-use Rattle.std.proofs.Common.{◌≡◌, ℕ, ◌+◌, ◌-◌, ◌<◌, ◌≤◌, List, [], ◌∷◌, ◌++◌, true, false, Some, not, length, take, drop, replicate, map, refl, ap, sym, subst, ◌∙◌, ⊎_elim, arith}
-use Rattle.std.proofs.Math.ListN.{drop_of_length-le}
-use Rattle.std.proofs.Math.Nat.{ℕ_set}
-use Rattle.std.specs.Prelude.{◌&&◌}
-use Rattle.std.proofs.Math.Logic.{∥∥₁_elim}
-use Rattle.std.proofs.lemmas.Bool.{cases_Bool, lt-ltb, and_from, and_parts}
-use Rattle.std.proofs.lemmas.List.{append-nil, length-replicate, take_all}
-use Rattle.vc_model.specs.Addr.{place_of}
-use Rattle.vc_model.specs.Bytes.{with_bytes}
-use Rattle.vc_model.specs.Layout.{Block, Layout, is_at}
-use Rattle.vc_model.specs.Resize.{fitted_bytes, resize_there, sized_block}
-use Rattle.vc_model.specs.Segments.{span}
-use Rattle.vc_model.specs.Touch.{change_block, find_block, rewritten_block}
+use Rattle.vc_base.proofs.Common.{◌≡◌, ℕ, ◌+◌, ◌-◌, ◌<◌, ◌≤◌, true, false, not, ◌&&◌, List, [], ◌∷◌, ◌++◌, map, length, take, drop, replicate, Some, sym, refl, ap, ◌∙◌, subst, ⊎_elim, append-nil, arith, drop_of_length-le, take_all, lt-ltb, ∥∥₁_elim, ℕ_set, and_from, and_parts, cases_Bool, length-replicate, place_of, with_bytes, Block, Layout, is_at, fitted_bytes, resize_there, sized_block, span, change_block, find_block, rewritten_block}
 use Rattle.vc_seg.specs.Segment.{Bytes, pair_of}
 use Rattle.vc_extent.specs.Extent.{Extent, busy_extent}
 use Rattle.vc_extent.specs.Change.{extent_in}

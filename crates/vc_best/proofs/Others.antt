@@ -1,15 +1,5 @@
 -- The blocks but for one stay.
-use Rattle.std.proofs.Common.{◌≡◌, ℕ, List, [], ◌∷◌, Bool, true, false, All, IfSome, Option, None, Some, take, refl, ap, sym, ◌∙◌, ⊎_elim, eqb}
-use Rattle.std.specs.Prelude.{IfOk, Ok, Err, option_map}
-use Rattle.std.specs.declared.result.Result.{Result}
-use Rattle.std.proofs.lemmas.Bool.{cases_Bool, and_from, eq-eqb}
-use Rattle.std.proofs.lemmas.List.Elements.{All-head, All-tail}
-use Rattle.vc_model.specs.Layout.{Block, Layout, is_at, lies_before, with_block, without_block}
-use Rattle.vc_model.specs.Touch.{HasBlock, with_bytes_at, change_block, find_block, rewritten_block}
-use Rattle.vc_model.specs.Best.{best_alloc, without_block_at, place_in, zeros}
-use Rattle.vc_model.specs.Resize.{sized_block}
-use Rattle.vc_model.specs.Addr.{place_of}
-use Rattle.vc_model.specs.Discipline.{Terms}
+use Rattle.vc_base.proofs.Common.{◌≡◌, ℕ, Bool, true, false, eqb, List, [], ◌∷◌, take, IfSome, IfOk, Some, None, Ok, Err, All, Option, Result, option_map, sym, refl, ap, ◌∙◌, ⊎_elim, eq-eqb, and_from, cases_Bool, All-head, All-tail, place_of, best_alloc, place_in, without_block_at, zeros, Terms, Block, Layout, is_at, lies_before, with_block, without_block, sized_block, HasBlock, change_block, find_block, rewritten_block, with_bytes_at}
 use Rattle.vc_seg.specs.Answer.{IsPut}
 use Rattle.vc_base.specs.declared.addr.Addr.{Addr}
 use Rattle.vc_base.proofs.Places.{at-place}

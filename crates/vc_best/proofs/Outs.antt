@@ -1,12 +1,7 @@
 -- The tree of gaps where a free extent is cut, call by call, and which gaps are out of it then.
-use Rattle.std.proofs.Common.{◌≡◌, ℕ, ◌+◌, ◌-◌, ◌/◌, ◌%◌, ◌<◌, ◌≤◌, List, [], ◌∷◌, ◌++◌, Bool, true, false, eqb, ◌||◌, refl, ap, sym, subst, ◌∙◌, ⊎_elim, arith}
-use Rattle.std.proofs.Math.Logic.{∥∥₁_elim}
-use Rattle.std.proofs.lemmas.Bool.{cases_Bool}
-use Rattle.vc_base.specs.Holders.{contains}
+use Rattle.vc_base.proofs.Common.{◌≡◌, ℕ, ◌+◌, ◌-◌, ◌/◌, ◌%◌, ◌<◌, ◌≤◌, Bool, true, false, ◌||◌, eqb, List, [], ◌∷◌, ◌++◌, sym, refl, ap, ◌∙◌, subst, ⊎_elim, arith, ∥∥₁_elim, cases_Bool, contains, address, place_of, with_bytes}
 use Rattle.vc_base.proofs.Booleans.{or-swap}
 use Rattle.vc_base.proofs.Sets.{bytes-set}
-use Rattle.vc_model.specs.Addr.{address, place_of}
-use Rattle.vc_model.specs.Bytes.{with_bytes}
 use Rattle.vc_seg.specs.Segment.{Bytes}
 use Rattle.vc_layouts.proofs.Blocks.{place_of-address}
 use Rattle.vc_extent.specs.Change.{behind, first_of, mark_busy, split, write}

@@ -1,11 +1,6 @@
 -- The blocks of a tiling before an extent and behind it.
-use Rattle.std.proofs.Common.{◌≡◌, ℕ, ◌<◌, List, [], ◌∷◌, ◌++◌, true, false, All, map, filter, get_or, refl, ap, sym, ◌∙◌, ⊎_elim, if◌then◌else◌, eqb, arith}
-use Rattle.std.proofs.lemmas.Bool.{cases_Bool, and_left, and_right, eqb-true, lt-ltb, le-ltb}
+use Rattle.vc_base.proofs.Common.{◌≡◌, ℕ, ◌<◌, true, false, eqb, List, [], ◌∷◌, ◌++◌, map, get_or, if◌then◌else◌, All, filter, sym, refl, ap, ◌∙◌, ⊎_elim, append_assoc, arith, le-ltb, lt-ltb, eqb-true, and_left, and_right, cases_Bool, All-append, All-cons, All-filter, All-head, All-map, All-nil, All-tail, All-weaker, filter-append, map-append, place_of, Block, is_at}
 use Rattle.std.proofs.lemmas.Grind.{flat_map-append}
-use Rattle.std.proofs.lemmas.List.{append_assoc, map-append}
-use Rattle.std.proofs.lemmas.List.Elements.{All-append, All-cons, All-filter, All-head, All-map, All-nil, All-tail, All-weaker, filter-append}
-use Rattle.vc_model.specs.Addr.{place_of}
-use Rattle.vc_model.specs.Layout.{Block, is_at}
 use Rattle.vc_layouts.proofs.InOrder.{NoneAt}
 use Rattle.vc_extent.specs.Extent.{Extent}
 use Rattle.vc_extent.specs.Change.{behind, change_at, extent_in}

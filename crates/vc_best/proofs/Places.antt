@@ -1,8 +1,5 @@
 -- The blocks of a best region have places of their own.
-use Rattle.std.proofs.Math.Bridge.{le_prop}
-use Rattle.std.proofs.Math.Nat.{ℕ_set}
-use Rattle.std.proofs.Math.Logic.{∥∥₁_elim}
-use Rattle.vc_model.specs.Sound.{HaveOwnPlaces}
+use Rattle.vc_base.proofs.Common.{le_prop, ∥∥₁_elim, ℕ_set, HaveOwnPlaces}
 use Rattle.vc_model.proofs.Places.{own-places}
 use Rattle.vc_best.specs.Parts.{blocks_in, layout_of}
 use Rattle.vc_best.specs.declared.best.Best.{Best}

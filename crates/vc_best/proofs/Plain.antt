@@ -1,9 +1,5 @@
 -- What stays where all but the links of free extents stays: the layout, what is free, and what stands beside an extent.
-use Rattle.std.proofs.Common.{◌≡◌, ℕ, ◌+◌, ◌<◌, List, [], ◌∷◌, ◌++◌, Bool, true, false, not, cond, eqb, ltb, Option, Some, None, filter, map, option_map, refl, ap, sym, subst, ◌∙◌, ⊎_elim, arith}
-use Rattle.std.specs.Prelude.{◌&&◌}
-use Rattle.std.proofs.lemmas.Bool.{cases_Bool, eqb-true, ne_eqb, le-ltb, lt-ltb}
-use Rattle.std.proofs.lemmas.List.Elements.{All-cons, All-head, All-tail}
-use Rattle.vc_model.specs.Addr.{place_of}
+use Rattle.vc_base.proofs.Common.{◌≡◌, ℕ, ◌+◌, ◌<◌, Bool, true, false, cond, not, ◌&&◌, eqb, ltb, List, [], ◌∷◌, ◌++◌, map, Some, None, filter, Option, option_map, sym, refl, ap, ◌∙◌, subst, ⊎_elim, arith, le-ltb, lt-ltb, ne_eqb, eqb-true, cases_Bool, All-cons, All-head, All-tail, place_of}
 use Rattle.vc_seg.specs.Segment.{Bytes}
 use Rattle.vc_layouts.specs.InOrder.{in_order}
 use Rattle.vc_extent.specs.Change.{IsOneFree}

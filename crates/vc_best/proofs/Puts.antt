@@ -1,14 +1,5 @@
 -- A block of zeros in the least free run that holds it.
-use Rattle.std.proofs.Common.{◌≡◌, ℕ, ◌+◌, ◌%◌, ◌≤◌, List, Some, All, false, filter, map, ap, sym, subst, ◌∙◌, arith}
-use Rattle.std.specs.Prelude.{option_map}
-use Rattle.std.proofs.Math.Logic.{∥∥₁_elim}
-use Rattle.std.proofs.lemmas.Bool.{leb-true}
-use Rattle.vc_model.specs.Addr.{address, place_of}
-use Rattle.vc_model.specs.Best.{place_in, zeros}
-use Rattle.vc_model.specs.Gap.{Run}
-use Rattle.vc_model.specs.Layout.{Block, Layout, is_at}
-use Rattle.vc_model.specs.Place.{holds, least, lowest_offset}
-use Rattle.vc_model.specs.Segments.{round_up, span}
+use Rattle.vc_base.proofs.Common.{◌≡◌, ℕ, ◌+◌, ◌%◌, ◌≤◌, false, List, map, Some, All, filter, option_map, sym, ap, ◌∙◌, subst, arith, leb-true, ∥∥₁_elim, address, place_of, place_in, zeros, Run, Block, Layout, is_at, holds, least, lowest_offset, round_up, span}
 use Rattle.vc_base.proofs.Places.{span-least}
 use Rattle.vc_seg.proofs.Rounding.{round_up-least, round_up-mod_32}
 use Rattle.vc_seg.specs.Segment.{Bytes, pair_of}

@@ -1,17 +1,6 @@
 -- What a resize answers, by what its parts do.
-use Rattle.std.proofs.Common.{◌≡◌, ℕ, zero, suc, ◌<◌, ◌≤◌, List, [], ◌∷◌, Bool, true, false, All, IfSome, Option, None, Some, length, get_or, map, take, refl, ap, sym, ◌∙◌, subst, ⊎_elim, cond, eqb, arith}
-use Rattle.std.specs.Prelude.{option_map}
-use Rattle.std.proofs.lemmas.Bool.{cases_Bool, and_from, eq-eqb}
-use Rattle.std.proofs.lemmas.List.{length-map, get_or-map}
-use Rattle.std.proofs.lemmas.List.Elements.{All-head, All-tail}
-use Rattle.vc_model.specs.Segments.{Asked, Grant, Granted, TooMany, NotLent, ask}
-use Rattle.vc_model.specs.Layout.{Block, Layout, address_of, is_at, lies_before, with_block, with_grant}
-use Rattle.vc_model.specs.Touch.{HasBlock, find_block, with_bytes_at}
-use Rattle.vc_model.specs.Discipline.{Terms}
-use Rattle.vc_model.specs.Outcome.{Outcome, Done, Refused, Put, Fault, Fixed}
-use Rattle.vc_model.specs.Best.{best_alloc, best_need, without_block_at, place_in, put, put_at, put_in_new, put_or_ask, zeros}
-use Rattle.vc_model.specs.Resize.{best_resize, can_stay, outcome_of_move, resize_found, resize_there}
-use Rattle.vc_model.specs.Addr.{address, place_of}
+use Rattle.vc_base.proofs.Common.{◌≡◌, ℕ, zero, suc, ◌<◌, ◌≤◌, Bool, true, false, cond, eqb, List, [], ◌∷◌, map, length, get_or, take, IfSome, Some, None, All, Option, option_map, sym, refl, ap, ◌∙◌, subst, ⊎_elim, arith, eq-eqb, and_from, cases_Bool, All-head, All-tail, get_or-map, length-map, address, place_of, best_alloc, best_need, place_in, put_at, put_in_new, put_or_ask, without_block_at, zeros, Terms, Block, Layout, address_of, is_at, lies_before, with_block, with_grant, Done, Fault, Fixed, Outcome, Put, Refused, best_resize, can_stay, outcome_of_move, resize_found, resize_there, Asked, Grant, Granted, NotLent, TooMany, ask, HasBlock, find_block, with_bytes_at}
+use Rattle.vc_model.specs.Best.{put}
 use Rattle.vc_base.proofs.Lists.{find-passes}
 use Rattle.vc_base.proofs.Places.{at-place}
 use Rattle.vc_model.proofs.Owned.{address-place_of}

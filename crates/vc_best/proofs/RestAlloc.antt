@@ -1,11 +1,6 @@
 -- What allocation answers, it answers too over a layout that shows zeros for the bytes of its unlabelled blocks.
-use Rattle.std.proofs.Common.{◌≡◌, ℕ, Bool, true, false, ap, sym, subst, ◌∙◌}
-use Rattle.std.specs.Prelude.{Result, Ok, Err}
+use Rattle.vc_base.proofs.Common.{◌≡◌, ℕ, Bool, true, false, Ok, Err, Result, sym, ap, ◌∙◌, subst, best_alloc, Terms, Layout, Done, Fault, Outcome, Put, Refused, outcome_as}
 use Rattle.vc_base.specs.declared.addr.Addr.{Addr}
-use Rattle.vc_model.specs.Best.{best_alloc}
-use Rattle.vc_model.specs.Discipline.{Terms}
-use Rattle.vc_model.specs.Layout.{Layout}
-use Rattle.vc_model.specs.Outcome.{Outcome, Done, Fault, Refused, Put, outcome_as}
 use Rattle.vc_seg.specs.Answer.{Answers, IsPut, IsRefusal}
 use Rattle.vc_seg.specs.declared.fault.RegionFault.{RegionFault}
 use Rattle.vc_seg.specs.declared.fault.RegionFault.TheVariants as code

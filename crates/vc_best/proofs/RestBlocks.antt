@@ -1,13 +1,5 @@
 -- Blocks that show zeros where they are unlabelled: their places, labels and sizes stay, and a labelled one stays whole.
-use Rattle.std.proofs.Common.{◌≡◌, ◌≢◌, ℕ, ◌-◌, Bool, true, false, cond, List, [], ◌∷◌, Option, Some, None, map, option_map, replicate, refl, sym, ap, ◌∙◌, ⊎_elim, eqb}
-use Rattle.std.specs.Prelude.{find, nat_lt}
-use Rattle.std.proofs.lemmas.Bool.{cases_Bool, ne_eqb}
-use Rattle.std.proofs.lemmas.Option.{same_Some}
-use Rattle.vc_model.specs.Best.{zeros}
-use Rattle.vc_model.specs.Layout.{Block, address_of, footprint, footprints, is_at, lies_before, with_block, without_block}
-use Rattle.vc_model.specs.Order.{put_by}
-use Rattle.vc_model.specs.Touch.{change_block, find_block}
-use Rattle.vc_model.specs.Walk.{block_at, by_address, holds_byte}
+use Rattle.vc_base.proofs.Common.{◌≡◌, ℕ, ◌-◌, Bool, true, false, cond, eqb, ◌≢◌, List, [], ◌∷◌, map, replicate, nat_lt, Some, None, Option, option_map, find, sym, refl, ap, ◌∙◌, ⊎_elim, ne_eqb, cases_Bool, same_Some, zeros, Block, address_of, footprint, footprints, is_at, lies_before, with_block, without_block, put_by, change_block, find_block, block_at, by_address, holds_byte}
 use Rattle.vc_best.specs.Cells.{is_unlabelled, block_shown}
 
 -- a block that shows zeros where a test says so

@@ -1,19 +1,8 @@
 -- Every call of a layout commutes with the zeros that its unlabelled blocks show.
-use Rattle.std.proofs.Common.{◌≡◌, ◌≢◌, ℕ, ◌-◌, Bool, ◌&&◌, ◌||◌, cond, List, [], ◌∷◌, Option, Some, None, length, map, filter, refl, sym, ap, ◌∙◌, eqb}
-use Rattle.std.specs.Prelude.{not, sum}
-use Rattle.std.specs.List.{list_all}
-use Rattle.std.proofs.lemmas.List.{length-map}
-use Rattle.vc_model.specs.Best.{best_alloc, best_need, place_in, put, put_at, put_in_new, put_or_ask, zeros}
-use Rattle.vc_model.specs.Compact.{compact_count, compacted_layout, is_occupied}
-use Rattle.vc_model.specs.Discipline.{Terms}
-use Rattle.vc_model.specs.Gap.{Run, bytes_of, gaps}
-use Rattle.vc_model.specs.Layout.{Block, Layout, footprint, is_at, with_block, with_grant}
-use Rattle.vc_model.specs.Numbers.{gaps_of, greatest, segment_bytes, segment_count}
-use Rattle.vc_model.specs.Outcome.{Done, outcome_as}
+use Rattle.vc_base.proofs.Common.{◌≡◌, ℕ, ◌-◌, Bool, cond, not, ◌&&◌, ◌||◌, eqb, ◌≢◌, List, [], ◌∷◌, map, length, Some, None, sum, filter, Option, sym, refl, ap, ◌∙◌, length-map, list_all, best_alloc, best_need, place_in, put_at, put_in_new, put_or_ask, zeros, compact_count, compacted_layout, is_occupied, Terms, Run, bytes_of, gaps, Block, Layout, footprint, is_at, with_block, with_grant, gaps_of, greatest, segment_bytes, segment_count, Done, outcome_as, can_stay, is_usable, sized_block, stays, Asked, Grant, Granted, NotLent, TooMany, ask, find_block}
+use Rattle.vc_model.specs.Best.{put}
 use Rattle.vc_model.specs.Place.{place}
-use Rattle.vc_model.specs.Resize.{can_stay, is_usable, meets, sized_block, stays}
-use Rattle.vc_model.specs.Segments.{Asked, Grant, Granted, TooMany, NotLent, ask}
-use Rattle.vc_model.specs.Touch.{find_block}
+use Rattle.vc_model.specs.Resize.{meets}
 use Rattle.vc_seg.specs.Stat.{layout_stat}
 use Rattle.vc_seg.specs.declared.stat.Stat.{Stat}
 use Rattle.vc_best.specs.Cells.{block_shown, zeroed_layout}

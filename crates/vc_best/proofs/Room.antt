@@ -1,18 +1,7 @@
 -- A block can have a size where it is exactly where its room is enough.
-use Rattle.std.proofs.Common.{◌≡◌, ◌≢◌, ℕ, ◌+◌, ◌-◌, ◌%◌, ◌<◌, ◌≤◌, List, [], ◌∷◌, ◌++◌, Bool, All, AllPairs, true, false, inl, inr, ◌⊎◌, map, length, get_or, not, refl, ap, sym, subst, ◌∙◌, ⊎_elim, eqb, ltb, leb, arith}
-use Rattle.std.specs.Prelude.{◌&&◌, ◌||◌}
-use Rattle.std.specs.List.{list_all, list_any}
+use Rattle.vc_base.proofs.Common.{◌≡◌, ℕ, ◌+◌, ◌-◌, ◌%◌, ◌<◌, ◌≤◌, Bool, true, false, not, ◌&&◌, ◌||◌, eqb, ltb, leb, ◌≢◌, ◌⊎◌, List, [], ◌∷◌, ◌++◌, map, length, get_or, All, AllPairs, sym, refl, ap, ◌∙◌, subst, inl, inr, ⊎_elim, arith, ltb-true, le-ltb, lt-ltb, eq-eqb, ne_eqb, eqb-true, le-leb, leb-false, leb-true, or-false, ∥∥₁_elim, and_from, and_left, and_parts, and_right, cases_Bool, eqb-false, lt-leb, or_left, or_right, All-append, All-cons, All-head, All-nil, All-tail, All-weaker, list_any-append, list_all, list_any, place_of, Run, Block, footprint, is_at, can_stay, is_usable, sized_block, span}
 use mathlib.Core.Bool.{Bool-set}
-use Rattle.std.proofs.Math.Logic.{∥∥₁_elim}
-use Rattle.std.proofs.lemmas.Bool.{cases_Bool, and_from, and_parts, and_left, and_right, or_left, or_right, eqb-true, eqb-false, eq-eqb, ne_eqb, le-ltb, lt-ltb, ltb-true, le-leb, lt-leb, leb-true, leb-false}
-use Rattle.std.proofs.lemmas.List.Folds.{list_any-append}
-use Rattle.std.proofs.lemmas.List.Elements.{All-append, All-cons, All-head, All-nil, All-tail, All-weaker}
-use Rattle.std.proofs.Math.Bool.{or-false}
-use Rattle.vc_model.specs.Addr.{place_of}
-use Rattle.vc_model.specs.Gap.{Run}
-use Rattle.vc_model.specs.Layout.{Block, footprint, is_at}
-use Rattle.vc_model.specs.Resize.{can_stay, is_usable, meets, sized_block}
-use Rattle.vc_model.specs.Segments.{span}
+use Rattle.vc_model.specs.Resize.{meets}
 use Rattle.vc_model.proofs.Pairs.{AllPairs-head, AllPairs-tail}
 use Rattle.vc_seg.specs.Segment.{Bytes, pair_of}
 use Rattle.vc_layouts.specs.InOrder.{in_order}

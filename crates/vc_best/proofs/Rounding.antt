@@ -1,9 +1,8 @@
 -- The legal alignments, and the size of the segment that a block is asked for.
-use Rattle.std.proofs.Common.{◌≡◌, ℕ, ◌+◌, ◌%◌, ◌≤◌, List, [], ◌∷◌, refl, arith}
-use Rattle.std.proofs.lemmas.List.Elements.{All-from_recursion, All-contains}
-use Rattle.vc_model.specs.Discipline.{IsRound, IsSegmentSize}
+use Rattle.vc_base.proofs.Common.{◌≡◌, ℕ, ◌+◌, ◌%◌, ◌≤◌, List, [], ◌∷◌, refl, arith, All-contains, IsSegmentSize, round_up, span}
+use Rattle.std.proofs.lemmas.List.Elements.{All-from_recursion}
+use Rattle.vc_model.specs.Discipline.{IsRound}
 use Rattle.vc_model.specs.Place.{IsAlign}
-use Rattle.vc_model.specs.Segments.{round_up, span}
 use Rattle.vc_seg.proofs.Rounding.{IsSegmentSize-asked, round_up-least, round_up-most}
 
 -- what an alignment is

@@ -1,17 +1,6 @@
 -- Segments that come, go or are emptied.
-use Rattle.std.proofs.Common.{All, AllPairs, Bool, List, Some, [], ap, arith, eqb, false, filter, length, ltb, map, not, refl, subst, sym, true, ℕ, ⊎_elim, ◌⊎◌, inl, inr, ◌+◌, ◌++◌, ◌-◌, ◌<◌, ◌∙◌, ◌∷◌, ◌≡◌, ◌≢◌}
-use Rattle.std.specs.Prelude.{◌==◌, ◌↔◌, IsTrue}
-use Rattle.std.specs.List.{list_any}
-use Rattle.std.proofs.Math.Logic.{∥∥₁_elim}
-use Rattle.std.proofs.Math.Nat.{ℕ_set}
-use Rattle.std.proofs.lemmas.Bool.{cases_Bool, eqb-true, eqb-false, eq-eqb, ne_eqb, ltb-false, or_left, or_right}
+use Rattle.vc_base.proofs.Common.{◌≡◌, ℕ, ◌+◌, ◌-◌, ◌<◌, Bool, true, false, not, eqb, ltb, ◌≢◌, ◌⊎◌, ◌↔◌, List, [], ◌∷◌, ◌++◌, map, length, IsTrue, ◌==◌, Some, All, filter, AllPairs, sym, refl, ap, ◌∙◌, subst, inl, inr, ⊎_elim, append-nil, arith, ltb-false, eq-eqb, ne_eqb, eqb-true, ∥∥₁_elim, ℕ_set, cases_Bool, eqb-false, or_left, or_right, All-append, All-head, All-map, All-nil, All-tail, All-weaker, list_any-append, list_any, is_occupied, Block, with_grant, new_segment}
 use Rattle.std.proofs.lemmas.Grind.{flat_map-append}
-use Rattle.std.proofs.lemmas.List.{append-nil}
-use Rattle.std.proofs.lemmas.List.Folds.{list_any-append}
-use Rattle.std.proofs.lemmas.List.Elements.{All-append, All-head, All-map, All-nil, All-tail, All-weaker}
-use Rattle.vc_model.specs.Compact.{is_occupied}
-use Rattle.vc_model.specs.Layout.{Block, with_grant}
-use Rattle.vc_model.specs.Segments.{new_segment}
 use Rattle.vc_model.proofs.Pairs.{AllPairs-head, AllPairs-tail}
 use Rattle.vc_seg.specs.Segment.{Bytes, pair_of}
 use Rattle.vc_layouts.specs.InOrder.{in_order}

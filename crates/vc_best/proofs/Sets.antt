@@ -1,11 +1,8 @@
 -- Lists of extents and of blocks are sets.
-use Rattle.std.proofs.Common.{ℕ, List, Option}
+use Rattle.vc_base.proofs.Common.{ℕ, List, Option, ℕ_set, Run, Block, Layout}
 use mathlib.Core.Sum.{⊎_set}
 use Rattle.std.proofs.Math.Bool.{Bool-set}
-use Rattle.std.proofs.Math.Nat.{ℕ_set}
 use mathlib.Core.List.{is_set}
-use Rattle.vc_model.specs.Gap.{Run}
-use Rattle.vc_model.specs.Layout.{Block, Layout}
 use Rattle.vc_base.proofs.Sets.{bytes-set, block-set}
 use Rattle.vc_extent.specs.Extent.{Extent}
 use Rattle.vc_best.specs.Free.{IsMerged}

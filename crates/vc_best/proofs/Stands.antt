@@ -1,13 +1,6 @@
 -- Of blocks that don't overlap, one alone stands at each place.
-use Rattle.std.proofs.Common.{◌≡◌, ℕ, zero, suc, ◌+◌, ◌<◌, List, [], ◌∷◌, true, false, All, length, get_or, refl, ap, sym, ◌∙◌, subst, ⊎_elim, eqb, arith}
-use Rattle.std.specs.List.{remove, HoldsAt}
-use Rattle.std.proofs.lemmas.Bool.{cases_Bool, and_parts, eqb-true}
-use Rattle.std.proofs.lemmas.List.{get_or_default, length-map, get_or-map}
+use Rattle.vc_base.proofs.Common.{◌≡◌, ℕ, zero, suc, ◌+◌, ◌<◌, true, false, eqb, List, [], ◌∷◌, length, get_or, All, HoldsAt, remove, sym, refl, ap, ◌∙◌, subst, ⊎_elim, arith, eqb-true, and_parts, cases_Bool, All-cons, All-head, All-nil, All-tail, get_or-map, get_or_default, length-map, place_of, Block, Layout, address_of, is_at, lies_before, with_block, without_block, HasBlock}
 use Rattle.std.proofs.lemmas.List.Edits.{length-remove}
-use Rattle.std.proofs.lemmas.List.Elements.{All-cons, All-head, All-nil, All-tail}
-use Rattle.vc_model.specs.Addr.{place_of}
-use Rattle.vc_model.specs.Layout.{Block, Layout, address_of, is_at, lies_before, with_block, without_block}
-use Rattle.vc_model.specs.Touch.{HasBlock}
 use Rattle.vc_model.proofs.Pairs.{AllPairs-head, AllPairs-tail}
 use Rattle.vc_base.proofs.Places.{at-itself, span-least}
 use Rattle.vc_layouts.proofs.Blocks.{All-without, place_of-address}

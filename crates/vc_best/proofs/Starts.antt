@@ -1,11 +1,6 @@
 -- An address that is 0 or names a busy extent, where it is not 0.
-use Rattle.std.proofs.Common.{◌≡◌, ℕ, ◌≤◌, ◌⊎◌, List, IfSome, Option, Some, None, Bool, IsTrue, true, false, sym, ◌∙◌, inl, inr, ⊎_elim}
-use Rattle.std.specs.Prelude.{option_map}
+use Rattle.vc_base.proofs.Common.{◌≡◌, ℕ, ◌≤◌, Bool, true, false, ◌⊎◌, List, IfSome, IsTrue, Some, None, Option, option_map, sym, ◌∙◌, inl, inr, ⊎_elim, le_prop, ∥∥₁_elim, place_of, HasBlock}
 use Rattle.vc_base.specs.declared.addr.Addr.{Addr}
-use Rattle.std.proofs.Math.Bridge.{le_prop}
-use Rattle.std.proofs.Math.Logic.{∥∥₁_elim}
-use Rattle.vc_model.specs.Addr.{place_of}
-use Rattle.vc_model.specs.Touch.{HasBlock}
 use Rattle.vc_seg.specs.Segment.{Bytes}
 use Rattle.vc_extent.specs.Tiling.{AreExtents, IsBusy, tiling}
 use Rattle.vc_best.specs.Blocks.{layout_by}

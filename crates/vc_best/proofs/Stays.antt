@@ -1,13 +1,5 @@
 -- Whether a block stays where it is, and what is true of the blocks where it does or where it moved.
-use Rattle.std.proofs.Common.{◌≡◌, ℕ, ◌≤◌, List, Bool, IsTrue, true, false, IfSome, Option, Some, leb, take, refl, ap, sym, subst, ◌∙◌, ⊎_elim}
-use Rattle.std.specs.Prelude.{option_map}
-use Rattle.std.proofs.lemmas.Bool.{cases_Bool, le-leb, leb-true}
-use Rattle.vc_model.specs.Addr.{place_of}
-use Rattle.vc_model.specs.Best.{without_block_at}
-use Rattle.vc_model.specs.Layout.{Block, Layout}
-use Rattle.vc_model.specs.Resize.{can_stay, resize_there, sized_block}
-use Rattle.vc_model.specs.Segments.{span}
-use Rattle.vc_model.specs.Touch.{HasBlock, find_block, rewritten_block, with_bytes_at}
+use Rattle.vc_base.proofs.Common.{◌≡◌, ℕ, ◌≤◌, Bool, true, false, leb, List, take, IfSome, IsTrue, Some, Option, option_map, sym, refl, ap, ◌∙◌, subst, ⊎_elim, le-leb, leb-true, cases_Bool, place_of, without_block_at, Block, Layout, can_stay, resize_there, sized_block, span, HasBlock, find_block, rewritten_block, with_bytes_at}
 use Rattle.vc_seg.specs.Segment.{Bytes}
 use Rattle.vc_extent.specs.Tiling.{AreExtents, extent_of, tiling}
 use Rattle.vc_layouts.proofs.Blocks.{All-change, All-without}

@@ -1,14 +1,5 @@
 -- The block that is put, or that gets another size, stands at the address that is answered.
-use Rattle.std.proofs.Common.{◌≡◌, ◌≢◌, ℕ, List, [], ◌∷◌, true, false, cond, IfSome, Option, None, Some, take, refl, ap, sym, ◌∙◌, subst, ⊎_elim}
-use Rattle.std.specs.Prelude.{IfOk, Ok, Err, option_map}
-use Rattle.std.specs.declared.result.Result.{Result}
-use Rattle.std.proofs.lemmas.Bool.{cases_Bool}
-use Rattle.vc_model.specs.Addr.{address, place_of}
-use Rattle.vc_model.specs.Best.{without_block_at, zeros}
-use Rattle.vc_model.specs.Discipline.{Terms}
-use Rattle.vc_model.specs.Layout.{Block, Layout, is_at, without_block}
-use Rattle.vc_model.specs.Resize.{sized_block}
-use Rattle.vc_model.specs.Touch.{HasBlock, change_block, find_block, rewritten_block, with_bytes_at}
+use Rattle.vc_base.proofs.Common.{◌≡◌, ℕ, true, false, cond, ◌≢◌, List, [], ◌∷◌, take, IfSome, IfOk, Some, None, Ok, Err, Option, Result, option_map, sym, refl, ap, ◌∙◌, subst, ⊎_elim, cases_Bool, address, place_of, without_block_at, zeros, Terms, Block, Layout, is_at, without_block, sized_block, HasBlock, change_block, find_block, rewritten_block, with_bytes_at}
 use Rattle.vc_base.specs.declared.addr.Addr.{Addr}
 use Rattle.vc_base.proofs.Places.{at-place}
 use Rattle.vc_model.proofs.Owned.{address-place_of}

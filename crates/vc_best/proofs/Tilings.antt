@@ -1,13 +1,5 @@
 -- Tiled segments have blocks with heads.
-use Rattle.std.proofs.Common.{◌≡◌, ◌≢◌, ℕ, suc, ◌+◌, ◌-◌, ◌%◌, ◌<◌, ◌≤◌, List, [], ◌∷◌, true, false, All, AllPairs, map, filter, length, get_or, refl, sym, ◌∙◌, inl, inr, ⊎_elim, ltb, arith}
-use Rattle.std.proofs.Math.Logic.{∥∥₁_elim}
-use Rattle.std.proofs.lemmas.Bool.{cases_Bool, ltb-true}
-use Rattle.std.proofs.lemmas.List.Elements.{All-append, All-filter, All-head, All-map, All-nil, All-tail, All-weaker, filter_passes}
-use Rattle.std.proofs.lemmas.List.Kept.{AllPairs-cons}
-use Rattle.vc_model.specs.Discipline.{IsSegmentSize}
-use Rattle.vc_model.specs.Layout.{Block, footprint}
-use Rattle.vc_model.specs.Segments.{span}
-use Rattle.vc_model.specs.Sound.{HasWholeBlocks, HaveOwnNumbers, IsApart, IsSound, IsUsable}
+use Rattle.vc_base.proofs.Common.{◌≡◌, ℕ, suc, ◌+◌, ◌-◌, ◌%◌, ◌<◌, ◌≤◌, true, false, ltb, ◌≢◌, List, [], ◌∷◌, map, length, get_or, All, filter, AllPairs, sym, refl, ◌∙◌, inl, inr, ⊎_elim, arith, ltb-true, ∥∥₁_elim, cases_Bool, All-append, All-filter, All-head, All-map, All-nil, All-tail, All-weaker, filter_passes, AllPairs-cons, IsSegmentSize, Block, footprint, span, HasWholeBlocks, HaveOwnNumbers, IsApart, IsSound, IsUsable}
 use Rattle.vc_model.proofs.Pairs.{AllPairs-head, AllPairs-tail}
 use Rattle.vc_seg.specs.Segment.{AreSegments, Bytes, IsRegionSegment, pair_of}
 use Rattle.vc_layouts.proofs.Lists.{AllPairs-append, AllPairs-map, AllPairs-nil}

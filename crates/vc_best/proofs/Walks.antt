@@ -1,12 +1,5 @@
 -- A walk along the extents of a segment.
-use Rattle.std.proofs.Common.{◌≡◌, ◌≢◌, ℕ, ◌+◌, ◌-◌, ◌<◌, ◌≤◌, List, [], ◌∷◌, ◌++◌, true, eqb, Option, Some, None, IfSome, All, refl, ap, sym, subst, ◌∙◌, arith}
-use Rattle.std.specs.Prelude.{option_map}
-use Rattle.std.proofs.Math.Nat.{ℕ_set}
-use Rattle.std.proofs.Math.Bridge.{le_prop}
-use Rattle.std.proofs.Math.Logic.{∥∥₁_elim}
-use Rattle.std.proofs.lemmas.Bool.{eq-eqb, ne_eqb}
-use Rattle.std.proofs.lemmas.List.Elements.{All-head, All-tail}
-use Rattle.vc_model.specs.Addr.{address, place_of}
+use Rattle.vc_base.proofs.Common.{◌≡◌, ℕ, ◌+◌, ◌-◌, ◌<◌, ◌≤◌, true, eqb, ◌≢◌, List, [], ◌∷◌, ◌++◌, IfSome, Some, None, All, Option, option_map, sym, refl, ap, ◌∙◌, subst, arith, eq-eqb, ne_eqb, le_prop, ∥∥₁_elim, ℕ_set, All-head, All-tail, address, place_of}
 use Rattle.vc_layouts.proofs.Blocks.{place_of-address}
 use Rattle.vc_seg.specs.Segment.{Bytes}
 use Rattle.vc_base.specs.declared.addr.Addr.{Addr}

@@ -1,11 +1,5 @@
 -- Bytes that are put into a block of a best region.
-use Rattle.std.proofs.Common.{◌≡◌, ℕ, List, [], map, length, refl, ap, subst, sym, ◌∙◌}
-use Rattle.std.proofs.Math.Logic.{∥∥₁_elim}
-use Rattle.vc_model.specs.Addr.{place_of}
-use Rattle.vc_model.specs.Bytes.{with_bytes}
-use Rattle.vc_model.specs.Layout.{Layout, without_block}
-use Rattle.vc_model.specs.Sound.{HasWholeBlocks}
-use Rattle.vc_model.specs.Touch.{HasBlock}
+use Rattle.vc_base.proofs.Common.{◌≡◌, ℕ, List, [], map, length, sym, refl, ap, ◌∙◌, subst, ∥∥₁_elim, place_of, with_bytes, Layout, without_block, HasWholeBlocks, HasBlock}
 use Rattle.vc_seg.specs.OneBlock.{IsBlockWritten}
 use Rattle.vc_seg.specs.Segment.{Bytes, pair_of}
 use Rattle.vc_extent.specs.Change.{write}

@@ -1,9 +1,5 @@
 -- What a block of zeros in a free extent does to the blocks and to what is free.
-use Rattle.std.proofs.Common.{◌≡◌, ℕ, ◌+◌, ◌≤◌, List, ◌∷◌, ◌++◌, Bool, true, false, not, ltb, replicate, refl, ap, ◌∙◌, ⊎_elim, arith}
-use Rattle.std.specs.Prelude.{◌&&◌}
-use Rattle.std.proofs.lemmas.Bool.{cases_Bool, and_from, and_parts, le-ltb, lt-ltb}
-use Rattle.vc_model.specs.Best.{zeros}
-use Rattle.vc_model.specs.Segments.{span}
+use Rattle.vc_base.proofs.Common.{◌≡◌, ℕ, ◌+◌, ◌≤◌, Bool, true, false, not, ◌&&◌, ltb, List, ◌∷◌, ◌++◌, replicate, refl, ap, ◌∙◌, ⊎_elim, arith, le-ltb, lt-ltb, and_from, and_parts, cases_Bool, zeros, span}
 use Rattle.vc_extent.specs.Extent.{Extent, busy_extent}
 use Rattle.vc_extent.specs.Tiling.{IsFree, change_extent, extent_of}
 use Rattle.vc_best.specs.Blocks.{busy_in, is_busy}

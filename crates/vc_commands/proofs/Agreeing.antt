@@ -1,13 +1,8 @@
 -- The tags and the names of live blocks agree as a block is put, or taken out.
-use Rattle.std.proofs.Common.{◌≡◌, ◌≢◌, ℕ, zero, suc, [], ◌∷◌, IfSome, IfNone, ◌+◌, ◌-◌, ◌≤◌, ◌⊎◌, true, cond, is_some, length, List, Option, Some, None, Result, Ok, Err, IfOk, IsOk, OnErr, OnOk, refl, sym, ap, ◌∙◌, subst, inl, inr, arith}
-use Rattle.std.specs.Prelude.{IsSome, count_by, slice_index_or}
+use Rattle.vc_base.proofs.Common.{◌≡◌, ℕ, zero, suc, ◌+◌, ◌-◌, ◌≤◌, true, cond, ◌≢◌, ◌⊎◌, List, [], ◌∷◌, length, is_some, IfSome, IfNone, IfOk, OnOk, OnErr, IsSome, IsOk, slice_index_or, Some, None, Ok, Err, count_by, Option, Result, bytes_eq, sym, refl, ap, ◌∙◌, subst, inl, inr, arith, cases_Bool, cases_eq, false_from_ne_true, false≢true, none-some, same_Some, bytes_eq-Decides}
 use Rattle.vc_base.specs.declared.addr.Addr.{Addr}
 use Rattle.vc_commands.proofs.Lists.{count-cons}
 use Rattle.std.specs.HashMap as names
-use Rattle.std.specs.Str.{bytes_eq}
-use Rattle.std.proofs.lemmas.Bool.{cases_eq, cases_Bool, false_from_ne_true, false≢true}
-use Rattle.std.proofs.lemmas.Option.{none-some, same_Some}
-use Rattle.std.proofs.lemmas.Slice.Eq.{bytes_eq-Decides}
 use Rattle.slab.specs.Slab.{get, slab_len, Updates}
 use Rattle.vc_commands.specs.declared.region.labels.Label.{Label}
 use Rattle.vc_commands.specs.declared.region.labels.Labels.{Labels}

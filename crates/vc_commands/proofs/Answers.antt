@@ -1,12 +1,9 @@
 -- What a region's answer leaves of its discipline, and what a fault of it tells.
-use Rattle.std.proofs.Common.{◌≡◌, ◌≢◌, ℕ, Bool, List, ◌++◌, Some, Result, Ok, Err, IfOk, OnErr, option_map, refl, sym, ap, ◌∙◌, subst, arith, ◌-◌, length, take}
-use Rattle.std.proofs.lemmas.Option.{same_Some, none-some}
+use Rattle.vc_base.proofs.Common.{◌≡◌, ℕ, ◌-◌, Bool, ◌≢◌, List, ◌++◌, length, take, IfOk, OnErr, Some, Ok, Err, Result, option_map, sym, refl, ap, ◌∙◌, subst, arith, length-append, take_at, none-some, same_Some, Blocks, Discipline, HasOut, NoneRefused, Unserved, Fault, Outcome, Put, Refused}
 use Rattle.vc_base.specs.declared.addr.Addr.{Addr}
-use Rattle.vc_base.specs.Cells.{Blocks}
-use Rattle.vc_model.specs.Discipline.{Discipline, HasOut, Kept, NoneRefused, Unserved}
+use Rattle.vc_model.specs.Discipline.{Kept}
 use Rattle.vc_model.proofs.Keeping.{Kept-equal, Kept-same, NoneRefused-served}
 use Rattle.vc_model.specs.Outcome as model
-use Rattle.vc_model.specs.Outcome.{Fault, Outcome, Put, Refused}
 use Rattle.vc_region.specs.Region.{Region, segments_of}
 use Rattle.vc_seg.specs.Answer.{Answers, Asks, IsRefusal}
 use Rattle.vc_seg.specs.declared.fault.RegionFault.{RegionFault}
@@ -23,7 +20,6 @@ use Rattle.vc_commands.specs.Naming.{NamesPut, TellsFault}
 use Rattle.vc_commands.specs.Home.{Changed, Home, Label, changed_to, refusal_alone}
 use Rattle.vc_commands.specs.RegionRun.{GivesRegion}
 use Rattle.vc_commands.specs.RegionCommands.{is_for_block}
-use Rattle.std.proofs.lemmas.List.{length-append, take_at}
 
 -- what is left of segments that are out, when those of a region are back
 pub front-out : (rest segments out : List (ℕ × ℕ)) → out ≡ rest ++ segments → take (length out - length segments) out ≡ rest

@@ -1,11 +1,5 @@
 -- No two objects that are seen through a dictionary stand at one place.
-use Rattle.std.proofs.Common.{◌≡◌, ℕ, List, [], ◌∷◌, ◌++◌, map, Bool, true, false, not, ◌||◌, cond, refl, sym, ap, ◌∙◌, subst, inl, inr}
-use Rattle.std.specs.List.{AllByRecursion, filter, list_any}
-use Rattle.std.specs.Prelude.{◌==◌}
-use Rattle.std.proofs.lemmas.Bool.{and_parts, cases_Bool, eq-eqb, eqb-true, or_from, or_parts, true≢false}
-use Rattle.std.proofs.lemmas.List.Folds.{list_any-append}
-use Rattle.vc_base.specs.Holders.{AreDistinct, contains}
-use Rattle.vc_base.specs.Methods.{is_ordered}
+use Rattle.vc_base.proofs.Common.{◌≡◌, ℕ, Bool, true, false, cond, not, ◌||◌, List, [], ◌∷◌, ◌++◌, map, ◌==◌, filter, sym, refl, ap, ◌∙◌, subst, inl, inr, true≢false, eq-eqb, eqb-true, and_parts, cases_Bool, or_from, or_parts, list_any-append, AllByRecursion, list_any, AreDistinct, contains, is_ordered}
 use Rattle.vc_dtdisc.specs.Objects.{Object, is_greater, placed_among, placed_each}
 use Rattle.vc_dtdisc.specs.Rules.{Rules}
 use Rattle.vc_paths.specs.Layers.{AreLayers, Layered}

@@ -1,19 +1,11 @@
 -- What is done with the block of a name in a debug region, and what a walk of its damage and of the rows of a profile region tells.
-use Rattle.std.proofs.Common.{◌≡◌, ℕ, ◌+◌, ◌≤◌, zero, suc, true, false, cond, List, [], ◌∷◌, ◌++◌, Option, Some, None, filter, map, option_map, drop, slice_get, refl, sym, ap, ◌∙◌, subst, inl, inr, ⊎_elim, append_assoc, append-nil, arith}
-use Rattle.std.specs.Prelude.{ℤ}
-use Rattle.std.specs.List.{AllByRecursion, cons_option, filter_map}
-use Rattle.std.proofs.lemmas.Option.{none-some, same_Some}
+use Rattle.vc_base.proofs.Common.{◌≡◌, ℕ, zero, suc, ◌+◌, ◌≤◌, true, false, cond, List, [], ◌∷◌, ◌++◌, map, drop, ℤ, slice_get, Some, None, filter, Option, option_map, filter_map, sym, refl, ap, ◌∙◌, subst, inl, inr, ⊎_elim, append_assoc, append-nil, arith, none-some, same_Some, AllByRecursion, cons_option, address, place_of, Block, address_of, relabel_block, without_block, HaveOwnPlaces, find_block, by_address}
 use Rattle.vc_audit.specs.Debug.{damage, damage_of, user_block}
 use Rattle.vc_audit.specs.DebugParts.{debug_of}
 use Rattle.vc_audit.proofs.DebugDamaged.{all-pass, behind, next-passes, none-passes}
 use Rattle.vc_audit.proofs.DebugRelabel.{relabel_found}
 use Rattle.vc_audit.proofs.DebugWalks.{own-best}
 use Rattle.vc_base.specs.declared.addr.Addr.{Addr}
-use Rattle.vc_model.specs.Addr.{address, place_of}
-use Rattle.vc_model.specs.Layout.{Block, address_of, relabel_block, without_block}
-use Rattle.vc_model.specs.Sound.{HaveOwnPlaces}
-use Rattle.vc_model.specs.Touch.{find_block}
-use Rattle.vc_model.specs.Walk.{by_address}
 use Rattle.vc_model.proofs.Owned.{address-place_of}
 use Rattle.vc_model.proofs.Places.{Among, among-all, among-find, found-there}
 use Rattle.vc_model.proofs.Sorting as sorting

@@ -1,15 +1,9 @@
 -- What clearing and compacting an open region answer, and how they change the region.
-use Rattle.vc_model.specs.Layout.{Block, relabel_block}
-use Rattle.std.proofs.Common.{◌≡◌, ℕ, ◌-◌, ◌≤◌, ◌||◌, Bool, true, false, cond, List, [], ◌∷◌, ◌++◌, Option, Some, None, length, map, is_some, take, refl, sym, ap, ◌∙◌, subst, arith}
-use Rattle.std.specs.List.{AllByRecursion, list_any}
-use Rattle.std.proofs.lemmas.List.{length-append, take-append-le, take_all}
+use Rattle.vc_base.proofs.Common.{◌≡◌, ℕ, ◌-◌, ◌≤◌, Bool, true, false, cond, ◌||◌, List, [], ◌∷◌, ◌++◌, map, length, take, is_some, Some, None, Option, sym, refl, ap, ◌∙◌, subst, arith, length-append, take_all, take-append-le, AllByRecursion, list_any, Blocks, Discipline, HasOut, TookBack, Block, relabel_block, HaveOwnPlaces}
 use Rattle.slab.specs.Slab.{slab_len}
-use Rattle.vc_base.specs.Cells.{Blocks}
 use Rattle.vc_base.proofs.Texts.{bytes_eq-swapped}
 use Rattle.vc_model.proofs.Keeping.{Kept-equal}
-use Rattle.vc_model.specs.Discipline.{Discipline, HasOut, TookBack}
 use Rattle.vc_region.specs.Region.{Region, blocks_of, keeps_freed, region_clear, region_with_labels, segments_of}
-use Rattle.vc_model.specs.Sound.{HaveOwnPlaces}
 use Rattle.vc_region.proofs.Clearing.{cleared-blocks}
 use Rattle.vc_region.proofs.Relabel.{blocks-relabelled, clear-relabelled, keeps-relabelled, relabelled-alike}
 use Rattle.vc_commands.specs.declared.region.labels.Labels.{Labels}

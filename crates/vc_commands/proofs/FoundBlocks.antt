@@ -1,15 +1,7 @@
 -- The block of a name, in a region with tags and in the one with names.
-use Rattle.std.proofs.Common.{◌≡◌, ℕ, ◌≤◌, suc, true, ◌||◌, is_some, List, [], ◌∷◌, Some, None, option_map, map, refl, sym, ap, ◌∙◌, ⊎_elim, arith}
-use Rattle.std.specs.Prelude.{Contains, find, ◌==◌}
-use Rattle.std.specs.List.{list_any}
-use Rattle.std.specs.Str.{bytes_eq}
-use Rattle.std.proofs.lemmas.Bool.{cases_Bool, eqb-true, false≢true}
-use Rattle.std.proofs.lemmas.Option.{same_Some}
-use Rattle.vc_model.specs.Addr.{place_of}
-use Rattle.vc_model.specs.Layout.{Block, address_of, relabel_block}
+use Rattle.vc_base.proofs.Common.{◌≡◌, ℕ, suc, ◌≤◌, true, ◌||◌, List, [], ◌∷◌, map, is_some, ◌==◌, Some, None, Contains, option_map, find, bytes_eq, sym, refl, ap, ◌∙◌, ⊎_elim, arith, eqb-true, cases_Bool, false≢true, same_Some, list_any, place_of, Block, address_of, relabel_block, HasBlock, find_block}
 use Rattle.vc_region.specs.Region.{Region, blocks_of, region_with_labels}
 use Rattle.vc_model.specs.Place.{IsAlign}
-use Rattle.vc_model.specs.Touch.{HasBlock, find_block}
 use Rattle.vc_base.specs.declared.addr.Addr.{Addr}
 use Rattle.vc_base.proofs.Texts.{same_bytes}
 use Rattle.vc_region.specs.Cells.{rest_in}

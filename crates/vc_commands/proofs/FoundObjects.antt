@@ -1,11 +1,6 @@
 -- An object that is found lies in one of the holders.
-use Rattle.std.proofs.Common.{◌≡◌, ℕ, List, [], ◌∷◌, Bool, true, false, Option, Some, None, map, refl, sym, ap, ◌∙◌, inl, inr, arith}
-use Rattle.std.specs.Prelude.{IfSome, option_map, if◌then◌else◌}
-use Rattle.std.specs.List.{AllByRecursion, find}
-use Rattle.std.proofs.lemmas.Bool.Decides.{eqb_tells}
+use Rattle.vc_base.proofs.Common.{◌≡◌, ℕ, Bool, true, false, List, [], ◌∷◌, map, IfSome, if◌then◌else◌, Some, None, Option, option_map, find, sym, refl, ap, ◌∙◌, inl, inr, arith, eqb_tells, AllByRecursion, Blocks, HasBytes, contains, some_address}
 use Rattle.vc_base.specs.declared.addr.Addr.{Addr}
-use Rattle.vc_base.specs.Cells.{Blocks, HasBytes}
-use Rattle.vc_base.specs.Holders.{contains, some_address}
 use Rattle.vc_base.proofs.Members.{within-head, within-tail}
 use Rattle.vc_dtdisc.specs.Objects.{Object, bytes_of, first_with, has_key}
 use Rattle.vc_dtdisc.specs.Rules.{Rules}

@@ -1,11 +1,6 @@
 -- What freeing the block of a name answers, and how it changes the region.
-use Rattle.std.proofs.Common.{◌≡◌, ℕ, Bool, false, cond, List, Option, Some, None, IfSome, IfNone, refl, sym, ap, ◌∙◌, subst, []}
-use Rattle.std.specs.Prelude.{IfOk, Result, Ok, Err, OnSome}
-use Rattle.std.proofs.lemmas.Option.{none-some, same_Some}
+use Rattle.vc_base.proofs.Common.{◌≡◌, ℕ, Bool, false, cond, List, [], IfSome, IfNone, IfOk, OnSome, Some, None, Ok, Err, Option, Result, sym, refl, ap, ◌∙◌, subst, none-some, same_Some, place_of, without_block, Done}
 use Rattle.vc_base.specs.declared.addr.Addr.{Addr}
-use Rattle.vc_model.specs.Addr.{place_of}
-use Rattle.vc_model.specs.Layout.{without_block}
-use Rattle.vc_model.specs.Outcome.{Done}
 use Rattle.vc_region.specs.Region.{Region, blocks_of, region_free, region_with_labels, keeps_freed, watch_at}
 use Rattle.vc_region.proofs.Relabel.{free-relabelled, relabel_freed, keeps-relabelled, watch-relabelled}
 use Rattle.vc_region.proofs.Freeing.{free-keeps}

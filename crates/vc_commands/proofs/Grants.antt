@@ -1,12 +1,8 @@
 -- Which replies tell that a segment was refused.
-use Rattle.std.proofs.Common.{◌≡◌, ℕ, ◌+◌, Bool, true, false, cond, ◌&&◌, List, Option, Some, None, refl, ◌∙◌, subst, [], ◌∷◌}
-use Rattle.std.specs.Prelude.{ℤ, find, length, nat_le, IfSome}
-use Rattle.vc_model.specs.Layout.{Block}
+use Rattle.vc_base.proofs.Common.{◌≡◌, ℕ, ◌+◌, Bool, true, false, cond, ◌&&◌, List, [], ◌∷◌, length, ℤ, IfSome, nat_le, Some, None, Option, find, refl, ◌∙◌, subst, Block, Done, Fault, Outcome, Put, Refused, block_at, segment_at}
 use Rattle.vc_model.specs.Outcome as model
-use Rattle.vc_model.specs.Outcome.{Fault, Outcome, Done, Put, Refused}
 use Rattle.vc_region.proofs.Freeing.{free-granted}
 use Rattle.vc_region.specs.Region.{Region, blocks_of, region_align, region_alloc, region_free, region_resize, segments_of, watch_at, aligns, is_debug, is_profile}
-use Rattle.vc_model.specs.Walk.{block_at, segment_at}
 use Rattle.vc_script.specs.declared.command.Command.{Command}
 use Rattle.vc_script.specs.declared.command.Command.TheVariants.{Alloc, Align, Resize, Free, WriteBlock, ReadBlock, SizeOf, AddrOf, SegmentOf, Poke, Check, Watch, ProfileOf}
 use Rattle.vc_script.specs.declared.place.Place.{Place}

@@ -1,13 +1,7 @@
 -- The block at a place, and the lists of segments and of blocks.
-use Rattle.std.proofs.Common.{◌≡◌, ℕ, ◌<◌, ◌≤◌, List, [], ◌∷◌, Option, Some, None, filter, get_or, length, map, option_map, refl, sym, ap, ◌∙◌, arith}
-use Rattle.std.specs.Prelude.{find, ◌-◌}
-use Rattle.std.proofs.lemmas.Option.{same_Some, none-some}
-use Rattle.vc_model.specs.Addr.{place_of}
-use Rattle.vc_model.specs.Layout.{Block, address_of, relabel_block}
+use Rattle.vc_base.proofs.Common.{◌≡◌, ℕ, ◌-◌, ◌<◌, ◌≤◌, List, [], ◌∷◌, map, length, get_or, Some, None, filter, Option, option_map, find, sym, refl, ap, ◌∙◌, arith, none-some, same_Some, place_of, Block, address_of, relabel_block, HaveOwnNumbers, HaveOwnPlaces, find_block, block_at, by_address, holds_byte, next_block, next_segment}
 use Rattle.vc_region.specs.Region.{Region, blocks_of, region_with_labels}
-use Rattle.vc_model.specs.Sound.{HaveOwnNumbers, HaveOwnPlaces}
-use Rattle.vc_model.specs.Touch.{find_block}
-use Rattle.vc_model.specs.Walk.{block_at, by_address, by_number, holds_byte, next_block, next_segment}
+use Rattle.vc_model.specs.Walk.{by_number}
 use Rattle.vc_model.proofs.Pairs.{all-recursion}
 use Rattle.vc_model.proofs.Places.{among-above, among-find, found-there, place-of}
 use Rattle.vc_model.proofs.Relabel.{block_at-relabel, by_address-relabel}

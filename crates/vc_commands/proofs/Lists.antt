@@ -1,13 +1,5 @@
 -- Lists of blocks, and the one at a place.
-use Rattle.std.proofs.Common.{◌≡◌, ◌≢◌, ℕ, ◌+◌, ◌<◌, suc, Bool, true, false, ◌||◌, cond, List, [], ◌∷◌, Some, AllPairs, length, get_or, map, refl, sym, ap, ◌∙◌, subst, ⊎_elim, arith}
-use Rattle.std.specs.Prelude.{Contains, count_by, find, remove}
-use Rattle.std.specs.List.{AllByRecursion, list_any}
-use Rattle.std.proofs.lemmas.Bool.{cases_Bool, false≢true}
-use Rattle.std.proofs.lemmas.List.Sums.{sum_by-append}
-use Rattle.std.proofs.lemmas.Option.{same_Some, none-some}
-use Rattle.vc_model.specs.Layout.{Block, address_of, is_at, without_block}
-use Rattle.vc_model.specs.Sound.{HaveOwnPlaces}
-use Rattle.vc_model.specs.Touch.{change_block, find_block}
+use Rattle.vc_base.proofs.Common.{◌≡◌, ℕ, suc, ◌+◌, ◌<◌, Bool, true, false, cond, ◌||◌, ◌≢◌, List, [], ◌∷◌, map, length, get_or, Some, Contains, count_by, remove, AllPairs, find, sym, refl, ap, ◌∙◌, subst, ⊎_elim, arith, cases_Bool, false≢true, sum_by-append, none-some, same_Some, AllByRecursion, list_any, Block, address_of, is_at, without_block, HaveOwnPlaces, change_block, find_block}
 use Rattle.vc_model.proofs.Pairs.{AllPairs-head, AllPairs-tail, all-recursion}
 use Rattle.vc_model.proofs.Places.{Among}
 use Rattle.vc_base.proofs.Booleans.{or-swap}

@@ -1,17 +1,6 @@
 -- The names of a region stay in step with its blocks as one is put, moves or goes.
-use Rattle.std.proofs.Common.{◌≡◌, ◌≢◌, ℕ, ◌+◌, ◌≤◌, zero, suc, true, false, ◌||◌, ◌⊎◌, cond, is_some, List, [], ◌∷◌, Some, None, refl, sym, ap, ◌∙◌, subst, ⊎_elim, inl, inr, arith}
-use Rattle.std.specs.Prelude.{nat_lt}
-use Rattle.std.specs.List.{AllByRecursion, list_any}
-use Rattle.std.specs.Str.{bytes_eq}
-use Rattle.std.proofs.lemmas.Bool.{cases_Bool, cases_eq}
-use Rattle.std.proofs.lemmas.Bool.Decides.{nat_tests}
-use Rattle.std.proofs.lemmas.Option.{same_Some, none-some}
-use Rattle.vc_model.specs.Addr.{address, place_of}
-use Rattle.vc_model.specs.Best.{zeros}
-use Rattle.vc_model.specs.Layout.{Block, address_of, without_block}
+use Rattle.vc_base.proofs.Common.{◌≡◌, ℕ, zero, suc, ◌+◌, ◌≤◌, true, false, cond, ◌||◌, ◌≢◌, ◌⊎◌, List, [], ◌∷◌, is_some, nat_lt, Some, None, bytes_eq, sym, refl, ap, ◌∙◌, subst, inl, inr, ⊎_elim, arith, nat_tests, cases_Bool, cases_eq, none-some, same_Some, AllByRecursion, list_any, address, place_of, zeros, Block, address_of, without_block, HaveOwnPlaces, find_block}
 use Rattle.vc_region.specs.Region.{Region, blocks_of, keeps_freed, region_with_labels}
-use Rattle.vc_model.specs.Sound.{HaveOwnPlaces}
-use Rattle.vc_model.specs.Touch.{find_block}
 use Rattle.vc_base.proofs.Texts.{same_bytes}
 use Rattle.vc_region.proofs.Relabel.{relabelled-alike}
 use Rattle.vc_commands.specs.Blocks.{is_name_of}

@@ -1,11 +1,7 @@
 -- Commands on a dictionary commute with a change of the labels of its region.
-use Rattle.std.proofs.Common.{◌≡◌, ℕ, List, [], Bool, true, false, Option, Some, None, length, cond, refl, sym, ap, ◌∙◌, subst}
+use Rattle.vc_base.proofs.Common.{◌≡◌, ℕ, Bool, true, false, cond, List, [], length, Some, None, Option, sym, refl, ap, ◌∙◌, subst, is_list, Discipline, Layout, relabel_layout, Outcome, done_as}
 use Rattle.vc_base.specs.declared.dict_method.DictMethod.{DictMethod}
-use Rattle.vc_model.specs.Discipline.{Discipline}
-use Rattle.vc_model.specs.Layout.{Layout, relabel_layout}
 use Rattle.vc_model.specs.Outcome as model
-use Rattle.vc_model.specs.Outcome.{Outcome, done_as}
-use Rattle.vc_base.specs.Methods.{is_list}
 use Rattle.vc_dtdisc.specs.Objects.{Object}
 use Rattle.vc_objects.specs.Insert.{Inserted}
 use Rattle.vc_objects.specs.Leaves.{LacksHolder, LacksTable}

@@ -1,13 +1,5 @@
 -- The names of a region's blocks.
-use Rattle.std.proofs.Common.{◌≡◌, ◌≢◌, ℕ, ◌+◌, ◌≤◌, zero, suc, Bool, true, false, ◌⊎◌, cond, is_some, List, [], ◌∷◌, Some, None, map, option_map, refl, sym, ap, ◌∙◌, ⊎_elim, inl, inr, arith}
-use Rattle.std.specs.Prelude.{count_by, nat_lt, ◌==◌}
-use Rattle.std.specs.List.{AllByRecursion, list_any}
-use Rattle.std.specs.Str.{bytes_eq}
-use Rattle.std.proofs.lemmas.Bool.{false≢true}
-use Rattle.std.proofs.lemmas.Bool.Decides.{nat_tests}
-use Rattle.std.proofs.lemmas.Option.{none-some}
-use Rattle.std.proofs.lemmas.Slice.Eq.{bytes_eq-Decides}
-use Rattle.vc_model.specs.Layout.{Block, relabel_block}
+use Rattle.vc_base.proofs.Common.{◌≡◌, ℕ, zero, suc, ◌+◌, ◌≤◌, Bool, true, false, cond, ◌≢◌, ◌⊎◌, List, [], ◌∷◌, map, is_some, nat_lt, ◌==◌, Some, None, count_by, option_map, bytes_eq, sym, refl, ap, ◌∙◌, inl, inr, ⊎_elim, arith, nat_tests, false≢true, none-some, bytes_eq-Decides, AllByRecursion, list_any, Block, relabel_block}
 use Rattle.vc_base.proofs.Quantifiers.{any-map}
 use Rattle.vc_region.specs.Region.{Region, blocks_of, region_with_labels}
 use Rattle.vc_region.proofs.Relabel.{blocks-relabelled, relabelled-alike}

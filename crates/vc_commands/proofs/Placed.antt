@@ -1,10 +1,7 @@
 -- A command that puts a new block under a name in an open region.
-use Rattle.std.proofs.Common.{◌≡◌, ℕ, ◌≤◌, Bool, false, List, [], Option, Some, None, Result, Ok, refl}
-use Rattle.std.specs.Prelude.{IfSome}
+use Rattle.vc_base.proofs.Common.{◌≡◌, ℕ, ◌≤◌, Bool, false, List, [], IfSome, Some, None, Ok, Option, Result, refl, Discipline, HasOut, Outcome, Put, outcome_as}
 use Rattle.vc_model.proofs.Keeping.{NoneRefused-same}
 use Rattle.vc_base.specs.declared.addr.Addr.{Addr}
-use Rattle.vc_model.specs.Discipline.{Discipline, HasOut}
-use Rattle.vc_model.specs.Outcome.{Outcome, Put, outcome_as}
 use Rattle.vc_region.specs.Cells.{cells_in, rest_in}
 use Rattle.vc_region.specs.Parts.{disc_in, region_of}
 use Rattle.vc_region.specs.Region.{Region, keeps_freed, region_need, region_with_labels, segments_of}

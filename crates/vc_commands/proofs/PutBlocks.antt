@@ -1,21 +1,8 @@
 -- What allocating a block under a name answers, and how it changes the region.
-use Rattle.std.proofs.Common.{◌≡◌, ◌≢◌, ℕ, ◌+◌, ◌≤◌, ◌||◌, ◌&&◌, length, Bool, true, false, cond, is_some, List, [], ◌∷◌, Option, Some, None, Result, Ok, Err, IfOk, OnErr, refl, sym, ap, ◌∙◌, subst, arith}
-use Rattle.std.specs.Prelude.{IfSome, nat_le, nat_lt, ◌==◌}
-use Rattle.std.specs.List.{AllByRecursion}
-use Rattle.std.proofs.lemmas.Bool.{and_parts, eq-eqb}
-use Rattle.std.proofs.lemmas.Bool.Decides.{nat_tests}
-use Rattle.std.proofs.lemmas.Option.{none-some}
+use Rattle.vc_base.proofs.Common.{◌≡◌, ℕ, ◌+◌, ◌≤◌, Bool, true, false, cond, ◌&&◌, ◌||◌, ◌≢◌, List, [], ◌∷◌, length, is_some, IfSome, IfOk, OnErr, nat_lt, nat_le, ◌==◌, Some, None, Ok, Err, Option, Result, sym, refl, ap, ◌∙◌, subst, arith, eq-eqb, nat_tests, and_parts, none-some, AllByRecursion, Blocks, address, place_of, zeros, Discipline, HasOut, Unserved, Block, without_block, Done, Outcome, Put, Refused, outcome_as, HaveOwnPlaces, find_block}
 use Rattle.vc_base.specs.declared.addr.Addr.{Addr}
-use Rattle.vc_base.specs.Cells.{Blocks}
 use Rattle.vc_base.proofs.Options.{none_of}
-use Rattle.vc_model.specs.Addr.{address, place_of}
-use Rattle.vc_model.specs.Best.{zeros}
-use Rattle.vc_model.specs.Discipline.{Discipline, HasOut, Unserved}
-use Rattle.vc_model.specs.Layout.{Block, without_block}
-use Rattle.vc_model.specs.Outcome.{Outcome, Done, Put, Refused, outcome_as}
 use Rattle.vc_region.specs.Region.{Region, aligns, blocks_of, keeps_freed, region_align, region_alloc, region_with_labels, segments_of}
-use Rattle.vc_model.specs.Sound.{HaveOwnPlaces}
-use Rattle.vc_model.specs.Touch.{find_block}
 use Rattle.vc_region.proofs.Relabel.{align-relabelled, aligns-relabelled, alloc-relabelled, relabelled-alike}
 use Rattle.vc_seg.specs.Answer.{Answers, Asks, IsPut}
 use Rattle.vc_seg.specs.declared.fault.RegionFault.{RegionFault}

@@ -1,13 +1,8 @@
 -- What running a command promises, from what its own function does.
-use Rattle.std.proofs.Common.{◌≡◌, ℕ, List, Bool, true, false, Option, None, refl, sym, ap, ◌∙◌, subst, inl}
-use Rattle.std.specs.Prelude.{IfOk, OnErr, Result, Ok, Err, length}
-use Rattle.std.proofs.lemmas.Bool.{false≢true}
+use Rattle.vc_base.proofs.Common.{◌≡◌, ℕ, Bool, true, false, List, length, IfOk, OnErr, None, Ok, Err, Option, Result, sym, refl, ap, ◌∙◌, subst, inl, false≢true, is_list, Discipline, NoneRefused, Layout}
 use Rattle.vc_model.proofs.Keeping.{NoneRefused-equal}
-use Rattle.vc_model.specs.Layout.{Layout}
 use Rattle.vc_base.specs.declared.dict_method.DictMethod.{DictMethod}
 use Rattle.vc_base.specs.declared.dict_method.DictMethod.TheVariants.{DtSet, DtBag, DtOset, DtObag, DtList, DtStack, DtQueue}
-use Rattle.vc_model.specs.Discipline.{Discipline, NoneRefused}
-use Rattle.vc_base.specs.Methods.{is_list}
 use Rattle.vc_dict.specs.Methods.{wanted_by}
 use Rattle.vc_dtdisc.specs.Rules.{Gone}
 use Rattle.vc_dict.specs.declared.dict.Dict.{Dict}

@@ -1,8 +1,6 @@
 -- A resize of the block of a name in an open region, by what it leaves but for the bytes in cells.
-use Rattle.std.proofs.Common.{◌≡◌, ℕ, Bool, List, Result, IfOk}
+use Rattle.vc_base.proofs.Common.{◌≡◌, ℕ, Bool, List, IfOk, Result, place_of, Discipline, HasOut}
 use Rattle.vc_base.specs.declared.addr.Addr.{Addr}
-use Rattle.vc_model.specs.Addr.{place_of}
-use Rattle.vc_model.specs.Discipline.{Discipline, HasOut}
 use Rattle.vc_region.specs.Cells.{cells_in, rest_in}
 use Rattle.vc_region.specs.Parts.{disc_in, region_of}
 use Rattle.vc_region.specs.Region.{blocks_of, region_need, region_resize, segments_of}

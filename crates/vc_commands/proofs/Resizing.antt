@@ -1,15 +1,8 @@
 -- What giving the block of a name another size answers, and how it changes the region.
-use Rattle.std.proofs.Common.{◌≡◌, ℕ, Bool, true, false, cond, eqb, List, [], ◌∷◌, Option, Some, Result, Ok, Err, IfOk, option_map, refl, sym, ap, ◌∙◌, subst, ⊎_elim}
-use Rattle.std.proofs.lemmas.Bool.{cases_Bool, and_parts, eqb-true}
-use Rattle.std.proofs.lemmas.Option.{same_Some, none-some}
+use Rattle.vc_base.proofs.Common.{◌≡◌, ℕ, Bool, true, false, cond, eqb, List, [], ◌∷◌, IfOk, Some, Ok, Err, Option, Result, option_map, sym, refl, ap, ◌∙◌, subst, ⊎_elim, eqb-true, and_parts, cases_Bool, none-some, same_Some, address, place_of, Block, is_at, without_block, Outcome, Put, outcome_as, HaveOwnPlaces, find_block}
 use Rattle.vc_base.specs.declared.addr.Addr.{Addr}
-use Rattle.vc_model.specs.Addr.{address, place_of}
-use Rattle.vc_model.specs.Layout.{Block, is_at, without_block}
-use Rattle.vc_model.specs.Outcome.{Outcome, Put, outcome_as}
 use Rattle.vc_region.specs.Region.{Region, blocks_of, region_resize, region_with_labels, watch_at}
 use Rattle.vc_region.proofs.Keeps.{resize-keeps}
-use Rattle.vc_model.specs.Sound.{HaveOwnPlaces}
-use Rattle.vc_model.specs.Touch.{find_block}
 use Rattle.vc_region.proofs.Relabel.{resize-relabelled, watch-relabelled}
 use Rattle.vc_seg.specs.Answer.{IsPut, IsRefusal}
 use Rattle.vc_seg.specs.declared.fault.RegionFault.{RegionFault}

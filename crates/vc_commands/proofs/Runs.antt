@@ -1,7 +1,5 @@
 -- What the commands on a region promise together, by the reply that each gives.
-use Rattle.std.proofs.Common.{◌≡◌, ℕ, List, [], Bool, Option, Some, None, Result, Ok, Err, IfOk, OnErr, refl, subst, sym, ℤ}
-use Rattle.std.specs.Prelude.{OnOk}
-use Rattle.vc_model.specs.Discipline.{Discipline, NoneRefused}
+use Rattle.vc_base.proofs.Common.{◌≡◌, ℕ, Bool, List, [], ℤ, IfOk, OnOk, OnErr, Some, None, Ok, Err, Option, Result, sym, refl, subst, Discipline, NoneRefused}
 use Rattle.vc_region.specs.Parts.{disc_in}
 use Rattle.vc_script.specs.declared.command.Command.{Command}
 use Rattle.vc_script.specs.declared.command.Command.TheVariants.{ClearRegion, Compact, Alloc, Align, Resize, Free, WriteBlock, ReadBlock, SizeOf, AddrOf, SegmentOf, StatOf, Segments, Blocks, Poke, Check, Watch, ProfileOf}

@@ -1,12 +1,7 @@
 -- What one call after another does to a dictionary and its region.
-use Rattle.std.proofs.Common.{◌≡◌, ℕ, List, [], Bool, true, false, Option, Some, None, refl, sym, ap, ◌∙◌, subst}
-use Rattle.std.specs.Prelude.{IfOk, Ok, Result, if◌then◌else◌}
-use Rattle.vc_model.specs.Layout.{Layout}
-use Rattle.vc_base.specs.Holders.{contains}
+use Rattle.vc_base.proofs.Common.{◌≡◌, ℕ, Bool, true, false, List, [], IfOk, if◌then◌else◌, Some, None, Ok, Option, Result, sym, refl, ap, ◌∙◌, subst, contains, Discipline, Terms, Layout, Fault, Outcome}
 use Rattle.vc_base.specs.declared.dict_method.DictMethod.{DictMethod}
-use Rattle.vc_model.specs.Discipline.{Discipline, Terms}
 use Rattle.vc_model.specs.Outcome as model
-use Rattle.vc_model.specs.Outcome.{Fault, Outcome}
 use Rattle.vc_dtdisc.specs.Rules.{Gone, Rules}
 use Rattle.vc_dict.specs.declared.dict.Dict.{Dict}
 use Rattle.vc_best.specs.Cells.{cells_in, rest_in}

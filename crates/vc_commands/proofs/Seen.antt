@@ -1,15 +1,6 @@
 -- What the calls of a region do to what is seen of it: all but the bytes in its cells.
-use Rattle.std.proofs.Common.{◌≡◌, ◌≢◌, ℕ, ◌≤◌, Bool, false, List, Option, Some, None, Result, Ok, Err, IfOk, option_map, take, drop, sym, ap, ◌∙◌, subst, arith}
-use Rattle.std.specs.Prelude.{ℤ}
-use Rattle.std.proofs.lemmas.Option.{none-some, same_Some}
+use Rattle.vc_base.proofs.Common.{◌≡◌, ℕ, ◌≤◌, Bool, false, ◌≢◌, List, take, drop, ℤ, IfOk, Some, None, Ok, Err, Option, Result, option_map, sym, ap, ◌∙◌, subst, arith, none-some, same_Some, place_of, zeros, Discipline, HasOut, Terms, TookBack, Block, without_block, Done, Outcome, Put, HaveOwnPlaces, find_block}
 use Rattle.vc_base.specs.declared.addr.Addr.{Addr}
-use Rattle.vc_model.specs.Addr.{place_of}
-use Rattle.vc_model.specs.Best.{zeros}
-use Rattle.vc_model.specs.Discipline.{Discipline, HasOut, Terms, TookBack}
-use Rattle.vc_model.specs.Layout.{Block, without_block}
-use Rattle.vc_model.specs.Outcome.{Done, Outcome, Put}
-use Rattle.vc_model.specs.Sound.{HaveOwnPlaces}
-use Rattle.vc_model.specs.Touch.{find_block}
 use Rattle.vc_best.specs.Cells.{block_shown}
 use Rattle.vc_region.specs.Cells.{region_cells, rest_of}
 use Rattle.vc_region.specs.Region.{Region, blocks_of, region_align, region_alloc, region_free, region_need, region_poke, region_resize, region_write, segments_of}

@@ -1,16 +1,8 @@
 -- What is done with the bytes of the block of a name.
-use Rattle.std.proofs.Common.{◌≡◌, ℕ, ◌+◌, ◌<◌, ◌≤◌, Bool, true, false, cond, ◌&&◌, List, Option, Some, IfSome, length, option_map, take, drop, refl, sym, ap, ◌∙◌, subst, arith}
-use Rattle.std.specs.Prelude.{nat_le}
-use Rattle.std.proofs.lemmas.Bool.Decides.{nat_tests}
-use Rattle.std.proofs.lemmas.Option.{same_Some}
-use Rattle.std.proofs.lemmas.Bool.{and_right}
+use Rattle.vc_base.proofs.Common.{◌≡◌, ℕ, ◌+◌, ◌<◌, ◌≤◌, Bool, true, false, cond, ◌&&◌, List, length, take, drop, IfSome, nat_le, Some, Option, option_map, sym, refl, ap, ◌∙◌, subst, arith, nat_tests, and_right, same_Some, address, place_of, Block, address_of, without_block, HaveOwnPlaces, find_block}
 use Rattle.vc_base.specs.declared.addr.Addr.{Addr}
-use Rattle.vc_model.specs.Addr.{address, place_of}
-use Rattle.vc_model.specs.Layout.{Block, address_of, without_block}
 use Rattle.vc_region.specs.Region.{Region, blocks_of, region_write, region_with_labels, keeps_freed, watch_at}
 use Rattle.vc_region.proofs.Keeps.{write-keeps}
-use Rattle.vc_model.specs.Sound.{HaveOwnPlaces}
-use Rattle.vc_model.specs.Touch.{find_block}
 use Rattle.vc_region.proofs.Relabel.{watch-relabelled, write-relabelled}
 use Rattle.vc_script.specs.declared.refusal.Refusal.TheVariants as why
 use Rattle.vc_script.specs.declared.reply.Reply.TheVariants.{Written, Hex, Size}

@@ -1,10 +1,5 @@
 -- A walk along what is seen through a dictionary, and the objects at the places that are answered.
-use Rattle.std.proofs.Common.{◌≡◌, ℕ, ◌+◌, ◌<◌, List, [], ◌∷◌, ◌++◌, map, length, Bool, true, false, not, ◌&&◌, Option, Some, None, refl, sym, ap, ◌∙◌, subst, arith, append_assoc, length-append}
-use Rattle.std.specs.List.{AllByRecursion, find, list_any}
-use Rattle.std.specs.Option.{option_map}
-use Rattle.std.specs.Prelude.{IfSome, IsSome, if◌then◌else◌}
-use Rattle.std.proofs.lemmas.Bool.{or_right}
-use Rattle.std.proofs.lemmas.List.{append-nil, length-map, map-append}
+use Rattle.vc_base.proofs.Common.{◌≡◌, ℕ, ◌+◌, ◌<◌, Bool, true, false, not, ◌&&◌, List, [], ◌∷◌, ◌++◌, map, length, IfSome, if◌then◌else◌, IsSome, Some, None, Option, option_map, find, sym, refl, ap, ◌∙◌, subst, append_assoc, append-nil, arith, length-append, or_right, length-map, map-append, AllByRecursion, list_any}
 use Rattle.vc_base.specs.declared.addr.Addr.{Addr}
 use Rattle.vc_base.proofs.Quantifiers.{all-middle, any-middle}
 use Rattle.vc_dtdisc.specs.Finding.{before_first_from, behind_last, first_of, last_from}

@@ -1,16 +1,10 @@
 -- No two open regions have one name, and no two dictionaries.
-use Rattle.std.proofs.Common.{◌≡◌, ℕ, Bool, true, false, cond, List, [], ◌∷◌, Some, None, length, map, refl, sym, ap, ◌∙◌, subst, arith}
-use Rattle.std.specs.Prelude.{find}
-use Rattle.std.specs.List.{AllByRecursion, IsDistinct}
-use Rattle.std.specs.Map.{keys_of}
-use Rattle.std.specs.Str.{bytes_eq}
-use Rattle.std.proofs.lemmas.Map.Keys.{IsDistinct-head, IsDistinct-tail}
+use Rattle.vc_base.proofs.Common.{◌≡◌, ℕ, Bool, true, false, cond, List, [], ◌∷◌, map, length, Some, None, find, bytes_eq, sym, refl, ap, ◌∙◌, subst, arith, IsDistinct-head, IsDistinct-tail, AllByRecursion, IsDistinct, keys_of, Discipline}
 use Rattle.vc_commands.specs.Held.{Held, home_of}
 use Rattle.vc_commands.specs.Home.{Home, is_home}
 use Rattle.vc_commands.specs.declared.region.home.HomeEntry.{HomeEntry}
 use Rattle.vc_commands.specs.declared.region.labels.Labels.{Labels}
 use Rattle.vc_dtdisc.specs.Finding.{without_first}
-use Rattle.vc_model.specs.Discipline.{Discipline}
 use Rattle.vc_base.proofs.Texts.{same_bytes, bytes_eq-swapped}
 use Rattle.vc_steps.proofs.DictsStay.{Entry, Vs}
 use Rattle.vc_steps.specs.DictHomes.{dicts_in}

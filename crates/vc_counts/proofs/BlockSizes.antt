@@ -1,11 +1,5 @@
 -- The bytes of blocks as one of them comes or goes, and the size of the block at an address.
-use Rattle.std.proofs.Common.{◌≡◌, ◌≢◌, ℕ, ◌+◌, Bool, true, false, cond, List, [], ◌∷◌, Option, Some, option_map, refl, sym, ap, ◌∙◌, subst, ⊎_elim, arith}
-use Rattle.std.specs.List.{AllByRecursion}
-use Rattle.std.proofs.lemmas.Bool.{cases_Bool, true≢false}
-use Rattle.std.proofs.lemmas.Option.{none-some, same_Some}
-use Rattle.vc_model.specs.Addr.{place_of}
-use Rattle.vc_model.specs.Layout.{Block, is_at, lies_before, with_block, without_block}
-use Rattle.vc_model.specs.Touch.{find_block}
+use Rattle.vc_base.proofs.Common.{◌≡◌, ℕ, ◌+◌, Bool, true, false, cond, ◌≢◌, List, [], ◌∷◌, Some, Option, option_map, sym, refl, ap, ◌∙◌, subst, ⊎_elim, true≢false, arith, cases_Bool, none-some, same_Some, AllByRecursion, place_of, Block, is_at, lies_before, with_block, without_block, find_block}
 use Rattle.vc_model.proofs.Owned.{at-address}
 use Rattle.vc_counts.proofs.CallOthers.{no_label, whole}
 use Rattle.vc_counts.proofs.Others.{others, place-at}

@@ -1,17 +1,7 @@
 -- What each call of a region lends, by its method.
-use Rattle.std.proofs.Common.{◌≡◌, ℕ, ℤ, Bool, List, [], Option, Some, None, refl}
-use Rattle.vc_model.specs.Compact.{is_occupied}
-use Rattle.vc_model.specs.Best.{best_alloc}
-use Rattle.vc_model.specs.Discipline.{Terms}
-use Rattle.vc_model.specs.Last.{if_latest, last_alloc, last_resize, latest}
-use Rattle.vc_model.specs.Layout.{Block, Layout, is_at}
-use Rattle.vc_model.specs.Outcome.{Outcome, Done, NotLast, Refused, done_as}
-use Rattle.vc_model.specs.Best.{without_block_at}
-use Rattle.vc_model.specs.Pool.{pool_alloc, pool_resize}
-use Rattle.vc_model.specs.Resize.{best_resize}
+use Rattle.vc_base.proofs.Common.{◌≡◌, ℕ, min, Bool, List, [], ℤ, Some, None, Option, refl, best_alloc, without_block_at, is_occupied, Terms, if_latest, last_alloc, last_resize, latest, Block, Layout, is_at, Done, NotLast, Outcome, Refused, done_as, pool_alloc, pool_resize, best_resize}
 use Rattle.vc_audit.specs.Debug.{guarded_place, guarded_size, user_size}
 use Rattle.vc_audit.specs.Profile.{with_site}
-use Rattle.std.specs.Prelude.{min}
 use Rattle.vc_region.specs.Region.{OfBest, OfPool, OfLast, OfDebug, OfProfile, Region, region_align, region_alloc, region_clear, region_compact, region_free, region_poke, region_resize, region_watch, region_write, segments_of}
 use Rattle.vc_counts.proofs.GrantedSegments.{Lends, lends-kept}
 use Rattle.vc_counts.proofs.RegionLends.{PutsIn, either, in-best, in-guards, in-last, in-pool, in-profile, in-resized, puts-best, puts-last, puts-latest, puts-pool, puts-resize, puts-sized}

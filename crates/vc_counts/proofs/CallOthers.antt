@@ -1,22 +1,9 @@
 -- What each call of a region does to the sizes of blocks that have another name than one.
-use Rattle.std.proofs.Common.{◌≡◌, ℕ, ℤ, ◌+◌, ◌-◌, ◌≤◌, Bool, true, false, cond, List, [], ◌∷◌, Option, Some, None, map, refl, sym, ap, ◌∙◌, ⊎_elim, arith}
-use Rattle.std.specs.Prelude.{find, min, replicate, sum}
-use Rattle.std.proofs.lemmas.Bool.{cases_Bool}
-use Rattle.std.proofs.lemmas.Option.{none-some, same_Some}
-use Rattle.std.proofs.lemmas.Slice.Eq.{bytes_eq-Decides}
-use Rattle.std.proofs.lemmas.List.Sums.{sum-map, sum_by-cons}
+use Rattle.vc_base.proofs.Common.{◌≡◌, ℕ, ◌+◌, ◌-◌, ◌≤◌, min, Bool, true, false, cond, List, [], ◌∷◌, map, replicate, ℤ, Some, None, sum, Option, find, sym, refl, ap, ◌∙◌, ⊎_elim, arith, cases_Bool, sum-map, sum_by-cons, none-some, same_Some, bytes_eq-Decides, best_alloc, without_block_at, Terms, if_latest, last_alloc, last_resize, latest, Block, Layout, is_at, without_block, Done, NotLast, Outcome, Put, Refused, done_as, outcome_as, Pool, pool_alloc, pool_resize, best_resize, change_block, rewritten_block}
 use Rattle.vc_audit.specs.Debug.{Debug, guard_byte, put_with_guards, guarded_offset, guarded_place, guarded_size, outcome_by, put_with_mark, user_block, user_size}
 use Rattle.vc_audit.specs.Profile.{Profile, profile_after, with_site}
 use Rattle.vc_commands.specs.Blocks.{is_name_of}
 use Rattle.vc_commands.specs.Home.{Label}
-use Rattle.vc_model.specs.Best.{best_alloc, without_block_at}
-use Rattle.vc_model.specs.Discipline.{Terms}
-use Rattle.vc_model.specs.Last.{if_latest, last_alloc, last_resize, latest}
-use Rattle.vc_model.specs.Layout.{Block, Layout, is_at, without_block}
-use Rattle.vc_model.specs.Outcome.{Outcome, Done, NotLast, Put, Refused, done_as, outcome_as}
-use Rattle.vc_model.specs.Pool.{Pool, pool_alloc, pool_resize}
-use Rattle.vc_model.specs.Resize.{best_resize}
-use Rattle.vc_model.specs.Touch.{change_block, rewritten_block}
 use Rattle.vc_region.specs.Region.{OfBest, OfPool, OfLast, OfDebug, OfProfile, Region, blocks_of, region_align, region_alloc, region_compact, region_free, region_poke, region_resize, region_watch, region_write}
 use Rattle.vc_region.specs.Stat.{stat_of}
 use Rattle.vc_counts.proofs.Others.{AreMine, mine-named, mine-user, others, others-named, others-user, others-without, others-written, user_weigh}

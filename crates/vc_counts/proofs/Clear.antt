@@ -1,23 +1,14 @@
 -- A best region puts a block where none stands.
-use Rattle.std.proofs.Common.{◌≡◌, ◌≢◌, ℕ, ◌+◌, ◌-◌, ◌≤◌, zero, suc, Bool, true, false, List, [], ◌∷◌, ◌++◌, All, Option, Some, None, filter, get_or, length, cond, option_map, refl, sym, ◌∙◌, subst, ⊎_elim, eqb, arith}
-use Rattle.std.specs.Prelude.{Contains, nat_lt}
-use Rattle.std.specs.List.{list_any}
-use Rattle.std.proofs.lemmas.Bool.{cases_Bool, and_parts, eq-eqb, eqb-true, leb-true, or_parts, true≢false}
-use Rattle.std.proofs.lemmas.List.Elements.{All-append, All-contains_itself, All-cons, All-filter, All-head, All-nil, All-tail, All-weaker, filter_passes}
-use Rattle.std.proofs.lemmas.Option.{none-some, same_Some}
+use Rattle.vc_base.proofs.Common.{◌≡◌, ℕ, zero, suc, ◌+◌, ◌-◌, ◌≤◌, Bool, true, false, cond, eqb, ◌≢◌, List, [], ◌∷◌, ◌++◌, length, get_or, nat_lt, Some, None, All, Contains, filter, Option, option_map, sym, refl, ◌∙◌, subst, ⊎_elim, true≢false, arith, eq-eqb, eqb-true, leb-true, and_parts, cases_Bool, or_parts, All-append, All-cons, All-filter, All-head, All-nil, All-tail, All-weaker, filter_passes, none-some, same_Some, list_any, best_alloc, best_need, place_in, put_in_new, put_or_ask, zeros, Terms, Run, gaps, Block, Layout, footprint, footprints, is_at, with_grant, Done, Outcome, Put, Refused, holds, lowest_offset, Asked, Granted, NotLent, TooMany, ask, lowest_unused, new_segment, numbers, span, unused_from, HaveOwnNumbers, IsUsable}
+use Rattle.std.proofs.lemmas.List.Elements.{All-contains_itself}
 use Rattle.vc_best.proofs.Gaps.{least-from}
 use Rattle.vc_layouts.proofs.Lists.{AllPairs-append}
 use Rattle.vc_laws.specs.Maximal.{AreLawful, Covers}
 use Rattle.vc_laws.proofs.Maximality.{IsGap-from_gaps}
 use Rattle.vc_laws.proofs.Members.{Any-from_member, Member-append_left, Some_of-from_Any}
-use Rattle.vc_model.specs.Best.{best_alloc, best_need, place_in, put, put_in_new, put_or_ask, zeros}
-use Rattle.vc_model.specs.Discipline.{Terms}
-use Rattle.vc_model.specs.Gap.{Run, gaps}
-use Rattle.vc_model.specs.Layout.{Block, Layout, footprint, footprints, is_at, with_grant}
-use Rattle.vc_model.specs.Outcome.{Outcome, Done, Put, Refused}
-use Rattle.vc_model.specs.Place.{best_gap, holds, lowest_offset}
-use Rattle.vc_model.specs.Segments.{Asked, Granted, TooMany, NotLent, ask, lowest_unused, new_segment, numbers, segment_limit, span, unused_from}
-use Rattle.vc_model.specs.Sound.{HaveOwnNumbers, IsUsable}
+use Rattle.vc_model.specs.Best.{put}
+use Rattle.vc_model.specs.Place.{best_gap}
+use Rattle.vc_model.specs.Segments.{segment_limit}
 use Rattle.vc_base.proofs.Places.{some-span}
 use Rattle.vc_base.proofs.Options.{option_map-Some}
 use Rattle.vc_seg.proofs.Rounding.{round_up-least}

@@ -1,8 +1,5 @@
 -- What a command in a region lends.
-use Rattle.std.proofs.Common.{ℕ, ◌+◌, ℤ, Bool, ◌&&◌, List, [], ◌∷◌, Option, Some, None, length, refl}
-use Rattle.std.specs.Prelude.{find, nat_le}
-use Rattle.vc_model.specs.Layout.{Block}
-use Rattle.vc_model.specs.Outcome.{Outcome, Done, Put, Refused}
+use Rattle.vc_base.proofs.Common.{ℕ, ◌+◌, Bool, ◌&&◌, List, [], ◌∷◌, length, ℤ, nat_le, Some, None, Option, find, refl, Block, Done, Outcome, Put, Refused}
 use Rattle.vc_region.proofs.Clearing.{written-segments, cleared-segments}
 use Rattle.vc_objects.specs.Objects.{option_list}
 use Rattle.vc_region.specs.Region.{Region, blocks_of, is_debug, is_profile, region_align, region_alloc, region_free, region_resize, region_write, segments_of, watch_at}

@@ -1,8 +1,5 @@
 -- What a command in a region does to the bytes of its blocks: as much as to those of the block that it names.
-use Rattle.std.proofs.Common.{◌≡◌, ℕ, ◌+◌, ℤ, Bool, ◌&&◌, List, ◌∷◌, [], Option, Some, None, length, refl, arith}
-use Rattle.std.specs.Prelude.{find, nat_le}
-use Rattle.vc_model.specs.Layout.{Block}
-use Rattle.vc_model.specs.Outcome.{Outcome, Done, Put, Refused}
+use Rattle.vc_base.proofs.Common.{◌≡◌, ℕ, ◌+◌, Bool, ◌&&◌, List, [], ◌∷◌, length, ℤ, nat_le, Some, None, Option, find, refl, arith, Block, Done, Outcome, Put, Refused}
 use Rattle.vc_region.specs.Region.{Region, blocks_of, is_debug, is_profile, region_align, region_alloc, region_free, region_resize, watch_at}
 use Rattle.vc_region.specs.Stat.{stat_of}
 use Rattle.vc_script.specs.declared.command.Command.{Command}

@@ -1,8 +1,5 @@
 -- What is counted by what is read of one region is what the step did.
-use Rattle.std.proofs.Common.{◌≡◌, ℕ, ◌+◌, ◌-◌, ◌<◌, ◌≤◌, Bool, true, false, cond, List, [], length, map, refl, sym, ap, ◌∙◌, arith}
-use Rattle.std.specs.Prelude.{count_by, max, sum}
-use Rattle.std.proofs.lemmas.List.{length-map}
-use Rattle.vc_model.specs.Segments.{Grant}
+use Rattle.vc_base.proofs.Common.{◌≡◌, ℕ, ◌+◌, ◌-◌, ◌<◌, ◌≤◌, max, Bool, true, false, cond, List, [], map, length, sum, count_by, sym, refl, ap, ◌∙◌, arith, length-map, Grant}
 use Rattle.vc_layouts.specs.Tally.{tally_of}
 use Rattle.vc_layouts.specs.declared.tally.Tally.{Tally}
 use Rattle.vc_layouts.proofs.Tallies.{tally_of-bytes, tally_of-count}

@@ -1,10 +1,6 @@
 -- What a command on a dictionary does to the bytes of its region's blocks: as much as to its table, and to the holder that
 -- its reply tells of.
-use Rattle.std.proofs.Common.{◌≡◌, ℕ, ◌+◌, Bool, true, false, cond, List, [], ◌∷◌, Option, Some, None, map, refl, inl, arith}
-use Rattle.std.proofs.lemmas.Option.{none-some, same_Some}
-use Rattle.std.specs.List.{AllByRecursion}
-use Rattle.vc_base.specs.Holders.{AreDistinct, contains}
-use Rattle.vc_base.specs.Methods.{has_table, is_list}
+use Rattle.vc_base.proofs.Common.{◌≡◌, ℕ, ◌+◌, Bool, true, false, cond, List, [], ◌∷◌, map, Some, None, Option, refl, inl, arith, none-some, same_Some, AllByRecursion, AreDistinct, contains, has_table, is_list, best_alloc, best_need, place_in, put_in_new, put_or_ask, zeros, Terms, Layout, footprints, with_grant, Done, Outcome, Put, Refused, Asked, Grant, Granted, NotLent, TooMany, ask}
 use Rattle.vc_base.specs.declared.dict_method.DictMethod.{DictMethod}
 use Rattle.vc_base.specs.declared.dict_method.DictMethod.TheVariants.{DtSet, DtBag, DtOset, DtObag, DtList, DtStack, DtQueue}
 use Rattle.vc_commands.specs.DictCommands.{append_in, delete_in, fate_reply, insert_in, is_for_object, is_for_table, is_object, put_object, put_unless, removed_as, standing}
@@ -14,11 +10,7 @@ use Rattle.vc_dtdisc.specs.Objects as objects
 use Rattle.vc_dtdisc.specs.Objects.{Object, address_of, first_with, has_key}
 use Rattle.vc_dtdisc.specs.Rules.{Rules}
 use Rattle.vc_laws.specs.Maximal.{AreLawful}
-use Rattle.vc_model.specs.Best.{best_alloc, best_need, place_in, put, put_in_new, put_or_ask, zeros}
-use Rattle.vc_model.specs.Discipline.{Terms}
-use Rattle.vc_model.specs.Layout.{Layout, footprints, with_grant}
-use Rattle.vc_model.specs.Outcome.{Outcome, Done, Put, Refused}
-use Rattle.vc_model.specs.Segments.{Asked, Grant, Granted, TooMany, NotLent, ask}
+use Rattle.vc_model.specs.Best.{put}
 use Rattle.vc_model.proofs.Places.{Among, among-all, among-find}
 use Rattle.vc_objects.specs.Insert.{Grown, Inserted, alloc_unlabelled, empty_dictionary, grow, grown_to, grown_with, insert_of, held_in, open_dictionary, slots_wanted, without_table}
 use Rattle.vc_objects.specs.Objects.{Dictionary, Table, holder_size, slots_of, table_size}

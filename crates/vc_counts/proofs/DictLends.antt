@@ -1,7 +1,5 @@
 -- What a command on a dictionary lends: the segments that it is granted stand behind those of the region.
-use Rattle.std.proofs.Common.{◌≡◌, ℕ, Bool, true, false, cond, List, [], ◌∷◌, ◌++◌, Option, Some, None, refl, ◌∙◌, length}
-use Rattle.std.specs.Prelude.{◌==◌}
-use Rattle.vc_base.specs.Methods.{has_table, is_list, method_number}
+use Rattle.vc_base.proofs.Common.{◌≡◌, ℕ, Bool, true, false, cond, List, [], ◌∷◌, ◌++◌, length, ◌==◌, Some, None, Option, refl, ◌∙◌, has_table, is_list, method_number, Terms, Layout, Outcome, Put}
 use Rattle.vc_base.specs.declared.dict_method.DictMethod.{DictMethod}
 use Rattle.vc_commands.specs.DictCommands.{append_in, delete_in, in_dict, insert_in, is_for_object, is_for_table, is_object, put_object, put_unless, removed_as, standing, turned_as}
 use Rattle.vc_commands.specs.Seat.{DictChanged, Seat, seat_with_refusal}
@@ -9,10 +7,7 @@ use Rattle.vc_dict.specs.Methods.{slots_between}
 use Rattle.vc_dtdisc.specs.Objects as objects
 use Rattle.vc_dtdisc.specs.Objects.{Object, first_with}
 use Rattle.vc_dtdisc.specs.Rules.{Rules}
-use Rattle.vc_model.specs.Discipline.{Terms}
-use Rattle.vc_model.specs.Layout.{Layout}
 use Rattle.vc_model.specs.Outcome as model
-use Rattle.vc_model.specs.Outcome.{Outcome, Put}
 use Rattle.vc_objects.specs.Insert.{Grown, Inserted, alloc_unlabelled, empty_dictionary, layout_without, grow, grown_to, grown_with, insert_of, held_in, open_dictionary, slots_wanted, without_table}
 use Rattle.vc_objects.specs.Objects.{Dictionary, Table, holder_size, option_list, table_size}
 use Rattle.vc_objects.specs.Remove.{freed_all, region_without, remove, remove_found, next_to_go}

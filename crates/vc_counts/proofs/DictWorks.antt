@@ -1,21 +1,12 @@
 -- What a command that opens a dictionary, or that works on one, does to what is read of it.
-use Rattle.std.proofs.Common.{◌≡◌, ℕ, ◌+◌, Bool, true, false, cond, List, [], ◌∷◌, ◌++◌, Option, Some, None, refl, sym, ap, ◌∙◌, subst, arith}
-use Rattle.std.specs.List.{list_any}
-use Rattle.std.proofs.Math.Logic.{∥∥₁_elim}
-use Rattle.std.proofs.Math.Nat.{ℕ_set}
-use Rattle.std.proofs.lemmas.List.{append-nil}
-use Rattle.std.proofs.lemmas.Option.{none-some, same_Some}
-use Rattle.std.proofs.lemmas.Slice.Eq.{bytes_eq-Decides}
-use Rattle.vc_model.specs.Segments.{Grant}
+use Rattle.vc_base.proofs.Common.{◌≡◌, ℕ, ◌+◌, Bool, true, false, cond, List, [], ◌∷◌, ◌++◌, Some, None, Option, sym, refl, ap, ◌∙◌, subst, append-nil, arith, ∥∥₁_elim, ℕ_set, none-some, same_Some, bytes_eq-Decides, list_any, Layout, Outcome, Grant}
 use Rattle.vc_base.specs.declared.dict_method.DictMethod.{DictMethod}
 use Rattle.vc_commands.specs.DictCommands.{in_dict, is_for_table, table_refusal}
 use Rattle.vc_commands.specs.Home.{Home, Label}
 use Rattle.vc_commands.specs.Seat.{DictChanged}
 use Rattle.vc_commands.proofs.Firsts.{find-none}
 use Rattle.vc_dtdisc.specs.Rules.{Rules}
-use Rattle.vc_model.specs.Layout.{Layout}
 use Rattle.vc_model.specs.Outcome as model
-use Rattle.vc_model.specs.Outcome.{Outcome}
 use Rattle.vc_objects.specs.Insert.{Grown, empty_dictionary, open_dictionary, want_of}
 use Rattle.vc_objects.specs.Objects.{Dictionary}
 use Rattle.vc_objects.specs.Remove.{region_without}

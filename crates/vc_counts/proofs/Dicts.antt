@@ -1,8 +1,5 @@
 -- The dictionary of a name, where it has changed or is opened.
-use Rattle.std.proofs.Common.{◌≡◌, ℕ, Bool, true, false, cond, List, [], ◌∷◌, ◌++◌, Some, None, refl, sym, ap, ◌∙◌}
-use Rattle.std.specs.List.{list_any}
-use Rattle.std.proofs.lemmas.Bool.{or_parts}
-use Rattle.std.proofs.lemmas.Option.{none-some, same_Some}
+use Rattle.vc_base.proofs.Common.{◌≡◌, ℕ, Bool, true, false, cond, List, [], ◌∷◌, ◌++◌, Some, None, sym, refl, ap, ◌∙◌, or_parts, none-some, same_Some, list_any}
 use Rattle.vc_base.proofs.Texts.{same_bytes}
 use Rattle.vc_objects.specs.Objects.{Dictionary}
 use Rattle.vc_steps.specs.Dicts.{with_dict}

@@ -1,11 +1,6 @@
 -- Of the holders that a method drops each stands in the region, and no two are one; and what turning a dictionary does to
 -- the bytes of its region's blocks.
-use Rattle.std.proofs.Common.{◌≡◌, ℕ, ◌+◌, ◌≤◌, Bool, true, false, cond, List, [], ◌∷◌, Option, Some, None, map, length, refl, sym, ap, subst, ⊎_elim, eqb, arith}
-use Rattle.std.specs.Prelude.{◌==◌, ◌&&◌, not}
-use Rattle.std.proofs.lemmas.Bool.{cases_Bool, eq-eqb, eqb-true, or_parts, true≢false}
-use Rattle.std.proofs.lemmas.Option.{none-some, same_Some}
-use Rattle.vc_base.specs.Holders.{AreDistinct, contains}
-use Rattle.vc_base.specs.Methods.{has_table, method_number}
+use Rattle.vc_base.proofs.Common.{◌≡◌, ℕ, ◌+◌, ◌≤◌, Bool, true, false, cond, not, ◌&&◌, eqb, List, [], ◌∷◌, map, length, ◌==◌, Some, None, Option, sym, refl, ap, subst, ⊎_elim, true≢false, arith, eq-eqb, eqb-true, cases_Bool, or_parts, none-some, same_Some, AreDistinct, contains, has_table, method_number, place_of, Terms, Layout, footprints, Done, Outcome, Put, Refused, find_block}
 use Rattle.vc_base.specs.declared.dict_method.DictMethod.{DictMethod}
 use Rattle.vc_commands.specs.DictCommands.{in_dict, is_for_table, turned_as}
 use Rattle.vc_commands.specs.Seat.{DictChanged, Seat}
@@ -13,12 +8,7 @@ use Rattle.vc_dict.specs.Methods.{slots_between}
 use Rattle.vc_dthash.specs.Slots.{slots_for}
 use Rattle.vc_dtdisc.specs.Objects.{Object, address_of, bytes_of, kept_by, ordered_by}
 use Rattle.vc_dtdisc.specs.Rules.{Rules}
-use Rattle.vc_model.specs.Addr.{place_of}
-use Rattle.vc_model.specs.Discipline.{Terms}
 use Rattle.vc_laws.specs.Maximal.{AreLawful}
-use Rattle.vc_model.specs.Layout.{Layout, footprints}
-use Rattle.vc_model.specs.Outcome.{Outcome, Done, Put, Refused}
-use Rattle.vc_model.specs.Touch.{find_block}
 use Rattle.vc_objects.specs.Insert.{alloc_unlabelled}
 use Rattle.vc_objects.specs.Objects.{Dictionary, Table, holder_size, slots_of, table_size}
 use Rattle.vc_objects.specs.Remove.{freed_all}

@@ -1,11 +1,6 @@
 -- What emptying, turning or ending a dictionary does to the bytes of its region's blocks: as much as to its own.
-use Rattle.std.proofs.Common.{◌≡◌, ℕ, ◌+◌, false, List, [], ◌∷◌, Option, Some, None, map, sym, ap, ◌∙◌, arith}
-use Rattle.std.specs.Prelude.{◌==◌}
-use Rattle.std.proofs.lemmas.Bool.{eqb-false, or_parts}
-use Rattle.std.proofs.lemmas.List.Sums.{sum-map, sum_by-cons}
-use Rattle.vc_base.specs.Holders.{AreDistinct, contains}
+use Rattle.vc_base.proofs.Common.{◌≡◌, ℕ, ◌+◌, false, List, [], ◌∷◌, map, ◌==◌, Some, None, Option, sym, ap, ◌∙◌, arith, eqb-false, or_parts, sum-map, sum_by-cons, AreDistinct, contains, Layout}
 use Rattle.vc_dtdisc.specs.Objects.{Object, address_of}
-use Rattle.vc_model.specs.Layout.{Layout}
 use Rattle.vc_objects.specs.Insert.{layout_without}
 use Rattle.vc_objects.specs.Objects.{Dictionary, Table, holder_size, table_size}
 use Rattle.vc_objects.specs.Remove.{without_objects, freed_all, region_without}

@@ -1,11 +1,5 @@
 -- The region that is found by a name, and the region of the dictionary that is found by one.
-use Rattle.std.proofs.Common.{◌≡◌, ℕ, ◌+◌, Bool, true, false, cond, is_some, List, [], ◌∷◌, Option, None, Some, length, map, option_map, refl, sym, ap, ◌∙◌, subst, ⊎_elim}
-use Rattle.std.specs.Prelude.{slice_get, unwrap_or}
-use Rattle.std.proofs.lemmas.Bool.{cases_Bool}
-use Rattle.std.specs.List.{position}
-use Rattle.std.specs.Map.{keys_of, lookup, values_of}
-use Rattle.std.specs.Str.{bytes_eq}
-use Rattle.std.proofs.lemmas.Option.{none-some, same_Some}
+use Rattle.vc_base.proofs.Common.{◌≡◌, ℕ, ◌+◌, Bool, true, false, cond, List, [], ◌∷◌, map, length, is_some, slice_get, Some, None, Option, option_map, position, bytes_eq, unwrap_or, sym, refl, ap, ◌∙◌, subst, ⊎_elim, cases_Bool, none-some, same_Some, keys_of, lookup, values_of, Discipline}
 use Rattle.vc_commands.proofs.Firsts.{find-none}
 use Rattle.vc_commands.specs.Held.{Held, home_of}
 use Rattle.vc_commands.specs.Home.{is_home}
@@ -13,7 +7,6 @@ use Rattle.vc_commands.specs.Labels.{name_of}
 use Rattle.vc_commands.specs.declared.dict.entry.DictEntry.{DictEntry}
 use Rattle.vc_commands.specs.declared.region.home.HomeEntry.{HomeEntry}
 use Rattle.vc_commands.specs.declared.region.labels.Labels.{Labels}
-use Rattle.vc_model.specs.Discipline.{Discipline}
 use Rattle.vc_base.proofs.Texts.{bytes_eq-swapped}
 use Rattle.vc_dtdisc.specs.Rules.{Rules}
 use Rattle.vc_objects.specs.Objects.{Dictionary, slots_of, table_size}

@@ -1,10 +1,5 @@
 -- Segments that are granted behind those of a region, and segments that it gives back.
-use Rattle.std.proofs.Common.{◌≡◌, ℕ, ◌+◌, ◌≤◌, Bool, true, false, cond, List, [], ◌∷◌, ◌++◌, drop, length, map, sym, ap, ◌∙◌, refl, append_assoc, arith}
-use Rattle.std.specs.Prelude.{count_by, filter, sum}
-use Rattle.std.specs.List.{AllByRecursion}
-use Rattle.std.proofs.lemmas.List.{append-nil, map-append}
-use Rattle.std.proofs.lemmas.List.Sums.{sum_by-cons}
-use Rattle.vc_model.specs.Segments.{Grant}
+use Rattle.vc_base.proofs.Common.{◌≡◌, ℕ, ◌+◌, ◌≤◌, Bool, true, false, cond, List, [], ◌∷◌, ◌++◌, map, length, drop, sum, count_by, filter, sym, refl, ap, ◌∙◌, append_assoc, append-nil, arith, sum_by-cons, map-append, AllByRecursion, Grant}
 
 -- the segment that is granted where it is a new one
 abbrev pub pair_granted : Grant → ℕ × ℕ

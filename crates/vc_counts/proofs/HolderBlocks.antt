@@ -1,14 +1,5 @@
 -- In a session the table and the holders of each dictionary are blocks of its region, each of its size.
-use Rattle.std.proofs.Common.{◌≡◌, ℕ, true, false, cond, List, [], ◌∷◌, Option, Some, None, IsSome, length, map, option_map, refl, sym, ap, ◌∙◌, subst, inl, inr, ⊎_elim, arith}
-use Rattle.std.specs.List.{AllByRecursion}
-use Rattle.std.specs.Str.{bytes_eq}
-use Rattle.std.proofs.Math.Logic.{∥∥₁_elim}
-use Rattle.std.proofs.lemmas.Bool.{cases_Bool, true≢false}
-use Rattle.std.proofs.lemmas.Bool.Decides.{eqb_tells}
-use Rattle.std.proofs.lemmas.List.{length-drop}
-use Rattle.std.proofs.lemmas.Option.{none-some, same_Some}
-use Rattle.vc_base.specs.Cells.{Blocks, HasBytes, bytes_at}
-use Rattle.vc_base.specs.Holders.{AreDistinct, contains}
+use Rattle.vc_base.proofs.Common.{◌≡◌, ℕ, true, false, cond, List, [], ◌∷◌, map, length, IsSome, Some, None, Option, option_map, bytes_eq, sym, refl, ap, ◌∙◌, subst, inl, inr, ⊎_elim, true≢false, arith, length-drop, ∥∥₁_elim, eqb_tells, cases_Bool, none-some, same_Some, AllByRecursion, Blocks, HasBytes, bytes_at, AreDistinct, contains, place_of, Discipline, Block, Layout, footprints, relabel_block, find_block}
 use Rattle.vc_base.proofs.Lists.{find-map}
 use Rattle.vc_base.proofs.Members.{within-head, within-tail}
 use Rattle.vc_best.specs.Cells.{cells_of, block_shown}
@@ -27,10 +18,6 @@ use Rattle.vc_dtdisc.specs.Finds.{object_at}
 use Rattle.vc_dtdisc.specs.Rules.{Rules}
 use Rattle.vc_laws.specs.Maximal.{AreLawful}
 use Rattle.vc_laws.proofs.Layouts.{AreLawful-from_sound}
-use Rattle.vc_model.specs.Addr.{place_of}
-use Rattle.vc_model.specs.Discipline.{Discipline}
-use Rattle.vc_model.specs.Layout.{Block, Layout, footprints, relabel_block}
-use Rattle.vc_model.specs.Touch.{find_block}
 use Rattle.vc_model.proofs.Places.{among-all, among-find}
 use Rattle.vc_model.proofs.Relabel.{find_block-relabel, footprints-relabel}
 use Rattle.vc_objects.specs.Objects.{Dictionary, holder_size}

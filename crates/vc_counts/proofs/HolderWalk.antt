@@ -1,11 +1,5 @@
 -- How far a walk along a dictionary's holders has counted their bytes.
-use Rattle.std.proofs.Common.{◌≡◌, ◌≢◌, ℕ, zero, suc, ◌+◌, ◌*◌, ◌<◌, ◌≤◌, ◌^◌, true, false, List, [], ◌∷◌, Option, Some, None, drop, length, map, refl, sym, ap, ◌∙◌, subst, inl, inr, arith, add-one}
-use Rattle.std.proofs.lemmas.Bool.{true≢false}
-use Rattle.std.proofs.lemmas.Bool.Decides.{eqb_tells}
-use Rattle.std.proofs.lemmas.Option.{none-some, same_Some}
-use Rattle.std.specs.Option.{option_map}
-use Rattle.vc_base.specs.Cells.{Blocks, HasBytes}
-use Rattle.vc_base.specs.Holders.{AreDistinct, contains, first_in, next_in}
+use Rattle.vc_base.proofs.Common.{◌≡◌, ℕ, zero, suc, ◌+◌, ◌*◌, ◌^◌, ◌<◌, ◌≤◌, true, false, ◌≢◌, List, [], ◌∷◌, map, length, drop, Some, None, Option, option_map, sym, refl, ap, ◌∙◌, subst, inl, inr, true≢false, add-one, arith, eqb_tells, none-some, same_Some, Blocks, HasBytes, AreDistinct, contains, first_in, next_in}
 use Rattle.vc_base.specs.declared.addr.Addr.{Addr}
 use Rattle.vc_base.proofs.Members.{within-head, within-tail}
 use Rattle.vc_dict.specs.Listed.{holders_of}

@@ -1,6 +1,5 @@
 -- Objects that a method keeps and those that it drops are together those that there were: by any count of them.
-use Rattle.std.proofs.Common.{◌≡◌, ℕ, ◌+◌, Bool, true, false, cond, List, [], ◌∷◌, ◌++◌, refl, arith}
-use Rattle.vc_base.specs.Methods.{is_ordered, is_set}
+use Rattle.vc_base.proofs.Common.{◌≡◌, ℕ, ◌+◌, Bool, true, false, cond, List, [], ◌∷◌, ◌++◌, refl, arith, is_ordered, is_set}
 use Rattle.vc_base.specs.declared.dict_method.DictMethod.{DictMethod}
 use Rattle.vc_dtdisc.specs.Finding.{put_before}
 use Rattle.vc_dtdisc.specs.Objects.{Object, bytes_of, dropped_behind, dropped_by, has_match, is_greater, kept_behind, kept_by, ordered_by, placed_among, placed_each}

@@ -1,12 +1,6 @@
 -- The sizes of blocks, but for some of them: those stay as one of these comes, goes or changes.
-use Rattle.std.proofs.Common.{◌≡◌, ℕ, ◌+◌, ◌-◌, ◌≤◌, Bool, true, false, cond, List, [], ◌∷◌, ◌++◌, Some, map, refl, sym, ap, ◌∙◌, ⊎_elim, arith, eqb}
-use Rattle.std.specs.List.{AllByRecursion}
-use Rattle.std.proofs.lemmas.Bool.{cases_Bool, and_from, and_parts, eq-eqb, eqb-true}
-use Rattle.std.proofs.lemmas.Option.{none-some, same_Some}
+use Rattle.vc_base.proofs.Common.{◌≡◌, ℕ, ◌+◌, ◌-◌, ◌≤◌, Bool, true, false, cond, eqb, List, [], ◌∷◌, ◌++◌, map, Some, sym, refl, ap, ◌∙◌, ⊎_elim, arith, eq-eqb, eqb-true, and_from, and_parts, cases_Bool, none-some, same_Some, AllByRecursion, Block, is_at, lies_before, relabel_block, with_block, without_block, sized_block, change_block, find_block, rewritten_block}
 use Rattle.vc_audit.specs.Debug.{guarded_place, user_block}
-use Rattle.vc_model.specs.Layout.{Block, is_at, lies_before, relabel_block, with_block, without_block}
-use Rattle.vc_model.specs.Resize.{sized_block}
-use Rattle.vc_model.specs.Touch.{change_block, find_block, rewritten_block}
 
 -- blocks of some labels, each by what its size counts
 module _ {L : Type 0} (mine : L → Bool) (weigh : ℕ → ℕ) where

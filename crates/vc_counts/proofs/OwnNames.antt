@@ -1,10 +1,5 @@
 -- In an open region the block that has a name is the only one that has it, and the only one at its place.
-use Rattle.std.proofs.Common.{◌≡◌, ◌≢◌, ℕ, ◌+◌, ◌≤◌, Bool, true, false, cond, List, [], ◌∷◌, Option, Some, None, AllPairs, map, option_map, refl, sym, ap, ◌∙◌, subst, inl, inr, ⊎_elim, arith}
-use Rattle.std.specs.Prelude.{find, unwrap_or}
-use Rattle.std.specs.List.{AllByRecursion}
-use Rattle.std.proofs.lemmas.Bool.{cases_Bool}
-use Rattle.std.proofs.lemmas.List.Elements.{All-map}
-use Rattle.std.proofs.lemmas.Option.{none-some, same_Some}
+use Rattle.vc_base.proofs.Common.{◌≡◌, ℕ, ◌+◌, ◌≤◌, Bool, true, false, cond, ◌≢◌, List, [], ◌∷◌, map, Some, None, Option, option_map, AllPairs, find, unwrap_or, sym, refl, ap, ◌∙◌, subst, inl, inr, ⊎_elim, arith, cases_Bool, All-map, none-some, same_Some, AllByRecursion, address, place_of, Discipline, Block, address_of, is_at, relabel_block, HaveOwnPlaces}
 use Rattle.vc_layouts.proofs.Lists.{AllPairs-map}
 use Rattle.vc_commands.specs.Blocks.{is_block, is_name_of}
 use Rattle.vc_commands.specs.Held.{Held, IsLive, IsNamed, home_of}
@@ -15,10 +10,6 @@ use Rattle.vc_commands.specs.Sizes.{size_named}
 use Rattle.vc_commands.specs.declared.region.labels.Label.{Label}
 use Rattle.vc_commands.specs.declared.region.labels.Labels.{Labels}
 use Rattle.vc_commands.proofs.Names.{name-first, name-here}
-use Rattle.vc_model.specs.Addr.{address, place_of}
-use Rattle.vc_model.specs.Discipline.{Discipline}
-use Rattle.vc_model.specs.Layout.{Block, address_of, is_at, relabel_block}
-use Rattle.vc_model.specs.Sound.{HaveOwnPlaces}
 use Rattle.vc_model.proofs.Pairs.{AllPairs-head, AllPairs-tail, all-recursion}
 use Rattle.vc_model.proofs.Places.{Among, among-all, among-find, found-there}
 use Rattle.vc_base.proofs.Texts.{same_bytes}

@@ -1,15 +1,7 @@
 -- What a call of a region lends: the segment that it is granted stands behind those there.
-use Rattle.std.proofs.Common.{◌≡◌, ℕ, Bool, true, false, cond, List, [], ◌∷◌, ◌++◌, Option, Some, None, ap, length, refl}
-use Rattle.std.specs.Prelude.{nat_lt}
-use Rattle.vc_model.specs.Best.{best_alloc, best_need, place_in, put, put_in_new, put_or_ask}
-use Rattle.vc_model.specs.Discipline.{Terms}
-use Rattle.vc_model.specs.Last.{can_end, if_latest, last_alloc, last_need, last_place, put_behind_latest, put_in_newest, put_or_lend, resize_latest}
-use Rattle.vc_model.specs.Layout.{Block, Layout, is_at, with_grant}
-use Rattle.vc_model.specs.Outcome.{Fixed, NotLast, PoolSize, Outcome, Done, Put, Refused, outcome_as}
-use Rattle.vc_model.specs.Pool.{Pool, cell_for, element_with, pool_alloc, pool_need, pool_resize, put_asked, put_carving, put_free, uncarved}
-use Rattle.vc_model.specs.Resize.{best_resize, can_stay, outcome_of_move, resize_found, stays}
-use Rattle.vc_model.specs.Segments.{Asked, Grant, Granted, TooMany, NotLent, ask, lowest_unused, new_segment, numbers, segment_limit, segments_with, with_more}
-use Rattle.vc_model.specs.Touch.{find_block}
+use Rattle.vc_base.proofs.Common.{◌≡◌, ℕ, Bool, true, false, cond, List, [], ◌∷◌, ◌++◌, length, nat_lt, Some, None, Option, refl, ap, best_alloc, best_need, place_in, put_in_new, put_or_ask, Terms, can_end, if_latest, last_alloc, last_need, last_place, put_behind_latest, put_in_newest, put_or_lend, resize_latest, Block, Layout, is_at, with_grant, Done, Fixed, NotLast, Outcome, PoolSize, Put, Refused, outcome_as, Pool, cell_for, element_with, pool_alloc, pool_need, pool_resize, put_asked, put_carving, put_free, uncarved, best_resize, can_stay, outcome_of_move, resize_found, stays, Asked, Grant, Granted, NotLent, TooMany, ask, lowest_unused, new_segment, numbers, find_block}
+use Rattle.vc_model.specs.Best.{put}
+use Rattle.vc_model.specs.Segments.{segment_limit, segments_with, with_more}
 use Rattle.vc_audit.specs.Debug.{put_with_guards, outcome_by, put_with_mark}
 use Rattle.vc_audit.specs.Profile.{profile_after}
 use Rattle.vc_objects.specs.Objects.{option_list}

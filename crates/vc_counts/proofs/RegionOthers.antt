@@ -1,17 +1,7 @@
 -- What a call on one of a region's blocks does to the sizes of its other blocks: nothing.
-use Rattle.std.proofs.Common.{◌≡◌, ℕ, Bool, true, false, cond, List, [], ◌∷◌, ◌++◌, Option, Some, None, sym, ◌∙◌, refl, subst, ap}
+use Rattle.vc_base.proofs.Common.{◌≡◌, ℕ, Bool, true, false, cond, List, [], ◌∷◌, ◌++◌, take, nat_lt, Some, None, Option, sym, refl, ap, ◌∙◌, subst, none-some, same_Some, best_alloc, best_need, place_in, put_in_new, put_or_ask, zeros, Terms, can_end, if_latest, last_alloc, last_need, last_place, last_resize, latest, put_behind_latest, put_in_newest, put_or_lend, resize_latest, Block, Layout, is_at, with_block, with_grant, Done, Fixed, NotLast, Outcome, PoolSize, Put, Refused, Pool, carved_in, cell_for, cell_offset, element_with, pool_alloc, pool_need, pool_resize, put_asked, put_carving, put_free, uncarved, best_resize, can_stay, outcome_of_move, resize_found, stays, Asked, Grant, Granted, NotLent, TooMany, ask, change_block, find_block, rewritten_block}
 use Rattle.std.specs.List.{last_or}
-use Rattle.std.specs.Prelude.{nat_lt, take}
-use Rattle.std.proofs.lemmas.Option.{none-some, same_Some}
-use Rattle.vc_model.specs.Best.{best_alloc, best_need, place_in, put, put_in_new, put_or_ask, zeros}
-use Rattle.vc_model.specs.Discipline.{Terms}
-use Rattle.vc_model.specs.Last.{can_end, if_latest, last_alloc, last_need, last_place, last_resize, latest, put_behind_latest, put_in_newest, put_or_lend, resize_latest}
-use Rattle.vc_model.specs.Layout.{Block, Layout, is_at, with_block, with_grant}
-use Rattle.vc_model.specs.Outcome.{Fixed, NotLast, PoolSize, Outcome, Done, Put, Refused}
-use Rattle.vc_model.specs.Pool.{Pool, carved_in, cell_for, cell_offset, element_with, pool_alloc, pool_need, pool_resize, put_asked, put_carving, put_free, uncarved}
-use Rattle.vc_model.specs.Resize.{best_resize, can_stay, outcome_of_move, resize_found, stays}
-use Rattle.vc_model.specs.Segments.{Asked, Grant, Granted, TooMany, NotLent, ask}
-use Rattle.vc_model.specs.Touch.{change_block, find_block, rewritten_block}
+use Rattle.vc_model.specs.Best.{put}
 use Rattle.vc_counts.proofs.Others.{AreMine, mine-behind, mine-found, mine-with, mine-written, others, others-behind, others-sized, others-with, others-without, others-written, place-at}
 use Rattle.vc_counts.proofs.RegionLends.{either}
 

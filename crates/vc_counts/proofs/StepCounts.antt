@@ -1,6 +1,5 @@
 -- A step's command is counted by what is read of its region before it and after it.
-use Rattle.std.proofs.Common.{◌≡◌, ℕ, ◌+◌, ◌<◌, ◌≤◌, Bool, List, Option, length, sym, ap, ◌∙◌, subst, arith}
-use Rattle.std.specs.List.{AllByRecursion}
+use Rattle.vc_base.proofs.Common.{◌≡◌, ℕ, ◌+◌, ◌<◌, ◌≤◌, Bool, List, length, Option, sym, ap, ◌∙◌, subst, arith, AllByRecursion}
 use Rattle.vc_layouts.specs.declared.tally.Tally.{Tally}
 use Rattle.vc_script.specs.Needs.{is_refusal, need_shown}
 use Rattle.vc_script.specs.declared.command.Command.{Command}

@@ -1,8 +1,6 @@
 -- The bytes of the blocks of all regions, as one of them changes, comes or goes.
-use Rattle.std.proofs.Common.{◌≡◌, ℕ, ◌+◌, Bool, true, false, cond, List, [], ◌∷◌, ◌++◌, Some, map, refl, sym, ap, ◌∙◌, arith}
-use Rattle.std.specs.Prelude.{sum}
-use Rattle.std.proofs.lemmas.Option.{same_Some, none-some}
-use Rattle.std.proofs.lemmas.List.Sums.{sum-map, sum_by-cons, sum_by_push}
+use Rattle.vc_base.proofs.Common.{◌≡◌, ℕ, ◌+◌, Bool, true, false, cond, List, [], ◌∷◌, ◌++◌, map, Some, sum, sym, refl, ap, ◌∙◌, arith, sum-map, sum_by-cons, none-some, same_Some}
+use Rattle.std.proofs.lemmas.List.Sums.{sum_by_push}
 use Rattle.vc_base.proofs.Texts.{same_bytes}
 use Rattle.vc_commands.specs.Home.{Home, Label, is_home}
 use Rattle.vc_commands.specs.FreedNames.{FreedNames}

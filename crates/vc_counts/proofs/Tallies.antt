@@ -1,6 +1,5 @@
 -- What is read of the region of a step's command, before it and after it, against the bytes of all regions.
-use Rattle.std.proofs.Common.{◌≡◌, ℕ, ◌+◌, List, [], Option, Some, None, refl, sym, ap, subst, arith}
-use Rattle.vc_model.specs.Segments.{Grant}
+use Rattle.vc_base.proofs.Common.{◌≡◌, ℕ, ◌+◌, List, [], Some, None, Option, sym, refl, ap, subst, arith, Grant}
 use Rattle.vc_commands.specs.Home.{Home, Label}
 use Rattle.vc_commands.specs.FreedNames.{FreedNames}
 use Rattle.vc_commands.specs.Sizes.{size_named}

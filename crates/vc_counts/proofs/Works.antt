@@ -1,12 +1,8 @@
 -- What a step does to what is read of the region that its command works in.
-use Rattle.std.proofs.Common.{◌≡◌, ℕ, ◌+◌, Bool, true, false, cond, List, [], ◌∷◌, ◌++◌, Option, Some, None, option_map, refl, sym, subst, arith}
-use Rattle.std.specs.List.{AllByRecursion, list_any}
-use Rattle.std.proofs.lemmas.Option.{none-some}
+use Rattle.vc_base.proofs.Common.{◌≡◌, ℕ, ◌+◌, Bool, true, false, cond, List, [], ◌∷◌, ◌++◌, Some, None, Option, option_map, sym, refl, subst, arith, none-some, AllByRecursion, list_any, Terms, at_number}
 use Rattle.vc_commands.specs.Home.{Home, is_home}
 use Rattle.vc_commands.specs.RegionCommands.{in_region}
 use Rattle.vc_dtdisc.specs.Rules.{Rules}
-use Rattle.vc_model.specs.Discipline.{Terms}
-use Rattle.vc_model.specs.Numbered.{at_number}
 use Rattle.vc_region.specs.Region.{layout_in}
 use Rattle.vc_region.specs.Stat.{opened_region}
 use Rattle.vc_script.specs.Needs.{Need}

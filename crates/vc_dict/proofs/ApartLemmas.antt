@@ -1,7 +1,5 @@
 -- A dictionary over blocks that a call on another one of the same region left.
-use Rattle.std.proofs.Common.{◌≡◌, ℕ, List, true, false}
-use Rattle.vc_base.specs.Cells.{Blocks}
-use Rattle.vc_base.specs.Holders.{contains}
+use Rattle.vc_base.proofs.Common.{◌≡◌, ℕ, true, false, List, Blocks, contains}
 use Rattle.vc_dtdisc.specs.Rules.{Rules}
 use Rattle.vc_dtlist.specs.TableWrites.{KeepsTables}
 use Rattle.vc_dict.specs.declared.dict.Dict.{Dict}

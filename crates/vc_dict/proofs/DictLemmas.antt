@@ -1,11 +1,7 @@
 -- A dictionary after its list, its hash or its ordered one changed.
-use Rattle.std.proofs.Common.{◌≡◌, ℕ, ◌<◌, ◌^◌, List, [], ◌∷◌, true, Option, Some, None, unwrap_or, length, refl, sym, ap, ◌∙◌, subst, arith}
-use Rattle.std.specs.Option.{option_map}
-use Rattle.std.proofs.lemmas.Bool.{true≢false}
+use Rattle.vc_base.proofs.Common.{◌≡◌, ℕ, ◌^◌, ◌<◌, true, List, [], ◌∷◌, length, Some, None, Option, option_map, unwrap_or, sym, refl, ap, ◌∙◌, subst, true≢false, arith, Blocks, contains}
 use Rattle.vc_base.specs.declared.addr.Addr.{Addr}
-use Rattle.vc_base.specs.Cells.{Blocks}
 use Rattle.vc_base.proofs.Members.{apart-cons}
-use Rattle.vc_base.specs.Holders.{contains}
 use Rattle.vc_dtdisc.specs.Rules.{Rules}
 use Rattle.vc_dtlist.specs.declared.dt_list.DtList.{DtList}
 use Rattle.vc_dtlist.specs.TableWrites.{KeepsTables}

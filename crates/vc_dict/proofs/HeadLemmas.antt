@@ -1,12 +1,7 @@
 -- The heads of a dictionary by its method, and what they tell of its holders in whichever form.
-use Rattle.std.proofs.Common.{◌≡◌, ◌≢◌, ℕ, List, [], ◌∷◌, ◌++◌, Bool, true, false, None, length, refl, sym, ap, ◌∙◌, subst, arith}
-use Rattle.std.specs.Prelude.{◌==◌, if◌then◌else◌}
-use Rattle.std.proofs.lemmas.Bool.{eqb-true, true≢false}
+use Rattle.vc_base.proofs.Common.{◌≡◌, ℕ, Bool, true, false, ◌≢◌, List, [], ◌∷◌, ◌++◌, length, if◌then◌else◌, ◌==◌, None, sym, refl, ap, ◌∙◌, subst, true≢false, arith, eqb-true, Blocks, word_at, contains, first_of, has_table, is_list, is_ordered}
 use Rattle.vc_base.specs.declared.dict_method.DictMethod.{DictMethod}
 use Rattle.vc_base.specs.declared.dict_method.DictMethod.TheVariants.{DtSet, DtBag, DtOset, DtObag, DtList as ByList, DtStack, DtQueue}
-use Rattle.vc_base.specs.Cells.{Blocks, word_at}
-use Rattle.vc_base.specs.Holders.{contains, first_of}
-use Rattle.vc_base.specs.Methods.{has_table, is_list, is_ordered}
 use Rattle.vc_base.proofs.Members.{apart-tail}
 use Rattle.vc_dtdisc.specs.Rules.{Rules}
 use Rattle.vc_dtlist.specs.declared.dt_list.DtList.{DtList}

@@ -1,8 +1,5 @@
 -- A dictionary and the blocks at its own addresses: those of its holders, and of its table.
-use Rattle.std.proofs.Common.{◌≡◌, ◌≢◌, ℕ, ◌<◌, ◌^◌, List, ◌∷◌, inl, inr, true, false, [], unwrap_or, length, sym, ap, ◌∙◌, arith}
-use Rattle.std.proofs.lemmas.Bool.Decides.{eqb_tells}
-use Rattle.vc_base.specs.Cells.{Blocks, IsAddress, IsHolder, body_of}
-use Rattle.vc_base.specs.Holders.{AreDistinct, contains}
+use Rattle.vc_base.proofs.Common.{◌≡◌, ℕ, ◌^◌, ◌<◌, true, false, ◌≢◌, List, [], ◌∷◌, length, unwrap_or, sym, ap, ◌∙◌, inl, inr, arith, eqb_tells, Blocks, IsAddress, IsHolder, body_of, AreDistinct, contains}
 use Rattle.vc_dtdisc.specs.Finds.{object_at}
 use Rattle.vc_dtdisc.specs.Rules.{Rules}
 use Rattle.vc_dtlist.proofs.AddressLemmas.{AreHolders, few-holders, no-holder}

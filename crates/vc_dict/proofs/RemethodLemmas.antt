@@ -1,14 +1,7 @@
 -- A dictionary made of what its new method keeps.
-use Rattle.std.proofs.Common.{◌≡◌, ◌≢◌, ℕ, List, [], ◌∷◌, Bool, true, false, Option, Some, None, length, refl, sym, ap, ◌∙◌, subst, arith, inl, inr}
-use Rattle.std.specs.Prelude.{◌==◌, ◌&&◌, not, if◌then◌else◌}
-use Rattle.std.specs.Cmp.{IsTotalOrder}
-use Rattle.std.proofs.lemmas.Bool.{true≢false, eq-eqb}
-use Rattle.std.proofs.lemmas.Bool.Decides.{eqb_tells}
-use Rattle.std.proofs.lemmas.List.{nil_from_length}
+use Rattle.vc_base.proofs.Common.{◌≡◌, ℕ, Bool, true, false, not, ◌&&◌, ◌≢◌, List, [], ◌∷◌, length, if◌then◌else◌, ◌==◌, Some, None, Option, sym, refl, ap, ◌∙◌, subst, inl, inr, true≢false, arith, eq-eqb, eqb_tells, nil_from_length, IsTotalOrder, Blocks, KeepsBut, contains, has_table, is_ordered}
 use Rattle.vc_base.specs.declared.addr.Addr.{Addr}
 use Rattle.vc_base.specs.declared.dict_method.DictMethod.{DictMethod}
-use Rattle.vc_base.specs.Cells.{Blocks}
-use Rattle.vc_base.specs.Holders.{KeepsBut, contains}
 use Rattle.vc_dtdisc.specs.Rules.{Rules}
 use Rattle.vc_dtdisc.specs.Finds.{object_at}
 use Rattle.vc_dtlist.specs.declared.dt_list.DtList.{DtList}
@@ -22,7 +15,6 @@ use Rattle.vc_dtord.specs.Ordered.{IsSorted}
 use Rattle.vc_dtord.proofs.SortedLemmas.{IsSorted-same}
 use Rattle.vc_dict.specs.declared.dict.Dict.{Dict}
 use Rattle.vc_dict.specs.declared.heads.Heads.{Heads}
-use Rattle.vc_base.specs.Methods.{has_table, is_ordered}
 use Rattle.vc_base.proofs.Members.{apart-head, apart-tail, apart-cons}
 use Rattle.vc_dict.specs.Methods.{slots_between}
 use Rattle.vc_dict.specs.Orders.{dropped_by, kept_by, ordered_by}

@@ -1,12 +1,7 @@
 -- One step of a pass that drops what matches an earlier holder.
-use Rattle.std.proofs.Common.{◌≡◌, ◌≢◌, ℕ, ◌+◌, ◌≤◌, List, [], ◌∷◌, ◌++◌, Bool, true, false, Option, Some, None, length, length-append, is_some, refl, sym, ap, ◌∙◌, arith, append_assoc, append-nil}
-use Rattle.std.specs.Prelude.{if◌then◌else◌}
-use Rattle.std.specs.Option.{option_map}
-use Rattle.std.specs.Ordering.{is_eq}
-use Rattle.std.proofs.lemmas.List.{nil_from_length}
+use Rattle.vc_base.proofs.Common.{◌≡◌, ℕ, ◌+◌, ◌≤◌, Bool, true, false, ◌≢◌, List, [], ◌∷◌, ◌++◌, length, is_some, if◌then◌else◌, Some, None, Option, option_map, is_eq, sym, refl, ap, ◌∙◌, append_assoc, append-nil, arith, length-append, nil_from_length, Blocks, KeepsBut, contains}
 use Rattle.vc_base.specs.declared.addr.Addr.{Addr}
-use Rattle.vc_base.specs.Cells.{Blocks}
-use Rattle.vc_base.specs.Holders.{KeepsBut, contains, last_of}
+use Rattle.vc_base.specs.Holders.{last_of}
 use Rattle.vc_base.proofs.Members.{apart-head, apart-tail, apart-cons, apart-front, apart-rest, within-head, within-tail}
 use Rattle.vc_dtdisc.specs.Finds.{find_key, has_key, object_at}
 use Rattle.vc_dtdisc.specs.Rules.{Rules}

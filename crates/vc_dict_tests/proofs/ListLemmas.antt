@@ -1,11 +1,6 @@
 -- The holders of a list, a hash and an ordered one through their calls.
-use Rattle.std.proofs.Common.{◌≡◌, ◌≢◌, ℕ, List, [], ◌∷◌, Bool, true, false, None, inl, inr, refl, sym, subst}
-use Rattle.std.specs.Prelude.{if◌then◌else◌}
-use Rattle.std.proofs.lemmas.Bool.{true≢false}
-use Rattle.std.proofs.lemmas.Bool.Decides.{eqb_tells}
+use Rattle.vc_base.proofs.Common.{◌≡◌, ℕ, Bool, true, false, ◌≢◌, List, [], ◌∷◌, if◌then◌else◌, None, sym, refl, subst, inl, inr, true≢false, eqb_tells, Blocks, KeepsBut, contains}
 use Rattle.vc_base.specs.declared.dict_method.DictMethod.TheVariants.{DtObag}
-use Rattle.vc_base.specs.Cells.{Blocks}
-use Rattle.vc_base.specs.Holders.{KeepsBut, contains}
 use Rattle.vc_base.proofs.Members.{within-tail}
 use Rattle.vc_dtdisc.specs.Rules.{Rules}
 use Rattle.vc_dtlist.proofs.KeptLemmas.{KeepsTables-but}

@@ -1,15 +1,9 @@
 -- The view paths of the toy's dictionaries, and places that are seen through them.
-use Rattle.std.proofs.Common.{◌≡◌, ℕ, ◌<◌, zero, suc, Bool, true, false, cond, ◌&&◌, not, List, [], ◌∷◌, Option, Some, None, Result, Ok, Err, refl, sym, ap, ◌∙◌, subst, inl, inr}
-use Rattle.std.specs.Prelude.{IfErr, IfOk, ◌==◌}
-use Rattle.std.specs.List.{AllByRecursion, list_any}
+use Rattle.vc_base.proofs.Common.{◌≡◌, ℕ, zero, suc, ◌<◌, Bool, true, false, cond, not, ◌&&◌, List, [], ◌∷◌, IfOk, IfErr, ◌==◌, Some, None, Ok, Err, Option, Result, sym, refl, ap, ◌∙◌, subst, inl, inr, true≢false, Decides-eqb, eqb_tells, and_parts, cases_Bool, or_left, or_right, none-some, same_Some, AllByRecursion, list_any, method_number}
 use Rattle.std.specs.Result.{result_err}
-use Rattle.std.proofs.lemmas.Bool.{cases_Bool, or_left, or_right, true≢false, and_parts}
-use Rattle.std.proofs.lemmas.Bool.Decides.{Decides-eqb, eqb_tells}
-use Rattle.std.proofs.lemmas.Option.{none-some, same_Some}
 use Rattle.vc_base.specs.declared.addr.Addr.{Addr}
 use Rattle.vc_base.specs.declared.dict_method.DictMethod.{DictMethod}
 use Rattle.vc_base.specs.declared.dict_method.DictMethod.TheVariants.{DtSet, DtBag, DtOset, DtObag, DtList, DtStack, DtQueue}
-use Rattle.vc_base.specs.Methods.{method_number}
 use Rattle.vc_base.proofs.Methods.{same-method}
 use Rattle.vc_dtdisc.specs.Finding.{behind_last, first_of}
 use Rattle.vc_paths.specs.declared.fault.ViewFault.{ViewFault}

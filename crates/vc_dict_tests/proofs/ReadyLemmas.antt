@@ -1,15 +1,9 @@
 -- A dictionary of some of the three holders, after each call.
-use Rattle.std.proofs.Common.{◌≡◌, ◌≢◌, ℕ, ◌+◌, ◌≤◌, List, [], ◌∷◌, Bool, true, false, Option, Some, None, IsSome, is_some, length, inl, inr, refl, sym, ap, ◌∙◌, subst, arith}
-use Rattle.std.specs.Prelude.{◌==◌, not, if◌then◌else◌}
-use Rattle.std.specs.Ordering.{is_eq}
-use Rattle.std.proofs.lemmas.Bool.{eq-eqb, true≢false}
-use Rattle.std.proofs.lemmas.Bool.Decides.{eqb_tells}
+use Rattle.vc_base.proofs.Common.{◌≡◌, ℕ, ◌+◌, ◌≤◌, Bool, true, false, not, ◌≢◌, List, [], ◌∷◌, length, is_some, if◌then◌else◌, IsSome, ◌==◌, Some, None, Option, is_eq, sym, refl, ap, ◌∙◌, subst, inl, inr, true≢false, arith, eq-eqb, eqb_tells, Blocks, IsHolder, bytes_at, contains, first_in, last_in, next_in, previous_in, method_number}
 use Rattle.vc_base.specs.declared.dict_method.DictMethod.{DictMethod}
-use Rattle.vc_base.specs.Cells.{Blocks, IsHolder, bytes_at}
-use Rattle.vc_base.specs.Holders.{contains, first_in, last_in, last_of, next_in, previous_in}
+use Rattle.vc_base.specs.Holders.{last_of}
 use Rattle.vc_base.proofs.Members.{apart-cons, within-head, within-tail, within-last}
 use Rattle.vc_base.proofs.Methods.{same-method}
-use Rattle.vc_base.specs.Methods.{method_number}
 use Rattle.vc_dict.proofs.WeedLemmas.{key_same}
 use Rattle.vc_dtdisc.specs.Finds.{find_key, has_key, object_at}
 use Rattle.vc_dtdisc.specs.Rules.{Rules}

@@ -1,6 +1,5 @@
 -- What is found among the toy's objects.
-use Rattle.std.proofs.Common.{◌≡◌, ℕ, ◌+◌, ◌-◌, ◌<◌, Bool, true, false, List, [], ◌∷◌, Option, Some, length, get_or, take, drop, refl, sym, ap, ◌∙◌, arith, add-one, drop-cons}
-use Rattle.std.specs.Ordering.{is_eq}
+use Rattle.vc_base.proofs.Common.{◌≡◌, ℕ, ◌+◌, ◌-◌, ◌<◌, Bool, true, false, List, [], ◌∷◌, length, get_or, take, drop, Some, Option, is_eq, sym, refl, ap, ◌∙◌, add-one, arith, drop-cons}
 use Rattle.vc_dtdisc.specs.Shapes.{order_of, rules_of}
 use Rattle.vc_dtdisc.specs.declared.shape.Shape.TheVariants.{Fold}
 use Rattle.vc_paths.specs.Layers.{place_with}

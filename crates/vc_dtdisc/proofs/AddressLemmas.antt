@@ -1,6 +1,5 @@
 -- Where the items are addresses, what is done with a list of objects is what is done with a list of holders.
-use Rattle.std.proofs.Common.{◌≡◌, ℕ, List, [], ◌∷◌, Bool, Option, Some, None, map, option_map, refl, ap, ◌∙◌}
-use Rattle.std.specs.Prelude.{◌==◌, if◌then◌else◌}
+use Rattle.vc_base.proofs.Common.{◌≡◌, ℕ, Bool, List, [], ◌∷◌, map, if◌then◌else◌, ◌==◌, Some, None, Option, option_map, refl, ap, ◌∙◌}
 use Rattle.vc_base.specs.Holders as holders
 use Rattle.vc_dtdisc.specs.Finding.{before_first_from, first_of, last_from, last_of, put_before, put_behind}
 use Rattle.vc_dtdisc.specs.Objects.{behind_object, without_object}

@@ -1,7 +1,5 @@
 -- What is found in a list, put into it or taken out is so under a map, where the test looks at what is mapped.
-use Rattle.std.proofs.Common.{◌≡◌, List, [], ◌∷◌, Bool, true, false, Option, Some, None, map, not, option_map, refl, ap, ◌∙◌}
-use Rattle.std.specs.Prelude.{◌&&◌, ◌||◌, if◌then◌else◌}
-use Rattle.std.specs.List.{find, list_any}
+use Rattle.vc_base.proofs.Common.{◌≡◌, Bool, true, false, not, ◌&&◌, ◌||◌, List, [], ◌∷◌, map, if◌then◌else◌, Some, None, Option, option_map, find, refl, ap, ◌∙◌, list_any}
 use Rattle.vc_base.proofs.Quantifiers.{any-map}
 use Rattle.vc_dtdisc.specs.Finding.{before_first, before_first_from, behind_first, behind_last, first_of, last_from, last_of, put_before, put_behind, without_first}
 

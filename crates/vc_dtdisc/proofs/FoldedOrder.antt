@@ -1,8 +1,5 @@
 -- How lists compare from a place on.
-use Rattle.std.proofs.Common.{◌≡◌, ℕ, List, [], ◌∷◌, refl, sym, ◌∙◌, arith, map, length, drop, min, true, nat_lt, suc}
-use Rattle.std.proofs.lemmas.Bool.{lt-ltb}
-use Rattle.std.proofs.lemmas.Bool.Decides.{nat_tests}
-use Rattle.std.specs.Ordering.{nat_cmp}
+use Rattle.vc_base.proofs.Common.{◌≡◌, ℕ, suc, min, true, List, [], ◌∷◌, map, length, drop, nat_lt, nat_cmp, sym, refl, ◌∙◌, arith, lt-ltb, nat_tests}
 use Rattle.std.specs.Cmp.Lexicographic.{slice_cmp}
 
 nat_cmp-suc : (a b : ℕ) → nat_cmp (suc a) (suc b) ≡ nat_cmp a b

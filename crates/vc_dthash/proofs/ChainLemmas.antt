@@ -1,11 +1,6 @@
 -- Chains of holders: parts of them, one that goes on elsewhere, and what written words leave of them.
-use Rattle.std.proofs.Common.{◌≡◌, ◌≢◌, ℕ, ◌%◌, ◌<◌, ◌^◌, List, [], ◌∷◌, ◌++◌, true, false, cond, inl, inr, refl, sym, ap, ◌∙◌, unwrap_or, arith, subst, append-nil}
-use Rattle.std.specs.Prelude.{◌==◌}
-use Rattle.std.proofs.lemmas.Bool.{eqb-true, ne_eqb}
-use Rattle.std.proofs.lemmas.Bool.Decides.{eqb_tells}
-use Rattle.std.proofs.lemmas.List.Elements.{filter-append}
-use Rattle.vc_base.specs.Cells.{Blocks, IsAddress, word, word_at}
-use Rattle.vc_base.specs.Holders.{AreDistinct, contains, last_of, without}
+use Rattle.vc_base.proofs.Common.{◌≡◌, ℕ, ◌%◌, ◌^◌, ◌<◌, true, false, cond, ◌≢◌, List, [], ◌∷◌, ◌++◌, ◌==◌, unwrap_or, sym, refl, ap, ◌∙◌, subst, inl, inr, append-nil, arith, ne_eqb, eqb-true, eqb_tells, filter-append, Blocks, IsAddress, word, word_at, AreDistinct, contains, without}
+use Rattle.vc_base.specs.Holders.{last_of}
 use Rattle.vc_base.proofs.Members.{apart-front, without-split, within-head, within-tail, within-front, within-rest, differs}
 use Rattle.vc_dtlist.proofs.HolderLemmas.{Split, distinct-front, last-differs}
 use Rattle.vc_dtlist.proofs.JoinLemmas.{not_last}

@@ -1,11 +1,5 @@
 -- Those of a list that pass a test.
-use Rattle.std.proofs.Common.{◌≡◌, ◌≢◌, ℕ, ◌≤◌, ◌+◌, List, [], ◌∷◌, ◌++◌, Bool, true, false, cond, Some, inl, inr, refl, sym, ap, ◌∙◌, length, arith, subst}
-use Rattle.std.specs.Prelude.{◌==◌, if◌then◌else◌}
-use Rattle.std.specs.List.{filter, find}
-use Rattle.std.proofs.lemmas.Bool.{true≢false}
-use Rattle.std.proofs.lemmas.Bool.Decides.{eqb_tells}
-use Rattle.std.proofs.lemmas.List.Sums.{count_by-le-length, length-filter}
-use Rattle.vc_base.specs.Holders.{AreDistinct, contains, without}
+use Rattle.vc_base.proofs.Common.{◌≡◌, ℕ, ◌+◌, ◌≤◌, Bool, true, false, cond, ◌≢◌, List, [], ◌∷◌, ◌++◌, length, if◌then◌else◌, ◌==◌, Some, filter, find, sym, refl, ap, ◌∙◌, subst, inl, inr, true≢false, arith, eqb_tells, count_by-le-length, length-filter, AreDistinct, contains, without}
 use Rattle.vc_base.proofs.Members.{apart-head, apart-tail, apart-cons, apart-rest, within-tail}
 
 -- each of them is in the list, and passes

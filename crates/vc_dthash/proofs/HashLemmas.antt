@@ -1,12 +1,7 @@
 -- What a hash knows of its table and chains, and what it stands for after one holder joined it or left it.
-use Rattle.std.proofs.Common.{◌≡◌, ◌≢◌, ℕ, ◌+◌, ◌-◌, ◌*◌, ◌%◌, ◌<◌, ◌≤◌, List, [], ◌∷◌, ◌++◌, None, true, false, Bool, ◌^◌, is_some, unwrap_or, length, length-append, inl, inr, refl, sym, ap, ◌∙◌, subst, arith, append-nil}
-use Rattle.std.specs.Prelude.{◌==◌, ◌&&◌, nat_lt, if◌then◌else◌, Some, Option}
-use Rattle.std.proofs.lemmas.Bool.{true≢false, eq-eqb, lt-ltb, ltb-false}
-use Rattle.std.proofs.lemmas.Bool.Decides.{eqb_tells}
-use Rattle.std.proofs.lemmas.Nat.{pow_pos}
+use Rattle.vc_base.proofs.Common.{◌≡◌, ℕ, ◌+◌, ◌-◌, ◌*◌, ◌%◌, ◌^◌, ◌<◌, ◌≤◌, Bool, true, false, ◌&&◌, ◌≢◌, List, [], ◌∷◌, ◌++◌, length, is_some, if◌then◌else◌, nat_lt, ◌==◌, Some, None, Option, unwrap_or, sym, refl, ap, ◌∙◌, subst, inl, inr, true≢false, append-nil, arith, length-append, pow_pos, ltb-false, lt-ltb, eq-eqb, eqb_tells, Blocks, IsAddress, IsHolder, WordWritten, body_of, bytes_at, word_at, contains, without}
 use Rattle.vc_base.specs.declared.addr.Addr.{Addr}
-use Rattle.vc_base.specs.Cells.{Blocks, IsAddress, IsHolder, WordWritten, body_of, bytes_at, word_at}
-use Rattle.vc_base.specs.Holders.{contains, last_of, without}
+use Rattle.vc_base.specs.Holders.{last_of}
 use Rattle.vc_base.proofs.Members.{apart-head, apart-tail, apart-cons, within-tail, within-front, within-rest, differs, within-last}
 use Rattle.vc_dtdisc.specs.Finds.{object_at}
 use Rattle.vc_dtdisc.specs.Rules.{Rules}

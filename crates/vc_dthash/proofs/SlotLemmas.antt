@@ -1,8 +1,5 @@
 -- Doubling slots one step further.
-use Rattle.std.proofs.Common.{◌≡◌, ℕ, ◌+◌, ◌-◌, ◌*◌, ◌^◌, ◌<◌, ◌≤◌, false, suc, ap, ◌∙◌, arith}
-use Rattle.std.specs.Prelude.{nat_le, if◌then◌else◌}
-use Rattle.std.proofs.Math.Pow.{pow_mono}
-use Rattle.std.proofs.lemmas.Bool.{lt-leb}
+use Rattle.vc_base.proofs.Common.{◌≡◌, ℕ, suc, ◌+◌, ◌-◌, ◌*◌, ◌^◌, ◌<◌, ◌≤◌, false, if◌then◌else◌, nat_le, ap, ◌∙◌, arith, pow_mono, lt-leb}
 use Rattle.vc_dthash.specs.Slots.{enough_slots}
 
 doubled-suc : (left slots objects : ℕ) → nat_le objects (2 * slots) ≡ false → enough_slots (suc left) slots objects ≡ enough_slots left (2 * slots) objects

@@ -1,12 +1,7 @@
 -- Walks along one chain: to a place in it, and to a key.
-use Rattle.std.proofs.Common.{◌≡◌, ◌≢◌, ℕ, ◌+◌, ◌%◌, ◌<◌, ◌≤◌, ◌^◌, List, [], ◌∷◌, ◌++◌, Bool, true, false, cond, Some, None, length, length-append, refl, sym, ap, ◌∙◌, arith, subst, append_assoc, append-nil}
-use Rattle.std.specs.Prelude.{◌==◌}
-use Rattle.std.specs.List.{filter, find}
-use Rattle.std.proofs.lemmas.Bool.{eq-eqb, eqb-false, eqb-true}
-use Rattle.std.proofs.lemmas.List.{nil_from_length}
+use Rattle.vc_base.proofs.Common.{◌≡◌, ℕ, ◌+◌, ◌%◌, ◌^◌, ◌<◌, ◌≤◌, Bool, true, false, cond, ◌≢◌, List, [], ◌∷◌, ◌++◌, length, ◌==◌, Some, None, filter, find, sym, refl, ap, ◌∙◌, subst, append_assoc, append-nil, arith, length-append, eq-eqb, eqb-true, eqb-false, nil_from_length, Blocks, HasBytes, IsAddress, IsHolder, word_at, contains, first_of}
 use Rattle.vc_base.specs.declared.addr.Addr.{Addr}
-use Rattle.vc_base.specs.Cells.{Blocks, HasBytes, IsAddress, IsHolder, word_at}
-use Rattle.vc_base.specs.Holders.{contains, first_of, last_of}
+use Rattle.vc_base.specs.Holders.{last_of}
 use Rattle.vc_base.proofs.Members.{apart-head, apart-rest, within-head, within-tail, within-rest}
 use Rattle.vc_base.proofs.Orders.{is-equal}
 use Rattle.vc_dtdisc.specs.Finds.{find_key, has_key, object_at}

@@ -1,6 +1,6 @@
 -- What a written slot and written words keep, together.
-use Rattle.std.proofs.Common.{◌≡◌, ◌≢◌, ℕ, ◌+◌, ◌*◌, ◌<◌, ◌^◌, [], IsSome, is_some, length, unwrap_or, sym, ap, ◌∙◌, subst}
-use Rattle.vc_base.specs.Cells.{Blocks, HasBytes, WordWritten, body_of, bytes_at, put, with_number, with_word, word, word_at}
+use Rattle.vc_base.proofs.Common.{◌≡◌, ℕ, ◌+◌, ◌*◌, ◌^◌, ◌<◌, ◌≢◌, [], length, is_some, IsSome, unwrap_or, sym, ap, ◌∙◌, subst, Blocks, HasBytes, WordWritten, body_of, bytes_at, with_number, with_word, word, word_at}
+use Rattle.vc_base.specs.Cells.{put}
 use Rattle.vc_base.proofs.CellsLemmas.{length-with_word, put_other, put_same, word-with_word_other, word-with_word_same, each}
 use Rattle.vc_dtlist.proofs.WordLemmas.{word-kept, word-other_block}
 use Rattle.vc_dthash.specs.ChainWrites.{Fronted, Pointed, SlotWritten}

@@ -1,12 +1,5 @@
 -- What is known of the holders of a list, and of those that a hash or an ordered one stands for.
-use Rattle.std.proofs.Common.{◌≡◌, ℕ, ◌+◌, ◌<◌, ◌≤◌, ◌^◌, List, [], ◌∷◌, Bool, true, false, length, inl, inr, refl, sym, arith, subst}
-use Rattle.std.specs.List.{list_any, AllByRecursion, IsDistinct}
-use Rattle.std.proofs.Math.Dec.{eqb}
-use Rattle.std.proofs.lemmas.Bool.{true≢false, eq-eqb, ne_eqb}
-use Rattle.std.proofs.lemmas.Bool.Decides.{eqb_tells}
-use Rattle.std.proofs.lemmas.Map.Steps.{length-le_from_distinct_below}
-use Rattle.vc_base.specs.Cells.{Blocks, IsAddress, IsHolder}
-use Rattle.vc_base.specs.Holders.{AreDistinct, contains}
+use Rattle.vc_base.proofs.Common.{◌≡◌, ℕ, ◌+◌, ◌^◌, ◌<◌, ◌≤◌, Bool, true, false, eqb, List, [], ◌∷◌, length, sym, refl, subst, inl, inr, true≢false, arith, eq-eqb, ne_eqb, eqb_tells, length-le_from_distinct_below, AllByRecursion, IsDistinct, list_any, Blocks, IsAddress, IsHolder, AreDistinct, contains}
 use Rattle.vc_base.proofs.Members.{apart-head, apart-tail, within-tail}
 use Rattle.vc_dtlist.specs.declared.dt_list.DtList.{DtList}
 use Rattle.vc_dtlist.specs.Linked.{Chain, LinksFor}

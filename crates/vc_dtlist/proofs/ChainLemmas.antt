@@ -1,7 +1,6 @@
 -- Chains of holders: parts of them, and what a written word leaves of them.
-use Rattle.std.proofs.Common.{◌≡◌, ◌≢◌, ℕ, List, [], ◌∷◌, ◌++◌, false, refl, ◌∙◌, arith}
-use Rattle.vc_base.specs.Cells.{Blocks, WordWritten, WordsWritten}
-use Rattle.vc_base.specs.Holders.{AreDistinct, contains, first_of, last_of}
+use Rattle.vc_base.proofs.Common.{◌≡◌, ℕ, false, ◌≢◌, List, [], ◌∷◌, ◌++◌, refl, ◌∙◌, arith, Blocks, WordWritten, WordsWritten, AreDistinct, contains, first_of}
+use Rattle.vc_base.specs.Holders.{last_of}
 use Rattle.vc_base.proofs.Members.{apart-head, apart-tail, apart-cons}
 use Rattle.vc_dtlist.specs.declared.dt_list.DtList.{DtList}
 use Rattle.vc_dtlist.specs.Linked.{Chain, HasLinks, LinksFor}

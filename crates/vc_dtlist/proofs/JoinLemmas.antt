@@ -1,10 +1,6 @@
 -- One holder joins a chain between two neighbours, or leaves it.
-use Rattle.std.proofs.Common.{◌≡◌, ◌≢◌, ℕ, List, [], ◌∷◌, ◌++◌, false, Option, Some, None, IsSome, is_some, inl, inr, refl, sym, ◌∙◌, arith, subst}
-use Rattle.std.specs.Prelude.{◌==◌, if◌then◌else◌}
-use Rattle.std.proofs.lemmas.Bool.{true≢false, ne_eqb}
-use Rattle.std.proofs.lemmas.Bool.Decides.{eqb_tells}
-use Rattle.vc_base.specs.Cells.{Blocks, WordWritten}
-use Rattle.vc_base.specs.Holders.{AreDistinct, KeepsBut, contains, first_of, last_of}
+use Rattle.vc_base.proofs.Common.{◌≡◌, ℕ, false, ◌≢◌, List, [], ◌∷◌, ◌++◌, is_some, if◌then◌else◌, IsSome, ◌==◌, Some, None, Option, sym, refl, ◌∙◌, subst, inl, inr, true≢false, arith, ne_eqb, eqb_tells, Blocks, WordWritten, AreDistinct, KeepsBut, contains, first_of}
+use Rattle.vc_base.specs.Holders.{last_of}
 use Rattle.vc_base.proofs.Members.{apart-head, apart-front, apart-rest, first-apart}
 use Rattle.vc_dtlist.specs.Linked.{Chain, HasLinks}
 use Rattle.vc_dtlist.proofs.HolderLemmas.{distinct-front, distinct-rest, last-apart, last-differs, last_of-append}

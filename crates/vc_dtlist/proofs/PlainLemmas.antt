@@ -1,10 +1,5 @@
 -- Holders whose third and fourth word are 0: what written links leave of them, with one more and without one.
-use Rattle.std.proofs.Common.{◌≡◌, ◌≢◌, ℕ, ◌≤◌, List, [], ◌∷◌, ◌++◌, false, inl, inr, ◌∙◌, arith}
-use Rattle.std.specs.Prelude.{All}
-use Rattle.std.proofs.lemmas.Bool.Decides.{eqb_tells}
-use Rattle.std.proofs.lemmas.List.Elements.{All-cons, All-head, All-nil, All-tail, All-weaker}
-use Rattle.vc_base.specs.Cells.{Blocks, WordsWritten, word_at}
-use Rattle.vc_base.specs.Holders.{contains, without}
+use Rattle.vc_base.proofs.Common.{◌≡◌, ℕ, ◌≤◌, false, ◌≢◌, List, [], ◌∷◌, ◌++◌, All, ◌∙◌, inl, inr, arith, eqb_tells, All-cons, All-head, All-nil, All-tail, All-weaker, Blocks, WordsWritten, word_at, contains, without}
 use Rattle.vc_base.proofs.Members.{apart-head, apart-tail}
 use Rattle.vc_dtlist.specs.Linked.{IsPlain}
 use Rattle.vc_dtlist.proofs.WordLemmas.{word-other_block}

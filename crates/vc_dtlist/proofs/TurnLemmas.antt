@@ -1,8 +1,6 @@
 -- What a list stands for after one holder joined it or left it.
-use Rattle.std.proofs.Common.{◌≡◌, ◌≢◌, ℕ, ◌<◌, ◌≤◌, ◌^◌, List, [], ◌∷◌, ◌++◌, true, false, None, IsSome, refl, sym, ap, ◌∙◌, arith, subst}
-use Rattle.std.specs.Prelude.{All, ◌==◌, if◌then◌else◌}
-use Rattle.vc_base.specs.Cells.{Blocks, HasBytes, IsAddress, IsHolder, WordWritten, WordsWritten, word_at}
-use Rattle.vc_base.specs.Holders.{contains, first_of, last_of, next_in, previous_in, some_address, without}
+use Rattle.vc_base.proofs.Common.{◌≡◌, ℕ, ◌^◌, ◌<◌, ◌≤◌, true, false, ◌≢◌, List, [], ◌∷◌, ◌++◌, if◌then◌else◌, IsSome, ◌==◌, None, All, sym, refl, ap, ◌∙◌, subst, arith, Blocks, HasBytes, IsAddress, IsHolder, WordWritten, WordsWritten, word_at, contains, first_of, next_in, previous_in, some_address, without}
+use Rattle.vc_base.specs.Holders.{last_of}
 use Rattle.vc_base.proofs.Members.{apart-head, apart-tail, apart-front, apart-rest, without-split, next_in-split, previous_in-split}
 use Rattle.vc_dtlist.specs.declared.dt_list.DtList.{DtList}
 use Rattle.vc_dtlist.specs.Linked.{CanAdd, Chain, HasLinks, IsIn, IsJoined, IsPlain, LinksFor, Relinked, StandsFor, Turned}

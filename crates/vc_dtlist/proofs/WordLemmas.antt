@@ -1,7 +1,5 @@
 -- What a written word keeps.
-use Rattle.std.proofs.Common.{◌≡◌, ◌≢◌, ℕ, [], inl, inr, refl, sym, ap, ◌∙◌, subst, IsSome, unwrap_or}
-use Rattle.std.proofs.lemmas.Bool.Decides.{eqb_tells}
-use Rattle.vc_base.specs.Cells.{Blocks, HasBytes, WordWritten, WordsWritten, word, word_at}
+use Rattle.vc_base.proofs.Common.{◌≡◌, ℕ, ◌≢◌, [], IsSome, unwrap_or, sym, refl, ap, ◌∙◌, subst, inl, inr, eqb_tells, Blocks, HasBytes, WordWritten, WordsWritten, word, word_at}
 
 -- a block that had so many bytes has them still
 pub HasBytes-written : (old new : Blocks) (at a n : ℕ) → WordsWritten old new at → HasBytes old a n → HasBytes new a n

@@ -1,9 +1,5 @@
 -- Lists of which no element passes a test.
-use Rattle.std.proofs.Common.{◌≡◌, ℕ, List, [], ◌∷◌, Bool, true, false, inl, inr, refl, sym, subst}
-use Rattle.std.specs.List.{list_any}
-use Rattle.std.proofs.lemmas.Bool.{true≢false}
-use Rattle.std.proofs.lemmas.Bool.Decides.{eqb_tells}
-use Rattle.vc_base.specs.Holders.{contains, without}
+use Rattle.vc_base.proofs.Common.{◌≡◌, ℕ, Bool, true, false, List, [], ◌∷◌, sym, refl, subst, inl, inr, true≢false, eqb_tells, list_any, contains, without}
 use Rattle.vc_base.proofs.Members.{within-head, within-tail}
 
 head_by : (p : ℕ → Bool) (x : ℕ) (xs : List ℕ) (t : Bool) → p x ≡ t → list_any p (x ∷ xs) ≡ false → p x ≡ false

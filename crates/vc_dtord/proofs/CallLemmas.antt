@@ -1,11 +1,5 @@
 -- What the calls ask of the tree of holders, and what they answer.
-use Rattle.std.proofs.Common.{◌≡◌, ℕ, ◌+◌, ◌≤◌, Bool, true, false, cond, List, [], ◌∷◌, length, sym, ap, ◌∙◌, subst}
-use Rattle.std.specs.Prelude.{All}
-use Rattle.std.specs.Cmp.{IsTotalOrder}
-use Rattle.std.proofs.lemmas.Bool.{true≢false, and_from}
-use Rattle.std.proofs.lemmas.List.Elements.{All-cons, All-head, All-tail}
-use Rattle.vc_base.specs.Cells.{Blocks}
-use Rattle.vc_base.specs.Holders.{contains, without}
+use Rattle.vc_base.proofs.Common.{◌≡◌, ℕ, ◌+◌, ◌≤◌, Bool, true, false, cond, List, [], ◌∷◌, length, All, sym, ap, ◌∙◌, subst, true≢false, and_from, All-cons, All-head, All-tail, IsTotalOrder, Blocks, contains, without}
 use Rattle.vc_base.proofs.Members.{apart-head}
 use Rattle.vc_dtdisc.specs.Finding.{put_before}
 use Rattle.vc_dtdisc.specs.Finds.{object_at}

@@ -1,7 +1,5 @@
 -- The first address of a list that passes a test.
-use Rattle.std.proofs.Common.{◌≡◌, ℕ, List, [], ◌∷◌, Bool, true, false, Some, unwrap_or, refl, ap, subst}
-use Rattle.std.specs.List.{find}
-use Rattle.vc_base.specs.Holders.{contains}
+use Rattle.vc_base.proofs.Common.{◌≡◌, ℕ, Bool, true, false, List, [], ◌∷◌, Some, find, unwrap_or, refl, ap, subst, contains}
 use Rattle.vc_base.proofs.Members.{within-head, within-tail}
 use Rattle.vc_base.proofs.Options.{some_same}
 

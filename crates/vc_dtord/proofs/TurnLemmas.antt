@@ -1,14 +1,5 @@
 -- What a call on the tree of holders leaves of the blocks, and which holders it stands for then.
-use Rattle.std.proofs.Common.{◌≡◌, ℕ, true, false, List, [], ◌++◌, take, drop, Option, Some, None, is_some, unwrap_or, w64, inl, inr, refl, sym, ap, ◌∙◌, arith, take-append-drop}
-use Rattle.std.specs.Int.{from_le_bytes, to_le_bytes}
-use Rattle.std.specs.Prelude.{All, nat_lt}
-use Rattle.std.specs.Str.{bytes_eq}
-use Rattle.std.proofs.lemmas.Bool.{cases_Bool, true≢false}
-use Rattle.std.proofs.lemmas.List.{drop-drop}
-use Rattle.std.proofs.lemmas.List.Elements.{All-weaker}
-use Rattle.std.proofs.lemmas.Slice.Eq.{bytes_eq-Decides}
-use Rattle.vc_base.specs.Cells.{Blocks, bytes_at, word}
-use Rattle.vc_base.specs.Holders.{KeepsBut}
+use Rattle.vc_base.proofs.Common.{◌≡◌, ℕ, true, false, List, [], ◌++◌, take, drop, is_some, nat_lt, Some, None, All, Option, bytes_eq, unwrap_or, sym, refl, ap, ◌∙◌, inl, inr, true≢false, arith, take-append-drop, drop-drop, w64, cases_Bool, All-weaker, bytes_eq-Decides, from_le_bytes, to_le_bytes, Blocks, bytes_at, word, KeepsBut}
 use Rattle.vc_dtdisc.specs.Rules.{Rules}
 use Rattle.vc_splay.specs.Stands.{TreeAfter}
 use Rattle.vc_splay.specs.Store.{SameLinks}

@@ -1,13 +1,6 @@
 -- A number is written into a word of a holder: which links it has then, and what stays.
-use Rattle.std.proofs.Common.{◌≡◌, ◌≢◌, ℕ, ◌+◌, ◌*◌, ◌<◌, ◌≤◌, ◌^◌, Bool, true, false, not, cond, ◌&&◌, List, [], length, take, drop, Option, Some, None, is_some, unwrap_or, w64, inl, inr, refl, sym, ap, ◌∙◌, subst, arith}
-use Rattle.std.specs.Int.{to_le_bytes}
-use Rattle.std.specs.Prelude.{nat_lt}
-use Rattle.std.specs.Str.{bytes_eq}
-use Rattle.std.proofs.lemmas.Bool.{cases_lt, lt-ltb, ltb-true, true≢false, and_from}
-use Rattle.std.proofs.lemmas.Bool.Decides.{eqb_tells}
-use Rattle.std.proofs.lemmas.Slice.Eq.{bytes_eq-Decides}
-use Rattle.vc_model.specs.Bytes.{with_bytes}
-use Rattle.vc_base.specs.Cells.{Blocks, HasBytes, IsAddress, IsHolder, bytes_at, put, with_number, with_word, word, word_at}
+use Rattle.vc_base.proofs.Common.{◌≡◌, ℕ, ◌+◌, ◌*◌, ◌^◌, ◌<◌, ◌≤◌, Bool, true, false, cond, not, ◌&&◌, ◌≢◌, List, [], length, take, drop, is_some, nat_lt, Some, None, Option, bytes_eq, unwrap_or, sym, refl, ap, ◌∙◌, subst, inl, inr, true≢false, arith, w64, ltb-true, lt-ltb, eqb_tells, and_from, cases_lt, bytes_eq-Decides, to_le_bytes, Blocks, HasBytes, IsAddress, IsHolder, bytes_at, with_number, with_word, word, word_at, with_bytes}
+use Rattle.vc_base.specs.Cells.{put}
 use Rattle.vc_base.proofs.CellsLemmas.{WordWritten-store, drop_behind, put_same, window_before, window_same, word-with_word_other, word-with_word_same}
 use Rattle.vc_dtlist.proofs.WordLemmas.{WordsWritten-trans, word-kept, word-other_block}
 use Rattle.vc_splay.specs.Store.{with_kid, with_parent}

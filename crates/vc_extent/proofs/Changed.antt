@@ -1,7 +1,5 @@
 -- One extent of a segment changes, and those before it stay.
-use Rattle.std.proofs.Common.{◌^◌, ◌*◌, ◌≡◌, ℕ, ◌+◌, ◌-◌, ◌%◌, ◌<◌, ◌≤◌, List, [], ◌∷◌, IfSome, IsSome, true, false, eqb, length, take, drop, refl, ap, sym, subst, ◌∙◌, ⊎_elim, arith}
-use Rattle.std.proofs.lemmas.Bool.{cases_Bool, eqb-true, eq-eqb}
-use Rattle.vc_model.specs.Discipline.{IsSegmentSize}
+use Rattle.vc_base.proofs.Common.{◌≡◌, ℕ, ◌+◌, ◌-◌, ◌*◌, ◌%◌, ◌^◌, ◌<◌, ◌≤◌, true, false, eqb, List, [], ◌∷◌, length, take, drop, IfSome, IsSome, sym, refl, ap, ◌∙◌, subst, ⊎_elim, arith, eq-eqb, eqb-true, cases_Bool, IsSegmentSize}
 use Rattle.vc_seg.specs.Segment.{Bytes}
 use Rattle.vc_seg.specs.Field.{field_at}
 use Rattle.vc_extent.specs.Extent.{Extent, extent_at, extents}

@@ -1,10 +1,8 @@
 -- A copy of a range of one segment in another.
-use Rattle.std.proofs.Common.{◌≡◌, ℕ, ◌<◌, List, length, get_or, take, drop, ap, sym, ◌∙◌, arith, ◌+◌, ◌≤◌, refl, subst}
-use Rattle.vc_model.specs.Bytes.{with_bytes}
+use Rattle.vc_base.proofs.Common.{◌≡◌, ℕ, ◌+◌, ◌<◌, ◌≤◌, List, length, get_or, take, drop, sym, refl, ap, ◌∙◌, subst, arith, take-take, with_bytes}
 use Rattle.vc_base.proofs.Lists.{length-part}
 use Rattle.vc_seg.specs.Memory.{with_copy_of}
 use Rattle.vc_seg.specs.Segment.{Bytes}
-use Rattle.std.proofs.lemmas.List.{take-take}
 use Rattle.vc_extent.specs.Extent.{Extent, extents}
 use Rattle.vc_extent.specs.Change.{Changes, extent_in, write}
 use Rattle.vc_extent.specs.Tiling.{IsFound, extent_of, tiling}

@@ -1,12 +1,8 @@
 -- Segments by their numbers.
-use Rattle.std.proofs.Common.{◌≡◌, ◌≢◌, ℕ, zero, suc, ◌+◌, ◌-◌, ◌<◌, ◌≤◌, List, [], ◌∷◌, Option, Some, None, IsSome, true, false, eqb, All, length, get_or, map, option_map, take, refl, ap, sym, subst, ◌∙◌, ⊎_elim, arith}
-use Rattle.std.specs.List.{HoldsAt}
-use Rattle.std.proofs.lemmas.Bool.{cases_Bool, eqb-true, eqb-false, eq-eqb, ne_eqb}
-use Rattle.std.proofs.lemmas.List.Elements.{All-nil, All-cons, All-head, All-tail}
+use Rattle.vc_base.proofs.Common.{◌≡◌, ℕ, zero, suc, ◌+◌, ◌-◌, ◌<◌, ◌≤◌, true, false, eqb, ◌≢◌, List, [], ◌∷◌, map, length, get_or, take, IsSome, Some, None, All, Option, option_map, HoldsAt, sym, refl, ap, ◌∙◌, subst, ⊎_elim, arith, eq-eqb, ne_eqb, eqb-true, cases_Bool, eqb-false, All-cons, All-head, All-nil, All-tail, address, place_of}
 use Rattle.vc_seg.specs.Segment.{Bytes, IsRegionSegment, pair_of}
 use Rattle.vc_extent.specs.Extent.{Extent, extents}
 use Rattle.vc_extent.specs.Tiles.{IsTiled}
-use Rattle.vc_model.specs.Addr.{address, place_of}
 use Rattle.vc_extent.specs.Change.{extent_in, first_of}
 use Rattle.vc_extent.proofs.Neighbours.{next-off}
 use Rattle.vc_extent.proofs.Tiled.{named-above}

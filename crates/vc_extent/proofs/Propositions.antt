@@ -1,7 +1,5 @@
 -- That a segment is tiled is a proposition.
-use Rattle.std.proofs.Common.{ℕ, ◌+◌, List, [], ◌∷◌}
-use Rattle.std.proofs.Math.Nat.{ℕ_set}
-use Rattle.std.proofs.Math.Bridge.{le_prop}
+use Rattle.vc_base.proofs.Common.{ℕ, ◌+◌, List, [], ◌∷◌, le_prop, ℕ_set}
 use Rattle.vc_base.proofs.Sets.{bytes-set}
 use mathlib.Core.List.{is_set}
 use Rattle.vc_seg.specs.Segment.{Bytes}

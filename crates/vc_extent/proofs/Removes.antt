@@ -1,9 +1,6 @@
 -- One segment less.
-use Rattle.std.proofs.Common.{◌≡◌, ◌≢◌, ℕ, zero, suc, ◌+◌, ◌<◌, ◌≤◌, List, [], ◌∷◌, true, false, not, eqb, All, AllPairs, filter, length, get_or, set, map, take, drop, refl, ap, sym, subst, ◌∙◌, ⊎_elim, arith}
-use Rattle.std.specs.List.{HoldsAt, remove}
-use Rattle.std.proofs.lemmas.Bool.{cases_Bool, cases_eq, eq-eqb, ne_eqb, lt-ltb, le-ltb}
-use Rattle.std.proofs.lemmas.List.{get_or-set_same, get_or-set_other, length-append, length-drop, length-take-le}
-use Rattle.std.proofs.lemmas.List.Elements.{All-append, All-drop, All-head, All-tail, All-take}
+use Rattle.vc_base.proofs.Common.{◌≡◌, ℕ, zero, suc, ◌+◌, ◌<◌, ◌≤◌, true, false, not, eqb, ◌≢◌, List, [], ◌∷◌, map, length, get_or, take, drop, set, All, filter, HoldsAt, remove, AllPairs, sym, refl, ap, ◌∙◌, subst, ⊎_elim, arith, length-append, length-drop, length-take-le, get_or-set_other, get_or-set_same, le-ltb, lt-ltb, eq-eqb, ne_eqb, cases_Bool, cases_eq, All-append, All-head, All-tail}
+use Rattle.std.proofs.lemmas.List.Elements.{All-drop, All-take}
 use Rattle.std.proofs.lemmas.List.Quantifiers.{all_pairs_remove}
 use Rattle.vc_seg.specs.Back.{has_other_number}
 use Rattle.vc_seg.specs.Segment.{Bytes, IsRegionSegment, pair_of}

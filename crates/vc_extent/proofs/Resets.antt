@@ -1,5 +1,5 @@
 -- A segment made one free extent again.
-use Rattle.std.proofs.Common.{◌≡◌, ℕ, ◌+◌, ◌-◌, List, [], ◌∷◌, length, ap, arith}
+use Rattle.vc_base.proofs.Common.{◌≡◌, ℕ, ◌+◌, ◌-◌, List, [], ◌∷◌, length, ap, arith}
 use Rattle.vc_extent.specs.Extent.{Extent, extents, free_extent, no_links}
 use Rattle.vc_extent.specs.Change.{one_free, spans}
 use Rattle.vc_extent.specs.Tiles.{IsTiled, Tiles}

@@ -1,11 +1,5 @@
 -- One of several segments changes.
-use Rattle.std.proofs.Common.{◌≡◌, ◌≢◌, ℕ, zero, suc, ◌+◌, ◌<◌, ◌≤◌, List, [], ◌∷◌, cond, eqb, All, length, get_or, set, map, take, refl, ap, sym, subst, ◌∙◌, ⊎_elim, arith}
-use Rattle.std.specs.List.{HoldsAt}
-use Rattle.std.proofs.lemmas.Bool.{cases_eq, eq-eqb, ne_eqb}
-use Rattle.std.proofs.lemmas.List.Elements.{All-head, All-tail, All-set}
-use Rattle.std.proofs.lemmas.List.{length-set, get_or-set_same, get_or-set_other, get_or_default}
-use Rattle.vc_model.specs.Addr.{place_of}
-use Rattle.vc_model.specs.Discipline.{IsSegmentSize}
+use Rattle.vc_base.proofs.Common.{◌≡◌, ℕ, zero, suc, ◌+◌, ◌<◌, ◌≤◌, cond, eqb, ◌≢◌, List, [], ◌∷◌, map, length, get_or, take, set, All, HoldsAt, sym, refl, ap, ◌∙◌, subst, ⊎_elim, arith, length-set, get_or-set_other, get_or-set_same, eq-eqb, ne_eqb, cases_eq, All-head, All-set, All-tail, get_or_default, place_of, IsSegmentSize}
 use Rattle.vc_seg.specs.Segment.{Bytes, IsRegionSegment, pair_of}
 use Rattle.vc_extent.specs.Extent.{Extent, extents}
 use Rattle.vc_extent.specs.Tiles.{IsTiled}

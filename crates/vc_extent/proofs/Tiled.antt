@@ -1,7 +1,5 @@
 -- Extents that tile bytes, and bytes that are written elsewhere.
-use Rattle.std.proofs.Common.{◌≡◌, ℕ, zero, suc, ◌+◌, ◌-◌, ◌%◌, ◌<◌, ◌≤◌, List, [], ◌∷◌, Bool, true, false, cond, eqb, length, take, drop, refl, ap, sym, subst, ◌∙◌, ⊎_elim, arith}
-use Rattle.std.proofs.lemmas.Bool.{cases_Bool, lt-ltb, le-ltb, eqb-true, eqb-false, ne_eqb}
-use Rattle.vc_model.specs.Segments.{span}
+use Rattle.vc_base.proofs.Common.{◌≡◌, ℕ, zero, suc, ◌+◌, ◌-◌, ◌%◌, ◌<◌, ◌≤◌, Bool, true, false, cond, eqb, List, [], ◌∷◌, length, take, drop, sym, refl, ap, ◌∙◌, subst, ⊎_elim, arith, le-ltb, lt-ltb, ne_eqb, eqb-true, cases_Bool, eqb-false, span}
 use Rattle.vc_seg.specs.Field.{field_at}
 use Rattle.vc_extent.specs.Extent.{Extent, Links, extent_at, extents, walk, no_links, links_at, free_extent, busy_extent}
 use Rattle.vc_extent.specs.Tiles.{IsHead, IsLegal, Tiles}

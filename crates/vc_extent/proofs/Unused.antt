@@ -1,8 +1,5 @@
 -- The least number that no segment has.
-use Rattle.std.proofs.Common.{◌≡◌, ℕ, List, [], ◌∷◌, true, false, eqb, map, refl, ⊎_elim}
-use Rattle.std.specs.List.{list_any}
-use Rattle.std.proofs.lemmas.Bool.{cases_Bool, or_right}
-use Rattle.vc_model.specs.Segments.{numbers}
+use Rattle.vc_base.proofs.Common.{◌≡◌, ℕ, true, false, eqb, List, [], ◌∷◌, map, refl, ⊎_elim, cases_Bool, or_right, list_any, numbers}
 use Rattle.vc_seg.specs.Segment.{Bytes, pair_of}
 use Rattle.vc_extent.specs.Tiling.{IsThere}
 

@@ -1,10 +1,5 @@
 -- Lists of names that ascend by a key.
-use Rattle.std.proofs.Common.{◌≡◌, ◌≢◌, ℕ, ◌+◌, ◌≤◌, ◌⊎◌, inl, inr, List, [], ◌∷◌, Some, None, Bool, true, false, not, cond, eqb, ltb, ◌&&◌, ◌||◌, ◌==◌, nat_lt, refl, ap, sym, subst, ◌∙◌, ⊎_elim, arith}
-use Rattle.std.specs.List.{find, list_any}
-use Rattle.std.specs.Ordering.{is_ge, is_gt, nat_cmp, ordering_index}
-use Rattle.std.proofs.lemmas.Bool.{cases_Bool, eqb-true, eqb-false, eq-eqb, ne_eqb, lt-ltb, le-ltb, ltb-true, ltb-false, true≢false}
-use Rattle.vc_model.specs.Order.{put_by}
-use Rattle.vc_base.specs.Holders.{AreDistinct, contains, without}
+use Rattle.vc_base.proofs.Common.{◌≡◌, ℕ, ◌+◌, ◌≤◌, Bool, true, false, cond, not, ◌&&◌, ◌||◌, eqb, ltb, ◌≢◌, ◌⊎◌, List, [], ◌∷◌, nat_lt, ◌==◌, Some, None, find, nat_cmp, is_gt, is_ge, sym, refl, ap, ◌∙◌, subst, inl, inr, ⊎_elim, true≢false, arith, ltb-false, ltb-true, le-ltb, lt-ltb, eq-eqb, ne_eqb, eqb-true, cases_Bool, eqb-false, list_any, ordering_index, AreDistinct, contains, without, put_by}
 use Rattle.vc_base.proofs.Members.{within-head, within-tail, within-cases}
 use Rattle.vc_splay.specs.Guide.{RisesFrom, order_with_name}
 use Rattle.vc_gaps.specs.GapTree.{AscendFrom}

@@ -1,7 +1,5 @@
 -- A tree of gaps in a tiling that changes elsewhere: no link, span or state of a gap that is in it changes.
-use Rattle.std.proofs.Common.{◌≡◌, ℕ, List, [], ◌∷◌, Bool, true, false, not, eqb, ltb, ◌&&◌, refl, ap, sym, subst, ◌∙◌, ⊎_elim}
-use Rattle.std.proofs.lemmas.Bool.{cases_Bool, true≢false}
-use Rattle.vc_base.specs.Holders.{contains}
+use Rattle.vc_base.proofs.Common.{◌≡◌, ℕ, Bool, true, false, not, ◌&&◌, eqb, ltb, List, [], ◌∷◌, sym, refl, ap, ◌∙◌, subst, ⊎_elim, true≢false, cases_Bool, contains}
 use Rattle.vc_base.proofs.Members.{within-head, within-tail, within-front, within-rest}
 use Rattle.vc_splay.specs.Stands.{IsNode, Stands}
 use Rattle.vc_splay.specs.Tree.{Tree, Leaf, Node, name_of, names}

@@ -1,14 +1,6 @@
 -- The first gap of a tree that holds a block is the least one.
-use Rattle.std.proofs.Common.{◌≡◌, ◌≢◌, ℕ, ◌≤◌, List, [], Option, Some, None, true, not, ◌&&◌, filter, option_map, ap, sym, ◌∙◌}
-use Rattle.std.specs.List.{find}
-use Rattle.std.specs.Ordering.{is_ge}
+use Rattle.vc_base.proofs.Common.{◌≡◌, ℕ, ◌≤◌, true, not, ◌&&◌, ◌≢◌, List, [], Some, None, filter, Option, option_map, find, is_ge, sym, ap, ◌∙◌, le-leb, ∥∥₁_elim, ℕ_set, contains, some_address, Run, holds, least}
 use Rattle.std.proofs.Props.{props}
-use Rattle.std.proofs.Math.Nat.{ℕ_set}
-use Rattle.std.proofs.Math.Logic.{∥∥₁_elim}
-use Rattle.std.proofs.lemmas.Bool.{le-leb}
-use Rattle.vc_model.specs.Gap.{Run}
-use Rattle.vc_model.specs.Place.{holds, least}
-use Rattle.vc_base.specs.Holders.{contains, some_address}
 use Rattle.vc_seg.specs.Segment.{Bytes}
 use Rattle.vc_splay.specs.Guide.{least_at}
 use Rattle.vc_splay.specs.Stands.{IsTree, TreeAfter}

@@ -1,8 +1,5 @@
 -- Trees of gaps before and after a call on them.
-use Rattle.std.proofs.Common.{◌≡◌, ℕ, ◌<◌, ◌^◌, ◌⊎◌, inl, inr, List, [], ◌∷◌, ◌++◌, Bool, true, false, not, eqb, ◌&&◌, ◌||◌, ◌==◌, refl, ap, sym, subst, ◌∙◌, ⊎_elim, arith}
-use Rattle.std.proofs.lemmas.Bool.{cases_Bool, eqb-true, eq-eqb, lt-ltb, true≢false}
-use Rattle.vc_model.specs.Order.{put_by}
-use Rattle.vc_base.specs.Holders.{AreDistinct, contains, without}
+use Rattle.vc_base.proofs.Common.{◌≡◌, ℕ, ◌^◌, ◌<◌, Bool, true, false, not, ◌&&◌, ◌||◌, eqb, ◌⊎◌, List, [], ◌∷◌, ◌++◌, ◌==◌, sym, refl, ap, ◌∙◌, subst, inl, inr, ⊎_elim, true≢false, arith, lt-ltb, eq-eqb, eqb-true, cases_Bool, AreDistinct, contains, without, put_by}
 use Rattle.vc_base.proofs.Members.{within-cases, within-either}
 use Rattle.vc_splay.proofs.StandsLemmas.{Stands-there}
 use Rattle.vc_seg.specs.Segment.{Bytes}

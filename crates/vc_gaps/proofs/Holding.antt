@@ -1,11 +1,5 @@
 -- Which free extents hold a block, by their offsets and spans.
-use Rattle.std.proofs.Common.{◌≡◌, ℕ, ◌+◌, ◌-◌, ◌<◌, ◌≤◌, ◌^◌, List, [], true, false, eqb, leb, ltb, refl, ap, sym, ◌∙◌, ⊎_elim, arith}
-use Rattle.std.specs.Ordering.{is_ge, nat_cmp}
-use Rattle.std.proofs.Math.Bridge.{le_prop}
-use Rattle.std.proofs.Math.Logic.{∥∥₁_elim}
-use Rattle.std.proofs.lemmas.Bool.{cases_Bool, le-leb, leb-true, leb-false, lt-leb, ltb-true, ltb-false}
-use Rattle.vc_model.specs.Addr.{place_of}
-use Rattle.vc_model.specs.Segments.{round_up}
+use Rattle.vc_base.proofs.Common.{◌≡◌, ℕ, ◌+◌, ◌-◌, ◌^◌, ◌<◌, ◌≤◌, true, false, eqb, ltb, leb, List, [], nat_cmp, is_ge, sym, refl, ap, ◌∙◌, ⊎_elim, arith, ltb-false, ltb-true, le-leb, leb-false, leb-true, le_prop, ∥∥₁_elim, cases_Bool, lt-leb, place_of, round_up}
 use Rattle.vc_seg.specs.Segment.{Bytes}
 use Rattle.vc_seg.proofs.Rounding.{round_up-least}
 use Rattle.vc_extent.specs.Tiling.{AreExtents, IsThere, extent_of, extents_of, tiling}

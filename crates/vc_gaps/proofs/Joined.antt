@@ -1,10 +1,5 @@
 -- A tree of gaps where two gaps that are out are joined; and what lies inside an extent, which no address names.
-use Rattle.std.proofs.Common.{◌≡◌, ◌≢◌, ℕ, ◌+◌, ◌-◌, ◌/◌, ◌<◌, List, [], ◌∷◌, Some, true, false, not, cond, eqb, ltb, ◌&&◌, length, get_or, refl, ap, sym, subst, ◌∙◌, ⊎_elim, arith}
-use Rattle.std.proofs.Math.Logic.{∥∥₁_elim}
-use Rattle.std.proofs.Math.Nat.{ℕ_set}
-use Rattle.std.proofs.lemmas.Bool.{cases_Bool, eqb-true, eqb-false, ne_eqb, true≢false}
-use Rattle.vc_model.specs.Addr.{address, place_of}
-use Rattle.vc_base.specs.Holders.{contains}
+use Rattle.vc_base.proofs.Common.{◌≡◌, ℕ, ◌+◌, ◌-◌, ◌/◌, ◌<◌, true, false, cond, not, ◌&&◌, eqb, ltb, ◌≢◌, List, [], ◌∷◌, length, get_or, Some, sym, refl, ap, ◌∙◌, subst, ⊎_elim, true≢false, arith, ne_eqb, eqb-true, ∥∥₁_elim, ℕ_set, cases_Bool, eqb-false, contains, address, place_of}
 use Rattle.vc_base.proofs.Members.{apart-head, apart-tail, within-head, within-tail, within-cases}
 use Rattle.vc_seg.specs.Segment.{Bytes}
 use Rattle.vc_extent.specs.Extent.{Extent, extents, free_extent, no_links}

@@ -1,9 +1,7 @@
 -- The least of the runs that hold a block is that of the free extent with the least key.
-use Rattle.std.proofs.Common.{◌≡◌, ℕ, ◌+◌, ◌-◌, ◌*◌, ◌/◌, ◌%◌, ◌<◌, ◌≤◌, ◌^◌, List, [], ◌∷◌, Option, Some, None, Bool, true, false, cond, eqb, ltb, ◌&&◌, ◌||◌, filter, fold, refl, ap, sym, subst, ◌∙◌, ⊎_elim, arith}
-use Rattle.std.proofs.lemmas.Bool.{cases_Bool, eqb-true, eqb-false, lt-ltb, le-ltb, ltb-true, ltb-false}
-use Rattle.vc_model.specs.Addr.{place_of}
-use Rattle.vc_model.specs.Gap.{Run, bytes_of, comes_before}
-use Rattle.vc_model.specs.Place.{least, lesser}
+use Rattle.vc_base.proofs.Common.{◌≡◌, ℕ, ◌+◌, ◌-◌, ◌*◌, ◌/◌, ◌%◌, ◌^◌, ◌<◌, ◌≤◌, Bool, true, false, cond, ◌&&◌, ◌||◌, eqb, ltb, List, [], ◌∷◌, Some, None, fold, filter, Option, sym, refl, ap, ◌∙◌, subst, ⊎_elim, arith, ltb-false, ltb-true, le-ltb, lt-ltb, eqb-true, cases_Bool, eqb-false, place_of, Run, bytes_of, least}
+use Rattle.vc_model.specs.Gap.{comes_before}
+use Rattle.vc_model.specs.Place.{lesser}
 use Rattle.vc_extent.specs.Tiling.{extent_of, extents_of}
 use Rattle.vc_gaps.specs.ButLinks.{Tiling}
 use Rattle.vc_gaps.specs.Fits.{run_at}

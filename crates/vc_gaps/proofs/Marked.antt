@@ -1,9 +1,5 @@
 -- A tree of gaps where an extent that isn't in it changes, or a segment is added.
-use Rattle.std.proofs.Common.{◌≡◌, ◌≢◌, ℕ, ◌+◌, ◌-◌, ◌<◌, ◌≤◌, List, [], ◌∷◌, true, false, not, cond, eqb, ltb, ◌&&◌, ◌||◌, refl, ap, sym, subst, ◌∙◌, ⊎_elim, arith}
-use Rattle.std.proofs.lemmas.Bool.{ne_eqb, true≢false}
-use Rattle.std.proofs.Math.Bool.{and-false}
-use Rattle.vc_model.specs.Addr.{address, place_of}
-use Rattle.vc_base.specs.Holders.{contains}
+use Rattle.vc_base.proofs.Common.{◌≡◌, ℕ, ◌+◌, ◌-◌, ◌<◌, ◌≤◌, true, false, cond, not, ◌&&◌, ◌||◌, eqb, ltb, ◌≢◌, List, [], ◌∷◌, sym, refl, ap, ◌∙◌, subst, ⊎_elim, true≢false, arith, ne_eqb, and-false, contains, address, place_of}
 use Rattle.vc_base.proofs.Members.{apart-head, apart-tail, within-head, within-cases}
 use Rattle.vc_extent.specs.Extent.{Extent, free_extent, no_links}
 use Rattle.vc_extent.specs.Change.{extent_in, mark_busy, mark_free, split}

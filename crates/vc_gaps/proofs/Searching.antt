@@ -1,7 +1,5 @@
 -- A search along the gaps of a tree.
-use Rattle.std.proofs.Common.{◌≡◌, ◌≢◌, ℕ, ◌+◌, ◌-◌, ◌<◌, ◌^◌, List, Bool, true, false, cond, eqb, sym, subst, ◌∙◌, ⊎_elim, arith}
-use Rattle.std.proofs.lemmas.Bool.{cases_Bool, eqb-false, ne_eqb, true≢false}
-use Rattle.vc_base.specs.Holders.{contains, next_in, some_address}
+use Rattle.vc_base.proofs.Common.{◌≡◌, ℕ, ◌+◌, ◌-◌, ◌^◌, ◌<◌, Bool, true, false, cond, eqb, ◌≢◌, List, sym, ◌∙◌, subst, ⊎_elim, true≢false, arith, ne_eqb, cases_Bool, eqb-false, contains, next_in, some_address}
 use Rattle.vc_seg.specs.Segment.{Bytes}
 use Rattle.vc_splay.specs.Stands.{IsTree, IsWithin}
 use Rattle.vc_splay.specs.Tree.{Tree, names}

@@ -1,7 +1,5 @@
 -- What stays of a tiling where all but links stays: its numbers, its busy extents, and what stands before and behind one.
-use Rattle.std.proofs.Common.{◌≡◌, ℕ, List, [], ◌∷◌, Option, Some, None, true, false, eqb, map, option_map, refl, ap, sym, ◌∙◌, ⊎_elim}
-use Rattle.std.proofs.lemmas.Bool.{cases_Bool}
-use Rattle.vc_model.specs.Addr.{place_of}
+use Rattle.vc_base.proofs.Common.{◌≡◌, ℕ, true, false, eqb, List, [], ◌∷◌, map, Some, None, Option, option_map, sym, refl, ap, ◌∙◌, ⊎_elim, cases_Bool, place_of}
 use Rattle.vc_extent.specs.Extent.{Extent}
 use Rattle.vc_extent.specs.Change.{behind, first_of, last_before}
 use Rattle.vc_extent.specs.Tiling.{extents_of, next_of, previous_of}

@@ -1,8 +1,5 @@
 -- A walk along a list of names that ascend, from one to the next.
-use Rattle.std.proofs.Common.{◌≡◌, ◌≢◌, ℕ, ◌+◌, ◌<◌, ◌≤◌, List, [], ◌∷◌, Some, None, Bool, true, false, cond, eqb, length, refl, ap, sym, subst, ◌∙◌, ⊎_elim, arith}
-use Rattle.std.specs.List.{find}
-use Rattle.std.proofs.lemmas.Bool.{cases_Bool, eqb-true, eqb-false, eq-eqb, ne_eqb, true≢false}
-use Rattle.vc_base.specs.Holders.{AreDistinct, contains, first_in, next_in, some_address}
+use Rattle.vc_base.proofs.Common.{◌≡◌, ℕ, ◌+◌, ◌<◌, ◌≤◌, Bool, true, false, cond, eqb, ◌≢◌, List, [], ◌∷◌, length, Some, None, find, sym, refl, ap, ◌∙◌, subst, ⊎_elim, true≢false, arith, eq-eqb, ne_eqb, eqb-true, cases_Bool, eqb-false, AreDistinct, contains, first_in, next_in, some_address}
 use Rattle.vc_base.proofs.Members.{apart-head, apart-tail, within-head, within-tail}
 use Rattle.vc_gaps.specs.Fits.{from_on}
 use Rattle.vc_gaps.specs.GapTree.{AscendFrom}

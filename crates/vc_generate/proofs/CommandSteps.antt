@@ -1,6 +1,5 @@
 -- Steps of the commands to come.
-use Rattle.std.proofs.Common.{◌≡◌, ℕ, suc, ◌+◌, ◌%◌, List, [], ◌∷◌, ◌++◌, Bool, true, false, drop, length, map, nat_lt, ◌==◌, refl, ap, ◌∙◌, sym, arith, length-append}
-use Rattle.std.proofs.lemmas.List.{length-map}
+use Rattle.vc_base.proofs.Common.{◌≡◌, ℕ, suc, ◌+◌, ◌%◌, Bool, true, false, List, [], ◌∷◌, ◌++◌, map, length, drop, nat_lt, ◌==◌, sym, refl, ap, ◌∙◌, arith, length-append, length-map}
 use Rattle.rand_pcg.specs.Pcg.{pcg32}
 use Rattle.vc_script.specs.declared.command.Command.{Command}
 use Rattle.vc_script.specs.declared.tool.Tool.{Tool}

@@ -1,6 +1,5 @@
 -- The commands of the first four words of seed 42, in parts: the words, then the command of each.
-use Rattle.std.proofs.Common.{◌≡◌, ℕ, List, [], ◌∷◌, ◌++◌, map, refl, ap, ◌∙◌}
-use Rattle.std.specs.Fmt.{digits}
+use Rattle.vc_base.proofs.Common.{◌≡◌, ℕ, List, [], ◌∷◌, ◌++◌, map, refl, ap, ◌∙◌, digits}
 use Rattle.rand_core.specs.Steps.{first_words}
 use Rattle.vc_script.specs.declared.tool.Tool.TheVariants.{Dtrun, Vmreplay}
 use Rattle.vc_generate.specs.Four.{four_on_blocks, four_on_objects}

@@ -1,14 +1,5 @@
 -- What each change leaves of blocks one behind another.
-use Rattle.std.proofs.Common.{◌≡◌, ℕ, ◌≤◌, List, [], ◌∷◌, ◌++◌, true, false, All, AllPairs, get_or, inl, inr, ⊎_elim, eqb}
-use Rattle.std.proofs.lemmas.Bool.{cases_Bool, eqb-true, eqb-false}
-use Rattle.std.proofs.lemmas.List.Elements.{All-head, All-tail, All-cons, All-push}
-use Rattle.std.proofs.lemmas.List.Kept.{AllPairs-cons}
-use Rattle.std.proofs.lemmas.List.Quantifiers.{all_pairs_push}
-use Rattle.vc_model.specs.Addr.{place_of}
-use Rattle.vc_model.specs.Best.{without_block_at}
-use Rattle.vc_model.specs.Layout.{Block, Layout, address_of, footprint, is_at, without_block}
-use Rattle.vc_model.specs.Sound.{IsApart, IsSound, IsUsable}
-use Rattle.vc_model.specs.Touch.{change_block, rewritten_block, with_bytes_at}
+use Rattle.vc_base.proofs.Common.{◌≡◌, ℕ, ◌≤◌, true, false, eqb, List, [], ◌∷◌, ◌++◌, get_or, All, AllPairs, inl, inr, ⊎_elim, eqb-true, cases_Bool, eqb-false, All-cons, All-head, All-push, All-tail, AllPairs-cons, all_pairs_push, place_of, without_block_at, Block, Layout, address_of, footprint, is_at, without_block, IsApart, IsSound, IsUsable, change_block, rewritten_block, with_bytes_at}
 use Rattle.vc_model.proofs.Pairs.{AllPairs-head, AllPairs-tail}
 use Rattle.vc_layouts.proofs.Blocks.{apart_by_seg}
 use Rattle.vc_last.specs.Allocation.{EndsFirst, AreAllocated}

@@ -1,15 +1,6 @@
 -- What putting a block behind the others answers, and makes of them.
-use Rattle.std.proofs.Common.{◌≡◌, ℕ, ◌<◌, List, [], ◌∷◌, ◌++◌, true, false, Option, None, Some, length, refl, ap, sym, ◌∙◌, subst, arith}
-use Rattle.std.specs.Prelude.{IfOk, Ok, Err}
-use Rattle.std.specs.declared.result.Result.{Result}
-use Rattle.std.proofs.lemmas.List.{length-map, length_push, get_or-map, get_or_append_left}
-use Rattle.vc_model.specs.Addr.{address, place_of}
-use Rattle.vc_model.specs.Best.{zeros}
-use Rattle.vc_model.specs.Discipline.{Terms}
-use Rattle.vc_model.specs.Last.{last_alloc, last_need, last_place, put_behind_latest, put_in_newest, put_latest, put_or_lend}
-use Rattle.vc_model.specs.Layout.{Block, Layout, address_of, is_at, with_grant, without_block}
-use Rattle.vc_model.specs.Segments.{Asked, Grant, Granted, TooMany, NotLent, ask}
-use Rattle.vc_model.specs.Touch.{HasBlock, find_block}
+use Rattle.vc_base.proofs.Common.{◌≡◌, ℕ, ◌<◌, true, false, List, [], ◌∷◌, ◌++◌, length, IfOk, Some, None, Ok, Err, Option, Result, sym, refl, ap, ◌∙◌, subst, arith, get_or-map, get_or_append_left, length-map, length_push, address, place_of, zeros, Terms, last_alloc, last_need, last_place, put_behind_latest, put_in_newest, put_or_lend, Block, Layout, address_of, is_at, with_grant, without_block, Asked, Grant, Granted, NotLent, TooMany, ask, HasBlock, find_block}
+use Rattle.vc_model.specs.Last.{put_latest}
 use Rattle.vc_base.specs.declared.addr.Addr.{Addr}
 use Rattle.vc_seg.specs.declared.fault.RegionFault.{RegionFault}
 use Rattle.vc_seg.specs.Answer.{Answers, IsPut}

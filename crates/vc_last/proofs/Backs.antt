@@ -1,10 +1,5 @@
 -- Sizes and gaps, from the latest block back.
-use Rattle.std.proofs.Common.{◌≡◌, ◌≢◌, ℕ, ◌≤◌, List, [], ◌∷◌, ◌++◌, true, false, All, length, get_or, map, refl, ap, sym, ◌∙◌, append_assoc, ⊎_elim, eqb, ltb, arith}
-use Rattle.std.proofs.lemmas.Bool.{cases_Bool}
-use Rattle.std.proofs.lemmas.List.{append-nil, length-map, map-append, map_push}
-use Rattle.std.proofs.lemmas.List.Elements.{All-map}
-use Rattle.vc_model.specs.Gap.{Run, bytes_of, gaps_between, run_of}
-use Rattle.vc_model.specs.Layout.{Block, footprint, footprints}
+use Rattle.vc_base.proofs.Common.{◌≡◌, ℕ, ◌≤◌, true, false, eqb, ltb, ◌≢◌, List, [], ◌∷◌, ◌++◌, map, length, get_or, All, sym, refl, ap, ◌∙◌, ⊎_elim, append_assoc, append-nil, arith, cases_Bool, All-map, length-map, map-append, map_push, Run, bytes_of, gaps_between, run_of, Block, footprint, footprints}
 use Rattle.vc_base.proofs.Places.{span-least}
 use Rattle.vc_seg.specs.Segment.{AreSegments, Bytes, pair_of}
 use Rattle.vc_seg.proofs.BytesByNumber.{bytes_of_number-most}

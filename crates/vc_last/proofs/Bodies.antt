@@ -1,12 +1,5 @@
 -- Bytes that are written into one of the blocks.
-use Rattle.std.proofs.Common.{◌≡◌, ℕ, ◌+◌, ◌-◌, ◌<◌, ◌≤◌, ◌⊎◌, List, [], ◌∷◌, true, false, All, AllPairs, length, get_or, map, take, drop, ap, sym, ◌∙◌, subst, inl, inr, ⊎_elim, ltb, arith}
-use Rattle.std.proofs.lemmas.Bool.{cases_Bool, cases_eq, ltb-true, ltb-false}
-use Rattle.std.proofs.lemmas.List.Elements.{All-head, All-tail}
-use Rattle.vc_model.specs.Addr.{address, place_of}
-use Rattle.vc_model.specs.Bytes.{with_bytes}
-use Rattle.vc_model.specs.Layout.{Block, Layout, address_of, is_at}
-use Rattle.vc_model.specs.Segments.{span}
-use Rattle.vc_model.specs.Touch.{HasBlock, change_block, rewritten_block, with_bytes_at}
+use Rattle.vc_base.proofs.Common.{◌≡◌, ℕ, ◌+◌, ◌-◌, ◌<◌, ◌≤◌, true, false, ltb, ◌⊎◌, List, [], ◌∷◌, map, length, get_or, take, drop, All, AllPairs, sym, ap, ◌∙◌, subst, inl, inr, ⊎_elim, arith, ltb-false, ltb-true, cases_Bool, cases_eq, All-head, All-tail, address, place_of, with_bytes, Block, Layout, address_of, is_at, span, HasBlock, change_block, rewritten_block, with_bytes_at}
 use Rattle.vc_model.proofs.Pairs.{AllPairs-head, AllPairs-tail}
 use Rattle.vc_base.proofs.Places.{at-place, span-least}
 use Rattle.vc_seg.specs.Segment.{Bytes, pair_of}

@@ -1,16 +1,5 @@
 -- What a call on the block at an address answers, where that is the latest, and where it isn't.
-use Rattle.std.proofs.Common.{◌≡◌, ◌≢◌, ℕ, List, Bool, true, false, Some, IfSome, length, map, refl, ap, sym, ◌∙◌, subst, arith}
-use Rattle.std.specs.Prelude.{Err, Result, option_map}
-use Rattle.std.proofs.lemmas.Option.{same_Some}
-use Rattle.std.proofs.lemmas.List.{length_push}
-use Rattle.vc_model.specs.Addr.{address, place_of}
-use Rattle.vc_model.specs.Best.{without_block_at}
-use Rattle.vc_model.specs.Discipline.{Discipline, Terms}
-use Rattle.vc_model.specs.Last.{can_end, last_free, last_need, last_resize, latest, resize_latest}
-use Rattle.vc_model.specs.Layout.{Block, Layout, footprint, without_block}
-use Rattle.vc_model.specs.Outcome.{Done, Outcome, Put, Refused, Fixed, NotLast}
-use Rattle.vc_model.specs.Resize.{is_usable, resize_there, sized_block, stays}
-use Rattle.vc_model.specs.Touch.{HasBlock, find_block}
+use Rattle.vc_base.proofs.Common.{◌≡◌, ℕ, Bool, true, false, ◌≢◌, List, map, length, IfSome, Some, Err, Result, option_map, sym, refl, ap, ◌∙◌, subst, arith, length_push, same_Some, address, place_of, without_block_at, Discipline, Terms, can_end, last_free, last_need, last_resize, latest, resize_latest, Block, Layout, footprint, without_block, Done, Fixed, NotLast, Outcome, Put, Refused, is_usable, resize_there, sized_block, stays, HasBlock, find_block}
 use Rattle.vc_base.specs.declared.addr.Addr.{Addr}
 use Rattle.vc_base.proofs.Places.{at-place}
 use Rattle.vc_seg.specs.Answer.{IsPut}

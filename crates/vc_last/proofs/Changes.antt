@@ -1,11 +1,5 @@
 -- What a call on the latest block makes of the others, and of their layout.
-use Rattle.std.proofs.Common.{◌≡◌, ◌≢◌, ℕ, ◌+◌, ◌-◌, ◌<◌, ◌≤◌, List, [], ◌∷◌, ◌++◌, true, false, All, AllPairs, get_or, map, refl, ap, sym, ◌∙◌, subst, inr, arith}
-use Rattle.vc_model.specs.Addr.{place_of}
-use Rattle.vc_model.specs.Best.{without_block_at}
-use Rattle.vc_model.specs.Layout.{Block, Layout, address_of, footprint, is_at, without_block}
-use Rattle.vc_model.specs.Resize.{is_usable, resize_there, sized_block}
-use Rattle.vc_model.specs.Segments.{span}
-use Rattle.vc_model.specs.Touch.{change_block}
+use Rattle.vc_base.proofs.Common.{◌≡◌, ℕ, ◌+◌, ◌-◌, ◌<◌, ◌≤◌, true, false, ◌≢◌, List, [], ◌∷◌, ◌++◌, map, get_or, All, AllPairs, sym, refl, ap, ◌∙◌, subst, inr, arith, place_of, without_block_at, Block, Layout, address_of, footprint, is_at, without_block, is_usable, resize_there, sized_block, span, change_block}
 use Rattle.vc_base.proofs.Places.{span-least}
 use Rattle.vc_seg.specs.Segment.{Bytes, pair_of}
 use Rattle.vc_seg.specs.Memory.{bytes_of_number}

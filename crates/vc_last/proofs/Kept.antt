@@ -1,15 +1,6 @@
 -- The blocks of a last region are a row, each is found at its address, and one more goes behind them.
-use Rattle.std.proofs.Common.{◌≡◌, ◌≢◌, ℕ, suc, ◌+◌, ◌-◌, ◌*◌, ◌/◌, ◌%◌, ◌<◌, ◌≤◌, List, [], ◌∷◌, ◌++◌, true, false, Some, All, AllPairs, Any, length, get_or, map, refl, ap, sym, ◌∙◌, subst, inr, ⊎_elim, arith}
-use Rattle.std.proofs.lemmas.Bool.{cases_Bool, cases_eq, eq-eqb, ne_eqb}
-use Rattle.std.proofs.lemmas.List.{length-map, get_or-map, length_push}
-use Rattle.std.proofs.lemmas.List.Elements.{All-head, All-tail, All-map}
+use Rattle.vc_base.proofs.Common.{◌≡◌, ℕ, suc, ◌+◌, ◌-◌, ◌*◌, ◌/◌, ◌%◌, ◌<◌, ◌≤◌, true, false, ◌≢◌, List, [], ◌∷◌, ◌++◌, map, length, get_or, Some, All, Any, AllPairs, sym, refl, ap, ◌∙◌, subst, inr, ⊎_elim, arith, eq-eqb, ne_eqb, cases_Bool, cases_eq, All-head, All-map, All-tail, get_or-map, length-map, length_push, address, place_of, newest, Block, address_of, is_at, span, IsSound, HasBlock, find_block}
 use Rattle.std.proofs.lemmas.Map.Made.{Contains-tail}
-use Rattle.vc_model.specs.Addr.{address, place_of}
-use Rattle.vc_model.specs.Last.{newest}
-use Rattle.vc_model.specs.Layout.{Block, address_of, is_at}
-use Rattle.vc_model.specs.Segments.{span}
-use Rattle.vc_model.specs.Sound.{IsSound}
-use Rattle.vc_model.specs.Touch.{HasBlock, find_block}
 use Rattle.vc_base.proofs.Places.{at-place, span-least}
 use Rattle.vc_seg.specs.Segment.{Bytes, pair_of}
 use Rattle.vc_seg.proofs.Backs.{Apart}

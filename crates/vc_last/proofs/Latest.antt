@@ -1,14 +1,5 @@
 -- The latest block is the last, and no other is at its place.
-use Rattle.std.proofs.Common.{◌≡◌, ℕ, ◌<◌, List, [], ◌∷◌, ◌++◌, Option, None, Some, true, false, All, length, get_or, refl, ap, sym, ◌∙◌, subst, ⊎_elim, eqb, ltb, arith}
-use Rattle.std.specs.List.{HoldsAt, remove}
-use Rattle.std.proofs.lemmas.Bool.{cases_Bool, and_from, eq-eqb, ltb-true, ltb-false}
-use Rattle.std.proofs.lemmas.List.{length-map, length_push, get_or-map, get_or_append_left}
-use Rattle.std.proofs.lemmas.List.Elements.{All-head, All-tail}
-use Rattle.vc_model.specs.Addr.{address, place_of}
-use Rattle.vc_model.specs.Last.{if_latest, latest}
-use Rattle.vc_model.specs.Layout.{Block, Layout, address_of, is_at, without_block}
-use Rattle.vc_model.specs.Outcome.{Outcome, NotLast, Refused}
-use Rattle.vc_model.specs.Touch.{HasBlock, change_block, find_block}
+use Rattle.vc_base.proofs.Common.{◌≡◌, ℕ, ◌<◌, true, false, eqb, ltb, List, [], ◌∷◌, ◌++◌, length, get_or, Some, None, All, Option, HoldsAt, remove, sym, refl, ap, ◌∙◌, subst, ⊎_elim, arith, ltb-false, ltb-true, eq-eqb, and_from, cases_Bool, All-head, All-tail, get_or-map, get_or_append_left, length-map, length_push, address, place_of, if_latest, latest, Block, Layout, address_of, is_at, without_block, NotLast, Outcome, Refused, HasBlock, change_block, find_block}
 use Rattle.vc_base.proofs.Places.{some-span, at-place}
 use Rattle.vc_last.specs.Allocation.{EndsFirst, AreAllocated, is_latest, is_one_at}
 use Rattle.vc_last.proofs.Lists.{All-front, AllPairs-last, last_of-split, remove-last}

@@ -1,9 +1,5 @@
 -- A write into one segment, among all of them.
-use Rattle.std.proofs.Common.{◌≡◌, ◌≢◌, ℕ, zero, suc, ◌<◌, List, [], ◌∷◌, All, length, get_or, set, map, take, drop, refl, ap, sym, ◌∙◌, cond, eqb, arith}
-use Rattle.std.specs.List.{HoldsAt}
-use Rattle.std.proofs.lemmas.Bool.{eq-eqb, ne_eqb}
-use Rattle.std.proofs.lemmas.List.{get_or_default}
-use Rattle.std.proofs.lemmas.List.Elements.{All-head, All-tail}
+use Rattle.vc_base.proofs.Common.{◌≡◌, ℕ, zero, suc, ◌<◌, cond, eqb, ◌≢◌, List, [], ◌∷◌, map, length, get_or, take, drop, set, All, HoldsAt, sym, refl, ap, ◌∙◌, arith, eq-eqb, ne_eqb, All-head, All-tail, get_or_default}
 use Rattle.vc_seg.specs.Segment.{Bytes, pair_of}
 use Rattle.vc_seg.specs.Memory.{bytes_of_number}
 use Rattle.vc_seg.proofs.FirstByNumber.{bytes_of_number-first}

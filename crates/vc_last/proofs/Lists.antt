@@ -1,10 +1,6 @@
 -- Lists by their last item.
-use Rattle.std.proofs.Common.{◌≡◌, ◌-◌, List, [], ◌∷◌, ◌++◌, Option, None, Some, All, AllPairs, length, get_or, map, refl, ap, ◌∙◌, subst, arith}
-use Rattle.std.specs.List.{last_or, remove, slice_get}
-use Rattle.std.specs.Prelude.{option_map}
-use Rattle.std.proofs.lemmas.Option.{same_Some, none-some}
-use Rattle.std.proofs.lemmas.List.{length_push, get_or_append_left}
-use Rattle.std.proofs.lemmas.List.Elements.{All-head, All-tail, All-nil, All-cons}
+use Rattle.vc_base.proofs.Common.{◌≡◌, ◌-◌, List, [], ◌∷◌, ◌++◌, map, length, get_or, slice_get, Some, None, All, Option, option_map, remove, AllPairs, refl, ap, ◌∙◌, subst, arith, All-cons, All-head, All-nil, All-tail, get_or_append_left, length_push, none-some, same_Some}
+use Rattle.std.specs.List.{last_or}
 use Rattle.vc_model.specs.Last.{last_of}
 use Rattle.vc_model.proofs.Pairs.{AllPairs-head, AllPairs-tail}
 

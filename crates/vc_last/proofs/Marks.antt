@@ -1,13 +1,6 @@
 -- Numbers that are marked, and the segments that stay by them.
-use Rattle.std.proofs.Common.{◌≡◌, ℕ, ◌<◌, ◌≤◌, List, [], ◌∷◌, ◌++◌, Bool, true, false, All, length, get_or, set, map, filter, refl, ap, sym, ◌∙◌, subst, ⊎_elim, eqb, arith}
-use Rattle.std.specs.Prelude.{◌||◌}
-use Rattle.std.proofs.lemmas.Bool.{cases_Bool, cases_eq, eq-eqb, ne_eqb}
-use Rattle.std.proofs.lemmas.List.{get_or-set_same, get_or-set_other}
-use Rattle.std.proofs.lemmas.List.Elements.{All-head, All-nil, All-tail}
-use Rattle.std.proofs.Math.Bool.{or-true, or-false}
-use Rattle.vc_model.specs.Compact.{compacted_layout, is_occupied}
-use Rattle.vc_model.specs.Discipline.{Discipline, TookBack}
-use Rattle.vc_model.specs.Layout.{Block, empty_layout}
+use Rattle.vc_base.proofs.Common.{◌≡◌, ℕ, ◌<◌, ◌≤◌, Bool, true, false, ◌||◌, eqb, List, [], ◌∷◌, ◌++◌, map, length, get_or, set, All, filter, sym, refl, ap, ◌∙◌, subst, ⊎_elim, arith, get_or-set_other, get_or-set_same, eq-eqb, ne_eqb, or-false, or-true, cases_Bool, cases_eq, All-head, All-nil, All-tail, compacted_layout, is_occupied, Discipline, TookBack, Block}
+use Rattle.vc_model.specs.Layout.{empty_layout}
 use Rattle.vc_base.proofs.Lists.{filter-map}
 use Rattle.vc_seg.specs.Segment.{AreSegments, Bytes, IsRegionSegment, pair_of}
 use Rattle.vc_seg.proofs.Backs.{Apart}

@@ -1,15 +1,5 @@
 -- The latest block moves to where one was put.
-use Rattle.std.proofs.Common.{◌≡◌, ◌≢◌, ℕ, ◌<◌, ◌≤◌, List, [], ◌∷◌, ◌++◌, Bool, true, false, Some, IfSome, Option, length, map, take, refl, ap, sym, ◌∙◌, subst, ⊎_elim, arith}
-use Rattle.std.proofs.lemmas.Bool.{cases_Bool}
-use Rattle.std.proofs.lemmas.Option.{same_Some}
-use Rattle.std.proofs.lemmas.List.{length-map, length_push, get_or-map}
-use Rattle.vc_model.specs.Addr.{address, place_of}
-use Rattle.vc_model.specs.Best.{without_block_at, zeros}
-use Rattle.vc_model.specs.Discipline.{Terms}
-use Rattle.vc_model.specs.Last.{can_end, last_alloc, last_resize, latest, resize_latest}
-use Rattle.vc_model.specs.Layout.{Block, Layout, address_of, footprint, is_at}
-use Rattle.vc_model.specs.Resize.{is_usable, outcome_of_move, sized_block}
-use Rattle.vc_model.specs.Touch.{HasBlock, change_block, find_block, rewritten_block, with_bytes_at}
+use Rattle.vc_base.proofs.Common.{◌≡◌, ℕ, ◌<◌, ◌≤◌, Bool, true, false, ◌≢◌, List, [], ◌∷◌, ◌++◌, map, length, take, IfSome, Some, Option, sym, refl, ap, ◌∙◌, subst, ⊎_elim, arith, cases_Bool, get_or-map, length-map, length_push, same_Some, address, place_of, without_block_at, zeros, Terms, can_end, last_alloc, last_resize, latest, resize_latest, Block, Layout, address_of, footprint, is_at, is_usable, outcome_of_move, sized_block, HasBlock, change_block, find_block, rewritten_block, with_bytes_at}
 use Rattle.vc_base.proofs.Places.{at-place}
 use Rattle.vc_seg.specs.Answer.{IsRefusal}
 use Rattle.vc_seg.specs.Segment.{Bytes, pair_of}

@@ -1,13 +1,6 @@
 -- Where the next block begins in the newest segment, by the latest block.
-use Rattle.std.proofs.Common.{◌≡◌, ◌≢◌, ℕ, ◌+◌, ◌-◌, ◌<◌, ◌≤◌, List, [], ◌∷◌, ◌++◌, Bool, true, false, Option, Some, None, All, AllPairs, fold, length, get_or, map, refl, ap, sym, ◌∙◌, subst, ⊎_elim, arith}
-use Rattle.std.specs.Prelude.{IsTrue, ◌↔◌, max, option_map}
-use Rattle.std.specs.List.{slice_get}
-use Rattle.std.proofs.lemmas.Bool.{cases_eq, eq-eqb, ne_eqb}
-use Rattle.std.proofs.lemmas.List.Elements.{All-head, All-tail, All-push}
-use Rattle.vc_model.specs.Addr.{place_of}
-use Rattle.vc_model.specs.Last.{newest, next_offset}
-use Rattle.vc_model.specs.Layout.{Block, Layout}
-use Rattle.vc_model.specs.Segments.{span}
+use Rattle.vc_base.proofs.Common.{◌≡◌, ℕ, ◌+◌, ◌-◌, ◌<◌, ◌≤◌, max, Bool, true, false, ◌≢◌, ◌↔◌, List, [], ◌∷◌, ◌++◌, map, length, get_or, IsTrue, slice_get, Some, None, fold, All, Option, option_map, AllPairs, sym, refl, ap, ◌∙◌, subst, ⊎_elim, arith, eq-eqb, ne_eqb, cases_eq, All-head, All-push, All-tail, place_of, newest, Block, Layout, span}
+use Rattle.vc_model.specs.Last.{next_offset}
 use Rattle.vc_seg.specs.Segment.{Bytes, pair_of}
 use Rattle.vc_extent.specs.Tiling.{index_from}
 use Rattle.vc_seg.proofs.Backs.{Apart}

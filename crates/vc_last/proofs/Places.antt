@@ -1,16 +1,6 @@
 -- The place behind the blocks of the newest segment.
-use Rattle.std.proofs.Common.{◌≡◌, ◌≢◌, ℕ, ◌+◌, ◌%◌, ◌<◌, ◌≤◌, List, [], ◌∷◌, ◌++◌, Option, None, Some, true, false, All, Any, filter, fold, length, get_or, map, refl, ap, sym, ◌∙◌, subst, ⊎_elim, eqb, leb, arith}
-use Rattle.std.specs.Prelude.{max}
-use Rattle.std.proofs.lemmas.Bool.{cases_Bool, eqb-false, le-leb, leb-true, lt-leb, ne_eqb}
-use Rattle.std.proofs.lemmas.Option.{same_Some, none-some}
-use Rattle.std.proofs.lemmas.List.{length_push}
-use Rattle.std.proofs.lemmas.List.Elements.{All-head, All-tail, All-nil, All-cons}
-use Rattle.vc_model.specs.Addr.{address, place_of}
-use Rattle.vc_model.specs.Best.{zeros}
-use Rattle.vc_model.specs.Last.{last_place, newest, next_offset, place_behind_latest}
-use Rattle.vc_model.specs.Layout.{Block, Layout, is_at, with_grant}
-use Rattle.vc_model.specs.Segments.{new_segment, span}
-use Rattle.vc_model.specs.Touch.{HasBlock}
+use Rattle.vc_base.proofs.Common.{◌≡◌, ℕ, ◌+◌, ◌%◌, ◌<◌, ◌≤◌, max, true, false, eqb, leb, ◌≢◌, List, [], ◌∷◌, ◌++◌, map, length, get_or, Some, None, fold, All, filter, Option, Any, sym, refl, ap, ◌∙◌, subst, ⊎_elim, arith, ne_eqb, le-leb, leb-true, cases_Bool, eqb-false, lt-leb, All-cons, All-head, All-nil, All-tail, length_push, none-some, same_Some, address, place_of, zeros, last_place, newest, Block, Layout, is_at, with_grant, new_segment, span, HasBlock}
+use Rattle.vc_model.specs.Last.{next_offset, place_behind_latest}
 use Rattle.vc_base.proofs.Places.{some-span, at-place}
 use Rattle.vc_last.specs.Allocation.{EndsFirst, AreAllocated}
 use Rattle.vc_last.specs.Place.{EndBefore, IsBlockPlace}

@@ -1,14 +1,5 @@
 -- A block of zeros that is put behind those of the newest segment.
-use Rattle.std.proofs.Common.{◌≡◌, ◌≢◌, ℕ, ◌+◌, ◌-◌, ◌<◌, ◌≤◌, List, [], ◌∷◌, ◌++◌, Bool, true, false, Some, None, All, Any, length, get_or, map, ap, sym, ◌∙◌, subst, arith}
-use Rattle.std.specs.Prelude.{Err, option_map}
-use Rattle.std.proofs.lemmas.List.{length-map, length-replicate, get_or-map, map_push}
-use Rattle.std.proofs.lemmas.List.Elements.{All-map}
-use Rattle.vc_model.specs.Addr.{address, place_of}
-use Rattle.vc_model.specs.Best.{zeros}
-use Rattle.vc_model.specs.Discipline.{Discipline, Lent, Served, Terms, Unserved}
-use Rattle.vc_model.specs.Last.{last_alloc, last_need, last_place, newest, put_behind_latest, put_in_newest, put_or_lend}
-use Rattle.vc_model.specs.Layout.{Block, Layout, with_grant}
-use Rattle.vc_model.specs.Segments.{Asked, Granted, NotLent, TooMany, ask, new_segment, span}
+use Rattle.vc_base.proofs.Common.{◌≡◌, ℕ, ◌+◌, ◌-◌, ◌<◌, ◌≤◌, Bool, true, false, ◌≢◌, List, [], ◌∷◌, ◌++◌, map, length, get_or, Some, None, Err, All, option_map, Any, sym, ap, ◌∙◌, subst, arith, All-map, get_or-map, length-map, length-replicate, map_push, address, place_of, zeros, Discipline, Lent, Served, Terms, Unserved, last_alloc, last_need, last_place, newest, put_behind_latest, put_in_newest, put_or_lend, Block, Layout, with_grant, Asked, Granted, NotLent, TooMany, ask, new_segment, span}
 use Rattle.vc_base.proofs.Places.{span-least}
 use Rattle.vc_seg.specs.Segment.{AreSegments, Bytes, pair_of, zero_segment}
 use Rattle.vc_seg.specs.Answer.{Asks, IsPut, IsRefusal}

@@ -1,9 +1,5 @@
 -- Ranges of the block at an address.
-use Rattle.std.proofs.Common.{◌≡◌, ◌+◌, ◌≤◌, ◌<◌, ℕ, List, Option, Some, IfSome, length, take, drop, ap, sym, subst, ◌∙◌, arith}
-use Rattle.std.specs.Prelude.{option_map}
-use Rattle.vc_model.specs.Addr.{place_of}
-use Rattle.vc_model.specs.Layout.{Block}
-use Rattle.vc_model.specs.Touch.{HasBlock, HasRange, find_block}
+use Rattle.vc_base.proofs.Common.{◌≡◌, ℕ, ◌+◌, ◌<◌, ◌≤◌, List, length, take, drop, IfSome, Some, Option, option_map, sym, ap, ◌∙◌, subst, arith, place_of, Block, HasBlock, HasRange, find_block}
 use Rattle.vc_base.proofs.Overwrites.{part-of-part}
 use Rattle.vc_base.proofs.Places.{span-least}
 use Rattle.vc_seg.specs.Segment.{Bytes}

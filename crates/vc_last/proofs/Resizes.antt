@@ -1,18 +1,5 @@
 -- What resizing the latest block answers, and makes of the others.
-use Rattle.std.proofs.Common.{◌≡◌, ℕ, suc, ◌+◌, List, [], ◌∷◌, ◌++◌, Bool, true, false, Option, Some, IfSome, take, refl, ap, sym, ◌∙◌, subst, ⊎_elim, eqb, leb, arith}
-use Rattle.std.specs.Prelude.{◌&&◌, ◌==◌, option_map}
-use Rattle.std.proofs.lemmas.Bool.{and_parts, cases_Bool, eqb-true, leb-true, or_cases}
-use Rattle.std.proofs.lemmas.Option.{same_Some}
-use Rattle.vc_model.specs.Addr.{place_of}
-use Rattle.vc_model.specs.Best.{without_block_at, zeros}
-use Rattle.vc_model.specs.Discipline.{Terms}
-use Rattle.vc_model.specs.Gap.{Run}
-use Rattle.vc_model.specs.Last.{can_end, last_alloc, last_resize, latest, resize_latest}
-use Rattle.vc_model.specs.Layout.{Block, Layout, is_at, without_block}
-use Rattle.vc_model.specs.Outcome.{Done, Outcome, Put, Refused}
-use Rattle.vc_model.specs.Resize.{is_usable, outcome_of_move, sized_block}
-use Rattle.vc_model.specs.Sound.{IsUsable}
-use Rattle.vc_model.specs.Touch.{HasBlock, change_block, find_block, rewritten_block, with_bytes_at}
+use Rattle.vc_base.proofs.Common.{◌≡◌, ℕ, suc, ◌+◌, Bool, true, false, ◌&&◌, eqb, leb, List, [], ◌∷◌, ◌++◌, take, IfSome, ◌==◌, Some, Option, option_map, sym, refl, ap, ◌∙◌, subst, ⊎_elim, arith, eqb-true, leb-true, and_parts, cases_Bool, or_cases, same_Some, place_of, without_block_at, zeros, Terms, Run, can_end, last_alloc, last_resize, latest, resize_latest, Block, Layout, is_at, without_block, Done, Outcome, Put, Refused, is_usable, outcome_of_move, sized_block, IsUsable, HasBlock, change_block, find_block, rewritten_block, with_bytes_at}
 use Rattle.vc_base.proofs.Places.{at-place}
 use Rattle.vc_seg.specs.Answer.{IsPut}
 use Rattle.vc_last.proofs.Allocs.{IsNew, new-elsewhere}

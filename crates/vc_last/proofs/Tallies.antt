@@ -1,14 +1,8 @@
 -- Tallies of gaps, taken on from where a scan stands, and the room for them.
-use Rattle.std.proofs.Common.{◌≡◌, ◌≢◌, ℕ, zero, suc, ◌+◌, ◌-◌, ◌*◌, ◌<◌, ◌≤◌, List, [], ◌∷◌, ◌++◌, Bool, true, false, All, AllPairs, Any, length, get_or, map, filter, drop, sum, refl, ap, sym, ◌∙◌, subst, ⊎_elim, eqb, ltb, arith}
-use Rattle.std.proofs.lemmas.Bool.{cases_Bool, eqb-true, eqb-false, lt-ltb, ltb-true, ltb-false}
-use Rattle.std.proofs.lemmas.List.{get_or_default, length-map, map-append}
-use Rattle.std.proofs.lemmas.List.Elements.{All-head, All-tail, All-nil, All-append, All-cons, All-map, All-filter, filter_passes}
-use Rattle.std.proofs.lemmas.List.Kept.{AllPairs-filter}
-use Rattle.std.proofs.lemmas.List.Sums.{sum_by-append, sum_by-cons}
-use Rattle.vc_model.specs.Gap.{Run, bytes_of, run_of, gaps, gaps_between, runs_in}
-use Rattle.vc_model.specs.Layout.{Block, Layout, footprint, footprints}
+use Rattle.vc_base.proofs.Common.{◌≡◌, ℕ, zero, suc, ◌+◌, ◌-◌, ◌*◌, ◌<◌, ◌≤◌, Bool, true, false, eqb, ltb, ◌≢◌, List, [], ◌∷◌, ◌++◌, map, length, get_or, drop, All, sum, filter, Any, AllPairs, sym, refl, ap, ◌∙◌, subst, ⊎_elim, arith, ltb-false, ltb-true, lt-ltb, eqb-true, cases_Bool, eqb-false, All-append, All-cons, All-filter, All-head, All-map, All-nil, All-tail, filter_passes, AllPairs-filter, sum_by-append, sum_by-cons, get_or_default, length-map, map-append, Run, bytes_of, gaps, gaps_between, run_of, Block, Layout, footprint, footprints, put_by}
+use Rattle.vc_model.specs.Gap.{runs_in}
 use Rattle.vc_model.specs.Numbers.{gap_sizes}
-use Rattle.vc_model.specs.Order.{put_by, sorted_by}
+use Rattle.vc_model.specs.Order.{sorted_by}
 use Rattle.vc_model.proofs.Pairs.{AllPairs-head, AllPairs-tail}
 use Rattle.vc_seg.specs.Segment.{AreSegments, Bytes, pair_of}
 use Rattle.vc_layouts.specs.Tally.{HasRoom, tally_of}

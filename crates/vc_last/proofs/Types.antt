@@ -1,12 +1,6 @@
 -- What the type keeps is a proposition.
-use Rattle.std.proofs.Common.{ℕ, List, [], ◌∷◌}
-use Rattle.std.proofs.Math.Nat.{ℕ_set}
-use Rattle.std.proofs.Math.Bridge.{le_prop}
-use Rattle.std.proofs.Math.Logic.{∥∥₁_elim, ∥∥₁_map}
+use Rattle.vc_base.proofs.Common.{ℕ, List, [], ◌∷◌, le_prop, ∥∥₁_elim, ∥∥₁_map, ℕ_set, IsSegmentSize, Block, address_of, IsSound}
 use mathlib.Core.List.{is_set}
-use Rattle.vc_model.specs.Discipline.{IsSegmentSize}
-use Rattle.vc_model.specs.Layout.{Block, address_of}
-use Rattle.vc_model.specs.Sound.{IsSound}
 use Rattle.vc_base.proofs.Sets.{bytes-set, block-set}
 use Rattle.vc_seg.specs.Segment.{AreSegments, Bytes, IsRegionSegment}
 use Rattle.vc_last.specs.Head.{HasHead}

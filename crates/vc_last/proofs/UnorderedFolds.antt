@@ -1,13 +1,7 @@
 -- Folds that don't ask for an order.
-use Rattle.std.proofs.Common.{◌≡◌, ℕ, ◌+◌, List, [], ◌∷◌, ◌++◌, Bool, true, false, Option, None, Some, All, filter, fold, refl, ap, sym, ◌∙◌, subst, ⊎_elim, ltb, arith}
-use Rattle.std.specs.Prelude.{max, min}
-use Rattle.std.specs.List.{find}
-use Rattle.std.proofs.lemmas.Bool.{cases_Bool, ltb-true, ltb-false}
-use Rattle.std.proofs.lemmas.List.Elements.{All-head, All-tail}
-use Rattle.vc_model.specs.Order.{lesser_by}
+use Rattle.vc_base.proofs.Common.{◌≡◌, ℕ, ◌+◌, min, max, Bool, true, false, ltb, List, [], ◌∷◌, ◌++◌, Some, None, fold, All, filter, Option, find, sym, refl, ap, ◌∙◌, subst, ⊎_elim, append-nil, arith, length-append, ltb-false, ltb-true, cases_Bool, All-head, All-tail, sum_by-append, lesser_by}
 use Rattle.vc_layouts.specs.declared.tally.Tally.{Tally}
-use Rattle.std.proofs.lemmas.List.{append-nil, length-append}
-use Rattle.std.proofs.lemmas.List.Sums.{fold-append, sum_by-append}
+use Rattle.std.proofs.lemmas.List.Sums.{fold-append}
 use Rattle.vc_layouts.specs.Tally.{HasRoom, tally_with, tallied_all}
 use Rattle.vc_layouts.proofs.Tallies.{tallied_all-bytes, tallied_all-count}
 

@@ -1,13 +1,5 @@
 -- A walk from the latest block back: a step, and what stands behind it.
-use Rattle.std.proofs.Common.{◌≡◌, ◌≢◌, ℕ, suc, ◌+◌, ◌-◌, ◌<◌, List, [], ◌∷◌, ◌++◌, Bool, true, false, Option, None, Some, All, Contains, filter, fold, length, get_or, map, ap, sym, ◌∙◌, subst, ⊎_elim, eqb, leb, ltb, arith}
-use Rattle.std.specs.Prelude.{option_map}
-use Rattle.std.specs.List.{find}
-use Rattle.std.proofs.lemmas.Bool.{cases_Bool, and_parts, eqb-true, leb-true, ltb-true}
-use Rattle.std.proofs.lemmas.List.{get_or-map, length-map, length_push, map_push}
-use Rattle.vc_model.specs.Layout.{Block, Layout, address_of}
-use Rattle.vc_model.specs.Order.{lesser_by}
-use Rattle.vc_model.specs.Walk.{block_at, holds_byte, next_block}
-use Rattle.vc_model.specs.Touch.{HasBlock}
+use Rattle.vc_base.proofs.Common.{◌≡◌, ℕ, suc, ◌+◌, ◌-◌, ◌<◌, Bool, true, false, eqb, ltb, leb, ◌≢◌, List, [], ◌∷◌, ◌++◌, map, length, get_or, Some, None, fold, All, Contains, filter, Option, option_map, find, sym, ap, ◌∙◌, subst, ⊎_elim, arith, ltb-true, eqb-true, leb-true, and_parts, cases_Bool, get_or-map, length-map, length_push, map_push, Block, Layout, address_of, lesser_by, HasBlock, block_at, holds_byte, next_block}
 use Rattle.vc_base.proofs.Places.{span-least}
 use Rattle.vc_seg.specs.Segment.{Bytes}
 use Rattle.vc_layouts.proofs.Walks.{least_above-among, least_above-key}

@@ -1,12 +1,5 @@
 -- What is true of the blocks of a layout as one is put among them, goes or changes.
-use Rattle.std.proofs.Common.{All, List, [], ap, arith, false, inl, inr, ltb, true, ℕ, ⊎_elim, ◌%◌, ◌*◌, ◌+◌, ◌/◌, ◌<◌, ◌∙◌, ◌∷◌, ◌≡◌}
-use Rattle.std.proofs.lemmas.Bool.{cases_Bool, ltb-false, ltb-true}
-use Rattle.std.proofs.lemmas.List.Elements.{All-cons, All-head, All-tail}
-use Rattle.vc_model.specs.Addr.{address, place_of}
-use Rattle.vc_model.specs.Gap.{Run}
-use Rattle.vc_model.specs.Layout.{Block, is_at, lies_before, with_block, without_block}
-use Rattle.vc_model.specs.Sound.{IsApart}
-use Rattle.vc_model.specs.Touch.{change_block}
+use Rattle.vc_base.proofs.Common.{◌≡◌, ℕ, ◌+◌, ◌*◌, ◌/◌, ◌%◌, ◌<◌, true, false, ltb, List, [], ◌∷◌, All, ap, ◌∙◌, inl, inr, ⊎_elim, arith, ltb-false, ltb-true, cases_Bool, All-cons, All-head, All-tail, address, place_of, Run, Block, is_at, lies_before, with_block, without_block, IsApart, change_block}
 
 -- runs in two segments have no byte in common
 pub apart_by_seg : (f g : Run) → (f.seg ≡ g.seg → ⊥) → IsApart f g

@@ -1,11 +1,5 @@
 -- Blocks that are put by address one after another.
-use Rattle.std.proofs.Common.{◌≡◌, ℕ, ◌<◌, ◌⊎◌, List, [], ◌∷◌, ◌++◌, Bool, true, false, Some, All, refl, ap, sym, ◌∙◌, inl, inr, ⊎_elim, eqb, ltb, arith}
-use Rattle.std.specs.List.{list_any}
-use Rattle.std.specs.Prelude.{◌==◌, ◌&&◌, ◌||◌}
-use Rattle.std.proofs.lemmas.Bool.{cases_Bool, and_parts, and_from, or_cases, or_left, or_right, eqb-true, eq-eqb, lt-ltb, ltb-true, ltb-false, false≢true}
-use Rattle.std.proofs.lemmas.List.Elements.{All-head, All-tail}
-use Rattle.vc_model.specs.Layout.{Block, is_at, lies_before, place_of_block, with_block, without_block}
-use Rattle.vc_model.specs.Touch.{change_block, find_block}
+use Rattle.vc_base.proofs.Common.{◌≡◌, ℕ, ◌<◌, Bool, true, false, ◌&&◌, ◌||◌, eqb, ltb, ◌⊎◌, List, [], ◌∷◌, ◌++◌, ◌==◌, Some, All, sym, refl, ap, ◌∙◌, inl, inr, ⊎_elim, arith, ltb-false, ltb-true, lt-ltb, eq-eqb, eqb-true, and_from, and_parts, cases_Bool, false≢true, or_cases, or_left, or_right, All-head, All-tail, list_any, Block, is_at, lies_before, place_of_block, with_block, without_block, change_block, find_block}
 use Rattle.vc_base.proofs.Booleans.{or-swap}
 use Rattle.vc_layouts.specs.InOrder.{in_order}
 use Rattle.vc_layouts.proofs.Blocks.{All-with}

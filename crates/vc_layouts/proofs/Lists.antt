@@ -1,9 +1,5 @@
 -- What is true of each of a list, and of each two.
-use Rattle.std.proofs.Common.{All, AllPairs, Bool, List, Some, [], ap, arith, false, filter, map, refl, suc, sym, true, ⊎_elim, ◌++◌, ◌∙◌, ◌∷◌, ◌≡◌}
-use Rattle.std.proofs.lemmas.Bool.{cases_Bool}
-use Rattle.std.proofs.lemmas.List.Elements.{All-append, All-cons, All-head, All-map, All-nil, All-tail}
-use Rattle.std.proofs.lemmas.List.Kept.{AllPairs-cons}
-use Rattle.std.specs.List.{find}
+use Rattle.vc_base.proofs.Common.{◌≡◌, suc, Bool, true, false, List, [], ◌∷◌, ◌++◌, map, Some, All, filter, AllPairs, find, sym, refl, ap, ◌∙◌, ⊎_elim, arith, cases_Bool, All-append, All-cons, All-head, All-map, All-nil, All-tail, AllPairs-cons}
 use Rattle.vc_model.proofs.Pairs.{AllPairs-head, AllPairs-tail}
 use Rattle.vc_seg.specs.Segment.{Bytes}
 

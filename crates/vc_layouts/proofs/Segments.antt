@@ -1,15 +1,7 @@
 -- The segments of a layout: numbers of their own, the one that a lend adds, bytes that are written into one.
-use Rattle.std.proofs.Common.{All, AllPairs, List, [], ap, append_assoc, arith, cond, eqb, false, get_or, length, ltb, map, refl, subst, sym, true, ℕ, ⊎_elim, ◌++◌, ◌+◌, ◌<◌, ◌∙◌, ◌∷◌, ◌≡◌, ◌≢◌, ◌≤◌}
-use Rattle.std.proofs.lemmas.Bool.{cases_Bool, eqb-false, eqb-true, ltb-false, ltb-true, ne_eqb}
-use Rattle.std.proofs.lemmas.List.{get_or_default, length_push}
-use Rattle.std.proofs.lemmas.List.Elements.{All-map}
-use Rattle.std.specs.List.{Any}
-use Rattle.std.specs.Prelude.{Err}
+use Rattle.vc_base.proofs.Common.{◌≡◌, ℕ, ◌+◌, ◌<◌, ◌≤◌, true, false, cond, eqb, ltb, ◌≢◌, List, [], ◌∷◌, ◌++◌, map, length, get_or, Err, All, Any, AllPairs, sym, refl, ap, ◌∙◌, subst, ⊎_elim, append_assoc, arith, ltb-false, ltb-true, ne_eqb, eqb-true, cases_Bool, eqb-false, All-map, get_or_default, length_push, with_bytes, Discipline, Lent, Served, TookBack, HaveOwnNumbers}
 use Rattle.vc_layouts.proofs.Lists.{AllPairs-map}
-use Rattle.vc_model.specs.Bytes.{with_bytes}
-use Rattle.vc_model.specs.Discipline.{Discipline, Lent, Served, TookBack}
 use Rattle.vc_model.proofs.Keeping.{Kept-same}
-use Rattle.vc_model.specs.Sound.{HaveOwnNumbers}
 use Rattle.vc_base.proofs.Overwrites.{length-with_bytes}
 use Rattle.vc_seg.specs.Answer.{Asks}
 use Rattle.vc_seg.specs.Segment.{AreSegments, Bytes, pair_of}

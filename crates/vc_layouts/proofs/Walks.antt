@@ -1,8 +1,5 @@
 -- The least of a list above a number, as a loop finds it.
-use Rattle.std.proofs.Common.{Contains, List, None, Option, Some, [], ap, arith, cond, false, filter, fold, inl, inr, ltb, map, refl, suc, sym, true, ℕ, ⊎_elim, ◌∙◌, ◌∷◌, ◌≡◌, ◌⊎◌}
-use Rattle.std.proofs.lemmas.Bool.{cases_Bool}
-use Rattle.std.specs.Prelude.{option_map}
-use Rattle.vc_model.specs.Order.{least_above, lesser_by}
+use Rattle.vc_base.proofs.Common.{◌≡◌, ℕ, suc, true, false, cond, ltb, ◌⊎◌, List, [], ◌∷◌, map, Some, None, fold, Contains, filter, Option, option_map, sym, refl, ap, ◌∙◌, inl, inr, ⊎_elim, arith, cases_Bool, least_above, lesser_by}
 use Rattle.vc_base.proofs.Lists.{filter-map}
 
 -- the least of some numbers above one is one of them

@@ -1,14 +1,7 @@
 -- A set or bag gets another table: a block that is put, and the one before it goes.
-use Rattle.std.proofs.Common.{◌≡◌, ◌≢◌, ℕ, ◌*◌, true, false, List, [], ◌∷◌, Option, Some, None, inl, inr, is_some, length, map, replicate, unwrap_or, refl, sym, ap, ◌∙◌, subst, arith, ⊎_elim}
-use Rattle.std.specs.Prelude.{IsSome, if◌then◌else◌}
-use Rattle.std.specs.List.{AllByRecursion}
-use Rattle.std.proofs.lemmas.Bool.{cases_Bool, true≢false, ne_eqb}
-use Rattle.std.proofs.lemmas.Bool.Decides.{eqb_tells}
-use Rattle.std.proofs.lemmas.List.{length-replicate}
+use Rattle.vc_base.proofs.Common.{◌≡◌, ℕ, ◌*◌, true, false, ◌≢◌, List, [], ◌∷◌, map, length, replicate, is_some, if◌then◌else◌, IsSome, Some, None, Option, unwrap_or, sym, refl, ap, ◌∙◌, subst, inl, inr, ⊎_elim, true≢false, arith, ne_eqb, eqb_tells, cases_Bool, length-replicate, AllByRecursion, Blocks, body_of, contains, some_address}
 use Rattle.vc_base.specs.declared.dict_method.DictMethod.{DictMethod}
 use Rattle.vc_base.specs.declared.addr.Addr.{Addr}
-use Rattle.vc_base.specs.Cells.{Blocks, body_of}
-use Rattle.vc_base.specs.Holders.{contains, some_address}
 use Rattle.vc_base.proofs.CellsLemmas.{put_other, put_same}
 use Rattle.vc_base.proofs.Members.{apart-cons}
 use Rattle.vc_dtdisc.specs.Finds.{object_at}

@@ -1,16 +1,9 @@
 -- What the definitions give for an object, by the answers of the calls that put its table and its holder.
-use Rattle.std.proofs.Common.{◌≡◌, ℕ, ◌*◌, Bool, false, List, Option, Some, None, length, map, refl, sym, ap, ◌∙◌, subst}
-use Rattle.std.specs.Prelude.{OnOk, Result, Ok, Err}
-use Rattle.std.proofs.lemmas.Option.{none-some, same_Some}
-use Rattle.vc_model.specs.Layout.{Layout}
-use Rattle.vc_base.specs.Holders.{contains}
+use Rattle.vc_base.proofs.Common.{◌≡◌, ℕ, ◌*◌, Bool, false, List, map, length, OnOk, Some, None, Ok, Err, Option, Result, sym, refl, ap, ◌∙◌, subst, none-some, same_Some, contains, best_need, Discipline, NoneRefused, Served, Terms, Unserved, Layout, Done, Fault, Outcome, Put, Refused}
 use Rattle.vc_base.specs.declared.fault.OutOfMemory.{OutOfMemory}
 use Rattle.vc_base.proofs.Members.{apart-front, apart-rest}
-use Rattle.vc_model.specs.Best.{best_need}
-use Rattle.vc_model.specs.Discipline.{Discipline, NoneRefused, Served, Terms, Unserved}
 use Rattle.vc_model.proofs.Keeping.{NoneRefused-equal, NoneRefused-served, NoneRefused-trans}
 use Rattle.vc_model.specs.Outcome as model
-use Rattle.vc_model.specs.Outcome.{Fault, Outcome, Done, Refused, Put}
 use Rattle.vc_dict.specs.Methods.{wanted_by}
 use Rattle.vc_dict.specs.declared.dict.Dict.{Dict}
 use Rattle.vc_dtdisc.specs.Objects.{Object}

@@ -1,14 +1,6 @@
 -- A dictionary for which a table was brought.
-use Rattle.std.proofs.Common.{◌≡◌, ◌≢◌, ℕ, ◌*◌, ◌<◌, Bool, true, false, List, [], ◌∷◌, Some, None, inl, inr, is_some, length, map, replicate, unwrap_or, refl, sym, ap, ◌∙◌, subst, arith, ⊎_elim}
-use Rattle.std.specs.Prelude.{IsSome, not, ◌&&◌, if◌then◌else◌}
-use Rattle.std.specs.List.{AllByRecursion}
-use Rattle.std.proofs.lemmas.Bool.{cases_Bool, true≢false, ne_eqb}
-use Rattle.std.proofs.lemmas.Bool.Decides.{eqb_tells}
-use Rattle.std.proofs.lemmas.List.{length-replicate}
-use Rattle.std.proofs.lemmas.Option.{none-some, same_Some}
+use Rattle.vc_base.proofs.Common.{◌≡◌, ℕ, ◌*◌, ◌<◌, Bool, true, false, not, ◌&&◌, ◌≢◌, List, [], ◌∷◌, map, length, replicate, is_some, if◌then◌else◌, IsSome, Some, None, unwrap_or, sym, refl, ap, ◌∙◌, subst, inl, inr, ⊎_elim, true≢false, arith, ne_eqb, eqb_tells, cases_Bool, length-replicate, none-some, same_Some, AllByRecursion, Blocks, body_of, contains, has_table}
 use Rattle.vc_base.specs.declared.dict_method.DictMethod.{DictMethod}
-use Rattle.vc_base.specs.Cells.{Blocks, body_of}
-use Rattle.vc_base.specs.Holders.{contains}
 use Rattle.vc_base.proofs.CellsLemmas.{put_other, put_same}
 use Rattle.vc_dtdisc.specs.Objects.{Object}
 use Rattle.vc_dtdisc.specs.Rules.{IsObject, Rules}
@@ -16,7 +8,6 @@ use Rattle.vc_dthash.specs.Hashed.{IsTable}
 use Rattle.vc_dthash.specs.Slots.{IsSlots, most_slots, slots_for}
 use Rattle.vc_dict.specs.declared.dict.Dict.{Dict}
 use Rattle.vc_dict.specs.Listed.{holders_of}
-use Rattle.vc_base.specs.Methods.{has_table}
 use Rattle.vc_base.proofs.Members.{within-tail}
 use Rattle.vc_dict.specs.Methods.{slots_between}
 use Rattle.vc_dict.specs.Stands.{Stands, table_in}

@@ -1,13 +1,7 @@
 -- A table that a change of method needs is brought, or not.
-use Rattle.std.proofs.Common.{◌≡◌, ◌≢◌, ℕ, ◌*◌, [], Bool, false, Some, None, length, refl, sym, ap, ◌∙◌, subst}
-use Rattle.std.specs.Prelude.{Ok, Option, if◌then◌else◌}
-use Rattle.std.proofs.lemmas.Bool.{eq-eqb, ne_eqb}
-use Rattle.vc_model.specs.Layout.{Layout}
+use Rattle.vc_base.proofs.Common.{◌≡◌, ℕ, ◌*◌, Bool, false, ◌≢◌, [], length, if◌then◌else◌, Some, None, Ok, Option, sym, refl, ap, ◌∙◌, subst, eq-eqb, ne_eqb, Blocks, method_number, Discipline, Terms, Layout, Done, Outcome, Put, Refused}
 use Rattle.vc_base.specs.declared.dict_method.DictMethod.{DictMethod}
-use Rattle.vc_base.specs.Cells.{Blocks}
-use Rattle.vc_model.specs.Discipline.{Discipline, Terms}
 use Rattle.vc_model.proofs.Keeping.{NoneRefused-same}
-use Rattle.vc_model.specs.Outcome.{Outcome, Done, Refused, Put}
 use Rattle.vc_dict.specs.Methods.{slots_between}
 use Rattle.vc_dtdisc.specs.Rules.{Gone, Rules}
 use Rattle.vc_seg.specs.Answer.{IsPut, IsRefusal}
@@ -18,7 +12,6 @@ use Rattle.vc_objects.specs.Leaves.{GivesTurned, told_each}
 use Rattle.vc_objects.specs.Objects.{Dictionary, Table}
 use Rattle.vc_objects.specs.Parts.{table_of}
 use Rattle.vc_objects.specs.Remove.{bytes_of, freed_all}
-use Rattle.vc_base.specs.Methods.{method_number}
 use Rattle.vc_base.proofs.Methods.{other-method}
 use Rattle.vc_objects.specs.Turn.{Brought, Turned, bring, bring_of, turn_with, objects_dropped, table_left, turn, turned_to, turned_with}
 use Rattle.vc_objects.specs.Promises.{Brings}

@@ -1,8 +1,5 @@
 -- The slots of a first table: 16 doubled at most 17 times, and enough.
-use Rattle.std.proofs.Common.{◌≡◌, ℕ, zero, suc, ◌+◌, ◌*◌, ◌^◌, ◌<◌, ◌≤◌, Bool, true, false, refl, arith, pow-suc}
-use Rattle.std.specs.Prelude.{nat_le, if◌then◌else◌}
-use Rattle.std.proofs.Math.Pow.{pow_mono}
-use Rattle.std.proofs.lemmas.Bool.{leb-true}
+use Rattle.vc_base.proofs.Common.{◌≡◌, ℕ, zero, suc, ◌+◌, ◌*◌, ◌^◌, ◌<◌, ◌≤◌, Bool, true, false, if◌then◌else◌, nat_le, refl, pow-suc, arith, pow_mono, leb-true}
 use Rattle.vc_seg.specs.OneBlock.{IsSize}
 use Rattle.vc_dthash.specs.Slots.{IsSlots, enough_slots, most_slots, slots_for}
 

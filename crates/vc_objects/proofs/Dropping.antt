@@ -1,8 +1,5 @@
 -- Holders that were dropped are freed one after another.
-use Rattle.std.proofs.Common.{◌≡◌, ℕ, ◌+◌, ◌<◌, ◌≤◌, List, [], ◌∷◌, true, false, length, map, unwrap_or, refl, sym, ap, ◌∙◌, subst, arith}
-use Rattle.vc_model.specs.Layout.{Layout}
-use Rattle.vc_base.specs.Cells.{Blocks, IsHolder, body_of}
-use Rattle.vc_base.specs.Holders.{AreDistinct, contains}
+use Rattle.vc_base.proofs.Common.{◌≡◌, ℕ, ◌+◌, ◌<◌, ◌≤◌, true, false, List, [], ◌∷◌, map, length, unwrap_or, sym, refl, ap, ◌∙◌, subst, arith, Blocks, IsHolder, body_of, AreDistinct, contains, Layout}
 use Rattle.vc_base.proofs.Members.{apart-head, apart-tail, within-head, within-tail}
 use Rattle.vc_dtdisc.specs.Finds.{object_at}
 use Rattle.vc_dtdisc.specs.Rules.{Gone, gone_after}

@@ -1,16 +1,8 @@
 -- Which table is wanted, and what there is once a set or bag has it.
-use Rattle.std.proofs.Common.{◌≡◌, ◌≢◌, ℕ, suc, ◌+◌, ◌*◌, ◌^◌, ◌<◌, ◌≤◌, Bool, true, false, List, Option, Some, None, inl, inr, map, length, refl, sym, ap, ◌∙◌, subst, arith, pow-suc}
-use Rattle.std.specs.Prelude.{◌==◌, ◌&&◌, nat_lt, if◌then◌else◌}
-use Rattle.std.proofs.Math.Pow.{pow_mono}
-use Rattle.std.proofs.lemmas.Bool.{cases_lt, le-ltb, ltb-true, ne_eqb}
-use Rattle.std.proofs.lemmas.Bool.Decides.{eqb_tells}
-use Rattle.std.proofs.lemmas.List.{length-map}
-use Rattle.std.proofs.lemmas.Option.{none-some, same_Some}
-use Rattle.vc_base.specs.Cells.{Blocks}
+use Rattle.vc_base.proofs.Common.{◌≡◌, ℕ, suc, ◌+◌, ◌*◌, ◌^◌, ◌<◌, ◌≤◌, Bool, true, false, ◌&&◌, ◌≢◌, List, map, length, if◌then◌else◌, nat_lt, ◌==◌, Some, None, Option, sym, refl, ap, ◌∙◌, subst, inl, inr, pow-suc, arith, pow_mono, ltb-true, le-ltb, ne_eqb, eqb_tells, cases_lt, length-map, none-some, same_Some, Blocks, has_table}
 use Rattle.vc_dtdisc.specs.Rules.{Rules}
 use Rattle.vc_dthash.specs.Slots.{IsSlots, most_slots, slots_for, wanted_slots}
 use Rattle.vc_dict.specs.Listed.{holders_of}
-use Rattle.vc_base.specs.Methods.{has_table}
 use Rattle.vc_dict.specs.Methods.{wanted_by}
 use Rattle.vc_dict.specs.Stands.{Stands, slots_in, table_in}
 use Rattle.vc_dict.specs.declared.dict.Dict.{Dict}

@@ -1,23 +1,15 @@
 -- A holder is put, and joins a dictionary.
-use Rattle.std.proofs.Common.{◌≡◌, ◌≢◌, ℕ, ◌+◌, Bool, true, false, List, [], ◌∷◌, Some, None, inl, inr, is_some, length, map, drop, replicate, unwrap_or, refl, sym, ap, ◌∙◌, subst, arith, ⊎_elim}
-use Rattle.std.specs.Prelude.{IsSome}
-use Rattle.std.specs.List.{AllByRecursion}
-use Rattle.std.proofs.lemmas.Bool.{cases_Bool, true≢false}
-use Rattle.std.proofs.lemmas.Bool.Decides.{eqb_tells}
-use Rattle.std.proofs.lemmas.List.{length-drop, length-replicate, take_all}
+use Rattle.vc_base.proofs.Common.{◌≡◌, ℕ, ◌+◌, Bool, true, false, ◌≢◌, List, [], ◌∷◌, map, length, drop, replicate, is_some, IsSome, Some, None, unwrap_or, sym, refl, ap, ◌∙◌, subst, inl, inr, ⊎_elim, true≢false, arith, length-drop, take_all, eqb_tells, cases_Bool, length-replicate, AllByRecursion, Blocks, HasBytes, IsHolder, body_of, bytes_at, contains, some_address, has_table, is_list, is_set, with_bytes}
 use Rattle.vc_base.specs.declared.addr.Addr.{Addr}
-use Rattle.vc_base.specs.Cells.{Blocks, HasBytes, IsHolder, body_of, bytes_at, with_body}
-use Rattle.vc_base.specs.Holders.{contains, some_address}
+use Rattle.vc_base.specs.Cells.{with_body}
 use Rattle.vc_base.proofs.CellsLemmas.{put_other, put_same, window_same}
 use Rattle.vc_base.proofs.Overwrites.{length-with_bytes}
-use Rattle.vc_model.specs.Bytes.{with_bytes}
 use Rattle.vc_dtdisc.specs.Finds.{find_key, object_at}
 use Rattle.vc_dtdisc.specs.Objects.{Object, address_of, bytes_of, first_with, linked_among}
 use Rattle.vc_dtdisc.specs.Rules.{IsObject, Rules}
 use Rattle.vc_dtdisc.proofs.ObjectsLemmas.{first_with-map, linked_among-map}
 use Rattle.vc_dict.specs.Changes as changes
 use Rattle.vc_dict.specs.Listed.{holders_of}
-use Rattle.vc_base.specs.Methods.{has_table, is_list, is_set}
 use Rattle.vc_base.proofs.Members.{apart-cons, within-tail}
 use Rattle.vc_dict.specs.Stands.{Became, CanLink, Stands, slots_in, table_in}
 use Rattle.vc_dict.specs.declared.dict.Dict.{Dict}

@@ -1,10 +1,5 @@
 -- What calls leave of a region beside a dictionary's blocks, one after another.
-use Rattle.std.proofs.Common.{◌≡◌, ℕ, true, false, List, Option, Some, None, refl, sym, ap, ◌∙◌, subst, arith, ⊎_elim}
-use Rattle.std.specs.Prelude.{Err, IsSome}
-use Rattle.std.proofs.lemmas.Bool.{cases_Bool, true≢false}
-use Rattle.vc_base.specs.Cells.{Blocks}
-use Rattle.vc_base.specs.Holders.{contains}
-use Rattle.vc_model.specs.Discipline.{Discipline, HasOut, Served}
+use Rattle.vc_base.proofs.Common.{◌≡◌, ℕ, true, false, List, IsSome, Some, None, Err, Option, sym, refl, ap, ◌∙◌, subst, ⊎_elim, true≢false, arith, cases_Bool, Blocks, contains, Discipline, HasOut, Served}
 use Rattle.vc_model.proofs.Keeping.{Kept-same, Kept-trans}
 use Rattle.vc_seg.specs.Answer.{Asks}
 use Rattle.vc_seg.specs.declared.fault.RegionFault.{RegionFault}

@@ -1,16 +1,9 @@
 -- What a dictionary stands for, and what a call that changes none of it leaves.
-use Rattle.std.proofs.Common.{◌≡◌, ◌≢◌, ℕ, List, [], ◌∷◌, true, false, map, refl, sym, ap, ◌∙◌, subst, inl, inr}
-use Rattle.std.specs.List.{AllByRecursion}
-use Rattle.std.proofs.lemmas.Bool.{true≢false}
-use Rattle.std.proofs.lemmas.Bool.Decides.{eqb_tells}
+use Rattle.vc_base.proofs.Common.{◌≡◌, ℕ, true, false, ◌≢◌, List, [], ◌∷◌, map, sym, refl, ap, ◌∙◌, subst, inl, inr, true≢false, eqb_tells, AllByRecursion, Blocks, contains, some_address, has_table, Discipline}
 use Rattle.vc_base.specs.declared.dict_method.DictMethod.{DictMethod}
-use Rattle.vc_base.specs.Cells.{Blocks}
-use Rattle.vc_base.specs.Holders.{contains, some_address}
-use Rattle.vc_model.specs.Discipline.{Discipline}
 use Rattle.vc_dtdisc.specs.Objects.{Object}
 use Rattle.vc_dtdisc.specs.Rules.{IsObject, Rules}
 use Rattle.vc_dict.specs.Listed.{holders_of}
-use Rattle.vc_base.specs.Methods.{has_table}
 use Rattle.vc_base.proofs.Members.{apart-head, apart-tail, apart-cons}
 use Rattle.vc_dict.specs.Stands.{Became, Stands, slots_in, table_in}
 use Rattle.vc_dict.specs.declared.dict.Dict.{Dict}

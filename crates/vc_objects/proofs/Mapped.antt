@@ -1,11 +1,6 @@
 -- A dictionary's objects are its holders, each with what stands in it: what is done with them is done with the holders.
-use Rattle.std.proofs.Common.{◌≡◌, ℕ, List, [], ◌∷◌, Bool, true, false, Option, Some, None, map, unwrap_or, option_map, inl, inr, refl, sym, ap, ◌∙◌, subst}
-use Rattle.std.specs.Prelude.{◌==◌, if◌then◌else◌}
-use Rattle.std.proofs.lemmas.Bool.{true≢false, ne_eqb}
-use Rattle.std.proofs.lemmas.Bool.Decides.{eqb_tells}
+use Rattle.vc_base.proofs.Common.{◌≡◌, ℕ, Bool, true, false, List, [], ◌∷◌, map, if◌then◌else◌, ◌==◌, Some, None, Option, option_map, unwrap_or, sym, refl, ap, ◌∙◌, subst, inl, inr, true≢false, ne_eqb, eqb_tells, Blocks, contains, first_in, some_address, without}
 use Rattle.std.proofs.lemmas.Iterator.Adapters.{option_map_id}
-use Rattle.vc_base.specs.Cells.{Blocks}
-use Rattle.vc_base.specs.Holders.{contains, first_in, some_address, without}
 use Rattle.vc_base.proofs.Members.{within-head, within-tail}
 use Rattle.vc_dtdisc.specs.Finding.{first_of}
 use Rattle.vc_dtdisc.specs.Finds.{find_key, has_key, object_at}

@@ -1,12 +1,7 @@
 -- Every call on a dictionary commutes with a change of the labels of its region.
-use Rattle.std.proofs.Common.{◌≡◌, ℕ, ◌==◌, List, [], ◌∷◌, Bool, true, false, Option, Some, None, length, cond, refl, sym, ap, ◌∙◌}
+use Rattle.vc_base.proofs.Common.{◌≡◌, ℕ, Bool, true, false, cond, List, [], ◌∷◌, length, ◌==◌, Some, None, Option, sym, refl, ap, ◌∙◌, has_table, method_number, address, place_of, Terms, Block, Layout, relabel_layout, Done, Outcome, Put, Refused, done_as, outcome_as}
 use Rattle.vc_base.specs.declared.dict_method.DictMethod.{DictMethod}
-use Rattle.vc_model.specs.Addr.{address, place_of}
-use Rattle.vc_model.specs.Discipline.{Terms}
-use Rattle.vc_model.specs.Layout.{Block, Layout, relabel_layout}
-use Rattle.vc_model.specs.Outcome.{Outcome, Done, Refused, Put, done_as, outcome_as}
 use Rattle.vc_model.proofs.Relabel.{best_alloc-relabel, without_block-relabel}
-use Rattle.vc_base.specs.Methods.{has_table, method_number}
 use Rattle.vc_dict.specs.Methods.{slots_between}
 use Rattle.vc_dtdisc.specs.Objects as objects
 use Rattle.vc_dtdisc.specs.Objects.{Object, first_with}

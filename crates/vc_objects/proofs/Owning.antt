@@ -1,11 +1,5 @@
 -- The addresses of a dictionary's own blocks, its table's and its holders', and what holds of each of its objects.
-use Rattle.std.proofs.Common.{◌≡◌, ◌≢◌, ℕ, List, [], ◌∷◌, ◌++◌, Bool, true, false, Some, None, map, refl, sym, ap, ◌∙◌, subst, inl, inr}
-use Rattle.std.specs.Prelude.{◌==◌, if◌then◌else◌}
-use Rattle.std.specs.List.{AllByRecursion}
-use Rattle.std.proofs.lemmas.Bool.{ne_eqb, true≢false}
-use Rattle.std.proofs.lemmas.Bool.Decides.{eqb_tells}
-use Rattle.vc_base.specs.Cells.{Blocks}
-use Rattle.vc_base.specs.Holders.{contains}
+use Rattle.vc_base.proofs.Common.{◌≡◌, ℕ, Bool, true, false, ◌≢◌, List, [], ◌∷◌, ◌++◌, map, if◌then◌else◌, ◌==◌, Some, None, sym, refl, ap, ◌∙◌, subst, inl, inr, true≢false, ne_eqb, eqb_tells, AllByRecursion, Blocks, contains}
 use Rattle.vc_base.proofs.Members.{apart-head, apart-cons, apart-rest, within-head, within-tail}
 use Rattle.vc_dtdisc.specs.Finds.{object_at}
 use Rattle.vc_dtdisc.specs.Objects.{Object}

@@ -1,15 +1,9 @@
 -- Which holders a change of method keeps, and which it drops: each is one of them, no two are one, and none is both.
-use Rattle.std.proofs.Common.{◌≡◌, ℕ, ◌+◌, List, [], ◌∷◌, ◌++◌, Bool, true, false, inl, inr, length, length-append, refl, sym, ◌∙◌, subst, arith, append_assoc}
-use Rattle.std.specs.Prelude.{if◌then◌else◌}
-use Rattle.std.proofs.lemmas.Bool.{true≢false}
-use Rattle.std.proofs.lemmas.Bool.Decides.{eqb_tells}
+use Rattle.vc_base.proofs.Common.{◌≡◌, ℕ, ◌+◌, Bool, true, false, List, [], ◌∷◌, ◌++◌, length, if◌then◌else◌, sym, refl, ◌∙◌, subst, inl, inr, true≢false, append_assoc, arith, length-append, eqb_tells, Blocks, AreDistinct, contains, is_ordered, is_set}
 use Rattle.vc_base.specs.declared.dict_method.DictMethod.{DictMethod}
-use Rattle.vc_base.specs.Cells.{Blocks}
-use Rattle.vc_base.specs.Holders.{AreDistinct, contains}
 use Rattle.vc_dtdisc.specs.Rules.{Rules}
 use Rattle.vc_dtlist.proofs.HolderLemmas.{apart-append, distinct-remove}
 use Rattle.vc_dtord.specs.Ordered.{is_less, order_with}
-use Rattle.vc_base.specs.Methods.{is_ordered, is_set}
 use Rattle.vc_base.proofs.Members.{apart-head, apart-tail, apart-cons, apart-front, apart-rest, apart-removed, within-head, within-tail, apart-either}
 use Rattle.vc_dict.specs.Orders.{dropped_holders, dropped_by, has_match, kept_holders, kept_by, ordered_by, placed_each}
 use Rattle.vc_dict.proofs.PassLemmas.{apart-placed, differs}

@@ -1,20 +1,11 @@
 -- What is left of a dictionary and of its region when one of its holders is taken out and freed.
-use Rattle.std.proofs.Common.{◌≡◌, ◌≢◌, ℕ, ◌≤◌, List, [], ◌∷◌, Bool, true, false, Option, Some, None, map, unwrap_or, refl, sym, ap, ◌∙◌, subst, inl, inr, ⊎_elim}
-use Rattle.std.specs.Prelude.{◌==◌, if◌then◌else◌}
-use Rattle.std.specs.List.{AllByRecursion}
-use Rattle.std.proofs.lemmas.Bool.{cases_Bool, true≢false}
-use Rattle.std.proofs.lemmas.Bool.Decides.{eqb_tells}
-use Rattle.vc_model.specs.Layout.{Layout}
-use Rattle.vc_base.specs.Cells.{Blocks, IsHolder, body_of}
-use Rattle.vc_base.specs.Holders.{AreDistinct, contains, first_in, without}
-use Rattle.vc_model.specs.Discipline.{Discipline}
+use Rattle.vc_base.proofs.Common.{◌≡◌, ℕ, ◌≤◌, Bool, true, false, ◌≢◌, List, [], ◌∷◌, map, if◌then◌else◌, ◌==◌, Some, None, Option, unwrap_or, sym, refl, ap, ◌∙◌, subst, inl, inr, ⊎_elim, true≢false, eqb_tells, cases_Bool, AllByRecursion, Blocks, IsHolder, body_of, AreDistinct, contains, first_in, without, has_table, Discipline, Layout}
 use Rattle.vc_dtdisc.specs.Finds.{object_at}
 use Rattle.vc_dtdisc.specs.Objects.{Object, address_of, without_object}
 use Rattle.vc_dtdisc.specs.Rules.{Gone, IsObject, Rules}
 use Rattle.vc_dtlist.proofs.HolderLemmas.{apart-append, apart-without}
 use Rattle.vc_dict.specs.Changes as changes
 use Rattle.vc_dict.specs.Listed.{holders_of}
-use Rattle.vc_base.specs.Methods.{has_table}
 use Rattle.vc_base.proofs.Members.{apart-head, apart-tail, apart-cons, apart-front, apart-rest, within-head, differs}
 use Rattle.vc_dict.specs.Stands.{Became, Stands, slots_in, table_in}
 use Rattle.vc_dict.specs.declared.dict.Dict.{Dict}

@@ -1,13 +1,6 @@
 -- A dictionary that turned to another method: which objects it has then, and which cells stay.
-use Rattle.std.proofs.Common.{◌≡◌, ◌≢◌, ℕ, ◌-◌, ◌≤◌, List, [], ◌∷◌, Bool, true, false, Option, Some, None, inl, inr, is_some, length, map, unwrap_or, refl, sym, ap, ◌∙◌, subst, arith}
-use Rattle.std.specs.Prelude.{IsSome, not, ◌==◌, ◌&&◌, if◌then◌else◌}
-use Rattle.std.specs.List.{AllByRecursion}
-use Rattle.std.proofs.lemmas.Bool.{true≢false, eq-eqb}
-use Rattle.std.proofs.lemmas.Bool.Decides.{eqb_tells}
-use Rattle.vc_model.specs.Layout.{Layout}
+use Rattle.vc_base.proofs.Common.{◌≡◌, ℕ, ◌-◌, ◌≤◌, Bool, true, false, not, ◌&&◌, ◌≢◌, List, [], ◌∷◌, map, length, is_some, if◌then◌else◌, IsSome, ◌==◌, Some, None, Option, unwrap_or, sym, refl, ap, ◌∙◌, subst, inl, inr, true≢false, arith, eq-eqb, eqb_tells, AllByRecursion, Blocks, body_of, contains, some_address, has_table, Layout}
 use Rattle.vc_base.specs.declared.dict_method.DictMethod.{DictMethod}
-use Rattle.vc_base.specs.Cells.{Blocks, body_of}
-use Rattle.vc_base.specs.Holders.{contains, some_address}
 use Rattle.vc_dtdisc.specs.Finds.{object_at}
 use Rattle.vc_dtdisc.specs.Objects.{Object, bytes_of, dropped_by, kept_by, ordered_by}
 use Rattle.vc_dtdisc.specs.Rules.{Gone, IsObject, Rules}
@@ -16,7 +9,6 @@ use Rattle.vc_dthash.specs.Slots.{slots_for}
 use Rattle.vc_dict.specs.declared.dict.Dict.{Dict}
 use Rattle.vc_dict.specs.declared.dict.Dropped.{Dropped}
 use Rattle.vc_dict.specs.Listed.{holders_of}
-use Rattle.vc_base.specs.Methods.{has_table}
 use Rattle.vc_base.proofs.Members.{apart-cons}
 use Rattle.vc_dict.specs.Orders as orders
 use Rattle.vc_dict.specs.Stands.{Stands, slots_in, table_in}

@@ -1,16 +1,8 @@
 -- Unlabelled blocks of a best region: what putting one does, and freeing one.
-use Rattle.std.proofs.Common.{◌≡◌, ◌≢◌, ℕ, List, Option, Some, None, is_some, option_map, replicate, refl, sym, ap, ◌∙◌, inl, inr}
-use Rattle.std.specs.Prelude.{IfOk, IsSome, OnErr, Result, Ok, Err}
-use Rattle.std.proofs.lemmas.Bool.{eqb-true}
-use Rattle.std.proofs.lemmas.Bool.Decides.{eqb_tells}
-use Rattle.vc_base.specs.Cells.{Blocks, put}
+use Rattle.vc_base.proofs.Common.{◌≡◌, ℕ, ◌≢◌, List, replicate, is_some, IfOk, OnErr, IsSome, Some, None, Ok, Err, Option, Result, option_map, sym, refl, ap, ◌∙◌, inl, inr, eqb-true, eqb_tells, Blocks, place_of, best_alloc, without_block_at, Terms, Block, Layout, HasBlock, find_block}
+use Rattle.vc_base.specs.Cells.{put}
 use Rattle.vc_base.specs.declared.addr.Addr.{Addr}
 use Rattle.vc_base.proofs.CellsLemmas.{put_same}
-use Rattle.vc_model.specs.Addr.{place_of}
-use Rattle.vc_model.specs.Best.{best_alloc, without_block_at}
-use Rattle.vc_model.specs.Discipline.{Terms}
-use Rattle.vc_model.specs.Layout.{Block, Layout}
-use Rattle.vc_model.specs.Touch.{HasBlock, find_block}
 use Rattle.vc_model.proofs.Owned.{found-has}
 use Rattle.vc_seg.specs.Answer.{Answers}
 use Rattle.vc_seg.specs.OneBlock.{IsBlockPut}

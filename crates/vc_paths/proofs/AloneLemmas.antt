@@ -1,12 +1,6 @@
 -- What is seen where a path is its dictionary alone: the objects of that one, as they stand.
-use Rattle.std.proofs.Common.{◌≡◌, ℕ, List, [], ◌∷◌, ◌++◌, Bool, true, false, not, Option, Some, None, refl, sym, ap, ◌∙◌, subst, inl, inr, append_assoc, append-nil}
-use Rattle.std.specs.Prelude.{IsSome, is_some, map, ◌==◌}
-use Rattle.std.specs.List.{AllByRecursion, filter, list_any}
-use Rattle.std.specs.Option.{option_map}
-use Rattle.std.proofs.lemmas.Bool.{true≢false, cases_Bool, eqb-true}
+use Rattle.vc_base.proofs.Common.{◌≡◌, ℕ, Bool, true, false, not, List, [], ◌∷◌, ◌++◌, map, is_some, IsSome, ◌==◌, Some, None, filter, Option, option_map, sym, refl, ap, ◌∙◌, subst, inl, inr, true≢false, append_assoc, append-nil, eqb-true, cases_Bool, AllByRecursion, list_any, number_of, is_ordered}
 use Rattle.vc_base.specs.declared.addr.Addr.{Addr}
-use Rattle.vc_base.specs.Address.{number_of}
-use Rattle.vc_base.specs.Methods.{is_ordered}
 use Rattle.vc_dtdisc.specs.Finding.{before_first, behind_last}
 use Rattle.vc_dtdisc.specs.Objects.{Object, is_greater, placed_each}
 use Rattle.vc_dtdisc.specs.Rules.{Rules}

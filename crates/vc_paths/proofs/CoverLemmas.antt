@@ -1,11 +1,7 @@
 -- Which objects the layers above hide, layer by layer.
-use Rattle.std.proofs.Common.{◌≡◌, ℕ, List, [], ◌∷◌, Bool, true, false, ◌||◌, Option, Some, None, is_some, refl, sym, ap, ◌∙◌, inl, inr}
-use Rattle.std.specs.List.{find, list_any}
-use Rattle.std.specs.Option.{option_map}
-use Rattle.std.proofs.lemmas.Bool.{cases_Bool, eq-eqb, ne_eqb}
+use Rattle.vc_base.proofs.Common.{◌≡◌, ℕ, Bool, true, false, ◌||◌, List, [], ◌∷◌, is_some, Some, None, Option, option_map, find, sym, refl, ap, ◌∙◌, inl, inr, eq-eqb, ne_eqb, cases_Bool, list_any, number_of}
 use Rattle.vc_base.specs.declared.addr.Addr.{Addr}
 use Rattle.vc_dtdisc.specs.Objects.{Object, has_key, is_match}
-use Rattle.vc_base.specs.Address.{number_of}
 use Rattle.vc_base.proofs.Options.{is_some-map}
 use Rattle.vc_paths.specs.Layers.{AreLayers, Layered, bytes_there, place_with, Same, Layer}
 use Rattle.vc_paths.specs.Links.{ArePaths, Links, below}

@@ -1,8 +1,5 @@
 -- Walks down a path that look for the first layer that shows something, or for the last one.
-use Rattle.std.proofs.Common.{◌≡◌, ℕ, List, true, false, Option, Some, None, is_some, refl, sym, ap, ◌∙◌}
-use Rattle.std.specs.List.{flat_map}
-use Rattle.std.specs.Option.{option_map, option_or}
-use Rattle.std.proofs.lemmas.Bool.{true≢false}
+use Rattle.vc_base.proofs.Common.{◌≡◌, ℕ, true, false, List, is_some, Some, None, Option, option_map, flat_map, sym, refl, ap, ◌∙◌, true≢false, option_or}
 use Rattle.vc_dtdisc.specs.Finding.{first_of, last_from, last_of}
 use Rattle.vc_paths.specs.Links.{ArePaths, Links, below, is_link_to}
 use Rattle.vc_paths.specs.Shown.{above, down}

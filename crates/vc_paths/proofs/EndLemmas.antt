@@ -1,9 +1,5 @@
 -- The ends of lists, and the neighbours of what passes a test, where lists are joined or mapped.
-use Rattle.std.proofs.Common.{◌≡◌, List, [], ◌∷◌, ◌++◌, map, Bool, true, false, ◌||◌, Option, Some, refl, sym, ap, ◌∙◌, inl, inr}
-use Rattle.std.specs.List.{filter, flat_map, list_any}
-use Rattle.std.specs.Option.{option_map, option_or}
-use Rattle.std.proofs.lemmas.Bool.{cases_Bool, or_from, or_parts, or_right, true≢false}
-use Rattle.std.proofs.lemmas.List.Folds.{list_any-append}
+use Rattle.vc_base.proofs.Common.{◌≡◌, Bool, true, false, ◌||◌, List, [], ◌∷◌, ◌++◌, map, Some, filter, Option, option_map, flat_map, sym, refl, ap, ◌∙◌, inl, inr, true≢false, cases_Bool, or_from, or_parts, or_right, list_any-append, list_any, option_or}
 use Rattle.vc_base.proofs.Quantifiers.{any-map, any-middle}
 use Rattle.vc_dtdisc.proofs.FindingLemmas.{first_of-map}
 use Rattle.vc_dtdisc.specs.Finding.{before_first_from, behind_last, first_of, last_from, last_of}

@@ -1,9 +1,5 @@
 -- The last object in order of keys: the latest greatest one, by the lasts of sorted layers.
-use Rattle.std.proofs.Common.{◌≡◌, ℕ, List, [], ◌∷◌, ◌++◌, Bool, true, false, Option, Some, None, refl, sym, ap, ◌∙◌, subst, inl, inr}
-use Rattle.std.specs.Prelude.{not, ◌||◌, map, if◌then◌else◌}
-use Rattle.std.specs.List.{AllByRecursion, filter, list_any}
-use Rattle.std.proofs.lemmas.Bool.{true≢false, cases_Bool, or_right}
-use Rattle.std.proofs.lemmas.List.Folds.{list_any-append}
+use Rattle.vc_base.proofs.Common.{◌≡◌, ℕ, Bool, true, false, not, ◌||◌, List, [], ◌∷◌, ◌++◌, map, if◌then◌else◌, Some, None, filter, Option, sym, refl, ap, ◌∙◌, subst, inl, inr, true≢false, cases_Bool, or_right, list_any-append, AllByRecursion, list_any}
 use Rattle.vc_base.proofs.Quantifiers.{all-append, all-weaken}
 use Rattle.vc_dtdisc.specs.Objects.{is_greater, is_match, placed_among, placed_each}
 use Rattle.vc_dtdisc.specs.Rules.{Rules}

@@ -1,8 +1,5 @@
 -- The first object in order of keys: the earliest least one, by the firsts of sorted layers.
-use Rattle.std.proofs.Common.{◌≡◌, ℕ, List, [], ◌∷◌, ◌++◌, Bool, true, false, Option, Some, None, refl, sym, ap, ◌∙◌, inl, inr}
-use Rattle.std.specs.Prelude.{not, map}
-use Rattle.std.specs.List.{AllByRecursion, filter}
-use Rattle.std.proofs.lemmas.Bool.{true≢false, cases_Bool}
+use Rattle.vc_base.proofs.Common.{◌≡◌, ℕ, Bool, true, false, not, List, [], ◌∷◌, ◌++◌, map, Some, None, filter, Option, sym, refl, ap, ◌∙◌, inl, inr, true≢false, cases_Bool, AllByRecursion}
 use Rattle.vc_base.proofs.Quantifiers.{all-append, all-weaken}
 use Rattle.vc_dtdisc.specs.Objects.{is_greater, is_match, placed_among, placed_each}
 use Rattle.vc_dtdisc.specs.Rules.{Rules}

@@ -1,16 +1,7 @@
 -- The last object of a dictionary that matches another one, and the neighbours of what has a key among what is seen.
-use Rattle.std.proofs.Common.{◌≡◌, ℕ, ◌<◌, List, [], ◌∷◌, ◌++◌, map, length, Bool, true, false, cond, Option, Some, None, refl, sym, ap, ◌∙◌, subst, inl, inr, arith, append_assoc}
-use Rattle.std.specs.List.{AllByRecursion, filter, find, list_any}
-use Rattle.std.specs.Option.{option_map, option_or}
-use Rattle.std.specs.Prelude.{IsSome}
-use Rattle.std.specs.Ordering.{is_eq}
+use Rattle.vc_base.proofs.Common.{◌≡◌, ℕ, ◌<◌, Bool, true, false, cond, List, [], ◌∷◌, ◌++◌, map, length, IsSome, Some, None, filter, Option, option_map, find, is_eq, sym, refl, ap, ◌∙◌, subst, inl, inr, true≢false, append_assoc, arith, cases_Bool, filter-append, none-some, AllByRecursion, list_any, option_or, AreDistinct, is_ordered}
 use Rattle.std.specs.Cmp.{Equal-is}
-use Rattle.std.proofs.lemmas.Bool.{cases_Bool, true≢false}
 use Rattle.std.proofs.lemmas.Cmp.{alike_right, tied_itself}
-use Rattle.std.proofs.lemmas.List.Elements.{filter-append}
-use Rattle.std.proofs.lemmas.Option.{none-some}
-use Rattle.vc_base.specs.Holders.{AreDistinct}
-use Rattle.vc_base.specs.Methods.{is_ordered}
 use Rattle.vc_base.proofs.Quantifiers.{all-weaken}
 use Rattle.vc_base.proofs.Lists.{filter-map}
 use Rattle.vc_dtdisc.proofs.FindingLemmas.{last_from-map}

@@ -1,17 +1,8 @@
 -- The neighbours of a visible object in order of keys: those in its dictionary that match it, or one beyond them.
-use Rattle.std.proofs.Common.{◌≡◌, ℕ, List, [], ◌∷◌, ◌++◌, Bool, true, false, Option, Some, None, is_some, refl, sym, ap, ◌∙◌, subst, inl, inr, append-nil}
-use Rattle.std.specs.Prelude.{map, not, ◌||◌, ◌&&◌, ◌==◌}
-use Rattle.std.specs.List.{AllByRecursion, filter, find, list_any}
-use Rattle.std.specs.Option.{option_map, option_or}
-use Rattle.std.proofs.lemmas.Bool.{true≢false, and_parts, cases_Bool, eq-eqb, eqb-true, not-true, or_left, or_right}
-use Rattle.std.proofs.lemmas.List.Elements.{filter-append}
-use Rattle.std.proofs.lemmas.List.Folds.{list_any-append}
-use Rattle.std.proofs.lemmas.Option.{same_Some}
+use Rattle.vc_base.proofs.Common.{◌≡◌, ℕ, Bool, true, false, not, ◌&&◌, ◌||◌, List, [], ◌∷◌, ◌++◌, map, is_some, ◌==◌, Some, None, filter, Option, option_map, find, sym, refl, ap, ◌∙◌, subst, inl, inr, true≢false, append-nil, eq-eqb, eqb-true, and_parts, cases_Bool, not-true, or_left, or_right, filter-append, list_any-append, same_Some, AllByRecursion, list_any, option_or, number_of, is_ordered}
 use Rattle.vc_base.specs.declared.addr.Addr.{Addr}
-use Rattle.vc_base.specs.Methods.{is_ordered}
 use Rattle.vc_dtdisc.specs.Objects.{Object, is_greater, is_match, placed_each}
 use Rattle.vc_dtdisc.specs.Rules.{Rules}
-use Rattle.vc_base.specs.Address.{number_of}
 use Rattle.vc_base.proofs.Quantifiers.{all-append, all-weaken, all-both, any-map}
 use Rattle.vc_dtdisc.proofs.FindingLemmas.{before_first_from-map, behind_last-map}
 use Rattle.vc_dtdisc.specs.Finding.{before_first, before_first_from, behind_last, first_of, last_of}

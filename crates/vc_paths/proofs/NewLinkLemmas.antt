@@ -1,11 +1,7 @@
 -- Links with another link of a dictionary, and that no path is too long then.
-use Rattle.std.proofs.Common.{◌≡◌, ◌≢◌, ℕ, ◌+◌, ◌<◌, ◌≤◌, ◌⊎◌, inl, inr, length, arith, List, [], ◌∷◌, Bool, true, false, Option, Some, None, slice_get, slice_set, replicate, zero, suc, refl, sym, ap, ◌∙◌, subst, length-set, le_trans}
-use Rattle.std.specs.Prelude.{nat_lt}
-use Rattle.std.specs.List.{list_any}
-use Rattle.std.proofs.lemmas.Bool.{or_parts, or_right}
-use Rattle.std.proofs.lemmas.Bool.Decides.{eqb_tells, leb_tells}
-use Rattle.std.proofs.lemmas.Option.{none-some, slice_get_past}
-use Rattle.std.proofs.lemmas.List.{length-replicate}
+use Rattle.vc_base.proofs.Common.{◌≡◌, ℕ, zero, suc, ◌+◌, ◌<◌, ◌≤◌, Bool, true, false, ◌≢◌, ◌⊎◌, List, [], ◌∷◌, length, replicate, nat_lt, slice_get, slice_set, Some, None, Option, sym, refl, ap, ◌∙◌, subst, inl, inr, le_trans, arith, length-set, eqb_tells, or_parts, or_right, length-replicate, none-some, list_any}
+use Rattle.std.proofs.lemmas.Bool.Decides.{leb_tells}
+use Rattle.std.proofs.lemmas.Option.{slice_get_past}
 use Rattle.vc_paths.specs.Links.{ArePaths, Links, are_too_long, below, is_too_long, link_at, links_with, no_links, numbers, numbers_from, onward, path_limit, path_of}
 use Rattle.vc_paths.proofs.PathLemmas.{not_less}
 

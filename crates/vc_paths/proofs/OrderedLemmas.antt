@@ -1,11 +1,6 @@
 -- The layers of a path in order of keys: what goes down them keeps the least of their firsts, or the greatest of their lasts.
-use Rattle.std.proofs.Common.{◌≡◌, ℕ, List, [], ◌∷◌, true, Option, Some, None, is_some, refl, sym, ap, ◌∙◌, subst}
-use Rattle.std.specs.Prelude.{map}
-use Rattle.std.specs.List.{AllByRecursion, filter}
-use Rattle.std.specs.Option.{option_map}
-use Rattle.std.proofs.lemmas.Bool.{true≢false}
+use Rattle.vc_base.proofs.Common.{◌≡◌, ℕ, true, List, [], ◌∷◌, map, is_some, Some, None, filter, Option, option_map, sym, refl, ap, ◌∙◌, subst, true≢false, AllByRecursion, is_ordered}
 use Rattle.vc_base.specs.declared.addr.Addr.{Addr}
-use Rattle.vc_base.specs.Methods.{is_ordered}
 use Rattle.vc_base.proofs.Quantifiers.{all-map}
 use Rattle.vc_dtdisc.specs.Objects.{IsSorted, Object, bytes_of, is_greater, is_match, placed_each}
 use Rattle.vc_dtdisc.specs.Rules.{Rules}

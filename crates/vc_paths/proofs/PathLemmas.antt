@@ -1,9 +1,6 @@
 -- Paths of links of which none is too long: each goes on behind its first number, and has no number twice.
-use Rattle.std.proofs.Common.{◌≡◌, ◌≢◌, ℕ, ◌+◌, ◌<◌, ◌≤◌, inl, inr, length, arith, List, [], ◌∷◌, ◌++◌, Bool, true, false, Option, Some, None, zero, suc, refl, sym, ap, ◌∙◌, subst, ap₂, ◌-◌}
-use Rattle.std.specs.Prelude.{nat_lt}
-use Rattle.std.proofs.lemmas.Bool.{ne_eqb, true≢false}
-use Rattle.std.proofs.lemmas.Bool.Decides.{eqb_tells, leb_tells}
-use Rattle.vc_base.specs.Holders.{AreDistinct, contains}
+use Rattle.vc_base.proofs.Common.{◌≡◌, ℕ, zero, suc, ◌+◌, ◌-◌, ◌<◌, ◌≤◌, Bool, true, false, ◌≢◌, List, [], ◌∷◌, ◌++◌, length, nat_lt, Some, None, Option, sym, refl, ap, ◌∙◌, subst, ap₂, inl, inr, true≢false, arith, ne_eqb, eqb_tells, AreDistinct, contains}
+use Rattle.std.proofs.lemmas.Bool.Decides.{leb_tells}
 use Rattle.vc_paths.specs.Links.{ArePaths, Links, below, onward, path, path_limit, path_of}
 
 -- what holds behind each link holds behind a link or none

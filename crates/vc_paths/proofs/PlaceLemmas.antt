@@ -1,11 +1,5 @@
 -- The objects of a dictionary around the one at an address.
-use Rattle.std.proofs.Common.{◌≡◌, ◌≢◌, ℕ, List, [], ◌∷◌, ◌++◌, map, true, false, eqb, Option, Some, None, refl, sym, ap, ◌∙◌, subst, inl, inr, append_assoc}
-use Rattle.std.specs.Prelude.{IsSome}
-use Rattle.std.specs.List.{find, list_any}
-use Rattle.std.specs.Option.{option_map}
-use Rattle.std.proofs.lemmas.Bool.{cases_Bool, eq-eqb, eqb-true, ne_eqb, or_from, or_parts, true≢false}
-use Rattle.std.proofs.lemmas.Option.{none-some, same_Some}
-use Rattle.vc_base.specs.Holders.{AreDistinct, contains}
+use Rattle.vc_base.proofs.Common.{◌≡◌, ℕ, true, false, eqb, ◌≢◌, List, [], ◌∷◌, ◌++◌, map, IsSome, Some, None, Option, option_map, find, sym, refl, ap, ◌∙◌, subst, inl, inr, true≢false, append_assoc, eq-eqb, ne_eqb, eqb-true, cases_Bool, or_from, or_parts, none-some, same_Some, list_any, AreDistinct, contains}
 use Rattle.vc_base.proofs.Quantifiers.{any-map}
 use Rattle.vc_dtdisc.specs.Finding.{before_first, behind_last, first_of, last_of}
 use Rattle.vc_dtdisc.specs.Objects.{Object}

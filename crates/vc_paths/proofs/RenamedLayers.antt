@@ -1,9 +1,6 @@
 -- What is seen through a view path is the same list, renamed, where each layer's dictionary has another name.
-use Rattle.std.proofs.Common.{◌≡◌, List, [], ◌∷◌, ◌++◌, not, map, refl, sym, ap, ◌∙◌}
-use Rattle.std.specs.List.{filter}
-use Rattle.std.proofs.lemmas.List.{map-append}
+use Rattle.vc_base.proofs.Common.{◌≡◌, not, List, [], ◌∷◌, ◌++◌, map, filter, sym, refl, ap, ◌∙◌, map-append, is_ordered}
 use Rattle.vc_base.specs.declared.dict_method.DictMethod.{DictMethod}
-use Rattle.vc_base.specs.Methods.{is_ordered}
 use Rattle.vc_base.proofs.Quantifiers.{any-map}
 use Rattle.vc_base.proofs.Lists.{filter-map}
 use Rattle.vc_dtdisc.specs.Objects.{is_match, placed_each}

@@ -1,8 +1,5 @@
 -- Two tests on a list, of which the second is passed only where the first is: where both are passed by the first, or by the last, its neighbours are the same.
-use Rattle.std.proofs.Common.{◌≡◌, List, [], ◌∷◌, Bool, true, false, Option, Some, None, refl, sym, ap, ◌∙◌, inl, inr}
-use Rattle.std.specs.List.{AllByRecursion, filter, find, list_any}
-use Rattle.std.proofs.lemmas.Bool.{cases_Bool, or_right, true≢false}
-use Rattle.std.proofs.lemmas.Option.{none-some, same_Some}
+use Rattle.vc_base.proofs.Common.{◌≡◌, Bool, true, false, List, [], ◌∷◌, Some, None, filter, Option, find, sym, refl, ap, ◌∙◌, inl, inr, true≢false, cases_Bool, or_right, none-some, same_Some, AllByRecursion, list_any}
 use Rattle.vc_dtdisc.specs.Finding.{before_first, before_first_from, behind_last, first_of, last_from, last_of}
 use Rattle.vc_paths.proofs.StackedLemmas.{filter-none}
 

@@ -1,9 +1,5 @@
 -- What has a key among the objects that are seen through a dictionary: where the first layer has it that has some.
-use Rattle.std.proofs.Common.{◌≡◌, ℕ, List, [], ◌∷◌, map, Bool, true, false, cond, Option, Some, None, refl, sym, ap, ◌∙◌, inl, inr}
-use Rattle.std.specs.List.{find, list_any}
-use Rattle.std.specs.Option.{option_map, option_or}
-use Rattle.std.proofs.lemmas.Bool.{cases_Bool}
-use Rattle.vc_base.specs.Methods.{is_ordered}
+use Rattle.vc_base.proofs.Common.{◌≡◌, ℕ, Bool, true, false, cond, List, [], ◌∷◌, map, Some, None, Option, option_map, find, sym, refl, ap, ◌∙◌, inl, inr, cases_Bool, list_any, option_or, is_ordered}
 use Rattle.vc_base.proofs.Lists.{find-map}
 use Rattle.vc_dtdisc.specs.Objects.{Object, has_key, placed_each}
 use Rattle.vc_dtdisc.specs.Rules.{AreLawful, Rules}

@@ -1,10 +1,5 @@
 -- A walk along the objects of a dictionary, to the next one that isn't hidden.
-use Rattle.std.proofs.Common.{◌≡◌, ℕ, ◌+◌, ◌<◌, List, [], ◌∷◌, ◌++◌, map, Bool, true, false, not, length, Option, Some, None, is_some, refl, sym, ap, ◌∙◌, subst, arith, append_assoc, length-append}
-use Rattle.std.specs.Prelude.{IsSome}
-use Rattle.std.specs.Option.{option_map}
-use Rattle.std.proofs.lemmas.List.{append-nil}
-use Rattle.std.proofs.lemmas.List.Elements.{filter-append}
-use Rattle.vc_base.specs.Holders.{AreDistinct}
+use Rattle.vc_base.proofs.Common.{◌≡◌, ℕ, ◌+◌, ◌<◌, Bool, true, false, not, List, [], ◌∷◌, ◌++◌, map, length, is_some, IsSome, Some, None, Option, option_map, sym, refl, ap, ◌∙◌, subst, append_assoc, append-nil, arith, length-append, filter-append, AreDistinct}
 use Rattle.vc_dtdisc.proofs.FindingLemmas.{first_of-map, last_from-map}
 use Rattle.vc_dtdisc.specs.Finding.{first_of, last_of}
 use Rattle.vc_dtdisc.specs.Objects.{Object}

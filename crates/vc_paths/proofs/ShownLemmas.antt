@@ -1,11 +1,5 @@
 -- What is seen through a path, layer by layer, where the method is not ordered.
-use Rattle.std.proofs.Common.{◌≡◌, ◌≢◌, ℕ, List, [], ◌∷◌, ◌++◌, map, true, false, not, eqb, Some, refl, sym, ap, ◌∙◌, append_assoc}
-use Rattle.std.specs.List.{filter, flat_map, list_any}
-use Rattle.std.proofs.lemmas.Bool.{eq-eqb, ne_eqb, or_left, or_right, true≢false}
-use Rattle.std.proofs.lemmas.List.{append-nil, map-append}
-use Rattle.std.proofs.lemmas.List.Elements.{filter_agree}
-use Rattle.vc_base.specs.Holders.{AreDistinct, contains}
-use Rattle.vc_base.specs.Methods.{is_ordered}
+use Rattle.vc_base.proofs.Common.{◌≡◌, ℕ, true, false, not, eqb, ◌≢◌, List, [], ◌∷◌, ◌++◌, map, Some, filter, flat_map, sym, refl, ap, ◌∙◌, true≢false, append_assoc, append-nil, eq-eqb, ne_eqb, or_left, or_right, filter_agree, map-append, list_any, AreDistinct, contains, is_ordered}
 use Rattle.vc_base.proofs.Quantifiers.{any-map, any-agree}
 use Rattle.vc_base.proofs.Lists.{filter-map}
 use Rattle.vc_dtdisc.specs.Objects.{Object, is_match}

@@ -1,11 +1,5 @@
 -- What is seen through a dictionary stands in the dictionaries of its path, and only one object at each place.
-use Rattle.std.proofs.Common.{◌≡◌, ℕ, List, [], ◌∷◌, ◌++◌, map, Bool, true, false, cond, Option, Some, None, refl, sym, ap, ◌∙◌, subst, inl, inr, append_assoc}
-use Rattle.std.specs.List.{AllByRecursion, find}
-use Rattle.std.specs.Prelude.{◌==◌}
-use Rattle.std.proofs.lemmas.Bool.{and_parts, cases_Bool, eq-eqb, eqb-true}
-use Rattle.std.proofs.lemmas.Option.{none-some, same_Some}
-use Rattle.vc_base.specs.Holders.{AreDistinct}
-use Rattle.vc_base.specs.Methods.{is_ordered}
+use Rattle.vc_base.proofs.Common.{◌≡◌, ℕ, Bool, true, false, cond, List, [], ◌∷◌, ◌++◌, map, ◌==◌, Some, None, Option, find, sym, refl, ap, ◌∙◌, subst, inl, inr, append_assoc, eq-eqb, eqb-true, and_parts, cases_Bool, none-some, same_Some, AllByRecursion, AreDistinct, is_ordered}
 use Rattle.vc_dtdisc.specs.Objects.{Object, placed_each}
 use Rattle.vc_dtdisc.specs.Rules.{Rules}
 use Rattle.vc_dtdisc.specs.Finding.{before_first_from, behind_last, last_from, last_of}

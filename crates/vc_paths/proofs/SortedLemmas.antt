@@ -1,12 +1,7 @@
 -- Objects in order of keys: what is placed among them, and what a filter keeps of them.
-use Rattle.std.proofs.Common.{◌≡◌, ℕ, List, [], ◌∷◌, ◌++◌, Bool, true, false, refl, sym, ap, ◌∙◌, inl, inr, cond, append-nil, append_assoc}
-use Rattle.std.specs.List.{AllByRecursion, filter, find}
-use Rattle.std.specs.Prelude.{not, ◌||◌, map}
-use Rattle.std.proofs.lemmas.Bool.{true≢false, cases_Bool}
-use Rattle.std.proofs.lemmas.List.Elements.{filter-append}
+use Rattle.vc_base.proofs.Common.{◌≡◌, ℕ, Bool, true, false, cond, not, ◌||◌, List, [], ◌∷◌, ◌++◌, map, filter, find, sym, refl, ap, ◌∙◌, inl, inr, true≢false, append_assoc, append-nil, cases_Bool, filter-append, IsTotalOrder, AllByRecursion}
 use Rattle.vc_dtdisc.specs.Objects.{has_key, is_greater, is_match, placed_among, placed_each}
 use Rattle.vc_dtdisc.specs.Rules.{Rules}
-use Rattle.std.specs.Cmp.{IsTotalOrder}
 use Rattle.vc_base.proofs.Quantifiers.{all-append, all-weaken}
 use Rattle.vc_dtdisc.specs.Finding.{first_of}
 use Rattle.vc_paths.specs.Visible.{Seen, is_hidden, seen_bytes, stacked_objects}

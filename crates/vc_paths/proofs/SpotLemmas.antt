@@ -1,15 +1,6 @@
 -- The neighbours of an object that is seen through a path, where the method is not ordered.
-use Rattle.std.proofs.Common.{◌≡◌, ℕ, List, [], ◌∷◌, ◌++◌, map, is_some, Bool, true, false, not, eqb, ◌||◌, ◌&&◌, Option, Some, None, refl, sym, ap, ◌∙◌, subst, inl, inr, append_assoc}
-use Rattle.std.specs.Prelude.{IsSome}
-use Rattle.std.specs.List.{filter, flat_map, list_any}
-use Rattle.std.specs.Option.{option_map, option_or}
-use Rattle.std.proofs.lemmas.Bool.{cases_Bool, eq-eqb, eqb-false, eqb-true, ne_eqb, or_from, or_parts, true≢false}
-use Rattle.std.proofs.lemmas.List.{map-append}
+use Rattle.vc_base.proofs.Common.{◌≡◌, ℕ, Bool, true, false, not, ◌&&◌, ◌||◌, eqb, List, [], ◌∷◌, ◌++◌, map, is_some, IsSome, Some, None, filter, Option, option_map, flat_map, sym, refl, ap, ◌∙◌, subst, inl, inr, true≢false, append_assoc, eq-eqb, ne_eqb, eqb-true, cases_Bool, eqb-false, or_from, or_parts, filter-append, list_any-append, map-append, list_any, option_or, AreDistinct, contains, is_ordered}
 use Rattle.std.proofs.lemmas.List.Concat.{flat_map-append}
-use Rattle.std.proofs.lemmas.List.Elements.{filter-append}
-use Rattle.std.proofs.lemmas.List.Folds.{list_any-append}
-use Rattle.vc_base.specs.Holders.{AreDistinct, contains}
-use Rattle.vc_base.specs.Methods.{is_ordered}
 use Rattle.vc_base.proofs.Quantifiers.{any-map}
 use Rattle.vc_dtdisc.proofs.FindingLemmas.{before_first_from-map, behind_last-map}
 use Rattle.vc_dtdisc.specs.Finding.{before_first, behind_last, first_of, last_of}

@@ -1,13 +1,8 @@
 -- What has a key among layers that stand one after another, each without the objects that those above it hide.
-use Rattle.std.proofs.Common.{◌≡◌, ℕ, List, [], ◌∷◌, ◌++◌, Bool, true, false, not, cond, ◌||◌, refl, sym, ap, ◌∙◌, inl, inr}
-use Rattle.std.specs.List.{filter, find, list_any}
-use Rattle.std.specs.Ordering.{is_eq}
+use Rattle.vc_base.proofs.Common.{◌≡◌, ℕ, Bool, true, false, cond, not, ◌||◌, List, [], ◌∷◌, ◌++◌, filter, find, is_eq, sym, refl, ap, ◌∙◌, inl, inr, append-nil, cases_Bool, or_left, or_parts, or_right, filter-append, list_any-append, list_any}
 use Rattle.std.specs.Cmp.{Equal-is}
-use Rattle.std.proofs.lemmas.Bool.{cases_Bool, or_parts, or_left, or_right, not_from_true, not_from_false}
+use Rattle.std.proofs.lemmas.Bool.{not_from_true, not_from_false}
 use Rattle.std.proofs.lemmas.Cmp.{alike_right}
-use Rattle.std.proofs.lemmas.List.{append-nil}
-use Rattle.std.proofs.lemmas.List.Elements.{filter-append}
-use Rattle.std.proofs.lemmas.List.Folds.{list_any-append}
 use Rattle.vc_base.proofs.Quantifiers.{any-agree}
 use Rattle.vc_dtdisc.specs.Objects.{has_key, is_match}
 use Rattle.vc_dtdisc.specs.Rules.{AreLawful, Rules}

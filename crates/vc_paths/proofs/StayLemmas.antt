@@ -1,6 +1,5 @@
 -- What calls keep: each dictionary still is one, and is as it was.
-use Rattle.std.proofs.Common.{◌≡◌, ℕ, List, [], ◌∷◌, Option, true, refl, sym, ap, subst, ◌∙◌}
-use Rattle.std.specs.List.{AllByRecursion, list_any}
+use Rattle.vc_base.proofs.Common.{◌≡◌, ℕ, true, List, [], ◌∷◌, Option, sym, refl, ap, ◌∙◌, subst, AllByRecursion, list_any}
 use Rattle.vc_paths.specs.Layers.{Layer, Layered, Same}
 use Rattle.vc_paths.specs.Links.{Links, path}
 use Rattle.vc_paths.specs.Path.{IsAlike, IsPath, IsVisible, is_at, visible_of}

@@ -1,10 +1,5 @@
 -- In order of keys what matches stands together: behind one that doesn't match any more, none does.
-use Rattle.std.proofs.Common.{◌≡◌, ℕ, List, [], ◌∷◌, ◌++◌, map, true, false, Some, refl, sym, ap, ◌∙◌, subst, inl, inr}
-use Rattle.std.specs.Prelude.{IsSome}
-use Rattle.std.specs.List.{AllByRecursion, filter}
-use Rattle.std.specs.Option.{option_or}
-use Rattle.std.proofs.lemmas.Bool.{cases_Bool, true≢false}
-use Rattle.vc_base.specs.Holders.{AreDistinct}
+use Rattle.vc_base.proofs.Common.{◌≡◌, ℕ, true, false, List, [], ◌∷◌, ◌++◌, map, IsSome, Some, filter, sym, refl, ap, ◌∙◌, subst, inl, inr, true≢false, cases_Bool, AllByRecursion, option_or, AreDistinct}
 use Rattle.vc_dtdisc.specs.Objects.{IsSorted, Object, bytes_of, is_greater, is_match}
 use Rattle.vc_dtdisc.specs.Finding.{last_of}
 use Rattle.vc_dtdisc.specs.Rules.{Rules}

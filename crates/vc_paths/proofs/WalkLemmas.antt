@@ -1,7 +1,5 @@
 -- A walk behind an object of a dictionary that keeps the last one that matches it.
-use Rattle.std.proofs.Common.{◌≡◌, ℕ, ◌<◌, List, Option, Some, None, length, refl, sym, ap, subst}
-use Rattle.std.specs.List.{filter}
-use Rattle.std.specs.Prelude.{IsSome, if◌then◌else◌}
+use Rattle.vc_base.proofs.Common.{◌≡◌, ℕ, ◌<◌, List, length, if◌then◌else◌, IsSome, Some, None, filter, Option, sym, refl, ap, subst}
 use Rattle.vc_dtdisc.specs.Finding.{last_of}
 use Rattle.vc_dtdisc.specs.Objects.{is_match}
 use Rattle.vc_paths.specs.Layers.{AreLayers, Layer, Layered, bytes_there, place_behind, place_in}

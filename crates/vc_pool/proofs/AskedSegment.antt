@@ -1,7 +1,6 @@
 -- What asking for a segment gives, by the segments of a pool.
-use Rattle.std.proofs.Common.{◌≡◌, ◌≢◌, ℕ, List, All, map, subst}
+use Rattle.vc_base.proofs.Common.{◌≡◌, ℕ, ◌≢◌, List, map, All, subst, Discipline, Terms}
 use Rattle.vc_base.proofs.Quantifiers.{All-unmap}
-use Rattle.vc_model.specs.Discipline.{Discipline, Terms}
 use Rattle.vc_seg.specs.Lend.{IsGrantOf}
 use Rattle.vc_seg.specs.Segment.{Bytes}
 use Rattle.vc_pool_cells.specs.Blocks.{pair_of}

@@ -1,12 +1,6 @@
 -- The block that holds a byte is the one in the cell that the offset falls in.
-use Rattle.std.proofs.Common.{◌≡◌, ℕ, ◌+◌, ◌-◌, ◌*◌, ◌/◌, ◌%◌, ◌<◌, ◌≤◌, List, true, false, None, Some, length, get_or, ap, sym, ◌∙◌, subst, ⊎_elim, eqb, leb, ltb, arith}
-use Rattle.std.specs.Prelude.{option_map, ◌&&◌}
-use Rattle.std.proofs.lemmas.Bool.{and_from, and_parts, cases_Bool, eq-eqb, eqb-true, false≢true, leb-true, lt-ltb, le-leb, ltb-true}
-use Rattle.std.proofs.lemmas.Nat.{div-add-mod', div-mul-add}
-use Rattle.vc_model.specs.Layout.{Block, is_at}
-use Rattle.vc_model.specs.Pool.{cell_for, cell_offset}
-use Rattle.vc_model.specs.Touch.{find_block}
-use Rattle.vc_model.specs.Walk.{block_at, holds_byte}
+use Rattle.vc_base.proofs.Common.{◌≡◌, ℕ, ◌+◌, ◌-◌, ◌*◌, ◌/◌, ◌%◌, ◌<◌, ◌≤◌, true, false, ◌&&◌, eqb, ltb, leb, List, length, get_or, Some, None, option_map, sym, ap, ◌∙◌, subst, ⊎_elim, div-add-mod', arith, ltb-true, lt-ltb, eq-eqb, eqb-true, le-leb, leb-true, and_from, and_parts, cases_Bool, false≢true, Block, is_at, cell_for, cell_offset, find_block, block_at, holds_byte}
+use Rattle.std.proofs.lemmas.Nat.{div-mul-add}
 use Rattle.vc_pool_cells.specs.Blocks.{layout_by}
 use Rattle.vc_pool_cells.specs.Cells.{Cells, pair_at}
 use Rattle.vc_pool_cells.specs.Freed.{cells_at}

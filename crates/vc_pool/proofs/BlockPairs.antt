@@ -1,12 +1,6 @@
 -- Blocks in cells, two by two.
-use Rattle.std.proofs.Common.{◌≡◌, ◌≢◌, ℕ, ◌+◌, ◌≤◌, List, [], ◌∷◌, true, false, All, AllPairs, inl, inr, refl, sym, take, drop, ⊎_elim, eqb, arith, ◌∙◌}
-use Rattle.std.specs.List.{flat_map}
-use Rattle.std.proofs.lemmas.Bool.{cases_Bool}
-use Rattle.std.proofs.lemmas.List.Elements.{All-append, All-head, All-nil, All-tail, All-weaker}
-use Rattle.std.proofs.lemmas.List.Kept.{AllPairs-cons}
-use Rattle.vc_model.specs.Layout.{Block, lies_before, with_block}
+use Rattle.vc_base.proofs.Common.{◌≡◌, ℕ, ◌+◌, ◌≤◌, true, false, eqb, ◌≢◌, List, [], ◌∷◌, take, drop, All, AllPairs, flat_map, sym, refl, ◌∙◌, inl, inr, ⊎_elim, arith, cases_Bool, All-append, All-head, All-nil, All-tail, All-weaker, AllPairs-cons, Block, lies_before, with_block, IsApart}
 use Rattle.vc_model.specs.Pool.{cell_run}
-use Rattle.vc_model.specs.Sound.{IsApart}
 use Rattle.vc_model.proofs.Pairs.{AllPairs-head, AllPairs-tail}
 use Rattle.vc_layouts.proofs.Lists.{AllPairs-append, AllPairs-nil}
 use Rattle.vc_layouts.proofs.Blocks.{apart_by_seg}

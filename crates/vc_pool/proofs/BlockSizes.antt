@@ -1,15 +1,7 @@
 -- The sizes of the blocks in the cells of a pool's segments.
-use Rattle.std.proofs.Common.{◌≡◌, ℕ, ◌+◌, ◌-◌, ◌*◌, ◌/◌, ◌<◌, ◌≤◌, List, [], ◌∷◌, ◌++◌, true, false, All, length, get_or, map, sum, take, drop, refl, ap, sym, ◌∙◌, ⊎_elim, eqb, arith}
-use Rattle.std.specs.Prelude.{min}
-use Rattle.std.specs.List.{flat_map}
-use Rattle.std.proofs.lemmas.Bool.{cases_Bool, cases_eq, eq-eqb, ne_eqb}
-use Rattle.std.proofs.lemmas.List.{append-nil, drop-map, drop_min, drop_more, get_or-drop, length-append, length-drop, length-map, map-append, take-append-drop, take_rest}
-use Rattle.std.proofs.lemmas.List.Elements.{All-append, All-cons, All-drop, All-head, All-map, All-nil, All-tail}
-use Rattle.std.proofs.lemmas.List.Sums.{sum_by-cons}
-use Rattle.std.proofs.Math.Nat.{div-mul-le_self, mul-le-mul_left}
-use Rattle.vc_model.specs.Layout.{Block}
-use Rattle.vc_model.specs.Numbers.{block_sizes}
-use Rattle.vc_model.specs.Pool.{cell_count, cell_for}
+use Rattle.vc_base.proofs.Common.{◌≡◌, ℕ, ◌+◌, ◌-◌, ◌*◌, ◌/◌, ◌<◌, ◌≤◌, min, true, false, eqb, List, [], ◌∷◌, ◌++◌, map, length, get_or, take, drop, All, sum, flat_map, sym, refl, ap, ◌∙◌, ⊎_elim, append-nil, mul-le-mul_left, div-mul-le_self, arith, length-append, length-drop, take-append-drop, get_or-drop, eq-eqb, ne_eqb, cases_Bool, cases_eq, All-append, All-cons, All-head, All-map, All-nil, All-tail, sum_by-cons, drop-map, drop_more, length-map, map-append, take_rest, Block, block_sizes, cell_count, cell_for}
+use Rattle.std.proofs.lemmas.List.{drop_min}
+use Rattle.std.proofs.lemmas.List.Elements.{All-drop}
 use Rattle.vc_layouts.specs.Tally.{HasRoom, tally_of}
 use Rattle.vc_layouts.specs.declared.tally.Tally.{Tally}
 use Rattle.vc_layouts.proofs.Tallies.{sizes-most, tallied-order, tally_of-bytes, tally_of-count}

@@ -1,15 +1,5 @@
 -- Some of a pool's segments: those that have a block.
-use Rattle.std.proofs.Common.{◌≡◌, ℕ, ◌<◌, ◌≤◌, List, [], ◌∷◌, ◌++◌, Bool, true, false, All, get_or, map, filter, refl, ap, sym, ◌∙◌, subst, ⊎_elim, eqb, ltb, arith}
-use Rattle.std.specs.Prelude.{◌&&◌}
-use Rattle.std.specs.List.{flat_map}
-use Rattle.std.proofs.lemmas.Bool.{cases_Bool, cases_eq, and_from, eq-eqb, ne_eqb}
-use Rattle.std.proofs.lemmas.List.Elements.{All-filter, All-head, All-tail, filter_agree, filter_passes}
-use Rattle.std.proofs.lemmas.List.Folds.{list_any_at}
-use Rattle.std.proofs.lemmas.List.Sums.{length-filter, count_by-le-length}
-use Rattle.vc_model.specs.Compact.{compacted_layout, is_occupied}
-use Rattle.vc_model.specs.Discipline.{Discipline, TookBack}
-use Rattle.vc_model.specs.Layout.{Layout}
-use Rattle.vc_model.specs.Pool.{cell_for}
+use Rattle.vc_base.proofs.Common.{◌≡◌, ℕ, ◌<◌, ◌≤◌, Bool, true, false, ◌&&◌, eqb, ltb, List, [], ◌∷◌, ◌++◌, map, get_or, All, filter, flat_map, sym, refl, ap, ◌∙◌, subst, ⊎_elim, arith, eq-eqb, ne_eqb, and_from, cases_Bool, cases_eq, All-filter, All-head, All-tail, filter_agree, filter_passes, list_any_at, count_by-le-length, length-filter, compacted_layout, is_occupied, Discipline, TookBack, Layout, cell_for}
 use Rattle.vc_base.proofs.Lists.{filter-map}
 use Rattle.vc_seg.specs.Segment.{AreSegments, Bytes}
 use Rattle.vc_seg.proofs.Backs.{AreSegments-filter}

@@ -1,14 +1,6 @@
 -- Which segments have a block, by their pairs and by the blocks of the pool.
-use Rattle.std.proofs.Common.{◌≡◌, ℕ, zero, suc, ◌+◌, List, [], ◌∷◌, Bool, true, false, All, ◌<◌, get_or, map, refl, ap, sym, ◌∙◌, ⊎_elim, eqb, ltb, arith}
-use Rattle.std.specs.Prelude.{◌&&◌, ◌||◌}
-use Rattle.std.specs.List.{flat_map, list_any}
-use Rattle.std.proofs.lemmas.Bool.{cases_Bool, eqb-true, eqb-false, lt-ltb, le-ltb}
-use Rattle.std.proofs.lemmas.List.{get_or-map, length-map}
-use Rattle.std.proofs.lemmas.List.Elements.{All-head, All-tail}
-use Rattle.std.proofs.lemmas.List.Folds.{list_any-append}
-use Rattle.std.proofs.Math.Bool.{and-false, or-false, and-true}
-use Rattle.vc_model.specs.Compact.{is_occupied}
-use Rattle.vc_model.specs.Layout.{Block}
+use Rattle.vc_base.proofs.Common.{◌≡◌, ℕ, zero, suc, ◌+◌, ◌<◌, Bool, true, false, ◌&&◌, ◌||◌, eqb, ltb, List, [], ◌∷◌, map, get_or, All, flat_map, sym, refl, ap, ◌∙◌, ⊎_elim, arith, le-ltb, lt-ltb, eqb-true, and-false, or-false, cases_Bool, eqb-false, All-head, All-tail, list_any-append, get_or-map, length-map, list_any, is_occupied, Block}
+use Rattle.std.proofs.Math.Bool.{and-true}
 use Rattle.vc_layouts.proofs.InOrder.{any-order}
 use Rattle.vc_pool_cells.specs.Blocks.{block_of_cell, cell_blocks, segment_blocks, layout_by}
 use Rattle.vc_pool_cells.specs.Cells.{Cells}

@@ -1,12 +1,5 @@
 -- What a look-up of a byte's block answers, by the segment that was found.
-use Rattle.std.proofs.Common.{◌≡◌, ℕ, ◌-◌, ◌/◌, ◌%◌, ◌<◌, ◌≤◌, List, None, Some, length, get_or, ap, sym, ◌∙◌, subst, arith}
-use Rattle.std.specs.Prelude.{Option, option_map}
-use Rattle.std.specs.List.{HoldsAt}
-use Rattle.std.proofs.lemmas.Nat.{div-add-mod'}
-use Rattle.vc_model.specs.Addr.{address}
-use Rattle.vc_model.specs.Layout.{Block, address_of}
-use Rattle.vc_model.specs.Pool.{cell_for, cell_offset}
-use Rattle.vc_model.specs.Walk.{block_at}
+use Rattle.vc_base.proofs.Common.{◌≡◌, ℕ, ◌-◌, ◌/◌, ◌%◌, ◌<◌, ◌≤◌, List, length, get_or, Some, None, Option, option_map, HoldsAt, sym, ap, ◌∙◌, subst, div-add-mod', arith, address, Block, address_of, cell_for, cell_offset, block_at}
 use Rattle.vc_pool_cells.specs.Blocks.{layout_by}
 use Rattle.vc_pool_cells.specs.Cells.{Cells, cells_of, pair_at}
 use Rattle.vc_pool_cells.specs.Freed.{cells_at}

@@ -1,12 +1,5 @@
 -- Each cell with a size has a block.
-use Rattle.std.proofs.Common.{◌≡◌, ℕ, ◌%◌, ◌<◌, ◌≤◌, List, Some, length, get_or, take, drop, ap, sym, ◌∙◌, subst, ⊎_elim, arith}
-use Rattle.std.specs.List.{HoldsAt}
-use Rattle.std.proofs.lemmas.Bool.{cases_eq}
-use Rattle.std.proofs.lemmas.List.{length-map}
-use Rattle.vc_model.specs.Addr.{address}
-use Rattle.vc_model.specs.Layout.{Block, is_at}
-use Rattle.vc_model.specs.Pool.{cell_for, cell_offset}
-use Rattle.vc_model.specs.Touch.{HasBlock, find_block}
+use Rattle.vc_base.proofs.Common.{◌≡◌, ℕ, ◌%◌, ◌<◌, ◌≤◌, List, length, get_or, take, drop, Some, HoldsAt, sym, ap, ◌∙◌, subst, ⊎_elim, arith, cases_eq, length-map, address, Block, is_at, cell_for, cell_offset, HasBlock, find_block}
 use Rattle.vc_seg.specs.Segment.{IsRegionSegment}
 use Rattle.vc_layouts.proofs.InOrder.{own-place}
 use Rattle.vc_pool_cells.specs.Blocks.{block_of_cell, layout_by}

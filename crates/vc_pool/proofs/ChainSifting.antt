@@ -1,9 +1,5 @@
 -- The chain of freed cells, of which one leaves or stays.
-use Rattle.std.proofs.Common.{◌≡◌, ◌≢◌, ℕ, ◌^◌, ◌<◌, ◌≤◌, List, [], ◌∷◌, ◌++◌, Bool, true, false, length, get_or, set, filter, refl, ap, sym, ◌∙◌, subst, append_assoc, arith}
-use Rattle.std.proofs.lemmas.List.{get_or_default}
-use Rattle.std.proofs.lemmas.List.Elements.{All-head}
-use Rattle.vc_model.specs.Addr.{place_of}
-use Rattle.vc_model.specs.Pool.{cell_for}
+use Rattle.vc_base.proofs.Common.{◌≡◌, ℕ, ◌^◌, ◌<◌, ◌≤◌, Bool, true, false, ◌≢◌, List, [], ◌∷◌, ◌++◌, length, get_or, set, filter, sym, refl, ap, ◌∙◌, subst, append_assoc, arith, All-head, get_or_default, place_of, cell_for}
 use Rattle.vc_pool_cells.specs.Cells.{Cells, with_free_cell}
 use Rattle.vc_pool_cells.specs.Freed.{IsFreedChain, IsFreeCell, cells_at, freed_cells, freed_link, no_segment, times}
 use Rattle.vc_pool_cells.specs.Kept.{AreCellular, IsPool, IsPoolOf}

@@ -1,10 +1,5 @@
 -- The block that is found in a list.
-use Rattle.std.proofs.Common.{◌≡◌, ℕ, suc, List, [], ◌∷◌, Bool, true, false, None, Some, All, cond, refl, ap, ◌∙◌, ⊎_elim, arith}
-use Rattle.std.specs.Prelude.{find}
-use Rattle.std.proofs.lemmas.Bool.{cases_Bool}
-use Rattle.std.proofs.lemmas.List.Elements.{All-head, All-tail}
-use Rattle.vc_model.specs.Layout.{Block, address_of}
-use Rattle.vc_model.specs.Touch.{HasBlock}
+use Rattle.vc_base.proofs.Common.{◌≡◌, ℕ, suc, Bool, true, false, cond, List, [], ◌∷◌, Some, None, All, find, refl, ap, ◌∙◌, ⊎_elim, arith, cases_Bool, All-head, All-tail, Block, address_of, HasBlock}
 
 -- by one of two tests that say the same
 pub find-same : {A : Type 0} (p q : A → Bool) (xs : List A) → All (λ x. p x ≡ q x) xs → find p xs ≡ find q xs

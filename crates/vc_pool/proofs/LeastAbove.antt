@@ -1,9 +1,5 @@
 -- The least of some numbers above one.
-use Rattle.std.proofs.Common.{◌≡◌, ℕ, ◌<◌, ◌≤◌, ◌⊎◌, List, [], ◌∷◌, true, false, None, Some, Option, All, Contains, cond, filter, fold, refl, ap, sym, ◌∙◌, subst, inl, inr, ⊎_elim, ltb, arith}
-use Rattle.std.proofs.lemmas.Bool.{cases_Bool, ltb-false, ltb-true}
-use Rattle.std.proofs.lemmas.List.Elements.{All-cons, All-nil}
-use Rattle.std.proofs.lemmas.Option.{none-some, same_Some}
-use Rattle.vc_model.specs.Order.{least_above, lesser_by}
+use Rattle.vc_base.proofs.Common.{◌≡◌, ℕ, ◌<◌, ◌≤◌, true, false, cond, ltb, ◌⊎◌, List, [], ◌∷◌, Some, None, fold, All, Contains, filter, Option, sym, refl, ap, ◌∙◌, subst, inl, inr, ⊎_elim, arith, ltb-false, ltb-true, cases_Bool, All-cons, All-nil, none-some, same_Some, least_above, lesser_by}
 use Rattle.vc_layouts.proofs.Walks.{least_above-among}
 
 -- it is above that, and no other is less

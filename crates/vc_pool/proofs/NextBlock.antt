@@ -1,17 +1,7 @@
 -- The block with the least address above one, by segments and cells.
-use Rattle.std.proofs.Common.{◌≡◌, ◌≢◌, ℕ, ◌*◌, ◌/◌, ◌%◌, ◌<◌, ◌≤◌, ◌⊎◌, List, [], ◌∷◌, None, Some, All, length, get_or, map, refl, ap, sym, ◌∙◌, subst, inl, inr, ⊎_elim, arith}
-use Rattle.std.specs.Prelude.{Option, IfNone, IfSome, option_map}
-use Rattle.std.proofs.lemmas.Bool.{cases_eq, cases_lt, eq-eqb, ne_eqb}
-use Rattle.std.proofs.lemmas.List.Elements.{All-contains, All-map, All-nil}
-use Rattle.std.proofs.Math.Nat.{mul-le-mul_right}
+use Rattle.vc_base.proofs.Common.{◌≡◌, ℕ, ◌*◌, ◌/◌, ◌%◌, ◌<◌, ◌≤◌, ◌≢◌, ◌⊎◌, List, [], ◌∷◌, map, length, get_or, IfSome, IfNone, Some, None, All, Option, option_map, sym, refl, ap, ◌∙◌, subst, inl, inr, ⊎_elim, mul-le-mul_right, arith, eq-eqb, ne_eqb, cases_eq, cases_lt, All-contains, All-map, All-nil, address, Block, address_of, least_above, cell_for, cell_offset, HasBlock, next_block, next_segment}
 use Rattle.vc_base.specs.declared.addr.Addr.{Addr}
 use Rattle.vc_base.proofs.Quantifiers.{All-unmap}
-use Rattle.vc_model.specs.Addr.{address}
-use Rattle.vc_model.specs.Layout.{Block, address_of}
-use Rattle.vc_model.specs.Order.{least_above}
-use Rattle.vc_model.specs.Pool.{cell_for, cell_offset}
-use Rattle.vc_model.specs.Touch.{HasBlock}
-use Rattle.vc_model.specs.Walk.{next_block, next_segment}
 use Rattle.vc_seg.specs.Segment.{AreSegments}
 use Rattle.vc_layouts.proofs.Walks.{least_above-among, least_above-key}
 use Rattle.vc_pool_cells.specs.Blocks.{layout_by, pair_of}

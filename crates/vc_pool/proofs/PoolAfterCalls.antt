@@ -1,10 +1,6 @@
 -- What the calls on a pool's cells make of the pool.
-use Rattle.std.proofs.Common.{◌≡◌, ℕ, List, [], length, map, refl, ap, sym, ◌∙◌, subst, arith}
-use Rattle.std.proofs.lemmas.List.{length-map}
-use Rattle.std.proofs.lemmas.List.Elements.{All-nil}
-use Rattle.vc_model.specs.Addr.{place_of}
-use Rattle.vc_model.specs.Layout.{Layout}
-use Rattle.vc_model.specs.Pool.{cell_for, empty_pool, pool_clear, pool_compact, pool_free}
+use Rattle.vc_base.proofs.Common.{◌≡◌, ℕ, List, [], map, length, sym, refl, ap, ◌∙◌, subst, arith, All-nil, length-map, place_of, Layout, cell_for, pool_free}
+use Rattle.vc_model.specs.Pool.{empty_pool, pool_clear, pool_compact}
 use Rattle.vc_seg.specs.Segment.{IsRegionSegment}
 use Rattle.vc_seg.proofs.Backs.{Apart}
 use Rattle.vc_layouts.proofs.Lists.{AllPairs-nil}

@@ -1,13 +1,5 @@
 -- What the calls that put, resize and free a block make of a pool.
-use Rattle.std.proofs.Common.{◌≡◌, ◌≢◌, ℕ, ◌+◌, ◌<◌, ◌≤◌, List, [], ◌∷◌, ◌++◌, Bool, Option, Some, None, true, false, length, map, refl, ap, sym, ◌∙◌, subst, ⊎_elim, arith}
-use Rattle.std.proofs.lemmas.Bool.{cases_eq, eq-eqb, ne_eqb}
-use Rattle.std.proofs.lemmas.List.{length-map}
-use Rattle.vc_model.specs.Addr.{address, place_of}
-use Rattle.vc_model.specs.Discipline.{Discipline, Served, Terms}
-use Rattle.vc_model.specs.Layout.{Layout, with_grant}
-use Rattle.vc_model.specs.Outcome.{Done, Outcome, Put}
-use Rattle.vc_model.specs.Pool.{Pool, carve, carved_in, cell_for, element_with, pool_alloc, pool_need, uncarved}
-use Rattle.vc_model.specs.Segments.{Grant, Granted, ask, new_segment, round_up}
+use Rattle.vc_base.proofs.Common.{◌≡◌, ℕ, ◌+◌, ◌<◌, ◌≤◌, Bool, true, false, ◌≢◌, List, [], ◌∷◌, ◌++◌, map, length, Some, None, Option, sym, refl, ap, ◌∙◌, subst, ⊎_elim, arith, eq-eqb, ne_eqb, cases_eq, length-map, address, place_of, Discipline, Served, Terms, Layout, with_grant, Done, Outcome, Put, Pool, carve, carved_in, cell_for, element_with, pool_alloc, pool_need, uncarved, Grant, Granted, ask, new_segment, round_up}
 use Rattle.vc_model.proofs.Owned.{address-place_of}
 use Rattle.vc_layouts.proofs.Segments.{Served-lent, Served-same}
 use Rattle.vc_layouts.specs.Put.{with_zeros}

@@ -1,8 +1,6 @@
 -- The numbers of a pool by what it keeps.
-use Rattle.std.proofs.Common.{◌≡◌, ◌≢◌, ℕ, ◌-◌, List, true, false, map, refl, ap, sym, ◌∙◌, ⊎_elim, eqb, arith}
-use Rattle.std.proofs.lemmas.Bool.{cases_Bool, eq-eqb, eqb-true, ne_eqb}
-use Rattle.vc_model.specs.Numbers.{block_count}
-use Rattle.vc_model.specs.Pool.{cell_count, cell_for, cell_of, free_cells, greatest_free_cell}
+use Rattle.vc_base.proofs.Common.{◌≡◌, ℕ, ◌-◌, true, false, eqb, ◌≢◌, List, map, sym, refl, ap, ◌∙◌, ⊎_elim, arith, eq-eqb, ne_eqb, eqb-true, cases_Bool, block_count, cell_count, cell_for, cell_of}
+use Rattle.vc_model.specs.Pool.{free_cells, greatest_free_cell}
 use Rattle.vc_pool_cells.specs.Blocks.{layout_by, pair_of}
 use Rattle.vc_pool_cells.specs.Place.{cells_in}
 use Rattle.vc_pool_cells.specs.declared.segment.PoolSegment.{PoolSegment}

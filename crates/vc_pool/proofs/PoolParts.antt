@@ -1,8 +1,5 @@
 -- What is always true of a pool, by its segments with their cells, its element size and the address of the cell freed last.
-use Rattle.std.proofs.Common.{◌≡◌, ℕ, ◌≤◌, List, Some, refl, arith}
-use Rattle.std.proofs.lemmas.Bool.{ne_eqb}
-use Rattle.vc_model.specs.Pool.{IsPoolSound, Pool, cell_for}
-use Rattle.vc_model.specs.Touch.{HasBlock}
+use Rattle.vc_base.proofs.Common.{◌≡◌, ℕ, ◌≤◌, List, Some, refl, arith, ne_eqb, IsPoolSound, Pool, cell_for, HasBlock}
 use Rattle.vc_pool_cells.specs.Blocks.{carved_by, layout_by}
 use Rattle.vc_pool_cells.specs.Freed.{freed_cells}
 use Rattle.vc_pool_cells.specs.Kept.{AreCellular, IsPool}

@@ -1,19 +1,8 @@
 -- What a call that puts a block in a cell leaves of the blocks.
-use Rattle.std.proofs.Common.{◌≡◌, ℕ, Bool, true, false, cond, List, [], ◌∷◌, Option, Some, None, refl, ap, ◌∙◌, subst, ⊎_elim}
-use Rattle.std.specs.Prelude.{IfOk, Ok, Err, nat_lt, option_map}
-use Rattle.std.specs.declared.result.Result.{Result}
-use Rattle.std.proofs.lemmas.Bool.{cases_Bool}
+use Rattle.vc_base.proofs.Common.{◌≡◌, ℕ, Bool, true, false, cond, List, [], ◌∷◌, IfOk, nat_lt, Some, None, Ok, Err, Option, Result, option_map, refl, ap, ◌∙◌, subst, ⊎_elim, cases_Bool, place_of, zeros, Terms, Layout, with_block, with_grant, without_block, PoolSize, Refused, IsPoolSound, Pool, carved_in, cell_for, cell_offset, element_with, pool_alloc, pool_need, put_asked, put_carving, put_free, uncarved, resize_there, Asked, Grant, Granted, NotLent, TooMany, ask, find_block}
 use Rattle.vc_base.specs.declared.addr.Addr.{Addr}
-use Rattle.vc_model.specs.Addr.{place_of}
-use Rattle.vc_model.specs.Best.{zeros}
-use Rattle.vc_model.specs.Discipline.{Terms}
-use Rattle.vc_model.specs.Layout.{Layout, with_block, with_grant, without_block}
-use Rattle.vc_model.specs.Outcome.{Refused, PoolSize}
-use Rattle.vc_model.specs.Pool.{IsPoolSound, Pool, carved_in, cell_for, cell_offset, element_with, pool_alloc, pool_need, put_asked, put_carving, put_cell, put_free, uncarved}
-use Rattle.vc_model.specs.Segments.{Asked, Grant, Granted, TooMany, NotLent, ask}
-use Rattle.vc_model.specs.Touch.{find_block}
+use Rattle.vc_model.specs.Pool.{put_cell}
 use Rattle.vc_model.proofs.Owned.{put-fresh, put-others, put-there, sized-others, sized-there}
-use Rattle.vc_model.specs.Resize.{resize_there}
 use Rattle.vc_seg.specs.Answer.{Answers, IsPut}
 use Rattle.vc_seg.specs.OneBlock.{IsBlockKept, IsBlockPut}
 use Rattle.vc_seg.specs.declared.fault.RegionFault.{RegionFault}

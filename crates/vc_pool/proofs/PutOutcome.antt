@@ -1,12 +1,6 @@
 -- What putting a block into a pool answers, by what the pool has.
-use Rattle.std.proofs.Common.{◌≡◌, ℕ, ◌<◌, ◌≤◌, List, [], ◌∷◌, Bool, None, Some, refl, ap, ◌∙◌, true, false, ltb, arith}
-use Rattle.std.proofs.lemmas.Bool.{le-ltb, lt-ltb}
-use Rattle.vc_model.specs.Discipline.{Terms}
-use Rattle.vc_model.specs.Layout.{Layout, with_grant}
-use Rattle.vc_model.specs.Outcome.{Done, Refused, PoolSize, TooManySegments, NoSegment}
-use Rattle.vc_model.specs.Pool.{Pool, carve, carved_in, cell_for, cell_offset, element_with, pool_alloc, pool_need, pool_resize, put_asked, put_carving, put_free, uncarved}
-use Rattle.vc_model.specs.Resize.{resize_there}
-use Rattle.vc_model.specs.Segments.{Granted, TooMany, NotLent, ask, new_segment}
+use Rattle.vc_base.proofs.Common.{◌≡◌, ℕ, ◌<◌, ◌≤◌, Bool, true, false, ltb, List, [], ◌∷◌, Some, None, refl, ap, ◌∙◌, arith, le-ltb, lt-ltb, Terms, Layout, with_grant, Done, PoolSize, Refused, Pool, carve, carved_in, cell_for, cell_offset, element_with, pool_alloc, pool_need, pool_resize, put_asked, put_carving, put_free, uncarved, resize_there, Granted, NotLent, TooMany, ask, new_segment}
+use Rattle.vc_model.specs.Outcome.{TooManySegments, NoSegment}
 use Rattle.vc_layouts.specs.Put.{with_zeros}
 
 module _ (terms : Terms) (p : Pool ℕ) (tag size : ℕ) (refused : Bool) where

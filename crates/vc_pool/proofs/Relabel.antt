@@ -1,10 +1,6 @@
 -- The numbers of a pool say nothing of the labels of its blocks.
-use Rattle.std.proofs.Common.{◌≡◌, ℕ, ◌*◌, ◌-◌, List, length, ap, ◌∙◌, eqb, cond}
-use Rattle.std.specs.Prelude.{sum}
-use Rattle.std.proofs.lemmas.List.{length-map}
-use Rattle.vc_model.specs.Layout.{relabel_block}
-use Rattle.vc_model.specs.Numbers.{block_sizes, greatest, segment_bytes, segment_count}
-use Rattle.vc_model.specs.Pool.{Pool, cell_count, cell_of, relabel_pool}
+use Rattle.vc_base.proofs.Common.{◌≡◌, ℕ, ◌-◌, ◌*◌, cond, eqb, List, length, sum, ap, ◌∙◌, length-map, relabel_block, block_sizes, greatest, segment_bytes, segment_count, Pool, cell_count, cell_of}
+use Rattle.vc_model.specs.Pool.{relabel_pool}
 use Rattle.vc_model.proofs.Relabel.{block_sizes-relabel}
 use Rattle.vc_pool.specs.Stat.{pool_stat}
 use Rattle.vc_seg.specs.declared.stat.Stat.{Stat}

@@ -1,12 +1,5 @@
 -- What a pool's segments are where a freed cell names another.
-use Rattle.std.proofs.Common.{◌≡◌, ◌≢◌, ℕ, ◌^◌, ◌<◌, ◌≤◌, List, true, false, All, length, get_or, set, map, filter, refl, ap, sym, ◌∙◌, subst, ⊎_elim, ltb, arith}
-use Rattle.std.specs.List.{flat_map}
-use Rattle.std.proofs.lemmas.Bool.{cases_Bool, false≢true}
-use Rattle.std.proofs.lemmas.List.{get_or-set_same, get_or_default, length-set}
-use Rattle.std.proofs.lemmas.List.Elements.{All-set, All-weaker}
-use Rattle.vc_model.specs.Addr.{place_of}
-use Rattle.vc_model.specs.Discipline.{same_pair}
-use Rattle.vc_model.specs.Pool.{cell_for, cell_offset}
+use Rattle.vc_base.proofs.Common.{◌≡◌, ℕ, ◌^◌, ◌<◌, ◌≤◌, true, false, ltb, ◌≢◌, List, map, length, get_or, set, All, filter, flat_map, sym, refl, ap, ◌∙◌, subst, ⊎_elim, arith, length-set, get_or-set_same, cases_Bool, false≢true, All-set, All-weaker, get_or_default, place_of, same_pair, cell_for, cell_offset}
 use Rattle.vc_layouts.specs.InOrder.{in_order}
 use Rattle.vc_pool_cells.specs.Blocks.{segment_blocks, layout_by, pair_of}
 use Rattle.vc_pool_cells.specs.Cells.{Cells, HasCell, pair_at, with_free_cell}

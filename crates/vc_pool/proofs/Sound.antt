@@ -1,6 +1,5 @@
 -- Every pool has blocks at places of their own, in segments with numbers of their own.
-use Rattle.vc_model.specs.Pool.{IsPoolSound}
-use Rattle.vc_model.specs.Sound.{HaveOwnNumbers, HaveOwnPlaces}
+use Rattle.vc_base.proofs.Common.{IsPoolSound, HaveOwnNumbers, HaveOwnPlaces}
 use Rattle.vc_pool_cells.specs.Kept.{IsPool}
 use Rattle.vc_pool_cells.specs.Place.{cells_in}
 use Rattle.vc_pool_cells.proofs.Propositions.{have}

@@ -1,8 +1,5 @@
 -- How many cells of each segment were carved, where one more is.
-use Rattle.std.proofs.Common.{◌≡◌, ◌≢◌, ℕ, zero, suc, ◌+◌, ◌<◌, List, [], ◌∷◌, true, false, All, AllPairs, length, get_or, set, take, refl, ap, sym, ◌∙◌, ⊎_elim, ltb, arith}
-use Rattle.std.proofs.lemmas.Bool.{cases_Bool, eq-eqb, le-ltb, lt-ltb, ltb-false, ltb-true, ne_eqb}
-use Rattle.std.proofs.lemmas.List.Elements.{All-head, All-tail}
-use Rattle.vc_model.specs.Pool.{carve, carved_in}
+use Rattle.vc_base.proofs.Common.{◌≡◌, ℕ, zero, suc, ◌+◌, ◌<◌, true, false, ltb, ◌≢◌, List, [], ◌∷◌, length, get_or, take, set, All, AllPairs, sym, refl, ap, ◌∙◌, ⊎_elim, arith, ltb-false, ltb-true, le-ltb, lt-ltb, eq-eqb, ne_eqb, cases_Bool, All-head, All-tail, carve, carved_in}
 use Rattle.vc_model.proofs.Pairs.{AllPairs-head, AllPairs-tail}
 use Rattle.vc_pool_cells.specs.Blocks.{carved_by}
 use Rattle.vc_pool_cells.specs.Cells.{Cells}

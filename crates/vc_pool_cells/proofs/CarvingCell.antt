@@ -1,10 +1,5 @@
 -- What carving a cell leaves of a pool's segments.
-use Rattle.std.proofs.Common.{◌≡◌, ◌≢◌, ℕ, ◌+◌, ◌<◌, ◌≤◌, List, All, length, get_or, set, drop, refl, ap, sym, ◌∙◌, subst, arith}
-use Rattle.std.proofs.lemmas.List.{drop_more, get_or_default, length-map}
-use Rattle.std.proofs.lemmas.List.Elements.{All-head, All-weaker}
-use Rattle.vc_model.specs.Addr.{place_of}
-use Rattle.vc_model.specs.Best.{zeros}
-use Rattle.vc_model.specs.Pool.{carve, cell_for, cell_offset}
+use Rattle.vc_base.proofs.Common.{◌≡◌, ℕ, ◌+◌, ◌<◌, ◌≤◌, ◌≢◌, List, length, get_or, drop, set, All, sym, refl, ap, ◌∙◌, subst, arith, All-head, All-weaker, drop_more, get_or_default, length-map, place_of, zeros, carve, cell_for, cell_offset}
 use Rattle.vc_seg.specs.Segment.{IsRegionSegment}
 use Rattle.vc_layouts.specs.Put.{with_zeros}
 use Rattle.vc_pool_cells.specs.Blocks.{block_of_cell, carved_by, layout_by}

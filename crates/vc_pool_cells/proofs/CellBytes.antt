@@ -1,15 +1,7 @@
 -- What a write into a cell leaves of its segment, and of the block in it.
-use Rattle.std.proofs.Common.{◌≡◌, ℕ, ◌+◌, ◌-◌, ◌^◌, ◌<◌, ◌≤◌, List, [], ◌∷◌, length, replicate, set, take, drop, refl, ap, sym, ◌∙◌, subst, arith}
-use Rattle.std.specs.Int.{from_le_bytes, to_le_bytes, w64}
-use Rattle.std.proofs.lemmas.Bool.{eq-eqb, ne_eqb}
-use Rattle.std.proofs.lemmas.List.{length-replicate, places, same_lists, set-get_or, take-replicate, take-take}
+use Rattle.vc_base.proofs.Common.{◌≡◌, ℕ, ◌+◌, ◌-◌, ◌^◌, ◌<◌, ◌≤◌, List, [], ◌∷◌, length, take, drop, set, replicate, sym, refl, ap, ◌∙◌, subst, arith, take-take, w64, eq-eqb, ne_eqb, length-replicate, places, same_lists, from_le_bytes, to_le_bytes, zeros, with_bytes, Block, cell_offset, fitted_bytes, sized_block, rewritten_block}
+use Rattle.std.proofs.lemmas.List.{set-get_or, take-replicate}
 use Rattle.std.proofs.lemmas.Nat.{from_le_bytes-to_le_bytes_8}
-use Rattle.vc_model.specs.Best.{zeros}
-use Rattle.vc_model.specs.Bytes.{with_bytes}
-use Rattle.vc_model.specs.Layout.{Block}
-use Rattle.vc_model.specs.Pool.{cell_offset}
-use Rattle.vc_model.specs.Resize.{fitted_bytes, sized_block}
-use Rattle.vc_model.specs.Touch.{rewritten_block}
 use Rattle.vc_base.proofs.Overwrites.{part-written}
 use Rattle.vc_seg.proofs.Frames.{drop-back, take-front, written-above, written-below, written-length, written-part}
 use Rattle.vc_pool_cells.specs.Blocks.{block_of_cell}

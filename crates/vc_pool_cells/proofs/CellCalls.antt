@@ -1,13 +1,5 @@
 -- What the calls on one cell leave of a pool's segments.
-use Rattle.std.proofs.Common.{◌≡◌, ◌≢◌, ℕ, ◌+◌, ◌^◌, ◌<◌, ◌≤◌, List, [], ◌∷◌, Some, true, All, filter, length, get_or, set, take, drop, refl, ap, sym, ◌∙◌, subst, ltb, arith}
-use Rattle.std.proofs.lemmas.List.{get_or-set_same, get_or_default, length-set}
-use Rattle.std.proofs.lemmas.List.Elements.{All-head, All-tail, All-weaker}
-use Rattle.vc_model.specs.Addr.{place_of}
-use Rattle.vc_model.specs.Best.{zeros, without_block_at}
-use Rattle.vc_model.specs.Layout.{Block, Layout, is_at}
-use Rattle.vc_model.specs.Pool.{cell_for, cell_offset}
-use Rattle.vc_model.specs.Resize.{resize_there, sized_block}
-use Rattle.vc_model.specs.Touch.{HasBlock, change_block, find_block, rewritten_block, with_bytes_at}
+use Rattle.vc_base.proofs.Common.{◌≡◌, ℕ, ◌+◌, ◌^◌, ◌<◌, ◌≤◌, true, ltb, ◌≢◌, List, [], ◌∷◌, length, get_or, take, drop, set, Some, All, filter, sym, refl, ap, ◌∙◌, subst, arith, length-set, get_or-set_same, All-head, All-tail, All-weaker, get_or_default, place_of, without_block_at, zeros, Block, Layout, is_at, cell_for, cell_offset, resize_there, sized_block, HasBlock, change_block, find_block, rewritten_block, with_bytes_at}
 use Rattle.vc_layouts.specs.Put.{with_zeros}
 use Rattle.vc_layouts.proofs.InOrder.{own-place}
 use Rattle.vc_pool_cells.specs.Blocks.{block_of_cell, carved_by, layout_by}

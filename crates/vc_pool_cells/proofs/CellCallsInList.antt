@@ -1,11 +1,5 @@
 -- What the calls on one cell leave, of a pool's list of segments in which one was changed.
-use Rattle.std.proofs.Common.{◌≡◌, ℕ, ◌+◌, ◌^◌, ◌<◌, ◌≤◌, List, Some, length, get_or, option_map, set, take, drop, ap, sym, ◌∙◌, subst}
-use Rattle.std.specs.Prelude.{IfSome, Option}
-use Rattle.vc_model.specs.Addr.{place_of}
-use Rattle.vc_model.specs.Layout.{Block}
-use Rattle.vc_model.specs.Pool.{cell_for, cell_offset}
-use Rattle.vc_model.specs.Resize.{resize_there}
-use Rattle.vc_model.specs.Touch.{HasBlock, HasRange, find_block, with_bytes_at}
+use Rattle.vc_base.proofs.Common.{◌≡◌, ℕ, ◌+◌, ◌^◌, ◌<◌, ◌≤◌, List, length, get_or, take, drop, set, IfSome, Some, Option, option_map, sym, ap, ◌∙◌, subst, place_of, Block, cell_for, cell_offset, resize_there, HasBlock, HasRange, find_block, with_bytes_at}
 use Rattle.vc_base.proofs.Overwrites.{part-of-part}
 use Rattle.vc_pool_cells.specs.Blocks.{layout_by}
 use Rattle.vc_pool_cells.specs.Call.{Becomes, IsPutBack, IsReused}

@@ -1,9 +1,5 @@
 -- What a change of one cell leaves true of a pool's segments.
-use Rattle.std.proofs.Common.{◌≡◌, ℕ, zero, suc, ◌+◌, ◌-◌, ◌/◌, ◌<◌, ◌≤◌, List, [], ◌∷◌, true, false, All, length, get_or, set, map, take, drop, ap, sym, ◌∙◌, subst, ⊎_elim, ltb, arith}
-use Rattle.std.proofs.lemmas.Bool.{cases_Bool, cases_eq, ltb-false, ltb-true}
-use Rattle.std.proofs.lemmas.List.{drop_more, drop-set-lt, get_or-drop, get_or-map, get_or-set_other, get_or-set_same, get_or_default, length-drop, length-map, length-set, map-set}
-use Rattle.std.proofs.lemmas.List.Elements.{All-head, All-set, All-tail}
-use Rattle.vc_model.specs.Discipline.{IsSegmentSize}
+use Rattle.vc_base.proofs.Common.{◌≡◌, ℕ, zero, suc, ◌+◌, ◌-◌, ◌/◌, ◌<◌, ◌≤◌, true, false, ltb, List, [], ◌∷◌, map, length, get_or, take, drop, set, All, sym, ap, ◌∙◌, subst, ⊎_elim, arith, length-drop, length-set, get_or-drop, get_or-set_other, get_or-set_same, drop-set-lt, ltb-false, ltb-true, cases_Bool, cases_eq, All-head, All-set, All-tail, drop_more, get_or-map, get_or_default, length-map, map-set, IsSegmentSize}
 use Rattle.vc_seg.specs.Segment.{AreSegments, Bytes, IsRegionSegment}
 use Rattle.vc_pool_cells.specs.Cells.{Cells, pair_at}
 use Rattle.vc_pool_cells.specs.Kept.{IsCellular, IsFront, IsFull, segment_of}

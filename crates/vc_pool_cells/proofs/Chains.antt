@@ -1,11 +1,5 @@
 -- Chains of freed cells.
-use Rattle.std.proofs.Common.{◌≡◌, ◌≢◌, ℕ, zero, suc, ◌+◌, ◌*◌, ◌/◌, ◌<◌, ◌≤◌, List, [], ◌∷◌, true, false, All, length, get_or, set, refl, ap, sym, ◌∙◌, subst, ⊎_elim, ltb, arith}
-use Rattle.std.specs.Int.{from_le_bytes, w64}
-use Rattle.std.proofs.lemmas.Bool.{cases_eq, eq-eqb, ne_eqb, cases_Bool, ltb-true, ltb-false}
-use Rattle.std.proofs.lemmas.List.{get_or-set_other}
-use Rattle.std.proofs.lemmas.List.Elements.{All-head, All-tail}
-use Rattle.std.proofs.Math.Nat.{mul-le-mul_right}
-use Rattle.vc_model.specs.Pool.{cell_offset}
+use Rattle.vc_base.proofs.Common.{◌≡◌, ℕ, zero, suc, ◌+◌, ◌*◌, ◌/◌, ◌<◌, ◌≤◌, true, false, ltb, ◌≢◌, List, [], ◌∷◌, length, get_or, set, All, sym, refl, ap, ◌∙◌, subst, ⊎_elim, mul-le-mul_right, arith, get_or-set_other, w64, ltb-false, ltb-true, eq-eqb, ne_eqb, cases_Bool, cases_eq, All-head, All-tail, from_le_bytes, cell_offset}
 use Rattle.vc_seg.proofs.Frames.{part-back, part-front}
 use Rattle.vc_pool_cells.specs.Cells.{Cells, pair_at}
 use Rattle.vc_pool_cells.specs.Freed.{IsFreedChain, IsFreeCell, cell_total, cells_at, freed_cells, freed_from, index_at, freed_link, link_word}

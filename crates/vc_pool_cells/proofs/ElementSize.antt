@@ -1,9 +1,5 @@
 -- The element size of a pool is set where it has no segment yet, and a segment of zeros is one of a region's.
-use Rattle.std.proofs.Common.{◌≡◌, ℕ, ◌<◌, ◌≤◌, List, [], All, length, get_or, refl, ap, sym, ◌∙◌, subst, ⊎_elim, arith}
-use Rattle.std.proofs.lemmas.Bool.{cases_eq}
-use Rattle.std.proofs.lemmas.List.{length-replicate, nil_from_length}
-use Rattle.std.proofs.lemmas.List.Elements.{All-nil}
-use Rattle.vc_model.specs.Pool.{cell_for}
+use Rattle.vc_base.proofs.Common.{◌≡◌, ℕ, ◌<◌, ◌≤◌, List, [], length, get_or, All, sym, refl, ap, ◌∙◌, subst, ⊎_elim, arith, cases_eq, All-nil, length-replicate, nil_from_length, cell_for}
 use Rattle.vc_seg.specs.Segment.{Bytes, pair_of, zero_segment}
 use Rattle.vc_pool_cells.specs.Blocks.{layout_by}
 use Rattle.vc_pool_cells.specs.Cells.{Cells}

@@ -1,10 +1,7 @@
 -- The full segments stand first.
-use Rattle.std.proofs.Common.{◌≡◌, ℕ, zero, suc, ◌<◌, ◌≤◌, List, [], ◌∷◌, Bool, true, false, All, length, get_or, sym, ◌∙◌, subst, eqb, arith}
+use Rattle.vc_base.proofs.Common.{◌≡◌, ℕ, zero, suc, ◌<◌, ◌≤◌, Bool, true, false, eqb, List, [], ◌∷◌, length, get_or, All, sym, ◌∙◌, subst, arith, length-take, get_or-take, eq-eqb, eqb-true, eqb-false, All-tail, length-map}
 use Rattle.std.specs.List.{AllWithin}
 use Rattle.std.specs.List.Sorted.{IsPartitionedBy}
-use Rattle.std.proofs.lemmas.Bool.{eq-eqb, eqb-false, eqb-true}
-use Rattle.std.proofs.lemmas.List.{get_or-take, length-map, length-take}
-use Rattle.std.proofs.lemmas.List.Elements.{All-tail}
 use Rattle.vc_pool_cells.specs.Cells.{Cells, cells_of}
 use Rattle.vc_pool_cells.specs.Kept.{AreCellular, IsFront, IsFull}
 use Rattle.vc_pool_cells.specs.Place.{cells_in}

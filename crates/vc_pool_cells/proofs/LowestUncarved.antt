@@ -1,13 +1,6 @@
 -- The lowest uncarved cell is in the first segment that isn't full.
-use Rattle.std.proofs.Common.{◌≡◌, ℕ, zero, suc, ◌+◌, ◌-◌, ◌*◌, ◌/◌, ◌%◌, ◌<◌, ◌≤◌, List, [], ◌∷◌, Bool, Option, Some, None, true, false, All, length, get_or, map, option_map, take, refl, ap, sym, ◌∙◌, subst, ⊎_elim, leb, ltb, arith}
-use Rattle.std.specs.List.{HoldsAt, find}
-use Rattle.std.proofs.lemmas.Bool.{cases_Bool, cases_lt, le-leb, le-ltb, lt-leb, lt-ltb, ltb-false}
-use Rattle.std.proofs.lemmas.List.{length-map, take_all}
-use Rattle.std.proofs.lemmas.List.Elements.{All-cons, All-head, All-nil, All-tail}
-use Rattle.std.proofs.Math.Nat.{mul-le-mul_right}
-use Rattle.vc_model.specs.Addr.{place_of}
-use Rattle.vc_model.specs.Discipline.{IsSegmentSize}
-use Rattle.vc_model.specs.Pool.{carved_in, cell_for, cell_offset, has_uncarved, uncarved}
+use Rattle.vc_base.proofs.Common.{◌≡◌, ℕ, zero, suc, ◌+◌, ◌-◌, ◌*◌, ◌/◌, ◌%◌, ◌<◌, ◌≤◌, Bool, true, false, ltb, leb, List, [], ◌∷◌, map, length, get_or, take, Some, None, All, Option, option_map, HoldsAt, find, sym, refl, ap, ◌∙◌, subst, ⊎_elim, mul-le-mul_right, arith, take_all, ltb-false, le-ltb, lt-ltb, le-leb, cases_Bool, cases_lt, lt-leb, All-cons, All-head, All-nil, All-tail, length-map, place_of, IsSegmentSize, carved_in, cell_for, cell_offset, uncarved}
+use Rattle.vc_model.specs.Pool.{has_uncarved}
 use Rattle.vc_pool_cells.specs.Blocks.{carved_by, pair_of}
 use Rattle.vc_pool_cells.specs.Cells.{Cells, cells_of}
 use Rattle.vc_pool_cells.specs.Kept.{AreCellular, IsCellular, IsFull}

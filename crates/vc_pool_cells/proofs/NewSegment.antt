@@ -1,14 +1,8 @@
 -- One more segment, of which no cell is carved, stands behind the others.
-use Rattle.std.proofs.Common.{◌≡◌, ◌≢◌, ℕ, zero, suc, ◌+◌, ◌-◌, ◌*◌, ◌/◌, ◌<◌, ◌≤◌, List, [], ◌∷◌, ◌++◌, Bool, All, filter, length, get_or, map, replicate, drop, refl, ap, sym, ◌∙◌, subst, cond, ⊎_elim, eqb, ltb, arith}
-use Rattle.std.specs.List.{flat_map}
-use Rattle.std.proofs.lemmas.Bool.{cases_eq, ne_eqb}
-use Rattle.std.proofs.lemmas.List.{append-nil, get_or-map, get_or_push, length-append, length-map, length-replicate, map-append, take_at}
+use Rattle.vc_base.proofs.Common.{◌≡◌, ℕ, zero, suc, ◌+◌, ◌-◌, ◌*◌, ◌/◌, ◌<◌, ◌≤◌, Bool, cond, eqb, ltb, ◌≢◌, List, [], ◌∷◌, ◌++◌, map, length, get_or, drop, replicate, All, filter, flat_map, sym, refl, ap, ◌∙◌, subst, ⊎_elim, append-nil, arith, length-append, take_at, ne_eqb, cases_eq, All-head, All-nil, All-push, All-tail, filter-append, all_pairs_push, get_or-map, length-map, length-replicate, map-append, Block, with_grant, cell_for, new_segment}
+use Rattle.std.proofs.lemmas.List.{get_or_push}
 use Rattle.std.proofs.lemmas.List.Concat.{flat_map-append}
-use Rattle.std.proofs.lemmas.List.Elements.{All-head, All-nil, All-push, All-replicate, All-tail, filter-append}
-use Rattle.std.proofs.lemmas.List.Quantifiers.{all_pairs_push}
-use Rattle.vc_model.specs.Layout.{Block, with_grant}
-use Rattle.vc_model.specs.Pool.{cell_for}
-use Rattle.vc_model.specs.Segments.{new_segment}
+use Rattle.std.proofs.lemmas.List.Elements.{All-replicate}
 use Rattle.vc_seg.specs.Segment.{AreSegments, Bytes, IsRegionSegment}
 use Rattle.vc_layouts.specs.InOrder.{in_order}
 use Rattle.vc_pool_cells.specs.Blocks.{cell_blocks, segment_blocks, carved_by, layout_by, pair_of}

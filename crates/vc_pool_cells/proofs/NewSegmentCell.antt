@@ -1,11 +1,6 @@
 -- What carving a cell of a segment that was put behind the others leaves of them.
-use Rattle.std.proofs.Common.{◌≡◌, ℕ, ◌<◌, ◌≤◌, List, [], ◌∷◌, ◌++◌, None, All, length, get_or, map, refl, ap, sym, ◌∙◌, subst, arith}
-use Rattle.std.specs.List.{HoldsAt}
-use Rattle.std.proofs.lemmas.List.{get_or_push, length-map, map-append}
-use Rattle.vc_model.specs.Addr.{place_of}
-use Rattle.vc_model.specs.Layout.{Layout}
-use Rattle.vc_model.specs.Pool.{carve, cell_for, cell_offset, uncarved}
-use Rattle.vc_model.specs.Segments.{new_segment}
+use Rattle.vc_base.proofs.Common.{◌≡◌, ℕ, ◌<◌, ◌≤◌, List, [], ◌∷◌, ◌++◌, map, length, get_or, None, All, HoldsAt, sym, refl, ap, ◌∙◌, subst, arith, length-map, map-append, place_of, Layout, carve, cell_for, cell_offset, uncarved, new_segment}
+use Rattle.std.proofs.lemmas.List.{get_or_push}
 use Rattle.vc_layouts.specs.Put.{with_zeros}
 use Rattle.vc_pool_cells.specs.Blocks.{carved_by, layout_by, pair_of}
 use Rattle.vc_pool_cells.specs.Cells.{Cells, cells_of}

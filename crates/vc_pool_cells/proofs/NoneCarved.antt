@@ -1,11 +1,6 @@
 -- No cell of a pool's segments is carved.
-use Rattle.std.proofs.Common.{◌≡◌, ℕ, ◌≤◌, List, [], ◌∷◌, ◌++◌, length, get_or, map, refl, ap, sym, ◌∙◌, subst, arith}
-use Rattle.std.specs.List.{flat_map}
-use Rattle.std.proofs.lemmas.List.{length-map, length-replicate}
-use Rattle.std.proofs.lemmas.List.Elements.{All-map, All-nil, All-replicate}
-use Rattle.vc_model.specs.Compact.{cleared_layout}
-use Rattle.vc_model.specs.Layout.{Block}
-use Rattle.vc_model.specs.Pool.{cell_for}
+use Rattle.vc_base.proofs.Common.{◌≡◌, ℕ, ◌≤◌, List, [], ◌∷◌, ◌++◌, map, length, get_or, flat_map, sym, refl, ap, ◌∙◌, subst, arith, All-map, All-nil, length-map, length-replicate, cleared_layout, Block, cell_for}
+use Rattle.std.proofs.lemmas.List.Elements.{All-replicate}
 use Rattle.vc_seg.specs.Segment.{AreSegments}
 use Rattle.vc_layouts.specs.InOrder.{in_order}
 use Rattle.vc_pool_cells.specs.Blocks.{segment_blocks, layout_by, pair_of}

@@ -1,11 +1,7 @@
 -- The blocks of a segment, of which one cell changes.
-use Rattle.std.proofs.Common.{◌≡◌, ◌≢◌, ℕ, suc, ◌+◌, ◌*◌, ◌<◌, ◌≤◌, List, [], ◌∷◌, ◌++◌, true, false, All, length, get_or, set, take, drop, refl, ap, sym, ◌∙◌, cond, ⊎_elim, eqb, arith}
-use Rattle.std.specs.List.{flat_map}
-use Rattle.std.proofs.lemmas.Bool.{cases_Bool, and_right, eqb-false, ne_eqb}
-use Rattle.std.proofs.lemmas.List.{append_assoc, set_split, length-take-le, take-append-drop, drop_more}
-use Rattle.std.proofs.lemmas.List.Elements.{All-append, All-head, All-tail, All-nil, All-cons, All-take, All-weaker}
-use Rattle.vc_model.specs.Layout.{Block, is_at}
-use Rattle.vc_model.specs.Pool.{cell_offset}
+use Rattle.vc_base.proofs.Common.{◌≡◌, ℕ, suc, ◌+◌, ◌*◌, ◌<◌, ◌≤◌, true, false, cond, eqb, ◌≢◌, List, [], ◌∷◌, ◌++◌, length, get_or, take, drop, set, All, flat_map, sym, refl, ap, ◌∙◌, ⊎_elim, append_assoc, arith, take-append-drop, length-take-le, ne_eqb, and_right, cases_Bool, eqb-false, All-append, All-cons, All-head, All-nil, All-tail, All-weaker, drop_more, Block, is_at, cell_offset}
+use Rattle.std.proofs.lemmas.List.{set_split}
+use Rattle.std.proofs.lemmas.List.Elements.{All-take}
 use Rattle.vc_layouts.proofs.InOrder.{NoneAt}
 use Rattle.vc_seg.proofs.Frames.{part-back, part-front}
 use Rattle.vc_pool_cells.specs.Blocks.{block_of_cell, cell_blocks, segment_blocks}

@@ -1,14 +1,7 @@
 -- Of several segments one changes in one cell.
-use Rattle.std.proofs.Common.{◌≡◌, ◌≢◌, ℕ, zero, suc, ◌+◌, ◌<◌, ◌≤◌, List, [], ◌∷◌, ◌++◌, Some, true, false, All, AllPairs, length, get_or, set, map, take, drop, refl, ap, sym, ◌∙◌, subst, cond, ⊎_elim, eqb, arith}
-use Rattle.std.specs.List.{flat_map}
-use Rattle.std.proofs.lemmas.Bool.{and_left, cases_Bool, eq-eqb, ne_eqb}
-use Rattle.std.proofs.lemmas.List.{append_assoc, drop_more, get_or-drop, get_or-map, get_or-take, get_or_default, length-drop, length-map, length-take, set_split, take-append-drop}
+use Rattle.vc_base.proofs.Common.{◌≡◌, ℕ, zero, suc, ◌+◌, ◌<◌, ◌≤◌, true, false, cond, eqb, ◌≢◌, List, [], ◌∷◌, ◌++◌, map, length, get_or, take, drop, set, Some, All, AllPairs, flat_map, sym, refl, ap, ◌∙◌, subst, ⊎_elim, append_assoc, arith, length-drop, take-append-drop, length-take, get_or-drop, get_or-take, eq-eqb, ne_eqb, and_left, cases_Bool, All-append, All-head, All-tail, All-weaker, drop_more, get_or-map, get_or_default, length-map, without_block_at, Block, is_at, with_block, without_block, cell_offset, change_block, find_block}
+use Rattle.std.proofs.lemmas.List.{set_split}
 use Rattle.std.proofs.lemmas.List.Concat.{flat_map-append}
-use Rattle.std.proofs.lemmas.List.Elements.{All-append, All-head, All-tail, All-weaker}
-use Rattle.vc_model.specs.Best.{without_block_at}
-use Rattle.vc_model.specs.Layout.{Block, is_at, with_block, without_block}
-use Rattle.vc_model.specs.Pool.{cell_offset}
-use Rattle.vc_model.specs.Touch.{change_block, find_block}
 use Rattle.vc_seg.specs.Segment.{AreSegments, Bytes}
 use Rattle.vc_layouts.specs.InOrder.{in_order}
 use Rattle.vc_layouts.proofs.InOrder.{All-in_order, NoneAt, change-with, find-with, order-middle, without-with}

@@ -1,10 +1,5 @@
 -- What is always true of a pool's segments and freed cells, where one cell changes.
-use Rattle.std.proofs.Common.{◌≡◌, ◌≢◌, ℕ, ◌+◌, ◌≤◌, List, ◌∷◌, true, false, All, get_or, set, ap, sym, ◌∙◌, subst, ⊎_elim, arith}
-use Rattle.std.proofs.lemmas.Bool.{cases_Bool}
-use Rattle.std.proofs.lemmas.List.Elements.{All-cons, All-set}
-use Rattle.vc_model.specs.Addr.{place_of}
-use Rattle.vc_model.specs.Discipline.{same_pair}
-use Rattle.vc_model.specs.Pool.{cell_for, cell_offset}
+use Rattle.vc_base.proofs.Common.{◌≡◌, ℕ, ◌+◌, ◌≤◌, true, false, ◌≢◌, List, ◌∷◌, get_or, set, All, sym, ap, ◌∙◌, subst, ⊎_elim, arith, cases_Bool, All-cons, All-set, place_of, same_pair, cell_for, cell_offset}
 use Rattle.vc_pool_cells.specs.Cells.{Cells}
 use Rattle.vc_pool_cells.specs.Freed.{IsFreedChain, IsFreeCell, freed_cells, freed_link, times}
 use Rattle.vc_pool_cells.specs.Kept.{IsCellular, IsFront, IsPool, IsPoolOf}

@@ -1,10 +1,5 @@
 -- The segments of a pool as they stand in its list.
-use Rattle.std.proofs.Common.{◌≡◌, ◌≢◌, ℕ, ◌<◌, List, [], ◌∷◌, All, length, get_or, map, set, refl, ap, ◌∙◌, subst, arith}
-use Rattle.std.specs.List.{HoldsAt}
-use Rattle.std.proofs.lemmas.Bool.{ne_eqb}
-use Rattle.std.proofs.lemmas.List.Elements.{All-head, All-tail}
-use Rattle.std.proofs.lemmas.List.{get_or-map, length-map, map-set}
-use Rattle.vc_model.specs.Pool.{cell_for}
+use Rattle.vc_base.proofs.Common.{◌≡◌, ℕ, ◌<◌, ◌≢◌, List, [], ◌∷◌, map, length, get_or, set, All, HoldsAt, refl, ap, ◌∙◌, subst, arith, ne_eqb, All-head, All-tail, get_or-map, length-map, map-set, cell_for}
 use Rattle.vc_seg.specs.Numbered.{AreNumbered}
 use Rattle.vc_seg.specs.Segment.{AreSegments}
 use Rattle.vc_seg.specs.Segment as bytes

@@ -1,9 +1,6 @@
 -- The segments behind the first ones are few enough to be counted.
-use Rattle.std.proofs.Common.{◌≡◌, ℕ, ◌-◌, ◌*◌, ◌≤◌, zero, suc, List, [], ◌∷◌, drop, length, map, sum, take, sym, ap, ◌∙◌, subst, arith}
-use Rattle.std.specs.Prelude.{min}
-use Rattle.std.proofs.lemmas.List.{drop-map, drop_min, length-drop, length-map, take_rest}
-use Rattle.std.proofs.lemmas.List.Elements.{All-map}
-use Rattle.std.proofs.lemmas.List.Sums.{sum_by-cons}
+use Rattle.vc_base.proofs.Common.{◌≡◌, ℕ, zero, suc, ◌-◌, ◌*◌, ◌≤◌, min, List, [], ◌∷◌, map, length, take, drop, sum, sym, ap, ◌∙◌, subst, arith, length-drop, All-map, sum_by-cons, drop-map, length-map, take_rest}
+use Rattle.std.proofs.lemmas.List.{drop_min}
 use Rattle.vc_layouts.specs.Tally.{HasRoom, tally_of}
 use Rattle.vc_layouts.proofs.Tallies.{sizes-most, tally_of-count}
 use Rattle.vc_seg.specs.Segment.{AreSegments, Bytes, pair_of}

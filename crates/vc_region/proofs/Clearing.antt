@@ -1,5 +1,5 @@
 -- What clearing, compacting and writing keep of a region, by its method.
-use Rattle.std.proofs.Common.{◌≡◌, ℕ, List, [], refl}
+use Rattle.vc_base.proofs.Common.{◌≡◌, ℕ, List, [], refl}
 use Rattle.vc_region.specs.Region.{OfBest, OfPool, OfLast, OfDebug, OfProfile, Region, blocks_of, region_clear, region_compact, region_write, segments_of}
 
 pub cleared-blocks : {L : Type 0} (r : Region L) → blocks_of (region_clear r) ≡ []

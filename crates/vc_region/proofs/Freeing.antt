@@ -1,10 +1,6 @@
 -- What freeing gives, by its method: the region without the block, or the refusal of a last region.
-use Rattle.std.proofs.Common.{◌≡◌, ℕ, ◌⊎◌, true, false, cond, Option, Some, None, inl, inr, refl, sym, ap, ◌∙◌}
-use Rattle.vc_model.specs.Best.{without_block_at}
-use Rattle.vc_model.specs.Last.{if_latest, latest}
-use Rattle.vc_model.specs.Layout.{Block, Layout, is_at}
-use Rattle.vc_model.specs.Outcome.{Outcome, Done, Refused, NoSegment, NotLast, done_as}
-use Rattle.vc_model.specs.Pool.{pool_free}
+use Rattle.vc_base.proofs.Common.{◌≡◌, ℕ, true, false, cond, ◌⊎◌, Some, None, Option, sym, refl, ap, ◌∙◌, inl, inr, without_block_at, if_latest, latest, Block, Layout, is_at, Done, NotLast, Outcome, Refused, done_as, pool_free}
+use Rattle.vc_model.specs.Outcome.{NoSegment}
 use Rattle.vc_audit.specs.Debug.{debug_free}
 use Rattle.vc_audit.specs.Profile.{profile_free}
 use Rattle.vc_region.specs.Region.{OfBest, OfPool, OfLast, OfDebug, OfProfile, Region, keeps_freed, region_free, segments_of}

@@ -1,11 +1,5 @@
 -- No call changes the method of a region, and so whether it keeps the names of freed blocks.
-use Rattle.std.proofs.Common.{◌≡◌, ℕ, ℤ, Bool, true, false, List, refl, ap, ◌∙◌}
-use Rattle.vc_model.specs.Best.{best_alloc}
-use Rattle.vc_model.specs.Discipline.{Terms}
-use Rattle.vc_model.specs.Last.{last_alloc, last_resize}
-use Rattle.vc_model.specs.Outcome.{Outcome, Done, Put, Refused, outcome_as}
-use Rattle.vc_model.specs.Pool.{pool_alloc, pool_resize}
-use Rattle.vc_model.specs.Resize.{best_resize}
+use Rattle.vc_base.proofs.Common.{◌≡◌, ℕ, Bool, true, false, List, ℤ, refl, ap, ◌∙◌, best_alloc, Terms, last_alloc, last_resize, Done, Outcome, Put, Refused, outcome_as, pool_alloc, pool_resize, best_resize}
 use Rattle.vc_audit.specs.Debug.{debug_alloc, debug_resize}
 use Rattle.vc_audit.specs.Profile.{profile_alloc, profile_resize}
 use Rattle.vc_region.specs.Region.{OfBest, OfPool, OfLast, OfDebug, OfProfile, Region, keeps_freed, region_align, region_alloc, region_clear, region_compact, region_poke, region_resize, region_watch, region_write}

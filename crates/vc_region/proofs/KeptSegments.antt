@@ -1,8 +1,5 @@
 -- The segments that regions of the methods keep.
-use Rattle.std.proofs.Common.{◌≡◌, ℕ, List, map, refl}
-use Rattle.std.proofs.Math.Bridge.{le_prop}
-use Rattle.std.proofs.Math.Nat.{ℕ_set}
-use Rattle.std.proofs.Math.Logic.{∥∥₁_elim}
+use Rattle.vc_base.proofs.Common.{◌≡◌, ℕ, List, map, refl, le_prop, ∥∥₁_elim, ℕ_set}
 use Rattle.vc_extent.specs.Tiling.{AreExtents}
 use Rattle.vc_best.specs.Blocks as best
 use Rattle.vc_last.specs.Chain.{IsLast}

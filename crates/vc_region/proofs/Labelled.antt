@@ -1,5 +1,5 @@
 -- The labelled blocks of a region stay where zeros stand for the bytes of the unlabelled ones.
-use Rattle.std.proofs.Common.{◌≡◌, ℕ, refl}
+use Rattle.vc_base.proofs.Common.{◌≡◌, ℕ, refl}
 use Rattle.vc_best.proofs.Labelled.{labelled_of, labelled-zeroed}
 use Rattle.vc_region.specs.Cells.{tagged_blocks, rest_of}
 use Rattle.vc_region.specs.Region as model

@@ -1,14 +1,5 @@
 -- Every call of a region commutes with a change of its labels.
-use Rattle.std.proofs.Common.{◌≡◌, ℕ, ℤ, Bool, List, map, refl, sym, ap, ◌∙◌}
-use Rattle.std.specs.List.{AllByRecursion}
-use Rattle.vc_model.specs.Best.{best_alloc}
-use Rattle.vc_model.specs.Discipline.{Terms}
-use Rattle.vc_model.specs.Last.{last_alloc, last_free, last_resize}
-use Rattle.vc_model.specs.Layout.{Block, Layout, relabel_block, relabel_layout}
-use Rattle.vc_model.specs.Outcome.{Outcome, Done, Refused, Put, done_as, outcome_as}
-use Rattle.vc_model.specs.Pool.{Pool, pool_alloc, pool_resize}
-use Rattle.vc_model.specs.Resize.{best_resize}
-use Rattle.vc_model.specs.Touch.{rewritten_block}
+use Rattle.vc_base.proofs.Common.{◌≡◌, ℕ, Bool, List, map, ℤ, sym, refl, ap, ◌∙◌, AllByRecursion, best_alloc, Terms, last_alloc, last_free, last_resize, Block, Layout, relabel_block, relabel_layout, Done, Outcome, Put, Refused, done_as, outcome_as, Pool, pool_alloc, pool_resize, best_resize, rewritten_block}
 use Rattle.vc_model.proofs.LastRelabel.{last_alloc-relabel, last_free-relabel, last_resize-relabel, relabel_rest}
 use Rattle.vc_model.proofs.PoolRelabel.{pool_alloc-relabel, pool_compact-relabel, pool_free-relabel, pool_resize-relabel, pool_write-relabel, relabel_pools}
 use Rattle.vc_model.proofs.Relabel.{best_alloc-relabel, best_resize-relabel, change_block-relabel, compact_count-relabel, compacted-relabel, relabel-alike, relabel_outcome, without_block-relabel}

@@ -1,12 +1,5 @@
 -- Every call of a region commutes with the zeros that stand for the bytes of its unlabelled blocks.
-use Rattle.std.proofs.Common.{◌≡◌, ◌≢◌, ℕ, ℤ, Bool, List, Some, refl, sym, ap, ◌∙◌}
-use Rattle.vc_model.specs.Best.{best_alloc}
-use Rattle.vc_model.specs.Discipline.{Terms}
-use Rattle.vc_model.specs.Last.{last_alloc, last_free}
-use Rattle.vc_model.specs.Layout.{Block, Layout}
-use Rattle.vc_model.specs.Outcome.{Outcome, Done, Refused, Put, done_as, outcome_as}
-use Rattle.vc_model.specs.Pool.{pool_alloc}
-use Rattle.vc_model.specs.Touch.{find_block, rewritten_block}
+use Rattle.vc_base.proofs.Common.{◌≡◌, ℕ, Bool, ◌≢◌, List, ℤ, Some, sym, refl, ap, ◌∙◌, best_alloc, Terms, last_alloc, last_free, Block, Layout, Done, Outcome, Put, Refused, done_as, outcome_as, pool_alloc, find_block, rewritten_block}
 use Rattle.vc_audit.specs.Debug.{debug_alloc}
 use Rattle.vc_audit.specs.Profile.{profile_alloc}
 use Rattle.vc_best.specs.Cells.{zeroed_layout}

@@ -1,11 +1,5 @@
 -- What a call answers, a region answers too that shows zeros for the bytes of its unlabelled blocks.
-use Rattle.std.proofs.Common.{◌≡◌, ◌≢◌, ℕ, Bool, false, List, Option, Some, option_map, sym, ap, ◌∙◌, subst}
-use Rattle.std.specs.Prelude.{IfOk, Result, Ok, Err}
-use Rattle.vc_model.specs.Addr.{place_of}
-use Rattle.vc_model.specs.Discipline.{Terms}
-use Rattle.vc_model.specs.Layout.{Block}
-use Rattle.vc_model.specs.Outcome.{Done, Fault, Refused, Put, done_as, outcome_as}
-use Rattle.vc_model.specs.Touch.{find_block}
+use Rattle.vc_base.proofs.Common.{◌≡◌, ℕ, Bool, false, ◌≢◌, List, IfOk, Some, Ok, Err, Option, Result, option_map, sym, ap, ◌∙◌, subst, place_of, Terms, Block, Done, Fault, Put, Refused, done_as, outcome_as, find_block}
 use Rattle.vc_base.specs.declared.addr.Addr.{Addr}
 use Rattle.vc_seg.specs.Answer.{Answers, Frees, IsPut}
 use Rattle.vc_seg.specs.declared.fault.RegionFault.{RegionFault}

@@ -1,12 +1,6 @@
 -- What the calls of a region do to its cells. A region of a method but the best one has none.
-use Rattle.std.proofs.Common.{◌≡◌, ◌≢◌, ℕ, ℤ, Bool, true, false, cond, List, Option, Some, None, option_map, eqb, replicate, refl, sym, ap, ◌∙◌}
-use Rattle.vc_base.specs.Cells.{Blocks, put}
-use Rattle.vc_model.specs.Addr.{place_of}
-use Rattle.vc_model.specs.Best.{zeros}
-use Rattle.vc_model.specs.Layout.{Block, without_block}
-use Rattle.vc_model.specs.Outcome.{Done}
-use Rattle.vc_model.specs.Sound.{HaveOwnPlaces}
-use Rattle.vc_model.specs.Touch.{find_block}
+use Rattle.vc_base.proofs.Common.{◌≡◌, ℕ, Bool, true, false, cond, eqb, ◌≢◌, List, replicate, ℤ, Some, None, Option, option_map, sym, refl, ap, ◌∙◌, Blocks, place_of, zeros, Block, without_block, Done, HaveOwnPlaces, find_block}
+use Rattle.vc_base.specs.Cells.{put}
 use Rattle.vc_seg.specs.declared.method.Method.{Method}
 use Rattle.vc_seg.specs.declared.method.Method.TheVariants.{VmBest}
 use Rattle.vc_best.specs.Cells.{cells_of, without_cell}

@@ -1,11 +1,5 @@
 -- What is found in a region, it finds too where it shows zeros for the bytes of its unlabelled blocks.
-use Rattle.std.proofs.Common.{◌≡◌, ◌≢◌, ℕ, Bool, true, false, cond, List, Some, map, option_map, refl, sym, ap, ◌∙◌, subst}
-use Rattle.std.specs.Prelude.{Contains}
-use Rattle.vc_model.specs.Best.{zeros}
-use Rattle.vc_model.specs.Layout.{Block, address_of, without_block}
-use Rattle.vc_model.specs.Sound.{HaveOwnPlaces}
-use Rattle.vc_model.specs.Touch.{HasBlock, HasRange, find_block}
-use Rattle.vc_model.specs.Walk.{block_at, by_address, next_block}
+use Rattle.vc_base.proofs.Common.{◌≡◌, ℕ, Bool, true, false, cond, ◌≢◌, List, map, Some, Contains, option_map, sym, refl, ap, ◌∙◌, subst, zeros, Block, address_of, without_block, HaveOwnPlaces, HasBlock, HasRange, find_block, block_at, by_address, next_block}
 use Rattle.vc_seg.specs.declared.method.Method.{Method}
 use Rattle.vc_seg.specs.declared.method.Method.TheVariants.{VmBest, VmPool, VmLast, VmDebug, VmProfile}
 use Rattle.vc_best.specs.Cells.{block_shown}

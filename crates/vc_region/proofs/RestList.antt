@@ -1,15 +1,5 @@
 -- What is found in blocks that show zeros where they are unlabelled: the same places, labels and sizes.
-use Rattle.std.proofs.Common.{◌≡◌, ℕ, ◌+◌, ◌<◌, ◌≤◌, true, false, cond, List, [], ◌∷◌, Option, Some, None, IfSome, length, map, filter, option_map, refl, sym, ap, ◌∙◌, subst, arith}
-use Rattle.std.specs.Prelude.{fold, nat_lt}
-use Rattle.std.proofs.lemmas.List.{get_or-map, length-map}
-use Rattle.std.proofs.lemmas.List.Elements.{All-map}
-use Rattle.vc_model.specs.Addr.{place_of}
-use Rattle.vc_model.specs.Best.{zeros}
-use Rattle.vc_model.specs.Layout.{Block, address_of}
-use Rattle.vc_model.specs.Order.{lesser_by}
-use Rattle.vc_model.specs.Sound.{HaveOwnPlaces}
-use Rattle.vc_model.specs.Touch.{HasRange, find_block}
-use Rattle.vc_model.specs.Walk.{block_at, by_address, next_block}
+use Rattle.vc_base.proofs.Common.{◌≡◌, ℕ, ◌+◌, ◌<◌, ◌≤◌, true, false, cond, List, [], ◌∷◌, map, length, IfSome, nat_lt, Some, None, fold, filter, Option, option_map, sym, refl, ap, ◌∙◌, subst, arith, All-map, get_or-map, length-map, place_of, zeros, Block, address_of, lesser_by, HaveOwnPlaces, HasRange, find_block, block_at, by_address, next_block}
 use Rattle.vc_best.specs.Cells.{block_shown}
 use Rattle.vc_best.proofs.RestBlocks.{block_at-zeroed, by_address-zeroed, find_block-zeroed, zeroed-zeros}
 

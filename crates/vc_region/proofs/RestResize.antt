@@ -1,16 +1,8 @@
 -- Giving a labelled block another size commutes with the zeros that the unlabelled blocks show.
-use Rattle.std.proofs.Common.{◌≡◌, ◌≢◌, ◌⊎◌, ℕ, Bool, true, false, cond, List, [], ◌∷◌, Option, Some, None, option_map, refl, sym, ap, ◌∙◌, subst, inl, inr, ⊎_elim, take, eqb}
-use Rattle.std.proofs.lemmas.Bool.{cases_Bool, and_from, and_parts, eq-eqb, eqb-true, true≢false}
-use Rattle.std.proofs.lemmas.Option.{same_Some}
-use Rattle.vc_model.specs.Best.{best_alloc, best_need, place_in, put, put_in_new, put_or_ask, zeros}
-use Rattle.vc_model.specs.Discipline.{Terms}
-use Rattle.vc_model.specs.Last.{last_resize}
-use Rattle.vc_model.specs.Layout.{Block, Layout, is_at, lies_before, with_block, with_grant, without_block}
-use Rattle.vc_model.specs.Outcome.{Outcome, Done, Refused, Fixed, Put, outcome_as, put_as}
-use Rattle.vc_model.specs.Pool.{pool_resize}
-use Rattle.vc_model.specs.Resize.{best_resize, can_stay, outcome_of_move, resize_block, resize_found, stays}
-use Rattle.vc_model.specs.Segments.{Asked, Grant, Granted, TooMany, NotLent, ask}
-use Rattle.vc_model.specs.Touch.{change_block, find_block, rewritten_block}
+use Rattle.vc_base.proofs.Common.{◌≡◌, ℕ, Bool, true, false, cond, eqb, ◌≢◌, ◌⊎◌, List, [], ◌∷◌, take, Some, None, Option, option_map, sym, refl, ap, ◌∙◌, subst, inl, inr, ⊎_elim, true≢false, eq-eqb, eqb-true, and_from, and_parts, cases_Bool, same_Some, best_alloc, best_need, place_in, put_in_new, put_or_ask, zeros, Terms, last_resize, Block, Layout, is_at, lies_before, with_block, with_grant, without_block, Done, Fixed, Outcome, Put, Refused, outcome_as, pool_resize, best_resize, can_stay, outcome_of_move, resize_found, stays, Asked, Grant, Granted, NotLent, TooMany, ask, change_block, find_block, rewritten_block}
+use Rattle.vc_model.specs.Best.{put}
+use Rattle.vc_model.specs.Outcome.{put_as}
+use Rattle.vc_model.specs.Resize.{resize_block}
 use Rattle.vc_model.proofs.Owned.{found-is}
 use Rattle.vc_base.proofs.Places.{at-itself}
 use Rattle.vc_audit.specs.Debug.{debug_resize}

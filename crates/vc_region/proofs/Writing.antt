@@ -1,7 +1,5 @@
 -- Writing keeps the label of the block at each place, by the method.
-use Rattle.std.proofs.Common.{◌≡◌, ℕ, ℤ, List, [], ◌∷◌, true, false, Option, Some, cond, map, option_map, refl, sym, ap, ◌∙◌, ◌+◌}
-use Rattle.vc_model.specs.Layout.{Block, is_at, relabel_block}
-use Rattle.vc_model.specs.Touch.{change_block, find_block, rewritten_block}
+use Rattle.vc_base.proofs.Common.{◌≡◌, ℕ, ◌+◌, true, false, cond, List, [], ◌∷◌, map, ℤ, Some, Option, option_map, sym, refl, ap, ◌∙◌, Block, is_at, relabel_block, change_block, find_block, rewritten_block}
 use Rattle.vc_audit.specs.Debug.{guarded_offset, guarded_place, user_block}
 use Rattle.vc_region.specs.Region.{OfBest, OfPool, OfLast, OfDebug, OfProfile, Region, blocks_of, region_poke, region_watch, region_write}
 

@@ -1,6 +1,5 @@
 -- What is asked of extents whose tiling is known.
-use Rattle.std.proofs.Common.{◌≡◌, ℕ, ◌<◌, List, [], ◌∷◌, IsSome, map, refl, ap, sym, subst, ◌∙◌, arith}
-use Rattle.vc_model.specs.Bytes.{with_bytes}
+use Rattle.vc_base.proofs.Common.{◌≡◌, ℕ, ◌<◌, List, [], ◌∷◌, map, IsSome, sym, refl, ap, ◌∙◌, subst, arith, with_bytes}
 use Rattle.vc_seg.specs.Segment.{Bytes, pair_of}
 use Rattle.vc_extent.specs.Extent.{Extent, busy_extent, free_extent, no_links}
 use Rattle.vc_extent.specs.Change.{IsOneFree, mark_busy, one_free, set_size, with_link, write}

@@ -1,8 +1,5 @@
 -- What calls of a best region leave of its segments that are out.
-use Rattle.std.proofs.Common.{◌≡◌, ℕ, List, [], ◌++◌, sym, ap, ◌∙◌, subst}
-use Rattle.std.proofs.lemmas.List.{append-nil}
-use Rattle.vc_model.specs.Discipline.{Discipline, HasOut, Served}
-use Rattle.vc_model.specs.Layout.{Layout}
+use Rattle.vc_base.proofs.Common.{◌≡◌, ℕ, List, [], ◌++◌, sym, ap, ◌∙◌, subst, append-nil, Discipline, HasOut, Served, Layout}
 
 -- a region with no segment has none out
 pub lent-none : (out : List (ℕ × ℕ)) (r : Layout ℕ) → r.segments ≡ [] → (rest : List (ℕ × ℕ)) × (out ≡ rest ++ r.segments)

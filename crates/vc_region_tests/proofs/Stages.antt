@@ -1,7 +1,6 @@
 -- What is asked of extents whose tiling is known.
-use Rattle.std.proofs.Common.{◌≡◌, ℕ, ◌<◌, List, [], ◌∷◌, length, get_or, map, take, ap, sym, subst, ◌∙◌, arith}
+use Rattle.vc_base.proofs.Common.{◌≡◌, ℕ, ◌<◌, List, [], ◌∷◌, map, length, get_or, take, sym, ap, ◌∙◌, subst, arith, with_bytes}
 use Rattle.vc_seg.specs.Segment.{Bytes, pair_of}
-use Rattle.vc_model.specs.Bytes.{with_bytes}
 use Rattle.vc_extent.specs.Extent.{Extent, busy_extent, free_extent, no_links}
 use Rattle.vc_extent.specs.Change.{join, mark_busy, mark_free, shrink, stretch, write}
 use Rattle.vc_extent.specs.Tiling.{IsBusy, IsFree, change_extent, extent_of}

@@ -1,6 +1,5 @@
 -- A link that is written in the store of four, and the trees in it.
-use Rattle.std.proofs.Common.{◌≡◌, ℕ, true, false, cond, List, [], ◌∷◌, slice_index, slice_set, refl, sym, ap, ◌∙◌, subst, get_or-set_other}
-use Rattle.vc_base.specs.Holders.{contains, without}
+use Rattle.vc_base.proofs.Common.{◌≡◌, ℕ, true, false, cond, List, [], ◌∷◌, slice_index, slice_set, sym, refl, ap, ◌∙◌, subst, get_or-set_other, contains, without}
 use Rattle.vc_splay.specs.Store.{Store, with_kid, with_parent}
 use Rattle.vc_splay.specs.Guide.{CanFind, CanLink, Rises, order_with_name}
 use Rattle.vc_splay.specs.Stands.{HasTree, IsIn, IsWithin, TreeAfter}

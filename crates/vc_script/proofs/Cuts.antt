@@ -1,7 +1,6 @@
 -- A final CR, and the steps of the cutter of words.
-use Rattle.std.proofs.Common.{◌≡◌, ℕ, ◌+◌, ◌<◌, ◌≤◌, true, false, cond, List, [], ◌∷◌, ◌++◌, length, get_or, drop, refl, ap, sym, ◌∙◌, eqb, arith}
-use Rattle.std.specs.List.{slice_range}
-use Rattle.std.proofs.lemmas.List.{at_drop_more, at_drop_all, append-nil, append_assoc, map_push}
+use Rattle.vc_base.proofs.Common.{◌≡◌, ℕ, ◌+◌, ◌<◌, ◌≤◌, true, false, cond, eqb, List, [], ◌∷◌, ◌++◌, length, get_or, drop, slice_range, sym, refl, ap, ◌∙◌, append_assoc, append-nil, arith, at_drop_more, map_push}
+use Rattle.std.proofs.lemmas.List.{at_drop_all}
 use Rattle.std.proofs.lemmas.List.Edits.{between_none, between_more, length-between}
 use Rattle.vc_script.specs.Lines.{piece, without_cr}
 use Rattle.vc_script.specs.Words.{is_blank, words_after, words}

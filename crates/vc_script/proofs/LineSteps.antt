@@ -1,5 +1,5 @@
 -- A line without its final CR.
-use Rattle.std.proofs.Common.{◌≡◌, ℕ, true, false, cond, List, [], ◌∷◌, length, take, refl, ap, eqb}
+use Rattle.vc_base.proofs.Common.{◌≡◌, ℕ, true, false, cond, eqb, List, [], ◌∷◌, length, take, refl, ap}
 use Rattle.vc_script.specs.Lines.{without_cr}
 
 -- what is left stands at the front

@@ -1,8 +1,5 @@
 -- A name fits the buffer of a name.
-use Rattle.std.proofs.Common.{ℕ, ◌≤◌, List, [], ◌∷◌, length, arith, leb, ◌&&◌}
-use Rattle.std.specs.Bool.{IsTrue}
-use Rattle.std.specs.List.{list_all}
-use Rattle.std.proofs.lemmas.Bool.{and_parts, leb-true}
+use Rattle.vc_base.proofs.Common.{ℕ, ◌≤◌, ◌&&◌, leb, List, [], ◌∷◌, length, IsTrue, arith, leb-true, and_parts, list_all}
 use Rattle.vc_script.specs.Words.{is_letter, is_name, is_name_byte}
 
 -- a name has 1 to 32 bytes

@@ -1,6 +1,6 @@
 -- What an answer unfolds to compute a printed line on a literal.
+use Rattle.vc_base.proofs.Common.{digits}
 use Rattle.std.specs.Prelude.{⊤}
-use Rattle.std.specs.Fmt.{digits}
 use Rattle.hex.specs.Hex.{encode_with}
 use Rattle.percent_encoding.specs.Percent.{percent_encode_byte}
 

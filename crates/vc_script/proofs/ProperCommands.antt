@@ -1,8 +1,5 @@
 -- The commands that a line gives are proper.
-use Rattle.std.proofs.Common.{◌≡◌, ◌≢◌, sym, IfOk, ℕ, Bool, true, false, List, [], ◌∷◌, cond, length, subst, nat_abs}
-use Rattle.std.specs.Prelude.{Option, Some, None, Result, Ok, Err}
-use Rattle.std.specs.List.{AllByRecursion}
-use Rattle.std.specs.Str.{bytes_eq}
+use Rattle.vc_base.proofs.Common.{◌≡◌, ℕ, Bool, true, false, cond, ◌≢◌, List, [], ◌∷◌, length, nat_abs, IfOk, Some, None, Ok, Err, Option, Result, bytes_eq, sym, subst, AllByRecursion}
 use Rattle.vc_script.specs.declared.command.Command.{Command}
 use Rattle.vc_script.specs.declared.line_fault.LineFault.{LineFault}
 use Rattle.vc_script.specs.declared.line_fault.LineFault.TheVariants.{WordCount}

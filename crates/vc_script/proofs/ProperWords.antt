@@ -1,9 +1,6 @@
 -- What the forms of words give is proper, or a fault of words.
-use Rattle.std.proofs.Common.{◌≡◌, ℕ, zero, suc, Bool, true, false, cond, List, [], ◌∷◌, Some, None, length, refl, subst, sym, arith, leb, ◌&&◌, codes, ℤ, pos, neg_ℤ, nat_abs}
-use Rattle.std.specs.Prelude.{Result, Ok, Err, ◌==◌}
-use Rattle.std.specs.List.{list_all, before_first, after_first}
-use Rattle.std.specs.Str.{bytes_eq}
-use Rattle.std.proofs.lemmas.Bool.{and_parts, leb-true}
+use Rattle.vc_base.proofs.Common.{◌≡◌, ℕ, zero, suc, Bool, true, false, cond, ◌&&◌, leb, List, [], ◌∷◌, length, ℤ, pos, neg_ℤ, nat_abs, ◌==◌, Some, None, Ok, Err, codes, Result, bytes_eq, sym, refl, subst, arith, leb-true, and_parts, list_all}
+use Rattle.std.specs.List.{before_first, after_first}
 use Rattle.percent_encoding.specs.Percent.{percent_decode}
 use Rattle.vc_base.specs.declared.dict_method.DictMethod.TheVariants.{DtSet, DtBag, DtOset, DtObag, DtList, DtStack, DtQueue}
 use Rattle.vc_seg.specs.declared.method.Method.TheVariants.{VmBest, VmPool, VmLast, VmDebug, VmProfile}

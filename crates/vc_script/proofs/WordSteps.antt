@@ -1,9 +1,7 @@
 -- Steps of the readers of escapes and of addresses.
-use Rattle.std.proofs.Common.{◌≡◌, ℕ, ◌+◌, ◌<◌, ◌≤◌, true, false, cond, List, [], length, get_or, take, drop, ap, ◌∙◌, eqb, ◌&&◌, arith}
-use Rattle.std.specs.Prelude.{Ok, Err}
-use Rattle.std.proofs.lemmas.List.{at_drop_more, at_drop_all}
+use Rattle.vc_base.proofs.Common.{◌≡◌, ℕ, ◌+◌, ◌<◌, ◌≤◌, true, false, cond, ◌&&◌, eqb, List, [], length, get_or, take, drop, Ok, Err, ap, ◌∙◌, arith, and-false, at_drop_more}
+use Rattle.std.proofs.lemmas.List.{at_drop_all}
 use Rattle.std.proofs.lemmas.List.Sums.{position_or_len_is}
-use Rattle.std.proofs.Math.Bool.{and-false}
 use Rattle.vc_script.specs.declared.line_fault.LineFault.TheVariants.{BadAddress}
 use Rattle.vc_script.specs.Words.{begins_with_byte, digits_value, is_between, is_escaped, is_number}
 use Rattle.vc_script.specs.Forms.{address_of, address_of_parts, is_colon}

@@ -1,15 +1,6 @@
 -- A segment that is taken back.
-use Rattle.std.proofs.Common.{◌≡◌, ℕ, zero, suc, ◌+◌, ◌<◌, ◌≤◌, ◌≢◌, List, [], ◌∷◌, ◌++◌, Bool, true, false, not, All, AllPairs, Contains, length, get_or, map, filter, replicate, refl, ap, sym, subst, ◌∙◌, ⊎_elim, eqb, leb, arith}
-use Rattle.std.specs.Prelude.{◌==◌, ◌&&◌}
-use Rattle.std.specs.List.{list_any, remove}
-use Rattle.std.proofs.lemmas.Bool.{cases_Bool, eq-eqb, ne_eqb, eqb-true, le-leb, lt-leb, and_from, and_left, or_from, or_left, or_right}
-use Rattle.std.proofs.lemmas.Bool.Decides.{nat_tests}
-use Rattle.std.proofs.lemmas.List.{length-map, get_or-map}
-use Rattle.std.proofs.lemmas.List.Elements.{All-head, All-tail, All-filter, All-map, Contains-append_right, filter_agree}
-use Rattle.std.proofs.lemmas.List.Kept.{AllPairs-filter}
-use Rattle.std.proofs.lemmas.List.Sums.{length-filter, count_by-le-length}
-use Rattle.std.proofs.lemmas.List.Folds.{list_any-append}
-use Rattle.vc_model.specs.Discipline.{Discipline, HasOut, TookBack, same_pair, without_last}
+use Rattle.vc_base.proofs.Common.{◌≡◌, ℕ, zero, suc, ◌+◌, ◌<◌, ◌≤◌, Bool, true, false, not, ◌&&◌, eqb, leb, ◌≢◌, List, [], ◌∷◌, ◌++◌, map, length, get_or, replicate, ◌==◌, All, Contains, filter, remove, AllPairs, sym, refl, ap, ◌∙◌, subst, ⊎_elim, arith, eq-eqb, ne_eqb, eqb-true, le-leb, nat_tests, and_from, and_left, cases_Bool, lt-leb, or_from, or_left, or_right, All-filter, All-head, All-map, All-tail, filter_agree, list_any-append, AllPairs-filter, count_by-le-length, length-filter, get_or-map, length-map, list_any, Discipline, HasOut, TookBack, same_pair, without_last}
+use Rattle.std.proofs.lemmas.List.Elements.{Contains-append_right}
 use Rattle.vc_model.proofs.Keeping.{Kept-same, Kept-trans}
 use Rattle.vc_seg.specs.Segment.{AreSegments, Bytes, IsRegionSegment, pair_of}
 use Rattle.vc_seg.specs.Back.{is_kept, is_marked, stays_from}

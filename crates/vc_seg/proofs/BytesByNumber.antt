@@ -1,8 +1,5 @@
 -- The bytes of the segment of a number.
-use Rattle.std.proofs.Common.{◌≡◌, ℕ, zero, suc, ◌<◌, ◌≤◌, ◌≢◌, List, [], ◌∷◌, ◌++◌, false, All, AllPairs, length, get_or, map, refl, ⊎_elim, eqb, arith}
-use Rattle.std.proofs.lemmas.Bool.{cases_Bool, or_parts, eq-eqb, ne_eqb}
-use Rattle.std.proofs.lemmas.List.Elements.{All-head, All-tail}
-use Rattle.vc_model.specs.Segments.{numbers}
+use Rattle.vc_base.proofs.Common.{◌≡◌, ℕ, zero, suc, ◌<◌, ◌≤◌, false, eqb, ◌≢◌, List, [], ◌∷◌, ◌++◌, map, length, get_or, All, AllPairs, refl, ⊎_elim, arith, eq-eqb, ne_eqb, cases_Bool, or_parts, All-head, All-tail, numbers}
 use Rattle.vc_seg.specs.Segment.{Bytes, IsRegionSegment, pair_of}
 use Rattle.vc_seg.proofs.Backs.{Apart, Apart-tail}
 use Rattle.vc_seg.specs.Memory.{bytes_of_number}

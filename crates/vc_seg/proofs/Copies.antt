@@ -1,7 +1,6 @@
 -- A copy of a range of one segment in another.
-use Rattle.std.proofs.Common.{◌≡◌, ℕ, ◌-◌, ◌<◌, List, ◌++◌, length, get_or, set, take, drop, ap, sym, ◌∙◌, arith}
-use Rattle.std.proofs.lemmas.List.{get_or_append_left, get_or-append_right, get_or_default, set-append_left, set-append_right}
-use Rattle.vc_model.specs.Bytes.{with_bytes}
+use Rattle.vc_base.proofs.Common.{◌≡◌, ℕ, ◌-◌, ◌<◌, List, ◌++◌, length, get_or, take, drop, set, sym, ap, ◌∙◌, arith, get_or_append_left, get_or_default, with_bytes}
+use Rattle.std.proofs.lemmas.List.{get_or-append_right, set-append_left, set-append_right}
 use Rattle.vc_seg.specs.Segment.{Bytes}
 use Rattle.vc_seg.specs.Memory.{with_copy_of}
 

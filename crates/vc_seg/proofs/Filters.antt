@@ -1,8 +1,5 @@
 -- What filters keep.
-use Rattle.std.proofs.Common.{◌≡◌, List, [], ◌∷◌, Bool, true, All, filter, map, refl, ap, ⊎_elim}
-use Rattle.std.specs.Prelude.{◌&&◌}
-use Rattle.std.proofs.lemmas.Bool.{cases_Bool}
-use Rattle.std.proofs.lemmas.List.Elements.{All-head, All-tail}
+use Rattle.vc_base.proofs.Common.{◌≡◌, Bool, true, ◌&&◌, List, [], ◌∷◌, map, All, filter, refl, ap, ⊎_elim, cases_Bool, All-head, All-tail}
 
 -- one filter after another
 pub filter-filter : {A : Type 0} (p q : A → Bool) (xs : List A) → filter q (filter p xs) ≡ filter (λ x. p x && q x) xs

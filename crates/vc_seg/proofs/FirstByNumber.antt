@@ -1,8 +1,5 @@
 -- The segment of a number, by its place among some.
-use Rattle.std.proofs.Common.{◌≡◌, ℕ, zero, suc, ◌<◌, ◌≢◌, List, [], ◌∷◌, All, length, get_or, set, take, refl, ap, ◌∙◌, arith}
-use Rattle.std.proofs.lemmas.Bool.{eq-eqb, ne_eqb}
-use Rattle.std.proofs.lemmas.List.Elements.{All-head, All-tail}
-use Rattle.vc_model.specs.Bytes.{with_bytes}
+use Rattle.vc_base.proofs.Common.{◌≡◌, ℕ, zero, suc, ◌<◌, ◌≢◌, List, [], ◌∷◌, length, get_or, take, set, All, refl, ap, ◌∙◌, arith, eq-eqb, ne_eqb, All-head, All-tail, with_bytes}
 use Rattle.vc_seg.specs.Segment.{Bytes}
 use Rattle.vc_seg.specs.Memory.{write_segment}
 use Rattle.vc_seg.specs.Memory.{bytes_of_number}

@@ -1,9 +1,6 @@
 -- What a write leaves: parts of the bytes below it and above it.
-use Rattle.std.proofs.Common.{◌≡◌, ℕ, ◌+◌, ◌-◌, ◌^◌, ◌<◌, ◌≤◌, List, ◌++◌, length, take, drop, ap, sym, subst, ◌∙◌, arith}
-use Rattle.std.proofs.lemmas.List.{drop-take, take-take, drop-drop, take_at, drop_at, take-append-le, length-take-le, length-append, length-drop}
-use Rattle.std.specs.Int.{from_le_bytes, to_le_bytes, w32}
+use Rattle.vc_base.proofs.Common.{◌≡◌, ℕ, ◌+◌, ◌-◌, ◌^◌, ◌<◌, ◌≤◌, List, ◌++◌, length, take, drop, sym, ap, ◌∙◌, subst, arith, length-append, length-drop, length-take-le, take-take, drop-drop, take_at, drop_at, w32, drop-take, take-append-le, from_le_bytes, to_le_bytes, with_bytes}
 use Rattle.std.proofs.lemmas.Nat.{from_le_bytes-to_le_bytes_4}
-use Rattle.vc_model.specs.Bytes.{with_bytes}
 use Rattle.vc_seg.specs.Segment.{Bytes}
 use Rattle.vc_seg.specs.Field.{field_at}
 use Rattle.vc_seg.specs.Frame.{StaysBelow, StaysOutside}

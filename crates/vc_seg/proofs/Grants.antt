@@ -1,13 +1,5 @@
 -- One more segment under a number that none has.
-use Rattle.std.proofs.Common.{◌≡◌, ℕ, zero, suc, ◌<◌, ◌≤◌, ◌≢◌, List, [], ◌∷◌, ◌++◌, All, true, false, length, get_or, map, ap, subst, sym, ◌∙◌, refl, ⊎_elim, eqb, ltb, arith}
-use Rattle.std.specs.Prelude.{IfOk, Ok, Err}
-use Rattle.std.specs.declared.result.Result.{Result}
-use Rattle.std.proofs.lemmas.Bool.{cases_Bool, or_parts, eqb-false, lt-ltb, ltb-true}
-use Rattle.std.proofs.lemmas.List.{get_or-map, length-map, length_push, length-replicate}
-use Rattle.std.proofs.lemmas.List.Elements.{All-push}
-use Rattle.std.proofs.lemmas.List.Quantifiers.{all_pairs_push}
-use Rattle.vc_model.specs.Discipline.{IsSegmentSize, Terms}
-use Rattle.vc_model.specs.Segments.{Grant, Granted, TooMany, ask, lowest_unused, new_segment, numbers}
+use Rattle.vc_base.proofs.Common.{◌≡◌, ℕ, zero, suc, ◌<◌, ◌≤◌, true, false, eqb, ltb, ◌≢◌, List, [], ◌∷◌, ◌++◌, map, length, get_or, IfOk, Ok, Err, All, Result, sym, refl, ap, ◌∙◌, subst, ⊎_elim, arith, ltb-true, lt-ltb, cases_Bool, eqb-false, or_parts, All-push, all_pairs_push, get_or-map, length-map, length-replicate, length_push, IsSegmentSize, Terms, Grant, Granted, TooMany, ask, lowest_unused, new_segment, numbers}
 use Rattle.vc_seg.specs.Lend.{IsGrantOf}
 use Rattle.vc_seg.specs.Segment.{AreSegments, Bytes, IsRegionSegment, pair_of, zero_segment}
 use Rattle.vc_seg.specs.declared.fault.RegionFault.{RegionFault}

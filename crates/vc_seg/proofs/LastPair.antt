@@ -1,8 +1,6 @@
 -- The last pair of a list that is equal to a given one.
-use Rattle.std.proofs.Common.{◌≡◌, ℕ, zero, suc, ◌+◌, ◌<◌, Bool, true, false, List, [], ◌∷◌, length, get_or, drop, refl, ap, arith, ◌||◌}
-use Rattle.std.specs.List.{list_any, remove}
+use Rattle.vc_base.proofs.Common.{◌≡◌, ℕ, zero, suc, ◌+◌, ◌<◌, Bool, true, false, ◌||◌, List, [], ◌∷◌, length, get_or, drop, remove, refl, ap, arith, list_any, same_pair, without_last}
 use Rattle.std.proofs.lemmas.List.Sums.{sum_by-remove}
-use Rattle.vc_model.specs.Discipline.{same_pair, without_last}
 use Rattle.vc_seg.specs.Budget.{bytes_of}
 
 -- an element that passes is found

@@ -1,6 +1,6 @@
 -- `lodge` and `dislodge` at a call, for a Vec of bytes: it begins empty, and ends full. Assumes `Logic`.
-use Rattle.std.proofs.Common.{◌≡◌, ℕ, ◌+◌, ◌-◌, ◌*◌, ◌^◌, ◌<◌, ◌≤◌, List, [], ◌∷◌, length, true, refl, sym, ap, ◌∙◌, arith, lit<, Vec}
-use Rattle.std.proofs.lemmas.Bool.{ne_eqb, not_from_false}
+use Rattle.vc_base.proofs.Common.{◌≡◌, ℕ, ◌+◌, ◌-◌, ◌*◌, ◌^◌, ◌<◌, ◌≤◌, true, List, [], ◌∷◌, length, Vec, sym, refl, ap, ◌∙◌, arith, lit<, ne_eqb}
+use Rattle.std.proofs.lemmas.Bool.{not_from_false}
 use seplogic.Ra.Ura.{Ura}
 use mir.Syntax.{w8, w64, ty_int, ty_array}
 use mir.Val.{Val, vint, vptr}

@@ -1,7 +1,5 @@
 -- Ranges of a list of bytes into which others were written.
-use Rattle.std.proofs.Common.{◌≡◌, ℕ, ◌+◌, ◌≤◌, List, length, take, drop, arith}
-use Rattle.std.proofs.lemmas.List.{same_lists, places}
-use Rattle.vc_model.specs.Bytes.{with_bytes}
+use Rattle.vc_base.proofs.Common.{◌≡◌, ℕ, ◌+◌, ◌≤◌, List, length, take, drop, arith, places, same_lists, with_bytes}
 
 -- a range before them
 pub range-before : (off : ℕ) (src bytes : List ℕ) (from size : ℕ) → off + length src ≤ length bytes → from + size ≤ off → take size (drop from (with_bytes off src bytes)) ≡ take size (drop from bytes)

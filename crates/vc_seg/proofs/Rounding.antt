@@ -1,9 +1,8 @@
 -- Numbers that are rounded up.
-use Rattle.std.proofs.Common.{◌≡◌, ℕ, ◌+◌, ◌-◌, ◌*◌, ◌/◌, ◌%◌, ◌<◌, ◌≤◌, ap, sym, ◌∙◌, arith}
+use Rattle.vc_base.proofs.Common.{◌≡◌, ℕ, ◌+◌, ◌-◌, ◌*◌, ◌/◌, ◌%◌, ◌<◌, ◌≤◌, sym, ap, ◌∙◌, arith, IsSegmentSize, round_up}
 use Rattle.std.proofs.Math.Nat.{mul-mod_right}
 use Rattle.std.proofs.lemmas.Nat.{mul-mod_first}
-use Rattle.vc_model.specs.Discipline.{IsRound, IsSegmentSize}
-use Rattle.vc_model.specs.Segments.{round_up}
+use Rattle.vc_model.specs.Discipline.{IsRound}
 
 pub round_up-least : (n unit : ℕ) → 1 ≤ unit → n ≤ round_up n unit
 round_up-least n unit h = omega arith

@@ -1,11 +1,7 @@
 -- What stands at a number of a shelf after a change of one slot, or with one slot more.
-use Rattle.std.proofs.Common.{◌≡◌, ℕ, zero, suc, ◌+◌, ◌-◌, ◌<◌, ◌≤◌, false, Option, Some, List, [], ◌∷◌, ◌++◌, length, set, eqb, refl, ap, ◌∙◌, arith}
-use Rattle.std.specs.Option.{option_map}
-use Rattle.std.specs.List.{slice_get}
-use Rattle.std.proofs.lemmas.Bool.Decides.{nat_tests}
-use Rattle.std.proofs.lemmas.Option.{slice_get-map, gets}
+use Rattle.vc_base.proofs.Common.{◌≡◌, ℕ, zero, suc, ◌+◌, ◌-◌, ◌<◌, ◌≤◌, false, eqb, List, [], ◌∷◌, ◌++◌, length, set, slice_get, Some, Option, option_map, refl, ap, ◌∙◌, arith, nat_tests, slice_get-map, Discipline}
+use Rattle.std.proofs.lemmas.Option.{gets}
 use Rattle.std.proofs.Math.ListN.{length-map}
-use Rattle.vc_model.specs.Discipline.{Discipline}
 use Rattle.vc_seg.specs.declared.shelf.ShelfPlace.TheVariants.{Taken}
 use Rattle.vc_seg.specs.Shelf.{slots_of, slot_at, standing, place_at}
 

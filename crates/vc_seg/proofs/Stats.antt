@@ -1,10 +1,5 @@
 -- The numbers of a region say nothing of the labels of its blocks.
-use Rattle.std.proofs.Common.{◌≡◌, ℕ, List, length, map, ap, ◌∙◌}
-use Rattle.std.specs.Prelude.{sum}
-use Rattle.std.proofs.lemmas.List.{length-map}
-use Rattle.vc_model.specs.Gap.{Run, bytes_of}
-use Rattle.vc_model.specs.Layout.{Layout, relabel_block, relabel_layout}
-use Rattle.vc_model.specs.Numbers.{block_sizes, gaps_of, greatest, segment_bytes, segment_count}
+use Rattle.vc_base.proofs.Common.{◌≡◌, ℕ, List, map, length, sum, ap, ◌∙◌, length-map, Run, bytes_of, Layout, relabel_block, relabel_layout, block_sizes, gaps_of, greatest, segment_bytes, segment_count}
 use Rattle.vc_model.proofs.Relabel.{block_sizes-relabel, gaps_of-relabel}
 use Rattle.vc_seg.specs.Stat.{layout_stat}
 use Rattle.vc_seg.specs.declared.stat.Stat.{Stat}

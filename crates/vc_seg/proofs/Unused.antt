@@ -1,10 +1,5 @@
 -- The least number that isn't used.
-use Rattle.std.proofs.Common.{◌≡◌, ℕ, zero, suc, ◌+◌, ◌-◌, ◌<◌, ◌≤◌, ◌≢◌, List, [], ◌∷◌, All, Bool, true, false, length, get_or, map, ap, refl, ⊎_elim, cond, eqb, ltb, leb, ◌&&◌, arith}
-use Rattle.std.specs.List.{list_any}
-use Rattle.std.proofs.lemmas.Bool.{cases_Bool, or_cases, or_left, or_right, eq-eqb, eqb-true, ne_eqb}
-use Rattle.std.proofs.lemmas.List.Elements.{All-head, All-tail}
-use Rattle.std.proofs.lemmas.Bool.Decides.{nat_tests}
-use Rattle.vc_model.specs.Segments.{unused_from, lowest_unused, numbers}
+use Rattle.vc_base.proofs.Common.{◌≡◌, ℕ, zero, suc, ◌+◌, ◌-◌, ◌<◌, ◌≤◌, Bool, true, false, cond, ◌&&◌, eqb, ltb, leb, ◌≢◌, List, [], ◌∷◌, map, length, get_or, All, refl, ap, ⊎_elim, arith, eq-eqb, ne_eqb, eqb-true, nat_tests, cases_Bool, or_cases, or_left, or_right, All-head, All-tail, list_any, lowest_unused, numbers, unused_from}
 
 abbrev pub is_among : ℕ → List ℕ → Bool
 is_among n used = list_any (λ m. eqb m n) used

@@ -1,5 +1,5 @@
 -- The machine values of the crate's structs: what is owned tells them, and is made of nothing.
-use Rattle.std.proofs.Common.{◌≡◌, ℕ, ◌^◌, ◌<◌, List, [], ◌∷◌, ◌++◌, refl, ◌∙◌, lit<, w64}
+use Rattle.vc_base.proofs.Common.{◌≡◌, ℕ, ◌^◌, ◌<◌, List, [], ◌∷◌, ◌++◌, refl, ◌∙◌, lit<, w64}
 use seplogic.Ra.Ura.{Ura}
 use mir.Syntax.{ty_int, ty_ptr, ty_struct, tcons, tnil}
 use mir.Val.{Val, vint, vstruct, vcons, vnil, of_list}

@@ -1,5 +1,5 @@
 -- What the walks share. Assumes `Logic`.
-use Rattle.std.proofs.Common.{◌≡◌, ℕ, zero, suc, List, [], ◌∷◌}
+use Rattle.vc_base.proofs.Common.{◌≡◌, ℕ, zero, suc, List, [], ◌∷◌}
 use lib.Dec.{T}
 use seplogic.Ra.Ura.{Ura}
 use mir.Syntax.{Body, given as dict_at}

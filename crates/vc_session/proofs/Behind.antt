@@ -1,10 +1,6 @@
 -- What stands behind the replies of a run, and the run with it.
-use Rattle.std.proofs.Common.{◌≡◌, ℕ, ◌+◌, ◌<◌, ◌≤◌, ◌^◌, Bool, true, false, List, [], ◌∷◌, ◌++◌, Option, Some, None, Ok, length, take, map, codes, decimal, refl, sym, ap, ◌∙◌, subst, arith, suc, zero, add-one}
-use Rattle.std.specs.Prelude.{IfSome, slice_get}
-use Rattle.std.specs.List.{AllByRecursion, list_all, zip}
-use Rattle.std.proofs.lemmas.Bool.{and_parts, false≢true}
+use Rattle.vc_base.proofs.Common.{◌≡◌, ℕ, zero, suc, ◌+◌, ◌^◌, ◌<◌, ◌≤◌, Bool, true, false, List, [], ◌∷◌, ◌++◌, map, length, take, IfSome, slice_get, Some, None, Ok, codes, decimal, Option, zip, sym, refl, ap, ◌∙◌, subst, append_assoc, append-nil, add-one, arith, take_all, and_parts, false≢true, map-append, AllByRecursion, list_all, Discipline}
 use Rattle.std.proofs.lemmas.Grind.{flat_map-append}
-use Rattle.std.proofs.lemmas.List.{append_assoc, append-nil, map-append, take_all}
 use Rattle.std.proofs.lemmas.List.Folds.{list_all-append}
 use Rattle.vc_commands.specs.Held.{home_of}
 use Rattle.vc_commands.specs.Home.{Home}
@@ -12,7 +8,6 @@ use Rattle.vc_commands.specs.declared.region.home.HomeEntry.{HomeEntry}
 use Rattle.vc_commands.specs.declared.region.labels.Labels.{Labels}
 use Rattle.vc_commands.specs.Labels.{name_of}
 use Rattle.vc_counts.specs.declared.counts.Counts.{Counts}
-use Rattle.vc_model.specs.Discipline.{Discipline}
 use Rattle.vc_base.proofs.Quantifiers.{all-append}
 use Rattle.vc_region.specs.Cells.{rest_in}
 use Rattle.vc_region.specs.Parts.{region_of}

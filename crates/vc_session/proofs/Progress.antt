@@ -1,11 +1,7 @@
 -- A run in its middle, and what each command adds to it.
-use Rattle.std.proofs.Common.{◌≡◌, ℕ, ◌+◌, ◌<◌, ◌≤◌, ◌^◌, Bool, true, false, not, cond, List, [], ◌∷◌, ◌++◌, Option, Some, None, length, map, max, refl, sym, ap, ◌∙◌, subst, arith}
-use Rattle.std.specs.Prelude.{IsTrue, sum, count_by}
-use Rattle.std.specs.List.{AllByRecursion}
-use Rattle.std.proofs.lemmas.List.{append_assoc, append-nil, map-append}
+use Rattle.vc_base.proofs.Common.{◌≡◌, ℕ, ◌+◌, ◌^◌, ◌<◌, ◌≤◌, max, Bool, true, false, cond, not, List, [], ◌∷◌, ◌++◌, map, length, IsTrue, Some, None, sum, count_by, Option, sym, refl, ap, ◌∙◌, subst, append_assoc, append-nil, arith, sum_by-append, map-append, AllByRecursion, Grant}
 use Rattle.std.proofs.lemmas.Grind.{flat_map-append}
-use Rattle.std.proofs.lemmas.List.Sums.{sum_by-append, sum_by_push}
-use Rattle.vc_model.specs.Segments.{Grant}
+use Rattle.std.proofs.lemmas.List.Sums.{sum_by_push}
 use Rattle.vc_base.proofs.Quantifiers.{all-push, all-weaken}
 use Rattle.vc_counts.specs.Counts.{live_bytes, counts_with_step}
 use Rattle.vc_counts.specs.declared.counts.Counts.{Counts}

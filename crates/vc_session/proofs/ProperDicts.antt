@@ -1,13 +1,9 @@
 -- Commands on dictionaries reply with names, and leave the labels of a region names.
-use Rattle.std.proofs.Common.{◌≡◌, ℕ, List, Option, Some, None, Bool, true, false, cond, sym, ap, ◌∙◌}
+use Rattle.vc_base.proofs.Common.{◌≡◌, ℕ, Bool, true, false, cond, List, Some, None, Option, sym, ap, ◌∙◌, is_list, Terms, Layout, relabel_layout, Done, Outcome, done_as}
 use Rattle.vc_base.specs.declared.dict_method.DictMethod.{DictMethod}
-use Rattle.vc_model.specs.Discipline.{Terms}
 use Rattle.vc_model.specs.Outcome as model
-use Rattle.vc_model.specs.Outcome.{Outcome, Done, done_as}
-use Rattle.vc_base.specs.Methods.{is_list}
 use Rattle.vc_dtdisc.specs.Objects.{Object, bytes_of, first_with}
 use Rattle.vc_dtdisc.specs.Rules.{Rules}
-use Rattle.vc_model.specs.Layout.{Layout, relabel_layout}
 use Rattle.vc_region.specs.Region.{OfBest, Region, layout_in}
 use Rattle.vc_region.proofs.Relabel.{layout-relabelled}
 use Rattle.vc_objects.specs.Insert.{Grown, insert, open_dictionary}

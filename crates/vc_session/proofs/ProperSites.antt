@@ -1,17 +1,5 @@
 -- The sites of a region's rows stay names, or the hyphen of the blocks without one.
-use Rattle.std.proofs.Common.{ℕ, List, [], ◌∷◌, Option, Some, None, map, Bool, true, false, cond, refl, ap}
-use Rattle.std.specs.Prelude.{ℤ, IsTrue, codes, ◌||◌}
-use Rattle.std.specs.List.{AllByRecursion}
-use Rattle.std.specs.Str.{bytes_eq}
-use Rattle.vc_model.specs.Best.{best_alloc, without_block_at}
-use Rattle.vc_model.specs.Compact.{cleared_layout, compacted_layout}
-use Rattle.vc_model.specs.Discipline.{Terms}
-use Rattle.vc_model.specs.Last.{last_alloc, last_free, last_resize}
-use Rattle.vc_model.specs.Layout.{Block, Layout}
-use Rattle.vc_model.specs.Outcome.{Outcome, Done, Refused, Put, done_as, outcome_as}
-use Rattle.vc_model.specs.Pool.{pool_alloc, pool_resize}
-use Rattle.vc_model.specs.Resize.{best_resize}
-use Rattle.vc_model.specs.Touch.{with_bytes_at}
+use Rattle.vc_base.proofs.Common.{ℕ, Bool, true, false, cond, ◌||◌, List, [], ◌∷◌, map, ℤ, IsTrue, Some, None, codes, Option, bytes_eq, refl, ap, AllByRecursion, best_alloc, without_block_at, cleared_layout, compacted_layout, Terms, last_alloc, last_free, last_resize, Block, Layout, Done, Outcome, Put, Refused, done_as, outcome_as, pool_alloc, pool_resize, best_resize, with_bytes_at}
 use Rattle.vc_audit.specs.Debug.{debug_alloc, debug_resize}
 use Rattle.vc_audit.specs.Profile.{Profile, rows_with_peaks, profile_after, row_of, with_site}
 use Rattle.vc_region.specs.Region.{OfBest, OfPool, OfLast, OfDebug, OfProfile, Region, region_align, region_alloc, region_clear, region_compact, region_free, region_poke, region_resize, region_watch, region_write}

@@ -1,17 +1,8 @@
 -- A step of a command whose names are names replies with names, and leaves a state with names.
-use Rattle.std.proofs.Common.{◌≡◌, ℕ, ◌+◌, List, [], ◌∷◌, ◌++◌, Option, Some, None, option_map, map, length, take, drop, Bool, true, false, cond, ◌&&◌, refl, sym, ap, ◌∙◌, subst}
+use Rattle.vc_base.proofs.Common.{◌≡◌, ℕ, ◌+◌, Bool, true, false, cond, not, ◌&&◌, List, [], ◌∷◌, ◌++◌, map, length, take, drop, ℤ, IfSome, IsTrue, nat_le, Some, None, Option, option_map, find, filter_map, bytes_eq, Ordering, Less, Equal, Greater, sym, refl, ap, ◌∙◌, subst, bytes_eq-Decides, AllByRecursion, cons_option, list_any, Terms, Block, relabel_block, at_number, Done, Outcome, Put, Refused, outcome_as, block_at, by_address, segment_at}
 use Rattle.std.specs.Ordering.{eq_by_cmp}
-use Rattle.std.specs.declared.cmp.Ordering.{Ordering}
-use Rattle.std.specs.declared.cmp.Ordering.TheVariants.{Less, Equal, Greater}
 use Rattle.std.specs.FinMap.Entries.{by_order}
-use Rattle.std.specs.Prelude.{ℤ, IsTrue, not, IfSome, find, nat_le}
-use Rattle.std.specs.List.{AllByRecursion, cons_option, filter_map, list_any}
-use Rattle.vc_model.specs.Discipline.{Terms}
-use Rattle.vc_model.specs.Layout.{Block, relabel_block}
-use Rattle.vc_model.specs.Outcome.{Outcome, Done, Refused, Put, outcome_as}
 use Rattle.vc_region.specs.Region.{Region, blocks_of, region_align, region_alloc, region_clear, region_compact, region_free, region_resize, region_write, aligns, damaged_in, is_debug, is_profile, keeps_freed, region_poke, region_watch, region_with_labels, rows_in, watch_at, OfBest, layout_in}
-use Rattle.vc_model.specs.Numbered.{at_number}
-use Rattle.vc_model.specs.Walk.{block_at, by_address, segment_at}
 use Rattle.vc_region.specs.Region.{segments_of}
 use Rattle.vc_model.proofs.Relabel.{block_at-relabel, by_address-relabel}
 use Rattle.vc_region.proofs.Relabel.{align-relabelled, alloc-relabelled, blocks-relabelled, clear-relabelled, compact-relabelled, damaged-relabelled, free-relabelled, marks-relabelled, poke-relabelled, relabel_freed, resize-relabelled, write-relabelled}
@@ -41,13 +32,11 @@ use Rattle.vc_steps.specs.Step.{cleared_or, region_of_command, region_step, shel
 use Rattle.vc_commands.specs.RegionCommands.{in_region, is_for_block}
 use Rattle.vc_steps.specs.Dicts.{dict_changed, dict_command, dict_of, dict_opened, dict_refused, dict_shut, look_step, on_found, on_seat, open_dict_in, open_dict_unless, seat_at_home, shut_in, view_set}
 use Rattle.vc_session.proofs.ProperDicts.{IsProperGrown, proper-best, proper-in_dict, proper-layout, proper-open, proper-region_without}
-use Rattle.std.proofs.lemmas.Slice.Eq.{bytes_eq-Decides}
 use Rattle.vc_base.specs.declared.dict_method.DictMethod.{DictMethod}
 use Rattle.vc_dtdisc.specs.Rules.{Rules}
 use Rattle.vc_objects.specs.Insert.{Grown, open_dictionary}
 use Rattle.vc_objects.specs.Remove.{region_without}
 use Rattle.vc_commands.specs.DictCommands.{in_dict, is_for_table}
-use Rattle.std.specs.Str.{bytes_eq}
 use Rattle.vc_session.specs.ProperState.{AreProperNames, HasProperSites, IsProperHome, IsProperRegion, IsProperState, name_or_none}
 use Rattle.vc_commands.specs.Audit.{check_in, damage_item, is_poke, poke_block, poke_byte, profile_in, watch_block}
 use Rattle.vc_session.proofs.ProperSites.{HasSitesAfter, HasSitesFreed, clear-sites, compact-sites, free-sites, poke-sites, resize-sites, row-site_of, sites-align, sites-alloc, watch-sites, write-sites}

@@ -1,12 +1,10 @@
 -- A quiet run can count on.
-use Rattle.std.proofs.Common.{◌≡◌, ℕ, ◌<◌, ◌≤◌, Bool, List, [], map, Result, Ok, Err, OnOk, arith, ap, sym}
-use Rattle.std.specs.Prelude.{IfOk, IsTrue, sum}
+use Rattle.vc_base.proofs.Common.{◌≡◌, ℕ, ◌<◌, ◌≤◌, Bool, List, [], map, IfOk, OnOk, IsTrue, Ok, Err, sum, Result, sym, ap, arith, Discipline}
 use Rattle.vc_counts.specs.CanCount.{CanCount}
 use Rattle.vc_counts.specs.Counts.{live_bytes, nothing_counted}
 use Rattle.vc_counts.specs.declared.counts.Counts.{Counts}
 use Rattle.vc_commands.specs.Held.{home_of}
 use Rattle.vc_dtdisc.specs.Rules.{Rules}
-use Rattle.vc_model.specs.Discipline.{Discipline}
 use Rattle.vc_region.specs.Stat.{stat_of}
 use Rattle.vc_seg.specs.declared.shelf.Shelf.{Shelf}
 use Rattle.vc_session.specs.Progress.{CanCountOn}

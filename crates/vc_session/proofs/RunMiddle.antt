@@ -1,8 +1,5 @@
 -- A run in its middle, and what each line adds to it.
-use Rattle.std.proofs.Common.{Ok, ◌≡◌, ℕ, ◌+◌, Bool, List, [], ◌∷◌, ◌++◌, Option, Some, None, length, refl, sym, ap, ◌∙◌, subst, arith}
-use Rattle.std.specs.Prelude.{IsTrue}
-use Rattle.std.proofs.lemmas.List.{append_assoc, length_push}
-use Rattle.std.proofs.lemmas.Option.{none-some, same_Some}
+use Rattle.vc_base.proofs.Common.{◌≡◌, ℕ, ◌+◌, Bool, List, [], ◌∷◌, ◌++◌, length, IsTrue, Some, None, Ok, Option, sym, refl, ap, ◌∙◌, subst, append_assoc, arith, length_push, none-some, same_Some}
 use Rattle.vc_base.proofs.Quantifiers.{all-push}
 use Rattle.vc_counts.specs.declared.counts.Counts.{Counts}
 use Rattle.vc_script.specs.declared.command.Command.{Command}

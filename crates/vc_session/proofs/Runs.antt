@@ -1,8 +1,6 @@
 -- A run with one more step.
-use Rattle.std.proofs.Common.{◌≡◌, ℕ, List, [], ◌∷◌, ◌++◌, max, arith, sym, ap, ◌∙◌}
-use Rattle.vc_model.specs.Segments.{Grant}
+use Rattle.vc_base.proofs.Common.{◌≡◌, ℕ, max, List, [], ◌∷◌, ◌++◌, sym, ap, ◌∙◌, append_assoc, append-nil, arith, Grant}
 use Rattle.vc_counts.specs.Counts.{live_bytes}
-use Rattle.std.proofs.lemmas.List.{append_assoc, append-nil}
 use Rattle.vc_script.specs.declared.command.Command.{Command}
 use Rattle.vc_script.specs.declared.reply.Reply.{Reply}
 use Rattle.vc_script.specs.Needs.{Need, need_at}

@@ -1,6 +1,5 @@
 -- What lasts of a session, from one time to the next.
-use Rattle.std.proofs.Common.{List, refl, ◌∙◌}
-use Rattle.vc_model.specs.Discipline.{Discipline}
+use Rattle.vc_base.proofs.Common.{List, refl, ◌∙◌, Discipline}
 use Rattle.vc_dtdisc.specs.Rules.{Rules}
 use Rattle.vc_seg.specs.declared.shelf.Shelf.{Shelf}
 use Rattle.vc_steps.specs.declared.session.Session.{Session}

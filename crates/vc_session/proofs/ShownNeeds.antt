@@ -1,12 +1,6 @@
 -- The needs that a text shows, whatever is behind it; of a quiet one, whatever lines without a number in front.
-use Rattle.std.proofs.Common.{◌≡◌, ◌≢◌, ℕ, ◌<◌, ◌^◌, Bool, true, false, not, cond, eqb, ◌||◌, List, [], ◌∷◌, ◌++◌, length, map, refl, sym, ap, subst, ◌∙◌, arith, codes, decimal}
-use Rattle.std.specs.List.{list_all, list_any, AllByRecursion, flat_map}
-use Rattle.std.specs.Str.{bytes_eq}
-use Rattle.std.proofs.lemmas.Bool.{and_parts, false≢true, false_from_ne_true, cases_Bool, not-true}
+use Rattle.vc_base.proofs.Common.{◌≡◌, ℕ, ◌^◌, ◌<◌, Bool, true, false, cond, not, ◌||◌, eqb, ◌≢◌, List, [], ◌∷◌, ◌++◌, map, length, codes, decimal, flat_map, bytes_eq, sym, refl, ap, ◌∙◌, subst, append_assoc, append-nil, arith, and_parts, cases_Bool, false_from_ne_true, false≢true, not-true, list_any-append, bytes_eq-Decides, AllByRecursion, list_all, list_any}
 use Rattle.std.proofs.lemmas.Fmt.{decimal_injective, decimal_nonempty}
-use Rattle.std.proofs.lemmas.List.{append-nil, append_assoc}
-use Rattle.std.proofs.lemmas.List.Folds.{list_any-append}
-use Rattle.std.proofs.lemmas.Slice.Eq.{bytes_eq-Decides}
 use Rattle.vc_script.specs.declared.refusal.Refusal.TheVariants.{NoSegment, NoSegmentForTable, NoSegmentForObject}
 use Rattle.vc_script.specs.declared.reply.Reply.{Reply}
 use Rattle.vc_script.specs.declared.reply.Reply.TheVariants.{Number, Refused}

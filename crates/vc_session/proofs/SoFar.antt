@@ -1,10 +1,5 @@
 -- A run of lines that come in pieces: what was run so far, and what is left.
-use Rattle.std.proofs.Common.{◌≡◌, ◌≢◌, ℕ, ◌+◌, ◌≤◌, ◌<◌, Bool, List, [], ◌∷◌, ◌++◌, Option, Some, None, Result, Ok, Err, length, take, drop, refl, sym, ap, ◌∙◌, subst, arith, inl, inr}
-use Rattle.std.specs.Prelude.{IfErr, IfSome, IsOk, IsTrue}
-use Rattle.std.specs.List.{AllByRecursion}
-use Rattle.std.proofs.lemmas.Bool.Decides.{eqb_tells}
-use Rattle.std.proofs.lemmas.List.{append_assoc, append-nil, drop_all, length-take-le, length_push, take-append-drop}
-use Rattle.std.proofs.lemmas.Option.{none-some, same_Some}
+use Rattle.vc_base.proofs.Common.{◌≡◌, ℕ, ◌+◌, ◌<◌, ◌≤◌, Bool, ◌≢◌, List, [], ◌∷◌, ◌++◌, length, take, drop, IfSome, IfErr, IsOk, IsTrue, Some, None, Ok, Err, Option, Result, sym, refl, ap, ◌∙◌, subst, inl, inr, append_assoc, append-nil, arith, take-append-drop, length-take-le, eqb_tells, drop_all, length_push, none-some, same_Some, AllByRecursion}
 use Rattle.vc_counts.specs.declared.counts.Counts.{Counts}
 use Rattle.vc_model.specs.Stream.{Reads, Takes}
 use Rattle.vc_base.proofs.Quantifiers.{all-append}

@@ -1,7 +1,5 @@
 -- What a tool promises, by whether its words are taken.
-use Rattle.std.proofs.Common.{◌≡◌, Option, Some, None, refl, sym, subst}
-use Rattle.std.proofs.lemmas.Option.{none-some}
-use Rattle.std.specs.Prelude.{IsSome}
+use Rattle.vc_base.proofs.Common.{◌≡◌, IsSome, Some, None, Option, sym, refl, subst, none-some}
 use Rattle.vc_script.specs.declared.tool.Tool.{Tool}
 use Rattle.vc_steps.specs.Moment.{Moment}
 use Rattle.vc_session.proofs.StatusDue.{completes}

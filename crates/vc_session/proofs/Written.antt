@@ -1,8 +1,5 @@
 -- What a sink tells as a piece is written in parts.
-use Rattle.std.proofs.Common.{◌≡◌, ℕ, ◌+◌, List, ◌++◌, Option, Some, None, take, drop, sym, ap, ◌∙◌, subst}
-use Rattle.std.specs.Prelude.{IfSome}
-use Rattle.std.proofs.lemmas.List.{append_assoc}
-use Rattle.std.proofs.Math.Seq.{take-add}
+use Rattle.vc_base.proofs.Common.{◌≡◌, ℕ, ◌+◌, List, ◌++◌, take, drop, IfSome, Some, None, Option, sym, ap, ◌∙◌, subst, append_assoc, take-add}
 use Rattle.vc_model.specs.Stream.{Writes}
 
 told-more : (w : List ℕ) (now after : Option (List ℕ)) (piece : List ℕ) (done n : ℕ) → now ≡ Some (w ++ take done piece) → IfSome now (λ bytes. after ≡ Some (bytes ++ take n (drop done piece))) → after ≡ Some (w ++ take (done + n) piece)

@@ -1,7 +1,6 @@
 -- Which step of a splay comes, by what is read.
-use Rattle.std.proofs.Common.{◌≡◌, ◌≢◌, ℕ, ◌==◌, Bool, true, false, not, cond, refl, sym, ap, ◌∙◌, arith, subst}
+use Rattle.vc_base.proofs.Common.{◌≡◌, ℕ, Bool, true, false, cond, not, ◌≢◌, ◌==◌, sym, refl, ap, ◌∙◌, subst, true≢false, arith}
 use mathlib.Core.Bool.{beq}
-use Rattle.std.proofs.lemmas.Bool.{true≢false}
 use Rattle.vc_splay.specs.Tree.{Tree}
 use Rattle.vc_splay.specs.Store.{Store, with_kid}
 use Rattle.vc_splay.specs.Writes.{AreTurned, with_child, with_parent_of, zig_zag, zig_zig}

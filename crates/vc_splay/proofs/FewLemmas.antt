@@ -1,10 +1,5 @@
 -- A tree has at most 2^32 names, since each is there and none stands twice.
-use Rattle.std.proofs.Common.{◌≡◌, ℕ, zero, suc, ◌+◌, ◌<◌, ◌≤◌, ◌^◌, List, [], ◌∷◌, Bool, true, false, length, inl, inr, refl, sym, ap, ◌∙◌, arith, length-append}
-use Rattle.std.specs.List.{list_any, AllByRecursion, IsDistinct}
-use Rattle.std.proofs.Math.Dec.{eqb}
-use Rattle.std.proofs.lemmas.Bool.{cases_lt, true≢false, ne_eqb}
-use Rattle.std.proofs.lemmas.Bool.Decides.{eqb_tells}
-use Rattle.std.proofs.lemmas.Map.Steps.{length-le_from_distinct_below}
+use Rattle.vc_base.proofs.Common.{◌≡◌, ℕ, zero, suc, ◌+◌, ◌^◌, ◌<◌, ◌≤◌, Bool, true, false, eqb, List, [], ◌∷◌, length, sym, refl, ap, ◌∙◌, inl, inr, true≢false, arith, length-append, ne_eqb, eqb_tells, cases_lt, length-le_from_distinct_below, AllByRecursion, IsDistinct, list_any}
 use Rattle.vc_splay.specs.Tree.{Tree, names}
 use Rattle.vc_splay.specs.Store.{Store}
 use Rattle.vc_splay.specs.Walks.{run}

@@ -1,10 +1,5 @@
 -- Lists along which a guide's answers never fall.
-use Rattle.std.proofs.Common.{◌≡◌, ℕ, ◌≤◌, Bool, true, false, cond, List, [], ◌∷◌, ◌++◌, Option, Some, None, refl, sym, ap, ◌∙◌, arith}
-use Rattle.std.specs.Option.{option_or}
-use Rattle.std.specs.Ordering.{is_eq, is_ge, is_gt, ordering_index}
-use Rattle.std.specs.declared.cmp.Ordering.{Ordering}
-use Rattle.std.specs.declared.cmp.Ordering.TheVariants.{Less, Equal, Greater}
-use Rattle.std.proofs.lemmas.Bool.{true≢false}
+use Rattle.vc_base.proofs.Common.{◌≡◌, ℕ, ◌≤◌, Bool, true, false, cond, List, [], ◌∷◌, ◌++◌, Some, None, Option, is_eq, is_gt, is_ge, Ordering, Less, Equal, Greater, sym, refl, ap, ◌∙◌, true≢false, arith, option_or, ordering_index}
 use Rattle.std.proofs.lemmas.List.Folds.{find-append}
 use Rattle.vc_splay.specs.Guide.{RisesFrom, first_at, least_at, order_with_name}
 

@@ -1,5 +1,5 @@
 -- What a new child of a node does to the links, and to the trees that stand.
-use Rattle.std.proofs.Common.{◌≡◌, ◌≢◌, ℕ, ◌+◌, ◌≤◌, Bool, true, false, not, refl, sym, ap, ◌∙◌, arith, subst}
+use Rattle.vc_base.proofs.Common.{◌≡◌, ℕ, ◌+◌, ◌≤◌, Bool, true, false, not, ◌≢◌, sym, refl, ap, ◌∙◌, subst, arith}
 use Rattle.vc_splay.specs.Tree.{Tree, Leaf, Node, name_of}
 use Rattle.vc_splay.specs.Store.{Store, SameLinks, with_kid}
 use Rattle.vc_splay.specs.Writes.{CanHang, with_child, with_parent_of}

@@ -1,10 +1,5 @@
 -- A walk down to the place of a new name, and the tree with that name in it.
-use Rattle.std.proofs.Common.{◌≡◌, ◌≢◌, ℕ, ◌+◌, ◌<◌, ◌≤◌, ◌^◌, Bool, true, false, not, cond, List, [], ◌∷◌, ◌++◌, length, refl, sym, ap, ◌∙◌, arith, subst, append_assoc, length-append, inl, inr}
-use Rattle.std.specs.Ordering.{is_gt, ordering_index}
-use Rattle.std.specs.declared.cmp.Ordering.{Ordering}
-use Rattle.std.proofs.lemmas.Bool.{true≢false}
-use Rattle.std.proofs.lemmas.Bool.Decides.{eqb_tells}
-use Rattle.vc_base.specs.Holders.{contains}
+use Rattle.vc_base.proofs.Common.{◌≡◌, ℕ, ◌+◌, ◌^◌, ◌<◌, ◌≤◌, Bool, true, false, cond, not, ◌≢◌, List, [], ◌∷◌, ◌++◌, length, is_gt, Ordering, sym, refl, ap, ◌∙◌, subst, inl, inr, true≢false, append_assoc, arith, length-append, eqb_tells, ordering_index, contains}
 use Rattle.vc_splay.specs.Tree.{Tree, Leaf, Node, names, name_of}
 use Rattle.vc_splay.specs.Store.{Store, SameLinks, with_kid}
 use Rattle.vc_splay.specs.Stands.{IsTree, Stands, TreeAfter}

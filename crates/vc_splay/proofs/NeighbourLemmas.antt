@@ -1,7 +1,6 @@
 -- The ends of a tree's names, and the neighbours of one of them.
-use Rattle.std.proofs.Common.{◌≡◌, ◌≢◌, ℕ, ◌==◌, List, [], ◌∷◌, ◌++◌, Bool, true, false, not, cond, Some, None, refl, sym, ap, ◌∙◌, arith, subst, append_assoc}
-use Rattle.std.proofs.lemmas.Bool.{cases_lt, true≢false, eq-eqb, ne_eqb}
-use Rattle.vc_base.specs.Holders.{AreDistinct, contains, first_in, first_of, last_in, last_of, next_in, previous_in, some_address}
+use Rattle.vc_base.proofs.Common.{◌≡◌, ℕ, Bool, true, false, cond, not, ◌≢◌, List, [], ◌∷◌, ◌++◌, ◌==◌, Some, None, sym, refl, ap, ◌∙◌, subst, inl, inr, true≢false, append_assoc, arith, eq-eqb, ne_eqb, cases_lt, AreDistinct, contains, first_in, first_of, last_in, next_in, previous_in, some_address}
+use Rattle.vc_base.specs.Holders.{last_of}
 use Rattle.vc_base.proofs.Members.{apart-head, apart-tail, next_in-split, previous_in-split, first-apart}
 use Rattle.vc_splay.specs.Tree.{Tree, Leaf, Node, names, name_of}
 use Rattle.vc_splay.specs.Store.{Store}
@@ -13,7 +12,6 @@ use Rattle.vc_splay.proofs.SplayLemmas.{tally-within}
 use Rattle.vc_splay.proofs.StandsLemmas.{some_held}
 use Rattle.vc_splay.proofs.StepLemmas.{Stands-held}
 use Rattle.vc_splay.proofs.TallyLemmas.{apart-count, count-append, count-apart, one-same, within-count}
-use Rattle.std.proofs.Common.{inl, inr}
 
 -- the names before a part of a tree, and those behind it
 unfoldable pub before : Context → List ℕ

@@ -1,7 +1,5 @@
 -- A tree taken apart at one of its names, and what is round a part of it.
-use Rattle.std.proofs.Common.{◌≡◌, ℕ, ◌≤◌, true, false, ap, arith, inl, inr}
-use Rattle.std.proofs.lemmas.Bool.{cases_lt}
-use Rattle.std.proofs.lemmas.Bool.Decides.{eqb_tells}
+use Rattle.vc_base.proofs.Common.{◌≡◌, ℕ, ◌≤◌, true, false, ap, inl, inr, arith, eqb_tells, cases_lt}
 use Rattle.vc_splay.specs.Tree.{Tree, Leaf, Node, name_of}
 use Rattle.vc_splay.specs.Store.{Store}
 use Rattle.vc_splay.specs.Stands.{Stands}

@@ -1,5 +1,5 @@
 -- Trees that a rotation turns into one another have their names in the same order.
-use Rattle.std.proofs.Common.{◌≡◌, ℕ, ◌+◌, Bool, true, false, not, ◌∷◌, ◌++◌, refl, sym, ap, ◌∙◌, append_assoc}
+use Rattle.vc_base.proofs.Common.{◌≡◌, ℕ, ◌+◌, Bool, true, false, not, ◌∷◌, ◌++◌, sym, refl, ap, ◌∙◌, append_assoc}
 use Rattle.vc_splay.specs.Tree.{Tree, Node, names}
 use Rattle.vc_splay.specs.Moves.{Context, Top, Under, joined_tree, plug, tally, tally_round}
 use Rattle.vc_splay.proofs.TallyLemmas.{tally-list, tally-plug}

@@ -1,10 +1,5 @@
 -- A walk down a tree that is led by a guide.
-use Rattle.std.proofs.Common.{◌≡◌, ◌≢◌, ℕ, zero, suc, ◌+◌, ◌<◌, ◌≤◌, ◌^◌, ◌==◌, Bool, true, false, not, cond, ◌∷◌, ◌++◌, Option, Some, None, length, refl, sym, ap, ◌∙◌, arith, subst, length-append, ◌&&◌}
-use Rattle.std.specs.Option.{option_or}
-use Rattle.std.specs.Ordering.{is_eq, is_ge, ordering_index}
-use Rattle.std.specs.declared.cmp.Ordering.{Ordering}
-use Rattle.std.proofs.lemmas.Bool.{ne_eqb}
-use Rattle.vc_base.specs.Holders.{contains, some_address}
+use Rattle.vc_base.proofs.Common.{◌≡◌, ℕ, zero, suc, ◌+◌, ◌^◌, ◌<◌, ◌≤◌, Bool, true, false, cond, not, ◌&&◌, ◌≢◌, ◌∷◌, ◌++◌, length, ◌==◌, Some, None, Option, is_eq, is_ge, Ordering, sym, refl, ap, ◌∙◌, subst, arith, length-append, ne_eqb, option_or, ordering_index, contains, some_address}
 use Rattle.vc_splay.specs.Tree.{Tree, Leaf, Node, names, name_of}
 use Rattle.vc_splay.specs.Store.{Store}
 use Rattle.vc_splay.specs.Stands.{IsTree, Stands, TreeAfter}

@@ -1,6 +1,5 @@
 -- A splay, from its first step to the end.
-use Rattle.std.proofs.Common.{◌≡◌, ◌≢◌, ℕ, ◌+◌, ◌<◌, ◌≤◌, ◌^◌, Bool, true, false, List, refl, sym, ap, ◌∙◌, arith, subst}
-use Rattle.vc_base.specs.Holders.{AreDistinct, contains}
+use Rattle.vc_base.proofs.Common.{◌≡◌, ℕ, ◌+◌, ◌^◌, ◌<◌, ◌≤◌, Bool, true, false, ◌≢◌, List, sym, refl, ap, ◌∙◌, subst, arith, AreDistinct, contains}
 use Rattle.vc_splay.specs.Tree.{Tree, Node, names, name_of}
 use Rattle.vc_splay.specs.Store.{Store, SameLinks, with_parent}
 use Rattle.vc_splay.specs.Stands.{IsIn, IsTree, Stands, TreeAfter}

@@ -1,7 +1,5 @@
 -- Trees that stand in a store, where other links of it change.
-use Rattle.std.proofs.Common.{◌≡◌, ◌≢◌, ℕ, ◌+◌, ◌≤◌, ◌∷◌, Bool, true, false, not, refl, sym, ap, ◌∙◌, subst, ⊎_elim, arith}
-use Rattle.std.proofs.lemmas.Bool.{true≢false}
-use Rattle.vc_base.specs.Holders.{contains}
+use Rattle.vc_base.proofs.Common.{◌≡◌, ℕ, ◌+◌, ◌≤◌, Bool, true, false, not, ◌≢◌, ◌∷◌, sym, refl, ap, ◌∙◌, subst, ⊎_elim, true≢false, arith, contains}
 use Rattle.vc_base.proofs.Members.{within-cases, within-either}
 use Rattle.vc_splay.specs.Tree.{Tree, Leaf, Node, name_of, names}
 use Rattle.vc_splay.specs.Store.{Store, SameLinks}

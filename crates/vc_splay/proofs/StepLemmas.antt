@@ -1,7 +1,5 @@
 -- What one step of a splay does.
-use Rattle.std.proofs.Common.{◌≡◌, ◌≢◌, ℕ, ◌+◌, ◌≤◌, ◌==◌, Bool, true, false, not, refl, sym, ap, ◌∙◌, arith, subst, inl, inr}
-use Rattle.std.proofs.lemmas.Bool.{cases_lt, eq-eqb, ne_eqb}
-use Rattle.std.proofs.lemmas.Bool.Decides.{eqb_tells}
+use Rattle.vc_base.proofs.Common.{◌≡◌, ℕ, ◌+◌, ◌≤◌, Bool, true, false, not, ◌≢◌, ◌==◌, sym, refl, ap, ◌∙◌, subst, inl, inr, arith, eq-eqb, ne_eqb, eqb_tells, cases_lt}
 use Rattle.vc_splay.specs.Tree.{Tree, Leaf, Node, names, name_of}
 use Rattle.vc_splay.specs.Store.{Store}
 use Rattle.vc_splay.specs.Stands.{Stands}

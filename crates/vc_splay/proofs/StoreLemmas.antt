@@ -1,8 +1,5 @@
 -- What a written link is, and what it leaves.
-use Rattle.std.proofs.Common.{◌≡◌, ◌≢◌, ℕ, Bool, true, false, not, cond, ◌&&◌, ◌==◌, refl, sym, ◌∙◌, subst, inl, inr}
-use Rattle.std.proofs.lemmas.Bool.{eq-eqb, ne_eqb, true≢false}
-use Rattle.std.proofs.lemmas.Bool.Decides.{eqb_tells}
-use Rattle.std.proofs.Math.Bool.{and-false}
+use Rattle.vc_base.proofs.Common.{◌≡◌, ℕ, Bool, true, false, cond, not, ◌&&◌, ◌≢◌, ◌==◌, sym, refl, ◌∙◌, subst, inl, inr, true≢false, eq-eqb, ne_eqb, and-false, eqb_tells}
 use Rattle.vc_splay.specs.Store.{Store, with_kid, with_parent, is_same}
 use Rattle.vc_splay.specs.Writes.{with_kid_of, with_parent_of}
 

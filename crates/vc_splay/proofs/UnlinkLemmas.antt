@@ -1,7 +1,6 @@
 -- Two trees joined, and a tree without its root.
-use Rattle.std.proofs.Common.{◌≡◌, ◌≢◌, ℕ, ◌+◌, ◌≤◌, Bool, true, false, cond, List, [], ◌∷◌, ◌++◌, Some, None, refl, sym, ap, ◌∙◌, arith, subst, append_assoc, ◌==◌}
-use Rattle.std.proofs.lemmas.Bool.{ne_eqb}
-use Rattle.vc_base.specs.Holders.{AreDistinct, contains, last_in, last_of, some_address, without}
+use Rattle.vc_base.proofs.Common.{◌≡◌, ℕ, ◌+◌, ◌≤◌, Bool, true, false, cond, ◌≢◌, List, [], ◌∷◌, ◌++◌, ◌==◌, Some, None, sym, refl, ap, ◌∙◌, subst, append_assoc, arith, ne_eqb, AreDistinct, contains, last_in, some_address, without}
+use Rattle.vc_base.specs.Holders.{last_of}
 use Rattle.vc_base.proofs.Members.{first-apart, without-split}
 use Rattle.vc_base.proofs.Options.{some_same}
 use Rattle.vc_splay.specs.Tree.{Tree, Leaf, Node, names, name_of}

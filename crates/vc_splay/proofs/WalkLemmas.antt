@@ -1,7 +1,5 @@
 -- Walks down one side of a tree, and up from a part of one.
-use Rattle.std.proofs.Common.{◌≡◌, ◌≢◌, ℕ, zero, suc, ◌+◌, ◌<◌, ◌≤◌, ◌^◌, ◌∷◌, Bool, true, false, not, length, refl, sym, ap, ◌∙◌, arith, subst, length-append}
-use Rattle.std.proofs.lemmas.Bool.{ne_eqb}
-use Rattle.vc_base.specs.Holders.{AreDistinct}
+use Rattle.vc_base.proofs.Common.{◌≡◌, ℕ, zero, suc, ◌+◌, ◌^◌, ◌<◌, ◌≤◌, Bool, true, false, not, ◌≢◌, ◌∷◌, length, sym, refl, ap, ◌∙◌, subst, arith, length-append, ne_eqb, AreDistinct}
 use Rattle.vc_splay.specs.Tree.{Tree, Leaf, Node, names, name_of}
 use Rattle.vc_splay.specs.Store.{Store}
 use Rattle.vc_splay.specs.Stands.{Stands}

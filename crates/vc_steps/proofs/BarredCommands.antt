@@ -1,10 +1,5 @@
 -- When a view stands against a command, by numbers and by names.
-use Rattle.std.proofs.Common.{◌≡◌, ◌||◌, ℕ, true, false, cond, is_some, List, Some, refl, ap, ◌∙◌}
-use Rattle.std.specs.Prelude.{slice_get}
-use Rattle.std.specs.List.{IsDistinct}
-use Rattle.std.specs.Map.{keys_of}
-use Rattle.std.specs.Str.{bytes_eq}
-use Rattle.std.proofs.lemmas.Bool.{false≢true}
+use Rattle.vc_base.proofs.Common.{◌≡◌, ℕ, true, false, cond, ◌||◌, List, is_some, slice_get, Some, bytes_eq, refl, ap, ◌∙◌, false≢true, IsDistinct, keys_of}
 use Rattle.vc_dtdisc.specs.Rules.{Rules}
 use Rattle.vc_paths.specs.Links.{Links, below, is_viewed}
 use Rattle.vc_script.specs.Needs.{Need}

@@ -1,7 +1,5 @@
 -- A best region is its layout, with other labels, too.
-use Rattle.std.proofs.Common.{◌≡◌, true, refl, sym, ap, ◌∙◌}
-use Rattle.std.proofs.lemmas.Bool.{true≢false}
-use Rattle.vc_model.specs.Layout.{Layout, relabel_layout}
+use Rattle.vc_base.proofs.Common.{◌≡◌, true, sym, refl, ap, ◌∙◌, true≢false, Layout, relabel_layout}
 use Rattle.vc_best.specs.declared.best.Best as best
 use Rattle.vc_region.specs.Cells.{rest_in}
 use Rattle.vc_region.specs.declared.region.Region as code

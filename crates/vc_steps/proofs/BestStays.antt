@@ -1,13 +1,5 @@
 -- A command in a region leaves a best one best.
-use Rattle.std.proofs.Common.{◌≡◌, ℕ, ◌+◌, Bool, true, false, cond, ◌&&◌, List, Option, Some, None, refl, [], ◌∷◌}
-use Rattle.std.specs.Prelude.{ℤ, find, length, nat_le}
-use Rattle.vc_model.specs.Best.{best_alloc}
-use Rattle.vc_model.specs.Discipline.{Terms}
-use Rattle.vc_model.specs.Last.{last_alloc, last_free, last_resize}
-use Rattle.vc_model.specs.Layout.{Block, Layout}
-use Rattle.vc_model.specs.Outcome.{Outcome, Done, Put, Refused, done_as, outcome_as}
-use Rattle.vc_model.specs.Pool.{pool_alloc, pool_resize}
-use Rattle.vc_model.specs.Resize.{best_resize}
+use Rattle.vc_base.proofs.Common.{◌≡◌, ℕ, ◌+◌, Bool, true, false, cond, ◌&&◌, List, [], ◌∷◌, length, ℤ, nat_le, Some, None, Option, find, refl, best_alloc, Terms, last_alloc, last_free, last_resize, Block, Layout, Done, Outcome, Put, Refused, done_as, outcome_as, pool_alloc, pool_resize, best_resize}
 use Rattle.vc_audit.specs.Debug.{debug_alloc, debug_resize}
 use Rattle.vc_audit.specs.Profile.{profile_alloc, profile_resize}
 use Rattle.vc_region.specs.Region.{OfBest, OfPool, OfLast, OfDebug, OfProfile, Region, blocks_of, is_debug, is_profile, region_align, region_alloc, region_clear, region_compact, region_free, region_poke, region_resize, region_watch, region_write, region_with_labels, watch_at, is_best}

@@ -1,9 +1,5 @@
 -- One place of a list that is written.
-use Rattle.std.proofs.Common.{◌≡◌, ◌≢◌, ℕ, zero, suc, List, [], ◌∷◌, Some, None, map, option_map, refl, sym, ap, ◌∙◌, set, ◌-◌, ◌≤◌, arith}
-use Rattle.std.specs.Prelude.{remove, slice_get}
-use Rattle.std.proofs.lemmas.Bool.Decides.{nat_tests}
-use Rattle.vc_model.specs.Numbered.{at_number}
-use Rattle.std.proofs.lemmas.Option.{same_Some, none-some, slice_get-map}
+use Rattle.vc_base.proofs.Common.{◌≡◌, ℕ, zero, suc, ◌-◌, ◌≤◌, ◌≢◌, List, [], ◌∷◌, map, set, slice_get, Some, None, option_map, remove, sym, refl, ap, ◌∙◌, arith, nat_tests, none-some, same_Some, slice_get-map, at_number}
 
 pub slice_get-set_other : {A : Type 0} (xs : List A) (k j : ℕ) (y : A) → j ≢ k → slice_get (set xs k y) j ≡ slice_get xs j
 slice_get-set_other [] k j y other = refl

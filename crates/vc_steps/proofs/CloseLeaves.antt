@@ -1,13 +1,7 @@
 -- What closing a region leaves.
-use Rattle.std.proofs.Common.{◌≡◌, ◌≢◌, ℕ, ◌-◌, ◌≤◌, true, false, cond, List, [], ◌∷◌, Option, Some, None, length, map, option_map, set, take, zero, suc, refl, sym, ap, ◌∙◌, subst, arith}
-use Rattle.std.specs.Prelude.{remove, slice_get}
-use Rattle.std.specs.List.{AllByRecursion, list_any}
-use Rattle.std.proofs.lemmas.List.{append-nil, map-set, set_comm}
-use Rattle.std.proofs.lemmas.Option.{none-some, same_Some, slice_get-map}
-use Rattle.std.proofs.lemmas.Bool.{or_parts}
-use Rattle.vc_model.specs.Discipline.{Discipline, TookBack, HasOut}
+use Rattle.vc_base.proofs.Common.{◌≡◌, ℕ, zero, suc, ◌-◌, ◌≤◌, true, false, cond, ◌≢◌, List, [], ◌∷◌, map, length, take, set, slice_get, Some, None, Option, option_map, remove, sym, refl, ap, ◌∙◌, subst, append-nil, arith, or_parts, map-set, none-some, same_Some, slice_get-map, AllByRecursion, list_any, Discipline, HasOut, TookBack, at_number}
+use Rattle.std.proofs.lemmas.List.{set_comm}
 use Rattle.vc_region.specs.Region.{segments_of}
-use Rattle.vc_model.specs.Numbered.{at_number}
 use Rattle.vc_script.specs.declared.refusal.Refusal.TheVariants.{Busy}
 use Rattle.vc_script.specs.declared.reply.Reply.TheVariants.{Closed}
 use Rattle.vc_region.proofs.Relabel.{segments-relabelled}

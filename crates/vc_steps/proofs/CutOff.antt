@@ -1,5 +1,5 @@
 -- With no memory, a step that leaves the state as it was.
-use Rattle.std.proofs.Common.{◌≡◌, inl}
+use Rattle.vc_base.proofs.Common.{◌≡◌, inl}
 use Rattle.vc_script.specs.declared.command.Command.{Command}
 use Rattle.vc_script.specs.declared.command.Command.TheVariants.{Insert, Attach}
 use Rattle.vc_steps.specs.WantedSegments.{IsCutOff}

@@ -1,12 +1,5 @@
 -- The dictionary of a name, among those of a session.
-use Rattle.std.proofs.Common.{◌≡◌, ℕ, ◌<◌, ◌||◌, zero, suc, true, false, cond, is_some, List, [], ◌∷◌, Some, None, length, get_or, map, set, take, refl, sym, ap, ◌∙◌, subst, ⊎_elim, arith}
-use Rattle.std.specs.Prelude.{slice_get}
-use Rattle.std.specs.List.{list_any, position}
-use Rattle.std.specs.Str.{bytes_eq}
-use Rattle.std.specs.Map.{keys_of, lookup, values_of}
-use Rattle.std.proofs.lemmas.Bool.{cases_Bool, or_parts}
-use Rattle.std.proofs.lemmas.List.Quantifiers.{position-Some}
-use Rattle.std.proofs.lemmas.Option.{none-some, same_Some}
+use Rattle.vc_base.proofs.Common.{◌≡◌, ℕ, zero, suc, ◌<◌, true, false, cond, ◌||◌, List, [], ◌∷◌, map, length, get_or, take, set, is_some, slice_get, Some, None, position, bytes_eq, sym, refl, ap, ◌∙◌, subst, ⊎_elim, arith, cases_Bool, or_parts, position-Some, none-some, same_Some, list_any, keys_of, lookup, values_of}
 use Rattle.vc_base.proofs.Texts.{bytes_eq-swapped, same_bytes}
 use Rattle.indexmap.specs.IndexMap.{set_value_at}
 use Rattle.vc_objects.specs.Objects.{Dictionary}

@@ -1,9 +1,5 @@
 -- The command that ends a dictionary.
-use Rattle.std.proofs.Common.{◌≡◌, ℕ, false, cond, List, [], ◌∷◌, Some, map, option_map, refl, sym, ap, ◌∙◌, ⊎_elim}
-use Rattle.std.specs.Prelude.{slice_get}
-use Rattle.std.specs.Str.{bytes_eq}
-use Rattle.std.proofs.lemmas.Bool.{cases_Bool}
-use Rattle.vc_model.specs.Numbered.{at_number}
+use Rattle.vc_base.proofs.Common.{◌≡◌, ℕ, false, cond, List, [], ◌∷◌, map, slice_get, Some, option_map, bytes_eq, sym, refl, ap, ◌∙◌, ⊎_elim, cases_Bool, at_number}
 use Rattle.vc_dtdisc.specs.Rules.{Gone, Rules}
 use Rattle.vc_objects.specs.Remove.{bytes_of}
 use Rattle.vc_script.specs.Needs.{Need, NoNeed}

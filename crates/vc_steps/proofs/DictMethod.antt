@@ -1,10 +1,6 @@
 -- A command that doesn't turn a dictionary leaves its method.
-use Rattle.std.proofs.Common.{◌≡◌, ℕ, Bool, true, false, cond, List, Option, Some, None, Result, Ok, Err, IfOk, OnErr, refl, sym, ap, ◌∙◌, inl, inr}
-use Rattle.std.proofs.lemmas.Bool.{false≢true}
-use Rattle.vc_base.specs.Methods.{is_list}
-use Rattle.vc_model.specs.Layout.{Layout}
+use Rattle.vc_base.proofs.Common.{◌≡◌, ℕ, Bool, true, false, cond, List, IfOk, OnErr, Some, None, Ok, Err, Option, Result, sym, refl, ap, ◌∙◌, inl, inr, false≢true, is_list, Layout, Outcome, Put}
 use Rattle.vc_model.specs.Outcome as model
-use Rattle.vc_model.specs.Outcome.{Outcome, Put}
 use Rattle.vc_dtdisc.specs.Objects.{Object, bytes_of, first_with}
 use Rattle.vc_dtdisc.specs.Rules.{Gone}
 use Rattle.vc_objects.specs.Insert.{Grown, alloc_unlabelled, grow, grown_to, grown_with, insert_of, held_in, slots_wanted}

@@ -1,18 +1,9 @@
 -- What the opening of a dictionary leaves of a session.
-use Rattle.std.proofs.Common.{◌≡◌, ℕ, false, Bool, List, [], ◌∷◌, ◌++◌, Option, Some, None, Result, Ok, Err, map, set, refl, sym, ap, ◌∙◌, subst}
-use Rattle.std.specs.Prelude.{slice_get}
-use Rattle.std.specs.Str.{bytes_eq}
-use Rattle.std.proofs.lemmas.Option.{none-some, same_Some}
-use Rattle.std.proofs.lemmas.Slice.Eq.{bytes_eq-Decides}
-use Rattle.vc_base.specs.Cells.{Blocks}
+use Rattle.vc_base.proofs.Common.{◌≡◌, ℕ, Bool, false, List, [], ◌∷◌, ◌++◌, map, set, slice_get, Some, None, Ok, Err, Option, Result, bytes_eq, sym, refl, ap, ◌∙◌, subst, none-some, same_Some, bytes_eq-Decides, Blocks, Discipline, Layout, relabel_layout, at_number, Fault, Outcome, done_as}
 use Rattle.vc_base.specs.declared.dict_method.DictMethod.{DictMethod}
 use Rattle.vc_dict.specs.declared.dict.Dict.{Dict}
-use Rattle.vc_model.specs.Discipline.{Discipline}
-use Rattle.vc_model.specs.Numbered.{at_number}
 use Rattle.vc_model.specs.Outcome as model
-use Rattle.vc_model.specs.Outcome.{Fault, Outcome, done_as}
 use Rattle.vc_dtdisc.specs.Rules.{Gone, Rules}
-use Rattle.vc_model.specs.Layout.{Layout, relabel_layout}
 use Rattle.vc_region.specs.Region.{OfBest, Region, layout_in, region_with_labels}
 use Rattle.vc_region.proofs.Relabel.{layout-relabelled}
 use Rattle.vc_seg.specs.Answer.{IsRefusal}

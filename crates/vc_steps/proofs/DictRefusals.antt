@@ -1,7 +1,5 @@
 -- Why no dictionary is opened, by four tests.
-use Rattle.std.proofs.Common.{◌≡◌, ℕ, Bool, true, false, cond, List, Option, Some, None, length, sym, ap, ◌∙◌, refl}
-use Rattle.std.specs.Prelude.{nat_le, not}
-use Rattle.std.specs.List.{list_any}
+use Rattle.vc_base.proofs.Common.{◌≡◌, ℕ, Bool, true, false, cond, not, List, length, nat_le, Some, None, Option, sym, refl, ap, ◌∙◌, list_any}
 use Rattle.vc_region.specs.Region.{OfBest, OfDebug, OfLast, OfPool, OfProfile, Region, region_with_labels, is_best}
 use Rattle.vc_script.specs.declared.refusal.Refusal.{Refusal}
 use Rattle.vc_script.specs.declared.refusal.Refusal.TheVariants as why

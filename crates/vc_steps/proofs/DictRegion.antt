@@ -1,6 +1,5 @@
 -- How a call on a dictionary changes the best region that it lies in.
-use Rattle.std.proofs.Common.{◌≡◌, ℕ, List, ◌++◌, Option, Some, refl, sym, ap, ◌∙◌}
-use Rattle.vc_model.specs.Discipline.{Discipline, HasOut}
+use Rattle.vc_base.proofs.Common.{◌≡◌, ℕ, List, ◌++◌, Some, Option, sym, refl, ap, ◌∙◌, Discipline, HasOut}
 use Rattle.vc_best.specs.declared.best.Best as best
 use Rattle.vc_region.specs.Cells.{cells_in, rest_in}
 use Rattle.vc_region.specs.Parts.{disc_in, region_of}

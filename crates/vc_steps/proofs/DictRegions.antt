@@ -1,11 +1,7 @@
 -- The dictionaries of a session over its regions, as the layers of view paths see them.
-use Rattle.std.proofs.Common.{◌≡◌, ℕ, List, [], ◌∷◌, Option, Some, None, length, map, option_map, refl, sym, ap, ◌∙◌, subst, arith}
-use Rattle.std.specs.List.{AllByRecursion}
-use Rattle.std.specs.Str.{bytes_eq}
-use Rattle.vc_base.specs.Holders.{contains}
+use Rattle.vc_base.proofs.Common.{◌≡◌, ℕ, List, [], ◌∷◌, map, length, Some, None, Option, option_map, bytes_eq, sym, refl, ap, ◌∙◌, subst, arith, AllByRecursion, contains, Discipline}
 use Rattle.vc_base.proofs.Lists.{find-map}
 use Rattle.vc_base.proofs.Options.{option_map-Some}
-use Rattle.vc_model.specs.Discipline.{Discipline}
 use Rattle.vc_dtdisc.specs.Rules.{Rules}
 use Rattle.vc_objects.specs.Objects.{Dictionary, own_blocks}
 use Rattle.vc_objects.specs.Parts.{IsWhole, dictionary_of}

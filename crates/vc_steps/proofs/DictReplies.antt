@@ -1,9 +1,7 @@
 -- A command on a dictionary is refused no segment for a block.
-use Rattle.std.proofs.Common.{ℕ, Bool, true, false, cond, List, Option, Some, None}
+use Rattle.vc_base.proofs.Common.{ℕ, Bool, true, false, cond, List, Some, None, Option, is_list, Outcome}
 use Rattle.vc_base.specs.declared.dict_method.DictMethod.{DictMethod}
-use Rattle.vc_base.specs.Methods.{is_list}
 use Rattle.vc_model.specs.Outcome as model
-use Rattle.vc_model.specs.Outcome.{Outcome}
 use Rattle.vc_dtdisc.specs.Objects.{Object}
 use Rattle.vc_objects.specs.Insert.{insert, want_of}
 use Rattle.vc_objects.specs.Remove.{remove, remove_unnamed}

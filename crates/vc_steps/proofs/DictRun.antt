@@ -1,13 +1,6 @@
 -- A command on a dictionary, over the regions and dictionaries of a session as they are stored.
-use Rattle.std.proofs.Common.{◌≡◌, ⊎_elim, ℕ, ◌-◌, true, false, cond, List, [], Some, None, Result, Ok, Err, IfOk, OnErr, length, set, refl, sym, ap, ◌∙◌, subst}
-use Rattle.std.specs.Prelude.{slice_get}
-use Rattle.std.specs.Str.{bytes_eq}
-use Rattle.std.specs.Map.{keys_of}
-use Rattle.std.proofs.lemmas.Bool.{cases_Bool, false≢true}
-use Rattle.std.proofs.lemmas.Option.{same_Some}
+use Rattle.vc_base.proofs.Common.{◌≡◌, ℕ, ◌-◌, true, false, cond, List, [], length, set, IfOk, OnErr, slice_get, Some, None, Ok, Err, Result, position, bytes_eq, sym, refl, ap, ◌∙◌, subst, ⊎_elim, cases_Bool, false≢true, same_Some, IsDistinct, keys_of, Discipline, HasOut, at_number}
 use Rattle.indexmap.specs.IndexMap.{set_value_at}
-use Rattle.vc_model.specs.Discipline.{Discipline, HasOut}
-use Rattle.vc_model.specs.Numbered.{at_number}
 use Rattle.vc_dict.specs.declared.dict.Dict.{Dict}
 use Rattle.vc_dtdisc.specs.Rules.{Gone, Rules}
 use Rattle.vc_best.specs.Cells.{cells_in, rest_in}
@@ -53,7 +46,6 @@ use Rattle.vc_steps.proofs.DictReplies.{IsOther, other-dict}
 use Rattle.vc_steps.proofs.DictStep.{cut-after, dicts-after, lacks-after, settles-after, step-after}
 use Rattle.vc_steps.proofs.DictsStay.{Entry, Vs}
 use Rattle.vc_steps.proofs.Sessions.{Slots, held-at}
-use Rattle.std.specs.List.{IsDistinct, position}
 use Rattle.vc_steps.proofs.BarredCommands.{free-turn, linked-here}
 use Rattle.vc_steps.proofs.DictThere.{DictIn, its, whole-there}
 use Rattle.vc_steps.proofs.RegionAt.{helds-set, named-set, region-stands, region_at}

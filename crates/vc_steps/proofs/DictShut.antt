@@ -1,16 +1,7 @@
 -- What the ending of a dictionary leaves of a session.
-use Rattle.std.proofs.Common.{◌≡◌, ◌<◌, ℕ, ◌||◌, zero, suc, true, false, cond, List, [], ◌∷◌, Some, None, map, set, take, refl, sym, ap, ◌∙◌, subst, ⊎_elim, length}
-use Rattle.std.specs.Prelude.{remove, slice_get}
-use Rattle.std.specs.List.{AllByRecursion, list_any}
-use Rattle.std.specs.Map.{lookup}
-use Rattle.std.specs.Str.{bytes_eq}
-use Rattle.std.proofs.lemmas.Bool.{cases_Bool, or_parts}
-use Rattle.std.proofs.lemmas.Option.{none-some, same_Some}
-use Rattle.std.proofs.lemmas.Slice.Eq.{bytes_eq-Decides}
-use Rattle.vc_base.specs.Cells.{Blocks}
+use Rattle.vc_base.proofs.Common.{◌≡◌, ℕ, zero, suc, ◌<◌, true, false, cond, ◌||◌, List, [], ◌∷◌, map, length, take, set, slice_get, Some, None, remove, bytes_eq, sym, refl, ap, ◌∙◌, subst, ⊎_elim, cases_Bool, or_parts, none-some, same_Some, bytes_eq-Decides, AllByRecursion, list_any, lookup, Blocks, Discipline, Layout}
 use Rattle.vc_base.proofs.Texts.{bytes_eq-swapped}
 use Rattle.vc_dtdisc.specs.Rules.{Rules}
-use Rattle.vc_model.specs.Layout.{Layout}
 use Rattle.vc_region.specs.Region.{OfBest, layout_in, region_with_labels}
 use Rattle.vc_region.proofs.Relabel.{layout-relabelled}
 use Rattle.vc_objects.specs.Objects.{Dictionary, own_blocks}
@@ -36,7 +27,6 @@ use Rattle.vc_best.specs.Cells.{cells_in, rest_in}
 use Rattle.vc_best.specs.Parts.{disc_in}
 use Rattle.vc_best.specs.declared.best.Best.{Best}
 use Rattle.indexmap.specs.IndexMap.{set_value_at}
-use Rattle.vc_model.specs.Discipline.{Discipline}
 use Rattle.vc_objects.specs.Leaves.{Leaves}
 use Rattle.vc_paths.specs.Links.{ArePaths, Links, below, is_viewed, links_with}
 use Rattle.vc_commands.specs.RegionRun.{held_of}

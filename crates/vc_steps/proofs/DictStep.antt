@@ -1,19 +1,8 @@
 -- What a command on a dictionary does to the state, to its kind and to the settled shelf.
-use Rattle.std.proofs.Common.{◌≡◌, ℕ, ◌-◌, true, false, List, Option, Some, None, map, option_map, set, refl, sym, ap, ◌∙◌, subst, inl, inr}
-use Rattle.std.specs.Prelude.{◌⊎◌, remove, slice_get}
-use Rattle.std.specs.List.{AllByRecursion, position}
-use Rattle.std.specs.Str.{bytes_eq}
-use Rattle.std.proofs.lemmas.Option.{none-some, same_Some, slice_get-map}
-use Rattle.std.proofs.lemmas.Slice.Eq.{bytes_eq-Decides}
-use Rattle.vc_base.specs.Cells.{Blocks}
-use Rattle.vc_model.specs.Count.{Rose}
-use Rattle.vc_model.specs.Discipline.{Discipline}
-use Rattle.vc_model.specs.Numbered.{at_number}
+use Rattle.vc_base.proofs.Common.{◌≡◌, ℕ, ◌-◌, true, false, ◌⊎◌, List, map, set, slice_get, Some, None, Option, option_map, remove, position, bytes_eq, sym, refl, ap, ◌∙◌, subst, inl, inr, none-some, same_Some, slice_get-map, bytes_eq-Decides, AllByRecursion, keys_of, Blocks, Rose, Discipline, Layout, relabel_layout, at_number, Outcome, done_as}
 use Rattle.vc_model.specs.Outcome as model
-use Rattle.vc_model.specs.Outcome.{Outcome, done_as}
 use Rattle.vc_dict.specs.declared.dict.Dict.{Dict}
 use Rattle.vc_dtdisc.specs.Rules.{Gone, Rules}
-use Rattle.vc_model.specs.Layout.{Layout, relabel_layout}
 use Rattle.vc_region.specs.Region.{OfBest, Region, layout_in, region_with_labels}
 use Rattle.vc_region.proofs.Relabel.{layout-relabelled}
 use Rattle.vc_objects.specs.Insert.{Grown, grow}
@@ -55,7 +44,6 @@ use Rattle.vc_commands.proofs.Firsts.{IsFirst}
 use Rattle.vc_steps.proofs.FirstHome.{with_region-first}
 use Rattle.vc_commands.proofs.Names.{name-none}
 use Rattle.vc_steps.proofs.Sessions.{Slots}
-use Rattle.std.specs.Map.{keys_of}
 use Rattle.vc_commands.specs.declared.region.home.HomeEntry.{HomeEntry}
 use Rattle.vc_steps.proofs.DictThere.{DictIn, best-there, dict-is, found-held, held-first, its}
 use Rattle.vc_steps.proofs.RegionAt.{region-first, region-named, region-stands, region_at}

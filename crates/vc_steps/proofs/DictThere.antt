@@ -1,9 +1,5 @@
 -- A dictionary of a session, and the open region that it lies in.
-use Rattle.std.proofs.Common.{◌≡◌, ℕ, true, List, Some, sym, ap, ◌∙◌, subst}
-use Rattle.std.specs.Prelude.{slice_get}
-use Rattle.std.specs.Str.{bytes_eq}
-use Rattle.std.proofs.lemmas.Option.{same_Some}
-use Rattle.vc_model.specs.Discipline.{Discipline}
+use Rattle.vc_base.proofs.Common.{◌≡◌, ℕ, true, List, slice_get, Some, bytes_eq, sym, ap, ◌∙◌, subst, same_Some, Discipline}
 use Rattle.vc_best.specs.declared.best.Best as best
 use Rattle.vc_objects.specs.Parts.{IsWhole, dictionary_of}
 use Rattle.vc_region.specs.Cells.{cells_in, rest_in}

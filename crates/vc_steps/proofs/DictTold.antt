@@ -1,15 +1,12 @@
 -- One kind is told of objects.
-use Rattle.std.proofs.Common.{◌≡◌, ℕ, ◌-◌, ◌≤◌, ◌<◌, zero, suc, List, [], ◌∷◌, Some, length, map, option_map, set, sym, ap, ◌∙◌, arith}
-use Rattle.std.specs.Prelude.{slice_get}
-use Rattle.vc_model.specs.Numbered.{at_number}
+use Rattle.vc_base.proofs.Common.{◌≡◌, ℕ, zero, suc, ◌-◌, ◌<◌, ◌≤◌, List, [], ◌∷◌, map, length, set, slice_get, Some, option_map, sym, ap, ◌∙◌, arith, set-set, length-map, none-some, at_number}
 use Rattle.vc_base.proofs.Lists.{slice_get-set}
 use Rattle.vc_dtdisc.specs.Rules.{Gone, gone_after}
 use Rattle.vc_objects.specs.Leaves.{told_each}
 use Rattle.vc_steps.specs.Dicts.{told_of}
 use Rattle.vc_steps.specs.Told.{tell, told_at}
 use Rattle.vc_steps.proofs.Cells.{at_number-from_one, at_number-map, at_number_some, set_same}
-use Rattle.std.proofs.lemmas.List.{length-map, set-set}
-use Rattle.std.proofs.lemmas.Option.{none-some, slice_get_within}
+use Rattle.std.proofs.lemmas.Option.{slice_get_within}
 
 -- there is a kind of a number that has rules
 pub kind-within : {K R : Type 0} (f : K → R) (ks : List K) (n : ℕ) (r : R) → at_number (map f ks) n ≡ Some r → (1 ≤ n) × (n - 1 < length ks)

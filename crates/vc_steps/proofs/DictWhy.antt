@@ -1,10 +1,5 @@
 -- The four reasons for which no dictionary is opened before its table is asked for.
-use Rattle.std.proofs.Common.{◌≡◌, ◌<◌, ℕ, Bool, true, false, ◌≤◌, ◌&&◌, cond, List, Option, Some, None, length, refl, sym, subst, arith}
-use Rattle.std.proofs.lemmas.Bool.{false≢true, and_parts}
-use Rattle.std.proofs.lemmas.Bool.Decides.{nat_tests}
-use Rattle.std.specs.Prelude.{nat_le, not}
-use Rattle.std.specs.List.{list_any}
-use Rattle.std.proofs.lemmas.Option.{none-some, same_Some}
+use Rattle.vc_base.proofs.Common.{◌≡◌, ℕ, ◌<◌, ◌≤◌, Bool, true, false, cond, not, ◌&&◌, List, length, nat_le, Some, None, Option, sym, refl, subst, arith, nat_tests, and_parts, false≢true, none-some, same_Some, list_any}
 use Rattle.vc_base.specs.declared.dict_method.DictMethod.{DictMethod}
 use Rattle.vc_script.specs.declared.command.Command.TheVariants.{OpenDict}
 use Rattle.vc_script.specs.declared.refusal.Refusal.{Refusal}

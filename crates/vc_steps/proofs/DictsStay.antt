@@ -1,11 +1,5 @@
 -- What lasts of a session's dictionaries when a region is opened, closed, or changes.
-use Rattle.std.proofs.Common.{◌≡◌, ℕ, true, false, List, [], ◌∷◌, ◌++◌, Option, Some, map, set, refl, sym, ap, ◌∙◌, subst, ⊎_elim}
-use Rattle.std.specs.Prelude.{remove, slice_get}
-use Rattle.std.specs.List.{AllByRecursion, list_any}
-use Rattle.std.specs.Str.{bytes_eq}
-use Rattle.std.proofs.lemmas.Bool.{cases_Bool, or_parts}
-use Rattle.std.proofs.lemmas.Option.{same_Some}
-use Rattle.vc_base.specs.Holders.{contains}
+use Rattle.vc_base.proofs.Common.{◌≡◌, ℕ, true, false, List, [], ◌∷◌, ◌++◌, map, set, slice_get, Some, Option, remove, bytes_eq, sym, refl, ap, ◌∙◌, subst, ⊎_elim, cases_Bool, or_parts, same_Some, AllByRecursion, list_any, contains}
 use Rattle.vc_base.proofs.Quantifiers.{any-map}
 use Rattle.vc_base.proofs.Texts.{bytes_eq-swapped, same_bytes}
 use Rattle.vc_dtdisc.specs.Rules.{Rules}

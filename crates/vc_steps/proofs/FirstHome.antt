@@ -1,9 +1,5 @@
 -- The region of a name is the first of that name.
-use Rattle.std.proofs.Common.{◌≡◌, ℕ, zero, suc, true, false, cond, List, [], ◌∷◌, Some, take, set, ap, ◌∙◌}
-use Rattle.std.specs.Prelude.{slice_get}
-use Rattle.std.specs.List.{list_any}
-use Rattle.std.proofs.lemmas.Option.{same_Some, none-some}
-use Rattle.std.proofs.lemmas.Bool.{or_parts}
+use Rattle.vc_base.proofs.Common.{◌≡◌, ℕ, zero, suc, true, false, cond, List, [], ◌∷◌, take, set, slice_get, Some, ap, ◌∙◌, or_parts, none-some, same_Some, list_any}
 use Rattle.vc_region.specs.Region.{Region}
 use Rattle.vc_commands.specs.FreedNames.{FreedNames}
 use Rattle.vc_commands.specs.Home.{Home, Label, is_home}

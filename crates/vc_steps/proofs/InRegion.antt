@@ -1,7 +1,5 @@
 -- What a command in a region leaves of the session's dictionaries.
-use Rattle.std.proofs.Common.{◌≡◌, ℕ, ◌&&◌, Bool, true, false, List, Some, Result, Ok, Err, IfOk, OnErr, map, set, refl, sym, ap, ◌∙◌}
-use Rattle.std.specs.Prelude.{slice_get}
-use Rattle.std.specs.List.{AllByRecursion}
+use Rattle.vc_base.proofs.Common.{◌≡◌, ℕ, Bool, true, false, ◌&&◌, List, map, set, IfOk, OnErr, slice_get, Some, Ok, Err, Result, sym, refl, ap, ◌∙◌, AllByRecursion}
 use Rattle.vc_base.proofs.Texts.{same_bytes}
 use Rattle.vc_dtdisc.specs.Rules.{Rules}
 use Rattle.vc_script.specs.Needs.{need_shown}

@@ -1,5 +1,5 @@
 -- Telling kinds of objects, part after part.
-use Rattle.std.proofs.Common.{◌≡◌, ℕ, List, [], ◌∷◌, ◌++◌, refl}
+use Rattle.vc_base.proofs.Common.{◌≡◌, ℕ, List, [], ◌∷◌, ◌++◌, refl}
 use Rattle.vc_dtdisc.specs.Rules.{Gone}
 use Rattle.vc_steps.specs.Told.{tell, tell_one}
 

@@ -1,11 +1,5 @@
 -- The step of a look by what it answered.
-use Rattle.std.proofs.Common.{◌≡◌, ◌==◌, ℕ, true, List, Some, Result, Ok, Err, IfOk, length, map, refl, sym, ap, ◌∙◌, subst, arith}
-use Rattle.std.specs.Prelude.{IfErr, slice_get}
-use Rattle.std.specs.List.{IsDistinct, position}
-use Rattle.std.proofs.lemmas.List.{length-map}
-use Rattle.std.specs.Map.{keys_of}
-use Rattle.std.specs.Str.{bytes_eq}
-use Rattle.vc_model.specs.Discipline.{Discipline}
+use Rattle.vc_base.proofs.Common.{◌≡◌, ℕ, true, List, map, length, IfOk, IfErr, ◌==◌, slice_get, Some, Ok, Err, Result, position, bytes_eq, sym, refl, ap, ◌∙◌, subst, arith, length-map, IsDistinct, keys_of, Discipline}
 use Rattle.vc_dtdisc.specs.Rules.{Rules}
 use Rattle.vc_paths.specs.Layers.{Layered}
 use Rattle.vc_paths.specs.Links.{Links}

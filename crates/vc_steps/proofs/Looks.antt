@@ -1,11 +1,5 @@
 -- What a look through the view path of a dictionary gives and leaves.
-use Rattle.std.proofs.Common.{◌≡◌, ◌==◌, ℕ, true, List, Option, Some, map, option_map, set, refl, sym, ap, ap₂, ◌∙◌}
-use Rattle.std.specs.Prelude.{slice_get}
-use Rattle.std.specs.List.{IsDistinct}
-use Rattle.std.specs.Map.{keys_of}
-use Rattle.std.specs.Str.{bytes_eq}
-use Rattle.std.proofs.lemmas.Bool.{false≢true}
-use Rattle.std.proofs.lemmas.Option.{slice_get-map}
+use Rattle.vc_base.proofs.Common.{◌≡◌, ℕ, true, List, map, set, ◌==◌, slice_get, Some, Option, option_map, bytes_eq, sym, refl, ap, ◌∙◌, ap₂, false≢true, slice_get-map, IsDistinct, keys_of}
 use Rattle.vc_dtdisc.specs.Rules.{Rules}
 use Rattle.vc_objects.specs.Objects.{Dictionary}
 use Rattle.vc_paths.specs.Layers.{Layered}

@@ -1,9 +1,5 @@
 -- A session in which nothing is open.
-use Rattle.std.proofs.Common.{◌≡◌, ℕ, zero, suc, List, [], None, length, map, refl, sym, ap, ◌∙◌, subst}
-use Rattle.std.specs.Prelude.{replicate, slice_get}
-use Rattle.std.specs.List.{zip}
-use Rattle.std.proofs.lemmas.Option.{none-some}
-use Rattle.vc_model.specs.Discipline.{Discipline}
+use Rattle.vc_base.proofs.Common.{◌≡◌, ℕ, zero, suc, List, [], map, length, replicate, slice_get, None, zip, sym, refl, ap, ◌∙◌, subst, none-some, Discipline}
 use Rattle.vc_dtdisc.specs.Rules.{Rules}
 use Rattle.vc_paths.specs.Links.{link_at, no_links, numbers}
 use Rattle.vc_seg.specs.declared.shelf.Shelf.{Shelf}

@@ -1,11 +1,6 @@
 -- A session with one region more, which was just opened.
-use Rattle.std.proofs.Common.{◌≡◌, ℕ, ◌-◌, false, is_some, List, [], ◌∷◌, ◌++◌, Some, None, length, set, sym, ap, ◌∙◌, subst, arith}
-use Rattle.std.specs.Map.{lookup}
-use Rattle.std.specs.Str.{bytes_eq}
-use Rattle.std.proofs.lemmas.List.{length-append}
+use Rattle.vc_base.proofs.Common.{◌≡◌, ℕ, ◌-◌, false, List, [], ◌∷◌, ◌++◌, length, set, is_some, Some, None, bytes_eq, sym, ap, ◌∙◌, subst, arith, length-append, lookup, Discipline, at_number}
 use Rattle.vc_dtdisc.specs.Rules.{Rules}
-use Rattle.vc_model.specs.Discipline.{Discipline}
-use Rattle.vc_model.specs.Numbered.{at_number}
 use Rattle.vc_region.specs.Cells.{cells_in, rest_in, rest_of}
 use Rattle.vc_region.specs.Parts.{disc_in, region_of}
 use Rattle.vc_region.specs.Stat.{opened_region}

@@ -1,5 +1,5 @@
 -- What follows of an answer.
-use Rattle.std.proofs.Common.{◌≡◌, Result, Ok, Err, IfOk, OnErr, subst}
+use Rattle.vc_base.proofs.Common.{◌≡◌, IfOk, OnErr, Ok, Err, Result, subst}
 
 pub ok-at : {T E : Type 0} (r : Result T E) (x : T) (P : T → Type 0) → r ≡ Ok x → IfOk r P → P x
 ok-at r x P e p = subst (λ q. IfOk q P) e p

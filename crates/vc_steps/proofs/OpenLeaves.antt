@@ -1,18 +1,9 @@
 -- What opening a region does to the state, and to the settled shelf.
-use Rattle.std.proofs.Common.{◌≡◌, ℕ, ◌-◌, ◌≤◌, true, false, cond, is_some, List, [], ◌∷◌, ◌++◌, Option, Some, None, length, map, option_map, set, take, refl, sym, ap, ◌∙◌, subst, arith}
-use Rattle.std.specs.Prelude.{slice_get}
-use Rattle.std.specs.List.{AllByRecursion, list_any}
-use Rattle.std.proofs.lemmas.List.{append-nil, map-append, map-set, set-set}
-use Rattle.std.proofs.lemmas.Option.{slice_get-map}
-use Rattle.vc_base.specs.Cells.{Blocks}
+use Rattle.vc_base.proofs.Common.{◌≡◌, ℕ, ◌-◌, ◌≤◌, true, false, cond, List, [], ◌∷◌, ◌++◌, map, length, take, set, is_some, slice_get, Some, None, Option, option_map, sym, refl, ap, ◌∙◌, subst, append-nil, arith, set-set, map-append, map-set, slice_get-map, AllByRecursion, list_any, Blocks, Discipline, Block, at_number, HaveOwnPlaces}
 use Rattle.vc_base.proofs.Lists.{slice_get-set}
-use Rattle.vc_model.specs.Numbered.{at_number}
-use Rattle.vc_model.specs.Discipline.{Discipline}
-use Rattle.vc_model.specs.Layout.{Block}
 use Rattle.vc_dtdisc.specs.Rules.{Rules}
 use Rattle.vc_region.specs.Cells.{rest_of}
 use Rattle.vc_region.specs.Region.{Region, blocks_of, region_with_labels, segments_of}
-use Rattle.vc_model.specs.Sound.{HaveOwnPlaces}
 use Rattle.vc_region.specs.Stat.{opened_region}
 use Rattle.vc_seg.specs.declared.method.Method.{Method}
 use Rattle.vc_seg.specs.declared.method.Method.TheVariants.{VmBest, VmPool, VmLast, VmDebug, VmProfile}

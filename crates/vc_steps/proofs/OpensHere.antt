@@ -1,11 +1,7 @@
 -- The opening of a dictionary in a session as it is stored.
-use Rattle.std.proofs.Common.{◌≡◌, ◌<◌, ℕ, List, [], ◌∷◌, ◌++◌, Some, None, Result, length, set, refl, sym, ap, ◌∙◌, subst}
-use Rattle.std.specs.Prelude.{slice_get}
+use Rattle.vc_base.proofs.Common.{◌≡◌, ℕ, ◌<◌, List, [], ◌∷◌, ◌++◌, length, set, slice_get, Some, None, Result, sym, refl, ap, ◌∙◌, subst, Discipline, HasOut, Layout, at_number}
 use Rattle.indexmap.specs.IndexMap.{set_value_at}
 use Rattle.vc_dict.specs.declared.dict.Dict.{Dict}
-use Rattle.vc_model.specs.Discipline.{Discipline, HasOut}
-use Rattle.vc_model.specs.Layout.{Layout}
-use Rattle.vc_model.specs.Numbered.{at_number}
 use Rattle.vc_dtdisc.specs.Rules.{Rules}
 use Rattle.vc_best.specs.Cells.{cells_in}
 use Rattle.vc_best.specs.Parts.{disc_in}

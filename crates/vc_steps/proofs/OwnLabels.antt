@@ -1,12 +1,5 @@
 -- The names of a region are those of its labelled blocks alone.
-use Rattle.std.proofs.Common.{◌≡◌, ℕ, ◌≤◌, Bool, true, false, ◌||◌, cond, List, [], ◌∷◌, filter, length, refl, sym, ap, ◌∙◌, subst, ⊎_elim, arith}
-use Rattle.std.specs.Prelude.{nat_lt}
-use Rattle.std.specs.List.{AllByRecursion, list_any}
-use Rattle.std.proofs.lemmas.Bool.{cases_Bool}
-use Rattle.std.proofs.lemmas.Bool.Decides.{nat_tests}
-use Rattle.std.proofs.lemmas.List.Sums.{length-filter}
-use Rattle.vc_model.specs.Layout.{Block}
-use Rattle.vc_model.specs.Sound.{HaveOwnPlaces}
+use Rattle.vc_base.proofs.Common.{◌≡◌, ℕ, ◌≤◌, Bool, true, false, cond, ◌||◌, List, [], ◌∷◌, length, nat_lt, filter, sym, refl, ap, ◌∙◌, subst, ⊎_elim, arith, nat_tests, cases_Bool, length-filter, AllByRecursion, list_any, Block, HaveOwnPlaces}
 use Rattle.vc_region.specs.Cells.{tagged_blocks}
 use Rattle.vc_region.specs.Region.{Region, blocks_of, keeps_freed, region_with_labels}
 use Rattle.vc_commands.specs.Held.{IsLive, IsNamed, tag_count}

@@ -1,11 +1,5 @@
 -- Why no dictionary is opened in the region at an index.
-use Rattle.std.proofs.Common.{◌≡◌, ℕ, ◌<◌, Bool, true, false, cond, is_some, List, [], Option, Some, None, length, ap, ◌∙◌, arith}
-use Rattle.std.specs.Prelude.{IfSome, nat_le, slice_get}
-use Rattle.std.specs.List.{list_any}
-use Rattle.std.specs.Map.{keys_of, lookup, values_of}
-use Rattle.std.specs.Str.{bytes_eq}
-use Rattle.std.proofs.lemmas.List.{length-map}
-use Rattle.vc_model.specs.Discipline.{Discipline}
+use Rattle.vc_base.proofs.Common.{◌≡◌, ℕ, ◌<◌, Bool, true, false, cond, List, [], length, is_some, IfSome, nat_le, slice_get, Some, None, Option, bytes_eq, ap, ◌∙◌, arith, length-map, list_any, keys_of, lookup, values_of, Discipline}
 use Rattle.vc_dtdisc.specs.Rules.{Rules}
 use Rattle.vc_paths.specs.Links.{Links}
 use Rattle.vc_region.specs.Cells.{rest_in}

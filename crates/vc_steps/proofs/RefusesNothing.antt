@@ -1,8 +1,5 @@
 -- Steps whose reply refuses no segment.
-use Rattle.std.proofs.Common.{◌≡◌, ℕ, Bool, true, false, cond, List, [], Option, Some, None, refl, sym, ap, subst}
-use Rattle.std.specs.List.{list_any}
-use Rattle.vc_model.specs.Discipline.{Terms}
-use Rattle.vc_model.specs.Numbered.{at_number}
+use Rattle.vc_base.proofs.Common.{◌≡◌, ℕ, Bool, true, false, cond, List, [], Some, None, Option, sym, refl, ap, subst, list_any, Terms, at_number}
 use Rattle.vc_region.specs.Region.{Region}
 use Rattle.vc_region.specs.Stat.{opened_region}
 use Rattle.vc_script.specs.declared.command.Command.{Command}

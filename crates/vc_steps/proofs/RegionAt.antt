@@ -1,14 +1,6 @@
 -- The open region of a name at its index, as a session stores it.
-use Rattle.std.proofs.Common.{◌≡◌, ℕ, ◌<◌, [], List, Some, get_or, length, map, option_map, set, sym, ap, ◌∙◌, arith}
-use Rattle.std.specs.Prelude.{slice_get}
-use Rattle.std.specs.List.{position}
-use Rattle.std.specs.Map.{keys_of, values_of}
-use Rattle.std.specs.Str.{bytes_eq}
-use Rattle.std.proofs.lemmas.List.{length-map}
-use Rattle.std.proofs.lemmas.List.Quantifiers.{position-Some}
-use Rattle.std.proofs.lemmas.Option.{same_Some, slice_get-map}
+use Rattle.vc_base.proofs.Common.{◌≡◌, ℕ, ◌<◌, List, [], map, length, get_or, set, slice_get, Some, option_map, position, bytes_eq, sym, ap, ◌∙◌, arith, position-Some, length-map, same_Some, slice_get-map, keys_of, values_of, Discipline}
 use Rattle.indexmap.specs.IndexMap.{set_value_at}
-use Rattle.vc_model.specs.Discipline.{Discipline}
 use Rattle.vc_commands.specs.Held.{Held, home_of}
 use Rattle.vc_commands.specs.Home.{is_home}
 use Rattle.vc_commands.specs.RegionRun.{held_of}

@@ -1,14 +1,5 @@
 -- What a change of one region's lists does to the state, and to the settled shelf.
-use Rattle.std.proofs.Common.{◌≡◌, ◌≢◌, ℕ, ◌-◌, true, false, cond, List, [], ◌∷◌, Some, None, map, option_map, set, refl, sym, ap, ◌∙◌, subst, arith}
-use Rattle.std.specs.Prelude.{slice_get, count_by, ◌==◌}
-use Rattle.std.specs.Str.{bytes_eq}
-use Rattle.std.proofs.lemmas.List.{map-set}
-use Rattle.std.proofs.lemmas.Option.{none-some, same_Some, slice_get-map}
-use Rattle.std.proofs.lemmas.Bool.Decides.{nat_tests}
-use Rattle.vc_base.specs.Cells.{Blocks}
-use Rattle.vc_model.specs.Count.{Rose}
-use Rattle.vc_model.specs.Discipline.{Terms}
-use Rattle.vc_model.specs.Numbered.{at_number}
+use Rattle.vc_base.proofs.Common.{◌≡◌, ℕ, ◌-◌, true, false, cond, ◌≢◌, List, [], ◌∷◌, map, set, ◌==◌, slice_get, Some, None, count_by, option_map, bytes_eq, sym, refl, ap, ◌∙◌, subst, arith, nat_tests, map-set, none-some, same_Some, slice_get-map, Blocks, Rose, Terms, at_number}
 use Rattle.vc_script.specs.declared.command.Command.{Command}
 use Rattle.vc_script.specs.declared.command.Command.TheVariants.{ClearRegion, OpenDict}
 use Rattle.vc_script.specs.declared.reply.Reply.{Reply}

@@ -1,7 +1,5 @@
 -- A command in a region, over the regions and dictionaries of a session.
-use Rattle.std.proofs.Common.{◌≡◌, ◌≢◌, ℕ, List, Some, None, false, Result, Ok, Err, IfOk, OnErr, map, set, refl, sym, ap, ◌∙◌, subst}
-use Rattle.std.specs.Prelude.{slice_get}
-use Rattle.std.specs.List.{AllByRecursion}
+use Rattle.vc_base.proofs.Common.{◌≡◌, ℕ, false, ◌≢◌, List, map, set, IfOk, OnErr, slice_get, Some, None, Ok, Err, Result, sym, refl, ap, ◌∙◌, subst, AllByRecursion}
 use Rattle.vc_dtdisc.specs.Rules.{Gone, Rules}
 use Rattle.vc_script.specs.Needs.{Need, need_shown}
 use Rattle.vc_script.specs.declared.command.Command.{Command}

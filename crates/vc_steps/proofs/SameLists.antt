@@ -1,6 +1,5 @@
 -- A session whose lists stay, over a shelf with the disciplines that it had.
-use Rattle.std.proofs.Common.{◌≡◌, ℕ, List, length, sym, ap, ◌∙◌, subst}
-use Rattle.vc_model.specs.Discipline.{Discipline}
+use Rattle.vc_base.proofs.Common.{◌≡◌, ℕ, List, length, sym, ap, ◌∙◌, subst, Discipline}
 use Rattle.vc_dtdisc.specs.Rules.{Rules}
 use Rattle.vc_seg.specs.declared.shelf.Shelf.{Shelf}
 use Rattle.vc_commands.specs.declared.region.home.HomeEntry.{HomeEntry}

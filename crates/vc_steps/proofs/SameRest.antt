@@ -1,12 +1,7 @@
 -- What a look through a view path leaves of a session: regions of which only the bytes in cells differ.
-use Rattle.std.proofs.Common.{◌≡◌, ◌≢◌, ℕ, ◌-◌, zero, suc, List, [], ◌∷◌, Option, Some, length, map, set, refl, sym, ap, ap₂, ◌∙◌, subst, arith}
-use Rattle.std.specs.Prelude.{slice_get}
-use Rattle.std.specs.List.{AllByRecursion}
-use Rattle.std.proofs.lemmas.Option.{none-some, same_Some}
-use Rattle.std.proofs.lemmas.Simd.{map-map}
+use Rattle.vc_base.proofs.Common.{◌≡◌, ℕ, zero, suc, ◌-◌, ◌≢◌, List, [], ◌∷◌, map, length, set, slice_get, Some, Option, sym, refl, ap, ◌∙◌, subst, ap₂, arith, none-some, same_Some, map-map, AllByRecursion, Discipline}
 use Rattle.vc_base.specs.declared.dict_method.DictMethod.{DictMethod}
 use Rattle.vc_base.proofs.Lists.{head-same, tail-same}
-use Rattle.vc_model.specs.Discipline.{Discipline}
 use Rattle.vc_seg.specs.Boxed.{disc_in_box}
 use Rattle.vc_region.specs.Cells.{cells_in}
 use Rattle.vc_commands.specs.Held.{Held, home_of}

@@ -1,12 +1,5 @@
 -- The dictionary of a name at its index, and its number.
-use Rattle.std.proofs.Common.{◌≡◌, ℕ, ◌<◌, List, [], Some, length, option_map, sym, ap, ◌∙◌, arith}
-use Rattle.std.specs.Prelude.{slice_get}
-use Rattle.std.specs.List.{position}
-use Rattle.std.specs.Map.{keys_of}
-use Rattle.std.specs.Str.{bytes_eq}
-use Rattle.std.proofs.lemmas.List.{length-map}
-use Rattle.std.proofs.lemmas.List.Quantifiers.{position-Some}
-use Rattle.std.proofs.lemmas.Option.{same_Some, slice_get-map}
+use Rattle.vc_base.proofs.Common.{◌≡◌, ℕ, ◌<◌, List, [], length, slice_get, Some, option_map, position, bytes_eq, sym, ap, ◌∙◌, arith, position-Some, length-map, same_Some, slice_get-map, keys_of}
 use Rattle.vc_commands.specs.declared.dict.entry.DictEntry.{DictEntry}
 use Rattle.vc_views.specs.Dicts.{number_at, number_or}
 use Rattle.vc_steps.proofs.DictByName.{key-at}

@@ -1,11 +1,5 @@
 -- A session as it is stored, and a dictionary of it.
-use Rattle.std.proofs.Common.{◌≡◌, ℕ, false, is_some, List, Some, length, map, option_map, sym, ap, ◌∙◌}
-use Rattle.std.specs.Prelude.{slice_get}
-use Rattle.std.specs.List.{position}
-use Rattle.std.specs.Map.{keys_of, lookup, values_of}
-use Rattle.std.specs.Str.{bytes_eq}
-use Rattle.std.proofs.lemmas.Option.{none-some}
-use Rattle.vc_model.specs.Discipline.{Discipline}
+use Rattle.vc_base.proofs.Common.{◌≡◌, ℕ, false, List, map, length, is_some, slice_get, Some, option_map, position, bytes_eq, sym, ap, ◌∙◌, none-some, keys_of, lookup, values_of, Discipline}
 use Rattle.vc_dtdisc.specs.Rules.{Gone, Rules}
 use Rattle.vc_paths.specs.Links.{Links}
 use Rattle.vc_seg.specs.declared.shelf.Shelf.{Shelf}

@@ -1,11 +1,5 @@
 -- Open regions over a shelf, as one is opened or changes.
-use Rattle.std.proofs.Common.{◌≡◌, ◌≢◌, ℕ, ◌-◌, zero, suc, List, [], ◌∷◌, ◌++◌, Option, Some, None, set, sym, ap, ◌∙◌, subst, ⊎_elim}
-use Rattle.std.proofs.lemmas.Bool.{cases_eq}
-use Rattle.std.specs.Prelude.{slice_get}
-use Rattle.std.specs.List.{AllByRecursion}
-use Rattle.std.proofs.lemmas.Option.{same_Some, none-some}
-use Rattle.vc_model.specs.Numbered.{at_number}
-use Rattle.vc_model.specs.Discipline.{Discipline}
+use Rattle.vc_base.proofs.Common.{◌≡◌, ℕ, zero, suc, ◌-◌, ◌≢◌, List, [], ◌∷◌, ◌++◌, set, slice_get, Some, None, Option, sym, ap, ◌∙◌, subst, ⊎_elim, cases_eq, none-some, same_Some, AllByRecursion, Discipline, at_number}
 use Rattle.vc_base.proofs.Lists.{slice_get-set}
 use Rattle.vc_commands.specs.Held.{Held}
 use Rattle.vc_steps.specs.Account.{IsHeldFrom, IsSession}

@@ -1,9 +1,7 @@
 -- How the settled shelf changes as regions are opened and change.
-use Rattle.std.proofs.Common.{◌≡◌, ◌≢◌, ℕ, ◌-◌, ◌≤◌, zero, suc, List, [], ◌∷◌, ◌++◌, Option, Some, refl, sym, ap, ◌∙◌, subst, arith, set}
-use Rattle.std.specs.Prelude.{slice_get, ⊤}
-use Rattle.std.specs.List.{AllByRecursion}
-use Rattle.std.proofs.lemmas.List.{set_comm, set-set}
-use Rattle.std.proofs.lemmas.Option.{same_Some, none-some}
+use Rattle.vc_base.proofs.Common.{◌≡◌, ℕ, zero, suc, ◌-◌, ◌≤◌, ◌≢◌, List, [], ◌∷◌, ◌++◌, set, slice_get, Some, Option, sym, refl, ap, ◌∙◌, subst, arith, set-set, none-some, same_Some, AllByRecursion}
+use Rattle.std.specs.Prelude.{⊤}
+use Rattle.std.proofs.lemmas.List.{set_comm}
 use Rattle.vc_base.proofs.Lists.{slice_get-set}
 use Rattle.vc_steps.proofs.Cells.{slice_get-set_other}
 use Rattle.vc_steps.specs.Account.{Account, account_after, settled_accounts}

@@ -1,10 +1,5 @@
 -- From one settled shelf to the next, and over a run.
-use Rattle.std.proofs.Common.{◌≡◌, ◌≢◌, ℕ, ◌+◌, ◌-◌, ◌≤◌, zero, suc, cond, List, [], ◌++◌, Option, Some, option_map, refl, sym, ap, ◌∙◌, subst, arith, inl, inr, ⊎_elim, set, eqb}
-use Rattle.std.proofs.lemmas.Bool.{cases_eq}
-use Rattle.std.specs.Prelude.{count_by, ◌==◌}
-use Rattle.std.proofs.lemmas.List.Sums.{sum_by-append}
-use Rattle.vc_model.specs.Count.{Rose}
-use Rattle.vc_model.specs.Numbered.{at_number}
+use Rattle.vc_base.proofs.Common.{◌≡◌, ℕ, zero, suc, ◌+◌, ◌-◌, ◌≤◌, cond, eqb, ◌≢◌, List, [], ◌++◌, set, ◌==◌, Some, count_by, Option, option_map, sym, refl, ap, ◌∙◌, subst, inl, inr, ⊎_elim, arith, cases_eq, sum_by-append, Rose, at_number}
 use Rattle.vc_base.proofs.Lists.{slice_get-set}
 use Rattle.vc_views.proofs.LinkLists.{map-set_same}
 use Rattle.vc_steps.proofs.Cells.{slice_get-set_other, at_number-from_one, at_number-zero, at_number_some}

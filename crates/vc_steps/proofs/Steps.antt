@@ -1,6 +1,5 @@
 -- What follows of a step, and what it follows from.
-use Rattle.std.proofs.Common.{◌≡◌, List, Result, Ok, Err, sym, ap, ◌∙◌, subst}
-use Rattle.std.specs.Prelude.{OnOk}
+use Rattle.vc_base.proofs.Common.{◌≡◌, List, OnOk, Ok, Err, Result, sym, ap, ◌∙◌, subst}
 use Rattle.vc_dtdisc.specs.Rules.{Gone}
 use Rattle.vc_script.specs.Needs.{Need, need_shown}
 use Rattle.vc_script.specs.declared.command.Command.{Command}

@@ -1,7 +1,5 @@
 -- What holds of every answer of a view, and of every reply of a look.
-use Rattle.std.proofs.Common.{List, Option, Some, None, Bool, true, false, cond, ℕ}
-use Rattle.std.specs.Prelude.{IfSome, not}
-use Rattle.std.specs.List.{list_any}
+use Rattle.vc_base.proofs.Common.{ℕ, Bool, true, false, cond, not, List, IfSome, Some, None, Option, list_any}
 use Rattle.vc_dtdisc.specs.Rules.{Rules}
 use Rattle.vc_paths.specs.Visible.{Seen}
 use Rattle.vc_script.specs.declared.command.Command.{Command}

@@ -1,9 +1,5 @@
 -- What a view gives, by names and by the links of numbers.
-use Rattle.std.proofs.Common.{◌≡◌, ◌<◌, ℕ, List, Option, Some, None, length, option_map, ap, ◌∙◌}
-use Rattle.std.specs.Prelude.{slice_get}
-use Rattle.std.specs.List.{IsDistinct}
-use Rattle.std.specs.Map.{keys_of}
-use Rattle.std.specs.Str.{bytes_eq}
+use Rattle.vc_base.proofs.Common.{◌≡◌, ℕ, ◌<◌, List, length, slice_get, Some, None, Option, option_map, bytes_eq, ap, ◌∙◌, IsDistinct, keys_of}
 use Rattle.vc_dtdisc.specs.Rules.{Rules}
 use Rattle.vc_paths.specs.Layers.{Layered}
 use Rattle.vc_paths.specs.Links.{ArePaths, Links, links_with}

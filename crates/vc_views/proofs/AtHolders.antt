@@ -1,10 +1,5 @@
 -- The places of a layer's objects against the holders of its dictionary.
-use Rattle.std.proofs.Common.{◌≡◌, ℕ, true, false, List, [], ◌∷◌, Some, None, IsSome, map, refl, ap, ◌∙◌, subst, inl, inr}
-use Rattle.std.specs.Prelude.{◌==◌}
-use Rattle.std.specs.List.{list_any}
-use Rattle.std.proofs.lemmas.Bool.Decides.{eqb_tells}
-use Rattle.vc_base.specs.Cells.{Blocks}
-use Rattle.vc_base.specs.Holders.{AreDistinct, contains, first_in, last_in, next_in, previous_in}
+use Rattle.vc_base.proofs.Common.{◌≡◌, ℕ, true, false, List, [], ◌∷◌, map, IsSome, ◌==◌, Some, None, refl, ap, ◌∙◌, subst, inl, inr, eqb_tells, list_any, Blocks, AreDistinct, contains, first_in, last_in, next_in, previous_in}
 use Rattle.vc_base.proofs.Quantifiers.{any-map}
 use Rattle.vc_dtdisc.specs.Finding.{before_first, first_of, last_of}
 use Rattle.vc_dtdisc.specs.Finds.{find_key, object_at}

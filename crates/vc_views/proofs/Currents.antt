@@ -1,16 +1,7 @@
 -- The dictionary at an index whose current object is set.
-use Rattle.std.proofs.Common.{◌≡◌, ℕ, ◌<◌, zero, suc, Bool, true, false, ◌||◌, cond, List, [], ◌∷◌, Option, Some, None, IsSome, length, map, option_map, set, is_some, refl, sym, ap, ◌∙◌, subst, inl, inr, arith}
-use Rattle.std.specs.Prelude.{find, slice_get, ◌==◌}
-use Rattle.std.specs.List.{AllByRecursion}
-use Rattle.std.specs.Map.{values_of}
+use Rattle.vc_base.proofs.Common.{◌≡◌, ℕ, zero, suc, ◌<◌, Bool, true, false, cond, ◌||◌, List, [], ◌∷◌, map, length, set, is_some, IsSome, ◌==◌, slice_get, Some, None, Option, option_map, find, sym, refl, ap, ◌∙◌, subst, inl, inr, true≢false, arith, eq-eqb, ne_eqb, eqb-true, or-true, eqb_tells, cases_Bool, length-map, none-some, same_Some, slice_get-map, AllByRecursion, values_of, AreDistinct, contains, some_address}
 use Rattle.indexmap.specs.IndexMap.{set_value_at}
-use Rattle.std.proofs.lemmas.List.{length-map}
-use Rattle.std.proofs.lemmas.Bool.{cases_Bool, eq-eqb, eqb-true, ne_eqb, true≢false}
-use Rattle.std.proofs.lemmas.Bool.Decides.{eqb_tells}
-use Rattle.std.proofs.lemmas.Option.{none-some, same_Some, slice_get-map}
-use Rattle.std.proofs.Math.Bool.{or-true}
 use Rattle.vc_base.specs.declared.addr.Addr.{Addr}
-use Rattle.vc_base.specs.Holders.{AreDistinct, contains, some_address}
 use Rattle.vc_dtdisc.specs.Finding.{before_first_from, behind_last, first_of}
 use Rattle.vc_dtdisc.specs.Rules.{Rules}
 use Rattle.vc_dict.specs.Listed.{holders_of}

@@ -1,14 +1,7 @@
 -- The dictionary of a number and the region of a name, by their indices.
-use Rattle.std.proofs.Common.{◌≡◌, ℕ, ◌<◌, zero, suc, Bool, true, false, ◌||◌, cond, is_some, List, [], ◌∷◌, Option, Some, None, IsSome, length, get_or, map, option_map, set, take, drop, refl, sym, ap, ◌∙◌, subst, arith}
-use Rattle.std.specs.Prelude.{find, slice_get, ◌==◌}
-use Rattle.std.specs.List.{list_any, position}
-use Rattle.std.specs.Map.{keys_of, lookup, values_of}
-use Rattle.std.specs.Str.{bytes_eq}
-use Rattle.std.proofs.lemmas.Bool.{true≢false}
-use Rattle.std.proofs.lemmas.List.Quantifiers.{position-Some}
-use Rattle.std.proofs.lemmas.Option.{none-some, same_Some, slice_get-get_or}
+use Rattle.vc_base.proofs.Common.{◌≡◌, ℕ, zero, suc, ◌<◌, Bool, true, false, cond, ◌||◌, List, [], ◌∷◌, map, length, get_or, take, drop, set, is_some, IsSome, ◌==◌, slice_get, Some, None, Option, option_map, position, find, bytes_eq, sym, refl, ap, ◌∙◌, subst, true≢false, arith, position-Some, none-some, same_Some, list_any, keys_of, lookup, values_of, Blocks}
+use Rattle.std.proofs.lemmas.Option.{slice_get-get_or}
 use Rattle.indexmap.specs.IndexMap.{set_value_at}
-use Rattle.vc_base.specs.Cells.{Blocks}
 use Rattle.vc_base.proofs.Lists.{find-map}
 use Rattle.vc_base.proofs.Texts.{bytes_eq-swapped}
 use Rattle.vc_base.proofs.Quantifiers.{any-agree}

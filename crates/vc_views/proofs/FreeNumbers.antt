@@ -1,10 +1,5 @@
 -- Among fewer dictionaries than there are numbers some number is free.
-use Rattle.std.proofs.Common.{◌≡◌, ◌≢◌, ◌<◌, ◌≤◌, ◌||◌, ℕ, zero, suc, true, false, cond, List, [], ◌∷◌, Some, None, length, map, refl, sym, ap, ◌∙◌, ⊎_elim, arith}
-use Rattle.std.specs.Prelude.{◌==◌}
-use Rattle.std.specs.List.{find}
-use Rattle.std.proofs.lemmas.Bool.{cases_Bool, false≢true, ne_eqb, or_parts}
-use Rattle.std.proofs.lemmas.Bool.Decides.{Decides-eqb}
-use Rattle.vc_base.specs.Holders.{contains}
+use Rattle.vc_base.proofs.Common.{◌≡◌, ℕ, zero, suc, ◌<◌, ◌≤◌, true, false, cond, ◌||◌, ◌≢◌, List, [], ◌∷◌, map, length, ◌==◌, Some, None, find, sym, refl, ap, ◌∙◌, ⊎_elim, arith, ne_eqb, Decides-eqb, cases_Bool, false≢true, or_parts, contains}
 
 -- without the first that is this one
 abbrev pub without : ℕ → List ℕ → List ℕ

@@ -1,14 +1,6 @@
 -- Links stay between dictionaries where a link ends, where one is set, and where a dictionary is opened, ends or changes.
-use Rattle.std.proofs.Common.{◌≡◌, ◌≢◌, ℕ, ◌<◌, ◌||◌, ⊎_elim, ap₂, zero, suc, arith, true, false, length, List, [], ◌∷◌, ◌++◌, Option, Some, None, map, option_map, refl, sym, ap, ◌∙◌, subst, inl, inr}
-use Rattle.std.specs.Prelude.{remove, slice_get, slice_set, ◌==◌}
-use Rattle.std.specs.List.{AllByRecursion, find, list_any}
-use Rattle.std.specs.Option.{option_and_then}
-use Rattle.std.proofs.lemmas.Bool.{cases_Bool, true≢false, or_parts}
-use Rattle.std.proofs.lemmas.Bool.Decides.{Decides-eqb, eqb_tells}
-use Rattle.std.proofs.lemmas.Option.{none-some, same_Some}
-use Rattle.std.proofs.lemmas.Simd.{map-map}
+use Rattle.vc_base.proofs.Common.{◌≡◌, ℕ, zero, suc, ◌<◌, true, false, ◌||◌, ◌≢◌, List, [], ◌∷◌, ◌++◌, map, length, ◌==◌, slice_get, slice_set, Some, None, Option, option_map, remove, find, option_and_then, sym, refl, ap, ◌∙◌, subst, ap₂, inl, inr, ⊎_elim, true≢false, arith, Decides-eqb, eqb_tells, cases_Bool, or_parts, none-some, same_Some, map-map, AllByRecursion, list_any, AreDistinct, contains}
 use Rattle.vc_base.specs.declared.dict_method.DictMethod.{DictMethod}
-use Rattle.vc_base.specs.Holders.{AreDistinct, contains}
 use Rattle.vc_base.proofs.Lists.{find-map}
 use Rattle.vc_base.proofs.Quantifiers.{any-map, all-push, all-map, all-unmap}
 use Rattle.vc_base.proofs.Options.{option_map-Some}

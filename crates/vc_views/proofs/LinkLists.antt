@@ -1,9 +1,5 @@
 -- Tests over lists, and what is found in a list that changes at one index.
-use Rattle.std.proofs.Common.{◌≡◌, ℕ, zero, suc, Bool, true, false, cond, ◌||◌, List, [], ◌∷◌, ◌++◌, Option, Some, None, map, option_map, refl, sym, ap, ap₂, ◌∙◌, ⊎_elim}
-use Rattle.std.specs.Prelude.{remove, slice_get, slice_set}
-use Rattle.std.specs.List.{AllByRecursion, find, list_any}
-use Rattle.std.proofs.lemmas.Bool.{cases_Bool, or_left, or_right, true≢false, or_parts}
-use Rattle.std.proofs.lemmas.Option.{none-some, same_Some}
+use Rattle.vc_base.proofs.Common.{◌≡◌, ℕ, zero, suc, Bool, true, false, cond, ◌||◌, List, [], ◌∷◌, ◌++◌, map, slice_get, slice_set, Some, None, Option, option_map, remove, find, sym, refl, ap, ◌∙◌, ap₂, ⊎_elim, true≢false, cases_Bool, or_left, or_parts, or_right, none-some, same_Some, AllByRecursion, list_any}
 use Rattle.vc_views.proofs.NamedEntries.{Stands}
 
 -- two tests are equal where each follows from the other

@@ -1,17 +1,6 @@
 -- Why a dictionary can't view another one: by names and by numbers alike.
-use Rattle.std.proofs.Common.{◌≡◌, ℕ, ◌<◌, Bool, true, false, not, ◌&&◌, length, List, [], ◌∷◌, Option, Some, None, map, option_map, refl, sym, ap, ap₂, ◌∙◌, ⊎_elim, suc, arith}
-use Rattle.std.specs.Prelude.{nat_lt, slice_get, if◌then◌else◌, ◌==◌}
-use Rattle.std.specs.List.{IsDistinct, list_any}
-use Rattle.std.specs.Map.{keys_of}
-use Rattle.std.specs.Str.{bytes_eq}
-use Rattle.std.proofs.lemmas.Bool.{and_parts, cases_Bool, true≢false}
-use Rattle.std.proofs.lemmas.Bool.Decides.{Decides-eqb}
-use Rattle.std.proofs.lemmas.Option.{none-some, same_Some}
-use Rattle.std.proofs.lemmas.Slice.Eq.{bytes_eq-Decides}
-use Rattle.std.proofs.lemmas.Map.Keys.{any_passes_from_place}
+use Rattle.vc_base.proofs.Common.{◌≡◌, ℕ, suc, ◌<◌, Bool, true, false, not, ◌&&◌, List, [], ◌∷◌, map, length, if◌then◌else◌, nat_lt, ◌==◌, slice_get, Some, None, Option, option_map, bytes_eq, sym, refl, ap, ◌∙◌, ap₂, ⊎_elim, true≢false, arith, Decides-eqb, and_parts, cases_Bool, any_passes_from_place, none-some, same_Some, bytes_eq-Decides, IsDistinct, list_any, keys_of, contains, method_number}
 use Rattle.vc_base.specs.declared.dict_method.DictMethod.{DictMethod}
-use Rattle.vc_base.specs.Holders.{contains}
-use Rattle.vc_base.specs.Methods.{method_number}
 use Rattle.vc_base.proofs.Quantifiers.{any-map}
 use Rattle.vc_base.proofs.Methods.{same-method}
 use Rattle.vc_objects.specs.Objects.{Dictionary}

@@ -1,7 +1,5 @@
 -- What a look through a path promises, by its answer.
-use Rattle.std.proofs.Common.{◌≡◌, ℕ, List, Option, Result, Ok, Err, IfOk, map, option_map, refl, subst, sym, ap, ◌∙◌}
-use Rattle.std.specs.Prelude.{OnOk, ◌==◌}
-use Rattle.vc_base.specs.Address.{number_of}
+use Rattle.vc_base.proofs.Common.{◌≡◌, ℕ, List, map, IfOk, OnOk, ◌==◌, Ok, Err, Option, Result, option_map, sym, refl, ap, ◌∙◌, subst, number_of}
 use Rattle.vc_base.specs.declared.addr.Addr.{Addr}
 use Rattle.vc_dtdisc.specs.Rules.{Rules}
 use Rattle.vc_paths.specs.Layers.{Layered}

@@ -1,17 +1,7 @@
 -- What a look at one dictionary leaves of its region and of all dictionaries.
-use Rattle.std.proofs.Common.{◌≡◌, ℕ, zero, suc, false, List, [], ◌∷◌, Some, None, map, option_map, set, refl, sym, ap, ◌∙◌, subst}
-use Rattle.std.specs.Prelude.{remove, slice_get}
-use Rattle.std.specs.List.{AllByRecursion, position}
-use Rattle.std.specs.Map.{keys_of, values_of}
-use Rattle.std.specs.Str.{bytes_eq}
-use Rattle.std.specs.declared.alloc.Global.{Global}
+use Rattle.vc_base.proofs.Common.{◌≡◌, ℕ, zero, suc, false, List, [], ◌∷◌, map, set, slice_get, Some, None, option_map, remove, position, bytes_eq, Global, sym, refl, ap, ◌∙◌, subst, none-some, same_Some, AllByRecursion, keys_of, values_of, contains, Discipline, Layout, at_number}
 use Rattle.std.specs.declared.dyn_box.DynBox.{DynBox}
-use Rattle.std.proofs.lemmas.Option.{none-some, same_Some}
 use Rattle.indexmap.specs.IndexMap.{set_value_at}
-use Rattle.vc_model.specs.Discipline.{Discipline}
-use Rattle.vc_model.specs.Layout.{Layout}
-use Rattle.vc_model.specs.Numbered.{at_number}
-use Rattle.vc_base.specs.Holders.{contains}
 use Rattle.vc_base.proofs.Texts.{bytes_eq-swapped, same_bytes}
 use Rattle.vc_dtdisc.specs.Rules.{Rules}
 use Rattle.vc_dict.specs.Listed.{holders_of}

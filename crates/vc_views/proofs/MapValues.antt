@@ -1,7 +1,6 @@
 -- What the values of a map give, one by one.
-use Rattle.std.proofs.Common.{◌≡◌, List, [], ◌∷◌, sym, subst}
-use Rattle.std.specs.Iterator.{AlwaysYields}
-use Rattle.std.specs.Map.Iter.{TakesFirst, deref}
+use Rattle.vc_base.proofs.Common.{◌≡◌, List, [], ◌∷◌, sym, subst, AlwaysYields, TakesFirst}
+use Rattle.std.specs.Map.Iter.{deref}
 use Rattle.vc_base.proofs.Lists.{head-same, tail-same}
 
 -- all of them, in order

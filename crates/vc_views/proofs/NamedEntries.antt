@@ -1,15 +1,5 @@
 -- The dictionary of a number, and that of a name, where no two have one number, or one name.
-use Rattle.std.proofs.Common.{◌≡◌, ℕ, zero, suc, Bool, true, false, cond, List, [], ◌∷◌, Some, map, refl, sym, ap, ◌∙◌, subst, arith}
-use Rattle.std.specs.Prelude.{slice_get, ◌==◌}
-use Rattle.std.specs.List.{AllByRecursion, IsDistinct, find}
-use Rattle.std.specs.Map.{keys_of}
-use Rattle.std.specs.Str.{bytes_eq}
-use Rattle.std.proofs.lemmas.Bool.Decides.{Decides-eqb, nat_tests}
-use Rattle.std.proofs.lemmas.Map.Keys.{IsDistinct-head, IsDistinct-tail}
-use Rattle.std.proofs.lemmas.Option.{none-some, same_Some}
-use Rattle.std.proofs.lemmas.Slice.Eq.{bytes_eq-Decides}
-use Rattle.std.proofs.lemmas.Bool.{or_parts}
-use Rattle.vc_base.specs.Holders.{AreDistinct, contains}
+use Rattle.vc_base.proofs.Common.{◌≡◌, ℕ, zero, suc, Bool, true, false, cond, List, [], ◌∷◌, map, ◌==◌, slice_get, Some, find, bytes_eq, sym, refl, ap, ◌∙◌, subst, arith, Decides-eqb, nat_tests, or_parts, IsDistinct-head, IsDistinct-tail, none-some, same_Some, bytes_eq-Decides, AllByRecursion, IsDistinct, keys_of, AreDistinct, contains}
 use Rattle.vc_commands.specs.declared.dict.entry.DictEntry.{DictEntry}
 use Rattle.vc_views.specs.Dicts.{entry_numbered, number_in}
 

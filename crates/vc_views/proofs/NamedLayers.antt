@@ -1,6 +1,5 @@
 -- The open dictionaries over their regions are the layers of their numbers.
-use Rattle.std.proofs.Common.{◌≡◌, ℕ, List, Some, is_some, option_map, refl, sym, ap, ◌∙◌}
-use Rattle.vc_model.specs.Numbered.{at_number}
+use Rattle.vc_base.proofs.Common.{◌≡◌, ℕ, List, is_some, Some, option_map, sym, refl, ap, ◌∙◌, at_number}
 use Rattle.vc_base.proofs.Lists.{find-map}
 use Rattle.vc_dtdisc.specs.Rules.{Rules}
 use Rattle.vc_views.specs.Dicts.{AreDictsOver, DictRegion, dict_seen, dictionary_over, entry_numbered, has_number, layer_of, layer_seen, layered_by, rules_or}

@@ -1,7 +1,5 @@
 -- What is looked for among objects under other names for their dictionaries is the same.
-use Rattle.std.proofs.Common.{◌≡◌, Bool, List, Option, Some, None, map, option_map, refl, ap, ◌∙◌}
-use Rattle.std.specs.Prelude.{if◌then◌else◌}
-use Rattle.std.proofs.lemmas.Simd.{map-map}
+use Rattle.vc_base.proofs.Common.{◌≡◌, Bool, List, map, if◌then◌else◌, Some, None, Option, option_map, refl, ap, ◌∙◌, map-map}
 use Rattle.vc_dtdisc.specs.Rules.{Rules}
 use Rattle.vc_dtdisc.proofs.FindingLemmas.{first_of-map, last_of-map, option_by}
 use Rattle.vc_dtdisc.proofs.ObjectsLemmas.{before_key-map, behind_key-map, first_with-map}

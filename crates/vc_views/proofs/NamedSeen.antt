@@ -1,14 +1,6 @@
 -- From numbers to names: what is seen through a dictionary, and what a look there finds.
-use Rattle.std.proofs.Common.{◌≡◌, ℕ, List, ◌∷◌, Bool, true, false, Option, Some, None, map, option_map, refl, sym, ap, ap₂, ◌∙◌, arith, length}
-use Rattle.std.specs.Prelude.{slice_get, unwrap_or, ◌==◌}
-use Rattle.std.specs.List.{IsDistinct}
-use Rattle.std.specs.Map.{keys_of}
-use Rattle.std.specs.Str.{bytes_eq}
-use Rattle.std.proofs.lemmas.Bool.{ne_eqb}
-use Rattle.std.proofs.lemmas.Bool.Decides.{Decides-eqb, same_from_decides}
-use Rattle.std.proofs.lemmas.Option.{none-some, same_Some}
-use Rattle.std.proofs.lemmas.Simd.{map-map}
-use Rattle.std.proofs.lemmas.Slice.Eq.{bytes_eq-Decides}
+use Rattle.vc_base.proofs.Common.{◌≡◌, ℕ, Bool, true, false, List, ◌∷◌, map, length, ◌==◌, slice_get, Some, None, Option, option_map, bytes_eq, unwrap_or, sym, refl, ap, ◌∙◌, ap₂, arith, ne_eqb, Decides-eqb, none-some, same_Some, map-map, bytes_eq-Decides, IsDistinct, keys_of}
+use Rattle.std.proofs.lemmas.Bool.Decides.{same_from_decides}
 use Rattle.vc_dtdisc.specs.Rules.{Rules}
 use Rattle.vc_objects.specs.Objects.{Dictionary}
 use Rattle.vc_paths.specs.Layers.{Layered}

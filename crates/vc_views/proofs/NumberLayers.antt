@@ -1,10 +1,5 @@
 -- The dictionary of a number over the cells of its region, as the layer of that number.
-use Rattle.std.proofs.Common.{◌≡◌, ℕ, ◌≤◌, List, [], Option, Some, None, IsSome, true, length, map, option_map, is_some, refl, sym, ap, ◌∙◌, subst, arith}
-use Rattle.std.specs.Prelude.{find}
-use Rattle.std.proofs.lemmas.Option.{none-some, same_Some}
-use Rattle.vc_model.specs.Numbered.{at_number}
-use Rattle.vc_base.specs.Cells.{Blocks, HasBytes}
-use Rattle.vc_base.specs.Holders.{contains, first_in, last_in, next_in, previous_in}
+use Rattle.vc_base.proofs.Common.{◌≡◌, ℕ, ◌≤◌, true, List, [], map, length, is_some, IsSome, Some, None, Option, option_map, find, sym, refl, ap, ◌∙◌, subst, arith, none-some, same_Some, Blocks, HasBytes, contains, first_in, last_in, next_in, previous_in, at_number}
 use Rattle.vc_base.proofs.Options.{is_some-map}
 use Rattle.vc_dtdisc.specs.Finding.{first_of, last_of}
 use Rattle.vc_dtdisc.specs.Finds.{object_at}

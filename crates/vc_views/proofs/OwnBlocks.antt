@@ -1,11 +1,5 @@
 -- A dictionary whose own blocks stay, whatever becomes of the other cells.
-use Rattle.std.proofs.Common.{◌≡◌, ◌≢◌, ℕ, List, [], ◌∷◌, Bool, true, false, ◌||◌, IsSome, map, unwrap_or, refl, sym, ap, ◌∙◌, subst, inl, inr, arith}
-use Rattle.std.specs.Prelude.{◌==◌}
-use Rattle.std.specs.List.{AllByRecursion}
-use Rattle.std.proofs.lemmas.Bool.Decides.{eqb_tells}
-use Rattle.std.proofs.Math.Bool.{or-true}
-use Rattle.vc_base.specs.Cells.{Blocks, IsAddress, body_of}
-use Rattle.vc_base.specs.Holders.{contains}
+use Rattle.vc_base.proofs.Common.{◌≡◌, ℕ, Bool, true, false, ◌||◌, ◌≢◌, List, [], ◌∷◌, map, IsSome, ◌==◌, unwrap_or, sym, refl, ap, ◌∙◌, subst, inl, inr, arith, or-true, eqb_tells, AllByRecursion, Blocks, IsAddress, body_of, contains}
 use Rattle.vc_base.proofs.Members.{within-tail}
 use Rattle.vc_dtdisc.specs.Finds.{object_at}
 use Rattle.vc_dtdisc.specs.Rules.{IsObject, Rules}

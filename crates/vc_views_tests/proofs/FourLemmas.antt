@@ -1,10 +1,5 @@
 -- Four dictionaries of a session as layers, and what calls leave of them.
-use Rattle.std.proofs.Common.{◌≡◌, ℕ, ◌+◌, ◌<◌, List, [], Option, Some, None, option_map, refl, ap, ◌∙◌, subst, sym, inl, inr, arith}
-use Rattle.std.specs.Prelude.{IsSome, slice_get}
-use Rattle.std.specs.Map.{values_of}
-use Rattle.std.proofs.lemmas.Bool.Decides.{eqb_tells}
-use Rattle.std.proofs.lemmas.Option.{none-some, same_Some}
-use Rattle.vc_base.specs.Address.{number_of}
+use Rattle.vc_base.proofs.Common.{◌≡◌, ℕ, ◌+◌, ◌<◌, List, [], IsSome, slice_get, Some, None, Option, option_map, sym, refl, ap, ◌∙◌, subst, inl, inr, arith, eqb_tells, none-some, same_Some, values_of, number_of}
 use Rattle.vc_base.specs.declared.addr.Addr.{Addr}
 use Rattle.vc_dtdisc.specs.Finding.{first_of}
 use Rattle.vc_dtdisc.specs.Objects.{Object}

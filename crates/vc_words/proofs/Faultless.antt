@@ -1,10 +1,6 @@
 -- Words at which a simple command has no fault are words that it takes, as far as the words tell.
-use Rattle.std.proofs.Common.{◌≡◌, ◌&&◌, ◌||◌, ℕ, Bool, true, false, cond, not, zero, suc, refl, ap, arith, List, [], ◌∷◌, length, nat_le, nat_lt, ◌==◌, Option, Some, None, is_some, drop, eqb-true, ltb-false, le-leb}
-use Rattle.std.specs.Prelude.{encode_utf8, slice_get}
-use Rattle.std.specs.List.{list_all}
+use Rattle.vc_base.proofs.Common.{◌≡◌, ℕ, zero, suc, Bool, true, false, cond, not, ◌&&◌, ◌||◌, List, [], ◌∷◌, length, drop, is_some, nat_lt, nat_le, ◌==◌, slice_get, Some, None, Option, chars, encode_utf8, bytes_eq, refl, ap, arith, ltb-false, eqb-true, le-leb, and_from, list_all}
 use Rattle.std.specs.Option.{option_map_or}
-use Rattle.std.specs.Str.{bytes_eq, chars}
-use Rattle.std.proofs.lemmas.Bool.{and_from}
 use Rattle.clap.specs.Facts.{unwrap_or_range}
 use Rattle.clap.specs.Faults.{action_fault, bundle_step_fault, flag_word_fault, flags_fault, long_fault, option_fault, other_fault, positional_fault, react_fault, repeat_fault, settle_fault, short_fault, step_fault, stray_fault, turn_fault, use_fault, values_fault, walk_fault, word_fault}
 use Rattle.clap.specs.Kinds.{Kinds, or_else, range_kinds, value_kinds, values_kinds}

@@ -1,9 +1,7 @@
 -- How the text of a flag is read.
-use Rattle.std.proofs.Common.{◌≡◌, ◌∙◌, Bool, true, false, refl, sym, ap, arith, codes, length, Option, Some, None, unwrap_or}
+use Rattle.vc_base.proofs.Common.{◌≡◌, Bool, true, false, length, Some, None, codes, Option, bytes_eq, unwrap_or, sym, refl, ap, ◌∙◌, arith, bytes_eq-Decides}
 use Rattle.std.specs.Option.{option_map_or}
-use Rattle.std.specs.Str.{bytes_eq}
 use Rattle.std.specs.Str.Parse.{ParsesBool}
-use Rattle.std.proofs.lemmas.Slice.Eq.{bytes_eq-Decides}
 use Rattle.clap.specs.Words.{ReadsOne, Text}
 
 isnt_true : (text : Text) → (text ≡ codes "true" → ⊥) → false ≡ bytes_eq text (codes "true")

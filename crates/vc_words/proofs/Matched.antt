@@ -1,9 +1,5 @@
 -- From the matches to what is asked.
-use Rattle.std.proofs.Common.{◌≡◌, ◌∙◌, ℕ, Bool, true, false, refl, sym, ap, codes, List, [], Option, None, cond, option_map, unwrap_or}
-use Rattle.std.specs.Prelude.{option_and_then}
-use Rattle.std.specs.Borrow.{Bor}
-use Rattle.std.specs.List.{list_all}
-use Rattle.std.proofs.lemmas.Bool.{and_from}
+use Rattle.vc_base.proofs.Common.{◌≡◌, ℕ, Bool, true, false, cond, List, [], None, codes, Option, option_map, option_and_then, unwrap_or, sym, refl, ap, ◌∙◌, Bor, and_from, list_all}
 use Rattle.clap.proofs.FaultLemmas.{leaf_fault}
 use Rattle.clap.proofs.TakesLemmas.{leaf_takes}
 use Rattle.clap.specs.Faults.{settle_fault, walk_fault}

@@ -1,5 +1,5 @@
 -- The range of a count that is asked for.
-use Rattle.std.proofs.Common.{◌≡◌, ◌&&◌, ◌≤◌, ℕ, Bool, true, false, cond, refl, codes, List, Option, None, Some, option_map, option_and_then, nat_le, leb-true, IfSome}
+use Rattle.vc_base.proofs.Common.{◌≡◌, ℕ, ◌≤◌, Bool, true, false, cond, ◌&&◌, List, IfSome, nat_le, Some, None, codes, Option, option_map, option_and_then, refl, leb-true}
 use Rattle.clap.specs.Words.{Row, Text, first_of, matches_of, takes}
 use Rattle.vc_words.specs.Words.{asked, command, count_of, command_count, has_flag, read_if_given, spelled, words_of}
 use Rattle.vc_words.proofs.Matched.{asked_by}

@@ -1,4 +1,4 @@
-use Rattle.std.proofs.Common.{◌≡◌, ◌+◌, vec_len}
+use Rattle.vc_base.proofs.Common.{◌≡◌, ◌+◌, vec_len}
 use Rattle.vmreplay.proofs.main.Given as goal
 
 -- a discipline was put for each number

@@ -1,5 +1,4 @@
-use Rattle.std.proofs.Common.{refl, ◌∙◌, arith}
-use Rattle.std.proofs.Math.Logic.{∥∥₁_elim}
+use Rattle.vc_base.proofs.Common.{refl, ◌∙◌, arith, ∥∥₁_elim}
 use Rattle.vc_extent.specs.Tiling.{tiling}
 use Rattle.vc_best.proofs.Carves.{back-none, back-some}
 use Rattle.vc_best.proofs.Known.{cut-of}

@@ -1,6 +1,4 @@
-use Rattle.std.proofs.Common.{ℕ, ◌-◌, refl, ap, ◌∙◌, arith}
-use Rattle.std.proofs.Math.Logic.{∥∥₁_elim}
-use Rattle.vc_model.specs.Addr.{address, place_of}
+use Rattle.vc_base.proofs.Common.{ℕ, ◌-◌, refl, ap, ◌∙◌, arith, ∥∥₁_elim, address, place_of}
 use Rattle.vc_extent.specs.Tiling.{change_extent, tiling}
 use Rattle.vc_extent.specs.Change.{split}
 use Rattle.vc_best.proofs.Carves.{front-none, front-some}

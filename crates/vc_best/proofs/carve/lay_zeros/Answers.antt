@@ -1,6 +1,4 @@
-use Rattle.std.proofs.Common.{ap, replicate, ◌∙◌, arith}
-use Rattle.std.proofs.Math.Bridge.{le_prop}
-use Rattle.std.proofs.Math.Logic.{∥∥₁_elim}
+use Rattle.vc_base.proofs.Common.{replicate, ap, ◌∙◌, arith, le_prop, ∥∥₁_elim}
 use Rattle.vc_extent.specs.Extent.{Extent}
 use Rattle.vc_extent.specs.Tiling.{IsBusy, extent_of, tiling}
 use Rattle.vc_best.proofs.Carves.{laid, marked}

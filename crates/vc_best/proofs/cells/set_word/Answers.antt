@@ -1,7 +1,5 @@
-use Rattle.std.proofs.Common.{ℕ, ◌+◌, ◌*◌, length, ap, ◌∙◌, arith}
-use Rattle.vc_base.specs.Cells.{bytes_at, put, with_word}
-use Rattle.vc_model.specs.Bytes.{with_bytes}
-use Rattle.vc_model.specs.Layout.{Layout}
+use Rattle.vc_base.proofs.Common.{ℕ, ◌+◌, ◌*◌, length, ap, ◌∙◌, arith, bytes_at, with_word, with_bytes, Layout}
+use Rattle.vc_base.specs.Cells.{put}
 use Rattle.vc_best.specs.Cells.{cells_in, cells_of, zeroed_layout}
 use Rattle.vc_best.specs.Parts.{blocks_in, layout_of}
 use Rattle.vc_best.proofs.CellBytes.{cell, cell-most, cell-range, cells-written, layout-written}

@@ -1,6 +1,4 @@
-use Rattle.std.proofs.Common.{◌+◌, ◌*◌, w64, ap, ◌∙◌, arith}
-use Rattle.std.specs.Int.{from_le_bytes}
-use Rattle.vc_base.specs.Cells.{word}
+use Rattle.vc_base.proofs.Common.{◌+◌, ◌*◌, ap, ◌∙◌, arith, w64, from_le_bytes, word}
 use Rattle.vc_best.specs.Parts.{layout_of}
 use Rattle.vc_best.proofs.CellBytes.{cell-most, cell-range, cell-read}
 use Rattle.vc_best.proofs.cells.word_in.Goals as goal

@@ -1,4 +1,4 @@
-use Rattle.std.proofs.Common.{ℕ, List, All, ◌+◌, refl, ◌∙◌}
+use Rattle.vc_base.proofs.Common.{ℕ, ◌+◌, List, All, refl, ◌∙◌}
 use Rattle.vc_extent.specs.Change.{IsOneFree, one_free}
 use Rattle.vc_extent.specs.Extent.{Extent}
 use Rattle.vc_extent.specs.Tiling.{change_in, tiling}

@@ -1,4 +1,4 @@
-use Rattle.std.proofs.Common.{◌≡◌, map}
+use Rattle.vc_base.proofs.Common.{◌≡◌, map}
 use Rattle.vc_seg.specs.Segment.{pair_of}
 use Rattle.vc_extent.specs.Tiling.{tiling}
 use Rattle.vc_best.specs.GapsChange.{HasGapsBelow}

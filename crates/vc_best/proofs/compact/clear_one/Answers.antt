@@ -1,4 +1,4 @@
-use Rattle.std.proofs.Common.{◌≢◌, ℕ, List, All, IsSome, Option, not, ap, sym, subst, ◌∙◌}
+use Rattle.vc_base.proofs.Common.{ℕ, not, ◌≢◌, List, IsSome, All, Option, sym, ap, ◌∙◌, subst}
 use Rattle.std.proofs.Math.Bool.{not-not}
 use Rattle.vc_extent.specs.Change.{one_free}
 use Rattle.vc_extent.specs.Extent.{Extent}

@@ -1,6 +1,4 @@
-use Rattle.std.proofs.Math.Bridge.{le_prop}
-use Rattle.std.proofs.Math.Logic.{∥∥₁_elim}
-use Rattle.std.proofs.Math.Nat.{ℕ_set}
+use Rattle.vc_base.proofs.Common.{le_prop, ∥∥₁_elim, ℕ_set}
 use Rattle.vc_seg.proofs.Backs.{AreNumbered-segments}
 use Rattle.vc_best.proofs.compact.close.Goals as goal
 

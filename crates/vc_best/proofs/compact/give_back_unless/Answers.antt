@@ -1,10 +1,4 @@
-use Rattle.std.proofs.Common.{◌≡◌, ℕ, List, [], ◌∷◌, ◌++◌, All, true, false, filter, length, not, map, IsSome, eqb, refl, ap, sym, subst, ◌∙◌, arith}
-use Rattle.std.proofs.Math.Nat.{ℕ_set}
-use Rattle.std.proofs.Math.Logic.{∥∥₁_elim}
-use Rattle.std.proofs.lemmas.List.Elements.{All-filter}
-use Rattle.vc_model.specs.Addr.{address}
-use Rattle.vc_model.specs.Discipline.{HasOut, without_last}
-use Rattle.vc_model.specs.Layout.{Layout}
+use Rattle.vc_base.proofs.Common.{◌≡◌, ℕ, true, false, not, eqb, List, [], ◌∷◌, ◌++◌, map, length, IsSome, All, filter, sym, refl, ap, ◌∙◌, subst, arith, ∥∥₁_elim, ℕ_set, All-filter, address, HasOut, without_last, Layout}
 use Rattle.vc_base.proofs.Options.{none_where}
 use Rattle.vc_seg.specs.Back.{is_marked, stays_from}
 use Rattle.vc_seg.specs.Segment.{pair_of}

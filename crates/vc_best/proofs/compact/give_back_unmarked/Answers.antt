@@ -1,9 +1,4 @@
-use Rattle.std.proofs.Common.{◌≡◌, ℕ, All, List, filter, length, map, refl, ap, sym, subst, ◌∙◌, arith, true, IsSome}
-use Rattle.std.proofs.Math.Bridge.{le_prop}
-use Rattle.std.proofs.Math.Logic.{∥∥₁_elim}
-use Rattle.std.proofs.lemmas.List.Elements.{All-weaker, filter_passes}
-use Rattle.vc_model.specs.Compact.{is_occupied}
-use Rattle.vc_model.specs.Layout.{Block}
+use Rattle.vc_base.proofs.Common.{◌≡◌, ℕ, true, List, map, length, IsSome, All, filter, sym, refl, ap, ◌∙◌, subst, arith, le_prop, ∥∥₁_elim, All-weaker, filter_passes, is_occupied, Block}
 use Rattle.vc_seg.specs.Back.{is_kept, is_marked, stays_from}
 use Rattle.vc_seg.specs.Segment.{pair_of}
 use Rattle.vc_seg.proofs.Backs.{HasOut-left, TookBack-more, TookBack-none, stays_from-first, stays_from-last, stays_from-more}

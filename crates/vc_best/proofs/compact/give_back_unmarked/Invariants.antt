@@ -1,5 +1,4 @@
-use Rattle.std.proofs.Common.{◌≡◌, ◌+◌, filter, length, map}
-use Rattle.vc_model.specs.Discipline.{TookBack}
+use Rattle.vc_base.proofs.Common.{◌≡◌, ◌+◌, map, length, filter, TookBack}
 use Rattle.vc_seg.specs.Back.{is_marked, stays_from}
 use Rattle.vc_seg.specs.Segment.{pair_of}
 use Rattle.vc_best.specs.Blocks.{layout_by}

@@ -1,4 +1,4 @@
-use Rattle.std.proofs.Common.{IsSome, subst, sym, ◌∙◌}
+use Rattle.vc_base.proofs.Common.{IsSome, sym, ◌∙◌, subst}
 use Rattle.vc_best.proofs.Segments.{occupied-by}
 use Rattle.vc_best.proofs.compact.has_block.Goals as goal
 

@@ -1,5 +1,4 @@
-use Rattle.std.proofs.Common.{◌≡◌, ◌<◌, ◌+◌, ◌∷◌, IsSome, true, false, refl, subst, sym, arith}
-use Rattle.std.proofs.lemmas.Bool.{eqb-true, eq-eqb}
+use Rattle.vc_base.proofs.Common.{◌≡◌, ◌+◌, ◌<◌, true, false, ◌∷◌, IsSome, sym, refl, subst, arith, eq-eqb, eqb-true}
 use Rattle.vc_extent.specs.Tiling.{IsNamed, IsThere, extent_of, extents_of, tiling}
 use Rattle.vc_best.proofs.Layouts.{behind_of}
 use Rattle.vc_best.proofs.Nexts.{not-busy}

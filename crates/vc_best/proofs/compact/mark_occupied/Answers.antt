@@ -1,11 +1,5 @@
-use Rattle.std.proofs.Common.{◌≡◌, ℕ, true, false, eqb, ap, subst, sym, ◌∙◌, ⊎_elim, arith}
-use Rattle.std.proofs.Math.Bridge.{le_prop}
-use Rattle.std.proofs.Math.Logic.{∥∥₁_elim}
-use Rattle.std.proofs.Math.ListN.{length-set}
-use Rattle.std.proofs.lemmas.Bool.{cases_Bool, eqb-false, eqb-true}
+use Rattle.vc_base.proofs.Common.{◌≡◌, ℕ, true, false, eqb, sym, ap, ◌∙◌, subst, ⊎_elim, arith, length-set, get_or-set_other, eqb-true, le_prop, ∥∥₁_elim, cases_Bool, eqb-false, is_occupied}
 use Rattle.std.proofs.lemmas.Grind.{get_or-set_at}
-use Rattle.std.proofs.lemmas.List.{get_or-set_other}
-use Rattle.vc_model.specs.Compact.{is_occupied}
 use Rattle.vc_extent.specs.Tiling.{IsThere}
 use Rattle.vc_extent.proofs.Places.{there-first, there-last}
 use Rattle.vc_best.specs.Blocks.{layout_by}

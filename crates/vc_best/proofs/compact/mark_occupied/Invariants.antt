@@ -1,5 +1,4 @@
-use Rattle.std.proofs.Common.{◌≡◌, ◌≤◌, ◌<◌, ℕ, length}
-use Rattle.vc_model.specs.Compact.{is_occupied}
+use Rattle.vc_base.proofs.Common.{◌≡◌, ℕ, ◌<◌, ◌≤◌, length, is_occupied}
 use Rattle.vc_seg.specs.Back.{is_marked}
 use Rattle.vc_extent.specs.Tiling.{IsThere}
 use Rattle.vc_best.specs.Blocks.{layout_by}

@@ -1,12 +1,6 @@
-use Rattle.std.proofs.Common.{◌≡◌, ◌≢◌, ℕ, ◌+◌, ◌-◌, ◌≤◌, List, false, ap, sym, subst, ◌∙◌, arith}
-use Rattle.std.specs.Prelude.{Err, IsErrOf, Result}
+use Rattle.vc_base.proofs.Common.{◌≡◌, ℕ, ◌+◌, ◌-◌, ◌≤◌, false, ◌≢◌, List, Err, Result, IsErrOf, sym, ap, ◌∙◌, subst, arith, place_of, best_need, IsSegmentSize, Terms, Layout, with_grant, Granted, TooMany, ask, new_segment, round_up, span}
 use Rattle.vc_base.specs.declared.addr.Addr.{Addr}
 use Rattle.vc_seg.specs.declared.fault.RegionFault.{RegionFault}
-use Rattle.vc_model.specs.Best.{best_need}
-use Rattle.vc_model.specs.Discipline.{IsSegmentSize, Terms}
-use Rattle.vc_model.specs.Addr.{place_of}
-use Rattle.vc_model.specs.Layout.{Layout, with_grant}
-use Rattle.vc_model.specs.Segments.{Granted, TooMany, ask, new_segment, round_up, span}
 use Rattle.vc_seg.proofs.Rounding.{round_up-least}
 use Rattle.vc_seg.specs.declared.fault.RegionFault.TheVariants as code
 use Rattle.vc_seg.specs.Lend.{IsNoGrant}

@@ -1,6 +1,4 @@
-use Rattle.std.proofs.Common.{◌≡◌, Option, Some, IsSomeAnd, refl, sym, subst, ◌∙◌, arith}
-use Rattle.std.proofs.Math.Logic.{∥∥₁_elim}
-use Rattle.vc_model.specs.Addr.{address, place_of}
+use Rattle.vc_base.proofs.Common.{◌≡◌, IsSomeAnd, Some, Option, sym, refl, ◌∙◌, subst, arith, ∥∥₁_elim, address, place_of}
 use Rattle.vc_extent.specs.Extent.{Extent}
 use Rattle.vc_extent.specs.Tiling.{extent_of, next_of, tiling}
 use Rattle.vc_best.proofs.FreeGaps.{gaps-joined_next, gaps-unjoined, joined-free}

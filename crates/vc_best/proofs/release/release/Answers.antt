@@ -1,8 +1,4 @@
-use Rattle.std.proofs.Common.{◌≡◌, ◌∙◌}
-use Rattle.std.proofs.Math.Nat.{ℕ_set}
-use Rattle.std.proofs.Math.Bridge.{le_prop}
-use Rattle.std.proofs.Math.Logic.{∥∥₁_elim}
-use Rattle.vc_model.specs.Addr.{place_of}
+use Rattle.vc_base.proofs.Common.{◌≡◌, ◌∙◌, le_prop, ∥∥₁_elim, ℕ_set, place_of}
 use Rattle.vc_base.proofs.Sets.{bytes-set}
 use Rattle.vc_extent.specs.Tiling.{extent_of, previous_of, tiling}
 use Rattle.vc_best.proofs.Known.{cut-of}

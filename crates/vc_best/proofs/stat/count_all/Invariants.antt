@@ -1,4 +1,4 @@
-use Rattle.std.proofs.Common.{◌≡◌, drop}
+use Rattle.vc_base.proofs.Common.{◌≡◌, drop}
 use Rattle.vc_extent.specs.Tiling.{tiling}
 use Rattle.vc_best.specs.Counts.{HaveRoom, all_extents, counts_with, counts_of_none}
 use Rattle.vc_best.proofs.stat.count_all.Given as goal

@@ -1,6 +1,5 @@
-use Rattle.std.proofs.Common.{◌≡◌, [], ◌∷◌, ◌++◌, length, ap, sym, subst, ◌∙◌, arith}
+use Rattle.vc_base.proofs.Common.{◌≡◌, [], ◌∷◌, ◌++◌, length, Option, sym, ap, ◌∙◌, subst, arith}
 use Rattle.vc_base.specs.declared.addr.Addr.{Addr}
-use Rattle.std.specs.Prelude.{Option}
 use Rattle.vc_extent.specs.Tiling.{extent_of, tiling}
 use Rattle.vc_best.specs.Counts.{HaveRoom, counts_with}
 use Rattle.vc_best.proofs.Counts.{counted-append, room-front, room-rest}

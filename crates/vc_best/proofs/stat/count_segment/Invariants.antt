@@ -1,4 +1,4 @@
-use Rattle.std.proofs.Common.{◌≡◌, length}
+use Rattle.vc_base.proofs.Common.{◌≡◌, length}
 use Rattle.vc_extent.specs.Tiling.{extents_of, tiling}
 use Rattle.vc_best.specs.Counts.{HaveRoom, counts_with}
 use Rattle.vc_best.proofs.Walks.{IsOn, left}

@@ -1,5 +1,4 @@
-use Rattle.std.proofs.Common.{ℕ, List, [], length, map, sum, ap, sym, subst, ◌∙◌, arith}
-use Rattle.std.proofs.lemmas.List.{length-map}
+use Rattle.vc_base.proofs.Common.{ℕ, List, [], map, length, sum, sym, ap, ◌∙◌, subst, arith, length-map}
 use Rattle.vc_seg.specs.Segment.{Bytes, pair_of}
 use Rattle.vc_layouts.specs.Tally.{HasRoom, tally_of}
 use Rattle.vc_layouts.proofs.Tallies.{tally_of-bytes, tally_of-count}

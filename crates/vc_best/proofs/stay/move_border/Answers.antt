@@ -1,9 +1,4 @@
-use Rattle.std.proofs.Common.{◌≡◌, ◌<◌, ◌∙◌, ap, arith, sym, take}
-use Rattle.std.proofs.lemmas.List.{take-take}
-use Rattle.std.proofs.Math.Nat.{ℕ_set}
-use Rattle.std.proofs.Math.Bridge.{le_prop}
-use Rattle.std.proofs.Math.Logic.{∥∥₁_elim}
-use Rattle.vc_model.specs.Segments.{span}
+use Rattle.vc_base.proofs.Common.{◌≡◌, ◌<◌, take, sym, ap, ◌∙◌, arith, take-take, le_prop, ∥∥₁_elim, ℕ_set, span}
 use Rattle.vc_extent.specs.Tiling.{extent_of, tiling}
 use Rattle.vc_best.proofs.BorderGaps.{border-cut, gaps-cut, gaps-grown, gaps-sized, gaps-sized_next}
 use Rattle.vc_best.proofs.Borders.{border-same, border-stretched, rest-free}

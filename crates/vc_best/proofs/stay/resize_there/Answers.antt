@@ -1,6 +1,4 @@
-use Rattle.std.proofs.Common.{◌≡◌, ℕ, List, ◌-◌, ◌++◌, ◌<◌, ◌≤◌, replicate, refl, ap, sym, subst, ◌∙◌, arith}
-use Rattle.std.proofs.Math.Logic.{∥∥₁_elim}
-use Rattle.vc_model.specs.Bytes.{with_bytes}
+use Rattle.vc_base.proofs.Common.{◌≡◌, ℕ, ◌-◌, ◌<◌, ◌≤◌, List, ◌++◌, replicate, sym, refl, ap, ◌∙◌, subst, arith, ∥∥₁_elim, with_bytes}
 use Rattle.vc_extent.specs.Extent.{Extent, busy_extent}
 use Rattle.vc_extent.specs.Change.{write}
 use Rattle.vc_extent.specs.Tiling.{IsBusy, change_extent, extent_of, tiling}

@@ -1,5 +1,4 @@
-use Rattle.std.proofs.Common.{◌≡◌, ◌≤◌, ◌⊎◌, [], take, inl, inr, sym, ◌∙◌, arith}
-use Rattle.vc_model.specs.Addr.{place_of}
+use Rattle.vc_base.proofs.Common.{◌≡◌, ◌≤◌, ◌⊎◌, [], take, sym, ◌∙◌, inl, inr, arith, place_of}
 use Rattle.vc_extent.specs.Tiling.{extent_of, tiling}
 use Rattle.vc_best.specs.Blocks.{layout_by}
 use Rattle.vc_best.proofs.Moves.{body-long, copied-busy, copied-layout, copied-merged, take-both, taken-over}

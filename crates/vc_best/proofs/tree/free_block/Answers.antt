@@ -1,7 +1,4 @@
-use Rattle.std.proofs.Common.{ℕ, List, [], ◌∷◌, ◌++◌, refl, ap, sym, subst, ◌∙◌}
-use Rattle.vc_model.specs.Addr.{place_of}
-use Rattle.vc_model.specs.Best.{without_block_at}
-use Rattle.vc_model.specs.Layout.{Layout}
+use Rattle.vc_base.proofs.Common.{ℕ, List, [], ◌∷◌, ◌++◌, sym, refl, ap, ◌∙◌, subst, place_of, without_block_at, Layout}
 use Rattle.vc_base.proofs.Members.{within-head}
 use Rattle.vc_extent.specs.Tiling.{tiling}
 use Rattle.vc_gaps.specs.ButLinks.{StaysButLinks}

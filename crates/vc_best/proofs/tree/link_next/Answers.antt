@@ -1,5 +1,4 @@
-use Rattle.std.proofs.Common.{◌≡◌, ℕ, List, [], ◌∷◌, true, refl, sym, subst}
-use Rattle.vc_base.specs.Holders.{contains}
+use Rattle.vc_base.proofs.Common.{◌≡◌, ℕ, true, List, [], ◌∷◌, sym, refl, subst, contains}
 use Rattle.vc_base.proofs.Members.{within-head}
 use Rattle.vc_extent.specs.Tiling.{extent_of, tiling}
 use Rattle.vc_gaps.specs.GapTree.{HasGaps}

@@ -1,9 +1,5 @@
-use Rattle.std.proofs.Common.{◌≡◌, [], ◌++◌, false, Option, None, Some, refl, ◌∙◌}
-use Rattle.std.specs.Prelude.{IfSome, ◌+◌, ◌<◌}
-use Rattle.vc_base.specs.Holders.{contains}
+use Rattle.vc_base.proofs.Common.{◌≡◌, ◌+◌, ◌<◌, false, [], ◌++◌, IfSome, Some, None, Option, refl, ◌∙◌, contains, address, place_of, span}
 use Rattle.vc_base.specs.declared.addr.Addr.{Addr}
-use Rattle.vc_model.specs.Addr.{address, place_of}
-use Rattle.vc_model.specs.Segments.{span}
 use Rattle.vc_extent.specs.Tiling.{change_extent, extent_of, tiling}
 use Rattle.vc_gaps.specs.GapTree.{HasGaps}
 use Rattle.vc_best.specs.Beside.{some_name}

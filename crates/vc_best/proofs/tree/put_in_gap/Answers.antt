@@ -1,6 +1,4 @@
-use Rattle.std.proofs.Common.{ℕ, [], refl, sym, subst}
-use Rattle.vc_model.specs.Layout.{Layout}
-use Rattle.vc_model.specs.Segments.{span}
+use Rattle.vc_base.proofs.Common.{ℕ, [], sym, refl, subst, Layout, span}
 use Rattle.vc_extent.specs.Tiling.{tiling}
 use Rattle.vc_best.specs.Blocks.{layout_by}
 use Rattle.vc_best.specs.Standing.{IsPutInGap}

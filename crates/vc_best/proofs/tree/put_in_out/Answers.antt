@@ -1,6 +1,4 @@
-use Rattle.std.proofs.Common.{◌≡◌}
-use Rattle.vc_model.specs.Addr.{place_of}
-use Rattle.vc_model.specs.Segments.{round_up}
+use Rattle.vc_base.proofs.Common.{◌≡◌, place_of, round_up}
 use Rattle.vc_best.proofs.Puts.{can_put, put-in_gap, put-most}
 use Rattle.vc_best.proofs.tree.put_in_out.Given.{Over}
 use Rattle.vc_best.proofs.tree.put_in_out.Goals as goal

@@ -1,8 +1,4 @@
-use Rattle.std.proofs.Common.{◌≤◌, ℕ, [], ap, sym, subst, ◌∙◌}
-use Rattle.vc_model.specs.Addr.{place_of}
-use Rattle.vc_model.specs.Layout.{Layout}
-use Rattle.vc_model.specs.Resize.{resize_there}
-use Rattle.vc_model.specs.Segments.{span}
+use Rattle.vc_base.proofs.Common.{ℕ, ◌≤◌, [], sym, ap, ◌∙◌, subst, place_of, Layout, resize_there, span}
 use Rattle.vc_extent.specs.Tiling.{tiling}
 use Rattle.vc_gaps.specs.GapTree.{HasGaps}
 use Rattle.vc_best.specs.Beside.{free_next}

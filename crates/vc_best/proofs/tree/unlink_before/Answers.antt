@@ -1,5 +1,4 @@
-use Rattle.std.proofs.Common.{ℕ, List, ◌++◌, sym, subst}
-use Rattle.vc_model.specs.Addr.{place_of}
+use Rattle.vc_base.proofs.Common.{ℕ, List, ◌++◌, sym, subst, place_of}
 use Rattle.vc_extent.specs.Tiling.{extent_of, previous_of, tiling}
 use Rattle.vc_gaps.specs.GapTree.{HasGaps}
 use Rattle.vc_best.specs.Beside.{free_next}

@@ -1,4 +1,4 @@
-use Rattle.std.proofs.Common.{[], sym, subst}
+use Rattle.vc_base.proofs.Common.{[], sym, subst}
 use Rattle.vc_extent.specs.Tiling.{extent_of, tiling}
 use Rattle.vc_gaps.specs.GapTree.{HasGaps}
 use Rattle.vc_best.proofs.Linking.{next-not, next-one}

@@ -1,10 +1,7 @@
-use Rattle.std.proofs.Common.{ℕ, ◌-◌, List, Option, Some, ap, subst, sym, ◌∙◌}
-use Rattle.std.specs.Prelude.{find}
+use Rattle.vc_base.proofs.Common.{ℕ, ◌-◌, List, Some, Option, find, sym, ap, ◌∙◌, subst, place_of, holds_byte}
 use Rattle.vc_base.specs.declared.addr.Addr.{Addr}
 use Rattle.vc_base.proofs.Options.{none_where}
 use Rattle.vc_seg.specs.OneBlock.{IsBlockAt}
-use Rattle.vc_model.specs.Addr.{place_of}
-use Rattle.vc_model.specs.Walk.{holds_byte}
 use Rattle.vc_extent.specs.Extent.{Extent}
 use Rattle.vc_extent.specs.Tiling.{extents_of, tiling}
 use Rattle.vc_best.specs.Blocks.{busy_in, layout_by}

@@ -1,7 +1,5 @@
-use Rattle.std.proofs.Common.{◌≡◌, ℕ, ◌+◌, IfSome, Option, ap, sym, subst, arith}
-use Rattle.std.specs.Prelude.{option_map}
+use Rattle.vc_base.proofs.Common.{◌≡◌, ℕ, ◌+◌, IfSome, Option, option_map, sym, ap, subst, arith, address, place_of}
 use Rattle.vc_base.specs.declared.addr.Addr.{Addr}
-use Rattle.vc_model.specs.Addr.{address, place_of}
 use Rattle.vc_extent.specs.Tiling.{extents_of, tiling}
 use Rattle.vc_best.specs.Blocks.{all_busy, busy_in}
 use Rattle.vc_best.specs.Next.{IsFirst}

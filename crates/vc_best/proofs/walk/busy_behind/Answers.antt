@@ -1,7 +1,5 @@
-use Rattle.std.proofs.Common.{◌≡◌, ℕ, ◌+◌, IfSome, Option, Some, None, refl, sym, subst}
-use Rattle.std.specs.Prelude.{option_map}
+use Rattle.vc_base.proofs.Common.{◌≡◌, ℕ, ◌+◌, IfSome, Some, None, Option, option_map, sym, refl, subst, place_of}
 use Rattle.vc_base.specs.declared.addr.Addr.{Addr}
-use Rattle.vc_model.specs.Addr.{place_of}
 use Rattle.vc_extent.specs.Tiling.{extents_of, tiling}
 use Rattle.vc_best.specs.Blocks.{busy_in}
 use Rattle.vc_best.specs.Next.{IsFirst}

@@ -1,9 +1,5 @@
-use Rattle.std.proofs.Common.{◌+◌, ◌<◌, ◌≤◌, List, length, ap, sym, subst, ◌∙◌, arith}
-use Rattle.std.specs.Prelude.{Option, Some, find, option_map}
+use Rattle.vc_base.proofs.Common.{◌+◌, ◌<◌, ◌≤◌, List, length, Some, Option, option_map, find, sym, ap, ◌∙◌, subst, arith, place_of, place_of_block, holds_byte}
 use Rattle.vc_base.specs.declared.addr.Addr.{Addr}
-use Rattle.vc_model.specs.Addr.{place_of}
-use Rattle.vc_model.specs.Layout.{place_of_block}
-use Rattle.vc_model.specs.Walk.{holds_byte}
 use Rattle.vc_extent.specs.Extent.{Extent}
 use Rattle.vc_extent.specs.Tiling.{extent_of, tiling}
 use Rattle.vc_best.specs.Blocks.{busy_in}

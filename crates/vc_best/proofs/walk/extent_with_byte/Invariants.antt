@@ -1,6 +1,4 @@
-use Rattle.std.proofs.Common.{◌≡◌, length}
-use Rattle.std.specs.Prelude.{find}
-use Rattle.vc_model.specs.Walk.{holds_byte}
+use Rattle.vc_base.proofs.Common.{◌≡◌, length, find, holds_byte}
 use Rattle.vc_extent.specs.Tiling.{extents_of, tiling}
 use Rattle.vc_best.specs.Blocks.{busy_in}
 use Rattle.vc_best.proofs.Walks.{IsOn, left}

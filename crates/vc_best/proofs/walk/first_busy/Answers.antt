@@ -1,7 +1,5 @@
-use Rattle.std.proofs.Common.{length, ap, subst, ◌∙◌, arith}
+use Rattle.vc_base.proofs.Common.{length, Option, option_map, ap, ◌∙◌, subst, arith, place_of}
 use Rattle.vc_base.specs.declared.addr.Addr.{Addr}
-use Rattle.std.specs.Prelude.{Option, option_map}
-use Rattle.vc_model.specs.Addr.{place_of}
 use Rattle.vc_extent.specs.Tiling.{extent_of, extents_of, tiling}
 use Rattle.vc_best.specs.Blocks.{busy_in}
 use Rattle.vc_best.specs.Next.{IsFirst}

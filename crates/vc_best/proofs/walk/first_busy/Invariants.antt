@@ -1,5 +1,4 @@
-use Rattle.std.proofs.Common.{length, option_map}
-use Rattle.vc_model.specs.Addr.{place_of}
+use Rattle.vc_base.proofs.Common.{length, option_map, place_of}
 use Rattle.vc_extent.specs.Tiling.{extents_of, tiling}
 use Rattle.vc_best.specs.Blocks.{busy_in}
 use Rattle.vc_best.specs.Next.{IsFirst}

@@ -1,8 +1,4 @@
-use Rattle.std.proofs.Common.{◌≡◌, ℕ, ◌<◌, List, All, IsSome, IfSome, Option, sym, subst, ◌∙◌, arith}
-use Rattle.std.specs.Prelude.{option_map}
-use Rattle.std.proofs.lemmas.List.Elements.{All-nil}
-use Rattle.vc_model.specs.Addr.{address, place_of}
-use Rattle.vc_model.specs.Layout.{Block, address_of}
+use Rattle.vc_base.proofs.Common.{◌≡◌, ℕ, ◌<◌, List, IfSome, IsSome, All, Option, option_map, sym, ◌∙◌, subst, arith, All-nil, address, place_of, Block, address_of}
 use Rattle.vc_base.proofs.Options.{none_where}
 use Rattle.vc_extent.specs.Extent.{Extent}
 use Rattle.vc_extent.specs.Tiling.{extents_of, tiling}

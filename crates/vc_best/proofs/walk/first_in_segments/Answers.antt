@@ -1,7 +1,5 @@
-use Rattle.std.proofs.Common.{◌≡◌, ◌≤◌, IfSome, Option, Some, sym, subst, arith}
-use Rattle.std.specs.Prelude.{option_map}
+use Rattle.vc_base.proofs.Common.{◌≡◌, ◌≤◌, IfSome, Some, Option, option_map, sym, subst, arith, address, place_of}
 use Rattle.vc_base.specs.declared.addr.Addr.{Addr}
-use Rattle.vc_model.specs.Addr.{address, place_of}
 use Rattle.vc_extent.specs.Tiling.{extents_of, tiling}
 use Rattle.vc_best.specs.Blocks.{all_busy, busy_in}
 use Rattle.vc_best.specs.Next.{IsFirst}

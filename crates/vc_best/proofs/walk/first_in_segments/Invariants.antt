@@ -1,6 +1,4 @@
-use Rattle.std.proofs.Common.{◌≤◌, All}
-use Rattle.vc_model.specs.Addr.{address}
-use Rattle.vc_model.specs.Layout.{address_of}
+use Rattle.vc_base.proofs.Common.{◌≤◌, All, address, address_of}
 use Rattle.vc_extent.specs.Tiling.{tiling}
 use Rattle.vc_best.specs.Blocks.{all_busy}
 use Rattle.vc_best.proofs.walk.first_in_segments.Given as goal

@@ -1,5 +1,4 @@
-use Rattle.std.proofs.Common.{sym}
-use Rattle.std.specs.Prelude.{option_map}
+use Rattle.vc_base.proofs.Common.{option_map, sym}
 use Rattle.vc_best.proofs.Firsts.{next_block-first}
 use Rattle.vc_best.proofs.Starts.{some-busy, some-live, started}
 use Rattle.vc_best.proofs.walk.next_block.Goals as goal

@@ -1,5 +1,4 @@
-use Rattle.std.proofs.Common.{sym, ap, ◌∙◌, subst}
-use Rattle.vc_base.specs.Cells.{Blocks}
+use Rattle.vc_base.proofs.Common.{sym, ap, ◌∙◌, subst, Blocks}
 use Rattle.vc_objects.specs.Parts.{dictionary_of}
 use Rattle.vc_views.specs.Dicts.{cells_held}
 use Rattle.vc_counts.specs.Holders.{IsSomeWhole}

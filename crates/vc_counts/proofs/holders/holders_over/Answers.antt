@@ -1,5 +1,4 @@
-use Rattle.std.proofs.Common.{arith}
-use Rattle.vc_base.specs.Cells.{Blocks}
+use Rattle.vc_base.proofs.Common.{arith, Blocks}
 use Rattle.vc_dict.specs.Listed.{holders_of}
 use Rattle.vc_counts.proofs.HolderWalk.{few-bytes, holder-bytes, is-in, more-left, passed, sum-fits}
 use Rattle.vc_counts.proofs.holders.holders_over.Goals as goal

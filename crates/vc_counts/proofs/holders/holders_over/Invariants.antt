@@ -1,4 +1,4 @@
-use Rattle.std.specs.Option.{option_map}
+use Rattle.vc_base.proofs.Common.{option_map}
 use Rattle.vc_dict.specs.Listed.{holders_of}
 use Rattle.vc_dtlist.specs.Linked.{number_of}
 use Rattle.vc_counts.proofs.HolderWalk.{Walked}

@@ -1,5 +1,4 @@
-use Rattle.std.proofs.Common.{sym, ap, ◌∙◌}
-use Rattle.vc_model.specs.Discipline.{Discipline}
+use Rattle.vc_base.proofs.Common.{sym, ap, ◌∙◌, Discipline}
 use Rattle.vc_seg.specs.declared.stat.Stat.{Stat}
 use Rattle.vc_counts.specs.Working.{busy_in_home}
 use Rattle.vc_counts.proofs.FoundHome.{busy-found, home-none}

@@ -1,5 +1,4 @@
-use Rattle.std.proofs.Common.{ℕ, ◌+◌, ap, ◌∙◌}
-use Rattle.vc_model.specs.Discipline.{Discipline}
+use Rattle.vc_base.proofs.Common.{ℕ, ◌+◌, ap, ◌∙◌, Discipline}
 use Rattle.vc_counts.proofs.FoundHome.{dict-found, dict-lacks, entry_table, whole-found}
 use Rattle.vc_counts.proofs.step.dict_named.Given as given
 use Rattle.vc_counts.proofs.step.dict_named.Goals as goal

@@ -1,5 +1,4 @@
-use Rattle.std.proofs.Common.{Some, None, sym, ◌∙◌}
-use Rattle.vc_model.specs.Discipline.{Discipline}
+use Rattle.vc_base.proofs.Common.{Some, None, sym, ◌∙◌, Discipline}
 use Rattle.vc_counts.proofs.FoundHome.{dict-worked}
 use Rattle.vc_counts.proofs.step.region_worked.Given as given
 use Rattle.vc_counts.proofs.step.region_worked.Goals as goal

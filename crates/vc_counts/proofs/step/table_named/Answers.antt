@@ -1,5 +1,4 @@
-use Rattle.std.proofs.Common.{◌∙◌}
-use Rattle.vc_model.specs.Discipline.{Discipline}
+use Rattle.vc_base.proofs.Common.{◌∙◌, Discipline}
 use Rattle.vc_counts.proofs.FoundHome.{table-found, table-lacks}
 use Rattle.vc_counts.proofs.step.table_named.Given as given
 use Rattle.vc_counts.proofs.step.table_named.Goals as goal

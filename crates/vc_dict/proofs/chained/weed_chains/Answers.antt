@@ -1,4 +1,4 @@
-use Rattle.std.proofs.Common.{◌≡◌, [], length, refl, arith, ap, ◌∙◌}
+use Rattle.vc_base.proofs.Common.{◌≡◌, [], length, refl, ap, ◌∙◌, arith}
 use Rattle.vc_dtlist.proofs.TurnLemmas.{StandsFor-unique}
 use Rattle.vc_dthash.specs.Hashed.{list_of}
 use Rattle.vc_dict.proofs.ChainedLemmas.{ChainWeeding-end, ChainWeeding-start, few-compares, no-chains, none-stand}

@@ -1,4 +1,4 @@
-use Rattle.std.proofs.Common.{arith, ap, ◌∙◌}
+use Rattle.vc_base.proofs.Common.{ap, ◌∙◌, arith}
 use Rattle.vc_dict.proofs.ChainedLemmas.{ChainWeeding-dropped, ChainWeeding-kept, can-add, can-link, lost-before, match-told, set-before}
 use Rattle.vc_dict.proofs.chained.weed_one.Goals as goal
 

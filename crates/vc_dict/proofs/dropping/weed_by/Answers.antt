@@ -1,4 +1,4 @@
-use Rattle.std.proofs.Common.{[], true, false, length, sym, ap, ◌∙◌}
+use Rattle.vc_base.proofs.Common.{true, false, [], length, sym, ap, ◌∙◌}
 use Rattle.vc_dtlist.proofs.TurnLemmas.{StandsFor-unique}
 use Rattle.vc_dthash.specs.Hashed.{list_of}
 use Rattle.vc_dict.specs.Orders.{dropped_holders, kept_holders}

@@ -1,6 +1,4 @@
-use Rattle.std.proofs.Common.{◌≡◌, ap, sym, ◌∙◌}
-use Rattle.std.proofs.lemmas.Bool.{eqb-false, eqb-true}
-use Rattle.std.specs.Ordering.{is_eq}
+use Rattle.vc_base.proofs.Common.{◌≡◌, is_eq, sym, ap, ◌∙◌, eqb-true, eqb-false}
 use Rattle.vc_dtdisc.specs.Finds.{object_at}
 use Rattle.vc_dtlist.proofs.AddressLemmas.{LinksFor-holders, no-holder}
 use Rattle.vc_dtlist.proofs.TurnLemmas.{last_words}

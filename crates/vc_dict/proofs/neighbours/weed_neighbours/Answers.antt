@@ -1,4 +1,4 @@
-use Rattle.std.proofs.Common.{◌≡◌, length, arith, ap, ◌∙◌, subst}
+use Rattle.vc_base.proofs.Common.{◌≡◌, length, ap, ◌∙◌, subst, arith}
 use Rattle.vc_dtlist.proofs.TurnLemmas.{StandsFor-unique}
 use Rattle.vc_dtord.specs.Ordered.{IsSorted}
 use Rattle.vc_dict.proofs.NeighbourLemmas.{NeighbourWeeding-end, NeighbourWeeding-start}

@@ -1,4 +1,4 @@
-use Rattle.std.proofs.Common.{ℕ, ◌+◌, ◌≤◌, List}
+use Rattle.vc_base.proofs.Common.{ℕ, ◌+◌, ◌≤◌, List}
 use Rattle.vc_dtlist.specs.Linked.{StandsFor}
 use Rattle.vc_dict.specs.Weeding.{NeighbourWeeding}
 use Rattle.vc_dict.proofs.neighbours.weed_neighbours.Given as goal

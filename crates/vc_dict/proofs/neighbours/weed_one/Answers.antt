@@ -1,4 +1,4 @@
-use Rattle.std.proofs.Common.{arith}
+use Rattle.vc_base.proofs.Common.{arith}
 use Rattle.vc_dict.proofs.NeighbourLemmas.{NeighbourWeeding-next, can-add, match-told, out-of_done, out-of_gone, parts-before}
 use Rattle.vc_dict.proofs.neighbours.weed_one.Goals as goal
 

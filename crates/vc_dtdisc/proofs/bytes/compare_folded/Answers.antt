@@ -1,4 +1,4 @@
-use Rattle.std.proofs.Common.{◌≡◌, sym, ◌∙◌, arith, min, length}
+use Rattle.vc_base.proofs.Common.{◌≡◌, min, length, sym, ◌∙◌, arith}
 use Rattle.vc_dtdisc.specs.Shapes.{lower_case}
 use Rattle.vc_dtdisc.proofs.FoldedOrder.{ends_compare}
 use Rattle.vc_dtdisc.proofs.bytes.compare_folded.Goals as goal

@@ -1,4 +1,4 @@
-use Rattle.std.proofs.Common.{◌≡◌, drop, map}
+use Rattle.vc_base.proofs.Common.{◌≡◌, map, drop}
 use Rattle.vc_dtdisc.specs.Shapes.{lower_case, by_bytes}
 use Rattle.vc_dtdisc.proofs.bytes.compare_folded.Given as goal
 

@@ -1,4 +1,4 @@
-use Rattle.std.proofs.Common.{◌≡◌, take}
+use Rattle.vc_base.proofs.Common.{◌≡◌, take}
 use Rattle.vc_dtdisc.specs.Shapes.{hash_of}
 use Rattle.vc_dtdisc.proofs.bytes.hash_bytes.Given as goal
 

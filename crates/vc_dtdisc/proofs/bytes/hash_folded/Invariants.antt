@@ -1,4 +1,4 @@
-use Rattle.std.proofs.Common.{◌≡◌, take, map}
+use Rattle.vc_base.proofs.Common.{◌≡◌, map, take}
 use Rattle.vc_dtdisc.specs.Shapes.{lower_case, hash_of}
 use Rattle.vc_dtdisc.proofs.bytes.hash_folded.Given as goal
 

@@ -1,6 +1,4 @@
-use Rattle.std.proofs.Common.{◌≡◌, ℕ, ◌<◌, Bool, not, ap, sym, arith, length, take, true, get_or}
-use Rattle.std.proofs.lemmas.List.{take_all}
-use Rattle.std.specs.Prelude.{◌==◌}
+use Rattle.vc_base.proofs.Common.{◌≡◌, ℕ, ◌<◌, Bool, true, not, length, get_or, take, ◌==◌, sym, ap, arith, take_all}
 use Rattle.std.specs.List.{prefix_len}
 use Rattle.std.proofs.lemmas.List.Sums.{prefix_len_is}
 use Rattle.vc_dtdisc.proofs.bytes.text.Goals as goal

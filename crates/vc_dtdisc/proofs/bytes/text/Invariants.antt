@@ -1,5 +1,4 @@
-use Rattle.std.proofs.Common.{◌≡◌, ℕ, ◌<◌, true, not, get_or}
-use Rattle.std.specs.Prelude.{◌==◌}
+use Rattle.vc_base.proofs.Common.{◌≡◌, ℕ, ◌<◌, true, not, get_or, ◌==◌}
 use Rattle.vc_dtdisc.proofs.bytes.text.Given as goal
 
 abbrev pub invariant-loop-i : goal.invariant-loop-i

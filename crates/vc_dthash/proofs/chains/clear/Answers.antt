@@ -1,5 +1,4 @@
-use Rattle.std.proofs.Common.{◌+◌, ◌*◌, ◌≤◌, length, arith, ◌∙◌}
-use Rattle.vc_base.specs.Cells.{bytes_at}
+use Rattle.vc_base.proofs.Common.{◌+◌, ◌*◌, ◌≤◌, length, ◌∙◌, arith, bytes_at}
 use Rattle.vc_dthash.proofs.FillLemmas.{Cleared-next, Cleared-start}
 use Rattle.vc_dthash.proofs.chains.clear.Goals as goal
 

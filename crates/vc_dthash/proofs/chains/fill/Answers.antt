@@ -1,5 +1,4 @@
-use Rattle.std.proofs.Common.{◌≡◌, false, length, ap, ◌∙◌, arith}
-use Rattle.vc_base.specs.Holders.{contains}
+use Rattle.vc_base.proofs.Common.{◌≡◌, false, length, ap, ◌∙◌, arith, contains}
 use Rattle.vc_dtlist.proofs.TurnLemmas.{LinksFor-unique}
 use Rattle.vc_dthash.proofs.FillLemmas.{Filling-end, Filling-fits, Filling-front, Filling-next, Filling-start}
 use Rattle.vc_dthash.proofs.chains.fill.Goals as goal

@@ -1,4 +1,4 @@
-use Rattle.std.proofs.Common.{◌≡◌, length, arith, ap, ◌∙◌}
+use Rattle.vc_base.proofs.Common.{◌≡◌, length, ap, ◌∙◌, arith}
 use Rattle.vc_dtlist.specs.Linked.{IsPlain}
 use Rattle.vc_dtlist.proofs.TurnLemmas.{LinksFor-unique}
 use Rattle.vc_dtlist.proofs.WordLemmas.{HasBytes-written, WordsWritten-trans}

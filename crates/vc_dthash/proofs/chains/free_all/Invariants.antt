@@ -1,4 +1,4 @@
-use Rattle.std.proofs.Common.{ℕ, List}
+use Rattle.vc_base.proofs.Common.{ℕ, List}
 use Rattle.vc_dtlist.specs.Linked.{IsPlain, LinksFor}
 use Rattle.vc_dthash.proofs.MarkLemmas.{Marking}
 use Rattle.vc_dthash.proofs.chains.free_all.Given as goal

@@ -1,4 +1,4 @@
-use Rattle.std.proofs.Common.{◌≡◌, length, arith, ap, sym, ◌∙◌}
+use Rattle.vc_base.proofs.Common.{◌≡◌, length, sym, ap, ◌∙◌, arith}
 use Rattle.vc_dtlist.proofs.TurnLemmas.{LinksFor-unique}
 use Rattle.vc_dtlist.proofs.WordLemmas.{HasBytes-written}
 use Rattle.vc_dthash.specs.Chained.{IsHashed, hash_at}

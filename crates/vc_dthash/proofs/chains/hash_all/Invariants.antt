@@ -1,4 +1,4 @@
-use Rattle.std.proofs.Common.{ℕ, List}
+use Rattle.vc_base.proofs.Common.{ℕ, List}
 use Rattle.vc_dtlist.specs.Linked.{LinksFor}
 use Rattle.vc_dthash.specs.Chained.{IsHashed}
 use Rattle.vc_dthash.proofs.MarkLemmas.{Marking}

@@ -1,5 +1,4 @@
-use Rattle.std.proofs.Common.{sym, ◌∙◌}
-use Rattle.std.proofs.lemmas.Bool.{eqb-false, eqb-true}
+use Rattle.vc_base.proofs.Common.{sym, ◌∙◌, eqb-true, eqb-false}
 use Rattle.vc_dthash.proofs.WriteLemmas.{Pointed-slot, Pointed-word}
 use Rattle.vc_dthash.proofs.chains.point.Goals as goal
 

@@ -1,4 +1,4 @@
-use Rattle.std.proofs.Common.{◌%◌, ◌+◌, ◌*◌, ◌∙◌, ap, subst}
+use Rattle.vc_base.proofs.Common.{◌+◌, ◌*◌, ◌%◌, ap, ◌∙◌, subst}
 use Rattle.vc_dtlist.proofs.WordLemmas.{HasBytes-written}
 use Rattle.vc_dthash.specs.ChainWrites.{Fronted}
 use Rattle.vc_dthash.proofs.FillLemmas.{slot-place}

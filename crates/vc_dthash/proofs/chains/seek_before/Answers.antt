@@ -1,6 +1,4 @@
-use Rattle.std.proofs.Common.{◌++◌, sym, ◌∙◌}
-use Rattle.std.proofs.lemmas.Bool.{eqb-false, eqb-true}
-use Rattle.vc_base.specs.Cells.{word_at}
+use Rattle.vc_base.proofs.Common.{◌++◌, sym, ◌∙◌, eqb-true, eqb-false, word_at}
 use Rattle.vc_dthash.proofs.ChainLemmas.{Leads-fits}
 use Rattle.vc_dthash.proofs.WalkLemmas.{Passing-further, Passing-met, Passing-over, Passing-start}
 use Rattle.vc_dthash.proofs.chains.seek_before.Goals as goal

@@ -1,4 +1,4 @@
-use Rattle.std.proofs.Common.{ℕ, List}
+use Rattle.vc_base.proofs.Common.{ℕ, List}
 use Rattle.vc_dthash.specs.Chained.{IsChainPlace}
 use Rattle.vc_dthash.proofs.WalkLemmas.{Passing}
 use Rattle.vc_dthash.proofs.chains.seek_before.Given as goal

@@ -1,4 +1,4 @@
-use Rattle.std.proofs.Common.{arith, sym, ◌∙◌, ◌≡◌, ◌*◌, ◌^◌, ◌+◌}
+use Rattle.vc_base.proofs.Common.{◌≡◌, ◌+◌, ◌*◌, ◌^◌, sym, ◌∙◌, arith}
 use native.Mathlib.Numerals.{unary_clauses}
 use Rattle.vc_dthash.proofs.SlotLemmas.{doubled-step, few_slots}
 use Rattle.vc_dthash.proofs.dt_hash.slots_for.Goals as goal

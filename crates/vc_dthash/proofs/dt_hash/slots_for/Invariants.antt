@@ -1,4 +1,4 @@
-use Rattle.std.proofs.Common.{◌≡◌, ◌-◌, ◌*◌, ◌^◌}
+use Rattle.vc_base.proofs.Common.{◌≡◌, ◌-◌, ◌*◌, ◌^◌}
 use Rattle.vc_dthash.specs.Slots.{enough_slots, slots_for}
 use Rattle.vc_dthash.proofs.dt_hash.slots_for.Given as goal
 

@@ -1,4 +1,4 @@
-use Rattle.std.proofs.Common.{ap, ◌∙◌}
+use Rattle.vc_base.proofs.Common.{ap, ◌∙◌}
 use Rattle.vc_splay.specs.Guide.{first_at}
 use Rattle.vc_dtord.specs.Nodes.{stands_to}
 use Rattle.vc_dtord.proofs.CallLemmas.{can_find, kept-found, steps-found, tree-found}

@@ -1,4 +1,4 @@
-use Rattle.std.proofs.Common.{length, arith}
+use Rattle.vc_base.proofs.Common.{length, arith}
 use Rattle.vc_dtord.proofs.TreeLemmas.{OrdFor-in_order, OrdFor-one}
 use Rattle.vc_dtord.proofs.rows.one_list.Goals as goal
 

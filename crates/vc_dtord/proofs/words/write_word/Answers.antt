@@ -1,5 +1,4 @@
-use Rattle.std.proofs.Common.{◌+◌, ◌*◌, ◌<◌, arith}
-use Rattle.vc_base.specs.Cells.{HasBytes}
+use Rattle.vc_base.proofs.Common.{◌+◌, ◌*◌, ◌<◌, arith, HasBytes}
 use Rattle.vc_dtord.proofs.WrittenLemmas.{NumberWritten-store}
 use Rattle.vc_dtord.proofs.words.write_word.Goals as goal
 

@@ -1,4 +1,4 @@
-use Rattle.std.proofs.Common.{◌+◌, ◌∙◌, take, drop, length, ap, sym, arith}
+use Rattle.vc_base.proofs.Common.{◌+◌, length, take, drop, sym, ap, ◌∙◌, arith}
 use Rattle.vc_base.proofs.Lists.{length-part}
 use Rattle.vc_extent.proofs.Changed.{within}
 use Rattle.vc_extent.proofs.body.body_in.Goals as goal

@@ -1,5 +1,4 @@
-use Rattle.std.proofs.Common.{ℕ, ◌+◌, ◌≤◌, replicate, sym, subst, arith}
-use Rattle.std.proofs.lemmas.List.{length-replicate}
+use Rattle.vc_base.proofs.Common.{ℕ, ◌+◌, ◌≤◌, replicate, sym, subst, arith, length-replicate}
 use Rattle.vc_extent.specs.Extent.{extents}
 use Rattle.vc_extent.specs.Change.{extent_in}
 use Rattle.vc_extent.proofs.Bodies.{body-changed}

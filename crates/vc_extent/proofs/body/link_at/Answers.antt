@@ -1,4 +1,4 @@
-use Rattle.std.proofs.Common.{◌+◌, ◌∙◌, ap, sym, arith}
+use Rattle.vc_base.proofs.Common.{◌+◌, sym, ap, ◌∙◌, arith}
 use Rattle.vc_extent.specs.Change.{link_in}
 use Rattle.vc_extent.proofs.Bodies.{link-is, links-there}
 use Rattle.vc_extent.proofs.Changed.{head-below, link-below, head-room}

@@ -1,4 +1,4 @@
-use Rattle.std.proofs.Common.{length, arith}
+use Rattle.vc_base.proofs.Common.{length, arith}
 use Rattle.vc_extent.proofs.Bodies.{body-changed}
 use Rattle.vc_extent.proofs.Changed.{head-below, range-below, range-room}
 use Rattle.vc_extent.proofs.body.put_in.Goals as goal

@@ -1,4 +1,4 @@
-use Rattle.std.proofs.Common.{arith}
+use Rattle.vc_base.proofs.Common.{arith}
 use Rattle.vc_extent.proofs.Bodies.{link-changed}
 use Rattle.vc_extent.proofs.Changed.{head-below, link-below, head-room}
 use Rattle.vc_extent.proofs.body.set_link_at.Goals as goal

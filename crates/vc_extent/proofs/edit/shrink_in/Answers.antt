@@ -1,6 +1,4 @@
-use Rattle.std.proofs.Common.{◌≡◌, ℕ, ◌+◌, ◌-◌, ◌∷◌, List, length, take, drop, ap, sym, subst, ◌∙◌, arith}
-use Rattle.std.proofs.lemmas.List.{take-take}
-use Rattle.vc_model.specs.Segments.{span}
+use Rattle.vc_base.proofs.Common.{◌≡◌, ℕ, ◌+◌, ◌-◌, List, ◌∷◌, length, take, drop, sym, ap, ◌∙◌, subst, arith, take-take, span}
 use Rattle.vc_seg.specs.Segment.{Bytes}
 use Rattle.vc_extent.specs.Extent.{Extent, busy_extent, extents, free_extent, no_links}
 use Rattle.vc_extent.specs.Change.{behind, extent_in, shrink}

@@ -1,5 +1,4 @@
-use Rattle.std.proofs.Common.{◌≡◌, ◌+◌, ◌-◌, List, [], ◌∷◌, length, sym, subst, ◌∙◌, arith}
-use Rattle.vc_model.specs.Discipline.{IsSegmentSize}
+use Rattle.vc_base.proofs.Common.{◌≡◌, ◌+◌, ◌-◌, List, [], ◌∷◌, length, sym, ◌∙◌, subst, arith, IsSegmentSize}
 use Rattle.vc_seg.specs.Segment.{Bytes}
 use Rattle.vc_extent.specs.Extent.{Extent, free_extent, no_links}
 use Rattle.vc_extent.specs.Tiles.{Tiles}

@@ -1,4 +1,4 @@
-use Rattle.std.proofs.Common.{◌+◌, ◌-◌, length, take, drop, sym, subst, arith}
+use Rattle.vc_base.proofs.Common.{◌+◌, ◌-◌, length, take, drop, sym, subst, arith}
 use Rattle.vc_seg.specs.Segment.{Bytes}
 use Rattle.vc_extent.specs.Tiles.{Tiles}
 use Rattle.vc_seg.proofs.Frames.{only-below, part-back, field-back}

@@ -1,4 +1,4 @@
-use Rattle.std.proofs.Common.{◌≡◌, ◌+◌, ◌-◌, length, arith}
+use Rattle.vc_base.proofs.Common.{◌≡◌, ◌+◌, ◌-◌, length, arith}
 use Rattle.vc_extent.proofs.Tiled.{rebound, rebound-end}
 use Rattle.vc_extent.proofs.lay.set_boundary.Goals as goal
 

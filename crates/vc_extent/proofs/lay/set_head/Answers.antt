@@ -1,4 +1,4 @@
-use Rattle.std.proofs.Common.{◌+◌, ◌∙◌, arith}
+use Rattle.vc_base.proofs.Common.{◌+◌, ◌∙◌, arith}
 use Rattle.vc_seg.specs.Segment.{Bytes}
 use Rattle.vc_seg.specs.Frame.{StaysOutside}
 use Rattle.vc_seg.proofs.Frames.{field-front, wider, then}

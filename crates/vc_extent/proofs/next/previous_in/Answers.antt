@@ -1,5 +1,4 @@
-use Rattle.std.proofs.Common.{◌≡◌, ℕ, ◌+◌, ◌-◌, ◌<◌, Some, None, cond, ap, sym, subst, ◌∙◌, arith}
-use Rattle.std.proofs.lemmas.Bool.{eq-eqb, ne_eqb}
+use Rattle.vc_base.proofs.Common.{◌≡◌, ℕ, ◌+◌, ◌-◌, ◌<◌, cond, Some, None, sym, ap, ◌∙◌, subst, arith, eq-eqb, ne_eqb}
 use Rattle.vc_extent.specs.Extent.{extents}
 use Rattle.vc_extent.specs.Change.{extent_in}
 use Rattle.vc_seg.specs.Field.{field_at}

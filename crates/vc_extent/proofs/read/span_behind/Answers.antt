@@ -1,4 +1,4 @@
-use Rattle.std.proofs.Common.{◌+◌, ◌-◌, length, sym, subst, arith}
+use Rattle.vc_base.proofs.Common.{◌+◌, ◌-◌, length, sym, subst, arith}
 use Rattle.vc_extent.specs.Extent.{extents}
 use Rattle.vc_extent.specs.Change.{behind}
 use Rattle.vc_extent.specs.Tiles.{Tiles}

@@ -1,4 +1,4 @@
-use Rattle.std.proofs.Common.{sym, ◌∙◌, arith}
+use Rattle.vc_base.proofs.Common.{sym, ◌∙◌, arith}
 use Rattle.vc_extent.specs.Tiling.{tiling}
 use Rattle.vc_gaps.specs.Fits.{holds_at}
 use Rattle.vc_gaps.specs.GapStore.{key_of}

@@ -1,4 +1,4 @@
-use Rattle.std.proofs.Common.{length, ap, arith}
+use Rattle.vc_base.proofs.Common.{length, ap, arith}
 use Rattle.vc_extent.specs.Tiling.{tiling}
 use Rattle.vc_gaps.proofs.Found.{among-first, first-within, fitted-by_32, fitted-on}
 use Rattle.vc_gaps.proofs.GapTrees.{can_find, gap-found}

@@ -1,5 +1,4 @@
-use Rattle.std.proofs.Common.{refl}
-use Rattle.std.specs.Fmt.{digits}
+use Rattle.vc_base.proofs.Common.{refl, digits}
 use Rattle.rand_core.specs.Steps.{first_words}
 use Rattle.vc_generate.specs.Generated.{block_commands, commands_of_seed, none_taken}
 use Rattle.vc_generate.specs.Words.{source_of, generated_words}

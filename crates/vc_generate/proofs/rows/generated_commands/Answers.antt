@@ -1,4 +1,4 @@
-use Rattle.std.proofs.Common.{arith}
+use Rattle.vc_base.proofs.Common.{arith}
 use Rattle.vc_script.specs.declared.tool.Tool.TheVariants.{Dtrun, Vmreplay}
 use Rattle.vc_generate.proofs.CommandSteps.{length-generated}
 use Rattle.vc_generate.proofs.Pairing.{paired_generated}

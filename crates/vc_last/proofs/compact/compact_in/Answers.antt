@@ -1,8 +1,4 @@
-use Rattle.std.proofs.Common.{◌≡◌, ℕ, List, ◌++◌, length, map, get_or, false, ap, sym, ◌∙◌, arith}
-use Rattle.std.proofs.lemmas.List.{length-map}
-use Rattle.std.proofs.lemmas.List.Sums.{length-filter, count_by-le-length}
-use Rattle.vc_model.specs.Compact.{compacted_layout, is_occupied}
-use Rattle.vc_model.specs.Layout.{Layout}
+use Rattle.vc_base.proofs.Common.{◌≡◌, ℕ, false, List, ◌++◌, map, length, get_or, sym, ap, ◌∙◌, arith, count_by-le-length, length-filter, length-map, compacted_layout, is_occupied, Layout}
 use Rattle.vc_seg.specs.Segment.{Bytes, pair_of}
 use Rattle.vc_seg.proofs.Backs.{AreNumbered-segments}
 use Rattle.vc_last.specs.Chain.{blocks_from}

@@ -1,7 +1,4 @@
-use Rattle.std.proofs.Common.{◌<◌, true, false, length, get_or, set, ap, sym, subst, ◌∙◌, arith}
-use Rattle.std.specs.Prelude.{◌||◌}
-use Rattle.std.proofs.lemmas.List.{length-set}
-use Rattle.vc_model.specs.Compact.{is_occupied}
+use Rattle.vc_base.proofs.Common.{◌<◌, true, false, ◌||◌, length, get_or, set, sym, ap, ◌∙◌, subst, arith, length-set, is_occupied}
 use Rattle.vc_last.specs.Chain.{IsLast, blocks_from}
 use Rattle.vc_last.specs.Head.{before_of, block_of}
 use Rattle.vc_last.proofs.Chains.{latest-none, latest-some}

@@ -1,6 +1,4 @@
-use Rattle.std.proofs.Common.{◌≡◌, ℕ, ◌<◌, false, get_or, length}
-use Rattle.std.specs.Prelude.{◌||◌}
-use Rattle.vc_model.specs.Compact.{is_occupied}
+use Rattle.vc_base.proofs.Common.{◌≡◌, ℕ, ◌<◌, false, ◌||◌, length, get_or, is_occupied}
 use Rattle.vc_last.specs.Chain.{IsLast, blocks_from}
 use Rattle.vc_last.proofs.compact.mark.Given as goal
 

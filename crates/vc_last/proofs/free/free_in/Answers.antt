@@ -1,4 +1,4 @@
-use Rattle.std.proofs.Common.{refl}
+use Rattle.vc_base.proofs.Common.{refl}
 use Rattle.vc_last.proofs.Calls.{free-other, freed-of}
 use Rattle.vc_last.proofs.Moves.{found-by}
 use Rattle.vc_last.proofs.free.free_in.Goals as goal

@@ -1,4 +1,4 @@
-use Rattle.std.proofs.Common.{rules}
+use Rattle.vc_base.proofs.Common.{rules}
 use Rattle.vc_seg.specs.Field.{field_at}
 use Rattle.vc_last.proofs.head.field.Goals as goal
 

@@ -1,4 +1,4 @@
-use Rattle.std.proofs.Common.{◌≡◌, ℕ, ◌+◌, ◌-◌, List, get_or, length, take, drop, ap, ◌∙◌, arith}
+use Rattle.vc_base.proofs.Common.{◌≡◌, ℕ, ◌+◌, ◌-◌, List, length, get_or, take, drop, ap, ◌∙◌, arith}
 use Rattle.vc_seg.specs.Memory.{bytes_of_number}
 use Rattle.vc_seg.specs.Field.{field_at}
 use Rattle.vc_last.proofs.Lifts.{IsThere, new-bytes, own-bytes, stays-set}

@@ -1,6 +1,5 @@
-use Rattle.std.proofs.Common.{◌≡◌, ℕ, ◌+◌, ◌-◌, get_or, set, length, ap, sym, ◌∙◌, subst, arith}
+use Rattle.vc_base.proofs.Common.{◌≡◌, ℕ, ◌+◌, ◌-◌, length, get_or, set, sym, ap, ◌∙◌, subst, arith, place_of}
 use Rattle.vc_seg.specs.Memory.{bytes_of_number}
-use Rattle.vc_model.specs.Addr.{place_of}
 use Rattle.vc_seg.specs.Field.{field_at}
 use Rattle.vc_seg.specs.Frame.{StaysOutside}
 use Rattle.vc_last.specs.Head.{StaysBut}

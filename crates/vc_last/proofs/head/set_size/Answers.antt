@@ -1,7 +1,5 @@
-use Rattle.std.proofs.Common.{◌≡◌, ℕ, ◌+◌, ◌-◌, List, get_or, length, take, drop, ap, sym, ◌∙◌, subst, arith}
+use Rattle.vc_base.proofs.Common.{◌≡◌, ℕ, ◌+◌, ◌-◌, List, length, get_or, take, drop, sym, ap, ◌∙◌, subst, arith, place_of, fitted_bytes}
 use Rattle.vc_seg.specs.Memory.{bytes_of_number}
-use Rattle.vc_model.specs.Addr.{place_of}
-use Rattle.vc_model.specs.Resize.{fitted_bytes}
 use Rattle.vc_base.proofs.Places.{span-least}
 use Rattle.vc_seg.specs.Field.{field_at}
 use Rattle.vc_seg.specs.Frame.{StaysOutside}

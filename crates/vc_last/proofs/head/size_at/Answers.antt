@@ -1,4 +1,4 @@
-use Rattle.std.proofs.Common.{◌≡◌, arith}
+use Rattle.vc_base.proofs.Common.{◌≡◌, arith}
 use Rattle.vc_base.proofs.Places.{span-least}
 use Rattle.vc_seg.proofs.BytesByNumber.{bytes_of_number-most}
 use Rattle.vc_last.specs.Head.{block_of}

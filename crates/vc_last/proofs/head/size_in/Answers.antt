@@ -1,5 +1,4 @@
-use Rattle.std.proofs.Common.{◌≡◌, ◌≤◌, ℕ, ◌+◌, ◌-◌, ap, ◌∙◌, arith}
-use Rattle.vc_model.specs.Resize.{fitted_bytes}
+use Rattle.vc_base.proofs.Common.{◌≡◌, ℕ, ◌+◌, ◌-◌, ◌≤◌, ap, ◌∙◌, arith, fitted_bytes}
 use Rattle.vc_seg.specs.Segment.{Bytes}
 use Rattle.vc_seg.specs.Field.{field_at}
 use Rattle.vc_seg.specs.Frame.{StaysOutside}

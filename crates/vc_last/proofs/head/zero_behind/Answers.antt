@@ -1,7 +1,4 @@
-use Rattle.std.proofs.Common.{◌≡◌, ℕ, ◌+◌, ◌-◌, ◌<◌, ◌≤◌, List, length, replicate, take, drop, ap, subst, ◌∙◌, refl, arith}
-use Rattle.std.proofs.lemmas.List.{length-replicate, same_lists, places}
-use Rattle.vc_model.specs.Bytes.{with_bytes}
-use Rattle.vc_model.specs.Resize.{fitted_bytes}
+use Rattle.vc_base.proofs.Common.{◌≡◌, ℕ, ◌+◌, ◌-◌, ◌<◌, ◌≤◌, List, length, take, drop, replicate, refl, ap, ◌∙◌, subst, arith, length-replicate, places, same_lists, with_bytes, fitted_bytes}
 use Rattle.vc_seg.specs.Frame.{StaysOutside}
 use Rattle.vc_seg.proofs.Frames.{stays-written, wider}
 use Rattle.vc_last.proofs.head.zero_behind.Goals as goal

@@ -1,10 +1,4 @@
-use Rattle.std.proofs.Common.{◌≡◌, ◌≢◌, ℕ, suc, ◌+◌, ◌≤◌, List, [], ◌∷◌, false, All, AllPairs, length, map, refl, ap, sym, ◌∙◌, ⊎_elim, leb, arith}
-use Rattle.std.proofs.lemmas.Bool.{cases_eq, eq-eqb, ne_eqb, le-leb, lt-leb}
-use Rattle.std.proofs.lemmas.List.Elements.{All-head, All-tail}
-use Rattle.std.proofs.Math.Bool.{or-false}
-use Rattle.vc_model.specs.Gap.{Run}
-use Rattle.vc_model.specs.Layout.{Block, footprint}
-use Rattle.vc_model.specs.Resize.{is_usable, sized_block}
+use Rattle.vc_base.proofs.Common.{◌≡◌, ℕ, suc, ◌+◌, ◌≤◌, false, leb, ◌≢◌, List, [], ◌∷◌, map, length, All, AllPairs, sym, refl, ap, ◌∙◌, ⊎_elim, arith, eq-eqb, ne_eqb, le-leb, or-false, cases_eq, lt-leb, All-head, All-tail, Run, Block, footprint, is_usable, sized_block}
 use Rattle.vc_seg.specs.Segment.{Bytes, pair_of}
 use Rattle.vc_seg.proofs.Backs.{Apart, Apart-tail}
 use Rattle.vc_seg.specs.Memory.{bytes_of_number}

@@ -1,6 +1,4 @@
-use Rattle.std.proofs.Common.{ap, sym, ◌∙◌, ◌+◌}
-use Rattle.vc_model.specs.Addr.{place_of}
-use Rattle.vc_model.specs.Segments.{span}
+use Rattle.vc_base.proofs.Common.{◌+◌, sym, ap, ◌∙◌, place_of, span}
 use Rattle.vc_last.proofs.Chains.{latest-some}
 use Rattle.vc_last.proofs.Newest.{next-zero, next-own, next-other, none-zero, some-zero}
 use Rattle.vc_last.proofs.place.next_offset.Goals as goal

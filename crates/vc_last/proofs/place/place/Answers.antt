@@ -1,7 +1,5 @@
-use Rattle.std.proofs.Common.{◌≡◌, ℕ, Option, Some, None, length, ap, sym, ◌∙◌, arith}
-use Rattle.std.specs.Prelude.{option_map}
-use Rattle.std.specs.Option.{option_copied}
-use Rattle.vc_model.specs.Last.{newest, place_behind_latest}
+use Rattle.vc_base.proofs.Common.{◌≡◌, ℕ, length, Some, None, Option, option_map, option_copied, sym, ap, ◌∙◌, arith, newest}
+use Rattle.vc_model.specs.Last.{place_behind_latest}
 use Rattle.vc_seg.specs.Segment.{pair_of}
 use Rattle.vc_last.specs.Read.{layout_by}
 use Rattle.vc_last.proofs.Newest.{newest-last}

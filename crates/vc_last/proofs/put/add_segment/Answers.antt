@@ -1,5 +1,4 @@
-use Rattle.std.proofs.Common.{◌≢◌, List, ◌++◌, ◌∷◌, [], map, ap, subst, sym, ◌∙◌}
-use Rattle.vc_model.specs.Discipline.{Discipline}
+use Rattle.vc_base.proofs.Common.{◌≢◌, List, [], ◌∷◌, ◌++◌, map, sym, ap, ◌∙◌, subst, Discipline}
 use Rattle.vc_seg.specs.Lend.{IsGrantOf}
 use Rattle.vc_seg.specs.Segment.{AreSegments, Bytes, pair_of}
 use Rattle.vc_seg.proofs.Grants.{AreSegments-granted}

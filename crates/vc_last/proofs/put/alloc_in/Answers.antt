@@ -1,5 +1,4 @@
-use Rattle.std.proofs.Common.{◌≡◌, ℕ, Some, ap, sym, ◌∙◌}
-use Rattle.vc_model.specs.Layout.{Layout}
+use Rattle.vc_base.proofs.Common.{◌≡◌, ℕ, Some, sym, ap, ◌∙◌, Layout}
 use Rattle.vc_last.specs.Place.{IsBlockPlace}
 use Rattle.vc_last.specs.Read.{layout_by}
 use Rattle.vc_last.proofs.Kept.{row-by}

@@ -1,11 +1,4 @@
-use Rattle.std.proofs.Common.{◌≡◌, ℕ, ◌+◌, ◌≤◌, ◌≢◌, List, All, Bool, false, map, ap, sym, ◌∙◌, subst, arith}
-use Rattle.std.proofs.lemmas.List.Elements.{All-map}
-use Rattle.std.specs.Prelude.{Err}
-use Rattle.vc_model.specs.Discipline.{Discipline}
-use Rattle.vc_model.specs.Last.{last_need}
-use Rattle.vc_model.specs.Layout.{Block, Layout, with_grant}
-use Rattle.vc_model.specs.Segments.{Granted, ask, new_segment, round_up, span}
-use Rattle.vc_model.specs.Touch.{HasBlock}
+use Rattle.vc_base.proofs.Common.{◌≡◌, ℕ, ◌+◌, ◌≤◌, Bool, false, ◌≢◌, List, map, Err, All, sym, ap, ◌∙◌, subst, arith, All-map, Discipline, last_need, Block, Layout, with_grant, Granted, ask, new_segment, round_up, span, HasBlock}
 use Rattle.vc_seg.specs.Segment.{AreSegments, Bytes, pair_of}
 use Rattle.vc_seg.proofs.Rounding.{IsSegmentSize-asked, round_up-least}
 use Rattle.vc_seg.specs.Lend.{IsNoGrant}

@@ -1,4 +1,4 @@
-use Rattle.std.proofs.Common.{◌≡◌, ap, sym, ◌∙◌, length, take, drop, arith}
+use Rattle.vc_base.proofs.Common.{◌≡◌, length, take, drop, sym, ap, ◌∙◌, arith}
 use Rattle.vc_seg.specs.Memory.{bytes_of_number}
 use Rattle.vc_seg.proofs.FirstByNumber.{bytes_of_number-first}
 use Rattle.vc_seg.specs.Segment.{Bytes}

@@ -1,5 +1,4 @@
-use Rattle.std.proofs.Common.{◌≡◌, [], length, get_or, take, drop, refl, ap, sym, ◌∙◌, arith}
-use Rattle.vc_model.specs.Bytes.{with_bytes}
+use Rattle.vc_base.proofs.Common.{◌≡◌, [], length, get_or, take, drop, sym, refl, ap, ◌∙◌, arith, with_bytes}
 use Rattle.vc_seg.specs.Memory.{bytes_of_number, with_copy_of}
 use Rattle.vc_seg.specs.Segment.{Bytes}
 use Rattle.vc_seg.proofs.FirstByNumber.{bytes_of_number-first, write_segment-first}

@@ -1,5 +1,4 @@
-use Rattle.std.proofs.Common.{◌<◌, length, ap, sym, ◌∙◌, arith}
-use Rattle.std.proofs.lemmas.List.{get_or-take, length-take}
+use Rattle.vc_base.proofs.Common.{◌<◌, length, sym, ap, ◌∙◌, arith, length-take, get_or-take}
 use Rattle.vc_seg.specs.Segment.{Bytes}
 use Rattle.vc_seg.proofs.FirstByNumber.{bytes_of_number-none}
 use Rattle.vc_last.proofs.range.place_of_number.Goals as goal

@@ -1,5 +1,4 @@
-use Rattle.std.proofs.Common.{ap, sym, ◌∙◌, ◌+◌, get_or, length, arith}
-use Rattle.vc_model.specs.Bytes.{with_bytes}
+use Rattle.vc_base.proofs.Common.{◌+◌, length, get_or, sym, ap, ◌∙◌, arith, with_bytes}
 use Rattle.vc_seg.proofs.Frames.{stays-written}
 use Rattle.vc_last.proofs.Lifts.{IsThere, new-bytes, own-bytes, stays-set}
 use Rattle.vc_last.proofs.range.put_in.Goals as goal

@@ -1,15 +1,10 @@
-use Rattle.std.proofs.Common.{◌≡◌, ◌+◌, ◌<◌, ◌≤◌, ℕ, List, ◌++◌, length, min, take, drop, ap, sym, ◌∙◌, subst, arith}
-use Rattle.std.proofs.lemmas.List.{with_items_is}
-use Rattle.vc_model.specs.Addr.{place_of}
-use Rattle.vc_model.specs.Layout.{Layout}
+use Rattle.vc_base.proofs.Common.{◌≡◌, ℕ, ◌+◌, ◌<◌, ◌≤◌, min, List, ◌++◌, length, take, drop, sym, ap, ◌∙◌, subst, arith, length-drop, length-take-le, places, same_lists, with_items_is, place_of, Layout, HasBlock, with_bytes_at}
 use Rattle.vc_seg.specs.Segment.{Bytes}
 use Rattle.vc_last.specs.Chain.{IsLast, blocks_from}
 use Rattle.vc_last.specs.Head.{block_of, bytes_at}
 use Rattle.vc_last.specs.Read.{layout_by}
-use Rattle.vc_model.specs.Touch.{HasBlock, with_bytes_at}
 use Rattle.vc_base.proofs.Places.{span-least}
 use Rattle.vc_seg.specs.Memory.{write_segment}
-use Rattle.std.proofs.lemmas.List.{length-drop, length-take-le, same_lists, places}
 use Rattle.vc_layouts.proofs.Segments.{bytes_of_number-write}
 use Rattle.vc_last.proofs.Bodies.{layout-written}
 use Rattle.vc_last.proofs.Kept.{StandsAt, layout-from, stands-at}

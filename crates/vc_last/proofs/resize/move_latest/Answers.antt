@@ -1,9 +1,4 @@
-use Rattle.std.proofs.Common.{◌≡◌, ◌≢◌, ℕ, List, Some, IfSome, false, take, refl, ap, sym, ◌∙◌, subst}
-use Rattle.std.specs.Prelude.{option_map}
-use Rattle.vc_model.specs.Addr.{place_of}
-use Rattle.vc_model.specs.Best.{without_block_at}
-use Rattle.vc_model.specs.Layout.{Block, Layout}
-use Rattle.vc_model.specs.Touch.{HasBlock, find_block, with_bytes_at}
+use Rattle.vc_base.proofs.Common.{◌≡◌, ℕ, false, ◌≢◌, List, take, IfSome, Some, option_map, sym, refl, ap, ◌∙◌, subst, place_of, without_block_at, Block, Layout, HasBlock, find_block, with_bytes_at}
 use Rattle.vc_seg.specs.Segment.{Bytes}
 use Rattle.vc_last.specs.Chain.{IsLast}
 use Rattle.vc_last.specs.Head.{block_of}

@@ -1,7 +1,4 @@
-use Rattle.std.proofs.Common.{◌≡◌, ℕ, List, map, ap, sym, ◌∙◌, subst}
-use Rattle.vc_model.specs.Addr.{place_of}
-use Rattle.vc_model.specs.Layout.{Layout, footprint}
-use Rattle.vc_model.specs.Resize.{is_usable, resize_there, sized_block}
+use Rattle.vc_base.proofs.Common.{◌≡◌, ℕ, List, map, sym, ap, ◌∙◌, subst, place_of, Layout, footprint, is_usable, resize_there, sized_block}
 use Rattle.vc_seg.specs.Segment.{Bytes, pair_of}
 use Rattle.vc_last.specs.Head.{block_of}
 use Rattle.vc_last.specs.Read.{layout_by}

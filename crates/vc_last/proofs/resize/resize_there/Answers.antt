@@ -1,6 +1,4 @@
-use Rattle.std.proofs.Common.{◌≡◌, List, ◌++◌, length, map, take, drop, refl, ap, sym, ◌∙◌, subst, arith}
-use Rattle.std.proofs.lemmas.List.{with_items_is}
-use Rattle.vc_model.specs.Addr.{place_of}
+use Rattle.vc_base.proofs.Common.{◌≡◌, List, ◌++◌, map, length, take, drop, sym, refl, ap, ◌∙◌, subst, arith, with_items_is, place_of}
 use Rattle.vc_base.proofs.Places.{span-least}
 use Rattle.vc_seg.specs.Segment.{Bytes, pair_of}
 use Rattle.vc_last.specs.Chain.{IsLast, blocks_from}

@@ -1,8 +1,5 @@
-use Rattle.std.proofs.Common.{◌≡◌, ℕ, List, length, map, refl, ap, sym, ◌∙◌}
-use Rattle.std.proofs.lemmas.List.{length-map}
-use Rattle.vc_model.specs.Gap.{bytes_of}
-use Rattle.vc_model.specs.Layout.{Block, Layout}
-use Rattle.vc_model.specs.Numbers.{block_bytes, block_count, block_sizes, gap_bytes, gap_count, gap_sizes, gaps_of, greatest_block, greatest_gap, segment_bytes, segment_count}
+use Rattle.vc_base.proofs.Common.{◌≡◌, ℕ, List, map, length, sym, refl, ap, ◌∙◌, length-map, bytes_of, Block, Layout, block_count, block_sizes, gaps_of, segment_bytes, segment_count}
+use Rattle.vc_model.specs.Numbers.{block_bytes, gap_bytes, gap_count, gap_sizes, greatest_block, greatest_gap}
 use Rattle.vc_seg.specs.Segment.{pair_of}
 use Rattle.vc_layouts.specs.declared.tally.Tally.{Tally}
 use Rattle.vc_layouts.specs.Tally.{tally_of}

@@ -1,5 +1,4 @@
-use Rattle.std.proofs.Common.{◌≡◌, ◌<◌, ◌++◌, [], ◌∷◌, ℕ, List, length, map, ap, sym, subst, ◌∙◌}
-use Rattle.vc_model.specs.Layout.{Block}
+use Rattle.vc_base.proofs.Common.{◌≡◌, ℕ, ◌<◌, List, [], ◌∷◌, ◌++◌, map, length, sym, ap, ◌∙◌, subst, Block}
 use Rattle.vc_layouts.specs.Tally.{HasRoom, tally_with, tallied_all}
 use Rattle.vc_last.specs.Chain.{IsLast, blocks_from}
 use Rattle.vc_last.specs.Head.{before_of, block_of}

@@ -1,9 +1,7 @@
-use Rattle.std.proofs.Common.{◌≡◌, ◌++◌, suc, drop, map, ap, sym, subst, ◌∙◌, add-one}
-use Rattle.vc_model.specs.Gap.{bytes_of}
+use Rattle.vc_base.proofs.Common.{◌≡◌, suc, ◌++◌, map, drop, sym, ap, ◌∙◌, subst, add-one, bytes_of, footprints}
 use Rattle.vc_seg.specs.Segment.{Bytes, pair_of}
 use Rattle.vc_layouts.specs.Tally.{HasRoom, tallied_all}
 use Rattle.vc_layouts.proofs.Tallies.{HasRoom-rest, tallied_all-append}
-use Rattle.vc_model.specs.Layout.{footprints}
 use Rattle.vc_last.specs.Chain.{blocks_from}
 use Rattle.vc_last.specs.Gaps.{gaps_left_in}
 use Rattle.vc_last.proofs.Tallies.{sizes_in, sizes_in-next}

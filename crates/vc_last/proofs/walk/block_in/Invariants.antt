@@ -1,6 +1,4 @@
-use Rattle.std.proofs.Common.{◌≡◌, length}
-use Rattle.std.specs.List.{find}
-use Rattle.vc_model.specs.Walk.{holds_byte}
+use Rattle.vc_base.proofs.Common.{◌≡◌, length, find, holds_byte}
 use Rattle.vc_last.specs.Chain.{IsLast, blocks_from}
 use Rattle.vc_last.proofs.walk.block_in.Given as goal
 

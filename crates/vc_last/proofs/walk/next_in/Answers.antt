@@ -1,5 +1,4 @@
-use Rattle.std.proofs.Common.{◌<◌, None, Some, length, ap, sym, subst, ◌∙◌}
-use Rattle.std.specs.Prelude.{option_map}
+use Rattle.vc_base.proofs.Common.{◌<◌, length, Some, None, option_map, sym, ap, ◌∙◌, subst}
 use Rattle.vc_base.specs.declared.addr.Addr.{Addr}
 use Rattle.vc_last.specs.Chain.{IsLast, blocks_from}
 use Rattle.vc_last.proofs.Chains.{latest-some}

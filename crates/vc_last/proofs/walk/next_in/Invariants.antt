@@ -1,4 +1,4 @@
-use Rattle.std.proofs.Common.{◌≡◌, None, length}
+use Rattle.vc_base.proofs.Common.{◌≡◌, length, None}
 use Rattle.vc_last.specs.Chain.{IsLast, blocks_from}
 use Rattle.vc_last.proofs.Walks.{addresses, least_on}
 use Rattle.vc_last.proofs.walk.next_in.Given as goal

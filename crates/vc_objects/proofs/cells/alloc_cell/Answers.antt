@@ -1,4 +1,4 @@
-use Rattle.std.proofs.Common.{arith}
+use Rattle.vc_base.proofs.Common.{arith}
 use Rattle.vc_best.specs.Parts.{layout_of}
 use Rattle.vc_best.proofs.RestAlloc.{answers-zeroed}
 use Rattle.vc_objects.proofs.Unlabelled.{alloc-labelled, alloc-made, alloc-same}

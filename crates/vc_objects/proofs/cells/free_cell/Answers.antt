@@ -1,5 +1,4 @@
-use Rattle.std.proofs.Common.{ℕ, ap, ◌∙◌}
-use Rattle.vc_model.specs.Layout.{Layout}
+use Rattle.vc_base.proofs.Common.{ℕ, ap, ◌∙◌, Layout}
 use Rattle.vc_best.specs.Cells.{cells_of, labelled_blocks, zeroed_layout}
 use Rattle.vc_best.specs.Parts.{blocks_in, layout_of}
 use Rattle.vc_best.proofs.CellCalls.{cells-freed}

@@ -1,7 +1,6 @@
-use Rattle.std.proofs.Common.{◌≤◌, arith, length, refl, subst, sym, ◌∙◌}
+use Rattle.vc_base.proofs.Common.{◌≤◌, length, sym, refl, ◌∙◌, subst, arith, Discipline}
 use Rattle.vc_dict.specs.Listed.{holders_of}
 use Rattle.vc_dict.proofs.OwnLemmas.{count-fits}
-use Rattle.vc_model.specs.Discipline.{Discipline}
 use Rattle.vc_best.specs.Cells.{cells_in}
 use Rattle.vc_objects.specs.Parts.{IsWhole, dictionary_in}
 use Rattle.vc_objects.proofs.Emptied.{emptying-all, emptying-next, emptying-start}

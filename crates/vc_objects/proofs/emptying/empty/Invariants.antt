@@ -1,4 +1,4 @@
-use Rattle.std.proofs.Common.{◌≡◌}
+use Rattle.vc_base.proofs.Common.{◌≡◌}
 use Rattle.vc_objects.proofs.Emptied.{Emptying}
 use Rattle.vc_objects.proofs.emptying.empty.Given as goal
 

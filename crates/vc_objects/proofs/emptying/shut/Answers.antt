@@ -1,7 +1,4 @@
-use Rattle.std.proofs.Common.{◌≡◌, ◌≢◌, ℕ, [], false, sym, ap, ◌∙◌, subst}
-use Rattle.std.specs.Prelude.{◌==◌, not}
-use Rattle.std.proofs.lemmas.Bool.{true≢false}
-use Rattle.vc_base.specs.Holders.{contains}
+use Rattle.vc_base.proofs.Common.{◌≡◌, ℕ, false, not, ◌≢◌, [], ◌==◌, sym, ap, ◌∙◌, subst, true≢false, contains}
 use Rattle.vc_objects.specs.Unlabelled.{FreesCell}
 use Rattle.vc_objects.specs.Objects.{Dictionary, own_blocks}
 use Rattle.vc_objects.specs.Parts.{dictionary_in}

@@ -1,10 +1,8 @@
-use Rattle.std.proofs.Common.{◌≡◌, None, Option, Some, ℕ, ap, arith, refl, sym, ◌∙◌}
-use Rattle.std.specs.Option.{option_map}
+use Rattle.vc_base.proofs.Common.{◌≡◌, ℕ, Some, None, Option, option_map, sym, refl, ap, ◌∙◌, arith, Discipline}
 use Rattle.vc_dtdisc.specs.Objects.{Object}
 use Rattle.vc_dtdisc.specs.Finding.{first_of}
 use Rattle.vc_dtdisc.specs.Rules.{gone_after}
 use Rattle.vc_dict.specs.Listed.{holders_of}
-use Rattle.vc_model.specs.Discipline.{Discipline}
 use Rattle.vc_best.specs.Cells.{cells_in, rest_in}
 use Rattle.vc_best.proofs.CellCalls.{stays-disc}
 use Rattle.vc_objects.specs.Leaves.{Looks, told_each}

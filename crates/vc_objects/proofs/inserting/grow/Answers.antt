@@ -1,7 +1,5 @@
-use Rattle.std.proofs.Common.{Option, ℕ, refl, subst, sym, ◌∙◌}
-use Rattle.std.specs.Prelude.{Ok}
+use Rattle.vc_base.proofs.Common.{ℕ, Ok, Option, sym, refl, ◌∙◌, subst, Discipline}
 use Rattle.vc_dict.specs.Listed.{holders_of}
-use Rattle.vc_model.specs.Discipline.{Discipline}
 use Rattle.vc_model.proofs.Keeping.{NoneRefused-same}
 use Rattle.vc_best.specs.Cells.{cells_in, rest_in}
 use Rattle.vc_best.specs.Parts.{disc_in}

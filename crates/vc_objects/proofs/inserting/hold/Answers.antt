@@ -1,10 +1,6 @@
-use Rattle.std.proofs.Common.{ℕ, ap, arith, refl, subst, sym, ◌+◌, ◌∙◌, ◌≤◌}
-use Rattle.std.proofs.lemmas.List.{length-map}
-use Rattle.vc_base.specs.Cells.{Blocks, with_body}
-use Rattle.vc_model.specs.Layout.{Layout}
+use Rattle.vc_base.proofs.Common.{ℕ, ◌+◌, ◌≤◌, sym, refl, ap, ◌∙◌, subst, arith, length-map, Blocks, best_need, Discipline, Layout}
+use Rattle.vc_base.specs.Cells.{with_body}
 use Rattle.vc_base.specs.declared.addr.Addr.{Addr}
-use Rattle.vc_model.specs.Best.{best_need}
-use Rattle.vc_model.specs.Discipline.{Discipline}
 use Rattle.vc_dict.specs.Listed.{holders_of}
 use Rattle.vc_best.specs.CellLaws.{stays-after}
 use Rattle.vc_best.specs.Cells.{cells_in, rest_in}

@@ -1,7 +1,5 @@
-use Rattle.std.proofs.Common.{◌≡◌, ◌+◌, ◌≤◌, ℕ, List, None, arith, false, inl, inr, length, subst, sym, ap, ◌∙◌}
-use Rattle.vc_base.specs.Methods.{is_list, is_set}
+use Rattle.vc_base.proofs.Common.{◌≡◌, ℕ, ◌+◌, ◌≤◌, false, List, length, None, sym, ap, ◌∙◌, subst, inl, inr, arith, is_list, is_set, Discipline}
 use Rattle.vc_dtdisc.specs.Objects.{Object, bytes_of, first_with}
-use Rattle.vc_model.specs.Discipline.{Discipline}
 use Rattle.vc_model.proofs.Keeping.{NoneRefused-trans}
 use Rattle.vc_best.specs.Cells.{rest_in}
 use Rattle.vc_best.specs.Parts.{disc_in}

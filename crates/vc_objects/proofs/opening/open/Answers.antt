@@ -1,6 +1,4 @@
-use Rattle.std.proofs.Common.{ℕ, [], Some, refl, subst, sym, ◌∙◌}
-use Rattle.std.specs.Prelude.{Err}
-use Rattle.vc_model.specs.Discipline.{Discipline}
+use Rattle.vc_base.proofs.Common.{ℕ, [], Some, Err, sym, refl, ◌∙◌, subst, Discipline}
 use Rattle.vc_model.proofs.Keeping.{NoneRefused-same}
 use Rattle.vc_best.specs.Cells.{cells_in, rest_in}
 use Rattle.vc_best.specs.Parts.{disc_in}

@@ -1,5 +1,4 @@
-use Rattle.std.proofs.Common.{ap, sym, ◌∙◌}
-use Rattle.std.specs.Option.{option_map}
+use Rattle.vc_base.proofs.Common.{option_map, sym, ap, ◌∙◌}
 use Rattle.vc_dtdisc.specs.Objects.{bytes_of, first_with}
 use Rattle.vc_dtdisc.proofs.ObjectsLemmas.{first_with-map}
 use Rattle.vc_dict.specs.Listed.{holders_of}

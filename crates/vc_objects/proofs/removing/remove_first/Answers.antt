@@ -1,5 +1,4 @@
-use Rattle.std.proofs.Common.{ap, sym, true, ◌∙◌}
-use Rattle.std.specs.Option.{option_map}
+use Rattle.vc_base.proofs.Common.{true, option_map, sym, ap, ◌∙◌}
 use Rattle.vc_dtdisc.specs.Finding.{first_of}
 use Rattle.vc_dict.specs.Listed.{holders_of}
 use Rattle.vc_best.specs.Cells.{cells_in}

@@ -1,5 +1,4 @@
-use Rattle.std.proofs.Common.{sym, ap, ◌∙◌}
-use Rattle.vc_base.specs.Cells.{Blocks}
+use Rattle.vc_base.proofs.Common.{sym, ap, ◌∙◌, Blocks}
 use Rattle.vc_best.specs.Cells.{cells_in}
 use Rattle.vc_objects.proofs.Unlabelled.{left-cell}
 use Rattle.vc_objects.proofs.tables.free_table.Goals as goal

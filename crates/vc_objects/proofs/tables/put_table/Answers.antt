@@ -1,9 +1,5 @@
-use Rattle.std.proofs.Common.{◌≡◌, ◌≢◌, ℕ, ap, ◌∙◌, arith, refl}
-use Rattle.vc_base.specs.Cells.{Blocks}
-use Rattle.vc_model.specs.Layout.{Layout}
+use Rattle.vc_base.proofs.Common.{◌≡◌, ℕ, ◌≢◌, refl, ap, ◌∙◌, arith, Blocks, best_need, Discipline, Layout}
 use Rattle.vc_base.specs.declared.addr.Addr.{Addr}
-use Rattle.vc_model.specs.Best.{best_need}
-use Rattle.vc_model.specs.Discipline.{Discipline}
 use Rattle.vc_dict.specs.Listed.{holders_of}
 use Rattle.vc_best.specs.Cells.{cells_in, rest_in}
 use Rattle.vc_best.specs.Parts.{disc_in, segments_in}

@@ -1,4 +1,4 @@
-use Rattle.std.proofs.Common.{sym, subst, ◌∙◌}
+use Rattle.vc_base.proofs.Common.{sym, ◌∙◌, subst}
 use Rattle.vc_objects.specs.Promises.{Brings}
 use Rattle.vc_objects.proofs.Bringing.{allowed-between}
 use Rattle.vc_objects.proofs.Brought.{brings-none}

@@ -1,7 +1,5 @@
-use Rattle.std.proofs.Common.{◌≢◌, ℕ, ap, arith}
-use Rattle.vc_model.specs.Best.{best_need}
+use Rattle.vc_base.proofs.Common.{ℕ, ◌≢◌, ap, arith, best_need, Layout}
 use Rattle.vc_model.proofs.Keeping.{NoneRefused-served}
-use Rattle.vc_model.specs.Layout.{Layout}
 use Rattle.vc_best.specs.Cells.{cells_in, rest_in}
 use Rattle.vc_best.specs.Parts.{disc_in, segments_in}
 use Rattle.vc_objects.specs.Insert.{alloc_unlabelled}

@@ -1,4 +1,4 @@
-use Rattle.std.proofs.Common.{refl, ◌∙◌, arith}
+use Rattle.vc_base.proofs.Common.{refl, ◌∙◌, arith}
 use Rattle.vc_best.specs.Cells.{cells_in, rest_in}
 use Rattle.vc_objects.proofs.Dropping.{dropping-end, dropping-holder, dropping-next, dropping-start}
 use Rattle.vc_objects.proofs.turning.drop_all.Goals as goal

@@ -1,5 +1,4 @@
-use Rattle.std.proofs.Common.{◌≡◌, ℕ, List, length}
-use Rattle.vc_base.specs.Holders.{AreDistinct}
+use Rattle.vc_base.proofs.Common.{◌≡◌, ℕ, List, length, AreDistinct}
 use Rattle.vc_dict.specs.Turned.{AreDropped}
 use Rattle.vc_best.specs.Cells.{cells_in, labelled_blocks, rest_in}
 use Rattle.vc_best.specs.Parts.{disc_in, segments_in}

@@ -1,5 +1,4 @@
-use Rattle.std.proofs.Common.{◌≡◌, refl, rules, arith}
-use Rattle.std.proofs.lemmas.Grind.{common_steps}
+use Rattle.vc_base.proofs.Common.{◌≡◌, refl, arith, rules, common_steps}
 use Rattle.vc_model.proofs.Keeping.{NoneRefused-same}
 use Rattle.vc_best.specs.Cells.{rest_in}
 use Rattle.vc_best.specs.Parts.{disc_in}

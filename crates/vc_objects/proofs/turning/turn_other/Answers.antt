@@ -1,4 +1,4 @@
-use Rattle.std.proofs.Common.{refl, sym, ap, subst}
+use Rattle.vc_base.proofs.Common.{sym, refl, ap, subst}
 use Rattle.vc_model.proofs.Keeping.{NoneRefused-equal, NoneRefused-trans}
 use Rattle.vc_best.specs.Cells.{cells_in, rest_in}
 use Rattle.vc_best.specs.Parts.{disc_in}

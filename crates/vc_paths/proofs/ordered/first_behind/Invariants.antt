@@ -1,6 +1,4 @@
-use Rattle.std.proofs.Common.{length}
-use Rattle.std.specs.Option.{option_map}
-use Rattle.vc_base.specs.Address.{number_of}
+use Rattle.vc_base.proofs.Common.{length, option_map, number_of}
 use Rattle.vc_paths.specs.Ordered.{is_behind, object_at}
 use Rattle.vc_paths.specs.Shown.{objects_from}
 use Rattle.vc_paths.proofs.LayerLemmas.{Onward}

@@ -1,5 +1,4 @@
-use Rattle.std.proofs.Common.{ap, ◌∙◌}
-use Rattle.vc_base.specs.Methods.{is_ordered}
+use Rattle.vc_base.proofs.Common.{ap, ◌∙◌, is_ordered}
 use Rattle.vc_paths.proofs.DownLemmas.{down-next, on-head}
 use Rattle.vc_paths.proofs.OrderedLemmas.{greatest_end, greatest_next, greatest_start, stands_along}
 use Rattle.vc_paths.proofs.ordered.greatest_before.Goals as goal

@@ -1,4 +1,4 @@
-use Rattle.std.proofs.Common.{ℕ, List, subst}
+use Rattle.vc_base.proofs.Common.{ℕ, List, subst}
 use Rattle.vc_dtdisc.specs.Finding.{last_of}
 use Rattle.vc_paths.specs.Path.{Answers, visible_of}
 use Rattle.vc_paths.specs.Visible.{Seen}

@@ -1,5 +1,4 @@
-use Rattle.std.proofs.Common.{ap, ◌∙◌}
-use Rattle.vc_base.specs.Methods.{is_ordered}
+use Rattle.vc_base.proofs.Common.{ap, ◌∙◌, is_ordered}
 use Rattle.vc_paths.proofs.DownLemmas.{down-next, on-head}
 use Rattle.vc_paths.proofs.OrderedLemmas.{least_end, least_next, least_start, stands_along}
 use Rattle.vc_paths.proofs.ordered.least_behind.Goals as goal

@@ -1,4 +1,4 @@
-use Rattle.std.proofs.Common.{length}
+use Rattle.vc_base.proofs.Common.{length}
 use Rattle.vc_paths.specs.Ordered.{object_at}
 use Rattle.vc_paths.specs.Shown.{down}
 use Rattle.vc_paths.proofs.OrderedLemmas.{Least}

@@ -1,4 +1,4 @@
-use Rattle.std.proofs.Common.{ℕ, Some, Option, refl, subst, sym}
+use Rattle.vc_base.proofs.Common.{ℕ, Some, Option, sym, refl, subst}
 use Rattle.vc_paths.specs.Ordered.{StandsInLike}
 use Rattle.vc_paths.specs.Path.{Answers}
 use Rattle.vc_paths.specs.Visible.{Seen}

@@ -1,4 +1,4 @@
-use Rattle.std.proofs.Common.{ap, sym, ◌∙◌}
+use Rattle.vc_base.proofs.Common.{sym, ap, ◌∙◌}
 use Rattle.vc_dtdisc.proofs.FindingLemmas.{first_of-map}
 use Rattle.vc_dtdisc.specs.Finding.{first_of}
 use Rattle.vc_paths.specs.Path.{place_of, visible_of}

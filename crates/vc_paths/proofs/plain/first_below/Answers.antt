@@ -1,5 +1,4 @@
-use Rattle.std.proofs.Common.{◌≡◌, ap, refl, sym, ◌∙◌}
-use Rattle.std.specs.Option.{option_map}
+use Rattle.vc_base.proofs.Common.{◌≡◌, option_map, sym, refl, ap, ◌∙◌}
 use Rattle.vc_base.proofs.Options.{is_some-map}
 use Rattle.vc_dtdisc.specs.Finding.{first_of}
 use Rattle.vc_paths.specs.Path.{numbers_of}

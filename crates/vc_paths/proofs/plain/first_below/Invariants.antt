@@ -1,5 +1,4 @@
-use Rattle.std.proofs.Common.{◌≡◌, length}
-use Rattle.std.specs.List.{flat_map}
+use Rattle.vc_base.proofs.Common.{◌≡◌, length, flat_map}
 use Rattle.vc_dtdisc.specs.Finding.{first_of}
 use Rattle.vc_paths.specs.Shown.{IsOnPath, down, shown_in}
 use Rattle.vc_paths.specs.Layers.{Same}

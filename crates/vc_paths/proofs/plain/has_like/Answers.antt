@@ -1,4 +1,4 @@
-use Rattle.std.proofs.Common.{◌∙◌}
+use Rattle.vc_base.proofs.Common.{◌∙◌}
 use Rattle.vc_paths.proofs.CoverLemmas.{like-found}
 use Rattle.vc_paths.proofs.plain.has_like.Goals as goal
 

@@ -1,4 +1,4 @@
-use Rattle.std.proofs.Common.{◌≡◌, ℕ, List, Some, refl, sym, ◌∙◌}
+use Rattle.vc_base.proofs.Common.{◌≡◌, ℕ, List, Some, sym, refl, ◌∙◌}
 use Rattle.vc_paths.specs.Layers.{bytes_there}
 use Rattle.vc_paths.specs.Shown.{has_match}
 use Rattle.vc_paths.proofs.CoverLemmas.{cover-end, cover-is, cover-less, cover-stop, cover-there, match-told}

@@ -1,5 +1,4 @@
-use Rattle.std.proofs.Common.{◌≡◌, ℕ, List, Some, length}
-use Rattle.std.specs.List.{list_any}
+use Rattle.vc_base.proofs.Common.{◌≡◌, ℕ, List, length, Some, list_any}
 use Rattle.vc_paths.specs.Layers.{bytes_there, Same}
 use Rattle.vc_paths.specs.Shown.{IsOnPath, above, down, has_match, is_covered}
 use Rattle.vc_paths.proofs.plain.is_hidden.Given as goal

@@ -1,5 +1,4 @@
-use Rattle.std.proofs.Common.{None, Some, ap, sym, ◌∙◌}
-use Rattle.std.specs.List.{flat_map}
+use Rattle.vc_base.proofs.Common.{Some, None, flat_map, sym, ap, ◌∙◌}
 use Rattle.vc_dtdisc.proofs.FindingLemmas.{last_from-map}
 use Rattle.vc_dtdisc.specs.Finding.{last_of}
 use Rattle.vc_paths.specs.Path.{place_of, visible_of}

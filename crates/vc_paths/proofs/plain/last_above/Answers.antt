@@ -1,6 +1,4 @@
-use Rattle.std.proofs.Common.{ap, sym, ◌∙◌}
-use Rattle.std.specs.List.{flat_map}
-use Rattle.std.specs.Option.{option_map}
+use Rattle.vc_base.proofs.Common.{option_map, flat_map, sym, ap, ◌∙◌}
 use Rattle.vc_dtdisc.specs.Finding.{last_from, last_of}
 use Rattle.vc_paths.specs.Path.{numbers_of}
 use Rattle.vc_paths.specs.Shown.{above, down, shown_in}

@@ -1,6 +1,4 @@
-use Rattle.std.proofs.Common.{◌≡◌, Some, length}
-use Rattle.std.specs.List.{flat_map}
-use Rattle.std.specs.Option.{option_map}
+use Rattle.vc_base.proofs.Common.{◌≡◌, length, Some, option_map, flat_map}
 use Rattle.vc_dtdisc.specs.Finding.{last_from, last_of}
 use Rattle.vc_paths.specs.Path.{numbers_of}
 use Rattle.vc_paths.specs.Shown.{IsOnPath, above, down, shown_in}

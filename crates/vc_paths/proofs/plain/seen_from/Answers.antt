@@ -1,6 +1,4 @@
-use Rattle.std.proofs.Common.{ap, refl, sym, ◌∙◌}
-use Rattle.std.specs.Option.{option_map}
-use Rattle.vc_base.specs.Address.{number_of}
+use Rattle.vc_base.proofs.Common.{option_map, sym, refl, ap, ◌∙◌, number_of}
 use Rattle.vc_paths.specs.Layers.{place_in}
 use Rattle.vc_paths.proofs.SeenLemmas.{Stop, stop-at, fewer-next, first-none, first-past, first-seen, next-place, place-kept, there-still}
 use Rattle.vc_paths.proofs.StayLemmas.{same-itself, alike-kept, on-kept}

@@ -1,6 +1,4 @@
-use Rattle.std.proofs.Common.{◌≡◌, length}
-use Rattle.std.specs.Option.{option_map}
-use Rattle.vc_base.specs.Address.{number_of}
+use Rattle.vc_base.proofs.Common.{◌≡◌, length, option_map, number_of}
 use Rattle.vc_dtdisc.specs.Finding.{first_of}
 use Rattle.vc_paths.specs.Shown.{IsPlaceIn, objects_from, unhidden_objects}
 use Rattle.vc_paths.specs.Layers.{Same}

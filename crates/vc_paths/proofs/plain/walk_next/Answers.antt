@@ -1,7 +1,4 @@
-use Rattle.std.proofs.Common.{refl, ap, sym, ◌∙◌}
-use Rattle.std.specs.List.{flat_map}
-use Rattle.std.specs.Option.{option_map}
-use Rattle.vc_base.specs.Address.{number_of}
+use Rattle.vc_base.proofs.Common.{option_map, flat_map, sym, refl, ap, ◌∙◌, number_of}
 use Rattle.vc_dtdisc.specs.Finding.{first_of}
 use Rattle.vc_paths.specs.Shown.{down, shown_in}
 use Rattle.vc_paths.proofs.SeenLemmas.{place-next}

@@ -1,7 +1,4 @@
-use Rattle.std.proofs.Common.{Some, ap, sym, ◌∙◌}
-use Rattle.std.specs.List.{flat_map}
-use Rattle.std.specs.Option.{option_map}
-use Rattle.vc_base.specs.Address.{number_of}
+use Rattle.vc_base.proofs.Common.{Some, option_map, flat_map, sym, ap, ◌∙◌, number_of}
 use Rattle.vc_dtdisc.specs.Finding.{last_of}
 use Rattle.vc_paths.specs.Shown.{above, down}
 use Rattle.vc_paths.proofs.SeenLemmas.{place-previous}

@@ -1,6 +1,4 @@
-use Rattle.std.proofs.Common.{◌<◌, length, sym, ap, subst}
-use Rattle.std.specs.Option.{option_map}
-use Rattle.vc_base.specs.Address.{number_of}
+use Rattle.vc_base.proofs.Common.{◌<◌, length, option_map, sym, ap, subst, number_of}
 use Rattle.vc_paths.specs.Shown.{objects_from}
 use Rattle.vc_paths.proofs.WalkLemmas.{IsLastUpTo, IsLastUpTo-end, IsLastUpTo-further, IsLastUpTo-shorter, IsLastUpTo-start}
 use Rattle.vc_paths.proofs.views.last_of_all.Goals as goal

@@ -1,6 +1,4 @@
-use Rattle.std.proofs.Common.{length}
-use Rattle.std.specs.Option.{option_map}
-use Rattle.vc_base.specs.Address.{number_of}
+use Rattle.vc_base.proofs.Common.{length, option_map, number_of}
 use Rattle.vc_paths.specs.Shown.{objects_from}
 use Rattle.vc_paths.proofs.WalkLemmas.{IsLastUpTo}
 use Rattle.vc_paths.proofs.views.last_of_all.Given as goal

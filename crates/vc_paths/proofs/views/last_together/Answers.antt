@@ -1,8 +1,5 @@
-use Rattle.std.proofs.Common.{◌≡◌, ◌<◌, true, is_eq, length, sym, ap, ◌∙◌, subst}
-use Rattle.std.specs.Option.{option_map}
-use Rattle.std.specs.Prelude.{if◌then◌else◌}
+use Rattle.vc_base.proofs.Common.{◌≡◌, ◌<◌, true, length, if◌then◌else◌, option_map, is_eq, sym, ap, ◌∙◌, subst, number_of}
 use Rattle.vc_dtdisc.specs.Objects.{is_match}
-use Rattle.vc_base.specs.Address.{number_of}
 use Rattle.vc_paths.specs.Layers.{bytes_there}
 use Rattle.vc_paths.specs.Shown.{objects_from}
 use Rattle.vc_paths.proofs.MatchLemmas.{bytes-of}

@@ -1,7 +1,5 @@
-use Rattle.std.proofs.Common.{◌≡◌, ℕ, List, Some, false, length}
-use Rattle.std.specs.Option.{option_map}
+use Rattle.vc_base.proofs.Common.{◌≡◌, ℕ, false, List, length, Some, option_map, number_of}
 use Rattle.vc_dtdisc.specs.Objects.{is_greater}
-use Rattle.vc_base.specs.Address.{number_of}
 use Rattle.vc_paths.specs.Layers.{bytes_there}
 use Rattle.vc_paths.specs.Shown.{objects_from}
 use Rattle.vc_paths.proofs.WalkLemmas.{IsLastUpTo}

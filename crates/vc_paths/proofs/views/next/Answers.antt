@@ -1,6 +1,4 @@
-use Rattle.std.proofs.Common.{◌≡◌, ℕ, List, Some, None, is_some, sym, ap, ◌∙◌, subst}
-use Rattle.std.specs.List.{filter, find}
-use Rattle.std.specs.Option.{option_map}
+use Rattle.vc_base.proofs.Common.{◌≡◌, ℕ, List, is_some, Some, None, filter, option_map, find, sym, ap, ◌∙◌, subst}
 use Rattle.vc_dtdisc.specs.Finding.{behind_last, last_of}
 use Rattle.vc_dtdisc.specs.Objects.{is_match}
 use Rattle.vc_paths.specs.Layers.{bytes_there, place_in, Layer}

@@ -1,6 +1,4 @@
-use Rattle.std.proofs.Common.{◌≡◌, None, sym, ap, ◌∙◌, subst}
-use Rattle.std.specs.List.{find}
-use Rattle.std.specs.Option.{option_map}
+use Rattle.vc_base.proofs.Common.{◌≡◌, None, option_map, find, sym, ap, ◌∙◌, subst}
 use Rattle.vc_dtdisc.specs.Finding.{before_first}
 use Rattle.vc_paths.specs.Path.{Answers, is_at, numbers_of, place_of, visible_of}
 use Rattle.vc_paths.specs.Seek.{has_key_in}

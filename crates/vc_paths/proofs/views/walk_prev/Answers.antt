@@ -1,4 +1,4 @@
-use Rattle.std.proofs.Common.{◌≡◌, None, sym, ◌∙◌}
+use Rattle.vc_base.proofs.Common.{◌≡◌, None, sym, ◌∙◌}
 use Rattle.vc_base.proofs.Options.{none_where}
 use Rattle.vc_paths.specs.Links.{below}
 use Rattle.vc_paths.proofs.AloneLemmas.{alone_previous, alone_there}

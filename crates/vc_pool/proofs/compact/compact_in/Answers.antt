@@ -1,9 +1,4 @@
-use Rattle.std.proofs.Common.{◌≡◌, ℕ, List, ◌++◌, false, filter, length, map, get_or, take, drop, ap, sym, subst, ◌∙◌, arith}
-use Rattle.std.proofs.lemmas.List.{length-map, with_items_is}
-use Rattle.std.proofs.lemmas.List.Sums.{length-filter, count_by-le-length}
-use Rattle.vc_model.specs.Compact.{compacted_layout}
-use Rattle.vc_model.specs.Layout.{Layout}
-use Rattle.vc_model.specs.Pool.{cell_for}
+use Rattle.vc_base.proofs.Common.{◌≡◌, ℕ, false, List, ◌++◌, map, length, get_or, take, drop, filter, sym, ap, ◌∙◌, subst, arith, count_by-le-length, length-filter, length-map, with_items_is, compacted_layout, Layout, cell_for}
 use Rattle.vc_seg.specs.Numbered.{AreNumbered}
 use Rattle.vc_pool_cells.specs.Blocks.{layout_by, pair_of}
 use Rattle.vc_pool_cells.specs.Cells.{cells_of}

@@ -1,6 +1,5 @@
-use Rattle.std.proofs.Common.{◌≡◌, ◌*◌, map, ◌∙◌, arith}
-use Rattle.std.proofs.lemmas.List.{length-map}
-use Rattle.vc_model.specs.Pool.{cell_of, free_cells, greatest_free_cell}
+use Rattle.vc_base.proofs.Common.{◌≡◌, ◌*◌, map, ◌∙◌, arith, length-map, cell_of}
+use Rattle.vc_model.specs.Pool.{free_cells, greatest_free_cell}
 use Rattle.vc_layouts.proofs.Tallies.{HasRoom-segments}
 use Rattle.vc_pool_cells.specs.Blocks.{layout_by, pair_of}
 use Rattle.vc_pool_cells.specs.Kept.{segment_of}

@@ -1,6 +1,4 @@
-use Rattle.std.proofs.Common.{◌≡◌, ℕ, ◌++◌, ◌<◌, ◌≤◌, List, Option, map, take, drop, length, refl, ap, sym, subst, ◌∙◌, arith}
-use Rattle.std.proofs.lemmas.List.{with_items_is}
-use Rattle.vc_model.specs.Pool.{cell_for, uncarved}
+use Rattle.vc_base.proofs.Common.{◌≡◌, ℕ, ◌<◌, ◌≤◌, List, ◌++◌, map, length, take, drop, Option, sym, refl, ap, ◌∙◌, subst, arith, with_items_is, cell_for, uncarved}
 use Rattle.vc_pool_cells.specs.Blocks.{carved_by, pair_of}
 use Rattle.vc_pool_cells.specs.Call.{IsReused}
 use Rattle.vc_pool_cells.specs.Kept.{IsPool}

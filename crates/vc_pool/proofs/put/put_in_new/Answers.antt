@@ -1,6 +1,4 @@
-use Rattle.std.proofs.Common.{◌≡◌, ℕ, ◌+◌, ◌%◌, List, length, map, ap, subst, ◌∙◌, arith}
-use Rattle.vc_model.specs.Pool.{cell_for}
-use Rattle.vc_model.specs.Segments.{new_segment, round_up}
+use Rattle.vc_base.proofs.Common.{◌≡◌, ℕ, ◌+◌, ◌%◌, List, map, length, ap, ◌∙◌, subst, arith, cell_for, new_segment, round_up}
 use Rattle.vc_seg.proofs.Rounding.{IsSegmentSize-asked, round_up-mod_unit}
 use Rattle.vc_pool_cells.specs.Blocks.{pair_of}
 use Rattle.vc_pool_cells.specs.Kept.{IsPool}

@@ -1,7 +1,4 @@
-use Rattle.std.proofs.Common.{◌≡◌, ◌-◌, ◌/◌, get_or, ap, sym, ◌∙◌, subst, arith}
-use Rattle.std.specs.List.{HoldsAt}
-use Rattle.vc_model.specs.Addr.{place_of}
-use Rattle.vc_model.specs.Pool.{cell_for, cell_offset}
+use Rattle.vc_base.proofs.Common.{◌≡◌, ◌-◌, ◌/◌, get_or, HoldsAt, sym, ap, ◌∙◌, subst, arith, place_of, cell_for, cell_offset}
 use Rattle.vc_pool_cells.specs.Cells.{HasCell, cells_of}
 use Rattle.vc_pool_cells.specs.Place.{cells_in}
 use Rattle.vc_pool_cells.specs.declared.segment.PoolSegment.{PoolSegment}

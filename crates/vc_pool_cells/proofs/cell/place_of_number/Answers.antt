@@ -1,4 +1,4 @@
-use Rattle.std.proofs.Common.{length, ap, arith}
+use Rattle.vc_base.proofs.Common.{length, ap, arith}
 use Rattle.vc_pool_cells.specs.Cells.{Cells}
 use Rattle.vc_pool_cells.proofs.SegmentList.{cells-none}
 use Rattle.vc_pool_cells.proofs.cell.place_of_number.Goals as goal

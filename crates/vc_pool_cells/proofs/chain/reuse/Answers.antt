@@ -1,5 +1,4 @@
-use Rattle.std.proofs.Common.{ap, ◌∙◌, get_or}
-use Rattle.std.proofs.lemmas.List.{get_or_default}
+use Rattle.vc_base.proofs.Common.{get_or, ap, ◌∙◌, get_or_default}
 use Rattle.vc_pool_cells.specs.Cells.{cells_of, with_zeros_in}
 use Rattle.vc_pool_cells.specs.Place.{cells_in}
 use Rattle.vc_pool_cells.specs.declared.segment.PoolSegment.{PoolSegment}

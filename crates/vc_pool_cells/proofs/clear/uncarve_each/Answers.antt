@@ -1,5 +1,4 @@
-use Rattle.std.proofs.Common.{◌<◌, ap, sym, ◌∙◌, get_or, length, set, arith}
-use Rattle.std.proofs.lemmas.List.{length-map}
+use Rattle.vc_base.proofs.Common.{◌<◌, length, get_or, set, sym, ap, ◌∙◌, arith, length-map}
 use Rattle.std.proofs.lemmas.List.Edits.{map_over_more}
 use Rattle.vc_pool_cells.specs.Cells.{cells_of, uncarved_all}
 use Rattle.vc_pool_cells.specs.Place.{cells_in}

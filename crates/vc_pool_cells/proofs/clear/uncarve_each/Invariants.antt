@@ -1,4 +1,4 @@
-use Rattle.std.proofs.Common.{◌≡◌, ◌++◌, drop, map, take}
+use Rattle.vc_base.proofs.Common.{◌≡◌, ◌++◌, map, take, drop}
 use Rattle.vc_pool_cells.specs.Cells.{uncarved_all}
 use Rattle.vc_pool_cells.specs.Place.{cells_in}
 use Rattle.vc_pool_cells.proofs.clear.uncarve_each.Given as goal

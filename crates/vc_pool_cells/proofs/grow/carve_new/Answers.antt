@@ -1,9 +1,4 @@
-use Rattle.std.proofs.Common.{◌≡◌, ℕ, List, [], ◌∷◌, ◌++◌, drop, length, refl, sym, ◌∙◌, subst, arith}
-use Rattle.std.specs.List.{HoldsAt}
-use Rattle.std.proofs.lemmas.List.{take_at}
-use Rattle.vc_model.specs.Addr.{place_of}
-use Rattle.vc_model.specs.Pool.{cell_for, cell_offset}
-use Rattle.vc_model.specs.Segments.{new_segment}
+use Rattle.vc_base.proofs.Common.{◌≡◌, ℕ, List, [], ◌∷◌, ◌++◌, length, drop, HoldsAt, sym, refl, ◌∙◌, subst, arith, take_at, place_of, cell_for, cell_offset, new_segment}
 use Rattle.vc_pool_cells.specs.Cells.{cells_of}
 use Rattle.vc_pool_cells.specs.Place.{cells_in}
 use Rattle.vc_pool_cells.specs.declared.segment.PoolSegment.{PoolSegment}

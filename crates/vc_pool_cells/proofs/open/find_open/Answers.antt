@@ -1,4 +1,4 @@
-use Rattle.std.proofs.Common.{rules}
+use Rattle.vc_base.proofs.Common.{rules}
 use Rattle.std.proofs.lemmas.List.Sorted.{IsPartitionPoint-from_clause}
 use Rattle.vc_pool_cells.proofs.FullFirst.{full-first, is_full, open-from}
 use Rattle.vc_pool_cells.proofs.open.find_open.Goals as goal

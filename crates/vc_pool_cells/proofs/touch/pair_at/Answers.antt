@@ -1,6 +1,4 @@
-use Rattle.std.proofs.Common.{ℕ, Some, option_map, ap, ◌∙◌, sym, refl}
-use Rattle.vc_model.specs.Layout.{Block}
-use Rattle.vc_model.specs.Pool.{cell_for}
+use Rattle.vc_base.proofs.Common.{ℕ, Some, option_map, sym, refl, ap, ◌∙◌, Block, cell_for}
 use Rattle.vc_pool_cells.specs.Place.{cells_in}
 use Rattle.vc_pool_cells.proofs.BlockPlaces.{block-listed}
 use Rattle.vc_pool_cells.proofs.CellCallsInList.{found-there}

@@ -1,4 +1,4 @@
-use Rattle.std.proofs.Common.{arith}
+use Rattle.vc_base.proofs.Common.{arith}
 use Rattle.vc_pool_cells.specs.Place.{cells_in}
 use Rattle.vc_pool_cells.proofs.BlockPlaces.{block-listed}
 use Rattle.vc_pool_cells.proofs.CellCallsInList.{bytes-there, fits-there, range-there}

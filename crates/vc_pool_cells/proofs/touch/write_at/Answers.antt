@@ -1,5 +1,4 @@
-use Rattle.std.proofs.Common.{get_or, arith}
-use Rattle.std.proofs.lemmas.List.{get_or_default}
+use Rattle.vc_base.proofs.Common.{get_or, arith, get_or_default}
 use Rattle.vc_pool_cells.specs.Place.{cells_in}
 use Rattle.vc_pool_cells.proofs.BlockPlaces.{block-listed}
 use Rattle.vc_pool_cells.proofs.CellCallsInList.{fits-there, range-there, written-there}

@@ -1,4 +1,4 @@
-use Rattle.std.proofs.Common.{◌≡◌, drop, map}
+use Rattle.vc_base.proofs.Common.{◌≡◌, map, drop}
 use Rattle.vc_seg.specs.Segment.{pair_of}
 use Rattle.vc_layouts.specs.Tally.{HasRoom, tallied_all, tally_of}
 use Rattle.vc_region.proofs.segments.tally.Given as goal

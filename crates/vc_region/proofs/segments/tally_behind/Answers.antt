@@ -1,4 +1,4 @@
-use Rattle.std.proofs.Common.{◌≤◌, sym, subst, ◌∙◌}
+use Rattle.vc_base.proofs.Common.{◌≤◌, sym, ◌∙◌, subst}
 use Rattle.vc_layouts.specs.declared.tally.Tally.{Tally}
 use Rattle.vc_region.proofs.Behind.{few-behind, slice-room, slice-tally}
 use Rattle.vc_region.proofs.segments.tally_behind.Goals as goal

@@ -1,4 +1,4 @@
-use Rattle.std.proofs.Common.{◌≡◌, ℕ, ◌<◌, ◌≤◌, get_or}
+use Rattle.vc_base.proofs.Common.{◌≡◌, ℕ, ◌<◌, ◌≤◌, get_or}
 use Rattle.vc_script.proofs.cutter.plain_count.Given as goal
 
 abbrev pub invariant-loop-i : goal.invariant-loop-i

@@ -1,5 +1,4 @@
-use Rattle.std.proofs.Common.{arith}
-use Rattle.std.proofs.lemmas.Grind.{common_steps}
+use Rattle.vc_base.proofs.Common.{arith, common_steps}
 use Rattle.vc_script.proofs.WordSteps.{address_of-colon}
 use Rattle.vc_script.proofs.form.address_of.Goals as goal
 

@@ -1,4 +1,4 @@
-use Rattle.std.proofs.Common.{◌≡◌, ℕ, ◌<◌, false, get_or}
+use Rattle.vc_base.proofs.Common.{◌≡◌, ℕ, ◌<◌, false, get_or}
 use Rattle.vc_script.specs.Forms.{is_colon}
 use Rattle.vc_script.proofs.form.address_of.Given as goal
 

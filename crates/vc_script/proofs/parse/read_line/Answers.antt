@@ -1,4 +1,4 @@
-use Rattle.std.proofs.Common.{◌∷◌, map}
+use Rattle.vc_base.proofs.Common.{◌∷◌, map}
 use Rattle.vc_script.specs.declared.line_fault.LineFault.TheVariants.{LineTooLong, TooManyLines}
 use Rattle.vc_script.proofs.ProperCommands.{IfOk-proper, not_bad}
 use Rattle.vc_script.proofs.parse.read_line.Goals as goal

@@ -1,4 +1,4 @@
-use Rattle.std.proofs.Common.{arith}
+use Rattle.vc_base.proofs.Common.{arith}
 use Rattle.vc_script.specs.Print.{segment_text}
 use Rattle.vc_script.proofs.PrintSteps.{one-more}
 use Rattle.vc_script.proofs.print_lists.put_segments.Goals as goal

@@ -1,5 +1,4 @@
-use Rattle.std.proofs.Common.{◌≡◌, ◌++◌, take}
-use Rattle.std.specs.List.{flat_map}
+use Rattle.vc_base.proofs.Common.{◌≡◌, ◌++◌, take, flat_map}
 use Rattle.vc_script.specs.Print.{segment_text}
 use Rattle.vc_script.proofs.print_lists.put_segments.Given as goal
 

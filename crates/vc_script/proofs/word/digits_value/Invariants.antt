@@ -1,4 +1,4 @@
-use Rattle.std.proofs.Common.{◌≡◌, ◌<◌, ◌^◌, take}
+use Rattle.vc_base.proofs.Common.{◌≡◌, ◌^◌, ◌<◌, take}
 use Rattle.vc_script.specs.Words.{digits_value}
 use Rattle.vc_script.proofs.word.digits_value.Given as goal
 

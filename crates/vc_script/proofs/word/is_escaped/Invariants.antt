@@ -1,4 +1,4 @@
-use Rattle.std.proofs.Common.{◌≡◌, drop}
+use Rattle.vc_base.proofs.Common.{◌≡◌, drop}
 use Rattle.vc_script.specs.Words.{is_escaped}
 use Rattle.vc_script.proofs.word.is_escaped.Given as goal
 

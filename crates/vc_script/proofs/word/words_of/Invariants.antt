@@ -1,4 +1,4 @@
-use Rattle.std.proofs.Common.{◌≡◌, ◌≤◌, map}
+use Rattle.vc_base.proofs.Common.{◌≡◌, ◌≤◌, map}
 use Rattle.vc_script.specs.Words.{words}
 use Rattle.vc_script.proofs.Cuts.{words_from}
 use Rattle.vc_script.proofs.word.words_of.Given as goal

@@ -1,6 +1,4 @@
-use Rattle.std.proofs.Common.{◌≡◌, true, filter, map, refl, sym, ◌∙◌, ap}
-use Rattle.std.proofs.lemmas.List.Elements.{All-map, filter_passes}
-use Rattle.std.proofs.lemmas.List.Kept.{AllPairs-filter}
+use Rattle.vc_base.proofs.Common.{◌≡◌, true, map, filter, sym, refl, ap, ◌∙◌, All-map, filter_passes, AllPairs-filter}
 use Rattle.vc_seg.specs.Back.{is_kept, is_marked, stays_from}
 use Rattle.vc_seg.proofs.Backs.{Differ, Differ-pairs, HasOut-left, TookBack-none, TookBack-more, first-own, last-own, stays_from-first, stays_from-more, stays_from-last}
 use Rattle.vc_seg.proofs.back.give_back.Goals as goal

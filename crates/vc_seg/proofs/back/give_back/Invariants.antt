@@ -1,6 +1,4 @@
-use Rattle.std.proofs.Common.{◌≡◌, filter, map}
-use Rattle.std.specs.Prelude.{vec_capacity}
-use Rattle.vc_model.specs.Discipline.{TookBack}
+use Rattle.vc_base.proofs.Common.{◌≡◌, map, vec_capacity, filter, TookBack}
 use Rattle.vc_seg.specs.Back.{is_marked, stays_from}
 use Rattle.vc_seg.proofs.back.give_back.Given as goal
 

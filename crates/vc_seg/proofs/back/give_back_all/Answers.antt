@@ -1,5 +1,4 @@
-use Rattle.std.proofs.Common.{map, ap, subst, ◌∙◌}
-use Rattle.vc_model.specs.Discipline.{TookBack}
+use Rattle.vc_base.proofs.Common.{map, ap, ◌∙◌, subst, TookBack}
 use Rattle.vc_seg.proofs.Backs.{none-marked}
 use Rattle.vc_seg.proofs.back.give_back_all.Goals as goal
 

@@ -1,5 +1,4 @@
-use Rattle.std.proofs.Common.{◌≡◌, ℕ, true, All, map, filter, ap, subst, sym, ◌∙◌}
-use Rattle.std.specs.Prelude.{not, ◌==◌}
+use Rattle.vc_base.proofs.Common.{◌≡◌, ℕ, true, not, map, ◌==◌, All, filter, sym, ap, ◌∙◌, subst}
 use Rattle.vc_seg.specs.Back.{is_marked, stays_from}
 use Rattle.vc_seg.proofs.Backs.{Contains-ends, Contains-own, is_kept-marked, is_kept-unmarked, none-own, ones-filter, remove-own, without_last-own}
 use Rattle.vc_seg.proofs.back.give_back_unless.Goals as goal

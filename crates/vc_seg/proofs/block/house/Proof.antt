@@ -1,5 +1,5 @@
 -- `house` hands the room to `lodge`. Assumes `Logic`.
-use Rattle.std.proofs.Common.{◌≡◌, ℕ, List, [], ◌∷◌, ◌++◌, refl, sym, ap, ◌∙◌, arith, subst, Vec}
+use Rattle.vc_base.proofs.Common.{◌≡◌, ℕ, List, [], ◌∷◌, ◌++◌, Vec, sym, refl, ap, ◌∙◌, subst, arith}
 use mir.Syntax.{Fn}
 use mir.Val.{Val}
 use base.Logic.{SProp, emp, never, id⊢}

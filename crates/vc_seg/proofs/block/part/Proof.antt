@@ -1,5 +1,5 @@
 -- `part` lets the bytes go: what is left is room. Assumes `Logic`.
-use Rattle.std.proofs.Common.{◌≡◌, ℕ, List, [], ◌∷◌, ◌++◌, length, refl, sym, ap, ◌∙◌, w64}
+use Rattle.vc_base.proofs.Common.{◌≡◌, ℕ, List, [], ◌∷◌, ◌++◌, length, sym, refl, ap, ◌∙◌, w64, IsSegmentSize}
 use seplogic.Ra.Ura.{Ura}
 use mir.Syntax.{Fn}
 use mir.Val.{Val, vint}
@@ -30,7 +30,6 @@ use Rattle.std.specs.contracts.alloc.Global as global
 use Rattle.std.proofs.alloc.Calls.{Goes-blank}
 use Rattle.std_alloc.proofs.Pairs.{pair_of, pair_val}
 use Rattle.std.proofs.raw_atomic.Walks.{proved_at, leaves}
-use Rattle.vc_model.specs.Discipline.{IsSegmentSize}
 use Rattle.vc_seg.specs.Owned.{bytes_type, right}
 use Rattle.vc_seg.specs.contracts.block.Memory as memory
 use Rattle.vc_seg.specs.contracts.block.Lease as lease

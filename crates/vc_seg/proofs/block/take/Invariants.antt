@@ -1,4 +1,4 @@
-use Rattle.std.proofs.Common.{◌≡◌, replicate}
+use Rattle.vc_base.proofs.Common.{◌≡◌, replicate}
 use Rattle.vc_seg.proofs.block.take.Given as goal
 
 -- as many zeros as steps, in the room that was taken

@@ -1,5 +1,5 @@
 -- `vacate` takes the bytes from `dislodge`, and the right from the lease. Assumes `Logic`.
-use Rattle.std.proofs.Common.{◌≡◌, ℕ, ◌<◌, ◌^◌, List, [], ◌∷◌, ◌++◌, length, refl, sym, ◌∙◌, arith, w64}
+use Rattle.vc_base.proofs.Common.{◌≡◌, ℕ, ◌^◌, ◌<◌, List, [], ◌∷◌, ◌++◌, length, sym, refl, ◌∙◌, arith, w64, IsSegmentSize}
 use mir.Syntax.{Fn}
 use mir.Val.{Val, vint}
 use base.Fraction.{full_share}
@@ -26,7 +26,6 @@ use Rattle.std.specs.contracts.impls.GlobalAllocator.TheImpl.{ghosts}
 use Rattle.std.proofs.alloc.Calls.{Goes-blank}
 use Rattle.std.proofs.raw_atomic.Walks.{proved_at, leaves}
 use Rattle.std_alloc.proofs.vec.lodged.Vec+T+Lodged.dislodge.Met as callee
-use Rattle.vc_model.specs.Discipline.{IsSegmentSize}
 use Rattle.vc_seg.specs.Owned.{right}
 use Rattle.vc_seg.specs.contracts.block.Block as block
 use Rattle.vc_seg.proofs.Values.{lease_val, lease_told, none, none_own, none_made}

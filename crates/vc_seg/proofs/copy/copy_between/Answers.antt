@@ -1,4 +1,4 @@
-use Rattle.std.proofs.Common.{arith}
+use Rattle.vc_base.proofs.Common.{arith}
 use Rattle.vc_seg.proofs.Copies.{copied-back, copied-front}
 use Rattle.vc_seg.proofs.copy.copy_between.Goals as goal
 

@@ -1,5 +1,4 @@
-use Rattle.std.proofs.Common.{map, arith}
-use Rattle.std.proofs.lemmas.List.{length-map}
+use Rattle.vc_base.proofs.Common.{map, arith, length-map}
 use Rattle.vc_seg.proofs.Grants.{grant-of}
 use Rattle.vc_seg.proofs.lend.lend_next.Goals as goal
 

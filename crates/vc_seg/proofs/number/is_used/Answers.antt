@@ -1,4 +1,4 @@
-use Rattle.std.proofs.Common.{sym}
+use Rattle.vc_base.proofs.Common.{sym}
 use Rattle.vc_seg.proofs.Unused.{among-found, among-none}
 use Rattle.vc_seg.proofs.number.is_used.Goals as goal
 

@@ -1,5 +1,4 @@
-use Rattle.std.proofs.Common.{◌≡◌, ◌+◌, ◌-◌, length, map}
-use Rattle.vc_model.specs.Segments.{unused_from, lowest_unused, numbers}
+use Rattle.vc_base.proofs.Common.{◌≡◌, ◌+◌, ◌-◌, map, length, lowest_unused, numbers, unused_from}
 use Rattle.vc_seg.proofs.number.lowest_unused.Given as goal
 
 -- the numbers so far are used

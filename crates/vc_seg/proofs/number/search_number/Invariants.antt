@@ -1,4 +1,4 @@
-use Rattle.std.proofs.Common.{◌≢◌, All, take}
+use Rattle.vc_base.proofs.Common.{◌≢◌, take, All}
 use Rattle.vc_seg.proofs.number.search_number.Given as goal
 
 -- none of the segments so far has the number

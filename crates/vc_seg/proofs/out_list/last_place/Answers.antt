@@ -1,5 +1,4 @@
-use Rattle.std.proofs.Common.{◌≡◌, ◌-◌, suc, arith}
-use Rattle.std.proofs.lemmas.Bool.Decides.{nat_tests}
+use Rattle.vc_base.proofs.Common.{◌≡◌, suc, ◌-◌, arith, nat_tests}
 use Rattle.vc_seg.proofs.LastPair.{remove-last_pair}
 use Rattle.vc_seg.proofs.out_list.last_place.Goals as goal
 

@@ -1,6 +1,4 @@
-use Rattle.std.proofs.Common.{◌≡◌, ◌≤◌, length, drop, false}
-use Rattle.std.specs.List.{list_any}
-use Rattle.vc_model.specs.Discipline.{same_pair}
+use Rattle.vc_base.proofs.Common.{◌≡◌, ◌≤◌, false, length, drop, list_any, same_pair}
 use Rattle.vc_seg.proofs.out_list.last_place.Given as goal
 
 -- no pair from `end` on is equal

@@ -1,6 +1,4 @@
-use Rattle.std.proofs.Common.{◌≡◌, drop, map, filter, fold, ltb}
-use Rattle.vc_model.specs.Order.{lesser_by}
-use Rattle.vc_model.specs.Walk.{next_segment}
+use Rattle.vc_base.proofs.Common.{◌≡◌, ltb, map, drop, fold, filter, lesser_by, next_segment}
 use Rattle.vc_seg.proofs.walk.next_segment.Given as goal
 
 -- the least segment so far, taken on over the segments that are left, is the result

@@ -1,5 +1,4 @@
-use Rattle.std.proofs.Common.{◌≡◌, drop, map}
-use Rattle.vc_model.specs.Walk.{segment_at}
+use Rattle.vc_base.proofs.Common.{◌≡◌, map, drop, segment_at}
 use Rattle.vc_seg.proofs.walk.segment_at.Given as goal
 
 -- none of the segments so far has a byte at the place

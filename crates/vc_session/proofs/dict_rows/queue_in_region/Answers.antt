@@ -1,5 +1,4 @@
-use Rattle.std.proofs.Common.{refl}
-use Rattle.std.specs.Fmt.{digits}
+use Rattle.vc_base.proofs.Common.{refl, digits}
 use Rattle.percent_encoding.specs.Percent.{percent_decode}
 use Rattle.vc_session.proofs.dict_rows.queue_in_region.Goals as goal
 

@@ -1,4 +1,4 @@
-use Rattle.std.proofs.Common.{sym, ◌∙◌, refl, rules}
+use Rattle.vc_base.proofs.Common.{sym, refl, ◌∙◌, rules}
 use Rattle.vc_session.proofs.QuietCounts.{can-on}
 use Rattle.vc_session.proofs.SessionLasts.{lasts-same}
 use Rattle.vc_steps.proofs.SettledShelf.{settles-same}

@@ -1,4 +1,4 @@
-use Rattle.std.proofs.Common.{ap, ◌∙◌, ◌++◌, subst, arith, refl, rules, Ok, []}
+use Rattle.vc_base.proofs.Common.{[], ◌++◌, Ok, refl, ap, ◌∙◌, subst, arith, rules}
 use Rattle.vc_model.specs.Stream.{Reads}
 use Rattle.vc_session.proofs.SessionLasts.{lasts-same, lasts-trans}
 use Rattle.vc_session.proofs.Progress.{told-more, told-none}

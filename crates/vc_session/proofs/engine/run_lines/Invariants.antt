@@ -1,4 +1,4 @@
-use Rattle.std.proofs.Common.{◌≡◌, ◌≤◌, ℕ, List, [], length}
+use Rattle.vc_base.proofs.Common.{◌≡◌, ℕ, ◌≤◌, List, [], length}
 use Rattle.vc_steps.specs.Moment.{moment, over_sink}
 use Rattle.vc_session.specs.Replay.{Told}
 use Rattle.vc_session.specs.SoFar.{CanFeed, SoFar, fuel}

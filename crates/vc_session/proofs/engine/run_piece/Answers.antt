@@ -1,6 +1,4 @@
-use Rattle.std.proofs.Common.{◌+◌, sym, ap, ◌∙◌, refl, subst, arith}
-use Rattle.std.specs.Prelude.{IsTrue}
-use Rattle.std.proofs.lemmas.List.{length-drop, take_rest}
+use Rattle.vc_base.proofs.Common.{◌+◌, IsTrue, sym, refl, ap, ◌∙◌, subst, arith, length-drop, take_rest}
 use Rattle.vc_session.proofs.QuietCounts.{can-same}
 use Rattle.vc_session.specs.SoFar.{Ends}
 use Rattle.vc_session.proofs.SessionLasts.{lasts-same, lasts-trans}

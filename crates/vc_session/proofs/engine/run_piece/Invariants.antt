@@ -1,4 +1,4 @@
-use Rattle.std.proofs.Common.{◌+◌, ◌≤◌, Some, length}
+use Rattle.vc_base.proofs.Common.{◌+◌, ◌≤◌, length, Some}
 use Rattle.vc_steps.specs.Moment.{moment, over_sink}
 use Rattle.vc_session.specs.SoFar.{CanFeed, GoesOn, fuel}
 use Rattle.vc_session.specs.Progress.{CanCountOn}

@@ -1,4 +1,4 @@
-use Rattle.std.proofs.Common.{◌≡◌, ◌++◌, length}
+use Rattle.vc_base.proofs.Common.{◌≡◌, ◌++◌, length}
 use Rattle.vc_generate.specs.Generated.{commands_of_seed}
 use Rattle.vc_session.proofs.generated.generate.Given as goal
 

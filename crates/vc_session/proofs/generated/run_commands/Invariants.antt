@@ -1,4 +1,4 @@
-use Rattle.std.proofs.Common.{◌≤◌, true, length}
+use Rattle.vc_base.proofs.Common.{◌≤◌, true, length}
 use Rattle.vc_steps.specs.Homes.{state_over}
 use Rattle.vc_steps.specs.Moment.{moment}
 use Rattle.vc_steps.specs.Steps.{Lasts}

@@ -1,5 +1,4 @@
-use Rattle.std.proofs.Common.{◌≡◌, List, [], ◌∙◌, ap, codes, refl}
-use Rattle.std.specs.Fmt.{digits}
+use Rattle.vc_base.proofs.Common.{◌≡◌, List, [], codes, refl, ap, ◌∙◌, digits}
 use Rattle.vc_generate.specs.Four.{four_on_objects}
 use Rattle.vc_generate.proofs.Four.{generated-objects}
 use Rattle.vc_script.specs.declared.command.Command.{Command}

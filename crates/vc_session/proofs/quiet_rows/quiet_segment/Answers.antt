@@ -1,5 +1,4 @@
-use Rattle.std.proofs.Common.{refl}
-use Rattle.std.specs.Fmt.{digits}
+use Rattle.vc_base.proofs.Common.{refl, digits}
 use Rattle.vc_session.proofs.quiet_rows.quiet_segment.Goals as goal
 
 pub returns-clause-text : goal.returns-clause-text

@@ -1,4 +1,4 @@
-use Rattle.std.proofs.Common.{refl}
+use Rattle.vc_base.proofs.Common.{refl}
 use Rattle.vc_session.proofs.run_rows.names_kept.Goals as goal
 
 pub returns : goal.returns

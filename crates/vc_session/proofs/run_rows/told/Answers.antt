@@ -1,5 +1,4 @@
-use Rattle.std.proofs.Common.{refl}
-use Rattle.std.specs.Fmt.{digits}
+use Rattle.vc_base.proofs.Common.{refl, digits}
 use Rattle.vc_session.proofs.run_rows.told.Goals as goal
 
 pub returns : goal.returns

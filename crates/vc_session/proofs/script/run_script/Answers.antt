@@ -1,4 +1,4 @@
-use Rattle.std.proofs.Common.{refl, arith}
+use Rattle.vc_base.proofs.Common.{refl, arith}
 use Rattle.vc_session.proofs.Behind.{script-told}
 use Rattle.vc_session.proofs.script.run_script.Goals as goal
 

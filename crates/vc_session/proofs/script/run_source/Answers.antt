@@ -1,5 +1,4 @@
-use Rattle.std.proofs.Common.{◌≡◌, refl, ◌∙◌, subst, sym}
-use Rattle.vc_model.specs.Discipline.{Discipline}
+use Rattle.vc_base.proofs.Common.{◌≡◌, sym, refl, ◌∙◌, subst, Discipline}
 use Rattle.vc_steps.specs.Account.{KeepsAccounts}
 use Rattle.vc_steps.specs.Moment.{Moment, moment_at_end, moment, moment_at_rest}
 use Rattle.vc_session.proofs.Rest.{new-moment, new-session, runs-rest}

@@ -1,5 +1,4 @@
-use Rattle.std.proofs.Common.{arith}
-use Rattle.std.proofs.lemmas.List.{length-drop, take_rest}
+use Rattle.vc_base.proofs.Common.{arith, length-drop, take_rest}
 use Rattle.vc_session.proofs.Written.{written-more}
 use Rattle.vc_session.proofs.stream.write_all.Goals as goal
 

@@ -1,5 +1,4 @@
-use Rattle.std.proofs.Common.{◌≡◌, ◌≤◌, ◌-◌, ◌++◌, length, take, Some}
-use Rattle.std.specs.Prelude.{IfSome}
+use Rattle.vc_base.proofs.Common.{◌≡◌, ◌-◌, ◌≤◌, ◌++◌, length, take, IfSome, Some}
 use Rattle.vc_session.proofs.stream.write_all.Given as goal
 
 -- a front of the piece is written

@@ -1,4 +1,4 @@
-use Rattle.std.proofs.Common.{◌∙◌, ap, sym, ◌++◌, arith}
+use Rattle.vc_base.proofs.Common.{◌++◌, sym, ap, ◌∙◌, arith}
 use Rattle.vc_session.specs.Text.{lines_text}
 use Rattle.vc_session.proofs.Behind.{stats-all-entries, stats-push}
 use Rattle.vc_session.proofs.tail.gather_stats.Given as given

@@ -1,4 +1,4 @@
-use Rattle.std.proofs.Common.{◌≡◌, ◌++◌, map, take}
+use Rattle.vc_base.proofs.Common.{◌≡◌, ◌++◌, map, take}
 use Rattle.vc_session.specs.Text.{lines_text}
 use Rattle.vc_session.proofs.Behind.{entry_text}
 use Rattle.vc_session.proofs.tail.gather_stats.Given as goal

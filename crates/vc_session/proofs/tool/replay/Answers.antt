@@ -1,4 +1,4 @@
-use Rattle.std.proofs.Common.{refl}
+use Rattle.vc_base.proofs.Common.{refl}
 use Rattle.vc_session.proofs.Rest.{headline-none}
 use Rattle.vc_session.proofs.tool.replay.Given as given
 use Rattle.vc_session.proofs.tool.replay.Goals as goal

@@ -1,5 +1,4 @@
-use Rattle.std.proofs.Common.{rules, refl, inl, inr, sym}
-use Rattle.std.specs.Prelude.{map, string_bytes}
+use Rattle.vc_base.proofs.Common.{map, string_bytes, sym, refl, inl, inr, rules}
 use Rattle.vc_session.proofs.StatusDue.{completes-memory}
 use Rattle.vc_session.proofs.ToolPromises.{promises-taken}
 use Rattle.vc_session.proofs.Ranges.{in_range}

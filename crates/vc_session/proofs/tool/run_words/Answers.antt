@@ -1,5 +1,4 @@
-use Rattle.std.proofs.Common.{ℕ, rules, refl, inr, sym}
-use Rattle.std.proofs.lemmas.Option.{none-some}
+use Rattle.vc_base.proofs.Common.{ℕ, sym, refl, inr, rules, none-some}
 use Rattle.vc_script.specs.declared.line_fault.LineFault.{LineFault}
 use Rattle.vc_session.proofs.StatusDue.{from-source}
 use Rattle.vc_session.proofs.ToolPromises.{promises-asked}

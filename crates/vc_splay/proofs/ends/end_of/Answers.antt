@@ -1,4 +1,4 @@
-use Rattle.std.proofs.Common.{sym, subst}
+use Rattle.vc_base.proofs.Common.{sym, subst}
 use Rattle.vc_splay.proofs.WalkLemmas.{Descent, descent_end, descent_next, descent_start, part_fits}
 use Rattle.vc_splay.proofs.ends.end_of.Goals as goal
 

@@ -1,4 +1,4 @@
-use Rattle.std.proofs.Common.{◌≡◌, ◌^◌}
+use Rattle.vc_base.proofs.Common.{◌≡◌, ◌^◌}
 use Rattle.vc_splay.specs.Moves.{Context}
 use Rattle.vc_splay.specs.Tree.{Tree, name_of}
 use Rattle.vc_splay.specs.Walks.{IsPart, run}

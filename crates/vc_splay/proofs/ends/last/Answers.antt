@@ -1,6 +1,5 @@
 use Rattle.vc_splay.specs.Moves.{Top}
-use Rattle.std.proofs.Common.{◌∙◌, ap}
-use Rattle.vc_base.specs.Holders.{some_address}
+use Rattle.vc_base.proofs.Common.{ap, ◌∙◌, some_address}
 use Rattle.vc_splay.proofs.NeighbourLemmas.{last_name, no_zero, whole_part, whole_top}
 use Rattle.vc_splay.proofs.ends.last.Goals as goal
 

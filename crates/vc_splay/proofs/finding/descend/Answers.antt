@@ -1,5 +1,4 @@
-use Rattle.std.proofs.Common.{◌≡◌, ◌+◌, Bool, cond, refl, sym, ap, ◌∙◌, subst}
-use Rattle.std.specs.Ordering.{is_eq, is_ge}
+use Rattle.vc_base.proofs.Common.{◌≡◌, ◌+◌, Bool, cond, is_eq, is_ge, sym, refl, ap, ◌∙◌, subst}
 use Rattle.vc_splay.specs.Searches.{is_found}
 use Rattle.vc_splay.proofs.SearchLemmas.{Searching, found_next, search_end, search_next, search_start}
 use Rattle.vc_splay.proofs.WalkLemmas.{names_fit}

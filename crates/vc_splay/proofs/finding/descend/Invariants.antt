@@ -1,5 +1,4 @@
-use Rattle.std.proofs.Common.{◌≡◌, ◌^◌}
-use Rattle.std.specs.Ordering.{is_ge}
+use Rattle.vc_base.proofs.Common.{◌≡◌, ◌^◌, is_ge}
 use Rattle.vc_splay.specs.Searches.{is_found}
 use Rattle.vc_splay.specs.Stands.{IsTree}
 use Rattle.vc_splay.specs.Tree.{Tree}

@@ -1,4 +1,4 @@
-use Rattle.std.proofs.Common.{◌≡◌, cond, ap, ◌∙◌}
+use Rattle.vc_base.proofs.Common.{◌≡◌, cond, ap, ◌∙◌}
 use Rattle.vc_splay.specs.Searches.{is_found}
 use Rattle.vc_splay.proofs.SearchLemmas.{can_reach, first_found, first_none, found_is, least_steps, most_steps, same_tree}
 use Rattle.vc_splay.proofs.finding.find_first.Goals as goal

@@ -1,4 +1,4 @@
-use Rattle.std.proofs.Common.{refl}
+use Rattle.vc_base.proofs.Common.{refl}
 use Rattle.vc_splay.proofs.SearchLemmas.{can_reach, least_none, least_steps, most_steps, same_tree}
 use Rattle.vc_splay.proofs.finding.find_least_at.Goals as goal
 

@@ -1,5 +1,4 @@
-use Rattle.std.proofs.Common.{◌≡◌, ◌+◌, Bool, sym, ap, ◌∙◌, subst}
-use Rattle.std.specs.Ordering.{is_gt}
+use Rattle.vc_base.proofs.Common.{◌≡◌, ◌+◌, Bool, is_gt, sym, ap, ◌∙◌, subst}
 use Rattle.vc_splay.proofs.LeafLemmas.{Seeking, seek_end, seek_next, seek_start}
 use Rattle.vc_splay.proofs.WalkLemmas.{names_fit}
 use Rattle.vc_splay.proofs.linking.descend_behind.Goals as goal

@@ -1,5 +1,4 @@
-use Rattle.std.proofs.Common.{◌^◌}
-use Rattle.std.specs.Ordering.{is_gt}
+use Rattle.vc_base.proofs.Common.{◌^◌, is_gt}
 use Rattle.vc_splay.specs.Stands.{IsTree}
 use Rattle.vc_splay.specs.Tree.{Tree}
 use Rattle.vc_splay.specs.Walks.{run}

@@ -1,4 +1,4 @@
-use Rattle.std.proofs.Common.{subst, sym}
+use Rattle.vc_base.proofs.Common.{sym, subst}
 use Rattle.vc_splay.specs.Tree.{Leaf, Node}
 use Rattle.vc_splay.proofs.LeafLemmas.{Hung, above_held, apart_each, find_of_link, gap_least, gap_most, hung, link_end}
 use Rattle.vc_splay.proofs.linking.link_after_equals.Goals as goal

@@ -1,4 +1,4 @@
-use Rattle.std.proofs.Common.{sym, ◌∙◌, subst}
+use Rattle.vc_base.proofs.Common.{sym, ◌∙◌, subst}
 use Rattle.vc_splay.proofs.WalkLemmas.{Ascent, ascent_end, ascent_next, ascent_start, top_held}
 use Rattle.vc_splay.proofs.neighbours.turn_above.Goals as goal
 

@@ -1,4 +1,4 @@
-use Rattle.std.proofs.Common.{◌^◌}
+use Rattle.vc_base.proofs.Common.{◌^◌}
 use Rattle.vc_splay.specs.Moves.{Context, IsRising, plug}
 use Rattle.vc_splay.specs.Tree.{Tree}
 use Rattle.vc_splay.specs.Walks.{run}

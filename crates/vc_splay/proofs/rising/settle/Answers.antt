@@ -1,4 +1,4 @@
-use Rattle.std.proofs.Common.{refl}
+use Rattle.vc_base.proofs.Common.{refl}
 use Rattle.vc_splay.specs.Store.{with_kid}
 use Rattle.vc_splay.specs.Writes.{store_with_root, with_child, with_parent_of}
 use Rattle.vc_splay.proofs.rising.settle.Goals as goal

@@ -1,4 +1,4 @@
-use Rattle.std.proofs.Common.{◌∙◌, sym}
+use Rattle.vc_base.proofs.Common.{sym, ◌∙◌}
 use Rattle.vc_splay.proofs.CaseLemmas.{Read, double_other, double_same, single, turned}
 use Rattle.vc_splay.proofs.rising.step.Goals as goal
 

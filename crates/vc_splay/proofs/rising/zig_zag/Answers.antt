@@ -1,4 +1,4 @@
-use Rattle.std.proofs.Common.{refl}
+use Rattle.vc_base.proofs.Common.{refl}
 use Rattle.vc_splay.specs.Store.{with_kid}
 use Rattle.vc_splay.specs.Writes.{with_child, with_parent_of, zig_zag}
 use Rattle.vc_splay.proofs.rising.zig_zag.Goals as goal

@@ -1,4 +1,4 @@
-use Rattle.std.proofs.Common.{refl}
+use Rattle.vc_base.proofs.Common.{refl}
 use Rattle.vc_splay.specs.Store.{with_kid}
 use Rattle.vc_splay.specs.Writes.{with_child}
 use Rattle.vc_splay.proofs.sides.hang.Goals as goal

@@ -1,4 +1,4 @@
-use Rattle.std.proofs.Common.{◌∙◌}
+use Rattle.vc_base.proofs.Common.{◌∙◌}
 use Rattle.vc_splay.proofs.StoreLemmas.{kid_of-none, kid_of-some}
 use Rattle.vc_splay.proofs.sides.set_kid_of.Goals as goal
 

@@ -1,4 +1,4 @@
-use Rattle.std.proofs.Common.{◌∙◌}
+use Rattle.vc_base.proofs.Common.{◌∙◌}
 use Rattle.vc_splay.proofs.StoreLemmas.{parent_of-some, parent_of-none}
 use Rattle.vc_splay.proofs.sides.set_up_of.Goals as goal
 

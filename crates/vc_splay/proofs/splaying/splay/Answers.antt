@@ -1,5 +1,4 @@
-use Rattle.std.proofs.Common.{◌≡◌, true, subst}
-use Rattle.vc_base.specs.Holders.{contains}
+use Rattle.vc_base.proofs.Common.{◌≡◌, true, subst, contains}
 use Rattle.vc_splay.specs.Stands.{TreeAfter}
 use Rattle.vc_splay.specs.Tree.{names}
 use Rattle.vc_splay.proofs.SplayLemmas.{IsIn-each, IsIn-held, root_stays, start}

@@ -1,4 +1,4 @@
-use Rattle.std.proofs.Common.{false, ap, ◌∙◌}
+use Rattle.vc_base.proofs.Common.{false, ap, ◌∙◌}
 use Rattle.vc_splay.specs.Stands.{TreeAfter}
 use Rattle.vc_splay.specs.Store.{Store}
 use Rattle.vc_splay.specs.Tree.{names}

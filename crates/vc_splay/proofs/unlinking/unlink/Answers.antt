@@ -1,5 +1,4 @@
-use Rattle.std.proofs.Common.{◌≡◌, subst, sym, true}
-use Rattle.vc_base.specs.Holders.{contains}
+use Rattle.vc_base.proofs.Common.{◌≡◌, true, sym, subst, contains}
 use Rattle.vc_splay.specs.Moves.{Topped}
 use Rattle.vc_splay.specs.Tree.{names}
 use Rattle.vc_splay.proofs.HangLemmas.{IsCut-held}

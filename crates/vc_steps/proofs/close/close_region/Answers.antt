@@ -1,7 +1,4 @@
-use Rattle.std.proofs.Common.{◌-◌, Some, option_map, length, set, sym, ap, ◌∙◌}
-use Rattle.std.proofs.lemmas.List.{map-set}
-use Rattle.vc_model.specs.Discipline.{Discipline}
-use Rattle.vc_model.specs.Numbered.{at_number}
+use Rattle.vc_base.proofs.Common.{◌-◌, length, set, Some, option_map, sym, ap, ◌∙◌, map-set, Discipline, at_number}
 use Rattle.vc_region.specs.Parts.{disc_in, region_of, segments_in}
 use Rattle.vc_steps.specs.Account.{account, account_back, accounts}
 use Rattle.vc_steps.specs.Homes.{slots_on}

@@ -1,5 +1,4 @@
-use Rattle.std.proofs.Common.{map, refl, sym, ap, is_some, ◌∙◌, subst}
-use Rattle.std.proofs.lemmas.Option.{same_Some}
+use Rattle.vc_base.proofs.Common.{map, is_some, sym, refl, ap, ◌∙◌, subst, same_Some}
 use Rattle.vc_dict.specs.Listed.{holders_of}
 use Rattle.vc_dtdisc.specs.Finds.{find_key}
 use Rattle.vc_objects.specs.Parts.{IsWhole}

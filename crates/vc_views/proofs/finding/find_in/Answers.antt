@@ -1,4 +1,4 @@
-use Rattle.std.proofs.Common.{sym, ap, ◌∙◌, subst}
+use Rattle.vc_base.proofs.Common.{sym, ap, ◌∙◌, subst}
 use Rattle.vc_dict.specs.Listed.{holders_of}
 use Rattle.vc_dtdisc.specs.Finds.{find_key}
 use Rattle.vc_best.specs.Cells.{cells_in}

@@ -1,5 +1,4 @@
-use Rattle.std.proofs.Common.{◌≡◌, rules, map, option_map, subst, sym, ap, ◌∙◌}
-use Rattle.vc_base.specs.Address.{number_of}
+use Rattle.vc_base.proofs.Common.{◌≡◌, map, option_map, sym, ap, ◌∙◌, subst, rules, number_of}
 use Rattle.vc_paths.specs.Path.{IsPath}
 use Rattle.vc_views.specs.Dicts.{dict_seen, layered_by, number_at, region_seen, with_current_at}
 use Rattle.vc_views.specs.Promises.{layered_over}

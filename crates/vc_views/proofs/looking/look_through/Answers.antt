@@ -1,6 +1,4 @@
-use Rattle.std.proofs.Common.{rules, map, ◌≡◌, sym, ap, ◌∙◌}
-use Rattle.std.proofs.lemmas.Option.{same_Some}
-use Rattle.vc_model.specs.Numbered.{at_number}
+use Rattle.vc_base.proofs.Common.{◌≡◌, map, sym, ap, ◌∙◌, rules, same_Some, at_number}
 use Rattle.vc_views.specs.Dicts.{layered_by, region_seen}
 use Rattle.vc_views.specs.Promises.{layered_over}
 use Rattle.vc_views.proofs.NumberLayers.{kind-known, kind-there, kind-told}

@@ -1,5 +1,4 @@
-use Rattle.std.proofs.Common.{◌≡◌, ◌<◌, ◌≤◌, ◌∙◌, ⊎_elim, ◌+◌, ℕ, None, length, ap, suc, arith}
-use Rattle.std.proofs.lemmas.Bool.{cases_lt}
+use Rattle.vc_base.proofs.Common.{◌≡◌, ℕ, suc, ◌+◌, ◌<◌, ◌≤◌, length, None, ap, ◌∙◌, ⊎_elim, arith, cases_lt}
 use Rattle.std.proofs.lemmas.Option.{slice_get_past}
 use Rattle.vc_paths.proofs.NewLinkLemmas.{below-past}
 use Rattle.vc_paths.specs.Links.{Links, below, link_at, links_with}

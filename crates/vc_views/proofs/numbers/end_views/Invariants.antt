@@ -1,4 +1,4 @@
-use Rattle.std.proofs.Common.{◌≡◌, ◌<◌, ℕ, None}
+use Rattle.vc_base.proofs.Common.{◌≡◌, ℕ, ◌<◌, None}
 use Rattle.vc_paths.specs.Links.{below}
 use Rattle.vc_views.proofs.numbers.end_views.Given as goal
 

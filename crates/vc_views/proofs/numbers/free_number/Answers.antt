@@ -1,6 +1,4 @@
-use Rattle.std.proofs.Common.{◌≡◌, ◌<◌, ◌≤◌, ◌+◌, ℕ, List, true, length, map, sym, arith, below_more}
-use Rattle.std.proofs.lemmas.List.{length-map}
-use Rattle.vc_base.specs.Holders.{contains}
+use Rattle.vc_base.proofs.Common.{◌≡◌, ℕ, ◌+◌, ◌<◌, ◌≤◌, true, List, map, length, sym, arith, below_more, length-map, contains}
 use Rattle.vc_views.specs.Dicts.{number_in}
 use Rattle.vc_views.proofs.FreeNumbers.{find-nothing, no-fewer}
 use Rattle.vc_views.proofs.NamedEntries.{Entry}

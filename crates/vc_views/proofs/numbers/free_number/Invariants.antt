@@ -1,5 +1,4 @@
-use Rattle.std.proofs.Common.{◌≡◌, ◌<◌, ◌-◌, ℕ, true, length, map}
-use Rattle.vc_base.specs.Holders.{contains}
+use Rattle.vc_base.proofs.Common.{◌≡◌, ℕ, ◌-◌, ◌<◌, true, map, length, contains}
 use Rattle.vc_views.specs.Dicts.{number_in}
 use Rattle.vc_views.proofs.numbers.free_number.Given as goal
 

@@ -1,4 +1,4 @@
-use Rattle.std.proofs.Common.{sym, ap, ◌∙◌}
+use Rattle.vc_base.proofs.Common.{sym, ap, ◌∙◌}
 use Rattle.vc_region.specs.Cells.{cells_in}
 use Rattle.vc_views.specs.Dicts.{cells_held}
 use Rattle.vc_views.proofs.Firsts.{no-other, no-region, region-looked}

@@ -1,6 +1,4 @@
-use Rattle.std.proofs.Common.{◌≡◌, true, false, add-one, arith}
-use Rattle.std.specs.Prelude.{◌==◌}
-use Rattle.std.proofs.lemmas.Bool.Decides.{nat_tests}
+use Rattle.vc_base.proofs.Common.{◌≡◌, true, false, ◌==◌, add-one, arith, nat_tests}
 use Rattle.vc_views.proofs.Firsts.{number-here, number-passed}
 use Rattle.vc_views.proofs.places.index_of.Goals as goal
 

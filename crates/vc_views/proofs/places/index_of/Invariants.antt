@@ -1,5 +1,4 @@
-use Rattle.std.proofs.Common.{◌≡◌, drop}
-use Rattle.std.specs.Prelude.{find}
+use Rattle.vc_base.proofs.Common.{◌≡◌, drop, find}
 use Rattle.vc_views.specs.Dicts.{entry_numbered, is_numbered}
 use Rattle.vc_views.proofs.places.index_of.Given as goal
 

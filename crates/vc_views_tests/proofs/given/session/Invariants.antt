@@ -1,4 +1,4 @@
-use Rattle.vc_model.specs.Discipline.{Discipline}
+use Rattle.vc_base.proofs.Common.{Discipline}
 use Rattle.vc_steps.specs.Homes.{IsSessionOver}
 use Rattle.vc_views_tests.proofs.given.session.Given as goal
 

@@ -1,4 +1,4 @@
-use Rattle.std.proofs.lemmas.Option.{none-some}
+use Rattle.vc_base.proofs.Common.{none-some}
 use Rattle.vc_views_tests.proofs.FourLemmas.{next-placed, placed-there}
 use Rattle.vc_views_tests.proofs.places.behind.Goals as goal
 

@@ -1,4 +1,4 @@
-use Rattle.std.proofs.Common.{◌≡◌, arith}
+use Rattle.vc_base.proofs.Common.{◌≡◌, arith}
 use Rattle.vc_views_tests.proofs.FourLemmas.{in-order-more}
 use Rattle.vc_views_tests.proofs.tests.are_four.Goals as goal
 

@@ -1,4 +1,4 @@
-use Rattle.std.proofs.Common.{map}
+use Rattle.vc_base.proofs.Common.{map}
 use Rattle.vc_views.specs.Dicts.{region_seen}
 use Rattle.vc_views.specs.Promises.{layered_over}
 use Rattle.vc_views_tests.proofs.FourLemmas.{four-paths, four-there, paths-kept}

@@ -1,5 +1,4 @@
-use Rattle.std.proofs.Common.{map}
-use Rattle.vc_model.specs.Discipline.{Discipline}
+use Rattle.vc_base.proofs.Common.{map, Discipline}
 use Rattle.vc_steps.proofs.SessionLayers.{are-over}
 use Rattle.vc_views_tests.proofs.tests.is_session.Given as given
 use Rattle.vc_views_tests.proofs.tests.is_session.Goals as goal

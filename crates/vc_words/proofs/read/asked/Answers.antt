@@ -1,4 +1,4 @@
-use Rattle.std.proofs.Common.{◌∙◌, ap, rules, sym, ◌≡◌, refl, codes, None, Some}
+use Rattle.vc_base.proofs.Common.{◌≡◌, Some, None, codes, sym, refl, ap, ◌∙◌, rules}
 use Rattle.clap.specs.Words.{found_of, rows_of}
 use Rattle.vc_words.specs.Words.{count_of, spelled}
 use Rattle.vc_words.proofs.Matched.{asked_is, read_rows}

@@ -1,4 +1,4 @@
-use Rattle.std.proofs.Common.{◌∙◌, ap, ap₂, true, ◌≡◌}
+use Rattle.vc_base.proofs.Common.{◌≡◌, true, ap, ◌∙◌, ap₂}
 use Rattle.clap.specs.Simple.{app_of, app_of_fields, on_top}
 use Rattle.clap.specs.Words.{with_rule}
 use Rattle.vc_words.specs.Words.{bare_command}

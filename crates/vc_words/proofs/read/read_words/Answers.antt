@@ -1,4 +1,4 @@
-use Rattle.std.proofs.Common.{◌∙◌, ap, sym, ◌≡◌, map, string_bytes, [], refl, true, true≢false}
+use Rattle.vc_base.proofs.Common.{◌≡◌, true, [], map, string_bytes, sym, refl, ap, ◌∙◌, true≢false}
 use Rattle.clap.specs.Words.{fault_of, is_simple, is_simple_and_free, matches_of, takes}
 use Rattle.vc_words.specs.Words.{asked, command}
 use Rattle.vc_words.proofs.Matched.{is_command_free, is_command_simple, refused, taken}

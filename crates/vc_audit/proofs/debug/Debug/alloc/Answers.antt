@@ -1,5 +1,4 @@
-use Rattle.std.proofs.Common.{ℕ, arith}
-use Rattle.vc_model.specs.Layout.{Layout}
+use Rattle.vc_base.proofs.Common.{ℕ, arith, Layout}
 use Rattle.vc_best.specs.Parts.{layout_of}
 use Rattle.vc_audit.specs.Debug.{Debug, with_guards}
 use Rattle.vc_audit.proofs.DebugPuts.{IsGuarded, below-guarded, fresh-guarded, guards-guarded, live-found, others-guarded, put-by, there-guarded, user-guarded}

@@ -1,6 +1,4 @@
-use Rattle.std.proofs.Common.{sym, ◌∙◌, subst, arith}
-use Rattle.vc_model.specs.Addr.{place_of}
-use Rattle.vc_model.specs.Touch.{HasBlock}
+use Rattle.vc_base.proofs.Common.{sym, ◌∙◌, subst, arith, place_of, HasBlock}
 use Rattle.vc_best.specs.Parts.{layout_of}
 use Rattle.vc_audit.proofs.DebugBlocks.{below-end, live-up}
 use Rattle.vc_audit.proofs.DebugFills.{guards-size}

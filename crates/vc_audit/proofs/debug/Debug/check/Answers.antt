@@ -1,9 +1,4 @@
-use Rattle.std.proofs.Common.{ℕ, Option, None, Some, inr, rules, sym, ap, ◌∙◌, subst}
-use Rattle.std.specs.Prelude.{ℤ}
-use Rattle.std.specs.Int.{w64}
-use Rattle.std.proofs.lemmas.Int.{to_z-of_z}
-use Rattle.std.proofs.Common.{SFits}
-use Rattle.vc_model.specs.Touch.{HasBlock}
+use Rattle.vc_base.proofs.Common.{ℕ, ℤ, Some, None, Option, sym, ap, ◌∙◌, subst, inr, to_z-of_z, w64, SFits, rules, HasBlock}
 use Rattle.vc_best.specs.Parts.{layout_of}
 use Rattle.vc_audit.specs.DebugParts.{debug_of}
 use Rattle.vc_audit.proofs.DebugBlocks.{below-end, live-up}

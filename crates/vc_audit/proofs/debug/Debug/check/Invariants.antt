@@ -1,5 +1,4 @@
-use Rattle.std.proofs.Common.{◌≡◌, ◌⊎◌, length}
-use Rattle.vc_model.specs.Touch.{HasBlock}
+use Rattle.vc_base.proofs.Common.{◌≡◌, ◌⊎◌, length, HasBlock}
 use Rattle.vc_best.specs.Parts.{layout_of}
 use Rattle.vc_audit.specs.Debug.{next_damaged}
 use Rattle.vc_audit.specs.DebugParts.{debug_of}

@@ -1,6 +1,4 @@
-use Rattle.std.proofs.Common.{arith}
-use Rattle.vc_model.specs.Addr.{place_of}
-use Rattle.vc_model.specs.Touch.{find_block}
+use Rattle.vc_base.proofs.Common.{arith, place_of, find_block}
 use Rattle.vc_best.specs.Parts.{layout_of}
 use Rattle.vc_audit.proofs.DebugFills.{guards-size}
 use Rattle.vc_audit.proofs.DebugChecks.{back-range, front-range, part-length}

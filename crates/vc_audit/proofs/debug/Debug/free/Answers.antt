@@ -1,9 +1,4 @@
-use Rattle.std.proofs.Common.{ℕ, List, sym, ap, ◌∙◌, subst, arith}
-use Rattle.std.proofs.lemmas.List.{length-map}
-use Rattle.vc_model.specs.Addr.{place_of}
-use Rattle.vc_model.specs.Best.{without_block_at}
-use Rattle.vc_model.specs.Layout.{Layout}
-use Rattle.vc_model.specs.Touch.{HasBlock}
+use Rattle.vc_base.proofs.Common.{ℕ, List, sym, ap, ◌∙◌, subst, arith, length-map, place_of, without_block_at, Layout, HasBlock}
 use Rattle.vc_model.proofs.Owned.{address-place_of}
 use Rattle.vc_best.specs.Parts.{layout_of}
 use Rattle.vc_audit.specs.DebugMark.{without_mark}

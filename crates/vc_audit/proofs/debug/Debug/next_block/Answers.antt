@@ -1,7 +1,4 @@
-use Rattle.std.proofs.Common.{◌+◌, Some, option_map, sym, ap, ◌∙◌, subst}
-use Rattle.vc_model.specs.Layout.{address_of}
-use Rattle.vc_model.specs.Touch.{HasBlock}
-use Rattle.vc_model.specs.Walk.{next_block}
+use Rattle.vc_base.proofs.Common.{◌+◌, Some, option_map, sym, ap, ◌∙◌, subst, address_of, HasBlock, next_block}
 use Rattle.vc_best.specs.Parts.{layout_of}
 use Rattle.vc_audit.proofs.DebugBlocks.{below-end, live-up}
 use Rattle.vc_audit.proofs.DebugWalks.{address-told, from-before, next-user, own-best}

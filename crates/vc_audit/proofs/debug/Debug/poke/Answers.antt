@@ -1,10 +1,4 @@
-use Rattle.std.proofs.Common.{◌≡◌, ℕ, [], ◌∷◌, sym, ap, ◌∙◌, subst, replicate}
-use Rattle.std.specs.Prelude.{ℤ, pos, ◌<ℤ◌}
-use Rattle.std.specs.Int.{w64}
-use Rattle.std.proofs.lemmas.Int.{to_z-of_z}
-use Rattle.vc_model.specs.Addr.{place_of}
-use Rattle.vc_model.specs.Layout.{Layout}
-use Rattle.vc_model.specs.Touch.{HasRange, with_bytes_at}
+use Rattle.vc_base.proofs.Common.{◌≡◌, ℕ, [], ◌∷◌, replicate, ℤ, pos, ◌<ℤ◌, sym, ap, ◌∙◌, subst, to_z-of_z, w64, place_of, Layout, HasRange, with_bytes_at}
 use Rattle.vc_best.specs.Parts.{layout_of}
 use Rattle.vc_audit.specs.Debug.{Debug, guarded_offset}
 use Rattle.vc_audit.proofs.DebugBlocks.{UserAt, guarded-at, live-down, others-at}

@@ -1,6 +1,4 @@
-use Rattle.std.proofs.Common.{drop, option_map, take, ap, ◌∙◌, arith}
-use Rattle.vc_model.specs.Addr.{place_of}
-use Rattle.vc_model.specs.Touch.{find_block}
+use Rattle.vc_base.proofs.Common.{take, drop, option_map, ap, ◌∙◌, arith, place_of, find_block}
 use Rattle.vc_best.specs.Parts.{layout_of}
 use Rattle.vc_audit.proofs.DebugBlocks.{UserAt, live-down}
 use Rattle.vc_audit.proofs.DebugFills.{read-user}

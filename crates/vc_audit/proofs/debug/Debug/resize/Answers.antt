@@ -1,8 +1,4 @@
-use Rattle.std.proofs.Common.{◌≡◌, ℕ, ◌+◌, Option, IfSome, false, refl, sym, ap, ◌∙◌, subst, arith}
-use Rattle.std.specs.Prelude.{min, unwrap_or}
-use Rattle.vc_model.specs.Addr.{place_of}
-use Rattle.vc_model.specs.Layout.{Block, Layout}
-use Rattle.vc_model.specs.Touch.{find_block}
+use Rattle.vc_base.proofs.Common.{◌≡◌, ℕ, ◌+◌, min, false, IfSome, Option, unwrap_or, sym, refl, ap, ◌∙◌, subst, arith, place_of, Block, Layout, find_block}
 use Rattle.vc_best.specs.Parts.{layout_of}
 use Rattle.vc_audit.specs.Debug.{Debug, stays_debug}
 use Rattle.vc_audit.proofs.DebugBlocks.{UserAt, found-at, live-down}

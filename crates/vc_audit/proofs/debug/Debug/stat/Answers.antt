@@ -1,4 +1,4 @@
-use Rattle.std.proofs.Common.{◌-◌, ◌*◌, ◌≤◌, sym, ap, ◌∙◌, subst}
+use Rattle.vc_base.proofs.Common.{◌-◌, ◌*◌, ◌≤◌, sym, ap, ◌∙◌, subst}
 use Rattle.vc_seg.specs.declared.stat.Stat.{Stat}
 use Rattle.vc_audit.specs.DebugParts.{debug_of}
 use Rattle.vc_audit.proofs.DebugSizes.{room-user, stat-user}

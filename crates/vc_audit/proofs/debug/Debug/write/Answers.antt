@@ -1,7 +1,4 @@
-use Rattle.std.proofs.Common.{ℕ, ◌+◌, length, sym, ap, ◌∙◌, arith}
-use Rattle.vc_model.specs.Addr.{place_of}
-use Rattle.vc_model.specs.Layout.{Layout}
-use Rattle.vc_model.specs.Touch.{with_bytes_at}
+use Rattle.vc_base.proofs.Common.{ℕ, ◌+◌, length, sym, ap, ◌∙◌, arith, place_of, Layout, with_bytes_at}
 use Rattle.vc_best.specs.Parts.{layout_of}
 use Rattle.vc_audit.specs.Debug.{Debug}
 use Rattle.vc_audit.proofs.DebugBlocks.{UserAt, guarded-at, live-down, others-at}

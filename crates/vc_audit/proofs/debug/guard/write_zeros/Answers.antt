@@ -1,6 +1,4 @@
-use Rattle.std.proofs.Common.{ℕ, ◌+◌, ◌-◌, replicate, arith, subst, sym}
-use Rattle.vc_model.specs.Addr.{place_of}
-use Rattle.vc_model.specs.Layout.{Layout}
+use Rattle.vc_base.proofs.Common.{ℕ, ◌+◌, ◌-◌, replicate, sym, subst, arith, place_of, Layout}
 use Rattle.vc_seg.specs.OneBlock.{IsInBlock}
 use Rattle.vc_best.specs.Parts.{layout_of}
 use Rattle.vc_audit.proofs.DebugFills.{live-written, range-written}

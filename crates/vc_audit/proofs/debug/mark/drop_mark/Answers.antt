@@ -1,5 +1,4 @@
-use Rattle.std.proofs.Common.{rules}
-use Rattle.std.specs.Prelude.{not}
+use Rattle.vc_base.proofs.Common.{not, rules}
 use Rattle.std.proofs.lemmas.Fn.{filter_same}
 use Rattle.vc_audit.specs.DebugMark.{is_mark}
 use Rattle.vc_audit.proofs.debug.mark.drop_mark.Goals as goal

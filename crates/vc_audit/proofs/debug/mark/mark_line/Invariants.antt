@@ -1,4 +1,4 @@
-use Rattle.std.proofs.Common.{◌≡◌, drop}
+use Rattle.vc_base.proofs.Common.{◌≡◌, drop}
 use Rattle.vc_audit.specs.DebugMark.{line_at}
 use Rattle.vc_audit.proofs.debug.mark.mark_line.Given as goal
 

@@ -1,4 +1,4 @@
-use Rattle.std.proofs.Common.{◌≡◌, drop, map, take}
+use Rattle.vc_base.proofs.Common.{◌≡◌, map, take, drop}
 use Rattle.vc_audit.specs.DebugMark.{moved_mark}
 use Rattle.vc_audit.proofs.debug.mark.move_mark.Given as goal
 

@@ -1,5 +1,4 @@
-use Rattle.std.proofs.Common.{◌≡◌, ◌+◌, Some, cond, eqb, sym, ap, ◌∙◌, subst, arith}
-use Rattle.std.specs.Str.{bytes_eq}
+use Rattle.vc_base.proofs.Common.{◌≡◌, ◌+◌, cond, eqb, Some, bytes_eq, sym, ap, ◌∙◌, subst, arith}
 use Rattle.indexmap.specs.IndexMap.{insert_entry}
 use Rattle.vc_seg.specs.OneBlock.{IsBlockPut}
 use Rattle.vc_best.specs.Parts.{layout_of}

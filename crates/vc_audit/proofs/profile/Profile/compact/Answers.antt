@@ -1,6 +1,4 @@
-use Rattle.std.proofs.Common.{ℕ, sym, ap, ◌∙◌, subst}
-use Rattle.vc_model.specs.Compact.{compact_count}
-use Rattle.vc_model.specs.Layout.{Layout}
+use Rattle.vc_base.proofs.Common.{ℕ, sym, ap, ◌∙◌, subst, compact_count, Layout}
 use Rattle.vc_best.specs.Parts.{layout_of}
 use Rattle.vc_audit.specs.ProfileSums.{IsCounted}
 use Rattle.vc_audit.proofs.ProfileBare.{bare-layout}

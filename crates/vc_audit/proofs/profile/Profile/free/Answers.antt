@@ -1,8 +1,5 @@
-use Rattle.std.proofs.Common.{◌-◌, is_some, inr, sym, ap, ◌∙◌, subst}
-use Rattle.std.proofs.lemmas.Bool.{false≢true}
-use Rattle.std.specs.Str.{bytes_eq}
+use Rattle.vc_base.proofs.Common.{◌-◌, is_some, bytes_eq, sym, ap, ◌∙◌, subst, inr, false≢true, HasBlock}
 use Rattle.indexmap.specs.IndexMap.{insert_entry}
-use Rattle.vc_model.specs.Touch.{HasBlock}
 use Rattle.vc_seg.specs.OneBlock.{IsBlockFreed}
 use Rattle.vc_best.specs.Parts.{layout_of}
 use Rattle.vc_audit.specs.ProfileSums.{IsCounted}

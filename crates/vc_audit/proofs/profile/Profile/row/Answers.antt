@@ -1,4 +1,4 @@
-use Rattle.std.proofs.Common.{None, Some, map, sym}
+use Rattle.vc_base.proofs.Common.{map, Some, None, sym}
 use Rattle.vc_best.specs.Parts.{layout_of}
 use Rattle.vc_audit.specs.ProfileSums.{with_its_site}
 use Rattle.vc_audit.proofs.ProfileClear.{row-here}

@@ -1,5 +1,4 @@
-use Rattle.std.proofs.Common.{ℕ, sym, ap, ◌∙◌}
-use Rattle.vc_model.specs.Layout.{Layout}
+use Rattle.vc_base.proofs.Common.{ℕ, sym, ap, ◌∙◌, Layout}
 use Rattle.vc_seg.specs.Stat.{layout_stat}
 use Rattle.vc_best.specs.Parts.{layout_of}
 use Rattle.vc_audit.proofs.ProfileBare.{bare-layout}

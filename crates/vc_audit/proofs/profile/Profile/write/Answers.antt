@@ -1,6 +1,4 @@
-use Rattle.std.proofs.Common.{◌≡◌, ℕ, length, sym, ap, ◌∙◌, subst}
-use Rattle.vc_model.specs.Addr.{place_of}
-use Rattle.vc_model.specs.Layout.{Layout, without_block}
+use Rattle.vc_base.proofs.Common.{◌≡◌, ℕ, length, sym, ap, ◌∙◌, subst, place_of, Layout, without_block}
 use Rattle.vc_seg.specs.OneBlock.{IsInBlock}
 use Rattle.vc_best.specs.Parts.{layout_of}
 use Rattle.vc_audit.specs.ProfileSums.{IsCounted}

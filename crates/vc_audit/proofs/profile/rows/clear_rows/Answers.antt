@@ -1,4 +1,4 @@
-use Rattle.std.proofs.Common.{ap, ◌∙◌, arith}
+use Rattle.vc_base.proofs.Common.{ap, ◌∙◌, arith}
 use Rattle.vc_audit.specs.ProfileSums.{clear_at}
 use Rattle.vc_audit.proofs.ProfileClear.{clear-all, clear-next}
 use Rattle.vc_audit.proofs.profile.rows.clear_rows.Goals as goal

@@ -1,4 +1,4 @@
-use Rattle.std.proofs.Common.{◌≡◌, length}
+use Rattle.vc_base.proofs.Common.{◌≡◌, length}
 use Rattle.vc_audit.proofs.ProfileClear.{clear_first}
 use Rattle.vc_audit.proofs.profile.rows.clear_rows.Given as goal
 

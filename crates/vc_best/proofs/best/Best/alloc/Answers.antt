@@ -1,9 +1,4 @@
-use Rattle.std.proofs.Common.{◌≡◌, ◌≤◌, ◌+◌, length, arith, ℕ, [], ap, sym, subst, ◌∙◌}
-use Rattle.std.specs.Prelude.{Err, Ok, option_map}
-use Rattle.vc_model.specs.Addr.{place_of}
-use Rattle.vc_model.specs.Best.{place_in}
-use Rattle.vc_model.specs.Layout.{Layout}
-use Rattle.vc_model.specs.Segments.{span}
+use Rattle.vc_base.proofs.Common.{◌≡◌, ℕ, ◌+◌, ◌≤◌, [], length, Ok, Err, option_map, sym, ap, ◌∙◌, subst, arith, place_of, place_in, Layout, span}
 use Rattle.vc_extent.specs.Tiling.{tiling}
 use Rattle.vc_gaps.proofs.GapTrees.{gap_tree-of}
 use Rattle.vc_gaps.specs.GapTree.{HasGaps}

@@ -1,6 +1,4 @@
-use Rattle.std.proofs.Common.{ℕ, ◌≤◌, length, ap, sym, subst}
-use Rattle.std.proofs.lemmas.List.Elements.{All-nil}
-use Rattle.vc_model.specs.Layout.{Block, Layout}
+use Rattle.vc_base.proofs.Common.{ℕ, ◌≤◌, length, sym, ap, subst, All-nil, Block, Layout}
 use Rattle.vc_best.proofs.Held.{AreMost, held}
 use Rattle.vc_best.proofs.best.Best.clear.Goals as goal
 

@@ -1,5 +1,4 @@
-use Rattle.std.proofs.Common.{ℕ, length, ap, sym, subst, ◌∙◌}
-use Rattle.vc_model.specs.Layout.{Layout}
+use Rattle.vc_base.proofs.Common.{ℕ, length, sym, ap, ◌∙◌, subst, Layout}
 use Rattle.vc_best.specs.Blocks.{layout_by}
 use Rattle.vc_best.proofs.Held.{AreMost, held, kept-of, most-of}
 use Rattle.vc_best.proofs.best.Best.compact.Goals as goal

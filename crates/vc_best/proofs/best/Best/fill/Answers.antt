@@ -1,4 +1,4 @@
-use Rattle.std.proofs.Common.{replicate}
+use Rattle.vc_base.proofs.Common.{replicate}
 use Rattle.vc_best.proofs.Found.{busy-of}
 use Rattle.vc_best.proofs.Held.{range-within}
 use Rattle.vc_best.proofs.Writes.{written, written-counted, written-gaps, written-held}

@@ -1,4 +1,4 @@
-use Rattle.std.proofs.Common.{◌≡◌, ℕ, ◌+◌, ◌-◌, ◌≤◌, rules, Some, List, length, take, drop, option_map, ap, sym, ◌∙◌, arith}
+use Rattle.vc_base.proofs.Common.{◌≡◌, ℕ, ◌+◌, ◌-◌, ◌≤◌, List, length, take, drop, Some, option_map, sym, ap, ◌∙◌, arith, rules}
 use Rattle.vc_best.specs.Blocks.{layout_by}
 use Rattle.vc_best.proofs.Found.{busy-of}
 use Rattle.vc_best.proofs.Held.{block-is, most-of, range-within, size-most}

@@ -1,8 +1,4 @@
-use Rattle.std.proofs.Common.{◌≡◌, sym, arith, ℕ, option_map, Some, false, refl, ap, ◌∙◌}
-use Rattle.vc_model.specs.Addr.{place_of}
-use Rattle.vc_model.specs.Layout.{Layout, without_block}
-use Rattle.vc_model.specs.Resize.{can_stay}
-use Rattle.vc_model.specs.Touch.{HasBlock, find_block}
+use Rattle.vc_base.proofs.Common.{◌≡◌, ℕ, false, Some, option_map, sym, refl, ap, ◌∙◌, arith, place_of, Layout, without_block, can_stay, HasBlock, find_block}
 use Rattle.vc_extent.specs.Tiling.{tiling}
 use Rattle.vc_best.specs.Blocks.{layout_by}
 use Rattle.vc_best.proofs.Asking.{Served-later, Served-unasked}

@@ -1,4 +1,4 @@
-use Rattle.std.proofs.Common.{Some, option_map, ap, sym, ◌∙◌}
+use Rattle.vc_base.proofs.Common.{Some, option_map, sym, ap, ◌∙◌}
 use Rattle.vc_best.proofs.Found.{busy-of}
 use Rattle.vc_best.proofs.Held.{block-is}
 use Rattle.vc_best.proofs.best.Best.tag.Goals as goal

@@ -1,6 +1,4 @@
-use Rattle.std.proofs.Common.{◌-◌, take, drop, ap, ◌∙◌, arith}
-use Rattle.std.proofs.lemmas.List.{take_rest}
-use Rattle.vc_base.specs.Cells.{bytes_at}
+use Rattle.vc_base.proofs.Common.{◌-◌, take, drop, ap, ◌∙◌, arith, take_rest, bytes_at}
 use Rattle.vc_best.specs.Cells.{cells_in}
 use Rattle.vc_best.specs.Parts.{layout_of}
 use Rattle.vc_best.proofs.CellBytes.{cell-block, cell-range, cell-read, cell-size}

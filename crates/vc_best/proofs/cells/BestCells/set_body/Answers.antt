@@ -1,5 +1,4 @@
-use Rattle.std.proofs.Common.{ℕ, length, ap, ◌∙◌, arith}
-use Rattle.vc_model.specs.Layout.{Layout}
+use Rattle.vc_base.proofs.Common.{ℕ, length, ap, ◌∙◌, arith, Layout}
 use Rattle.vc_best.specs.Cells.{cells_of, zeroed_layout}
 use Rattle.vc_best.specs.Parts.{blocks_in, layout_of}
 use Rattle.vc_best.proofs.CellBytes.{cell, cell-range, cells-written, layout-written}

@@ -1,4 +1,4 @@
-use Rattle.std.proofs.Common.{sym}
+use Rattle.vc_base.proofs.Common.{sym}
 use Rattle.vc_commands.proofs.dict.looking.found.Goals as goal
 
 pub returns-in-Next-clause-found : goal.returns-in-Next-clause-found

@@ -1,7 +1,4 @@
-use Rattle.std.proofs.Common.{◌≡◌, ap, subst, sym, ◌∙◌}
-use Rattle.std.specs.Option.{option_map}
-use Rattle.std.specs.Prelude.{IfOk, ◌==◌}
-use Rattle.vc_base.specs.Address.{number_of}
+use Rattle.vc_base.proofs.Common.{◌≡◌, IfOk, ◌==◌, option_map, sym, ap, ◌∙◌, subst, number_of}
 use Rattle.vc_paths.specs.Path.{visible_of}
 use Rattle.vc_commands.specs.Looking.{found_reply, own_place}
 use Rattle.vc_commands.proofs.Walking.{found-asked, meant-found, meant-kept, reply-found}

@@ -1,5 +1,4 @@
-use Rattle.std.proofs.Common.{◌≡◌, ℕ, [], ◌∷◌, Some, ap, arith, length, length-append, subst, sym}
-use Rattle.std.specs.Prelude.{IsSome}
+use Rattle.vc_base.proofs.Common.{◌≡◌, ℕ, [], ◌∷◌, length, IsSome, Some, sym, ap, subst, arith, length-append}
 use Rattle.vc_dtdisc.specs.Finding.{behind_last}
 use Rattle.vc_paths.specs.Layers.{Layer, bytes_there}
 use Rattle.vc_paths.specs.Path.{Answers, is_at, numbers_of}

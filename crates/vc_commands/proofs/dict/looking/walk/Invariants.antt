@@ -1,4 +1,4 @@
-use Rattle.std.proofs.Common.{◌-◌, length}
+use Rattle.vc_base.proofs.Common.{◌-◌, length}
 use Rattle.vc_paths.specs.Layers.{Same}
 use Rattle.vc_paths.specs.Path.{visible_of}
 use Rattle.vc_commands.proofs.Walking.{Walked}

@@ -1,4 +1,4 @@
-use Rattle.std.proofs.Common.{sym}
+use Rattle.vc_base.proofs.Common.{sym}
 use Rattle.vc_base.specs.declared.fault.OutOfMemory.{OutOfMemory}
 use Rattle.vc_best.specs.Cells.{rest_in}
 use Rattle.vc_best.specs.Parts.{disc_in}

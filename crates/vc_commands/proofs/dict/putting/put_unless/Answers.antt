@@ -1,6 +1,4 @@
-use Rattle.std.proofs.Common.{◌≡◌, None, false, sym, ap, ◌∙◌, subst, rules, arith}
-use Rattle.std.proofs.lemmas.Bool.{false≢true}
-use Rattle.std.proofs.lemmas.Grind.{common_steps}
+use Rattle.vc_base.proofs.Common.{◌≡◌, false, None, sym, ap, ◌∙◌, subst, arith, rules, false≢true, common_steps}
 use Rattle.vc_objects.proofs.Leaving.{keeps-out}
 use Rattle.vc_objects.specs.Insert.{slots_wanted}
 use Rattle.vc_commands.specs.DictCommands.{put_object, put_unless, standing}

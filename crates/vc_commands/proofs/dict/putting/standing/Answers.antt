@@ -1,5 +1,4 @@
-use Rattle.std.proofs.Common.{◌≡◌, true, sym}
-use Rattle.vc_base.specs.Methods.{is_set}
+use Rattle.vc_base.proofs.Common.{◌≡◌, true, sym, is_set}
 use Rattle.vc_dtdisc.specs.Objects.{bytes_of, first_with}
 use Rattle.vc_objects.specs.Parts.{dictionary_in}
 use Rattle.vc_commands.proofs.FoundObjects.{there-looked, with-each, within-looked}

@@ -1,4 +1,4 @@
-use Rattle.std.proofs.Common.{[], None, refl, sym, ap}
+use Rattle.vc_base.proofs.Common.{[], None, sym, refl, ap}
 use Rattle.vc_model.proofs.Keeping.{NoneRefused-equal, NoneRefused-same}
 use Rattle.vc_best.specs.Cells.{cells_in, rest_in}
 use Rattle.vc_best.specs.Parts.{disc_in}

@@ -1,4 +1,4 @@
-use Rattle.std.proofs.Common.{Some, None, if◌then◌else◌, ap, sym, ◌∙◌}
+use Rattle.vc_base.proofs.Common.{if◌then◌else◌, Some, None, sym, ap, ◌∙◌}
 use Rattle.vc_best.specs.Cells.{rest_in}
 use Rattle.vc_objects.specs.Parts.{dictionary_in}
 use Rattle.vc_commands.specs.DictRun.{seat_in}

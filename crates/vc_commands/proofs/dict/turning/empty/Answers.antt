@@ -1,4 +1,4 @@
-use Rattle.std.proofs.Common.{ap, refl, sym}
+use Rattle.vc_base.proofs.Common.{sym, refl, ap}
 use Rattle.vc_script.specs.declared.reply.Reply.TheVariants.{Emptied}
 use Rattle.vc_commands.proofs.dict.turning.empty.Goals as goal
 

@@ -1,4 +1,4 @@
-use Rattle.std.proofs.Common.{false}
+use Rattle.vc_base.proofs.Common.{false}
 use Rattle.vc_best.specs.Cells.{rest_in}
 use Rattle.vc_objects.specs.Parts.{dictionary_in}
 use Rattle.vc_objects.specs.Promises.{turn_in}

@@ -1,5 +1,4 @@
-use Rattle.std.proofs.Common.{◌≡◌, ◌⊎◌, ◌++◌, length}
-use Rattle.vc_model.specs.Touch.{HasBlock}
+use Rattle.vc_base.proofs.Common.{◌≡◌, ◌⊎◌, ◌++◌, length, HasBlock}
 use Rattle.vc_region.specs.Parts.{blocks_in, region_of}
 use Rattle.vc_commands.proofs.Auditing.{damaged_behind, found_items}
 use Rattle.vc_commands.proofs.region.audit.damage_items.Given as goal

@@ -1,4 +1,4 @@
-use Rattle.std.proofs.Common.{◌+◌, ◌++◌, [], ◌∷◌, drop, length, sym, ap, ◌∙◌, append_assoc, append-nil, arith}
+use Rattle.vc_base.proofs.Common.{◌+◌, [], ◌∷◌, ◌++◌, length, drop, sym, ap, ◌∙◌, append_assoc, append-nil, arith}
 use Rattle.vc_region.specs.Parts.{region_of}
 use Rattle.vc_region.specs.Region.{rows_in}
 use Rattle.vc_commands.proofs.Auditing.{row-end, row-is, row-next}

@@ -1,4 +1,4 @@
-use Rattle.std.proofs.Common.{◌≡◌, ◌++◌, drop, length}
+use Rattle.vc_base.proofs.Common.{◌≡◌, ◌++◌, length, drop}
 use Rattle.vc_region.specs.Parts.{region_of}
 use Rattle.vc_region.specs.Region.{rows_in}
 use Rattle.vc_commands.proofs.region.audit.row_items.Given as goal

@@ -1,6 +1,4 @@
-use Rattle.std.proofs.Common.{ℕ, List, ap, ◌∙◌, subst}
-use Rattle.std.specs.Prelude.{◌&&◌}
-use Rattle.vc_base.specs.Methods.{has_table}
+use Rattle.vc_base.proofs.Common.{ℕ, ◌&&◌, List, ap, ◌∙◌, subst, has_table}
 use Rattle.vc_dict.specs.Orders.{ordered_by}
 use Rattle.vc_dict.specs.Passes.{Ordered}
 use Rattle.vc_dict.specs.Stands.{Stands, table_in}

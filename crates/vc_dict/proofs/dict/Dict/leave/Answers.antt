@@ -1,5 +1,4 @@
-use Rattle.std.proofs.Common.{◌≢◌, refl, sym, ap, ◌∙◌, arith}
-use Rattle.vc_base.specs.Holders.{next_in}
+use Rattle.vc_base.proofs.Common.{◌≢◌, sym, refl, ap, ◌∙◌, arith, next_in}
 use Rattle.vc_dict.proofs.CurrentLemmas.{current-gone, current-stays}
 use Rattle.vc_dict.proofs.DictLemmas.{or_none}
 use Rattle.vc_dict.proofs.OwnLemmas.{holder-address}

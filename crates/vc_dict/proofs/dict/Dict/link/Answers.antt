@@ -1,4 +1,4 @@
-use Rattle.std.proofs.Common.{◌≡◌, ◌+◌, ◌∷◌, length, arith}
+use Rattle.vc_base.proofs.Common.{◌≡◌, ◌+◌, ◌∷◌, length, arith}
 use Rattle.vc_dict.specs.Changes.{order_by_link}
 use Rattle.vc_dict.proofs.DictLemmas.{Became-heads, few}
 use Rattle.vc_dict.proofs.LengthLemmas.{length-linked}

@@ -1,6 +1,4 @@
-use Rattle.std.proofs.Common.{◌≡◌, Some, sym, ap, subst}
-use Rattle.std.specs.Option.{option_map}
-use Rattle.vc_base.specs.Holders.{without}
+use Rattle.vc_base.proofs.Common.{◌≡◌, Some, option_map, sym, ap, subst, without}
 use Rattle.vc_dtlist.specs.Linked.{number_of}
 use Rattle.vc_dict.specs.Changes.{current_without, order_without}
 use Rattle.vc_dict.specs.Stands.{Became, IsMember, Stands}

@@ -1,4 +1,4 @@
-use Rattle.std.proofs.Common.{None, sym, ◌∙◌}
+use Rattle.vc_base.proofs.Common.{None, sym, ◌∙◌}
 use Rattle.vc_dtdisc.specs.Shapes.{rules_of}
 use Rattle.vc_dtdisc.specs.declared.shape.Shape.TheVariants.{Whole}
 use Rattle.vc_dict.proofs.RemethodLemmas.{first_wanted, no_slots}

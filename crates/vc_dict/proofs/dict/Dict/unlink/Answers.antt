@@ -1,4 +1,4 @@
-use Rattle.std.proofs.Common.{sym, ◌∙◌}
+use Rattle.vc_base.proofs.Common.{sym, ◌∙◌}
 use Rattle.vc_dtdisc.specs.Finds.{has_key}
 use Rattle.vc_dtord.proofs.FirstLemmas.{found-within}
 use Rattle.vc_dict.proofs.dict.Dict.unlink.Goals as goal

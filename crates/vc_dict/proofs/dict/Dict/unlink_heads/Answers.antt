@@ -1,5 +1,4 @@
-use Rattle.std.proofs.Common.{◌≡◌, ◌+◌, ◌-◌, ◌∷◌, length, arith}
-use Rattle.vc_base.specs.Holders.{without}
+use Rattle.vc_base.proofs.Common.{◌≡◌, ◌+◌, ◌-◌, ◌∷◌, length, arith, without}
 use Rattle.vc_dtlist.proofs.HolderLemmas.{length-without}
 use Rattle.vc_dict.proofs.DictLemmas.{Became-heads, Became-within, member}
 use Rattle.vc_dict.proofs.dict.Dict.unlink_heads.Goals as goal

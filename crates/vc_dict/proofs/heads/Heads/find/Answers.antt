@@ -1,4 +1,4 @@
-use Rattle.std.proofs.Common.{subst, arith, ◌%◌, ◌==◌}
+use Rattle.vc_base.proofs.Common.{◌%◌, ◌==◌, subst, arith}
 use Rattle.vc_dthash.specs.Chained.{hash_at}
 use Rattle.vc_dthash.specs.Hashed.{HashFor}
 use Rattle.vc_dthash.proofs.FilterLemmas.{filter-shorter}

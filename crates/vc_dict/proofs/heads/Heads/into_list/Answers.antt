@@ -1,4 +1,4 @@
-use Rattle.std.proofs.Common.{subst}
+use Rattle.vc_base.proofs.Common.{subst}
 use Rattle.vc_dtlist.proofs.KeptLemmas.{KeepsBut-none}
 use Rattle.vc_dtlist.specs.Linked.{StandsFor}
 use Rattle.vc_dthash.specs.Hashed.{HashFor}

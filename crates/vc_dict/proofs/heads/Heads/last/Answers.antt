@@ -1,4 +1,4 @@
-use Rattle.std.proofs.Common.{subst}
+use Rattle.vc_base.proofs.Common.{subst}
 use Rattle.vc_dthash.specs.Hashed.{HashFor}
 use Rattle.vc_dict.specs.Stands.{HeadsFor}
 use Rattle.vc_dict.proofs.heads.Heads.last.Goals as goal

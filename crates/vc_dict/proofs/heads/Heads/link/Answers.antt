@@ -1,4 +1,4 @@
-use Rattle.std.proofs.Common.{◌∷◌, sym, subst}
+use Rattle.vc_base.proofs.Common.{◌∷◌, sym, subst}
 use Rattle.vc_dtlist.specs.Linked.{StandsFor}
 use Rattle.vc_dict.specs.Changes.{order_by_link}
 use Rattle.vc_dict.specs.Stands.{HeadsFor, HeadsTurned}

@@ -1,4 +1,4 @@
-use Rattle.std.proofs.Common.{[], refl, arith}
+use Rattle.vc_base.proofs.Common.{[], refl, arith}
 use Rattle.vc_dict_tests.proofs.cells.drive.empty.Goals as goal
 
 pub returns : goal.returns

@@ -1,4 +1,4 @@
-use Rattle.std.proofs.Common.{sym, ◌∙◌}
+use Rattle.vc_base.proofs.Common.{sym, ◌∙◌}
 use Rattle.vc_dict_tests.proofs.ReadyLemmas.{in-first}
 use Rattle.vc_dict_tests.proofs.cells.drive.first.Goals as goal
 

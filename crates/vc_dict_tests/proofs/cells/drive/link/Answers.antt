@@ -1,4 +1,4 @@
-use Rattle.std.proofs.Common.{◌≡◌, ◌≢◌, ◌≤◌, ◌∙◌, sym, true, ap, arith, rules}
+use Rattle.vc_base.proofs.Common.{◌≡◌, ◌≤◌, true, ◌≢◌, sym, ap, ◌∙◌, arith, rules}
 use Rattle.vc_base.specs.declared.addr.Addr.{Addr}
 use Rattle.vc_base.proofs.Members.{apart-cons}
 use Rattle.vc_dtdisc.specs.Finds.{object_at}

@@ -1,4 +1,4 @@
-use Rattle.std.proofs.Common.{sym, ◌∙◌}
+use Rattle.vc_base.proofs.Common.{sym, ◌∙◌}
 use Rattle.vc_dict_tests.proofs.ReadyLemmas.{in-previous}
 use Rattle.vc_dict_tests.proofs.cells.drive.prev.Goals as goal
 

@@ -1,4 +1,4 @@
-use Rattle.std.specs.Option.{option_map}
+use Rattle.vc_base.proofs.Common.{option_map}
 use Rattle.vc_dtlist.specs.Linked.{number_of}
 use Rattle.vc_dict_tests.proofs.ReadyLemmas.{ready-removed}
 use Rattle.vc_dict_tests.proofs.cells.drive.take_first.Goals as goal

@@ -1,4 +1,4 @@
-use Rattle.std.proofs.lemmas.List.{take_rest}
+use Rattle.vc_base.proofs.Common.{take_rest}
 use Rattle.vc_dict_tests.proofs.cells.five.behind.Goals as goal
 
 pub returns : goal.returns

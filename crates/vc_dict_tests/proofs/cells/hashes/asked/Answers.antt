@@ -1,4 +1,4 @@
-use Rattle.std.proofs.Common.{[], ◌∷◌, refl}
+use Rattle.vc_base.proofs.Common.{[], ◌∷◌, refl}
 use Rattle.vc_dict_tests.proofs.cells.hashes.asked.Goals as goal
 
 pub next-second-requires : goal.next-second-requires

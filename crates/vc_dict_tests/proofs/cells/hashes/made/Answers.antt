@@ -1,4 +1,4 @@
-use Rattle.std.proofs.Common.{◌≡◌, ◌≢◌, [], ◌∷◌, None, refl, ap, ◌∙◌, arith}
+use Rattle.vc_base.proofs.Common.{◌≡◌, ◌≢◌, [], ◌∷◌, None, refl, ap, ◌∙◌, arith}
 use Rattle.vc_base.specs.declared.addr.Addr.{Addr}
 use Rattle.vc_base.proofs.Members.{apart-cons}
 use Rattle.vc_dict_tests.proofs.ListLemmas.{none-at}

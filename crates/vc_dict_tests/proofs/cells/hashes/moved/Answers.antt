@@ -1,4 +1,4 @@
-use Rattle.std.proofs.Common.{[], ◌∷◌, refl, arith}
+use Rattle.vc_base.proofs.Common.{[], ◌∷◌, refl, arith}
 use Rattle.vc_dict_tests.proofs.cells.hashes.moved.Goals as goal
 
 pub adopt_table-before-requires : goal.adopt_table-before-requires

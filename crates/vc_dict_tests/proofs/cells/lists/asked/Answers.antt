@@ -1,4 +1,4 @@
-use Rattle.std.proofs.Common.{[], ◌∷◌, refl}
+use Rattle.vc_base.proofs.Common.{[], ◌∷◌, refl}
 use Rattle.vc_dict_tests.proofs.cells.lists.asked.Goals as goal
 
 pub next-behind-requires : goal.next-behind-requires

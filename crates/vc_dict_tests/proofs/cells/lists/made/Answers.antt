@@ -1,4 +1,4 @@
-use Rattle.std.proofs.Common.{[], ◌∷◌, refl, arith}
+use Rattle.vc_base.proofs.Common.{[], ◌∷◌, refl, arith}
 use Rattle.vc_dict_tests.proofs.ListLemmas.{sized-but}
 use Rattle.vc_dict_tests.proofs.cells.lists.made.Goals as goal
 

@@ -1,5 +1,4 @@
-use Rattle.std.proofs.Common.{arith}
-use Rattle.vc_base.specs.Holders.{without}
+use Rattle.vc_base.proofs.Common.{arith, without}
 use Rattle.vc_dict_tests.proofs.cells.orders.asked.Goals as goal
 
 pub first-least-requires : goal.first-least-requires

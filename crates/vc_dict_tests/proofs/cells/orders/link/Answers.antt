@@ -1,4 +1,4 @@
-use Rattle.std.proofs.Common.{◌∷◌, arith}
+use Rattle.vc_base.proofs.Common.{◌∷◌, arith}
 use Rattle.vc_dtord.specs.Ordered.{order_with}
 use Rattle.vc_dict.proofs.PassLemmas.{apart-placed}
 use Rattle.vc_dict_tests.proofs.ListLemmas.{in-placed, sized-but}

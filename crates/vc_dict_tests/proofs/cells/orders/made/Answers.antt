@@ -1,4 +1,4 @@
-use Rattle.std.proofs.Common.{[], refl, arith}
+use Rattle.vc_base.proofs.Common.{[], refl, arith}
 use Rattle.vc_dict_tests.proofs.cells.orders.made.Goals as goal
 
 pub link-requires : goal.link-requires

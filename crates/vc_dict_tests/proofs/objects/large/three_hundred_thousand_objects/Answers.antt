@@ -1,6 +1,4 @@
-use Rattle.std.proofs.Common.{◌≡◌, ℕ, List, [], ◌++◌, sym, ap, subst}
-use Rattle.std.proofs.lemmas.List.{append-nil}
-use Rattle.vc_model.specs.Layout.{Layout}
+use Rattle.vc_base.proofs.Common.{◌≡◌, ℕ, List, [], ◌++◌, sym, ap, subst, append-nil, Layout}
 use Rattle.vc_best.specs.Parts.{layout_of}
 use Rattle.vc_objects.proofs.Leaving.{keeps-out}
 use Rattle.vc_dict_tests.proofs.objects.large.three_hundred_thousand_objects.Goals as goal

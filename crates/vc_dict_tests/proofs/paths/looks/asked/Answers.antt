@@ -1,4 +1,4 @@
-use Rattle.std.proofs.Common.{subst, sym, ◌∙◌}
+use Rattle.vc_base.proofs.Common.{sym, ◌∙◌, subst}
 use Rattle.vc_dict_tests.specs.ToyPaths.{AreJoined}
 use Rattle.vc_dict_tests.proofs.PathLemmas.{path-joined}
 use Rattle.vc_dict_tests.proofs.paths.looks.asked.Goals as goal

@@ -1,4 +1,4 @@
-use Rattle.std.proofs.Common.{◌≡◌}
+use Rattle.vc_base.proofs.Common.{◌≡◌}
 use Rattle.vc_dict_tests.specs.ToyPaths.{AreJoined}
 use Rattle.vc_dict_tests.proofs.paths.looks.found.Given as goal
 

@@ -1,4 +1,4 @@
-use Rattle.std.proofs.Common.{subst, sym}
+use Rattle.vc_base.proofs.Common.{sym, subst}
 use Rattle.vc_paths.specs.Path.{visible_of}
 use Rattle.vc_dict_tests.specs.Toy.{layers_in}
 use Rattle.vc_dict_tests.specs.ToyPaths.{IsSeen}

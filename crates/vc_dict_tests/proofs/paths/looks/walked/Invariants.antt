@@ -1,4 +1,4 @@
-use Rattle.std.proofs.Common.{◌≡◌}
+use Rattle.vc_base.proofs.Common.{◌≡◌}
 use Rattle.vc_dict_tests.specs.ToyPaths.{AreJoined, IsSeen}
 use Rattle.vc_dict_tests.proofs.paths.looks.walked.Given as goal
 

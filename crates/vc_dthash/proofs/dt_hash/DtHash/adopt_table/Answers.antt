@@ -1,4 +1,4 @@
-use Rattle.std.proofs.Common.{◌≢◌, arith, subst, ◌∙◌, refl}
+use Rattle.vc_base.proofs.Common.{◌≢◌, refl, ◌∙◌, subst, arith}
 use Rattle.vc_dthash.specs.Hashed.{IsTable, list_of}
 use Rattle.vc_dthash.proofs.FillLemmas.{links-cleared}
 use Rattle.vc_dthash.proofs.HashLemmas.{HashFor-adopted, HashFor-unique, IsSlots-some, keeps-adopted}

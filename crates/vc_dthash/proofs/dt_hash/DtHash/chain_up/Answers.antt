@@ -1,6 +1,4 @@
-use Rattle.std.proofs.Common.{◌≡◌, ◌*◌, ◌≤◌, length, arith, ap, sym, subst, ◌∙◌}
-use Rattle.std.proofs.lemmas.Bool.{eqb-false, eqb-true}
-use Rattle.vc_base.specs.Cells.{bytes_at}
+use Rattle.vc_base.proofs.Common.{◌≡◌, ◌*◌, ◌≤◌, length, sym, ap, ◌∙◌, subst, arith, eqb-true, eqb-false, bytes_at}
 use Rattle.vc_dtlist.proofs.TurnLemmas.{StandsFor-unique}
 use Rattle.vc_dthash.specs.Chained.{IsHashed}
 use Rattle.vc_dthash.specs.Hashed.{HasTable, list_of}

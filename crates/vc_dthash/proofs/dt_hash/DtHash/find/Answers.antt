@@ -1,7 +1,4 @@
-use Rattle.std.proofs.Common.{◌≡◌, ◌%◌, false, arith, sym, ap, ◌∙◌, refl}
-use Rattle.std.specs.Prelude.{◌==◌}
-use Rattle.std.proofs.lemmas.Bool.{eqb-false}
-use Rattle.vc_base.specs.Cells.{word_at}
+use Rattle.vc_base.proofs.Common.{◌≡◌, ◌%◌, false, ◌==◌, sym, refl, ap, ◌∙◌, arith, eqb-false, word_at}
 use Rattle.vc_dtdisc.specs.Finds.{find_key}
 use Rattle.vc_dthash.specs.Chained.{chain_of, hash_at}
 use Rattle.vc_dthash.proofs.ChainLemmas.{Leads-fits}

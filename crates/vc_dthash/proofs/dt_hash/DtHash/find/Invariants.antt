@@ -1,4 +1,4 @@
-use Rattle.std.proofs.Common.{ℕ, List}
+use Rattle.vc_base.proofs.Common.{ℕ, List}
 use Rattle.vc_dthash.specs.Hashed.{HashFor}
 use Rattle.vc_dthash.proofs.WalkLemmas.{SlotWalk}
 use Rattle.vc_dthash.proofs.dt_hash.DtHash.find.Given as goal

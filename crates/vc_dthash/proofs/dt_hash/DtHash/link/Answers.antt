@@ -1,5 +1,4 @@
-use Rattle.std.proofs.Common.{◌≡◌, [], ◌∷◌, false, arith, refl}
-use Rattle.vc_base.specs.Holders.{contains}
+use Rattle.vc_base.proofs.Common.{◌≡◌, false, [], ◌∷◌, refl, arith, contains}
 use Rattle.vc_base.proofs.Members.{apart-tail}
 use Rattle.vc_dtlist.proofs.TurnLemmas.{fewer}
 use Rattle.vc_dtlist.proofs.WordLemmas.{HasBytes-written}

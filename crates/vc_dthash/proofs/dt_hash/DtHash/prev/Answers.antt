@@ -1,5 +1,4 @@
-use Rattle.std.proofs.Common.{◌≡◌, true, ap, ◌∙◌, subst}
-use Rattle.vc_base.specs.Holders.{contains, some_address}
+use Rattle.vc_base.proofs.Common.{◌≡◌, true, ap, ◌∙◌, subst, contains, some_address}
 use Rattle.vc_dtlist.proofs.TurnLemmas.{at_linked, previous-linked}
 use Rattle.vc_dthash.specs.Hashed.{list_of}
 use Rattle.vc_dthash.proofs.HashLemmas.{HashFor-unique}

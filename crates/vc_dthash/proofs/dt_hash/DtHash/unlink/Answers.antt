@@ -1,5 +1,4 @@
-use Rattle.std.proofs.Common.{◌≡◌, ◌∷◌, true, subst, refl}
-use Rattle.vc_base.specs.Holders.{contains}
+use Rattle.vc_base.proofs.Common.{◌≡◌, true, ◌∷◌, refl, subst, contains}
 use Rattle.vc_dtlist.proofs.TurnLemmas.{fewer}
 use Rattle.vc_dthash.specs.ChainWrites.{Pointed}
 use Rattle.vc_dthash.proofs.HashLemmas.{HashFor-holders, HashFor-unique, HashTurned-parted, holder-place, holder-slots, next-fits, parted-links, parted-point, parts, split-at}

@@ -1,4 +1,4 @@
-use Rattle.std.proofs.Common.{sym, ap, ◌∙◌, [], ◌++◌, ◌∷◌, subst, append_assoc}
+use Rattle.vc_base.proofs.Common.{[], ◌∷◌, ◌++◌, sym, ap, ◌∙◌, subst, append_assoc}
 use Rattle.vc_base.specs.Holders.{inserted_after}
 use Rattle.vc_dtlist.specs.Linked.{StandsFor}
 use Rattle.vc_dtlist.proofs.HolderLemmas.{inserted_after-split, last_of-append, split}

@@ -1,4 +1,4 @@
-use Rattle.std.proofs.Common.{refl, sym, ap, ◌∙◌, ◌++◌, ◌∷◌, subst}
+use Rattle.vc_base.proofs.Common.{◌∷◌, ◌++◌, sym, refl, ap, ◌∙◌, subst}
 use Rattle.vc_base.specs.Holders.{inserted_before}
 use Rattle.vc_dtlist.specs.Linked.{StandsFor}
 use Rattle.vc_dtlist.proofs.HolderLemmas.{inserted_before-split, split}

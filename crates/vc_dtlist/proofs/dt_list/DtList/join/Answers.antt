@@ -1,7 +1,7 @@
-use Rattle.std.proofs.Common.{arith}
+use Rattle.vc_base.proofs.Common.{arith, first_of}
 use Rattle.vc_dtlist.proofs.WordLemmas.{HasBytes-written}
 use Rattle.vc_dtlist.proofs.ChainLemmas.{Chain-front, Chain-rest}
-use Rattle.vc_base.specs.Holders.{first_of, last_of}
+use Rattle.vc_base.specs.Holders.{last_of}
 use Rattle.vc_dtlist.proofs.TurnLemmas.{Relinked-joined, first_words, last_words}
 use Rattle.vc_dtlist.proofs.dt_list.DtList.join.Goals as goal
 

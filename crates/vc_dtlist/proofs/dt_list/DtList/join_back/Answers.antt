@@ -1,5 +1,4 @@
-use Rattle.std.proofs.Common.{◌≡◌, ◌++◌, ◌∷◌, false, refl, [], sym, subst, append-nil}
-use Rattle.vc_base.specs.Holders.{contains}
+use Rattle.vc_base.proofs.Common.{◌≡◌, false, [], ◌∷◌, ◌++◌, sym, refl, subst, append-nil, contains}
 use Rattle.vc_dtlist.specs.Linked.{LinksFor, Relinked}
 use Rattle.vc_dtlist.proofs.TurnLemmas.{LinksFor-unique}
 use Rattle.vc_dtlist.proofs.dt_list.DtList.join_back.Goals as goal

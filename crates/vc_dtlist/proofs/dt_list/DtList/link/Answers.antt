@@ -1,4 +1,4 @@
-use Rattle.std.proofs.Common.{◌++◌}
+use Rattle.vc_base.proofs.Common.{◌++◌}
 use Rattle.vc_dtlist.proofs.ChainLemmas.{LinksFor-other}
 use Rattle.vc_dtlist.proofs.WordLemmas.{HasBytes-written}
 use Rattle.vc_dtlist.proofs.TurnLemmas.{Turned-joined, fewer}

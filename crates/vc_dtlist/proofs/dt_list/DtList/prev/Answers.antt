@@ -1,5 +1,4 @@
-use Rattle.std.proofs.Common.{ap, ◌∙◌}
-use Rattle.vc_base.specs.Holders.{some_address}
+use Rattle.vc_base.proofs.Common.{ap, ◌∙◌, some_address}
 use Rattle.vc_dtlist.proofs.TurnLemmas.{at_in, previous_found}
 use Rattle.vc_dtlist.proofs.dt_list.DtList.prev.Goals as goal
 

@@ -1,4 +1,4 @@
-use Rattle.std.proofs.Common.{refl, []}
+use Rattle.vc_base.proofs.Common.{[], refl}
 use Rattle.vc_dtlist.proofs.TurnLemmas.{apart_in}
 use Rattle.vc_dtlist.proofs.dt_list.DtList.push_front.Goals as goal
 

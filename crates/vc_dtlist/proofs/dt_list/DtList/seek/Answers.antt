@@ -1,5 +1,4 @@
-use Rattle.std.proofs.Common.{arith, sym, ◌∙◌}
-use Rattle.std.proofs.lemmas.Bool.{eqb-false, eqb-true}
+use Rattle.vc_base.proofs.Common.{sym, ◌∙◌, arith, eqb-true, eqb-false}
 use Rattle.vc_dtlist.specs.Sought.{stands_so}
 use Rattle.vc_dtlist.proofs.FindLemmas.{Seeks-all_passed, Seeks-none, Seeks-some, test-is, walk_next, walk_on, walk_start}
 use Rattle.vc_dtlist.proofs.dt_list.DtList.seek.Goals as goal

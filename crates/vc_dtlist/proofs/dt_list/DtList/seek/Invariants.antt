@@ -1,4 +1,4 @@
-use Rattle.std.proofs.Common.{ℕ, List}
+use Rattle.vc_base.proofs.Common.{ℕ, List}
 use Rattle.vc_dtlist.specs.Linked.{StandsFor}
 use Rattle.vc_dtlist.specs.Sought.{stands_so}
 use Rattle.vc_dtlist.proofs.FindLemmas.{Walked}

@@ -1,5 +1,4 @@
-use Rattle.std.proofs.Common.{ap, ◌∙◌}
-use Rattle.vc_base.specs.Holders.{first_in}
+use Rattle.vc_base.proofs.Common.{ap, ◌∙◌, first_in}
 use Rattle.vc_dtord.proofs.CallLemmas.{has_tree}
 use Rattle.vc_dtord.proofs.dt_ord.DtOrd.first.Goals as goal
 

@@ -1,5 +1,4 @@
-use Rattle.std.proofs.Common.{ap, ◌∙◌}
-use Rattle.vc_base.specs.Holders.{last_in}
+use Rattle.vc_base.proofs.Common.{ap, ◌∙◌, last_in}
 use Rattle.vc_dtord.proofs.CallLemmas.{has_tree}
 use Rattle.vc_dtord.proofs.dt_ord.DtOrd.last.Goals as goal
 

@@ -1,4 +1,4 @@
-use Rattle.std.proofs.Common.{rules}
+use Rattle.vc_base.proofs.Common.{rules}
 use Rattle.vc_dtord.proofs.dt_ord.DtOrd.link.Goals as goal
 
 pub returns-clause-list : goal.returns-clause-list

@@ -1,5 +1,4 @@
-use Rattle.std.proofs.Common.{refl}
-use Rattle.std.proofs.lemmas.List.Elements.{All-nil}
+use Rattle.vc_base.proofs.Common.{refl, All-nil}
 use Rattle.vc_splay.specs.Tree.{Leaf}
 use Rattle.vc_dtord.specs.Ordered.{IsPlain}
 use Rattle.vc_dtord.proofs.dt_ord.DtOrd.new.Goals as goal

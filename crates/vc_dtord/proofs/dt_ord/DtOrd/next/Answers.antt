@@ -1,5 +1,4 @@
-use Rattle.std.proofs.Common.{ap, ◌∙◌}
-use Rattle.vc_base.specs.Holders.{next_in}
+use Rattle.vc_base.proofs.Common.{ap, ◌∙◌, next_in}
 use Rattle.vc_dtord.proofs.CallLemmas.{is_within, within-tree}
 use Rattle.vc_dtord.proofs.dt_ord.DtOrd.next.Goals as goal
 

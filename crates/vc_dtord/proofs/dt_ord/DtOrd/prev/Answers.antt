@@ -1,5 +1,4 @@
-use Rattle.std.proofs.Common.{None, ap, ◌∙◌}
-use Rattle.vc_base.specs.Holders.{previous_in}
+use Rattle.vc_base.proofs.Common.{None, ap, ◌∙◌, previous_in}
 use Rattle.vc_dtord.proofs.CallLemmas.{is_within, within-tree}
 use Rattle.vc_dtord.proofs.dt_ord.DtOrd.prev.Goals as goal
 

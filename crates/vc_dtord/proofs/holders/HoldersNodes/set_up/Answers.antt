@@ -1,4 +1,4 @@
-use Rattle.std.proofs.Common.{refl, arith}
+use Rattle.vc_base.proofs.Common.{refl, arith}
 use Rattle.vc_dtord.specs.NodeLaws.{beside-node}
 use Rattle.vc_dtord.proofs.WrittenLemmas.{parent-after, node-words, stays-after}
 use Rattle.vc_dtord.proofs.holders.HoldersNodes.set_up.Goals as goal

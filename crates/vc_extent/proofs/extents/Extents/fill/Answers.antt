@@ -1,5 +1,4 @@
-use Rattle.std.proofs.Common.{replicate}
-use Rattle.std.proofs.Math.Logic.{∥∥₁_map}
+use Rattle.vc_base.proofs.Common.{replicate, ∥∥₁_map}
 use Rattle.vc_extent.specs.Change.{write}
 use Rattle.vc_extent.proofs.Sets.{extents-changed, pairs-changed, tiling-changed}
 use Rattle.vc_extent.proofs.extents.Extents.fill.Goals as goal

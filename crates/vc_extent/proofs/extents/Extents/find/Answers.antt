@@ -1,5 +1,4 @@
-use Rattle.std.proofs.Common.{◌-◌, [], sym, subst, arith}
-use Rattle.vc_model.specs.Addr.{place_of}
+use Rattle.vc_base.proofs.Common.{◌-◌, [], sym, subst, arith, place_of}
 use Rattle.vc_seg.specs.Segment.{Bytes}
 use Rattle.vc_extent.specs.Tiling.{IsPlace, IsThere}
 use Rattle.vc_extent.proofs.Places.{found-from, named-off, named-there}

@@ -1,4 +1,4 @@
-use Rattle.std.proofs.Common.{[], Some, ap, ◌∙◌}
+use Rattle.vc_base.proofs.Common.{[], Some, ap, ◌∙◌}
 use Rattle.vc_seg.specs.Segment.{Bytes}
 use Rattle.vc_extent.proofs.Places.{first-off}
 use Rattle.vc_extent.proofs.extents.Extents.first.Goals as goal

@@ -1,6 +1,4 @@
-use Rattle.std.proofs.Common.{◌≡◌, map, sym, ◌∙◌, ap}
-use Rattle.std.proofs.lemmas.Bool.{true≢false}
-use Rattle.vc_model.specs.Segments.{lowest_unused, numbers}
+use Rattle.vc_base.proofs.Common.{◌≡◌, map, sym, ap, ◌∙◌, true≢false, lowest_unused, numbers}
 use Rattle.vc_seg.specs.Segment.{pair_of}
 use Rattle.vc_seg.proofs.Unused.{is_among, lowest_unused-unused}
 use Rattle.vc_extent.proofs.Unused.{there-among}

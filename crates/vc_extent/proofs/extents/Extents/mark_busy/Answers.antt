@@ -1,5 +1,4 @@
-use Rattle.std.proofs.Common.{◌≡◌, ℕ, ◌+◌, List, length, set, ap, sym, subst, ◌∙◌}
-use Rattle.std.proofs.Math.Logic.{∥∥₁_map}
+use Rattle.vc_base.proofs.Common.{◌≡◌, ℕ, ◌+◌, List, length, set, sym, ap, ◌∙◌, subst, ∥∥₁_map}
 use Rattle.vc_extent.specs.Extent.{Extent, extents}
 use Rattle.vc_extent.specs.Change.{extent_in, mark_busy}
 use Rattle.vc_extent.specs.Tiling.{change_extent, tiling}

@@ -1,7 +1,4 @@
-use Rattle.std.proofs.Common.{◌≡◌, ◌-◌, ◌≤◌, length, ◌∙◌, arith}
-use Rattle.std.proofs.Math.Bridge.{le_prop}
-use Rattle.std.proofs.Math.Nat.{ℕ_set}
-use Rattle.std.proofs.Math.Logic.{∥∥₁_elim}
+use Rattle.vc_base.proofs.Common.{◌≡◌, ◌-◌, ◌≤◌, length, ◌∙◌, arith, le_prop, ∥∥₁_elim, ℕ_set}
 use Rattle.std.proofs.lemmas.List.{get_or_read}
 use Rattle.vc_extent.specs.Tiling.{IsPlace, index_from}
 use Rattle.vc_extent.proofs.Places.{there-first, there-last, place-from, some-from}

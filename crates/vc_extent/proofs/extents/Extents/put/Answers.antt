@@ -1,4 +1,4 @@
-use Rattle.std.proofs.Math.Logic.{∥∥₁_map}
+use Rattle.vc_base.proofs.Common.{∥∥₁_map}
 use Rattle.vc_extent.specs.Change.{write}
 use Rattle.vc_extent.proofs.Sets.{extents-changed, pairs-changed, tiling-changed}
 use Rattle.vc_extent.proofs.extents.Extents.put.Goals as goal

@@ -1,7 +1,4 @@
-use Rattle.std.proofs.Common.{◌≡◌, List, Some, length, filter, map, ap, sym, subst, ◌∙◌, arith}
-use Rattle.std.specs.List.{remove}
-use Rattle.std.proofs.lemmas.List.{length-set}
-use Rattle.std.proofs.Math.Logic.{∥∥₁_elim, ∥∥₁_map}
+use Rattle.vc_base.proofs.Common.{◌≡◌, List, map, length, Some, filter, remove, sym, ap, ◌∙◌, subst, arith, length-set, ∥∥₁_elim, ∥∥₁_map}
 use Rattle.vc_seg.specs.Back.{has_other_number}
 use Rattle.vc_seg.specs.Segment.{Bytes, pair_of}
 use Rattle.vc_extent.specs.Tiling.{AreExtents, tiling}

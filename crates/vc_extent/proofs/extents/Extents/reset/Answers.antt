@@ -1,6 +1,4 @@
-use Rattle.std.proofs.Common.{◌≡◌, length, get_or, ap, subst, sym, ◌∙◌}
-use Rattle.std.proofs.Math.Logic.{∥∥₁_map}
-use Rattle.std.proofs.lemmas.List.{get_or_default}
+use Rattle.vc_base.proofs.Common.{◌≡◌, length, get_or, sym, ap, ◌∙◌, subst, ∥∥₁_map, get_or_default}
 use Rattle.vc_seg.specs.Segment.{Bytes, pair_of}
 use Rattle.vc_extent.specs.Extent.{extents}
 use Rattle.vc_extent.specs.Change.{one_free}

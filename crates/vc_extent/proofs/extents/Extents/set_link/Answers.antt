@@ -1,4 +1,4 @@
-use Rattle.std.proofs.Math.Logic.{∥∥₁_map}
+use Rattle.vc_base.proofs.Common.{∥∥₁_map}
 use Rattle.vc_extent.specs.Change.{set_link}
 use Rattle.vc_extent.proofs.Sets.{extents-changed, pairs-changed, tiling-changed}
 use Rattle.vc_extent.proofs.extents.Extents.set_link.Goals as goal

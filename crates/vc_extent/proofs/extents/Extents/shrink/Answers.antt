@@ -1,5 +1,4 @@
-use Rattle.std.proofs.Common.{arith}
-use Rattle.std.proofs.Math.Logic.{∥∥₁_map}
+use Rattle.vc_base.proofs.Common.{arith, ∥∥₁_map}
 use Rattle.vc_extent.specs.Change.{shrink}
 use Rattle.vc_extent.proofs.Sets.{extents-changed, pairs-changed, tiling-changed}
 use Rattle.vc_extent.proofs.extents.Extents.shrink.Goals as goal

@@ -1,4 +1,4 @@
-use Rattle.std.proofs.Common.{ℕ, List, ◌++◌, ap}
+use Rattle.vc_base.proofs.Common.{ℕ, List, ◌++◌, ap}
 use Rattle.vc_generate.specs.Generated.{closing, commands_of, commands_of_seed, none_taken, opening}
 use Rattle.vc_generate.specs.ToCome.{to_come}
 use Rattle.vc_generate.proofs.generator.Generator.new.Goals as goal

@@ -1,4 +1,4 @@
-use Rattle.std.proofs.Common.{◌∙◌, ap, sym}
+use Rattle.vc_base.proofs.Common.{sym, ap, ◌∙◌}
 use Rattle.std.proofs.lemmas.Result.{MatchResult-from_err}
 use Rattle.vc_generate.proofs.CommandSteps.{is_object_next-to_come, to_come-block, to_come-closing, to_come-end, to_come-object, to_come-opening}
 use Rattle.vc_generate.specs.Next.{is_object_next}

@@ -1,4 +1,4 @@
-use Rattle.std.proofs.Common.{◌≡◌, ℕ, ◌-◌, [], drop, ap, ◌∙◌, sym, arith}
+use Rattle.vc_base.proofs.Common.{◌≡◌, ℕ, ◌-◌, [], drop, sym, ap, ◌∙◌, arith}
 use Rattle.rand_pcg.specs.Lcg.{Lcg}
 use Rattle.vc_generate.proofs.WordSteps.{words_ahead-none, words_ahead-step}
 use Rattle.vc_generate.specs.Words.{words_ahead}

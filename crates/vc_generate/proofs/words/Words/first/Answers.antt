@@ -1,4 +1,4 @@
-use Rattle.std.proofs.Common.{◌≡◌, ℕ, List, [], ◌∷◌, drop, ap, ◌∙◌, sym, arith}
+use Rattle.vc_base.proofs.Common.{◌≡◌, ℕ, List, [], ◌∷◌, drop, sym, ap, ◌∙◌, arith}
 use Rattle.vc_generate.proofs.WordSteps.{words_ahead-none, words_ahead-step}
 use Rattle.vc_generate.proofs.words.Words.first.Goals as goal
 

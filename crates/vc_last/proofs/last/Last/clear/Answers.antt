@@ -1,10 +1,8 @@
-use Rattle.std.proofs.Common.{[], ap, sym, ◌∙◌}
-use Rattle.std.proofs.Math.Logic.{∥∥₁_map}
+use Rattle.vc_base.proofs.Common.{[], sym, ap, ◌∙◌, ∥∥₁_map, cleared_layout}
 use Rattle.vc_last.specs.Chain.{IsLast}
 use Rattle.vc_last.proofs.Kept.{layout-from}
 use Rattle.vc_last.proofs.Types.{have, have-sound}
 use Rattle.vc_last.proofs.last.Last.clear.Goals as goal
-use Rattle.vc_model.specs.Compact.{cleared_layout}
 use Rattle.vc_last.proofs.Chains.{last-cleared, last-from}
 use Rattle.vc_last.proofs.Kept.{layout-is}
 

@@ -1,5 +1,4 @@
-use Rattle.std.proofs.Common.{ℕ, ◌++◌, [], length, map, refl, ap, sym, ◌∙◌}
-use Rattle.vc_model.specs.Layout.{Layout}
+use Rattle.vc_base.proofs.Common.{ℕ, [], ◌++◌, map, length, sym, refl, ap, ◌∙◌, Layout}
 use Rattle.vc_seg.specs.Segment.{pair_of}
 use Rattle.vc_seg.proofs.Backs.{AreNumbered-segments}
 use Rattle.vc_last.proofs.Kept.{layout-from}

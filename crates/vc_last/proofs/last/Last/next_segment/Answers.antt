@@ -1,6 +1,4 @@
-use Rattle.std.proofs.Common.{ℕ, List, map, ap, sym, ◌∙◌}
-use Rattle.vc_model.specs.Layout.{Layout}
-use Rattle.vc_model.specs.Walk.{next_segment}
+use Rattle.vc_base.proofs.Common.{ℕ, List, map, sym, ap, ◌∙◌, Layout, next_segment}
 use Rattle.vc_seg.specs.Segment.{Bytes, pair_of}
 use Rattle.vc_last.proofs.Kept.{layout-from}
 use Rattle.vc_last.proofs.last.Last.next_segment.Goals as goal

@@ -1,4 +1,4 @@
-use Rattle.std.proofs.Common.{refl, arith}
+use Rattle.vc_base.proofs.Common.{refl, arith}
 use Rattle.vc_last.specs.Chain.{IsLast}
 use Rattle.vc_last.proofs.Types.{have-sound}
 use Rattle.vc_last.proofs.Marks.{empty-is, empty-kept}

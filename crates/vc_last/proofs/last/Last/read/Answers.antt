@@ -1,4 +1,4 @@
-use Rattle.std.proofs.Common.{arith}
+use Rattle.vc_base.proofs.Common.{arith}
 use Rattle.vc_last.proofs.Ranges.{range-in, read-in}
 use Rattle.vc_last.proofs.Types.{have}
 use Rattle.vc_last.proofs.last.Last.read.Goals as goal

@@ -1,6 +1,4 @@
-use Rattle.std.proofs.Common.{ℕ, List, map, ap, sym, ◌∙◌}
-use Rattle.vc_model.specs.Layout.{Layout}
-use Rattle.vc_model.specs.Walk.{segment_at}
+use Rattle.vc_base.proofs.Common.{ℕ, List, map, sym, ap, ◌∙◌, Layout, segment_at}
 use Rattle.vc_seg.specs.Segment.{Bytes, pair_of}
 use Rattle.vc_last.proofs.Kept.{layout-from}
 use Rattle.vc_last.proofs.last.Last.segment_at.Goals as goal

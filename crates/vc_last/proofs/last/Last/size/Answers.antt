@@ -1,6 +1,4 @@
-use Rattle.std.proofs.Common.{ℕ, List, Some, ap, sym, ◌∙◌}
-use Rattle.std.specs.Prelude.{option_map}
-use Rattle.vc_model.specs.Layout.{Block}
+use Rattle.vc_base.proofs.Common.{ℕ, List, Some, option_map, sym, ap, ◌∙◌, Block}
 use Rattle.vc_seg.specs.Segment.{Bytes}
 use Rattle.vc_last.specs.Head.{block_of}
 use Rattle.vc_last.proofs.Moves.{found-by, found-layout}

@@ -1,9 +1,4 @@
-use Rattle.std.proofs.Common.{◌≡◌, ℕ, List, ◌++◌, length, take, drop, ap, sym, subst, ◌∙◌, arith}
-use Rattle.std.proofs.lemmas.List.{with_items_is}
-use Rattle.std.proofs.Math.Logic.{∥∥₁_map}
-use Rattle.vc_model.specs.Addr.{place_of}
-use Rattle.vc_model.specs.Layout.{Layout, without_block}
-use Rattle.vc_model.specs.Touch.{with_bytes_at}
+use Rattle.vc_base.proofs.Common.{◌≡◌, ℕ, List, ◌++◌, length, take, drop, sym, ap, ◌∙◌, subst, arith, ∥∥₁_map, with_items_is, place_of, Layout, without_block, with_bytes_at}
 use Rattle.vc_seg.specs.Segment.{Bytes}
 use Rattle.vc_last.specs.Chain.{IsLast}
 use Rattle.vc_last.specs.Read.{layout_by}

@@ -1,4 +1,4 @@
-use Rattle.std.proofs.Common.{◌<◌, ◌≤◌, sym, ◌∙◌, Some, arith}
+use Rattle.vc_base.proofs.Common.{◌<◌, ◌≤◌, Some, sym, ◌∙◌, arith}
 use Rattle.vc_paths.specs.Links.{is_too_long, links_with, numbers}
 use Rattle.vc_paths.proofs.NewLinkLemmas.{none-any, some-any}
 use Rattle.vc_paths.proofs.paths.Paths.are_too_long_with.Goals as goal

@@ -1,4 +1,4 @@
-use Rattle.std.proofs.Common.{◌≡◌, ◌<◌, ℕ, Some, false}
+use Rattle.vc_base.proofs.Common.{◌≡◌, ℕ, ◌<◌, false, Some}
 use Rattle.vc_paths.specs.Links.{is_too_long, links_with}
 use Rattle.vc_paths.proofs.paths.Paths.are_too_long_with.Given as goal
 

@@ -1,4 +1,4 @@
-use Rattle.std.proofs.Common.{◌<◌, sym, ap, ◌∙◌, subst, Some}
+use Rattle.vc_base.proofs.Common.{◌<◌, Some, sym, ap, ◌∙◌, subst}
 use Rattle.vc_paths.specs.Links.{below, links_with}
 use Rattle.vc_paths.proofs.NewLinkLemmas.{below-linked, below-other}
 use Rattle.vc_paths.proofs.paths.Paths.below_with.Goals as goal

@@ -1,4 +1,4 @@
-use Rattle.std.proofs.Common.{sym, ◌∙◌, arith}
+use Rattle.vc_base.proofs.Common.{sym, ◌∙◌, arith}
 use Rattle.vc_paths.proofs.PathLemmas.{contains-step, path-longer}
 use Rattle.vc_paths.proofs.paths.Paths.is_on_path.Goals as goal
 

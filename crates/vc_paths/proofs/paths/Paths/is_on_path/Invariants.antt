@@ -1,5 +1,4 @@
-use Rattle.std.proofs.Common.{◌≡◌, ◌<◌, length}
-use Rattle.vc_base.specs.Holders.{contains}
+use Rattle.vc_base.proofs.Common.{◌≡◌, ◌<◌, length, contains}
 use Rattle.vc_paths.specs.Links.{numbers, path}
 use Rattle.vc_paths.proofs.paths.Paths.is_on_path.Given as goal
 

@@ -1,4 +1,4 @@
-use Rattle.std.proofs.Common.{◌<◌, sym, ◌∙◌, Some, arith}
+use Rattle.vc_base.proofs.Common.{◌<◌, Some, sym, ◌∙◌, arith}
 use Rattle.vc_paths.specs.Links.{links_with}
 use Rattle.vc_paths.proofs.NewLinkLemmas.{within-viewed}
 use Rattle.vc_paths.proofs.PathLemmas.{too_long-step}

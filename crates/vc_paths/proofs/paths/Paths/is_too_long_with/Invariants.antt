@@ -1,4 +1,4 @@
-use Rattle.std.proofs.Common.{◌≡◌, ◌<◌, ◌-◌, length, Some, nat_lt}
+use Rattle.vc_base.proofs.Common.{◌≡◌, ◌-◌, ◌<◌, length, nat_lt, Some}
 use Rattle.vc_paths.specs.Links.{is_too_long, links_with, numbers, path_of}
 use Rattle.vc_paths.proofs.paths.Paths.is_too_long_with.Given as goal
 

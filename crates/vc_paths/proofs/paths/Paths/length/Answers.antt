@@ -1,4 +1,4 @@
-use Rattle.std.proofs.Common.{◌≤◌, sym, length, arith}
+use Rattle.vc_base.proofs.Common.{◌≤◌, length, sym, arith}
 use Rattle.vc_paths.specs.Links.{path}
 use Rattle.vc_paths.proofs.PathLemmas.{path-longer, path-short}
 use Rattle.vc_paths.proofs.paths.Paths.length.Goals as goal

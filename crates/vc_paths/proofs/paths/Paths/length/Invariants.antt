@@ -1,4 +1,4 @@
-use Rattle.std.proofs.Common.{◌≡◌, ◌<◌, ◌+◌, length}
+use Rattle.vc_base.proofs.Common.{◌≡◌, ◌+◌, ◌<◌, length}
 use Rattle.vc_paths.specs.Links.{numbers, path}
 use Rattle.vc_paths.proofs.paths.Paths.length.Given as goal
 

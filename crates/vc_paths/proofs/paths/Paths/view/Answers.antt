@@ -1,4 +1,4 @@
-use Rattle.std.proofs.Common.{◌≡◌, false, Some, subst, sym, ◌∙◌}
+use Rattle.vc_base.proofs.Common.{◌≡◌, false, Some, sym, ◌∙◌, subst}
 use Rattle.vc_paths.specs.Links.{are_too_long, links_with}
 use Rattle.vc_paths.proofs.NewLinkLemmas.{ArePaths-viewed}
 use Rattle.vc_paths.proofs.paths.Paths.view.Goals as goal

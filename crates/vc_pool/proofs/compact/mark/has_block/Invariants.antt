@@ -1,5 +1,4 @@
-use Rattle.std.proofs.Common.{◌≡◌, ℕ, ltb, drop}
-use Rattle.std.specs.List.{list_any}
+use Rattle.vc_base.proofs.Common.{◌≡◌, ℕ, ltb, drop, list_any}
 use Rattle.vc_pool.proofs.compact.mark.has_block.Given as goal
 
 -- no block is in the cells so far

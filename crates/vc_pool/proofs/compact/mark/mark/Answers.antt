@@ -1,5 +1,4 @@
-use Rattle.std.proofs.Common.{ap}
-use Rattle.std.specs.Prelude.{◌||◌}
+use Rattle.vc_base.proofs.Common.{◌||◌, ap}
 use Rattle.vc_pool_cells.specs.Place.{cells_in}
 use Rattle.vc_pool.specs.Marks.{has_block_at}
 use Rattle.vc_pool.proofs.BusySegments.{none-clear}

@@ -1,5 +1,4 @@
-use Rattle.std.proofs.Common.{◌≡◌, ℕ, false, get_or, length, drop}
-use Rattle.std.specs.Prelude.{◌||◌}
+use Rattle.vc_base.proofs.Common.{◌≡◌, ℕ, false, ◌||◌, length, get_or, drop}
 use Rattle.vc_pool_cells.specs.Place.{cells_in}
 use Rattle.vc_pool.specs.Marks.{has_block_at}
 use Rattle.vc_pool.proofs.compact.mark.mark.Given as goal

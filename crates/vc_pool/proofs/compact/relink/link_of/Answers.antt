@@ -1,4 +1,4 @@
-use Rattle.std.proofs.Common.{◌<◌, sym, subst, ◌∙◌}
+use Rattle.vc_base.proofs.Common.{◌<◌, sym, ◌∙◌, subst}
 use Rattle.vc_pool_cells.proofs.CellCallsInList.{link-there}
 use Rattle.vc_pool.proofs.compact.relink.link_of.Goals as goal
 

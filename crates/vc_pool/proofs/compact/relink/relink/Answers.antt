@@ -1,5 +1,4 @@
-use Rattle.std.proofs.Common.{false, get_or}
-use Rattle.vc_model.specs.Pool.{cell_for}
+use Rattle.vc_base.proofs.Common.{false, get_or, cell_for}
 use Rattle.vc_pool_cells.specs.Freed.{freed_cells}
 use Rattle.vc_pool_cells.specs.Place.{cells_in}
 use Rattle.vc_pool_cells.proofs.PoolChange.{pool-freed, pool-of}

@@ -1,5 +1,4 @@
-use Rattle.std.proofs.Common.{get_or, set, ap, sym, ◌∙◌}
-use Rattle.vc_model.specs.Pool.{cell_for}
+use Rattle.vc_base.proofs.Common.{get_or, set, sym, ap, ◌∙◌, cell_for}
 use Rattle.vc_pool_cells.specs.Cells.{cells_of, with_free_cell}
 use Rattle.vc_pool_cells.specs.Place.{cells_in}
 use Rattle.vc_pool_cells.proofs.SegmentList.{cells-get, cells-put}

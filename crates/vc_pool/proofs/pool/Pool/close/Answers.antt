@@ -1,4 +1,4 @@
-use Rattle.std.proofs.Common.{◌++◌, length, refl, ap, sym, ◌∙◌}
+use Rattle.vc_base.proofs.Common.{◌++◌, length, sym, refl, ap, ◌∙◌}
 use Rattle.vc_pool_cells.proofs.SegmentList.{numbered-in}
 use Rattle.vc_pool.proofs.BusyPart.{took-by}
 use Rattle.vc_pool.proofs.PoolAfterCalls.{pairs-of-list}

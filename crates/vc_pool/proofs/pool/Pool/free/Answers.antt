@@ -1,7 +1,4 @@
-use Rattle.std.proofs.Common.{◌≡◌, ℕ, ◌++◌, List, take, drop, length, ap, sym, subst, ◌∙◌, arith}
-use Rattle.std.proofs.lemmas.List.{with_items_is}
-use Rattle.vc_model.specs.Addr.{place_of}
-use Rattle.vc_model.specs.Pool.{Pool, pool_free}
+use Rattle.vc_base.proofs.Common.{◌≡◌, ℕ, List, ◌++◌, length, take, drop, sym, ap, ◌∙◌, subst, arith, with_items_is, place_of, Pool, pool_free}
 use Rattle.vc_model.proofs.Owned.{free-freed, free-none_left, free-one_less}
 use Rattle.vc_pool_cells.specs.Call.{IsPutBack}
 use Rattle.vc_pool_cells.specs.Kept.{IsPool}

@@ -1,5 +1,4 @@
-use Rattle.std.proofs.Common.{List, map, ap, sym, ◌∙◌}
-use Rattle.vc_model.specs.Walk.{next_segment}
+use Rattle.vc_base.proofs.Common.{List, map, sym, ap, ◌∙◌, next_segment}
 use Rattle.vc_pool_cells.specs.Place.{pair_in}
 use Rattle.vc_pool_cells.specs.declared.segment.PoolSegment.{PoolSegment}
 use Rattle.vc_pool.proofs.PoolAfterCalls.{pairs-of-list}

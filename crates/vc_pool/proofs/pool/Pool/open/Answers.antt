@@ -1,4 +1,4 @@
-use Rattle.std.proofs.Common.{refl}
+use Rattle.vc_base.proofs.Common.{refl}
 use Rattle.vc_pool.proofs.PoolParts.{sound-kept}
 use Rattle.vc_pool.proofs.PoolAfterCalls.{empty-is, empty-kept}
 use Rattle.vc_pool.proofs.pool.Pool.open.Goals as goal

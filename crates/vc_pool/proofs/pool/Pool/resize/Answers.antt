@@ -1,10 +1,4 @@
-use Rattle.std.proofs.Common.{◌≡◌, ℕ, ◌++◌, ◌≤◌, List, None, take, drop, length, ap, sym, subst, ◌∙◌, arith}
-use Rattle.std.proofs.lemmas.List.{with_items_is}
-use Rattle.vc_model.specs.Addr.{place_of}
-use Rattle.vc_model.specs.Layout.{Layout}
-use Rattle.vc_model.specs.Outcome.{Done}
-use Rattle.vc_model.specs.Pool.{Pool, cell_for}
-use Rattle.vc_model.specs.Resize.{resize_there}
+use Rattle.vc_base.proofs.Common.{◌≡◌, ℕ, ◌≤◌, List, ◌++◌, length, take, drop, None, sym, ap, ◌∙◌, subst, arith, with_items_is, place_of, Layout, Done, Pool, cell_for, resize_there}
 use Rattle.vc_pool_cells.specs.Blocks.{layout_by}
 use Rattle.vc_pool_cells.specs.Call.{Becomes}
 use Rattle.vc_pool_cells.specs.Kept.{IsPool}

@@ -1,4 +1,4 @@
-use Rattle.std.proofs.Common.{arith}
+use Rattle.vc_base.proofs.Common.{arith}
 use Rattle.vc_pool.proofs.PoolAfterCalls.{pairs-length}
 use Rattle.vc_pool.proofs.pool.Pool.segment_count.Goals as goal
 

@@ -1,4 +1,4 @@
-use Rattle.std.proofs.Common.{ℕ, List, drop, map, ap, sym, ◌∙◌}
+use Rattle.vc_base.proofs.Common.{ℕ, List, map, drop, sym, ap, ◌∙◌}
 use Rattle.vc_layouts.specs.Tally.{tally_of}
 use Rattle.vc_pool_cells.specs.Blocks.{pair_of}
 use Rattle.vc_pool_cells.specs.Place.{cells_in}

@@ -1,9 +1,4 @@
-use Rattle.std.proofs.Common.{◌≡◌, ℕ, ◌++◌, List, take, drop, length, ap, sym, subst, ◌∙◌, arith}
-use Rattle.std.proofs.lemmas.List.{with_items_is}
-use Rattle.vc_model.specs.Addr.{place_of}
-use Rattle.vc_model.specs.Layout.{Layout, without_block}
-use Rattle.vc_model.specs.Pool.{Pool, cell_for}
-use Rattle.vc_model.specs.Touch.{with_bytes_at}
+use Rattle.vc_base.proofs.Common.{◌≡◌, ℕ, List, ◌++◌, length, take, drop, sym, ap, ◌∙◌, subst, arith, with_items_is, place_of, Layout, without_block, Pool, cell_for, with_bytes_at}
 use Rattle.vc_pool_cells.specs.Blocks.{layout_by}
 use Rattle.vc_pool_cells.specs.Call.{Becomes}
 use Rattle.vc_pool_cells.specs.Kept.{IsPool}

@@ -1,8 +1,4 @@
-use Rattle.std.proofs.Common.{◌≡◌, ℕ, ◌-◌, ◌/◌, ◌%◌, ◌<◌, ◌≤◌, length, refl, ap, sym, ◌∙◌, subst, arith}
-use Rattle.std.specs.Prelude.{vec_len}
-use Rattle.std.proofs.lemmas.List.{get_or_default}
-use Rattle.vc_model.specs.Addr.{address}
-use Rattle.vc_model.specs.Pool.{cell_offset}
+use Rattle.vc_base.proofs.Common.{◌≡◌, ℕ, ◌-◌, ◌/◌, ◌%◌, ◌<◌, ◌≤◌, length, vec_len, sym, refl, ap, ◌∙◌, subst, arith, get_or_default, address, cell_offset}
 use Rattle.vc_pool_cells.specs.Cells.{Cells, cells_of, pair_at}
 use Rattle.vc_pool_cells.specs.Place.{cells_in}
 use Rattle.vc_pool_cells.specs.declared.segment.PoolSegment.{PoolSegment}

@@ -1,5 +1,4 @@
-use Rattle.std.proofs.Common.{◌<◌, ◌≤◌, ⊎_elim, arith}
-use Rattle.std.proofs.lemmas.Bool.{cases_lt}
+use Rattle.vc_base.proofs.Common.{◌<◌, ◌≤◌, ⊎_elim, arith, cases_lt}
 use Rattle.vc_pool.proofs.BlockSizes.{fresh-at}
 use Rattle.vc_pool.proofs.walks.first.first_block.Goals as goal
 

@@ -1,4 +1,4 @@
-use Rattle.std.proofs.Common.{ℕ, ◌-◌, ◌<◌, ◌≤◌}
+use Rattle.vc_base.proofs.Common.{ℕ, ◌-◌, ◌<◌, ◌≤◌}
 use Rattle.vc_pool_cells.specs.Place.{cells_in}
 use Rattle.vc_pool.specs.First.{IsBare}
 use Rattle.vc_pool.proofs.walks.next.first_above.Given as goal

@@ -1,6 +1,4 @@
-use Rattle.std.proofs.Common.{◌≡◌, ◌<◌, ◌%◌, ℕ, length, ap, sym, ◌∙◌, subst, arith}
-use Rattle.vc_model.specs.Addr.{address}
-use Rattle.vc_model.specs.Pool.{cell_for, cell_offset}
+use Rattle.vc_base.proofs.Common.{◌≡◌, ℕ, ◌%◌, ◌<◌, length, sym, ap, ◌∙◌, subst, arith, address, cell_for, cell_offset}
 use Rattle.vc_pool_cells.specs.Cells.{Cells}
 use Rattle.vc_pool_cells.proofs.SegmentList.{cells-none}
 use Rattle.vc_pool.specs.First.{AreEmpty, IsFirstBlock}

@@ -1,5 +1,4 @@
-use Rattle.std.proofs.Common.{◌≡◌, List, drop, ap, ◌∙◌, arith}
-use Rattle.std.proofs.lemmas.List.{drop_all}
+use Rattle.vc_base.proofs.Common.{◌≡◌, List, drop, ap, ◌∙◌, arith, drop_all}
 use Rattle.vc_pool_cells.specs.Freed.{cell_total}
 use Rattle.vc_pool_cells.specs.Place.{cells_in}
 use Rattle.vc_pool_cells.specs.declared.segment.PoolSegment.{PoolSegment}

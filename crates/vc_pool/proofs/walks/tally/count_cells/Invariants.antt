@@ -1,4 +1,4 @@
-use Rattle.std.proofs.Common.{◌≡◌, ◌+◌, drop}
+use Rattle.vc_base.proofs.Common.{◌≡◌, ◌+◌, drop}
 use Rattle.vc_pool_cells.specs.Freed.{cell_total}
 use Rattle.vc_pool_cells.specs.Place.{cells_in}
 use Rattle.vc_pool.proofs.walks.tally.count_cells.Given as goal

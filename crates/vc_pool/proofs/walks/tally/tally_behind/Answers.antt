@@ -1,4 +1,4 @@
-use Rattle.std.proofs.Common.{◌≤◌, ℕ, List, [], map, ap, sym, ◌∙◌, subst}
+use Rattle.vc_base.proofs.Common.{ℕ, ◌≤◌, List, [], map, sym, ap, ◌∙◌, subst}
 use Rattle.vc_layouts.specs.declared.tally.Tally.{Tally}
 use Rattle.vc_layouts.specs.Tally.{HasRoom, tally_of}
 use Rattle.vc_pool_cells.specs.Place.{cells_in}

@@ -1,4 +1,4 @@
-use Rattle.std.proofs.Common.{◌≡◌, drop}
+use Rattle.vc_base.proofs.Common.{◌≡◌, drop}
 use Rattle.vc_layouts.specs.Tally.{HasRoom, tallied_all, tally_of}
 use Rattle.vc_pool_cells.specs.Place.{cells_in}
 use Rattle.vc_pool.proofs.BlockSizes.{sizes_of}

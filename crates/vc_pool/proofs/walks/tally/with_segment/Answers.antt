@@ -1,4 +1,4 @@
-use Rattle.std.proofs.Common.{◌≡◌, ℕ, List, take, ap, sym, ◌∙◌, subst}
+use Rattle.vc_base.proofs.Common.{◌≡◌, ℕ, List, take, sym, ap, ◌∙◌, subst}
 use Rattle.vc_layouts.specs.Tally.{HasRoom, tallied_all}
 use Rattle.vc_pool.specs.Sizes.{sizes_in}
 use Rattle.vc_pool.proofs.BlockSizes.{sizes-front}

@@ -1,4 +1,4 @@
-use Rattle.std.proofs.Common.{arith}
+use Rattle.vc_base.proofs.Common.{arith}
 use Rattle.vc_pool_cells.proofs.BlockPlaces.{offset-multiple}
 use Rattle.vc_pool_cells.proofs.segment.PoolSegment.release.Goals as goal
 

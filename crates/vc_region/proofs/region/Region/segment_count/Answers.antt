@@ -1,5 +1,4 @@
-use Rattle.std.proofs.Common.{length, ap, ◌∙◌, arith}
-use Rattle.std.proofs.lemmas.List.{length-map}
+use Rattle.vc_base.proofs.Common.{length, ap, ◌∙◌, arith, length-map}
 use Rattle.vc_seg.specs.Segment.{pair_of}
 use Rattle.vc_region.specs.Parts.{segments_in}
 use Rattle.vc_region.proofs.KeptSegments.{best-segments, last-segments}

@@ -1,4 +1,4 @@
-use Rattle.std.proofs.Common.{ℕ, List, drop, map, sym, ap, subst, ◌∙◌}
+use Rattle.vc_base.proofs.Common.{ℕ, List, map, drop, sym, ap, ◌∙◌, subst}
 use Rattle.vc_layouts.specs.Tally.{tally_of}
 use Rattle.vc_seg.specs.Segment.{AreSegments, pair_of}
 use Rattle.vc_region.specs.Parts.{segments_in}

@@ -1,5 +1,4 @@
-use Rattle.std.proofs.Common.{ℕ, ap}
-use Rattle.vc_model.specs.Layout.{Layout}
+use Rattle.vc_base.proofs.Common.{ℕ, ap, Layout}
 use Rattle.vc_region_tests.proofs.Lents.{lent-same}
 use Rattle.vc_region_tests.proofs.best.calls.free.Goals as goal
 

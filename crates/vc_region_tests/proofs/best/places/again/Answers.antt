@@ -1,4 +1,4 @@
-use Rattle.std.proofs.Common.{refl, arith}
+use Rattle.vc_base.proofs.Common.{refl, arith}
 use Rattle.vc_region_tests.proofs.best.places.again.Goals as goal
 
 pub take-requires-2-clause-align : goal.take-requires-2-clause-align

@@ -1,4 +1,4 @@
-use Rattle.std.proofs.Common.{refl, arith}
+use Rattle.vc_base.proofs.Common.{refl, arith}
 use Rattle.vc_region_tests.proofs.best.places.by_alignment.Goals as goal
 
 pub take-requires-clause-align : goal.take-requires-clause-align

@@ -1,5 +1,4 @@
-use Rattle.std.proofs.Common.{◌≡◌, ℕ, ◌+◌, ◌<◌, ◌≤◌, List, [], ◌∷◌, IfSome, IsSomeAnd, refl, ap, sym, subst, ◌∙◌, arith}
-use Rattle.vc_model.specs.Segments.{span}
+use Rattle.vc_base.proofs.Common.{◌≡◌, ℕ, ◌+◌, ◌<◌, ◌≤◌, List, [], ◌∷◌, IsSomeAnd, IfSome, sym, refl, ap, ◌∙◌, subst, arith, span}
 use Rattle.vc_extent.specs.Extent.{Extent, busy_extent, free_extent, no_links}
 use Rattle.vc_extent.specs.Change.{split}
 use Rattle.vc_extent.specs.Tiling.{change_extent, extent_of, next_of, tiling}

@@ -1,4 +1,4 @@
-use Rattle.std.proofs.Common.{◌∙◌}
+use Rattle.vc_base.proofs.Common.{◌∙◌}
 use Rattle.vc_extent.specs.Tiling.{tiling}
 use Rattle.vc_region_tests.proofs.Known.{again-one, one-there, there}
 use Rattle.vc_region_tests.proofs.extent.calls.ends.Goals as goal

@@ -1,4 +1,4 @@
-use Rattle.std.proofs.Common.{length, ap, arith}
+use Rattle.vc_base.proofs.Common.{length, ap, arith}
 use Rattle.vc_seg.specs.Segment.{Bytes}
 use Rattle.vc_region_tests.proofs.Stages.{only-length, only-size}
 use Rattle.vc_region_tests.proofs.extent.heads.same_head.Goals as goal

@@ -1,4 +1,4 @@
-use Rattle.std.proofs.Common.{arith}
+use Rattle.vc_base.proofs.Common.{arith}
 use Rattle.vc_extent.specs.Tiling.{tiling}
 use Rattle.vc_region_tests.proofs.Known.{first-busy, second-busy}
 use Rattle.vc_region_tests.proofs.extent.two.bodies.Goals as goal

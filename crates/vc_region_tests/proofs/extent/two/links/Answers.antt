@@ -1,4 +1,4 @@
-use Rattle.std.proofs.Common.{[], ◌∷◌, refl, ap, ◌∙◌, arith}
+use Rattle.vc_base.proofs.Common.{[], ◌∷◌, refl, ap, ◌∙◌, arith}
 use Rattle.vc_extent.specs.Extent.{free_extent, no_links}
 use Rattle.vc_extent.specs.Change.{set_link, with_link}
 use Rattle.vc_extent.specs.Tiling.{change_extent, tiling}

@@ -1,5 +1,4 @@
-use Rattle.std.proofs.Common.{◌≡◌, ℕ, ◌+◌, ◌≤◌, List, [], ◌∷◌, replicate, refl, sym, subst, arith}
-use Rattle.vc_model.specs.Segments.{span}
+use Rattle.vc_base.proofs.Common.{◌≡◌, ℕ, ◌+◌, ◌≤◌, List, [], ◌∷◌, replicate, sym, refl, subst, arith, span}
 use Rattle.vc_extent.specs.Extent.{Extent, busy_extent, free_extent, no_links}
 use Rattle.vc_extent.specs.Change.{with_link}
 use Rattle.vc_extent.specs.Tiling.{extent_of, tiling}

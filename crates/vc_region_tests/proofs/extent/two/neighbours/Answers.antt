@@ -1,4 +1,4 @@
-use Rattle.std.proofs.Common.{[], ◌∷◌, arith}
+use Rattle.vc_base.proofs.Common.{[], ◌∷◌, arith}
 use Rattle.vc_extent.specs.Extent.{free_extent, no_links}
 use Rattle.vc_extent.specs.Tiling.{tiling}
 use Rattle.vc_region_tests.proofs.Known.{named-there}

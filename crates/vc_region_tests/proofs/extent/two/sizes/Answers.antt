@@ -1,5 +1,4 @@
-use Rattle.std.proofs.Common.{◌≡◌, ℕ, ◌≤◌, [], ◌∷◌, sym, subst, arith}
-use Rattle.vc_model.specs.Segments.{span}
+use Rattle.vc_base.proofs.Common.{◌≡◌, ℕ, ◌≤◌, [], ◌∷◌, sym, subst, arith, span}
 use Rattle.vc_extent.specs.Tiling.{extent_of, tiling}
 use Rattle.vc_region_tests.proofs.Known.{first-busy, first-size, first-span, first-written, sized}
 use Rattle.vc_region_tests.proofs.extent.two.sizes.Goals as goal

@@ -1,4 +1,4 @@
-use Rattle.std.proofs.Common.{◌≡◌, [], ◌∷◌, true, refl, ◌∙◌}
+use Rattle.vc_base.proofs.Common.{◌≡◌, true, [], ◌∷◌, refl, ◌∙◌}
 use Rattle.vc_extent.specs.Tiling.{tiling}
 use Rattle.vc_gaps.specs.ButLinks.{plain}
 use Rattle.vc_gaps.specs.GapLaws.{is_free-stays}

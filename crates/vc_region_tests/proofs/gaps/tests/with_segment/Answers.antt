@@ -1,4 +1,4 @@
-use Rattle.std.proofs.Common.{◌-◌, [], ◌∷◌, length, refl, sym, subst, arith}
+use Rattle.vc_base.proofs.Common.{◌-◌, [], ◌∷◌, length, sym, refl, subst, arith}
 use Rattle.vc_base.proofs.Members.{within-head}
 use Rattle.vc_extent.specs.Tiling.{IsFree, tiling}
 use Rattle.vc_gaps.specs.GapTree.{HasGaps}

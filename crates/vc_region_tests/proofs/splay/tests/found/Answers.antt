@@ -1,4 +1,4 @@
-use Rattle.std.proofs.Common.{[], ◌∷◌, refl, arith}
+use Rattle.vc_base.proofs.Common.{[], ◌∷◌, refl, arith}
 use Rattle.vc_region_tests.proofs.ToyLemmas.{is_in}
 use Rattle.vc_region_tests.proofs.splay.tests.found.Goals as goal
 

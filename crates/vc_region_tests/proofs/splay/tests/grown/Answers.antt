@@ -1,4 +1,4 @@
-use Rattle.std.proofs.Common.{[], ◌∷◌, refl, arith}
+use Rattle.vc_base.proofs.Common.{[], ◌∷◌, refl, arith}
 use Rattle.vc_region_tests.proofs.ToyLemmas.{holds_none}
 use Rattle.vc_region_tests.proofs.splay.tests.grown.Goals as goal
 

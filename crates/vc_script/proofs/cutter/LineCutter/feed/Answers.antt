@@ -1,4 +1,4 @@
-use Rattle.std.proofs.Common.{rules, ℕ, ◌+◌, ◌<◌, ◌≤◌, [], length, sym, ap, ◌∙◌, arith, List, false}
+use Rattle.vc_base.proofs.Common.{ℕ, ◌+◌, ◌<◌, ◌≤◌, false, List, [], length, sym, ap, ◌∙◌, arith, rules}
 use Rattle.vc_script.specs.declared.line_fault.LineFault.TheVariants.{LineTooLong}
 use Rattle.vc_script.specs.declared.cutter.Cut.TheVariants.{Whole, More, Bad}
 use Rattle.vc_script.specs.contracts.cutter.LineCutter.{the_view}

@@ -1,5 +1,5 @@
 -- A `&` to the owner of bytes is made where one to the bytes is. Assumes `Logic`.
-use Rattle.std.proofs.Common.{ℕ, ◌^◌, List, length}
+use Rattle.vc_base.proofs.Common.{ℕ, ◌^◌, List, length}
 use seplogic.Ra.Ura.{Ura}
 use mir.Syntax.{Ty}
 use base.Fraction.{full_share}

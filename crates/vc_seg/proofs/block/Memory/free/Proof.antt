@@ -1,5 +1,5 @@
 -- `free` gives the words back with their token. Assumes `Logic`.
-use Rattle.std.proofs.Common.{◌≡◌, ℕ, ◌*◌, ◌/◌, List, [], ◌∷◌, ◌++◌, refl, ap, ◌∙◌, arith, lit<}
+use Rattle.vc_base.proofs.Common.{◌≡◌, ℕ, ◌*◌, ◌/◌, List, [], ◌∷◌, ◌++◌, refl, ap, ◌∙◌, arith, lit<}
 use mir.Syntax.{Ty, Fn, Args, a_type, dcons, dnil, place}
 use mir.Val.{Val, vptr, vunit}
 use mir.MapTy.{inst_fn}

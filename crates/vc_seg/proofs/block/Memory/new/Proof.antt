@@ -1,5 +1,5 @@
 -- `new` asks for words, and has their room as bytes. Assumes `Logic`.
-use Rattle.std.proofs.Common.{◌≡◌, ◌*◌, ◌/◌, List, [], ◌∷◌, ◌++◌, refl, ◌∙◌, arith, lit<, w64, Some, None}
+use Rattle.vc_base.proofs.Common.{◌≡◌, ◌*◌, ◌/◌, List, [], ◌∷◌, ◌++◌, Some, None, refl, ◌∙◌, arith, lit<, w64, IsSegmentSize}
 use mir.Syntax.{Ty, Fn, Args, a_type, dcons, dnil}
 use mir.Val.{Val, vint, vptr, vcons, vnil}
 use mir.MapTy.{inst_fn}
@@ -32,7 +32,6 @@ use Rattle.std_alloc.proofs.Pairs.{pair_of, pair_val}
 use Rattle.std.proofs.raw_atomic.Walks.{proved_at, leaves}
 use Rattle.vc_seg.proofs.Walks.{slot_at, then_runs}
 use Rattle.vc_seg.proofs.Values.{sized_val, sized_own, sized_made, lease_val, lease_own, lease_made}
-use Rattle.vc_model.specs.Discipline.{IsSegmentSize}
 use Rattle.vc_seg.specs.Owned.{bytes_type, words_type}
 use Rattle.vc_seg.specs.contracts.block.Memory as memory
 use Rattle.vc_seg.specs.contracts.block.Lease as lease

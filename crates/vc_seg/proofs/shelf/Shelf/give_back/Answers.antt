@@ -1,5 +1,4 @@
-use Rattle.std.proofs.Common.{Some, rules}
-use Rattle.std.proofs.lemmas.List.{map-set}
+use Rattle.vc_base.proofs.Common.{Some, rules, map-set}
 use Rattle.vc_seg.proofs.Slots.{place_at-set, number_within}
 use Rattle.vc_seg.proofs.shelf.Shelf.give_back.Goals as goal
 

@@ -1,4 +1,4 @@
-use Rattle.std.proofs.Common.{Some, arith}
+use Rattle.vc_base.proofs.Common.{Some, arith}
 use Rattle.vc_seg.proofs.Slots.{place_at-push}
 use Rattle.vc_seg.proofs.shelf.Shelf.put.Goals as goal
 

@@ -1,5 +1,4 @@
-use Rattle.std.proofs.Common.{Option, OnSome, Some, None, arith}
-use Rattle.std.proofs.lemmas.List.{map-set}
+use Rattle.vc_base.proofs.Common.{OnSome, Some, None, Option, arith, map-set}
 use Rattle.vc_seg.proofs.Slots.{place_at-set}
 use Rattle.vc_seg.proofs.shelf.Shelf.take.Goals as goal
 

@@ -1,4 +1,4 @@
-use Rattle.std.proofs.Common.{[], ◌∙◌, subst, sym}
+use Rattle.vc_base.proofs.Common.{[], sym, ◌∙◌, subst}
 use Rattle.vc_steps.specs.DictHomes.{AreDicts}
 use Rattle.vc_steps.specs.Homes.{held_in_session}
 use Rattle.vc_steps.proofs.SessionEnd.{no-dicts}

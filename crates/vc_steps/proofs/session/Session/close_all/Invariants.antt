@@ -1,5 +1,4 @@
-use Rattle.std.proofs.Common.{◌≡◌, [], length}
-use Rattle.vc_model.specs.Discipline.{Discipline}
+use Rattle.vc_base.proofs.Common.{◌≡◌, [], length, Discipline}
 use Rattle.vc_steps.specs.Homes.{HoldsRegions, settled_over}
 use Rattle.vc_steps.proofs.session.Session.close_all.Given as goal
 

@@ -1,6 +1,4 @@
-use Rattle.std.proofs.Common.{◌≡◌, ◌<◌, ◌-◌, refl, Some, IfSome, set, length, arith, ap, ◌∙◌, subst, sym, false}
-use Rattle.std.specs.Prelude.{remove}
-use Rattle.vc_model.specs.Discipline.{Discipline}
+use Rattle.vc_base.proofs.Common.{◌≡◌, ◌-◌, ◌<◌, false, length, set, IfSome, Some, remove, sym, refl, ap, ◌∙◌, subst, arith, Discipline}
 use Rattle.vc_region.specs.Region.{segments_of}
 use Rattle.vc_seg.specs.Shelf.{standing}
 use Rattle.vc_commands.specs.Held.{Held}

@@ -1,6 +1,4 @@
-use Rattle.std.proofs.Common.{◌≡◌, ◌-◌, Some, length, set, ap, ◌∙◌, sym, false}
-use Rattle.std.specs.Prelude.{remove, slice_get}
-use Rattle.vc_model.specs.Discipline.{Discipline}
+use Rattle.vc_base.proofs.Common.{◌≡◌, ◌-◌, false, length, set, slice_get, Some, remove, sym, ap, ◌∙◌, Discipline}
 use Rattle.vc_region.specs.Region.{segments_of}
 use Rattle.vc_script.specs.declared.reply.Reply.TheVariants.{Closed}
 use Rattle.vc_commands.specs.declared.region.home.HomeEntry.{HomeEntry}

@@ -1,8 +1,4 @@
-use Rattle.std.proofs.Common.{◌≡◌, ◌&&◌, true, false, length, sym, ap, ◌∙◌, arith}
-use Rattle.std.specs.Prelude.{nat_le}
-use Rattle.std.proofs.lemmas.Bool.Decides.{nat_tests}
-use Rattle.std.proofs.lemmas.List.{length-map}
-use Rattle.vc_model.specs.Discipline.{Discipline}
+use Rattle.vc_base.proofs.Common.{◌≡◌, true, false, ◌&&◌, length, nat_le, sym, ap, ◌∙◌, arith, nat_tests, length-map, Discipline}
 use Rattle.vc_steps.specs.Told.{rules_in}
 use Rattle.vc_steps.proofs.RefusedAt.{AskedAt, why-exists, why-full, why-kind, why-method}
 use Rattle.vc_steps.proofs.session.Session.dict_refused.Given as given

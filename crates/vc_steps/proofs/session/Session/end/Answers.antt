@@ -1,5 +1,4 @@
-use Rattle.std.proofs.Common.{ap, ◌∙◌}
-use Rattle.vc_model.specs.Discipline.{Discipline}
+use Rattle.vc_base.proofs.Common.{ap, ◌∙◌, Discipline}
 use Rattle.vc_views.specs.Numbers.{views_by}
 use Rattle.vc_views.proofs.LinkChanges.{linked-none}
 use Rattle.vc_steps.specs.Homes.{held_in_session}

@@ -1,8 +1,5 @@
-use Rattle.std.proofs.Common.{rules, sym, ◌∙◌, subst, Bor}
-use Rattle.std.specs.Iterator.{AlwaysYields}
-use Rattle.std.specs.Map.{values_of}
-use Rattle.std.specs.Map.Iter.{TakesFirst, deref}
-use Rattle.std.specs.Str.{bytes_eq}
+use Rattle.vc_base.proofs.Common.{bytes_eq, sym, ◌∙◌, subst, Bor, rules, AlwaysYields, TakesFirst, values_of}
+use Rattle.std.specs.Map.Iter.{deref}
 use Rattle.std.proofs.lemmas.Iterator.{YieldsList}
 use Rattle.std.proofs.lemmas.Iterator.Search.{any_from_yields_List}
 use Rattle.vc_base.proofs.Quantifiers.{any-map}

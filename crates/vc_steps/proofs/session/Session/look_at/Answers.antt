@@ -1,6 +1,5 @@
-use Rattle.std.proofs.Common.{refl, sym, subst}
+use Rattle.vc_base.proofs.Common.{sym, refl, subst, Discipline}
 use Rattle.std.proofs.lemmas.Option.{slice_get_within}
-use Rattle.vc_model.specs.Discipline.{Discipline}
 use Rattle.vc_paths.specs.Path.{IsPath}
 use Rattle.vc_views.specs.Promises.{layered_over}
 use Rattle.vc_steps.proofs.LookSteps.{dicts-looked, linked-looked, named-looked, session-looked, settled-looked, steps-looked}

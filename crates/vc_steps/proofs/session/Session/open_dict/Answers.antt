@@ -1,11 +1,5 @@
-use Rattle.std.proofs.Common.{◌≡◌, ◌-◌, ◌≤◌, rules, false, is_some, [], ◌∷◌, ◌++◌, Some, None, length, option_map, refl, sym, ap, ◌∙◌, subst, arith}
-use Rattle.std.specs.Prelude.{nat_le, slice_get}
-use Rattle.std.specs.Map.{lookup}
-use Rattle.std.specs.Str.{bytes_eq}
-use Rattle.std.proofs.lemmas.List.{length-map}
-use Rattle.std.proofs.lemmas.Option.{slice_get-map}
+use Rattle.vc_base.proofs.Common.{◌≡◌, ◌-◌, ◌≤◌, false, [], ◌∷◌, ◌++◌, length, is_some, nat_le, slice_get, Some, None, option_map, bytes_eq, sym, refl, ap, ◌∙◌, subst, arith, rules, length-map, slice_get-map, lookup, Discipline}
 use Rattle.indexmap.proofs.CallerLemmas.{insert_entry-new}
-use Rattle.vc_model.specs.Discipline.{Discipline}
 use Rattle.vc_base.proofs.Options.{none_of}
 use Rattle.vc_views.proofs.Firsts.{no-other}
 use Rattle.vc_region.specs.Cells.{rest_in}

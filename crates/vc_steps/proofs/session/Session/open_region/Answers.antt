@@ -1,10 +1,5 @@
-use Rattle.std.proofs.Common.{◌≡◌, ◌-◌, ◌++◌, ◌∷◌, [], false, set, Some, None, is_some, refl, sym, ap, arith, ◌∙◌}
-use Rattle.std.specs.Map.{lookup}
-use Rattle.std.specs.Str.{bytes_eq}
-use Rattle.std.proofs.lemmas.Bool.{false≢true}
-use Rattle.std.proofs.lemmas.List.{set-set}
+use Rattle.vc_base.proofs.Common.{◌≡◌, ◌-◌, false, [], ◌∷◌, ◌++◌, set, is_some, Some, None, bytes_eq, sym, refl, ap, ◌∙◌, arith, set-set, false≢true, lookup, Discipline}
 use Rattle.indexmap.proofs.CallerLemmas.{insert_entry-new}
-use Rattle.vc_model.specs.Discipline.{Discipline}
 use Rattle.vc_base.proofs.Options.{none_of}
 use Rattle.vc_seg.specs.Shelf.{place_at, slots_of}
 use Rattle.vc_script.specs.declared.reply.Reply.TheVariants.{Opened, Refused}

@@ -1,11 +1,4 @@
-use Rattle.std.proofs.Common.{◌≡◌, ◌<◌, ◌≤◌, ◌-◌, false, Some, length, refl, set, ap, ◌∙◌, subst, sym}
-use Rattle.std.proofs.lemmas.List.{map-set}
-use Rattle.std.proofs.lemmas.Option.{same_Some}
-use Rattle.std.specs.Prelude.{slice_get}
-use Rattle.std.specs.List.{position}
-use Rattle.std.specs.Map.{keys_of}
-use Rattle.std.specs.Str.{bytes_eq}
-use Rattle.vc_model.specs.Discipline.{Discipline}
+use Rattle.vc_base.proofs.Common.{◌≡◌, ◌-◌, ◌<◌, ◌≤◌, false, length, set, slice_get, Some, position, bytes_eq, sym, refl, ap, ◌∙◌, subst, map-set, same_Some, keys_of, Discipline}
 use Rattle.vc_views.proofs.Firsts.{no-other}
 use Rattle.vc_commands.specs.declared.dict.entry.DictEntry.{DictEntry}
 use Rattle.vc_views.specs.Numbers.{is_barred}

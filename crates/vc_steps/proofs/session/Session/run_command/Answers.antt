@@ -1,4 +1,4 @@
-use Rattle.std.proofs.Common.{◌≡◌, List, Some, None, rules, refl, sym, ap, ◌∙◌}
+use Rattle.vc_base.proofs.Common.{◌≡◌, List, Some, None, sym, refl, ap, ◌∙◌, rules}
 use Rattle.vc_dtdisc.specs.Rules.{Gone}
 use Rattle.vc_steps.specs.Dicts.{dict_of, dict_step}
 use Rattle.vc_steps.specs.Step.{shelf_step, step, step_of, step_on}

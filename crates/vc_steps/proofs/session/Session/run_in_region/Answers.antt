@@ -1,6 +1,4 @@
-use Rattle.std.proofs.Common.{Some, map, refl, ◌∙◌, subst, sym}
-use Rattle.std.proofs.lemmas.Bool.{and_parts}
-use Rattle.vc_model.specs.Discipline.{Discipline}
+use Rattle.vc_base.proofs.Common.{map, Some, sym, refl, ◌∙◌, subst, and_parts, Discipline}
 use Rattle.vc_commands.specs.Held.{home_of}
 use Rattle.vc_views.specs.Numbers.{views_by}
 use Rattle.vc_steps.specs.Account.{IsSession}

@@ -1,9 +1,6 @@
-use Rattle.std.proofs.Common.{◌≡◌, ◌<◌, false, ap, sym, ◌∙◌, subst}
-use Rattle.std.specs.Prelude.{slice_get}
-use Rattle.vc_model.specs.Discipline.{Discipline}
+use Rattle.vc_base.proofs.Common.{◌≡◌, ◌<◌, false, slice_get, sym, ap, ◌∙◌, subst, same_Some, Discipline}
 use Rattle.vc_script.specs.Needs.{NoNeed, need_shown}
 use Rattle.vc_script.specs.declared.command.Command.TheVariants.{View}
-use Rattle.std.proofs.lemmas.Option.{same_Some}
 use Rattle.vc_script.specs.declared.refusal.Refusal.TheVariants.{NoDictionary, Viewed}
 use Rattle.vc_script.specs.declared.reply.Reply.TheVariants.{Refused}
 use Rattle.vc_commands.specs.Held.{home_of}

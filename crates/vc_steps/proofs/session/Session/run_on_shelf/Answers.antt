@@ -1,5 +1,4 @@
-use Rattle.std.proofs.Common.{refl}
-use Rattle.vc_model.specs.Discipline.{Discipline}
+use Rattle.vc_base.proofs.Common.{refl, Discipline}
 use Rattle.vc_script.specs.declared.command.Command.TheVariants.{CloseRegion}
 use Rattle.vc_steps.specs.Homes.{state_over}
 use Rattle.vc_steps.specs.Moment.{moment}

@@ -1,7 +1,5 @@
-use Rattle.std.proofs.Common.{◌≡◌, false, ap, ◌∙◌, subst, sym, refl, arith}
-use Rattle.std.specs.List.{flat_map}
+use Rattle.vc_base.proofs.Common.{◌≡◌, false, slice_get, flat_map, sym, refl, ap, ◌∙◌, subst, arith}
 use Rattle.vc_objects.specs.Remove.{bytes_of}
-use Rattle.std.specs.Prelude.{slice_get}
 use Rattle.vc_paths.specs.Links.{is_viewed}
 use Rattle.vc_views.specs.Numbers.{views_by}
 use Rattle.vc_views.proofs.LinkChanges.{unviewed-all}

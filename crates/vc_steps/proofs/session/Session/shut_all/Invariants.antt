@@ -1,5 +1,4 @@
-use Rattle.std.proofs.Common.{◌≡◌, ℕ, None, length}
-use Rattle.vc_model.specs.Discipline.{Discipline}
+use Rattle.vc_base.proofs.Common.{◌≡◌, ℕ, length, None, Discipline}
 use Rattle.vc_paths.specs.Links.{below}
 use Rattle.vc_steps.specs.Homes.{IsSessionOver, settled_over, state_over}
 use Rattle.vc_steps.specs.Told.{ended_told, gone_in, rules_in, tell}

@@ -1,9 +1,5 @@
-use Rattle.std.proofs.Common.{◌≤◌, ◌≡◌, ◌-◌, ◌<◌, false, is_some, Some, length, set, refl, sym, ap, ◌∙◌, subst, arith}
-use Rattle.std.specs.Prelude.{slice_get}
-use Rattle.std.proofs.lemmas.List.{map-set}
-use Rattle.std.proofs.lemmas.Option.{same_Some}
+use Rattle.vc_base.proofs.Common.{◌≡◌, ◌-◌, ◌<◌, ◌≤◌, false, length, set, is_some, slice_get, Some, sym, refl, ap, ◌∙◌, subst, arith, map-set, same_Some, Discipline}
 use Rattle.indexmap.specs.IndexMap.{set_value_at}
-use Rattle.vc_model.specs.Discipline.{Discipline}
 use Rattle.vc_views.proofs.Firsts.{no-other}
 use Rattle.vc_objects.specs.Objects.{Dictionary}
 use Rattle.vc_objects.specs.Parts.{IsWhole}

@@ -1,5 +1,4 @@
-use Rattle.std.proofs.Common.{map, sym, ap, ◌∙◌}
-use Rattle.vc_model.specs.Discipline.{Discipline}
+use Rattle.vc_base.proofs.Common.{map, sym, ap, ◌∙◌, Discipline}
 use Rattle.vc_commands.proofs.Firsts.{find-none}
 use Rattle.vc_commands.specs.Held.{IsNamed, home_of}
 use Rattle.vc_commands.specs.Home.{is_home}

@@ -1,5 +1,4 @@
-use Rattle.std.proofs.Common.{map, refl, sym, ap, ◌∙◌}
-use Rattle.std.specs.Prelude.{find}
+use Rattle.vc_base.proofs.Common.{map, find, sym, refl, ap, ◌∙◌}
 use Rattle.vc_paths.specs.Layers.{Layer, place_with}
 use Rattle.vc_views.specs.Dicts.{has_number, layer_seen, region_seen}
 use Rattle.vc_views.specs.LayerLaws.{found-there, layer-found}

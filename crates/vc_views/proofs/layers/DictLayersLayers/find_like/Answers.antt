@@ -1,4 +1,4 @@
-use Rattle.std.proofs.Common.{map}
+use Rattle.vc_base.proofs.Common.{map}
 use Rattle.vc_views.specs.Dicts.{region_seen}
 use Rattle.vc_views.proofs.NumberLayers.{kind-known, object-within}
 use Rattle.vc_views.proofs.layers.DictLayersLayers.find_like.Goals as goal

@@ -1,4 +1,4 @@
-use Rattle.std.proofs.Common.{map}
+use Rattle.vc_base.proofs.Common.{map}
 use Rattle.vc_views.specs.Dicts.{region_seen}
 use Rattle.vc_views.proofs.NumberLayers.{kind-told}
 use Rattle.vc_views.proofs.layers.DictLayersLayers.kind_number.Goals as goal

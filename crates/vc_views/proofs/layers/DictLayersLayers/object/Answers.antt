@@ -1,4 +1,4 @@
-use Rattle.std.proofs.Common.{map, Some, ap, sym, ◌∙◌}
+use Rattle.vc_base.proofs.Common.{map, Some, sym, ap, ◌∙◌}
 use Rattle.vc_best.specs.Cells.{cells_in}
 use Rattle.vc_views.specs.Dicts.{region_seen}
 use Rattle.vc_views.proofs.NumberLayers.{best-there, bytes-told, has-body}

@@ -1,4 +1,4 @@
-use Rattle.std.proofs.Common.{map}
+use Rattle.vc_base.proofs.Common.{map}
 use Rattle.vc_best.specs.Cells.{cells_in}
 use Rattle.vc_views.specs.Dicts.{region_seen}
 use Rattle.vc_views.proofs.NumberLayers.{best-there, prev-told, is-in}

@@ -1,4 +1,4 @@
-use Rattle.std.proofs.Common.{arith, sym}
+use Rattle.vc_base.proofs.Common.{sym, arith}
 use Rattle.vc_audit.proofs.ProfileSites.{found-at, found-gap}
 use Rattle.vc_audit.proofs.profile.sites.Sites.find.Goals as goal
 

@@ -1,5 +1,4 @@
-use Rattle.std.proofs.Common.{◌≡◌, refl, ap, ◌∙◌, subst, sym, cond}
-use Rattle.std.specs.List.{insert}
+use Rattle.vc_base.proofs.Common.{◌≡◌, cond, insert, sym, refl, ap, ◌∙◌, subst}
 use Rattle.vc_audit.specs.ProfileSites.{IsAscending, site_at}
 use Rattle.vc_audit.proofs.ProfileSites.{changed-at, changed-gap, rises-gap}
 use Rattle.vc_audit.proofs.profile.sites.Sites.put.Goals as goal

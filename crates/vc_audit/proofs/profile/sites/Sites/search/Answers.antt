@@ -1,4 +1,4 @@
-use Rattle.std.proofs.Common.{rules}
+use Rattle.vc_base.proofs.Common.{rules}
 use Rattle.std.proofs.lemmas.List.Sorted.{answers_always}
 use Rattle.vc_audit.proofs.ProfileSites.{searched}
 use Rattle.vc_audit.proofs.profile.sites.Sites.search.Goals as goal

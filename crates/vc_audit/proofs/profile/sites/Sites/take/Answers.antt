@@ -1,4 +1,4 @@
-use Rattle.std.proofs.Common.{ap, ◌∙◌, sym, is_some, true≢false}
+use Rattle.vc_base.proofs.Common.{is_some, sym, ap, ◌∙◌, true≢false}
 use Rattle.vc_audit.specs.ProfileSites.{site_at}
 use Rattle.vc_audit.proofs.ProfileSites.{found-gap, found-remove}
 use Rattle.vc_audit.proofs.profile.sites.Sites.take.Goals as goal

@@ -1,11 +1,8 @@
-use Rattle.std.proofs.Common.{refl, sym, ap, ◌∙◌}
+use Rattle.vc_base.proofs.Common.{sym, refl, ap, ◌∙◌, place_of, Discipline, address_of}
 use Rattle.vc_region.specs.Cells.{rest_in}
 use Rattle.vc_region.specs.Parts.{region_of}
 use Rattle.vc_commands.specs.Home.{reply_alone}
 use Rattle.vc_commands.proofs.Listing.{addr-none, addr-some, places_in}
-use Rattle.vc_model.specs.Addr.{place_of}
-use Rattle.vc_model.specs.Layout.{address_of}
-use Rattle.vc_model.specs.Discipline.{Discipline}
 use Rattle.vc_region.proofs.RestFound.{rest-block_at, rest-label}
 use Rattle.vc_commands.specs.Held.{home_of}
 use Rattle.vc_commands.specs.RegionRun.{held_of}

@@ -1,7 +1,5 @@
-use Rattle.std.proofs.Common.{◌≡◌, true, false, ◌∷◌, [], List, None, Some, ℕ, ap, refl, rules, subst, sym, ◌∙◌}
+use Rattle.vc_base.proofs.Common.{◌≡◌, ℕ, true, false, List, [], ◌∷◌, Some, None, sym, refl, ap, ◌∙◌, subst, rules, and_parts, Discipline}
 use Rattle.vc_model.proofs.Keeping.{NoneRefused-same}
-use Rattle.std.proofs.lemmas.Bool.{and_parts}
-use Rattle.vc_model.specs.Discipline.{Discipline}
 use Rattle.vc_region.specs.Region.{region_align}
 use Rattle.vc_region.specs.Cells.{rest_in}
 use Rattle.vc_region.specs.Parts.{disc_in, region_of}

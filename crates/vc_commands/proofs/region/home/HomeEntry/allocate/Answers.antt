@@ -1,6 +1,5 @@
-use Rattle.std.proofs.Common.{◌≡◌, ◌≤◌, false, None, Some, ap, refl, rules, subst, sym, ◌∙◌}
+use Rattle.vc_base.proofs.Common.{◌≡◌, ◌≤◌, false, Some, None, sym, refl, ap, ◌∙◌, subst, rules, Discipline}
 use Rattle.vc_model.proofs.Keeping.{NoneRefused-same}
-use Rattle.vc_model.specs.Discipline.{Discipline}
 use Rattle.vc_region.specs.Region.{region_alloc}
 use Rattle.vc_region.specs.Cells.{rest_in}
 use Rattle.vc_region.specs.Parts.{disc_in, region_of}

@@ -1,13 +1,10 @@
-use Rattle.std.proofs.Common.{◌≡◌, ◌++◌, [], ◌∷◌, inr, sym, ap, ◌∙◌, append_assoc, append-nil}
-use Rattle.vc_model.specs.Addr.{place_of}
-use Rattle.vc_model.specs.Walk.{by_address}
+use Rattle.vc_base.proofs.Common.{◌≡◌, [], ◌∷◌, ◌++◌, sym, ap, ◌∙◌, inr, append_assoc, append-nil, place_of, Discipline, by_address}
 use Rattle.vc_region.specs.Cells.{rest_in, rest_of}
 use Rattle.vc_region.specs.Parts.{region_of}
 use Rattle.vc_region.specs.Region.{blocks_of}
 use Rattle.vc_script.specs.declared.reply.Reply.TheVariants.{BlockList}
 use Rattle.vc_commands.specs.Home.{reply_alone}
 use Rattle.vc_commands.proofs.Listing.{blocks-all, blocks_above, fewer-above, items_of, list-items, next-told, next_in, none-above, places_in}
-use Rattle.vc_model.specs.Discipline.{Discipline}
 use Rattle.vc_commands.specs.Held.{home_of}
 use Rattle.vc_commands.specs.RegionRun.{held_of}
 use Rattle.vc_region.proofs.RestFound.{rest-label, rest-size}

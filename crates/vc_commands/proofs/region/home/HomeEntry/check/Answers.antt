@@ -1,7 +1,5 @@
-use Rattle.std.proofs.Common.{cond, sym, ap, ◌∙◌}
-use Rattle.vc_model.specs.Discipline.{Discipline}
+use Rattle.vc_base.proofs.Common.{cond, filter_map, sym, ap, ◌∙◌, Discipline}
 use Rattle.vc_region.specs.Cells.{rest_in}
-use Rattle.std.specs.List.{filter_map}
 use Rattle.vc_region.specs.Region.{damaged_in}
 use Rattle.vc_region.proofs.Relabel.{debug-relabelled}
 use Rattle.vc_script.specs.declared.refusal.Refusal.TheVariants as why

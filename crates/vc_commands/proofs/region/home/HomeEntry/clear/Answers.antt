@@ -1,4 +1,4 @@
-use Rattle.std.proofs.Common.{◌≡◌, refl, sym, ap, ◌∙◌}
+use Rattle.vc_base.proofs.Common.{◌≡◌, sym, refl, ap, ◌∙◌, Discipline}
 use Rattle.vc_region.proofs.Clearing.{cleared-blocks, cleared-segments}
 use Rattle.vc_region.proofs.Keeps.{clear-keeps}
 use Rattle.vc_region.specs.Region.{blocks_of, keeps_freed, region_clear, region_with_labels, segments_of}
@@ -7,7 +7,6 @@ use Rattle.vc_region.specs.Cells.{cells_in, region_cells, rest_in, rest_of}
 use Rattle.vc_region.specs.Parts.{disc_in, region_of}
 use Rattle.vc_script.specs.declared.command.Command.TheVariants.{ClearRegion}
 use Rattle.vc_commands.specs.Held.{left_by}
-use Rattle.vc_model.specs.Discipline.{Discipline}
 use Rattle.vc_commands.specs.RegionRun.{held_of}
 use Rattle.vc_commands.specs.Labels.{name_of}
 use Rattle.vc_commands.proofs.Emptying.{change-same, cleared-names, kept-cleared, named-cleared, none-cleared}

@@ -1,9 +1,8 @@
-use Rattle.std.proofs.Common.{◌≡◌, sym, ap, ◌∙◌}
+use Rattle.vc_base.proofs.Common.{◌≡◌, sym, ap, ◌∙◌, Discipline}
 use Rattle.vc_region.proofs.Clearing.{compacted-blocks}
 use Rattle.vc_region.proofs.Relabel.{compact-relabelled, compact_count-relabelled}
 use Rattle.vc_region.specs.Region.{blocks_of, keeps_freed, region_compact, region_compact_count, region_with_labels}
 use Rattle.vc_region.proofs.Keeps.{compact-keeps}
-use Rattle.vc_model.specs.Discipline.{Discipline}
 use Rattle.vc_commands.specs.Held.{home_of}
 use Rattle.vc_commands.specs.RegionRun.{held_of}
 use Rattle.vc_commands.proofs.region.home.HomeEntry.compact.Given as given

@@ -1,8 +1,5 @@
-use Rattle.std.proofs.Common.{◌≡◌, None, List, ℕ, refl, ap, ◌∙◌, sym, subst}
+use Rattle.vc_base.proofs.Common.{◌≡◌, ℕ, List, None, sym, refl, ap, ◌∙◌, subst, place_of, Discipline, address_of}
 use Rattle.vc_model.proofs.Keeping.{NoneRefused-equal, NoneRefused-same}
-use Rattle.vc_model.specs.Addr.{place_of}
-use Rattle.vc_model.specs.Discipline.{Discipline}
-use Rattle.vc_model.specs.Layout.{address_of}
 use Rattle.vc_region.specs.Region.{blocks_of, region_with_labels, segments_of}
 use Rattle.vc_commands.specs.Labels.{kept_of, name_of}
 use Rattle.vc_region.specs.Cells.{cells_in, region_cells, rest_in}

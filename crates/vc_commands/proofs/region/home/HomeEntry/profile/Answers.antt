@@ -1,5 +1,4 @@
-use Rattle.std.proofs.Common.{cond, sym, ap, ◌∙◌}
-use Rattle.vc_model.specs.Discipline.{Discipline}
+use Rattle.vc_base.proofs.Common.{cond, sym, ap, ◌∙◌, Discipline}
 use Rattle.vc_region.specs.Cells.{rest_in}
 use Rattle.vc_region.specs.Region.{rows_in}
 use Rattle.vc_region.proofs.Relabel.{profile-relabelled, rows-relabelled}

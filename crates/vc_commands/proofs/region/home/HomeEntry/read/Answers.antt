@@ -1,8 +1,4 @@
-use Rattle.std.proofs.Common.{◌+◌, ◌≤◌, Some, ◌&&◌, sym, ap, ◌∙◌, arith, rules}
-use Rattle.std.proofs.lemmas.Grind.{common_steps}
-use Rattle.std.specs.Prelude.{nat_le}
-use Rattle.vc_model.specs.Addr.{place_of}
-use Rattle.vc_model.specs.Discipline.{Discipline}
+use Rattle.vc_base.proofs.Common.{◌+◌, ◌≤◌, ◌&&◌, nat_le, Some, sym, ap, ◌∙◌, arith, rules, common_steps, place_of, Discipline}
 use Rattle.vc_region.specs.Cells.{rest_in}
 use Rattle.vc_region.specs.Parts.{region_of}
 use Rattle.vc_script.specs.declared.refusal.Refusal.TheVariants as why

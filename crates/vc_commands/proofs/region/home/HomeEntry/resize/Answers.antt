@@ -1,6 +1,5 @@
-use Rattle.std.proofs.Common.{false, Ok, Err, IfSome, refl, sym, subst, ap}
+use Rattle.vc_base.proofs.Common.{false, IfSome, Ok, Err, sym, refl, ap, subst, Discipline}
 use Rattle.vc_model.proofs.Keeping.{NoneRefused-same, NoneRefused-served}
-use Rattle.vc_model.specs.Discipline.{Discipline}
 use Rattle.vc_region.specs.Region.{region_with_labels}
 use Rattle.vc_region.specs.Cells.{rest_in}
 use Rattle.vc_region.specs.Parts.{disc_in, region_of}

@@ -1,13 +1,11 @@
-use Rattle.std.proofs.Common.{sym, ap, ◌∙◌}
+use Rattle.vc_base.proofs.Common.{sym, ap, ◌∙◌, Discipline, segment_at}
 use Rattle.vc_region.proofs.Relabel.{segments-relabelled}
-use Rattle.vc_model.specs.Walk.{segment_at}
 use Rattle.vc_region.specs.Cells.{rest_in}
 use Rattle.vc_region.specs.Parts.{region_of}
 use Rattle.vc_region.proofs.Rest.{rest-segments}
 use Rattle.vc_commands.specs.Labels.{name_of}
 use Rattle.vc_commands.specs.Home.{reply_alone}
 use Rattle.vc_commands.specs.Whole.{segment_reply}
-use Rattle.vc_model.specs.Discipline.{Discipline}
 use Rattle.vc_commands.specs.Held.{home_of}
 use Rattle.vc_commands.specs.RegionRun.{held_of}
 use Rattle.vc_commands.proofs.region.home.HomeEntry.segment.Given as given

@@ -1,4 +1,4 @@
-use Rattle.std.proofs.Common.{◌≡◌, ◌++◌, [], ◌∷◌, length, sym, ap, ◌∙◌, append_assoc, append-nil, arith}
+use Rattle.vc_base.proofs.Common.{◌≡◌, [], ◌∷◌, ◌++◌, length, sym, ap, ◌∙◌, append_assoc, append-nil, arith, Discipline}
 use Rattle.vc_region.proofs.Relabel.{segments-relabelled}
 use Rattle.vc_model.specs.Walk.{by_number}
 use Rattle.vc_region.proofs.Sound.{own_numbers}
@@ -9,7 +9,6 @@ use Rattle.vc_script.specs.declared.reply.Reply.TheVariants.{SegmentList}
 use Rattle.vc_commands.specs.Labels.{name_of}
 use Rattle.vc_commands.specs.Home.{reply_alone}
 use Rattle.vc_commands.proofs.Listing.{segments-all, segments-end, segments-next, segments_above}
-use Rattle.vc_model.specs.Discipline.{Discipline}
 use Rattle.vc_commands.specs.Held.{home_of}
 use Rattle.vc_commands.specs.RegionRun.{held_of}
 use Rattle.vc_commands.proofs.region.home.HomeEntry.segments.Given as given

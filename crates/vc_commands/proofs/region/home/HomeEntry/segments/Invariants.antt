@@ -1,4 +1,4 @@
-use Rattle.std.proofs.Common.{◌≡◌, ◌++◌, length}
+use Rattle.vc_base.proofs.Common.{◌≡◌, ◌++◌, length}
 use Rattle.vc_region.specs.Parts.{segments_in}
 use Rattle.vc_commands.proofs.Listing.{segments_above}
 use Rattle.vc_commands.proofs.region.home.HomeEntry.segments.Given as goal

@@ -1,6 +1,4 @@
-use Rattle.std.proofs.Common.{◌∙◌}
-use Rattle.vc_model.specs.Addr.{place_of}
-use Rattle.vc_model.specs.Discipline.{Discipline}
+use Rattle.vc_base.proofs.Common.{◌∙◌, place_of, Discipline}
 use Rattle.vc_region.specs.Cells.{rest_in}
 use Rattle.vc_region.specs.Parts.{region_of}
 use Rattle.vc_script.specs.declared.reply.Reply.TheVariants.{Size}

@@ -1,8 +1,4 @@
-use Rattle.std.proofs.Common.{ℕ, [], Option, is_some, option_map, sym, ap, ◌∙◌}
-use Rattle.std.specs.Prelude.{unwrap_or}
-use Rattle.vc_model.specs.Addr.{place_of}
-use Rattle.vc_model.specs.Discipline.{Discipline}
-use Rattle.vc_model.specs.Layout.{Block}
+use Rattle.vc_base.proofs.Common.{ℕ, [], is_some, Option, option_map, unwrap_or, sym, ap, ◌∙◌, place_of, Discipline, Block}
 use Rattle.vc_region.specs.Cells.{rest_in}
 use Rattle.vc_region.specs.Parts.{region_of}
 use Rattle.vc_region.specs.Region.{blocks_of}

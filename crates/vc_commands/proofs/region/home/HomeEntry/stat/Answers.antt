@@ -1,4 +1,4 @@
-use Rattle.std.proofs.Common.{sym, ap, ◌∙◌}
+use Rattle.vc_base.proofs.Common.{sym, ap, ◌∙◌, Discipline}
 use Rattle.vc_region.specs.Cells.{rest_in}
 use Rattle.vc_region.specs.Parts.{region_of}
 use Rattle.vc_region.proofs.Rest.{rest-stat}
@@ -6,7 +6,6 @@ use Rattle.vc_script.specs.declared.reply.Reply.TheVariants.{Stats}
 use Rattle.vc_region.proofs.Relabel.{stat-relabelled}
 use Rattle.vc_commands.specs.Labels.{name_of}
 use Rattle.vc_commands.specs.Home.{reply_alone}
-use Rattle.vc_model.specs.Discipline.{Discipline}
 use Rattle.vc_commands.specs.Held.{home_of}
 use Rattle.vc_commands.specs.RegionRun.{held_of}
 use Rattle.vc_commands.proofs.region.home.HomeEntry.stat.Given as given

@@ -1,7 +1,5 @@
-use Rattle.std.proofs.Common.{◌≡◌, None, List, ℕ, refl, ap, ◌∙◌, sym}
+use Rattle.vc_base.proofs.Common.{◌≡◌, ℕ, List, None, sym, refl, ap, ◌∙◌, place_of, Discipline}
 use Rattle.vc_model.proofs.Keeping.{NoneRefused-equal, NoneRefused-same}
-use Rattle.vc_model.specs.Addr.{place_of}
-use Rattle.vc_model.specs.Discipline.{Discipline}
 use Rattle.vc_region.specs.Region.{region_watch, segments_of}
 use Rattle.vc_region.specs.Cells.{cells_in, region_cells, rest_in, rest_of}
 use Rattle.vc_region.specs.Parts.{disc_in, region_of}

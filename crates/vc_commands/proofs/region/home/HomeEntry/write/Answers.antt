@@ -1,9 +1,5 @@
-use Rattle.std.proofs.Common.{◌≡◌, ◌+◌, List, ℕ, length, ap, ◌∙◌, arith, subst, rules}
-use Rattle.std.proofs.lemmas.Grind.{common_steps}
-use Rattle.std.specs.Prelude.{nat_le}
+use Rattle.vc_base.proofs.Common.{◌≡◌, ℕ, ◌+◌, List, length, nat_le, ap, ◌∙◌, subst, arith, rules, common_steps, place_of, Discipline}
 use Rattle.vc_model.proofs.Keeping.{NoneRefused-equal}
-use Rattle.vc_model.specs.Addr.{place_of}
-use Rattle.vc_model.specs.Discipline.{Discipline}
 use Rattle.vc_region.specs.Region.{region_write, segments_of}
 use Rattle.vc_region.proofs.Clearing.{written-segments}
 use Rattle.vc_region.specs.Cells.{cells_in, region_cells, rest_in, rest_of}

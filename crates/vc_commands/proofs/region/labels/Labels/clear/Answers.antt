@@ -1,4 +1,4 @@
-use Rattle.std.proofs.Common.{◌∙◌, ap, sym}
+use Rattle.vc_base.proofs.Common.{sym, ap, ◌∙◌}
 use Rattle.vc_commands.specs.Labels.{line_left}
 use Rattle.vc_commands.proofs.Agreeing.{lines-left, no-labels, no-names}
 use Rattle.vc_commands.proofs.region.labels.Labels.clear.Goals as goal

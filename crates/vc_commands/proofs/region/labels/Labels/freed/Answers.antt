@@ -1,4 +1,4 @@
-use Rattle.std.proofs.Common.{Some, sym, ap, ◌∙◌}
+use Rattle.vc_base.proofs.Common.{Some, sym, ap, ◌∙◌}
 use Rattle.vc_commands.specs.Labels.{line_in}
 use Rattle.vc_commands.proofs.FreedNames.{line-among}
 use Rattle.vc_commands.proofs.region.labels.Labels.freed.Goals as goal

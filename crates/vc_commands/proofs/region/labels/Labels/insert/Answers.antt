@@ -1,5 +1,4 @@
-use Rattle.std.proofs.Common.{◌+◌, cond, length, ap, ◌∙◌}
-use Rattle.std.specs.Prelude.{is_some}
+use Rattle.vc_base.proofs.Common.{◌+◌, cond, length, is_some, ap, ◌∙◌}
 use Rattle.vc_commands.specs.declared.region.labels.Labels.{Labels}
 use Rattle.vc_commands.proofs.Agreeing.{agree-put, both_ok, from_ok, kept-put}
 use Rattle.vc_commands.proofs.region.labels.Labels.insert.Goals as goal

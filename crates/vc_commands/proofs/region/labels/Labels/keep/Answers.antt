@@ -1,5 +1,4 @@
-use Rattle.std.proofs.Common.{◌≡◌, ◌+◌, cond, length, Some, ap, ◌∙◌, sym, refl}
-use Rattle.std.specs.Prelude.{is_some}
+use Rattle.vc_base.proofs.Common.{◌≡◌, ◌+◌, cond, length, is_some, Some, sym, refl, ap, ◌∙◌}
 use Rattle.vc_commands.specs.FreedNames.{with_line}
 use Rattle.vc_commands.specs.Labels.{kept_of, known_of, tag_of}
 use Rattle.vc_commands.specs.declared.region.labels.Known.TheVariants.{Freed}

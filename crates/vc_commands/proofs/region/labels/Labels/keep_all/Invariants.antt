@@ -1,4 +1,4 @@
-use Rattle.std.proofs.Common.{◌≡◌, ℕ, ◌≤◌, ◌<◌, None}
+use Rattle.vc_base.proofs.Common.{◌≡◌, ℕ, ◌<◌, ◌≤◌, None}
 use Rattle.vc_commands.specs.Labels.{AreLabels, FreesNames, label_at}
 use Rattle.vc_commands.proofs.region.labels.Labels.keep_all.Given as goal
 

@@ -1,4 +1,4 @@
-use Rattle.std.proofs.Common.{◌≡◌, ◌+◌, ◌-◌, Some, ◌∙◌, sym, ap, arith}
+use Rattle.vc_base.proofs.Common.{◌≡◌, ◌+◌, ◌-◌, Some, sym, ap, ◌∙◌, arith}
 use Rattle.slab.specs.Slab.{get}
 use Rattle.vc_commands.specs.Labels.{tag_of}
 use Rattle.vc_commands.proofs.Agreeing.{others-stay}

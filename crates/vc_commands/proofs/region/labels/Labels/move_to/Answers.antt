@@ -1,4 +1,4 @@
-use Rattle.std.proofs.Common.{sym, ◌∙◌}
+use Rattle.vc_base.proofs.Common.{sym, ◌∙◌}
 use Rattle.vc_commands.proofs.Agreeing.{agree-moved}
 use Rattle.vc_commands.proofs.region.labels.Labels.move_to.Goals as goal
 

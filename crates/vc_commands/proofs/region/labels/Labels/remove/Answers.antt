@@ -1,4 +1,4 @@
-use Rattle.std.proofs.Common.{◌≡◌, Some, None, ◌∙◌, sym, refl}
+use Rattle.vc_base.proofs.Common.{◌≡◌, Some, None, sym, refl, ◌∙◌}
 use Rattle.vc_commands.specs.Labels.{tag_of}
 use Rattle.vc_commands.specs.declared.region.labels.Labels.{Labels}
 use Rattle.vc_commands.proofs.Agreeing.{agree-left, all-forgotten, kept-forgotten, without-label}

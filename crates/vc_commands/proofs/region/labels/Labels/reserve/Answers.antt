@@ -1,4 +1,4 @@
-use Rattle.std.proofs.Common.{ap}
+use Rattle.vc_base.proofs.Common.{ap}
 use Rattle.slab.specs.Slab.{Slab}
 use Rattle.vc_commands.specs.Labels.{SameLabels}
 use Rattle.vc_commands.specs.declared.region.labels.Label.{Label}

@@ -1,5 +1,4 @@
-use Rattle.std.proofs.Common.{ap, sym, ◌∙◌}
-use Rattle.std.specs.Ordering.{is_eq}
+use Rattle.vc_base.proofs.Common.{is_eq, sym, ap, ◌∙◌}
 use Rattle.vc_dtdisc.specs.Shapes.{rules_of}
 use Rattle.vc_dtdisc.specs.declared.shape.Shape.TheVariants.{Fold}
 use Rattle.vc_paths.specs.Layers.{place_with}

@@ -1,4 +1,4 @@
-use Rattle.std.proofs.Common.{ap, sym, ◌∙◌}
+use Rattle.vc_base.proofs.Common.{sym, ap, ◌∙◌}
 use Rattle.vc_region_tests.specs.declared.splay.rows.Rows.{Rows}
 use Rattle.vc_region_tests.proofs.ToyLemmas.{of, up-set}
 use Rattle.vc_region_tests.proofs.splay.lent.LentNodes.set_up.Goals as goal
