@@ -9,7 +9,7 @@ mod walk;
 
 ghost use Rattle.std.specs.Prelude.{◌≡◌, ◌≤◌, IfErr, IfOk};
 ghost use Rattle.std.proofs.Props.{props};
-ghost use Rattle.vc_model.specs.Layout.{empty_layout};
+ghost use Rattle.vc_base.specs.Prelude.{empty_layout};
 ghost use Rattle.vc_best.specs.Parts.{layout_of};
 ghost use Rattle.vc_audit.specs.ProfileSums.{IsCounted};
 
@@ -49,7 +49,7 @@ fn open_best(alloc: Global, disc: Box<dyn SegDisc>) -> Result<Best, (OutOfMemory
 
 impl Profile {
     ghost use Rattle.std.specs.Prelude.{[], length};
-    ghost use Rattle.vc_model.specs.Discipline.{HasOut, TookBack};
+    ghost use Rattle.vc_base.specs.Prelude.{HasOut, TookBack};
     ghost use Rattle.vc_audit.specs.Profile.{empty_profile};
     ghost use Rattle.vc_audit.specs.ProfileParts.{profile_of, segments_in};
 

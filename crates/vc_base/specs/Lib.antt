@@ -7,5 +7,6 @@ pub mod Holders
 pub mod Memory
 pub mod Methods
 pub mod Name
+pub mod Prelude
 pub mod Standard
 pub mod Steps

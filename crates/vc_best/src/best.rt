@@ -1,13 +1,7 @@
 ghost use Rattle.std.specs.Prelude.{◌≡◌, ◌⊎◌, IfOk, IfErr, IsErrOf, [], length};
-ghost use Rattle.vc_model.specs.Addr.{place_of};
-ghost use Rattle.vc_model.specs.Best.{best_alloc, best_need, without_block_at};
-ghost use Rattle.vc_model.specs.Compact.{cleared_layout, compact_count, compacted_layout};
-ghost use Rattle.vc_model.specs.Discipline.{HasOut, TookBack};
-ghost use Rattle.vc_model.specs.Layout.{empty_layout};
-ghost use Rattle.vc_model.specs.Place.{IsAlign};
+ghost use Rattle.vc_base.specs.Prelude.{place_of, best_need, without_block_at, cleared_layout, compact_count, compacted_layout, HasOut, TookBack, empty_layout, IsAlign, HasBlock, next_segment, segment_at};
+ghost use Rattle.vc_model.specs.Best.{best_alloc};
 ghost use Rattle.vc_model.specs.Sound.{HasWholeBlocks, IsSound};
-ghost use Rattle.vc_model.specs.Touch.{HasBlock};
-ghost use Rattle.vc_model.specs.Walk.{next_segment, segment_at};
 ghost use Rattle.vc_extent.specs.Tiling.{tiling};
 ghost use Rattle.vc_best.specs.Ask.{AsksForSegment};
 ghost use Rattle.vc_gaps.specs.GapTree.{HasGaps};

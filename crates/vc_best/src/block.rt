@@ -1,6 +1,5 @@
 ghost use Rattle.std.specs.Prelude.{◌≡◌, Some, length, take, drop, option_map, replicate};
-ghost use Rattle.vc_model.specs.Addr.{place_of};
-ghost use Rattle.vc_model.specs.Touch.{HasBlock, find_block};
+ghost use Rattle.vc_base.specs.Prelude.{place_of, HasBlock, find_block};
 ghost use Rattle.vc_seg.specs.OneBlock.{IsBlockWritten, IsInBlock};
 
 use crate::best::Best;

@@ -1,6 +1,5 @@
 ghost use Rattle.std.specs.Prelude.{◌≡◌, ◌+◌, ◌<◌, ◌≤◌, ◌%◌, IfSome, [], ◌∷◌};
-ghost use Rattle.vc_model.specs.Addr.{address, place_of};
-ghost use Rattle.vc_model.specs.Segments.{span};
+ghost use Rattle.vc_base.specs.Prelude.{address, place_of, span};
 ghost use Rattle.vc_extent.specs.Tiling.{IsFree, IsExtentChanged, extent_of, tiling};
 ghost use Rattle.vc_best.specs.Beside.{some_name};
 ghost use Rattle.vc_best.specs.Changes.{cut_back, cut_front, lay_zeros};

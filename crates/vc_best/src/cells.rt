@@ -1,5 +1,6 @@
 ghost use Rattle.std.specs.Prelude.{◌≡◌, ℕ, ◌+◌, ◌*◌, ◌<◌, length};
-ghost use Rattle.vc_base.specs.Cells.{HasBytes, body_of, bytes_at, with_number, with_body, word_at};
+ghost use Rattle.vc_base.specs.Prelude.{HasBytes, word_at};
+ghost use Rattle.vc_base.specs.Cells.{body_of, bytes_at, with_number, with_body};
 ghost use Rattle.vc_best.specs.Cells.{StaysButCells, cells_in};
 ghost use Rattle.vc_best.specs.CellLaws.{cells-addresses, stays-after, stays-same};
 

@@ -1,6 +1,6 @@
 ghost use Rattle.std.specs.Prelude.{◌≡◌, ℕ, ◌+◌, ◌<◌, ◌↔◌, [], All, IsTrue, Some, length, map, true};
-ghost use Rattle.vc_model.specs.Compact.{cleared_layout, compact_count, compacted_layout, is_occupied};
-ghost use Rattle.vc_model.specs.Discipline.{HasOut, TookBack};
+ghost use Rattle.vc_base.specs.Prelude.{cleared_layout, compact_count, compacted_layout, HasOut, TookBack};
+ghost use Rattle.vc_model.specs.Compact.{is_occupied};
 ghost use Rattle.vc_seg.specs.Back.{is_marked, stays_from};
 ghost use Rattle.vc_seg.specs.Segment.{pair_of};
 ghost use Rattle.vc_extent.specs.Change.{IsOneFree, one_free};

@@ -1,7 +1,6 @@
 ghost use Rattle.std.specs.Prelude.{◌≡◌, ◌≢◌, ◌%◌, IfOk, IfErr, IsErrOf, None, OnErr, false, map};
-ghost use Rattle.vc_model.specs.Best.{best_need, place_in};
-ghost use Rattle.vc_model.specs.Discipline.{HasOut, IsSegmentSize};
-ghost use Rattle.vc_model.specs.Segments.{TooMany, ask};
+ghost use Rattle.vc_base.specs.Prelude.{best_need, HasOut, IsSegmentSize, TooMany, ask};
+ghost use Rattle.vc_model.specs.Best.{place_in};
 ghost use Rattle.vc_seg.specs.Answer.{Asks};
 ghost use Rattle.vc_seg.specs.Segment.{pair_of};
 ghost use Rattle.vc_seg.specs.Lend.{IsAsked, IsNoGrant};

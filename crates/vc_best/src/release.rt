@@ -1,6 +1,5 @@
 ghost use Rattle.std.specs.Prelude.{◌≡◌, [], ◌∷◌, ◌++◌};
-ghost use Rattle.vc_model.specs.Addr.{place_of};
-ghost use Rattle.vc_model.specs.Best.{without_block_at};
+ghost use Rattle.vc_base.specs.Prelude.{place_of, without_block_at};
 ghost use Rattle.vc_extent.specs.Tiling.{IsBusy, IsFree, IsExtentChanged, tiling};
 ghost use Rattle.vc_best.specs.Beside.{free_before, free_next};
 ghost use Rattle.vc_best.specs.GapsChange.{GapsChange};

@@ -1,9 +1,6 @@
 ghost use Rattle.std.specs.Prelude.{◌≡◌, Some, IfOk, IsErrOf, option_map};
-ghost use Rattle.vc_model.specs.Addr.{place_of};
-ghost use Rattle.vc_model.specs.Best.{best_need};
-ghost use Rattle.vc_model.specs.Discipline.{HasOut};
+ghost use Rattle.vc_base.specs.Prelude.{place_of, best_need, HasOut, HasBlock, find_block};
 ghost use Rattle.vc_model.specs.Resize.{best_resize};
-ghost use Rattle.vc_model.specs.Touch.{HasBlock, find_block};
 ghost use Rattle.vc_best.specs.Ask.{AsksToMove};
 ghost use Rattle.vc_seg.specs.Answer.{Answers, Asks};
 ghost use Rattle.vc_seg.specs.OneBlock.{IsBlockKept, IsGuardedSize};

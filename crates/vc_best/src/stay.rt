@@ -1,7 +1,5 @@
 ghost use Rattle.std.specs.Prelude.{◌≡◌, ◌≤◌, ◌↔◌, IsTrue};
-ghost use Rattle.vc_model.specs.Addr.{place_of};
-ghost use Rattle.vc_model.specs.Resize.{resize_there};
-ghost use Rattle.vc_model.specs.Segments.{span};
+ghost use Rattle.vc_base.specs.Prelude.{place_of, resize_there, span};
 ghost use Rattle.vc_extent.specs.Tiling.{IsBusy, IsNamed, tiling};
 ghost use Rattle.vc_best.specs.GapsChange.{GapBehindChanges};
 ghost use Rattle.vc_best.specs.Blocks.{layout_by};

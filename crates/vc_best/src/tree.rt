@@ -1,9 +1,5 @@
 ghost use Rattle.std.specs.Prelude.{◌≡◌, ◌≢◌, ℕ, ◌≤◌, IfSome, List, [], ◌∷◌, ◌++◌, false};
-ghost use Rattle.vc_base.specs.Holders.{contains};
-ghost use Rattle.vc_model.specs.Addr.{address, place_of};
-ghost use Rattle.vc_model.specs.Best.{without_block_at};
-ghost use Rattle.vc_model.specs.Resize.{resize_there};
-ghost use Rattle.vc_model.specs.Segments.{span};
+ghost use Rattle.vc_base.specs.Prelude.{contains, address, place_of, without_block_at, resize_there, span};
 ghost use Rattle.vc_seg.specs.OneBlock.{IsGuardedSize};
 ghost use Rattle.vc_layouts.specs.Put.{with_zeros};
 ghost use Rattle.vc_extent.specs.Tiling.{IsBusy, IsNamed, tiling};

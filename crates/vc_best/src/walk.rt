@@ -1,7 +1,6 @@
 ghost use Rattle.std.specs.Prelude.{◌≡◌, ℕ, ◌+◌, ◌≤◌, ◌<◌, ◌⊎◌, ◌↔◌, IfSome, IsTrue, find, option_map};
-ghost use Rattle.vc_model.specs.Addr.{address, place_of};
+ghost use Rattle.vc_base.specs.Prelude.{address, place_of, HasBlock};
 ghost use Rattle.vc_model.specs.Layout.{place_of_block};
-ghost use Rattle.vc_model.specs.Touch.{HasBlock};
 ghost use Rattle.vc_model.specs.Walk.{holds_byte};
 ghost use Rattle.vc_seg.specs.OneBlock.{IsBlockAt, IsNextBlock};
 ghost use Rattle.vc_extent.specs.Tiling.{IsBusy, IsNamed, IsThere, extent_of, extents_of, tiling};

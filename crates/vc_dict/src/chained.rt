@@ -1,5 +1,5 @@
 ghost use Rattle.std.specs.Prelude.{ℕ, ◌+◌, ◌<◌, ◌≤◌, List, [], true, length};
-ghost use Rattle.vc_base.specs.Cells.{Blocks};
+ghost use Rattle.vc_base.specs.Prelude.{Blocks};
 ghost use Rattle.vc_dtlist.specs.Linked.{StandsFor};
 ghost use Rattle.vc_dthash.specs.declared.dt_hash.DtHash.{DtHash};
 ghost use Rattle.vc_dthash.specs.Hashed.{CanChain, list_of};

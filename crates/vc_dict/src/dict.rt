@@ -1,7 +1,6 @@
 ghost use Rattle.std.specs.Prelude.{◌≡◌, ℕ, ◌+◌, ◌<◌, ◌≤◌, List, [], ◌∷◌, ◌++◌, None, Some, true, false, Bool, length};
 ghost use Rattle.std.specs.Option.{option_map};
-ghost use Rattle.vc_base.specs.Cells.{Blocks, IsHolder};
-ghost use Rattle.vc_base.specs.Holders.{contains, first_in, last_in, next_in, previous_in, without};
+ghost use Rattle.vc_base.specs.Prelude.{Blocks, IsHolder, contains, first_in, last_in, next_in, previous_in, without};
 ghost use Rattle.vc_dtdisc.specs.Finds.{find_key};
 ghost use Rattle.vc_dtdisc.specs.Rules.{Rules};
 ghost use Rattle.vc_dtlist.specs.Linked.{Finds, number_of};

@@ -1,5 +1,5 @@
 ghost use Rattle.std.specs.Prelude.{◌≡◌, ℕ, List, true, if◌then◌else◌};
-ghost use Rattle.vc_base.specs.Methods.{has_table, is_ordered};
+ghost use Rattle.vc_base.specs.Prelude.{has_table, is_ordered};
 ghost use Rattle.vc_dict.specs.Forming.{CanTakeForm, IsInForm};
 ghost use Rattle.vc_dict.specs.Passes.{IsCounted};
 ghost use Rattle.vc_dict.specs.Stands.{IsForm, slots_at, table_at};

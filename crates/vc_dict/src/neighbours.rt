@@ -1,5 +1,5 @@
 ghost use Rattle.std.specs.Prelude.{◌≡◌, ℕ, ◌+◌, ◌<◌, ◌≤◌, List, [], length};
-ghost use Rattle.vc_base.specs.Cells.{Blocks, IsHolder};
+ghost use Rattle.vc_base.specs.Prelude.{Blocks, IsHolder};
 ghost use Rattle.vc_dtlist.specs.Linked.{IsList, StandsFor};
 ghost use Rattle.vc_dict.specs.Orders.{dropped_holders, kept_holders};
 ghost use Rattle.vc_dict.specs.Weeding.{AreWeeded, CanWeed, IsSortedList, NeighbourWeeding, last_matches};

@@ -1,9 +1,8 @@
 ghost use Rattle.std.specs.Prelude.{◌≡◌, ◌≢◌, ℕ, List, Bool, false};
-ghost use Rattle.vc_base.specs.Cells.{Blocks};
+ghost use Rattle.vc_base.specs.Prelude.{Blocks, is_ordered};
 ghost use Rattle.vc_dtdisc.specs.Rules.{Rules};
 ghost use Rattle.vc_dtlist.specs.Linked.{CanAdd, IsIn, StandsFor, Turned, Turns};
 ghost use Rattle.vc_dict.specs.Changes.{before_current, behind_current, order_by_insert, order_by_link};
-ghost use Rattle.vc_base.specs.Methods.{is_ordered};
 
 use vc_base::{Addr, Cells, DictMethod};
 use vc_dtlist::DtList;

@@ -1,6 +1,5 @@
 ghost use Rattle.std.specs.Prelude.{◌≡◌, ◌≢◌, ℕ, List, true, false, ◌&&◌, if◌then◌else◌};
-ghost use Rattle.vc_base.specs.Cells.{Blocks};
-ghost use Rattle.vc_base.specs.Methods.{has_table};
+ghost use Rattle.vc_base.specs.Prelude.{Blocks, has_table};
 ghost use Rattle.vc_dict.specs.Methods.{slots_between};
 ghost use Rattle.vc_dict.specs.Stands.{Stands, slots_in, table_in};
 ghost use Rattle.vc_dict.specs.Turned.{CanRemethod, Remethoded, Unchanged};

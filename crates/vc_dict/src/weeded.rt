@@ -1,5 +1,5 @@
 ghost use Rattle.std.specs.Prelude.{◌≡◌, ℕ, List, false};
-ghost use Rattle.vc_base.specs.Holders.{contains};
+ghost use Rattle.vc_base.specs.Prelude.{contains};
 ghost use Rattle.vc_dict.specs.Weeding.{Added, CanAddPart, Parts};
 
 use vc_base::{Addr, Cells};

@@ -1,5 +1,5 @@
 ghost use Rattle.std.specs.Prelude.{◌≡◌, ◌≢◌, ℕ, ◌+◌, ◌*◌, ◌%◌, ◌<◌, ◌≤◌, ◌^◌, List};
-ghost use Rattle.vc_base.specs.Cells.{HasBytes, word_at};
+ghost use Rattle.vc_base.specs.Prelude.{HasBytes, word_at};
 ghost use Rattle.vc_base.specs.Holders.{last_of};
 ghost use Rattle.vc_dtdisc.specs.Finds.{has_key};
 ghost use Rattle.vc_dtlist.specs.Linked.{IsPlain, LinksFor};

@@ -1,7 +1,7 @@
 ghost use Rattle.std.specs.Prelude.{◌≡◌, ℕ, List, [], ◌∷◌, ◌++◌, None};
 ghost use Rattle.std.specs.Option.{option_map};
-ghost use Rattle.vc_base.specs.Cells.{Blocks};
-ghost use Rattle.vc_base.specs.Holders.{first_in, inserted_after, inserted_before, last_in, next_in, previous_in, without};
+ghost use Rattle.vc_base.specs.Prelude.{Blocks, first_in, last_in, next_in, previous_in, without};
+ghost use Rattle.vc_base.specs.Holders.{inserted_after, inserted_before};
 ghost use Rattle.vc_dtlist.specs.Linked.{CanAdd, CanJoin, CanPlace, Finds, IsIn, IsJoined, IsList, JoinsBetween, LinksBetween, Relinks, StandsFor, TurnsIn, number_of};
 ghost use Rattle.vc_dtlist.specs.Sought.{Seeks, stands_so};
 

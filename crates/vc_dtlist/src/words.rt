@@ -1,7 +1,7 @@
 ghost use Rattle.std.specs.Prelude.{◌≡◌, ℕ, ◌<◌, ◌≤◌, ◌^◌, ◌==◌, if◌then◌else◌};
 ghost use Rattle.std.specs.Option.{option_map};
-ghost use Rattle.vc_base.specs.Holders.{some_address};
-ghost use Rattle.vc_base.specs.Cells.{HasBytes, WordWritten, WordsWritten, word_at};
+ghost use Rattle.vc_base.specs.Prelude.{some_address, HasBytes, word_at};
+ghost use Rattle.vc_base.specs.Cells.{WordWritten, WordsWritten};
 ghost use Rattle.vc_dtlist.specs.Linked.{HasWords, IsPlain};
 
 use vc_base::{Addr, Cells};

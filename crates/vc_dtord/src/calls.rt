@@ -1,5 +1,5 @@
 ghost use Rattle.std.specs.Prelude.{◌≡◌, ℕ, ◌+◌, ◌≤◌, List, ◌∷◌, length};
-ghost use Rattle.vc_base.specs.Holders.{without};
+ghost use Rattle.vc_base.specs.Prelude.{without};
 ghost use Rattle.vc_dtdisc.specs.Rules.{Rules};
 ghost use Rattle.vc_dtlist.specs.Linked.{Finds};
 ghost use Rattle.vc_dtlist.specs.Sought.{Seeks, stands_so};

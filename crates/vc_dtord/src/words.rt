@@ -1,5 +1,5 @@
 ghost use Rattle.std.specs.Prelude.{◌≡◌, ◌<◌, true};
-ghost use Rattle.vc_base.specs.Cells.{HasBytes, IsHolder, word_at};
+ghost use Rattle.vc_base.specs.Prelude.{HasBytes, IsHolder, word_at};
 ghost use Rattle.vc_dtord.specs.Nodes.{is_node};
 ghost use Rattle.vc_dtord.specs.WordWrites.{IsHolderCleared, NumberWritten};
 

@@ -1,6 +1,5 @@
 ghost use Rattle.std.specs.Prelude.{◌≡◌, ◌+◌, ◌<◌, ◌≤◌, ◌==◌, IfSome, IsSomeAnd, if◌then◌else◌, length, map, take};
-ghost use Rattle.vc_model.specs.Addr.{address, place_of};
-ghost use Rattle.vc_model.specs.Segments.{span};
+ghost use Rattle.vc_base.specs.Prelude.{address, place_of, span};
 ghost use Rattle.vc_extent.specs.Change.{shrink, stretch};
 ghost use Rattle.vc_extent.specs.Tiling.{IsBusy, IsExtentChanged, extent_of, next_of, tiling};
 

@@ -1,6 +1,5 @@
 ghost use Rattle.std.specs.Prelude.{◌≡◌, ℕ, ◌+◌, ◌%◌, ◌<◌, ◌≤◌, IfSome, IsSome, IsSomeAnd, length, map, take};
-ghost use Rattle.vc_model.specs.Addr.{address, place_of};
-ghost use Rattle.vc_model.specs.Segments.{span};
+ghost use Rattle.vc_base.specs.Prelude.{address, place_of, span};
 ghost use Rattle.vc_extent.specs.Change.{join, mark_busy, mark_free, set_size, split};
 ghost use Rattle.vc_extent.specs.Tiling.{IsBusy, IsFree, IsNamed, IsExtentChanged, extent_of, next_of, tiling};
 

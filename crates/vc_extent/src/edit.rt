@@ -1,5 +1,5 @@
 ghost use Rattle.std.specs.Prelude.{◌≡◌, ℕ, ◌+◌, ◌%◌, ◌<◌, ◌≤◌, IfSome, IsSome, length, min, take};
-ghost use Rattle.vc_model.specs.Segments.{span};
+ghost use Rattle.vc_base.specs.Prelude.{span};
 ghost use Rattle.vc_extent.specs.Extent.{extents};
 ghost use Rattle.vc_extent.specs.Change.{Changes, IsExtentAt, behind, extent_in, first_of, join, mark_busy, mark_free, set_size, shrink, split};
 ghost use Rattle.vc_extent.specs.Stretch.{CanStretch, IsStretched};

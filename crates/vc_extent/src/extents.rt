@@ -1,6 +1,6 @@
 ghost use Rattle.std.specs.Prelude.{◌≡◌, ℕ, ◌+◌, ◌≤◌, ◌<◌, ◌/◌, ◌-◌, ◌↔◌, ◌≢◌, ◌++◌, [], ◌∷◌, All, Contains, IfOk, IfSome, IsNone, IsTrue, None, Some, filter, length, map, not, option_map, slice_index, ◌==◌, vec_capacity, vec_len};
 ghost use Rattle.std.specs.List.{HoldsAt};
-ghost use Rattle.vc_model.specs.Addr.{address, place_of};
+ghost use Rattle.vc_base.specs.Prelude.{address, place_of};
 ghost use Rattle.vc_model.specs.Segments.{lowest_unused, numbers};
 ghost use Rattle.vc_seg.specs.Back.{has_other_number};
 ghost use Rattle.vc_seg.specs.Segment.{pair_of};

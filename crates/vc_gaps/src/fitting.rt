@@ -1,5 +1,5 @@
 ghost use Rattle.std.specs.Prelude.{◌≡◌, ◌≢◌, ℕ, ◌+◌, ◌*◌, ◌<◌, ◌≤◌, List, find, length, option_map, true};
-ghost use Rattle.vc_base.specs.Holders.{contains, some_address};
+ghost use Rattle.vc_base.specs.Prelude.{contains, some_address};
 ghost use Rattle.vc_extent.specs.Tiling.{extent_of, tiling};
 ghost use Rattle.vc_gaps.specs.ButLinks.{StaysButLinks};
 ghost use Rattle.vc_gaps.specs.Fits.{from_on, holds_at};

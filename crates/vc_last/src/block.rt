@@ -1,7 +1,5 @@
 ghost use Rattle.std.specs.Prelude.{◌≡◌, Some, length, take, drop, option_map};
-ghost use Rattle.vc_model.specs.Addr.{place_of};
-ghost use Rattle.vc_model.specs.Touch.{HasBlock, find_block};
-ghost use Rattle.vc_model.specs.Walk.{next_segment, segment_at};
+ghost use Rattle.vc_base.specs.Prelude.{place_of, HasBlock, find_block, next_segment, segment_at};
 ghost use Rattle.vc_seg.specs.OneBlock.{IsBlockAt, IsBlockWritten, IsInBlock, IsNextBlock};
 
 use crate::head::{size_at, tag_at};

@@ -1,6 +1,6 @@
 ghost use Rattle.std.specs.Prelude.{◌≡◌, ℕ, ◌<◌, All, false, length, slice_index_or, vec_capacity};
-ghost use Rattle.vc_model.specs.Compact.{compact_count, compacted_layout, is_occupied};
-ghost use Rattle.vc_model.specs.Discipline.{HasOut, TookBack};
+ghost use Rattle.vc_base.specs.Prelude.{compact_count, compacted_layout, HasOut, TookBack};
+ghost use Rattle.vc_model.specs.Compact.{is_occupied};
 ghost use Rattle.vc_last.specs.Chain.{IsLast, blocks_from};
 ghost use Rattle.vc_last.specs.Read.{layout_by};
 

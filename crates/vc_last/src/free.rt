@@ -1,7 +1,6 @@
 ghost use Rattle.std.specs.Prelude.{◌<◌, IsErrOf, OnOk};
-ghost use Rattle.vc_model.specs.Addr.{place_of};
+ghost use Rattle.vc_base.specs.Prelude.{place_of, HasBlock};
 ghost use Rattle.vc_model.specs.Last.{last_free};
-ghost use Rattle.vc_model.specs.Touch.{HasBlock};
 ghost use Rattle.vc_seg.specs.Answer.{Frees};
 ghost use Rattle.vc_seg.specs.OneBlock.{IsBlockFreed};
 ghost use Rattle.vc_last.specs.Chain.{IsLast};

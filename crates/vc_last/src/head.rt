@@ -1,7 +1,6 @@
 ghost use Rattle.std.specs.Prelude.{◌≡◌, ℕ, ◌+◌, ◌-◌, ◌<◌, ◌≤◌, length, replicate, take, drop};
-ghost use Rattle.vc_model.specs.Addr.{place_of};
-ghost use Rattle.vc_model.specs.Best.{zeros};
-ghost use Rattle.vc_model.specs.Resize.{fitted_bytes, sized_block};
+ghost use Rattle.vc_base.specs.Prelude.{place_of, zeros, sized_block};
+ghost use Rattle.vc_model.specs.Resize.{fitted_bytes};
 ghost use Rattle.vc_seg.specs.Segment.{AreSegments};
 ghost use Rattle.vc_seg.specs.Memory.{bytes_of_number};
 ghost use Rattle.vc_seg.specs.Field.{field_at};

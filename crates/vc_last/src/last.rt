@@ -1,11 +1,7 @@
 ghost use Rattle.std.specs.Prelude.{◌≡◌, ◌≤◌, [], IfErr, IfOk, IsErrOf, OnOk, length, vec_capacity};
-ghost use Rattle.vc_model.specs.Addr.{place_of};
-ghost use Rattle.vc_model.specs.Compact.{cleared_layout, compact_count, compacted_layout};
-ghost use Rattle.vc_model.specs.Discipline.{HasOut, TookBack};
+ghost use Rattle.vc_base.specs.Prelude.{place_of, cleared_layout, compact_count, compacted_layout, HasOut, TookBack, empty_layout, HasBlock};
 ghost use Rattle.vc_model.specs.Last.{last_alloc, last_free, last_need, last_resize};
-ghost use Rattle.vc_model.specs.Layout.{empty_layout};
 ghost use Rattle.vc_model.specs.Sound.{IsSound};
-ghost use Rattle.vc_model.specs.Touch.{HasBlock};
 ghost use Rattle.vc_last.specs.Chain.{IsLast};
 ghost use Rattle.vc_last.specs.Read.{layout_by};
 ghost use Rattle.vc_seg.specs.Answer.{Answers, Asks, Frees};

@@ -1,7 +1,8 @@
 ghost use Rattle.std.specs.Prelude.{◌≡◌, ◌+◌, ◌≤◌, Some, length, map, option_map};
+ghost use Rattle.vc_base.specs.Prelude.{sized_block};
 ghost use Rattle.vc_model.specs.Last.{last_place, newest, next_offset};
 ghost use Rattle.vc_model.specs.Layout.{footprint};
-ghost use Rattle.vc_model.specs.Resize.{is_usable, sized_block};
+ghost use Rattle.vc_model.specs.Resize.{is_usable};
 ghost use Rattle.vc_seg.specs.Segment.{AreSegments, pair_of};
 ghost use Rattle.vc_last.specs.Chain.{IsLast};
 ghost use Rattle.vc_last.specs.Head.{HasHead, block_of, has_room};

@@ -1,9 +1,6 @@
 ghost use Rattle.std.specs.Prelude.{◌≡◌, ◌≢◌, ◌+◌, ◌%◌, ◌<◌, ◌≤◌, All, IfErr, IfOk, IsErrOf, None, OnErr, Some, false, map, option_map, vec_capacity};
-ghost use Rattle.vc_model.specs.Addr.{address, place_of};
+ghost use Rattle.vc_base.specs.Prelude.{address, place_of, HasOut, IsSegmentSize, TooMany, ask, HasBlock};
 ghost use Rattle.vc_model.specs.Last.{last_place, newest};
-ghost use Rattle.vc_model.specs.Discipline.{HasOut, IsSegmentSize};
-ghost use Rattle.vc_model.specs.Segments.{TooMany, ask};
-ghost use Rattle.vc_model.specs.Touch.{HasBlock};
 ghost use Rattle.vc_seg.specs.Lend.{IsAsked, IsNoGrant};
 ghost use Rattle.vc_seg.specs.OneBlock.{IsSize};
 ghost use Rattle.vc_seg.specs.Segment.{AreSegments, pair_of};

@@ -1,6 +1,6 @@
 ghost use Rattle.std.specs.Prelude.{◌≡◌, ◌≢◌, ℕ, ◌+◌, ◌<◌, ◌≤◌, All, length, take, drop};
 ghost use Rattle.std.specs.List.{HoldsAt};
-ghost use Rattle.vc_model.specs.Bytes.{with_bytes};
+ghost use Rattle.vc_base.specs.Prelude.{with_bytes};
 ghost use Rattle.vc_seg.specs.Segment.{AreSegments};
 ghost use Rattle.vc_seg.specs.Memory.{bytes_of_number, write_segment};
 ghost use Rattle.vc_last.specs.Head.{StaysBut};

@@ -1,11 +1,8 @@
 ghost use Rattle.std.specs.Prelude.{◌≡◌, ◌≢◌, ◌≤◌, false, map, take, true, vec_capacity};
-ghost use Rattle.vc_model.specs.Addr.{place_of};
-ghost use Rattle.vc_model.specs.Best.{without_block_at};
-ghost use Rattle.vc_model.specs.Discipline.{HasOut};
+ghost use Rattle.vc_base.specs.Prelude.{place_of, without_block_at, HasOut, without_block, resize_there, sized_block, HasBlock, with_bytes_at};
 ghost use Rattle.vc_model.specs.Last.{can_end, latest};
-ghost use Rattle.vc_model.specs.Layout.{footprint, without_block};
-ghost use Rattle.vc_model.specs.Resize.{is_usable, resize_there, sized_block};
-ghost use Rattle.vc_model.specs.Touch.{HasBlock, with_bytes_at};
+ghost use Rattle.vc_model.specs.Layout.{footprint};
+ghost use Rattle.vc_model.specs.Resize.{is_usable};
 ghost use Rattle.vc_seg.specs.OneBlock.{IsSize};
 ghost use Rattle.vc_seg.specs.Segment.{pair_of};
 ghost use Rattle.vc_last.specs.Call.{IsResize};

@@ -1,7 +1,6 @@
 ghost use Rattle.std.specs.Prelude.{◌≡◌, ℕ, [], ◌∷◌, IfSome, filter, fold, nat_lt, option_map};
-ghost use Rattle.vc_model.specs.Layout.{address_of};
+ghost use Rattle.vc_base.specs.Prelude.{address_of, HasBlock};
 ghost use Rattle.vc_model.specs.Order.{lesser_by};
-ghost use Rattle.vc_model.specs.Touch.{HasBlock};
 ghost use Rattle.vc_model.specs.Walk.{block_at, holds_byte, next_block};
 ghost use Rattle.vc_seg.specs.Segment.{AreSegments};
 ghost use Rattle.vc_last.specs.Chain.{IsLast};

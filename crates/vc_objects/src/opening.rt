@@ -1,6 +1,6 @@
 ghost use Rattle.std.specs.Prelude.{Some, IfOk, IfErr};
+ghost use Rattle.vc_base.specs.Prelude.{HasOut};
 ghost use Rattle.vc_dtdisc.specs.Rules.{Rules};
-ghost use Rattle.vc_model.specs.Discipline.{HasOut};
 ghost use Rattle.vc_best.specs.Parts.{disc_in, segments_in};
 ghost use Rattle.vc_seg.specs.Answer.{IsRefusal};
 ghost use Rattle.vc_objects.specs.Leaves.{AskedTable};

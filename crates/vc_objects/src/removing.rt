@@ -1,6 +1,6 @@
 ghost use Rattle.std.specs.Prelude.{◌≡◌, ◌+◌, ◌≤◌, [], Some, true, length};
 ghost use Rattle.std.specs.Vec.{vec_capacity};
-ghost use Rattle.vc_base.specs.Cells.{IsHolder};
+ghost use Rattle.vc_base.specs.Prelude.{IsHolder};
 ghost use Rattle.vc_dtdisc.specs.Finds.{object_at};
 ghost use Rattle.vc_best.specs.Cells.{cells_in, rest_in};
 ghost use Rattle.vc_objects.specs.Unlabelled.{FreesCell};

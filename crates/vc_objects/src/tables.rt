@@ -1,5 +1,5 @@
 ghost use Rattle.std.specs.Prelude.{◌≡◌, ◌≢◌, ℕ, Some, IsSome, OnErr, OnOk};
-ghost use Rattle.vc_model.specs.Discipline.{HasOut};
+ghost use Rattle.vc_base.specs.Prelude.{HasOut};
 ghost use Rattle.vc_best.specs.Cells.{cells_in, rest_in};
 ghost use Rattle.vc_best.specs.Parts.{disc_in, segments_in};
 ghost use Rattle.vc_objects.specs.Unlabelled.{StaysAround};

@@ -1,12 +1,11 @@
 ghost use Rattle.std.specs.Prelude.{◌≡◌, ◌≢◌, ℕ, List, Some, length};
-ghost use Rattle.vc_base.specs.Cells.{IsHolder};
+ghost use Rattle.vc_base.specs.Prelude.{IsHolder, HasOut};
 ghost use Rattle.vc_base.specs.Holders.{AreDistinct};
 ghost use Rattle.vc_dtdisc.specs.Finds.{object_at};
 ghost use Rattle.vc_dtdisc.specs.Rules.{gone_after};
 ghost use Rattle.vc_dthash.specs.Slots.{IsSlots};
 ghost use Rattle.vc_dict.specs.Methods.{slots_between};
 ghost use Rattle.vc_dict.specs.Turned.{AreDropped, behind_dropped};
-ghost use Rattle.vc_model.specs.Discipline.{HasOut};
 ghost use Rattle.vc_best.specs.Cells.{cells_in, rest_in};
 ghost use Rattle.vc_best.specs.Parts.{disc_in, segments_in};
 ghost use Rattle.vc_objects.specs.Unlabelled.{FreesCell, StaysAround};

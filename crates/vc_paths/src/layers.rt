@@ -1,6 +1,6 @@
 ghost use Rattle.std.specs.Prelude.{◌≡◌, ℕ, Some, IsSome, List};
 ghost use Rattle.std.specs.Option.{option_map};
-ghost use Rattle.vc_base.specs.Address.{number_of};
+ghost use Rattle.vc_base.specs.Prelude.{number_of};
 ghost use Rattle.vc_dtdisc.specs.Finding.{first_of, last_of};
 ghost use Rattle.vc_paths.specs.Layers.{AreLayers, Layered, Same, bytes_there, place_before, place_behind, place_in, place_with};
 

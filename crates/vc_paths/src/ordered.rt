@@ -1,7 +1,7 @@
 ghost use Rattle.std.specs.Prelude.{◌≡◌, ℕ, true, Some};
 ghost use Rattle.std.specs.List.{filter};
 ghost use Rattle.std.specs.Option.{option_map};
-ghost use Rattle.vc_base.specs.Address.{number_of};
+ghost use Rattle.vc_base.specs.Prelude.{number_of};
 ghost use Rattle.vc_dtdisc.specs.Finding.{before_first, behind_last, first_of, last_of};
 ghost use Rattle.vc_paths.specs.Ordered.{CanSeek, IsStanding, StandsInLike, greater, if_level, is_before, is_behind, lesser_seen, place_in_dict, object_at, object_there, start_before, start_behind};
 ghost use Rattle.vc_paths.specs.Path.{Answers, IsPathBy, IsVisible, is_at, numbers_of, objects_of, visible_of};

@@ -1,6 +1,6 @@
 ghost use Rattle.std.specs.Prelude.{◌≡◌, ◌<◌, Some, None, IfErr, IfOk, length};
 ghost use Rattle.std.specs.Result.{result_err};
-ghost use Rattle.vc_base.specs.Holders.{contains};
+ghost use Rattle.vc_base.specs.Prelude.{contains};
 ghost use Rattle.vc_paths.specs.Links.{ArePaths, are_too_long, below, is_link_to, is_too_long, is_viewed, links_with, no_links, numbers, path};
 ghost use Rattle.vc_paths.specs.Path.{IsPath};
 ghost use Rattle.vc_paths.specs.View.{are_alike, view_fault};

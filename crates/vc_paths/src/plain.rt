@@ -1,6 +1,6 @@
 ghost use Rattle.std.specs.Prelude.{◌≡◌, ℕ, false, List, Some, IsSome, option_map};
 ghost use Rattle.std.specs.List.{flat_map};
-ghost use Rattle.vc_base.specs.Address.{number_of};
+ghost use Rattle.vc_base.specs.Prelude.{number_of};
 ghost use Rattle.vc_dtdisc.specs.Finding.{before_first, behind_last, first_of, last_of};
 ghost use Rattle.vc_paths.specs.Layers.{Unchanged, bytes_there, place_in};
 ghost use Rattle.vc_paths.specs.Path.{Answers, IsPathBy, IsVisible, is_at, numbers_of, visible_of};

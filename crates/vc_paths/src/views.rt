@@ -1,6 +1,6 @@
 ghost use Rattle.std.specs.Prelude.{◌≡◌, ℕ, List, Some, None, IsSome, true, if◌then◌else◌};
 ghost use Rattle.std.specs.List.{filter, find};
-ghost use Rattle.vc_base.specs.Methods.{is_ordered};
+ghost use Rattle.vc_base.specs.Prelude.{is_ordered};
 ghost use Rattle.vc_dtdisc.specs.Finding.{before_first, behind_last, first_of, last_of};
 ghost use Rattle.vc_dtdisc.specs.Objects.{is_match};
 ghost use Rattle.vc_paths.specs.Layers.{HasPlace, Unchanged, bytes_there, place_in};

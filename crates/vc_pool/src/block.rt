@@ -1,7 +1,5 @@
 ghost use Rattle.std.specs.Prelude.{◌≡◌, Some, length, take, drop, option_map};
-ghost use Rattle.vc_model.specs.Addr.{place_of};
-ghost use Rattle.vc_model.specs.Layout.{without_block};
-ghost use Rattle.vc_model.specs.Touch.{HasBlock, find_block, with_bytes_at};
+ghost use Rattle.vc_base.specs.Prelude.{place_of, without_block, HasBlock, find_block, with_bytes_at};
 ghost use Rattle.vc_seg.specs.OneBlock.{IsInBlock};
 
 use crate::pool::Pool;

@@ -2,9 +2,7 @@ mod mark;
 mod relink;
 
 ghost use Rattle.std.specs.Prelude.{◌≡◌, ℕ, ◌<◌, All, false, filter, length};
-ghost use Rattle.vc_model.specs.Compact.{compact_count};
-ghost use Rattle.vc_model.specs.Discipline.{HasOut, TookBack};
-ghost use Rattle.vc_model.specs.Pool.{cell_for};
+ghost use Rattle.vc_base.specs.Prelude.{compact_count, HasOut, TookBack, cell_for};
 ghost use Rattle.vc_pool.specs.Compacting.{IsCompacted};
 ghost use Rattle.vc_pool_cells.specs.Blocks.{layout_by};
 ghost use Rattle.vc_pool_cells.specs.Kept.{IsPool};

@@ -1,11 +1,7 @@
 ghost use Rattle.std.specs.Prelude.{◌≡◌, [], None, IfErr, IfOk, IsErrOf, OnErr, OnOk, length};
-ghost use Rattle.vc_model.specs.Addr.{place_of};
-ghost use Rattle.vc_model.specs.Compact.{compact_count};
-ghost use Rattle.vc_model.specs.Discipline.{HasOut, TookBack};
+ghost use Rattle.vc_base.specs.Prelude.{place_of, compact_count, HasOut, TookBack, HasBlock, next_segment, segment_at};
 ghost use Rattle.vc_model.specs.Outcome.{Done};
 ghost use Rattle.vc_model.specs.Pool.{IsPoolSound, empty_pool, pool_alloc, pool_clear, pool_compact, pool_free, pool_need, pool_resize};
-ghost use Rattle.vc_model.specs.Touch.{HasBlock};
-ghost use Rattle.vc_model.specs.Walk.{next_segment, segment_at};
 ghost use Rattle.vc_pool.specs.Ask.{LacksCell};
 ghost use Rattle.vc_pool.specs.Read.{pool_by};
 ghost use Rattle.vc_pool.specs.Stat.{pool_stat};

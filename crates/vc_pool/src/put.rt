@@ -1,6 +1,6 @@
 ghost use Rattle.std.specs.Prelude.{◌≡◌, ◌+◌, ◌-◌, ◌/◌, ◌<◌, ◌≤◌, Err, None, IfErr, IfOk, IsErrOf, OnErr, OnOk, length, map, replicate, vec_capacity, vec_len};
-ghost use Rattle.vc_model.specs.Discipline.{HasOut};
-ghost use Rattle.vc_model.specs.Pool.{cell_for, pool_alloc, pool_need, uncarved};
+ghost use Rattle.vc_base.specs.Prelude.{HasOut, cell_for, uncarved};
+ghost use Rattle.vc_model.specs.Pool.{pool_alloc, pool_need};
 ghost use Rattle.vc_model.specs.Segments.{round_up, segment_limit};
 ghost use Rattle.vc_pool.specs.Ask.{IsGranted, LacksCell};
 ghost use Rattle.vc_pool.specs.Read.{pool_by};

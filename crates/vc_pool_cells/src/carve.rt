@@ -1,7 +1,6 @@
 ghost use Rattle.std.specs.Prelude.{◌≡◌, ℕ, ◌≤◌, IfNone, IfSome, map, option_map};
 ghost use Rattle.std.specs.List.{HoldsAt};
-ghost use Rattle.vc_model.specs.Addr.{place_of};
-ghost use Rattle.vc_model.specs.Pool.{cell_for, cell_offset, uncarved};
+ghost use Rattle.vc_base.specs.Prelude.{place_of, cell_for, cell_offset, uncarved};
 ghost use Rattle.vc_seg.specs.Segment.{IsRegionSegment};
 ghost use Rattle.vc_pool_cells.specs.Blocks.{carved_by, pair_of};
 ghost use Rattle.vc_pool_cells.specs.Cells.{HasCell, carved_with, cells_of};

@@ -1,7 +1,6 @@
 ghost use Rattle.std.specs.Prelude.{◌≡◌, ℕ, ◌-◌, ◌/◌, ◌<◌, ◌≤◌, length};
 ghost use Rattle.std.specs.List.{HoldsAt};
-ghost use Rattle.vc_model.specs.Addr.{place_of};
-ghost use Rattle.vc_model.specs.Pool.{cell_for, cell_offset};
+ghost use Rattle.vc_base.specs.Prelude.{place_of, cell_for, cell_offset};
 ghost use Rattle.vc_pool_cells.specs.Cells.{HasCell, cells_of};
 ghost use Rattle.vc_pool_cells.specs.Freed.{cells_at};
 ghost use Rattle.vc_pool_cells.specs.Kept.{AreCellular};

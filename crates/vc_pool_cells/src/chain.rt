@@ -1,8 +1,6 @@
 ghost use Rattle.std.specs.Prelude.{◌≡◌, ℕ, ◌≤◌};
+ghost use Rattle.vc_base.specs.Prelude.{place_of, cell_for, HasBlock};
 ghost use Rattle.vc_pool_cells.specs.Call.{IsPutBack, IsReused};
-ghost use Rattle.vc_model.specs.Addr.{place_of};
-ghost use Rattle.vc_model.specs.Pool.{cell_for};
-ghost use Rattle.vc_model.specs.Touch.{HasBlock};
 ghost use Rattle.vc_pool_cells.specs.Blocks.{layout_by};
 ghost use Rattle.vc_pool_cells.specs.Kept.{FitsElement, IsPool};
 ghost use Rattle.vc_pool_cells.specs.Place.{cells_in};

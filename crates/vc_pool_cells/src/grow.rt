@@ -1,6 +1,5 @@
 ghost use Rattle.std.specs.Prelude.{◌≡◌, ℕ, ◌+◌, ◌-◌, ◌/◌, ◌<◌, ◌≤◌, All, None, length, map, replicate, vec_capacity, vec_len};
-ghost use Rattle.vc_model.specs.Addr.{place_of};
-ghost use Rattle.vc_model.specs.Pool.{cell_for, uncarved};
+ghost use Rattle.vc_base.specs.Prelude.{place_of, cell_for, uncarved};
 ghost use Rattle.vc_model.specs.Segments.{new_segment};
 ghost use Rattle.vc_seg.specs.Segment.{IsRegionSegment};
 ghost use Rattle.vc_pool_cells.specs.Blocks.{carved_by, pair_of};

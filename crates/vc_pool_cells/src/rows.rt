@@ -1,5 +1,5 @@
 ghost use Rattle.std.specs.Prelude.{◌≡◌, [], ◌∷◌};
-ghost use Rattle.vc_model.specs.Best.{zeros};
+ghost use Rattle.vc_base.specs.Prelude.{zeros};
 ghost use Rattle.vc_pool_cells.specs.Blocks.{carved_by, layout_by};
 ghost use Rattle.vc_pool_cells.specs.Freed.{freed_cells};
 ghost use Rattle.vc_pool_cells.specs.Rows.{one_cell_freed, two_cells_freed};

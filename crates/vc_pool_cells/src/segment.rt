@@ -1,5 +1,5 @@
 ghost use Rattle.std.specs.Prelude.{◌≡◌, ℕ, ◌+◌, ◌<◌, ◌≤◌, length, take, drop};
-ghost use Rattle.vc_model.specs.Pool.{cell_offset};
+ghost use Rattle.vc_base.specs.Prelude.{cell_offset};
 
 use crate::cell::offset_of;
 use vc_base::Addr;

@@ -1,8 +1,5 @@
 ghost use Rattle.std.specs.Prelude.{◌≡◌, ℕ, Some, drop, length, option_map, take};
-ghost use Rattle.vc_model.specs.Addr.{place_of};
-ghost use Rattle.vc_model.specs.Pool.{cell_for};
-ghost use Rattle.vc_model.specs.Resize.{resize_there};
-ghost use Rattle.vc_model.specs.Touch.{HasBlock, find_block, with_bytes_at};
+ghost use Rattle.vc_base.specs.Prelude.{place_of, cell_for, resize_there, HasBlock, find_block, with_bytes_at};
 ghost use Rattle.vc_seg.specs.OneBlock.{IsInBlock};
 ghost use Rattle.vc_pool_cells.specs.Blocks.{layout_by};
 ghost use Rattle.vc_pool_cells.specs.Call.{Becomes};

@@ -1,6 +1,5 @@
 ghost use Rattle.std.specs.Prelude.{◌≤◌, IfOk, IsErrOf, IsTrue, length};
-ghost use Rattle.vc_model.specs.Discipline.{HasOut};
-ghost use Rattle.vc_model.specs.Place.{IsAlign};
+ghost use Rattle.vc_base.specs.Prelude.{HasOut, IsAlign};
 ghost use Rattle.vc_region.specs.Region.{AsksForMemory, aligns, region_align, region_alloc, region_need};
 ghost use Rattle.vc_seg.specs.Answer.{Answers, Asks};
 ghost use Rattle.vc_seg.specs.OneBlock.{IsBlockPut, IsSize};

@@ -1,7 +1,5 @@
 ghost use Rattle.std.specs.Prelude.{◌≡◌, ℕ, ℤ, pos, negsuc, ◌+◌, ◌≤ℤ◌, ◌<ℤ◌, ◌⊎◌, IfSome, OnErr, OnOk, option_map, true};
-ghost use Rattle.vc_model.specs.Addr.{place_of};
-ghost use Rattle.vc_model.specs.Layout.{address_of, without_block};
-ghost use Rattle.vc_model.specs.Touch.{HasBlock, find_block};
+ghost use Rattle.vc_base.specs.Prelude.{place_of, address_of, without_block, HasBlock, find_block};
 ghost use Rattle.vc_region.specs.Parts.{blocks_in, disc_in, region_of};
 ghost use Rattle.vc_region.specs.Region.{is_debug, is_profile, next_damaged_in, region_poke, region_watch, row_in, watch_at};
 

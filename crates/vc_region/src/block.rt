@@ -1,8 +1,6 @@
 ghost use Rattle.std.specs.Prelude.{◌≡◌, Some, length, take, drop, option_map};
-ghost use Rattle.vc_model.specs.Addr.{place_of};
-ghost use Rattle.vc_model.specs.Layout.{without_block};
+ghost use Rattle.vc_base.specs.Prelude.{place_of, without_block, HasBlock, find_block};
 ghost use Rattle.vc_region.specs.Region.{region_write};
-ghost use Rattle.vc_model.specs.Touch.{HasBlock, find_block};
 ghost use Rattle.vc_seg.specs.OneBlock.{IsInBlock};
 ghost use Rattle.vc_region.specs.Parts.{blocks_in, disc_in, region_of};
 

@@ -1,5 +1,6 @@
 ghost use Rattle.std.specs.Prelude.{◌≡◌, ℕ, ◌+◌, ◌*◌, ◌<◌, length};
-ghost use Rattle.vc_base.specs.Cells.{HasBytes, bytes_at, with_number, with_body};
+ghost use Rattle.vc_base.specs.Prelude.{HasBytes};
+ghost use Rattle.vc_base.specs.Cells.{bytes_at, with_number, with_body};
 ghost use Rattle.vc_region.specs.Cells.{StaysButCells, cells_in};
 ghost use Rattle.vc_region.specs.CellLaws.{cells-addresses, stays-after, stays-same};
 

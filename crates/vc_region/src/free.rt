@@ -1,14 +1,11 @@
 ghost use Rattle.std.specs.Prelude.{◌≡◌, ◌≤◌, IsErrOf, OnOk};
-ghost use Rattle.vc_model.specs.Addr.{place_of};
-ghost use Rattle.vc_model.specs.Compact.{cleared_layout};
-ghost use Rattle.vc_model.specs.Discipline.{HasOut, TookBack};
+ghost use Rattle.vc_base.specs.Prelude.{place_of, cleared_layout, HasOut, TookBack, HasBlock};
 ghost use Rattle.vc_model.specs.Pool.{pool_clear};
 ghost use Rattle.vc_audit.specs.Debug.{debug_clear};
 ghost use Rattle.vc_audit.specs.DebugParts.{debug_of};
 ghost use Rattle.vc_audit.specs.Profile.{profile_clear};
 ghost use Rattle.vc_audit.specs.ProfileParts.{profile_of};
 ghost use Rattle.vc_region.specs.Region.{region_clear, region_compact, region_compact_count, region_free};
-ghost use Rattle.vc_model.specs.Touch.{HasBlock};
 ghost use Rattle.vc_seg.specs.Answer.{Frees};
 ghost use Rattle.vc_best.specs.Parts.{layout_of};
 ghost use Rattle.vc_last.specs.Parts.{layout_of as last_of};

@@ -1,5 +1,5 @@
 ghost use Rattle.std.specs.Prelude.{◌≡◌, ◌≤◌, [], IfOk, IfErr, length};
-ghost use Rattle.vc_model.specs.Discipline.{HasOut, TookBack};
+ghost use Rattle.vc_base.specs.Prelude.{HasOut, TookBack};
 ghost use Rattle.vc_region.specs.Stat.{method_of, opened_region};
 ghost use Rattle.vc_region.specs.Parts.{disc_of, region_of, segments_in};
 

@@ -1,9 +1,7 @@
 ghost use Rattle.std.specs.Prelude.{◌≡◌, IfOk, IsErrOf};
-ghost use Rattle.vc_model.specs.Addr.{place_of};
-ghost use Rattle.vc_model.specs.Discipline.{HasOut};
+ghost use Rattle.vc_base.specs.Prelude.{place_of, HasOut, HasBlock};
 ghost use Rattle.vc_model.specs.Pool.{pool_resize};
 ghost use Rattle.vc_region.specs.Region.{RegionAsksToMove, region_need, region_resize};
-ghost use Rattle.vc_model.specs.Touch.{HasBlock};
 ghost use Rattle.vc_seg.specs.Answer.{Answers, Asks};
 ghost use Rattle.vc_seg.specs.OneBlock.{IsBlockKept, IsSize};
 ghost use Rattle.vc_pool.specs.Parts.{pool_of};

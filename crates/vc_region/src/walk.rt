@@ -1,6 +1,5 @@
 ghost use Rattle.std.specs.Prelude.{◌≡◌, ◌⊎◌};
-ghost use Rattle.vc_model.specs.Touch.{HasBlock};
-ghost use Rattle.vc_model.specs.Walk.{next_segment, segment_at};
+ghost use Rattle.vc_base.specs.Prelude.{HasBlock, next_segment, segment_at};
 ghost use Rattle.vc_seg.specs.OneBlock.{IsBlockAt, IsNextBlock};
 ghost use Rattle.vc_region.specs.Stat.{stat_of};
 ghost use Rattle.vc_region.specs.Parts.{blocks_in, region_of, segments_in};

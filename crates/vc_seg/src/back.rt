@@ -1,5 +1,5 @@
 ghost use Rattle.std.specs.Prelude.{◌≡◌, ◌≢◌, ℕ, ◌<◌, [], All, AllPairs, Contains, filter, length, map, true, vec_capacity};
-ghost use Rattle.vc_model.specs.Discipline.{HasOut, TookBack};
+ghost use Rattle.vc_base.specs.Prelude.{HasOut, TookBack};
 ghost use Rattle.vc_seg.specs.Back.{is_kept, is_marked, stays_from};
 ghost use Rattle.vc_seg.specs.Numbered.{AreNumbered};
 ghost use Rattle.vc_seg.specs.Returned.{Returned};

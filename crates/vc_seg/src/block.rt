@@ -6,7 +6,7 @@ ghost use Rattle.std.specs.Prelude.{◌≡◌, ℕ, List, [], length, replicate,
 ghost use Rattle.std.specs.Vec.{vec_len, vec_capacity, vec_ptr};
 ghost use Rattle.std.specs.declared.alloc.Global.{Global};
 ghost use denote.RawPtr.{Ptr};
-ghost use Rattle.vc_model.specs.Discipline.{IsSegmentSize};
+ghost use Rattle.vc_base.specs.Prelude.{IsSegmentSize};
 
 use std::alloc::{Allocator, Global};
 use std::marker::{Model, PhantomData};

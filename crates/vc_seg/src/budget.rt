@@ -1,6 +1,6 @@
 ghost use Rattle.std.specs.Prelude.{◌≡◌, ◌+◌, ◌%◌, ◌<◌, ◌↔◌, [], Some, length, Contains, IfOk, OnOk, IsErrOf};
+ghost use Rattle.vc_base.specs.Prelude.{IsRound, IsSegmentSize, Lent, Unserved};
 ghost use Rattle.vc_model.specs.Count.{next_count};
-ghost use Rattle.vc_model.specs.Discipline.{IsRound, IsSegmentSize, Lent, Unserved};
 ghost use Rattle.vc_seg.specs.Budget.{discipline_of, left_in_budget};
 ghost use Rattle.vc_seg.specs.Returned.{Returned};
 ghost use Rattle.vc_seg.specs.Segment.{zero_segment, pair_of};
@@ -24,7 +24,7 @@ pub struct BudgetDisc {
 
 impl Model for BudgetDisc {
     ghost use Rattle.std.specs.Prelude.{◌≡◌, ◌+◌};
-    ghost use Rattle.vc_model.specs.Discipline.{IsRound};
+    ghost use Rattle.vc_base.specs.Prelude.{IsRound};
     ghost use Rattle.vc_seg.specs.Budget.{Budget, bytes_of};
 
     ghost Value = { Budget };

@@ -1,5 +1,5 @@
 ghost use Rattle.std.specs.Prelude.{◌≡◌, ℕ, ◌+◌, ◌≤◌, length, take, drop, replicate};
-ghost use Rattle.vc_model.specs.Bytes.{with_bytes};
+ghost use Rattle.vc_base.specs.Prelude.{with_bytes};
 
 use crate::Segment;
 

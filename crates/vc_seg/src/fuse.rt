@@ -1,6 +1,6 @@
 ghost use Rattle.std.specs.Prelude.{◌≡◌, ℕ, ◌%◌, ◌<◌, ◌≤◌, ◌↔◌, List, [], ◌∷◌, ◌++◌, None, length, Contains, IfSome, IfOk, OnOk, OnErr, IsErrOf};
-ghost use Rattle.vc_model.specs.Count.{Rose, next_count};
-ghost use Rattle.vc_model.specs.Discipline.{Discipline, IsRound, IsSegmentSize, Lent, Unserved};
+ghost use Rattle.vc_base.specs.Prelude.{Rose, Discipline, IsRound, IsSegmentSize, Lent, Unserved};
+ghost use Rattle.vc_model.specs.Count.{next_count};
 ghost use Rattle.vc_seg.specs.Returned.{Returned};
 ghost use Rattle.vc_seg.specs.Segment.{zero_segment, pair_of};
 
@@ -23,7 +23,7 @@ pub struct FuseDisc {
 
 impl Model for FuseDisc {
     ghost use Rattle.std.specs.Prelude.{None};
-    ghost use Rattle.vc_model.specs.Discipline.{IsRound};
+    ghost use Rattle.vc_base.specs.Prelude.{IsRound};
     ghost use Rattle.vc_seg.specs.Fuse.{Fuse};
 
     ghost Value = { Fuse };

@@ -1,6 +1,5 @@
 ghost use Rattle.std.specs.Prelude.{◌≡◌, ℕ, ◌%◌, ◌<◌, ◌≤◌, List, [], ◌∷◌, ◌++◌, None, length, Contains, IfSome, IfOk, OnOk, OnErr, IsErrOf};
-ghost use Rattle.vc_model.specs.Count.{Rose};
-ghost use Rattle.vc_model.specs.Discipline.{Discipline, IsRound, IsSegmentSize, Lent, Unserved};
+ghost use Rattle.vc_base.specs.Prelude.{Rose, Discipline, IsRound, IsSegmentSize, Lent, Unserved};
 ghost use Rattle.vc_seg.specs.Returned.{Returned};
 ghost use Rattle.vc_seg.specs.Segment.{zero_segment, pair_of};
 
@@ -18,7 +17,7 @@ pub struct HeapDisc {
 
 impl Model for HeapDisc {
     ghost use Rattle.std.specs.Prelude.{None};
-    ghost use Rattle.vc_model.specs.Discipline.{Discipline, IsRound};
+    ghost use Rattle.vc_base.specs.Prelude.{Discipline, IsRound};
 
     ghost Value = { Discipline };
 

@@ -1,6 +1,5 @@
 ghost use Rattle.std.specs.Prelude.{◌≡◌, ◌≢◌, ◌%◌, ◌≤◌, ◌⊎◌, Err, IfErr, IfOk, OnOk, IsErrOf, false, length, map};
-ghost use Rattle.vc_model.specs.Discipline.{IsRound, IsSegmentSize, Lent, Unserved};
-ghost use Rattle.vc_model.specs.Segments.{TooMany, ask};
+ghost use Rattle.vc_base.specs.Prelude.{IsRound, IsSegmentSize, Lent, Unserved, TooMany, ask};
 ghost use Rattle.vc_seg.specs.Lend.{IsAsked, IsGrantOf, IsNoGrant};
 ghost use Rattle.vc_seg.specs.Segment.{zero_segment};
 

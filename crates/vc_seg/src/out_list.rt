@@ -1,5 +1,6 @@
 ghost use Rattle.std.specs.Prelude.{◌≡◌, ℕ, ◌+◌, ◌<◌, List, [], ◌∷◌, ◌++◌, length, remove, slice_index_or, Contains, IfOk, OnOk, OnErr};
-ghost use Rattle.vc_model.specs.Discipline.{IsSegmentSize, without_last};
+ghost use Rattle.vc_base.specs.Prelude.{IsSegmentSize};
+ghost use Rattle.vc_model.specs.Discipline.{without_last};
 ghost use Rattle.vc_seg.specs.Budget.{bytes_of};
 ghost use Rattle.vc_seg.specs.Segment.{zero_segment, pair_of};
 

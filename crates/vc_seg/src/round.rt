@@ -1,5 +1,6 @@
 ghost use Rattle.std.specs.Prelude.{◌≡◌, ℕ, ◌+◌, ◌≤◌};
-ghost use Rattle.vc_model.specs.Segments.{round_up, span};
+ghost use Rattle.vc_base.specs.Prelude.{span};
+ghost use Rattle.vc_model.specs.Segments.{round_up};
 
 /// The number, rounded up to a multiple of the unit.
 pub fn rounded_up(number: u32, unit: u32) -> u32

@@ -1,5 +1,5 @@
 ghost use Rattle.std.specs.Prelude.{◌≡◌, ℕ, ◌%◌, ◌≤◌, length, IfOk};
-ghost use Rattle.vc_model.specs.Discipline.{IsSegmentSize};
+ghost use Rattle.vc_base.specs.Prelude.{IsSegmentSize};
 ghost use Rattle.vc_seg.specs.Segment.{zero_segment};
 
 use crate::block::{Block, take};

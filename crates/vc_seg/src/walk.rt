@@ -1,6 +1,6 @@
 ghost use Rattle.std.specs.Prelude.{◌≡◌, [], ◌∷◌, filter, fold, map, nat_lt};
+ghost use Rattle.vc_base.specs.Prelude.{next_segment, segment_at};
 ghost use Rattle.vc_model.specs.Order.{lesser_by};
-ghost use Rattle.vc_model.specs.Walk.{next_segment, segment_at};
 
 use crate::Numbered;
 

@@ -1,6 +1,6 @@
 ghost use Rattle.std.specs.Prelude.{◌≡◌, ◌+◌, ◌%◌, ◌≤◌, length, take, drop};
 ghost use Rattle.std.specs.Int.{from_le_bytes, to_le_bytes, w64};
-ghost use Rattle.vc_model.specs.Bytes.{with_bytes};
+ghost use Rattle.vc_base.specs.Prelude.{with_bytes};
 
 use crate::Segment;
 

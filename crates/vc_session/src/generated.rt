@@ -1,9 +1,9 @@
 ghost use Rattle.std.specs.Prelude.{◌≡◌, ℕ, ◌<◌, ◌≤◌, ◌^◌, List, [], ◌++◌, Some, true, IfOk, IfSome, OnErr, OnOk, length};
 ghost use Rattle.std.specs.List.{AllByRecursion};
+ghost use Rattle.vc_base.specs.Prelude.{Rose};
 ghost use Rattle.vc_counts.specs.CanCount.{CanCount};
 ghost use Rattle.vc_counts.specs.Counts.{live_bytes};
 ghost use Rattle.vc_generate.specs.Generated.{commands_of_seed};
-ghost use Rattle.vc_model.specs.Count.{Rose};
 ghost use Rattle.vc_script.specs.Proper.{IsProperCommand};
 ghost use Rattle.vc_session.specs.Engine.{IsStep, RunsGenerated};
 ghost use Rattle.vc_session.specs.Generating.{RunsCommands};

@@ -1,5 +1,5 @@
 ghost use Rattle.std.specs.Prelude.{◌≡◌, ℕ, ◌+◌, ◌<◌, ◌≤◌, List, [], ◌++◌, Some, IfSome, IfOk, IfErr, OnOk, OnErr, IsErrOf, length, take};
-ghost use Rattle.vc_model.specs.Count.{Rose};
+ghost use Rattle.vc_base.specs.Prelude.{Rose};
 
 use vc_base::{Sink, WriteFailed};
 

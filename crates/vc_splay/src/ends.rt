@@ -1,5 +1,5 @@
 ghost use Rattle.std.specs.Prelude.{◌≡◌, ℕ};
-ghost use Rattle.vc_base.specs.Holders.{first_in, last_in, some_address};
+ghost use Rattle.vc_base.specs.Prelude.{first_in, last_in, some_address};
 ghost use Rattle.vc_splay.specs.Moves.{Context};
 ghost use Rattle.vc_splay.specs.Stands.{HasTree, IsTree};
 ghost use Rattle.vc_splay.specs.Tree.{Tree, names, name_of};

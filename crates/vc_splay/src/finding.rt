@@ -1,6 +1,6 @@
 ghost use Rattle.std.specs.Prelude.{◌≡◌, ◌≢◌, ℕ, ◌+◌, ◌≤◌, length, if◌then◌else◌};
 ghost use Rattle.std.specs.Ordering.{is_eq, is_ge};
-ghost use Rattle.vc_base.specs.Holders.{some_address};
+ghost use Rattle.vc_base.specs.Prelude.{some_address};
 ghost use Rattle.vc_splay.specs.Guide.{CanFind, first_at, least_at};
 ghost use Rattle.vc_splay.specs.Searches.{CanReach, Search, is_found};
 ghost use Rattle.vc_splay.specs.Stands.{IsTree, TreeAfter};

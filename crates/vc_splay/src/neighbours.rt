@@ -1,5 +1,5 @@
 ghost use Rattle.std.specs.Prelude.{◌≡◌, ◌≢◌, ℕ, true, None};
-ghost use Rattle.vc_base.specs.Holders.{contains, next_in, previous_in, some_address};
+ghost use Rattle.vc_base.specs.Prelude.{contains, next_in, previous_in, some_address};
 ghost use Rattle.vc_splay.specs.Moves.{Context};
 ghost use Rattle.vc_splay.specs.Stands.{IsTree, IsWithin};
 ghost use Rattle.vc_splay.specs.Tree.{Tree, Node, names, name_of};

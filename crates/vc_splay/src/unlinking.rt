@@ -1,5 +1,5 @@
 ghost use Rattle.std.specs.Prelude.{◌≡◌, ◌++◌};
-ghost use Rattle.vc_base.specs.Holders.{without};
+ghost use Rattle.vc_base.specs.Prelude.{without};
 ghost use Rattle.vc_splay.specs.Searches.{CanJoinTrees, IsPair};
 ghost use Rattle.vc_splay.specs.Stands.{IsIn, IsTree, TreeAfter};
 ghost use Rattle.vc_splay.specs.Tree.{Tree, names};

@@ -1,5 +1,5 @@
 ghost use Rattle.std.specs.Prelude.{◌≡◌, ◌≢◌, false, ℕ, ◌+◌, ◌-◌, ◌<◌, [], List, Some, IfSome, length, remove, slice_get, slice_set};
-ghost use Rattle.vc_model.specs.Discipline.{HasOut};
+ghost use Rattle.vc_base.specs.Prelude.{HasOut};
 ghost use Rattle.vc_model.specs.Numbered.{at_number};
 ghost use Rattle.vc_dtdisc.specs.Rules.{Rules};
 ghost use Rattle.vc_region.specs.Region.{segments_of};

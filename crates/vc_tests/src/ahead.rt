@@ -1,5 +1,5 @@
 ghost use Rattle.std.specs.Prelude.{◌≡◌, ◌≤◌, Some, IfOk, OnErr};
-ghost use Rattle.vc_model.specs.Count.{Rose};
+ghost use Rattle.vc_base.specs.Prelude.{Rose};
 ghost use Rattle.vc_model.specs.Stream.{Reads, Writes};
 
 use crate::given::put;

@@ -1,7 +1,7 @@
 ghost use Rattle.std.specs.Prelude.{◌≡◌, ◌<◌, ℕ, List, Some, length, map, slice_get};
 ghost use Rattle.std.specs.Option.{option_map};
+ghost use Rattle.vc_base.specs.Prelude.{number_of};
 ghost use Rattle.vc_dtdisc.specs.Rules.{Rules};
-ghost use Rattle.vc_base.specs.Address.{number_of};
 ghost use Rattle.vc_objects.specs.Parts.{IsWhole};
 ghost use Rattle.vc_views.specs.Dicts.{AreDictsOver, home_rest, layer_of, region_seen};
 ghost use Rattle.vc_views.specs.Leaves.{IsBestNamed, LooksAt};

@@ -2,7 +2,7 @@ ghost use Rattle.std.specs.Prelude.{◌≡◌, ◌<◌, ℕ, None, length, map};
 ghost use Rattle.std.specs.List.{IsDistinct};
 ghost use Rattle.std.specs.Map.{keys_of};
 ghost use Rattle.std.specs.Str.{bytes_eq};
-ghost use Rattle.vc_base.specs.Holders.{contains};
+ghost use Rattle.vc_base.specs.Prelude.{contains};
 ghost use Rattle.vc_paths.specs.Links.{below, numbers};
 ghost use Rattle.vc_commands.specs.Looking.{is_look};
 ghost use Rattle.vc_views.specs.Dicts.{entry_numbered, number_in};

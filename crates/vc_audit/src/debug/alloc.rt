@@ -1,5 +1,5 @@
 ghost use Rattle.std.specs.Prelude.{IfOk, IsErrOf};
-ghost use Rattle.vc_model.specs.Discipline.{HasOut};
+ghost use Rattle.vc_base.specs.Prelude.{HasOut};
 ghost use Rattle.vc_seg.specs.Answer.{Answers, Asks};
 ghost use Rattle.vc_seg.specs.OneBlock.{IsBlockPut, IsSize};
 ghost use Rattle.vc_audit.specs.Debug.{DebugAsks, debug_alloc, debug_need};

@@ -1,7 +1,5 @@
 ghost use Rattle.std.specs.Prelude.{◌≡◌, ℕ, ◌≤◌, ℤ, pos, ◌-ℤ◌, ◌⊎◌, Some, IfSome, length, option_map, position};
-ghost use Rattle.vc_model.specs.Addr.{place_of};
-ghost use Rattle.vc_model.specs.Layout.{address_of};
-ghost use Rattle.vc_model.specs.Touch.{HasBlock, find_block};
+ghost use Rattle.vc_base.specs.Prelude.{place_of, address_of, HasBlock, find_block};
 ghost use Rattle.vc_best.specs.Parts.{layout_of};
 ghost use Rattle.vc_audit.specs.Debug.{damage, damaged_place, is_damaged, next_damaged};
 ghost use Rattle.vc_audit.specs.DebugParts.{blocks_in, debug_of};

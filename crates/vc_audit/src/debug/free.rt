@@ -1,8 +1,5 @@
 ghost use Rattle.std.specs.Prelude.{◌≡◌, ◌≤◌};
-ghost use Rattle.vc_model.specs.Addr.{place_of};
-ghost use Rattle.vc_model.specs.Compact.{cleared_layout};
-ghost use Rattle.vc_model.specs.Discipline.{HasOut, TookBack};
-ghost use Rattle.vc_model.specs.Touch.{HasBlock};
+ghost use Rattle.vc_base.specs.Prelude.{place_of, cleared_layout, HasOut, TookBack, HasBlock};
 ghost use Rattle.vc_best.specs.Parts.{layout_of};
 ghost use Rattle.vc_audit.specs.Debug.{debug_clear, debug_compact, debug_compact_count, debug_free};
 ghost use Rattle.vc_seg.specs.Boxed.{disc_in_box};

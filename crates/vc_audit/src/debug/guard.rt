@@ -1,6 +1,5 @@
 ghost use Rattle.std.specs.Prelude.{◌≡◌, ◌+◌, ◌-◌, ◌≤◌};
-ghost use Rattle.vc_model.specs.Addr.{place_of};
-ghost use Rattle.vc_model.specs.Layout.{without_block};
+ghost use Rattle.vc_base.specs.Prelude.{place_of, without_block};
 ghost use Rattle.vc_best.specs.Parts.{blocks_in, layout_of};
 ghost use Rattle.vc_seg.specs.Boxed.{disc_in_box};
 ghost use Rattle.vc_seg.specs.OneBlock.{IsInBlock};

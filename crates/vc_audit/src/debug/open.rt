@@ -1,6 +1,5 @@
 ghost use Rattle.std.specs.Prelude.{◌≡◌, ◌≤◌, [], IfOk, IfErr, length};
-ghost use Rattle.vc_model.specs.Discipline.{HasOut, TookBack};
-ghost use Rattle.vc_model.specs.Layout.{empty_layout};
+ghost use Rattle.vc_base.specs.Prelude.{HasOut, TookBack, empty_layout};
 ghost use Rattle.vc_best.specs.Parts.{layout_of};
 ghost use Rattle.vc_audit.specs.Debug.{empty_debug};
 ghost use Rattle.vc_audit.specs.DebugParts.{debug_of, segments_in};

@@ -1,9 +1,8 @@
 ghost use Rattle.std.specs.Prelude.{◌≡◌, ℕ, ◌++◌, [], ◌∷◌, None, Some, false, true, negsuc, option_map, pos, replicate};
-ghost use Rattle.vc_model.specs.Best.{zeros};
+ghost use Rattle.vc_base.specs.Prelude.{zeros, find_block};
 ghost use Rattle.vc_model.specs.Layout.{place_of_block};
 ghost use Rattle.vc_model.specs.Outcome.{Fixed, Refused};
 ghost use Rattle.vc_model.specs.Rows.{rounds_to};
-ghost use Rattle.vc_model.specs.Touch.{find_block};
 ghost use Rattle.vc_model.specs.Walk.{block_at};
 ghost use Rattle.vc_audit.specs.Debug.{debug_clear, debug_free, debug_resize, debug_write, with_poke, user_blocks, watched_at, with_watch};
 ghost use Rattle.vc_audit.specs.DebugRows.{damages, two_put, with_resize};

@@ -1,6 +1,5 @@
 ghost use Rattle.std.specs.Prelude.{◌≡◌, ◌-◌, ◌*◌, ◌≤◌, ◌&&◌, ◌⊎◌, nat_le, nat_lt};
-ghost use Rattle.vc_model.specs.Touch.{HasBlock};
-ghost use Rattle.vc_model.specs.Walk.{next_segment, segment_at};
+ghost use Rattle.vc_base.specs.Prelude.{HasBlock, next_segment, segment_at};
 ghost use Rattle.vc_seg.specs.OneBlock.{IsBlockAt, IsNextBlock};
 ghost use Rattle.vc_audit.specs.DebugStat.{debug_stat};
 ghost use Rattle.vc_audit.specs.DebugParts.{blocks_in, debug_of, segments_in};

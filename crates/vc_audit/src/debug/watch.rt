@@ -1,6 +1,5 @@
 ghost use Rattle.std.specs.Prelude.{◌≡◌, OnErr, OnOk};
-ghost use Rattle.vc_model.specs.Addr.{place_of};
-ghost use Rattle.vc_model.specs.Touch.{HasBlock};
+ghost use Rattle.vc_base.specs.Prelude.{place_of, HasBlock};
 ghost use Rattle.vc_audit.specs.Debug.{watched_at, with_watch};
 ghost use Rattle.vc_audit.specs.DebugParts.{blocks_in, debug_of, disc_in};
 

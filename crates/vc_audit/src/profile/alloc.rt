@@ -1,7 +1,5 @@
 ghost use Rattle.std.specs.Prelude.{◌≤◌, IfOk, length};
-ghost use Rattle.vc_model.specs.Best.{best_need};
-ghost use Rattle.vc_model.specs.Discipline.{HasOut};
-ghost use Rattle.vc_model.specs.Place.{IsAlign};
+ghost use Rattle.vc_base.specs.Prelude.{best_need, HasOut, IsAlign};
 ghost use Rattle.vc_seg.specs.Answer.{Answers, Asks};
 ghost use Rattle.vc_seg.specs.OneBlock.{IsBlockPut, IsSize};
 ghost use Rattle.vc_audit.specs.Profile.{profile_alloc};

@@ -1,8 +1,5 @@
 ghost use Rattle.std.specs.Prelude.{◌≡◌, ◌≤◌};
-ghost use Rattle.vc_model.specs.Addr.{place_of};
-ghost use Rattle.vc_model.specs.Compact.{cleared_layout, compact_count};
-ghost use Rattle.vc_model.specs.Discipline.{HasOut, TookBack};
-ghost use Rattle.vc_model.specs.Touch.{HasBlock};
+ghost use Rattle.vc_base.specs.Prelude.{place_of, cleared_layout, compact_count, HasOut, TookBack, HasBlock};
 ghost use Rattle.vc_best.specs.Parts.{layout_of};
 ghost use Rattle.vc_audit.specs.Profile.{profile_clear, profile_compact, profile_free};
 ghost use Rattle.vc_seg.specs.Boxed.{disc_in_box};

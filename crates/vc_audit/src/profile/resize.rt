@@ -1,8 +1,5 @@
 ghost use Rattle.std.specs.Prelude.{IfOk, IsErrOf};
-ghost use Rattle.vc_model.specs.Addr.{place_of};
-ghost use Rattle.vc_model.specs.Best.{best_need};
-ghost use Rattle.vc_model.specs.Discipline.{HasOut};
-ghost use Rattle.vc_model.specs.Touch.{HasBlock};
+ghost use Rattle.vc_base.specs.Prelude.{place_of, best_need, HasOut, HasBlock};
 ghost use Rattle.vc_seg.specs.Answer.{Answers, Asks};
 ghost use Rattle.vc_seg.specs.OneBlock.{IsBlockKept, IsSize};
 ghost use Rattle.vc_best.specs.Ask.{AsksToMove};

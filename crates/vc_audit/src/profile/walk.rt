@@ -1,6 +1,5 @@
 ghost use Rattle.std.specs.Prelude.{◌≡◌, ◌⊎◌};
-ghost use Rattle.vc_model.specs.Touch.{HasBlock};
-ghost use Rattle.vc_model.specs.Walk.{next_segment, segment_at};
+ghost use Rattle.vc_base.specs.Prelude.{HasBlock, next_segment, segment_at};
 ghost use Rattle.vc_seg.specs.OneBlock.{IsBlockAt, IsNextBlock};
 ghost use Rattle.vc_seg.specs.Stat.{layout_stat};
 ghost use Rattle.vc_audit.specs.ProfileParts.{blocks_in, layout_in, segments_in};

@@ -1,6 +1,6 @@
 ghost use Rattle.std.specs.Prelude.{◌≡◌, ◌==◌, Some, None, true, IfOk, IsSome, map, if◌then◌else◌};
 ghost use Rattle.std.specs.Option.{option_map};
-ghost use Rattle.vc_base.specs.Address.{number_of};
+ghost use Rattle.vc_base.specs.Prelude.{number_of};
 ghost use Rattle.vc_paths.specs.Layers.{Unchanged, bytes_there};
 ghost use Rattle.vc_paths.specs.Ordered.{IsStanding, object_at};
 ghost use Rattle.vc_paths.specs.Path.{Answers, IsPath, visible_of};

@@ -1,5 +1,6 @@
 ghost use Rattle.std.specs.Prelude.{◌≡◌, None, true, false, IfOk, OnErr, OnOk};
-ghost use Rattle.vc_base.specs.Methods.{is_list, is_set};
+ghost use Rattle.vc_base.specs.Prelude.{is_set};
+ghost use Rattle.vc_base.specs.Methods.{is_list};
 ghost use Rattle.vc_dtdisc.specs.Rules.{Gone, IsObject, Rules};
 ghost use Rattle.vc_best.specs.Cells.{cells_in, rest_in};
 ghost use Rattle.vc_objects.specs.Insert.{slots_wanted};

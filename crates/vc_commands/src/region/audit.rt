@@ -1,6 +1,6 @@
 ghost use Rattle.std.specs.Prelude.{◌≡◌, ℕ, ℤ, List, [], ◌++◌, option_map, None, true, IfOk, OnOk};
 ghost use Rattle.std.specs.List.{cons_option, filter_map};
-ghost use Rattle.vc_model.specs.Discipline.{HasOut, NoneRefused};
+ghost use Rattle.vc_base.specs.Prelude.{HasOut, NoneRefused};
 ghost use Rattle.vc_region.specs.Cells.{rest_in};
 ghost use Rattle.vc_region.specs.Parts.{disc_in};
 ghost use Rattle.vc_region.specs.Region.{damaged_in, is_debug, is_profile, region_with_labels, rows_in, segments_of};

@@ -1,7 +1,7 @@
 ghost use Rattle.std.specs.Prelude.{◌≡◌, ◌<◌, ◌+◌, ◌^◌, ◌≤◌, length, Some, None, option_map};
 ghost use Rattle.std.specs.HashMap.{spare};
+ghost use Rattle.vc_base.specs.Prelude.{HasOut};
 ghost use Rattle.slab.specs.Slab.{HasRoomFor, slab_len};
-ghost use Rattle.vc_model.specs.Discipline.{HasOut};
 ghost use Rattle.vc_region.specs.Cells.{rest_in};
 ghost use Rattle.vc_region.specs.Parts.{disc_in};
 ghost use Rattle.vc_region.specs.Region.{segments_of};

@@ -1,7 +1,8 @@
 ghost use Rattle.std.specs.Prelude.{◌≡◌, ℕ, ◌+◌, None, IfOk, OnOk, true};
 ghost use Rattle.std.specs.Option.{option_map};
+ghost use Rattle.vc_base.specs.Prelude.{has_table, is_set};
 ghost use Rattle.vc_dtlist.specs.Linked.{number_of};
-ghost use Rattle.vc_base.specs.Methods.{has_table, is_list, is_set};
+ghost use Rattle.vc_base.specs.Methods.{is_list};
 ghost use Rattle.vc_dict_tests.specs.Five.{AreSized};
 ghost use Rattle.vc_dict_tests.specs.Ready.{IsAt, IsReady};
 

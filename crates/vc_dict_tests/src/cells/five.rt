@@ -1,5 +1,5 @@
 ghost use Rattle.std.specs.Prelude.{◌≡◌, ℕ, ◌+◌, ◌*◌, ◌≤◌, length, vec_len, drop};
-ghost use Rattle.vc_model.specs.Bytes.{with_bytes};
+ghost use Rattle.vc_base.specs.Prelude.{with_bytes};
 ghost use Rattle.vc_base.specs.Cells.{with_word, word};
 ghost use Rattle.vc_dict_tests.specs.Five.{five, five-address};
 

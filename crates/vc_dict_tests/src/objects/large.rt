@@ -1,5 +1,5 @@
 ghost use Rattle.std.specs.Prelude.{◌≡◌, false};
-ghost use Rattle.vc_base.specs.Methods.{is_set};
+ghost use Rattle.vc_base.specs.Prelude.{is_set};
 ghost use Rattle.vc_best.specs.Cells.{cells_in};
 ghost use Rattle.vc_objects.specs.Parts.{IsWhole};
 ghost use Rattle.vc_objects.specs.Promises.{CanAsk};

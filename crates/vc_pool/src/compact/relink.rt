@@ -1,6 +1,5 @@
 ghost use Rattle.std.specs.Prelude.{◌≡◌, ℕ, ◌<◌, ◌≤◌, List, ◌∷◌, false, filter, length, slice_index_or};
-ghost use Rattle.vc_model.specs.Addr.{place_of};
-ghost use Rattle.vc_model.specs.Pool.{cell_for};
+ghost use Rattle.vc_base.specs.Prelude.{place_of, cell_for};
 ghost use Rattle.vc_pool_cells.specs.Blocks.{carved_by, layout_by};
 ghost use Rattle.vc_pool_cells.specs.Freed.{freed_cells, freed_link};
 ghost use Rattle.vc_pool_cells.specs.Kept.{AreCellular, IsPool};

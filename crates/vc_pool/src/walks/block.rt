@@ -1,4 +1,4 @@
-ghost use Rattle.vc_model.specs.Pool.{cell_for};
+ghost use Rattle.vc_base.specs.Prelude.{cell_for};
 ghost use Rattle.vc_seg.specs.OneBlock.{IsBlockAt};
 ghost use Rattle.vc_pool_cells.specs.Blocks.{layout_by};
 ghost use Rattle.vc_pool_cells.specs.Kept.{AreCellular};

@@ -1,6 +1,5 @@
 ghost use Rattle.std.specs.Prelude.{◌≡◌, ℕ, ◌<◌, ◌≤◌, IfNone, IfSome, length};
-ghost use Rattle.vc_model.specs.Pool.{cell_for, cell_offset};
-ghost use Rattle.vc_model.specs.Touch.{HasBlock};
+ghost use Rattle.vc_base.specs.Prelude.{cell_for, cell_offset, HasBlock};
 ghost use Rattle.vc_seg.specs.OneBlock.{IsNextBlock};
 ghost use Rattle.vc_pool_cells.specs.Blocks.{layout_by};
 ghost use Rattle.vc_pool_cells.specs.Freed.{cells_at};

@@ -1,7 +1,8 @@
 ghost use Rattle.std.specs.Prelude.{◌≡◌, ℕ, ◌≤◌, All, drop, length, map};
+ghost use Rattle.vc_base.specs.Prelude.{cell_for};
 ghost use Rattle.vc_layouts.specs.Tally.{HasRoom, tallied_all, tally_of};
 ghost use Rattle.vc_model.specs.Numbers.{block_bytes, block_count, greatest_block};
-ghost use Rattle.vc_model.specs.Pool.{cell_count, cell_for};
+ghost use Rattle.vc_model.specs.Pool.{cell_count};
 ghost use Rattle.vc_pool_cells.specs.Blocks.{layout_by, pair_of};
 ghost use Rattle.vc_pool_cells.specs.Kept.{AreCellular, segment_of};
 ghost use Rattle.vc_pool_cells.specs.Place.{cells_in};

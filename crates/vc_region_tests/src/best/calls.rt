@@ -1,6 +1,5 @@
 ghost use Rattle.std.specs.Prelude.{IfSome};
-ghost use Rattle.vc_model.specs.Discipline.{HasOut};
-ghost use Rattle.vc_model.specs.Place.{IsAlign};
+ghost use Rattle.vc_base.specs.Prelude.{HasOut, IsAlign};
 ghost use Rattle.vc_best.specs.Parts.{segments_in};
 ghost use Rattle.vc_region_tests.specs.Lent.{IsLent};
 ghost use Rattle.vc_seg.specs.OneBlock.{IsGuardedSize};
