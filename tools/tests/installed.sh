@@ -1,0 +1,33 @@
+# What is installed.
+# shellcheck shell=sh disable=SC2154
+if has make; then
+    if make -s -C "$here/.." install BIN="$programs" DESTDIR="$dir/root" PREFIX=/usr > made 2>&1; then
+        at=$dir/root/usr
+        # A line for each folder, so that what is added is easily seen.
+        cat > installed.files << END
+bin/dtrun bin/vmreplay
+bin/vmcurve bin/vmpicture bin/vmrecord
+share/doc/kolbista/script.md
+share/man/man1/dtrun.1 share/man/man1/vmreplay.1
+share/man/man1/vmcurve.1 share/man/man1/vmpicture.1 share/man/man1/vmrecord.1
+END
+        check "installed: programs, tools, pages and the script language" same \
+            "$(cd "$at" && find bin share -type f ! -path '*/examples/*' | sort)" "$(tr ' ' '\n' < installed.files | sort)"
+        if has cc && compiled sizes; then
+            "$at/bin/vmrecord" installed.vm -- ./sizes
+            grep -v '^# sizes, process' installed.vm > sizes.lines
+            check "installed: vmrecord records" diff "$here/tests/sizes.lines" sizes.lines
+        fi
+        "$at/bin/vmcurve" "$at/share/doc/kolbista/examples/trace.vm" > installed.svg
+        check "installed: vmcurve finds vmreplay" grep -q '8,076' installed.svg
+        drawn "$here/../examples/tie.vm" > drawn.replies
+        check "installed: vmpicture draws" test -n "$("$at/bin/vmpicture" drawn.replies)"
+        make -s -C "$here/.." uninstall DESTDIR="$dir/root" PREFIX=/usr
+        check "uninstalled: no file is left" same "$(find "$dir/root" -type f)" ""
+    else
+        cat made
+        check "make install" false
+    fi
+else
+    skipped "what is installed: there is no make"
+fi

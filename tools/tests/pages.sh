@@ -1,0 +1,23 @@
+# Pages, the tools' own help, and what a tool says of wrong words.
+# shellcheck shell=sh disable=SC2154
+for page in "$here"/../man/*.1; do
+    check "$(basename "$page"): no line is wider than 80 columns" same "$(awk 'length > 80' "$page")" ""
+    if has mandoc; then
+        check "$(basename "$page"): shown by mandoc, no line is wider either" \
+            same "$(mandoc -Tascii -O width=78 "$page" | col -b | awk 'length > 80')" ""
+        check "$(basename "$page"): mandoc finds no fault" same "$(mandoc -Tlint -W warning "$page" 2>&1 | grep -v 'operating system')" ""
+    fi
+done
+has mandoc || skipped "that the manual pages have no faults: there is no mandoc"
+tools="record picture curve"
+for tool in $tools; do
+    "$here/$tool" --help > help.out 2> fault
+    check "$tool --help is its usage" same "$? $(head -n 1 help.out | cut -d ' ' -f 1-2) $(cat fault)" "0 usage: $tool "
+    check "$tool --help: no line is wider than 80 columns" same "$(awk 'length > 80' help.out)" ""
+    check "the manual page of $tool tells each of its options" sh -c '
+        for option in $(grep -o "^  -[a-z]" help.out | tr -d " -"); do grep -q "^.It Fl $option" "$1" || exit 1; done' sh "$here/../man/vm$tool.1"
+done
+"$here/../bench/edits.sh" > edits.out 2>&1
+check "bench/edits.sh without a word tells its usage" same "$? $(head -c 6 edits.out)" "2 usage:"
+"$here/../bench/edits.sh" vmreplay > edits.out 2>&1
+check "bench/edits.sh of a crate without edits says so" same "$? $(cat edits.out)" "2 bench/edits.sh: vmreplay has no edits in bench/edits"
