@@ -1,5 +1,5 @@
 #!/bin/sh
-# Records three real programs, runs each script, and prints the rows of the README's table:
+# Records three real programs, runs each script, and prints the rows of the table of docs/programs.md:
 #   tools/programs.sh [PROGRAM]
 # The program is bin/vmreplay where none is named. It needs dot (graphviz), gcc and python3. A script that doesn't run with
 # status 0 to its last line is told, and the status is 1.
