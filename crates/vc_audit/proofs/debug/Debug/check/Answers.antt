@@ -1,4 +1,5 @@
-use Rattle.vc_base.proofs.Common.{ℕ, ℤ, Some, None, Option, sym, ap, ◌∙◌, subst, inr, to_z-of_z, w64, SFits, rules, HasBlock}
+use Rattle.vc_base.proofs.Common.{ℕ, ℤ, Some, None, Option, sym, ap, ◌∙◌, subst, inr, w64, SFits, rules, HasBlock}
+use Rattle.std.proofs.lemmas.Int.{to_z-of_z}
 use Rattle.vc_best.specs.Parts.{layout_of}
 use Rattle.vc_audit.specs.DebugParts.{debug_of}
 use Rattle.vc_audit.proofs.DebugBlocks.{below-end, live-up}

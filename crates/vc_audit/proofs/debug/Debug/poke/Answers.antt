@@ -1,4 +1,5 @@
-use Rattle.vc_base.proofs.Common.{◌≡◌, ℕ, [], ◌∷◌, replicate, ℤ, pos, ◌<ℤ◌, sym, ap, ◌∙◌, subst, to_z-of_z, w64, place_of, Layout, HasRange, with_bytes_at}
+use Rattle.vc_base.proofs.Common.{◌≡◌, ℕ, [], ◌∷◌, replicate, ℤ, pos, ◌<ℤ◌, sym, ap, ◌∙◌, subst, w64, place_of, Layout, HasRange, with_bytes_at}
+use Rattle.std.proofs.lemmas.Int.{to_z-of_z}
 use Rattle.vc_best.specs.Parts.{layout_of}
 use Rattle.vc_audit.specs.Debug.{Debug, guarded_offset}
 use Rattle.vc_audit.proofs.DebugBlocks.{UserAt, guarded-at, live-down, others-at}

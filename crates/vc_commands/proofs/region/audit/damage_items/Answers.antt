@@ -1,4 +1,5 @@
-use Rattle.vc_base.proofs.Common.{ℕ, List, [], ◌++◌, length, ℤ, Option, option_map, sym, ap, ◌∙◌, inr, append-nil, arith, to_z-of_z, w64, SFits, rules, cons_option, Block, address_of}
+use Rattle.vc_base.proofs.Common.{ℕ, List, [], ◌++◌, length, ℤ, Option, option_map, sym, ap, ◌∙◌, inr, append-nil, arith, w64, SFits, rules, cons_option, Block, address_of}
+use Rattle.std.proofs.lemmas.Int.{to_z-of_z}
 use Rattle.vc_base.proofs.Options.{option_map-None}
 use Rattle.vc_region.proofs.Sound.{own_places}
 use Rattle.vc_region.specs.Cells.{rest_in}

@@ -1,4 +1,5 @@
-use Rattle.vc_base.proofs.Common.{◌≡◌, ℕ, List, sym, ap, ◌∙◌, subst, to_z-of_z, w64, place_of, Discipline}
+use Rattle.vc_base.proofs.Common.{◌≡◌, ℕ, List, sym, ap, ◌∙◌, subst, w64, place_of, Discipline}
+use Rattle.std.proofs.lemmas.Int.{to_z-of_z}
 use Rattle.vc_model.proofs.Keeping.{NoneRefused-equal}
 use Rattle.vc_region.specs.Region.{region_poke, segments_of}
 use Rattle.vc_region.specs.Cells.{cells_in, region_cells, rest_in, rest_of}

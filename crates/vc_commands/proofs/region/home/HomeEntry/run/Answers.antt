@@ -1,4 +1,5 @@
-use Rattle.vc_base.proofs.Common.{sym, refl, subst, to_z-of_z, w64, SFits, rules, Discipline}
+use Rattle.vc_base.proofs.Common.{sym, refl, subst, w64, SFits, rules, Discipline}
+use Rattle.std.proofs.lemmas.Int.{to_z-of_z}
 use Rattle.vc_model.proofs.Keeping.{NoneRefused-same}
 use Rattle.vc_script.specs.Needs.{NoNeed}
 use Rattle.vc_script.specs.declared.refusal.Refusal.TheVariants as why
