@@ -1,5 +1,5 @@
 -- What filters keep.
-use Rattle.vc_base.proofs.Common.{◌≡◌, Bool, true, ◌&&◌, List, [], ◌∷◌, map, All, filter, refl, ap, ⊎_elim, cases_Bool, All-head, All-tail}
+use Rattle.vc_base.proofs.Common.{◌≡◌, Bool, true, ◌&&◌, List, [], ◌∷◌, All, filter, refl, ap, ⊎_elim, cases_Bool, All-head, All-tail}
 
 -- one filter after another
 pub filter-filter : {A : Type 0} (p q : A → Bool) (xs : List A) → filter q (filter p xs) ≡ filter (λ x. p x && q x) xs

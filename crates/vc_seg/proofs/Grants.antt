@@ -1,5 +1,5 @@
 -- One more segment under a number that none has.
-use Rattle.vc_base.proofs.Common.{◌≡◌, ℕ, zero, suc, ◌<◌, ◌≤◌, true, false, eqb, ltb, ◌≢◌, List, [], ◌∷◌, ◌++◌, map, length, get_or, IfOk, Ok, Err, All, Result, sym, refl, ap, ◌∙◌, subst, ⊎_elim, arith, ltb-true, lt-ltb, cases_Bool, eqb-false, or_parts, All-push, all_pairs_push, get_or-map, length-map, length-replicate, length_push, IsSegmentSize, Terms, Grant, Granted, TooMany, ask, lowest_unused, new_segment, numbers}
+use Rattle.vc_base.proofs.Common.{◌≡◌, ℕ, zero, suc, ◌<◌, ◌≤◌, true, false, eqb, ltb, ◌≢◌, List, [], ◌∷◌, ◌++◌, map, length, IfOk, Ok, Err, All, Result, sym, refl, ap, ◌∙◌, subst, ⊎_elim, arith, ltb-true, lt-ltb, cases_Bool, eqb-false, or_parts, All-push, all_pairs_push, get_or-map, length-map, length-replicate, length_push, IsSegmentSize, Terms, Grant, Granted, TooMany, ask, lowest_unused, new_segment, numbers}
 use Rattle.vc_seg.specs.Lend.{IsGrantOf}
 use Rattle.vc_seg.specs.Segment.{AreSegments, Bytes, IsRegionSegment, pair_of, zero_segment}
 use Rattle.vc_seg.specs.declared.fault.RegionFault.{RegionFault}

@@ -2,13 +2,12 @@
 use Rattle.vc_base.proofs.Common.{◌≡◌, ℕ, ◌*◌, ◌^◌, ◌<◌, List, [], ◌∷◌, ◌++◌, length, sym, refl, ◌∙◌, arith, w64}
 use seplogic.Ra.Ura.{Ura}
 use base.Fraction.{full_share}
-use base.Logic.{SProp, ent, sep, emp, never, id⊢}
+use base.Logic.{ent, sep, emp, never, id⊢}
 use base.Fml.{Lft, GName, Share, Fml, ftrue, fsep, fat, flft}
-use mir.Syntax.{Fn, named, ty_ptr}
+use mir.Syntax.{named, ty_ptr}
 use mir.Val.{Val, vint, vptr}
 use prog.Wp.{Env, WpFn}
 use contract.Monad.{fact, fact_i}
-use contract.Running.{tables}
 use lib.ListN.{drop as drop_l}
 use lib.Seq.{take_at as take_front}
 use types.Logic.{Logic, sem}
@@ -27,19 +26,17 @@ use denote.Index.{row, whole_in, whole_out}
 use denote.Memory.{mem, part_at, part_of, cell_at}
 use denote.RawPtr.{Ptr, block_ptr, ptr_val, lies_at, in_block, in_a_block}
 use denote.Ref.{MutBor}
-use denote.Signature.{types_at, plain}
+use denote.Signature.{types_at}
 use denote.Slice.{MutSlice, slice_val}
-use denote.Steps.{nothing, heard, opens}
-use denote.Triple.Entry.{alive}
-use denote.Triple.Walked.{Stays, stay_dropped, walk_of, Goes-spent_ref, Goes-dropped}
+use denote.Steps.{nothing, opens}
 use Rattle.std.specs.List.{refill}
 use Rattle.std.specs.contracts.impls.GlobalAllocator.TheImpl.{ghosts}
 use Rattle.std.proofs.alloc.Shapes.{after}
-use Rattle.std.proofs.raw_atomic.Walks.{proved_at, leaves}
+use Rattle.std.proofs.raw_atomic.Walks.{leaves}
 use Rattle.vc_seg.specs.Owned.{right, block_owns}
 use Rattle.vc_seg.specs.Lends.{block_with_bytes}
 use Rattle.vc_seg.proofs.Values.{ptr_typed, none_own}
-use Rattle.vc_seg.proofs.Walks.{slot_at}
+use Rattle.vc_seg.proofs.Walks.{Walk, calls, loops, tokens, dropped, ends, asks}
 use Rattle.vc_seg.specs.contracts.block.Block as block
 use Rattle.vc_seg.specs.contracts.block.Block.all_mut.{ended, clauses}
 use Rattle.vc_seg.specs.contracts.block.Block.all_mut.Key.{name as #self}
@@ -79,18 +76,10 @@ module _ {M : Type 1} {𝓤 : Ura M} (𝓛 : Logic 𝓤) (d : block.the_row.Deno
 
 pub all_mut_spec : {M : Type 1} → statement M
 all_mut_spec 𝓤 𝓛 𝓜 𝓡 wired =
-    let H = 𝓛.H in
-    let En₀ = ended in
-    let c = clauses 𝓛 𝓜.mem 𝓡.returns in
-    let fn : Fn = compiled.function in
-    let stays : Stays En₀.signature.params En₀.kept = (stay_dropped (slot_at 0 En₀.signature.params) En₀.kept.0, (stay_dropped (slot_at 1 En₀.signature.params) En₀.kept.1.0, (stay_dropped (slot_at 2 En₀.signature.params) En₀.kept.1.1.0, tt))) in
-    let T = tables 𝓤 H 𝓜 𝓡 𝓡.env in
-    let C = T.C in
-    let Λ = T.Λ in
-    proved_at 𝓛 En₀ stays c 𝓜 𝓡 (Goes-spent_ref 𝓛 1 (0 ∷ []) tt (plain (λ _. block.the_row)), (Goes-dropped 𝓛 1 (slot_at 1 En₀.signature.params) En₀.kept.1.0 (λ κs x f. refl), (Goes-dropped 𝓛 1 (slot_at 2 En₀.signature.params) En₀.kept.1.1.0 (λ κs x f. refl), tt))) #self fn (compiled.unfolded 𝓤 H 𝓜 𝓡 wired) (λ z are.
-    let Post : Val → SProp 𝓤 = (walk_of 𝓛 En₀ stays c).post z in
+    let W : Walk 𝓤 𝓛 𝓜 𝓡 = record { En = ended; clauses = clauses 𝓛 𝓜.mem 𝓡.returns; fn = compiled.function } in
+    asks W ((λ κs x f. tt), ((λ κs x f. tt), ((λ κs x f. tt), tt))) #self (compiled.unfolded 𝓤 𝓛.H 𝓜 𝓡 wired)
+    (λ z. (z.0.3.1.0 ≡ z.0.3.0.now.at) × (z.0.3.1.1.0 ≡ length z.0.3.0.now.bytes)) (λ z. id⊢ 𝓤 _) (λ z are asked.
     let a = z.0.3 in
-    let vss = z.0.4 in
     let κ : Lft = z.0.0.0 in
     let q : Share = z.0.1.0 in
     let d = a.0.now in
@@ -104,12 +93,11 @@ all_mut_spec 𝓤 𝓛 𝓜 𝓡 wired =
     let token = ghosts.dealloc_token d.alloc in
     let R = block.the_row in
     let F = block_with_bytes d in
-    let Asked : Type 0 = (a.1.0 ≡ d.at) × (n ≡ m) in
-    qed 𝓛 ((raw (alive 𝓛 En₀.signature z.0.0 z.0.1) ⊛ ‵ (owns (types_at En₀.signature.params z.0.0) a vss)) ∷ raw (fact 𝓤 Asked) ∷ []) ∵ move ! (1 ∷ []) $ heard ! Asked (λ asked. split ! $ move ! (1 ∷ []) $
+    qed 𝓛 (‵ (owns (types_at ended.signature.params z.0.0) z.0.3 z.0.4) ∷ raw (tokens W z) ∷ []) ∵
     fsplit ! $ fsplit3 ! $ drop ! $ move ! (2 ∷ []) $ drop ! $ move ! (2 ∷ []) $ use1 𝓛 (‵ (flft κ q) ⊛ ‵ ftrue) (id⊢ 𝓤 _) $ split ! $ move ! (1 ∷ []) $ drop ! $ move ! (1 ∷ 2 ∷ 0 ∷ []) $
-    regoal ! (λ (us : List Val). prop (WpFn 𝓤 H C Λ fn us Post)) (λ i. are.0.0 i ++ (are.1.0 i ++ (are.1.1.0.0 i ++ []))) refl $
-    enter ! C Λ fn (vptr rb ro ∷ ptr_val a.1.0 ∷ vint w64 n ∷ []) Post $
-    alloc_all ! (λ l. pass_all ! refl ((tt, tt), (ptr_typed a.1.0, ((tt, record { fits = fits }), tt))) $ let En : Env 𝓤 H = env fn.locals l in
+    regoal ! (λ (us : List Val). prop (WpFn 𝓤 𝓛.H (calls W) (loops W) W.fn us (ends W z))) (λ i. are.0.0 i ++ (are.1.0 i ++ (are.1.1.0.0 i ++ []))) refl $
+    enter ! (calls W) (loops W) W.fn (vptr rb ro ∷ ptr_val a.1.0 ∷ vint w64 n ∷ []) (ends W z) $
+    alloc_all ! (λ l. pass_all ! refl ((tt, tt), (ptr_typed a.1.0, ((tt, record { fits = fits }), tt))) $ let En : Env 𝓤 𝓛.H = env W.fn.locals l in
     opens ! tt R {h = d} rb ro (λ vs. move ! (1 ∷ []) $ fsplit ! $ move ! (1 ∷ []) $ fsplit ! $ flt_l ! (λ small.
     in_a_block ! d.at (λ p. in_block p (fsep (lies_at (Array u8 m) full_share p xs) (right token m p))) (id⊢ 𝓤 (never 𝓤)) (λ b o at. fsplit ! $
     use1 𝓛 (‵ (cells (mem u8) xs b o)) (bytes_out 𝓛 d b o rb ro vs xs m) $
@@ -125,11 +113,11 @@ all_mut_spec 𝓤 𝓛 𝓜 𝓡 wired =
     take_at ! 2 $ rewrite ! 0 (λ (p : Ptr). ‵ (fat full_share ty_ptr (l 2) 0 (ptr_val p))) place refl $ give_at ! 2 $
     first ! $ blocks ! $
     sets_last ! (agg ! (and_then ! (get ! refl) (and_then ! (get ! refl) (no_more !)))) refl (tt, (tt, (record { fits = fits }, tt))) $
-    exec ! C Λ En (after 1 fn.body) (at_ret En Post) $
+    exec ! (calls W) (loops W) En (after 1 W.fn.body) (at_ret En (ends W z)) $
     sets ! (of_opd ! (get ! refl)) refl (tt, (tt, (record { fits = fits }, tt))) $
     returns ! (look_at ! 0 refl) $ free_all ! refl $
     split ! $ move ! (1 ∷ []) $ split ! $ nothing ! $ move ! (1 ∷ 0 ∷ []) $ join ! $ move ! (1 ∷ 2 ∷ 0 ∷ []) $
     -- [follows; the slice; the tokens]
     let Gives : Type 0 = xs ≡ xs in
     use0 𝓛 (raw (fact 𝓤 Gives)) (fact_i 𝓤 Gives (emp 𝓤) refl) $ move ! (1 ∷ 0 ∷ []) $ join ! $ nothing ! $ nothing ! $ fjoin ! $ nothing ! $ fjoin ! $ nothing ! $ fjoin ! $ move ! (3 ∷ 0 ∷ 2 ∷ 1 ∷ []) $
-    by ! (leaves 𝓛 En₀ stays c z (slice_val (b, o) n) r (tt, (tt, (tt, tt))) (tt, (tt, (tt, tt)))))))))))
+    by ! (leaves 𝓛 ended (dropped W) W.clauses z (slice_val (b, o) n) r (tt, (tt, (tt, tt))) (tt, (tt, (tt, tt))))))))))
