@@ -1,5 +1,5 @@
 -- What is true of each of a list, and of each two.
-use Rattle.vc_base.proofs.Common.{◌≡◌, suc, Bool, true, false, List, [], ◌∷◌, ◌++◌, map, Some, All, filter, AllPairs, find, sym, refl, ap, ◌∙◌, ⊎_elim, arith, cases_Bool, All-append, All-cons, All-head, All-map, All-nil, All-tail, AllPairs-cons}
+use Rattle.vc_base.proofs.Common.{◌≡◌, false, List, [], ◌∷◌, ◌++◌, map, All, filter, AllPairs, refl, arith, All-append, All-head, All-map, All-tail, AllPairs-cons}
 use Rattle.vc_model.proofs.Pairs.{AllPairs-head, AllPairs-tail}
 use Rattle.vc_seg.specs.Segment.{Bytes}
 

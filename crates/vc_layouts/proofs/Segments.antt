@@ -50,15 +50,27 @@ Served-lent old new segments segments' n bytes e lent =
       same = λ same. absurd (omega (arith, length_push segments (n, bytes), ap length (sym same ∙ e)));
     }
 
+-- the segments may be told by an equal list
+pub Served-later : (old new : Discipline) (segments mid later : List (ℕ × ℕ)) (need : ℕ) → later ≡ mid → Served old new segments mid need → Served old new segments later need
+Served-later old new segments mid later need same h = subst (λ (ss : List (ℕ × ℕ)). Served old new segments ss need) (sym same) h
+
+-- nothing was asked for
+pub Served-unasked : (d : Discipline) (segments segments' : List (ℕ × ℕ)) (size : ℕ) → segments' ≡ segments → Served d d segments segments' size
+Served-unasked d segments segments' size same = Served-later d d segments segments segments' size same (Served-same d segments size)
+
+-- a segment of the bytes that were needed was lent
+pub Served-granted : (old new : Discipline) (segments segments' : List (ℕ × ℕ)) (n bytes need : ℕ) → bytes ≡ need → segments' ≡ segments ++ (n, bytes) ∷ [] → Lent old new n bytes → Served old new segments segments' need
+Served-granted old new segments segments' n bytes need e added lent = subst (Served old new segments segments') e (Served-lent old new segments segments' n bytes added lent)
+
 -- what a fault of asking leaves
 pub Asks-fault : (e : RegionFault) (old new : Discipline) (segments segments' : List (ℕ × ℕ)) (bytes : ℕ) → segments' ≡ segments → IsAsked (Err e) old new bytes → Asks (Err e) old new segments segments' bytes
 Asks-fault code.NoSegment old new segments segments' bytes same h = h
-Asks-fault code.TooManySegments old new segments segments' bytes same h = subst (λ (ss : List (ℕ × ℕ)). Served old new segments ss bytes) (sym same) (subst (λ (d : Discipline). Served old d segments segments bytes) (sym h) (Served-same old segments bytes))
-Asks-fault code.OutOfMemory old new segments segments' bytes same h = subst (λ (ss : List (ℕ × ℕ)). Served old new segments ss bytes) (sym same) (subst (λ (d : Discipline). Served old d segments segments bytes) (sym h) (Served-same old segments bytes))
-Asks-fault code.Fixed old new segments segments' bytes same h = subst (λ (ss : List (ℕ × ℕ)). Served old new segments ss bytes) (sym same) (subst (λ (d : Discipline). Served old d segments segments bytes) (sym h) (Served-same old segments bytes))
-Asks-fault code.PoolSize old new segments segments' bytes same h = subst (λ (ss : List (ℕ × ℕ)). Served old new segments ss bytes) (sym same) (subst (λ (d : Discipline). Served old d segments segments bytes) (sym h) (Served-same old segments bytes))
-Asks-fault code.NotLast old new segments segments' bytes same h = subst (λ (ss : List (ℕ × ℕ)). Served old new segments ss bytes) (sym same) (subst (λ (d : Discipline). Served old d segments segments bytes) (sym h) (Served-same old segments bytes))
-Asks-fault code.WrongMethod old new segments segments' bytes same h = subst (λ (ss : List (ℕ × ℕ)). Served old new segments ss bytes) (sym same) (subst (λ (d : Discipline). Served old d segments segments bytes) (sym h) (Served-same old segments bytes))
+Asks-fault code.TooManySegments old new segments segments' bytes same h = subst (λ (d : Discipline). Served old d segments segments' bytes) (sym h) (Served-unasked old segments segments' bytes same)
+Asks-fault code.OutOfMemory old new segments segments' bytes same h = subst (λ (d : Discipline). Served old d segments segments' bytes) (sym h) (Served-unasked old segments segments' bytes same)
+Asks-fault code.Fixed old new segments segments' bytes same h = subst (λ (d : Discipline). Served old d segments segments' bytes) (sym h) (Served-unasked old segments segments' bytes same)
+Asks-fault code.PoolSize old new segments segments' bytes same h = subst (λ (d : Discipline). Served old d segments segments' bytes) (sym h) (Served-unasked old segments segments' bytes same)
+Asks-fault code.NotLast old new segments segments' bytes same h = subst (λ (d : Discipline). Served old d segments segments' bytes) (sym h) (Served-unasked old segments segments' bytes same)
+Asks-fault code.WrongMethod old new segments segments' bytes same h = subst (λ (d : Discipline). Served old d segments segments' bytes) (sym h) (Served-unasked old segments segments' bytes same)
 
 -- the segments of a layout have numbers of their own
 pub HaveOwnNumbers-segments : (segs : List Bytes) → AreSegments segs → HaveOwnNumbers (map pair_of segs)
