@@ -10,60 +10,44 @@ use Rattle.vc_gaps.proofs.fitting.first_that_holds.Goals as goal
 
 pub holds-requires-clause-free : goal.holds-requires-clause-free
 holds-requires-clause-free g c =
-    let e = c.args.gaps.now.extents.now in
-    let t = tiling e.segs.items in
-    let i = c.loop-at.invariant in
-    gap-free t c.loop-at.at (at-gap e.segs.items e.index.items e.kept (holds_at t c.args.span c.args.align) c.args.first c.loop-at.at c.args.steps.now c.loop-at.steps c.loop-at-test.true i.0 i.2 c.requires.within)
+    gap-free _ _ (at-gap _ _ c.args.gaps.now.extents.now.kept (holds_at (tiling c.args.gaps.now.extents.now.segs.items) c.args.span c.args.align) c.args.first c.loop-at.at c.args.steps.now c.loop-at.steps c.loop-at-test.true c.loop-at.invariant.0 c.loop-at.invariant.2 c.requires.within)
 
 pub returns-then-holds-clause-found : goal.returns-then-holds-clause-found
 returns-then-holds-clause-found g c = λ root xs h w.
-    let t = tiling c.args.gaps.now.extents.now.segs.items in
-    walk-found (holds_at t c.args.span c.args.align) xs c.args.first c.loop-at.at c.args.steps.now c.loop-at.steps c.loop-at-test.true (sym c.holds.ensures.value ∙ c.if-holds.true) (c.loop-at.invariant.0 root xs h w)
+    walk-found (holds_at (tiling c.args.gaps.now.extents.now.segs.items) c.args.span c.args.align) xs c.args.first c.loop-at.at c.args.steps.now c.loop-at.steps c.loop-at-test.true (sym c.holds.ensures.value ∙ c.if-holds.true) (c.loop-at.invariant.0 root xs h w)
 
 pub returns-then-holds-clause-most_steps : goal.returns-then-holds-clause-most_steps
 returns-then-holds-clause-most_steps g c = λ root xs h w.
-    let t = tiling c.args.gaps.now.extents.now.segs.items in
-    let k = walk-steps (holds_at t c.args.span c.args.align) xs c.args.first c.loop-at.at c.args.steps.now c.loop-at.steps c.loop-at-test.true (c.loop-at.invariant.0 root xs h w) in
+    let k = walk-steps (holds_at (tiling c.args.gaps.now.extents.now.segs.items) c.args.span c.args.align) xs c.args.first c.loop-at.at c.args.steps.now c.loop-at.steps c.loop-at-test.true (c.loop-at.invariant.0 root xs h w) in
     rw c.holds.ensures.step k
 
 pub next-at-requires : goal.next-at-requires
 next-at-requires g c =
-    let e = c.args.gaps.now.extents.now in
-    let t = tiling e.segs.items in
-    let i = c.loop-at.invariant in
-    gap-within t c.loop-at.at (at-gap e.segs.items e.index.items e.kept (holds_at t c.args.span c.args.align) c.args.first c.loop-at.at c.args.steps.now c.loop-at.steps c.loop-at-test.true i.0 i.2 c.requires.within)
+    gap-within _ _ (at-gap _ _ c.args.gaps.now.extents.now.kept (holds_at (tiling c.args.gaps.now.extents.now.segs.items) c.args.span c.args.align) c.args.first c.loop-at.at c.args.steps.now c.loop-at.steps c.loop-at-test.true c.loop-at.invariant.0 c.loop-at.invariant.2 c.requires.within)
 
 pub loop-at-smaller : goal.loop-at-smaller
 loop-at-smaller g c =
-    let e = c.args.gaps.now.extents.now in
-    let t = tiling e.segs.items in
-    let i = c.loop-at.invariant in
+    let t = tiling c.args.gaps.now.extents.now.segs.items in
     let a = c.loop-at.at in
-    let r : IsAmongGaps t a = at-gap e.segs.items e.index.items e.kept (holds_at t c.args.span c.args.align) c.args.first a c.args.steps.now c.loop-at.steps c.loop-at-test.true i.0 i.2 c.requires.within in
+    let r : IsAmongGaps t a = at-gap _ _ c.args.gaps.now.extents.now.kept (holds_at t c.args.span c.args.align) c.args.first a c.args.steps.now c.loop-at.steps c.loop-at-test.true c.loop-at.invariant.0 c.loop-at.invariant.2 c.requires.within in
     above-less (key_of t a) (key_of t c.next-at.result) a c.next-at.result c.loop-at-test.true
-    (key-small t a c.holds.ensures.small (gap_fits e.segs.items e.index.items e.kept a (gap-free t a r)))
-    (λ some. next-above (key_of t) r.is_in.names a c.next-at.result r.is_in.tree.ascending (next-gap e.segs.items e.index.items e.kept r.root r.is_in.names r.is_in.tree a c.next-at.result r.is_in.within c.next-at.ensures) some)
+    (key-small t a c.holds.ensures.small (gap_fits _ _ c.args.gaps.now.extents.now.kept a (gap-free t a r)))
+    (λ some. next-above (key_of t) r.is_in.names a c.next-at.result r.is_in.tree.ascending (next-gap _ _ c.args.gaps.now.extents.now.kept r.root r.is_in.names r.is_in.tree a c.next-at.result r.is_in.within c.next-at.ensures) some)
 
 pub loop-at-preserved : goal.loop-at-preserved
 loop-at-preserved g c =
-    let e = c.args.gaps.now.extents.now in
-    let t = tiling e.segs.items in
-    let i = c.loop-at.invariant in
-    let forward = i.1 in
+    let forward = c.loop-at.invariant.1 in
     let step = c.holds.ensures.step in (
-      on-gap e.segs.items e.index.items e.kept (holds_at t c.args.span c.args.align) c.args.first c.loop-at.at c.args.steps.now c.loop-at.steps c.loop-at-test.true i.0 i.2 c.requires.within
+      on-gap _ _ c.args.gaps.now.extents.now.kept (holds_at (tiling c.args.gaps.now.extents.now.segs.items) c.args.span c.args.align) c.args.first c.loop-at.at c.args.steps.now c.loop-at.steps c.loop-at-test.true c.loop-at.invariant.0 c.loop-at.invariant.2 c.requires.within
           c.next-at.result c.holds.new.steps c.holds.ensures.step (sym c.holds.ensures.value ∙ c.if-holds.false) c.next-at.ensures,
       omega arith,
-      λ z. absurd (c.loop-at-test.true (i.2 z)),
+      λ z. absurd (c.loop-at-test.true (c.loop-at.invariant.2 z)),
     )
 
 pub returns-clause-found : goal.returns-clause-found
 returns-clause-found g c = λ root xs h w.
-    let e = c.args.gaps.now.extents.now in
-    let t = tiling e.segs.items in
-    walk-none (holds_at t c.args.span c.args.align) xs c.args.first c.loop-at.at c.args.steps.now c.loop-at.steps (no-zero e.segs.items e.index.items e.kept root xs h) c.loop-at-test.false (c.loop-at.invariant.0 root xs h w)
+    walk-none (holds_at (tiling c.args.gaps.now.extents.now.segs.items) c.args.span c.args.align) xs c.args.first c.loop-at.at c.args.steps.now c.loop-at.steps (no-zero _ _ c.args.gaps.now.extents.now.kept root xs h) c.loop-at-test.false (c.loop-at.invariant.0 root xs h w)
 
 pub returns-clause-most_steps : goal.returns-clause-most_steps
 returns-clause-most_steps g c = λ root xs h w.
-    let t = tiling c.args.gaps.now.extents.now.segs.items in
-    walk-end (holds_at t c.args.span c.args.align) xs c.args.first c.loop-at.at c.args.steps.now c.loop-at.steps (c.loop-at.invariant.0 root xs h w)
+    walk-end (holds_at (tiling c.args.gaps.now.extents.now.segs.items) c.args.span c.args.align) xs c.args.first c.loop-at.at c.args.steps.now c.loop-at.steps (c.loop-at.invariant.0 root xs h w)

@@ -11,30 +11,26 @@ find_least_at-top-requires g c =
 
 pub returns-then-align-eq32-clause-fitted : goal.returns-then-align-eq32-clause-fitted
 returns-then-align-eq32-clause-fitted g c =
-    let e = c.args.gaps.now.extents.now in
     let f = c.find_least_at-top in
-    fitted-by_32 e.segs.items f.new.nodes.extents.now.segs.items e.index.items e.kept f.ensures.rest.1 c.args.root f.result.0 c.args.span c.args.align f.result.1 c.if-align-eq32.true f.ensures.tree f.ensures.answer
+    fitted-by_32 _ f.new.nodes.extents.now.segs.items _ c.args.gaps.now.extents.now.kept f.ensures.rest.1 c.args.root f.result.0 c.args.span c.args.align f.result.1 c.if-align-eq32.true f.ensures.tree f.ensures.answer
 
 pub first_that_holds-requires-clause-within : goal.first_that_holds-requires-clause-within
 first_that_holds-requires-clause-within g c =
-    let e = c.args.gaps.now.extents.now in
     let f = c.find_least_at-top in
     let r = c.requires.tree in
-    among-first e.segs.items f.new.nodes.extents.now.segs.items e.index.items e.kept f.ensures.rest.1 c.args.root f.result.0 c.args.span c.args.align f.result.1 r.names r.tree f.ensures.tree f.ensures.answer
+    among-first _ f.new.nodes.extents.now.segs.items _ c.args.gaps.now.extents.now.kept f.ensures.rest.1 c.args.root f.result.0 c.args.span c.args.align f.result.1 r.names r.tree f.ensures.tree f.ensures.answer
 
 pub returns-clause-fitted : goal.returns-clause-fitted
 returns-clause-fitted g c =
-    let e = c.args.gaps.now.extents.now in
     let f = c.find_least_at-top in
-    fitted-on e.segs.items f.new.nodes.extents.now.segs.items e.index.items e.kept f.ensures.rest.1 c.args.root f.result.0 c.args.span c.args.align f.result.1 c.first_that_holds.result c.requires.least f.ensures.tree f.ensures.answer c.first_that_holds.ensures.found
+    fitted-on _ f.new.nodes.extents.now.segs.items _ c.args.gaps.now.extents.now.kept f.ensures.rest.1 c.args.root f.result.0 c.args.span c.args.align f.result.1 c.first_that_holds.result c.requires.least f.ensures.tree f.ensures.answer c.first_that_holds.ensures.found
 
 pub returns-clause-most_steps : goal.returns-clause-most_steps
 returns-clause-most_steps g c = λ xs h.
-    let e = c.args.gaps.now.extents.now in
     let f = c.find_least_at-top in
     let news = f.new.nodes.extents.now.segs.items in
-    let after = gap-found e.segs.items news e.index.items e.kept f.ensures.rest.1 c.args.root f.result.0 0 xs h (f.ensures.tree h.tree h.is_tree) in
-    let within = first-within e.segs.items news e.index.items e.kept f.ensures.rest.1 c.args.root f.result.0 c.args.span c.args.align f.result.1 xs h f.ensures.answer in
+    let after = gap-found _ news _ c.args.gaps.now.extents.now.kept f.ensures.rest.1 c.args.root f.result.0 0 xs h (f.ensures.tree h.tree h.is_tree) in
+    let within = first-within _ news _ c.args.gaps.now.extents.now.kept f.ensures.rest.1 c.args.root f.result.0 c.args.span c.args.align f.result.1 xs h f.ensures.answer in
     let down = f.ensures.most_steps h.tree h.is_tree in
     let along = c.first_that_holds.ensures.most_steps f.result.0 xs after.tree within in
     let len = ap length h.list in
