@@ -14,7 +14,7 @@ told() {
         }
         />blocks: / { busy = number("blocks:"); sbusy = number("with") }
         />gaps: / { free = number("gaps:"); sfree = number("with"); mfree = number("at most") }
-        />free cells: / { free = number("cells:"); sfree = number("with"); mfree = number("bytes") }
+        />free cells: / { free = number("cells:"); sfree = number("with"); mfree = number("%[)]") }
         />(heads|guards|rounding|what|ends|begins)/ { all += number(": ") }
         /y="48">/ { extent = number("y=\"48\">"); segs = number(" in ") }
         END { print busy + 0, free + 0, sbusy + 0, sfree + 0, mfree + 0, segs + 0, extent + 0, all + sbusy + sfree }'
@@ -29,8 +29,11 @@ picture_of() {
     name=$1
     replies=$2
     shift 2
-    "$picture" "$@" -t "$name & <more>" "$replies" > drawn.svg
-    check "picture of $name: status 0" same "$?" 0
+    "$picture" "$@" -t "$name & <more>" "$replies" > drawn.svg 2> drawn.said
+    status=$?
+    expected=0
+    ! grep -q '^refused: ' "$replies" || expected=3
+    check "picture of $name: status $expected" same "$status" "$expected"
     check "picture of $name: its numbers are those of stat" same "$(told drawn.svg)" "$(stat_of "$replies")"
     if has xmllint; then
         check "picture of $name: well-formed" xmllint --noout drawn.svg
@@ -48,7 +51,7 @@ for script in "$here"/../examples/*.vm; do
     if ! grep -q '^blocks 0$' drawn.replies; then picture_of "$name, by stat" drawn.replies; fi
     # Without stat the method is enough, and the cells of a pool.
     grep -v '^busy' drawn.replies > short.replies
-    "$picture" -m "$method" -c 64 -t "$name & <more>" short.replies > short.svg
+    "$picture" -m "$method" -c 64 -t "$name & <more>" short.replies > short.svg 2> short.said
     check "picture of $name, without stat" same "$(told short.svg)" "$(stat_of drawn.replies)"
 done
 for method in best pool last debug profile; do
@@ -93,3 +96,104 @@ printf '%s\n' 'open r best 1' 'alloc r a 100' '# malloc of 20000000 bytes: a scr
 drawn left.vm > left.replies
 "$picture" -s left.vm left.replies > drawn.svg
 check "a block that was left out of the recording is told beneath the picture" grep -q ': 1 block with 30,000,000 bytes<' drawn.svg
+
+# A script is run, up to a line, and drawn without a word on its method.
+said() {
+    "$picture" -p "$program" "$@" > drawn.svg 2> drawn.said
+    status=$?
+}
+for script in "$here"/../examples/*.vm; do
+    name=$(basename "$script" .vm)
+    grep -v '^close' "$script" > open.vm
+    drawn "$script" > drawn.replies
+    said open.vm
+    check "picture of the script $name: its numbers are those of stat" same "$(told drawn.svg)" "$(stat_of drawn.replies)"
+done
+said "$here/../examples/trace.vm"
+check "picture of a script whose region is closed: the line is told" \
+    same "$status $(cat drawn.said)" "1 picture: region heap is closed at line 40: -n 39 draws it as it was before"
+said -n 34 "$here/../examples/trace.vm"
+check "picture of the trace up to line 34: the numbers that its stat tells there" \
+    same "$status $(told drawn.svg)" "0 9 6 3076 17024 8160 4 20480 20480"
+check "picture of the trace up to line 34: the line stands in its title" grep -q '>Where the blocks of region heap lie behind line 34<' drawn.svg
+said < open.vm
+check "picture of a script on standard input" same "$status $(told drawn.svg)" "0 $(stat_of drawn.replies)"
+said -n 41 "$here/../examples/trace.vm"
+check "picture of a line that isn't there" same "$status $(cat drawn.said)" "2 picture: the script has 40 lines, and no line 41"
+printf '%s\n' 'open r best 1' 'open s pool 2' 'alloc r a 10' 'alloc s a 20' > two.vm
+said two.vm
+check "picture of a script with two regions: it is asked which" \
+    same "$status $(cat drawn.said)" "1 picture: behind line 4 the script has the regions r, s open: say which by -r"
+said -r s two.vm
+check "picture of a script with two regions: the one that is named" same "$status $(told drawn.svg)" "0 1 126 20 4032 32 1 4096 4096"
+said -n 1 two.vm
+check "picture of a script with two regions, up to the line before the second" same "$status $(told drawn.svg)" "0 0 0 0 0 0 0 0 0"
+said -r t two.vm
+check "picture of a region that is never opened" same "$status $(cat drawn.said)" "1 picture: no region t is open: the script opens none up to line 4"
+printf 'open r best 1\nfrob\n' > bad.vm
+said bad.vm
+check "picture of a script with a bad line: it is told by its own number" \
+    same "$status $(cat drawn.said)" "1 picture: vmreplay: line 2: unknown command"
+said -m best two.vm
+check "picture of a script: -m is for replies" same "$status $(grep -c ' are for replies' drawn.said)" "2 1"
+printf 'segments 0\nblocks 0\n' > none.replies
+said -n 3 none.replies
+check "picture of replies: -n is for a script" same "$status $(grep -c ' is for a script' drawn.said)" "2 1"
+"$picture" -p "$programs/dtrun" -n 5 "$here/../examples/set.dt" > drawn.svg 2> drawn.said
+check "picture of a script with dictionaries" same "$? $(head -n 5 "$here/../examples/set.dt" | grep -c '^insert')" \
+    "0 $(($(grep -c 'class="block" d=' drawn.svg) - 1))"
+
+# What was refused.
+printf '%s\n' 'open r best 1' '# two are too great' 'alloc r a 100' 'alloc r b 16777217' 'alloc r c 16777217' 'free r b' > refusals.vm
+said refusals.vm
+check "refused commands are told, with the first, and have a status of their own" \
+    same "$status $(cat drawn.said)" "3 picture: 3 of 5 commands on region r were refused, the first at line 4: size"
+check "refused commands are told beneath the picture" grep -q '>3 of 5 commands on region r were refused, the first at line 4: size<' drawn.svg
+check "the first refused command is marked" same "$(grep -c 'class="first".*: line 4<' drawn.svg)" 1
+said -n 3 refusals.vm
+check "before them nothing is told" same "$status $(cat drawn.said)" "0 "
+drawn refusals.vm > drawn.replies
+said drawn.replies
+check "refused commands of replies are told by the number of the reply" \
+    same "$status $(cat drawn.said)" "3 picture: 3 of the first 5 replies are refusals, the first is reply 3: size"
+said -s refusals.vm drawn.replies
+check "with their script, by the line" \
+    same "$status $(cat drawn.said)" "3 picture: 3 of 5 commands on region r were refused, the first at line 4: size"
+{ cat two.vm; printf '%s\n' 'alloc s b 21' 'alloc s c 21'; } > other.vm
+said -r r other.vm
+check "what is refused of another region is not told" same "$status $(cat drawn.said)" "0 "
+said -r s other.vm
+check "what is refused of this one is" same "$status $(cat drawn.said)" "3 picture: 2 of 4 commands on region s were refused, the first at line 5: pool size"
+
+# A region that is closed.
+{ cat two.vm; printf '%s\n' 'close r' 'stat r' 'segments r' 'blocks r'; } | "$program" > closed.replies
+said closed.replies
+check "replies behind a close: it is told" same "$status $(sed 's/:.*//; s/, .*//' drawn.said) $(grep -c 'region r is closed by reply 5, ' drawn.said)" "1 picture 1"
+printf '%s\n' 'open r best 1' 'alloc r a 10' 'stat r' 'segments r' 'blocks r' 'close r' > behind.vm
+"$program" < behind.vm > behind.replies
+said behind.replies
+check "a close behind the replies: it is told" \
+    same "$status $(cat drawn.said)" "3 picture: region r is closed behind the replies that are drawn: they are of an earlier moment"
+said -s behind.vm behind.replies
+check "a close behind the replies, by the script: it is told" \
+    same "$status $(cat drawn.said)" "3 picture: region r is closed behind the replies that are drawn: they are of an earlier moment"
+
+# An overview.
+"$here/tests/layout" best 10000 > layout.replies
+"$picture" -o layout.replies > drawn.svg
+check "an overview has a row for each segment" \
+    same "$(grep -c 'class="row" .*<title>segment [0-9]*: 65,536 bytes, ' drawn.svg)" "$(awk '$1 == "segments" { print $2 }' layout.replies)"
+check "an overview tells the same numbers" same "$(told drawn.svg)" "$(stat_of layout.replies)"
+! has xmllint || check "an overview is well-formed" xmllint --noout drawn.svg
+[ -z "$browser" ] || check "an overview: a browser shows it" shown
+awk 'BEGIN { print "open r best 1"; for (i = 1; i <= 13; i++) print "alloc r b" i " " (i == 13 ? 2016 : 4032) }' > thirteen.vm
+said -o thirteen.vm
+check "an overview: a row whose one block fills a half" grep -q '<title>segment 13: 4,096 bytes, 1 block with 2,016 bytes (49.2 %)<' drawn.svg
+check "an overview: the parts without a block are of one colour" same "$(grep 'class="l0" d=' drawn.svg | tr M '\n' | grep -c 'h450')" 1
+said -o -n 13 thirteen.vm
+check "of twelve segments there is no overview" same "$(grep -c 'class="row"' drawn.svg) $(grep -c 'class="block" d=' drawn.svg)" "0 12"
+
+# Shares.
+said -n 34 "$here/../examples/trace.vm"
+check "the shares in the legend come to all" same \
+    "$(sed -n 's/.*>[a-z].*bytes (\([0-9.]*\) %).*/\1/p' drawn.svg | awk '{ n += $1 } END { printf "%.0f\n", n }')" 100
