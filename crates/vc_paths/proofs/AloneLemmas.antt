@@ -1,14 +1,14 @@
 -- What is seen where a path is its dictionary alone: the objects of that one, as they stand.
-use Rattle.vc_base.proofs.Common.{◌≡◌, ℕ, Bool, true, false, not, List, [], ◌∷◌, ◌++◌, map, is_some, IsSome, ◌==◌, Some, None, filter, Option, option_map, sym, refl, ap, ◌∙◌, subst, inl, inr, true≢false, append_assoc, append-nil, eqb-true, cases_Bool, AllByRecursion, list_any, number_of, is_ordered}
+use Rattle.vc_base.proofs.Common.{◌≡◌, ℕ, Bool, true, false, not, List, [], ◌∷◌, ◌++◌, map, IsSome, ◌==◌, Some, None, filter, Option, option_map, sym, refl, ap, ◌∙◌, subst, inl, inr, true≢false, append_assoc, append-nil, eqb-true, cases_Bool, AllByRecursion, list_any, number_of, is_ordered}
 use Rattle.vc_base.specs.declared.addr.Addr.{Addr}
-use Rattle.vc_dtdisc.specs.Finding.{before_first, behind_last}
 use Rattle.vc_dtdisc.specs.Objects.{Object, is_greater, placed_each}
 use Rattle.vc_dtdisc.specs.Rules.{Rules}
-use Rattle.vc_paths.specs.Layers.{AreLayers, Layered, bytes_there, place_before, place_behind, place_in, stands_at}
+use Rattle.vc_paths.specs.Direction.{neighbour, place_beside}
+use Rattle.vc_paths.specs.Layers.{AreLayers, Layered, bytes_there, place_in, stands_at}
 use Rattle.vc_paths.specs.Links.{Links, below, onward, path, path_of}
 use Rattle.vc_paths.specs.Path.{Answers, IsPath, IsVisible, is_at, numbers_of, objects_of, place_of, seen_in, visible_of}
 use Rattle.vc_paths.specs.Visible.{Seen, is_hidden, seen_bytes, stacked_objects}
-use Rattle.vc_paths.proofs.NeighbourLemmas.{any_map, at_elsewhere, before_map, behind_map, none_hidden}
+use Rattle.vc_paths.proofs.NeighbourLemmas.{any_map, at_elsewhere, neighbour_map, none_hidden}
 use Rattle.vc_paths.proofs.OrderLemmas.{any_none}
 use Rattle.vc_paths.proofs.OrderedLemmas.{layer_sorted, visible_ordered}
 use Rattle.vc_paths.proofs.SeekLemmas.{path-first}
@@ -75,25 +75,14 @@ placed_in : (d : ℕ) (o : Option Object) → option_map (λ a. (d, a)) (place_i
 placed_in d None = refl
 placed_in d (Some o) = refl
 
--- its neighbours in the list are those among all that is seen
-pub alone_next : (all : Layered) (links : Links) (d : ℕ) (p : ℕ × Addr) (next : Option Addr) (result : Option (ℕ × Addr)) → AreLayers all → IsPath all links d → below links d ≡ None → IsVisible all links d (numbers_of p) → option_map number_of next ≡ place_behind p.1.0 (all.layer d).objects → option_map numbers_of result ≡ option_map (λ a. (d, a)) (option_map number_of next) → Answers result (behind_last (is_at (numbers_of p)) (visible_of all links d))
-alone_next all links d p next result laws path' none seen n r =
+-- its neighbour in the list is that among all that is seen
+pub alone_beside : {all : Layered} {links : Links} {d : ℕ} (back : Bool) (p : ℕ × Addr) (next : Option Addr) (result : Option (ℕ × Addr)) → AreLayers all → IsPath all links d → below links d ≡ None → IsVisible all links d (numbers_of p)
+    → option_map number_of next ≡ place_beside back p.1.0 (all.layer d).objects → option_map numbers_of result ≡ option_map (λ a. (d, a)) (option_map number_of next) → Answers result (neighbour back (is_at (numbers_of p)) (visible_of all links d))
+alone_beside {all} {links} {d} back p next result laws path' none seen n r =
     let objects = (all.layer d).objects in
-    let here = seen_alone all links d p laws path' none seen in
     r
     ∙ ap (option_map (λ a. (d, a))) n
-    ∙ placed_in d (behind_last (stands_at p.1.0) objects)
-    ∙ ap (option_map place_of) (sym (ap (behind_last (is_at (numbers_of p))) (visible_alone all links d laws path' none)
-    ∙ ap (λ z. behind_last (is_at (z, p.1.0)) (objects_of all d)) (dict_here d p.0 p.1.0 objects here)
-    ∙ behind_map d p.1.0 objects))
-
-pub alone_previous : (all : Layered) (links : Links) (d : ℕ) (p : ℕ × Addr) (next : Option Addr) (result : Option (ℕ × Addr)) → AreLayers all → IsPath all links d → below links d ≡ None → IsVisible all links d (numbers_of p) → option_map number_of next ≡ place_before p.1.0 (all.layer d).objects → option_map numbers_of result ≡ option_map (λ a. (d, a)) (option_map number_of next) → Answers result (before_first (is_at (numbers_of p)) (visible_of all links d))
-alone_previous all links d p next result laws path' none seen n r =
-    let objects = (all.layer d).objects in
-    let here = seen_alone all links d p laws path' none seen in
-    r
-    ∙ ap (option_map (λ a. (d, a))) n
-    ∙ placed_in d (before_first (stands_at p.1.0) objects)
-    ∙ ap (option_map place_of) (sym (ap (before_first (is_at (numbers_of p))) (visible_alone all links d laws path' none)
-    ∙ ap (λ z. before_first (is_at (z, p.1.0)) (objects_of all d)) (dict_here d p.0 p.1.0 objects here)
-    ∙ before_map d p.1.0 None objects))
+    ∙ placed_in d (neighbour back (stands_at p.1.0) objects)
+    ∙ ap (option_map place_of) (sym (ap (neighbour back (is_at (numbers_of p))) (visible_alone all links d laws path' none)
+    ∙ ap (λ z. neighbour back (is_at (z, p.1.0)) (objects_of all d)) (dict_here d p.0 p.1.0 objects (seen_alone all links d p laws path' none seen))
+    ∙ neighbour_map back d p.1.0 objects))

@@ -1,8 +1,9 @@
 -- The ends of lists, and the neighbours of what passes a test, where lists are joined or mapped.
-use Rattle.vc_base.proofs.Common.{◌≡◌, Bool, true, false, ◌||◌, List, [], ◌∷◌, ◌++◌, map, Some, filter, Option, option_map, flat_map, sym, refl, ap, ◌∙◌, inl, inr, true≢false, cases_Bool, or_from, or_parts, or_right, list_any-append, list_any, option_or}
-use Rattle.vc_base.proofs.Quantifiers.{any-map, any-middle}
-use Rattle.vc_dtdisc.proofs.FindingLemmas.{first_of-map}
+use Rattle.vc_base.proofs.Common.{◌≡◌, Bool, true, false, ◌||◌, List, [], ◌∷◌, ◌++◌, map, Some, filter, Option, option_map, flat_map, sym, refl, ap, ◌∙◌, inl, inr, true≢false, cases_Bool, or_from, or_parts, list_any-append, list_any, option_or}
+use Rattle.vc_base.proofs.Quantifiers.{any-middle}
 use Rattle.vc_dtdisc.specs.Finding.{before_first_from, behind_last, first_of, last_from, last_of}
+use Rattle.vc_dtdisc.proofs.FindingLemmas.{before_first-map, behind_last-map, first_of-map, last_of-map}
+use Rattle.vc_paths.specs.Direction.{end_of, neighbour}
 
 -- the ends of joined lists
 pub first-append : {A : Type 0} (xs ys : List A) → first_of (xs ++ ys) ≡ option_or (first_of xs) (first_of ys)
@@ -80,3 +81,12 @@ parted t (x ∷ xs) h = elim (cases_Bool (t x)) as (λ _. Parts t (x ∷ xs)) [
         none = or_from (t x) (list_any t w.front) k w.none;
       }
 ]
+
+-- the end and a neighbour among what a map makes of a list
+pub end-map : {A B : Type 0} (back : Bool) (f : A → B) (xs : List A) → end_of back (map f xs) ≡ option_map f (end_of back xs)
+end-map false f xs = first_of-map f xs
+end-map true f xs = last_of-map f xs
+
+pub neighbour-map : {A B : Type 0} (back : Bool) (f : A → B) (test : B → Bool) (xs : List A) → neighbour back test (map f xs) ≡ option_map f (neighbour back (λ x. test (f x)) xs)
+neighbour-map false f test xs = behind_last-map f test xs
+neighbour-map true f test xs = before_first-map f test xs

@@ -4,8 +4,10 @@ use Rattle.vc_base.proofs.Quantifiers.{all-append, all-weaken}
 use Rattle.vc_dtdisc.specs.Objects.{is_greater, is_match, placed_among, placed_each}
 use Rattle.vc_dtdisc.specs.Rules.{Rules}
 use Rattle.vc_dtdisc.specs.Finding.{last_from, last_of}
-use Rattle.vc_paths.specs.Ordered.{greater, is_behind}
+use Rattle.vc_paths.specs.Direction.{end_of}
+use Rattle.vc_paths.specs.Ordered.{is_behind, nearer}
 use Rattle.vc_paths.specs.Visible.{Seen, is_hidden, seen_bytes, stacked_objects}
+use Rattle.vc_paths.proofs.LeastLemmas.{first_passing, nearest_of}
 use Rattle.vc_paths.proofs.OrderLemmas.{AreOrdered, all_kept, any_more, any_none, up}
 use Rattle.vc_paths.proofs.SortedLemmas.{AreSorted, IsUpto, filter_sorted, filter_stacked, itself, layers_filter, placed_sorted}
 
@@ -22,11 +24,6 @@ later rules best y = if stays rules best y then best else Some y
 abbrev pub greatest : Rules → Option (Seen ℕ) → List (Seen ℕ) → Option (Seen ℕ)
 greatest rules best [] = best
 greatest rules best (x ∷ xs) = greatest rules (later rules best x) xs
-
--- the greatest of the lasts of layers, that of the uppermost of them
-abbrev pub greatest_of : Rules → Option (Seen ℕ) → List (List (Seen ℕ)) → Option (Seen ℕ)
-greatest_of rules best [] = best
-greatest_of rules best (layer ∷ lower) = greatest_of rules (greater rules best (last_of layer)) lower
 
 -- no object goes behind the greatest so far, which has a match among them
 abbrev pub IsAmong : Rules → Option (Seen ℕ) → List (Seen ℕ) → Type 0
@@ -139,13 +136,13 @@ seen_stays rules laws (Some a) above y i h n = elim (cases_Bool (is_greater rule
 ]
 
 -- the greatest of a sorted layer, without what is hidden, is its last
-greatest_layer : (rules : Rules) → AreOrdered rules → (best : Option (Seen ℕ)) (above layer : List (Seen ℕ)) → IsTop rules best above → AreSorted rules layer → greatest rules best (filter (λ o. not (is_hidden rules above o)) layer) ≡ greater rules best (last_of layer)
+greatest_layer : (rules : Rules) → AreOrdered rules → (best : Option (Seen ℕ)) (above layer : List (Seen ℕ)) → IsTop rules best above → AreSorted rules layer → greatest rules best (filter (λ o. not (is_hidden rules above o)) layer) ≡ nearer true rules best (last_of layer)
 greatest_layer rules laws best above [] h s = refl
 greatest_layer rules laws best above (x ∷ xs) h s =
     let p : Seen ℕ → Bool = λ o. not (is_hidden rules above o) in
     let some = some_last x xs in
     let b = some.0 in
-    elim (cases_Bool (is_behind rules best b)) as (λ _. greatest rules best (filter p (x ∷ xs)) ≡ greater rules best (last_from (Some x) xs)) [
+    elim (cases_Bool (is_behind rules best b)) as (λ _. greatest rules best (filter p (x ∷ xs)) ≡ nearer true rules best (last_from (Some x) xs)) [
       | inl t ↦
           let seen : is_hidden rules above b ≡ false = any_none (λ u. is_match rules b.bytes u.bytes) above (all-weaken (λ u. is_behind rules best u ≡ false) (λ u. is_match rules b.bytes u.bytes ≡ false) above (λ u g. behind_apart rules laws best b u t g) h.0) in
           rw (some.1, t) (keeps_last rules laws p best x xs b s some.1 (ap not seen) (behind_stays rules laws best b t))
@@ -171,13 +168,13 @@ last_among rules laws x (y ∷ ys) b e = elim (cases_Bool (is_match rules b.byte
 ]
 
 -- and no object of the layer and of those above goes behind it
-top_layer : (rules : Rules) → AreOrdered rules → (best : Option (Seen ℕ)) (above layer : List (Seen ℕ)) → IsTop rules best above → AreSorted rules layer → IsTop rules (greater rules best (last_of layer)) (above ++ layer)
+top_layer : (rules : Rules) → AreOrdered rules → (best : Option (Seen ℕ)) (above layer : List (Seen ℕ)) → IsTop rules best above → AreSorted rules layer → IsTop rules (nearer true rules best (last_of layer)) (above ++ layer)
 top_layer rules laws best above [] h s = (all-append (λ y. is_behind rules best y ≡ false) above [] h.0 tt, among_more rules best above [] h.1)
 top_layer rules laws best above (x ∷ xs) h s =
     let some = some_last x xs in
     let b = some.0 in
     let under = upto_last rules laws x xs b s some.1 in
-    elim (cases_Bool (is_behind rules best b)) as (λ _. IsTop rules (greater rules best (last_from (Some x) xs)) (above ++ x ∷ xs)) [
+    elim (cases_Bool (is_behind rules best b)) as (λ _. IsTop rules (nearer true rules best (last_from (Some x) xs)) (above ++ x ∷ xs)) [
       | inl t ↦
           let upper = all-weaken (λ u. is_behind rules best u ≡ false) (λ y. is_greater rules y.bytes b.bytes ≡ false) above (λ u g. behind_less rules laws best b u t g) h.0 in
           rw (some.1, t) (
@@ -190,16 +187,21 @@ top_layer rules laws best above (x ∷ xs) h s =
     ]
 
 -- the greatest of the layers is the greatest of their lasts
-greatest_stacked : (rules : Rules) → AreOrdered rules → (best : Option (Seen ℕ)) (above : List (Seen ℕ)) (layers : List (List (Seen ℕ))) → IsTop rules best above → AllByRecursion (AreSorted rules) layers → greatest rules best (stacked_objects rules above layers) ≡ greatest_of rules best layers
+greatest_stacked : (rules : Rules) → AreOrdered rules → (best : Option (Seen ℕ)) (above : List (Seen ℕ)) (layers : List (List (Seen ℕ))) → IsTop rules best above → AllByRecursion (AreSorted rules) layers → greatest rules best (stacked_objects rules above layers) ≡ nearest_of true rules best layers
 greatest_stacked rules laws best above [] h s = refl
 greatest_stacked rules laws best above (layer ∷ lower) h s =
     greatest_append rules best (filter (λ o. not (is_hidden rules above o)) layer) (stacked_objects rules (above ++ layer) lower)
     ∙ ap (λ z. greatest rules z (stacked_objects rules (above ++ layer) lower)) (greatest_layer rules laws best above layer h s.0)
-    ∙ greatest_stacked rules laws (greater rules best (last_of layer)) (above ++ layer) lower (top_layer rules laws best above layer h s.0) s.1
+    ∙ greatest_stacked rules laws (nearer true rules best (last_of layer)) (above ++ layer) lower (top_layer rules laws best above layer h s.0) s.1
 
 -- the last in order of keys that passes a test which matching objects share is the greatest of those of the layers
-pub last_passing : (rules : Rules) → AreOrdered rules → (p : Seen ℕ → Bool) (layers : List (List (Seen ℕ))) → ((o u : Seen ℕ) → is_match rules o.bytes u.bytes ≡ true → p o ≡ true → p u ≡ true) → AllByRecursion (AreSorted rules) layers → last_of (filter p (placed_each seen_bytes rules [] (stacked_objects rules [] layers))) ≡ greatest_of rules None (map (filter p) layers)
+last_passing : (rules : Rules) → AreOrdered rules → (p : Seen ℕ → Bool) (layers : List (List (Seen ℕ))) → ((o u : Seen ℕ) → is_match rules o.bytes u.bytes ≡ true → p o ≡ true → p u ≡ true) → AllByRecursion (AreSorted rules) layers → last_of (filter p (placed_each seen_bytes rules [] (stacked_objects rules [] layers))) ≡ nearest_of true rules None (map (filter p) layers)
 last_passing rules laws p layers shared s =
     ap last_of (filter_sorted rules laws p [] (stacked_objects rules [] layers) tt ∙ ap (placed_each seen_bytes rules []) (filter_stacked rules p [] layers shared))
     ∙ last_onto rules laws [] (stacked_objects rules [] (map (filter p) layers)) tt
     ∙ greatest_stacked rules laws None [] (map (filter p) layers) (tt, tt) (layers_filter rules p layers s)
+
+-- so either way
+pub end_passing : (back : Bool) (rules : Rules) → AreOrdered rules → (p : Seen ℕ → Bool) (layers : List (List (Seen ℕ))) → ((o u : Seen ℕ) → is_match rules o.bytes u.bytes ≡ true → p o ≡ true → p u ≡ true) → AllByRecursion (AreSorted rules) layers → end_of back (filter p (placed_each seen_bytes rules [] (stacked_objects rules [] layers))) ≡ nearest_of back rules None (map (filter p) layers)
+end_passing false rules laws p layers shared s = first_passing rules laws p layers shared s
+end_passing true rules laws p layers shared s = last_passing rules laws p layers shared s

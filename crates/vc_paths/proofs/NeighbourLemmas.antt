@@ -4,15 +4,16 @@ use Rattle.vc_base.specs.declared.addr.Addr.{Addr}
 use Rattle.vc_dtdisc.specs.Objects.{Object, is_greater, is_match, placed_each}
 use Rattle.vc_dtdisc.specs.Rules.{Rules}
 use Rattle.vc_base.proofs.Quantifiers.{all-append, all-weaken, all-both, any-map}
-use Rattle.vc_dtdisc.proofs.FindingLemmas.{before_first_from-map, behind_last-map}
-use Rattle.vc_dtdisc.specs.Finding.{before_first, before_first_from, behind_last, first_of, last_of}
-use Rattle.vc_paths.specs.Layers.{AreLayers, Layered, bytes_there, place_before, place_behind, stands_at}
+use Rattle.vc_dtdisc.specs.Finding.{before_first_from, behind_last, first_of}
+use Rattle.vc_paths.specs.Direction.{end_of, neighbour, place_beside}
+use Rattle.vc_paths.specs.Layers.{AreLayers, Layered, bytes_there, stands_at}
 use Rattle.vc_paths.specs.Links.{Links, path}
-use Rattle.vc_paths.specs.Ordered.{StandsInLike, if_level, is_before, is_behind, is_level, place_in_dict, object_at, object_there}
-use Rattle.vc_paths.specs.Path.{Answers, IsAlike, IsPath, IsVisible, is_at, numbers_of, objects_of, place_of, seen_in, visible_of}
+use Rattle.vc_paths.specs.Ordered.{StandsInLike, if_level, is_level, is_past, place_in_dict, object_at, object_there}
+use Rattle.vc_paths.specs.Path.{Answers, IsAlike, IsPath, IsPathBy, IsVisible, is_at, numbers_of, objects_of, place_of, seen_in, visible_of}
 use Rattle.vc_paths.specs.Visible.{Seen, is_hidden, seen_bytes, stacked_objects}
 use Rattle.vc_paths.proofs.BesideLemmas.{AreLevel, any_level, before_apart, before_beside, behind_apart, behind_beside, fails}
-use Rattle.vc_paths.proofs.LayerLemmas.{next_shown, previous_shown}
+use Rattle.vc_paths.proofs.EndLemmas.{neighbour-map}
+use Rattle.vc_paths.proofs.LayerLemmas.{beside_shown}
 use Rattle.vc_paths.proofs.OrderLemmas.{AreOrdered, all_filter, all_none, any_more, any_none, filter_kept, filter_none, ordered}
 use Rattle.vc_paths.proofs.OrderedLemmas.{layer_sorted, visible_ordered}
 use Rattle.vc_paths.proofs.SightLemmas.{IsThere, each-there, layers-there, visible-there, all-last}
@@ -225,45 +226,46 @@ if_level_or rules x None None f g = refl
 if_level_or rules x None (Some b) f g = rw (g b refl) refl
 if_level_or rules x (Some a) b f g = rw (f a refl) refl
 
--- behind a visible object is its neighbour where that matches, and else the first that is greater
-next_among : (rules : Rules) (all : Layered) (p : ℕ × Addr) (x : Seen ℕ) (seen : List (Seen ℕ)) → Visited rules all p x seen → behind_last (is_at (numbers_of p)) seen ≡ option_or (if_level rules (Some x) (behind_last (is_at (numbers_of p)) (objects_of all p.0))) (first_of (filter (is_behind rules (Some x)) seen))
-next_among rules all p x seen v =
-    let test = is_at (numbers_of p) in
-    let layer = objects_of all p.0 in
-    let a = behind_last test (filter (is_level rules x) layer) in
-    let b = first_of (filter (is_behind rules (Some x)) layer) in
-    let same = if_level_or rules x a b
-    (λ y e. all_behind (λ z. is_level rules x z ≡ true) test (filter (is_level rules x) layer) y (filter_kept (is_level rules x) layer) e)
-    (λ y e. behind_apart rules v.laws x y (all_first (λ z. is_behind rules (Some x) z ≡ true) (filter (is_behind rules (Some x)) layer) y (filter_kept (is_behind rules (Some x)) layer) e)) in
-    behind_beside rules v.laws x test seen v.sorted v.level v.any
-    ∙ ap (λ z. option_or z (first_of (filter (is_behind rules (Some x)) seen)))
-    (ap (behind_last test) v.kept ∙ sym same ∙ ap (if_level rules (Some x)) (sym (behind_beside rules v.laws x test layer v.layer_sorted v.layer_level v.layer_any)))
+-- what holds of each holds of the end, and of a neighbour
+all_end : (back : Bool) (P : Seen ℕ → Type 0) (xs : List (Seen ℕ)) (b : Seen ℕ) → AllByRecursion P xs → end_of back xs ≡ Some b → P b
+all_end false P xs b h e = all_first P xs b h e
+all_end true P xs b h e = all-last P xs b h e
 
--- and before it the last that is less
-previous_among : (rules : Rules) (all : Layered) (p : ℕ × Addr) (x : Seen ℕ) (seen : List (Seen ℕ)) → Visited rules all p x seen → before_first (is_at (numbers_of p)) seen ≡ option_or (if_level rules (Some x) (before_first (is_at (numbers_of p)) (objects_of all p.0))) (last_of (filter (is_before rules (Some x)) seen))
-previous_among rules all p x seen v =
+all_neighbour : (back : Bool) (P : Seen ℕ → Type 0) (test : Seen ℕ → Bool) (xs : List (Seen ℕ)) (b : Seen ℕ) → AllByRecursion P xs → neighbour back test xs ≡ Some b → P b
+all_neighbour false P test xs b h e = all_behind P test xs b h e
+all_neighbour true P test xs b h e = all_before P test None xs b (λ u none. cc) h e
+
+neighbour_beside : (back : Bool) (rules : Rules) → AreOrdered rules → (x : Seen ℕ) (test : Seen ℕ → Bool) (xs : List (Seen ℕ)) → AreSorted rules xs → AreLevel rules x test xs → list_any test xs ≡ true
+    → neighbour back test xs ≡ option_or (neighbour back test (filter (is_level rules x) xs)) (end_of back (filter (is_past back rules (Some x)) xs))
+neighbour_beside false rules laws x test xs s l any = behind_beside rules laws x test xs s l any
+neighbour_beside true rules laws x test xs s l any = before_beside rules laws x test xs s l any
+
+past_apart : (back : Bool) (rules : Rules) → AreOrdered rules → (x y : Seen ℕ) → is_past back rules (Some x) y ≡ true → is_level rules x y ≡ false
+past_apart false rules laws x y h = behind_apart rules laws x y h
+past_apart true rules laws x y h = before_apart rules laws x y h
+
+-- beside a visible object is its neighbour where that matches, and else the first that lies past it
+neighbour_among : (back : Bool) (rules : Rules) (all : Layered) (p : ℕ × Addr) (x : Seen ℕ) (seen : List (Seen ℕ)) → Visited rules all p x seen
+    → neighbour back (is_at (numbers_of p)) seen ≡ option_or (if_level rules (Some x) (neighbour back (is_at (numbers_of p)) (objects_of all p.0))) (end_of back (filter (is_past back rules (Some x)) seen))
+neighbour_among back rules all p x seen v =
     let test = is_at (numbers_of p) in
     let layer = objects_of all p.0 in
-    let a = before_first test (filter (is_level rules x) layer) in
-    let b = last_of (filter (is_before rules (Some x)) layer) in
-    let same = if_level_or rules x a b
-    (λ y e. all_before (λ z. is_level rules x z ≡ true) test None (filter (is_level rules x) layer) y (λ u none. cc) (filter_kept (is_level rules x) layer) e)
-    (λ y e. before_apart rules v.laws x y (all-last (λ z. is_before rules (Some x) z ≡ true) (filter (is_before rules (Some x)) layer) y (filter_kept (is_before rules (Some x)) layer) e)) in
-    before_beside rules v.laws x test seen v.sorted v.level v.any
-    ∙ ap (λ z. option_or z (last_of (filter (is_before rules (Some x)) seen)))
-    (ap (before_first test) v.kept ∙ sym same ∙ ap (if_level rules (Some x)) (sym (before_beside rules v.laws x test layer v.layer_sorted v.layer_level v.layer_any)))
+    let past = is_past back rules (Some x) in
+    let same = if_level_or rules x (neighbour back test (filter (is_level rules x) layer)) (end_of back (filter past layer))
+    (λ y e. all_neighbour back (λ z. is_level rules x z ≡ true) test (filter (is_level rules x) layer) y (filter_kept (is_level rules x) layer) e)
+    (λ y e. past_apart back rules v.laws x y (all_end back (λ z. past z ≡ true) (filter past layer) y (filter_kept past layer) e)) in
+    neighbour_beside back rules v.laws x test seen v.sorted v.level v.any
+    ∙ ap (λ z. option_or z (end_of back (filter past seen)))
+    (ap (neighbour back test) v.kept ∙ sym same ∙ ap (if_level rules (Some x)) (sym (neighbour_beside back rules v.laws x test layer v.layer_sorted v.layer_level v.layer_any)))
 
 -- the neighbours in the layer, by its objects
 pub any_map : (e a : ℕ) (xs : List Object) → list_any (is_at (e, a)) (map (seen_in e) xs) ≡ list_any (stands_at a) xs
 any_map e a xs = any-map (seen_in e) (is_at (e, a)) xs ∙ ap (λ t. list_any (λ (o : Object). t && stands_at a o) xs) (eq-eqb e e refl)
 
-pub behind_map : (e a : ℕ) (xs : List Object) → behind_last (is_at (e, a)) (map (seen_in e) xs) ≡ option_map (seen_in e) (behind_last (stands_at a) xs)
-behind_map e a xs = behind_last-map (seen_in e) (is_at (e, a)) xs ∙ ap (λ t. option_map (seen_in e) (behind_last (λ (o : Object). t && stands_at a o) xs)) (eq-eqb e e refl)
-
-pub before_map : (e a : ℕ) (before : Option Object) (xs : List Object) → before_first_from (option_map (seen_in e) before) (is_at (e, a)) (map (seen_in e) xs) ≡ option_map (seen_in e) (before_first_from before (stands_at a) xs)
-before_map e a before xs =
-    before_first_from-map (seen_in e) before (is_at (e, a)) xs
-    ∙ ap (λ t. option_map (seen_in e) (before_first_from before (λ (o : Object). t && stands_at a o) xs)) (eq-eqb e e refl)
+pub neighbour_map : (back : Bool) (e a : ℕ) (xs : List Object) → neighbour back (is_at (e, a)) (map (seen_in e) xs) ≡ option_map (seen_in e) (neighbour back (stands_at a) xs)
+neighbour_map back e a xs =
+    neighbour-map back (seen_in e) (is_at (e, a)) xs
+    ∙ ap (λ t. option_map (seen_in e) (neighbour back (λ (o : Object). t && stands_at a o) xs)) (eq-eqb e e refl)
 
 -- what is known of the object at a visible place
 record VisitedAt (all : Layered) (links : Links) (d : ℕ) (p : ℕ × Addr) : Type 0 where
@@ -291,29 +293,17 @@ visited_at all links d p laws path' method visible' =
       beside = λ o. ap (λ r. if_level r (object_there all p) o) (laws.kinds p.0 d v.alike.there h v.alike.kind) ∙ ap (λ z. if_level rules z o) is;
     }
 
--- the object behind a visible one, by what was found beside it
-pub next_found : {all : Layered} {links : Links} {d : ℕ} (p : ℕ × Addr) (next : Option Addr) {near : Option (Seen ℕ)} → AreLayers all → IsPath all links d → is_ordered (all.layer d).method ≡ true → IsVisible all links d (numbers_of p)
-    → option_map number_of next ≡ place_behind p.1.0 (all.layer p.0).objects → near ≡ if_level (all.layer p.0).rules (object_there all p) (object_at all (place_in_dict p.0 next))
-    → behind_last (is_at (numbers_of p)) (visible_of all links d) ≡ option_or near (first_of (filter (is_behind (all.layer d).rules (object_there all p)) (visible_of all links d)))
-next_found {all} {links} {d} p next {near} laws path' method visible' n e =
+-- the neighbour of a visible object, by what was found beside it
+pub neighbour_found : {all : Layered} {links : Links} {d : ℕ} (back : Bool) (p : ℕ × Addr) (next : Option Addr) {near : Option (Seen ℕ)} → AreLayers all → IsPathBy true all links d → IsVisible all links d (numbers_of p)
+    → option_map number_of next ≡ place_beside back p.1.0 (all.layer p.0).objects → near ≡ if_level (all.layer p.0).rules (object_there all p) (object_at all (place_in_dict p.0 next))
+    → neighbour back (is_at (numbers_of p)) (visible_of all links d) ≡ option_or near (end_of back (filter (is_past back (all.layer d).rules (object_there all p)) (visible_of all links d)))
+neighbour_found {all} {links} {d} back p next {near} laws on visible' n e =
     let rules = (all.layer d).rules in
-    let v = visited_at all links d p laws path' method visible' in
-    let beside = (next_shown next laws v.stands n).object ∙ sym (behind_map p.0 p.1.0 (all.layer p.0).objects) in
-    next_among rules all p v.one (visible_of all links d) v.visited
-    ∙ ap (λ z. option_or z (first_of (filter (is_behind rules (Some v.one)) (visible_of all links d)))) (sym (e ∙ v.beside (object_at all (place_in_dict p.0 next)) ∙ ap (if_level rules (Some v.one)) beside))
-    ∙ ap (λ z. option_or near (first_of (filter (is_behind rules z) (visible_of all links d)))) (sym v.is)
-
--- and before it
-pub previous_found : {all : Layered} {links : Links} {d : ℕ} (p : ℕ × Addr) (next : Option Addr) {near : Option (Seen ℕ)} → AreLayers all → IsPath all links d → is_ordered (all.layer d).method ≡ true → IsVisible all links d (numbers_of p)
-    → option_map number_of next ≡ place_before p.1.0 (all.layer p.0).objects → near ≡ if_level (all.layer p.0).rules (object_there all p) (object_at all (place_in_dict p.0 next))
-    → before_first (is_at (numbers_of p)) (visible_of all links d) ≡ option_or near (last_of (filter (is_before (all.layer d).rules (object_there all p)) (visible_of all links d)))
-previous_found {all} {links} {d} p next {near} laws path' method visible' n e =
-    let rules = (all.layer d).rules in
-    let v = visited_at all links d p laws path' method visible' in
-    let beside = (previous_shown next laws v.stands n).object ∙ sym (before_map p.0 p.1.0 None (all.layer p.0).objects) in
-    previous_among rules all p v.one (visible_of all links d) v.visited
-    ∙ ap (λ z. option_or z (last_of (filter (is_before rules (Some v.one)) (visible_of all links d)))) (sym (e ∙ v.beside (object_at all (place_in_dict p.0 next)) ∙ ap (if_level rules (Some v.one)) beside))
-    ∙ ap (λ z. option_or near (last_of (filter (is_before rules z) (visible_of all links d)))) (sym v.is)
+    let v = visited_at all links d p laws on.path on.method visible' in
+    let beside = (beside_shown back next laws v.stands n).object ∙ sym (neighbour_map back p.0 p.1.0 (all.layer p.0).objects) in
+    neighbour_among back rules all p v.one (visible_of all links d) v.visited
+    ∙ ap (λ z. option_or z (end_of back (filter (is_past back rules (Some v.one)) (visible_of all links d)))) (sym (e ∙ v.beside (object_at all (place_in_dict p.0 next)) ∙ ap (if_level rules (Some v.one)) beside))
+    ∙ ap (λ z. option_or near (end_of back (filter (is_past back rules z) (visible_of all links d)))) (sym v.is)
 
 -- a place that stands is the answer where it comes first
 some_answer : (d : ℕ) (at : Addr) (o : Option (List ℕ)) (rest : Option (Seen ℕ)) → is_some o ≡ true → Some (d, at.0) ≡ option_map place_of (option_or (option_map (λ (bytes : List ℕ). seen_in d (record { at = at.0; bytes = bytes })) o) rest)

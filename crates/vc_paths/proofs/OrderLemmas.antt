@@ -1,5 +1,5 @@
 -- How objects stand to each other by their keys, and what holds of each of a list.
-use Rattle.vc_base.proofs.Common.{◌≡◌, ℕ, Bool, true, false, List, [], ◌∷◌, ◌++◌, filter, is_eq, is_gt, Ordering, Less, Equal, Greater, sym, refl, ap, ◌∙◌, inl, inr, true≢false, cases_Bool, IsTotalOrder, AllByRecursion, list_any, ordering_reverse}
+use Rattle.vc_base.proofs.Common.{◌≡◌, ℕ, Bool, true, false, List, [], ◌∷◌, filter, is_eq, is_gt, Ordering, Less, Equal, Greater, sym, refl, ap, ◌∙◌, inl, inr, true≢false, cases_Bool, IsTotalOrder, AllByRecursion, list_any, ordering_reverse}
 use Rattle.std.proofs.lemmas.Cmp.{upto}
 use Rattle.vc_base.proofs.Orders.{reversed}
 use Rattle.vc_base.proofs.Quantifiers.{all-both}

@@ -1,19 +1,19 @@
--- The layers of a path in order of keys: what goes down them keeps the least of their firsts, or the greatest of their lasts.
-use Rattle.vc_base.proofs.Common.{◌≡◌, ℕ, true, List, [], ◌∷◌, map, is_some, Some, None, filter, Option, option_map, sym, refl, ap, ◌∙◌, subst, true≢false, AllByRecursion, is_ordered}
+-- The layers of a path in order of keys: what goes down them keeps the nearest of their ends.
+use Rattle.vc_base.proofs.Common.{◌≡◌, ℕ, Bool, true, false, List, [], ◌∷◌, map, is_some, Some, None, filter, Option, option_map, sym, refl, ap, ◌∙◌, subst, true≢false, AllByRecursion, is_ordered}
 use Rattle.vc_base.specs.declared.addr.Addr.{Addr}
 use Rattle.vc_base.proofs.Quantifiers.{all-map}
 use Rattle.vc_dtdisc.specs.Objects.{IsSorted, Object, bytes_of, is_greater, is_match, placed_each}
 use Rattle.vc_dtdisc.specs.Rules.{Rules}
-use Rattle.vc_dtdisc.specs.Finding.{first_of, last_of}
+use Rattle.vc_paths.specs.Direction.{end_of}
 use Rattle.vc_paths.specs.Layers.{AreLayers, Layered, bytes_there}
 use Rattle.vc_paths.specs.Links.{ArePaths, Links, below, path}
-use Rattle.vc_paths.specs.Ordered.{IsStanding, greater, is_before, is_behind, lesser_seen, object_at}
+use Rattle.vc_paths.specs.Ordered.{IsStanding, is_past, nearer, object_at}
 use Rattle.vc_paths.specs.Path.{Answers, IsAlike, IsPath, objects_of, place_of, seen_in, visible_of}
 use Rattle.vc_paths.specs.Shown.{IsOnPath, down}
 use Rattle.vc_paths.specs.Visible.{Seen, seen_bytes, stacked_objects}
 use Rattle.vc_paths.proofs.DownLemmas.{down-on, on-head, on-next, on-start}
-use Rattle.vc_paths.proofs.LastLemmas.{greatest_of, last_passing}
-use Rattle.vc_paths.proofs.LeastLemmas.{first_passing, least_of}
+use Rattle.vc_paths.proofs.LastLemmas.{end_passing}
+use Rattle.vc_paths.proofs.LeastLemmas.{nearest_of}
 use Rattle.vc_paths.proofs.OrderLemmas.{AreOrdered, all_none, down as less, ordered, up}
 use Rattle.vc_paths.proofs.SeekLemmas.{alike-rules, path-first}
 use Rattle.vc_paths.proofs.SortedLemmas.{AreSorted, IsUpto}
@@ -37,19 +37,16 @@ layers_sorted all d (e ∷ es) laws h method alike = (layer_sorted all d e laws 
 pub visible_ordered : (all : Layered) (links : Links) (d : ℕ) → is_ordered (all.layer d).method ≡ true → visible_of all links d ≡ placed_each seen_bytes (all.layer d).rules [] (stacked_objects (all.layer d).rules [] (map (objects_of all) (path links d)))
 visible_ordered all links d method = rw method refl
 
--- matching objects are both greater than another one, or both less
-pub behind_shared : (rules : Rules) → AreOrdered rules → (x : Option (Seen ℕ)) (o u : Seen ℕ) → is_match rules o.bytes u.bytes ≡ true → is_behind rules x o ≡ true → is_behind rules x u ≡ true
-behind_shared rules laws None o u m h = refl
-behind_shared rules laws (Some x) o u m h = up rules o.bytes u.bytes x.bytes laws h (laws.right u.bytes o.bytes m)
+-- matching objects both lie past another one
+pub past_shared : (back : Bool) (rules : Rules) → AreOrdered rules → (x : Option (Seen ℕ)) (o u : Seen ℕ) → is_match rules o.bytes u.bytes ≡ true → is_past back rules x o ≡ true → is_past back rules x u ≡ true
+past_shared back rules laws None o u m h = refl
+past_shared false rules laws (Some x) o u m h = up rules o.bytes u.bytes x.bytes laws h (laws.right u.bytes o.bytes m)
+past_shared true rules laws (Some x) o u m h = less rules x.bytes u.bytes o.bytes laws h (laws.left u.bytes o.bytes m)
 
-pub before_shared : (rules : Rules) → AreOrdered rules → (x : Option (Seen ℕ)) (o u : Seen ℕ) → is_match rules o.bytes u.bytes ≡ true → is_before rules x o ≡ true → is_before rules x u ≡ true
-before_shared rules laws None o u m h = refl
-before_shared rules laws (Some x) o u m h = less rules x.bytes u.bytes o.bytes laws h (laws.left u.bytes o.bytes m)
-
--- each object is before none
-pub before_none : (rules : Rules) (xs : List (Seen ℕ)) → filter (is_before rules None) xs ≡ xs
-before_none rules [] = refl
-before_none rules (x ∷ xs) = ap (λ z. x ∷ z) (before_none rules xs)
+-- each object lies past none
+pub past_none : (back : Bool) (rules : Rules) (xs : List (Seen ℕ)) → filter (is_past back rules None) xs ≡ xs
+past_none back rules [] = refl
+past_none back rules (x ∷ xs) = ap (λ z. x ∷ z) (past_none back rules xs)
 
 -- an object that stands is the one at its place
 answers_there : (d : ℕ) (at : Addr) (o : Option (List ℕ)) → is_some o ≡ true → Some (d, at.0) ≡ option_map place_of (option_map (λ (bytes : List ℕ). seen_in d (record { at = at.0; bytes = bytes })) o)
@@ -69,16 +66,16 @@ stands_back : {all : Layered} {d e : ℕ} (p : Option (ℕ × Addr)) → IsAlike
 stands_back None alike s = tt
 stands_back (Some p) alike s = record { there = s.there; kind = s.kind ∙ alike.kind; object = s.object }
 
--- the least so far
-pub record Least (all : Layered) (links : Links) (d : ℕ) (other : Option (Seen ℕ)) (best : Option (ℕ × Addr)) (next : Option ℕ) : Type 0 where
+-- the nearest so far
+pub record Nearest (back : Bool) (all : Layered) (links : Links) (d : ℕ) (other : Option (Seen ℕ)) (best : Option (ℕ × Addr)) (next : Option ℕ) : Type 0 where
   pub on : IsOnPath all links d next
   pub stands : IsStanding all d best
-  pub same : least_of (all.layer d).rules (object_at all best) (map (filter (is_behind (all.layer d).rules other)) (map (objects_of all) (down links next)))
-      ≡ first_of (filter (is_behind (all.layer d).rules other) (visible_of all links d))
+  pub same : nearest_of back (all.layer d).rules (object_at all best) (map (filter (is_past back (all.layer d).rules other)) (map (objects_of all) (down links next)))
+      ≡ end_of back (filter (is_past back (all.layer d).rules other) (visible_of all links d))
 
-pub least_start : {all : Layered} {links : Links} {d : ℕ} {other : Option (Seen ℕ)} → AreLayers all → IsPath all links d → is_ordered (all.layer d).method ≡ true → Least all links d other None (Some d)
+pub nearest_start : {back : Bool} {all : Layered} {links : Links} {d : ℕ} {other : Option (Seen ℕ)} → AreLayers all → IsPath all links d → is_ordered (all.layer d).method ≡ true → Nearest back all links d other None (Some d)
 unfolding down
-least_start {all} {links} {d} {other} laws path' method =
+nearest_start {back} {all} {links} {d} {other} laws path' method =
     let rules = (all.layer d).rules in
     let h = (path-first all links d path').there in
     let order = ordered rules (laws.lawful d h).order in
@@ -86,73 +83,30 @@ least_start {all} {links} {d} {other} laws path' method =
       on = on-start path';
       stands = tt;
       same = sym (
-          ap (λ z. first_of (filter (is_behind rules other) z)) (visible_ordered all links d method)
-          ∙ first_passing rules order (is_behind rules other) (map (objects_of all) (path links d)) (behind_shared rules order other) (layers_sorted all d (path links d) laws h method path'.alike)
+          ap (λ z. end_of back (filter (is_past back rules other) z)) (visible_ordered all links d method)
+          ∙ end_passing back rules order (is_past back rules other) (map (objects_of all) (path links d)) (past_shared back rules order other) (layers_sorted all d (path links d) laws h method path'.alike)
           );
     }
 
-pub least_next : {all : Layered} {links : Links} {d e : ℕ} {other : Option (Seen ℕ)} {best better : Option (ℕ × Addr)} {here next : Option ℕ} → AreLayers all → IsPath all links d → ArePaths links → here ≡ Some e → next ≡ below links e
-    → Least all links d other best here → IsStanding all e better → object_at all better ≡ lesser_seen (all.layer e).rules (object_at all best) (first_of (filter (is_behind (all.layer e).rules other) (objects_of all e)))
-    → Least all links d other better next
-least_next {all} {links} {d} {e} {other} {best} {better} {here} {next} laws path' paths is on s stands object =
+pub nearest_next : {back : Bool} {all : Layered} {links : Links} {d e : ℕ} {other : Option (Seen ℕ)} {best better : Option (ℕ × Addr)} {here next : Option ℕ} → AreLayers all → IsPath all links d → ArePaths links → here ≡ Some e → next ≡ below links e
+    → Nearest back all links d other best here → IsStanding all e better → object_at all better ≡ nearer back (all.layer e).rules (object_at all best) (end_of back (filter (is_past back (all.layer e).rules other) (objects_of all e)))
+    → Nearest back all links d other better next
+nearest_next {back} {all} {links} {d} {e} {other} {best} {better} {here} {next} laws path' paths is on s stands object =
     let alike = on-head paths is s.on in
-    let rules = alike-rules all d e laws (path-first all links d path').there alike in
-    let rest = map (filter (is_behind (all.layer d).rules other)) (map (objects_of all) (down links next)) in
-    record {
-      on = on-next paths is on s.on;
-      stands = stands_back better alike stands;
-      same =
-          ap (λ z. least_of (all.layer d).rules z rest) (object ∙ ap (λ r. lesser_seen r (object_at all best) (first_of (filter (is_behind r other) (objects_of all e)))) rules)
-          ∙ sym (ap (λ z. least_of (all.layer d).rules (object_at all best) (map (filter (is_behind (all.layer d).rules other)) (map (objects_of all) z))) (down-on paths is on))
-          ∙ s.same;
-    }
-
-pub least_end : {all : Layered} {links : Links} {d : ℕ} {other : Option (Seen ℕ)} {best : Option (ℕ × Addr)} {next : Option ℕ} → next ≡ None → Least all links d other best next → Answers best (first_of (filter (is_behind (all.layer d).rules other) (visible_of all links d)))
-unfolding down
-least_end {all} {links} {d} {other} {best} is s =
-    let done = subst (λ z. Least all links d other best z) is s in
-    subst (λ z. Answers best z) done.same (answers_at all d best done.stands)
-
--- the greatest so far
-pub record Greatest (all : Layered) (links : Links) (d : ℕ) (other : Option (Seen ℕ)) (best : Option (ℕ × Addr)) (next : Option ℕ) : Type 0 where
-  pub on : IsOnPath all links d next
-  pub stands : IsStanding all d best
-  pub same : greatest_of (all.layer d).rules (object_at all best) (map (filter (is_before (all.layer d).rules other)) (map (objects_of all) (down links next)))
-      ≡ last_of (filter (is_before (all.layer d).rules other) (visible_of all links d))
-
-pub greatest_start : {all : Layered} {links : Links} {d : ℕ} {other : Option (Seen ℕ)} → AreLayers all → IsPath all links d → is_ordered (all.layer d).method ≡ true → Greatest all links d other None (Some d)
-unfolding down
-greatest_start {all} {links} {d} {other} laws path' method =
     let rules = (all.layer d).rules in
-    let h = (path-first all links d path').there in
-    let order = ordered rules (laws.lawful d h).order in
-    record {
-      on = on-start path';
-      stands = tt;
-      same = sym (
-          ap (λ z. last_of (filter (is_before rules other) z)) (visible_ordered all links d method)
-          ∙ last_passing rules order (is_before rules other) (map (objects_of all) (path links d)) (before_shared rules order other) (layers_sorted all d (path links d) laws h method path'.alike)
-          );
-    }
-
-pub greatest_next : {all : Layered} {links : Links} {d e : ℕ} {other : Option (Seen ℕ)} {best better : Option (ℕ × Addr)} {here next : Option ℕ} → AreLayers all → IsPath all links d → ArePaths links → here ≡ Some e → next ≡ below links e
-    → Greatest all links d other best here → IsStanding all e better → object_at all better ≡ greater (all.layer e).rules (object_at all best) (last_of (filter (is_before (all.layer e).rules other) (objects_of all e)))
-    → Greatest all links d other better next
-greatest_next {all} {links} {d} {e} {other} {best} {better} {here} {next} laws path' paths is on s stands object =
-    let alike = on-head paths is s.on in
-    let rules = alike-rules all d e laws (path-first all links d path').there alike in
-    let rest = map (filter (is_before (all.layer d).rules other)) (map (objects_of all) (down links next)) in
+    let rest = λ (es : List ℕ). map (filter (is_past back rules other)) (map (objects_of all) es) in
     record {
       on = on-next paths is on s.on;
       stands = stands_back better alike stands;
       same =
-          ap (λ z. greatest_of (all.layer d).rules z rest) (object ∙ ap (λ r. greater r (object_at all best) (last_of (filter (is_before r other) (objects_of all e)))) rules)
-          ∙ sym (ap (λ z. greatest_of (all.layer d).rules (object_at all best) (map (filter (is_before (all.layer d).rules other)) (map (objects_of all) z))) (down-on paths is on))
+          ap (λ z. nearest_of back rules z (rest (down links next))) (object
+          ∙ ap (λ r. nearer back r (object_at all best) (end_of back (filter (is_past back r other) (objects_of all e)))) (alike-rules all d e laws (path-first all links d path').there alike))
+          ∙ sym (ap (λ z. nearest_of back rules (object_at all best) (rest z)) (down-on paths is on))
           ∙ s.same;
     }
 
-pub greatest_end : {all : Layered} {links : Links} {d : ℕ} {other : Option (Seen ℕ)} {best : Option (ℕ × Addr)} {next : Option ℕ} → next ≡ None → Greatest all links d other best next → Answers best (last_of (filter (is_before (all.layer d).rules other) (visible_of all links d)))
+pub nearest_end : {back : Bool} {all : Layered} {links : Links} {d : ℕ} {other : Option (Seen ℕ)} {best : Option (ℕ × Addr)} {next : Option ℕ} → next ≡ None → Nearest back all links d other best next → Answers best (end_of back (filter (is_past back (all.layer d).rules other) (visible_of all links d)))
 unfolding down
-greatest_end {all} {links} {d} {other} {best} is s =
-    let done = subst (λ z. Greatest all links d other best z) is s in
+nearest_end {back} {all} {links} {d} {other} {best} is s =
+    let done = subst (λ z. Nearest back all links d other best z) is s in
     subst (λ z. Answers best z) done.same (answers_at all d best done.stands)

@@ -1,8 +1,9 @@
 -- The objects of a dictionary around the one at an address.
-use Rattle.vc_base.proofs.Common.{◌≡◌, ℕ, true, false, eqb, ◌≢◌, List, [], ◌∷◌, ◌++◌, map, IsSome, Some, None, Option, option_map, find, sym, refl, ap, ◌∙◌, subst, inl, inr, true≢false, append_assoc, eq-eqb, ne_eqb, eqb-true, cases_Bool, or_from, or_parts, none-some, same_Some, list_any, AreDistinct, contains}
+use Rattle.vc_base.proofs.Common.{◌≡◌, ℕ, ◌<◌, Bool, true, false, cond, eqb, ◌≢◌, List, [], ◌∷◌, ◌++◌, map, length, IsSome, Some, None, filter, Option, option_map, find, sym, refl, ap, ◌∙◌, subst, inl, inr, true≢false, append_assoc, append-nil, arith, length-append, map-append, eq-eqb, ne_eqb, eqb-true, cases_Bool, or_from, or_parts, none-some, same_Some, list_any, AreDistinct, contains}
 use Rattle.vc_base.proofs.Quantifiers.{any-map}
-use Rattle.vc_dtdisc.specs.Finding.{before_first, behind_last, first_of, last_of}
+use Rattle.vc_dtdisc.specs.Finding.{before_first, behind_last, first_of, last_from, last_of}
 use Rattle.vc_dtdisc.specs.Objects.{Object}
+use Rattle.vc_paths.specs.Direction.{end_of, neighbour, objects_left, place_beside}
 use Rattle.vc_paths.specs.Layers.{bytes_there, place_before, place_behind, place_in, stands_at}
 use Rattle.vc_paths.specs.Shown.{IsPlaceIn, from_at, objects_from, objects_up_to, up_to}
 use Rattle.vc_paths.proofs.EndLemmas.{before-at, behind-at, last-append, parted}
@@ -111,6 +112,9 @@ module _ (objects : List Object) (at : ℕ) (s : Standing objects at) where
   pub before-here : place_before at objects ≡ place_in (last_of s.before)
   before-here = ap place_in before-one
 
+  pub in-front : objects ≡ (s.before ++ s.one ∷ []) ++ s.behind
+  in-front = s.whole ∙ sym (append_assoc s.before (s.one ∷ []) s.behind)
+
 -- the objects from the first of a rest on are that rest, and those up to the last of a front are that front
 pub from-first : (front rest : List Object) → AreDistinct (map (λ o. o.at) (front ++ rest)) → objects_from (place_in (first_of rest)) (front ++ rest) ≡ rest
 from-first front [] d = refl
@@ -183,3 +187,90 @@ place-last front rest = elim (ends front) as (λ _. IsPlaceIn (front ++ rest) (p
   where
     none_some : (a : ℕ) → ◌≡◌ {A = Option ℕ} None (Some a) → ⊥
     none_some a e = cc
+
+-- what a walk has left behind the object at which it is
+abbrev pub rest_of : Bool → {objects : List Object} {at : ℕ} → Standing objects at → List Object
+rest_of false s = s.behind
+rest_of true s = s.before
+
+-- a list with one more where a walk begins
+abbrev pub with_end : {A : Type 0} → Bool → List A → A → List A
+with_end false xs y = y ∷ xs
+with_end true xs y = xs ++ y ∷ []
+
+-- of those that pass a test the walk comes first to this one, where it does
+pub end-kept : {A : Type 0} (back : Bool) (p : A → Bool) (xs : List A) (y : A) → end_of back (filter p (with_end back xs y)) ≡ cond (p y) (Some y) (end_of back (filter p xs))
+end-kept false p xs y = elim (cases_Bool (p y)) as (λ _. first_of (filter p (y ∷ xs)) ≡ cond (p y) (Some y) (first_of (filter p xs))) [
+  | inl t ↦ rw t refl
+  | inr t ↦ rw t refl
+]
+end-kept {A = A} true p xs y = last-kept None xs
+  where
+    last-kept : (before : Option A) (zs : List A) → last_from before (filter p (zs ++ y ∷ [])) ≡ cond (p y) (Some y) (last_from before (filter p zs))
+    last-kept before [] = elim (cases_Bool (p y)) as (λ _. last_from before (filter p (y ∷ [])) ≡ cond (p y) (Some y) before) [
+      | inl t ↦ rw t refl
+      | inr t ↦ rw t refl
+    ]
+    last-kept before (z ∷ zs) = elim (cases_Bool (p z)) as (λ _. last_from before (filter p ((z ∷ zs) ++ y ∷ [])) ≡ cond (p y) (Some y) (last_from before (filter p (z ∷ zs)))) [
+      | inl t ↦ rw t (last-kept (Some z) zs)
+      | inr t ↦ rw t (last-kept before zs)
+    ]
+
+pub map-with_end : {A B : Type 0} (back : Bool) (f : A → B) (xs : List A) (y : A) → map f (with_end back xs y) ≡ with_end back (map f xs) (f y)
+map-with_end false f xs y = refl
+map-with_end true f xs y = map-append f xs (y ∷ [])
+
+more_with_end : {A : Type 0} (back : Bool) (xs : List A) (y : A) → length xs < length (with_end back xs y)
+more_with_end false xs y = omega arith
+more_with_end true xs y = let more = length-append xs (y ∷ []) in omega arith
+
+-- where the walk is, the object there and the rest are left, and at its neighbour the rest is
+pub left-here : (back : Bool) {objects : List Object} {at : ℕ} (s : Standing objects at) → objects_left back (Some at) objects ≡ with_end back (rest_of back s) s.one
+left-here false {objects} {at} s = from-here objects at s
+left-here true {objects} {at} s = up_to-here objects at s
+
+pub neighbour-here : (back : Bool) {objects : List Object} {at : ℕ} (s : Standing objects at) → neighbour back (stands_at at) objects ≡ end_of back (rest_of back s)
+neighbour-here false {objects} {at} s = behind-one objects at s
+neighbour-here true {objects} {at} s = before-one objects at s
+
+module _ {objects : List Object} (apart : AreDistinct (map (λ o. o.at) objects)) where
+  pub left-end : (back : Bool) {next : Option ℕ} → next ≡ place_in (end_of back objects) → objects_left back next objects ≡ objects
+  left-end false e = ap (λ z. objects_from z objects) e ∙ from-first [] objects apart
+  left-end true e =
+      ap (λ z. objects_up_to z objects) e
+      ∙ ap (objects_up_to (place_in (last_of objects))) (sym (append-nil objects))
+      ∙ up_to-last objects [] (subst (λ z. AreDistinct (map (λ o. o.at) z)) (sym (append-nil objects)) apart)
+
+  module _ {at : ℕ} (s : Standing objects at) where
+    pub left-beside : (back : Bool) {next : Option ℕ} → next ≡ place_beside back at objects → objects_left back next objects ≡ rest_of back s
+    left-beside false e =
+        ap (λ z. objects_from z objects) (e ∙ behind-here objects at s)
+        ∙ ap (objects_from (place_in (first_of s.behind))) (in-front objects at s)
+        ∙ from-first (s.before ++ s.one ∷ []) s.behind (subst (λ z. AreDistinct (map (λ o. o.at) z)) (in-front objects at s) apart)
+    left-beside true e =
+        ap (λ z. objects_up_to z objects) (e ∙ before-here objects at s)
+        ∙ ap (objects_up_to (place_in (last_of s.before))) s.whole
+        ∙ up_to-last s.before (s.one ∷ s.behind) (subst (λ z. AreDistinct (map (λ o. o.at) z)) s.whole apart)
+
+    pub fewer-left : (back : Bool) {next : Option ℕ} → next ≡ place_beside back at objects → length (objects_left back next objects) < length (objects_left back (Some at) objects)
+    fewer-left back e = rw (left-beside back e, left-here back s) (more_with_end back (rest_of back s) s.one)
+
+    pub beside-there : (back : Bool) (x : Object) → end_of back (rest_of back s) ≡ Some x → bytes_there x.at objects ≡ Some x.bytes
+    beside-there false x e = ap (bytes_there x.at) (in-front objects at s) ∙ first-there (s.before ++ s.one ∷ []) s.behind x (subst (λ z. AreDistinct (map (λ o. o.at) z)) (in-front objects at s) apart) e
+    beside-there true x e = ap (bytes_there x.at) s.whole ∙ last-there s.before (s.one ∷ s.behind) x (subst (λ z. AreDistinct (map (λ o. o.at) z)) s.whole apart) e
+
+pub end-there : (objects : List Object) → AreDistinct (map (λ o. o.at) objects) → (back : Bool) (x : Object) → end_of back objects ≡ Some x → bytes_there x.at objects ≡ Some x.bytes
+end-there objects apart false x e = first-there [] objects x apart e
+end-there objects apart true x e = ap (bytes_there x.at) (sym (append-nil objects)) ∙ last-there objects [] x (subst (λ z. AreDistinct (map (λ o. o.at) z)) (sym (append-nil objects)) apart) e
+
+pub place-beside : (back : Bool) {objects : List Object} {at : ℕ} (s : Standing objects at) {next : Option ℕ} → next ≡ place_beside back at objects → IsPlaceIn objects next
+place-beside false {objects} {at} s e =
+    subst (IsPlaceIn objects) (sym (e ∙ behind-here objects at s))
+    (subst (λ z. IsPlaceIn z (place_in (first_of s.behind))) (sym (in-front objects at s)) (place-first (s.before ++ s.one ∷ []) s.behind))
+place-beside true {objects} {at} s e =
+    subst (IsPlaceIn objects) (sym (e ∙ before-here objects at s))
+    (subst (λ z. IsPlaceIn z (place_in (last_of s.before))) (sym s.whole) (place-last s.before (s.one ∷ s.behind)))
+
+pub place-end : (back : Bool) (objects : List Object) {next : Option ℕ} → next ≡ place_in (end_of back objects) → IsPlaceIn objects next
+place-end false objects e = subst (IsPlaceIn objects) (sym e) (place-first [] objects)
+place-end true objects e = subst (IsPlaceIn objects) (sym e) (subst (λ z. IsPlaceIn z (place_in (last_of objects))) (append-nil objects) (place-last objects []))

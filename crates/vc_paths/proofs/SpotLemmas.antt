@@ -2,18 +2,18 @@
 use Rattle.vc_base.proofs.Common.{◌≡◌, ℕ, Bool, true, false, not, ◌&&◌, ◌||◌, eqb, List, [], ◌∷◌, ◌++◌, map, is_some, IsSome, Some, None, filter, Option, option_map, flat_map, sym, refl, ap, ◌∙◌, subst, inl, inr, true≢false, append_assoc, eq-eqb, ne_eqb, eqb-true, cases_Bool, eqb-false, or_from, or_parts, filter-append, list_any-append, map-append, list_any, option_or, AreDistinct, contains, is_ordered}
 use Rattle.std.proofs.lemmas.List.Concat.{flat_map-append}
 use Rattle.vc_base.proofs.Quantifiers.{any-map}
-use Rattle.vc_dtdisc.proofs.FindingLemmas.{before_first_from-map, behind_last-map}
 use Rattle.vc_dtdisc.specs.Finding.{before_first, behind_last, first_of, last_of}
 use Rattle.vc_dtdisc.specs.Objects.{Object}
-use Rattle.vc_paths.specs.Layers.{AreLayers, Layered, bytes_there, place_before, place_behind, place_in, stands_at}
+use Rattle.vc_paths.specs.Direction.{end_of, neighbour, objects_left, place_beside}
+use Rattle.vc_paths.specs.Layers.{AreLayers, Layered, bytes_there, place_in, stands_at}
 use Rattle.vc_paths.specs.Links.{ArePaths, Links, below}
 use Rattle.vc_paths.specs.Path.{IsAlike, IsPath, IsVisible, is_at, place_of, visible_of, is_place}
-use Rattle.vc_paths.specs.Shown.{IsOnPath, above, down, is_covered, objects_from, objects_up_to, places, unhidden_objects, shown_in}
+use Rattle.vc_paths.specs.Shown.{IsOnPath, above, down, is_covered, places, unhidden_objects, shown_in}
 use Rattle.vc_paths.proofs.DownLemmas.{above-on, above-stop, on-head, on-next, on-start, parted-at}
-use Rattle.vc_paths.proofs.EndLemmas.{any-filter, any-flat_map, before-at, behind-at, first-append, last-append, last-or, parted}
+use Rattle.vc_paths.proofs.EndLemmas.{any-filter, any-flat_map, before-at, behind-at, first-append, last-append, last-or, neighbour-map, parted}
 use Rattle.vc_paths.proofs.PathLemmas.{path-distinct}
-use Rattle.vc_paths.proofs.PlaceLemmas.{Standing, apart-once, standing-any, there}
-use Rattle.vc_paths.proofs.SeenLemmas.{first-place, from-next, last-place, up_to-previous}
+use Rattle.vc_paths.proofs.PlaceLemmas.{Standing, apart-once, left-beside, rest_of, standing-any, there}
+use Rattle.vc_paths.proofs.SeenLemmas.{end-place}
 use Rattle.vc_paths.proofs.ShownLemmas.{visible-places}
 
 -- where an object is seen: what its path has above and below, and what stands around it in its layer
@@ -214,23 +214,23 @@ module _ {all : Layered} {links : Links} {d e a : ℕ} (s : Spot all links d e a
   pub spot-below : {next : Option ℕ} → next ≡ below links e → IsOnPath all links d next
   spot-below step = on-next s.paths refl step s.on
 
-  -- so what a walk finds from the next one on in the layer, or else below, is the answer
-  pub walked-next : {start r : Option ℕ} → start ≡ place_behind a (all.layer e).objects → r ≡ place_in (first_of (unhidden_objects all links d e (objects_from start (all.layer e).objects)))
-      → option_map place_of (behind_last (is_at (e, a)) (visible_of all links d)) ≡ option_or (option_map {U = ℕ × ℕ} (λ x. (e, x)) r) (first_of (flat_map (shown_in all links d) (down links (below links e))))
-  walked-next at found =
-      let rest = first_of (flat_map (shown_in all links d) (down links (below links e))) in
-      sym (behind_last-map place_of (is_place (e, a)) (visible_of all links d))
-      ∙ ap (behind_last (is_place (e, a))) s.visible
-      ∙ spot-next
-      ∙ ap (λ z. option_or z rest) (sym (ap (option_map {U = ℕ × ℕ} (λ x. (e, x))) (found ∙ ap (λ z. place_in (first_of (unhidden_objects all links d e z))) (from-next s.apart s.around at))
-      ∙ first-place e (unhidden_objects all links d e s.around.behind)))
+  -- where a walk goes on past the layer
+  abbrev pub onward : Bool → List ℕ
+  onward false = down links (below links e)
+  onward true = above (Some e) (down links (Some d))
 
-  pub walked-previous : {end r : Option ℕ} → end ≡ place_before a (all.layer e).objects → r ≡ place_in (last_of (unhidden_objects all links d e (objects_up_to end (all.layer e).objects)))
-      → option_map place_of (before_first (is_at (e, a)) (visible_of all links d)) ≡ option_or (option_map {U = ℕ × ℕ} (λ x. (e, x)) r) (last_of (flat_map (shown_in all links d) (above (Some e) (down links (Some d)))))
-  walked-previous at found =
-      let rest = last_of (flat_map (shown_in all links d) (above (Some e) (down links (Some d)))) in
-      sym (before_first_from-map place_of None (is_place (e, a)) (visible_of all links d))
-      ∙ ap (before_first (is_place (e, a))) s.visible
-      ∙ spot-previous
-      ∙ ap (λ z. option_or z rest) (sym (ap (option_map {U = ℕ × ℕ} (λ x. (e, x))) (found ∙ ap (λ z. place_in (last_of (unhidden_objects all links d e z))) (up_to-previous s.apart s.around at))
-      ∙ last-place e (unhidden_objects all links d e s.around.before)))
+  spot-beside : (way : Bool) → neighbour way (is_place (e, a)) (flat_map (shown_in all links d) (down links (Some d)))
+      ≡ option_or (end_of way (places e (unhidden_objects all links d e (rest_of way s.around)))) (end_of way (flat_map (shown_in all links d) (onward way)))
+  spot-beside false = spot-next
+  spot-beside true = spot-previous
+
+  -- so what it finds from the next one on in the layer, or else past it, is the answer
+  pub walked : (way : Bool) {start r : Option ℕ} → start ≡ place_beside way a (all.layer e).objects → r ≡ place_in (end_of way (unhidden_objects all links d e (objects_left way start (all.layer e).objects)))
+      → option_map place_of (neighbour way (is_at (e, a)) (visible_of all links d)) ≡ option_or (option_map {U = ℕ × ℕ} (λ x. (e, x)) r) (end_of way (flat_map (shown_in all links d) (onward way)))
+  walked way at found =
+      sym (neighbour-map way place_of (is_place (e, a)) (visible_of all links d))
+      ∙ ap (neighbour way (is_place (e, a))) s.visible
+      ∙ spot-beside way
+      ∙ ap (λ z. option_or z (end_of way (flat_map (shown_in all links d) (onward way)))) (sym (ap (option_map {U = ℕ × ℕ} (λ x. (e, x))) (found
+      ∙ ap (λ z. place_in (end_of way (unhidden_objects all links d e z))) (left-beside s.apart s.around way at))
+      ∙ end-place way e (unhidden_objects all links d e (rest_of way s.around))))

@@ -1,17 +1,17 @@
 -- Where a search along an ordered layer may begin: at its end, or beside the object that it compares with.
-use Rattle.vc_base.proofs.Common.{◌≡◌, ℕ, true, false, List, [], ◌∷◌, ◌++◌, map, if◌then◌else◌, ◌==◌, Some, None, filter, Option, option_map, sym, refl, ap, ◌∙◌, subst, inl, inr, append_assoc, eqb-true, cases_Bool, AllByRecursion, number_of, is_ordered}
+use Rattle.vc_base.proofs.Common.{◌≡◌, ℕ, Bool, true, false, List, [], ◌∷◌, ◌++◌, map, if◌then◌else◌, ◌==◌, Some, None, filter, Option, option_map, sym, refl, ap, ◌∙◌, subst, inl, inr, eqb-true, cases_Bool, AllByRecursion, number_of, is_ordered}
 use Rattle.vc_base.specs.declared.addr.Addr.{Addr}
-use Rattle.vc_dtdisc.specs.Finding.{first_of, last_of}
 use Rattle.vc_dtdisc.specs.Objects.{Object, is_greater}
 use Rattle.vc_dtdisc.specs.Rules.{Rules}
-use Rattle.vc_paths.specs.Layers.{AreLayers, Layered, place_before, place_behind}
-use Rattle.vc_paths.specs.Ordered.{IsStanding, StandsInLike, is_before, is_behind, object_at, object_there, start_before, start_behind}
+use Rattle.vc_paths.specs.Direction.{end_of, place_beside}
+use Rattle.vc_paths.specs.Layers.{AreLayers, Layered}
+use Rattle.vc_paths.specs.Ordered.{IsStanding, StandsInLike, is_before, is_behind, is_past, object_at, object_there, start_past}
 use Rattle.vc_paths.specs.Path.{seen_in}
 use Rattle.vc_paths.specs.Visible.{Seen}
-use Rattle.vc_paths.proofs.LayerLemmas.{Backward, Onward, backward_start, object_one, onward_start, since_shown, until_shown}
+use Rattle.vc_paths.proofs.LayerLemmas.{Along, along_start, beside_shown, object_one}
 use Rattle.vc_paths.proofs.OrderLemmas.{AreOrdered, filter_none, ordered}
 use Rattle.vc_paths.proofs.OrderedLemmas.{objects_sorted}
-use Rattle.vc_paths.proofs.PlaceLemmas.{before-here, behind-here, standing}
+use Rattle.vc_paths.proofs.PlaceLemmas.{Standing, left-beside, rest_of, standing}
 use Rattle.vc_paths.proofs.SortedLemmas.{AreSorted, IsUpto, itself}
 
 all_middle : (P : Seen ℕ → Type 0) (e : ℕ) (front : List Object) (x : Object) (rest : List Object) → AllByRecursion P (map (seen_in e) (front ++ x ∷ rest)) → P (seen_in e x)
@@ -29,56 +29,36 @@ rest_dropped : (rules : Rules) → AreOrdered rules → (e : ℕ) (front : List 
 rest_dropped rules laws e [] x rest s = rw (itself rules laws (seen_in e x)) (filter_none (is_before rules (Some (seen_in e x))) (map (seen_in e) rest) s.0)
 rest_dropped rules laws e (y ∷ ys) x rest s = ap (λ z. if is_greater rules x.bytes y.bytes then seen_in e y ∷ z else z) (rest_dropped rules laws e ys x rest s.1)
 
--- behind a place of the layer
-onward_own : (all : Layered) (e : ℕ) (at : Addr) (next : Option Addr) → AreLayers all → all.Has e → is_ordered (all.layer e).method ≡ true → StandsInLike all e (e, at) → option_map number_of next ≡ place_behind at.0 (all.layer e).objects → Onward all e (is_behind (all.layer e).rules (object_there all (e, at))) next
-onward_own all e at next laws h method stands n =
-    let rules = (all.layer e).rules in
-    let objects = (all.layer e).objects in
-    let s = standing objects at.0 (laws.distinct e h) stands.object in
-    let test = is_behind rules (Some (seen_in e s.one)) in
-    let parts = s.whole ∙ sym (append_assoc s.before (s.one ∷ []) s.behind) in
-    let shown = since_shown all e next (s.before ++ s.one ∷ []) s.behind h (laws.distinct e h) parts (n ∙ behind-here objects at.0 s) in
-    let sorted : AreSorted rules (map (seen_in e) (s.before ++ s.one ∷ s.behind)) = subst (λ z. AreSorted rules (map (seen_in e) z)) s.whole (objects_sorted rules e objects (laws.sorted e h method)) in
-    subst (λ (z : Option (Seen ℕ)). Onward all e (is_behind rules z) next) (sym (object_one all e at s)) (record {
-      stands = shown.0.stands;
-      same = ap (λ z. first_of (filter test (map (seen_in e) z))) shown.1
-          ∙ ap first_of (sym (front_dropped rules (ordered rules (laws.lawful e h).order) e s.before s.one s.behind sorted))
-          ∙ sym (ap (λ z. first_of (filter test (map (seen_in e) z))) s.whole);
-    })
+-- beside a place of the layer
+past_dropped : (back : Bool) (rules : Rules) → AreOrdered rules → (e : ℕ) {objects : List Object} {at : ℕ} (s : Standing objects at) → AreSorted rules (map (seen_in e) objects)
+    → filter (is_past back rules (Some (seen_in e s.one))) (map (seen_in e) objects) ≡ filter (is_past back rules (Some (seen_in e s.one))) (map (seen_in e) (rest_of back s))
+past_dropped false rules laws e s sorted =
+    ap (λ z. filter (is_behind rules (Some (seen_in e s.one))) (map (seen_in e) z)) s.whole
+    ∙ front_dropped rules laws e s.before s.one s.behind (subst (λ z. AreSorted rules (map (seen_in e) z)) s.whole sorted)
+past_dropped true rules laws e s sorted =
+    ap (λ z. filter (is_before rules (Some (seen_in e s.one))) (map (seen_in e) z)) s.whole
+    ∙ rest_dropped rules laws e s.before s.one s.behind (subst (λ z. AreSorted rules (map (seen_in e) z)) s.whole sorted)
 
--- and before it
-backward_own : (all : Layered) (e : ℕ) (at : Addr) (next : Option Addr) → AreLayers all → all.Has e → is_ordered (all.layer e).method ≡ true → StandsInLike all e (e, at) → option_map number_of next ≡ place_before at.0 (all.layer e).objects → Backward all e (is_before (all.layer e).rules (object_there all (e, at))) next
-backward_own all e at next laws h method stands n =
+along_own : (back : Bool) (all : Layered) (e : ℕ) (at : Addr) (next : Option Addr) → AreLayers all → all.Has e → is_ordered (all.layer e).method ≡ true → StandsInLike all e (e, at) → option_map number_of next ≡ place_beside back at.0 (all.layer e).objects → Along back all e (is_past back (all.layer e).rules (object_there all (e, at))) next
+along_own back all e at next laws h method stands n =
     let rules = (all.layer e).rules in
     let objects = (all.layer e).objects in
-    let s = standing objects at.0 (laws.distinct e h) stands.object in
-    let test = is_before rules (Some (seen_in e s.one)) in
-    let shown = until_shown all e next s.before (s.one ∷ s.behind) h (laws.distinct e h) s.whole (n ∙ before-here objects at.0 s) in
-    let sorted : AreSorted rules (map (seen_in e) (s.before ++ s.one ∷ s.behind)) = subst (λ z. AreSorted rules (map (seen_in e) z)) s.whole (objects_sorted rules e objects (laws.sorted e h method)) in
-    subst (λ (z : Option (Seen ℕ)). Backward all e (is_before rules z) next) (sym (object_one all e at s)) (record {
-      stands = shown.0.stands;
-      same = ap (λ z. last_of (filter test (map (seen_in e) z))) shown.1
-          ∙ ap last_of (sym (rest_dropped rules (ordered rules (laws.lawful e h).order) e s.before s.one s.behind sorted))
-          ∙ sym (ap (λ z. last_of (filter test (map (seen_in e) z))) s.whole);
+    let apart = laws.distinct e h in
+    let s = standing objects at.0 apart stands.object in
+    let test = is_past back rules (Some (seen_in e s.one)) in
+    subst (λ (z : Option (Seen ℕ)). Along back all e (is_past back rules z) next) (sym (object_one all e at s)) (record {
+      stands = (beside_shown back next laws stands n).stands;
+      same = ap (λ z. end_of back (filter test (map (seen_in e) z))) (left-beside apart s back n)
+          ∙ ap (end_of back) (sym (past_dropped back rules (ordered rules (laws.lawful e h).order) e s (objects_sorted rules e objects (laws.sorted e h method))));
     })
 
 -- where a search begins, what is left has all that passes
-pub onward_from : {all : Layered} {e : ℕ} (other : Option (ℕ × Addr)) {next : Option Addr} → AreLayers all → all.Has e → is_ordered (all.layer e).method ≡ true → IsStanding all e other → option_map number_of next ≡ start_behind all e other → Onward all e (is_behind (all.layer e).rules (object_at all other)) next
-onward_from {all} {e} None {next} laws h method s n = onward_start all e (is_behind (all.layer e).rules None) next laws h n
-onward_from {all} {e} (Some p) {next} laws h method s n = elim (cases_Bool (p.0 == e)) as (λ _. Onward all e (is_behind (all.layer e).rules (object_there all p)) next) [
+pub along_from : {back : Bool} {all : Layered} {e : ℕ} (other : Option (ℕ × Addr)) {next : Option Addr} → AreLayers all → all.Has e → is_ordered (all.layer e).method ≡ true → IsStanding all e other → option_map number_of next ≡ start_past back all e other → Along back all e (is_past back (all.layer e).rules (object_at all other)) next
+along_from {back} {all} {e} None {next} laws h method s n = along_start back all e (is_past back (all.layer e).rules None) next laws h n
+along_from {back} {all} {e} (Some p) {next} laws h method s n = elim (cases_Bool (p.0 == e)) as (λ _. Along back all e (is_past back (all.layer e).rules (object_there all p)) next) [
   | inl t ↦
       let same = eqb-true p.0 e t in
-      let own = onward_own all e p.1 next laws h method (subst (λ z. StandsInLike all e (z, p.1)) same s) (rw t at n) in
-      subst (λ z. Onward all e (is_behind (all.layer e).rules (object_there all (z, p.1))) next) (sym same) own
-  | inr t ↦ onward_start all e (is_behind (all.layer e).rules (object_there all p)) next laws h (rw t at n)
-]
-
-pub backward_from : {all : Layered} {e : ℕ} (other : Option (ℕ × Addr)) {next : Option Addr} → AreLayers all → all.Has e → is_ordered (all.layer e).method ≡ true → IsStanding all e other → option_map number_of next ≡ start_before all e other → Backward all e (is_before (all.layer e).rules (object_at all other)) next
-backward_from {all} {e} None {next} laws h method s n = backward_start all e (is_before (all.layer e).rules None) next laws h n
-backward_from {all} {e} (Some p) {next} laws h method s n = elim (cases_Bool (p.0 == e)) as (λ _. Backward all e (is_before (all.layer e).rules (object_there all p)) next) [
-  | inl t ↦
-      let same = eqb-true p.0 e t in
-      let own = backward_own all e p.1 next laws h method (subst (λ z. StandsInLike all e (z, p.1)) same s) (rw t at n) in
-      subst (λ z. Backward all e (is_before (all.layer e).rules (object_there all (z, p.1))) next) (sym same) own
-  | inr t ↦ backward_start all e (is_before (all.layer e).rules (object_there all p)) next laws h (rw t at n)
+      let own = along_own back all e p.1 next laws h method (subst (λ z. StandsInLike all e (z, p.1)) same s) (rw t at n) in
+      subst (λ z. Along back all e (is_past back (all.layer e).rules (object_there all (z, p.1))) next) (sym same) own
+  | inr t ↦ along_start back all e (is_past back (all.layer e).rules (object_there all p)) next laws h (rw t at n)
 ]

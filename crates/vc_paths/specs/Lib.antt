@@ -1,3 +1,4 @@
+pub mod Direction
 pub mod Layers
 pub mod Links
 pub mod Ordered

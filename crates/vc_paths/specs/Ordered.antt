@@ -1,12 +1,12 @@
--- What a search through ordered layers compares: objects at places, before or behind another one where there is one.
-use Rattle.std.specs.Prelude.{◌≡◌, ℕ, Bool, true, Option, Some, None, IsSome, ◌==◌, if◌then◌else◌}
+-- What a search through ordered layers compares: objects at places, past another one where there is one.
+use Rattle.std.specs.Prelude.{◌≡◌, ℕ, Bool, true, false, not, Option, Some, None, IsSome, ◌==◌, if◌then◌else◌}
 use Rattle.std.specs.Option.{option_map}
 use Rattle.vc_base.specs.declared.addr.Addr.{Addr}
 use Rattle.vc_base.specs.Methods.{is_ordered}
-use Rattle.vc_dtdisc.specs.Finding.{first_of, last_of}
 use Rattle.vc_dtdisc.specs.Objects.{is_greater, is_match}
 use Rattle.vc_dtdisc.specs.Rules.{Rules}
-use Rattle.vc_paths.specs.Layers.{Layered, bytes_there, place_before, place_behind, place_in}
+use Rattle.vc_paths.specs.Direction.{end_of, place_beside}
+use Rattle.vc_paths.specs.Layers.{Layered, bytes_there, place_in}
 use Rattle.vc_paths.specs.Visible.{Seen}
 
 -- the object at a place
@@ -41,41 +41,32 @@ pub record CanSeek (all : Layered) (e : ℕ) (other : Option (ℕ × Addr)) : Ty
   pub method : is_ordered (all.layer e).method ≡ true
   pub compared : IsStanding all e other
 
--- where a search of a dictionary for what is greater than the object at a place begins: behind it in its own, else first
-abbrev pub start_behind : Layered → ℕ → Option (ℕ × Addr) → Option ℕ
-start_behind all e None = place_in (first_of (all.layer e).objects)
-start_behind all e (Some p) =
-    if p.0 == e then place_behind p.1.0 (all.layer e).objects else place_in (first_of (all.layer e).objects)
-
--- and one for what is less: before it in its own, else last
-abbrev pub start_before : Layered → ℕ → Option (ℕ × Addr) → Option ℕ
-start_before all e None = place_in (last_of (all.layer e).objects)
-start_before all e (Some p) =
-    if p.0 == e then place_before p.1.0 (all.layer e).objects else place_in (last_of (all.layer e).objects)
+-- where a search of a dictionary for what lies past the object at a place begins: beside it in its own, else at the end
+abbrev pub start_past : Bool → Layered → ℕ → Option (ℕ × Addr) → Option ℕ
+start_past back all e None = place_in (end_of back (all.layer e).objects)
+start_past back all e (Some p) =
+    if p.0 == e then place_beside back p.1.0 (all.layer e).objects else place_in (end_of back (all.layer e).objects)
 
 -- whether an object matches another one
 abbrev pub is_level : Rules → Seen ℕ → Seen ℕ → Bool
 is_level rules x y = is_match rules x.bytes y.bytes
 
--- whether an object is less than another one, where there is one
+-- whether an object lies past another one, where there is one: it is greater, or on the way back less
+abbrev pub is_past : Bool → Rules → Option (Seen ℕ) → Seen ℕ → Bool
+is_past back rules None y = true
+is_past back rules (Some x) y = if back then is_greater rules x.bytes y.bytes else is_greater rules y.bytes x.bytes
+
+-- whether it is less, and whether it is greater
 abbrev pub is_before : Rules → Option (Seen ℕ) → Seen ℕ → Bool
-is_before rules None y = true
-is_before rules (Some x) y = is_greater rules x.bytes y.bytes
+is_before rules x y = is_past true rules x y
 
--- whether an object is greater than another one, where there is one
 abbrev pub is_behind : Rules → Option (Seen ℕ) → Seen ℕ → Bool
-is_behind rules None y = true
-is_behind rules (Some x) y = is_greater rules y.bytes x.bytes
+is_behind rules x y = is_past false rules x y
 
--- the lesser of two; the first where they match
-abbrev pub lesser_seen : Rules → Option (Seen ℕ) → Option (Seen ℕ) → Option (Seen ℕ)
-lesser_seen rules best None = best
-lesser_seen rules best (Some y) = if is_before rules best y then Some y else best
-
--- the greater of two; the first where they match
-abbrev pub greater : Rules → Option (Seen ℕ) → Option (Seen ℕ) → Option (Seen ℕ)
-greater rules best None = best
-greater rules best (Some y) = if is_behind rules best y then Some y else best
+-- of two the one that a walk comes to first: the lesser, or on the way back the greater; the first where they match
+abbrev pub nearer : Bool → Rules → Option (Seen ℕ) → Option (Seen ℕ) → Option (Seen ℕ)
+nearer back rules best None = best
+nearer back rules best (Some y) = if is_past (not back) rules best y then Some y else best
 
 -- an object where it matches another one, and none where one of them is missing
 abbrev pub if_level : Rules → Option (Seen ℕ) → Option (Seen ℕ) → Option (Seen ℕ)

@@ -1,6 +1,7 @@
 //! View paths: which dictionary views which, and what is found through them. After Cdt's dtview.
 #![tactic(auto)]
 
+mod direction;
 mod fault;
 mod layers;
 mod ordered;

@@ -1,11 +1,13 @@
 ghost use Rattle.std.specs.Prelude.{◌≡◌, ℕ, false, List, Some, IsSome, option_map};
 ghost use Rattle.std.specs.List.{flat_map};
 ghost use Rattle.vc_base.specs.Prelude.{number_of};
-ghost use Rattle.vc_dtdisc.specs.Finding.{before_first, behind_last, first_of, last_of};
+ghost use Rattle.vc_dtdisc.specs.Finding.{first_of, last_of};
+ghost use Rattle.vc_paths.specs.Direction.{end_of, neighbour, objects_left};
 ghost use Rattle.vc_paths.specs.Layers.{Unchanged, bytes_there, place_in};
 ghost use Rattle.vc_paths.specs.Path.{Answers, IsPathBy, IsVisible, is_at, numbers_of, visible_of};
-ghost use Rattle.vc_paths.specs.Shown.{IsLayerOn, IsOnPath, IsPlaceIn, above, down, has_match, is_covered, objects_from, objects_up_to, unhidden_objects, shown_in};
+ghost use Rattle.vc_paths.specs.Shown.{IsLayerOn, IsOnPath, IsPlaceIn, above, down, has_match, is_covered, unhidden_objects, shown_in};
 
+use crate::direction::{beside, end_of};
 use crate::paths::is_link_to;
 use crate::{Layers, Paths};
 use vc_base::{Addr, Steps};
@@ -54,10 +56,11 @@ fn is_hidden<Y: Layers, L>(
     false
 }
 
-// The first object of e that isn't hidden, from a place on.
-fn seen_from<Y: Layers, L>(
+// The first object of e that isn't hidden, from a place on, or back from it the last.
+fn seen_along<Y: Layers, L>(
     paths: &Paths,
     layers: &mut Y,
+    back: bool,
     d: u32,
     e: u32,
     at: Option<Addr>,
@@ -65,8 +68,8 @@ fn seen_from<Y: Layers, L>(
 ) -> Option<Addr>
     requires layer { IsLayerOn (Y.layered layers.old) paths.now d e }
     requires place { IsPlaceIn ((Y.layered layers.old).layer e).objects (option_map number_of at) }
-    ensures found { option_map number_of result ≡ place_in (first_of (unhidden_objects (Y.layered layers.old)
-        paths.now d e (objects_from (option_map number_of at)
+    ensures found { option_map number_of result ≡ place_in (end_of back (unhidden_objects
+        (Y.layered layers.old) paths.now d e (objects_left back (option_map number_of at)
         ((Y.layered layers.old).layer e).objects))) }
     ensures unchanged { Unchanged Y.layered Y.Stays layers.old layers.new }
 {
@@ -75,33 +78,7 @@ fn seen_from<Y: Layers, L>(
         if !is_hidden(paths, layers, d, e, place, steps) {
             return here;
         }
-        here = layers.next(e, place);
-    }
-    None
-}
-
-// The last object of e that isn't hidden, up to a place.
-fn seen_back<Y: Layers, L>(
-    paths: &Paths,
-    layers: &mut Y,
-    d: u32,
-    e: u32,
-    at: Option<Addr>,
-    steps: &mut Steps<L>,
-) -> Option<Addr>
-    requires layer { IsLayerOn (Y.layered layers.old) paths.now d e }
-    requires place { IsPlaceIn ((Y.layered layers.old).layer e).objects (option_map number_of at) }
-    ensures found { option_map number_of result ≡ place_in (last_of (unhidden_objects (Y.layered layers.old)
-        paths.now d e (objects_up_to (option_map number_of at)
-        ((Y.layered layers.old).layer e).objects))) }
-    ensures unchanged { Unchanged Y.layered Y.Stays layers.old layers.new }
-{
-    let mut here = at;
-    while let Some(place) = here {
-        if !is_hidden(paths, layers, d, e, place, steps) {
-            return here;
-        }
-        here = layers.prev(e, place);
+        here = beside(layers, back, e, place);
     }
     None
 }
@@ -116,38 +93,22 @@ pub(crate) fn placed(e: u32, at: Option<Addr>) -> Option<(u32, Addr)>
     }
 }
 
-// The first object of e that isn't hidden.
-fn first_in<Y: Layers, L>(
+// The first object of e that isn't hidden, or back the last.
+fn end_in<Y: Layers, L>(
     paths: &Paths,
     layers: &mut Y,
+    back: bool,
     d: u32,
     e: u32,
     steps: &mut Steps<L>,
 ) -> Option<(u32, Addr)>
     requires { IsLayerOn (Y.layered layers.old) paths.now d e }
     ensures found { option_map numbers_of result
-        ≡ first_of (shown_in (Y.layered layers.old) paths.now d e) }
+        ≡ end_of back (shown_in (Y.layered layers.old) paths.now d e) }
     ensures unchanged { Unchanged Y.layered Y.Stays layers.old layers.new }
 {
-    let start = layers.first(e);
-    placed(e, seen_from(paths, layers, d, e, start, steps))
-}
-
-// The last object of e that isn't hidden.
-fn last_in<Y: Layers, L>(
-    paths: &Paths,
-    layers: &mut Y,
-    d: u32,
-    e: u32,
-    steps: &mut Steps<L>,
-) -> Option<(u32, Addr)>
-    requires { IsLayerOn (Y.layered layers.old) paths.now d e }
-    ensures found { option_map numbers_of result
-        ≡ last_of (shown_in (Y.layered layers.old) paths.now d e) }
-    ensures unchanged { Unchanged Y.layered Y.Stays layers.old layers.new }
-{
-    let end = layers.last(e);
-    placed(e, seen_back(paths, layers, d, e, end, steps))
+    let start = end_of(layers, back, e);
+    placed(e, seen_along(paths, layers, back, d, e, start, steps))
 }
 
 // The first object that is seen through d from a layer of its path on.
@@ -167,7 +128,7 @@ fn first_below<Y: Layers, L>(
     paths.show_invariant();
     let mut layer = from;
     while let Some(e) = layer {
-        let found = first_in(paths, layers, d, e, steps);
+        let found = end_in(paths, layers, false, d, e, steps);
         if found.is_some() {
             return found;
         }
@@ -196,84 +157,58 @@ fn last_above<Y: Layers, L>(
         if is_link_to(e, end) {
             return best;
         }
-        best = last_in(paths, layers, d, e, steps).or(best);
+        best = end_in(paths, layers, true, d, e, steps).or(best);
         layer = paths.below(e);
     }
     best
 }
 
-// The first object that is seen through a dictionary.
-pub(crate) fn first<Y: Layers, L>(
+// The first object that is seen through a dictionary, or back the last.
+pub(crate) fn end<Y: Layers, L>(
     paths: &Paths,
     layers: &mut Y,
+    back: bool,
     d: u32,
     steps: &mut Steps<L>,
 ) -> Option<(u32, Addr)>
     requires { IsPathBy false (Y.layered layers.old) paths.now d }
-    ensures found { Answers result (first_of (visible_of (Y.layered layers.old) paths.now d)) }
+    ensures found { Answers result (end_of back (visible_of (Y.layered layers.old) paths.now d)) }
     ensures unchanged { Unchanged Y.layered Y.Stays layers.old layers.new }
 {
     paths.show_invariant();
-    first_below(paths, layers, d, Some(d), steps)
-}
-
-// The last object that is seen through a dictionary.
-pub(crate) fn last<Y: Layers, L>(
-    paths: &Paths,
-    layers: &mut Y,
-    d: u32,
-    steps: &mut Steps<L>,
-) -> Option<(u32, Addr)>
-    requires { IsPathBy false (Y.layered layers.old) paths.now d }
-    ensures found { Answers result (last_of (visible_of (Y.layered layers.old) paths.now d)) }
-    ensures unchanged { Unchanged Y.layered Y.Stays layers.old layers.new }
-{
-    paths.show_invariant();
-    last_above(paths, layers, d, None, steps)
-}
-
-// The object behind the one at a place, among those that are seen through a dictionary.
-pub(crate) fn walk_next<Y: Layers, L>(
-    paths: &Paths,
-    layers: &mut Y,
-    d: u32,
-    from: (u32, Addr),
-    steps: &mut Steps<L>,
-) -> Option<(u32, Addr)>
-    requires path { IsPathBy false (Y.layered layers.old) paths.now d }
-    requires from { IsVisible (Y.layered layers.old) paths.now d (numbers_of from) }
-    ensures found { Answers result (behind_last (is_at (numbers_of from))
-        (visible_of (Y.layered layers.old) paths.now d)) }
-    ensures unchanged { Unchanged Y.layered Y.Stays layers.old layers.new }
-{
-    paths.show_invariant();
-    let (e, at) = from;
-    let start = layers.next(e, at);
-    match seen_from(paths, layers, d, e, start, steps) {
-        Some(place) => Some((e, place)),
-        None => first_below(paths, layers, d, paths.below(e), steps),
+    if back {
+        last_above(paths, layers, d, None, steps)
+    } else {
+        first_below(paths, layers, d, Some(d), steps)
     }
 }
 
-// The object before the one at a place, among those that are seen through a dictionary.
-pub(crate) fn walk_prev<Y: Layers, L>(
+// The object behind the one at a place, or back before it, among those that are seen through a dictionary.
+pub(crate) fn walk<Y: Layers, L>(
     paths: &Paths,
     layers: &mut Y,
+    back: bool,
     d: u32,
     from: (u32, Addr),
     steps: &mut Steps<L>,
 ) -> Option<(u32, Addr)>
     requires path { IsPathBy false (Y.layered layers.old) paths.now d }
     requires from { IsVisible (Y.layered layers.old) paths.now d (numbers_of from) }
-    ensures found { Answers result (before_first (is_at (numbers_of from))
+    ensures found { Answers result (neighbour back (is_at (numbers_of from))
         (visible_of (Y.layered layers.old) paths.now d)) }
     ensures unchanged { Unchanged Y.layered Y.Stays layers.old layers.new }
 {
     paths.show_invariant();
     let (e, at) = from;
-    let end = layers.prev(e, at);
-    match seen_back(paths, layers, d, e, end, steps) {
+    let start = beside(layers, back, e, at);
+    match seen_along(paths, layers, back, d, e, start, steps) {
         Some(place) => Some((e, place)),
-        None => last_above(paths, layers, d, Some(e), steps),
+        None => {
+            if back {
+                last_above(paths, layers, d, Some(e), steps)
+            } else {
+                first_below(paths, layers, d, paths.below(e), steps)
+            }
+        }
     }
 }

@@ -3,11 +3,13 @@ ghost use Rattle.std.specs.List.{filter, find};
 ghost use Rattle.vc_base.specs.Prelude.{is_ordered};
 ghost use Rattle.vc_dtdisc.specs.Finding.{before_first, behind_last, first_of, last_of};
 ghost use Rattle.vc_dtdisc.specs.Objects.{is_match};
+ghost use Rattle.vc_paths.specs.Direction.{end_of, neighbour};
 ghost use Rattle.vc_paths.specs.Layers.{HasPlace, Unchanged, bytes_there, place_in};
 ghost use Rattle.vc_paths.specs.Links.{below};
 ghost use Rattle.vc_paths.specs.Path.{Answers, IsPath, IsVisible, is_at, numbers_of, visible_of};
 ghost use Rattle.vc_paths.specs.Seek.{has_key_in};
 
+use crate::direction::beside;
 use crate::plain::placed;
 use crate::{Layers, Paths, ordered, plain};
 use vc_base::{Addr, Steps};
@@ -117,6 +119,25 @@ fn last_match<Y: Layers, L>(layers: &Y, e: u32, at: Addr, steps: &mut Steps<L>) 
     }
 }
 
+// The first object that is seen through a dictionary, or back the last.
+fn end<Y: Layers, L>(
+    paths: &Paths,
+    layers: &mut Y,
+    back: bool,
+    d: u32,
+    steps: &mut Steps<L>,
+) -> Option<(u32, Addr)>
+    requires { IsPath (Y.layered layers.old) paths.now d }
+    ensures found { Answers result (end_of back (visible_of (Y.layered layers.old) paths.now d)) }
+    ensures unchanged { Unchanged Y.layered Y.Stays layers.old layers.new }
+{
+    if layers.method(d).is_ordered() {
+        ordered::end(paths, layers, back, d, steps)
+    } else {
+        plain::end(paths, layers, back, d, steps)
+    }
+}
+
 /// The first object that is seen through `d`, the number of a dictionary from 0 to 255; none where none is. Answered and
 /// counted as by `search`.
 pub fn first<Y: Layers, L>(
@@ -130,11 +151,7 @@ pub fn first<Y: Layers, L>(
         (first_of (visible_of (Y.layered layers.old) paths.now d)) }
     ensures unchanged { Unchanged Y.layered Y.Stays layers.old layers.new }
 {
-    if layers.method(d).is_ordered() {
-        ordered::first(paths, layers, d, steps)
-    } else {
-        plain::first(paths, layers, d, steps)
-    }
+    end(paths, layers, false, d, steps)
 }
 
 /// The last object that is seen through `d`, the number of a dictionary from 0 to 255; none where none is. Answered and
@@ -150,10 +167,31 @@ pub fn last<Y: Layers, L>(
         (last_of (visible_of (Y.layered layers.old) paths.now d)) }
     ensures unchanged { Unchanged Y.layered Y.Stays layers.old layers.new }
 {
-    if layers.method(d).is_ordered() {
-        ordered::last(paths, layers, d, steps)
+    end(paths, layers, true, d, steps)
+}
+
+// The object behind one that is seen through a dictionary, or back before it; none at the end.
+fn walk<Y: Layers, L>(
+    paths: &Paths,
+    layers: &mut Y,
+    back: bool,
+    d: u32,
+    from: (u32, Addr),
+    steps: &mut Steps<L>,
+) -> Option<(u32, Addr)>
+    requires path { IsPath (Y.layered layers.old) paths.now d }
+    requires place { IsVisible (Y.layered layers.old) paths.now d (numbers_of from) }
+    ensures found { Answers result (neighbour back (is_at (numbers_of from))
+        (visible_of (Y.layered layers.old) paths.now d)) }
+    ensures alone { below paths.now d ≡ None → steps.new ≡ steps.old }
+    ensures unchanged { Unchanged Y.layered Y.Stays layers.old layers.new }
+{
+    if paths.below(d).is_none() {
+        placed(d, beside(layers, back, d, from.1))
+    } else if layers.method(d).is_ordered() {
+        ordered::walk(paths, layers, back, d, from, steps)
     } else {
-        plain::last(paths, layers, d, steps)
+        plain::walk(paths, layers, back, d, from, steps)
     }
 }
 
@@ -173,36 +211,7 @@ pub fn walk_next<Y: Layers, L>(
     ensures alone { below paths.now d ≡ None → steps.new ≡ steps.old }
     ensures unchanged { Unchanged Y.layered Y.Stays layers.old layers.new }
 {
-    if paths.below(d).is_none() {
-        placed(d, layers.next(d, from.1))
-    } else if layers.method(d).is_ordered() {
-        ordered::walk_next(paths, layers, d, from, steps)
-    } else {
-        plain::walk_next(paths, layers, d, from, steps)
-    }
-}
-
-// The object before one that is seen through a dictionary; none before the first.
-fn walk_prev<Y: Layers, L>(
-    paths: &Paths,
-    layers: &mut Y,
-    d: u32,
-    from: (u32, Addr),
-    steps: &mut Steps<L>,
-) -> Option<(u32, Addr)>
-    requires path { IsPath (Y.layered layers.old) paths.now d }
-    requires place { IsVisible (Y.layered layers.old) paths.now d (numbers_of from) }
-    ensures found { Answers result (before_first (is_at (numbers_of from))
-        (visible_of (Y.layered layers.old) paths.now d)) }
-    ensures unchanged { Unchanged Y.layered Y.Stays layers.old layers.new }
-{
-    if paths.below(d).is_none() {
-        placed(d, layers.prev(d, from.1))
-    } else if layers.method(d).is_ordered() {
-        ordered::walk_prev(paths, layers, d, from, steps)
-    } else {
-        plain::walk_prev(paths, layers, d, from, steps)
-    }
+    walk(paths, layers, false, d, from, steps)
 }
 
 /// The object behind the last that is seen through `d`, the number of a dictionary from 0 to 255, and has a key; none where
@@ -222,7 +231,7 @@ pub fn next<Y: Layers, L>(
     match search(paths, layers, d, key, steps) {
         Some(from) => {
             let last = last_match(layers, from.0, from.1, steps);
-            walk_next(paths, layers, d, (from.0, last), steps)
+            walk(paths, layers, false, d, (from.0, last), steps)
         }
         None => None,
     }
@@ -243,7 +252,7 @@ pub fn prev<Y: Layers, L>(
     ensures unchanged { Unchanged Y.layered Y.Stays layers.old layers.new }
 {
     match search(paths, layers, d, key, steps) {
-        Some(from) => walk_prev(paths, layers, d, from, steps),
+        Some(from) => walk(paths, layers, true, d, from, steps),
         None => None,
     }
 }

@@ -8,16 +8,16 @@ use Rattle.vc_paths.proofs.DownLemmas.{down-next, on-head, on-next}
 use Rattle.vc_paths.proofs.StayLemmas.{same-itself, same-over, alike-kept, on-kept, shown-kept}
 use Rattle.vc_paths.proofs.plain.first_below.Given.{Over}
 use Rattle.vc_paths.proofs.plain.first_below.Goals as goal
-use Rattle.vc_paths.proofs.plain.first_below.Goals.{After-first_in-found}
+use Rattle.vc_paths.proofs.plain.first_below.Goals.{After-end_in-found}
 
 -- what the layer at which the walk is shows first
-first : (g : Over) (c : After-first_in-found g)
-    → option_map numbers_of c.first_in-found.result ≡ first_of (shown_in (g.Y.Layers.layered c.args.layers.now) c.args.paths.now c.args.d c.in-Some.e)
-first g c = c.first_in-found.ensures.found ∙ ap (λ z. first_of (z c.in-Some.e)) (shown-kept c.args.paths.now c.args.d c.loop-layer.invariant.same)
+first : (g : Over) (c : After-end_in-found g)
+    → option_map numbers_of c.end_in-found.result ≡ first_of (shown_in (g.Y.Layers.layered c.args.layers.now) c.args.paths.now c.args.d c.in-Some.e)
+first g c = c.end_in-found.ensures.found ∙ ap (λ z. first_of (z c.in-Some.e)) (shown-kept c.args.paths.now c.args.d c.loop-layer.invariant.same)
 
-stays : (g : Over) (c : After-first_in-found g) → g.Y.Layers.Stays c.args.layers.now c.first_in-found.new.layers
+stays : (g : Over) (c : After-end_in-found g) → g.Y.Layers.Stays c.args.layers.now c.end_in-found.new.layers
 stays g c =
-    g.met.Y.Layers.transitive c.args.layers.now c.loop-layer.layers c.first_in-found.new.layers c.loop-layer.invariant.stays c.first_in-found.ensures.unchanged.stays
+    g.met.Y.Layers.transitive c.args.layers.now c.loop-layer.layers c.end_in-found.new.layers c.loop-layer.invariant.stays c.end_in-found.ensures.unchanged.stays
 
 pub loop-layer-init : goal.loop-layer-init
 loop-layer-init g c = record {
@@ -27,21 +27,21 @@ loop-layer-init g c = record {
   answer = refl;
 }
 
-pub first_in-found-requires : goal.first_in-found-requires
-first_in-found-requires g c =
+pub end_in-found-requires : goal.end_in-found-requires
+end_in-found-requires g c =
     let i = c.loop-layer.invariant in
     record { path = on-kept i.same c.requires.path; other = alike-kept i.same (on-head c.show_invariant.ensures c.in-Some.is i.path) }
 
 pub returns-then-is_some : goal.returns-then-is_some
 returns-then-is_some g c =
     let i = c.loop-layer.invariant in
-    let after = (goal.at.returns-then-is_some g c).After-first_in-found in
-    let some = is_some-map numbers_of c.first_in-found.result ∙ sym c.is_some.ensures ∙ c.if-is_some.true in
+    let after = (goal.at.returns-then-is_some g c).After-end_in-found in
+    let some = is_some-map numbers_of c.end_in-found.result ∙ sym c.is_some.ensures ∙ c.if-is_some.true in
     let shows = shown_in (g.Y.Layers.layered c.args.layers.now) c.args.paths.now c.args.d in
     record {
       found = below-found shows c.show_invariant.ensures c.in-Some.is (first g after) some ∙ sym i.answer;
       unchanged = record {
-        layers = same-over i.same c.first_in-found.ensures.unchanged.layers;
+        layers = same-over i.same c.end_in-found.ensures.unchanged.layers;
         stays = stays g after;
       };
     }
@@ -56,10 +56,10 @@ pub loop-layer-preserved : goal.loop-layer-preserved
 loop-layer-preserved g c =
     let i = c.loop-layer.invariant in
     let paths = c.show_invariant.ensures in
-    let after = (goal.at.loop-layer-preserved g c).After-first_in-found in
-    let none = is_some-map numbers_of c.first_in-found.result ∙ sym c.is_some.ensures ∙ c.if-is_some.false in
+    let after = (goal.at.loop-layer-preserved g c).After-end_in-found in
+    let none = is_some-map numbers_of c.end_in-found.result ∙ sym c.is_some.ensures ∙ c.if-is_some.false in
     record {
-      same = same-over i.same c.first_in-found.ensures.unchanged.layers;
+      same = same-over i.same c.end_in-found.ensures.unchanged.layers;
       stays = stays g after;
       path = on-next paths c.in-Some.is c.below-layer.ensures i.path;
       answer = i.answer

@@ -13,8 +13,8 @@ returns-then-is_link_to-clause-found g c =
     sym (c.loop-layer.invariant.answer
     ∙ above-last shows c.show_invariant.ensures c.args.end (option_map numbers_of c.loop-layer.best) c.in-Some.is (sym c.is_link_to.ensures ∙ c.if-is_link_to.true))
 
-pub last_in-requires : goal.last_in-requires
-last_in-requires g c = record {
+pub end_in-requires : goal.end_in-requires
+end_in-requires g c = record {
   path = on-kept c.loop-layer.invariant.same c.requires.path;
   other = alike-kept c.loop-layer.invariant.same (on-head c.show_invariant.ensures c.in-Some.is c.loop-layer.invariant.path);
 }
@@ -28,15 +28,15 @@ loop-layer-preserved g c =
     let links = c.args.paths.now in
     let paths = c.show_invariant.ensures in
     let shows = shown_in (g.Y.Layers.layered c.args.layers.now) links c.args.d in
-    let last = c.last_in.ensures.found ∙ ap (λ z. last_of (z c.in-Some.e)) (shown-kept links c.args.d i.same) in
+    let last = c.end_in.ensures.found ∙ ap (λ z. last_of (z c.in-Some.e)) (shown-kept links c.args.d i.same) in
     let rest = flat_map shows (above c.args.end (down links c.below-layer.result)) in
     record {
-      same = same-over i.same c.last_in.ensures.unchanged.layers;
-      stays = g.met.Y.Layers.transitive c.args.layers.now c.loop-layer.layers c.last_in.new.layers i.stays c.last_in.ensures.unchanged.stays;
+      same = same-over i.same c.end_in.ensures.unchanged.layers;
+      stays = g.met.Y.Layers.transitive c.args.layers.now c.loop-layer.layers c.end_in.new.layers i.stays c.end_in.ensures.unchanged.stays;
       path = on-next paths c.in-Some.is c.below-layer.ensures i.path;
       answer = i.answer
           ∙ above-past shows paths c.args.end (option_map numbers_of c.loop-layer.best) c.in-Some.is c.below-layer.ensures (sym c.is_link_to.ensures ∙ c.if-is_link_to.false) last
-          ∙ ap (λ z. last_from z rest) (sym (ap (option_map numbers_of) c.or-best.ensures ∙ or-mapped numbers_of c.last_in.result c.loop-layer.best));
+          ∙ ap (λ z. last_from z rest) (sym (ap (option_map numbers_of) c.or-best.ensures ∙ or-mapped numbers_of c.end_in.result c.loop-layer.best));
     }
 
 pub returns-clause-found : goal.returns-clause-found

@@ -29,14 +29,14 @@ last_match-last-requires g c =
     let same = c.search.ensures.unchanged.layers in
     record { dict = same.has c.in-Some.from.0 key.dict; place = place-kept c.in-Some.from.0 c.in-Some.from.1.0 same (ap is_some key.there) }
 
-pub walk_next-requires-clause-place : goal.walk_next-requires-clause-place
-walk_next-requires-clause-place g c =
+pub walk-requires-clause-place : goal.walk-requires-clause-place
+walk-requires-clause-place g c =
     seen-kept c.args.paths.now c.args.d (c.in-Some.from.0, c.last_match-last.result.0) c.search.ensures.unchanged.layers
-    (last g (goal.at.walk_next-requires-clause-place g c).After-last_match-last).there
+    (last g (goal.at.walk-requires-clause-place g c).After-last_match-last).there
 
 pub returns-in-Some-clause-found : goal.returns-in-Some-clause-found
 returns-in-Some-clause-found g c =
-    subst (λ z. Answers c.walk_next.result (behind_last (is_at (c.in-Some.from.0, c.last_match-last.result.0)) z)) (visible-kept c.args.paths.now c.args.d c.search.ensures.unchanged.layers) c.walk_next.ensures.found
+    subst (λ z. Answers c.walk.result (behind_last (is_at (c.in-Some.from.0, c.last_match-last.result.0)) z)) (visible-kept c.args.paths.now c.args.d c.search.ensures.unchanged.layers) c.walk.ensures.found
     ∙ ap (option_map place_of) (sym (last g (goal.at.returns-in-Some-clause-found g c).After-last_match-last).same)
 
 pub returns-in-None-clause-found : goal.returns-in-None-clause-found

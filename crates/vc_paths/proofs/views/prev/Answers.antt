@@ -16,13 +16,13 @@ first g c =
     before-key (g.Y.Layers.layered c.args.layers.now) c.args.paths.now c.args.d c.args.key.now (numbers_of c.in-Some.from) (g.met.Y.Layers.lawful c.args.layers.now) c.requires
     (ap (option_map numbers_of) (sym c.in-Some.is) ∙ c.search.ensures.found)
 
-pub walk_prev-requires-clause-place : goal.walk_prev-requires-clause-place
-walk_prev-requires-clause-place g c =
-    seen-kept c.args.paths.now c.args.d (numbers_of c.in-Some.from) c.search.ensures.unchanged.layers (first g (goal.at.walk_prev-requires-clause-place g c).In-Some).there
+pub walk-requires-clause-place : goal.walk-requires-clause-place
+walk-requires-clause-place g c =
+    seen-kept c.args.paths.now c.args.d (numbers_of c.in-Some.from) c.search.ensures.unchanged.layers (first g (goal.at.walk-requires-clause-place g c).In-Some).there
 
 pub returns-in-Some-clause-found : goal.returns-in-Some-clause-found
 returns-in-Some-clause-found g c =
-    subst (λ z. Answers c.walk_prev.result (before_first (is_at (numbers_of c.in-Some.from)) z)) (visible-kept c.args.paths.now c.args.d c.search.ensures.unchanged.layers) c.walk_prev.ensures.found
+    subst (λ z. Answers c.walk.result (before_first (is_at (numbers_of c.in-Some.from)) z)) (visible-kept c.args.paths.now c.args.d c.search.ensures.unchanged.layers) c.walk.ensures.found
     ∙ ap (option_map place_of) (sym (first g (goal.at.returns-in-Some-clause-found g c).In-Some).same)
 
 pub returns-in-None-clause-found : goal.returns-in-None-clause-found

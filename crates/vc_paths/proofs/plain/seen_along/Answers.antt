@@ -1,10 +1,10 @@
 use Rattle.vc_base.proofs.Common.{option_map, sym, refl, ap, ◌∙◌, number_of}
 use Rattle.vc_paths.specs.Layers.{place_in}
-use Rattle.vc_paths.proofs.SeenLemmas.{Stop, stop-at, fewer-previous, last-none, last-past, last-seen, place-kept, previous-place, there-still}
+use Rattle.vc_paths.proofs.SeenLemmas.{Stop, stop-at, fewer-next, end-none, end-past, end-seen, next-place, place-kept, there-still}
 use Rattle.vc_paths.proofs.StayLemmas.{same-itself, alike-kept, on-kept}
-use Rattle.vc_paths.proofs.plain.seen_back.Given.{Over}
-use Rattle.vc_paths.proofs.plain.seen_back.Goals as goal
-use Rattle.vc_paths.proofs.plain.seen_back.Goals.{After-is_hidden}
+use Rattle.vc_paths.proofs.plain.seen_along.Given.{Over}
+use Rattle.vc_paths.proofs.plain.seen_along.Goals as goal
+use Rattle.vc_paths.proofs.plain.seen_along.Goals.{After-is_hidden}
 
 -- the walk behind the test of an object
 here : (g : Over) (c : After-is_hidden g)
@@ -41,20 +41,20 @@ returns-then-not-is_hidden g c =
     let after = (goal.at.returns-then-not-is_hidden g c).After-is_hidden in
     let w = here g after in
     record {
-      found = last-seen w c.if-not-is_hidden.true ∙ sym (ap place_in c.loop-here.invariant.answer);
+      found = end-seen w c.args.back c.if-not-is_hidden.true ∙ sym (ap place_in c.loop-here.invariant.answer);
       unchanged = record {
         layers = w.same;
         stays = stays g after;
       };
     }
 
-pub prev-here-requires : goal.prev-here-requires
-prev-here-requires g c =
-    let w = here g (goal.at.prev-here-requires g c).After-is_hidden in
+pub beside-here-requires : goal.beside-here-requires
+beside-here-requires g c =
+    let w = here g (goal.at.beside-here-requires g c).After-is_hidden in
     record { dict = w.same.has c.args.e c.requires.layer.other.there; place = there-still w }
 
 pub loop-here-smaller : goal.loop-here-smaller
-loop-here-smaller g c = fewer-previous (here g (goal.at.loop-here-smaller g c).After-is_hidden) c.prev-here.ensures
+loop-here-smaller g c = fewer-next (here g (goal.at.loop-here-smaller g c).After-is_hidden) c.args.back c.beside-here.ensures
 
 pub loop-here-preserved : goal.loop-here-preserved
 loop-here-preserved g c =
@@ -63,15 +63,15 @@ loop-here-preserved g c =
     record {
       same = w.same;
       stays = stays g after;
-      place = previous-place w c.prev-here.ensures;
-      answer = c.loop-here.invariant.answer ∙ last-past w c.prev-here.ensures c.if-not-is_hidden.false;
+      place = next-place w c.args.back c.beside-here.ensures;
+      answer = c.loop-here.invariant.answer ∙ end-past w c.args.back c.beside-here.ensures c.if-not-is_hidden.false;
     }
 
 pub returns : goal.returns
 returns g c =
     let i = c.loop-here.invariant in
     record {
-      found = last-none (g.Y.Layers.layered c.args.layers.now) c.args.paths.now c.args.d c.args.e (ap (option_map number_of) c.in_default.is)
+      found = end-none c.args.back (g.Y.Layers.layered c.args.layers.now) c.args.paths.now c.args.d c.args.e (ap (option_map number_of) c.in_default.is)
           ∙ sym (ap place_in i.answer);
       unchanged = record {
         layers = i.same;

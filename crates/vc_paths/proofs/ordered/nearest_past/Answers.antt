@@ -1,13 +1,13 @@
 use Rattle.vc_base.proofs.Common.{ap, ◌∙◌, is_ordered}
 use Rattle.vc_paths.proofs.DownLemmas.{down-next, on-head}
-use Rattle.vc_paths.proofs.OrderedLemmas.{greatest_end, greatest_next, greatest_start, stands_along}
-use Rattle.vc_paths.proofs.ordered.greatest_before.Goals as goal
+use Rattle.vc_paths.proofs.OrderedLemmas.{nearest_end, nearest_next, nearest_start, stands_along}
+use Rattle.vc_paths.proofs.ordered.nearest_past.Goals as goal
 
 pub loop-next-init : goal.loop-next-init
-loop-next-init g c = greatest_start (g.met.Y.Layers.lawful c.args.layers.now) c.requires.path.path c.requires.path.method
+loop-next-init g c = nearest_start (g.met.Y.Layers.lawful c.args.layers.now) c.requires.path.path c.requires.path.method
 
-pub greater_with-best-requires : goal.greater_with-best-requires
-greater_with-best-requires g c =
+pub nearer_with-best-requires : goal.nearer_with-best-requires
+nearer_with-best-requires g c =
     let alike = on-head c.show_invariant.ensures c.in-Some.is c.loop-next.invariant.on in
     record {
       seek = record {
@@ -23,8 +23,8 @@ loop-next-smaller g c = down-next c.show_invariant.ensures c.in-Some.is c.below-
 
 pub loop-next-preserved : goal.loop-next-preserved
 loop-next-preserved g c =
-    let better = c.greater_with-best.ensures in
-    greatest_next (g.met.Y.Layers.lawful c.args.layers.now) c.requires.path.path c.show_invariant.ensures c.in-Some.is c.below-next.ensures c.loop-next.invariant better.stands better.object
+    let better = c.nearer_with-best.ensures in
+    nearest_next (g.met.Y.Layers.lawful c.args.layers.now) c.requires.path.path c.show_invariant.ensures c.in-Some.is c.below-next.ensures c.loop-next.invariant better.stands better.object
 
 pub returns : goal.returns
-returns g c = greatest_end c.in_default.is c.loop-next.invariant
+returns g c = nearest_end c.in_default.is c.loop-next.invariant
