@@ -32,3 +32,58 @@ check "curve of an empty script: it is told" same "$(cat bad.said)" "curve: the 
 printf 'open r best 1\nalloc r a 1\nfrob\n' > bad.vm
 curved bad.vm > bad.said
 check "curve: a bad line is told by its own number" same "$(cat bad.said)" "curve: vmreplay: line 3: unknown command"
+
+# What was refused, and regions that are not there. The refusals of quiet.vm and debug.vm stand in their replies.
+said() {
+    "$curve" -p "$program" "$@" > drawn.svg 2> drawn.said
+    status=$?
+}
+printf '%s\n' 'open r best 1' '# two are too great' 'alloc r a 100' 'alloc r b 16777217' 'alloc r c 16777217' 'free r b' 'open s best 2' \
+    'alloc s a 7' 'alloc s a 7' > refusals.vm
+said refusals.vm
+check "curve: refused commands are told, with the first, and have a status of their own" \
+    same "$status $(cat drawn.said)" "3 curve: 3 of 5 commands on region r were refused, the first at line 4: size"
+check "curve: they are told beneath the drawing" grep -q '>3 of 5 commands on region r were refused, the first at line 4: size<' drawn.svg
+check "curve: the first of them is marked" same "$(grep -c 'class="refused"\|class="first".*: line 4<\|>first refused: line 4<' drawn.svg)" 3
+said -r s refusals.vm
+check "curve: those of another region are not told" \
+    same "$status $(cat drawn.said)" "3 curve: 1 of 3 commands on region s was refused, the first at line 9: block exists"
+said "$here/../examples/trace.vm"
+check "curve: with none refused the status is 0" same "$status $(cat drawn.said) $(grep -c refused drawn.svg)" "0  0"
+said -r q refusals.vm
+check "curve of a region that is never opened" same "$status $(cat drawn.said)" "1 curve: no region q is ever open: the script opens none"
+printf 'open r best 17\nalloc r a 1\n' > bad.vm
+said bad.vm
+check "curve of a region whose open is refused" \
+    same "$status $(cat drawn.said)" "1 curve: no region r is ever open: line 1 is refused: no such discipline"
+said -r 'r x' bad.vm
+check "curve of a region whose name is none" same "$status $(cat drawn.said)" "2 curve: no name of a region: r x"
+
+# Sites, one on another: seven sites whose peaks are 1,000 to 7,000 bytes, and one more block without a site.
+awk 'BEGIN {
+    print "open r best 9"
+    for (i = 1; i <= 7; i++) print "alloc r b" i " " i * 1000 " @s" i
+    print "alloc r c 10"
+    print "resize r b6 100 move"
+    print "free r b7"
+}' > stack.vm
+said -s stack.vm
+check "curve of sites: status 0" same "$status $(cat drawn.said)" "0 "
+check "curve of sites: the five with the greatest peaks, from the greatest on" \
+    same "$(sed -n 's/.*>\(s[0-9]\): at most.*/\1/p' drawn.svg | tr '\n' ' ')" "s7 s6 s5 s4 s3 "
+check "curve of sites: bytes at most, at the peak and at the end" \
+    grep -q '>s6: at most 6,000 bytes, 6,000 at the peak (21.4 %), 100 at the end<' drawn.svg
+check "curve of sites: the rest" \
+    grep -q '>all others, 3 sites: at most 3,010 bytes, 3,010 at the peak (10.7 %), 3,010 at the end<' drawn.svg
+check "curve of sites: the peak" grep -q '>peak: 28,010 bytes live behind line 9; 11 lines, 11 points<' drawn.svg
+check "curve of sites: an area for each" same "$(grep -c '<path class="s[0-9]" d="M[^h]*Z"/>' drawn.svg)" 6
+# The parts of the peak are the same where it lies between two points.
+grep -o '>[a-z0-9, ]*: at most [0-9,]* bytes, [0-9,]* at the peak' drawn.svg > stack.parts
+said -s -n 4 stack.vm
+check "curve of sites: between two points the peak has the same parts" \
+    same "$(grep -o '>[a-z0-9, ]*: at most [0-9,]* bytes, [0-9,]* at the peak' drawn.svg)" "$(cat stack.parts)"
+! has xmllint || check "curve of sites: well-formed" xmllint --noout drawn.svg
+[ -z "$browser" ] || check "curve of sites: a browser shows it" shown
+said -s "$here/../examples/trace.vm"
+check "curve of sites without any: it is told" \
+    same "$status $(cat drawn.said)" "1 curve: no block of region heap has a site: an alloc names one by @ and a name"
