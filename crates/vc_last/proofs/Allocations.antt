@@ -1,5 +1,5 @@
 -- What each change leaves of blocks one behind another.
-use Rattle.vc_base.proofs.Common.{◌≡◌, ℕ, ◌≤◌, true, false, eqb, List, [], ◌∷◌, ◌++◌, get_or, All, AllPairs, inl, inr, ⊎_elim, eqb-true, cases_Bool, eqb-false, All-cons, All-head, All-push, All-tail, AllPairs-cons, all_pairs_push, place_of, without_block_at, Block, Layout, address_of, footprint, is_at, without_block, IsApart, IsSound, IsUsable, change_block, rewritten_block, with_bytes_at}
+use Rattle.vc_base.proofs.Common.{◌≡◌, ℕ, ◌≤◌, true, false, eqb, List, [], ◌∷◌, get_or, All, AllPairs, inl, inr, ⊎_elim, eqb-true, cases_Bool, eqb-false, All-cons, All-head, All-tail, AllPairs-cons, place_of, Block, Layout, address_of, footprint, is_at, IsApart, IsSound, IsUsable, change_block, rewritten_block, with_bytes_at}
 use Rattle.vc_model.proofs.Pairs.{AllPairs-head, AllPairs-tail}
 use Rattle.vc_layouts.proofs.Blocks.{apart_by_seg}
 use Rattle.vc_last.specs.Allocation.{EndsFirst, AreAllocated}
@@ -34,15 +34,6 @@ module _ (segments : List (ℕ × ℕ)) where
   abbrev pub Fits : Block ℕ → Type 0
   Fits b = IsUsable segments (footprint b)
 
-  pub AreAllocated-push : (blocks : List (Block ℕ)) (b : Block ℕ) → AreAllocated (row segments blocks) → All (λ c. EndsFirst c b) blocks → Fits b → IsExact b → AreAllocated (row segments (blocks ++ b ∷ []))
-  AreAllocated-push blocks b h behind fits exact =
-      record {
-        ordered = all_pairs_push EndsFirst blocks b h.ordered behind;
-        usable = All-push Fits blocks b h.usable fits;
-        exact = All-push IsExact blocks b h.exact exact;
-        numbered = h.numbered;
-      }
-
 -- a change that keeps what is true of each block, and of each two
 All-change : (P : Block ℕ → Type 0) (f : Block ℕ → Block ℕ) → ((b : Block ℕ) → P b → P (f b)) → (at : ℕ × ℕ) (bs : List (Block ℕ)) → All P bs → All P (change_block f at bs)
 All-change P f keeps at [] h = h
@@ -70,32 +61,5 @@ AreAllocated-written r at off src h =
       ordered = AllPairs-change EndsFirst (rewritten_block off src) (λ a b e. e) (λ a b e. e) at r.blocks h.ordered;
       usable = All-change (Fits r.segments) (rewritten_block off src) (λ b e. e) at r.blocks h.usable;
       exact = All-change IsExact (rewritten_block off src) (λ b e. e) at r.blocks h.exact;
-      numbered = h.numbered;
-    }
-
-All-without : (P : Block ℕ → Type 0) (at : ℕ × ℕ) (bs : List (Block ℕ)) → All P bs → All P (without_block at bs)
-All-without P at [] h = h
-All-without P at (b ∷ bs) h =
-    let rest = All-tail P b bs h in
-    ⊎_elim
-    (λ (t : is_at at b ≡ true). rw t rest)
-    (λ (t : is_at at b ≡ false). rw t (All-cons P b (without_block at bs) (All-head P b bs h) (All-without P at bs rest)))
-    (cases_Bool (is_at at b))
-
-AllPairs-without : (R : Block ℕ → Block ℕ → Type 0) (at : ℕ × ℕ) (bs : List (Block ℕ)) → AllPairs R bs → AllPairs R (without_block at bs)
-AllPairs-without R at [] h = h
-AllPairs-without R at (b ∷ bs) h =
-    let rest = AllPairs-tail R b bs h in
-    ⊎_elim
-    (λ (t : is_at at b ≡ true). rw t rest)
-    (λ (t : is_at at b ≡ false). rw t (AllPairs-cons R b (without_block at bs) (All-without (R b) at bs (AllPairs-head R b bs h)) (AllPairs-without R at bs rest)))
-    (cases_Bool (is_at at b))
-
-pub AreAllocated-without : (r : Layout ℕ) (at : ℕ × ℕ) → AreAllocated r → AreAllocated (without_block_at r at)
-AreAllocated-without r at h =
-    record {
-      ordered = AllPairs-without EndsFirst at r.blocks h.ordered;
-      usable = All-without (Fits r.segments) at r.blocks h.usable;
-      exact = All-without IsExact at r.blocks h.exact;
       numbered = h.numbered;
     }

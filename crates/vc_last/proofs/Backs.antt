@@ -1,7 +1,7 @@
 -- Sizes and gaps, from the latest block back.
 use Rattle.vc_base.proofs.Common.{◌≡◌, ℕ, ◌≤◌, true, false, eqb, ltb, ◌≢◌, List, [], ◌∷◌, ◌++◌, map, length, get_or, All, sym, refl, ap, ◌∙◌, ⊎_elim, append_assoc, append-nil, arith, cases_Bool, All-map, length-map, map-append, map_push, Run, bytes_of, gaps_between, run_of, Block, footprint, footprints}
 use Rattle.vc_base.proofs.Places.{span-least}
-use Rattle.vc_seg.specs.Segment.{AreSegments, Bytes, pair_of}
+use Rattle.vc_seg.specs.Segment.{Bytes}
 use Rattle.vc_seg.proofs.BytesByNumber.{bytes_of_number-most}
 use Rattle.vc_layouts.specs.Tally.{HasRoom, tally_of}
 use Rattle.vc_layouts.proofs.Tallies.{sizes-most}
@@ -24,26 +24,14 @@ from-most segs q = back-most (most_blocks segs) segs q
 pub HasRoom-blocks : (segs : List Bytes) (q : ℕ) → IsLast segs q → HasRoom (tally_of []) (sizes_back segs q)
 HasRoom-blocks segs q h =
     let heads = chain-heads segs 0 q (blocks_from segs q) h.chain in
-    let few = h.segments.few in
     let count = from-most segs q in
     let long = length-map (blocks_from segs q) (λ (b : Block ℕ). b.size) in
     let most : All (λ n. n ≤ 33554432) (sizes_back segs q) =
     All-map (λ (n : ℕ). n ≤ 33554432) (λ (b : Block ℕ). b.size) (blocks_from segs q)
     (λ k d lt.
     let b : Block ℕ = get_or (blocks_from segs q) k d in
-    let within = (heads k d lt).within in
-    omega (arith, within, bytes_of_number-most b.seg segs h.segments.legal, span-least b.size)) in
-    let all = sizes-most 33554432 (sizes_back segs q) most in
-    record { count = omega (arith, few, count, long); bytes = omega (arith, all, few, count, long) }
-
-pub HasRoom-sizes : (segs : List Bytes) → AreSegments segs → HasRoom (tally_of []) (map (λ s. s.1) (map pair_of segs))
-HasRoom-sizes segs h =
-    let few = h.few in
-    let most : All (λ n. n ≤ 33554432) (map (λ (s : ℕ × ℕ). s.1) (map pair_of segs)) =
-    All-map (λ (n : ℕ). n ≤ 33554432) (λ (s : ℕ × ℕ). s.1) (map pair_of segs) (All-map (λ (s : ℕ × ℕ). s.1 ≤ 33554432) pair_of segs (λ k d lt. (h.legal k d lt).size.most)) in
-    let all = sizes-most 33554432 (map (λ (s : ℕ × ℕ). s.1) (map pair_of segs)) most in
-    let long = length-map (map pair_of segs) (λ (s : ℕ × ℕ). s.1) ∙ length-map segs pair_of in
-    record { count = omega (arith, few, long); bytes = omega (arith, all, few, long) }
+    omega (arith, (heads k d lt).within, bytes_of_number-most b.seg segs h.segments.legal, span-least b.size)) in
+    record { count = omega (arith, h.segments.few, count, long); bytes = omega (arith, sizes-most 33554432 (sizes_back segs q) most, h.segments.few, count, long) }
 
 -- the sizes of the gaps of a segment up to an offset
 abbrev pub gaps_back : List Bytes → ℕ → ℕ → ℕ → List ℕ

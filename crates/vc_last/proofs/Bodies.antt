@@ -87,13 +87,12 @@ module _ (o s : List Bytes) (a k : ℕ) (src : List ℕ) where
 
     clear-either : (c : Block ℕ) → 32 ≤ c.off → (c ≡ t) ⊎ ((EndsFirst c t) ⊎ (EndsFirst t c)) → IsClear c
     clear-either c low u other seg =
-        let first = head.first in
         ⊎_elim
         (λ (e : c ≡ t). let yes : is_at (place_of a) c ≡ true = here c e in let both : true ≡ false = sym yes ∙ other in absurd (cc))
         (λ v.
         ⊎_elim
-        (λ (e : EndsFirst c t). let le = e seg in inr (omega (arith, le, low, first, span-least c.size)))
-        (λ (e : EndsFirst t c). let le = e (sym seg) in inl (omega (arith, le, low, first, fits, span-least (t).size)))
+        (λ (e : EndsFirst c t). let le = e seg in inr (omega (arith, le, low, head.first, span-least c.size)))
+        (λ (e : EndsFirst t c). let le = e (sym seg) in inl (omega (arith, le, low, head.first, fits, span-least (t).size)))
         v)
         u
       where

@@ -5,7 +5,7 @@ use Rattle.vc_seg.specs.Segment.{AreSegments, Bytes}
 use Rattle.vc_extent.specs.Tiling.{index_from}
 use Rattle.vc_layouts.proofs.Lists.{AllPairs-nil}
 use Rattle.vc_last.specs.Allocation.{EndsFirst}
-use Rattle.vc_last.specs.Head.{HasHead, before_of, block_of}
+use Rattle.vc_last.specs.Head.{HasHead, HasHeadAt, before_of, block_of}
 use Rattle.vc_last.specs.Chain.{IsChain, IsLast, IsLastOf, LiesLower, blocks_back, blocks_from, most_blocks, rank}
 use Rattle.vc_last.proofs.Lists.{AllPairs-front, snoc}
 
@@ -142,6 +142,9 @@ latest-of segs q (c ∷ cs) some h =
 
 pub latest-some : (segs : List Bytes) (q : ℕ) → q ≢ 0 → IsLast segs q → HasLatest segs q
 latest-some segs q some h = latest-of segs q (blocks_from segs q) some h
+
+pub latest-head : (segs : List Bytes) (q : ℕ) → q ≢ 0 → IsLast segs q → HasHeadAt segs q
+latest-head segs q some h = record { segments = h.segments; head = (latest-some segs q some h).head }
 
 pub latest-none : (segs : List Bytes) → blocks_from segs 0 ≡ []
 unfolding blocks_from

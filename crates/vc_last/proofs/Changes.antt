@@ -41,16 +41,13 @@ module _ (o : List Bytes) (q : ℕ) (h : IsLast o q) (some : q ≢ 0) where
     sized-place =
         let first = l.head.first in
         let u = usable-any (footprint (sized_block size (block_of o q))) (map pair_of o) can in
-        let end = u.4.2 in
         let heads = chain-heads o 0 (before_of o q) (blocks_from o (before_of o q)) l.kept.chain in
         record {
           behind = λ k d lt e.
-              let le = behind-latest k d lt e in
-              let low = (heads k d lt).first in
-              omega (arith, le, low, first);
+              omega (arith, behind-latest k d lt e, (heads k d lt).first, first);
           first = first;
           multiple = omega arith;
-          inside = (u.0, u.1, u.2, u.3, (u.4.0, omega (arith, end, first)));
+          inside = (u.0, u.1, u.2, u.3, (u.4.0, omega (arith, u.4.2, first)));
         }
 
     module _ (stays : StaysBut (place_of q).0 ((place_of q).1 - 16) ((place_of q).1 + size) o s) (laid : LiesThere s (before_of o q) (sized_block size (block_of o q))) where
@@ -121,13 +118,11 @@ module _ (o s : List Bytes) (a q : ℕ) (h : IsLast o q) (some : q ≢ 0) (befor
 
   relinked : IsLastOf s q (blocks_from o (before_of o a) ++ block_of o q ∷ [])
   relinked =
-      let first = z.head.first in
       let heads = chain-heads o 0 (before_of o a) (blocks_from o (before_of o a)) m.kept.chain in
       let clear : All (LiesClear (place_of q).0 ((place_of q).1 - 8) ((place_of q).1 - 4)) (blocks_from o (before_of o a)) =
       λ k d lt e.
-      let le = behind k d lt e in
       let low = (heads k d lt).first in
-      inr (omega (arith, le, low, first, span-least (get_or (blocks_from o (before_of o a)) k d).size)) in
+      inr (omega (arith, behind k d lt e, low, z.head.first, span-least (get_or (blocks_from o (before_of o a)) k d).size)) in
       let rest : IsLastOf s (before_of o a) (blocks_from o (before_of o a)) = last-stays (place_of q).0 ((place_of q).1 - 8) ((place_of q).1 - 4) o s stays (before_of o a) (blocks_from o (before_of o a)) m.kept clear in
       let same = rank-same (place_of q).0 ((place_of q).1 - 8) ((place_of q).1 - 4) o s stays in
       let up : All (λ c. LiesLower s c (block_of o q)) (blocks_from o (before_of o a)) =

@@ -29,8 +29,7 @@ any-bytes n to (s ∷ ss) some le =
     (λ (e : s.number ≡ n). let own : to ≤ length s.bytes = rw (eq-eqb s.number n e) at le in (0, pair_of s, omega arith, refl, (sym e, own)))
     (λ (e : s.number ≡ n → ⊥).
     let rest = any-bytes n to ss some (rw (ne_eqb s.number n e) at le) in
-    let within = rest.2 in
-    (suc rest.0, rest.1, omega (arith, within), rest.3, rest.4))
+    (suc rest.0, rest.1, omega (arith, rest.2), rest.3, rest.4))
     (cases_eq s.number n)
 
 pub bytes-any : (n to : ℕ) (segs : List Bytes) → AllPairs Apart segs → Any (λ s. (n ≡ s.0) × (to ≤ s.1)) (map pair_of segs) → to ≤ length (bytes_of_number n segs)
@@ -53,10 +52,8 @@ row-of segs q bs h =
       usable = λ k d lt.
           let b : Block ℕ = get_or bs k d in
           let l : HasHead segs b = heads k d lt in
-          let first = l.first in
-          let u = any-bytes b.seg (b.off + span b.size) segs (omega (arith, first)) l.within in
-          let end = u.4.1 in
-          (u.0, u.1, u.2, u.3, (u.4.0, omega (arith, first), omega (arith, first, end)));
+          let u = any-bytes b.seg (b.off + span b.size) segs (omega (arith, l.first)) l.within in
+          (u.0, u.1, u.2, u.3, (u.4.0, omega (arith, l.first), omega (arith, l.first, u.4.1)));
       exact = λ k d lt. head-exact segs (get_or bs k d) (heads k d lt);
       numbered = HaveOwnNumbers-segments segs h.segments;
     }
@@ -126,19 +123,16 @@ module _ (o s : List Bytes) (q : ℕ) (bs : List (Block ℕ)) (b : Block ℕ) (h
   place-exact : place_of (address_of b) ≡ (b.seg, b.off)
   place-exact =
       let most = bytes_of_number-most b.seg o h.segments.legal in
-      let multiple = p.multiple in
       let within = place-within in
       let pair : ℕ → ℕ → ℕ × ℕ = λ m n. (m, n) in
       let a : ℕ = address_of b in
-      let number : address_of b / 1048576 ≡ b.seg = omega (arith, most, within, some, multiple) in
-      let offset : address_of b % 1048576 * 32 ≡ b.off = omega (arith, most, within, some, multiple) in
+      let number : address_of b / 1048576 ≡ b.seg = omega (arith, most, within, some, p.multiple) in
+      let offset : address_of b % 1048576 * 32 ≡ b.off = omega (arith, most, within, some, p.multiple) in
       ap (λ m. pair m (address_of b % 1048576 * 32)) number ∙ ap (pair b.seg) offset
 
   place-clear : All (LiesClear b.seg (b.off - 16) (b.off + b.size)) bs
   place-clear = λ k d lt e.
-      let before = p.behind k d lt e in
-      let first = p.first in
-      inr (omega (arith, before, first, span-least (get_or bs k d).size))
+      inr (omega (arith, p.behind k d lt e, p.first, span-least (get_or bs k d).size))
 
   pub put-last : StaysBut b.seg (b.off - 16) (b.off + b.size) o s → LiesThere s q b → All (λ c. LiesLower o c b) bs → IsLastOf s (address_of b) (bs ++ b ∷ [])
   put-last stays laid lower =
@@ -190,8 +184,7 @@ lower-newest segs q size bs b s h new seg p =
     let low : c.off < 33554432 = let e = ap (λ (p : ℕ × ℕ). p.1) (head-exact segs c (heads k d lt)) in omega (arith, e) in
     ⊎_elim
     (λ (e : c.seg ≡ b.seg).
-    let before = p.behind k d lt e in
-    omega (arith, before, span-least c.size, ap (λ m. index_from 0 m segs) e))
+    omega (arith, p.behind k d lt e, span-least c.size, ap (λ m. index_from 0 m segs) e))
     (λ (e : c.seg ≡ b.seg → ⊥).
     let most : index_from 0 c.seg segs ≤ 0 + length front = subst (λ (xs : List Bytes). index_from 0 c.seg xs ≤ 0 + length front) (sym cut.2) (index-front 0 c.seg front t (λ z. e (sym z ∙ number))) in
     omega (arith, most, end, low))

@@ -125,8 +125,7 @@ freed-split front b a i exact elsewhere lt here =
     let both : true ≡ false = sym (at-own (place_of a) (get_or front i b) place) ∙ elsewhere i b within in
     absurd (cc))
     (λ (t : ltb i (length front) ≡ false).
-    let le = ltb-false i (length front) t in
-    let last : i ≡ length front = omega (arith, le, lt, length_push front b) in
+    let last : i ≡ length front = omega (arith, ltb-false i (length front) t, lt, length_push front b) in
     sym (ap (remove (front ++ b ∷ [])) last ∙ remove-last front b))
     (cases_Bool (ltb i (length front)))
 

@@ -168,5 +168,4 @@ module _ (o : List Bytes) (q : ℕ) (bs : List (Block ℕ)) (h : IsLastOf o q bs
     where
       index-less : (x y : Block ℕ) → HasHead o x → HasHead o y → rank o x < rank o y → (x.seg ≡ y.seg → ⊥) → y.off < 33554432 → index_from 0 x.seg o < index_from 0 y.seg o
       index-less x y hx hy low other far =
-          let apart = index-apart 0 x.seg y.seg o (head-bytes o x hx) (head-bytes o y hy) other in
-          omega (arith, low, apart, far)
+          omega (arith, low, index-apart 0 x.seg y.seg o (head-bytes o x hx) (head-bytes o y hy) other, far)

@@ -20,10 +20,9 @@ AllPairs-last {A = A} R (y ∷ ys) x h =
 pub AllPairs-front : {A : Type 0} (R : A → A → Type 0) (xs : List A) (x : A) → AllPairs R (xs ++ x ∷ []) → AllPairs R xs
 AllPairs-front R xs x h =
     λ i j d lt within.
-    let all = length_push xs x in
     let one = get_or_append_left xs (x ∷ []) d i (omega (arith, lt, within)) in
     let two = get_or_append_left xs (x ∷ []) d j within in
-    subst (λ y. R y (get_or xs j d)) one (subst (R (get_or (xs ++ x ∷ []) i d)) two (h i j d lt (omega (arith, within, all))))
+    subst (λ y. R y (get_or xs j d)) one (subst (R (get_or (xs ++ x ∷ []) i d)) two (h i j d lt (omega (arith, within, length_push xs x))))
 
 -- a list with an item is a last one behind the others
 pub snoc : {A : Type 0} (y : A) (ys : List A) → (front : List A) × (x : A) × (y ∷ ys ≡ front ++ x ∷ [])

@@ -7,7 +7,7 @@ use Rattle.vc_seg.specs.declared.fault.RegionFault.{RegionFault}
 use Rattle.vc_seg.specs.declared.fault.RegionFault.TheVariants as code
 use Rattle.vc_last.specs.Allocation.{is_latest, is_one_at}
 use Rattle.vc_last.specs.Chain.{IsLast, blocks_from}
-use Rattle.vc_last.specs.Head.{before_of, block_of}
+use Rattle.vc_last.specs.Head.{HasHeadAt, before_of, block_of}
 use Rattle.vc_last.specs.Read.{layout_by}
 use Rattle.vc_last.proofs.Lists.{get_or-last, last_of-push}
 use Rattle.vc_last.proofs.Allocs.{IsNew, new-among, new-found, old-among}
@@ -52,6 +52,9 @@ among-from o q a live = subst (λ (r : Layout ℕ). HasBlock r.blocks a) (layout
 
 pub found-by : (o : List Bytes) (q a : ℕ) → IsLast o q → HasBlock (layout_by o q).blocks a → StandsAt o (blocks_from o q) a
 found-by o q a h live = stands-at o q (blocks_from o q) a h (among-from o q a live)
+
+pub found-head : (o : List Bytes) (q a : ℕ) → IsLast o q → HasBlock (layout_by o q).blocks a → HasHeadAt o a
+found-head o q a h live = record { segments = h.segments; head = (found-by o q a h live).head }
 
 pub found-layout : (o : List Bytes) (q a : ℕ) → IsLast o q → HasBlock (layout_by o q).blocks a → find_block (place_of a) (layout_by o q).blocks ≡ Some (block_of o a)
 found-layout o q a h live = ap (λ (r : Layout ℕ). find_block (place_of a) r.blocks) (layout-from o q) ∙ (found-by o q a h live).found

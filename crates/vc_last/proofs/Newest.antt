@@ -29,8 +29,7 @@ ends-own number m (c ∷ cs) b own low h =
     let rest = All-tail P c cs h in
     ⊎_elim
     (λ (u : c.seg ≡ number).
-    let here = All-head P c cs h u in
-    rw (eq-eqb c.seg number u) (ends-own number (max m (c.off + span c.size)) cs b own (omega (arith, low, here)) rest))
+    rw (eq-eqb c.seg number u) (ends-own number (max m (c.off + span c.size)) cs b own (omega (arith, low, All-head P c cs h u)) rest))
     (λ (u : c.seg ≡ number → ⊥). rw (ne_eqb c.seg number u) (ends-own number m cs b own low rest))
     (cases_eq c.seg number)
 
@@ -66,15 +65,11 @@ module _ (segs : List Bytes) (q n : ℕ) (h : IsLast segs q) (new : option_map (
 
     pub next-own : (place_of q).0 ≡ n → (place_of q).1 + span (block_of segs q).size ≡ next_offset n (layout_by segs q).blocks
     next-own own =
-        let first = l.head.first in
-        let kept = l.kept in
-        let heads = chain-heads segs 0 (before_of segs q) (blocks_from segs (before_of segs q)) kept.chain in
+        let heads = chain-heads segs 0 (before_of segs q) (blocks_from segs (before_of segs q)) l.kept.chain in
         sym (ap (next_offset n) blocks
-        ∙ ends-own n 32 (blocks_from segs (before_of segs q)) (block_of segs q) own first
+        ∙ ends-own n 32 (blocks_from segs (before_of segs q)) (block_of segs q) own l.head.first
         (λ k d lt e.
-        let le = behind k d lt (e ∙ sym own) in
-        let low = (heads k d lt).first in
-        omega (arith, le, low, first)))
+        omega (arith, behind k d lt (e ∙ sym own), (heads k d lt).first, l.head.first)))
 
     pub next-other : (place_of q).0 ≢ n → 32 ≡ next_offset n (layout_by segs q).blocks
     next-other other =

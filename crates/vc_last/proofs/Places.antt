@@ -119,10 +119,7 @@ module _ (r : Layout ℕ) (size : ℕ) (at : ℕ × ℕ) (some : 1 ≤ size) (p 
     -- each block there ends before it
     pub place-behind : All (λ c. EndsFirst c (zeros {L = ℕ} 0 size at)) r.blocks
     place-behind = λ k d lt e.
-        let before = p.behind k d lt e in
-        let head = (h.usable k d lt).4.1 in
-        let first = p.first in
-        omega (arith, before, first, head)
+        omega (arith, p.behind k d lt e, p.first, (h.usable k d lt).4.1)
 
     pub place-fresh : (a : ℕ) → place_of a ≡ at → ¬ HasBlock r.blocks a
     place-fresh a e = none-there r.blocks a h.exact (subst (λ (q : ℕ × ℕ). AreElsewhere q r.blocks) (sym e) place-elsewhere)

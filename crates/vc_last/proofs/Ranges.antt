@@ -20,15 +20,12 @@ module _ (o : List Bytes) (q a off len : ℕ) (h : IsLast o q) (live : HasBlock 
   pub range-in : RangeIn o a off len
   range-in =
       let head = (found-by o q a h live).head in
-      let first = head.first in
-      let end = head.within in
-      let most = bytes_of_number-most (place_of a).0 o h.segments.legal in
       let inside : off + len ≤ (block_of o a).size = subst (λ (x : Option (Block ℕ)). IfSome x (λ b. off + len ≤ b.size)) (found-layout o q a h live) range in
       record {
         fits = inside;
-        there = omega (arith, end, first);
-        within = omega (arith, end, inside, span-least (block_of o a).size);
-        below = omega (arith, end, inside, most, span-least (block_of o a).size);
+        there = omega (arith, head.within, head.first);
+        within = omega (arith, head.within, inside, span-least (block_of o a).size);
+        below = omega (arith, head.within, inside, bytes_of_number-most (place_of a).0 o h.segments.legal, span-least (block_of o a).size);
       }
 
   pub read-in : option_map (λ b. take len (drop off b.bytes)) (find_block (place_of a) (layout_by o q).blocks) ≡ Some (take len (drop ((place_of a).1 + off) (bytes_at o a)))

@@ -1,5 +1,5 @@
 -- Tallies of gaps, taken on from where a scan stands, and the room for them.
-use Rattle.vc_base.proofs.Common.{◌≡◌, ℕ, zero, suc, ◌+◌, ◌-◌, ◌*◌, ◌<◌, ◌≤◌, Bool, true, false, eqb, ltb, ◌≢◌, List, [], ◌∷◌, ◌++◌, map, length, get_or, drop, All, sum, filter, Any, AllPairs, sym, refl, ap, ◌∙◌, subst, ⊎_elim, arith, ltb-false, ltb-true, lt-ltb, eqb-true, cases_Bool, eqb-false, All-append, All-cons, All-filter, All-head, All-map, All-nil, All-tail, filter_passes, AllPairs-filter, sum_by-append, sum_by-cons, get_or_default, length-map, map-append, Run, bytes_of, gaps, gaps_between, run_of, Block, Layout, footprint, footprints, put_by}
+use Rattle.vc_base.proofs.Common.{◌≡◌, ℕ, zero, suc, ◌+◌, ◌-◌, ◌*◌, ◌<◌, ◌≤◌, Bool, true, false, eqb, ltb, List, [], ◌∷◌, ◌++◌, map, length, get_or, drop, All, sum, filter, AllPairs, sym, refl, ap, ◌∙◌, subst, ⊎_elim, arith, ltb-true, lt-ltb, eqb-true, cases_Bool, All-append, All-cons, All-filter, All-head, All-map, All-nil, All-tail, filter_passes, AllPairs-filter, sum_by-append, sum_by-cons, length-map, map-append, Run, bytes_of, gaps, gaps_between, run_of, Block, Layout, footprint, footprints, put_by}
 use Rattle.vc_model.specs.Gap.{runs_in}
 use Rattle.vc_model.specs.Numbers.{gap_sizes}
 use Rattle.vc_model.specs.Order.{sorted_by}
@@ -7,6 +7,7 @@ use Rattle.vc_model.proofs.Pairs.{AllPairs-head, AllPairs-tail}
 use Rattle.vc_seg.specs.Segment.{AreSegments, Bytes, pair_of}
 use Rattle.vc_layouts.specs.Tally.{HasRoom, tally_of}
 use Rattle.vc_layouts.proofs.Lists.{AllPairs-map}
+use Rattle.vc_layouts.proofs.Segments.{only-one}
 use Rattle.vc_last.specs.Allocation.{AreAllocated}
 use Rattle.vc_last.specs.Gaps.{gaps_left, gaps_left_in}
 
@@ -32,8 +33,7 @@ length-le-sum [] h = omega arith
 length-le-sum (n ∷ ns) h =
     let P : ℕ → Type 0 = λ m. 1 ≤ m in
     let some : 1 ≤ n = All-head P n ns h in
-    let rest = length-le-sum ns (All-tail P n ns h) in
-    omega (arith, sum-cons n ns, some, rest)
+    omega (arith, sum-cons n ns, some, length-le-sum ns (All-tail P n ns h))
 
 -- each gap has a byte
 abbrev HasByte : Run → Type 0
@@ -74,33 +74,11 @@ gaps_between-most : (n end from : ℕ) (fs : List Run) → All (IsRunOf end) fs 
 gaps_between-most n end from [] of behind pairs le = run_of-most n from end
 gaps_between-most n end from (f ∷ fs) of behind pairs le =
     let here = All-head (IsRunOf end) f fs of in
-    let order = here.order in
-    let before = here.before in
     let low : from ≤ f.from = All-head (λ (r : Run). from ≤ r.from) f fs behind in
     let first = run_of-most n from f.from in
-    let more = gaps_between-most n end f.to fs (All-tail (IsRunOf end) f fs of) (AllPairs-head Ends f fs pairs) (AllPairs-tail Ends f fs pairs) before in
+    let more = gaps_between-most n end f.to fs (All-tail (IsRunOf end) f fs of) (AllPairs-head Ends f fs pairs) (AllPairs-tail Ends f fs pairs) here.before in
     rw (map-append bytes_of (run_of n from f.from) (gaps_between n f.to end fs))
-    (omega (arith, sum-append (map bytes_of (run_of n from f.from)) (map bytes_of (gaps_between n f.to end fs)), first, more, low, order, before))
-
--- of segments with numbers of their own, one alone has a number
-only-one : (ss : List (ℕ × ℕ)) (n : ℕ) (P : ℕ × ℕ → Type 0) → AllPairs (λ s t. s.0 ≢ t.0) ss → Any (λ s. (n ≡ s.0) × P s) ss → All (λ s. n ≡ s.0 → P s) ss
-only-one ss n P h any = λ k d lt own.
-    let q : ℕ × ℕ = get_or ss k d in
-    let i : ℕ = any.0 in
-    let there : get_or ss i any.1 ≡ any.1 = any.3 in
-    ⊎_elim
-    (λ (t : eqb i k ≡ true).
-    let same : get_or ss k any.1 ≡ any.1 = subst (λ (j : ℕ). get_or ss j any.1 ≡ any.1) (eqb-true i k t) there in
-    let at : q ≡ any.1 = get_or_default ss k d any.1 lt ∙ same in
-    subst P (sym at) any.4.1)
-    (λ (t : eqb i k ≡ false).
-    let other = eqb-false i k t in
-    let mine : (get_or ss i d).0 ≡ n = ap (λ (x : ℕ × ℕ). x.0) (get_or_default ss i d any.1 any.2 ∙ there) ∙ sym any.4.0 in
-    ⊎_elim
-    (λ (u : ltb i k ≡ true). absurd (h i k d (ltb-true i k u) lt (mine ∙ own)))
-    (λ (u : ltb i k ≡ false). let le = ltb-false i k u in absurd (h k i d (omega (arith, le, other)) any.2 (sym own ∙ sym mine)))
-    (cases_Bool (ltb i k)))
-    (cases_Bool (eqb i k))
+    (omega (arith, sum-append (map bytes_of (run_of n from f.from)) (map bytes_of (gaps_between n f.to end fs)), first, more, low, here.order, here.before))
 
 module _ (r : Layout ℕ) (h : AreAllocated r) where
   -- a footprint lies in the segment of its number
@@ -114,8 +92,7 @@ module _ (r : Layout ℕ) (h : AreAllocated r) where
       (λ i e within.
       let b : Block ℕ = get_or r.blocks i e in
       let u = h.usable i e within in
-      let first = u.4.1 in
-      (first, omega arith, only-one r.segments b.seg (λ q. (footprint b).to + 16 ≤ q.1) h.numbered.distinct (u.0, u.1, u.2, u.3, (u.4.0, u.4.2)) k d lt))
+      (u.4.1, omega (arith, u.4.1), λ own. only-one r.segments b.seg (λ q. (footprint b).to + 16 ≤ q.1) h.numbered.distinct (u.0, u.1, u.2, u.3, (sym u.4.0, u.4.2)) k d lt (sym own)))
 
   -- the footprints of one segment
   abbrev own : ℕ → List Run
@@ -138,8 +115,7 @@ module _ (r : Layout ℕ) (h : AreAllocated r) where
       let f : Run = get_or (own s.0) k d in
       let seg : f.seg ≡ s.0 = eqb-true f.seg s.0 (filter_passes test (footprints r.blocks) k d lt) in
       let lies = All-filter test (InOwn s) (footprints r.blocks) all k d lt in
-      let end = lies.2 seg in
-      record { first = lies.0; order = lies.1; before = omega (arith, end) }
+      record { first = lies.0; order = lies.1; before = omega (arith, lies.2 seg) }
 
   -- the gaps of a segment have no more bytes than it
   gaps_in-most : (s : ℕ × ℕ) → 64 ≤ s.1 → All (InOwn s) (footprints r.blocks) → sum (map bytes_of (gaps_left_in (footprints r.blocks) s)) ≤ s.1
@@ -170,8 +146,7 @@ module _ (r : Layout ℕ) (h : AreAllocated r) where
   HasRoom-gaps segs legal pairs =
       let least : All (λ (s : ℕ × ℕ). 64 ≤ s.1) (map pair_of segs) = All-map (λ (s : ℕ × ℕ). 64 ≤ s.1) pair_of segs (λ k d lt. (legal.legal k d lt).size.least) in
       let most : All (λ (s : ℕ × ℕ). s.1 ≤ 33554432) (map pair_of segs) = All-map (λ (s : ℕ × ℕ). s.1 ≤ 33554432) pair_of segs (λ k d lt. (legal.legal k d lt).size.most) in
-      let few = legal.few in
-      gaps-room (map pair_of segs) pairs least most (omega (arith, few, length-map segs pair_of))
+      gaps-room (map pair_of segs) pairs least most (omega (arith, legal.few, length-map segs pair_of))
 
   -- the footprints of a segment stand by their first bytes
   own-sorted : (n : ℕ) → runs_in n (footprints r.blocks) ≡ own n

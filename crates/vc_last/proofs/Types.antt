@@ -1,21 +1,11 @@
 -- What the type keeps is a proposition.
-use Rattle.vc_base.proofs.Common.{ℕ, List, [], ◌∷◌, le_prop, ∥∥₁_elim, ∥∥₁_map, ℕ_set, IsSegmentSize, Block, address_of, IsSound}
-use mathlib.Core.List.{is_set}
-use Rattle.vc_base.proofs.Sets.{bytes-set, block-set}
-use Rattle.vc_seg.specs.Segment.{AreSegments, Bytes, IsRegionSegment}
+use Rattle.vc_base.proofs.Common.{ℕ, List, [], ◌∷◌, le_prop, ∥∥₁_elim, ∥∥₁_map, ℕ_set, Block, address_of, IsSound}
+use Rattle.vc_base.proofs.Sets.{block-set}
+use Rattle.vc_seg.specs.Segment.{Bytes}
 use Rattle.vc_last.specs.Head.{HasHead}
 use Rattle.vc_last.specs.Chain.{IsChain, IsLast, IsLastOf}
 use Rattle.vc_last.specs.Read.{layout_by}
 use Rattle.vc_last.proofs.Kept.{sound-by}
-
-size-prop : (n : ℕ) → IsProp (IsSegmentSize n)
-size-prop n = hlevel (ℕ_set, le_prop)
-
-segment-prop : (s : Bytes) → IsProp (IsRegionSegment s)
-segment-prop s = hlevel (size-prop, le_prop)
-
-segments-prop : (segs : List Bytes) → IsProp (AreSegments segs)
-segments-prop segs = hlevel (segment-prop, le_prop, ℕ_set)
 
 head-prop : (segs : List Bytes) (b : Block ℕ) → IsProp (HasHead segs b)
 head-prop segs b = hlevel (ℕ_set, le_prop, block-set)
@@ -25,7 +15,7 @@ chain-prop segs p q [] = hlevel (ℕ_set)
 chain-prop segs p q (b ∷ bs) = let rest = chain-prop segs (address_of b) q bs in hlevel (head-prop, ℕ_set, rest)
 
 pub last-prop : (segs : List Bytes) (q : ℕ) (bs : List (Block ℕ)) → IsProp (IsLastOf segs q bs)
-last-prop segs q bs = hlevel (segments-prop, chain-prop, le_prop)
+last-prop segs q bs = hlevel (chain-prop, ℕ_set, le_prop)
 
 -- so it is had
 pub have : (segs : List Bytes) (q : ℕ) → ∥ IsLast segs q ∥₁ → IsLast segs q

@@ -11,11 +11,13 @@ use Rattle.vc_last.proofs.Changes.{behind-latest}
 use Rattle.vc_last.proofs.UnorderedFolds.{find-last-none, find-last-one, least-last}
 use Rattle.vc_last.proofs.Kept.{layout-from}
 
--- the walk comes to its end
-pub shorter : (segs : List Bytes) (q : ℕ) → IsLast segs q → q ≢ 0 → length (blocks_from segs (before_of segs q)) < length (blocks_from segs q)
-shorter segs q h some =
-    let l = latest-some segs q some h in
-    omega (arith, ap length l.blocks, length_push (blocks_from segs (before_of segs q)) (block_of segs q))
+-- a step back: less blocks are left, and the same is true of them
+module _ (segs : List Bytes) (q next : ℕ) (h : IsLast segs q) (some : q ≢ 0) (step : next ≡ before_of segs q) where
+  pub shorter : length (blocks_from segs next) < length (blocks_from segs q)
+  shorter = rw step (omega (arith, ap length (latest-some segs q some h).blocks, length_push (blocks_from segs (before_of segs q)) (block_of segs q)))
+
+  pub rest-kept : IsLast segs next
+  rest-kept = subst (IsLast segs) (sym step) (latest-some segs q some h).kept
 
 -- the addresses from one back
 abbrev pub addresses : List Bytes → ℕ → List ℕ
@@ -55,7 +57,6 @@ module _ (segs : List Bytes) (q seg off : ℕ) (h : IsLast segs q) (some : q ≢
       let b : Block ℕ = block_of segs q in
       let c : Block ℕ = get_or (blocks_from segs (before_of segs q)) k d in
       let kept = (latest-some segs q some h).kept in
-      let first = (latest-some segs q some h).head.first in
       let low = (chain-heads segs 0 (before_of segs q) (blocks_from segs (before_of segs q)) kept.chain k d lt).first in
       let mine = and_parts (eqb b.seg seg) _ hit in
       let from = and_parts (leb b.off off) (ltb off (b.off + b.size)) mine.1 in
@@ -64,7 +65,7 @@ module _ (segs : List Bytes) (q seg off : ℕ) (h : IsLast segs q) (some : q ≢
       let own = and_parts (eqb c.seg seg) _ t in
       let to = and_parts (leb c.off off) (ltb off (c.off + c.size)) own.1 in
       let le = behind-latest segs q h some k d lt (eqb-true c.seg seg own.0 ∙ sym (eqb-true b.seg seg mine.0)) in
-      absurd (omega (arith, le, low, first, leb-true b.off off from.0, ltb-true off (c.off + c.size) to.1, span-least c.size)))
+      absurd (omega (arith, le, low, (latest-some segs q some h).head.first, leb-true b.off off from.0, ltb-true off (c.off + c.size) to.1, span-least c.size)))
       (λ (t : holds_byte (seg, off) c ≡ false). t)
       (cases_Bool (holds_byte (seg, off) c))
 
@@ -86,8 +87,7 @@ find-Contains p (y ∷ ys) x e =
     (λ (t : p y ≡ false).
     let rest : find p ys ≡ Some x = rw t at e in
     let later = find-Contains p ys x rest in
-    let within = later.1 in
-    (suc later.0, omega (arith, within), later.2))
+    (suc later.0, omega (arith, later.1), later.2))
     (cases_Bool (p y))
 
 -- a block that stands back from the latest is one of the region

@@ -1,5 +1,5 @@
 -- The blocks of a last region: the latest, and from each head on the one allocated before it.
-use Rattle.std.specs.Prelude.{◌≡◌, ℕ, ◌+◌, ◌*◌, ◌/◌, ◌<◌, zero, suc, List, [], ◌∷◌, ◌++◌, AllPairs, length, ◌==◌, if◌then◌else◌}
+use Rattle.std.specs.Prelude.{◌≡◌, ℕ, ◌+◌, ◌*◌, ◌/◌, ◌<◌, ◌≤◌, zero, suc, List, [], ◌∷◌, ◌++◌, AllPairs, Vec, length, vec_capacity, ◌==◌, if◌then◌else◌}
 use Rattle.vc_model.specs.Layout.{Block, address_of}
 use Rattle.vc_seg.specs.Segment.{AreSegments, Bytes}
 use Rattle.vc_extent.specs.Tiling.{index_from}
@@ -44,3 +44,8 @@ pub record IsLastOf (segs : List Bytes) (latest : ℕ) (blocks : List (Block ℕ
 
 abbrev pub IsLast : List Bytes → ℕ → Type 0
 IsLast segs latest = IsLastOf segs latest (blocks_from segs latest)
+
+-- the same of segments in a list that has room for each one that can be asked for
+pub record IsReady {Z : Type 0} (segs : Vec Bytes Z) (latest : ℕ) : Type 0 where
+  pub last : IsLast segs.items latest
+  pub room : 1023 ≤ vec_capacity segs

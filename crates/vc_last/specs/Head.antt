@@ -5,7 +5,7 @@ use Rattle.vc_model.specs.Addr.{place_of}
 use Rattle.vc_model.specs.Layout.{Block, address_of, footprint}
 use Rattle.vc_model.specs.Resize.{is_usable, sized_block}
 use Rattle.vc_model.specs.Segments.{span}
-use Rattle.vc_seg.specs.Segment.{Bytes, pair_of}
+use Rattle.vc_seg.specs.Segment.{AreSegments, Bytes, pair_of}
 use Rattle.vc_seg.specs.Memory.{bytes_of_number}
 use Rattle.vc_seg.specs.Field.{field_at}
 
@@ -43,6 +43,11 @@ pub record HasHead (segs : List Bytes) (b : Block ℕ) : Type 0 where
   pub within : b.off + span b.size ≤ length (bytes_of_number b.seg segs)
   pub zero : field_at (b.off - 4) (bytes_of_number b.seg segs) ≡ 0
   pub is : b ≡ block_of segs (address_of b)
+
+-- segments with numbers of their own, in which the block at an address lies behind its head
+pub record HasHeadAt (segs : List Bytes) (a : ℕ) : Type 0 where
+  pub segments : AreSegments segs
+  pub head : HasHead segs (block_of segs a)
 
 -- a head without its size stays, that of the block at an offset of a segment's bytes
 pub record HeadStays (off : ℕ) (old new : List ℕ) : Type 0 where

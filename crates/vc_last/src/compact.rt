@@ -1,7 +1,7 @@
-ghost use Rattle.std.specs.Prelude.{◌≡◌, ℕ, ◌<◌, All, false, length, slice_index_or, vec_capacity};
+ghost use Rattle.std.specs.Prelude.{◌≡◌, ℕ, ◌<◌, All, false, length, slice_index_or};
 ghost use Rattle.vc_base.specs.Prelude.{compact_count, compacted_layout, HasOut, TookBack};
 ghost use Rattle.vc_model.specs.Compact.{is_occupied};
-ghost use Rattle.vc_last.specs.Chain.{IsLast, blocks_from};
+ghost use Rattle.vc_last.specs.Chain.{IsLast, IsReady, blocks_from};
 ghost use Rattle.vc_last.specs.Read.{layout_by};
 
 use crate::head::before_at;
@@ -25,10 +25,9 @@ fn mark(segs: &[Segment], latest: Addr, marks: &mut [bool])
 
 // The discipline takes back each segment without a block, in ascending order of number, and they are counted.
 pub(crate) fn compact_in(segs: &mut Vec<Segment>, latest: Addr, disc: &mut Box<dyn SegDisc>) -> u32
-    requires kept { IsLast segs.old.items latest.0 }
+    requires kept { IsReady segs.old latest.0 }
     requires out { HasOut (state disc.old) (layout_by segs.old.items latest.0).segments }
-    ensures kept { IsLast segs.new.items latest.0 }
-    ensures room { vec_capacity segs.new ≡ vec_capacity segs.old }
+    ensures kept { IsReady segs.new latest.0 }
     ensures layout { layout_by segs.new.items latest.0
         ≡ compacted_layout (layout_by segs.old.items latest.0) }
     ensures count { result ≡ compact_count (layout_by segs.old.items latest.0) }

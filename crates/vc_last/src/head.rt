@@ -5,7 +5,7 @@ ghost use Rattle.vc_seg.specs.Segment.{AreSegments};
 ghost use Rattle.vc_seg.specs.Memory.{bytes_of_number};
 ghost use Rattle.vc_seg.specs.Field.{field_at};
 ghost use Rattle.vc_seg.specs.Frame.{StaysOutside};
-ghost use Rattle.vc_last.specs.Head.{HasHead, LiesThere, StaysBut, before_of, block_of, HeadStays};
+ghost use Rattle.vc_last.specs.Head.{HasHeadAt, LiesThere, StaysBut, before_of, block_of, HeadStays};
 
 use crate::range::{bytes_in, place_of_number};
 use vc_base::Addr;
@@ -25,8 +25,7 @@ fn field(segs: &[Segment], number: u32, at: u32) -> u32
 // The size of the block at an address, in bytes.
 #[inline(always)]
 pub(crate) fn size_at(segs: &[Segment], a: Addr) -> u32
-    requires segments { AreSegments segs.now }
-    requires head { HasHead segs.now (block_of segs.now a.0) }
+    requires { HasHeadAt segs.now a.0 }
     ensures value { result ≡ (block_of segs.now a.0).size }
     ensures most { (block_of segs.now a.0).off + result + 16 ≤ 33554432 }
 {
@@ -36,8 +35,7 @@ pub(crate) fn size_at(segs: &[Segment], a: Addr) -> u32
 // The tag of the block at an address.
 #[inline(always)]
 pub(crate) fn tag_at(segs: &[Segment], a: Addr) -> u32
-    requires segments { AreSegments segs.now }
-    requires head { HasHead segs.now (block_of segs.now a.0) }
+    requires { HasHeadAt segs.now a.0 }
     ensures { result ≡ (block_of segs.now a.0).label }
 {
     field(segs, a.seg(), a.off() - 12)
@@ -46,8 +44,7 @@ pub(crate) fn tag_at(segs: &[Segment], a: Addr) -> u32
 // The address of the block that was allocated before the one at an address, and is live. None where there is none.
 #[inline(always)]
 pub(crate) fn before_at(segs: &[Segment], a: Addr) -> Addr
-    requires segments { AreSegments segs.now }
-    requires head { HasHead segs.now (block_of segs.now a.0) }
+    requires { HasHeadAt segs.now a.0 }
     ensures { result.0 ≡ before_of segs.now a.0 }
 {
     Addr(field(segs, a.seg(), a.off() - 8))
@@ -116,8 +113,7 @@ pub(crate) fn lay(segs: &mut [Segment], number: u32, off: u32, size: u32, tag: u
 
 // Gives the block at an address another size where it is. Its first bytes of both sizes stay, and the others are zero.
 pub(crate) fn set_size(segs: &mut [Segment], a: Addr, size: u32)
-    requires segments { AreSegments segs.old }
-    requires head { HasHead segs.old (block_of segs.old a.0) }
+    requires block { HasHeadAt segs.old a.0 }
     requires within { (block_of segs.old a.0).off + size
         ≤ length (bytes_of_number (place_of a.0).0 segs.old) }
     ensures laid { LiesThere segs.new (before_of segs.old a.0) (sized_block size (block_of segs.old a.0)) }
@@ -131,8 +127,7 @@ pub(crate) fn set_size(segs: &mut [Segment], a: Addr, size: u32)
 
 // Makes the head of the block at an address name another one as allocated before it.
 pub(crate) fn set_before(segs: &mut [Segment], a: Addr, before: Addr)
-    requires segments { AreSegments segs.old }
-    requires head { HasHead segs.old (block_of segs.old a.0) }
+    requires { HasHeadAt segs.old a.0 }
     ensures value { before_of segs.new a.0 ≡ before.0 }
     ensures rest { StaysBut (place_of a.0).0 ((place_of a.0).1 - 8) ((place_of a.0).1 - 4)
         segs.old segs.new }

@@ -3,9 +3,9 @@ ghost use Rattle.vc_base.specs.Prelude.{sized_block};
 ghost use Rattle.vc_model.specs.Last.{last_place, newest, next_offset};
 ghost use Rattle.vc_model.specs.Layout.{footprint};
 ghost use Rattle.vc_model.specs.Resize.{is_usable};
-ghost use Rattle.vc_seg.specs.Segment.{AreSegments, pair_of};
+ghost use Rattle.vc_seg.specs.Segment.{pair_of};
 ghost use Rattle.vc_last.specs.Chain.{IsLast};
-ghost use Rattle.vc_last.specs.Head.{HasHead, block_of, has_room};
+ghost use Rattle.vc_last.specs.Head.{HasHeadAt, has_room};
 ghost use Rattle.vc_last.specs.Place.{IsNewest};
 ghost use Rattle.vc_last.specs.Read.{layout_by};
 
@@ -49,8 +49,7 @@ pub(crate) fn place(segs: &[Segment], latest: Addr, size: u32) -> Option<(u32, u
 
 // Whether the block at an address can have a size where it is, if it is the latest.
 pub(crate) fn can_end(segs: &[Segment], a: Addr, size: u32) -> bool
-    requires segments { AreSegments segs.now }
-    requires head { HasHead segs.now (block_of segs.now a.0) }
+    requires block { HasHeadAt segs.now a.0 }
     requires most { size ≤ 16777216 }
     ensures { result ≡ has_room segs.now a.0 size }
 {

@@ -5,7 +5,7 @@ ghost use Rattle.vc_seg.specs.Lend.{IsAsked, IsNoGrant};
 ghost use Rattle.vc_seg.specs.OneBlock.{IsSize};
 ghost use Rattle.vc_seg.specs.Segment.{AreSegments, pair_of};
 ghost use Rattle.vc_last.specs.Call.{IsAlloc, IsLent};
-ghost use Rattle.vc_last.specs.Chain.{IsLast};
+ghost use Rattle.vc_last.specs.Chain.{IsReady};
 ghost use Rattle.vc_last.specs.Place.{IsAt, IsNewest, IsBlockPlace, with_latest};
 ghost use Rattle.vc_last.specs.Read.{layout_by};
 
@@ -17,12 +17,11 @@ use vc_seg::{RegionFault, SegDisc, Segment, lend_next, round_of, rounded_up, spa
 
 // Puts a block of zeros at a place behind those of the newest segment, and answers its address. It is the latest.
 fn put(segs: &mut Vec<Segment>, latest: Addr, seg: u32, off: u32, size: u32, tag: u32) -> Addr
-    requires kept { IsLast segs.old.items latest.0 }
+    requires kept { IsReady segs.old latest.0 }
     requires newest { IsNewest (layout_by segs.old.items latest.0) seg }
     requires place { IsBlockPlace (layout_by segs.old.items latest.0) size (seg, off) }
     requires some { 1 ≤ size }
-    ensures kept { IsLast segs.new.items result.0 }
-    ensures room { vec_capacity segs.new ≡ vec_capacity segs.old }
+    ensures kept { IsReady segs.new result.0 }
     ensures layout { layout_by segs.new.items result.0
         ≡ with_latest (layout_by segs.old.items latest.0) tag size (seg, off) }
     ensures at { IsAt result.0 (seg, off) }
@@ -70,13 +69,11 @@ fn put_in_new(
     size: u32,
     tag: u32,
 ) -> Result<Addr, RegionFault>
-    requires kept { IsLast segs.old.items latest.old.0 }
-    requires room { 1023 ≤ vec_capacity segs.old }
+    requires kept { IsReady segs.old latest.old.0 }
     requires size { IsSize size }
     requires lent { HasOut (state disc.old) (layout_by segs.old.items latest.old.0).segments }
     requires none { last_place (layout_by segs.old.items latest.old.0) size ≡ None }
-    ensures kept { IsLast segs.new.items latest.new.0 }
-    ensures room { vec_capacity segs.new ≡ vec_capacity segs.old }
+    ensures kept { IsReady segs.new latest.new.0 }
     ensures alloc { IsAlloc tag size result (layout_by segs.old.items latest.old.0)
         (layout_by segs.new.items latest.new.0) (state disc.old) (state disc.new) }
     ensures latest { IfOk result (λ a. latest.new.0 ≡ a.0) }
@@ -101,12 +98,10 @@ pub(crate) fn alloc_in(
     size: u32,
     tag: u32,
 ) -> Result<Addr, RegionFault>
-    requires kept { IsLast segs.old.items latest.old.0 }
-    requires room { 1023 ≤ vec_capacity segs.old }
+    requires kept { IsReady segs.old latest.old.0 }
     requires size { IsSize size }
     requires lent { HasOut (state disc.old) (layout_by segs.old.items latest.old.0).segments }
-    ensures kept { IsLast segs.new.items latest.new.0 }
-    ensures room { vec_capacity segs.new ≡ vec_capacity segs.old }
+    ensures kept { IsReady segs.new latest.new.0 }
     ensures alloc { IsAlloc tag size result (layout_by segs.old.items latest.old.0)
         (layout_by segs.new.items latest.new.0) (state disc.old) (state disc.new) }
     ensures latest { IfOk result (λ a. latest.new.0 ≡ a.0) }

@@ -1,4 +1,4 @@
-ghost use Rattle.std.specs.Prelude.{◌≡◌, ◌≢◌, ◌≤◌, false, map, take, true, vec_capacity};
+ghost use Rattle.std.specs.Prelude.{◌≡◌, ◌≢◌, ◌≤◌, false, map, take, true};
 ghost use Rattle.vc_base.specs.Prelude.{place_of, without_block_at, HasOut, without_block, resize_there, sized_block, HasBlock, with_bytes_at};
 ghost use Rattle.vc_model.specs.Last.{can_end, latest};
 ghost use Rattle.vc_model.specs.Layout.{footprint};
@@ -6,7 +6,7 @@ ghost use Rattle.vc_model.specs.Resize.{is_usable};
 ghost use Rattle.vc_seg.specs.OneBlock.{IsSize};
 ghost use Rattle.vc_seg.specs.Segment.{pair_of};
 ghost use Rattle.vc_last.specs.Call.{IsResize};
-ghost use Rattle.vc_last.specs.Chain.{IsLast};
+ghost use Rattle.vc_last.specs.Chain.{IsReady};
 ghost use Rattle.vc_last.specs.Head.{before_of, block_of, has_room};
 ghost use Rattle.vc_last.specs.Read.{layout_by};
 
@@ -20,12 +20,11 @@ use vc_seg::{RegionFault, SegDisc, Segment};
 
 // Gives the latest block another size where it is.
 fn resize_there(segs: &mut Vec<Segment>, a: Addr, size: u32)
-    requires kept { IsLast segs.old.items a.0 }
+    requires kept { IsReady segs.old a.0 }
     requires block { a.0 ≢ 0 }
     requires some { 1 ≤ size }
     requires fits { has_room segs.old.items a.0 size ≡ true }
-    ensures kept { IsLast segs.new.items a.0 }
-    ensures room { vec_capacity segs.new ≡ vec_capacity segs.old }
+    ensures kept { IsReady segs.new a.0 }
     ensures layout { layout_by segs.new.items a.0
         ≡ resize_there (layout_by segs.old.items a.0) (place_of a.0) size }
 {
@@ -34,12 +33,11 @@ fn resize_there(segs: &mut Vec<Segment>, a: Addr, size: u32)
 
 // Copies the bytes of a block, up to a number of them, into the front of the latest one, which has room for them.
 fn copy_front(segs: &mut Vec<Segment>, a: Addr, to: Addr, size: u32)
-    requires kept { IsLast segs.old.items to.0 }
+    requires kept { IsReady segs.old to.0 }
     requires block { HasBlock (layout_by segs.old.items to.0).blocks a.0 }
     requires to { HasBlock (layout_by segs.old.items to.0).blocks to.0 }
     requires room { size ≤ (block_of segs.old.items to.0).size }
-    ensures kept { IsLast segs.new.items to.0 }
-    ensures room { vec_capacity segs.new ≡ vec_capacity segs.old }
+    ensures kept { IsReady segs.new to.0 }
     ensures layout { layout_by segs.new.items to.0
         ≡ with_bytes_at (layout_by segs.old.items to.0) (place_of to.0) 0
         (take size (block_of segs.old.items a.0).bytes) }
@@ -50,12 +48,11 @@ fn copy_front(segs: &mut Vec<Segment>, a: Addr, to: Addr, size: u32)
 
 // Frees the block that was allocated before the latest one.
 fn unlink(segs: &mut Vec<Segment>, a: Addr, to: Addr)
-    requires kept { IsLast segs.old.items to.0 }
+    requires kept { IsReady segs.old to.0 }
     requires to { to.0 ≢ 0 }
     requires before { before_of segs.old.items to.0 ≡ a.0 }
     requires block { a.0 ≢ 0 }
-    ensures kept { IsLast segs.new.items to.0 }
-    ensures room { vec_capacity segs.new ≡ vec_capacity segs.old }
+    ensures kept { IsReady segs.new to.0 }
     ensures layout { layout_by segs.new.items to.0
         ≡ without_block_at (layout_by segs.old.items to.0) (place_of a.0) }
 {
@@ -71,15 +68,13 @@ fn move_latest(
     alloc: Global,
     size: u32,
 ) -> Result<Addr, RegionFault>
-    requires kept { IsLast segs.old.items latest.old.0 }
-    requires room { 1023 ≤ vec_capacity segs.old }
+    requires kept { IsReady segs.old latest.old.0 }
     requires block { latest.old.0 ≢ 0 }
     requires size { IsSize size }
     requires lent { HasOut (state disc.old) (layout_by segs.old.items latest.old.0).segments }
     requires ends { has_room segs.old.items latest.old.0 size ≡ false }
 
-    ensures kept { IsLast segs.new.items latest.new.0 }
-    ensures room { vec_capacity segs.new ≡ vec_capacity segs.old }
+    ensures kept { IsReady segs.new latest.new.0 }
     ensures resize { IsResize latest.old.0 size true result
         (layout_by segs.old.items latest.old.0) (layout_by segs.new.items latest.new.0)
         (state disc.old) (state disc.new) }
@@ -106,14 +101,12 @@ pub(crate) fn resize_in(
     size: u32,
     may_move: bool,
 ) -> Result<Addr, RegionFault>
-    requires kept { IsLast segs.old.items at.old.0 }
-    requires room { 1023 ≤ vec_capacity segs.old }
+    requires kept { IsReady segs.old at.old.0 }
     requires block { HasBlock (layout_by segs.old.items at.old.0).blocks a.0 }
     requires size { IsSize size }
     requires lent { HasOut (state disc.old) (layout_by segs.old.items at.old.0).segments }
 
-    ensures kept { IsLast segs.new.items at.new.0 }
-    ensures room { vec_capacity segs.new ≡ vec_capacity segs.old }
+    ensures kept { IsReady segs.new at.new.0 }
     ensures resize { IsResize a.0 size may_move result
         (layout_by segs.old.items at.old.0) (layout_by segs.new.items at.new.0)
         (state disc.old) (state disc.new) }

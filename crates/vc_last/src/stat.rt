@@ -2,10 +2,10 @@ ghost use Rattle.std.specs.Prelude.{◌≡◌, ◌≤◌, ℕ, ◌+◌, ◌-◌,
 ghost use Rattle.vc_model.specs.Gap.{bytes_of};
 ghost use Rattle.vc_model.specs.Layout.{footprints};
 ghost use Rattle.vc_layouts.specs.Tally.{HasRoom, tallied_all, tally_of};
-ghost use Rattle.vc_seg.specs.Segment.{AreSegments, pair_of};
+ghost use Rattle.vc_seg.specs.Segment.{pair_of};
 ghost use Rattle.vc_seg.specs.Stat.{layout_stat};
 ghost use Rattle.vc_last.specs.Chain.{IsLast, blocks_from};
-ghost use Rattle.vc_last.specs.Head.{HasHead, block_of};
+ghost use Rattle.vc_last.specs.Head.{HasHeadAt, block_of};
 ghost use Rattle.vc_last.specs.Read.{layout_by};
 ghost use Rattle.vc_last.specs.Gaps.{gap_end_below, gaps_left, gaps_left_in, run_sizes, sizes_above};
 
@@ -44,8 +44,7 @@ fn with_run(tally: Tally, from: u32, to: u32) -> Tally
 // The tally so far with the gap that a block leaves below an offset of the segment of that number, where it is there, and
 // where the gap before the block ends.
 fn with_gap(tally: Tally, segs: &[Segment], a: Addr, number: u32, to: u32) -> (Tally, u32)
-    requires segments { AreSegments segs.now }
-    requires head { HasHead segs.now (block_of segs.now a.0) }
+    requires block { HasHeadAt segs.now a.0 }
     requires room { HasRoom tally (sizes_above number to (block_of segs.now a.0)) }
     ensures tally { result.0 ≡ tallied_all tally (sizes_above number to (block_of segs.now a.0)) }
     ensures to { result.1 ≡ gap_end_below number to (block_of segs.now a.0) }

@@ -2,9 +2,8 @@ ghost use Rattle.std.specs.Prelude.{◌≡◌, ℕ, [], ◌∷◌, IfSome, filte
 ghost use Rattle.vc_base.specs.Prelude.{address_of, HasBlock};
 ghost use Rattle.vc_model.specs.Order.{lesser_by};
 ghost use Rattle.vc_model.specs.Walk.{block_at, holds_byte, next_block};
-ghost use Rattle.vc_seg.specs.Segment.{AreSegments};
 ghost use Rattle.vc_last.specs.Chain.{IsLast};
-ghost use Rattle.vc_last.specs.Head.{HasHead, block_of};
+ghost use Rattle.vc_last.specs.Head.{HasHeadAt, block_of};
 ghost use Rattle.vc_last.specs.Read.{layout_by};
 
 use crate::head::{before_at, size_at};
@@ -50,8 +49,7 @@ pub(crate) fn next_in(segs: &[Segment], latest: Addr, after: Addr) -> Option<Add
 
 // Whether the bytes of the block at an address hold the byte at an offset of a segment.
 fn holds(segs: &[Segment], a: Addr, seg: u32, off: u32) -> bool
-    requires segments { AreSegments segs.now }
-    requires head { HasHead segs.now (block_of segs.now a.0) }
+    requires { HasHeadAt segs.now a.0 }
     ensures { result ≡ holds_byte (seg, off) (block_of segs.now a.0) }
 {
     let from = a.off();

@@ -32,8 +32,7 @@ steps c =
 pub returns-clause-size : goal.returns-clause-size
 returns-clause-size c =
     let s = steps (goal.at.returns-clause-size c).After-fill in
-    let first = c.requires.first in
-    field-front c.set_field-4.new.self.bytes c.fill.new.self.bytes c.args.off s.last.below (c.args.off - 16) (omega (arith, first))
+    field-front c.set_field-4.new.self.bytes c.fill.new.self.bytes c.args.off s.last.below (c.args.off - 16) (omega (arith, c.requires.first))
     ∙ (field-front c.set_field-3.new.self.bytes c.set_field-4.new.self.bytes (c.args.off - 16 + 12) s.fourth.below (c.args.off - 16) (omega arith)
     ∙ (field-front c.set_field-2.new.self.bytes c.set_field-3.new.self.bytes (c.args.off - 16 + 8) s.third.below (c.args.off - 16) (omega arith)
     ∙ (field-front c.set_field.new.self.bytes c.set_field-2.new.self.bytes (c.args.off - 16 + 4) s.second.below (c.args.off - 16) (omega arith) ∙ c.set_field.ensures.value)))
@@ -41,20 +40,18 @@ returns-clause-size c =
 pub returns-clause-label : goal.returns-clause-label
 returns-clause-label c =
     let s = steps (goal.at.returns-clause-label c).After-fill in
-    let first = c.requires.first in
-    let e : c.args.off - 12 ≡ c.args.off - 16 + 4 = omega (arith, first) in
+    let e : c.args.off - 12 ≡ c.args.off - 16 + 4 = omega (arith, c.requires.first) in
     ap (λ i. field_at i c.fill.new.self.bytes) e
-    ∙ (field-front c.set_field-4.new.self.bytes c.fill.new.self.bytes c.args.off s.last.below (c.args.off - 16 + 4) (omega (arith, first))
+    ∙ (field-front c.set_field-4.new.self.bytes c.fill.new.self.bytes c.args.off s.last.below (c.args.off - 16 + 4) (omega (arith, c.requires.first))
     ∙ (field-front c.set_field-3.new.self.bytes c.set_field-4.new.self.bytes (c.args.off - 16 + 12) s.fourth.below (c.args.off - 16 + 4) (omega arith)
     ∙ (field-front c.set_field-2.new.self.bytes c.set_field-3.new.self.bytes (c.args.off - 16 + 8) s.third.below (c.args.off - 16 + 4) (omega arith) ∙ c.set_field-2.ensures.value)))
 
 pub returns-clause-before : goal.returns-clause-before
 returns-clause-before c =
     let s = steps (goal.at.returns-clause-before c).After-fill in
-    let first = c.requires.first in
-    let e : c.args.off - 8 ≡ c.args.off - 16 + 8 = omega (arith, first) in
+    let e : c.args.off - 8 ≡ c.args.off - 16 + 8 = omega (arith, c.requires.first) in
     ap (λ i. field_at i c.fill.new.self.bytes) e
-    ∙ (field-front c.set_field-4.new.self.bytes c.fill.new.self.bytes c.args.off s.last.below (c.args.off - 16 + 8) (omega (arith, first))
+    ∙ (field-front c.set_field-4.new.self.bytes c.fill.new.self.bytes c.args.off s.last.below (c.args.off - 16 + 8) (omega (arith, c.requires.first))
     ∙ (field-front c.set_field-3.new.self.bytes c.set_field-4.new.self.bytes (c.args.off - 16 + 12) s.fourth.below (c.args.off - 16 + 8) (omega arith) ∙ c.set_field-3.ensures.value))
 
 pub returns-clause-zero : goal.returns-clause-zero

@@ -22,9 +22,7 @@ own c = own-bytes (n c) c.place_of_number-place.result 0 0 c.args.segs.now c.ind
 pub set_field-requires : goal.set_field-requires
 set_field-requires c =
     let at = (goal.at.set_field-requires c).After-index-segs-place in
-    let within = c.requires.head.within in
-    let first = c.requires.head.first in
-    omega (arith, within, first, ap length (own at), c.off.ensures)
+    omega (arith, c.requires.head.within, c.requires.head.first, ap length (own at), c.off.ensures)
 
 pub returns-clause-value : goal.returns-clause-value
 returns-clause-value c =
@@ -35,8 +33,7 @@ returns-clause-value c =
 pub returns-clause-rest : goal.returns-clause-rest
 returns-clause-rest c =
     let at = (goal.at.returns-clause-rest c).After-index-segs-place in
-    let first = c.requires.head.first in
-    let e : off at - 8 + 4 ≡ off at - 4 = omega (arith, first) in
+    let e : off at - 8 + 4 ≡ off at - 4 = omega (arith, c.requires.head.first) in
     let own : StaysOutside (off at - 8) (off at - 8 + 4) (get_or c.args.segs.now c.place_of_number-place.result c.index-segs-place.result) c.set_field.new.self =
     subst (λ k. StaysOutside (k - 8) (k - 8 + 4) (get_or c.args.segs.now c.place_of_number-place.result c.index-segs-place.result) c.set_field.new.self) c.off.ensures
     c.set_field.ensures.rest in

@@ -23,8 +23,7 @@ own c = own-bytes (n c) c.place_of_number-place.result 0 0 c.args.segs.now c.ind
 pub size_in-requires-clause-before : goal.size_in-requires-clause-before
 size_in-requires-clause-before c =
     let at = (goal.at.size_in-requires-clause-before c).After-index-segs-place in
-    let within = c.requires.head.within in
-    omega (arith, within, ap length (own at), c.off.ensures, c.size_at-old.ensures.value, span-least (block_of c.args.segs.now c.args.a.0).size)
+    omega (arith, c.requires.block.head.within, ap length (own at), c.off.ensures, c.size_at-old.ensures.value, span-least (block_of c.args.segs.now c.args.a.0).size)
 
 pub size_in-requires-clause-within : goal.size_in-requires-clause-within
 size_in-requires-clause-within c =
@@ -42,7 +41,7 @@ returns-clause-laid c =
       size = ap (field_at (off at - 16)) e ∙ (ap (λ k. field_at (k - 16) c.size_in.new.seg.bytes) (sym o) ∙ c.size_in.ensures.size);
       label = ap (field_at (off at - 12)) e ∙ (ap (λ k. field_at (k - 12) c.size_in.new.seg.bytes) (sym o) ∙ (c.size_in.ensures.head.label ∙ (ap (λ k. field_at (k - 12) b) o ∙ ap (field_at (off at - 12)) (sym was))));
       before = ap (field_at (off at - 8)) e ∙ (ap (λ k. field_at (k - 8) c.size_in.new.seg.bytes) (sym o) ∙ (c.size_in.ensures.head.before ∙ (ap (λ k. field_at (k - 8) b) o ∙ ap (field_at (off at - 8)) (sym was))));
-      zero = ap (field_at (off at - 4)) e ∙ (ap (λ k. field_at (k - 4) c.size_in.new.seg.bytes) (sym o) ∙ (c.size_in.ensures.head.zero ∙ (ap (λ k. field_at (k - 4) b) o ∙ (ap (field_at (off at - 4)) (sym was) ∙ c.requires.head.zero))));
+      zero = ap (field_at (off at - 4)) e ∙ (ap (λ k. field_at (k - 4) c.size_in.new.seg.bytes) (sym o) ∙ (c.size_in.ensures.head.zero ∙ (ap (λ k. field_at (k - 4) b) o ∙ (ap (field_at (off at - 4)) (sym was) ∙ c.requires.block.head.zero))));
       bytes = ap (λ (xs : List ℕ). take c.args.size (drop (off at) xs)) e ∙ (ap (λ k. take c.args.size (drop k c.size_in.new.seg.bytes)) (sym o) ∙ (c.size_in.ensures.bytes
           ∙ (ap (λ k. fitted_bytes c.args.size (take k (drop c.off.result b))) c.size_at-old.ensures.value ∙ (ap (λ k. fitted_bytes c.args.size (take (block_of c.args.segs.now c.args.a.0).size (drop k b))) o
           ∙ ap (λ (xs : List ℕ). fitted_bytes c.args.size (take (block_of c.args.segs.now c.args.a.0).size (drop (off at) xs))) (sym was)))));

@@ -20,11 +20,10 @@ stays c at low high =
 pub returns-clause-head : goal.returns-clause-head
 returns-clause-head c =
     let at = (goal.at.returns-clause-head c).After-zero_behind in
-    let first = c.requires.first in
     record {
-      label = stays at (c.args.off - 12) (omega (arith, first)) (omega (arith, first));
-      before = stays at (c.args.off - 8) (omega (arith, first)) (omega (arith, first));
-      zero = stays at (c.args.off - 4) (omega (arith, first)) (omega (arith, first));
+      label = stays at (c.args.off - 12) (omega (arith, c.requires.first)) (omega (arith, c.requires.first));
+      before = stays at (c.args.off - 8) (omega (arith, c.requires.first)) (omega (arith, c.requires.first));
+      zero = stays at (c.args.off - 4) (omega (arith, c.requires.first)) (omega (arith, c.requires.first));
     }
 
 pub returns-clause-bytes : goal.returns-clause-bytes

@@ -28,10 +28,10 @@ pub returns : goal.returns
 returns c =
     let b : Block ℕ = block_of c.args.segs.now c.args.a.0 in
     let f : Run = footprint (sized_block c.args.size b) in
-    let first = c.requires.head.first in
+    let first = c.requires.block.head.first in
     let p = c.place_of_number-place.ensures in
     let own : bytes_of_number c.seg.result c.args.segs.now ≡ c.index-segs-place.result.bytes =
     bytes_of_number-first c.seg.result c.args.segs.now c.place_of_number-place.result c.index-segs-place.result p.within p.first (p.number c.index-segs-place.result) ∙ ap (λ (s : Bytes). s.bytes) (sym c.index-segs-place.is) in
     let there : length (bytes_of_number f.seg c.args.segs.now) ≡ c.size.result = ap (λ n. length (bytes_of_number n c.args.segs.now)) (sym c.seg.ensures) ∙ (ap length own ∙ sym c.size.ensures.value) in
     let end : f.to + 16 ≡ c.off.result + c.span_of.result = omega (arith, first, c.off.ensures, c.span_of.ensures) in
-    sym (usable-is f c.args.segs.now c.requires.segments.distinct (omega (arith, first)) ∙ (ap (λ k. leb k (length (bytes_of_number f.seg c.args.segs.now))) end ∙ ap (leb (c.off.result + c.span_of.result)) there))
+    sym (usable-is f c.args.segs.now c.requires.block.segments.distinct (omega (arith, first)) ∙ (ap (λ k. leb k (length (bytes_of_number f.seg c.args.segs.now))) end ∙ ap (leb (c.off.result + c.span_of.result)) there))

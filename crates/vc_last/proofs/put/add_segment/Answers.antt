@@ -17,13 +17,12 @@ grant g c = subst (λ (xs : List Bytes). IsGrantOf (disc g c).terms c.args.bytes
 pub returns-clause-lent : goal.returns-clause-lent
 returns-clause-lent g c =
     let at = (goal.at.returns-clause-lent g c).After-push_reserved in
-    let segs = c.args.segs.now.items in
     let s = grant g at in
-    subst (λ n. IsLent (disc g at).terms n c.args.bytes segs c.push_reserved.new.self.items) (sym c.number-number.ensures)
+    subst (λ n. IsLent (disc g at).terms n c.args.bytes c.args.segs.now.items c.push_reserved.new.self.items) (sym c.number-number.ensures)
     (record {
       granted = s.granted;
-      pushed = c.push_reserved.ensures.items ∙ ap (λ (t : Bytes). segs ++ t ∷ []) s.zeros;
-      fresh = All-unmap (λ t. t.0 ≢ c.in_ok-segment.segment.number) pair_of segs s.fresh;
+      pushed = c.push_reserved.ensures.items ∙ ap (λ (t : Bytes). c.args.segs.now.items ++ t ∷ []) s.zeros;
+      fresh = All-unmap (λ t. t.0 ≢ c.in_ok-segment.segment.number) pair_of c.args.segs.now.items s.fresh;
     })
 
 pub returns-clause-segments : goal.returns-clause-segments

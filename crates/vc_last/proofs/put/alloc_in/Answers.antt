@@ -9,7 +9,7 @@ use Rattle.vc_last.proofs.put.alloc_in.Goals.{After-place}
 use Rattle.vc_last.proofs.put.alloc_in.Given.{Over}
 
 here : (g : Over) (c : After-place g) (at : ℕ × ℕ) → c.place.result ≡ Some at → IsBlockPlace (layout_by c.args.segs.now.items c.args.latest.now.0) c.args.size at
-here g c at e = place-last (layout_by c.args.segs.now.items c.args.latest.now.0) c.args.size at (row-by c.args.segs.now.items c.args.latest.now.0 c.requires.kept) (rw c.deref.ensures.value at (sym c.place.ensures ∙ e))
+here g c at e = place-last (layout_by c.args.segs.now.items c.args.latest.now.0) c.args.size at (row-by c.args.segs.now.items c.args.latest.now.0 c.requires.kept.last) (rw c.deref.ensures.value at (sym c.place.ensures ∙ e))
 
 pub put-a-requires-clause-place : goal.put-a-requires-clause-place
 put-a-requires-clause-place g c = here g (goal.at.put-a-requires-clause-place g c).After-place c.in-Some.at c.in-Some.is

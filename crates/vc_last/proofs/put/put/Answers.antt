@@ -11,12 +11,11 @@ use Rattle.vc_last.proofs.put.put.Goals as goal
 use Rattle.vc_last.proofs.put.put.Goals.{After-deref_mut, After-lay}
 
 inside : (c : After-deref_mut) → IsInside c.args.segs.now.items c.args.size (c.args.seg, c.args.off)
-inside c = place-inside c.args.segs.now.items c.args.size (c.args.seg, c.args.off) (layout_by c.args.segs.now.items c.args.latest.0) c.requires.kept.segments (ap (λ (r : Layout ℕ). r.segments) (layout-from c.args.segs.now.items c.args.latest.0)) c.requires.place
+inside c = place-inside c.args.segs.now.items c.args.size (c.args.seg, c.args.off) (layout_by c.args.segs.now.items c.args.latest.0) c.requires.kept.last.segments (ap (λ (r : Layout ℕ). r.segments) (layout-from c.args.segs.now.items c.args.latest.0)) c.requires.place
 
 pub lay-requires-clause-within : goal.lay-requires-clause-within
 lay-requires-clause-within c =
-    let i = (inside (goal.at.lay-requires-clause-within c).After-deref_mut).within in
-    rw c.deref_mut.ensures.value (omega (arith, i, span-least c.args.size))
+    rw c.deref_mut.ensures.value (omega (arith, (inside (goal.at.lay-requires-clause-within c).After-deref_mut).within, span-least c.args.size))
 
 pub new-requires-clause-first : goal.new-requires-clause-first
 new-requires-clause-first c = (inside (goal.at.new-requires-clause-first c).After-deref_mut).first
@@ -37,20 +36,23 @@ items c =
 pub returns-clause-kept : goal.returns-clause-kept
 returns-clause-kept c =
     let at = (goal.at.returns-clause-kept c).After-lay in
-    subst (λ a. IsLast (take c.args.segs.now.len (c.lay.new.segs ++ drop (length c.lay.new.segs) c.args.segs.now.items)) a) (sym c.new.ensures.value)
-    (subst (λ (xs : List Bytes). IsLast xs (address (c.args.seg, c.args.off))) (sym (items at))
-    (put-kept c.args.segs.now.items c.lay.new.segs c.args.latest.0 c.args.size c.args.tag c.args.seg c.args.off c.requires.kept c.requires.newest c.requires.place c.requires.some (stays at) c.lay.ensures.laid))
+    record {
+      last = subst (λ a. IsLast (take c.args.segs.now.len (c.lay.new.segs ++ drop (length c.lay.new.segs) c.args.segs.now.items)) a) (sym c.new.ensures.value)
+          (subst (λ (xs : List Bytes). IsLast xs (address (c.args.seg, c.args.off))) (sym (items at))
+          (put-kept c.args.segs.now.items c.lay.new.segs c.args.latest.0 c.args.size c.args.tag c.args.seg c.args.off c.requires.kept.last c.requires.newest c.requires.place c.requires.some (stays at) c.lay.ensures.laid));
+      room = c.requires.kept.room;
+    }
 
 pub returns-clause-layout : goal.returns-clause-layout
 returns-clause-layout c =
     let at = (goal.at.returns-clause-layout c).After-lay in
     ap (layout_by (take c.args.segs.now.len (c.lay.new.segs ++ drop (length c.lay.new.segs) c.args.segs.now.items))) c.new.ensures.value
     ∙ (ap (λ (xs : List Bytes). layout_by xs (address (c.args.seg, c.args.off))) (items at)
-    ∙ put-layout c.args.segs.now.items c.lay.new.segs c.args.latest.0 c.args.size c.args.tag c.args.seg c.args.off c.requires.kept c.requires.newest c.requires.place c.requires.some (stays at) c.lay.ensures.laid)
+    ∙ put-layout c.args.segs.now.items c.lay.new.segs c.args.latest.0 c.args.size c.args.tag c.args.seg c.args.off c.requires.kept.last c.requires.newest c.requires.place c.requires.some (stays at) c.lay.ensures.laid)
 
 pub returns-clause-fresh : goal.returns-clause-fresh
 returns-clause-fresh c =
-    place-fresh (layout_by c.args.segs.now.items c.args.latest.0) c.args.size (c.args.seg, c.args.off) c.requires.some c.requires.place (row-by c.args.segs.now.items c.args.latest.0 c.requires.kept) c.new.result.0 c.new.ensures.place
+    place-fresh (layout_by c.args.segs.now.items c.args.latest.0) c.args.size (c.args.seg, c.args.off) c.requires.some c.requires.place (row-by c.args.segs.now.items c.args.latest.0 c.requires.kept.last) c.new.result.0 c.new.ensures.place
 
 pub returns-clause-at : goal.returns-clause-at
 returns-clause-at c = record { address = c.new.ensures.value; place = c.new.ensures.place }

@@ -3,6 +3,7 @@ use Rattle.vc_seg.specs.Segment.{AreSegments, Bytes, pair_of}
 use Rattle.vc_seg.proofs.Rounding.{IsSegmentSize-asked, round_up-least}
 use Rattle.vc_seg.specs.Lend.{IsNoGrant}
 use Rattle.vc_seg.specs.declared.fault.RegionFault.TheVariants as code
+use Rattle.vc_last.specs.Chain.{IsLast}
 use Rattle.vc_last.specs.Place.{with_latest}
 use Rattle.vc_last.specs.Read.{layout_by}
 use Rattle.vc_last.proofs.Kept.{layout-from, row-by}
@@ -51,21 +52,28 @@ returns-in-Err-clause-alloc g c =
           record { none = c.requires.none; may = λ many. c.in-Err.ensures.may (ap Err wants) (asks g at false ∙ many) };
     }
 
+pub returns-in-Err-clause-kept : goal.returns-in-Err-clause-kept
+returns-in-Err-clause-kept g c = record { last = subst (λ (xs : List Bytes). IsLast xs c.args.latest.now.0) (sym c.in-Err.ensures.same) c.requires.kept.last; room = omega arith }
+
 pub put-a-requires-clause-kept : goal.put-a-requires-clause-kept
-put-a-requires-clause-kept g c = rw c.in-Ok.ensures.lent.pushed (grown-kept c.args.segs.now.items c.args.latest.now.0 c.in-Ok.number c.rounded_up-bytes.result c.requires.kept (subst AreSegments c.in-Ok.ensures.lent.pushed c.in-Ok.ensures.segments))
+put-a-requires-clause-kept g c =
+    record {
+      last = rw c.in-Ok.ensures.lent.pushed (grown-kept c.args.segs.now.items c.args.latest.now.0 c.in-Ok.number c.rounded_up-bytes.result c.requires.kept.last (subst AreSegments c.in-Ok.ensures.lent.pushed c.in-Ok.ensures.segments));
+      room = omega arith;
+    }
 
 pub put-a-requires-clause-newest : goal.put-a-requires-clause-newest
-put-a-requires-clause-newest g c = rw c.in-Ok.ensures.lent.pushed (grown-newest c.args.segs.now.items c.args.latest.now.0 c.in-Ok.number c.rounded_up-bytes.result c.requires.kept (subst AreSegments c.in-Ok.ensures.lent.pushed c.in-Ok.ensures.segments))
+put-a-requires-clause-newest g c = rw c.in-Ok.ensures.lent.pushed (grown-newest c.args.segs.now.items c.args.latest.now.0 c.in-Ok.number c.rounded_up-bytes.result c.requires.kept.last (subst AreSegments c.in-Ok.ensures.lent.pushed c.in-Ok.ensures.segments))
 
 pub put-a-requires-clause-place : goal.put-a-requires-clause-place
 put-a-requires-clause-place g c =
     let wide = room g (goal.at.put-a-requires-clause-place g c).After-rounded_up-bytes in
-    rw c.in-Ok.ensures.lent.pushed (grown-place c.args.segs.now.items c.args.latest.now.0 c.in-Ok.number c.rounded_up-bytes.result c.requires.kept (subst AreSegments c.in-Ok.ensures.lent.pushed c.in-Ok.ensures.segments) c.args.size c.in-Ok.ensures.lent.fresh wide)
+    rw c.in-Ok.ensures.lent.pushed (grown-place c.args.segs.now.items c.args.latest.now.0 c.in-Ok.number c.rounded_up-bytes.result c.requires.kept.last (subst AreSegments c.in-Ok.ensures.lent.pushed c.in-Ok.ensures.segments) c.args.size c.in-Ok.ensures.lent.fresh wide)
 
 grown : (g : Over) (c : After-put-a g) → layout_by c.add_segment.new.segs.items c.args.latest.now.0 ≡ with_grant (layout_by c.args.segs.now.items c.args.latest.now.0) (new_segment c.in-Ok.number c.rounded_up-bytes.result)
 grown g c =
     ap (λ (xs : List Bytes). layout_by xs c.args.latest.now.0) c.in-Ok.ensures.lent.pushed
-    ∙ grown-layout c.args.segs.now.items c.args.latest.now.0 c.in-Ok.number c.rounded_up-bytes.result c.requires.kept (subst AreSegments c.in-Ok.ensures.lent.pushed c.in-Ok.ensures.segments)
+    ∙ grown-layout c.args.segs.now.items c.args.latest.now.0 c.in-Ok.number c.rounded_up-bytes.result c.requires.kept.last (subst AreSegments c.in-Ok.ensures.lent.pushed c.in-Ok.ensures.segments)
 
 pub returns-in-Ok-clause-alloc : goal.returns-in-Ok-clause-alloc
 returns-in-Ok-clause-alloc g c =
@@ -78,7 +86,7 @@ returns-in-Ok-clause-alloc g c =
     record {
       answer = put-in-new _ r c.args.tag c.args.size c.rounded_up-bytes.result (need g before) c.requires.none _ c.in-Ok.number c.put-a.result.0
           (subst (λ ss. ask (disc g before).terms c.rounded_up-bytes.result ss false ≡ Granted (new_segment c.in-Ok.number c.rounded_up-bytes.result)) (sym (segments g before)) c.in-Ok.ensures.lent.granted)
-          (place-granted r c.in-Ok.number c.rounded_up-bytes.result c.args.size (row-by c.args.segs.now.items c.args.latest.now.0 c.requires.kept) other (room g before)) c.put-a.ensures.at.address c.put-a.ensures.at.place made;
+          (place-granted r c.in-Ok.number c.rounded_up-bytes.result c.args.size (row-by c.args.segs.now.items c.args.latest.now.0 c.requires.kept.last) other (room g before)) c.put-a.ensures.at.address c.put-a.ensures.at.place made;
       disc = served-need _ _ r.segments _ c.in-Ok.number c.rounded_up-bytes.result _ (need g before) (ap (λ (q : Layout ℕ). q.segments) made) c.in-Ok.ensures.disc;
       fresh = subst (λ (bs : List (Block ℕ)). ¬ HasBlock bs c.put-a.result.0) (ap (λ (q : Layout ℕ). q.blocks) lent) c.put-a.ensures.fresh;
       no_memory = λ e. absurd (cc);

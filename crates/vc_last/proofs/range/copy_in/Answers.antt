@@ -22,12 +22,11 @@ pub returns : goal.returns
 returns c =
     let d : Bytes = record { number = 0; bytes = [] } in
     let segs = c.args.segs.now in
-    let i = c.place_of_number-source.result in
     let j = c.place_of_number-place.result in
     let p = c.place_of_number-source.ensures in
     let q = c.place_of_number-place.ensures in
-    let own = bytes_of_number-first c.args.number segs i d p.within p.first (p.number d) in
-    let new : Bytes = with_copy_of (get_or segs i d) c.args.from c.args.len c.args.to (get_or segs j d) in
+    let own = bytes_of_number-first c.args.number segs c.place_of_number-source.result d p.within p.first (p.number d) in
+    let new : Bytes = with_copy_of (get_or segs c.place_of_number-source.result d) c.args.from c.args.len c.args.to (get_or segs j d) in
     let same : new.bytes ≡ with_bytes c.args.to (take c.args.len (drop c.args.from (bytes_of_number c.args.number segs))) (get_or segs j d).bytes =
     ap (λ bytes. with_bytes c.args.to (take c.args.len (drop c.args.from bytes)) (get_or segs j d).bytes) (sym own) in
     c.copy_between.ensures d

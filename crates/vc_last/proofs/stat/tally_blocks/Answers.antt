@@ -1,23 +1,20 @@
-use Rattle.vc_base.proofs.Common.{◌≡◌, ℕ, ◌<◌, List, [], ◌∷◌, ◌++◌, map, length, sym, ap, ◌∙◌, subst, Block}
+use Rattle.vc_base.proofs.Common.{◌≡◌, ℕ, List, [], ◌∷◌, ◌++◌, map, sym, ap, ◌∙◌, subst, Block}
 use Rattle.vc_layouts.specs.Tally.{HasRoom, tally_with, tallied_all}
-use Rattle.vc_last.specs.Chain.{IsLast, blocks_from}
 use Rattle.vc_last.specs.Head.{before_of, block_of}
 use Rattle.vc_last.proofs.Backs.{sizes-last, sizes_back}
-use Rattle.vc_last.proofs.Chains.{latest-none, latest-some}
+use Rattle.vc_last.proofs.Chains.{latest-none, latest-head}
 use Rattle.vc_last.proofs.UnorderedFolds.{step-part, step-rest, step-room}
-use Rattle.vc_last.proofs.Walks.{shorter}
+use Rattle.vc_last.proofs.Walks.{shorter, rest-kept}
 use Rattle.vc_last.proofs.stat.tally_blocks.Goals as goal
 
 pub loop-at-smaller : goal.loop-at-smaller
-loop-at-smaller c =
-    subst (λ a. length (blocks_from c.args.segs.now a) < length (blocks_from c.args.segs.now c.loop-at.at.0)) (sym c.before_at-at.ensures)
-    (shorter c.args.segs.now c.loop-at.at.0 c.loop-at.invariant.kept c.loop-at-test.true)
+loop-at-smaller c = shorter c.args.segs.now c.loop-at.at.0 c.before_at-at.result.0 c.loop-at.invariant.kept c.loop-at-test.true c.before_at-at.ensures
 
-pub before_at-at-requires-clause-head : goal.before_at-at-requires-clause-head
-before_at-at-requires-clause-head c = (latest-some c.args.segs.now c.loop-at.at.0 c.loop-at-test.true c.loop-at.invariant.kept).head
+pub before_at-at-requires : goal.before_at-at-requires
+before_at-at-requires c = latest-head c.args.segs.now c.loop-at.at.0 c.loop-at-test.true c.loop-at.invariant.kept
 
-pub size_at-requires-clause-head : goal.size_at-requires-clause-head
-size_at-requires-clause-head c = (latest-some c.args.segs.now c.loop-at.at.0 c.loop-at-test.true c.loop-at.invariant.kept).head
+pub size_at-requires : goal.size_at-requires
+size_at-requires c = latest-head c.args.segs.now c.loop-at.at.0 c.loop-at-test.true c.loop-at.invariant.kept
 
 pub with-tally-requires : goal.with-tally-requires
 with-tally-requires c =
@@ -30,7 +27,7 @@ loop-at-preserved c =
     sizes-last c.args.segs.now c.loop-at.at.0 c.loop-at.invariant.kept c.loop-at-test.true ∙ ap (λ a. sizes_back c.args.segs.now a ++ (block_of c.args.segs.now c.loop-at.at.0).size ∷ []) (sym c.before_at-at.ensures) in
     let more = c.with-tally.ensures ∙ ap (tally_with c.loop-at.tally) c.size_at.ensures.value in
     record {
-      kept = subst (IsLast c.args.segs.now) (sym c.before_at-at.ensures) (latest-some c.args.segs.now c.loop-at.at.0 c.loop-at-test.true c.loop-at.invariant.kept).kept;
+      kept = rest-kept c.args.segs.now c.loop-at.at.0 c.before_at-at.result.0 c.loop-at.invariant.kept c.loop-at-test.true c.before_at-at.ensures;
       room = step-room c.loop-at.tally c.with-tally.result (sizes_back c.args.segs.now c.loop-at.at.0) (sizes_back c.args.segs.now c.before_at-at.result.0) ((block_of c.args.segs.now c.loop-at.at.0).size ∷ []) all more c.loop-at.invariant.room;
       rest = step-rest c.loop-at.tally c.with-tally.result (sizes_back c.args.segs.now c.loop-at.at.0) (sizes_back c.args.segs.now c.before_at-at.result.0) ((block_of c.args.segs.now c.loop-at.at.0).size ∷ []) all more ∙ c.loop-at.invariant.rest;
     }

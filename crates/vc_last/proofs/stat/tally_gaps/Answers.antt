@@ -10,17 +10,14 @@ use Rattle.vc_last.proofs.stat.tally_gaps.Goals as goal
 pub loop-segment-preserved : goal.loop-segment-preserved
 loop-segment-preserved c =
     let runs = footprints (blocks_from c.args.segs.now c.args.latest.0) in
-    let segs = c.args.segs.now in
-    let i = c.loop-segment.segment-index in
-    let tally = c.loop-segment.tally in
     let here = map bytes_of (gaps_left_in runs (c.number.result, c.size.result)) in
-    let later = sizes_in runs (drop (suc i) segs) in
-    let cut : sizes_in runs (drop i segs) ≡ here ++ later =
+    let later = sizes_in runs (drop (suc c.loop-segment.segment-index) c.args.segs.now) in
+    let cut : sizes_in runs (drop c.loop-segment.segment-index c.args.segs.now) ≡ here ++ later =
     rw (c.number.ensures, c.size.ensures.value)
-    (sizes_in-next runs segs i c.segment-item.result c.loop-segment-test.true
+    (sizes_in-next runs c.args.segs.now c.loop-segment.segment-index c.segment-item.result c.loop-segment-test.true
     ∙ ap (λ (b : Bytes). map bytes_of (gaps_left_in runs (pair_of b)) ++ later) (sym c.segment-item.is)) in
     rw (add-one, c.tally_gaps_in-tally.ensures)
     record {
-      room = HasRoom-rest tally here later (subst (HasRoom tally) cut c.loop-segment.invariant.room);
-      rest = sym (tallied_all-append tally here later) ∙ (ap (tallied_all tally) (sym cut) ∙ c.loop-segment.invariant.rest);
+      room = HasRoom-rest c.loop-segment.tally here later (subst (HasRoom c.loop-segment.tally) cut c.loop-segment.invariant.room);
+      rest = sym (tallied_all-append c.loop-segment.tally here later) ∙ (ap (tallied_all c.loop-segment.tally) (sym cut) ∙ c.loop-segment.invariant.rest);
     }

@@ -1,8 +1,8 @@
-use Rattle.vc_base.proofs.Common.{◌≡◌, ℕ, ◌-◌, ◌<◌, length, Some, None, Option, option_map, find, sym, ap, ◌∙◌, subst, place_of, Block, address_of, holds_byte}
-use Rattle.vc_last.specs.Chain.{IsLast, blocks_from}
+use Rattle.vc_base.proofs.Common.{◌≡◌, ℕ, ◌-◌, Some, None, Option, option_map, find, sym, ap, ◌∙◌, place_of, Block, address_of, holds_byte}
+use Rattle.vc_last.specs.Chain.{blocks_from}
 use Rattle.vc_last.specs.Head.{block_of}
-use Rattle.vc_last.proofs.Chains.{latest-some}
-use Rattle.vc_last.proofs.Walks.{block-is, find-among, find-end, find-here, find-step, shorter}
+use Rattle.vc_last.proofs.Chains.{latest-some, latest-head}
+use Rattle.vc_last.proofs.Walks.{block-is, find-among, find-end, find-here, find-step, shorter, rest-kept}
 use Rattle.vc_last.proofs.walk.block_in.Goals as goal
 
 abbrev some_pair : ℕ → ℕ → Option (ℕ × ℕ)
@@ -11,26 +11,22 @@ some_pair m k = Some (m, k)
 pair : (m n k l : ℕ) → m ≡ n → k ≡ l → some_pair m k ≡ some_pair n l
 pair m n k l e f = λ i. some_pair (e i) (f i)
 
-pub holds-requires-clause-head : goal.holds-requires-clause-head
-holds-requires-clause-head c = (latest-some c.args.segs.now c.loop-at.at.0 c.loop-at-test.true c.loop-at.invariant.kept).head
+pub holds-requires : goal.holds-requires
+holds-requires c = latest-head c.args.segs.now c.loop-at.at.0 c.loop-at-test.true c.loop-at.invariant.kept
 
-pub before_at-at-requires-clause-head : goal.before_at-at-requires-clause-head
-before_at-at-requires-clause-head c = (latest-some c.args.segs.now c.loop-at.at.0 c.loop-at-test.true c.loop-at.invariant.kept).head
+pub before_at-at-requires : goal.before_at-at-requires
+before_at-at-requires c = latest-head c.args.segs.now c.loop-at.at.0 c.loop-at-test.true c.loop-at.invariant.kept
 
 pub loop-at-preserved : goal.loop-at-preserved
 loop-at-preserved c =
-    let segs = c.args.segs.now in
-    let l = latest-some segs c.loop-at.at.0 c.loop-at-test.true c.loop-at.invariant.kept in
     record {
-      kept = subst (IsLast segs) (sym c.before_at-at.ensures) l.kept;
-      rest = ap (λ a. find (holds_byte (c.args.seg, c.args.off)) (blocks_from segs a)) c.before_at-at.ensures
-          ∙ (find-step segs c.loop-at.at.0 c.args.seg c.args.off c.loop-at.invariant.kept c.loop-at-test.true (sym c.holds.ensures ∙ c.if-holds.false) ∙ c.loop-at.invariant.rest);
+      kept = rest-kept c.args.segs.now c.loop-at.at.0 c.before_at-at.result.0 c.loop-at.invariant.kept c.loop-at-test.true c.before_at-at.ensures;
+      rest = ap (λ a. find (holds_byte (c.args.seg, c.args.off)) (blocks_from c.args.segs.now a)) c.before_at-at.ensures
+          ∙ (find-step c.args.segs.now c.loop-at.at.0 c.args.seg c.args.off c.loop-at.invariant.kept c.loop-at-test.true (sym c.holds.ensures ∙ c.if-holds.false) ∙ c.loop-at.invariant.rest);
     }
 
 pub loop-at-smaller : goal.loop-at-smaller
-loop-at-smaller c =
-    subst (λ a. length (blocks_from c.args.segs.now a) < length (blocks_from c.args.segs.now c.loop-at.at.0)) (sym c.before_at-at.ensures)
-    (shorter c.args.segs.now c.loop-at.at.0 c.loop-at.invariant.kept c.loop-at-test.true)
+loop-at-smaller c = shorter c.args.segs.now c.loop-at.at.0 c.before_at-at.result.0 c.loop-at.invariant.kept c.loop-at-test.true c.before_at-at.ensures
 
 pub returns-then-holds-clause-value : goal.returns-then-holds-clause-value
 returns-then-holds-clause-value c =

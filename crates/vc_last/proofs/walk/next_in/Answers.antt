@@ -1,27 +1,22 @@
-use Rattle.vc_base.proofs.Common.{◌<◌, length, Some, None, option_map, sym, ap, ◌∙◌, subst}
+use Rattle.vc_base.proofs.Common.{Some, None, option_map, sym, ap, ◌∙◌}
 use Rattle.vc_base.specs.declared.addr.Addr.{Addr}
-use Rattle.vc_last.specs.Chain.{IsLast, blocks_from}
-use Rattle.vc_last.proofs.Chains.{latest-some}
-use Rattle.vc_last.proofs.Walks.{addresses, least-end, least-step, least_on, next-among, next-is, shorter}
+use Rattle.vc_last.proofs.Chains.{latest-head}
+use Rattle.vc_last.proofs.Walks.{addresses, least-end, least-step, least_on, next-among, next-is, shorter, rest-kept}
 use Rattle.vc_last.proofs.walk.next_in.Goals as goal
 
-pub before_at-at-requires-clause-head : goal.before_at-at-requires-clause-head
-before_at-at-requires-clause-head c = (latest-some c.args.segs.now c.loop-at.at.0 c.loop-at-test.true c.loop-at.invariant.kept).head
+pub before_at-at-requires : goal.before_at-at-requires
+before_at-at-requires c = latest-head c.args.segs.now c.loop-at.at.0 c.loop-at-test.true c.loop-at.invariant.kept
 
 pub loop-at-preserved : goal.loop-at-preserved
 loop-at-preserved c =
-    let segs = c.args.segs.now in
-    let l = latest-some segs c.loop-at.at.0 c.loop-at-test.true c.loop-at.invariant.kept in
     record {
-      kept = subst (IsLast segs) (sym c.before_at-at.ensures) l.kept;
-      rest = ap (λ a. least_on c.consider-least.result c.args.after.0 (addresses segs a)) c.before_at-at.ensures
-          ∙ (least-step segs c.loop-at.at.0 c.args.after.0 c.loop-at.least c.consider-least.result c.loop-at.invariant.kept c.loop-at-test.true c.consider-least.ensures ∙ c.loop-at.invariant.rest);
+      kept = rest-kept c.args.segs.now c.loop-at.at.0 c.before_at-at.result.0 c.loop-at.invariant.kept c.loop-at-test.true c.before_at-at.ensures;
+      rest = ap (λ a. least_on c.consider-least.result c.args.after.0 (addresses c.args.segs.now a)) c.before_at-at.ensures
+          ∙ (least-step c.args.segs.now c.loop-at.at.0 c.args.after.0 c.loop-at.least c.consider-least.result c.loop-at.invariant.kept c.loop-at-test.true c.consider-least.ensures ∙ c.loop-at.invariant.rest);
     }
 
 pub loop-at-smaller : goal.loop-at-smaller
-loop-at-smaller c =
-    subst (λ a. length (blocks_from c.args.segs.now a) < length (blocks_from c.args.segs.now c.loop-at.at.0)) (sym c.before_at-at.ensures)
-    (shorter c.args.segs.now c.loop-at.at.0 c.loop-at.invariant.kept c.loop-at-test.true)
+loop-at-smaller c = shorter c.args.segs.now c.loop-at.at.0 c.before_at-at.result.0 c.loop-at.invariant.kept c.loop-at-test.true c.before_at-at.ensures
 
 pub returns-in_err-address-clause-value : goal.returns-in_err-address-clause-value
 returns-in_err-address-clause-value c =

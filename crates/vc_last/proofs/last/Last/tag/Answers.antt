@@ -1,15 +1,12 @@
 use Rattle.vc_base.proofs.Common.{ℕ, List, Some, option_map, sym, ap, ◌∙◌, Block}
 use Rattle.vc_seg.specs.Segment.{Bytes}
 use Rattle.vc_last.specs.Head.{block_of}
-use Rattle.vc_last.proofs.Moves.{found-by, found-layout}
+use Rattle.vc_last.proofs.Moves.{found-head, found-layout}
 use Rattle.vc_last.proofs.Types.{have}
 use Rattle.vc_last.proofs.last.Last.tag.Goals as goal
 
-pub tag_at-requires-clause-segments : goal.tag_at-requires-clause-segments
-tag_at-requires-clause-segments g c = rw c.deref.ensures.value (have c.args.self.now.segs.items c.args.self.now.latest.0 c.args.self.now.kept).segments
-
-pub tag_at-requires-clause-head : goal.tag_at-requires-clause-head
-tag_at-requires-clause-head g c = rw c.deref.ensures.value (found-by c.args.self.now.segs.items c.args.self.now.latest.0 c.args.a.0 (have c.args.self.now.segs.items c.args.self.now.latest.0 c.args.self.now.kept) c.requires).head
+pub tag_at-requires : goal.tag_at-requires
+tag_at-requires g c = rw c.deref.ensures.value (found-head c.args.self.now.segs.items c.args.self.now.latest.0 c.args.a.0 (have c.args.self.now.segs.items c.args.self.now.latest.0 c.args.self.now.kept) c.requires)
 
 pub returns : goal.returns
 returns g c = ap (option_map (λ (b : Block ℕ). b.label)) (found-layout c.args.self.now.segs.items c.args.self.now.latest.0 c.args.a.0 (have c.args.self.now.segs.items c.args.self.now.latest.0 c.args.self.now.kept) c.requires) ∙ ap Some (sym (c.tag_at.ensures ∙ ap (λ (xs : List Bytes). (block_of xs c.args.a.0).label) c.deref.ensures.value))
