@@ -8,7 +8,8 @@ BINDIR = $(PREFIX)/bin
 LIBDIR = $(BINDIR)/../lib/kolbista
 MANDIR = $(PREFIX)/share/man
 DOCDIR = $(PREFIX)/share/doc/kolbista
-PAGES = vmreplay.1 dtrun.1 vmrecord.1 vmpicture.1 vmcurve.1
+TOOLS = record picture curve sites
+PAGES = vmreplay.1 dtrun.1 vmrecord.1 vmpicture.1 vmcurve.1 vmsites.1
 
 # Proves both programs and all below them, runs each on its sample script, and leaves them in bin/.
 all:
@@ -39,8 +40,8 @@ test:
 install: $(BIN)/vmreplay $(BIN)/dtrun
 	mkdir -p $(DESTDIR)$(BINDIR) $(DESTDIR)$(MANDIR)/man1 $(DESTDIR)$(DOCDIR)/examples
 	cp -f $(BIN)/vmreplay $(BIN)/dtrun $(DESTDIR)$(BINDIR)
-	for tool in record picture curve; do cp -f tools/$$tool $(DESTDIR)$(BINDIR)/vm$$tool || exit 1; done
-	cd $(DESTDIR)$(BINDIR) && chmod 755 vmreplay dtrun vmrecord vmpicture vmcurve
+	for tool in $(TOOLS); do cp -f tools/$$tool $(DESTDIR)$(BINDIR)/vm$$tool && chmod 755 $(DESTDIR)$(BINDIR)/vm$$tool || exit 1; done
+	cd $(DESTDIR)$(BINDIR) && chmod 755 vmreplay dtrun
 	for page in $(PAGES); do cp -f man/$$page $(DESTDIR)$(MANDIR)/man1 || exit 1; done
 	cp -f docs/script.md $(DESTDIR)$(DOCDIR)
 	cp -f examples/*.vm examples/*.dt examples/*.words examples/*.replies $(DESTDIR)$(DOCDIR)/examples
@@ -54,7 +55,8 @@ install: $(BIN)/vmreplay $(BIN)/dtrun
 	fi
 
 uninstall:
-	for name in vmreplay dtrun vmrecord vmpicture vmcurve; do rm -f $(DESTDIR)$(BINDIR)/$$name; done
+	for name in vmreplay dtrun; do rm -f $(DESTDIR)$(BINDIR)/$$name; done
+	for tool in $(TOOLS); do rm -f $(DESTDIR)$(BINDIR)/vm$$tool; done
 	for page in $(PAGES); do rm -f $(DESTDIR)$(MANDIR)/man1/$$page; done
 	rm -rf $(DESTDIR)$(LIBDIR) $(DESTDIR)$(DOCDIR)
 

@@ -33,7 +33,7 @@ printf 'open r best 1\nalloc r a 1\nfrob\n' > bad.vm
 curved bad.vm > bad.said
 check "curve: a bad line is told by its own number" same "$(cat bad.said)" "curve: vmreplay: line 3: unknown command"
 
-# What was refused, and regions that are not there. The refusals of quiet.vm and debug.vm stand in their replies.
+# What was refused, and regions that are not there.
 said() {
     "$curve" -p "$program" "$@" > drawn.svg 2> drawn.said
     status=$?

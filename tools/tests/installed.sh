@@ -7,6 +7,7 @@ if has make; then
         cat > installed.files << END
 bin/dtrun bin/vmreplay
 bin/vmcurve bin/vmpicture bin/vmrecord
+bin/vmsites share/man/man1/vmsites.1
 share/doc/kolbista/script.md
 share/man/man1/dtrun.1 share/man/man1/vmreplay.1
 share/man/man1/vmcurve.1 share/man/man1/vmpicture.1 share/man/man1/vmrecord.1
@@ -22,6 +23,7 @@ END
         check "installed: vmcurve finds vmreplay" grep -q '8,076' installed.svg
         drawn "$here/../examples/tie.vm" > drawn.replies
         check "installed: vmpicture draws" test -n "$("$at/bin/vmpicture" drawn.replies)"
+        check "installed: vmsites finds vmreplay" test -n "$("$at/bin/vmsites" "$at/share/doc/kolbista/examples/profile.vm" | grep '^main ')"
         make -s -C "$here/.." uninstall DESTDIR="$dir/root" PREFIX=/usr
         check "uninstalled: no file is left" same "$(find "$dir/root" -type f)" ""
     else

@@ -1,0 +1,77 @@
+# The table of sites.
+# shellcheck shell=sh disable=SC2154
+sites=$here/sites
+table() {
+    "$sites" -p "$program" "$@" > table 2> table.said
+    status=$?
+}
+
+# The rows of a table, as a profile region tells them, by peak.
+rows_of_table() {
+    tr -d , < "$1" | awk 'NR > 1 && ($1 == "all" || NF < 5) { exit } NR > 1 { print $1 "=" $2 "," $3 "," $4 }' | sort
+}
+
+printf '%s\n' 'open r best 9' 'alloc r a 1000 @main' 'alloc r b 2000 @read' 'alloc r c 500' 'align r d 64 64' 'free r b' 'resize r a 1200 move' \
+    'alloc r e 300 @main' 'free r e' > table.vm
+cat > table.due << 'END'
+site          blocks          bytes           peak   share
+read               0              0          2,000  56.1 %
+main               1          1,200          1,500  28.1 %
+-                  2            564            564  15.8 %
+all                3          1,764          3,564 100.0 %
+
+Blocks and bytes are those at the end, shares those of the peak, behind line 5.
+END
+table table.vm
+check "sites: status 0" same "$status $(cat table.said)" "0 "
+check "sites: the table" diff table.due table
+table -n 1 table.vm
+check "sites: the others in one row" same "$(sed -n 3p table | tr -s ' ')" "2 others 3 1,764 - 43.9 %"
+table < table.vm
+check "sites: of standard input" diff table.due table
+
+# Whatever a profile region counts, with resizes, frees and a clear between.
+awk 'BEGIN {
+    print "open r profile 9"
+    for (i = 1; i <= 3000; i++) {
+        seed = (seed * 1103 + 12345) % 1000003
+        x = seed % 200
+        if (i == 2000) { print "clear r"; split("", live) }
+        if (!(x in live)) { print "alloc r b" x " " 1 + seed % 700 (seed % 7 ? " @s" seed % 23 : ""); live[x] }
+        else if (seed % 3) { print "free r b" x; delete live[x] }
+        else print "resize r b" x " " 1 + seed % 900 " move"
+    }
+}' > counted.vm
+{ cat counted.vm; echo 'profile r'; } | "$program" | tail -n 1 | tr ' ' '\n' | grep = | sort > counted.rows
+table counted.vm
+rows_of_table table > table.rows
+check "sites: blocks, bytes and peaks are those that the program counts" diff counted.rows table.rows
+line=$(sed -n 's/.*behind line \([0-9,]*\)\.$/\1/p' table | tr -d ,)
+{ head -n "$line" counted.vm; echo 'profile r'; } | "$program" | tail -n 1 | tr ' ' '\n' |
+    awk -F '[=,]' 'NF == 4 { bytes[$1] = $3; all += $3 } END { for (s in bytes) printf "%s %.1f\n", s, 100 * bytes[s] / all }' | sort > peak.due
+tr -d , < table | awk 'NR > 1 && $1 == "all" { exit } NR > 1 { print $1, $5 }' | sort > peak.rows
+check "sites: the shares are those of the profile at the peak" diff peak.due peak.rows
+check "sites: of the greatest peak first" same "$(tr -d , < table | awk 'NR > 2 && $1 == "all" { exit } NR > 2 && $4 > last { bad++ } NR > 1 { last = $4 } END { print bad + 0 }')" 0
+
+# What isn't there, and what was refused.
+table -r q table.vm
+check "sites: a region that is never opened" same "$status $(cat table.said)" "1 sites: no region q is ever open: the script opens none"
+table /dev/null
+check "sites: an empty script" same "$status $(cat table.said)" "2 sites: the script opens no region"
+table table.none
+check "sites: no such script" same "$status $(cat table.said)" "2 sites: table.none can't be read"
+printf 'open r best 1\nfrob\n' > bad.vm
+table bad.vm
+check "sites: a bad line" same "$status $(cat table.said)" "1 sites: vmreplay: line 2: unknown command"
+printf '%s\n' 'open r pool 1' 'alloc r a 10 @one' 'alloc r b 11 @two' 'alloc r c 5 @two' > refused.vm
+table refused.vm
+check "sites: what was refused is told, and counts for no site" \
+    same "$status $(cat table.said) $(sed -n '2,3p' table | tr -s ' ' | tr '\n' ' ')" \
+    "3 sites: 1 of 4 commands on region r was refused, the first at line 3: pool size one 1 10 10 66.7 % two 1 5 5 33.3 % "
+check "sites: it is told beneath the table too" same "$(tail -n 1 table)" "1 of 4 commands on region r was refused, the first at line 3: pool size"
+printf '%s\n' 'open r best 1' '# site Zvery_long_7 is very::long(name<int, char>)' 'alloc r a 10 @Zvery_long_7' 'alloc r b 9 @short' > whole.vm
+table whole.vm
+check "sites: the whole name that a recording tells stands behind the row" \
+    same "$(sed -n '1,3s/.*\(share\|%\)//p' table | tr '\n' '|')" "  whole name|  very::long(name<int, char>)||"
+"$here/curve" -s -p "$program" whole.vm > drawn.svg
+check "sites: it stands in the curve of sites" grep -q '>very::long(name&lt;int, char&gt;): at most 10 bytes' drawn.svg
