@@ -3,8 +3,8 @@ use Rattle.vc_base.proofs.Common.{◌≡◌, ℕ, ◌+◌, ◌-◌, ◌*◌, ◌
 use Rattle.vc_seg.specs.Segment.{Bytes}
 use Rattle.vc_seg.specs.Field.{field_at}
 use Rattle.vc_extent.specs.Extent.{Extent, extent_at, extents}
-use Rattle.vc_extent.specs.Tiles.{IsLegal, IsTiled, Tiles}
-use Rattle.vc_extent.specs.Change.{Changes, behind, change_at, extent_in, first_of}
+use Rattle.vc_extent.specs.Tiles.{IsLegal, Tiles}
+use Rattle.vc_extent.specs.Change.{Changes, IsExtentAt, behind, change_at, extent_in, first_of}
 use Rattle.vc_seg.specs.Frame.{StaysBelow}
 use Rattle.vc_extent.proofs.Tiled.{IsPart, part, extents-are, head-front, named-above, off-at, span-at, size-at, tag-at, body-at, inside, tiles-le}
 
@@ -39,87 +39,70 @@ pub record IsWithin (b : List ℕ) (at : ℕ) (e : Extent) : Type 0 where
   pub legal : IsLegal e
   pub fits : e.size + 16 ≤ e.span
 
-pub here : (b : List ℕ) (at : ℕ) → IsTiled b → 0 < (extent_in (at + 16) (extents b)).span → IsPart b (length b - 16) at (extents b)
-here b at t named = part b (length b - 16) 0 16 at (extents b) t.tiles named
-
-pub within : (b : List ℕ) (at : ℕ) → IsTiled b → 0 < (extent_in (at + 16) (extents b)).span → IsWithin b at (extent_in (at + 16) (extents b))
-within b at t named =
-    let p = here b at t named in
-    let e : Extent = extent_in (at + 16) (extents b) in
-    let same : e ≡ extent_at at b = p.head.extent in
-    let start = named-above b (length b - 16) 0 16 (at + 16) (extents b) t.tiles named in
-    let end = tiles-le b (length b - 16) e.span (at + e.span) (behind (at + 16) (extents b)) p.rest in
-    let size : IsSegmentSize (length b) = t.size in
-    let least = size.least in
-    record {
-      off = ap (λ (x : Extent). x.off) same ∙ off-at at b;
-      span = ap (λ (x : Extent). x.span) same ∙ span-at at b;
-      size = ap (λ (x : Extent). x.size) same ∙ size-at at b;
-      tag = ap (λ (x : Extent). x.tag) same ∙ tag-at at b;
-      body = ap (λ (x : Extent). x.body) same ∙ (body-at at b ∙ ap (λ (x : Extent). take x.size (drop (at + 16) b)) (sym same));
-      start = omega arith;
-      end = omega arith;
-      most = size.most;
-      legal = p.head.legal;
-      fits = inside e p.head.legal;
-    }
-
 -- its head, a link and a range of its bytes lie in the segment, and their places are numbers of 32 bits
-module _ (b : List ℕ) (at : ℕ) (tiled : IsTiled b) (named : 0 < (extent_in (at + 16) (extents b)).span) where
+module _ {b : List ℕ} {at : ℕ} (there : IsExtentAt b at) where
+  pub here : IsPart b (length b - 16) at (extents b)
+  here = part b (length b - 16) 0 16 at (extents b) there.tiled.tiles there.named
+
+  pub within : IsWithin b at (extent_in (at + 16) (extents b))
+  within =
+      let e : Extent = extent_in (at + 16) (extents b) in
+      let same : e ≡ extent_at at b = here.head.extent in
+      let start = named-above b (length b - 16) 0 16 (at + 16) (extents b) there.tiled.tiles there.named in
+      let end = tiles-le b (length b - 16) e.span (at + e.span) (behind (at + 16) (extents b)) here.rest in
+      let size : IsSegmentSize (length b) = there.tiled.size in
+      record {
+        off = ap (λ (x : Extent). x.off) same ∙ off-at at b;
+        span = ap (λ (x : Extent). x.span) same ∙ span-at at b;
+        size = ap (λ (x : Extent). x.size) same ∙ size-at at b;
+        tag = ap (λ (x : Extent). x.tag) same ∙ tag-at at b;
+        body = ap (λ (x : Extent). x.body) same ∙ (body-at at b ∙ ap (λ (x : Extent). take x.size (drop (at + 16) b)) (sym same));
+        start = omega arith;
+        end = omega (arith, size.least);
+        most = size.most;
+        legal = here.head.legal;
+        fits = inside e here.head.legal;
+      }
+
   pub head-below : at + 16 < 2 ^ 32
-  head-below =
-      let w = within b at tiled named in
-      let end = w.end in
-      let most = w.most in
-      omega arith
+  head-below = omega (arith, within.end, within.most)
 
   pub head-room : at + 48 ≤ length b
-  head-room =
-      let w = within b at tiled named in
-      let end = w.end in
-      let least = w.legal.least in
-      omega arith
+  head-room = omega (arith, within.end, within.legal.least)
 
   pub link-below : (k : ℕ) → k < 3 → at + 16 + 4 * k < 2 ^ 32
-  link-below k few = omega (arith, few, head-room, (within b at tiled named).most)
-
-  pub range-below : (off n : ℕ) → off + n ≤ (extent_in (at + 16) (extents b)).size → at + 16 + off < 2 ^ 32
-  range-below off n inner =
-      let w = within b at tiled named in
-      let end = w.end in
-      let most = w.most in
-      let fits = w.fits in
-      omega (arith, inner)
+  link-below k few = omega (arith, few, head-room, within.most)
 
   pub range-room : (off n : ℕ) → off + n ≤ (extent_in (at + 16) (extents b)).size → at + 16 + off + n ≤ length b
-  range-room off n inner =
-      let w = within b at tiled named in
-      let end = w.end in
-      let fits = w.fits in
-      omega (arith, inner)
+  range-room off n inner = omega (arith, inner, within.end, within.fits)
+
+  pub range-below : (off n : ℕ) → off + n ≤ (extent_in (at + 16) (extents b)).size → at + 16 + off < 2 ^ 32
+  range-below off n inner = omega (arith, range-room off n inner, within.most)
+
+pub ruleset room_steps = (head-below, head-room, link-below)
 
 -- what tiles the segment behind an extent whose span is known, and what an extent is by its name and its span
-module _ (b : List ℕ) (at bytes : ℕ) (tiled : IsTiled b) (named : 0 < (extent_in (at + 16) (extents b)).span) (is : bytes ≡ (extent_in (at + 16) (extents b)).span) where
+module _ {b : List ℕ} {at bytes : ℕ} (there : IsExtentAt b at) (is : bytes ≡ (extent_in (at + 16) (extents b)).span) where
   pub rest-tiles : Tiles b (length b - 16) bytes (at + bytes) (behind (at + 16) (extents b))
-  rest-tiles = subst (λ (k : ℕ). Tiles b (length b - 16) k (at + k) (behind (at + 16) (extents b))) (sym is) (here b at tiled named).rest
+  rest-tiles = subst (λ (k : ℕ). Tiles b (length b - 16) k (at + k) (behind (at + 16) (extents b))) (sym is) (here there).rest
 
   pub own-tiles : (n : List ℕ) (stop before : ℕ) (list : ℕ → ℕ → List Extent) → Tiles n stop before at (list (at + 16) bytes) → Tiles n stop before at (list (extent_in (at + 16) (extents b)).off (extent_in (at + 16) (extents b)).span)
   own-tiles n stop before list t =
-      subst (λ (k : ℕ). Tiles n stop before at (list k (extent_in (at + 16) (extents b)).span)) (sym (within b at tiled named).off)
+      subst (λ (k : ℕ). Tiles n stop before at (list k (extent_in (at + 16) (extents b)).span)) (sym (within there).off)
       (subst (λ (k : ℕ). Tiles n stop before at (list (at + 16) k)) is t)
 
 -- a tiled segment whose bytes below an extent stay, and which is tiled from there on
-pub changed : (o n : Bytes) (at : ℕ) (change : Extent → List Extent → List Extent) → IsTiled o.bytes → 0 < (extent_in (at + 16) (extents o.bytes)).span → StaysBelow at o n →
+pub changed : (o n : Bytes) (at : ℕ) (change : Extent → List Extent → List Extent) → IsExtentAt o.bytes at → StaysBelow at o n →
     Tiles n.bytes (length n.bytes - 16) (field_at (at + 12) o.bytes) at (change (extent_in (at + 16) (extents o.bytes)) (behind (at + 16) (extents o.bytes))) → Changes (at + 16) change o n
-changed o n at change t named s made =
+changed o n at change there s made =
     let es : List Extent = extents o.bytes in
-    let old : Tiles o.bytes (length n.bytes - 16) 0 16 es = subst (λ (k : ℕ). Tiles o.bytes (k - 16) 0 16 es) (sym s.len) t.tiles in
-    let tiles : Tiles n.bytes (length n.bytes - 16) 0 16 (change_at (at + 16) change es) = tiles-changed o.bytes n.bytes (length n.bytes - 16) 0 16 at change es s.below old named made in
+    let old : Tiles o.bytes (length n.bytes - 16) 0 16 es = subst (λ (k : ℕ). Tiles o.bytes (k - 16) 0 16 es) (sym s.len) there.tiled.tiles in
+    let tiles : Tiles n.bytes (length n.bytes - 16) 0 16 (change_at (at + 16) change es) = tiles-changed o.bytes n.bytes (length n.bytes - 16) 0 16 at change es s.below old there.named made in
     let are : extents n.bytes ≡ change_at (at + 16) change es = extents-are n.bytes (change_at (at + 16) change es) tiles in
     record {
       number = s.number;
       len = s.len;
-      tiled = record { size = subst IsSegmentSize (sym s.len) t.size; tiles = subst (Tiles n.bytes (length n.bytes - 16) 0 16) (sym are) tiles };
+      tiled = record { size = subst IsSegmentSize (sym s.len) there.tiled.size; tiles = subst (Tiles n.bytes (length n.bytes - 16) 0 16) (sym are) tiles };
       extents = are;
     }
 
@@ -155,6 +138,6 @@ behind-within b p at r (g ∷ es) size t some e =
     record { end = omega arith; least = omega arith; multiple = rw s legal.multiple }
 
 -- the extent that was changed, in the segment after the change
-pub renamed : (o n : Bytes) (at : ℕ) (change : Extent → List Extent → List Extent) (x : Extent) (ys : List Extent) → IsTiled o.bytes → 0 < (extent_in (at + 16) (extents o.bytes)).span → Changes (at + 16) change o n →
+pub renamed : (o n : Bytes) (at : ℕ) (change : Extent → List Extent → List Extent) (x : Extent) (ys : List Extent) → IsExtentAt o.bytes at → Changes (at + 16) change o n →
     change (extent_in (at + 16) (extents o.bytes)) (behind (at + 16) (extents o.bytes)) ≡ x ∷ ys → x.off ≡ at + 16 → extent_in (at + 16) (extents n.bytes) ≡ x
-renamed o n at change x ys t named ch e off = ap (extent_in (at + 16)) ch.extents ∙ named-changed (at + 16) change (extents o.bytes) ys x named off e
+renamed o n at change x ys there ch e off = ap (extent_in (at + 16)) ch.extents ∙ named-changed (at + 16) change (extents o.bytes) ys x there.named off e

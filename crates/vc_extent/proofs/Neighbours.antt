@@ -2,8 +2,8 @@
 use Rattle.vc_base.proofs.Common.{◌≡◌, ℕ, ◌+◌, ◌-◌, ◌%◌, ◌<◌, ◌≤◌, true, false, cond, eqb, ◌≢◌, List, [], ◌∷◌, length, Some, None, Option, option_map, sym, refl, ap, ◌∙◌, subst, ⊎_elim, arith, eq-eqb, ne_eqb, eqb-true, cases_Bool, cases_eq}
 use Rattle.vc_seg.specs.Field.{field_at}
 use Rattle.vc_extent.specs.Extent.{Extent, extents}
-use Rattle.vc_extent.specs.Tiles.{IsTiled, Tiles}
-use Rattle.vc_extent.specs.Change.{extent_in, first_of, last_before}
+use Rattle.vc_extent.specs.Tiles.{IsLegal, Tiles}
+use Rattle.vc_extent.specs.Change.{IsExtentAt, extent_in, first_of, last_before}
 use Rattle.vc_extent.proofs.Tiled.{named-above, off-at, tiles-lt}
 
 abbrev off_of : Option Extent → Option ℕ
@@ -66,30 +66,18 @@ module _ (b : List ℕ) (stop : ℕ) where
       rw t (previous-is e.span (from + e.span) at (Some e) es h.1 (rw t at named) here))
       (cases_Bool (eqb e.off (at + 16)))
 
-  pub previous-within : (p from at : ℕ) (es : List Extent) → Tiles b stop p from es → 0 < (extent_in (at + 16) es).span → p ≤ from → field_at (at + 12) b ≤ at
-  previous-within p from at [] h named le = absurd (omega arith)
-  previous-within p from at (e ∷ es) h named le =
+  -- what holds of the boundary word of the first and of each span at its end, holds of the boundary word at a place
+  pub previous-has : (P : ℕ → ℕ → Type 0) → ((from : ℕ) (e : Extent) → IsLegal e → P e.span (from + e.span)) → (p from at : ℕ) (es : List Extent) → Tiles b stop p from es → 0 < (extent_in (at + 16) es).span → P p from → P (field_at (at + 12) b) at
+  previous-has P each p from at [] h named is = absurd (omega arith)
+  previous-has P each p from at (e ∷ es) h named is =
       let o = head-off p from e es h in
       ⊎_elim
       (λ (t : eqb e.off (at + 16) ≡ true).
       let z = eqb-true e.off (at + 16) t in
       let place : from ≡ at = omega arith in
       let word : field_at (at + 12) b ≡ p = ap (λ k. field_at (k + 12) b) (sym place) ∙ h.0.boundary in
-      omega arith)
-      (λ (t : eqb e.off (at + 16) ≡ false). previous-within e.span (from + e.span) at es h.1 (rw t at named) (omega arith))
-      (cases_Bool (eqb e.off (at + 16)))
-
-  pub previous-multiple : (p from at : ℕ) (es : List Extent) → Tiles b stop p from es → 0 < (extent_in (at + 16) es).span → p % 32 ≡ 0 → field_at (at + 12) b % 32 ≡ 0
-  previous-multiple p from at [] h named m = absurd (omega arith)
-  previous-multiple p from at (e ∷ es) h named m =
-      let o = head-off p from e es h in
-      ⊎_elim
-      (λ (t : eqb e.off (at + 16) ≡ true).
-      let z = eqb-true e.off (at + 16) t in
-      let place : from ≡ at = omega arith in
-      let word : field_at (at + 12) b ≡ p = ap (λ k. field_at (k + 12) b) (sym place) ∙ h.0.boundary in
-      rw word m)
-      (λ (t : eqb e.off (at + 16) ≡ false). previous-multiple e.span (from + e.span) at es h.1 (rw t at named) h.0.legal.multiple)
+      subst (λ k. P k at) (sym word) (subst (P p) place is))
+      (λ (t : eqb e.off (at + 16) ≡ false). previous-has P each e.span (from + e.span) at es h.1 (rw t at named) (each from e h.0.legal))
       (cases_Bool (eqb e.off (at + 16)))
 
   pub previous-named : (p from at : ℕ) (es : List Extent) → Tiles b stop p from es → 0 < (extent_in (at + 16) es).span → from < at → 0 < (extent_in (at + 16 - field_at (at + 12) b) es).span
@@ -112,25 +100,25 @@ module _ (b : List ℕ) (stop : ℕ) where
       (cases_eq (from + e.span) at)
 
 -- of a tiled segment
-module _ (b : List ℕ) (at : ℕ) (t : IsTiled b) (named : 0 < (extent_in (at + 16) (extents b)).span) where
+module _ {b : List ℕ} {at : ℕ} (there : IsExtentAt b at) where
   pub previous : off_of (last_before None (at + 16) (extents b)) ≡ cond (eqb (field_at (at + 12) b) 0) None (Some (at + 16 - field_at (at + 12) b))
-  previous = previous-is b (length b - 16) 0 16 at None (extents b) t.tiles named refl
+  previous = previous-is b (length b - 16) 0 16 at None (extents b) there.tiled.tiles there.named refl
 
   pub boundary-within : field_at (at + 12) b ≤ at
-  boundary-within = previous-within b (length b - 16) 0 16 at (extents b) t.tiles named (omega arith)
+  boundary-within = previous-has b (length b - 16) (λ w k. w ≤ k) (λ from e legal. omega arith) 0 16 at (extents b) there.tiled.tiles there.named (omega arith)
 
   pub boundary-multiple : field_at (at + 12) b % 32 ≡ 0
-  boundary-multiple = previous-multiple b (length b - 16) 0 16 at (extents b) t.tiles named (omega arith)
+  boundary-multiple = previous-has b (length b - 16) (λ w k. w % 32 ≡ 0) (λ from e legal. legal.multiple) 0 16 at (extents b) there.tiled.tiles there.named (omega arith)
 
   pub before-named : field_at (at + 12) b ≢ 0 → 0 < (extent_in (at + 16 - field_at (at + 12) b) (extents b)).span
   before-named some =
-      let above = named-above b (length b - 16) 0 16 (at + 16) (extents b) t.tiles named in
+      let above = named-above b (length b - 16) 0 16 (at + 16) (extents b) there.tiled.tiles there.named in
       ⊎_elim
       (λ (s : at ≡ 16).
-      let same : field_at (at + 12) b ≡ 0 = ap (λ k. field_at (k + 12) b) s ∙ boundary-first b (length b - 16) 0 16 (extents b) t.tiles (subst (λ (k : ℕ). 0 < (extent_in (k + 16) (extents b)).span) s named) in
+      let same : field_at (at + 12) b ≡ 0 = ap (λ k. field_at (k + 12) b) s ∙ boundary-first b (length b - 16) 0 16 (extents b) there.tiled.tiles (subst (λ (k : ℕ). 0 < (extent_in (k + 16) (extents b)).span) s there.named) in
       absurd (some same))
-      (λ (s : at ≡ 16 → ⊥). previous-named b (length b - 16) 0 16 at (extents b) t.tiles named (omega arith))
+      (λ (s : at ≡ 16 → ⊥). previous-named b (length b - 16) 0 16 at (extents b) there.tiled.tiles there.named (omega arith))
       (cases_eq at 16)
 
   pub behind-named : at + (extent_in (at + 16) (extents b)).span < length b - 16 → 0 < (extent_in (at + (extent_in (at + 16) (extents b)).span + 16) (extents b)).span
-  behind-named lt = next-named b (length b - 16) 0 16 at (at + (extent_in (at + 16) (extents b)).span) (extents b) t.tiles named refl lt
+  behind-named lt = next-named b (length b - 16) 0 16 at (at + (extent_in (at + 16) (extents b)).span) (extents b) there.tiled.tiles there.named refl lt

@@ -3,7 +3,7 @@ use Rattle.vc_base.proofs.Common.{◌≡◌, ℕ, zero, suc, ◌+◌, ◌-◌, �
 use Rattle.vc_seg.specs.Segment.{Bytes, IsRegionSegment, pair_of}
 use Rattle.vc_extent.specs.Extent.{Extent, extents}
 use Rattle.vc_extent.specs.Tiles.{IsTiled}
-use Rattle.vc_extent.specs.Change.{extent_in, first_of}
+use Rattle.vc_extent.specs.Change.{IsExtentAt, extent_in, first_of}
 use Rattle.vc_extent.proofs.Neighbours.{next-off}
 use Rattle.vc_extent.proofs.Tiled.{named-above}
 use Rattle.vc_extent.specs.Tiling.{IsFound, IsPlace, IsThere, extent_of, extents_of, index_from, size_of, tiling}
@@ -135,3 +135,7 @@ size-place n i [] d within at first = absurd (omega arith)
 size-place n zero (s ∷ ss) d within at first = rw (eq-eqb s.number n (at s)) refl
 size-place n (suc i) (s ∷ ss) d within at first =
     rw (ne_eqb s.number n (All-head (λ (b : Bytes). b.number ≢ n) s (take i ss) first)) (size-place n i ss d (omega arith) (λ e. at e) (All-tail (λ (b : Bytes). b.number ≢ n) s (take i ss) first))
+
+-- an address that is found names an extent of its segment
+pub there-found : {a i at : ℕ} {segs : List Bytes} → IsFound a segs i at → (d : Bytes) → IsExtentAt (get_or segs i d).bytes at
+there-found f d = record { tiled = f.tiled d; named = f.named d }

@@ -1,10 +1,10 @@
 -- One of several segments changes.
-use Rattle.vc_base.proofs.Common.{◌≡◌, ℕ, zero, suc, ◌+◌, ◌<◌, ◌≤◌, cond, eqb, ◌≢◌, List, [], ◌∷◌, map, length, get_or, take, set, All, HoldsAt, sym, refl, ap, ◌∙◌, subst, ⊎_elim, arith, length-set, get_or-set_other, get_or-set_same, eq-eqb, ne_eqb, cases_eq, All-head, All-set, All-tail, get_or_default, place_of, IsSegmentSize}
+use Rattle.vc_base.proofs.Common.{◌≡◌, ℕ, zero, suc, ◌+◌, ◌<◌, ◌≤◌, cond, eqb, ◌≢◌, List, [], ◌∷◌, map, length, get_or, take, set, All, HoldsAt, sym, refl, ap, ◌∙◌, subst, ⊎_elim, arith, length-set, get_or-set_other, get_or-set_same, eq-eqb, ne_eqb, cases_eq, All-head, All-set, All-tail, get_or_default, ∥∥₁_map, place_of, IsSegmentSize}
 use Rattle.vc_seg.specs.Segment.{Bytes, IsRegionSegment, pair_of}
 use Rattle.vc_extent.specs.Extent.{Extent, extents}
 use Rattle.vc_extent.specs.Tiles.{IsTiled}
 use Rattle.vc_extent.specs.Change.{Changes, change_at, extent_in}
-use Rattle.vc_extent.specs.Tiling.{AreExtents, IsFound, change_extent, change_in, extent_of, extents_of, index_from, tiling}
+use Rattle.vc_extent.specs.Tiling.{AreExtents, IsFound, change_extent, change_in, extent_of, extents_of, index_from, tiling, IsExtentChanged}
 
 -- a list of extents and another segment of the same number
 pub tiling-set : (n i : ℕ) (segs : List Bytes) (new : Bytes) (change : List Extent → List Extent) → i < length segs → All (λ (b : Bytes). b.number ≢ n) (take i segs) → HoldsAt (λ (b : Bytes). b.number ≡ n) segs i → new.number ≡ n → HoldsAt (λ (b : Bytes). extents new.bytes ≡ change (extents b.bytes)) segs i →
@@ -63,27 +63,47 @@ AreExtents-set segs index i new within number len tiled a =
     }
 
 -- the extents behind an address change
-module _ (a i at : ℕ) (segs : List Bytes) (s new : Bytes) (change : Extent → List Extent → List Extent) (f : IsFound a segs i at) (is : s ≡ get_or segs i s) (ch : Changes (at + 16) change s new) where
+module _ {a i at : ℕ} {segs : List Bytes} {s new : Bytes} {change : Extent → List Extent → List Extent} (f : IsFound a segs i at) (is : s ≡ get_or segs i s) (ch : Changes (at + 16) change s new) where
   same : (d : Bytes) → s ≡ get_or segs i d
   same d = is ∙ get_or_default segs i s d f.place.within
 
-  pub tiling-changed : tiling (set segs i new) ≡ change_extent a change (tiling segs)
+  tiling-changed : tiling (set segs i new) ≡ change_extent a change (tiling segs)
   tiling-changed =
       tiling-set (place_of a).0 i segs new (change_at (place_of a).1 change) f.place.within f.place.first f.place.numbered (ch.number ∙ (ap (λ (b : Bytes). b.number) is ∙ f.place.numbered s))
       (λ d. ch.extents ∙ (ap (λ (b : Bytes). change_at (at + 16) change (extents b.bytes)) (same d) ∙ ap (λ k. change_at k change (extents (get_or segs i d).bytes)) f.off))
 
-  pub pairs-changed : map pair_of (set segs i new) ≡ map pair_of segs
+  pairs-changed : map pair_of (set segs i new) ≡ map pair_of segs
   pairs-changed = pairs-set i segs new f.place.within (λ d. (λ j. (ch.number j, ch.len j)) ∙ ap pair_of (same d))
 
-  pub extents-changed : (index : List ℕ) → AreExtents segs index → AreExtents (set segs i new) index
-  extents-changed index = AreExtents-set segs index i new f.place.within (λ d. ch.number ∙ ap (λ (b : Bytes). b.number) (same d)) (λ d. ch.len ∙ ap (λ (b : Bytes). length b.bytes) (same d)) ch.tiled
+  pub is-changed : IsExtentChanged segs (set segs i new) a change
+  is-changed = record { tiling = tiling-changed; pairs = pairs-changed }
 
-  -- what is asked of the segment
-  pub tiled-there : IsTiled s.bytes
-  tiled-there = subst (λ (b : Bytes). IsTiled b.bytes) (sym is) (f.tiled s)
+  pub extents-changed : (index : List ℕ) → ∥ AreExtents segs index ∥₁ → ∥ AreExtents (set segs i new) index ∥₁
+  extents-changed index kept = ∥∥₁_map kept (AreExtents-set segs index i new f.place.within (λ d. ch.number ∙ ap (λ (b : Bytes). b.number) (same d)) (λ d. ch.len ∙ ap (λ (b : Bytes). length b.bytes) (same d)) ch.tiled)
 
-  -- the extent that the address names then
+  -- the extent that the address names before and then
+  pub extent-before : extent_in (at + 16) (extents s.bytes) ≡ extent_of (tiling segs) a
+  extent-before = ap (λ (b : Bytes). extent_in (at + 16) (extents b.bytes)) is ∙ f.extent s
+
   pub extent-changed : extent_of (tiling (set segs i new)) a ≡ extent_in (at + 16) (extents new.bytes)
   extent-changed =
       ap (extent_in (place_of a).1) (extents-set (place_of a).0 i segs new f.place.within f.place.first (ch.number ∙ (ap (λ (b : Bytes). b.number) is ∙ f.place.numbered s)))
       ∙ ap (λ k. extent_in k (extents new.bytes)) (sym f.off)
+
+  -- its bytes stay up to its size, and up to another number
+  pub kept-changed : take (extent_in (at + 16) (extents s.bytes)).size (extent_in (at + 16) (extents new.bytes)).body ≡ (extent_in (at + 16) (extents s.bytes)).body → take (extent_of (tiling segs) a).size (extent_of (tiling (set segs i new)) a).body ≡ (extent_of (tiling segs) a).body
+  kept-changed kept = subst (λ (x : Extent). take x.size (extent_of (tiling (set segs i new)) a).body ≡ x.body) extent-before (ap (λ (x : Extent). take (extent_in (at + 16) (extents s.bytes)).size x.body) extent-changed ∙ kept)
+
+  pub front-changed : (k : ℕ) → take k (extent_in (at + 16) (extents new.bytes)).body ≡ take k (extent_in (at + 16) (extents s.bytes)).body → take k (extent_of (tiling (set segs i new)) a).body ≡ take k (extent_of (tiling segs) a).body
+  front-changed k kept = ap (λ (x : Extent). take k x.body) extent-changed ∙ (kept ∙ ap (λ (x : Extent). take k x.body) extent-before)
+
+  pub length-changed : (n : ℕ) → length (extent_in (at + 16) (extents new.bytes)).body ≡ n → length (extent_of (tiling (set segs i new)) a).body ≡ n
+  length-changed n len = ap (λ (x : Extent). length x.body) extent-changed ∙ len
+
+pub ruleset changed_steps = (is-changed, extents-changed)
+
+-- the same where the change tells the bytes that the extent has then
+module _ {a i at : ℕ} {segs : List Bytes} {s new : Bytes} (made : List ℕ → Extent → List Extent → List Extent) (f : IsFound a segs i at) (is : s ≡ get_or segs i s)
+    (ch : Changes (at + 16) (made (extent_in (at + 16) (extents new.bytes)).body) s new) where
+  pub body-changed : IsExtentChanged segs (set segs i new) a (made (extent_of (tiling (set segs i new)) a).body)
+  body-changed = subst (λ (x : Extent). IsExtentChanged segs (set segs i new) a (made x.body)) (sym (extent-changed f is ch)) (is-changed f is ch)

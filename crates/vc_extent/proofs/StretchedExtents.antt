@@ -3,11 +3,11 @@ use Rattle.vc_base.proofs.Common.{◌≡◌, ℕ, ◌+◌, ◌-◌, ◌<◌, ◌
 use Rattle.vc_base.proofs.Lists.{length-part}
 use Rattle.vc_seg.specs.Segment.{Bytes}
 use Rattle.vc_extent.specs.Extent.{Extent, busy_extent, extents, free_extent, no_links}
-use Rattle.vc_extent.specs.Change.{Changes, behind, extent_in, first_of, stretch}
+use Rattle.vc_extent.specs.Change.{Changes, IsExtentAt, behind, extent_in, first_of, stretch}
 use Rattle.vc_seg.specs.Field.{field_at}
 use Rattle.vc_seg.specs.Frame.{StaysBelow}
 use Rattle.vc_extent.specs.Stretch.{IsStretched}
-use Rattle.vc_extent.specs.Tiles.{IsTiled, Tiles}
+use Rattle.vc_extent.specs.Tiles.{Tiles}
 use Rattle.vc_seg.proofs.Frames.{lower, part-front, then-below}
 use Rattle.vc_extent.proofs.Changed.{IsWithin, changed, renamed, within}
 
@@ -45,21 +45,21 @@ stretch-head : (size : ℕ) (body : List ℕ) (e : Extent) (es : List Extent) �
 stretch-head size body e [] some = absurd (cc)
 stretch-head size body e (g ∷ es) some = (cond (eqb (e.span + g.span) (span size)) es (free_extent (e.off + span size) (e.span + g.span - span size) no_links ∷ es), refl)
 
-pub stretched : (o a n : Bytes) (at size : ℕ) → IsTiled o.bytes → 0 < (extent_in (at + 16) (extents o.bytes)).span → 0 < (extent_in (at + 16) (extents o.bytes)).size → IsSome (first_of (behind (at + 16) (extents o.bytes))) →
+pub stretched : (o a n : Bytes) (at size : ℕ) → IsExtentAt o.bytes at → 0 < (extent_in (at + 16) (extents o.bytes)).size → IsSome (first_of (behind (at + 16) (extents o.bytes))) →
     (extent_in (at + 16) (extents o.bytes)).span < span size → at + span size + 16 ≤ length o.bytes → StaysBelow (at + span size) o a → StaysBelow at a n →
     Tiles n.bytes (length n.bytes - 16) (field_at (at + 12) o.bytes) at (stretch size (take size (drop (at + 16) a.bytes)) (extent_in (at + 16) (extents o.bytes)) (behind (at + 16) (extents o.bytes))) → IsStretched o n at size
-stretched o a n at size t named busy some above fits s u made =
+stretched o a n at size there busy some above fits s u made =
     let e : Extent = extent_in (at + 16) (extents o.bytes) in
     let es : List Extent = behind (at + 16) (extents o.bytes) in
     let body : List ℕ = take size (drop (at + 16) a.bytes) in
-    let w : IsWithin o.bytes at e = within o.bytes at t named in
+    let w : IsWithin o.bytes at e = within there in
     let old = w.fits in
     let end = w.end in
     let spans = w.legal.busy busy in
-    let ch : Changes (at + 16) (stretch size (take size (drop (at + 16) a.bytes))) o n = changed o n at (stretch size (take size (drop (at + 16) a.bytes))) t named (then-below at o a n (lower (at + span size) at o a s (omega arith)) u) made in
+    let ch : Changes (at + 16) (stretch size (take size (drop (at + 16) a.bytes))) o n = changed o n at (stretch size (take size (drop (at + 16) a.bytes))) there (then-below at o a n (lower (at + span size) at o a s (omega arith)) u) made in
     let head = stretch-head size (take size (drop (at + 16) a.bytes)) e es some in
     let is : (extent_in (at + 16) (extents n.bytes)).body ≡ take size (drop (at + 16) a.bytes) =
-    ap (λ (x : Extent). x.body) (renamed o n at (stretch size (take size (drop (at + 16) a.bytes))) (busy_extent e.off (span size) size e.tag (take size (drop (at + 16) a.bytes))) head.0 t named ch head.1 w.off) in
+    ap (λ (x : Extent). x.body) (renamed o n at (stretch size (take size (drop (at + 16) a.bytes))) (busy_extent e.off (span size) size e.tag (take size (drop (at + 16) a.bytes))) head.0 there ch head.1 w.off) in
     record {
       change = subst (λ (b : List ℕ). Changes (at + 16) (stretch size b) o n) (sym is) ch;
       len = ap length is ∙ length-part a.bytes (at + 16) size (omega (arith, s.len));

@@ -1,5 +1,5 @@
 -- A list of extents and what becomes of it where one of them changes.
-use Rattle.std.specs.Prelude.{◌≡◌, ℕ, ◌+◌, ◌-◌, ◌<◌, List, [], ◌∷◌, Option, Some, None, length, take, ◌==◌, if◌then◌else◌}
+use Rattle.std.specs.Prelude.{◌≡◌, ℕ, ◌+◌, ◌-◌, ◌<◌, ◌≤◌, List, [], ◌∷◌, Option, Some, None, length, take, ◌==◌, if◌then◌else◌}
 use Rattle.vc_model.specs.Bytes.{with_bytes}
 use Rattle.vc_model.specs.Segments.{span}
 use Rattle.vc_seg.specs.Segment.{Bytes}
@@ -15,6 +15,21 @@ extent_in off (e ∷ es) = if e.off == off then e else extent_in off es
 pub record IsExtentAt (bytes : List ℕ) (at : ℕ) : Type 0 where
   pub tiled : IsTiled bytes
   pub named : 0 < (extent_in (at + 16) (extents bytes)).span
+
+-- it is a busy one, a free one
+pub record IsBusyAt (bytes : List ℕ) (at : ℕ) : Type 0 where
+  pub there : IsExtentAt bytes at
+  pub busy : 0 < (extent_in (at + 16) (extents bytes)).size
+
+pub record IsFreeAt (bytes : List ℕ) (at : ℕ) : Type 0 where
+  pub there : IsExtentAt bytes at
+  pub free : (extent_in (at + 16) (extents bytes)).size ≡ 0
+
+-- its span is that of a block of a size
+pub record IsRoomFor (size : ℕ) (bytes : List ℕ) (at : ℕ) : Type 0 where
+  pub there : IsExtentAt bytes at
+  pub some : 1 ≤ size
+  pub span : span size ≡ (extent_in (at + 16) (extents bytes)).span
 
 -- the extents behind it
 abbrev pub behind : ℕ → List Extent → List Extent

@@ -23,6 +23,11 @@ abbrev pub Tiles : List ℕ → ℕ → ℕ → ℕ → List Extent → Type 0
 Tiles bytes stop before at [] = at ≡ stop
 Tiles bytes stop before at (e ∷ es) = IsHead bytes before at e × Tiles bytes stop e.span (at + e.span) es
 
+-- a place lies 16 bytes or more before the end of a segment
+pub record EndsWithin (bytes : List ℕ) (end : ℕ) : Type 0 where
+  pub within : end + 16 ≤ length bytes
+  pub most : length bytes ≤ 33554432
+
 -- all between the first and the last 16 bytes of a segment is extents
 pub record IsTiled (bytes : List ℕ) : Type 0 where
   pub size : IsSegmentSize (length bytes)

@@ -1,7 +1,8 @@
 -- Numbered segments of extents, as definitions over their bytes.
 use Rattle.std.specs.Prelude.{◌≡◌, ◌≢◌, ℕ, ◌+◌, ◌-◌, ◌%◌, ◌<◌, List, [], ◌∷◌, All, Option, None, Some, IsSome, length, map, take, slice_index, nat_lt, ◌==◌, if◌then◌else◌}
 use Rattle.std.specs.List.{HoldsAt}
-use Rattle.vc_model.specs.Addr.{place_of}
+use Rattle.vc_model.specs.Addr.{address, place_of}
+use Rattle.vc_model.specs.Segments.{span}
 use Rattle.vc_seg.specs.Segment.{AreSegments, Bytes, pair_of}
 use Rattle.vc_extent.specs.Extent.{Extent, extents}
 use Rattle.vc_extent.specs.Change.{behind, change_at, extent_in, first_of, last_before}
@@ -40,6 +41,18 @@ next_of t a = first_of (behind (place_of a).1 (extents_of (place_of a).0 t))
 
 abbrev pub previous_of : List (ℕ × List Extent) → ℕ → Option Extent
 previous_of t a = last_before None (place_of a).1 (extents_of (place_of a).0 t)
+
+-- of segments, the extent that an address names, and the one behind it, where there is one
+abbrev pub extent_named : List Bytes → ℕ → Extent
+extent_named segs = extent_of (tiling segs)
+
+abbrev pub extent_behind : List Bytes → ℕ → Option Extent
+extent_behind segs = next_of (tiling segs)
+
+-- the address of what the extent behind one keeps that gives it the bytes of a size, 0 where it keeps none
+abbrev pub rest_behind : ℕ → List Bytes → ℕ → Extent → ℕ
+rest_behind size segs a next =
+    if (extent_named segs a).span + next.span == span size then 0 else address ((place_of a).0, (place_of a).1 + span size)
 
 -- an address names an extent, a free one, a busy one
 abbrev pub IsNamed : List (ℕ × List Extent) → ℕ → Type 0

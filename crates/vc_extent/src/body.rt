@@ -1,6 +1,8 @@
+#![tactic(auto, using(crate::proofs::Changed::room_steps))]
+
 ghost use Rattle.std.specs.Prelude.{◌≡◌, ◌+◌, ◌*◌, ◌<◌, ◌≤◌, length, replicate, take, drop};
 ghost use Rattle.vc_extent.specs.Extent.{extents};
-ghost use Rattle.vc_extent.specs.Change.{Changes, IsExtentAt, extent_in, link_in, set_link, write};
+ghost use Rattle.vc_extent.specs.Change.{Changes, IsBusyAt, IsExtentAt, IsFreeAt, extent_in, link_in, set_link, write};
 
 use crate::read::size_in;
 use vc_seg::Segment;
@@ -19,8 +21,7 @@ pub(crate) fn body_in(seg: &Segment, at: u32) -> &[u8]
 // Puts bytes into the busy extent from a place on, from an offset in it on.
 #[inline(always)]
 pub(crate) fn put_in(seg: &mut Segment, at: u32, off: u32, src: &[u8])
-    requires there { IsExtentAt seg.old.bytes at }
-    requires busy { 0 < (extent_in (at + 16) (extents seg.old.bytes)).size }
+    requires busy { IsBusyAt seg.old.bytes at }
     requires within { off + length src.now ≤ (extent_in (at + 16) (extents seg.old.bytes)).size }
     ensures { Changes (at + 16) (write off src.now) seg.old seg.new }
 {
@@ -29,8 +30,7 @@ pub(crate) fn put_in(seg: &mut Segment, at: u32, off: u32, src: &[u8])
 
 // Fills a range of the busy extent from a place on, from an offset in it on, with one byte.
 pub(crate) fn fill_in(seg: &mut Segment, at: u32, off: u32, len: u32, byte: u8)
-    requires there { IsExtentAt seg.old.bytes at }
-    requires busy { 0 < (extent_in (at + 16) (extents seg.old.bytes)).size }
+    requires busy { IsBusyAt seg.old.bytes at }
     requires within { off + len ≤ (extent_in (at + 16) (extents seg.old.bytes)).size }
     ensures { Changes (at + 16) (write off (replicate len byte)) seg.old seg.new }
 {
@@ -40,8 +40,7 @@ pub(crate) fn fill_in(seg: &mut Segment, at: u32, off: u32, len: u32, byte: u8)
 // Link k of the free extent from a place on, from 0 to 2.
 #[inline(always)]
 pub(crate) fn link_at(seg: &Segment, at: u32, k: u32) -> u32
-    requires there { IsExtentAt seg.now.bytes at }
-    requires free { (extent_in (at + 16) (extents seg.now.bytes)).size ≡ 0 }
+    requires free { IsFreeAt seg.now.bytes at }
     requires k { k < 3 }
     ensures { result ≡ link_in k (extent_in (at + 16) (extents seg.now.bytes)).links }
 {
@@ -51,8 +50,7 @@ pub(crate) fn link_at(seg: &Segment, at: u32, k: u32) -> u32
 // Sets link k of the free extent from a place on, from 0 to 2.
 #[inline(always)]
 pub(crate) fn set_link_at(seg: &mut Segment, at: u32, k: u32, v: u32)
-    requires there { IsExtentAt seg.old.bytes at }
-    requires free { (extent_in (at + 16) (extents seg.old.bytes)).size ≡ 0 }
+    requires free { IsFreeAt seg.old.bytes at }
     requires k { k < 3 }
     ensures { Changes (at + 16) (set_link k v) seg.old seg.new }
 {

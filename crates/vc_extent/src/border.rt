@@ -1,7 +1,9 @@
+#![tactic(auto, using(crate::proofs::Sets::changed_steps))]
+
 ghost use Rattle.std.specs.Prelude.{◌≡◌, ◌+◌, ◌<◌, ◌≤◌, ◌==◌, IfSome, IsSomeAnd, if◌then◌else◌, length, map, take};
 ghost use Rattle.vc_base.specs.Prelude.{address, place_of, span};
 ghost use Rattle.vc_extent.specs.Change.{shrink, stretch};
-ghost use Rattle.vc_extent.specs.Tiling.{IsBusy, IsExtentChanged, extent_of, next_of, tiling};
+ghost use Rattle.vc_extent.specs.Tiling.{IsBusy, IsExtentChanged, extent_behind, extent_named, rest_behind, tiling};
 
 use crate::edit::{shrink_in, stretch_in};
 use crate::extents::Extents;
@@ -14,19 +16,18 @@ impl Extents {
     /// where that is used up.
     pub fn stretch(&mut self, a: Addr, size: u32) -> Addr
         requires busy { IsBusy (tiling self.old.segs.items) a.0 }
-        requires next { IsSomeAnd (next_of (tiling self.old.segs.items) a.0) (λ e. e.size ≡ 0) }
-        requires above { (extent_of (tiling self.old.segs.items) a.0).span < span size }
-        requires fits { IfSome (next_of (tiling self.old.segs.items) a.0)
-            (λ e. span size ≤ (extent_of (tiling self.old.segs.items) a.0).span + e.span) }
+        requires next { IsSomeAnd (extent_behind self.old.segs.items a.0) (λ e. e.size ≡ 0) }
+        requires above { (extent_named self.old.segs.items a.0).span < span size }
+        requires fits { IfSome (extent_behind self.old.segs.items a.0)
+            (λ e. span size ≤ (extent_named self.old.segs.items a.0).span + e.span) }
         ensures changed { IsExtentChanged self.old.segs.items self.new.segs.items a.0
-            (stretch size (extent_of (tiling self.new.segs.items) a.0).body) }
-        ensures len { length (extent_of (tiling self.new.segs.items) a.0).body ≡ size }
-        ensures kept { take (extent_of (tiling self.old.segs.items) a.0).size
-            (extent_of (tiling self.new.segs.items) a.0).body
-            ≡ (extent_of (tiling self.old.segs.items) a.0).body }
-        ensures rest { IfSome (next_of (tiling self.old.segs.items) a.0) (λ e. result.0
-            ≡ (if (extent_of (tiling self.old.segs.items) a.0).span + e.span == span size
-            then 0 else address ((place_of a.0).0, (place_of a.0).1 + span size))) }
+            (stretch size (extent_named self.new.segs.items a.0).body) }
+        ensures len { length (extent_named self.new.segs.items a.0).body ≡ size }
+        ensures kept { take (extent_named self.old.segs.items a.0).size
+            (extent_named self.new.segs.items a.0).body
+            ≡ (extent_named self.old.segs.items a.0).body }
+        ensures rest { IfSome (extent_behind self.old.segs.items a.0)
+            (λ e. result.0 ≡ rest_behind size self.old.segs.items a.0 e) }
     {
         let (place, at) = self.find(a);
         let left = stretch_in(&mut self.segs[place], at, size);
@@ -41,7 +42,7 @@ impl Extents {
     pub fn shrink(&mut self, a: Addr, size: u32) -> Addr
         requires busy { IsBusy (tiling self.old.segs.items) a.0 }
         requires some { 1 ≤ size }
-        requires below { span size < (extent_of (tiling self.old.segs.items) a.0).span }
+        requires below { span size < (extent_named self.old.segs.items a.0).span }
         ensures changed { IsExtentChanged self.old.segs.items self.new.segs.items a.0
             (shrink size) }
         ensures rest { result.0 ≡ address ((place_of a.0).0, (place_of a.0).1 + span size) }

@@ -1,3 +1,5 @@
+#![tactic(auto, using(crate::proofs::Sets::changed_steps))]
+
 ghost use Rattle.std.specs.Prelude.{◌≡◌, ◌+◌, ◌<◌, ◌≤◌, length, map, replicate, take};
 ghost use Rattle.vc_extent.specs.Change.{link_in, set_link, write};
 ghost use Rattle.vc_extent.specs.Tiling.{IsBusy, IsFree, IsExtentChanged, extent_of, tiling};

@@ -1,3 +1,5 @@
+#![tactic(auto, using(crate::proofs::Sets::changed_steps))]
+
 ghost use Rattle.std.specs.Prelude.{◌≡◌, ℕ, ◌+◌, ◌%◌, ◌<◌, ◌≤◌, IfSome, IsSome, IsSomeAnd, length, map, take};
 ghost use Rattle.vc_base.specs.Prelude.{address, place_of, span};
 ghost use Rattle.vc_extent.specs.Change.{join, mark_busy, mark_free, set_size, split};

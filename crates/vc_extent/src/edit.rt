@@ -1,7 +1,8 @@
 ghost use Rattle.std.specs.Prelude.{◌≡◌, ℕ, ◌+◌, ◌%◌, ◌<◌, ◌≤◌, IfSome, IsSome, length, min, take};
 ghost use Rattle.vc_base.specs.Prelude.{span};
 ghost use Rattle.vc_extent.specs.Extent.{extents};
-ghost use Rattle.vc_extent.specs.Change.{Changes, IsExtentAt, behind, extent_in, first_of, join, mark_busy, mark_free, set_size, shrink, split};
+ghost use Rattle.vc_extent.specs.Change.{Changes, IsBusyAt, IsExtentAt, IsRoomFor, behind, extent_in, first_of, join, mark_busy, mark_free, set_size, shrink, split};
+ghost use Rattle.vc_extent.specs.Tiles.{EndsWithin};
 ghost use Rattle.vc_extent.specs.Stretch.{CanStretch, IsStretched};
 
 use crate::lay::{lay_busy, lay_free, lay_rest, set_boundary};
@@ -35,9 +36,7 @@ pub(crate) fn join_in(seg: &mut Segment, at: u32)
 
 // Makes the free extent from a place on a busy one.
 pub(crate) fn mark_busy_in(seg: &mut Segment, at: u32, size: u32, tag: u32)
-    requires there { IsExtentAt seg.old.bytes at }
-    requires some { 1 ≤ size }
-    requires span { span size ≡ (extent_in (at + 16) (extents seg.old.bytes)).span }
+    requires { IsRoomFor size seg.old.bytes at }
     ensures change { Changes (at + 16)
         (mark_busy size tag (extent_in (at + 16) (extents seg.new.bytes)).body) seg.old seg.new }
     ensures len { length (extent_in (at + 16) (extents seg.new.bytes)).body ≡ size }
@@ -57,9 +56,7 @@ pub(crate) fn mark_free_in(seg: &mut Segment, at: u32)
 
 // Gives the busy extent from a place on another size with the same span.
 pub(crate) fn set_size_in(seg: &mut Segment, at: u32, size: u32)
-    requires there { IsExtentAt seg.old.bytes at }
-    requires some { 1 ≤ size }
-    requires span { span size ≡ (extent_in (at + 16) (extents seg.old.bytes)).span }
+    requires { IsRoomFor size seg.old.bytes at }
     ensures change { Changes (at + 16)
         (set_size size (extent_in (at + 16) (extents seg.new.bytes)).body) seg.old seg.new }
     ensures len { length (extent_in (at + 16) (extents seg.new.bytes)).body ≡ size }
@@ -79,8 +76,7 @@ pub(crate) fn stretch_in(seg: &mut Segment, at: u32, size: u32) -> u32
     ensures stretched { IsStretched seg.old seg.new at size }
     ensures left { IfSome (first_of (behind (at + 16) (extents seg.old.bytes)))
         (λ e. result + span size ≡ (extent_in (at + 16) (extents seg.old.bytes)).span + e.span) }
-    ensures within { at + span size + result + 16 ≤ length seg.old.bytes }
-    ensures most { length seg.old.bytes ≤ 33554432 }
+    ensures within { EndsWithin seg.old.bytes (at + span size + result) }
 {
     let first = span_in(seg, at);
     let whole = first + span_behind(seg, at, first);
@@ -98,8 +94,7 @@ pub(crate) fn stretch_in(seg: &mut Segment, at: u32, size: u32) -> u32
 
 // Leaves what a lesser size of the busy extent from a place on doesn't want to a free one behind it.
 pub(crate) fn shrink_in(seg: &mut Segment, at: u32, size: u32)
-    requires there { IsExtentAt seg.old.bytes at }
-    requires busy { 0 < (extent_in (at + 16) (extents seg.old.bytes)).size }
+    requires busy { IsBusyAt seg.old.bytes at }
     requires some { 1 ≤ size }
     requires below { span size < (extent_in (at + 16) (extents seg.old.bytes)).span }
     ensures change { Changes (at + 16) (shrink size) seg.old seg.new }

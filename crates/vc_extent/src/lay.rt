@@ -3,14 +3,13 @@ ghost use Rattle.vc_base.specs.Prelude.{IsSegmentSize, span};
 ghost use Rattle.vc_seg.specs.Field.{field_at};
 ghost use Rattle.vc_extent.specs.Extent.{Extent, busy_extent, extents, free_extent, no_links};
 ghost use Rattle.vc_seg.specs.Frame.{StaysBelow, StaysOutside};
-ghost use Rattle.vc_extent.specs.Tiles.{IsTiled, Tiles};
+ghost use Rattle.vc_extent.specs.Tiles.{EndsWithin, IsTiled, Tiles};
 
 use vc_seg::Segment;
 
 // Tells the extent from a place on, where there is one, that the one before it has that span.
 pub(crate) fn set_boundary(seg: &mut Segment, at: u32, before: u32)
-    requires within { at + 16 ≤ length seg.old.bytes }
-    requires most { length seg.old.bytes ≤ 33554432 }
+    requires within { EndsWithin seg.old.bytes at }
     ensures tiles { (p : ℕ) (es : List Extent)
         → Tiles seg.old.bytes (length seg.old.bytes - 16) p at es
         → Tiles seg.new.bytes (length seg.new.bytes - 16) before at es }
@@ -37,8 +36,7 @@ fn set_head(seg: &mut Segment, at: u32, span: u32, size: u32, tag: u32)
 
 // Makes a busy extent of a span from a place on, before what tiles the segment from its end on.
 pub(crate) fn lay_busy(seg: &mut Segment, at: u32, bytes: u32, size: u32, tag: u32)
-    requires within { at + bytes + 16 ≤ length seg.old.bytes }
-    requires most { length seg.old.bytes ≤ 33554432 }
+    requires within { EndsWithin seg.old.bytes (at + bytes) }
     requires some { 1 ≤ size }
     requires span { bytes ≡ span size }
     ensures tiles { (es : List Extent)
@@ -52,8 +50,7 @@ pub(crate) fn lay_busy(seg: &mut Segment, at: u32, bytes: u32, size: u32, tag: u
 
 // Makes a free extent of a span from a place on, before what tiles the segment from its end on. Its links are 0.
 pub(crate) fn lay_free(seg: &mut Segment, at: u32, bytes: u32)
-    requires within { at + bytes + 16 ≤ length seg.old.bytes }
-    requires most { length seg.old.bytes ≤ 33554432 }
+    requires within { EndsWithin seg.old.bytes (at + bytes) }
     requires least { 32 ≤ bytes }
     requires multiple { bytes % 32 ≡ 0 }
     ensures tiles { (es : List Extent)
@@ -71,8 +68,7 @@ pub(crate) fn lay_free(seg: &mut Segment, at: u32, bytes: u32)
 // Makes a free extent of what is left of a whole behind its first bytes, before what tiles the segment from the end of
 // the whole on.
 pub(crate) fn lay_rest(seg: &mut Segment, at: u32, whole: u32, bytes: u32)
-    requires within { at + whole + 16 ≤ length seg.old.bytes }
-    requires most { length seg.old.bytes ≤ 33554432 }
+    requires within { EndsWithin seg.old.bytes (at + whole) }
     requires less { bytes < whole }
     requires whole { whole % 32 ≡ 0 }
     requires multiple { bytes % 32 ≡ 0 }

@@ -1,3 +1,5 @@
+#![tactic(auto, using(crate::proofs::Changed::room_steps))]
+
 ghost use Rattle.std.specs.Prelude.{◌≡◌, ◌+◌, ◌%◌, ◌<◌, ◌≤◌, IfSome, IsSome, length};
 ghost use Rattle.vc_extent.specs.Extent.{extents};
 ghost use Rattle.vc_extent.specs.Change.{IsExtentAt, behind, extent_in, first_of};

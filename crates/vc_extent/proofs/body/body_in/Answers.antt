@@ -5,7 +5,7 @@ use Rattle.vc_extent.proofs.body.body_in.Goals as goal
 
 pub returns-clause-bytes : goal.returns-clause-bytes
 returns-clause-bytes c =
-    let w = within c.args.seg.now.bytes c.args.at c.requires.there.tiled c.requires.there.named in
+    let w = within c.requires.there in
     c.bytes.ensures ∙ (ap (λ k. take k (drop (c.args.at + 16) c.args.seg.now.bytes)) c.size_in-size.ensures.value ∙ sym w.body)
 
 pub returns-clause-len : goal.returns-clause-len

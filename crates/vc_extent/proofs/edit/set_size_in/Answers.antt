@@ -1,54 +1,23 @@
-use Rattle.vc_base.proofs.Common.{◌≡◌, ℕ, ◌+◌, ◌-◌, List, ◌∷◌, length, take, drop, sym, refl, ap, ◌∙◌, subst, arith, take-take}
-use Rattle.vc_base.proofs.Lists.{length-part}
-use Rattle.vc_seg.specs.Segment.{Bytes}
-use Rattle.vc_extent.specs.Extent.{Extent, extents, busy_extent}
-use Rattle.vc_extent.specs.Change.{Changes, behind, extent_in, set_size}
-use Rattle.vc_seg.specs.Field.{field_at}
-use Rattle.vc_extent.specs.Tiles.{Tiles}
-use Rattle.vc_extent.proofs.Changed.{changed, own-tiles, renamed, rest-tiles, within}
+use Rattle.vc_base.proofs.Common.{◌≡◌, ℕ, ◌+◌, List, ◌∷◌, take, drop, sym, ap, ◌∙◌, take-take}
+use Rattle.vc_extent.specs.Extent.{Extent, busy_extent, extents}
+use Rattle.vc_extent.specs.Change.{behind, extent_in, set_size}
+use Rattle.vc_extent.proofs.Changed.{within}
+use Rattle.vc_extent.proofs.MarkedExtents.{laid-body, laid-changes, laid-length}
 use Rattle.vc_extent.proofs.edit.set_size_in.Goals as goal
-use Rattle.vc_extent.proofs.edit.set_size_in.Goals.{After-lay_busy}
 
-abbrev body : (c : After-lay_busy) → List ℕ
-body c = take c.args.size (drop (c.args.at + 16) c.args.seg.now.bytes)
-
-made : (c : After-lay_busy) → Changes (c.args.at + 16) (set_size c.args.size (body c)) c.args.seg.now c.lay_busy.new.seg
-made c =
-    let o : Bytes = c.args.seg.now in
-    let n : Bytes = c.lay_busy.new.seg in
-    let es : List Extent = behind (c.args.at + 16) (extents o.bytes) in
-    let span = c.span_in-bytes.ensures.value in
-    let list : ℕ → ℕ → ℕ → List Extent = λ tag off k. busy_extent off k c.args.size tag (body c) ∷ es in
-    changed o n c.args.at (set_size c.args.size (body c)) c.requires.there.tiled c.requires.there.named c.lay_busy.ensures.rest
-    (own-tiles o.bytes c.args.at c.span_in-bytes.result c.requires.there.tiled c.requires.there.named span n.bytes (length n.bytes - 16) (field_at (c.args.at + 12) o.bytes) (list (extent_in (c.args.at + 16) (extents o.bytes)).tag)
-    (subst (λ (t : ℕ). Tiles n.bytes (length n.bytes - 16) (field_at (c.args.at + 12) o.bytes) c.args.at (list t (c.args.at + 16) c.span_in-bytes.result)) c.tag_in-tag.ensures
-    (c.lay_busy.ensures.tiles es (rest-tiles o.bytes c.args.at c.span_in-bytes.result c.requires.there.tiled c.requires.there.named span))))
-
-is : (c : After-lay_busy) → (extent_in (c.args.at + 16) (extents c.lay_busy.new.seg.bytes)).body ≡ body c
-is c =
-    let at = c.args.at in
-    let o : Bytes = c.args.seg.now in
-    let e : Extent = extent_in (at + 16) (extents o.bytes) in
-    let w = within o.bytes at c.requires.there.tiled c.requires.there.named in
-    ap (λ (x : Extent). x.body) (renamed o c.lay_busy.new.seg at (set_size c.args.size (body c)) (busy_extent e.off e.span c.args.size e.tag (body c)) (behind (at + 16) (extents o.bytes)) c.requires.there.tiled c.requires.there.named (made c) refl w.off)
+-- the tag that was read is that of the extent
+retagged : (e : Extent) (es : List Extent) (size tag : ℕ) → tag ≡ e.tag → (b : List ℕ) → set_size size b e es ≡ busy_extent e.off e.span size tag b ∷ es
+retagged e es size tag is b = ap (λ t. busy_extent e.off e.span size t b ∷ es) (sym is)
 
 pub returns-clause-change : goal.returns-clause-change
-returns-clause-change c =
-    let h = (goal.at.returns-clause-change c).After-lay_busy in
-    subst (λ (b : List ℕ). Changes (c.args.at + 16) (set_size c.args.size b) c.args.seg.now c.lay_busy.new.seg) (sym (is h)) (made h)
+returns-clause-change c = laid-changes c.args.seg.now c.lay_busy.new.seg c.args.at c.span_in-bytes.result c.args.size c.tag_in-tag.result (set_size c.args.size) c.requires.there c.span_in-bytes.ensures.value (c.requires.span ∙ sym c.span_in-bytes.ensures.value) (retagged (extent_in (c.args.at + 16) (extents c.args.seg.now.bytes)) (behind (c.args.at + 16) (extents c.args.seg.now.bytes)) c.args.size c.tag_in-tag.result c.tag_in-tag.ensures) c.lay_busy.ensures.rest c.lay_busy.ensures.tiles
 
 pub returns-clause-len : goal.returns-clause-len
-returns-clause-len c =
-    let h = (goal.at.returns-clause-len c).After-lay_busy in
-    let w = within c.args.seg.now.bytes c.args.at c.requires.there.tiled c.requires.there.named in
-    let end = w.end in
-    ap length (is h) ∙ length-part c.args.seg.now.bytes (c.args.at + 16) c.args.size (omega (arith, c.requires.span))
+returns-clause-len c = laid-length c.args.seg.now c.lay_busy.new.seg c.args.at c.span_in-bytes.result c.args.size c.tag_in-tag.result (set_size c.args.size) c.requires.there c.span_in-bytes.ensures.value (c.requires.span ∙ sym c.span_in-bytes.ensures.value) (retagged (extent_in (c.args.at + 16) (extents c.args.seg.now.bytes)) (behind (c.args.at + 16) (extents c.args.seg.now.bytes)) c.args.size c.tag_in-tag.result c.tag_in-tag.ensures) c.lay_busy.ensures.rest c.lay_busy.ensures.tiles
 
 pub returns-clause-kept : goal.returns-clause-kept
 returns-clause-kept c =
     λ k new old.
-    let h = (goal.at.returns-clause-kept c).After-lay_busy in
-    let o : Bytes = c.args.seg.now in
-    let e : Extent = extent_in (c.args.at + 16) (extents o.bytes) in
-    let w = within o.bytes c.args.at c.requires.there.tiled c.requires.there.named in
-    ap (take k) (is h) ∙ (take-take k c.args.size (drop (c.args.at + 16) o.bytes) new ∙ sym (ap (take k) w.body ∙ take-take k e.size (drop (c.args.at + 16) o.bytes) old))
+    let w = within c.requires.there in
+    ap (take k) (laid-body c.args.seg.now c.lay_busy.new.seg c.args.at c.span_in-bytes.result c.args.size c.tag_in-tag.result (set_size c.args.size) c.requires.there c.span_in-bytes.ensures.value (c.requires.span ∙ sym c.span_in-bytes.ensures.value) (retagged (extent_in (c.args.at + 16) (extents c.args.seg.now.bytes)) (behind (c.args.at + 16) (extents c.args.seg.now.bytes)) c.args.size c.tag_in-tag.result c.tag_in-tag.ensures) c.lay_busy.ensures.rest c.lay_busy.ensures.tiles)
+    ∙ (take-take k c.args.size (drop (c.args.at + 16) c.args.seg.now.bytes) new ∙ sym (ap (take k) w.body ∙ take-take k (extent_in (c.args.at + 16) (extents c.args.seg.now.bytes)).size (drop (c.args.at + 16) c.args.seg.now.bytes) old))

@@ -17,12 +17,12 @@ returns-clause-change c =
     let n : Bytes = c.lay_busy.new.seg in
     let e : Extent = extent_in (at + 16) (extents o.bytes) in
     let es : List Extent = behind (at + 16) (extents o.bytes) in
-    let p = here o.bytes at c.requires.there.tiled c.requires.there.named in
-    let w = within o.bytes at c.requires.there.tiled c.requires.there.named in
+    let p = here c.requires.busy.there in
+    let w = within c.requires.busy.there in
     let whole = c.span_in-whole.result in
     let bytes = c.span_of-bytes.result in
     let is : bytes ≡ span c.args.size = c.span_of-bytes.ensures in
-    let spans = w.legal.busy c.requires.busy in
+    let spans = w.legal.busy c.requires.busy.busy in
     let some = c.requires.some in
     let below = c.requires.below in
     let span' : e.span ≡ whole = sym c.span_in-whole.ensures.value in
@@ -34,6 +34,6 @@ returns-clause-change c =
     subst (λ (k : ℕ). Tiles n.bytes (length n.bytes - 16) k at (busy_extent (at + 16) bytes c.args.size c.tag_in-tag.result (take c.args.size (drop (at + 16) a.bytes)) ∷ free_extent (at + 16 + bytes) (whole - bytes) no_links ∷ es)) boundary two in
     let body : take c.args.size (drop (at + 16) a.bytes) ≡ take c.args.size e.body =
     part-front o.bytes a.bytes (at + bytes) c.lay_rest.ensures.rest.below (at + 16) c.args.size (omega arith) ∙ sym (ap (take c.args.size) w.body ∙ take-take c.args.size e.size (drop (at + 16) o.bytes) (omega arith)) in
-    changed o n at (shrink c.args.size) c.requires.there.tiled c.requires.there.named
+    changed o n at (shrink c.args.size) c.requires.busy.there
     (then-below at o a n (lower (at + bytes) at o a c.lay_rest.ensures.rest (omega arith)) c.lay_busy.ensures.rest)
     (cut-tiles a n (field_at (at + 12) o.bytes) at bytes whole c.args.size c.tag_in-tag.result e (take c.args.size e.body) es w.off c.span_in-whole.ensures.value is c.tag_in-tag.ensures body three)

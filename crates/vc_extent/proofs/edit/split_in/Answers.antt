@@ -16,8 +16,8 @@ returns c =
     let n : Bytes = c.lay_free.new.seg in
     let e : Extent = extent_in (at + 16) (extents o.bytes) in
     let es : List Extent = behind (at + 16) (extents o.bytes) in
-    let p = here o.bytes at c.requires.there.tiled c.requires.there.named in
-    let w = within o.bytes at c.requires.there.tiled c.requires.there.named in
+    let p = here c.requires.there in
+    let w = within c.requires.there in
     let least = c.requires.least in
     let span : e.span ≡ c.span_in-whole.result = sym c.span_in-whole.ensures.value in
     let old : Tiles o.bytes (length o.bytes - 16) e.span (at + c.span_in-whole.result) es = subst (λ (k : ℕ). Tiles o.bytes (length o.bytes - 16) e.span (at + k) es) span p.rest in
@@ -29,5 +29,5 @@ returns c =
     let four : Tiles n.bytes (length n.bytes - 16) (field_at (at + 12) o.bytes) at (list e.off e.span) =
     subst (λ (k : ℕ). Tiles n.bytes (length n.bytes - 16) (field_at (at + 12) o.bytes) at (list k e.span)) (sym w.off)
     (subst (λ (k : ℕ). Tiles n.bytes (length n.bytes - 16) (field_at (at + 12) o.bytes) at (list (at + 16) k)) (sym span) three) in
-    changed o n at (split c.args.bytes) c.requires.there.tiled c.requires.there.named
+    changed o n at (split c.args.bytes) c.requires.there
     (then-below at o a n (lower (at + c.args.bytes) at o a c.lay_rest.ensures.rest (omega arith)) c.lay_free.ensures.rest) four

@@ -19,12 +19,12 @@ used c =
     let n : Bytes = c.lay_busy.new.seg in
     let first = c.span_in-first.result in
     let second = c.span_behind.result in
-    let p = here o.bytes at c.requires.there.tiled c.requires.there.named in
-    let w = within o.bytes at c.requires.there.tiled c.requires.there.named in
+    let p = here c.requires.there in
+    let w = within c.requires.there in
     let bytes : span c.args.size ≡ first + second = sym c.span_of-bytes.ensures ∙ c.if-bytes-whole.true in
     let end = c.span_behind.ensures.within in
     let boundary : field_at (at + 12) a.bytes ≡ field_at (at + 12) o.bytes = field-front o.bytes a.bytes (at + (first + second) + 12) c.set_boundary.ensures.rest.below (at + 12) (omega arith) in
-    stretched o a n at c.args.size c.requires.there.tiled c.requires.there.named c.requires.busy c.requires.some c.requires.above (omega arith)
+    stretched o a n at c.args.size c.requires.there c.requires.busy c.requires.some c.requires.above (omega arith)
     (lower (at + (first + second) + 12) (at + span c.args.size) o a c.set_boundary.ensures.rest (omega arith)) c.lay_busy.ensures.rest
     (used-tiles o a n at first second c.args.size c.tag_in-tag.result (take c.args.size (drop (at + 16) a.bytes)) (extent_in (at + 16) (extents o.bytes)) w.off c.span_in-first.ensures.value c.tag_in-tag.ensures boundary
     (behind (at + 16) (extents o.bytes)) c.requires.some c.span_behind.ensures.value bytes p.rest c.set_boundary.ensures.tiles c.lay_busy.ensures.tiles)
@@ -43,8 +43,8 @@ left c =
     let whole : ℕ = first + second in
     let bytes = c.span_of-bytes.result in
     let is : bytes ≡ span c.args.size = c.span_of-bytes.ensures in
-    let p = here o.bytes at c.requires.there.tiled c.requires.there.named in
-    let w = within o.bytes at c.requires.there.tiled c.requires.there.named in
+    let p = here c.requires.there in
+    let w = within c.requires.there in
     let above = c.requires.above in
     let least = c.span_in-first.ensures.least in
     let value = c.span_in-first.ensures.value in
@@ -56,7 +56,7 @@ left c =
     λ xs h.
     subst (λ (k : ℕ). Tiles n.bytes (length n.bytes - 16) (field_at (at + 12) a.bytes) at (busy_extent (at + 16) k c.args.size c.tag_in-tag.result (take c.args.size (drop (at + 16) a.bytes)) ∷ xs)) is
     (c.lay_busy-2.ensures.tiles xs (subst (λ (k : ℕ). Tiles a.bytes (length a.bytes - 16) k (at + k) xs) (sym is) h)) in
-    stretched o a n at c.args.size c.requires.there.tiled c.requires.there.named c.requires.busy c.requires.some c.requires.above end
+    stretched o a n at c.args.size c.requires.there c.requires.busy c.requires.some c.requires.above end
     (lower (at + bytes) (at + span c.args.size) o a c.lay_rest.ensures.rest (omega arith)) c.lay_busy-2.ensures.rest
     (rest-tiles o a n at first second c.args.size c.tag_in-tag.result (take c.args.size (drop (at + 16) a.bytes)) (extent_in (at + 16) (extents o.bytes)) w.off c.span_in-first.ensures.value c.tag_in-tag.ensures boundary
     (behind (at + 16) (extents o.bytes)) c.requires.some c.span_behind.ensures.value (λ q. c.if-bytes-whole.false (is ∙ q)) p.rest one two)

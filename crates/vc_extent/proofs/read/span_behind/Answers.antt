@@ -7,26 +7,19 @@ use Rattle.vc_extent.proofs.read.span_behind.Goals as goal
 use Rattle.vc_extent.proofs.read.span_behind.Goals.{After-field}
 
 rest : (c : After-field) → Tiles c.args.seg.now.bytes (length c.args.seg.now.bytes - 16) c.args.bytes (c.args.at + c.args.bytes) (behind (c.args.at + 16) (extents c.args.seg.now.bytes))
-rest c = subst (λ k. Tiles c.args.seg.now.bytes (length c.args.seg.now.bytes - 16) k (c.args.at + k) (behind (c.args.at + 16) (extents c.args.seg.now.bytes))) (sym c.requires.bytes) (here c.args.seg.now.bytes c.args.at c.requires.there.tiled c.requires.there.named).rest
+rest c = subst (λ k. Tiles c.args.seg.now.bytes (length c.args.seg.now.bytes - 16) k (c.args.at + k) (behind (c.args.at + 16) (extents c.args.seg.now.bytes))) (sym c.requires.bytes) (here c.requires.there).rest
 
 next : (c : After-field) → IsNext c.args.seg.now.bytes (c.args.at + c.args.bytes) c.field.result
 next c =
-    let w = within c.args.seg.now.bytes c.args.at c.requires.there.tiled c.requires.there.named in
+    let w = within c.requires.there in
     let end = w.end in
     behind-within c.args.seg.now.bytes c.args.bytes (c.args.at + c.args.bytes) c.field.result (behind (c.args.at + 16) (extents c.args.seg.now.bytes)) (omega arith) (rest c) c.requires.some c.field.ensures
 
 pub overflow_add-at : goal.overflow_add-at
-overflow_add-at c =
-    let w = within c.args.seg.now.bytes c.args.at c.requires.there.tiled c.requires.there.named in
-    let end = w.end in
-    let most = w.most in
-    omega (arith, c.requires.bytes)
+overflow_add-at c = omega (arith, (within c.requires.there).end, (within c.requires.there).most, c.requires.bytes)
 
 pub field-requires : goal.field-requires
-field-requires c =
-    let w = within c.args.seg.now.bytes c.args.at c.requires.there.tiled c.requires.there.named in
-    let end = w.end in
-    omega (arith, c.requires.bytes)
+field-requires c = omega (arith, (within c.requires.there).end, c.requires.bytes)
 
 pub returns-clause-value : goal.returns-clause-value
 returns-clause-value c =

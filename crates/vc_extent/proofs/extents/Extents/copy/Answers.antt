@@ -1,10 +1,10 @@
-use Rattle.vc_base.proofs.Common.{◌≡◌, ◌+◌, ◌≤◌, List, [], ◌++◌, map, length, get_or, take, drop, set, sym, ap, ◌∙◌, subst, arith, length-set, ∥∥₁_map, get_or_default, with_items_is}
+use Rattle.vc_base.proofs.Common.{◌≡◌, ◌+◌, ◌≤◌, List, [], ◌++◌, length, get_or, take, drop, set, sym, ap, ◌∙◌, subst, arith, length-set, get_or_default, with_items_is}
 use Rattle.vc_seg.specs.Memory.{with_copy_of}
-use Rattle.vc_seg.specs.Segment.{Bytes, pair_of}
+use Rattle.vc_seg.specs.Segment.{Bytes}
 use Rattle.vc_extent.specs.Change.{Changes, write}
-use Rattle.vc_extent.specs.Tiling.{AreExtents, extent_of, tiling}
+use Rattle.vc_extent.specs.Tiling.{IsExtentChanged, AreExtents, extent_of, tiling}
 use Rattle.vc_extent.proofs.Copies.{copy-changes, source-fits, target-fits}
-use Rattle.vc_extent.proofs.Sets.{extents-changed, pairs-changed, tiling-changed}
+use Rattle.vc_extent.proofs.Sets.{extents-changed, is-changed}
 use Rattle.vc_extent.proofs.extents.Extents.copy.Goals as goal
 use Rattle.vc_extent.proofs.extents.Extents.copy.Goals.{After-copy_between}
 
@@ -51,19 +51,11 @@ invariant_of-self c =
     record {
       kept =
           subst (λ (xs : List Bytes). ∥ AreExtents xs c.args.self.now.index.items ∥₁) (sym (items h))
-          (∥∥₁_map c.args.self.now.kept (extents-changed c.args.to.0 c.find-target.result.0 c.find-target.result.1 c.args.self.now.segs.items (target h) (new h) (write 0 (take c.args.len (extent_of (tiling c.args.self.now.segs.items) c.args.from.0).body)) c.find-target.ensures.found (is h) (change h) c.args.self.now.index.items));
+          (extents-changed c.find-target.ensures.found (is h) (change h) c.args.self.now.index.items c.args.self.now.kept);
       reserved = c.args.self.now.reserved;
     }
 
 pub returns : goal.returns
 returns c =
-    record {
-      tiling =
-          let h = (goal.at.returns c).After-copy_between in
-          ap tiling (items h)
-          ∙ tiling-changed c.args.to.0 c.find-target.result.0 c.find-target.result.1 c.args.self.now.segs.items (target h) (new h) (write 0 (take c.args.len (extent_of (tiling c.args.self.now.segs.items) c.args.from.0).body)) c.find-target.ensures.found (is h) (change h);
-      pairs =
-          let h = (goal.at.returns c).After-copy_between in
-          ap (map pair_of) (items h)
-          ∙ pairs-changed c.args.to.0 c.find-target.result.0 c.find-target.result.1 c.args.self.now.segs.items (target h) (new h) (write 0 (take c.args.len (extent_of (tiling c.args.self.now.segs.items) c.args.from.0).body)) c.find-target.ensures.found (is h) (change h);
-    }
+    let h = (goal.at.returns c).After-copy_between in
+    subst (λ (xs : List Bytes). IsExtentChanged c.args.self.now.segs.items xs c.args.to.0 (write 0 (take c.args.len (extent_of (tiling c.args.self.now.segs.items) c.args.from.0).body))) (sym (items h)) (is-changed c.find-target.ensures.found (is h) (change h))

@@ -1,18 +1,5 @@
-use Rattle.vc_base.proofs.Common.{∥∥₁_map}
-use Rattle.vc_extent.specs.Change.{write}
-use Rattle.vc_extent.proofs.Sets.{extents-changed, pairs-changed, tiling-changed}
+use Rattle.vc_extent.proofs.Sets.{is-changed}
 use Rattle.vc_extent.proofs.extents.Extents.put.Goals as goal
 
-pub invariant_of-self : goal.invariant_of-self
-invariant_of-self c =
-    record {
-      kept = ∥∥₁_map c.args.self.now.kept (extents-changed c.args.a.0 c.find-place.result.0 c.find-place.result.1 c.args.self.now.segs.items c.index_mut.result.now c.put_in.new.seg (write c.args.off c.args.src.now) c.find-place.ensures.found c.index_mut.ensures.value c.put_in.ensures c.args.self.now.index.items);
-      reserved = c.args.self.now.reserved;
-    }
-
 pub returns : goal.returns
-returns c =
-    record {
-      tiling = tiling-changed c.args.a.0 c.find-place.result.0 c.find-place.result.1 c.args.self.now.segs.items c.index_mut.result.now c.put_in.new.seg (write c.args.off c.args.src.now) c.find-place.ensures.found c.index_mut.ensures.value c.put_in.ensures;
-      pairs = pairs-changed c.args.a.0 c.find-place.result.0 c.find-place.result.1 c.args.self.now.segs.items c.index_mut.result.now c.put_in.new.seg (write c.args.off c.args.src.now) c.find-place.ensures.found c.index_mut.ensures.value c.put_in.ensures;
-    }
+returns c = is-changed c.find-place.ensures.found c.index_mut.ensures.value c.put_in.ensures
