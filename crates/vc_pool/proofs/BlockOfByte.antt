@@ -55,8 +55,7 @@ module _ (element n off : ℕ) (segs : List Cells) (h : AreCellular element segs
   fits : (k : ℕ) → k < length (cells_at n segs).pairs → (pair_at k (cells_at n segs)).0 ≤ cell
   fits k lt =
       let cellular = at-number (IsCellular cell element) n segs h.cellular (omega (arith, lt)) in
-      let here = cellular.fits k (0, 0) lt in
-      omega (arith, here, fits-cell element)
+      omega (arith, cellular.fits k (0, 0) lt, fits-cell element)
 
   of-byte : (k : ℕ) → HasByte cell n off segs k → (off - 32) / cell ≡ k
   of-byte k b = index-of cell k off (pair_at k (cells_at n segs)).0 (omega (arith, some)) (fits k b.listed) b.low b.high
@@ -64,8 +63,7 @@ module _ (element n off : ℕ) (segs : List Cells) (h : AreCellular element segs
   -- where the cell isn't listed, or the offset in it is behind the block
   pub never-listed : length (cells_at n segs).pairs ≤ (off - 32) / cell → (k : ℕ) → HasByte cell n off segs k → ⊥
   never-listed few k b =
-      let same = of-byte k b in
-      omega (arith, few, same)
+      omega (arith, few, of-byte k b)
 
   pub never-within : (pair_at ((off - 32) / cell) (cells_at n segs)).0 ≤ (off - 32) % cell → (k : ℕ) → HasByte cell n off segs k → ⊥
   never-within small k b =

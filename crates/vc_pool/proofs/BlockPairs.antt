@@ -3,8 +3,7 @@ use Rattle.vc_base.proofs.Common.{◌≡◌, ℕ, ◌+◌, ◌≤◌, true, fals
 use Rattle.vc_model.specs.Pool.{cell_run}
 use Rattle.vc_model.proofs.Pairs.{AllPairs-head, AllPairs-tail}
 use Rattle.vc_layouts.proofs.Lists.{AllPairs-append, AllPairs-nil}
-use Rattle.vc_layouts.proofs.Blocks.{apart_by_seg}
-use Rattle.vc_layouts.proofs.Blocks.{All-with}
+use Rattle.vc_layouts.proofs.Blocks.{All-with, apart_by_seg}
 use Rattle.vc_layouts.specs.InOrder.{in_order}
 use Rattle.vc_layouts.proofs.InOrder.{All-in_order}
 use Rattle.vc_pool_cells.specs.Blocks.{block_of_cell, cell_blocks, segment_blocks}

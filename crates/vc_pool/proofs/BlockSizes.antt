@@ -11,7 +11,7 @@ use Rattle.vc_pool_cells.specs.Freed.{cell_total}
 use Rattle.vc_pool_cells.specs.Kept.{AreCellular, IsCellular, segment_of}
 use Rattle.vc_pool_cells.specs.Place.{cells_in, pair_in}
 use Rattle.vc_pool_cells.specs.declared.segment.PoolSegment.{PoolSegment}
-use Rattle.vc_pool_cells.proofs.BlockPlaces.{IsCell-for, all-legal}
+use Rattle.vc_pool_cells.proofs.BlockPlaces.{IsCell-for, all-legal, element-some}
 use Rattle.vc_pool_cells.proofs.SegmentList.{pairs-in}
 use Rattle.vc_seg.specs.Segment.{AreSegments}
 use Rattle.vc_pool.specs.Sizes.{element_of, sizes_in}
@@ -94,21 +94,15 @@ cells-few cell bytes least most =
 pairs-few : (element : ℕ) (segs : List Cells) → AreCellular element segs → All (λ s. length s.pairs ≤ 1048576) segs
 pairs-few element segs h = λ k d lt.
     let s : Cells = get_or segs k d in
-    let some : 1 ≤ element = ⊎_elim (λ (e : element ≡ 0). absurd (let none = h.unset e in omega (arith, none, lt))) (λ (e : element ≡ 0 → ⊥). omega (arith, e)) (cases_eq element 0) in
+    let some : 1 ≤ element = element-some element segs h (omega (arith, lt)) in
     let size = (all-legal segs h.segments k d lt).size in
-    let few = cells-few (cell_for element) (length s.bytes) ((IsCell-for element some h.most).least) size.most in
-    let count = (h.cellular k d lt).count in
-    omega (arith, few, count)
+    omega (arith, cells-few (cell_for element) (length s.bytes) ((IsCell-for element some h.most).least) size.most, (h.cellular k d lt).count)
 
 many : (segs : List Cells) → All (λ s. length s.pairs ≤ 1048576) segs → length (sizes_of segs) ≤ length segs * 1048576
 many [] h = omega arith
 many (s ∷ ss) h =
     let P : Cells → Type 0 = λ t. length t.pairs ≤ 1048576 in
-    let here = All-head P s ss h in
-    let rest = many ss (All-tail P s ss h) in
-    let own = sizes-length s.pairs in
-    let long = length-append (sizes_in s.pairs) (sizes_of ss) in
-    omega (arith, here, rest, own, long)
+    omega (arith, All-head P s ss h, many ss (All-tail P s ss h), sizes-length s.pairs, length-append (sizes_in s.pairs) (sizes_of ss))
 
 fitting : (most : ℕ) (segs : List Cells) → All (λ s. All (λ c. c.0 ≤ most) s.pairs) segs → All (λ n. n ≤ most) (sizes_of segs)
 fitting most [] h = All-nil (λ n. n ≤ most)
@@ -135,23 +129,17 @@ total-few : (segs : List Cells) → All (λ s. length s.pairs ≤ 1048576) segs 
 total-few [] h = omega arith
 total-few (s ∷ ss) h =
     let P : Cells → Type 0 = λ t. length t.pairs ≤ 1048576 in
-    let here = All-head P s ss h in
-    let rest = total-few ss (All-tail P s ss h) in
-    omega (arith, here, rest)
+    omega (arith, All-head P s ss h, total-few ss (All-tail P s ss h))
 
 pub total-most : (element : ℕ) (segs : List Cells) → AreCellular element segs → cell_total segs ≤ 1072693248
 total-most element segs h =
-    let known = length-map segs segment_of in
-    let all = total-few segs (pairs-few element segs h) in
-    omega (arith, known, all)
+    omega (arith, length-map segs segment_of, total-few segs (pairs-few element segs h))
 
 total-sum : (cell element : ℕ) (segs : List Cells) → All (IsCellular cell element) segs → cell_total segs ≡ sum (map (λ s. (s.1 - 32) / cell) (map pair_of segs))
 total-sum cell element [] h = refl
 total-sum cell element (s ∷ ss) h =
-    let count = (All-head (IsCellular cell element) s ss h).count in
-    let rest = total-sum cell element ss (All-tail (IsCellular cell element) s ss h) in
     let more = sum_by-cons (λ (m : ℕ). m) ((length s.bytes - 32) / cell) (map (λ (x : ℕ × ℕ). (x.1 - 32) / cell) (map pair_of ss)) in
-    omega (arith, count, rest, more)
+    omega (arith, (All-head (IsCellular cell element) s ss h).count, total-sum cell element ss (All-tail (IsCellular cell element) s ss h), more)
 
 pub total-count : (element : ℕ) (segs : List Cells) → AreCellular element segs → cell_total segs ≡ cell_count (element_of element) (map pair_of segs)
 total-count element segs h =
@@ -189,14 +177,11 @@ module _ (segs : List Cells) (h : AreSegments (map segment_of segs)) (first : �
   pub room-behind : HasRoom (tally_of []) behind
   room-behind =
       let few = behind-few in
-      let all = sizes-most 33554432 behind behind-legal in
-      record { count = omega (arith, few); bytes = omega (arith, few, all) }
+      record { count = omega (arith, few); bytes = omega (arith, few, sizes-most 33554432 behind behind-legal) }
 
   pub count-behind : (tally_of behind).count ≤ 1023
   count-behind =
-      let few = behind-few in
-      let is = tally_of-count behind in
-      omega (arith, few, is)
+      omega (arith, behind-few, tally_of-count behind)
 
 -- a tally of all segments
 module _ (segs : List PoolSegment) (t : Tally) (is : t ≡ tally_of (map (λ s. s.1) (map pair_in segs))) where

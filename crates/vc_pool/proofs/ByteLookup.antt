@@ -48,8 +48,7 @@ module _ (element i n off : ℕ) (segs : List PoolSegment) (d : PoolSegment) (k 
       (subst (λ (s : Cells). (off - 32) % cell < (pair_at index s).0) (sym was) inner') in
       let size : 1 ≤ (pair_at index (cells_of d)).0 = omega (arith, inner') in
       let b : Block ℕ = block_of n cell index (cells_of d) in
-      let parts = div-add-mod' (off - 32) cell in
-      let rest : off - cell_offset cell index ≡ (off - 32) % cell = omega (arith, first, parts) in
+      let rest : off - cell_offset cell index ≡ (off - 32) % cell = omega (arith, first, div-add-mod' (off - 32) cell) in
       let pair : ℕ → ℕ → Option (ℕ × ℕ) = λ x y. Some (x, y) in
       ap (option_map {U = ℕ × ℕ} (λ (f : Block ℕ × ℕ). (address_of f.0, f.1)))
       (byte-some element n off (cells_in segs) k some index has b (found-block element i n segs d k within number is index listed' size))

@@ -10,7 +10,7 @@ use Rattle.vc_pool_cells.specs.Place.{cells_in}
 use Rattle.vc_pool_cells.specs.declared.segment.PoolSegment.{PoolSegment}
 use Rattle.vc_pool_cells.proofs.SegmentList.{alone-in, cells-get}
 use Rattle.vc_pool_cells.proofs.OneSegment.{cells-first, layout-found}
-use Rattle.vc_pool_cells.proofs.BlockPlaces.{IsCell-for, all-legal, cell-there, offset-multiple}
+use Rattle.vc_pool_cells.proofs.BlockPlaces.{IsCell-for, all-legal, cell-there, element-some, offset-multiple}
 use Rattle.vc_pool_cells.proofs.CellBytes.{one-block}
 use Rattle.vc_pool.proofs.FoundBlock.{find-has}
 
@@ -30,8 +30,7 @@ module _ (element : ℕ) (segs : List Cells) (h : AreCellular element segs) (som
   pub cell-small : (n index : ℕ) → index < length (cells_at n segs).pairs → cell_offset (cell_for element) index < 33554432
   cell-small n index listed =
       let there = cell-there element segs h some n index listed in
-      let least = (IsCell-for element some h.most).least in
-      omega (arith, least)
+      omega (arith, (IsCell-for element some h.most).least)
 
   pub cell-multiple : (index : ℕ) → cell_offset (cell_for element) index % 32 ≡ 0
   cell-multiple index = offset-multiple (cell_for element) index ((IsCell-for element some h.most).multiple)
@@ -48,7 +47,7 @@ module _ (element i n : ℕ) (segs : List PoolSegment) (d : PoolSegment) (k : Ar
   there = cells-get segs i d (cells_of d) within ∙ ap cells_of (sym is)
 
   pub found-element : 1 ≤ element
-  found-element = ⊎_elim (λ (e : element ≡ 0). absurd (let none = k.unset e in omega (arith, none, within, length-map segs cells_of))) (λ (e : element ≡ 0 → ⊥). omega (arith, e)) (cases_eq element 0)
+  found-element = element-some element (cells_in segs) k (omega (arith, within, length-map segs cells_of))
 
   -- it has such a number
   found-legal : IsRegionSegment (segment_of (cells_of d))
@@ -74,9 +73,8 @@ module _ (element i n : ℕ) (segs : List PoolSegment) (d : PoolSegment) (k : Ar
   found-block index listed size =
       let cell : ℕ = cell_for element in
       let row : get_or (cells_in segs) i (cells_of d) ≡ cells_of d = there in
-      let some = found-element in
       let b : Block ℕ = block_of n cell index (cells_of d) in
-      layout-found cell index i n (cells_in segs) (cells_of d) (alone-in element i n segs k within number) (omega (arith, some))
+      layout-found cell index i n (cells_in segs) (cells_of d) (alone-in element i n segs k within number) (omega (arith, found-element))
       (subst (λ (x : Cells). index < length x.pairs) (sym row) listed) b
       (ap (λ (x : Cells). block_of_cell n x.bytes (cell_offset cell index) (pair_at index x)) row ∙ one-block n (cell_offset cell index) (cells_of d).bytes (pair_at index (cells_of d)) size)
       (own-place b)

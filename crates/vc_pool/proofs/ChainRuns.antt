@@ -62,6 +62,4 @@ times-own rs k d lt none = none-times (get_or rs k d) rs none k d lt refl
 pub front-others : (ks rs : List (ℕ × ℕ)) (k : ℕ) (d : ℕ × ℕ) → ((q : ℕ × ℕ) → times q (ks ++ rs) ≤ 1) → k < length rs → All (λ x. get_or rs k d ≢ x) ks
 front-others ks rs k d once lt =
     let q : ℕ × ℕ = get_or rs k d in
-    let all = once q in
-    let own = times-own rs k d lt in
-    none-times q ks (omega (arith, all, times-append q ks rs, own))
+    none-times q ks (omega (arith, once q, times-append q ks rs, times-own rs k d lt))

@@ -7,7 +7,7 @@ use Rattle.vc_pool_cells.specs.Place.{IsListed}
 use Rattle.vc_pool_cells.proofs.CellCalls.{freed-listed, link-small}
 use Rattle.vc_pool_cells.proofs.Chains.{chain-same}
 use Rattle.vc_pool_cells.proofs.PoolChange.{pool-freed, pool-of}
-use Rattle.vc_pool_cells.proofs.BlockPlaces.{number-legal}
+use Rattle.vc_pool_cells.proofs.BlockPlaces.{element-some, number-legal}
 use Rattle.vc_pool_cells.proofs.PlaceCounts.{times-append}
 use Rattle.vc_pool.specs.Relink.{HasSplit, IsRelinked, IsChainRun, IsSifted, IsSplit, KeepsAll}
 use Rattle.vc_pool.proofs.Relinking.{free-listed, linked-cells, linked-free, linked-front, linked-keeps, linked-link, linked-word}
@@ -26,10 +26,7 @@ once-behind ks rs once q = let all = once q in omega (arith, all, times-append q
 -- a pool with a freed cell has an element size
 carved-some : (element n : ℕ) (segs : List Cells) → AreCellular element segs → 1 ≤ (cells_at n segs).carved → 1 ≤ element
 carved-some element n [] k some = absurd (omega (arith, some))
-carved-some element n (s ∷ ss) k some = ne-one element (λ e. let none = k.unset e in omega (arith, none))
-  where
-    ne-one : (m : ℕ) → m ≢ 0 → 1 ≤ m
-    ne-one m other = omega (arith, other)
+carved-some element n (s ∷ ss) k some = element-some element (s ∷ ss) k (omega arith)
 
 module _ (element : ℕ) (segs : List Cells) (freed last at : ℕ) where
   -- the cells from the address on are those that it leads to

@@ -8,7 +8,7 @@ use Rattle.vc_pool_cells.specs.Blocks.{layout_by, pair_of}
 use Rattle.vc_pool_cells.specs.Cells.{Cells, pair_at}
 use Rattle.vc_pool_cells.specs.Freed.{cells_at}
 use Rattle.vc_pool_cells.specs.Kept.{AreCellular, segment_of}
-use Rattle.vc_pool_cells.proofs.BlockPlaces.{IsIn, all-legal, at-number, blocks-in}
+use Rattle.vc_pool_cells.proofs.BlockPlaces.{IsIn, all-legal, at-number, blocks-in, number-there}
 use Rattle.vc_pool.specs.First.{AreEmpty, IsBare, IsFirstAbove, IsFirstIn}
 use Rattle.vc_pool.proofs.LeastAbove.{IsLeast, least-found, least-is, least-no, least-none}
 use Rattle.vc_pool.proofs.CellsWithBlocks.{cell-multiple, cell-small}
@@ -36,59 +36,57 @@ module _ (element a : ℕ) (segs : List Cells) (h : AreCellular element segs) (s
   multiple : (k : ℕ) → cell_offset cell k % 32 ≡ 0
   multiple k = cell-multiple element segs h some k
 
+  -- the first block of a segment is the next one where each block above is in that segment, from the same cell on, or in a later one
+  next-in : (m start b : ℕ) → IsFirstIn cell segs m start b → a < b → ((c : Block ℕ) (i : IsIn cell segs c) → a < address_of c → (m ≤ c.seg) × (c.seg ≡ m → start ≤ i.index)) → IsLeast a (map address_of (layout_by cell segs).blocks) b
+  next-in m start b f above on =
+      let k : ℕ = f.index in
+      record {
+        above = above;
+        least = All-map (λ x. a < x → b ≤ x) address_of (layout_by cell segs).blocks
+            (λ j d lt up.
+            let c : Block ℕ = get_or (layout_by cell segs).blocks j d in
+            let i = blocks-in element segs h j d lt in
+            let later = on c i up in
+            ⊎_elim
+            (λ (e : c.seg ≡ m).
+            ⊎_elim
+            (λ (le : k ≤ i.index). let more = cell-later cell k i.index le in omega (arith, more, e))
+            (λ (less : i.index < k).
+            let size : c.size ≡ (pair_at i.index (cells_at m segs)).0 = subst (λ x. c.size ≡ (pair_at i.index (cells_at x segs)).0) e i.size in
+            absurd (omega (arith, f.first.before i.index (later.1 e) less, size)))
+            (split k i.index))
+            (λ (e : c.seg ≡ m → ⊥). let seg = later.0 in omega (arith, small m k f.first.listed, seg, e))
+            (cases_eq c.seg m));
+      }
+
   -- the cells of the address's segment from an index on begin behind it, those below don't
   module _ (from : ℕ) (before : (k : ℕ) → k < from → cell_offset cell k ≤ off) (behind : (k : ℕ) → from ≤ k → off < cell_offset cell k) where
-    -- a cell that begins above the address is in a later segment, or a later cell of its own
-    later : (m k : ℕ) → k < length (cells_at m segs).pairs → a < address (m, cell_offset cell k) → n ≤ m
-    later m k lt up = let low = small m k lt in omega (arith, low, up)
+    -- a block above the address is in a later segment, or in a later cell of its own
+    later : (c : Block ℕ) (i : IsIn cell segs c) → a < address_of c → n ≤ c.seg
+    later c i up = let low = small c.seg i.index i.listed in omega (arith, low, up)
 
-    later-own : (m k : ℕ) → m ≡ n → a < address (m, cell_offset cell k) → from ≤ k
-    later-own m k e up =
+    later-own : (c : Block ℕ) (i : IsIn cell segs c) → a < address_of c → c.seg ≡ n → from ≤ i.index
+    later-own c i up e =
         ⊎_elim
-        (λ (le : from ≤ k). le)
-        (λ (lt : k < from). let low = before k lt in absurd (omega (arith, low, up, e)))
-        (split from k)
+        (λ (le : from ≤ i.index). le)
+        (λ (lt : i.index < from). let low = before i.index lt in absurd (omega (arith, low, up, e)))
+        (split from i.index)
 
     -- the first block of these is the next one
     first-next : (b : ℕ) → IsFirstIn cell segs n from b → IsLeast a (map address_of (layout_by cell segs).blocks) b
     first-next b f =
-        let k : ℕ = f.index in
-        let own = behind k f.first.behind in
-        let even = multiple k in
-        let mine = small n k f.first.listed in
-        record {
-          above = omega (arith, own, even);
-          least = All-map (λ m. a < m → b ≤ m) address_of (layout_by cell segs).blocks
-              (λ j d lt up.
-              let c : Block ℕ = get_or (layout_by cell segs).blocks j d in
-              let i = blocks-in element segs h j d lt in
-              let up' : a < address (c.seg, cell_offset cell i.index) = omega (arith, up) in
-              let seg = later c.seg i.index i.listed up' in
-              ⊎_elim
-              (λ (e : c.seg ≡ n).
-              ⊎_elim
-              (λ (le : k ≤ i.index). let more = cell-later cell k i.index le in omega (arith, more, e))
-              (λ (less : i.index < k).
-              let empty = f.first.before i.index (later-own c.seg i.index e up') less in
-              let size : c.size ≡ (pair_at i.index (cells_at n segs)).0 = subst (λ m. c.size ≡ (pair_at i.index (cells_at m segs)).0) e i.size in
-              absurd (omega (arith, empty, size)))
-              (split k i.index))
-              (λ (e : c.seg ≡ n → ⊥). omega (arith, mine, seg, e))
-              (cases_eq c.seg n));
-        }
+        next-in n from b f (omega (arith, behind f.index f.first.behind, multiple f.index)) (λ c i up. (later c i up, later-own c i up))
 
     module _ (bare : AreEmpty from (length (cells_at n segs).pairs) (cells_at n segs)) where
       -- else a block above is in a later segment
       past : (c : Block ℕ) → IsIn cell segs c → a < address_of c → n < c.seg
       past c i up =
-          let up' : a < address (c.seg, cell_offset cell i.index) = omega (arith, up) in
-          let seg = later c.seg i.index i.listed up' in
           ⊎_elim
           (λ (e : c.seg ≡ n).
-          let empty = bare i.index (later-own c.seg i.index e up') (subst (λ m. i.index < length (cells_at m segs).pairs) e i.listed) in
+          let empty = bare i.index (later-own c i up e) (subst (λ m. i.index < length (cells_at m segs).pairs) e i.listed) in
           let size : c.size ≡ (pair_at i.index (cells_at n segs)).0 = subst (λ m. c.size ≡ (pair_at i.index (cells_at m segs)).0) e i.size in
           absurd (omega (arith, empty, size)))
-          (λ (e : c.seg ≡ n → ⊥). omega (arith, seg, e))
+          (λ (e : c.seg ≡ n → ⊥). omega (arith, later c i up, e))
           (cases_eq c.seg n)
 
       no-bare : (c : Block ℕ) → IsIn cell segs c → IsBare c.seg segs → ⊥
@@ -99,33 +97,14 @@ module _ (element a : ℕ) (segs : List Cells) (h : AreCellular element segs) (s
       -- the first block of the segments above is the next one
       above-next : (b : ℕ) → IsFirstAbove cell segs n b → IsLeast a (map address_of (layout_by cell segs).blocks) b
       above-next b f =
-          let k : ℕ = f.first.index in
           let m : ℕ = f.number in
-          let above = f.above in
-          let mine = small m k f.first.first.listed in
-          record {
-            above = omega (arith, above);
-            least = All-map (λ x. a < x → b ≤ x) address_of (layout_by cell segs).blocks
-                (λ j d lt up.
-                let c : Block ℕ = get_or (layout_by cell segs).blocks j d in
-                let i = blocks-in element segs h j d lt in
-                let seg = past c i up in
-                ⊎_elim
-                (λ (e : c.seg ≡ m).
-                ⊎_elim
-                (λ (le : k ≤ i.index). let more = cell-later cell k i.index le in omega (arith, more, e))
-                (λ (less : i.index < k).
-                let empty = f.first.first.before i.index (omega arith) less in
-                let size : c.size ≡ (pair_at i.index (cells_at m segs)).0 = subst (λ x. c.size ≡ (pair_at i.index (cells_at x segs)).0) e i.size in
-                absurd (omega (arith, empty, size)))
-                (split k i.index))
-                (λ (e : c.seg ≡ m → ⊥).
-                ⊎_elim
-                (λ (le : m ≤ c.seg). omega (arith, mine, le, e))
-                (λ (less : c.seg < m). absurd (no-bare c i (f.between c.seg seg less)))
-                (split m c.seg))
-                (cases_eq c.seg m));
-          }
+          next-in m 0 b f.first (omega (arith, f.above))
+          (λ c i up.
+          let from : m ≤ c.seg = ⊎_elim
+          (λ (le : m ≤ c.seg). le)
+          (λ (less : c.seg < m). absurd (no-bare c i (f.between c.seg (past c i up) less)))
+          (split m c.seg) in
+          (from, λ _. omega arith))
 
       -- and with none there is no next one
       above-none : ((m : ℕ) → n < m → IsBare m segs) → All (λ x. x ≤ a) (map address_of (layout_by cell segs).blocks)
@@ -146,21 +125,12 @@ next-some a b blocks h live = sym (least_above-key address_of a blocks ∙ least
 pub next-none : (a : ℕ) (blocks : List (Block ℕ)) → All (λ x. x ≤ a) (map address_of blocks) → None ≡ option_map address_of (next_block a blocks)
 next-none a blocks h = sym (least_above-key address_of a blocks ∙ least-no a (map address_of blocks) h)
 
--- the segment of a number, where it has cells
-own-number : (m : ℕ) (segs : List Cells) → 1 ≤ length (cells_at m segs).pairs → (cells_at m segs).number ≡ m
-own-number m [] some = absurd (omega (arith, some))
-own-number m (s ∷ ss) some =
-    ⊎_elim
-    (λ (e : s.number ≡ m). rw (eq-eqb s.number m e) e)
-    (λ (e : s.number ≡ m → ⊥). let rest : 1 ≤ length (cells_at m ss).pairs = rw (ne_eqb s.number m e) at some in rw (ne_eqb s.number m e) (own-number m ss rest))
-    (cases_eq s.number m)
-
 -- no segment has that number
 bare-none : (m : ℕ) (segs : List Cells) → All (λ s. s.number ≢ m) segs → IsBare m segs
 bare-none m segs other =
     λ k from lt.
     let some : 1 ≤ length (cells_at m segs).pairs = omega (arith, lt) in
-    absurd (at-number (λ (s : Cells). s.number ≢ m) m segs other some (own-number m segs some))
+    absurd (at-number (λ (s : Cells). s.number ≢ m) m segs other some (number-there m segs some))
 
 by-number : (P : ℕ → Type 0) (segs : List Cells) → All P (map (λ s. s.0) (map pair_of segs)) → All (λ s. P s.number) segs
 by-number P segs h = All-unmap (λ (s : ℕ × ℕ). P s.0) pair_of segs (All-unmap P (λ (s : ℕ × ℕ). s.0) (map pair_of segs) h)

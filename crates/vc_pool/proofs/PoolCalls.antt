@@ -19,7 +19,7 @@ use Rattle.vc_pool_cells.proofs.Chains.{freed-is}
 use Rattle.vc_pool_cells.specs.Carve.{IsCarvedAt}
 use Rattle.vc_pool_cells.proofs.ElementSize.{layout-set_from, pool-set_from}
 use Rattle.vc_pool.specs.Sizes.{element_of}
-use Rattle.vc_pool.specs.Ask.{IsGranted, LacksCell}
+use Rattle.vc_pool.specs.Ask.{IsGranted, LacksCell, cell_need}
 use Rattle.vc_pool.specs.Read.{pool_by}
 use Rattle.vc_pool.proofs.PutOutcome.{alloc-carved, alloc-granted, alloc-not_lent, alloc-reused, alloc-too_many}
 use Rattle.vc_pool.proofs.PoolAfterCalls.{pairs-of}
@@ -65,9 +65,8 @@ full-is segs element freed set size same new h =
 pub lacks-cell : (segs : List PoolSegment) (element freed set size : ℕ) → (1 ≤ element → element ≡ set) → (element ≡ 0 → set ≡ size) → size ≤ set → freed ≡ 0 →
     uncarved (cell_for set) (carved_by (cells_in segs)) (map pair_of (cells_in segs)) ≡ None → length segs < 1023 → LacksCell (pool_by segs element freed) size
 lacks-cell segs element freed set size same new fits none full few =
-    let is = with-is segs element freed size set same new in
     record {
-      fits = omega (arith, is, fits);
+      fits = omega (arith, with-is segs element freed size set same new, fits);
       freed = empty-freed segs element freed none;
       uncarved = full-is segs element freed set size same new full;
       few = subst (λ (ps : List (ℕ × ℕ)). length ps < 1023) (sym (pairs-of segs element freed)) (rw (length-map (cells_in segs) pair_of, length-map segs cells_of) few);
@@ -142,30 +141,29 @@ module _ (terms : Terms) (segs : List PoolSegment) (element freed set tag size :
         (r.freed ∙ sym (freed-of segs element freed))
         (r.carved ∙ ap (carve (place_of a).0) (sym (carved-of segs element freed))))
 
-    need-is : round_up (32 + cell_for set) terms.round ≡ pool_need terms old size
+    need-is : cell_need terms set ≡ pool_need terms old size
     need-is = ap (λ e. round_up (32 + cell_for e) terms.round) (sym is)
 
-    ask-is : (refused : Bool) → ask terms (round_up (32 + cell_for set) terms.round) (map pair_of (cells_in segs)) refused ≡ ask terms (pool_need terms old size) old.layout.segments refused
+    ask-is : (refused : Bool) → ask terms (cell_need terms set) (map pair_of (cells_in segs)) refused ≡ ask terms (pool_need terms old size) old.layout.segments refused
     ask-is refused = ap (λ n. ask terms n (map pair_of (cells_in segs)) refused) need-is ∙ ap (λ ps. ask terms (pool_need terms old size) ps refused) (sym (pairs-of segs element freed))
 
     module _ (full : uncarved (cell_for (element_with old size)) old.carved old.layout.segments ≡ None) where
       -- into a segment that is asked for
-      pub put-granted : (a : ℕ) (segs' : List PoolSegment) (before after : Discipline) → before.terms ≡ terms → IsPool element (cells_in segs) freed → IsGranted set tag size (round_up (32 + cell_for set) terms.round) (cells_in segs) (cells_in segs') before after a →
+      pub put-granted : (a : ℕ) (segs' : List PoolSegment) (before after : Discipline) → before.terms ≡ terms → IsPool element (cells_in segs) freed → IsGranted set tag size (cell_need terms set) (cells_in segs) (cells_in segs') before after a →
           IsPut (pool_alloc terms old tag size false) a (pool_by segs' set freed)
       put-granted a segs' before after own h g =
-          let bytes : ℕ = round_up (32 + cell_for set) terms.round in
           let r = g.carved element freed same h in
-          put-at (pool_alloc terms old tag size false) a (g.number, 32) (pool_by segs' set freed) _ (Some (new_segment g.number bytes))
-          (alloc-granted terms old tag size false g.number bytes (omega (arith, is, fits)) empty full (ap (carved_in g.number) (carved-of segs element freed) ∙ g.uncarved)
-          (sym (ask-is false) ∙ subst (λ (t : Terms). ask t bytes (map pair_of (cells_in segs)) false ≡ Granted (new_segment g.number bytes)) own g.granted))
+          put-at (pool_alloc terms old tag size false) a (g.number, 32) (pool_by segs' set freed) _ (Some (new_segment g.number (cell_need terms set)))
+          (alloc-granted terms old tag size false g.number (cell_need terms set) (omega (arith, is, fits)) empty full (ap (carved_in g.number) (carved-of segs element freed) ∙ g.uncarved)
+          (sym (ask-is false) ∙ subst (λ (t : Terms). ask t (cell_need terms set) (map pair_of (cells_in segs)) false ≡ Granted (new_segment g.number (cell_need terms set))) own g.granted))
           g.place
           (pool-is segs' set freed _
-          (r.layout ∙ ap (λ (l : Layout ℕ). with_zeros (with_grant l (new_segment g.number bytes)) tag size (g.number, 32)) layout-old)
+          (r.layout ∙ ap (λ (l : Layout ℕ). with_zeros (with_grant l (new_segment g.number (cell_need terms set))) tag size (g.number, 32)) layout-old)
           element-new
           (r.freed ∙ sym (freed-of segs element freed))
           (r.carved ∙ ap (carve g.number) (sym (carved-of segs element freed))))
 
-      refusal-of : (why : RegionFault) → IsNoGrant terms (round_up (32 + cell_for set) terms.round) (map pair_of (cells_in segs)) why → IsRefusal (pool_alloc terms old tag size) why
+      refusal-of : (why : RegionFault) → IsNoGrant terms (cell_need terms set) (map pair_of (cells_in segs)) why → IsRefusal (pool_alloc terms old tag size) why
       refusal-of code.TooManySegments h = alloc-too_many terms old tag size false (omega (arith, is, fits)) empty full (sym (ask-is false) ∙ h)
       refusal-of code.NoSegment h = alloc-not_lent terms old tag size true (omega (arith, is, fits)) empty full (sym (ask-is true) ∙ h)
       refusal-of code.OutOfMemory h = h
@@ -174,17 +172,15 @@ module _ (terms : Terms) (segs : List PoolSegment) (element freed set tag size :
       refusal-of code.NotLast h = absurd h
       refusal-of code.WrongMethod h = absurd h
 
-      pub asked-refusal : (why : RegionFault) (segs' : List PoolSegment) → segs' ≡ segs → IsNoGrant terms (round_up (32 + cell_for set) terms.round) (map pair_of (cells_in segs')) why → IsRefusal (pool_alloc terms old tag size) why
-      asked-refusal why segs' e h = refusal-of why (subst (λ (ss : List PoolSegment). IsNoGrant terms (round_up (32 + cell_for set) terms.round) (map pair_of (cells_in ss)) why) e h)
+      pub asked-refusal : (why : RegionFault) (segs' : List PoolSegment) → segs' ≡ segs → IsNoGrant terms (cell_need terms set) (map pair_of (cells_in segs')) why → IsRefusal (pool_alloc terms old tag size) why
+      asked-refusal why segs' e h = refusal-of why (subst (λ (ss : List PoolSegment). IsNoGrant terms (cell_need terms set) (map pair_of (cells_in ss)) why) e h)
 
-      pub granted-disc : (a : ℕ) (segs' : List PoolSegment) (before after : Discipline) → IsPool element (cells_in segs) freed → IsGranted set tag size (round_up (32 + cell_for set) terms.round) (cells_in segs) (cells_in segs') before after a →
+      pub granted-disc : (a : ℕ) (segs' : List PoolSegment) (before after : Discipline) → IsPool element (cells_in segs) freed → IsGranted set tag size (cell_need terms set) (cells_in segs) (cells_in segs') before after a →
           Served before after old.layout.segments (pool_by segs' set freed).layout.segments (pool_need terms old size)
       granted-disc a segs' before after h g =
-          let bytes : ℕ = round_up (32 + cell_for set) terms.round in
-          let r = g.carved element freed same h in
           subst (Served before after old.layout.segments (pool_by segs' set freed).layout.segments) need-is
-          (Served-lent before after old.layout.segments (pool_by segs' set freed).layout.segments g.number bytes
-          (ap (λ (l : Layout ℕ). l.segments) (layout-of segs' set freed ∙ r.layout) ∙ ap (λ (l : Layout ℕ). l.segments ++ (g.number, bytes) ∷ []) layout-old)
+          (Served-lent before after old.layout.segments (pool_by segs' set freed).layout.segments g.number (cell_need terms set)
+          (ap (λ (l : Layout ℕ). l.segments) (layout-of segs' set freed ∙ (g.carved element freed same h).layout) ∙ ap (λ (l : Layout ℕ). l.segments ++ (g.number, cell_need terms set) ∷ []) layout-old)
           g.lent)
 
     pub carved-disc : (a : ℕ) (segs' : List PoolSegment) (d : Discipline) → IsCarvedAt set tag size (cells_in segs) (cells_in segs') freed a → Served d d old.layout.segments (pool_by segs' set freed).layout.segments (pool_need terms old size)

@@ -8,9 +8,6 @@ module _ (terms : Terms) (p : Pool ℕ) (tag size : ℕ) (refused : Bool) where
   abbrev pub after : Layout ℕ → List (ℕ × ℕ) → List (ℕ × ℕ) → Pool ℕ
   after layout freed carved = record { layout = layout; element = Some (element_with p size); freed = freed; carved = carved }
 
-  pub alloc-greater : element_with p size < size → pool_alloc terms p tag size refused ≡ Refused PoolSize
-  alloc-greater h = let test : ltb (element_with p size) size ≡ true = lt-ltb (element_with p size) size h in rw test refl
-
   fits-free : size ≤ element_with p size → pool_alloc terms p tag size refused ≡ put_free terms p tag size refused p.freed
   fits-free h = let test : ltb (element_with p size) size ≡ false = le-ltb (element_with p size) size h in rw test refl
 

@@ -8,6 +8,7 @@ use Rattle.vc_pool_cells.specs.Kept.{AreCellular, IsCellular, IsFront}
 use Rattle.vc_pool_cells.specs.Place.{IsCellAt, IsListed}
 use Rattle.vc_pool_cells.proofs.OneCell.{ChangesCell}
 use Rattle.vc_pool_cells.proofs.Chains.{KeepsWord, keeps-free, keeps-word}
+use Rattle.vc_pool_cells.proofs.CellCalls.{carved-stays}
 use Rattle.vc_pool_cells.proofs.CellularSegments.{cellular-set, front-set, segments-set}
 use Rattle.vc_pool_cells.proofs.OneSegment.{all-new, all-old, cells-first, cells-set, map-stays, others, with_cell}
 use Rattle.vc_pool_cells.proofs.BlockPlaces.{all-few, cell-there, fits-cell, index-same}
@@ -82,24 +83,15 @@ module _ (element a i index next : ℕ) (segs : List Cells) (s : Cells) (k : Are
 
   pairs : map pair_of (set segs i s) ≡ map pair_of segs
   pairs =
-      let within = there.alone.within in
-      map-stays pair_of i segs s within
-      (λ d. let own : o ≡ get_or segs i d = get_or_default segs i s d within in (λ j. (ch.number j, ch.len j)) ∙ ap pair_of own)
+      map-stays pair_of i segs s there.alone.within
+      (λ d. let own : o ≡ get_or segs i d = get_or_default segs i s d there.alone.within in (λ j. (ch.number j, ch.len j)) ∙ ap pair_of own)
 
   whole : layout_by cell (set segs i s) ≡ layout_by cell segs
   unfolding layout_by
   whole = λ j. record { segments = pairs j; blocks = blocks j }
 
   pub linked-keeps : KeepsAll cell segs (set segs i s)
-  linked-keeps =
-      let within = there.alone.within in
-      record {
-        layout = whole;
-        carved =
-            ap (filter (λ (c : ℕ × ℕ). ltb 0 c.1))
-            (map-stays (λ (x : Cells). (x.number, x.carved)) i segs s within
-            (λ d. let own : o ≡ get_or segs i d = get_or_default segs i s d within in (λ j. (ch.number j, count j)) ∙ ap (λ (x : Cells). (x.number, x.carved)) own));
-      }
+  linked-keeps = record { layout = whole; carved = carved-stays i segs s there.alone.within ch.number count }
 
   here : (let at : ℕ × ℕ = (n, cell_offset cell index) in at ≡ place_of a)
   here = let pair : ℕ → ℕ → ℕ × ℕ = λ x y. (x, y) in ap (pair n) (sym there.offset)

@@ -9,7 +9,7 @@ use Rattle.vc_pool_cells.specs.Freed.{cells_at}
 use Rattle.vc_pool_cells.specs.Kept.{AreCellular}
 use Rattle.vc_pool_cells.specs.Place.{IsBlockCell}
 use Rattle.vc_pool_cells.proofs.OneSegment.{numbers-apart}
-use Rattle.vc_pool_cells.proofs.BlockPlaces.{all-legal, all-live, cell-there, fits-cell, number-legal, place-there}
+use Rattle.vc_pool_cells.proofs.BlockPlaces.{all-legal, all-live, cell-some, cell-there, fits-cell, number-legal, place-there}
 use Rattle.vc_pool.specs.Sizes.{element_of}
 use Rattle.vc_pool.proofs.BlockPairs.{Beside, beside-turn, pairs-all, pairs-order, sizes-all}
 
@@ -55,15 +55,8 @@ module _ (element : ℕ) (segs : List Cells) (h : AreCellular element segs) wher
   live : All (λ b. IsBlockCell cell segs (b.seg, b.off)) blocks
   live = All-in_order (λ b. IsBlockCell cell segs (b.seg, b.off)) (flat_map (segment_blocks cell) segs) (all-live cell segs (numbers-apart segs h.segments))
 
-  some-of : (ss : List Cells) → (n : ℕ) → 1 ≤ length (cells_at n ss).pairs → (element ≡ 0 → length ss ≡ 0) → 1 ≤ element
-  some-of [] n there unset = absurd (omega (arith, there))
-  some-of (s ∷ ss) n there unset = ⊎_elim (λ (e : element ≡ 0). let none = unset e in absurd (omega (arith, none))) (λ (e : element ≡ 0 → ⊥). ne-one element e) (cases_eq element 0)
-    where
-      ne-one : (m : ℕ) → m ≢ 0 → 1 ≤ m
-      ne-one m other = omega (arith, other)
-
   set-by : (b : Block ℕ) → IsBlockCell cell segs (b.seg, b.off) → 1 ≤ element
-  set-by b l = let listed = l.listed in some-of segs b.seg (omega (arith, listed)) h.unset
+  set-by b l = cell-some element b.seg segs h (omega (arith, l.listed))
 
   exact-by : (b : Block ℕ) → IsBlockCell cell segs (b.seg, b.off) → place_of (address_of b) ≡ (b.seg, b.off)
   exact-by b l =
@@ -83,8 +76,8 @@ module _ (element : ℕ) (segs : List Cells) (h : AreCellular element segs) wher
   apart-places : (a b : Block ℕ) → 1 ≤ cell → Beside cell a b → a.seg ≡ b.seg → a.off ≡ b.off → ⊥
   apart-places a b some r seg off =
       ⊎_elim
-      (λ x. ⊎_elim (λ y. omega (arith, y, seg)) (λ y. let low = y.1 in omega (arith, low, off, some)) x)
-      (λ x. ⊎_elim (λ y. omega (arith, y, seg)) (λ y. let low = y.1 in omega (arith, low, off, some)) x)
+      (λ x. ⊎_elim (λ y. omega (arith, y, seg)) (λ y. omega (arith, y.1, off, some)) x)
+      (λ x. ⊎_elim (λ y. omega (arith, y, seg)) (λ y. omega (arith, y.1, off, some)) x)
       r
 
   pub own-places : HaveOwnPlaces blocks
@@ -95,8 +88,7 @@ module _ (element : ℕ) (segs : List Cells) (h : AreCellular element segs) wher
             let b : Block ℕ = get_or blocks j d in
             let low : i < length blocks = omega (arith, lt, within) in
             let same = sym (exact-by a (live i d low)) ∙ (ap place_of e ∙ exact-by b (live j d within)) in
-            let some = set-by b (live j d within) in
-            apart-places a b (omega (arith, some)) (beside i j d lt within) (ap (λ (p : ℕ × ℕ). p.0) same) (ap (λ (p : ℕ × ℕ). p.1) same);
+            apart-places a b (omega (arith, set-by b (live j d within))) (beside i j d lt within) (ap (λ (p : ℕ × ℕ). p.0) same) (ap (λ (p : ℕ × ℕ). p.1) same);
         first = λ k d lt.
             let l = live k d lt in
             (number-legal (get_or blocks k d).seg segs h.segments (omega arith)).0;

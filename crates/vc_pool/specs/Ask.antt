@@ -1,13 +1,12 @@
 -- When a block asks for a segment in a pool, and what it is granted.
-use Rattle.std.specs.Prelude.{◌≡◌, ℕ, ◌<◌, ◌≤◌, List, [], None, false, length, map}
+use Rattle.std.specs.Prelude.{◌≡◌, ℕ, ◌+◌, ◌<◌, ◌≤◌, List, [], None, false, length, map}
 use Rattle.vc_model.specs.Addr.{place_of}
-use Rattle.vc_model.specs.Discipline.{Discipline, Lent}
+use Rattle.vc_model.specs.Discipline.{Discipline, Lent, Terms}
 use Rattle.vc_model.specs.Pool.{Pool, carved_in, cell_for, element_with, uncarved}
-use Rattle.vc_model.specs.Segments.{Granted, ask, new_segment, segment_limit}
+use Rattle.vc_model.specs.Segments.{Granted, ask, new_segment, round_up, segment_limit}
 use Rattle.vc_pool_cells.specs.Blocks.{carved_by, pair_of}
-use Rattle.vc_pool_cells.specs.Carve.{IsCarvedNew, IsSetFrom}
+use Rattle.vc_pool_cells.specs.Carve.{CarvesNew}
 use Rattle.vc_pool_cells.specs.Cells.{Cells}
-use Rattle.vc_pool_cells.specs.Kept.{IsPool}
 
 -- the block fits the element size, no cell is free for it, neither a freed one nor an uncarved one, and one more segment may be lent
 pub record LacksCell {L : Type 0} (pool : Pool L) (size : ℕ) : Type 0 where
@@ -16,6 +15,10 @@ pub record LacksCell {L : Type 0} (pool : Pool L) (size : ℕ) : Type 0 where
   pub uncarved : uncarved (cell_for (element_with pool size)) pool.carved pool.layout.segments ≡ None
   pub few : length pool.layout.segments < segment_limit
 
+-- the bytes that a block asks for where each cell is carved: a segment of one cell at least, under these terms
+abbrev pub cell_need : Terms → ℕ → ℕ
+cell_need terms element = round_up (32 + cell_for element) terms.round
+
 -- a segment of that many bytes was lent under a number that none has, and a block of zeros is in its first cell, at an address
 pub record IsGranted (element tag size bytes : ℕ) (old new : List Cells) (before after : Discipline) (a : ℕ) : Type 0 where
   pub number : ℕ
@@ -23,4 +26,4 @@ pub record IsGranted (element tag size bytes : ℕ) (old new : List Cells) (befo
   pub granted : ask before.terms bytes (map pair_of old) false ≡ Granted (new_segment number bytes)
   pub uncarved : carved_in number (carved_by old) ≡ 0
   pub lent : Lent before after number bytes
-  pub carved : (unset last : ℕ) → IsSetFrom element unset → IsPool unset old last → IsCarvedNew element tag size old new (new_segment number bytes) last
+  pub carved : CarvesNew element tag size old new (new_segment number bytes)

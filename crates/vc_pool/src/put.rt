@@ -1,10 +1,11 @@
-ghost use Rattle.std.specs.Prelude.{◌≡◌, ◌+◌, ◌-◌, ◌/◌, ◌<◌, ◌≤◌, Err, None, IfErr, IfOk, IsErrOf, OnErr, OnOk, length, map, replicate, vec_capacity, vec_len};
-ghost use Rattle.vc_base.specs.Prelude.{HasOut, cell_for, uncarved};
+ghost use Rattle.std.specs.Prelude.{◌≡◌, ◌-◌, ◌/◌, ◌<◌, ◌≤◌, Err, IfErr, IfOk, IsErrOf, OnErr, OnOk, length, map, replicate, vec_capacity, vec_len};
+ghost use Rattle.vc_base.specs.Prelude.{HasOut};
 ghost use Rattle.vc_model.specs.Pool.{pool_alloc, pool_need};
-ghost use Rattle.vc_model.specs.Segments.{round_up, segment_limit};
-ghost use Rattle.vc_pool.specs.Ask.{IsGranted, LacksCell};
+ghost use Rattle.vc_model.specs.Segments.{segment_limit};
+ghost use Rattle.vc_pool.specs.Ask.{IsGranted, LacksCell, cell_need};
 ghost use Rattle.vc_pool.specs.Read.{pool_by};
-ghost use Rattle.vc_pool_cells.specs.Blocks.{carved_by, pair_of};
+ghost use Rattle.vc_pool_cells.specs.Blocks.{pair_of};
+ghost use Rattle.vc_pool_cells.specs.Carve.{AreCarved};
 ghost use Rattle.vc_pool_cells.specs.Kept.{AreCellular, FitsElement, IsPool};
 ghost use Rattle.vc_pool_cells.specs.Place.{cells_in};
 ghost use Rattle.vc_seg.specs.Answer.{Answers, Asks};
@@ -56,19 +57,18 @@ fn put_in_new(
 ) -> Result<Addr, RegionFault>
     requires kept { AreCellular element (cells_in segs.old.items) }
     requires lent { HasOut (state disc.old) (map pair_of (cells_in segs.old.items)) }
-    requires full { uncarved (cell_for element) (carved_by (cells_in segs.old.items))
-        (map pair_of (cells_in segs.old.items)) ≡ None }
+    requires full { AreCarved element (cells_in segs.old.items) }
     requires size { FitsElement size element }
     ensures granted { IfOk result (λ a. IsGranted element tag size
-        (round_up (32 + cell_for element) (state disc.old).terms.round)
+        (cell_need (state disc.old).terms element)
         (cells_in segs.old.items) (cells_in segs.new.items) (state disc.old) (state disc.new) a.0) }
     ensures fault { IfErr result (IsNoGrant (state disc.old).terms
-        (round_up (32 + cell_for element) (state disc.old).terms.round)
+        (cell_need (state disc.old).terms element)
         (map pair_of (cells_in segs.old.items))) }
     ensures few { IsErrOf result RegionFault.OutOfMemory → length segs.old.items < segment_limit }
     ensures same { OnErr result (segs.new.items ≡ segs.old.items) }
     ensures disc { IfErr result (λ why. IsAsked (Err why) (state disc.old) (state disc.new)
-        (round_up (32 + cell_for element) (state disc.old).terms.round)) }
+        (cell_need (state disc.old).terms element)) }
 {
     if segs.len() >= 1023 {
         return Err(RegionFault::TooManySegments);
@@ -94,8 +94,7 @@ pub(crate) fn alloc_in(
     tag: u32,
 ) -> Result<Addr, RegionFault>
     requires kept { IsPool element.old (cells_in segs.old.items) freed.old.0 }
-    requires lent { HasOut (state disc.old)
-        (pool_by segs.old.items element.old freed.old.0).layout.segments }
+    requires lent { HasOut (state disc.old) (map pair_of (cells_in segs.old.items)) }
     requires size { IsSize size }
     ensures kept { IsPool element.new (cells_in segs.new.items) freed.new.0 }
     ensures answer { Answers (pool_alloc (state disc.old).terms

@@ -55,7 +55,7 @@ at-number P n (s ∷ ss) h some =
     (cases_eq s.number n)
 
 -- which has that number
-number-there : (n : ℕ) (segs : List Cells) → 1 ≤ length (cells_at n segs).pairs → (cells_at n segs).number ≡ n
+pub number-there : (n : ℕ) (segs : List Cells) → 1 ≤ length (cells_at n segs).pairs → (cells_at n segs).number ≡ n
 number-there n [] some = absurd (omega (arith, some))
 number-there n (s ∷ ss) some =
     ⊎_elim
@@ -182,24 +182,24 @@ module _ (element : ℕ) (segs : List Cells) (h : AreCellular element segs) (som
       let place : place_of a ≡ pair b.seg b.off = ap place_of (sym own ∙ ap address off) ∙ (place-there b.seg l.index l.listed ∙ sym off) in
       subst (IsBlockCell (cell_for element) segs) (sym place) l
 
--- with a cell an element size is set
-pub cell-some : (element n : ℕ) (segs : List Cells) → AreCellular element segs → 1 ≤ length (cells_at n segs).pairs → 1 ≤ element
-cell-some element n [] h listed = absurd (omega (arith, listed))
-cell-some element n (s ∷ ss) h listed =
+-- with a segment an element size is set
+pub element-some : (element : ℕ) (segs : List Cells) → AreCellular element segs → 1 ≤ length segs → 1 ≤ element
+element-some element segs h some =
     ⊎_elim
-    (λ (e : element ≡ 0). let none = h.unset e in absurd (omega (arith, none)))
+    (λ (e : element ≡ 0). absurd (omega (arith, h.unset e, some)))
     (λ (e : element ≡ 0 → ⊥). omega (arith, e))
     (cases_eq element 0)
+
+-- so it is with a cell
+pub cell-some : (element n : ℕ) (segs : List Cells) → AreCellular element segs → 1 ≤ length (cells_at n segs).pairs → 1 ≤ element
+cell-some element n [] h listed = absurd (omega (arith, listed))
+cell-some element n (s ∷ ss) h listed = element-some element (s ∷ ss) h (omega arith)
 
 -- and with a block
 pub block-some : (element a : ℕ) (segs : List Cells) → AreCellular element segs → HasBlock (layout_by (cell_for element) segs).blocks a → 1 ≤ element
 unfolding layout_by
 block-some element a [] h live = absurd (omega (arith, live.1))
-block-some element a (s ∷ ss) h live =
-    ⊎_elim
-    (λ (e : element ≡ 0). let none = h.unset e in absurd (omega (arith, none)))
-    (λ (e : element ≡ 0 → ⊥). omega (arith, e))
-    (cases_eq element 0)
+block-some element a (s ∷ ss) h live = element-some element (s ∷ ss) h (omega arith)
 
 -- a cell with a block is one of its segment's
 pub live-listed : (cell : ℕ) (segs : List Cells) (at : ℕ × ℕ) → IsBlockCell cell segs at → IsListed cell segs at

@@ -25,9 +25,8 @@ carved-there (s ∷ ss) apart zero d lt =
     ⊎_elim
     (λ (t : ltb 0 s.carved ≡ true). rw t (rw (eq-eqb s.number s.number refl) refl))
     (λ (t : ltb 0 s.carved ≡ false).
-    let le = ltb-false 0 s.carved t in
     let none : carved_in s.number (carved_by ss) ≡ 0 = none-carved s.number ss (λ k e lt q. heads k e lt (sym q)) in
-    rw t (omega (arith, le, none)))
+    rw t (omega (arith, ltb-false 0 s.carved t, none)))
     (cases_Bool (ltb 0 s.carved))
 carved-there (s ∷ ss) apart (suc i) d lt =
     let R : Cells → Cells → Type 0 = λ a b. a.number ≢ b.number in
@@ -43,8 +42,7 @@ pub none-counted : (segs : List Cells) → All (λ (s : Cells). s.carved ≡ 0) 
 none-counted [] h = refl
 none-counted (s ∷ ss) h =
     let P : Cells → Type 0 = λ t. t.carved ≡ 0 in
-    let none = All-head P s ss h in
-    rw (le-ltb 0 s.carved (omega (arith, none))) (none-counted ss (All-tail P s ss h))
+    rw (le-ltb 0 s.carved (omega (arith, All-head P s ss h))) (none-counted ss (All-tail P s ss h))
 
 -- one more of the first segment that isn't full
 pub carved-more : (n i : ℕ) (segs : List Cells) (new : Cells) → i < length segs → All (IsOther n) (take i segs) → (get_or segs i new).number ≡ n → IsOpen (get_or segs i new) → new.number ≡ n → new.carved ≡ (get_or segs i new).carved + 1 → IsFront segs →

@@ -12,6 +12,9 @@ use Rattle.vc_pool_cells.proofs.OneCell.{ChangesCell}
 pub next-cell : (cell index : ℕ) → cell_offset cell (index + 1) ≡ cell_offset cell index + cell
 next-cell cell index = omega arith
 
+link-length : (link : ℕ) → length (to_le_bytes w64 link) ≡ 8
+link-length link = refl
+
 -- bytes that are written into a cell
 pub changes : (cell index at : ℕ) (c : ℕ × ℕ) (src : List ℕ) (o s : Cells) → cell_offset cell index ≤ at → at + length src ≤ cell_offset cell (index + 1) → cell_offset cell (index + 1) ≤ length o.bytes →
     s.number ≡ o.number → s.bytes ≡ with_bytes at src o.bytes → s.pairs ≡ set o.pairs index c → ChangesCell cell index c o s
@@ -33,14 +36,12 @@ module _ (cell index : ℕ) (o : Cells) (h : HasCell cell index o) where
 
   pub released-changes : (link : ℕ) → 8 ≤ cell → ChangesCell cell index (0, 0) o (with_free_cell cell index link o)
   released-changes link least =
-      let long : length (to_le_bytes w64 link) ≡ 8 = refl in
-      changes cell index (cell_offset cell index) (0, 0) (to_le_bytes w64 link) o (with_free_cell cell index link o) (omega arith) (omega (arith, long, least, next-cell cell index)) h.inside refl refl refl
+      changes cell index (cell_offset cell index) (0, 0) (to_le_bytes w64 link) o (with_free_cell cell index link o) (omega arith) (omega (arith, link-length link, least, next-cell cell index)) h.inside refl refl refl
 
   pub resized-changes : (size : ℕ) → (pair_at index o).0 ≤ cell → size ≤ cell → ChangesCell cell index (size, (pair_at index o).1) o (with_cell_size cell index size o)
   resized-changes size fitted_bytes fits =
-      let long = length-replicate {A = ℕ} (size - (pair_at index o).0) 0 in
       changes cell index (cell_offset cell index + (pair_at index o).0) (size, (pair_at index o).1) (replicate (size - (pair_at index o).0) 0) o (with_cell_size cell index size o)
-      (omega arith) (omega (arith, long, fitted_bytes, fits, next-cell cell index)) h.inside refl refl refl
+      (omega arith) (omega (arith, length-replicate {A = ℕ} (size - (pair_at index o).0) 0, fitted_bytes, fits, next-cell cell index)) h.inside refl refl refl
 
   pub written-changes : (off : ℕ) (src : List ℕ) → off + length src ≤ cell → ChangesCell cell index (pair_at index o) o (with_cell_bytes cell index off src o)
   written-changes off src range =
@@ -80,20 +81,17 @@ module _ (n cell index : ℕ) (o : Cells) (h : HasCell cell index o) where
   -- one of another size
   pub block-resized : (size : ℕ) → 1 ≤ size → size ≤ cell → (pair_at index o).0 ≤ cell → block_of_cell n (with_cell_size cell index size o).bytes (cell_offset cell index) (size, (pair_at index o).1) ≡ sized_block size own ∷ []
   block-resized size some fits fitted_bytes =
-      let next = next-cell cell index in
       block-of-bytes n (cell_offset cell index) (with_cell_size cell index size o).bytes _ (size, (pair_at index o).1) some
-      (zeros-behind (cell_offset cell index) (pair_at index o).0 size o.bytes (omega (arith, next, fitted_bytes)) (omega (arith, next, fits)))
+      (zeros-behind (cell_offset cell index) (pair_at index o).0 size o.bytes (omega (arith, next-cell cell index, fitted_bytes)) (omega (arith, next-cell cell index, fits)))
 
   -- one with other bytes
   pub block-written : (off : ℕ) (src : List ℕ) → 1 ≤ (pair_at index o).0 → (pair_at index o).0 ≤ cell → off + length src ≤ (pair_at index o).0 → block_of_cell n (with_cell_bytes cell index off src o).bytes (cell_offset cell index) (pair_at index o) ≡ rewritten_block off src own ∷ []
   block-written off src some fitted_bytes range =
-      let next = next-cell cell index in
       block-of-bytes n (cell_offset cell index) (with_cell_bytes cell index off src o).bytes _ (pair_at index o) some
-      (part-written (cell_offset cell index) (pair_at index o).0 off src o.bytes range (omega (arith, next, fitted_bytes)))
+      (part-written (cell_offset cell index) (pair_at index o).0 off src o.bytes range (omega (arith, next-cell cell index, fitted_bytes)))
 
   -- the link that is written into a cell is the one that stands there
   pub word-released : (link : ℕ) → link < 2 ^ 64 → 8 ≤ cell → link_word (cell_offset cell index) (with_free_cell cell index link o).bytes ≡ link
   word-released link small least =
-      let long : length (to_le_bytes w64 link) ≡ 8 = refl in
-      ap (from_le_bytes w64) (written-part (cell_offset cell index) (to_le_bytes w64 link) o.bytes (omega (arith, long, least, next-cell cell index)))
+      ap (from_le_bytes w64) (written-part (cell_offset cell index) (to_le_bytes w64 link) o.bytes (omega (arith, link-length link, least, next-cell cell index)))
       ∙ from_le_bytes-to_le_bytes_8 link small

@@ -35,7 +35,7 @@ target element segs at i index d h some there listed =
     }
 
 -- the counts of carved cells stay
-carved-stays : (i : ℕ) (segs : List Cells) (s : Cells) → i < length segs → s.number ≡ (get_or segs i s).number → s.carved ≡ (get_or segs i s).carved → carved_by (set segs i s) ≡ carved_by segs
+pub carved-stays : (i : ℕ) (segs : List Cells) (s : Cells) → i < length segs → s.number ≡ (get_or segs i s).number → s.carved ≡ (get_or segs i s).carved → carved_by (set segs i s) ≡ carved_by segs
 carved-stays i segs s within number carved =
     ap (filter (λ (c : ℕ × ℕ). ltb 0 c.1))
     (map-stays (λ (x : Cells). (x.number, x.carved)) i segs s within
@@ -119,7 +119,7 @@ module _ (element a i index : ℕ) (segs : List Cells) (s : Cells) (k : AreCellu
   live-size = subst (λ (x : Cells). 1 ≤ (pair_at index x).0) was (subst (λ j. 1 ≤ (pair_at j (cells_at n segs)).0) same stood.size)
 
   low : index < o.carved
-  low = let t = live-target in live-carved cell element index o t.cellular t.cell.listed live-size
+  low = live-carved cell element index o live-target.cellular live-target.cell.listed live-size
 
   here : (let at : ℕ × ℕ = (n, cell_offset cell index) in at ≡ place_of a)
   here = cell-place cell index (place_of a) there.offset
@@ -135,8 +135,7 @@ module _ (element a i index : ℕ) (segs : List Cells) (s : Cells) (k : AreCellu
 
   pub live-found : find_block (place_of a) (layout_by cell segs).blocks ≡ Some own
   live-found =
-      let t = live-target in
-      ap (λ q. find_block q (layout_by cell segs).blocks) (sym here) ∙ layout-found cell index i n segs s there.alone (omega (arith, nonzero)) t.cell.listed own own-in own-at
+      ap (λ q. find_block q (layout_by cell segs).blocks) (sym here) ∙ layout-found cell index i n segs s there.alone (omega (arith, nonzero)) live-target.cell.listed own own-in own-at
 
   module _ (freed : ℕ) (h : IsPool element segs freed) where
     abbrev ps : List (ℕ × ℕ)
@@ -148,67 +147,62 @@ module _ (element a i index : ℕ) (segs : List Cells) (s : Cells) (k : AreCellu
     -- the freed cells stay where its pair changes
     stays : (c : ℕ × ℕ) → ChangesCell cell index c o s → c.0 ≤ element → (c.0 ≡ 0 → c.1 ≡ 0) → s.carved ≡ o.carved → IsPoolOf element (set segs i s) freed ps
     stays c ch fits blank count =
-        let t = live-target in
         pool-set element freed i n index c segs s ps h there.alone ch nonzero freed ps
-        (cellular-set cell element index o s c t.cellular ch fits blank low count)
+        (cellular-set cell element index o s c live-target.cellular ch fits blank low count)
         (front-set i segs s there.alone.within count (ap length ch.pairs ∙ length-set o.pairs index c) h.front) (omega (arith, count)) h.chain h.free h.once
         (subst (λ (q : ℕ × ℕ). All (λ r. q ≢ r) ps) (sym here) others)
 
     becomes : (c : ℕ × ℕ) (g : Block ℕ → Block ℕ) → ChangesCell cell index c o s → 1 ≤ c.0 → c.0 ≤ element → s.carved ≡ o.carved → (g own).seg ≡ own.seg → (g own).off ≡ own.off → block_of_cell n s.bytes (cell_offset cell index) c ≡ g own ∷ [] →
         Becomes element segs (set segs i s) freed (record { segments = (layout_by cell segs).segments; blocks = change_block g (place_of a) (layout_by cell segs).blocks })
     becomes c g ch some fits count seg off is =
-        let t = live-target in
         let kept = stays c ch fits (λ z. absurd (omega (arith, z, some))) count in
         let layout : ℕ × ℕ → Layout ℕ = λ q. record { segments = (layout_by cell segs).segments; blocks = change_block g q (layout_by cell segs).blocks } in
         record {
           kept = pool-of element (set segs i s) freed ps kept;
-          layout = layout-changed cell index i n segs s there.alone (omega (arith, nonzero)) t.cell.listed c s ch t.fits g own seg off own-in own-at is ∙ ap layout here;
+          layout = layout-changed cell index i n segs s there.alone (omega (arith, nonzero)) live-target.cell.listed c s ch live-target.fits g own seg off own-in own-at is ∙ ap layout here;
           freed = pool-freed element (set segs i s) freed ps kept;
           carved = carved-stays i segs s there.alone.within ch.number count;
         }
 
     pub resize-of : (size : ℕ) → 1 ≤ size → size ≤ element → s ≡ with_cell_size cell index size o → Becomes element segs (set segs i s) freed (resize_there (layout_by cell segs) (place_of a) size)
     resize-of size some fits e =
-        let t = live-target in
-        let fitted = t.fits index (0, 0) t.cell.listed in
+        let fitted = live-target.fits index (0, 0) live-target.cell.listed in
         let wide : size ≤ cell = omega (arith, fits, fits-cell element) in
-        let ch : ChangesCell cell index (size, (pair_at index o).1) o s = subst (ChangesCell cell index (size, (pair_at index o).1) o) (sym e) (resized-changes cell index o t.cell size fitted wide) in
+        let ch : ChangesCell cell index (size, (pair_at index o).1) o s = subst (ChangesCell cell index (size, (pair_at index o).1) o) (sym e) (resized-changes cell index o live-target.cell size fitted wide) in
         becomes (size, (pair_at index o).1) (sized_block size) ch some fits (ap (λ (x : Cells). x.carved) e) refl refl
-        (ap (λ (x : Cells). block_of_cell n x.bytes (cell_offset cell index) (size, (pair_at index o).1)) e ∙ block-resized n cell index o t.cell size some wide fitted)
+        (ap (λ (x : Cells). block_of_cell n x.bytes (cell_offset cell index) (size, (pair_at index o).1)) e ∙ block-resized n cell index o live-target.cell size some wide fitted)
 
     pub write-of : (off : ℕ) (src : List ℕ) → off + length src ≤ (pair_at index o).0 → s ≡ with_cell_bytes cell index off src o → Becomes element segs (set segs i s) freed (with_bytes_at (layout_by cell segs) (place_of a) off src)
     write-of off src range e =
-        let t = live-target in
-        let fitted = t.fits index (0, 0) t.cell.listed in
-        let least = t.cellular.fits index (0, 0) t.cell.listed in
-        let ch : ChangesCell cell index (pair_at index o) o s = subst (ChangesCell cell index (pair_at index o) o) (sym e) (written-changes cell index o t.cell off src (omega (arith, range, fitted))) in
+        let fitted = live-target.fits index (0, 0) live-target.cell.listed in
+        let least = live-target.cellular.fits index (0, 0) live-target.cell.listed in
+        let ch : ChangesCell cell index (pair_at index o) o s = subst (ChangesCell cell index (pair_at index o) o) (sym e) (written-changes cell index o live-target.cell off src (omega (arith, range, fitted))) in
         becomes (pair_at index o) (rewritten_block off src) ch live-size least (ap (λ (x : Cells). x.carved) e) refl refl
-        (ap (λ (x : Cells). block_of_cell n x.bytes (cell_offset cell index) (pair_at index o)) e ∙ block-written n cell index o t.cell off src live-size fitted range)
+        (ap (λ (x : Cells). block_of_cell n x.bytes (cell_offset cell index) (pair_at index o)) e ∙ block-written n cell index o live-target.cell off src live-size fitted range)
 
     pub put-back-of : freed < 2 ^ 64 → s ≡ with_free_cell cell index freed o → IsPutBack element a segs (set segs i s) freed
     put-back-of small e =
-        let t = live-target in
         let wide : 8 ≤ cell = omega (arith, nonzero) in
-        let ch : ChangesCell cell index (0, 0) o s = subst (ChangesCell cell index (0, 0) o) (sym e) (released-changes cell index o t.cell freed wide) in
+        let ch : ChangesCell cell index (0, 0) o s = subst (ChangesCell cell index (0, 0) o) (sym e) (released-changes cell index o live-target.cell freed wide) in
         let count : s.carved ≡ o.carved = ap (λ (x : Cells). x.carved) e in
         let mid = stays (0, 0) ch (omega arith) (λ z. refl) count in
         let is : cells_at n (set segs i s) ≡ s = cells-set n i segs s there.alone.within there.alone.before (ch.number ∙ there.alone.number s) in
         let first : 1 ≤ n = subst (λ k. 1 ≤ k) (there.alone.number s) ((all-legal segs k.segments i s there.alone.within).first) in
         let link : freed_link (set segs i s) a ≡ freed =
         ap (λ (x : Cells). link_word (place_of a).1 x.bytes) is
-        ∙ (ap (λ k. link_word k s.bytes) there.offset ∙ (ap (λ (x : Cells). link_word (cell_offset cell index) x.bytes) e ∙ word-released n cell index o t.cell freed small wide)) in
+        ∙ (ap (λ k. link_word k s.bytes) there.offset ∙ (ap (λ (x : Cells). link_word (cell_offset cell index) x.bytes) e ∙ word-released n cell index o live-target.cell freed small wide)) in
         let free : IsFreeCell cell (set segs i s) (place_of a) =
         let k : ℕ = index_at cell (place_of a).1 in
         let at : k ≡ index = index-is cell index (place_of a).1 (omega (arith, nonzero)) there.offset in
         record {
           offset = there.offset ∙ ap (cell_offset cell) (sym at);
           below = subst (λ (x : Cells). k < x.carved) (sym is) (omega (arith, at, low, count));
-          empty = ap (λ (x : Cells). (pair_at k x).0) is ∙ (ap (λ j. (pair_at j s).0) at ∙ (ap (λ (xs : List (ℕ × ℕ)). (get_or xs index (0, 0)).0) ch.pairs ∙ ap (λ (p : ℕ × ℕ). p.0) (get_or-set_same o.pairs index (0, 0) (0, 0) t.cell.listed)));
+          empty = ap (λ (x : Cells). (pair_at k x).0) is ∙ (ap (λ j. (pair_at j s).0) at ∙ (ap (λ (xs : List (ℕ × ℕ)). (get_or xs index (0, 0)).0) ch.pairs ∙ ap (λ (p : ℕ × ℕ). p.0) (get_or-set_same o.pairs index (0, 0) (0, 0) live-target.cell.listed)));
         } in
         let kept = pool-push element freed a (set segs i s) (place_of a) ps mid (omega (arith, first)) refl link free others in
         record {
           kept = pool-of element (set segs i s) a (place_of a ∷ ps) kept;
-          layout = layout-freed cell index i n segs s there.alone (omega (arith, nonzero)) t.cell.listed (0, 0) s ch t.fits own own-in own-at refl ∙ ap (without_block_at (layout_by cell segs)) here;
+          layout = layout-freed cell index i n segs s there.alone (omega (arith, nonzero)) live-target.cell.listed (0, 0) s ch live-target.fits own own-in own-at refl ∙ ap (without_block_at (layout_by cell segs)) here;
           freed = pool-freed element (set segs i s) a (place_of a ∷ ps) kept;
           carved = carved-stays i segs s there.alone.within ch.number count;
         }

@@ -59,9 +59,8 @@ live-carved cell element index o h listed some =
     ⊎_elim
     (λ (t : ltb index o.carved ≡ true). ltb-true index o.carved t)
     (λ (t : ltb index o.carved ≡ false).
-    let le = ltb-false index o.carved t in
     let k : ℕ = index - o.carved in
-    let at : o.carved + k ≡ index = omega (arith, le) in
+    let at : o.carved + k ≡ index = omega (arith, ltb-false index o.carved t) in
     let none : (get_or (drop o.carved o.pairs) k (0, 0)).0 ≡ 0 = h.fresh k (0, 0) (omega (arith, at, listed, length-drop o.carved o.pairs)) in
     let same : (get_or (drop o.carved o.pairs) k (0, 0)).0 ≡ (pair_at index o).0 = ap (λ (p : ℕ × ℕ). p.0) (get_or-drop o.carved o.pairs k (0, 0) ∙ ap (λ j. get_or o.pairs j (0, 0)) at) in
     absurd (omega (arith, none, same, some)))

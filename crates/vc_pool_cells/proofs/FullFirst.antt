@@ -6,7 +6,7 @@ use Rattle.vc_pool_cells.specs.Cells.{Cells, cells_of}
 use Rattle.vc_pool_cells.specs.Kept.{AreCellular, IsFront, IsFull}
 use Rattle.vc_pool_cells.specs.Place.{cells_in}
 use Rattle.vc_pool_cells.specs.declared.segment.PoolSegment.{PoolSegment}
-use Rattle.vc_pool_cells.proofs.SegmentList.{cells-get}
+use Rattle.vc_pool_cells.proofs.SegmentList.{cells-get, some-of}
 use Rattle.vc_pool_cells.specs.Open.{HasCells, IsOpenFrom}
 
 pub have-cells : (element : ℕ) (segs : List Cells) → AreCellular element segs → All HasCells segs
@@ -21,11 +21,6 @@ full-before (s ∷ ss) f h zero (suc j) d le lt full =
     f.0 j d (omega (arith, lt)) (omega (arith, full))
 full-before (s ∷ ss) f h (suc i) zero d le lt full = absurd (omega (arith, le))
 full-before (s ∷ ss) f h (suc i) (suc j) d le lt full = full-before ss f.1 (All-tail HasCells s ss h) i j d (omega (arith, le)) (omega (arith, lt)) full
-
--- a segment, where there is one
-pub some-of : (segs : List PoolSegment) (i : ℕ) → i < length segs → PoolSegment
-some-of [] i lt = absurd (omega (arith, lt))
-some-of (s ∷ ss) i lt = s
 
 -- whether a segment is full, as it is tested
 abbrev pub is_full : PoolSegment → Bool
@@ -42,7 +37,6 @@ module _ (segs : List PoolSegment) (f : IsFront (cells_in segs)) (h : All HasCel
 
   pub open-from : (i : ℕ) → i ≤ length segs → AllWithin (λ s. is_full s ≡ true) segs 0 i → AllWithin (λ s. is_full s ≡ false) segs i (length segs) → IsOpenFrom (cells_in segs) i
   open-from i le full rest =
-      let long = length-map segs cells_of in
       record {
         full = λ k e lt.
             let low : k < i = omega (arith, lt, length-take i (cells_in segs)) in
@@ -50,10 +44,9 @@ module _ (segs : List PoolSegment) (f : IsFront (cells_in segs)) (h : All HasCel
             subst IsFull (sym (get_or-take i (cells_in segs) k e low ∙ cells-get segs k d e (omega (arith, low, le))))
             (eqb-true (get_or segs k d).carved (length (get_or segs k d).cells.items) (full k d (omega arith) low));
         room = λ lt e.
-            let within : i < length segs = omega (arith, lt, long) in
+            let within : i < length segs = omega (arith, lt, length-map segs cells_of) in
             let d : PoolSegment = some-of segs i within in
-            let few = (h i e lt).few in
             let other : IsFull (get_or (cells_in segs) i e) → ⊥ = λ q.
             eqb-false (get_or segs i d).carved (length (get_or segs i d).cells.items) (rest i d (omega arith) within) (subst IsFull (cells-get segs i d e within) q) in
-            omega (arith, few, other);
+            omega (arith, (h i e lt).few, other);
       }

@@ -6,12 +6,11 @@ use Rattle.vc_pool_cells.specs.Cells.{Cells, cells_of}
 use Rattle.vc_pool_cells.specs.Kept.{AreCellular, IsCellular, IsFull}
 use Rattle.vc_pool_cells.specs.Place.{cells_in}
 use Rattle.vc_pool_cells.specs.declared.segment.PoolSegment.{PoolSegment}
-use Rattle.vc_pool_cells.proofs.SegmentList.{cells-get}
+use Rattle.vc_pool_cells.proofs.SegmentList.{cells-get, some-of}
 use Rattle.vc_pool_cells.proofs.OneSegment.{numbers-apart}
 use Rattle.vc_pool_cells.proofs.BlockPlaces.{all-legal, has-cell}
 use Rattle.vc_pool_cells.specs.Open.{IsFirstOpen, IsOpen, IsOpenFrom}
 use Rattle.vc_pool_cells.proofs.CarvedCounts.{carved-there}
-use Rattle.vc_pool_cells.proofs.FullFirst.{some-of}
 
 -- one more cell ends within a segment where one is uncarved
 room-is : (cell element : ℕ) (s : Cells) → 1 ≤ cell → IsCellular cell element s → IsSegmentSize (length s.bytes) → leb (cell_offset cell (s.carved + 1)) (length s.bytes) ≡ ltb s.carved (length s.pairs)
@@ -40,15 +39,13 @@ find-first test [] i d tells lt full room = absurd (omega (arith, lt))
 find-first test (s ∷ ss) zero d tells lt full room =
     rw (All-head (Tells test) s ss tells ∙ lt-ltb s.carved (length s.pairs) room) refl
 find-first test (s ∷ ss) (suc i) d tells lt full room =
-    let here = All-head IsFull s (take i ss) full in
-    rw (All-head (Tells test) s ss tells ∙ le-ltb s.carved (length s.pairs) (omega (arith, here)))
+    rw (All-head (Tells test) s ss tells ∙ le-ltb s.carved (length s.pairs) (omega (arith, All-head IsFull s (take i ss) full)))
     (find-first test ss i d (All-tail (Tells test) s ss tells) (omega (arith, lt)) (All-tail IsFull s (take i ss) full) room)
 
 find-none : (test : ℕ × ℕ → Bool) (segs : List Cells) → All (Tells test) segs → All IsFull segs → find test (map pair_of segs) ≡ None
 find-none test [] tells full = refl
 find-none test (s ∷ ss) tells full =
-    let here = All-head IsFull s ss full in
-    rw (All-head (Tells test) s ss tells ∙ le-ltb s.carved (length s.pairs) (omega (arith, here)))
+    rw (All-head (Tells test) s ss tells ∙ le-ltb s.carved (length s.pairs) (omega (arith, All-head IsFull s ss full)))
     (find-none test ss (All-tail (Tells test) s ss tells) (All-tail IsFull s ss full))
 
 none-find : (test : ℕ × ℕ → Bool) (segs : List Cells) → All (Tells test) segs → find test (map pair_of segs) ≡ None → All (λ (s : Cells). length s.pairs ≤ s.carved) segs
@@ -95,9 +92,8 @@ module _ (element : ℕ) (segs : List Cells) (k : AreCellular element segs) (som
 
   pub all-full : uncarved cell (carved_by segs) (map pair_of segs) ≡ None → All IsFull segs
   all-full e i d lt =
-      let few = (k.cellular i d lt).few in
       let all = none-find test segs tells (map-none (λ (p : ℕ × ℕ). (p.0, cell_offset cell (carved_in p.0 (carved_by segs)))) (find test (map pair_of segs)) e) i d lt in
-      omega (arith, few, all)
+      omega (arith, (k.cellular i d lt).few, all)
     where
       map-none : (f : ℕ × ℕ → ℕ × ℕ) (o : Option (ℕ × ℕ)) → option_map f o ≡ None → o ≡ None
       map-none f None q = refl

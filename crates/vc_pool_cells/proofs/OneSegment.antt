@@ -15,10 +15,9 @@ use Rattle.vc_pool_cells.proofs.OneCell.{ChangesCell, back, blocks-new, blocks-o
 pub numbers-apart : (segs : List Cells) → AreSegments (map segment_of segs) → AllPairs (λ (a b : Cells). a.number ≢ b.number) segs
 numbers-apart segs h =
     λ i j d lt within e.
-    let long = length-map segs segment_of in
     let one = get_or-map segment_of segs i d (segment_of d) (omega (arith, lt, within)) in
     let two = get_or-map segment_of segs j d (segment_of d) within in
-    h.distinct i j (segment_of d) lt (omega (arith, within, long))
+    h.distinct i j (segment_of d) lt (omega (arith, within, length-map segs segment_of))
     (ap (λ (b : Bytes). b.number) one ∙ (e ∙ sym (ap (λ (b : Bytes). b.number) two)))
 
 -- a segment at a place is the one of its number

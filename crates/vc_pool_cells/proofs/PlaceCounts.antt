@@ -25,10 +25,9 @@ pub times-none : (at : ℕ × ℕ) (ps : List (ℕ × ℕ)) → All (λ p. at �
 times-none at [] h = refl
 times-none at (p ∷ ps) h =
     let P : ℕ × ℕ → Type 0 = λ q. at ≢ q in
-    let rest = times-none at ps (All-tail P p ps h) in
     ⊎_elim
     (λ (t : same_pair at p ≡ true). absurd (All-head P p ps h (same_pair-is at p t)))
-    (λ (t : same_pair at p ≡ false). rw t (omega (arith, rest)))
+    (λ (t : same_pair at p ≡ false). rw t (omega (arith, times-none at ps (All-tail P p ps h))))
     (cases_Bool (same_pair at p))
 
 pub none-times : (at : ℕ × ℕ) (ps : List (ℕ × ℕ)) → times at ps ≡ 0 → All (λ p. at ≢ p) ps
@@ -95,8 +94,7 @@ length-from n cell off (c ∷ cs) = let rest = length-from n cell (off + cell) c
 length-all : (cell : ℕ) (segs : List Cells) → length (all_places cell segs) ≡ cell_total segs
 length-all cell [] = refl
 length-all cell (s ∷ ss) =
-    let rest = length-all cell ss in
-    omega (arith, length-append (places_from s.number cell 32 s.pairs) (all_places cell ss), length-from s.number cell 32 s.pairs, rest)
+    omega (arith, length-append (places_from s.number cell 32 s.pairs) (all_places cell ss), length-from s.number cell 32 s.pairs, length-all cell ss)
 
 times-from : (n cell off k : ℕ) (cs : List (ℕ × ℕ)) → k < length cs → 1 ≤ times (n, off + k * cell) (places_from n cell off cs)
 times-from n cell off k [] lt = absurd (omega (arith, lt))
@@ -122,8 +120,7 @@ times-all cell k at (s ∷ ss) off lt =
     omega (arith, both, some))
     (λ (e : s.number ≡ at.0 → ⊥).
     let own : k < length (cells_at at.0 ss).pairs = rw (ne_eqb s.number at.0 e) at lt in
-    let some = times-all cell k at ss off own in
-    omega (arith, both, some))
+    omega (arith, both, times-all cell k at ss off own))
     (cases_eq s.number at.0)
 
 -- no more cells are freed than there are, where each is so once
@@ -135,7 +132,6 @@ few-freed cell segs ps few free once =
     (λ (some : times at ps ≡ 0 → ⊥).
     let own = times-some (IsFreeCell cell segs) at ps free (omega (arith, some)) in
     let all = times-all cell (index_at cell at.1) at segs own.offset (omega (arith, few at.0)) in
-    let single = once at in
-    omega (arith, all, single))
+    omega (arith, all, once at))
     (cases_eq (times at ps) 0)) in
     omega (arith, le, length-all cell segs)

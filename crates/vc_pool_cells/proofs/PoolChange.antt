@@ -62,13 +62,12 @@ pool-push element a b segs at ps h some place link free other =
       chain = (some, place, subst (λ k. IsFreedChain segs k ps) (sym link) h.chain);
       free = All-cons (IsFreeCell (cell_for element) segs) at ps free h.free;
       once = λ p.
-          let before = h.once p in
           ⊎_elim
           (λ (t : same_pair p at ≡ true).
           let same : p ≡ at = same_pair-is p at t in
           let none : times p ps ≡ 0 = ap (λ q. times q ps) same ∙ times-none at ps other in
           rw t (omega (arith, none)))
-          (λ (t : same_pair p at ≡ false). rw t (omega (arith, before)))
+          (λ (t : same_pair p at ≡ false). rw t (omega (arith, h.once p)))
           (cases_Bool (same_pair p at));
     }
 

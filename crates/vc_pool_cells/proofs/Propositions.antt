@@ -5,20 +5,8 @@ use Rattle.vc_pool_cells.specs.Cells.{Cells}
 use Rattle.vc_pool_cells.specs.Freed.{IsFreedChain, IsFreeCell, freed_link}
 use Rattle.vc_pool_cells.specs.Kept.{AreCellular, IsCellular, IsFront, IsPool, IsPoolOf}
 
-size-prop : (n : ℕ) → IsProp (IsSegmentSize n)
-size-prop n = hlevel (ℕ_set, le_prop)
-
-segment-prop : (s : Bytes) → IsProp (IsRegionSegment s)
-segment-prop s = hlevel (size-prop, le_prop)
-
-segments-prop : (segs : List Bytes) → IsProp (AreSegments segs)
-segments-prop segs = hlevel (segment-prop, le_prop, ℕ_set)
-
-cellular-prop : (cell element : ℕ) (s : Cells) → IsProp (IsCellular cell element s)
-cellular-prop cell element s = hlevel (ℕ_set, le_prop)
-
 all-prop : (element : ℕ) (segs : List Cells) → IsProp (AreCellular element segs)
-all-prop element segs = hlevel (le_prop, ℕ_set, segments-prop, cellular-prop)
+all-prop element segs = hlevel (le_prop, ℕ_set)
 
 front-prop : (segs : List Cells) → IsProp (IsFront segs)
 front-prop [] = λ x y. refl
@@ -28,11 +16,8 @@ chain-prop : (segs : List Cells) (a : ℕ) (ps : List (ℕ × ℕ)) → IsProp (
 chain-prop segs a [] = hlevel (ℕ_set)
 chain-prop segs a (p ∷ ps) = let rest = chain-prop segs (freed_link segs a) ps in hlevel (le_prop, ℕ_set, rest)
 
-free-prop : (cell : ℕ) (segs : List Cells) (p : ℕ × ℕ) → IsProp (IsFreeCell cell segs p)
-free-prop cell segs p = hlevel (ℕ_set, le_prop)
-
 pool-prop : (element : ℕ) (segs : List Cells) (a : ℕ) (ps : List (ℕ × ℕ)) → IsProp (IsPoolOf element segs a ps)
-pool-prop element segs a ps = hlevel (all-prop, front-prop, chain-prop, free-prop, le_prop)
+pool-prop element segs a ps = hlevel (all-prop, front-prop, chain-prop, ℕ_set, le_prop)
 
 -- so it is had
 pub have : (element : ℕ) (segs : List Cells) (a : ℕ) → ∥ IsPool element segs a ∥₁ → IsPool element segs a

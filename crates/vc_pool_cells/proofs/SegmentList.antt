@@ -40,7 +40,7 @@ cells-none n (s ∷ ss) h =
     rw (ne_eqb s.seg.number n (All-head P s ss h)) (cells-none n ss (All-tail P s ss h))
 
 -- a segment, where there is one
-some-of : (segs : List PoolSegment) (i : ℕ) → i < length segs → PoolSegment
+pub some-of : (segs : List PoolSegment) (i : ℕ) → i < length segs → PoolSegment
 some-of [] i lt = absurd (omega (arith, lt))
 some-of (s ∷ ss) i lt = s
 

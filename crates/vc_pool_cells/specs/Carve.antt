@@ -1,12 +1,12 @@
 -- What the calls that carve a cell, or uncarve all, leave of a pool's segments, by those before and after and by the address of the cell freed last, 0 for none.
-use Rattle.std.specs.Prelude.{◌≡◌, ℕ, ◌≤◌, List, []}
+use Rattle.std.specs.Prelude.{◌≡◌, ℕ, ◌≤◌, List, [], None, map}
 use Rattle.vc_model.specs.Addr.{place_of}
 use Rattle.vc_model.specs.Compact.{cleared_layout}
 use Rattle.vc_model.specs.Layout.{with_grant}
 use Rattle.vc_model.specs.Segments.{Grant}
-use Rattle.vc_model.specs.Pool.{carve, cell_for}
+use Rattle.vc_model.specs.Pool.{carve, cell_for, uncarved}
 use Rattle.vc_layouts.specs.Put.{with_zeros}
-use Rattle.vc_pool_cells.specs.Blocks.{carved_by, layout_by}
+use Rattle.vc_pool_cells.specs.Blocks.{carved_by, layout_by, pair_of}
 use Rattle.vc_pool_cells.specs.Cells.{Cells}
 use Rattle.vc_pool_cells.specs.Freed.{freed_cells}
 use Rattle.vc_pool_cells.specs.Kept.{IsPool}
@@ -22,12 +22,20 @@ pub record IsCarvedAt (element tag size : ℕ) (old new : List Cells) (last a : 
 abbrev pub IsSetFrom : ℕ → ℕ → Type 0
 IsSetFrom element before = 1 ≤ before → before ≡ element
 
+-- every cell of these segments, which are for an element size, is carved
+abbrev pub AreCarved : ℕ → List Cells → Type 0
+AreCarved element segs = uncarved (cell_for element) (carved_by segs) (map pair_of segs) ≡ None
+
 -- the segment that was granted stands behind the others, and a block of zeros is in its first cell
 pub record IsCarvedNew (element tag size : ℕ) (old new : List Cells) (grant : Grant) (last : ℕ) : Type 0 where
   pub kept : IsPool element new last
   pub layout : layout_by (cell_for element) new ≡ with_zeros (with_grant (layout_by (cell_for element) old) grant) tag size (grant.number, 32)
   pub freed : freed_cells new last ≡ freed_cells old last
   pub carved : carved_by new ≡ carve grant.number (carved_by old)
+
+-- the same of each pool that has these segments, whatever cell was freed last, and whose element size that block may set
+abbrev pub CarvesNew : ℕ → ℕ → ℕ → List Cells → List Cells → Grant → Type 0
+CarvesNew element tag size old new grant = (before last : ℕ) → IsSetFrom element before → IsPool before old last → IsCarvedNew element tag size old new grant last
 
 -- no block is left, and no cell is carved
 pub record IsUncarved (element : ℕ) (old new : List Cells) : Type 0 where

@@ -1,11 +1,10 @@
-ghost use Rattle.std.specs.Prelude.{◌≡◌, ℕ, ◌+◌, ◌-◌, ◌/◌, ◌<◌, ◌≤◌, All, None, length, map, replicate, vec_capacity, vec_len};
-ghost use Rattle.vc_base.specs.Prelude.{place_of, cell_for, uncarved};
+ghost use Rattle.std.specs.Prelude.{◌≡◌, ◌+◌, ◌-◌, ◌/◌, ◌<◌, ◌≤◌, All, length, replicate, vec_capacity, vec_len};
+ghost use Rattle.vc_base.specs.Prelude.{place_of, cell_for};
 ghost use Rattle.vc_model.specs.Segments.{new_segment};
 ghost use Rattle.vc_seg.specs.Segment.{IsRegionSegment};
-ghost use Rattle.vc_pool_cells.specs.Blocks.{carved_by, pair_of};
-ghost use Rattle.vc_pool_cells.specs.Kept.{AreCellular, FitsElement, IsPool};
+ghost use Rattle.vc_pool_cells.specs.Kept.{AreCellular, FitsElement};
 ghost use Rattle.vc_pool_cells.specs.Place.{IsOther, cells_in};
-ghost use Rattle.vc_pool_cells.specs.Carve.{IsCarvedNew, IsSetFrom};
+ghost use Rattle.vc_pool_cells.specs.Carve.{AreCarved, CarvesNew};
 
 use crate::PoolSegment;
 use crate::carve::carve_at;
@@ -24,8 +23,7 @@ pub fn carve_new(
     tag: u32,
 ) -> Addr
     requires kept { AreCellular element (cells_in segs.old.items) }
-    requires full { uncarved (cell_for element) (carved_by (cells_in segs.old.items))
-        (map pair_of (cells_in segs.old.items)) ≡ None }
+    requires full { AreCarved element (cells_in segs.old.items) }
     requires few { length segs.old.items < 1023 }
     requires room { vec_len segs.old < vec_capacity segs.old }
     requires segment { IsRegionSegment segment }
@@ -34,10 +32,8 @@ pub fn carve_new(
     requires table { table.items ≡ replicate ((length segment.bytes - 32) / cell_for element) (0, 0) }
     requires size { FitsElement size element }
     ensures place { place_of result.0 ≡ (segment.number, 32) }
-    ensures carved { (before last : ℕ) → IsSetFrom element before
-        → IsPool before (cells_in segs.old.items) last
-        → IsCarvedNew element tag size (cells_in segs.old.items) (cells_in segs.new.items)
-        (new_segment segment.number (length segment.bytes)) last }
+    ensures carved { CarvesNew element tag size (cells_in segs.old.items) (cells_in segs.new.items)
+        (new_segment segment.number (length segment.bytes)) }
     ensures room { vec_capacity segs.new ≡ vec_capacity segs.old }
 {
     let place = segs.len();

@@ -8,7 +8,6 @@ use Rattle.vc_pool_cells.specs.Carve.{IsCarvedAt}
 use Rattle.vc_pool.specs.Read.{pool_by}
 use Rattle.vc_pool.proofs.PoolCalls.{asked-refusal, carved-disc, freed-some, full-is, granted-disc, lacks-cell, pool-with, put-carved, put-granted, put-reused}
 use Rattle.vc_pool.proofs.AskedSegment.{granted-from}
-use Rattle.vc_pool.proofs.PoolAfterCalls.{pairs-of}
 use Rattle.vc_pool.proofs.put.alloc_in.Goals as goal
 use Rattle.vc_pool.proofs.put.alloc_in.Goals.{After-carve_lowest, After-element_with-set, After-reuse}
 use Rattle.vc_pool.proofs.put.alloc_in.Given.{Over}
@@ -129,6 +128,5 @@ returns-in-Err-clause-no_memory g c =
 pub put_in_new-requires-clause-lent : goal.put_in_new-requires-clause-lent
 put_in_new-requires-clause-lent g c =
     let at = (goal.at.put_in_new-requires-clause-lent g c).After-carve_lowest in
-    let same : (pool_by c.args.segs.now.items c.args.element.now c.args.freed.now.0).layout.segments ≡ map pair_of (cells_in (after g at)) =
-    pairs-of c.args.segs.now.items c.args.element.now c.args.freed.now.0 ∙ ap (λ (ss : List PoolSegment). map pair_of (cells_in ss)) (sym (unchanged g at c.in-None.ensures.same)) in
+    let same = ap (λ (ss : List PoolSegment). map pair_of (cells_in ss)) (sym (unchanged g at c.in-None.ensures.same)) in
     (c.requires.lent.0, c.requires.lent.1 ∙ ap (λ ss. c.requires.lent.0 ++ ss) same)

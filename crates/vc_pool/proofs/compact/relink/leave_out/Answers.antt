@@ -1,12 +1,11 @@
-use Rattle.vc_base.proofs.Common.{◌≤◌, arith}
+use Rattle.vc_base.proofs.Common.{arith}
 use Rattle.vc_pool_cells.specs.Place.{cells_in}
 use Rattle.vc_pool.proofs.ChainSifting.{first-out, next-out, out-keeps, split-last, split-small}
 use Rattle.vc_pool.proofs.compact.relink.leave_out.Goals as goal
 
 pub set_link-requires-clause-listed : goal.set_link-requires-clause-listed
 set_link-requires-clause-listed c =
-    let one : 1 ≤ c.args.last.0 = let other = c.if-last-eq0.false in omega (arith, other) in
-    split-last c.args.element (cells_in c.args.segs.now) c.args.freed.now.0 c.args.last.0 c.args.at.0 c.requires.split one
+    split-last c.args.element (cells_in c.args.segs.now) c.args.freed.now.0 c.args.last.0 c.args.at.0 c.requires.split (omega (arith, c.if-last-eq0.false))
 
 pub returns-then-last-eq0-clause-split : goal.returns-then-last-eq0-clause-split
 returns-then-last-eq0-clause-split c =
@@ -14,13 +13,9 @@ returns-then-last-eq0-clause-split c =
 
 pub returns-else-last-eq0-clause-split : goal.returns-else-last-eq0-clause-split
 returns-else-last-eq0-clause-split c =
-    let one : 1 ≤ c.args.last.0 = let other = c.if-last-eq0.false in omega (arith, other) in
-    let small = split-small c.args.element (cells_in c.args.segs.now) c.args.freed.now.0 c.args.last.0 c.args.at.0 c.requires.split c.requires.some in
     λ kept rest p h.
-    next-out c.args.element (cells_in c.args.segs.now) c.args.freed.now.0 c.args.last.0 c.args.at.0 (cells_in c.set_link.new.segs) c.args.next.0 c.set_link.ensures (omega (arith, small, c.requires.next)) one c.requires.next kept rest p h
+    next-out c.args.element (cells_in c.args.segs.now) c.args.freed.now.0 c.args.last.0 c.args.at.0 (cells_in c.set_link.new.segs) c.args.next.0 c.set_link.ensures (omega (arith, split-small c.args.element (cells_in c.args.segs.now) c.args.freed.now.0 c.args.last.0 c.args.at.0 c.requires.split c.requires.some, c.requires.next)) (omega (arith, c.if-last-eq0.false)) c.requires.next kept rest p h
 
 pub returns-else-last-eq0-clause-keeps : goal.returns-else-last-eq0-clause-keeps
 returns-else-last-eq0-clause-keeps c =
-    let one : 1 ≤ c.args.last.0 = let other = c.if-last-eq0.false in omega (arith, other) in
-    let small = split-small c.args.element (cells_in c.args.segs.now) c.args.freed.now.0 c.args.last.0 c.args.at.0 c.requires.split c.requires.some in
-    out-keeps c.args.element (cells_in c.args.segs.now) c.args.freed.now.0 c.args.last.0 c.args.at.0 (cells_in c.set_link.new.segs) c.args.next.0 c.set_link.ensures (omega (arith, small, c.requires.next)) one c.requires.next c.requires.split c.requires.some
+    out-keeps c.args.element (cells_in c.args.segs.now) c.args.freed.now.0 c.args.last.0 c.args.at.0 (cells_in c.set_link.new.segs) c.args.next.0 c.set_link.ensures (omega (arith, split-small c.args.element (cells_in c.args.segs.now) c.args.freed.now.0 c.args.last.0 c.args.at.0 c.requires.split c.requires.some, c.requires.next)) (omega (arith, c.if-last-eq0.false)) c.requires.next c.requires.split c.requires.some

@@ -19,16 +19,14 @@ returns-in-Some-first_in-clause-found c =
 pub loop-next-smaller : goal.loop-next-smaller
 loop-next-smaller c =
     let is = sym (c.next_segment.ensures ∙ ap (next_segment c.loop-next.after) (pairs-in c.args.segs.now)) ∙ c.in-Some.is in
-    let above = next-above c.loop-next.after (cells_in c.args.segs.now) c.in-Some.next c.in-Some.field-0-1 is in
     let last = next-last c.loop-next.after (cells_in c.args.segs.now) c.requires.kept.segments c.in-Some.next c.in-Some.field-0-1 is in
-    omega (arith, above, last)
+    omega (arith, next-above c.loop-next.after (cells_in c.args.segs.now) c.in-Some.next c.in-Some.field-0-1 is, last)
 
 pub loop-next-preserved : goal.loop-next-preserved
 loop-next-preserved c =
     let is = sym (c.next_segment.ensures ∙ ap (next_segment c.loop-next.after) (pairs-in c.args.segs.now)) ∙ c.in-Some.is in
-    let above = next-above c.loop-next.after (cells_in c.args.segs.now) c.in-Some.next c.in-Some.field-0-1 is in
     record {
-      up = omega (arith, above);
+      up = omega (arith, next-above c.loop-next.after (cells_in c.args.segs.now) c.in-Some.next c.in-Some.field-0-1 is);
       bare = λ m over le.
           ⊎_elim
           (λ (below : m < c.in-Some.next). bare-before c.loop-next.after (cells_in c.args.segs.now) c.args.number c.in-Some.next c.in-Some.field-0-1 c.loop-next.invariant.bare is m over below)

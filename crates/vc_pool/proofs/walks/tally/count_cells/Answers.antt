@@ -7,9 +7,8 @@ use Rattle.vc_pool.proofs.walks.tally.count_cells.Goals as goal
 
 pub overflow_add-count : goal.overflow_add-count
 overflow_add-count c =
-    let next = total-next c.args.segs.now c.loop-segment.segment-index c.segment-item.result c.loop-segment-test.true c.segment-item.is in
     let most = total-most c.requires.element (cells_in c.args.segs.now) c.requires.cells in
-    omega (arith, next, most)
+    omega (arith, total-next c.args.segs.now c.loop-segment.segment-index c.segment-item.result c.loop-segment-test.true c.segment-item.is, most)
 
 -- all were counted
 pub returns-clause-value : goal.returns-clause-value
@@ -22,5 +21,4 @@ returns-clause-value c =
 
 pub returns-clause-most : goal.returns-clause-most
 returns-clause-most c =
-    let most = total-most c.requires.element (cells_in c.args.segs.now) c.requires.cells in
-    omega (arith, most)
+    omega (arith, total-most c.requires.element (cells_in c.args.segs.now) c.requires.cells)
