@@ -8,6 +8,7 @@ if has make; then
 bin/dtrun bin/vmreplay
 bin/vmcurve bin/vmpicture bin/vmrecord
 bin/vmsites share/man/man1/vmsites.1
+bin/vmcheck share/man/man1/vmcheck.1
 share/doc/kolbista/script.md
 share/man/man1/dtrun.1 share/man/man1/vmreplay.1
 share/man/man1/vmcurve.1 share/man/man1/vmpicture.1 share/man/man1/vmrecord.1
