@@ -1,9 +1,8 @@
 -- What is always true of a pool's segments is a proposition.
-use Rattle.vc_base.proofs.Common.{ℕ, List, [], ◌∷◌, refl, le_prop, ∥∥₁_elim, ℕ_set, IsSegmentSize}
-use Rattle.vc_seg.specs.Segment.{AreSegments, Bytes, IsRegionSegment}
+use Rattle.vc_base.proofs.Common.{ℕ, List, [], ◌∷◌, refl, le_prop, ∥∥₁_elim, ℕ_set}
 use Rattle.vc_pool_cells.specs.Cells.{Cells}
-use Rattle.vc_pool_cells.specs.Freed.{IsFreedChain, IsFreeCell, freed_link}
-use Rattle.vc_pool_cells.specs.Kept.{AreCellular, IsCellular, IsFront, IsPool, IsPoolOf}
+use Rattle.vc_pool_cells.specs.Freed.{IsFreedChain, freed_link}
+use Rattle.vc_pool_cells.specs.Kept.{AreCellular, IsFront, IsPool, IsPoolOf}
 
 all-prop : (element : ℕ) (segs : List Cells) → IsProp (AreCellular element segs)
 all-prop element segs = hlevel (le_prop, ℕ_set)
