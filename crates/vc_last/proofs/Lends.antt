@@ -9,7 +9,7 @@ use Rattle.vc_extent.specs.Tiling.{index_from}
 use Rattle.vc_last.specs.Head.{HasHead}
 use Rattle.vc_last.specs.Chain.{IsChain, IsLastOf, rank}
 use Rattle.vc_last.proofs.Chains.{chain-heads, head-exact}
-use Rattle.vc_last.proofs.Writes.{head-made, head-says}
+use Rattle.vc_last.proofs.Writes.{head-same}
 
 -- the segment of a block has the same bytes in others
 abbrev SameBytes : List Bytes → List Bytes → Block ℕ → Type 0
@@ -18,20 +18,8 @@ SameBytes o s b = bytes_of_number b.seg s ≡ bytes_of_number b.seg o
 chain-same : (o s : List Bytes) (p q : ℕ) (bs : List (Block ℕ)) → IsChain o p bs q → All (SameBytes o s) bs → IsChain s p bs q
 chain-same o s p q [] c same = c
 chain-same o s p q (b ∷ bs) c same =
-    let e : bytes_of_number b.seg s ≡ bytes_of_number b.seg o = All-head (SameBytes o s) b bs same in
-    let l : HasHead o b = c.0 in
-    let says = head-says o b l in
-    let exact = head-exact o b l in (
-      record {
-        some = l.some;
-        first = l.first;
-        within = subst (λ (xs : List ℕ). b.off + span b.size ≤ length xs) (sym e) l.within;
-        zero = ap (field_at (b.off - 4)) e ∙ l.zero;
-        is = head-made s b exact (says.size ∙ ap (field_at (b.off - 16)) (sym e)) (says.label ∙ ap (field_at (b.off - 12)) (sym e)) (says.bytes ∙ ap (λ (xs : List ℕ). take b.size (drop b.off xs)) (sym e));
-      },
-      ap (λ (z : ℕ × ℕ). field_at (z.1 - 8) (bytes_of_number z.0 s)) exact ∙ (ap (field_at (b.off - 8)) e ∙ (sym says.before ∙ c.1)),
-      chain-same o s (address_of b) q bs c.2 (All-tail (SameBytes o s) b bs same),
-    )
+    let here = head-same o s b c.0 (All-head (SameBytes o s) b bs same) in
+    (here.0, here.1 ∙ c.1, chain-same o s (address_of b) q bs c.2 (All-tail (SameBytes o s) b bs same))
 
 index-append : (k n : ℕ) (segs more : List Bytes) → 0 < length (bytes_of_number n segs) → index_from k n (segs ++ more) ≡ index_from k n segs
 index-append k n [] more some = absurd (omega (arith, some))

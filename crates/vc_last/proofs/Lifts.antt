@@ -5,13 +5,7 @@ use Rattle.vc_seg.specs.Memory.{bytes_of_number}
 use Rattle.vc_seg.proofs.FirstByNumber.{bytes_of_number-first}
 use Rattle.vc_seg.specs.Frame.{StaysOutside}
 use Rattle.vc_extent.proofs.Sets.{pairs-set}
-use Rattle.vc_last.specs.Head.{StaysBut}
-
--- the first segment of a number stands at a place
-pub record IsThere (n : ℕ) (segs : List Bytes) (i : ℕ) : Type 0 where
-  pub within : i < length segs
-  pub number : HoldsAt (λ s. s.number ≡ n) segs i
-  pub first : All (λ s. s.number ≢ n) (take i segs)
+use Rattle.vc_last.specs.Head.{IsFirstAt, StaysBut}
 
 abbrev IsOther : ℕ → Bytes → Type 0
 IsOther n b = b.number ≢ n
@@ -26,7 +20,7 @@ others-set n m i [] new lt at e other = refl
 others-set n m zero (s ∷ ss) new lt at e other = rw (ne_eqb new.number m (λ q. other (sym q ∙ e))) (rw (ne_eqb s.number m (λ q. other (sym q ∙ at s))) refl)
 others-set n m (suc i) (s ∷ ss) new lt at e other = ap (cond (eqb s.number m) s.bytes) (others-set n m i ss new (omega (arith, lt)) (λ d. at d) e other)
 
-module _ (n i f t : ℕ) (segs : List Bytes) (d new : Bytes) (p : IsThere n segs i) where
+module _ (n i f t : ℕ) (segs : List Bytes) (d new : Bytes) (p : IsFirstAt n segs i) where
   abbrev s : Bytes
   s = get_or segs i d
 

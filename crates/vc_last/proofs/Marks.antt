@@ -4,6 +4,7 @@ use Rattle.vc_model.specs.Layout.{empty_layout}
 use Rattle.vc_base.proofs.Lists.{filter-map}
 use Rattle.vc_seg.specs.Segment.{AreSegments, Bytes, IsRegionSegment, pair_of}
 use Rattle.vc_seg.proofs.Backs.{Apart}
+use Rattle.vc_seg.proofs.Filters.{filter-agree_on}
 use Rattle.vc_seg.specs.Memory.{bytes_of_number}
 use Rattle.vc_layouts.proofs.Lists.{AllPairs-nil}
 use Rattle.vc_last.specs.Head.{HasHead}
@@ -49,20 +50,10 @@ mark-step marks i n front b own lt =
 pub mark-end : (b : Bool) (n : ℕ) (bs : List (Block ℕ)) → bs ≡ [] → (b || is_occupied bs n) ≡ b
 mark-end b n bs e = ap (λ (cs : List (Block ℕ)). b || is_occupied cs n) e ∙ or-false b
 
-filter-same : (p q : Bytes → Bool) (xs : List Bytes) → All (λ x. p x ≡ q x) xs → filter p xs ≡ filter q xs
-filter-same p q [] h = refl
-filter-same p q (x ∷ xs) h =
-    let here : p x ≡ q x = All-head (λ (y : Bytes). p y ≡ q y) x xs h in
-    let rest = filter-same p q xs (All-tail (λ (y : Bytes). p y ≡ q y) x xs h) in
-    ⊎_elim
-    (λ (t : q x ≡ true). rw (here ∙ t) (rw t (ap (λ ys. x ∷ ys) rest)))
-    (λ (t : q x ≡ false). rw (here ∙ t) (rw t rest))
-    (cases_Bool (q x))
-
 -- the segments that a block is in stay
 module _ (o s : List Bytes) (q : ℕ) (h : IsLast o q) (marks : List Bool) (marked : (n : ℕ) → n < 1024 → get_or marks n false ≡ is_occupied (blocks_from o q) n) (is : s ≡ filter (λ (b : Bytes). get_or marks b.number false) o) where
   stays : s ≡ kept (is_occupied (blocks_from o q)) o
-  stays = is ∙ filter-same (λ (b : Bytes). get_or marks b.number false) (λ (b : Bytes). is_occupied (blocks_from o q) b.number) o (λ k d lt. let last = (h.segments.legal k d lt).last in marked (get_or o k d).number (omega (arith, last)))
+  stays = is ∙ filter-agree_on (λ (b : Bytes). get_or marks b.number false) (λ (b : Bytes). is_occupied (blocks_from o q) b.number) o (λ k d lt. let last = (h.segments.legal k d lt).last in marked (get_or o k d).number (omega (arith, last)))
 
   whole : IsLastOf s q (blocks_from o q)
   whole = subst (λ (xs : List Bytes). IsLastOf xs q (blocks_from o q)) (sym stays) (last-kept o q (blocks_from o q) h)

@@ -77,17 +77,13 @@ tally-swapped t xs (y ∷ ys) =
 
 pub room-part : (t : Tally) (xs ys : List ℕ) → HasRoom t (xs ++ ys) → HasRoom t ys
 room-part t xs ys h =
-    let count = h.count in
-    let bytes = h.bytes in
-    record { count = omega (arith, count, length-append xs ys); bytes = omega (arith, bytes, sum_by-append (λ (m : ℕ). m) xs ys) }
+    record { count = omega (arith, h.count, length-append xs ys); bytes = omega (arith, h.bytes, sum_by-append (λ (m : ℕ). m) xs ys) }
 
 pub room-swapped : (t : Tally) (xs ys : List ℕ) → HasRoom t (xs ++ ys) → HasRoom (tallied_all t ys) xs
 room-swapped t xs ys h =
-    let count = h.count in
-    let bytes = h.bytes in
     record {
-      count = omega (arith, count, length-append xs ys, tallied_all-count t ys);
-      bytes = omega (arith, bytes, sum_by-append (λ (m : ℕ). m) xs ys, tallied_all-bytes t ys);
+      count = omega (arith, h.count, length-append xs ys, tallied_all-count t ys);
+      bytes = omega (arith, h.bytes, sum_by-append (λ (m : ℕ). m) xs ys, tallied_all-bytes t ys);
     }
 
 -- one step back: what is left, and the tally with what was last

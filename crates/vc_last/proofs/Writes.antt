@@ -94,6 +94,17 @@ pub record SameBlock (o s : List ℕ) (b : Block ℕ) : Type 0 where
   pub zero : field_at (b.off - 4) s ≡ field_at (b.off - 4) o
   pub bytes : take b.size (drop b.off s) ≡ take b.size (drop b.off o)
 
+-- so they are where its segment has the same bytes
+same-bytes : (o s : List Bytes) (b : Block ℕ) → bytes_of_number b.seg s ≡ bytes_of_number b.seg o → SameBlock (bytes_of_number b.seg o) (bytes_of_number b.seg s) b
+same-bytes o s b e =
+    record {
+      size = ap (field_at (b.off - 16)) e;
+      label = ap (field_at (b.off - 12)) e;
+      before = ap (field_at (b.off - 8)) e;
+      zero = ap (field_at (b.off - 4)) e;
+      bytes = ap (λ (xs : List ℕ). take b.size (drop b.off xs)) e;
+    }
+
 module _ (n from to : ℕ) (o s : List Bytes) (h : StaysBut n from to o s) where
   same-there : (b : Block ℕ) → 16 ≤ b.off → b.seg ≡ n → (to ≤ b.off - 16) ⊎ (b.off + b.size ≤ from) → SameBlock (bytes_of_number n o) (bytes_of_number n s) b
   same-there b first seg u =
@@ -122,15 +133,7 @@ module _ (n from to : ℕ) (o s : List Bytes) (h : StaysBut n from to o s) where
   same-block b first clear =
       ⊎_elim
       (λ (q : b.seg ≡ n). subst (λ m. SameBlock (bytes_of_number m o) (bytes_of_number m s) b) (sym q) (same-there b first q (clear q)))
-      (λ (q : b.seg ≡ n → ⊥).
-      let e : bytes_of_number b.seg s ≡ bytes_of_number b.seg o = h.others b.seg q in
-      record {
-        size = ap (field_at (b.off - 16)) e;
-        label = ap (field_at (b.off - 12)) e;
-        before = ap (field_at (b.off - 8)) e;
-        zero = ap (field_at (b.off - 4)) e;
-        bytes = ap (λ (xs : List ℕ). take b.size (drop b.off xs)) e;
-      })
+      (λ (q : b.seg ≡ n → ⊥). same-bytes o s b (h.others b.seg q))
       (cases_eq b.seg n)
 
 -- the parts of a block with a head, by its place
@@ -158,22 +161,27 @@ head-made segs b e size label bytes =
     let all : b.bytes ≡ take (field_at (b.off - 16) (bytes_of_number b.seg segs)) (drop b.off (bytes_of_number b.seg segs)) = bytes ∙ ap (λ k. take k (drop b.off (bytes_of_number b.seg segs))) size in
     (λ i. record { label = label i; seg = b.seg; off = b.off; size = size i; bytes = all i }) ∙ at
 
+-- it has its head still, which names the same block before it
+head-kept : (o s : List Bytes) (b : Block ℕ) → HasHead o b → length (bytes_of_number b.seg s) ≡ length (bytes_of_number b.seg o) → SameBlock (bytes_of_number b.seg o) (bytes_of_number b.seg s) b → HasHead s b × (before_of s (address_of b) ≡ before_of o (address_of b))
+head-kept o s b l len same =
+    let says = head-says o b l in
+    let exact = head-exact o b l in (
+      record {
+        some = l.some;
+        first = l.first;
+        within = subst (λ k. b.off + span b.size ≤ k) (sym len) l.within;
+        zero = same.zero ∙ l.zero;
+        is = head-made s b exact (says.size ∙ sym same.size) (says.label ∙ sym same.label) (says.bytes ∙ sym same.bytes);
+      },
+      ap (λ (p : ℕ × ℕ). field_at (p.1 - 8) (bytes_of_number p.0 s)) exact ∙ (same.before ∙ sym says.before),
+    )
+
+pub head-same : (o s : List Bytes) (b : Block ℕ) → HasHead o b → bytes_of_number b.seg s ≡ bytes_of_number b.seg o → HasHead s b × (before_of s (address_of b) ≡ before_of o (address_of b))
+head-same o s b l e = head-kept o s b l (ap length e) (same-bytes o s b e)
+
 module _ (n from to : ℕ) (o s : List Bytes) (h : StaysBut n from to o s) where
   pub head-stays : (b : Block ℕ) → HasHead o b → LiesClear n from to b → HasHead s b × (before_of s (address_of b) ≡ before_of o (address_of b))
-  head-stays b l clear =
-      let first = l.first in
-      let same = same-block n from to o s h b (omega (arith, first)) clear in
-      let says = head-says o b l in
-      let exact = head-exact o b l in (
-        record {
-          some = l.some;
-          first = l.first;
-          within = subst (λ k. b.off + span b.size ≤ k) (sym (size-same b.seg o s h.pairs)) l.within;
-          zero = same.zero ∙ l.zero;
-          is = head-made s b exact (says.size ∙ sym same.size) (says.label ∙ sym same.label) (says.bytes ∙ sym same.bytes);
-        },
-        ap (λ (p : ℕ × ℕ). field_at (p.1 - 8) (bytes_of_number p.0 s)) exact ∙ (same.before ∙ sym says.before),
-      )
+  head-stays b l clear = head-kept o s b l (size-same b.seg o s h.pairs) (same-block n from to o s h b (omega (arith, l.first)) clear)
 
   pub chain-stays : (p q : ℕ) (bs : List (Block ℕ)) → IsChain o p bs q → All (LiesClear n from to) bs → IsChain s p bs q
   chain-stays p q [] c clear = c

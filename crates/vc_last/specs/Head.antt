@@ -1,6 +1,7 @@
 -- The 16 bytes before a block of a last region, four numbers: its size, its tag, the address of the
 -- live block that was allocated before it, 0 for none, and 0.
-use Rattle.std.specs.Prelude.{◌≡◌, ◌≢◌, ℕ, ◌+◌, ◌-◌, ◌≤◌, List, length, map, take, drop, Bool}
+use Rattle.std.specs.Prelude.{◌≡◌, ◌≢◌, ℕ, ◌+◌, ◌-◌, ◌<◌, ◌≤◌, List, All, length, map, take, drop, Bool}
+use Rattle.std.specs.List.{HoldsAt}
 use Rattle.vc_model.specs.Addr.{place_of}
 use Rattle.vc_model.specs.Layout.{Block, address_of, footprint}
 use Rattle.vc_model.specs.Resize.{is_usable, sized_block}
@@ -54,6 +55,12 @@ pub record HeadStays (off : ℕ) (old new : List ℕ) : Type 0 where
   pub label : field_at (off - 12) new ≡ field_at (off - 12) old
   pub before : field_at (off - 8) new ≡ field_at (off - 8) old
   pub zero : field_at (off - 4) new ≡ field_at (off - 4) old
+
+-- the first segment of a number stands at a place
+pub record IsFirstAt (n : ℕ) (segs : List Bytes) (place : ℕ) : Type 0 where
+  pub within : place < length segs
+  pub number : HoldsAt (λ s. s.number ≡ n) segs place
+  pub first : All (λ s. s.number ≢ n) (take place segs)
 
 -- a write into a range of the segment of that number leaves all other bytes as they are
 pub record StaysBut (number from to : ℕ) (old new : List Bytes) : Type 0 where

@@ -1,9 +1,8 @@
-ghost use Rattle.std.specs.Prelude.{◌≡◌, ◌≢◌, ℕ, ◌+◌, ◌<◌, ◌≤◌, All, length, take, drop};
-ghost use Rattle.std.specs.List.{HoldsAt};
+ghost use Rattle.std.specs.Prelude.{◌≡◌, ℕ, ◌+◌, ◌<◌, ◌≤◌, length, take, drop};
 ghost use Rattle.vc_base.specs.Prelude.{with_bytes};
 ghost use Rattle.vc_seg.specs.Segment.{AreSegments};
 ghost use Rattle.vc_seg.specs.Memory.{bytes_of_number, write_segment};
-ghost use Rattle.vc_last.specs.Head.{StaysBut};
+ghost use Rattle.vc_last.specs.Head.{IsFirstAt, StaysBut};
 
 use vc_seg::{Segment, copy_between, find_number};
 
@@ -12,9 +11,7 @@ use vc_seg::{Segment, copy_between, find_number};
 pub(crate) fn place_of_number(segs: &[Segment], number: u32) -> usize
     requires segments { AreSegments segs.now }
     requires there { 0 < length (bytes_of_number number segs.now) }
-    ensures within { result < length segs.now }
-    ensures number { HoldsAt (λ s. s.number ≡ number) segs.now result }
-    ensures first { All (λ s. s.number ≢ number) (take result segs.now) }
+    ensures { IsFirstAt number segs.now result }
 {
     match find_number(segs, number) {
         Some(place) => place,

@@ -57,10 +57,9 @@ returns-clause-before c =
 pub returns-clause-zero : goal.returns-clause-zero
 returns-clause-zero c =
     let s = steps (goal.at.returns-clause-zero c).After-fill in
-    let first = c.requires.first in
-    let e : c.args.off - 4 ≡ c.args.off - 16 + 12 = omega (arith, first) in
+    let e : c.args.off - 4 ≡ c.args.off - 16 + 12 = omega (arith, c.requires.first) in
     ap (λ i. field_at i c.fill.new.self.bytes) e
-    ∙ (field-front c.set_field-4.new.self.bytes c.fill.new.self.bytes c.args.off s.last.below (c.args.off - 16 + 12) (omega (arith, first)) ∙ c.set_field-4.ensures.value)
+    ∙ (field-front c.set_field-4.new.self.bytes c.fill.new.self.bytes c.args.off s.last.below (c.args.off - 16 + 12) (omega (arith, c.requires.first)) ∙ c.set_field-4.ensures.value)
 
 pub returns-clause-bytes : goal.returns-clause-bytes
 returns-clause-bytes c =
@@ -71,7 +70,6 @@ returns-clause-bytes c =
 pub returns-clause-rest : goal.returns-clause-rest
 returns-clause-rest c =
     let s = steps (goal.at.returns-clause-rest c).After-fill in
-    let first = c.requires.first in
     let f : ℕ = c.args.off - 16 in
     let t : ℕ = c.args.off + c.args.size in
     let o : Bytes = c.args.seg.now in
@@ -80,9 +78,9 @@ returns-clause-rest c =
     let e : Bytes = c.set_field-3.new.self in
     let g : Bytes = c.set_field-4.new.self in
     let n : Bytes = c.fill.new.self in
-    let i : StaysOutside (c.args.off - 16) (c.args.off + c.args.size) o b = wider (c.args.off - 16) (c.args.off - 16 + 4) (c.args.off - 16) (c.args.off + c.args.size) o b s.first (omega arith) (omega (arith, first)) in
-    let j : StaysOutside (c.args.off - 16) (c.args.off + c.args.size) b d = wider (c.args.off - 16 + 4) (c.args.off - 16 + 4 + 4) (c.args.off - 16) (c.args.off + c.args.size) b d s.second (omega arith) (omega (arith, first)) in
-    let k : StaysOutside (c.args.off - 16) (c.args.off + c.args.size) d e = wider (c.args.off - 16 + 8) (c.args.off - 16 + 8 + 4) (c.args.off - 16) (c.args.off + c.args.size) d e s.third (omega arith) (omega (arith, first)) in
-    let l : StaysOutside (c.args.off - 16) (c.args.off + c.args.size) e g = wider (c.args.off - 16 + 12) (c.args.off - 16 + 12 + 4) (c.args.off - 16) (c.args.off + c.args.size) e g s.fourth (omega arith) (omega (arith, first)) in
+    let i : StaysOutside (c.args.off - 16) (c.args.off + c.args.size) o b = wider (c.args.off - 16) (c.args.off - 16 + 4) (c.args.off - 16) (c.args.off + c.args.size) o b s.first (omega arith) (omega (arith, c.requires.first)) in
+    let j : StaysOutside (c.args.off - 16) (c.args.off + c.args.size) b d = wider (c.args.off - 16 + 4) (c.args.off - 16 + 4 + 4) (c.args.off - 16) (c.args.off + c.args.size) b d s.second (omega arith) (omega (arith, c.requires.first)) in
+    let k : StaysOutside (c.args.off - 16) (c.args.off + c.args.size) d e = wider (c.args.off - 16 + 8) (c.args.off - 16 + 8 + 4) (c.args.off - 16) (c.args.off + c.args.size) d e s.third (omega arith) (omega (arith, c.requires.first)) in
+    let l : StaysOutside (c.args.off - 16) (c.args.off + c.args.size) e g = wider (c.args.off - 16 + 12) (c.args.off - 16 + 12 + 4) (c.args.off - 16) (c.args.off + c.args.size) e g s.fourth (omega arith) (omega (arith, c.requires.first)) in
     let m : StaysOutside (c.args.off - 16) (c.args.off + c.args.size) g n = wider c.args.off (c.args.off + c.args.size) (c.args.off - 16) (c.args.off + c.args.size) g n s.last (omega arith) (omega arith) in
     then f t o b n i (then f t b d n j (then f t d e n k (then f t e g n l m)))

@@ -2,8 +2,8 @@ use Rattle.vc_base.proofs.Common.{◌≡◌, ℕ, ◌+◌, ◌-◌, length, get_
 use Rattle.vc_seg.specs.Memory.{bytes_of_number}
 use Rattle.vc_seg.specs.Field.{field_at}
 use Rattle.vc_seg.specs.Frame.{StaysOutside}
-use Rattle.vc_last.specs.Head.{StaysBut}
-use Rattle.vc_last.proofs.Lifts.{IsThere, new-bytes, own-bytes, stays-set}
+use Rattle.vc_last.specs.Head.{IsFirstAt, StaysBut}
+use Rattle.vc_last.proofs.Lifts.{new-bytes, own-bytes, stays-set}
 use Rattle.vc_last.proofs.head.set_before.Goals as goal
 use Rattle.vc_last.proofs.head.set_before.Goals.{After-index-segs-place}
 
@@ -13,8 +13,8 @@ n c = (place_of c.args.a.0).0
 abbrev off : (c : After-index-segs-place) → ℕ
 off c = (place_of c.args.a.0).1
 
-there : (c : After-index-segs-place) → IsThere (n c) c.args.segs.now c.place_of_number-place.result
-there c = let p = c.place_of_number-place.ensures in subst (λ m. IsThere m c.args.segs.now c.place_of_number-place.result) c.seg.ensures (record { within = p.within; number = p.number; first = p.first })
+there : (c : After-index-segs-place) → IsFirstAt (n c) c.args.segs.now c.place_of_number-place.result
+there c = subst (λ m. IsFirstAt m c.args.segs.now c.place_of_number-place.result) c.seg.ensures c.place_of_number-place.ensures
 
 own : (c : After-index-segs-place) → bytes_of_number (n c) c.args.segs.now ≡ (get_or c.args.segs.now c.place_of_number-place.result c.index-segs-place.result).bytes
 own c = own-bytes (n c) c.place_of_number-place.result 0 0 c.args.segs.now c.index-segs-place.result c.index-segs-place.result (there c)

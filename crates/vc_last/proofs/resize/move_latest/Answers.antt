@@ -91,15 +91,12 @@ returns-in-Ok-clause-resize g c =
 
 pub returns-in-Err-clause-resize : goal.returns-in-Err-clause-resize
 returns-in-Err-clause-resize g c =
-    let q : ℕ = c.args.latest.now.0 in
-    let o : Layout ℕ = layout_by c.args.segs.now.items c.args.latest.now.0 in
     let l = tagged g (goal.at.returns-in-Err-clause-resize g c).After-tag_at-tag in
-    let can = end-latest c.args.segs.now.items q c.requires.kept.last c.requires.block c.args.size false c.requires.ends l.at in
     record {
-      answer = (refused-move _ o q c.tag_at-tag.result c.args.size l.at can l.own c.in-Err.fault c.in-Err.ensures.alloc.answer.0, c.in-Err.ensures.alloc.answer.1);
+      answer = (refused-move _ (layout_by c.args.segs.now.items c.args.latest.now.0) c.args.latest.now.0 c.tag_at-tag.result c.args.size l.at (end-latest c.args.segs.now.items c.args.latest.now.0 c.requires.kept.last c.requires.block c.args.size false c.requires.ends l.at) l.own c.in-Err.fault c.in-Err.ensures.alloc.answer.0, c.in-Err.ensures.alloc.answer.1);
       disc = c.in-Err.ensures.alloc.disc;
       no_memory = λ e. record {
-        must = ends-there c.args.segs.now.items q q c.requires.kept.last (latest-among c.args.segs.now.items q c.requires.kept.last c.requires.block) refl c.args.size c.requires.ends;
+        must = ends-there c.args.segs.now.items c.args.latest.now.0 c.args.latest.now.0 c.requires.kept.last (latest-among c.args.segs.now.items c.args.latest.now.0 c.requires.kept.last c.requires.block) refl c.args.size c.requires.ends;
         moves = refl;
         lacks = c.in-Err.ensures.alloc.no_memory e;
       };

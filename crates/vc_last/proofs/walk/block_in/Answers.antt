@@ -38,10 +38,8 @@ returns-then-holds-clause-value c =
 
 pub returns-then-holds-clause-live : goal.returns-then-holds-clause-live
 returns-then-holds-clause-live c =
-    let segs = c.args.segs.now in
-    let l = latest-some segs c.loop-at.at.0 c.loop-at-test.true c.loop-at.invariant.kept in
-    find-among segs c.args.latest.0 c.loop-at.at.0 (holds_byte (c.args.seg, c.args.off))
-    (sym (find-here segs c.loop-at.at.0 c.args.seg c.args.off c.loop-at.invariant.kept c.loop-at-test.true (sym c.holds.ensures ∙ c.if-holds.true)) ∙ c.loop-at.invariant.rest) l.at
+    find-among c.args.segs.now c.args.latest.0 c.loop-at.at.0 (holds_byte (c.args.seg, c.args.off))
+    (sym (find-here c.args.segs.now c.loop-at.at.0 c.args.seg c.args.off c.loop-at.invariant.kept c.loop-at-test.true (sym c.holds.ensures ∙ c.if-holds.true)) ∙ c.loop-at.invariant.rest) (latest-some c.args.segs.now c.loop-at.at.0 c.loop-at-test.true c.loop-at.invariant.kept).at
 
 pub returns-clause-value : goal.returns-clause-value
 returns-clause-value c =
