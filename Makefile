@@ -1,7 +1,8 @@
 .POSIX:
-.PHONY: all run test install uninstall
+.PHONY: all run test install uninstall needs-rt
 
 CC = cc
+RT = rt
 BIN = bin
 PREFIX = /usr/local
 BINDIR = $(PREFIX)/bin
@@ -12,28 +13,23 @@ TOOLS = record picture curve sites check
 PAGES = vmreplay.1 dtrun.1 vmrecord.1 vmpicture.1 vmcurve.1 vmsites.1 vmcheck.1
 
 # Proves both programs and all below them, runs each on its sample script, and leaves them in bin/.
-all:
-	cd crates/vmreplay && rt run < stdin > /dev/null
-	cd crates/dtrun && rt run < stdin > /dev/null
+all: needs-rt
+	cd crates/vmreplay && $(RT) run < stdin > /dev/null
+	cd crates/dtrun && $(RT) run < stdin > /dev/null
 	mkdir -p bin
 	cp -f crates/vmreplay/out/vmreplay bin/vmreplay
 	cp -f crates/dtrun/out/dtrun bin/dtrun
 
-# A first look: compiles the programs without proving, and runs each on its sample script, and one on generated commands.
+# A first look: compiles each program once, without proving, and runs it on its sample script. What make left in bin/ is taken
+# where no source is newer.
 run:
-	@echo 'vmreplay is compiled and not proved ("make" proves it); its sample script:'
-	@cat crates/vmreplay/stdin
-	@echo 'and the replies:'
-	@cd crates/vmreplay && rt try < stdin
-	@echo 'dtrun is compiled and not proved; its sample script:'
-	@cat crates/dtrun/stdin
-	@echo 'and the replies:'
-	@cd crates/dtrun && rt try < stdin
-	@echo 'and what vmreplay counts of four generated commands:'
-	@cd crates/vmreplay && rt try -- --gen 4 --seed 42
+	@RT='$(RT)' BIN='$(BIN)' tools/try.sh
+
+needs-rt:
+	@command -v $(RT) > /dev/null || { echo 'no command $(RT): it is that of the Rattle toolchain, whose kit has it in its folder bin, to be put on the PATH; no package has it. README.md names the kit' >&2; exit 127; }
 
 # The whole gate, and then the examples and the tools by the programs that it leaves.
-test:
+test: needs-rt
 	.ci/run
 
 # Installs what make left in bin/, and makes it first where it isn't there; and the tools, which record needs a C compiler for.

@@ -1,0 +1,134 @@
+#!/bin/sh
+# Runs scripts without a proof, or by the programs that make left in bin/, where no source is newer:
+#   tools/try.sh [SCRIPT..]
+# dtrun runs a script NAME.dt, and vmreplay any other; where none is named each runs its sample script, as make run does. A
+# program is compiled once, whatever the number of its scripts, and not at all where bin/ has it. RT and BIN stand for the
+# command rt and the folder bin. The status is the greatest of the runs; without rt, where it is needed, it is 127.
+set -u
+here=$(cd "$(dirname "$0")/.." && pwd) || exit 1
+rt=${RT:-rt}
+bin=${BIN:-$here/bin}
+case $bin in
+    /*) ;;
+    *) bin=$here/$bin ;;
+esac
+for script in "$@"; do
+    if [ ! -r "$script" ] || [ -d "$script" ]; then
+        echo "tools/try.sh: $script can't be read" >&2
+        exit 2
+    fi
+done
+dir=$(mktemp -d) || exit 1
+trap 'rm -rf "$dir"' EXIT
+trap 'exit 1' HUP INT TERM
+greatest=0
+compiled=0
+began=$(date +%s)
+
+say() {
+    echo "$1" >&2
+}
+
+took() {
+    seconds=$(($(date +%s) - $1))
+    if [ "$seconds" -ge 120 ]; then echo "$((seconds / 60)) minutes"; elif [ "$seconds" -eq 1 ]; then echo "1 second"; else echo "$seconds seconds"; fi
+}
+
+ended() {
+    [ "$1" -le "$greatest" ] || greatest=$1
+}
+
+# Whether bin/ has the program, and no source of any crate is newer.
+is_there() {
+    [ -x "$bin/$1" ] && [ -z "$(find "$here/crates" \( -name out -prune \) -o \( -name '*.rt' -o -name '*.antt' \) -newer "$bin/$1" -print | head -n 1)" ]
+}
+
+needs_rt() {
+    command -v "$rt" > /dev/null && return 0
+    say "no command $rt: it is that of the Rattle toolchain, whose kit has it in its folder bin, to be put on the PATH; no package has it. README.md names the kit"
+    exit 127
+}
+
+compiles() {
+    needs_rt
+    if [ -x "$bin/$1" ]; then why="a source is newer than the program in bin"; else why="bin has none"; fi
+    say "$1: compiling it, not proved ($why); this takes a minute or two"
+    compiled=$((compiled + 1))
+    at=$(date +%s)
+}
+
+# The scripts of one program.
+run() {
+    name=$1
+    shift
+    if is_there "$name"; then
+        say "$name: the program in bin, which make proved"
+        for script in "$@"; do
+            [ $# -eq 1 ] || echo "== $script"
+            "$bin/$name" < "$script"
+            ended $?
+        done
+        return
+    fi
+    compiles "$name"
+    if [ $# -eq 1 ]; then
+        given=$(cd "$(dirname "$1")" && pwd)/$(basename "$1")
+        (cd "$here/crates/$name" && "$rt" try < "$given") 2> "$dir/said"
+        ended $?
+    else
+        # Their order is that of the names.
+        mkdir "$dir/$name"
+        n=1000
+        for script in "$@"; do
+            n=$((n + 1))
+            cp "$script" "$dir/$name/$n-$(basename "$script")" || exit 1
+        done
+        (cd "$here/crates/$name" && "$rt" try --cases "$dir/$name") 2> "$dir/said" > "$dir/out"
+        ended $?
+        sed 's/^== 1[0-9][0-9][0-9]-/== /' "$dir/out"
+        for status in $(sed -n 's/^case=.* status=\([0-9]*\) .*/\1/p' "$dir/said"); do ended "$status"; done
+    fi
+    # What rt itself tells of a run that ended is left out.
+    grep -v '^\(checked: \|run=\|case=\|cases=\)' "$dir/said" >&2
+    grep -q '^\(run=ended\|cases=\)' "$dir/said" || say "$name: rt didn't run it"
+    say "$name: compiled and run in $(took "$at")"
+}
+
+# A program's sample script, each command with its reply.
+sample() {
+    run "$1" "$here/crates/$1/stdin" > "$dir/replies"
+    awk -v replies="$dir/replies" '
+        /^[ \t]*(#|$)/ { print; next }
+        { reply = ""; getline reply < replies; printf "%-36s  %s\n", $0, reply }' "$here/crates/$1/stdin"
+}
+
+if [ $# -eq 0 ]; then
+    for name in vmreplay dtrun; do
+        sample "$name"
+        echo
+    done
+    if [ "$greatest" -eq 0 ]; then
+        echo "Both programs ran their samples in $(took "$began"), compiled: $compiled. A script of one's own: tools/try.sh SCRIPT; with a proof: make"
+    else
+        echo "A program didn't run its sample: status $greatest"
+    fi
+    exit "$greatest"
+fi
+# of NAME SCRIPT..: those of the scripts that are the program's, in the order in which they are named.
+of() {
+    name=$1
+    shift
+    for script do
+        shift
+        case $name:$script in
+            dtrun:*.dt) set -- "$@" "$script" ;;
+            *:*.dt | dtrun:*) ;;
+            *) set -- "$@" "$script" ;;
+        esac
+    done
+    [ $# -eq 0 ] || run "$name" "$@"
+}
+
+of vmreplay "$@"
+of dtrun "$@"
+exit "$greatest"
