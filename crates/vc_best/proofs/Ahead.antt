@@ -1,16 +1,10 @@
 -- The first block from an address on, of a segment and of all.
 use Rattle.vc_base.proofs.Common.{◌≡◌, ℕ, ◌+◌, ◌-◌, ◌*◌, ◌<◌, ◌≤◌, Bool, true, false, eqb, leb, ◌⊎◌, List, [], ◌∷◌, get_or, is_some, Some, None, All, Option, option_map, sym, refl, ◌∙◌, subst, inl, inr, ⊎_elim, arith, eqb-true, leb-false, leb-true, le_prop, ∥∥₁_elim, ℕ_set, cases_Bool, eqb-false, All-cons, All-map, All-nil, All-weaker, address, place_of, Block, address_of}
-use Rattle.vc_base.specs.declared.addr.Addr.{Addr}
-use Rattle.vc_seg.specs.Segment.{Bytes}
-use Rattle.vc_extent.specs.Extent.{Extent, extents}
-use Rattle.vc_extent.specs.Change.{first_of}
-use Rattle.vc_extent.specs.Tiling.{AreExtents, IsThere, extents_of, tiling}
+use Rattle.vc_best.proofs.Common.{Addr, AreExtents, Bytes, Extent, IsFirst, IsThere, all_busy, busy_in, extents, extents_of, first_of, tiling}
 use Rattle.vc_best.proofs.AtBytes.{own-address}
 use Rattle.vc_best.proofs.Known.{segment-of}
 use Rattle.vc_best.proofs.Lies.{Lies}
 use Rattle.vc_best.proofs.Walks.{start}
-use Rattle.vc_best.specs.Blocks.{all_busy, busy_in}
-use Rattle.vc_best.specs.Next.{IsFirst}
 use Rattle.vc_best.proofs.Along.{own-at}
 use Rattle.vc_best.proofs.Layouts.{busy-seg}
 use Rattle.vc_best.proofs.Tilings.{All-all_busy, All-busy_in, all-lodged}
@@ -61,15 +55,13 @@ module _ (segs : List Bytes) (index : List ℕ) (k : ∥ AreExtents segs index �
   -- the first of a segment is the first of all from an address in it on
   pub widen : (n low a : ℕ) → n * 1048576 ≤ low → (place_of a).0 ≡ n → IsFirst (busy_in (n, extents_of n (tiling segs))) low (Some a) → IsFirst (all_busy (tiling segs)) low (Some a)
   widen n low a from seg first =
-      let own = of-number (λ b. low ≤ address_of b → a ≤ address_of b) n first.1 in
-      let ends = below-next in (
+      let own = of-number (λ b. low ≤ address_of b → a ≤ address_of b) n first.1 in (
         first.0,
         λ i d lt up.
             let b : Block ℕ = get_or (all_busy (tiling segs)) i d in
-            let end : address_of b < (b.seg + 1) * 1048576 = ends i d lt in
             ⊎_elim
             (λ (t : eqb b.seg n ≡ true). own i d lt (eqb-true b.seg n t) up)
-            (λ (t : eqb b.seg n ≡ false). let other = eqb-false b.seg n t in omega arith)
+            (λ (t : eqb b.seg n ≡ false). let other = eqb-false b.seg n t in omega (arith, other, below-next i d lt))
             (cases_Bool (eqb b.seg n)),
       )
 
@@ -77,25 +69,19 @@ module _ (segs : List Bytes) (index : List ℕ) (k : ∥ AreExtents segs index �
   pub skip : (n low : ℕ) → n * 1048576 ≤ low → IsFirst (busy_in (n, extents_of n (tiling segs))) low None → All (λ b. low ≤ address_of b → address (n + 1, 0) ≤ address_of b) (all_busy (tiling segs))
   skip n low from first =
       let own = of-number (λ b. address_of b < low) n first in
-      let ends = below-next in
       λ i d lt up.
       let b : Block ℕ = get_or (all_busy (tiling segs)) i d in
-      let end : address_of b < (b.seg + 1) * 1048576 = ends i d lt in
       ⊎_elim
       (λ (t : eqb b.seg n ≡ true). absurd (let o = own i d lt (eqb-true b.seg n t) in omega arith))
-      (λ (t : eqb b.seg n ≡ false). let other = eqb-false b.seg n t in omega arith)
+      (λ (t : eqb b.seg n ≡ false). let other = eqb-false b.seg n t in omega (arith, other, below-next i d lt))
       (cases_Bool (eqb b.seg n))
 
   -- behind the last number no block stands
   pub end-all : (low : ℕ) → All (λ b. low ≤ address_of b → address (1024, 0) ≤ address_of b) (all_busy (tiling segs)) → IsFirst (all_busy (tiling segs)) low None
   end-all low h =
-      let ends = below-next in
-      let last = last-seg in
       λ i d lt.
       let b : Block ℕ = get_or (all_busy (tiling segs)) i d in
-      let end : address_of b < (b.seg + 1) * 1048576 = ends i d lt in
-      let most : b.seg ≤ 1023 = last i d lt in
-      ⊎_elim (λ (u : low ≤ address_of b). absurd (let q = h i d lt u in omega arith)) (λ (u : low ≤ address_of b → ⊥). omega arith) (le-or low (address_of b))
+      ⊎_elim (λ (u : low ≤ address_of b). absurd (omega (arith, h i d lt u, below-next i d lt, last-seg i d lt))) (λ (u : low ≤ address_of b → ⊥). omega arith) (le-or low (address_of b))
 
 -- what an optional address shows
 pub first-some : (bs : List (Block ℕ)) (low : ℕ) (o : Option Addr) (r : Bool) → is_some o ≡ r → r ≡ true → IsFirst bs low (option_map (λ a. a.0) o) → (a : Addr) × (o ≡ Some a) × IsFirst bs low (Some a.0)

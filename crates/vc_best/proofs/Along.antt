@@ -1,9 +1,8 @@
 -- Segment after segment.
-use Rattle.vc_base.proofs.Common.{◌≡◌, ℕ, zero, suc, ◌<◌, true, false, eqb, ◌≢◌, List, [], ◌∷◌, length, get_or, drop, AllPairs, refl, ap, ◌∙◌, ⊎_elim, arith, eq-eqb, eqb-true, ∥∥₁_elim, cases_Bool}
+use Rattle.vc_base.proofs.Common.{◌≡◌, ℕ, zero, suc, ◌<◌, true, false, eqb, List, [], ◌∷◌, length, get_or, drop, AllPairs, refl, ap, ◌∙◌, ⊎_elim, arith, eq-eqb, eqb-true, ∥∥₁_elim, cases_Bool}
+use Rattle.vc_best.proofs.Common.{AreExtents, Bytes, Extent, IsThere, extents, extents_of, tiling}
 use Rattle.vc_model.proofs.Pairs.{AllPairs-head, AllPairs-tail}
-use Rattle.vc_seg.specs.Segment.{Bytes}
-use Rattle.vc_extent.specs.Extent.{Extent, extents}
-use Rattle.vc_extent.specs.Tiling.{AreExtents, IsThere, extents_of, tiling}
+use Rattle.vc_best.proofs.Lies.{Differ}
 use Rattle.vc_best.proofs.Sets.{extents-set}
 
 pub there-at : (segs : List Bytes) (i : ℕ) (d : Bytes) → i < length segs → IsThere (get_or segs i d).number segs
@@ -16,15 +15,14 @@ there-at (s ∷ ss) (suc i) d lt =
     (λ (t : eqb s.number n ≡ false). rw t (there-at ss i d (omega arith)))
     (cases_Bool (eqb s.number n))
 
-pub own-from : (segs : List Bytes) (i : ℕ) (d : Bytes) → AllPairs (λ a b. a.number ≢ b.number) segs → i < length segs → extents_of (get_or segs i d).number (tiling segs) ≡ extents (get_or segs i d).bytes
+pub own-from : (segs : List Bytes) (i : ℕ) (d : Bytes) → AllPairs Differ segs → i < length segs → extents_of (get_or segs i d).number (tiling segs) ≡ extents (get_or segs i d).bytes
 own-from [] i d h lt = absurd (omega arith)
 own-from (s ∷ ss) zero d h lt = rw (eq-eqb s.number s.number refl) refl
 own-from (s ∷ ss) (suc i) d h lt =
-    let R : Bytes → Bytes → Type 0 = λ a b. a.number ≢ b.number in
     let n = (get_or ss i d).number in
     ⊎_elim
-    (λ (t : eqb s.number n ≡ true). absurd (AllPairs-head R s ss h i d (omega arith) (eqb-true s.number n t)))
-    (λ (t : eqb s.number n ≡ false). rw t (own-from ss i d (AllPairs-tail R s ss h) (omega arith)))
+    (λ (t : eqb s.number n ≡ true). absurd (AllPairs-head Differ s ss h i d (omega arith) (eqb-true s.number n t)))
+    (λ (t : eqb s.number n ≡ false). rw t (own-from ss i d (AllPairs-tail Differ s ss h) (omega arith)))
     (cases_Bool (eqb s.number n))
 
 -- the extents of a segment, by its number

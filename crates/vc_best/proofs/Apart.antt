@@ -1,8 +1,8 @@
 -- Blocks with heads that don't overlap.
 use Rattle.vc_base.proofs.Common.{◌≡◌, ℕ, ◌<◌, ◌≤◌, true, false, ◌&&◌, eqb, ltb, ◌⊎◌, List, [], ◌∷◌, ◌==◌, All, AllPairs, sym, ◌∙◌, inl, inr, ⊎_elim, arith, ltb-false, ltb-true, lt-ltb, eq-eqb, eqb-true, and_from, and_parts, cases_Bool, or_cases, or_parts, All-cons, All-head, All-nil, All-tail, All-weaker, AllPairs-cons, Block, footprint, lies_before, with_block, EndsBefore, IsApart}
+use Rattle.vc_best.proofs.Common.{in_order}
 use Rattle.vc_model.proofs.Pairs.{AllPairs-head, AllPairs-tail}
 use Rattle.vc_base.proofs.Places.{span-least}
-use Rattle.vc_layouts.specs.InOrder.{in_order}
 use Rattle.vc_layouts.proofs.Blocks.{All-with}
 use Rattle.vc_layouts.proofs.InOrder.{All-in_order}
 use Rattle.vc_layouts.proofs.Lists.{AllPairs-nil}

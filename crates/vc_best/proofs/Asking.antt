@@ -1,34 +1,13 @@
 -- What a call that may ask for a segment answers, and leaves of the discipline.
-use Rattle.vc_base.proofs.Common.{◌≡◌, ℕ, Bool, true, false, List, [], ◌∷◌, ◌++◌, Some, None, Ok, Err, Option, Result, sym, refl, ap, ◌∙◌, subst, place_of, best_alloc, best_need, place_in, put_at, put_in_new, put_or_ask, Discipline, Lent, Served, Terms, Layout, with_grant, Outcome, Put, Grant, Granted, ask}
+use Rattle.vc_base.proofs.Common.{◌≡◌, ℕ, Bool, true, false, Some, None, Ok, Err, Option, Result, sym, refl, ap, ◌∙◌, subst, place_of, best_alloc, best_need, place_in, put_at, put_in_new, put_or_ask, Discipline, Terms, Layout, with_grant, Outcome, Put, Grant, Granted, ask}
+use Rattle.vc_best.proofs.Common.{Addr, IsPutByAsking, IsPutInGap}
 use Rattle.vc_model.specs.Best.{put}
-use Rattle.vc_model.proofs.Keeping.{Kept-same}
-use Rattle.vc_base.specs.declared.addr.Addr.{Addr}
 use Rattle.vc_model.proofs.Owned.{address-place_of}
 use Rattle.vc_seg.specs.declared.fault.RegionFault.{RegionFault}
 use Rattle.vc_seg.specs.declared.fault.RegionFault.TheVariants as code
 use Rattle.vc_seg.specs.Answer.{Answers, Asks, IsPut}
 use Rattle.vc_seg.specs.Lend.{IsNoGrant}
-use Rattle.vc_layouts.proofs.Segments.{Served-lent}
-use Rattle.vc_best.specs.Standing.{IsPutByAsking, IsPutInGap}
-
--- nothing was asked for
-pub Served-unasked : (d : Discipline) (segments segments' : List (ℕ × ℕ)) (size : ℕ) → segments' ≡ segments → Served d d segments segments' size
-Served-unasked d segments segments' size same =
-    record {
-      kept = Kept-same d;
-      faults = refl;
-      out = λ rest e. e ∙ ap (λ (ss : List (ℕ × ℕ)). rest ++ ss) (sym same);
-      room = λ other. absurd (other same);
-      same = λ e. refl;
-    }
-
--- a segment was lent
-pub Served-granted : (old new : Discipline) (segments segments' : List (ℕ × ℕ)) (n bytes need : ℕ) → bytes ≡ need → segments' ≡ segments ++ (n, bytes) ∷ [] → Lent old new n bytes → Served old new segments segments' need
-Served-granted old new segments segments' n bytes need e added lent = subst (Served old new segments segments') e (Served-lent old new segments segments' n bytes added lent)
-
--- later the segments are the same
-pub Served-later : (old new : Discipline) (segments mid later : List (ℕ × ℕ)) (need : ℕ) → later ≡ mid → Served old new segments mid need → Served old new segments later need
-Served-later old new segments mid later need same h = subst (λ (ss : List (ℕ × ℕ)). Served old new segments ss need) (sym same) h
+use Rattle.vc_layouts.proofs.Segments.{Served-unasked}
 
 -- before it the layout was the same, but for links
 pub IsPutByAsking-same : (old mid new : Layout ℕ) (terms : Terms) (label size align : ℕ) (result : Result Addr RegionFault) → mid ≡ old →

@@ -1,10 +1,7 @@
 -- The block that holds a byte, among the blocks of a segment.
 use Rattle.vc_base.proofs.Common.{◌≡◌, ℕ, ◌+◌, ◌-◌, ◌<◌, ◌≤◌, Bool, true, false, ◌&&◌, eqb, ltb, leb, List, [], ◌∷◌, map, length, IsTrue, Some, None, Option, option_map, find, sym, refl, ap, ◌∙◌, ⊎_elim, arith, ltb-true, lt-ltb, eq-eqb, le-leb, leb-true, and_from, and_parts, cases_Bool, address, place_of, Block, address_of, place_of_block, block_at, holds_byte}
+use Rattle.vc_best.proofs.Common.{Bytes, Extent, block_of, busy_in, extents_of, is_busy, pair_of, size_of, tiling}
 use Rattle.vc_model.proofs.Owned.{address-place_of}
-use Rattle.vc_seg.specs.Segment.{Bytes, pair_of}
-use Rattle.vc_extent.specs.Tiling.{extents_of, size_of, tiling}
-use Rattle.vc_extent.specs.Extent.{Extent}
-use Rattle.vc_best.specs.Blocks.{block_of, busy_in, is_busy}
 
 pub find-here : (n off : ℕ) (e : Extent) (ys : List Extent) → e.off ≤ off → off < e.off + e.size → find (holds_byte (n, off)) (busy_in (n, e ∷ ys)) ≡ Some (block_of n e)
 find-here n off e ys low high =

@@ -1,10 +1,9 @@
 -- Which segments stay, as number and size, and what is back where one goes.
 use Rattle.vc_base.proofs.Common.{◌≡◌, ℕ, ◌+◌, ◌≤◌, Bool, true, false, not, eqb, List, [], ◌∷◌, ◌++◌, map, length, get_or, is_some, IsSome, ◌==◌, Some, None, All, Contains, filter, Option, remove, sym, refl, ap, ◌∙◌, ⊎_elim, arith, eq-eqb, cases_Bool, or_right, All-cons, All-map, All-nil, All-weaker, length-map, without_last}
+use Rattle.vc_best.proofs.Common.{AreSegments, Bytes, pair_of, size_of}
 use Rattle.std.proofs.lemmas.List.Edits.{length-remove}
 use Rattle.vc_seg.specs.Back.{has_other_number, is_kept}
-use Rattle.vc_seg.specs.Segment.{AreSegments, Bytes, pair_of}
 use Rattle.vc_seg.proofs.Backs.{remove-own, without_last-own}
-use Rattle.vc_extent.specs.Tiling.{size_of}
 
 -- where there is none of a number
 pub kept-none : (keeps : ℕ → Bool) (n : ℕ) (ss : List (ℕ × ℕ)) → size_of n ss ≡ None → filter (λ s. is_kept keeps n s.0) ss ≡ ss

@@ -1,15 +1,10 @@
 -- The gap that the tree answers, as the least free run that holds a block.
 use Rattle.vc_base.proofs.Common.{◌≡◌, ℕ, ◌+◌, List, Some, None, filter, Option, option_map, sym, refl, ap, ◌∙◌, subst, arith, address, place_of, Run, holds, least}
-use Rattle.vc_base.specs.declared.addr.Addr.{Addr}
+use Rattle.vc_best.proofs.Common.{Addr, AreExtents, Bytes, IsFree, Tiling, extent_of, extents_of, free_runs, plain, run_at, tiling}
 use Rattle.vc_model.proofs.Owned.{address-place_of}
-use Rattle.vc_seg.specs.Segment.{Bytes}
-use Rattle.vc_extent.specs.Tiling.{AreExtents, IsFree, extent_of, extents_of, tiling}
-use Rattle.vc_gaps.specs.ButLinks.{Tiling, plain}
 use Rattle.vc_gaps.specs.Fits as gaps
-use Rattle.vc_gaps.specs.Fits.{run_at}
 use Rattle.vc_gaps.specs.GapLaws.{span-stays}
 use Rattle.vc_gaps.proofs.Named.{extent_in-off}
-use Rattle.vc_best.specs.Free.{free_runs}
 use Rattle.vc_best.proofs.FreeRuns.{IsGap, gap-is}
 use Rattle.vc_best.proofs.Plain.{runs-by, runs-stay}
 

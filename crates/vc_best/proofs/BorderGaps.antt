@@ -1,23 +1,12 @@
 -- The tree of gaps where the border behind a block moves.
 use Rattle.vc_base.proofs.Common.{◌≡◌, ℕ, ◌+◌, ◌-◌, ◌%◌, ◌<◌, ◌≤◌, Bool, true, false, cond, not, ◌&&◌, eqb, ◌≢◌, List, [], ◌∷◌, ◌++◌, map, Some, None, Option, sym, refl, ap, ◌∙◌, subst, ⊎_elim, arith, eq-eqb, ne_eqb, ∥∥₁_elim, ℕ_set, and_parts, cases_Bool, cases_eq, address, place_of, span}
+use Rattle.vc_best.proofs.Common.{AreExtents, Bytes, Extent, GapsChange, HasGaps, IsBorderMoved, IsBusy, IsMerged, Tiling, absorb, behind, busy_extent, change_extent, extent_of, extents_of, first_of, free_bytes, free_extent, free_name, free_next, is_busy, is_free, is_merged, next_of, no_links, pair_of, room_of, set_size, shrink, stretch, tiling}
 use Rattle.vc_base.proofs.Sets.{bytes-set}
-use Rattle.vc_seg.specs.Segment.{Bytes, pair_of}
-use Rattle.vc_extent.specs.Change.{behind, first_of, set_size, shrink, stretch}
-use Rattle.vc_extent.specs.Extent.{Extent, busy_extent, free_extent, no_links}
-use Rattle.vc_extent.specs.Tiling.{AreExtents, IsBusy, change_extent, extent_of, extents_of, next_of, tiling}
-use Rattle.vc_gaps.specs.ButLinks.{Tiling}
 use Rattle.vc_gaps.specs.GapStore.{is_free as names_free}
-use Rattle.vc_gaps.specs.GapTree.{HasGaps}
 use Rattle.vc_gaps.proofs.Bordered.{gaps-filled, gaps-shrunk, gaps-stretched}
 use Rattle.vc_gaps.proofs.Joined.{first-cons}
 use Rattle.vc_gaps.proofs.Marked.{gaps-stay}
 use Rattle.vc_gaps.proofs.Named.{extent_in-off, extent_of-here}
-use Rattle.vc_best.specs.Beside.{free_name, free_next}
-use Rattle.vc_best.specs.GapsChange.{GapsChange}
-use Rattle.vc_best.specs.Blocks.{is_busy}
-use Rattle.vc_best.specs.Changes.{absorb}
-use Rattle.vc_best.specs.Free.{IsMerged, free_bytes, is_free, is_merged, room_of}
-use Rattle.vc_best.specs.Standing.{IsBorderMoved}
 use Rattle.vc_best.proofs.Borders.{border-shrunk, free-free, next-shrunk, rest-next, shrunk-kept, shrunk-len}
 use Rattle.vc_best.proofs.Cuts.{behind-here}
 use Rattle.vc_best.proofs.Known.{cut-of, off-of, then-behind}
@@ -121,9 +110,7 @@ module _ (old new : List Bytes) (i j : List ℕ) (k : ∥ AreExtents old i ∥�
     gone =
         let s = grown-span in
         let o = next-at in
-        let u = multiple in
-        let positive = busy.named in
-        inside-not new j l a (omega arith) b second.0.off refl (omega arith) (omega arith) (omega arith)
+        inside-not new j l a (omega arith) b second.0.off refl (omega (arith, multiple)) (omega (arith, busy.named)) (omega arith)
 
     next-left : free_next (tiling new) a ≡ free_name (place_of a).0 (first_of (left tail.0))
     next-left =
@@ -165,11 +152,9 @@ module _ (old new : List Bytes) (i j : List ℕ) (k : ∥ AreExtents old i ∥�
         let place0 : (place_of b).0 ≡ (place_of a).0 = ap (λ (q : ℕ × ℕ). q.0) b-place in
         let place1 : (place_of b).1 ≡ second.0.off = ap (λ (q : ℕ × ℕ). q.1) b-place in
         let spans : (extent_of (tiling old) b).span ≡ second.0.span = ap (λ (x : Extent). x.span) b-extent in
-        let o = next-at in
-        let r = room in
         let none : names_free (tiling old) c ≡ false =
-        inside-not old i k b (omega (arith, spans, r, more, enough, part)) c ((place_of a).1 + span size) (ap (λ n. address (n, (place_of a).1 + span size)) (sym place0)) (omega arith)
-        (omega (arith, place1, o, more)) (omega (arith, place1, o, spans, r, enough, part)) in
+        inside-not old i k b (omega (arith, spans, room, more, enough, part)) c ((place_of a).1 + span size) (ap (λ n. address (n, (place_of a).1 + span size)) (sym place0)) (omega arith)
+        (omega (arith, place1, next-at, more)) (omega (arith, place1, next-at, spans, room, enough, part)) in
         subst (λ ns. HasGaps (tiling new) root (ns ++ out)) (sym name)
         (gaps-stretched (tiling old) (tiling new) root a size out busy some b body second.0 is second.1 refl gone c part refl none h)
 

@@ -1,13 +1,7 @@
 -- The border behind a block, moved.
 use Rattle.vc_base.proofs.Common.{◌≡◌, ℕ, ◌+◌, ◌-◌, ◌<◌, ◌≤◌, true, false, not, ◌&&◌, eqb, ltb, List, [], ◌∷◌, length, take, Some, Option, sym, refl, ap, ◌∙◌, ⊎_elim, arith, length-take-le, take-take, ltb-false, le-ltb, lt-ltb, eq-eqb, ne_eqb, and_from, cases_Bool, eqb-false, address, place_of, span}
+use Rattle.vc_best.proofs.Common.{Extent, IsBusy, IsFree, absorb, behind, busy_extent, busy_in, change_extent, extent_of, first_of, free_bytes, free_extent, free_name, free_next, is_busy, is_free, is_merged, move_border, next_of, no_links, room_of, set_size, shrink, stretch, stretch_rest}
 use Rattle.vc_layouts.proofs.Blocks.{place_of-address}
-use Rattle.vc_extent.specs.Extent.{Extent, busy_extent, free_extent, no_links}
-use Rattle.vc_extent.specs.Change.{behind, first_of, set_size, shrink, stretch}
-use Rattle.vc_extent.specs.Tiling.{IsBusy, IsFree, change_extent, extent_of, next_of}
-use Rattle.vc_best.specs.Beside.{free_name, free_next}
-use Rattle.vc_best.specs.Blocks.{busy_in, is_busy}
-use Rattle.vc_best.specs.Changes.{absorb, move_border, stretch_rest}
-use Rattle.vc_best.specs.Free.{free_bytes, is_free, is_merged, room_of}
 use Rattle.vc_best.proofs.Cuts.{behind-here, change_at-here, extent_in-here}
 use Rattle.vc_best.proofs.Known.{IsCut, end-of, now-same, off-of, then-behind, then-extent, then-steps}
 use Rattle.vc_best.proofs.Layouts.{behind_of}
@@ -26,19 +20,21 @@ less-size : (size own : ℕ) → span size < span own → size < own
 less-size size own h = omega arith
 
 module _ (t : List (ℕ × List Extent)) (a size : ℕ) (c : IsCut t a) where
+  abbrev e : Extent
+  e = extent_of t a
+
+  abbrev ys : List Extent
+  ys = behind_of t a
+
   -- the same span
   pub border-same : (body : List ℕ) → span size ≡ (extent_of t a).span → change_extent a (set_size size body) t ≡ change_extent a (move_border size body) t
   border-same body same =
-      let e = extent_of t a in
-      let ys = behind_of t a in
       now-same t a c (set_size size body) (move_border size body)
       (rw (eq-eqb (span size) e.span same) (ap (λ (n : ℕ). busy_extent e.off n size e.tag body ∷ ys) (sym same)))
 
   -- a larger one
   pub border-stretched : (body : List ℕ) → (extent_of t a).span < span size → span size ≤ room_of t a → change_extent a (stretch size body) t ≡ change_extent a (move_border size body) t
   border-stretched body more enough =
-      let e = extent_of t a in
-      let ys = behind_of t a in
       let one : (zs : List Extent) → span size ≤ e.span + free_bytes (first_of zs) → stretch size body e zs ≡ move_border size body e zs =
       λ zs. elim zs as (λ (zs : List Extent). span size ≤ e.span + free_bytes (first_of zs) → stretch size body e zs ≡ move_border size body e zs) [
         | [] ↦ λ le. absurd (omega arith)
@@ -48,11 +44,14 @@ module _ (t : List (ℕ × List Extent)) (a size : ℕ) (c : IsCut t a) where
 
   -- a smaller one
   module _ (t1 : List (ℕ × List Extent)) (rest : ℕ) (busy : IsBusy t a) (some : 1 ≤ size) (less : span size < (extent_of t a).span) (is : t1 ≡ change_extent a (shrink size) t) (value : rest ≡ address ((place_of a).0, (place_of a).1 + span size)) where
+    -- what is cut off
+    abbrev free : Extent
+    free = free_extent (e.off + span size) (e.span - span size) no_links
+
     rest-place : place_of rest ≡ ((place_of a).0, (place_of a).1 + span size)
     rest-place =
         let end = end-of t a c in
-        let most = c.legal.most in
-        ap place_of value ∙ place_of-address (place_of a).0 ((place_of a).1 + span size) (omega arith) (omega arith)
+        ap place_of value ∙ place_of-address (place_of a).0 ((place_of a).1 + span size) (omega (arith, c.legal.most)) (omega arith)
 
     rest-seg : (place_of rest).0 ≡ (place_of a).0
     rest-seg = ap (λ (p : ℕ × ℕ). p.0) rest-place
@@ -61,26 +60,22 @@ module _ (t : List (ℕ × List Extent)) (a size : ℕ) (c : IsCut t a) where
     rest-off = ap (λ (p : ℕ × ℕ). p.1) rest-place
 
     rest-le : (place_of a).1 ≤ (place_of rest).1
-    rest-le = let o = rest-off in omega arith
+    rest-le = omega (arith, rest-off)
 
     rest-own : (extent_of t a).off + span size ≡ (place_of rest).1
-    rest-own = let o = rest-off in let own = off-of t a c in omega arith
+    rest-own = omega (arith, rest-off, off-of t a c)
 
     first-other : eqb (extent_of t a).off (place_of rest).1 ≡ false
-    first-other = let o = rest-own in ne_eqb (extent_of t a).off (place_of rest).1 (λ q. omega arith)
+    first-other = ne_eqb (extent_of t a).off (place_of rest).1 (λ q. omega (arith, rest-own))
 
     pub rest-free : IsFree t1 rest
     rest-free =
-        let e = extent_of t a in
-        let free = free_extent (e.off + span size) (e.span - span size) no_links in
         let now : extent_of t1 rest ≡ free = then-extent t t1 a rest (shrink size) c is rest-seg rest-le ∙ rw first-other (extent_in-here (place_of rest).1 free (behind_of t a) rest-own) in
         record { named = rw (ap (λ (x : Extent). x.span) now) (omega arith); free = ap (λ (x : Extent). x.size) now }
 
     -- what is behind it was behind the block
     pub rest-next : free_next t1 rest ≡ free_next t a
     rest-next =
-        let e = extent_of t a in
-        let free = free_extent (e.off + span size) (e.span - span size) no_links in
         let same : behind_of t1 rest ≡ behind_of t a = then-behind t t1 a rest (shrink size) c is rest-seg rest-le ∙ rw first-other (behind-here (place_of rest).1 free (behind_of t a) rest-own) in
         let own : free_next t1 rest ≡ free_name (place_of rest).0 (next_of t a) = ap (λ (zs : List Extent). free_name (place_of rest).0 (first_of zs)) same in
         own ∙ ap (λ (n : ℕ). free_name n (next_of t a)) rest-seg
@@ -88,9 +83,6 @@ module _ (t : List (ℕ × List Extent)) (a size : ℕ) (c : IsCut t a) where
     module _ (t2 : List (ℕ × List Extent)) (is2 : t2 ≡ change_extent rest absorb t1) where
       shrunk : t2 ≡ change_extent a (move_border size (take size (extent_of t a).body)) t
       shrunk =
-          let e = extent_of t a in
-          let ys = behind_of t a in
-          let free = free_extent (e.off + span size) (e.span - span size) no_links in
           let x = busy_extent e.off (span size) size e.tag (take size e.body) in
           then-steps t t1 a rest (shrink size) c is rest-seg rest-le t2 absorb (move_border size (take size e.body)) is2
           (rw first-other
@@ -99,9 +91,6 @@ module _ (t : List (ℕ × List Extent)) (a size : ℕ) (c : IsCut t a) where
 
       pub next-shrunk : free_next t2 a ≡ rest ∷ []
       next-shrunk =
-          let e = extent_of t a in
-          let ys = behind_of t a in
-          let free = free_extent (e.off + span size) (e.span - span size) no_links in
           let body = take size e.body in
           let x = busy_extent e.off (span size) size e.tag body in
           let moved : move_border size body e ys ≡ x ∷ absorb free ys = rw (ne_eqb (span size) e.span (λ q. omega arith), lt-ltb (span size) e.span less) refl in
@@ -112,7 +101,6 @@ module _ (t : List (ℕ × List Extent)) (a size : ℕ) (c : IsCut t a) where
 
       shrunk-body : (extent_of t2 a).body ≡ take size (extent_of t a).body
       shrunk-body =
-          let e = extent_of t a in
           let now : extent_of t2 a ≡ busy_extent e.off (span size) size e.tag (take size e.body) =
           then-extent t t2 a a (move_border size (take size e.body)) c shrunk refl (omega arith)
           ∙ rw (eq-eqb e.off (place_of a).1 (off-of t a c)) refl in

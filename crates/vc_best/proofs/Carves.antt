@@ -1,19 +1,10 @@
 -- A block of zeros in a free extent, call by call.
 use Rattle.vc_base.proofs.Common.{◌≡◌, ℕ, ◌+◌, ◌-◌, ◌%◌, ◌<◌, ◌≤◌, true, false, cond, ◌||◌, ltb, ◌≢◌, List, [], ◌∷◌, ◌++◌, length, replicate, IfSome, Some, None, All, Option, sym, refl, ap, ◌∙◌, subst, ⊎_elim, append-nil, arith, drop_of_length-le, ltb-false, ltb-true, le-ltb, lt-ltb, ne_eqb, le_prop, ∥∥₁_elim, ℕ_set, cases_Bool, All-cons, All-nil, length-replicate, contains, address, place_of, with_bytes, span}
+use Rattle.vc_best.proofs.Common.{Addr, AreExtents, Bytes, CanLinkGap, CanPutBlock, Extent, HasGaps, IsFree, Tiling, busy_extent, carve, change_at, change_extent, cut_back, cut_front, extent_in, extent_of, free_extent, free_part, lay_zeros, mark_busy, no_links, plain, some_name, split, tiling, write}
 use Rattle.vc_layouts.proofs.Blocks.{place_of-address}
-use Rattle.vc_extent.specs.Extent.{Extent, busy_extent, free_extent, no_links}
-use Rattle.vc_extent.specs.Change.{change_at, extent_in, mark_busy, split, write}
-use Rattle.vc_extent.specs.Tiling.{AreExtents, IsFree, change_extent, extent_of, tiling}
-use Rattle.vc_base.specs.declared.addr.Addr.{Addr}
 use Rattle.vc_base.proofs.Members.{within-head}
 use Rattle.vc_base.proofs.Places.{span-least}
-use Rattle.vc_seg.specs.Segment.{Bytes}
-use Rattle.vc_gaps.specs.ButLinks.{Tiling, plain}
-use Rattle.vc_gaps.specs.GapTree.{CanLinkGap, HasGaps}
 use Rattle.vc_gaps.proofs.GapTrees.{can_link-out}
-use Rattle.vc_best.specs.Beside.{some_name}
-use Rattle.vc_best.specs.Changes.{carve, cut_back, cut_front, free_part, lay_zeros}
-use Rattle.vc_best.specs.Standing.{CanPutBlock}
 use Rattle.vc_best.proofs.Cuts.{change_at-here, change_at-skip, extent_in-here, extent_in-skip}
 use Rattle.vc_best.proofs.Plain.{free-stays}
 use Rattle.vc_best.proofs.Sets.{tiling-set}
@@ -28,15 +19,16 @@ zeros-written size body h =
     rw (drop_of_length-le body {i = 0 + length (replicate {A = ℕ} size 0)} (omega (arith, long, h))) (append-nil (replicate size 0))
 
 module _ (t t1 : List (ℕ × List Extent)) (a size tag : ℕ) (body : List ℕ) (c : IsCut t a) (is : t1 ≡ change_extent a (mark_busy size tag body) t) where
+  abbrev e : Extent
+  e = extent_of t a
+
   pub marked : extent_of t1 a ≡ busy_extent (extent_of t a).off (extent_of t a).span size tag body
   marked =
-      let e = extent_of t a in
       then-extent t t1 a a (mark_busy size tag body) c is refl (omega arith)
       ∙ extent_in-here (place_of a).1 (busy_extent e.off e.span size tag body) (behind_of t a) (off-of t a c)
 
   pub laid : (t2 : List (ℕ × List Extent)) → length body ≡ size → t2 ≡ change_extent a (write 0 (replicate size 0)) t1 → t2 ≡ change_extent a (lay_zeros size tag) t
   laid t2 len e2 =
-      let e = extent_of t a in
       then-steps t t1 a a (mark_busy size tag body) c is refl (omega arith) t2 (write 0 (replicate size 0)) (lay_zeros size tag) e2
       (change_at-here (place_of a).1 (busy_extent e.off e.span size tag body) (behind_of t a) (off-of t a c) (write 0 (replicate size 0))
       ∙ ap (λ (bs : List ℕ). busy_extent e.off e.span size tag bs ∷ behind_of t a) (zeros-written size body len))
@@ -45,8 +37,7 @@ module _ (t t1 : List (ℕ × List Extent)) (a size tag : ℕ) (body : List ℕ)
 module _ (t : List (ℕ × List Extent)) (a off : ℕ) (c : IsCut t a) where
   pub front-none : off ≤ (place_of a).1 → t ≡ change_extent a (cut_front off) t
   front-none le =
-      let o = off-of t a c in
-      sym (now-none t a c (cut_front off) (rw (le-ltb (extent_of t a).off off (omega arith)) refl))
+      sym (now-none t a c (cut_front off) (rw (le-ltb (extent_of t a).off off (omega (arith, off-of t a c))) refl))
 
   pub front-some : (place_of a).1 < off → change_extent a (split (off - (place_of a).1)) t ≡ change_extent a (cut_front off) t
   front-some lt =
@@ -164,9 +155,7 @@ module _ (e : Extent) (ys : List Extent) (off size tag : ℕ) (free : e.size ≡
 module _ (t t1 : List (ℕ × List Extent)) (a to off size tag : ℕ) (c : IsCut t a) (room : CanPutBlock t a off size) (value : to ≡ address ((place_of a).0, off)) (is1 : t1 ≡ change_extent a (cut_front off) t) where
   pub place : place_of to ≡ ((place_of a).0, off)
   place =
-      let end = end-of t a c in
-      let most = c.legal.most in
-      ap place_of value ∙ place_of-address (place_of a).0 off (omega (arith, room.fits)) room.multiple
+      ap place_of value ∙ place_of-address (place_of a).0 off (omega (arith, room.fits, end-of t a c, c.legal.most)) room.multiple
 
   seg : (place_of to).0 ≡ (place_of a).0
   seg = ap (λ (p : ℕ × ℕ). p.0) place
@@ -178,50 +167,48 @@ module _ (t t1 : List (ℕ × List Extent)) (a to off size tag : ℕ) (c : IsCut
   span-some = omega (arith, room.sized.some)
 
   le : (place_of a).1 ≤ (place_of to).1
-  le = let o = at in omega (arith, o, room.first)
+  le = omega (arith, at, room.first)
 
   low : (extent_of t a).off ≤ off
-  low = let o = off-of t a c in omega (arith, o, room.first)
+  low = omega (arith, off-of t a c, room.first)
 
   high : off + span size ≤ (extent_of t a).off + (extent_of t a).span
-  high = let o = off-of t a c in omega (arith, o, room.fits)
+  high = omega (arith, off-of t a c, room.fits)
 
   free-from : (x : Extent) (s : ℕ) → 0 < s → IsSpan off s x → (t' : List (ℕ × List Extent)) → extent_of t' to ≡ x → IsFree t' to
   free-from x s some' is t' e =
       let span = is.span in
       record { named = rw (ap (λ (y : Extent). y.span) e) (omega arith); free = ap (λ (y : Extent). y.size) e ∙ is.free }
 
+  -- what it is from there on
+  left : IsSpan off ((extent_of t a).off + (extent_of t a).span - off) (extent_in off (cut_front off (extent_of t a) (behind_of t a)))
+  left = front-extent (extent_of t a) (behind_of t a) off size tag room.free.free low high span-some
+
+  now-left : extent_of t1 to ≡ extent_in off (cut_front off (extent_of t a) (behind_of t a))
+  now-left = then-extent t t1 a to (cut_front off) c is1 seg le ∙ ap (λ (n : ℕ). extent_in n (cut_front off (extent_of t a) (behind_of t a))) at
+
   pub fronted : IsFree t1 to
-  fronted =
-      let o = off-of t a c in
-      let s = span-some in
-      let is = front-extent (extent_of t a) (behind_of t a) off size tag room.free.free low high span-some in
-      let e : extent_of t1 to ≡ extent_in off (cut_front off (extent_of t a) (behind_of t a)) = then-extent t t1 a to (cut_front off) c is1 seg le ∙ ap (λ (n : ℕ). extent_in n (cut_front off (extent_of t a) (behind_of t a))) at in
-      free-from (extent_in off (cut_front off (extent_of t a) (behind_of t a))) ((extent_of t a).off + (extent_of t a).span - off) (omega arith) is t1 e
+  fronted = free-from (extent_in off (cut_front off (extent_of t a) (behind_of t a))) ((extent_of t a).off + (extent_of t a).span - off) (omega (arith, span-some, high)) left t1 now-left
 
   pub front-end : (place_of to).1 + (extent_of t1 to).span ≡ (place_of a).1 + (extent_of t a).span
   front-end =
-      let o = off-of t a c in
-      let p = at in
-      let least = low in
-      let most = high in
-      let is = front-extent (extent_of t a) (behind_of t a) off size tag room.free.free low high span-some in
-      let e : extent_of t1 to ≡ extent_in off (cut_front off (extent_of t a) (behind_of t a)) = then-extent t t1 a to (cut_front off) c is1 seg le ∙ ap (λ (n : ℕ). extent_in n (cut_front off (extent_of t a) (behind_of t a))) at in
-      let s : (extent_of t1 to).span ≡ (extent_of t a).off + (extent_of t a).span - off = ap (λ (y : Extent). y.span) e ∙ is.span in
-      omega (arith, o, p, least, most, s)
+      let s : (extent_of t1 to).span ≡ (extent_of t a).off + (extent_of t a).span - off = ap (λ (y : Extent). y.span) now-left ∙ left.span in
+      omega (arith, off-of t a c, at, low, high, s)
 
   module _ (t2 : List (ℕ × List Extent)) (is2 : t2 ≡ change_extent to (cut_back (span size)) t1) where
-    is-both : t2 ≡ change_extent a (λ e ys. change_at (place_of to).1 (cut_back (span size)) (cut_front off e ys)) t
-    is-both = then-steps t t1 a to (cut_front off) c is1 seg le t2 (cut_back (span size)) (λ e ys. change_at (place_of to).1 (cut_back (span size)) (cut_front off e ys)) is2 refl
+    -- both cuts in one
+    abbrev cuts : Extent → List Extent → List Extent
+    cuts e ys = change_at (place_of to).1 (cut_back (span size)) (cut_front off e ys)
+
+    is-both : t2 ≡ change_extent a cuts t
+    is-both = then-steps t t1 a to (cut_front off) c is1 seg le t2 (cut_back (span size)) cuts is2 refl
 
     extent : (x : Extent) × IsSpan off (span size) x × (extent_of t2 to ≡ x)
-    extent =
-        let is = back-extent (extent_of t a) (behind_of t a) off size tag room.free.free low high span-some in
-        let f : Extent → List Extent → List Extent = λ e ys. change_at (place_of to).1 (cut_back (span size)) (cut_front off e ys) in (
-          extent_in off (change_at off (cut_back (span size)) (cut_front off (extent_of t a) (behind_of t a))),
-          is,
-          then-extent t t2 a to f c is-both seg le ∙ ap (λ (n : ℕ). extent_in n (change_at n (cut_back (span size)) (cut_front off (extent_of t a) (behind_of t a)))) at,
-        )
+    extent = (
+      extent_in off (change_at off (cut_back (span size)) (cut_front off (extent_of t a) (behind_of t a))),
+      back-extent (extent_of t a) (behind_of t a) off size tag room.free.free low high span-some,
+      then-extent t t2 a to cuts c is-both seg le ∙ ap (λ (n : ℕ). extent_in n (change_at n (cut_back (span size)) (cut_front off (extent_of t a) (behind_of t a)))) at,
+    )
 
     pub backed : IsFree t2 to
     backed = free-from extent.0 (span size) span-some extent.1 t2 extent.2
@@ -231,8 +218,7 @@ module _ (t t1 : List (ℕ × List Extent)) (a to off size tag : ℕ) (c : IsCut
 
     pub carved : (t3 : List (ℕ × List Extent)) → t3 ≡ change_extent to (lay_zeros size tag) t2 → t3 ≡ change_extent a (carve off size tag) t
     carved t3 is3 =
-        let f : Extent → List Extent → List Extent = λ e ys. change_at (place_of to).1 (cut_back (span size)) (cut_front off e ys) in
-        then-steps t t2 a to f c is-both seg le t3 (lay_zeros size tag) (carve off size tag) is3
+        then-steps t t2 a to cuts c is-both seg le t3 (lay_zeros size tag) (carve off size tag) is3
         (ap (λ (n : ℕ). change_at n (lay_zeros size tag) (change_at n (cut_back (span size)) (cut_front off (extent_of t a) (behind_of t a)))) at
         ∙ carve-is (extent_of t a) (behind_of t a) off size tag room.free.free low high span-some)
 
@@ -244,34 +230,38 @@ module _ (t new : List (ℕ × List Extent)) (a off size tag : ℕ) (c : IsCut t
   abbrev block : Extent
   block = busy_extent off (span size) size tag (replicate size 0)
 
+  -- the free extent as it was
+  abbrev gap : Extent
+  gap = extent_of t a
+
+  own-off : gap.off ≡ (place_of a).1
+  own-off = off-of t a c
+
   pub carved-front : (place_of a).1 < off → IsFree new a
   carved-front low =
-      let e = extent_of t a in
-      let o = off-of t a c in
-      let x : Extent = free_extent e.off (off - e.off) no_links in
-      let yes : ltb e.off off ≡ true = lt-ltb e.off off (omega arith) in
-      let first : carve off size tag e (behind_of t a) ≡ x ∷ block ∷ last = rw yes refl in
-      let now : extent_of new a ≡ x = then-extent t new a a (carve off size tag) c is refl (omega arith) ∙ ap (extent_in (place_of a).1) first ∙ extent_in-here (place_of a).1 x (block ∷ last) o in
-      record { named = rw (ap (λ (y : Extent). y.span) now) (omega arith); free = ap (λ (y : Extent). y.size) now }
+      let x : Extent = free_extent gap.off (off - gap.off) no_links in
+      let yes : ltb gap.off off ≡ true = lt-ltb gap.off off (omega (arith, own-off)) in
+      let first : carve off size tag gap (behind_of t a) ≡ x ∷ block ∷ last = rw yes refl in
+      let now : extent_of new a ≡ x = then-extent t new a a (carve off size tag) c is refl (omega arith) ∙ ap (extent_in (place_of a).1) first ∙ extent_in-here (place_of a).1 x (block ∷ last) own-off in
+      record { named = rw (ap (λ (y : Extent). y.span) now) (omega (arith, own-off)); free = ap (λ (y : Extent). y.size) now }
 
   pub carved-back : (place_of a).1 ≤ off → off % 32 ≡ 0 → off + span size < (place_of a).1 + (extent_of t a).span → IsFree new (address ((place_of a).0, off + span size))
   carved-back first multiple more =
-      let e = extent_of t a in
       let b : ℕ = address ((place_of a).0, off + span size) in
-      let o = off-of t a c in
+      let o = own-off in
       let end = end-of t a c in
       let most = c.legal.most in
       let p : place_of b ≡ ((place_of a).0, off + span size) = place_of-address (place_of a).0 (off + span size) (omega arith) (omega arith) in
       let own : (place_of b).1 ≡ off + span size = ap (λ (q : ℕ × ℕ). q.1) p in
-      let x : Extent = free_extent (off + span size) (e.off + e.span - (off + span size)) no_links in
+      let x : Extent = free_extent (off + span size) (gap.off + gap.span - (off + span size)) no_links in
       let to : ℕ = off + span size in
-      let yes : ltb to (e.off + e.span) ≡ true = lt-ltb to (e.off + e.span) (omega arith) in
+      let yes : ltb to (gap.off + gap.span) ≡ true = lt-ltb to (gap.off + gap.span) (omega arith) in
       let rest : last ≡ x ∷ behind_of t a = rw yes refl in
-      let skip : extent_in to (free_part e.off off ++ (block ∷ last)) ≡ extent_in to (block ∷ last) = extent_in-skip to (free_part e.off off) (block ∷ last) (front-lower e off to (omega arith) (omega arith)) in
+      let skip : extent_in to (free_part gap.off off ++ (block ∷ last)) ≡ extent_in to (block ∷ last) = extent_in-skip to (free_part gap.off off) (block ∷ last) (front-lower gap off to (omega arith) (omega arith)) in
       let second : extent_in to (block ∷ last) ≡ extent_in to last = ap (λ z. cond z block (extent_in to last)) (ne_eqb off to (λ q. omega arith)) in
       let now : extent_of new b ≡ x =
       then-extent t new a b (carve off size tag) c is (ap (λ (q : ℕ × ℕ). q.0) p) (omega arith)
-      ∙ ap (λ (n : ℕ). extent_in n (carve off size tag e (behind_of t a))) own
+      ∙ ap (λ (n : ℕ). extent_in n (carve off size tag gap (behind_of t a))) own
       ∙ skip ∙ second ∙ ap (extent_in to) rest ∙ extent_in-here to x (behind_of t a) refl in
       record { named = rw (ap (λ (y : Extent). y.span) now) (omega arith); free = ap (λ (y : Extent). y.size) now }
 
@@ -285,7 +275,10 @@ module _ (segs : List Bytes) (index : List ℕ) (k : ∥ AreExtents segs index �
   front-free = known (hlevel (le_prop, ℕ_set)) (λ c. fronted (tiling segs) t1 a to off size tag c room value is1)
 
   to-place : place_of to ≡ ((place_of a).0, off)
-  to-place = let most = named-end segs index a k room.free.named in let fits = room.fits in let low = span-least size in ap place_of value ∙ place_of-address (place_of a).0 off (omega arith) room.multiple
+  to-place = ap place_of value ∙ place_of-address (place_of a).0 off (omega (arith, named-end segs index a k room.free.named, room.fits, span-least size)) room.multiple
+
+  to-off : (place_of to).1 ≡ off
+  to-off = ap (λ (p : ℕ × ℕ). p.1) to-place
 
   module _ (t2 : Tiling) (is2 : t2 ≡ change_extent to (cut_back (span size)) t1) where
     pub back-free : IsFree t2 to
@@ -305,10 +298,9 @@ module _ (segs : List Bytes) (index : List ℕ) (k : ∥ AreExtents segs index �
       pub last-free : (b : ℕ) → b ≡ address ((place_of to).0, (place_of to).1 + span size) → span size < (extent_of t1 to).span → IsFree t3 b
       last-free b e more =
           let end : (place_of to).1 + (extent_of t1 to).span ≡ (place_of a).1 + (extent_of (tiling segs) a).span = known (hlevel (ℕ_set)) (λ c. front-end (tiling segs) t1 a to off size tag c room value is1) in
-          let at : (place_of to).1 ≡ off = ap (λ (p : ℕ × ℕ). p.1) to-place in
           let is : b ≡ address ((place_of a).0, off + span size) = e ∙ ap (λ (p : ℕ × ℕ). address (p.0, p.1 + span size)) to-place in
           subst (IsFree t3) (sym is)
-          (known (hlevel (le_prop, ℕ_set)) (λ c. carved-back (tiling segs) t3 a off size tag c room.free room.fits carved-whole room.first room.multiple (omega arith)))
+          (known (hlevel (le_prop, ℕ_set)) (λ c. carved-back (tiling segs) t3 a off size tag c room.free room.fits carved-whole room.first room.multiple (omega (arith, to-off))))
 
       -- both can be put into a tree without them, one behind the other
       module _ (front rest : Option Addr) (root : ℕ) (first : IfSome front (λ f. (f.0 ≡ a) × ((place_of a).1 < off)))
@@ -329,9 +321,8 @@ module _ (segs : List Bytes) (index : List ℕ) (k : ∥ AreExtents segs index �
             apart (Some f) None e d = refl
             apart (Some f) (Some b) e d =
                 let seg : (place_of to).0 ≡ (place_of a).0 = ap (λ (p : ℕ × ℕ). p.0) to-place in
-                let at : (place_of to).1 ≡ off = ap (λ (p : ℕ × ℕ). p.1) to-place in
                 let name = e.0 in let low = e.1 in let other = d.0 in let least = span-least size in
-                ap (λ z. z || false) (ne_eqb b.0 f.0 (λ q. omega arith))
+                ap (λ z. z || false) (ne_eqb b.0 f.0 (λ q. omega (arith, to-off)))
 
         pub rest-can : (t4 : Tiling) (root4 : ℕ) → plain t4 ≡ plain t3 → HasGaps t4 root4 (some_name rest) → IfSome rest (λ b. CanLinkGap t4 root4 b.0)
         rest-can t4 root4 same = can rest last

@@ -1,10 +1,10 @@
 -- The cells of a best region: where they are, and what writing into one does.
 use Rattle.vc_base.proofs.Common.{◌≡◌, ℕ, ◌+◌, ◌≤◌, true, false, cond, ◌≢◌, List, [], ◌∷◌, map, length, take, drop, IfSome, IsSome, Some, None, Option, option_map, unwrap_or, sym, refl, ap, ◌∙◌, subst, inl, inr, ⊎_elim, arith, le_prop, ∥∥₁_elim, ℕ_set, eqb_tells, cases_Bool, none-some, same_Some, Blocks, HasBytes, bytes_at, place_of, with_bytes, Block, Layout, is_at, HasWholeBlocks, HasBlock, change_block, find_block, rewritten_block, with_bytes_at}
+use Rattle.vc_best.proofs.Common.{block_shown, cell_bytes, cells_of, is_unlabelled, zeroed_layout}
 use Rattle.vc_base.specs.Cells.{put}
 use Rattle.vc_base.proofs.CellsLemmas.{put_other, put_same}
 use Rattle.vc_model.proofs.Owned.{at-address, found-has, found-is}
 use Rattle.vc_seg.specs.OneBlock.{IsInBlock}
-use Rattle.vc_best.specs.Cells.{cell_bytes, cells_of, block_shown, zeroed_layout, is_unlabelled}
 use Rattle.vc_best.specs.CellLaws.{cell-of}
 
 -- cells that show the same bytes at each address are the same

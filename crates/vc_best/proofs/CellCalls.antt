@@ -1,12 +1,11 @@
 -- What the calls of a best region do to its cells: one on an unlabelled block does it to the cell there, and one on a labelled block does nothing.
 use Rattle.vc_base.proofs.Common.{◌≡◌, ℕ, true, false, cond, ◌≢◌, List, [], ◌∷◌, replicate, Some, None, All, Option, option_map, sym, refl, ap, ◌∙◌, subst, inl, inr, ⊎_elim, eq-eqb, ne_eqb, eqb_tells, cases_Bool, All-head, All-tail, none-some, place_of, without_block_at, zeros, Discipline, Block, Layout, address_of, is_at, without_block, HaveOwnPlaces, change_block, find_block, rewritten_block, with_bytes_at}
+use Rattle.vc_best.proofs.Common.{StaysButCells, cell_bytes, cells_of, disc_in, is_unlabelled, segments_in, without_cell}
 use Rattle.vc_base.specs.Cells.{put}
 use Rattle.vc_base.proofs.CellsLemmas.{put_other, put_same}
 use Rattle.vc_model.proofs.Owned.{at-address, left-elsewhere, not-there}
 use Rattle.vc_seg.specs.Boxed.{disc_in_box}
-use Rattle.vc_best.specs.Parts.{disc_in, segments_in}
 use Rattle.vc_best.specs.declared.best.Best.{Best}
-use Rattle.vc_best.specs.Cells.{StaysButCells, cell_bytes, cells_of, is_unlabelled, without_cell}
 use Rattle.vc_best.proofs.CellBytes.{cell-shows, find-written-other, same-cells}
 
 -- a labelled block is no cell

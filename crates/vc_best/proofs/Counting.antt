@@ -1,96 +1,48 @@
 -- The counts of all extents are those of the blocks and of the gaps, and stay in 64 bits.
-use Rattle.vc_base.proofs.Common.{◌≡◌, ℕ, suc, ◌+◌, ◌-◌, ◌*◌, ◌≤◌, true, false, ltb, List, [], ◌∷◌, ◌++◌, map, length, All, sum, filter, sym, refl, ap, ◌∙◌, ⊎_elim, arith, length-append, le_prop, ∥∥₁_elim, cases_Bool, All-head, All-map, All-tail, filter-append, sum_by-append, sum_by-cons, length-map, map-append, bytes_of, Block, lies_before, with_block, block_count, gaps_of, greatest}
+use Rattle.vc_base.proofs.Common.{◌≡◌, ℕ, suc, ◌+◌, ◌-◌, ◌*◌, ◌≤◌, Bool, true, false, List, [], ◌∷◌, ◌++◌, map, length, All, sum, filter, sym, refl, ap, ◌∙◌, ⊎_elim, arith, length-append, le_prop, ∥∥₁_elim, cases_Bool, All-head, All-map, All-tail, filter-append, sum_by-append, sum_by-cons, length-map, map-append, bytes_of, Block, lies_before, with_block, block_count, gaps_of, greatest}
+use Rattle.vc_best.proofs.Common.{AreExtents, Bytes, Extent, HaveRoom, IsLegal, IsMerged, all_busy, all_extents, block_of, busy_in, busy_sizes, counts_of_none, counts_with, extents, free_in, free_runs, free_spans, in_order, is_busy, is_free, layout_by, pair_of, run_of_extent, tiling}
 use Rattle.vc_model.specs.Numbers.{block_bytes, gap_bytes, gap_count, greatest_block, greatest_gap}
-use Rattle.vc_seg.specs.Segment.{Bytes, pair_of}
 use Rattle.vc_layouts.specs.Tally.{HasRoom, tally_of}
 use Rattle.vc_layouts.proofs.Tallies.{sizes-most, tallied-order, tally_of-bytes, tally_of-count, tally_of-most}
-use Rattle.vc_layouts.specs.InOrder.{in_order}
-use Rattle.vc_extent.specs.Extent.{Extent, extents}
-use Rattle.vc_extent.specs.Tiles.{IsTiled}
-use Rattle.vc_extent.specs.Tiling.{AreExtents, tiling}
 use Rattle.vc_extent.proofs.Tiled.{inside}
-use Rattle.vc_best.specs.Blocks.{all_busy, block_of, busy_in, is_busy, layout_by}
-use Rattle.vc_best.specs.Counts.{HaveRoom, all_extents, busy_sizes, counts_with, free_spans, counts_of_none}
-use Rattle.vc_best.specs.Free.{IsMerged, free_in, free_runs, is_free}
-use Rattle.vc_gaps.specs.Fits.{run_of_extent}
 use Rattle.vc_best.proofs.Frees.{gaps-of}
-use Rattle.vc_best.proofs.Lies.{Lies, lies-tiled}
-
-sizes-append : (xs ys : List Extent) → busy_sizes (xs ++ ys) ≡ busy_sizes xs ++ busy_sizes ys
-sizes-append xs ys = ap (map (λ (e : Extent). e.size)) (filter-append is_busy xs ys) ∙ map-append (λ (e : Extent). e.size) (filter is_busy xs) (filter is_busy ys)
-
-spans-append : (xs ys : List Extent) → free_spans (xs ++ ys) ≡ free_spans xs ++ free_spans ys
-spans-append xs ys = ap (map (λ (e : Extent). e.span)) (filter-append is_free xs ys) ∙ map-append (λ (e : Extent). e.span) (filter is_free xs) (filter is_free ys)
+use Rattle.vc_best.proofs.Lies.{Lies, Tiled, lies-tiled}
 
 -- what the extents of a segment count at most
 record Few (sizes : List ℕ) (room : ℕ) : Type 0 where
   long : 32 * length sizes ≤ room
   all : sum sizes ≤ room
 
-few-sizes : (stop at : ℕ) (es : List Extent) → Lies stop at es → Few (busy_sizes es) (stop - at)
-few-sizes stop at [] h = record { long = omega arith; all = omega arith }
-few-sizes stop at (e ∷ es) h =
-    let r = few-sizes stop (at + e.span) es h.1 in
-    let long = r.long in
-    let all = r.all in
-    let within = h.0.within in
-    let least = h.0.legal.least in
-    let own = inside e h.0.legal in
-    ⊎_elim
-    (λ (t : ltb 0 e.size ≡ true). rw t (let more = sum_by-cons (λ (m : ℕ). m) e.size (busy_sizes es) in record { long = omega arith; all = omega (arith, more) }))
-    (λ (t : ltb 0 e.size ≡ false). rw t (record { long = omega arith; all = omega arith }))
-    (cases_Bool (ltb 0 e.size))
+-- some of the extents, of which each counts what it spans at most
+module _ (p : Extent → Bool) (g : Extent → ℕ) where
+  counted-append : (xs ys : List Extent) → map g (filter p (xs ++ ys)) ≡ map g (filter p xs) ++ map g (filter p ys)
+  counted-append xs ys = ap (map g) (filter-append p xs ys) ∙ map-append g (filter p xs) (filter p ys)
 
-few-spans : (stop at : ℕ) (es : List Extent) → Lies stop at es → Few (free_spans es) (stop - at)
-few-spans stop at [] h = record { long = omega arith; all = omega arith }
-few-spans stop at (e ∷ es) h =
-    let r = few-spans stop (at + e.span) es h.1 in
-    let long = r.long in
-    let all = r.all in
-    let within = h.0.within in
-    let least = h.0.legal.least in
-    ⊎_elim
-    (λ (t : ltb 0 e.size ≡ true). rw t (record { long = omega arith; all = omega arith }))
-    (λ (t : ltb 0 e.size ≡ false). rw t (let more = sum_by-cons (λ (m : ℕ). m) e.span (free_spans es) in record { long = omega arith; all = omega (arith, more) }))
-    (cases_Bool (ltb 0 e.size))
+  module _ (within : (e : Extent) → IsLegal e → g e ≤ e.span) where
+    few-in : (stop at : ℕ) (es : List Extent) → Lies stop at es → Few (map g (filter p es)) (stop - at)
+    few-in stop at [] h = record { long = omega arith; all = omega arith }
+    few-in stop at (e ∷ es) h =
+        let r = few-in stop (at + e.span) es h.1 in
+        let end = h.0.within in
+        let least = h.0.legal.least in
+        let long = r.long in
+        let all = r.all in
+        ⊎_elim
+        (λ (t : p e ≡ true). rw t (record { long = omega arith; all = omega (arith, sum_by-cons (λ (m : ℕ). m) (g e) (map g (filter p es)), within e h.0.legal) }))
+        (λ (t : p e ≡ false). rw t (record { long = omega arith; all = omega arith }))
+        (cases_Bool (p e))
 
-all-sizes : (segs : List Bytes) → All (λ s. IsTiled s.bytes) segs → Few (busy_sizes (all_extents (tiling segs))) (length segs * 33554432)
-all-sizes [] h = record { long = omega arith; all = omega arith }
-all-sizes (s ∷ ss) h =
-    let T : Bytes → Type 0 = λ x. IsTiled x.bytes in
-    let tile = All-head T s ss h in
-    let r = all-sizes ss (All-tail T s ss h) in
-    let own = few-sizes (length s.bytes - 16) 16 (extents s.bytes) (lies-tiled s.bytes tile) in
-    let l1 = r.long in
-    let l2 = own.long in
-    let a1 = r.all in
-    let a2 = own.all in
-    let most = tile.size.most in
-    let whole = sizes-append (extents s.bytes) (all_extents (tiling ss)) in
-    rw whole
-    (record {
-      long = omega (arith, length-append (busy_sizes (extents s.bytes)) (busy_sizes (all_extents (tiling ss))));
-      all = omega (arith, sum_by-append (λ (m : ℕ). m) (busy_sizes (extents s.bytes)) (busy_sizes (all_extents (tiling ss))));
-    })
-
-all-spans : (segs : List Bytes) → All (λ s. IsTiled s.bytes) segs → Few (free_spans (all_extents (tiling segs))) (length segs * 33554432)
-all-spans [] h = record { long = omega arith; all = omega arith }
-all-spans (s ∷ ss) h =
-    let T : Bytes → Type 0 = λ x. IsTiled x.bytes in
-    let tile = All-head T s ss h in
-    let r = all-spans ss (All-tail T s ss h) in
-    let own = few-spans (length s.bytes - 16) 16 (extents s.bytes) (lies-tiled s.bytes tile) in
-    let l1 = r.long in
-    let l2 = own.long in
-    let a1 = r.all in
-    let a2 = own.all in
-    let most = tile.size.most in
-    let whole = spans-append (extents s.bytes) (all_extents (tiling ss)) in
-    rw whole
-    (record {
-      long = omega (arith, length-append (free_spans (extents s.bytes)) (free_spans (all_extents (tiling ss))));
-      all = omega (arith, sum_by-append (λ (m : ℕ). m) (free_spans (extents s.bytes)) (free_spans (all_extents (tiling ss))));
-    })
+    all-few : (segs : List Bytes) → All Tiled segs → Few (map g (filter p (all_extents (tiling segs)))) (length segs * 33554432)
+    all-few [] h = record { long = omega arith; all = omega arith }
+    all-few (s ∷ ss) h =
+        let tile = All-head Tiled s ss h in
+        let r = all-few ss (All-tail Tiled s ss h) in
+        let own = few-in (length s.bytes - 16) 16 (extents s.bytes) (lies-tiled s.bytes tile) in
+        let most = tile.size.most in
+        let xs = map g (filter p (extents s.bytes)) in
+        let ys = map g (filter p (all_extents (tiling ss))) in
+        rw (counted-append (extents s.bytes) (all_extents (tiling ss)))
+        (record { long = omega (arith, r.long, own.long, length-append xs ys); all = omega (arith, r.all, own.all, sum_by-append (λ (m : ℕ). m) xs ys) })
 
 -- the sizes of all blocks, as extents stand
 sizes-all : (t : List (ℕ × List Extent)) → map (λ b. b.size) (all_busy t) ≡ busy_sizes (all_extents t)
@@ -99,7 +51,7 @@ sizes-all (s ∷ ss) =
     map-append (λ (b : Block ℕ). b.size) (busy_in s) (all_busy ss)
     ∙ (ap (λ ns. ns ++ map (λ b. b.size) (all_busy ss)) (sizes-in s.0 (filter is_busy s.1))
     ∙ (ap (λ ns. busy_sizes s.1 ++ ns) (sizes-all ss)
-    ∙ sym (sizes-append s.1 (all_extents ss))))
+    ∙ sym (counted-append is_busy (λ (e : Extent). e.size) s.1 (all_extents ss))))
   where
     sizes-in : (n : ℕ) (es : List Extent) → map (λ b. b.size) (map (block_of n) es) ≡ map (λ (e : Extent). e.size) es
     sizes-in n [] = refl
@@ -112,7 +64,7 @@ spans-all (s ∷ ss) =
     map-append bytes_of (free_in s) (free_runs ss)
     ∙ (ap (λ ns. ns ++ map bytes_of (free_runs ss)) (spans-in s.0 (filter is_free s.1))
     ∙ (ap (λ ns. free_spans s.1 ++ ns) (spans-all ss)
-    ∙ sym (spans-append s.1 (all_extents ss))))
+    ∙ sym (counted-append is_free (λ (e : Extent). e.span) s.1 (all_extents ss))))
   where
     spans-in : (n : ℕ) (es : List Extent) → map bytes_of (map (run_of_extent n) es) ≡ map (λ (e : Extent). e.span) es
     spans-in n [] = refl
@@ -146,31 +98,28 @@ module _ (segs : List Bytes) (index : List ℕ) (k : ∥ AreExtents segs index �
   few : length segs ≤ 1023
   few = ∥∥₁_elim k (hlevel (le_prop)) (λ j. j.segments.few)
 
-  few-all : Few (busy_sizes (all_extents (tiling segs))) (length segs * 33554432) × Few (free_spans (all_extents (tiling segs))) (length segs * 33554432)
-  few-all = (
-    record { long = ∥∥₁_elim k (hlevel (le_prop)) (λ j. (all-sizes segs j.tiled).long); all = ∥∥₁_elim k (hlevel (le_prop)) (λ j. (all-sizes segs j.tiled).all) },
-    record { long = ∥∥₁_elim k (hlevel (le_prop)) (λ j. (all-spans segs j.tiled).long); all = ∥∥₁_elim k (hlevel (le_prop)) (λ j. (all-spans segs j.tiled).all) },
-  )
+  few-of : (p : Extent → Bool) (g : Extent → ℕ) → ((e : Extent) → IsLegal e → g e ≤ e.span) → Few (map g (filter p (all_extents (tiling segs)))) (length segs * 33554432)
+  few-of p g within = record { long = ∥∥₁_elim k (hlevel (le_prop)) (λ j. (all-few p g within segs j.tiled).long); all = ∥∥₁_elim k (hlevel (le_prop)) (λ j. (all-few p g within segs j.tiled).all) }
+
+  few-sizes : Few (busy_sizes (all_extents (tiling segs))) (length segs * 33554432)
+  few-sizes = few-of is_busy (λ e. e.size) (λ e h. omega (arith, inside e h))
+
+  few-spans : Few (free_spans (all_extents (tiling segs))) (length segs * 33554432)
+  few-spans = few-of is_free (λ e. e.span) (λ e h. omega arith)
 
   pub room-all : HaveRoom counts_of_none (all_extents (tiling segs))
   room-all =
-      let f = few in
-      let a = few-all.0.long in
-      let b = few-all.0.all in
-      let c = few-all.1.long in
-      let d = few-all.1.all in
       record {
-        blocks = record { count = omega arith; bytes = omega arith };
-        gaps = record { count = omega arith; bytes = omega arith };
+        blocks = record { count = omega (arith, few, few-sizes.long); bytes = omega (arith, few, few-sizes.all) };
+        gaps = record { count = omega (arith, few, few-spans.long); bytes = omega (arith, few, few-spans.all) };
       }
 
   pub room-segments : HasRoom (tally_of []) (map (λ s. s.1) (map pair_of segs))
   room-segments =
-      let f = few in
       let all : sum (map (λ (s : ℕ × ℕ). s.1) (map pair_of segs)) ≤ length (map (λ (s : ℕ × ℕ). s.1) (map pair_of segs)) * 33554432 =
       ∥∥₁_elim k (hlevel (le_prop)) (λ j. sizes-most 33554432 (map (λ (s : ℕ × ℕ). s.1) (map pair_of segs)) (All-map (λ (n : ℕ). n ≤ 33554432) (λ (s : ℕ × ℕ). s.1) (map pair_of segs) (All-map (λ (s : ℕ × ℕ). s.1 ≤ 33554432) pair_of segs (λ i d lt. (j.segments.legal i d lt).size.most)))) in
       let long = length-map (map pair_of segs) (λ (s : ℕ × ℕ). s.1) ∙ length-map segs pair_of in
-      record { count = omega (arith, long); bytes = omega (arith, all, long) }
+      record { count = omega (arith, few, long); bytes = omega (arith, few, all, long) }
 
   pub blocks-count : (counts_with counts_of_none (all_extents (tiling segs))).blocks.count ≡ block_count (layout_by segs)
   unfolding layout_by
@@ -182,11 +131,9 @@ module _ (segs : List Bytes) (index : List ℕ) (k : ∥ AreExtents segs index �
   pub blocks-few : length (layout_by segs).blocks ≤ 1072693248
   unfolding layout_by
   blocks-few =
-      let f = few in
-      let long = few-all.0.long in
       let count : length (in_order (all_busy (tiling segs))) ≡ length (busy_sizes (all_extents (tiling segs))) =
       order-length (all_busy (tiling segs)) ∙ (sym (length-map (all_busy (tiling segs)) (λ (b : Block ℕ). b.size)) ∙ ap length (sizes-all (tiling segs))) in
-      omega (arith, f, long, count)
+      omega (arith, few, few-sizes.long, count)
 
   pub blocks-bytes : (counts_with counts_of_none (all_extents (tiling segs))).blocks.bytes ≡ block_bytes (layout_by segs)
   unfolding layout_by

@@ -1,11 +1,8 @@
 -- Counts, taken on extent by extent.
 use Rattle.vc_base.proofs.Common.{◌≡◌, ℕ, List, ◌++◌, map, filter, ap, ◌∙◌, subst, arith, length-append, filter-append, sum_by-append, map-append}
+use Rattle.vc_best.proofs.Common.{Extent, HaveRoom, busy_sizes, counts_with, free_spans, is_busy, is_free}
 use Rattle.vc_layouts.specs.Tally.{HasRoom, tallied_all}
 use Rattle.vc_layouts.proofs.Tallies.{HasRoom-rest, tallied_all-append}
-use Rattle.vc_extent.specs.Extent.{Extent}
-use Rattle.vc_best.specs.Blocks.{is_busy}
-use Rattle.vc_best.specs.Counts.{HaveRoom, busy_sizes, counts_with, free_spans}
-use Rattle.vc_best.specs.Free.{is_free}
 use Rattle.vc_best.specs.declared.stat.Counts.{Counts}
 use Rattle.vc_layouts.specs.declared.tally.Tally.{Tally}
 

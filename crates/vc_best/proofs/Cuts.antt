@@ -1,8 +1,6 @@
 -- A list of extents, cut at the one that an offset names.
 use Rattle.vc_base.proofs.Common.{◌≡◌, ℕ, ◌+◌, ◌-◌, ◌<◌, ◌≤◌, true, false, eqb, ◌≢◌, List, [], ◌∷◌, ◌++◌, All, sym, refl, ap, ◌∙◌, subst, ⊎_elim, arith, eq-eqb, ne_eqb, eqb-true, cases_Bool, All-cons, All-head, All-nil, All-tail, All-weaker, place_of}
-use Rattle.vc_extent.specs.Extent.{Extent}
-use Rattle.vc_extent.specs.Change.{behind, change_at, extent_in}
-use Rattle.vc_extent.specs.Tiling.{change_extent, change_in, extents_of}
+use Rattle.vc_best.proofs.Common.{Extent, behind, change_at, change_extent, change_in, extent_in, extents_of}
 use Rattle.vc_best.proofs.Lies.{Lies}
 
 -- what comes before the offset's extent is passed over

@@ -1,20 +1,14 @@
 -- The tree of gaps where each segment becomes one free extent, by ascending number; and the first extent of a segment.
 use Rattle.vc_base.proofs.Common.{◌≡◌, ℕ, ◌+◌, ◌-◌, ◌<◌, ◌≤◌, Bool, true, false, cond, ◌&&◌, ◌||◌, eqb, ltb, ◌≢◌, List, [], ◌∷◌, map, Some, All, option_map, sym, refl, ap, ◌∙◌, subst, ⊎_elim, arith, ltb-false, ltb-true, le-ltb, lt-ltb, eq-eqb, ne_eqb, and-false, le_prop, ∥∥₁_elim, ℕ_set, cases_Bool, cases_eq, All-cons, All-head, All-tail, contains, address, place_of, put_by}
+use Rattle.vc_best.proofs.Common.{AreExtents, Bytes, CanLinkGap, Extent, GapLinked, HasGapTree, HasGaps, HasGapsBelow, IsFree, IsOneFree, IsThere, Tiling, change_in, extent_in, extent_of, extents_of, first_of, free_extent, no_links, one_free, plain, spans, tiling, without_links}
 use Rattle.vc_model.proofs.Owned.{address-place_of}
-use Rattle.vc_seg.specs.Segment.{Bytes}
 use Rattle.vc_layouts.proofs.Blocks.{place_of-address}
-use Rattle.vc_extent.specs.Change.{IsOneFree, extent_in, first_of, one_free, spans}
-use Rattle.vc_extent.specs.Extent.{Extent, free_extent, no_links}
-use Rattle.vc_extent.specs.Tiling.{AreExtents, IsFree, IsThere, change_in, extent_of, extents_of, tiling}
-use Rattle.vc_gaps.specs.ButLinks.{Tiling, plain, without_links}
 use Rattle.vc_gaps.specs.GapLaws.{is_free-named, is_free-stays}
 use Rattle.vc_gaps.specs.GapStore.{is_free, key_of}
-use Rattle.vc_gaps.specs.GapTree.{CanLinkGap, GapLinked, HasGapTree, HasGaps}
 use Rattle.vc_gaps.proofs.Ascending.{contains-put}
 use Rattle.vc_gaps.proofs.Carried.{tree-carried, tree-none}
 use Rattle.vc_gaps.proofs.GapTrees.{free-bool}
 use Rattle.vc_gaps.proofs.Named.{extents_of-other}
-use Rattle.vc_best.specs.GapsChange.{HasGapsBelow}
 use Rattle.vc_best.proofs.EmptySegments.{AreFree}
 use Rattle.vc_best.proofs.Known.{cut-of, segment-of}
 use Rattle.vc_best.proofs.Lies.{Lies}

@@ -1,16 +1,10 @@
 -- The first block from an address on, and the block that holds a byte.
 use Rattle.vc_base.proofs.Common.{◌≡◌, ℕ, zero, suc, ◌+◌, ◌-◌, ◌%◌, ◌<◌, ◌≤◌, Bool, true, false, ◌&&◌, eqb, ltb, leb, ◌≢◌, List, [], ◌∷◌, ◌++◌, length, get_or, IfSome, Some, None, All, filter, Option, option_map, AllPairs, find, sym, refl, ap, ◌∙◌, subst, ⊎_elim, arith, ltb-true, le-ltb, lt-ltb, le_prop, ∥∥₁_elim, ℕ_set, and_left, cases_Bool, cases_lt, All-append, All-cons, All-head, All-nil, All-tail, All-weaker, get_or-map, length-map, address, place_of, Block, address_of, HasBlock, holds_byte, next_block}
+use Rattle.vc_best.proofs.Common.{Addr, AreExtents, Bytes, Extent, IsBusy, IsFirst, IsNamed, all_busy, block_of, busy_in, extent_of, extents_of, in_order, layout_by, next_of, tiling}
 use mathlib.Core.Sum.{⊎_set}
-use Rattle.vc_base.specs.declared.addr.Addr.{Addr}
 use Rattle.vc_base.proofs.Places.{span-least}
 use Rattle.vc_model.proofs.Pairs.{AllPairs-head, AllPairs-tail}
-use Rattle.vc_seg.specs.Segment.{Bytes}
-use Rattle.vc_layouts.specs.InOrder.{in_order}
 use Rattle.vc_layouts.proofs.InOrder.{All-in_order}
-use Rattle.vc_extent.specs.Extent.{Extent}
-use Rattle.vc_extent.specs.Tiling.{AreExtents, IsBusy, IsNamed, extent_of, extents_of, next_of, tiling}
-use Rattle.vc_best.specs.Blocks.{all_busy, block_of, busy_in, layout_by}
-use Rattle.vc_best.specs.Next.{IsFirst}
 use Rattle.vc_best.proofs.Apart.{Before, order-before}
 use Rattle.vc_best.proofs.Found.{has-of}
 use Rattle.vc_best.proofs.Frees.{own-blocks}
@@ -68,13 +62,7 @@ ascending bs h pairs = λ i j d lt within.
     let one = h i d (omega (arith, lt, within)) in
     let two = h j d within in
     let some = span-least b.size in
-    let b1 = one.0 in
-    let b2 = one.1 in
-    let b3 = one.2 in
-    let c1 = two.0 in
-    let c2 = two.1 in
-    let c3 = two.2 in
-    ⊎_elim (λ u. omega (arith, u, b1, c1)) (λ u. let s = u.0 in let o = u.1 in omega (arith, s, o, some, b1, b2, b3, c1, c2, c3)) (pairs i j d lt within)
+    ⊎_elim (λ u. omega (arith, u, one.0, two.0)) (λ u. omega (arith, u.0, u.1, some, one.0, one.1, one.2, two.0, two.1, two.2)) (pairs i j d lt within)
 
 -- the blocks of a segment against an extent of it
 module _ (t : List (ℕ × List Extent)) (a : ℕ) (c : IsCut t a) where
@@ -110,8 +98,7 @@ module _ (t : List (ℕ × List Extent)) (a : ℕ) (c : IsCut t a) where
       (λ i d lt some same.
       let x : Extent = get_or (behind_of t a) i d in
       let end : e.off + e.span ≤ x.off = lies-behind (c.size - 16) ((place_of a).1 - 16) e (behind_of t a) (omega (arith, c.cut.low)) c.cut.here i d lt in
-      let o = own in
-      omega (arith, same, end, o, least))))
+      omega (arith, same, end, own, least))))
 
   -- behind it comes the next one, or the end
   later : (b : ℕ) → All (λ x. address_of (block_of n x) ≢ a → b ≤ address_of (block_of n x)) (e ∷ behind_of t a) → All (λ d. a + 1 ≤ address_of d → b ≤ address_of d) (busy_in (n, extents_of n t))
@@ -124,7 +111,7 @@ module _ (t : List (ℕ × List Extent)) (a : ℕ) (c : IsCut t a) where
       (λ x f some le. f (λ same. omega (arith, same, le))) (e ∷ behind_of t a) h)))
 
   self : address_of (block_of n e) ≡ a
-  self = let o = own in omega (arith, o)
+  self = omega (arith, own)
 
   pub next-least : (y : Extent) (b : ℕ) → next_of t a ≡ Some y → b ≡ address (n, y.off) → All (λ d. a + 1 ≤ address_of d → b ≤ address_of d) (busy_in (n, extents_of n t))
   next-least y b next value =
@@ -148,7 +135,7 @@ module _ (t : List (ℕ × List Extent)) (a : ℕ) (c : IsCut t a) where
       (All-append (λ (d : Block ℕ). address_of d < a + 1) (busy_in (n, c.cut.before)) (busy_in (n, e ∷ behind_of t a))
       (All-weaker (λ d. address_of d < a) (λ d. address_of d < a + 1) (λ d low. omega (arith, low)) (busy_in (n, c.cut.before)) before)
       (All-busy_in (λ d. address_of d < a + 1) n (e ∷ behind_of t a)
-      (All-cons (λ (x : Extent). 0 < x.size → address_of (block_of n x) < a + 1) e (behind_of t a) (λ some. let s = self in omega (arith, s))
+      (All-cons (λ (x : Extent). 0 < x.size → address_of (block_of n x) < a + 1) e (behind_of t a) (λ some. omega (arith, self))
       (subst (λ (es : List Extent). All (λ x. 0 < x.size → address_of (block_of n x) < a + 1) es) (sym ys) (All-nil (λ (x : Extent). 0 < x.size → address_of (block_of n x) < a + 1))))))
 
 -- the first block of a segment from an address on, where a walk is at an extent

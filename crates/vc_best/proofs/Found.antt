@@ -1,15 +1,9 @@
 -- The block at an address is that of the busy extent that it names.
 use Rattle.vc_base.proofs.Common.{◌≡◌, ℕ, suc, ◌+◌, ◌-◌, ◌%◌, ◌<◌, ◌≤◌, Bool, true, false, ◌≢◌, List, [], ◌∷◌, map, length, get_or, Some, All, Option, AllPairs, find, sym, refl, ap, ◌∙◌, subst, ⊎_elim, arith, eq-eqb, ne_eqb, le_prop, ∥∥₁_elim, cases_Bool, All-append, All-cons, All-contains, All-head, All-map, All-nil, All-tail, get_or-map, length-map, none-some, same_Some, place_of, Block, address_of, is_at, HasBlock, find_block}
+use Rattle.vc_best.proofs.Common.{AreExtents, Bytes, Extent, IsBusy, IsTiled, all_busy, block_of, busy_in, extent_in, extent_of, extents, extents_of, in_order, layout_by, tiling}
 use Rattle.vc_model.proofs.Pairs.{AllPairs-head, AllPairs-tail}
-use Rattle.vc_seg.specs.Segment.{Bytes}
 use Rattle.vc_layouts.proofs.Blocks.{place_of-address}
-use Rattle.vc_layouts.specs.InOrder.{in_order}
 use Rattle.vc_layouts.proofs.InOrder.{All-in_order, find-with}
-use Rattle.vc_extent.specs.Change.{extent_in}
-use Rattle.vc_extent.specs.Extent.{Extent, extents}
-use Rattle.vc_extent.specs.Tiles.{IsTiled}
-use Rattle.vc_extent.specs.Tiling.{AreExtents, IsBusy, extent_of, extents_of, tiling}
-use Rattle.vc_best.specs.Blocks.{all_busy, block_of, busy_in, layout_by}
 use Rattle.vc_best.proofs.Layouts.{blocks-busy, none-other, other_blocks, own-at}
 use Rattle.vc_best.proofs.Parts.{named-off}
 use Rattle.vc_best.proofs.Lies.{Lies, lies-behind, lies-tiled, lies-within}

@@ -1,17 +1,9 @@
 -- A block that is freed, and the free extents before and behind it.
 use Rattle.vc_base.proofs.Common.{◌≡◌, ℕ, ◌+◌, ◌-◌, ◌%◌, ◌<◌, ◌≤◌, Bool, true, false, not, ◌&&◌, eqb, ◌≢◌, ◌⊎◌, List, [], ◌∷◌, ◌++◌, Some, None, All, filter, Option, sym, refl, ap, ◌∙◌, subst, inl, inr, ⊎_elim, arith, le-ltb, lt-ltb, eq-eqb, ne_eqb, and_from, and_parts, cases_Bool, All-cons, All-nil, address, place_of}
+use Rattle.vc_best.proofs.Common.{Extent, IsBusy, IsFree, IsMerged, IsNamed, absorb, behind, busy_in, change_at, change_extent, change_in, extent_in, extent_of, extents_of, first_of, free_before, free_extent, free_name, free_next, is_busy, is_free, is_merged, join, last_before, mark_free, next_of, no_links, previous_of}
 use Rattle.vc_model.proofs.Owned.{address-place_of}
 use Rattle.vc_layouts.proofs.Blocks.{place_of-address}
-use Rattle.vc_extent.specs.Extent.{Extent, free_extent, no_links}
-use Rattle.vc_extent.specs.Change.{behind, change_at, extent_in, first_of, last_before, mark_free}
-use Rattle.vc_extent.specs.Tiling.{IsBusy, IsFree, IsNamed, change_extent, extent_of, extents_of, next_of, previous_of}
-use Rattle.vc_best.specs.Beside.{free_before, free_name, free_next}
-use Rattle.vc_best.specs.Blocks.{busy_in, is_busy}
-use Rattle.vc_best.specs.Changes.{absorb}
-use Rattle.vc_best.specs.Free.{IsMerged, is_free, is_merged}
-use Rattle.vc_extent.specs.Tiling.{change_in}
 use Rattle.vc_best.proofs.Cuts.{Cut, behind-here, change_at-here, change_at-skip, change_in-same, cut, cut-change, extent_in-here, lower-other}
-use Rattle.vc_extent.specs.Change.{join}
 use Rattle.vc_best.proofs.Known.{IsCut, now-none, now-same, off-of, then-behind, then-extent, then-steps}
 use Rattle.vc_best.proofs.Nexts.{none-first, some-first}
 use Rattle.vc_best.proofs.Layouts.{behind_of}
@@ -149,16 +141,20 @@ absorbed-name n e (y ∷ ys) free =
     (cases_Bool (is_free y))
 
 module _ (t t1 t2 : List (ℕ × List Extent)) (a : ℕ) (c : IsCut t a) (is1 : t1 ≡ change_extent a mark_free t) where
+  abbrev e : Extent
+  e = extent_of t a
+
+  abbrev ys : List Extent
+  ys = behind_of t a
+
   -- what is behind it stays
   pub next-freed : free_next t1 a ≡ free_next t a
   next-freed =
-      let e = extent_of t a in
       let same : behind_of t1 a ≡ behind_of t a = then-behind t t1 a a mark_free c is1 refl (omega arith) ∙ behind-here (place_of a).1 (free_extent e.off e.span no_links) (behind_of t a) (off-of t a c) in
       ap (λ (ys : List Extent). free_name (place_of a).0 (first_of ys)) same
 
   pub freed-extent : extent_of t1 a ≡ free_extent (extent_of t a).off (extent_of t a).span no_links
   freed-extent =
-      let e = extent_of t a in
       then-extent t t1 a a mark_free c is1 refl (omega arith)
       ∙ extent_in-here (place_of a).1 (free_extent e.off e.span no_links) (behind_of t a) (off-of t a c)
 
@@ -168,7 +164,6 @@ module _ (t t1 t2 : List (ℕ × List Extent)) (a : ℕ) (c : IsCut t a) (is1 : 
   module _ (is2 : t2 ≡ change_extent a absorb t1) where
     both : t2 ≡ change_extent a freed t
     both =
-        let e = extent_of t a in
         then-steps t t1 a a mark_free c is1 refl (omega arith) t2 absorb freed is2
         (change_at-here (place_of a).1 (free_extent e.off e.span no_links) (behind_of t a) (off-of t a c) absorb)
 
@@ -176,8 +171,6 @@ module _ (t t1 t2 : List (ℕ × List Extent)) (a : ℕ) (c : IsCut t a) (is1 : 
     pub merged-first : IsBusy t a → IsMerged t → previous_of t a ≡ None → IsMerged t2
     merged-first busy m none =
         let es = extents_of (place_of a).0 t in
-        let e = extent_of t a in
-        let ys = behind_of t a in
         let named = busy.named in
         let whole : es ≡ e ∷ ys = first-is (place_of a).1 es named none in
         subst IsMerged (sym both)
@@ -192,6 +185,13 @@ module _ (t t1 t2 : List (ℕ × List Extent)) (a : ℕ) (c : IsCut t a) (is1 : 
 
     -- with one before it
     module _ (b : ℕ) (p : Extent) (d : IsCut t b) (prev : previous_of t a ≡ Some p) (named : IsNamed t a) (value : b ≡ address ((place_of a).0, p.off)) where
+      -- the one before it, and what the change is from there
+      abbrev x : Extent
+      x = extent_of t b
+
+      abbrev f : Extent → List Extent → List Extent
+      f x zs = x ∷ change_at (place_of a).1 freed zs
+
       is : IsBefore (c.size - 16) (place_of a).1 (extents_of (place_of a).0 t) p
       is =
           let none : Option Extent = None in
@@ -202,15 +202,13 @@ module _ (t t1 t2 : List (ℕ × List Extent)) (a : ℕ) (c : IsCut t a) (is1 : 
 
       place : place_of b ≡ ((place_of a).0, p.off)
       place =
-          let below = is.below in
-          let most = c.legal.most in
-          ap place_of value ∙ place_of-address (place_of a).0 p.off (omega arith) is.multiple
+          ap place_of value ∙ place_of-address (place_of a).0 p.off (omega (arith, is.below, c.legal.most)) is.multiple
 
       at : (place_of b).1 ≡ p.off
       at = ap (λ (q : ℕ × ℕ). q.1) place
 
       lower : (place_of b).1 < (place_of a).1
-      lower = let o = at in let l = is.lower in omega arith
+      lower = omega (arith, at, is.lower)
 
       pub lower-before : p.off < (place_of a).1
       lower-before = is.lower
@@ -222,21 +220,18 @@ module _ (t t1 t2 : List (ℕ × List Extent)) (a : ℕ) (c : IsCut t a) (is1 : 
       rest = ap (λ (q : ℕ × ℕ). behind q.1 (extents_of q.0 t)) place ∙ is.behind
 
       -- the same change from the one before it on
-      rebased : t2 ≡ change_extent b (λ x zs. x ∷ change_at (place_of a).1 freed zs) t
+      rebased : t2 ≡ change_extent b f t
       rebased =
           let n = (place_of a).0 in
           let es = extents_of n t in
           let off = (place_of a).1 in
-          let f : Extent → List Extent → List Extent = λ x zs. x ∷ change_at off freed zs in
           let k : Cut (d.size - 16) 16 (place_of b).1 (extents_of (place_of b).0 t) = d.cut in
           let seg : (place_of b).0 ≡ n = ap (λ (q : ℕ × ℕ). q.0) place in
           let xs = k.before in
-          let x = extent_of t b in
           let zs = behind_of t b in
           let others = lower-other (place_of b).1 off xs (omega (arith, lower)) k.lower in
           let own : x.off ≡ (place_of b).1 = off-of t b d in
-          let low = lower in
-          let here : All (λ (y : Extent). y.off ≢ off) (x ∷ []) = All-cons (λ (y : Extent). y.off ≢ off) x [] (λ q. omega arith) (All-nil (λ (y : Extent). y.off ≢ off)) in
+          let here : All (λ (y : Extent). y.off ≢ off) (x ∷ []) = All-cons (λ (y : Extent). y.off ≢ off) x [] (λ q. omega (arith, lower)) (All-nil (λ (y : Extent). y.off ≢ off)) in
           let whole : es ≡ xs ++ (x ∷ zs) = ap (λ (m : ℕ). extents_of m t) (sym seg) ∙ k.is in
           let left : change_at off freed es ≡ xs ++ (x ∷ change_at off freed zs) =
           ap (change_at off freed) whole ∙ (change_at-skip off freed xs (x ∷ zs) others ∙ ap (λ (ws : List Extent). xs ++ ws) (change_at-skip off freed (x ∷ []) zs here)) in
@@ -246,7 +241,6 @@ module _ (t t1 t2 : List (ℕ × List Extent)) (a : ℕ) (c : IsCut t a) (is1 : 
 
       pub extent-later : extent_of t2 b ≡ p
       extent-later =
-          let f : Extent → List Extent → List Extent = λ x zs. x ∷ change_at (place_of a).1 freed zs in
           then-extent t t2 b b f d rebased refl (omega arith)
           ∙ (extent_in-here (place_of b).1 (extent_of t b) (change_at (place_of a).1 freed (behind_of t b)) (off-of t b d) ∙ extent)
 
@@ -255,8 +249,6 @@ module _ (t t1 t2 : List (ℕ × List Extent)) (a : ℕ) (c : IsCut t a) (is1 : 
 
       tail : (v : Bool) → is_merged v (extent_of t b ∷ behind_of t b) ≡ true → is_merged false (behind_of t a) ≡ true
       tail v own =
-          let e = extent_of t a in
-          let ys = behind_of t a in
           let one : is_merged (is_free (extent_of t b)) (e ∷ ys) ≡ true =
           ap (is_merged (is_free (extent_of t b))) (sym rest) ∙ (and_parts (not (v && is_free (extent_of t b))) (is_merged (is_free (extent_of t b)) (behind_of t b)) own).1 in
           merged-any (is_free e) ys (and_parts (not (is_free (extent_of t b) && is_free e)) (is_merged (is_free e) ys) one).1
@@ -277,8 +269,6 @@ module _ (t t1 t2 : List (ℕ × List Extent)) (a : ℕ) (c : IsCut t a) (is1 : 
 
       pub next-later : free_next t2 b ≡ a ∷ []
       next-later =
-          let f : Extent → List Extent → List Extent = λ x zs. x ∷ change_at (place_of a).1 freed zs in
-          let e = extent_of t a in
           let seg : (place_of b).0 ≡ (place_of a).0 = ap (λ (q : ℕ × ℕ). q.0) place in
           let zs = absorb (free_extent e.off e.span no_links) (behind_of t a) in
           let same : behind_of t2 b ≡ zs =
@@ -290,10 +280,6 @@ module _ (t t1 t2 : List (ℕ × List Extent)) (a : ℕ) (c : IsCut t a) (is1 : 
 
       pub merged-busy : IsMerged t → 0 < (extent_of t2 b).size → IsMerged t2
       merged-busy m busy =
-          let f : Extent → List Extent → List Extent = λ x zs. x ∷ change_at (place_of a).1 freed zs in
-          let x = extent_of t b in
-          let e = extent_of t a in
-          let ys = behind_of t a in
           let some : 0 < x.size = rw (ap (λ (y : Extent). y.size) (extent ∙ sym extent-later)) busy in
           let yes : is_busy x ≡ true = lt-ltb 0 x.size some in
           subst IsMerged (sym rebased)
@@ -309,11 +295,7 @@ module _ (t t1 t2 : List (ℕ × List Extent)) (a : ℕ) (c : IsCut t a) (is1 : 
 
       pub merged-free : (t3 : List (ℕ × List Extent)) → IsMerged t → (extent_of t2 b).size ≡ 0 → t3 ≡ change_extent b absorb t2 → IsMerged t3
       merged-free t3 m free is3 =
-          let f : Extent → List Extent → List Extent = λ x zs. x ∷ change_at (place_of a).1 freed zs in
           let g : Extent → List Extent → List Extent = λ x zs. absorb x (change_at (place_of a).1 freed zs) in
-          let x = extent_of t b in
-          let e = extent_of t a in
-          let ys = behind_of t a in
           let none : x.size ≡ 0 = ap (λ (y : Extent). y.size) (extent ∙ sym extent-later) ∙ free in
           let no : is_busy x ≡ false = busy-free x none in
           let is_g : t3 ≡ change_extent b g t =

@@ -1,16 +1,9 @@
 -- The tree of gaps where a block is freed and becomes one with the free extents beside it.
 use Rattle.vc_base.proofs.Common.{◌≡◌, ℕ, ◌+◌, ◌-◌, ◌<◌, List, [], ◌∷◌, ◌++◌, Some, sym, refl, ap, ◌∙◌, subst, arith, le_prop, ∥∥₁_elim, ℕ_set, address, place_of}
-use Rattle.vc_seg.specs.Segment.{Bytes}
-use Rattle.vc_extent.specs.Change.{join, mark_free}
-use Rattle.vc_extent.specs.Extent.{Extent, free_extent, no_links}
-use Rattle.vc_extent.specs.Tiling.{AreExtents, IsBusy, IsFree, change_extent, extent_of, next_of, tiling}
-use Rattle.vc_gaps.specs.ButLinks.{Tiling}
-use Rattle.vc_gaps.specs.GapTree.{HasGaps}
+use Rattle.vc_best.proofs.Common.{AreExtents, Bytes, Extent, GapsChange, HasGaps, IsBusy, IsFree, Tiling, change_extent, extent_of, free_before, free_extent, free_name, free_next, join, mark_free, next_of, no_links, tiling}
 use Rattle.vc_gaps.proofs.Joined.{first-cons, gaps-joined}
 use Rattle.vc_gaps.proofs.Marked.{gaps-freed}
 use Rattle.vc_gaps.proofs.Named.{behind_of, extent_of-here, own-off}
-use Rattle.vc_best.specs.Beside.{free_before, free_name, free_next}
-use Rattle.vc_best.specs.GapsChange.{GapsChange}
 use Rattle.vc_best.proofs.Known.{cut-of}
 use Rattle.vc_best.proofs.Lies.{Lies}
 use Rattle.vc_best.proofs.Nexts.{next-off}
@@ -37,9 +30,7 @@ module _ (old new : List Bytes) (i j : List ℕ) (k : ∥ AreExtents old i ∥�
 
   pub joined-free : IsFree (tiling new) a
   joined-free =
-      let s = joined-span in
-      let n = free.named in
-      record { named = omega arith; free = ap (λ (x : Extent). x.size) joined-extent }
+      record { named = omega (arith, joined-span, free.named); free = ap (λ (x : Extent). x.size) joined-extent }
 
   wide : 0 < y.span
   wide =
@@ -59,12 +50,11 @@ module _ (old new : List Bytes) (i j : List ℕ) (k : ∥ AreExtents old i ∥�
       let b : ℕ = address ((place_of a).0, y.off) in
       let o = second-off in
       let s = joined-span in
-      let n = free.named in
       let w = wide in
       let name : free_next (tiling old) a ≡ b ∷ [] = ap (free_name (place_of a).0) next ∙ rw (busy-free y none) refl in
       let multiple = ∥∥₁_elim k (hlevel (ℕ_set)) (λ h. (cut-of old i a h free.named).cut.here.0.legal.multiple) in
       gaps-joined (tiling old) (tiling new) root a b y out is next refl
-      (inside-not new j l a joined-free.named b y.off refl (omega arith) (omega arith) (omega arith))
+      (inside-not new j l a joined-free.named b y.off refl (omega (arith, free.named)) (omega (arith, free.named)) (omega (arith, free.named)))
       (subst (λ ns. HasGaps (tiling old) root (a ∷ (ns ++ out))) name h)
 
 -- a block becomes free, and takes the free extent behind it

@@ -1,13 +1,7 @@
 -- What is true of each free run.
 use Rattle.vc_base.proofs.Common.{◌≡◌, ℕ, ◌+◌, ◌-◌, ◌%◌, ◌<◌, ◌≤◌, true, false, not, List, [], ◌∷◌, length, get_or, Some, None, All, filter, sym, refl, ap, ◌∙◌, arith, ltb-false, eq-eqb, ne_eqb, le_prop, ∥∥₁_elim, ℕ_set, All-cons, All-filter, All-map, All-nil, All-weaker, filter_passes, address, place_of, Run, holds, least}
+use Rattle.vc_best.proofs.Common.{AreExtents, Bytes, Extent, IsFree, extent_in, extent_of, extents, extents_of, free_in, free_runs, is_busy, is_free, run_of_extent, tiling}
 use Rattle.vc_layouts.proofs.Blocks.{place_of-address}
-use Rattle.vc_seg.specs.Segment.{Bytes}
-use Rattle.vc_extent.specs.Extent.{Extent, extents}
-use Rattle.vc_extent.specs.Change.{extent_in}
-use Rattle.vc_extent.specs.Tiling.{AreExtents, IsFree, extent_of, extents_of, tiling}
-use Rattle.vc_best.specs.Blocks.{is_busy}
-use Rattle.vc_best.specs.Free.{free_in, free_runs, is_free}
-use Rattle.vc_gaps.specs.Fits.{run_of_extent}
 use Rattle.vc_best.proofs.Along.{own-from}
 use Rattle.vc_best.proofs.Gaps.{All-flat_map, least-from}
 use Rattle.vc_best.proofs.Lies.{Lies, lies-tiled}
@@ -96,10 +90,8 @@ module _ (segs : List Bytes) (index : List ℕ) (span align : ℕ) (g : Run) (k 
   gap-is =
       ∥∥₁_elim k (gap-prop (tiling segs) g)
       (λ h.
-      let t = tiling segs in
-      least-from (IsGap t) None (filter (holds span align) (free_runs t)) g (λ c q. absurd (cc)) (All-filter (holds span align) (IsGap t) (free_runs t) (all-gaps segs index h)) e)
+      least-from (IsGap (tiling segs)) None (filter (holds span align) (free_runs (tiling segs))) g (λ c q. absurd (cc)) (All-filter (holds span align) (IsGap (tiling segs)) (free_runs (tiling segs)) (all-gaps segs index h)) e)
 
   pub gap-holds : holds span align g ≡ true
   gap-holds =
-      let t = tiling segs in
-      least-from (λ x. holds span align x ≡ true) None (filter (holds span align) (free_runs t)) g (λ c q. absurd (cc)) (filter_passes (holds span align) (free_runs t)) e
+      least-from (λ x. holds span align x ≡ true) None (filter (holds span align) (free_runs (tiling segs))) g (λ c q. absurd (cc)) (filter_passes (holds span align) (free_runs (tiling segs))) e

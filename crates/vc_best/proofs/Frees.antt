@@ -1,20 +1,14 @@
 -- The gaps are the free runs, where no two free extents stand beside each other.
 use Rattle.vc_base.proofs.Common.{◌≡◌, ℕ, ◌+◌, ◌-◌, ◌%◌, ◌<◌, ◌≤◌, true, false, ◌&&◌, eqb, ltb, ◌≢◌, List, [], ◌∷◌, ◌++◌, map, length, get_or, All, filter, AllPairs, sym, refl, ap, ◌∙◌, ⊎_elim, append-nil, arith, ltb-true, le-ltb, lt-ltb, eq-eqb, ne_eqb, eqb-true, ∥∥₁_elim, and_from, and_parts, cases_Bool, eqb-false, or_right, All-cons, All-head, All-nil, All-tail, All-weaker, filter-append, Run, gaps_between, run_of, Block, footprint, footprints, lies_before, with_block, gaps_of, span, IsApart}
+use Rattle.vc_best.proofs.Common.{AreExtents, Bytes, Extent, IsMerged, all_busy, block_of, busy_in, extents, extents_of, free_in, free_runs, in_order, is_merged, layout_by, pair_of, run_of_extent, tiling}
 use Rattle.vc_model.proofs.Pairs.{AllPairs-head, AllPairs-tail}
-use Rattle.vc_seg.specs.Segment.{Bytes, pair_of}
-use Rattle.vc_layouts.specs.InOrder.{in_order}
-use Rattle.vc_extent.specs.Extent.{Extent, extents}
-use Rattle.vc_extent.specs.Tiles.{IsTiled}
-use Rattle.vc_extent.specs.Tiling.{AreExtents, extents_of, tiling}
-use Rattle.vc_best.specs.Blocks.{all_busy, block_of, busy_in, layout_by}
-use Rattle.vc_best.specs.Free.{IsMerged, free_in, free_runs, is_merged}
-use Rattle.vc_gaps.specs.Fits.{run_of_extent}
 use Rattle.vc_best.proofs.LeftGaps.{gaps_left, gaps_left_in}
 use Rattle.vc_best.proofs.Layouts.{busy-seg}
-use Rattle.vc_best.proofs.Lies.{Ends, IsAt, Lies, lies-behind, lies-tiled}
+use Rattle.vc_best.proofs.Lies.{Differ, Ends, IsAt, Lies, Tiled, lies-behind, lies-tiled}
 use Rattle.vc_best.proofs.Ordered.{gaps-left}
 use Rattle.vc_best.proofs.Sets.{runs-set}
 use Rattle.vc_best.proofs.Tilings.{All-busy_in, all-apart, all-lodged, other-seg}
+use Rattle.vc_best.proofs.Along.{own-from}
 use Rattle.vc_best.proofs.Apart.{order-before}
 
 -- the blocks of one segment alone
@@ -122,27 +116,6 @@ in-order n stop at (e ∷ es) m h =
     (λ (t : ltb 0 e.size ≡ false). rw t rest)
     (cases_Bool (ltb 0 e.size))
 
--- of the blocks of all segments, those in one are its own
-owns : (segs : List Bytes) → AllPairs (λ (a b : Bytes). a.number ≢ b.number) segs → All (λ s. own_of s.number (all_busy (tiling segs)) ≡ busy_in (s.number, extents s.bytes)) segs
-owns [] distinct = All-nil (λ (s : Bytes). own_of s.number [] ≡ busy_in (s.number, extents s.bytes))
-owns (s ∷ ss) distinct =
-    let R : Bytes → Bytes → Type 0 = λ a b. a.number ≢ b.number in
-    let own : List (Block ℕ) = busy_in (s.number, extents s.bytes) in
-    let rest : List (Block ℕ) = all_busy (tiling ss) in
-    let others = AllPairs-head R s ss distinct in
-    let each = owns ss (AllPairs-tail R s ss distinct) in
-    All-cons (λ (x : Bytes). own_of x.number (own ++ rest) ≡ busy_in (x.number, extents x.bytes)) s ss
-    (filter-append (λ (b : Block ℕ). eqb b.seg s.number) own rest
-    ∙ (ap (λ bs. bs ++ own_of s.number rest) (own-all s.number own (All-weaker (λ b. b.seg ≡ s.number) (λ b. eqb b.seg s.number ≡ true) (λ b is. eq-eqb b.seg s.number is) own (busy-seg s.number (extents s.bytes))))
-    ∙ (ap (λ bs. own ++ bs) (own-none s.number rest (All-weaker (λ c. s.number ≢ c.seg) (λ c. eqb c.seg s.number ≡ false) (λ c other. ne_eqb c.seg s.number (λ e. other (sym e))) rest (other-seg s ss others)))
-    ∙ append-nil own)))
-    (λ k d lt.
-    let x : Bytes = get_or ss k d in
-    let other : s.number ≢ x.number = others k d lt in
-    filter-append (λ (b : Block ℕ). eqb b.seg x.number) own rest
-    ∙ (ap (λ bs. bs ++ own_of x.number rest) (own-none x.number own (All-weaker (λ b. b.seg ≡ s.number) (λ b. eqb b.seg x.number ≡ false) (λ b is. ne_eqb b.seg x.number (λ e. other (sym is ∙ e))) own (busy-seg s.number (extents s.bytes))))
-    ∙ each k d lt))
-
 -- what the blocks of a segment leave free are its free extents
 runs-nothing : (n at stop : ℕ) → at ≡ stop → run_of n at stop ≡ []
 runs-nothing n at stop e = rw (le-ltb at stop (omega (arith, e))) refl
@@ -207,10 +180,9 @@ flat-each runs (s ∷ ss) h =
     ∙ ap (λ gs. free_in (s.number, extents s.bytes) ++ gs) (flat-each runs ss (All-tail P s ss h))
 
 -- so they are those that stand in order
-owns-of : (n : ℕ) (segs : List Bytes) → AllPairs (λ (a b : Bytes). a.number ≢ b.number) segs → own_of n (all_busy (tiling segs)) ≡ busy_in (n, extents_of n (tiling segs))
+owns-of : (n : ℕ) (segs : List Bytes) → AllPairs Differ segs → own_of n (all_busy (tiling segs)) ≡ busy_in (n, extents_of n (tiling segs))
 owns-of n [] distinct = refl
 owns-of n (s ∷ ss) distinct =
-    let R : Bytes → Bytes → Type 0 = λ a b. a.number ≢ b.number in
     let own : List (Block ℕ) = busy_in (s.number, extents s.bytes) in
     let rest : List (Block ℕ) = all_busy (tiling ss) in
     filter-append (λ (b : Block ℕ). eqb b.seg n) own rest
@@ -219,21 +191,20 @@ owns-of n (s ∷ ss) distinct =
     let same = eqb-true s.number n t in
     rw t
     (ap (λ bs. bs ++ own_of n rest) (own-all n own (All-weaker (λ b. b.seg ≡ s.number) (λ b. eqb b.seg n ≡ true) (λ b is. eq-eqb b.seg n (is ∙ same)) own (busy-seg s.number (extents s.bytes))))
-    ∙ (ap (λ bs. own ++ bs) (own-none n rest (All-weaker (λ c. s.number ≢ c.seg) (λ c. eqb c.seg n ≡ false) (λ c other. ne_eqb c.seg n (λ e. other (same ∙ sym e))) rest (other-seg s ss (AllPairs-head R s ss distinct))))
+    ∙ (ap (λ bs. own ++ bs) (own-none n rest (All-weaker (λ c. s.number ≢ c.seg) (λ c. eqb c.seg n ≡ false) (λ c other. ne_eqb c.seg n (λ e. other (same ∙ sym e))) rest (other-seg s ss (AllPairs-head Differ s ss distinct))))
     ∙ (append-nil own ∙ ap (λ (m : ℕ). busy_in (m, extents s.bytes)) same))))
     (λ (t : eqb s.number n ≡ false).
     rw t
     (ap (λ bs. bs ++ own_of n rest) (own-none n own (All-weaker (λ b. b.seg ≡ s.number) (λ b. eqb b.seg n ≡ false) (λ b is. ne_eqb b.seg n (λ e. eqb-false s.number n t (sym is ∙ e))) own (busy-seg s.number (extents s.bytes))))
-    ∙ owns-of n ss (AllPairs-tail R s ss distinct)))
+    ∙ owns-of n ss (AllPairs-tail Differ s ss distinct)))
     (cases_Bool (eqb s.number n))
 
-stand-in : (n : ℕ) (segs : List Bytes) → All (λ s. IsTiled s.bytes) segs → in_order (busy_in (n, extents_of n (tiling segs))) ≡ busy_in (n, extents_of n (tiling segs))
+stand-in : (n : ℕ) (segs : List Bytes) → All Tiled segs → in_order (busy_in (n, extents_of n (tiling segs))) ≡ busy_in (n, extents_of n (tiling segs))
 stand-in n [] tiled = refl
 stand-in n (s ∷ ss) tiled =
-    let T : Bytes → Type 0 = λ x. IsTiled x.bytes in
     ⊎_elim
-    (λ (t : eqb s.number n ≡ true). rw t (in-order n (length s.bytes - 16) 16 (extents s.bytes) refl (lies-tiled s.bytes (All-head T s ss tiled))))
-    (λ (t : eqb s.number n ≡ false). rw t (stand-in n ss (All-tail T s ss tiled)))
+    (λ (t : eqb s.number n ≡ true). rw t (in-order n (length s.bytes - 16) 16 (extents s.bytes) refl (lies-tiled s.bytes (All-head Tiled s ss tiled))))
+    (λ (t : eqb s.number n ≡ false). rw t (stand-in n ss (All-tail Tiled s ss tiled)))
     (cases_Bool (eqb s.number n))
 
 pub own-blocks : (segs : List Bytes) (index : List ℕ) → AreExtents segs index → (n : ℕ) → filter (λ (b : Block ℕ). eqb b.seg n) (in_order (all_busy (tiling segs))) ≡ busy_in (n, extents_of n (tiling segs))
@@ -255,7 +226,7 @@ gaps-of segs index k merged =
     let n : ℕ = s.number in
     let lies = lies-tiled s.bytes (j.tiled i d lt) in
     let own : own_of n (in_order bs) ≡ busy_in (n, extents s.bytes) =
-    own-order n bs offs apart ∙ (ap in_order (owns segs j.segments.distinct i d lt) ∙ in-order n (length s.bytes - 16) 16 (extents s.bytes) refl lies) in
+    own-blocks segs index j n ∙ ap (λ (es : List Extent). busy_in (n, es)) (own-from segs i d j.segments.distinct lt) in
     ap (gaps_between n 16 (length s.bytes - 16)) (filter-footprints n (in_order bs) ∙ ap footprints own)
     ∙ gaps-busy n (length s.bytes - 16) 16 (extents s.bytes) lies (merged-at segs merged i d lt)))
   where

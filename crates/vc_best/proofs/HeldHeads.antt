@@ -1,25 +1,12 @@
 -- A best region's blocks have heads, whatever shows that its segments are tiled.
-use Rattle.vc_base.proofs.Common.{◌≡◌, ℕ, suc, ◌+◌, ◌≤◌, Bool, true, false, ◌&&◌, eqb, ltb, leb, List, [], ◌∷◌, get_or, ◌==◌, All, refl, ap, ◌∙◌, inl, inr, ⊎_elim, arith, ltb-false, ltb-true, eq-eqb, eqb-true, le-leb, leb-true, le_prop, ∥∥₁_elim, ℕ_set, and_from, and_parts, cases_Bool, or_cases, list_any_at, Run, Block, footprint, is_usable, IsUsable}
+use Rattle.vc_base.proofs.Common.{◌≡◌, ℕ, ◌+◌, ◌≤◌, Bool, true, false, ◌&&◌, eqb, ltb, leb, List, get_or, ◌==◌, All, ap, ◌∙◌, inl, inr, ⊎_elim, arith, ltb-false, ltb-true, eq-eqb, le-leb, le_prop, ∥∥₁_elim, ℕ_set, and_from, cases_Bool, list_any_at, Run, Block, footprint, is_usable, IsUsable}
+use Rattle.vc_best.proofs.Common.{AreExtents, Bytes, layout_by}
 use Rattle.std.proofs.Math.Bool.{Bool-set}
-use Rattle.vc_seg.specs.Segment.{Bytes}
-use Rattle.vc_extent.specs.Tiling.{AreExtents}
-use Rattle.vc_best.specs.Blocks.{layout_by}
+use Rattle.vc_layouts.proofs.Resizes.{usable-any}
 use Rattle.vc_best.proofs.HaveHeads.{HaveHeads}
 use Rattle.vc_best.proofs.Tilings.{heads-of}
 
--- a run that is usable lies in a segment
-usable-is : (f : Run) (ss : List (ℕ × ℕ)) → is_usable ss f ≡ true → IsUsable ss f
-usable-is f [] e = absurd (cc)
-usable-is f (s ∷ ss) e =
-    ⊎_elim
-    (λ (u : ((f.seg == s.0) && (leb 16 f.from && leb (f.to + 16) s.1)) ≡ true).
-    let both = and_parts (f.seg == s.0) (leb 16 f.from && leb (f.to + 16) s.1) u in
-    let ends = and_parts (leb 16 f.from) (leb (f.to + 16) s.1) both.1 in
-    (0, s, omega arith, refl, (eqb-true f.seg s.0 both.0, leb-true 16 f.from ends.0, leb-true (f.to + 16) s.1 ends.1)))
-    (λ (u : is_usable ss f ≡ true). let rest = usable-is f ss u in (suc rest.0, rest.1, omega (arith, rest.2), rest.3, rest.4))
-    (or_cases ((f.seg == s.0) && (leb 16 f.from && leb (f.to + 16) s.1)) (is_usable ss f) e)
-
--- and the other way round
+-- a run that lies in a segment passes the test
 is-usable : (f : Run) (ss : List (ℕ × ℕ)) → IsUsable ss f → is_usable ss f ≡ true
 is-usable f ss u =
     let test : ℕ × ℕ → Bool = λ s. (f.seg == s.0) && (leb 16 f.from && leb (f.to + 16) s.1) in
@@ -36,7 +23,7 @@ module _ (segs : List Bytes) (index : List ℕ) (k : ∥ AreExtents segs index �
             let f : Run = footprint (get_or (layout_by segs).blocks i d) in
             record {
               slot = ∥∥₁_elim k (hlevel (le_prop, ℕ_set)) (λ h. ((heads-of segs index h most).blocks i d lt).slot);
-              usable = usable-is f (layout_by segs).segments (∥∥₁_elim k (hlevel (Bool-set)) (λ h. is-usable f (layout_by segs).segments ((heads-of segs index h most).blocks i d lt).usable));
+              usable = usable-any f (layout_by segs).segments (∥∥₁_elim k (hlevel (Bool-set)) (λ h. is-usable f (layout_by segs).segments ((heads-of segs index h most).blocks i d lt).usable));
             };
         apart = λ i j d lt within.
             let a : Block ℕ = get_or (layout_by segs).blocks i d in

@@ -1,9 +1,6 @@
 -- What is known of the extents of a segment.
 use Rattle.vc_base.proofs.Common.{◌≡◌, ℕ, ◌+◌, ◌-◌, ◌≤◌, List, [], ◌∷◌, ◌++◌, length, get_or, sym, ap, ◌∙◌, subst, arith, place_of, IsSegmentSize}
-use Rattle.vc_seg.specs.Segment.{Bytes}
-use Rattle.vc_extent.specs.Extent.{Extent}
-use Rattle.vc_extent.specs.Change.{behind, change_at, extent_in}
-use Rattle.vc_extent.specs.Tiling.{AreExtents, IsNamed, IsThere, change_extent, extent_of, extents_of, tiling}
+use Rattle.vc_best.proofs.Common.{AreExtents, Bytes, Extent, IsNamed, IsThere, behind, change_at, change_extent, extent_in, extent_of, extents_of, tiling}
 use Rattle.vc_extent.proofs.Places.{found, named-there, there-first, there-last}
 use Rattle.vc_best.proofs.Cuts.{Cut, change_in-none, change_in-same, cut, cut-behind, cut-change, cut-extent, cut-steps, extents-changed, steps}
 use Rattle.vc_best.proofs.Layouts.{behind_of}
@@ -73,22 +70,23 @@ module _ (t new : List (ℕ × List Extent)) (a b : ℕ) (f : Extent → List Ex
 
 -- changes that do the same there
 module _ (t : List (ℕ × List Extent)) (a : ℕ) (c : IsCut t a) where
+  abbrev es : List Extent
+  es = extents_of (place_of a).0 t
+
   pub now-same : (f g : Extent → List Extent → List Extent) → f (extent_of t a) (behind_of t a) ≡ g (extent_of t a) (behind_of t a) → change_extent a f t ≡ change_extent a g t
   now-same f g q =
-      let es = extents_of (place_of a).0 t in
       change_in-same (place_of a).0 t (change_at (place_of a).1 f) (change_at (place_of a).1 g)
       (cut-change (c.size - 16) 16 (place_of a).1 es c.cut f ∙ (ap (λ zs. c.cut.before ++ zs) q ∙ sym (cut-change (c.size - 16) 16 (place_of a).1 es c.cut g)))
 
   pub now-none : (f : Extent → List Extent → List Extent) → f (extent_of t a) (behind_of t a) ≡ extent_of t a ∷ behind_of t a → change_extent a f t ≡ t
   now-none f q =
-      let es = extents_of (place_of a).0 t in
       change_in-none (place_of a).0 t (change_at (place_of a).1 f)
       (cut-change (c.size - 16) 16 (place_of a).1 es c.cut f ∙ (ap (λ zs. c.cut.before ++ zs) q ∙ sym c.cut.is))
 
   -- the offset of a named extent is that of its name
   pub off-of : (extent_of t a).off ≡ (place_of a).1
-  off-of = let o = c.cut.here.0.off in let low = c.cut.low in omega arith
+  off-of = omega (arith, c.cut.here.0.off, c.cut.low)
 
   -- it ends within the usable part of its segment
   pub end-of : (place_of a).1 + (extent_of t a).span ≤ c.size
-  end-of = let w = c.cut.here.0.within in let low = c.cut.low in let m = c.legal.least in omega arith
+  end-of = omega (arith, c.cut.here.0.within, c.cut.low, c.legal.least)

@@ -1,6 +1,6 @@
 -- The labelled blocks of a best region: a call on an unlabelled one leaves them, and so do zeros for the bytes of its cells.
 use Rattle.vc_base.proofs.Common.{◌≡◌, ℕ, true, false, cond, List, [], ◌∷◌, map, nat_lt, Some, filter, Option, option_map, sym, refl, ap, ◌∙◌, ⊎_elim, eqb-true, cases_Bool, same_Some, place_of, without_block_at, zeros, Block, Layout, is_at, without_block, find_block}
-use Rattle.vc_best.specs.Cells.{is_unlabelled, labelled_blocks, block_shown, zeroed_layout}
+use Rattle.vc_best.proofs.Common.{block_shown, is_unlabelled, labelled_blocks, zeroed_layout}
 use Rattle.vc_best.proofs.RestBlocks.{zeroed-labelled}
 
 -- those of some blocks

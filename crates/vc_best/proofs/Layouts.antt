@@ -1,15 +1,9 @@
 -- What the segments and the blocks become where one extent changes.
 use Rattle.vc_base.proofs.Common.{◌≡◌, ℕ, ◌+◌, ◌-◌, ◌%◌, ◌<◌, ◌≤◌, true, false, eqb, ◌≢◌, List, [], ◌∷◌, ◌++◌, map, length, get_or, All, filter, AllPairs, sym, refl, ap, ◌∙◌, subst, ⊎_elim, arith, ne_eqb, eqb-true, ∥∥₁_elim, and_right, cases_Bool, All-append, All-cons, All-filter, All-head, All-map, All-nil, All-tail, All-weaker, place_of, without_block_at, Block, is_at, place_of_block, with_block, without_block, change_block}
+use Rattle.vc_best.proofs.Common.{AreExtents, Bytes, Extent, IsNamed, IsTiled, all_busy, behind, block_of, busy_in, change_at, change_extent, change_in, extent_in, extent_of, extents, extents_of, in_order, is_busy, layout_by, pair_of, tiling}
 use Rattle.vc_model.proofs.Pairs.{AllPairs-head, AllPairs-tail}
-use Rattle.vc_seg.specs.Segment.{Bytes, pair_of}
-use Rattle.vc_extent.specs.Change.{behind, change_at, extent_in}
-use Rattle.vc_extent.specs.Extent.{Extent, extents}
-use Rattle.vc_extent.specs.Tiles.{IsTiled}
-use Rattle.vc_extent.specs.Tiling.{AreExtents, IsNamed, change_extent, change_in, extent_of, extents_of, tiling}
-use Rattle.vc_best.specs.Blocks.{all_busy, block_of, busy_in, is_busy, layout_by}
-use Rattle.vc_layouts.specs.InOrder.{in_order}
 use Rattle.vc_layouts.proofs.InOrder.{All-in_order, NoneAt, change-with, order-middle, own-place, without-with}
-use Rattle.vc_best.proofs.Lies.{Ends, IsWithin, Lies, lies-behind, lies-tiled, lies-within}
+use Rattle.vc_best.proofs.Lies.{Differ, Ends, IsWithin, Lies, Tiled, lies-behind, lies-tiled, lies-within}
 use Rattle.vc_best.proofs.Sets.{layout-set}
 use Rattle.vc_best.proofs.Parts.{above, below, busy-are, busy-changed, busy-none, busy-one, front, front-changed, front-is, lead, named-off, none-above, none-lead, none-others, rear}
 
@@ -36,7 +30,7 @@ lies-front stop at (x ∷ xs) ys m h =
     ends-right x (z ∷ zs) ys all = ends-right x zs ys (All-tail (Ends x) z (zs ++ ys) all)
 
 -- the segment of a number among tiled ones
-pub tiled-at : (n : ℕ) (segs : List Bytes) → All (λ s. IsTiled s.bytes) segs → (extents_of n (tiling segs) ≡ [] → ⊥) → (b : List ℕ) × IsTiled b × (extents_of n (tiling segs) ≡ extents b)
+pub tiled-at : (n : ℕ) (segs : List Bytes) → All Tiled segs → (extents_of n (tiling segs) ≡ [] → ⊥) → (b : List ℕ) × IsTiled b × (extents_of n (tiling segs) ≡ extents b)
 tiled-at n [] tiled some = absurd (some refl)
 tiled-at n (s ∷ ss) tiled some =
     let P : Bytes → Type 0 = λ x. IsTiled x.bytes in
@@ -52,16 +46,15 @@ named-some : (off : ℕ) (es : List Extent) → 0 < (extent_in off es).span → 
 named-some off es named none = let lt : 0 < 0 = subst (λ (xs : List Extent). 0 < (extent_in off xs).span) none named in omega (arith, lt)
 
 -- segments behind the first of a number have others
-pub below-others : (n : ℕ) (segs : List Bytes) → AllPairs (λ (a b : Bytes). a.number ≢ b.number) segs → All (λ s. eqb s.0 n ≡ false) (below n (tiling segs))
+pub below-others : (n : ℕ) (segs : List Bytes) → AllPairs Differ segs → All (λ s. eqb s.0 n ≡ false) (below n (tiling segs))
 below-others n [] h = All-nil (λ (s : ℕ × List Extent). eqb s.0 n ≡ false)
 below-others n (s ∷ ss) h =
-    let R : Bytes → Bytes → Type 0 = λ a b. a.number ≢ b.number in
     ⊎_elim
     (λ (t : eqb s.number n ≡ true).
     rw t
     (All-map (λ (x : ℕ × List Extent). eqb x.0 n ≡ false) (λ (x : Bytes). (x.number, extents x.bytes)) ss
-    (All-weaker (R s) (λ (x : Bytes). eqb x.number n ≡ false) (λ x other. ne_eqb x.number n (λ e. other (eqb-true s.number n t ∙ sym e))) ss (AllPairs-head R s ss h))))
-    (λ (t : eqb s.number n ≡ false). rw t (below-others n ss (AllPairs-tail R s ss h)))
+    (All-weaker (Differ s) (λ (x : Bytes). eqb x.number n ≡ false) (λ x other. ne_eqb x.number n (λ e. other (eqb-true s.number n t ∙ sym e))) ss (AllPairs-head Differ s ss h))))
+    (λ (t : eqb s.number n ≡ false). rw t (below-others n ss (AllPairs-tail Differ s ss h)))
     (cases_Bool (eqb s.number n))
 
 -- blocks of one segment that begin elsewhere
@@ -74,21 +67,27 @@ none-elsewhere n off es h =
 
 -- of numbered and tiled segments
 module _ (segs : List Bytes) (index : List ℕ) (k : AreExtents segs index) (a : ℕ) (named : IsNamed (tiling segs) a) where
+  abbrev n : ℕ
+  n = (place_of a).0
+
+  abbrev off : ℕ
+  off = (place_of a).1
+
+  abbrev e : Extent
+  e = extent_of (tiling segs) a
+
+  abbrev ys : List Extent
+  ys = behind_of (tiling segs) a
+
   -- how the extents of its segment lie
   pub own-lies : (b : List ℕ) × Lies (length b - 16) 16 (front (place_of a).1 (extents_of (place_of a).0 (tiling segs)) ++ extent_of (tiling segs) a ∷ behind_of (tiling segs) a)
   own-lies =
-      let n : ℕ = (place_of a).0 in
-      let off : ℕ = (place_of a).1 in
       let r = tiled-at n segs k.tiled (named-some off (extents_of n (tiling segs)) named) in
       (r.0, subst (λ (es : List Extent). Lies (length r.0 - 16) 16 es) (sym r.2 ∙ front-is off (extents_of n (tiling segs)) named) (lies-tiled r.0 r.1))
 
   -- no other block stands where the extent is
   pub none-rest : NoneAt (place_of a) (busy_in ((place_of a).0, behind_of (tiling segs) a) ++ rear (tiling segs) a)
   none-rest =
-      let n : ℕ = (place_of a).0 in
-      let off : ℕ = (place_of a).1 in
-      let e : Extent = extent_of (tiling segs) a in
-      let ys : List Extent = behind_of (tiling segs) a in
       let own = own-lies in
       let at : e.off ≡ off = named-off off (extents_of n (tiling segs)) named in
       let ends : All (Ends e) ys = lies-split (length own.0 - 16) 16 (front off (extents_of n (tiling segs))) e ys refl own.1 in
@@ -115,9 +114,6 @@ module _ (segs : List Bytes) (index : List ℕ) (k : AreExtents segs index) (a :
   -- the blocks are the others with its own, where it has one
   pub blocks-busy : 0 < (extent_of (tiling segs) a).size → in_order (all_busy (tiling segs)) ≡ with_block (block_of (place_of a).0 (extent_of (tiling segs) a)) other_blocks
   blocks-busy busy =
-      let n : ℕ = (place_of a).0 in
-      let e : Extent = extent_of (tiling segs) a in
-      let ys : List Extent = behind_of (tiling segs) a in
       ap in_order (busy-are (tiling segs) a named ∙ ap (λ bs. lead (tiling segs) a ++ (bs ++ rear (tiling segs) a)) (busy-one n e ys busy))
       ∙ order-middle (lead (tiling segs) a) (block_of n e) (busy_in (n, ys) ++ rear (tiling segs) a)
       (subst (λ (o : ℕ). NoneAt (n, o) (lead (tiling segs) a)) (sym own-off) (none-lead (tiling segs) a))
@@ -189,10 +185,9 @@ module _ (old new : List Bytes) (io jn : List ℕ) (ko : ∥ AreExtents old io �
   layout-freed busy e =
       ∥∥₁_elim ko (hlevel (layout-set)) (λ (k : AreExtents old io).
       let own : Block ℕ = block_of (place_of a).0 (extent_of (tiling old) a) in
-      let others : List (Block ℕ) = other_blocks old io k a named in
       same_layout (without_block (place_of a) (in_order (all_busy (tiling old))))
       (changed-blocks (busy_in ((place_of a).0, behind_of (tiling old) a)) e
-      ∙ (sym (without-with (place_of a) own (own-at old io k a named) others (none-other old io k a named))
+      ∙ (sym (without-with (place_of a) own (own-at old io k a named) (other_blocks old io k a named) (none-other old io k a named))
       ∙ ap (without_block (place_of a)) (sym (blocks-busy old io k a named busy)))))
 
   pub layout-put : (b : Block ℕ) → (extent_of (tiling old) a).size ≡ 0 → busy_in ((place_of a).0, f (extent_of (tiling old) a) (behind_of (tiling old) a)) ≡ b ∷ busy_in ((place_of a).0, behind_of (tiling old) a) →
@@ -221,14 +216,12 @@ module _ (old new : List Bytes) (io jn : List ℕ) (ko : ∥ AreExtents old io �
   unfolding layout_by
   layout-changed g seg off busy e =
       ∥∥₁_elim ko (hlevel (layout-set)) (λ (k : AreExtents old io).
-      let n : ℕ = (place_of a).0 in
-      let own : Block ℕ = block_of n (extent_of (tiling old) a) in
-      let ys : List Extent = behind_of (tiling old) a in
-      let others : List (Block ℕ) = other_blocks old io k a named in
+      let own : Block ℕ = block_of (place_of a).0 (extent_of (tiling old) a) in
+      let bs : List (Block ℕ) = busy_in ((place_of a).0, behind_of (tiling old) a) in
       let none : NoneAt (place_of_block (g own)) (lead (tiling old) a) =
       subst (λ (q : ℕ × ℕ). NoneAt q (lead (tiling old) a)) (λ i. (sym (seg own) i, sym (off own ∙ own-off old io k a named) i)) (none-lead (tiling old) a) in
       same_layout (change_block g (place_of a) (in_order (all_busy (tiling old))))
-      (changed-blocks (g own ∷ busy_in (n, ys)) e
-      ∙ (order-middle (lead (tiling old) a) (g own) (busy_in (n, ys) ++ rear (tiling old) a) none
-      ∙ (sym (change-with (place_of a) own (own-at old io k a named) g (seg own) (off own) others (none-other old io k a named))
+      (changed-blocks (g own ∷ bs) e
+      ∙ (order-middle (lead (tiling old) a) (g own) (bs ++ rear (tiling old) a) none
+      ∙ (sym (change-with (place_of a) own (own-at old io k a named) g (seg own) (off own) (other_blocks old io k a named) (none-other old io k a named))
       ∙ ap (change_block g (place_of a)) (sym (blocks-busy old io k a named busy))))))

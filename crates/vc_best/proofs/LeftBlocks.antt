@@ -1,10 +1,6 @@
 -- What is left of the blocks where one is freed.
 use Rattle.vc_base.proofs.Common.{◌≡◌, ℕ, List, map, refl, place_of, without_block_at}
-use Rattle.vc_seg.specs.Segment.{Bytes, pair_of}
-use Rattle.vc_extent.specs.Change.{mark_free}
-use Rattle.vc_extent.specs.Tiling.{AreExtents, IsBusy, IsFree, change_extent, extent_of, tiling}
-use Rattle.vc_best.specs.Blocks.{layout_by}
-use Rattle.vc_best.specs.Changes.{absorb}
+use Rattle.vc_best.proofs.Common.{AreExtents, Bytes, IsBusy, IsFree, absorb, change_extent, extent_of, layout_by, mark_free, pair_of, tiling}
 use Rattle.vc_best.proofs.Layouts.{behind_of, layout-freed, layout-same}
 use Rattle.vc_best.proofs.FreeBlocks.{absorb-busy}
 

@@ -1,19 +1,11 @@
 -- A segment that was lent, for a block that no gap holds.
 use Rattle.vc_base.proofs.Common.{◌≡◌, ℕ, ◌+◌, ◌-◌, ◌≤◌, true, false, eqb, ◌≢◌, List, [], ◌∷◌, ◌++◌, map, Some, None, All, filter, sym, refl, ap, ◌∙◌, subst, arith, eq-eqb, ne_eqb, le-leb, All-head, All-map, All-push, All-tail, filter-append, address, place_of, place_in, IsSegmentSize, Terms, Run, Layout, with_grant, holds, least, lowest_offset, new_segment, span}
+use Rattle.vc_best.proofs.Common.{AreAllowed, AreExtents, AreWhole, Bytes, Extent, HasGaps, IsLeastHolding, IsLeastOut, IsLentFree, IsMerged, extent_in, extent_of, extents, extents_of, free_extent, is_merged, layout_by, no_links, pair_of, run_at, run_of_extent, tiling}
 use Rattle.std.proofs.lemmas.Grind.{flat_map-append}
 use Rattle.vc_base.proofs.Options.{option_map-None}
-use Rattle.vc_seg.specs.Segment.{Bytes, pair_of}
-use Rattle.vc_extent.specs.Extent.{Extent, extents, free_extent, no_links}
-use Rattle.vc_extent.specs.Change.{extent_in}
-use Rattle.vc_extent.specs.Tiling.{AreExtents, extent_of, extents_of, tiling}
 use Rattle.vc_extent.proofs.Pushes.{apart-there}
 use Rattle.vc_gaps.specs.Fits as gaps
-use Rattle.vc_gaps.specs.Fits.{run_at, run_of_extent}
-use Rattle.vc_gaps.specs.GapTree.{HasGaps}
 use Rattle.vc_gaps.proofs.Added.{gaps-added}
-use Rattle.vc_best.specs.Blocks.{layout_by}
-use Rattle.vc_best.specs.Free.{IsMerged, is_merged}
-use Rattle.vc_best.specs.Standing.{AreAllowed, AreWhole, IsLeastHolding, IsLeastOut, IsLentFree}
 use Rattle.vc_best.proofs.Gaps.{least-None}
 use Rattle.vc_best.proofs.Plain.{runs-by}
 use Rattle.vc_best.proofs.Puts.{place-runs, place_at}

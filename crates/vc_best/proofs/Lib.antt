@@ -1,3 +1,4 @@
+pub mod Common
 pub mod HaveHeads
 pub mod LeftGaps
 pub mod Rounding

@@ -1,8 +1,7 @@
 -- Extents that lie one behind the other.
-use Rattle.vc_base.proofs.Common.{◌≡◌, ℕ, ◌+◌, ◌-◌, ◌%◌, ◌≤◌, List, [], ◌∷◌, length, take, drop, All, ap, ◌∙◌, arith, All-cons, All-nil, All-weaker}
+use Rattle.vc_base.proofs.Common.{◌≡◌, ℕ, ◌+◌, ◌-◌, ◌%◌, ◌≤◌, ◌≢◌, List, [], ◌∷◌, length, take, drop, All, ap, ◌∙◌, arith, All-cons, All-nil, All-weaker}
+use Rattle.vc_best.proofs.Common.{Bytes, Extent, IsLegal, IsTiled, Tiles, extents}
 use Rattle.vc_base.proofs.Lists.{length-part}
-use Rattle.vc_extent.specs.Extent.{Extent, extents}
-use Rattle.vc_extent.specs.Tiles.{IsLegal, IsTiled, Tiles}
 use Rattle.vc_extent.proofs.Tiled.{body-at, inside, off-at, tiles-lt}
 
 -- an extent lies from a place on, up to another at most
@@ -31,6 +30,13 @@ lies-tiles b stop p at (e ∷ es) le h =
       },
       lies-tiles b stop e.span (at + e.span) es le h.1,
     )
+
+-- a segment is tiled, and two segments have numbers of their own
+abbrev pub Tiled : Bytes → Type 0
+Tiled s = IsTiled s.bytes
+
+abbrev pub Differ : Bytes → Bytes → Type 0
+Differ s t = s.number ≢ t.number
 
 pub lies-tiled : (bytes : List ℕ) → IsTiled bytes → Lies (length bytes - 16) 16 (extents bytes)
 lies-tiled bytes h = lies-tiles bytes (length bytes - 16) 0 16 (extents bytes) (omega arith) h.tiles

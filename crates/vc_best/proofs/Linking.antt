@@ -1,15 +1,7 @@
 -- The free extents beside one that are taken out of the tree of gaps and put into it.
 use Rattle.vc_base.proofs.Common.{◌≡◌, ℕ, ◌<◌, true, false, ◌||◌, List, [], ◌∷◌, ◌++◌, Some, None, Option, option_map, sym, refl, ap, ◌∙◌, ⊎_elim, arith, lt-ltb, ne_eqb, or-false, le_prop, ∥∥₁_elim, ℕ_set, cases_Bool, contains, address, place_of}
-use Rattle.vc_seg.specs.Segment.{Bytes}
-use Rattle.vc_extent.specs.Change.{mark_free}
-use Rattle.vc_extent.specs.Extent.{Extent}
-use Rattle.vc_extent.specs.Tiling.{AreExtents, IsNamed, change_extent, extent_of, next_of, previous_of, tiling}
-use Rattle.vc_gaps.specs.ButLinks.{Tiling}
-use Rattle.vc_gaps.specs.GapTree.{HasGaps, IsInGaps}
+use Rattle.vc_best.proofs.Common.{AreExtents, Bytes, Extent, HasGaps, IsInGaps, IsNamed, Tiling, absorb, change_extent, extent_of, free_before, free_name, free_next, is_busy, mark_free, next_of, previous_of, tiling}
 use Rattle.vc_gaps.proofs.GapTrees.{free-bool, gaps-same, in_gaps-of}
-use Rattle.vc_best.specs.Beside.{free_before, free_name, free_next}
-use Rattle.vc_best.specs.Blocks.{is_busy}
-use Rattle.vc_best.specs.Changes.{absorb}
 use Rattle.vc_best.proofs.Known.{cut-of}
 use Rattle.vc_best.proofs.Nexts.{next-extent, next-off, some-address}
 use Rattle.vc_best.proofs.Outs.{contains-append}
@@ -26,6 +18,9 @@ pub name-busy : (n : ℕ) (o : Option Extent) (y : Extent) → o ≡ Some y → 
 name-busy n o y e some = ap (free_name n) e ∙ (let yes : is_busy y ≡ true = lt-ltb 0 y.size some in rw yes refl)
 
 module _ (segs : List Bytes) (index : List ℕ) (k : ∥ AreExtents segs index ∥₁) (a : ℕ) (named : IsNamed (tiling segs) a) where
+  abbrev t1 : Tiling
+  t1 = change_extent a mark_free (tiling segs)
+
   -- the size of the one behind and of the one before, by their addresses
   pub next-size : (b : ℕ) (y : Extent) → next_of (tiling segs) a ≡ Some y → b ≡ address ((place_of a).0, y.off) → (extent_of (tiling segs) b).size ≡ y.size
   next-size b y next value = ∥∥₁_elim k (hlevel (ℕ_set)) (λ h. ap (λ (x : Extent). x.size) (next-extent (tiling segs) a b y (cut-of segs index a h named) next value))
@@ -34,31 +29,34 @@ module _ (segs : List Bytes) (index : List ℕ) (k : ∥ AreExtents segs index �
   before-size b p other prev value =
       ∥∥₁_elim k (hlevel (ℕ_set))
       (λ h.
-      let t1 = change_extent a mark_free (tiling segs) in
       ap (λ (x : Extent). x.size) (extent (tiling segs) t1 (change_extent a absorb t1) a (cut-of segs index a h named) refl refl b p (cut-of segs index b h other) prev named value))
 
   -- the names of both, where they are there
-  pub next-one : (b : ℕ) → Some b ≡ option_map (λ (e : Extent). address ((place_of a).0, e.off)) (next_of (tiling segs) a) → (extent_of (tiling segs) b).size ≡ 0 → free_next (tiling segs) a ≡ b ∷ []
-  next-one b value free =
-      let f = some-address (place_of a).0 b (next_of (tiling segs) a) value in
-      name-free (place_of a).0 b (next_of (tiling segs) a) f.0 f.1 f.2 (sym (next-size b f.0 f.1 f.2) ∙ free)
+  module _ (b : ℕ) (value : Some b ≡ option_map (λ (e : Extent). address ((place_of a).0, e.off)) (next_of (tiling segs) a)) where
+    next-is : (y : Extent) × (next_of (tiling segs) a ≡ Some y) × (b ≡ address ((place_of a).0, y.off))
+    next-is = some-address (place_of a).0 b (next_of (tiling segs) a) value
 
-  pub next-not : (b : ℕ) → Some b ≡ option_map (λ (e : Extent). address ((place_of a).0, e.off)) (next_of (tiling segs) a) → 0 < (extent_of (tiling segs) b).size → free_next (tiling segs) a ≡ []
-  next-not b value busy =
-      let f = some-address (place_of a).0 b (next_of (tiling segs) a) value in
-      let size = next-size b f.0 f.1 f.2 in
-      name-busy (place_of a).0 (next_of (tiling segs) a) f.0 f.1 (omega (arith, size, busy))
+    next-own : (extent_of (tiling segs) b).size ≡ next-is.0.size
+    next-own = next-size b next-is.0 next-is.1 next-is.2
 
-  pub before-one : (b : ℕ) → IsNamed (tiling segs) b → Some b ≡ option_map (λ (e : Extent). address ((place_of a).0, e.off)) (previous_of (tiling segs) a) → (extent_of (tiling segs) b).size ≡ 0 → free_before (tiling segs) a ≡ b ∷ []
-  before-one b other value free =
-      let f = some-address (place_of a).0 b (previous_of (tiling segs) a) value in
-      name-free (place_of a).0 b (previous_of (tiling segs) a) f.0 f.1 f.2 (sym (before-size b f.0 other f.1 f.2) ∙ free)
+    pub next-one : (extent_of (tiling segs) b).size ≡ 0 → free_next (tiling segs) a ≡ b ∷ []
+    next-one free = name-free (place_of a).0 b (next_of (tiling segs) a) next-is.0 next-is.1 next-is.2 (sym next-own ∙ free)
 
-  pub before-not : (b : ℕ) → IsNamed (tiling segs) b → Some b ≡ option_map (λ (e : Extent). address ((place_of a).0, e.off)) (previous_of (tiling segs) a) → 0 < (extent_of (tiling segs) b).size → free_before (tiling segs) a ≡ []
-  before-not b other value busy =
-      let f = some-address (place_of a).0 b (previous_of (tiling segs) a) value in
-      let size = before-size b f.0 other f.1 f.2 in
-      name-busy (place_of a).0 (previous_of (tiling segs) a) f.0 f.1 (omega (arith, size, busy))
+    pub next-not : 0 < (extent_of (tiling segs) b).size → free_next (tiling segs) a ≡ []
+    next-not busy = name-busy (place_of a).0 (next_of (tiling segs) a) next-is.0 next-is.1 (omega (arith, next-own, busy))
+
+  module _ (b : ℕ) (other : IsNamed (tiling segs) b) (value : Some b ≡ option_map (λ (e : Extent). address ((place_of a).0, e.off)) (previous_of (tiling segs) a)) where
+    before-is : (y : Extent) × (previous_of (tiling segs) a ≡ Some y) × (b ≡ address ((place_of a).0, y.off))
+    before-is = some-address (place_of a).0 b (previous_of (tiling segs) a) value
+
+    before-own : (extent_of (tiling segs) b).size ≡ before-is.0.size
+    before-own = before-size b before-is.0 other before-is.1 before-is.2
+
+    pub before-one : (extent_of (tiling segs) b).size ≡ 0 → free_before (tiling segs) a ≡ b ∷ []
+    before-one free = name-free (place_of a).0 b (previous_of (tiling segs) a) before-is.0 before-is.1 before-is.2 (sym before-own ∙ free)
+
+    pub before-not : 0 < (extent_of (tiling segs) b).size → free_before (tiling segs) a ≡ []
+    before-not busy = name-busy (place_of a).0 (previous_of (tiling segs) a) before-is.0 before-is.1 (omega (arith, before-own, busy))
 
   -- they are two
   pub before-apart : (b : ℕ) (p : Extent) → IsNamed (tiling segs) b → previous_of (tiling segs) a ≡ Some p → b ≡ address ((place_of a).0, p.off) → contains (free_next (tiling segs) a) b ≡ false
@@ -68,7 +66,6 @@ module _ (segs : List Bytes) (index : List ℕ) (k : ∥ AreExtents segs index �
       below =
           ∥∥₁_elim k le_prop
           (λ h.
-          let t1 = change_extent a mark_free (tiling segs) in
           lower-before (tiling segs) t1 (change_extent a absorb t1) a (cut-of segs index a h named) refl refl b p (cut-of segs index b h other) prev named value)
 
       apart : (o : Option Extent) → next_of (tiling segs) a ≡ o → contains (free_name (place_of a).0 o) b ≡ false

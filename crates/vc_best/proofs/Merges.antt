@@ -1,14 +1,9 @@
 -- No two free extents stand beside each other, before and after a change.
 use Rattle.vc_base.proofs.Common.{◌≡◌, ℕ, ◌-◌, Bool, true, false, not, ◌&&◌, eqb, List, [], ◌∷◌, ◌++◌, All, sym, refl, ap, ◌∙◌, ⊎_elim, and_from, and_parts, cases_Bool, All-cons, All-head, All-tail, place_of}
-use Rattle.vc_extent.specs.Extent.{Extent}
-use Rattle.vc_extent.specs.Tiling.{change_in, extents_of}
-use Rattle.vc_extent.specs.Change.{change_at}
-use Rattle.vc_extent.specs.Tiling.{change_extent, extent_of}
+use Rattle.vc_best.proofs.Common.{Extent, IsMerged, change_at, change_extent, change_in, extent_of, extents_of, is_busy, is_free, is_merged}
 use Rattle.vc_best.proofs.Cuts.{cut-change}
 use Rattle.vc_best.proofs.Known.{IsCut}
 use Rattle.vc_best.proofs.Layouts.{behind_of}
-use Rattle.vc_best.specs.Blocks.{is_busy}
-use Rattle.vc_best.specs.Free.{IsMerged, is_free, is_merged}
 
 -- what stands before a place where nothing new meets
 pub merged-front : (xs zs ws : List Extent) → ((b : Bool) → is_merged b zs ≡ true → is_merged b ws ≡ true) → (b : Bool) → is_merged b (xs ++ zs) ≡ true → is_merged b (xs ++ ws) ≡ true
@@ -29,28 +24,29 @@ merged-any true es m = merged-weaker false es m
 merged-any false es m = m
 
 -- of all segments
+abbrev Merged : ℕ × List Extent → Type 0
+Merged s = is_merged false s.1 ≡ true
+
 pub merged-in : (n : ℕ) (t : List (ℕ × List Extent)) → IsMerged t → is_merged false (extents_of n t) ≡ true
 merged-in n [] h = refl
 merged-in n (s ∷ ss) h =
-    let P : ℕ × List Extent → Type 0 = λ q. is_merged false q.1 ≡ true in
     ⊎_elim
-    (λ (e : eqb s.0 n ≡ true). rw e (All-head P s ss h))
-    (λ (e : eqb s.0 n ≡ false). rw e (merged-in n ss (All-tail P s ss h)))
+    (λ (e : eqb s.0 n ≡ true). rw e (All-head Merged s ss h))
+    (λ (e : eqb s.0 n ≡ false). rw e (merged-in n ss (All-tail Merged s ss h)))
     (cases_Bool (eqb s.0 n))
 
 pub merged-change : (n : ℕ) (f : List Extent → List Extent) (t : List (ℕ × List Extent)) → (is_merged false (extents_of n t) ≡ true → is_merged false (f (extents_of n t)) ≡ true) → IsMerged t → IsMerged (change_in n f t)
 merged-change n f [] one h = h
 merged-change n f (s ∷ ss) one h =
-    let P : ℕ × List Extent → Type 0 = λ q. is_merged false q.1 ≡ true in
-    let here : is_merged false s.1 ≡ true = All-head P s ss h in
-    let rest : All P ss = All-tail P s ss h in
+    let here : is_merged false s.1 ≡ true = All-head Merged s ss h in
+    let rest : All Merged ss = All-tail Merged s ss h in
     ⊎_elim
     (λ (e : eqb s.0 n ≡ true).
     let own : is_merged false s.1 ≡ true → is_merged false (f s.1) ≡ true = rw e at one in
-    rw e (All-cons P (s.0, f s.1) ss (own here) rest))
+    rw e (All-cons Merged (s.0, f s.1) ss (own here) rest))
     (λ (e : eqb s.0 n ≡ false).
     let later : is_merged false (extents_of n ss) ≡ true → is_merged false (f (extents_of n ss)) ≡ true = rw e at one in
-    rw e (All-cons P s (change_in n f ss) here (merged-change n f ss later rest)))
+    rw e (All-cons Merged s (change_in n f ss) here (merged-change n f ss later rest)))
     (cases_Bool (eqb s.0 n))
 
 -- where a change of an extent and those behind it lets no two meet
@@ -69,7 +65,6 @@ merged-at t a f c h m =
 -- where one extent alone changes and is as free as before
 pub merged-one : (t : List (ℕ × List Extent)) (a : ℕ) (f : Extent → List Extent → List Extent) (x : Extent) → IsCut t a → f (extent_of t a) (behind_of t a) ≡ x ∷ behind_of t a → is_busy x ≡ is_busy (extent_of t a) → IsMerged t → IsMerged (change_extent a f t)
 merged-one t a f x c e same m =
-    let ys = behind_of t a in
     merged-at t a f c
-    (λ b own. ap (is_merged b) e ∙ (ap (λ v. not (b && not v) && is_merged (not v) ys) same ∙ own))
+    (λ b own. ap (is_merged b) e ∙ (ap (λ v. not (b && not v) && is_merged (not v) (behind_of t a)) same ∙ own))
     m

@@ -1,11 +1,6 @@
 -- A block whose bytes go to another, and that is freed then.
 use Rattle.vc_base.proofs.Common.{◌≡◌, ℕ, ◌≤◌, true, false, ◌⊎◌, List, [], ◌∷◌, map, length, take, IfSome, Contains, Option, sym, refl, ap, ◌∙◌, subst, ⊎_elim, arith, take_all, ∥∥₁_elim, ℕ_set, cases_Bool, place_of, without_block_at, with_bytes, Block, Layout, address_of, is_at, HasBlock, change_block, find_block, rewritten_block, with_bytes_at}
-use Rattle.vc_seg.specs.Segment.{Bytes, pair_of}
-use Rattle.vc_extent.specs.Extent.{busy_extent}
-use Rattle.vc_extent.specs.Change.{write}
-use Rattle.vc_extent.specs.Tiling.{AreExtents, IsBusy, change_extent, extent_of, tiling}
-use Rattle.vc_best.specs.Blocks.{layout_by}
-use Rattle.vc_best.specs.Free.{IsMerged}
+use Rattle.vc_best.proofs.Common.{AreExtents, Bytes, IsBusy, IsMerged, busy_extent, change_extent, extent_of, layout_by, pair_of, tiling, write}
 use Rattle.vc_best.proofs.Found.{busy-of, found-of, has-of}
 use Rattle.vc_best.proofs.Held.{layout-written}
 use Rattle.vc_best.proofs.Known.{cut-of}

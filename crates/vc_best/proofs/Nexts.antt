@@ -1,9 +1,7 @@
 -- The extent behind one, and the address that names it.
 use Rattle.vc_base.proofs.Common.{◌≡◌, ℕ, zero, suc, ◌+◌, ◌-◌, ◌<◌, Bool, true, false, ◌≢◌, List, [], ◌∷◌, ◌++◌, IsTrue, Some, None, All, Option, option_map, sym, refl, ap, ◌∙◌, subst, arith, ne_eqb, address, place_of}
+use Rattle.vc_best.proofs.Common.{Extent, behind, extent_in, extent_of, extents_of, first_of, next_of}
 use Rattle.vc_layouts.proofs.Blocks.{place_of-address}
-use Rattle.vc_extent.specs.Extent.{Extent}
-use Rattle.vc_extent.specs.Change.{behind, extent_in, first_of}
-use Rattle.vc_extent.specs.Tiling.{extent_of, extents_of, next_of}
 use Rattle.vc_best.proofs.Cuts.{behind-here, behind-skip, extent_in-here, extent_in-skip, lower-other}
 use Rattle.vc_best.proofs.Known.{IsCut, off-of}
 use Rattle.vc_best.proofs.Layouts.{behind_of}
@@ -34,53 +32,42 @@ module _ (t : List (ℕ × List Extent)) (a b : ℕ) (y : Extent) (c : IsCut t a
   lies = subst (λ (ys : List Extent). Lies (c.size - 16) ((place_of a).1 - 16) (extent_of t a ∷ ys)) tail.1 c.cut.here
 
   pub next-off : y.off ≡ (place_of a).1 + (extent_of t a).span
-  next-off = let o = lies.1.0.off in let low = c.cut.low in omega arith
+  next-off = omega (arith, lies.1.0.off, c.cut.low)
 
   pub next-place : place_of b ≡ ((place_of a).0, y.off)
   next-place =
       let o = next-off in
-      let m = c.cut.here.0.legal.multiple in
-      let w = lies.1.0.within in
-      let l = lies.1.0.legal.least in
-      let p = lies.1.0.off in
-      let most = c.legal.most in
-      ap place_of value ∙ place_of-address (place_of a).0 y.off (omega arith) (omega arith)
+      let low = lies.1.0.off in
+      ap place_of value ∙ place_of-address (place_of a).0 y.off (omega (arith, lies.1.0.within, lies.1.0.legal.least, c.legal.most)) (omega (arith, c.cut.here.0.legal.multiple))
 
   pub next-seg : (place_of b).0 ≡ (place_of a).0
   next-seg = ap (λ (q : ℕ × ℕ). q.0) next-place
 
   pub next-above : (place_of a).1 < (place_of b).1
   next-above =
-      let o = next-off in
-      let least = c.cut.here.0.legal.least in
       let q : (place_of b).1 ≡ y.off = ap (λ (q : ℕ × ℕ). q.1) next-place in
-      omega arith
+      omega (arith, next-off, c.cut.here.0.legal.least)
 
   others : All (λ e. e.off ≢ y.off) c.cut.before
-  others = let o = next-off in lower-other (place_of a).1 y.off c.cut.before (omega arith) c.cut.lower
+  others = lower-other (place_of a).1 y.off c.cut.before (omega (arith, next-off)) c.cut.lower
+
+  first-other : (extent_of t a).off ≢ y.off
+  first-other = λ q. omega (arith, next-off, off-of t a c, c.cut.here.0.legal.least)
 
   pub next-extent : extent_of t b ≡ y
   next-extent =
-      let es = extents_of (place_of a).0 t in
-      let o = next-off in
-      let own = off-of t a c in
-      let least = c.cut.here.0.legal.least in
       ap (λ (q : ℕ × ℕ). extent_in q.1 (extents_of q.0 t)) next-place
       ∙ (ap (extent_in y.off) (c.cut.is ∙ ap (λ (zs : List Extent). c.cut.before ++ (extent_of t a ∷ zs)) tail.1)
       ∙ (extent_in-skip y.off c.cut.before (extent_of t a ∷ y ∷ tail.0) others
-      ∙ rw (ne_eqb (extent_of t a).off y.off (λ q. omega arith)) (extent_in-here y.off y tail.0 refl)))
+      ∙ rw (ne_eqb (extent_of t a).off y.off first-other) (extent_in-here y.off y tail.0 refl)))
 
   pub next-behind : behind_of t a ≡ y ∷ behind_of t b
   next-behind =
-      let es = extents_of (place_of a).0 t in
-      let o = next-off in
-      let own = off-of t a c in
-      let least = c.cut.here.0.legal.least in
       let later : behind_of t b ≡ tail.0 =
       ap (λ (q : ℕ × ℕ). behind q.1 (extents_of q.0 t)) next-place
       ∙ (ap (behind y.off) (c.cut.is ∙ ap (λ (zs : List Extent). c.cut.before ++ (extent_of t a ∷ zs)) tail.1)
       ∙ (behind-skip y.off c.cut.before (extent_of t a ∷ y ∷ tail.0) others
-      ∙ rw (ne_eqb (extent_of t a).off y.off (λ q. omega arith)) (behind-here y.off y tail.0 refl))) in
+      ∙ rw (ne_eqb (extent_of t a).off y.off first-other) (behind-here y.off y tail.0 refl))) in
       tail.1 ∙ ap (λ (zs : List Extent). y ∷ zs) (sym later)
 
 -- a test that shows no size

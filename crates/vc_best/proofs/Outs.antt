@@ -1,21 +1,14 @@
 -- The tree of gaps where a free extent is cut, call by call, and which gaps are out of it then.
 use Rattle.vc_base.proofs.Common.{◌≡◌, ℕ, ◌+◌, ◌-◌, ◌/◌, ◌%◌, ◌<◌, ◌≤◌, Bool, true, false, ◌||◌, eqb, List, [], ◌∷◌, ◌++◌, sym, refl, ap, ◌∙◌, subst, ⊎_elim, arith, ∥∥₁_elim, cases_Bool, contains, address, place_of, with_bytes}
+use Rattle.vc_best.proofs.Common.{AreExtents, Bytes, Extent, GapsChange, HasGaps, IsBusy, IsNamed, Tiling, behind, busy_extent, change_extent, extent_of, extents_of, first_of, free_name, free_next, mark_busy, split, tiling, write}
 use Rattle.vc_base.proofs.Booleans.{or-swap}
 use Rattle.vc_base.proofs.Sets.{bytes-set}
-use Rattle.vc_seg.specs.Segment.{Bytes}
 use Rattle.vc_layouts.proofs.Blocks.{place_of-address}
-use Rattle.vc_extent.specs.Change.{behind, first_of, mark_busy, split, write}
-use Rattle.vc_extent.specs.Extent.{Extent, busy_extent}
-use Rattle.vc_extent.specs.Tiling.{AreExtents, IsBusy, IsNamed, change_extent, extent_of, extents_of, tiling}
-use Rattle.vc_gaps.specs.ButLinks.{Tiling}
 use Rattle.vc_gaps.specs.GapStore.{is_free}
-use Rattle.vc_gaps.specs.GapTree.{HasGaps}
 use Rattle.vc_gaps.proofs.GapTrees.{gaps-same}
 use Rattle.vc_gaps.proofs.Joined.{inside-none}
 use Rattle.vc_gaps.proofs.Marked.{gaps-busy, gaps-split, gaps-stay}
 use Rattle.vc_gaps.proofs.Named.{behind_of, extent_in-off, extent_of-here}
-use Rattle.vc_best.specs.Beside.{free_name, free_next}
-use Rattle.vc_best.specs.GapsChange.{GapsChange}
 use Rattle.vc_best.proofs.Cuts.{behind-here}
 use Rattle.vc_best.proofs.Known.{cut-of, then-behind}
 use Rattle.vc_best.proofs.Walks.{named-end}
@@ -83,17 +76,16 @@ module _ (segs : List Bytes) (index : List ℕ) (k : ∥ AreExtents segs index �
         gaps-split (tiling segs) new root a out bytes b e value (inside-not b ((place_of a).1 + bytes) value (omega arith) (omega arith) (omega arith)) h
 
 -- the bytes of a busy extent change
+abbrev rewritten : Extent → ℕ → List ℕ → Extent
+rewritten x off src = busy_extent x.off x.span x.size x.tag (with_bytes off src x.body)
+
 pub gaps-written : (t new : Tiling) (a off : ℕ) (src : List ℕ) → new ≡ change_extent a (write off src) t → IsBusy t a → GapsChange t new [] []
 gaps-written t new a off src e busy root out h =
-    let x : Extent = extent_of t a in
-    let y : Extent = busy_extent x.off x.span x.size x.tag (with_bytes off src x.body) in
-    gaps-stay t new root a out (write off src) y e refl (extent_in-off (place_of a).1 (extents_of (place_of a).0 t)) busy.busy busy h
+    gaps-stay t new root a out (write off src) (rewritten (extent_of t a) off src) e refl (extent_in-off (place_of a).1 (extents_of (place_of a).0 t)) busy.busy busy h
 
 pub written-busy : (t new : Tiling) (a off : ℕ) (src : List ℕ) → new ≡ change_extent a (write off src) t → IsBusy t a → IsBusy new a
 written-busy t new a off src e busy =
-    let x : Extent = extent_of t a in
-    let y : Extent = busy_extent x.off x.span x.size x.tag (with_bytes off src x.body) in
-    let now : extent_of new a ≡ y = extent_of-here t new a (write off src) e y (behind_of t a) busy.named (extent_in-off (place_of a).1 (extents_of (place_of a).0 t)) refl in
+    let now : extent_of new a ≡ rewritten (extent_of t a) off src = extent_of-here t new a (write off src) e (rewritten (extent_of t a) off src) (behind_of t a) busy.named (extent_in-off (place_of a).1 (extents_of (place_of a).0 t)) refl in
     record { named = subst (λ (z : Extent). 0 < z.span) (sym now) busy.named; busy = subst (λ (z : Extent). 0 < z.size) (sym now) busy.busy }
 
 -- a gap that is out becomes a block of zeros
@@ -113,5 +105,4 @@ next-kept segs index k new a change x named is made off =
 
 pub next-written : (segs : List Bytes) (index : List ℕ) → ∥ AreExtents segs index ∥₁ → (new : Tiling) (a off : ℕ) (src : List ℕ) → IsNamed (tiling segs) a → new ≡ change_extent a (write off src) (tiling segs) → free_next new a ≡ free_next (tiling segs) a
 next-written segs index k new a off src named is =
-    let x : Extent = extent_of (tiling segs) a in
-    next-kept segs index k new a (write off src) (busy_extent x.off x.span x.size x.tag (with_bytes off src x.body)) named is refl (extent_in-off (place_of a).1 (extents_of (place_of a).0 (tiling segs)))
+    next-kept segs index k new a (write off src) (rewritten (extent_of (tiling segs) a) off src) named is refl (extent_in-off (place_of a).1 (extents_of (place_of a).0 (tiling segs)))

@@ -1,11 +1,8 @@
 -- The blocks of a tiling before an extent and behind it.
 use Rattle.vc_base.proofs.Common.{◌≡◌, ℕ, ◌<◌, true, false, eqb, List, [], ◌∷◌, ◌++◌, map, get_or, if◌then◌else◌, All, filter, sym, refl, ap, ◌∙◌, ⊎_elim, append_assoc, arith, le-ltb, lt-ltb, eqb-true, and_left, and_right, cases_Bool, All-append, All-cons, All-filter, All-head, All-map, All-nil, All-tail, All-weaker, filter-append, map-append, place_of, Block, is_at}
+use Rattle.vc_best.proofs.Common.{Extent, IsNamed, all_busy, behind, block_of, busy_in, change_at, change_extent, change_in, extent_in, extent_of, extents_of, is_busy}
 use Rattle.std.proofs.lemmas.Grind.{flat_map-append}
 use Rattle.vc_layouts.proofs.InOrder.{NoneAt}
-use Rattle.vc_extent.specs.Extent.{Extent}
-use Rattle.vc_extent.specs.Change.{behind, change_at, extent_in}
-use Rattle.vc_extent.specs.Tiling.{IsNamed, change_extent, change_in, extent_of, extents_of}
-use Rattle.vc_best.specs.Blocks.{all_busy, block_of, busy_in, is_busy}
 
 -- the extents before the one that an offset names
 abbrev pub front : ℕ → List Extent → List Extent
@@ -116,6 +113,9 @@ busy-none n e es free = rw (le-ltb 0 e.size (omega (arith, free))) refl
 
 -- the blocks before the extent that an address names, and those of the segments behind its own
 module _ (t : List (ℕ × List Extent)) (a : ℕ) where
+  abbrev n : ℕ
+  n = (place_of a).0
+
   abbrev pub lead : List (Block ℕ)
   lead = all_busy (above (place_of a).0 t) ++ busy_in ((place_of a).0, front (place_of a).1 (extents_of (place_of a).0 t))
 
@@ -130,7 +130,6 @@ module _ (t : List (ℕ × List Extent)) (a : ℕ) where
   -- in the middle stand these extents
   parted : (xs : List Extent) → all_busy (above (place_of a).0 t ++ ((place_of a).0, front (place_of a).1 (extents_of (place_of a).0 t) ++ xs) ∷ below (place_of a).0 t) ≡ lead ++ (busy_in ((place_of a).0, xs) ++ rear)
   parted xs =
-      let n : ℕ = (place_of a).0 in
       let es : List Extent = front (place_of a).1 (extents_of n t) in
       flat_map-append busy_in (above n t) ((n, es ++ xs) ∷ below n t)
       ∙ (ap (λ bs. all_busy (above n t) ++ (bs ++ rear)) (busy-append n es xs)
@@ -138,18 +137,17 @@ module _ (t : List (ℕ × List Extent)) (a : ℕ) where
       ∙ sym (append_assoc (all_busy (above n t)) (busy_in (n, es)) (busy_in (n, xs) ++ rear))))
 
   module _ (named : IsNamed t a) where
+    abbrev es : List Extent
+    es = extents_of n t
+
     pub busy-are : all_busy t ≡ lead ++ (busy_in ((place_of a).0, extent_of t a ∷ behind (place_of a).1 (extents_of (place_of a).0 t)) ++ rear)
     busy-are =
-        let n : ℕ = (place_of a).0 in
-        let es : List Extent = extents_of n t in
         ap all_busy (above-is n (place_of a).1 t named)
         ∙ (ap (λ (xs : List Extent). all_busy (above n t ++ (n, xs) ∷ below n t)) (front-is (place_of a).1 es named)
         ∙ parted (extent_of t a ∷ behind (place_of a).1 es))
 
     pub busy-changed : (f : Extent → List Extent → List Extent) → all_busy (change_extent a f t) ≡ lead ++ (busy_in ((place_of a).0, f (extent_of t a) (behind (place_of a).1 (extents_of (place_of a).0 t))) ++ rear)
     busy-changed f =
-        let n : ℕ = (place_of a).0 in
-        let es : List Extent = extents_of n t in
         ap all_busy (above-changed n (place_of a).1 (change_at (place_of a).1 f) t named)
         ∙ (ap (λ (xs : List Extent). all_busy (above n t ++ (n, xs) ∷ below n t)) (front-changed (place_of a).1 f es named)
         ∙ parted (f (extent_of t a) (behind (place_of a).1 es)))

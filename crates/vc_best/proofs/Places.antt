@@ -1,7 +1,7 @@
 -- The blocks of a best region have places of their own.
 use Rattle.vc_base.proofs.Common.{le_prop, ∥∥₁_elim, ℕ_set, HaveOwnPlaces}
+use Rattle.vc_best.proofs.Common.{blocks_in, layout_of}
 use Rattle.vc_model.proofs.Places.{own-places}
-use Rattle.vc_best.specs.Parts.{blocks_in, layout_of}
 use Rattle.vc_best.specs.declared.best.Best.{Best}
 
 pub own_places : {I : Type 0} {V : I → Type 0} (b : Best I V) → HaveOwnPlaces (blocks_in b)

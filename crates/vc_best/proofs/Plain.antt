@@ -1,18 +1,9 @@
 -- What stays where all but the links of free extents stays: the layout, what is free, and what stands beside an extent.
 use Rattle.vc_base.proofs.Common.{◌≡◌, ℕ, ◌+◌, ◌<◌, Bool, true, false, cond, not, ◌&&◌, eqb, ltb, List, [], ◌∷◌, ◌++◌, map, Some, None, filter, Option, option_map, sym, refl, ap, ◌∙◌, subst, ⊎_elim, arith, le-ltb, lt-ltb, ne_eqb, eqb-true, cases_Bool, All-cons, All-head, All-tail, place_of}
-use Rattle.vc_seg.specs.Segment.{Bytes}
-use Rattle.vc_layouts.specs.InOrder.{in_order}
-use Rattle.vc_extent.specs.Change.{IsOneFree}
-use Rattle.vc_extent.specs.Extent.{Extent, free_extent, no_links}
-use Rattle.vc_extent.specs.Tiling.{IsBusy, IsFree, IsNamed, extent_of, extents_of, next_of, previous_of, tiling}
-use Rattle.vc_gaps.specs.ButLinks.{StaysButLinks, Tiling, plain, without_links}
-use Rattle.vc_gaps.specs.Fits.{run_of_extent, run_at}
+use Rattle.vc_best.proofs.Common.{Bytes, Extent, IsBusy, IsFree, IsMerged, IsNamed, IsOneFree, StaysButLinks, Tiling, all_busy, block_of, busy_in, extent_of, extents_of, free_before, free_bytes, free_extent, free_in, free_name, free_next, free_runs, in_order, is_busy, is_free, is_merged, layout_by, next_of, no_links, plain, previous_of, room_of, run_of_extent, tiling, without_links}
 use Rattle.vc_gaps.specs.Fits as gaps
 use Rattle.vc_gaps.specs.GapLaws.{extents_of-plain, size-stays, span-stays, without-off, without-size}
 use Rattle.vc_gaps.proofs.Staying.{next-stays, previous-stays}
-use Rattle.vc_best.specs.Beside.{free_before, free_name, free_next}
-use Rattle.vc_best.specs.Blocks.{all_busy, block_of, busy_in, is_busy, layout_by}
-use Rattle.vc_best.specs.Free.{IsMerged, free_bytes, free_in, free_runs, is_free, is_merged, room_of}
 
 -- an extent with its links and without
 is_busy-plain : (e : Extent) → is_busy (without_links e) ≡ is_busy e

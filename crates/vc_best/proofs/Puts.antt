@@ -1,16 +1,10 @@
 -- A block of zeros in the least free run that holds it.
 use Rattle.vc_base.proofs.Common.{◌≡◌, ℕ, ◌+◌, ◌%◌, ◌≤◌, false, List, map, Some, All, filter, option_map, sym, ap, ◌∙◌, subst, arith, leb-true, ∥∥₁_elim, address, place_of, place_in, zeros, Run, Block, Layout, is_at, holds, least, lowest_offset, round_up, span}
+use Rattle.vc_best.proofs.Common.{AreExtents, Bytes, CanPutBlock, IsFree, IsLeastOut, IsMerged, IsPutInGap, carve, change_extent, extent_of, free_runs, layout_by, pair_of, run_at, tiling}
 use Rattle.vc_base.proofs.Places.{span-least}
 use Rattle.vc_seg.proofs.Rounding.{round_up-least, round_up-mod_32}
-use Rattle.vc_seg.specs.Segment.{Bytes, pair_of}
-use Rattle.vc_extent.specs.Tiling.{AreExtents, IsFree, change_extent, extent_of, tiling}
 use Rattle.vc_layouts.specs.Put.{with_zeros}
 use Rattle.vc_layouts.proofs.Blocks.{All-with, place_of-address}
-use Rattle.vc_gaps.specs.Fits.{run_at}
-use Rattle.vc_best.specs.Blocks.{layout_by}
-use Rattle.vc_best.specs.Changes.{carve}
-use Rattle.vc_best.specs.Free.{IsMerged, free_runs}
-use Rattle.vc_best.specs.Standing.{CanPutBlock, IsLeastOut, IsPutInGap}
 use Rattle.vc_best.proofs.Bests.{best-address, best-free, best-from, least-by}
 use Rattle.vc_best.proofs.ZeroBlocks.{carve-busy, merged-carved}
 use Rattle.vc_best.proofs.FreeRuns.{IsGap, gap-holds, gap-is}

@@ -1,5 +1,5 @@
 -- What a resize answers, by what its parts do.
-use Rattle.vc_base.proofs.Common.{◌≡◌, ℕ, zero, suc, ◌<◌, ◌≤◌, Bool, true, false, cond, eqb, List, [], ◌∷◌, map, length, get_or, take, IfSome, Some, None, All, Option, option_map, sym, refl, ap, ◌∙◌, subst, ⊎_elim, arith, eq-eqb, and_from, cases_Bool, All-head, All-tail, get_or-map, length-map, address, place_of, best_alloc, best_need, place_in, put_at, put_in_new, put_or_ask, without_block_at, zeros, Terms, Block, Layout, address_of, is_at, lies_before, with_block, with_grant, Done, Fault, Fixed, Outcome, Put, Refused, best_resize, can_stay, outcome_of_move, resize_found, resize_there, Asked, Grant, Granted, NotLent, TooMany, ask, HasBlock, find_block, with_bytes_at}
+use Rattle.vc_base.proofs.Common.{◌≡◌, ℕ, zero, suc, ◌<◌, ◌≤◌, Bool, true, false, cond, List, [], ◌∷◌, map, length, get_or, take, IfSome, Some, None, All, Option, option_map, sym, refl, ap, ◌∙◌, subst, ⊎_elim, arith, cases_Bool, get_or-map, length-map, same_Some, address, place_of, best_alloc, best_need, place_in, put_at, put_in_new, put_or_ask, without_block_at, zeros, Terms, Block, Layout, address_of, is_at, lies_before, with_block, with_grant, Done, Fault, Fixed, Outcome, Put, Refused, best_resize, can_stay, outcome_of_move, resize_found, resize_there, Asked, Grant, Granted, NotLent, TooMany, ask, HasBlock, find_block, with_bytes_at}
 use Rattle.vc_model.specs.Best.{put}
 use Rattle.vc_base.proofs.Lists.{find-passes}
 use Rattle.vc_base.proofs.Places.{at-place}
@@ -7,6 +7,8 @@ use Rattle.vc_model.proofs.Owned.{address-place_of}
 use Rattle.vc_seg.specs.declared.fault.RegionFault.{RegionFault}
 use Rattle.vc_seg.specs.declared.fault.RegionFault.TheVariants as code
 use Rattle.vc_seg.specs.Answer.{IsPut, IsRefusal}
+use Rattle.vc_layouts.proofs.InOrder.{find-with, own-place}
+use Rattle.vc_layouts.proofs.Resizes.{moved-put}
 
 -- one block more
 find_with-other : (at : ℕ × ℕ) (b : Block ℕ) (bs : List (Block ℕ)) → is_at at b ≡ false → find_block at (with_block b bs) ≡ find_block at bs
@@ -15,16 +17,6 @@ find_with-other at b (c ∷ cs) other =
     ⊎_elim
     (λ e. rw e (rw other refl))
     (λ e. rw e (ap (cond (is_at at c) (Some c)) (find_with-other at b cs other)))
-    (cases_Bool (lies_before b c))
-
-find_with-own : (at : ℕ × ℕ) (b : Block ℕ) (bs : List (Block ℕ)) → is_at at b ≡ true → All (λ c. is_at at c ≡ false) bs → find_block at (with_block b bs) ≡ Some b
-find_with-own at b [] own others = rw own refl
-find_with-own at b (c ∷ cs) own others =
-    let P : Block ℕ → Type 0 = λ d. is_at at d ≡ false in
-    let here : is_at at c ≡ false = All-head P c cs others in
-    ⊎_elim
-    (λ e. rw e (rw own refl))
-    (λ e. rw e (rw here (find_with-own at b cs own (All-tail P c cs others))))
     (cases_Bool (lies_before b c))
 
 abbrev IsAmong : List (Block ℕ) → ℕ → Type 0
@@ -100,8 +92,8 @@ module _ (terms : Terms) (r : Layout ℕ) (label size align to : ℕ) (refused :
 
   pub new-found : find_block (place_of to) mid.blocks ≡ Some (zeros label size (place_of to))
   new-found =
-      let own : is_at (place_of to) (zeros label size (place_of to)) ≡ true = and_from (eqb (place_of to).0 (place_of to).0) (eqb (place_of to).1 (place_of to).1) (eq-eqb (place_of to).0 (place_of to).0 refl) (eq-eqb (place_of to).1 (place_of to).1 refl) in
-      ap (find_block (place_of to)) is_new.blocks ∙ find_with-own (place_of to) (zeros label size (place_of to)) r.blocks own (none-at to r.blocks fresh)
+      let z : Block ℕ = zeros label size (place_of to) in
+      ap (find_block (place_of to)) is_new.blocks ∙ find-with (place_of to) z (own-place z) r.blocks (none-at to r.blocks fresh)
 
   pub new-room : IfSome (find_block (place_of to) mid.blocks) (λ b. size ≤ b.size)
   new-room = subst (λ (o : Option (Block ℕ)). IfSome o (λ b. size ≤ b.size)) (sym new-found) (omega arith)
@@ -143,16 +135,11 @@ module _ (terms : Terms) (r : Layout ℕ) (a size : ℕ) (may_move refused : Boo
 -- where it can't stay and may not move, it is refused
 fixed-found : (terms : Terms) (r : Layout ℕ) (size : ℕ) (may_move refused : Bool) (o : Option (Block ℕ)) → option_map (can_stay r size) o ≡ Some false → may_move ≡ false → resize_found terms r size may_move refused o ≡ Refused Fixed
 fixed-found terms r size may_move refused None e may = absurd (cc)
-fixed-found terms r size may_move refused (Some b) e may = let can : can_stay r size b ≡ false = cc in rw (can, may) refl
+fixed-found terms r size may_move refused (Some b) e may = rw (same_Some (can_stay r size b) false e, may) refl
 
 pub resize-fixed : (terms : Terms) (r : Layout ℕ) (at : ℕ × ℕ) (size : ℕ) (may_move refused : Bool) → option_map (can_stay r size) (find_block at r.blocks) ≡ Some false → may_move ≡ false →
     best_resize terms r at size may_move refused ≡ Refused Fixed
 resize-fixed terms r at size may_move refused e may = fixed-found terms r size may_move refused (find_block at r.blocks) e may
-
-moved-put : (size to : ℕ) (b : Block ℕ) (x : Outcome (Put (Layout ℕ))) (mid new : Layout ℕ) → IsPut x to mid → new ≡ without_block_at (with_bytes_at mid (place_of to) 0 (take size b.bytes)) (b.seg, b.off) → IsPut (outcome_of_move size b x) to new
-moved-put size to b (Done p) mid new h e =
-    (h.0, h.1, e ∙ (ap (λ (at : ℕ × ℕ). without_block_at (with_bytes_at mid at 0 (take size b.bytes)) (b.seg, b.off)) (sym h.1) ∙ ap (λ (q : Layout ℕ). without_block_at (with_bytes_at q p.at 0 (take size b.bytes)) (b.seg, b.off)) h.2))
-moved-put size to b (Refused why) mid new h e = absurd h
 
 -- and else it moves, where it may
 module _ (terms : Terms) (r : Layout ℕ) (a size tag : ℕ) (may_move : Bool) (may : may_move ≡ true) where
@@ -161,11 +148,10 @@ module _ (terms : Terms) (r : Layout ℕ) (a size tag : ℕ) (may_move : Bool) (
       IsPut (resize_found terms r size may_move false o) to new
   moves-found to mid new None found e l h own = absurd (cc)
   moves-found to mid new (Some b) found e l h own =
-      let can : can_stay r size b ≡ false = cc in
       let label : tag ≡ b.label = cc in
       let at : (b.seg, b.off) ≡ place_of a = at-place (place_of a) b (find-passes (is_at (place_of a)) r.blocks b found) in
       let placed : IsPut (best_alloc terms r b.label size 32 false) to mid = subst (λ k. IsPut (best_alloc terms r k size 32 false) to mid) label h in
-      rw (can, may) (moved-put size to b (best_alloc terms r b.label size 32 false) mid new placed (own ∙ ap (without_block_at (with_bytes_at mid (place_of to) 0 (take size b.bytes))) (sym at)))
+      rw (same_Some (can_stay r size b) false e, may) (moved-put size to b (best_alloc terms r b.label size 32 false) mid new placed (own ∙ ap (without_block_at (with_bytes_at mid (place_of to) 0 (take size b.bytes))) (sym at)))
 
   pub resize-moves : (to : ℕ) (mid new : Layout ℕ) → find_block (place_of a) mid.blocks ≡ find_block (place_of a) r.blocks →
       option_map (can_stay r size) (find_block (place_of a) r.blocks) ≡ Some false → option_map (λ b. b.label) (find_block (place_of a) r.blocks) ≡ Some tag → IsPut (best_alloc terms r tag size 32 false) to mid →
@@ -179,9 +165,8 @@ module _ (terms : Terms) (r : Layout ℕ) (a size tag : ℕ) (may_move : Bool) (
   refused-found : (refused : Bool) (why : Fault) (o : Option (Block ℕ)) → option_map (can_stay r size) o ≡ Some false → option_map (λ b. b.label) o ≡ Some tag → best_alloc terms r tag size 32 refused ≡ Refused why → resize_found terms r size may_move refused o ≡ Refused why
   refused-found refused why None e l h = absurd (cc)
   refused-found refused why (Some b) e l h =
-      let can : can_stay r size b ≡ false = cc in
       let label : b.label ≡ tag = cc in
-      rw (can, may) (ap (outcome_of_move size b) (ap (λ k. best_alloc terms r k size 32 refused) label ∙ h))
+      rw (same_Some (can_stay r size b) false e, may) (ap (outcome_of_move size b) (ap (λ k. best_alloc terms r k size 32 refused) label ∙ h))
 
   pub resize-refused : (e : RegionFault) → option_map (can_stay r size) (find_block (place_of a) r.blocks) ≡ Some false → option_map (λ b. b.label) (find_block (place_of a) r.blocks) ≡ Some tag →
       IsRefusal (best_alloc terms r tag size 32) e → IsRefusal (best_resize terms r (place_of a) size may_move) e

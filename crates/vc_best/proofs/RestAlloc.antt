@@ -1,10 +1,9 @@
 -- What allocation answers, it answers too over a layout that shows zeros for the bytes of its unlabelled blocks.
 use Rattle.vc_base.proofs.Common.{◌≡◌, ℕ, Bool, true, false, Ok, Err, Result, sym, ap, ◌∙◌, subst, best_alloc, Terms, Layout, Done, Fault, Outcome, Put, Refused, outcome_as}
-use Rattle.vc_base.specs.declared.addr.Addr.{Addr}
+use Rattle.vc_best.proofs.Common.{Addr, zeroed_layout}
 use Rattle.vc_seg.specs.Answer.{Answers, IsPut, IsRefusal}
 use Rattle.vc_seg.specs.declared.fault.RegionFault.{RegionFault}
 use Rattle.vc_seg.specs.declared.fault.RegionFault.TheVariants as code
-use Rattle.vc_best.specs.Cells.{zeroed_layout}
 use Rattle.vc_best.proofs.RestLayout.{best_alloc-zeroed}
 
 -- a refusal of one call that is one of another

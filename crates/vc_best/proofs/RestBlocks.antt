@@ -1,6 +1,6 @@
 -- Blocks that show zeros where they are unlabelled: their places, labels and sizes stay, and a labelled one stays whole.
 use Rattle.vc_base.proofs.Common.{◌≡◌, ℕ, ◌-◌, Bool, true, false, cond, eqb, ◌≢◌, List, [], ◌∷◌, map, replicate, nat_lt, Some, None, Option, option_map, find, sym, refl, ap, ◌∙◌, ⊎_elim, ne_eqb, cases_Bool, same_Some, zeros, Block, address_of, footprint, footprints, is_at, lies_before, with_block, without_block, put_by, change_block, find_block, block_at, by_address, holds_byte}
-use Rattle.vc_best.specs.Cells.{is_unlabelled, block_shown}
+use Rattle.vc_best.proofs.Common.{block_shown, is_unlabelled}
 
 -- a block that shows zeros where a test says so
 abbrev pub shown : Block ℕ → Bool → Block ℕ

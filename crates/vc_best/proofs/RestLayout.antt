@@ -1,11 +1,11 @@
 -- Every call of a layout commutes with the zeros that its unlabelled blocks show.
 use Rattle.vc_base.proofs.Common.{◌≡◌, ℕ, ◌-◌, Bool, cond, not, ◌&&◌, ◌||◌, eqb, ◌≢◌, List, [], ◌∷◌, map, length, Some, None, sum, filter, Option, sym, refl, ap, ◌∙◌, length-map, list_all, best_alloc, best_need, place_in, put_at, put_in_new, put_or_ask, zeros, compact_count, compacted_layout, is_occupied, Terms, Run, bytes_of, gaps, Block, Layout, footprint, is_at, with_block, with_grant, gaps_of, greatest, segment_bytes, segment_count, Done, outcome_as, can_stay, is_usable, sized_block, stays, Asked, Grant, Granted, NotLent, TooMany, ask, find_block}
+use Rattle.vc_best.proofs.Common.{block_shown, zeroed_layout}
 use Rattle.vc_model.specs.Best.{put}
 use Rattle.vc_model.specs.Place.{place}
 use Rattle.vc_model.specs.Resize.{meets}
 use Rattle.vc_seg.specs.Stat.{layout_stat}
 use Rattle.vc_seg.specs.declared.stat.Stat.{Stat}
-use Rattle.vc_best.specs.Cells.{block_shown, zeroed_layout}
 use Rattle.vc_best.proofs.RestBlocks.{change_block-labelled, footprints-zeroed, sizes-zeroed, with_block-zeroed, zeroed-zeros}
 
 abbrev pub layout : List (ℕ × ℕ) → List (Block ℕ) → Layout ℕ

@@ -1,19 +1,12 @@
 -- A block can have a size where it is exactly where its room is enough.
 use Rattle.vc_base.proofs.Common.{◌≡◌, ℕ, ◌+◌, ◌-◌, ◌%◌, ◌<◌, ◌≤◌, Bool, true, false, not, ◌&&◌, ◌||◌, eqb, ltb, leb, ◌≢◌, ◌⊎◌, List, [], ◌∷◌, ◌++◌, map, length, get_or, All, AllPairs, sym, refl, ap, ◌∙◌, subst, inl, inr, ⊎_elim, arith, ltb-true, le-ltb, lt-ltb, eq-eqb, ne_eqb, eqb-true, le-leb, leb-false, leb-true, or-false, ∥∥₁_elim, and_from, and_left, and_parts, and_right, cases_Bool, eqb-false, lt-leb, or_left, or_right, All-append, All-cons, All-head, All-nil, All-tail, All-weaker, list_any-append, list_all, list_any, place_of, Run, Block, footprint, is_at, can_stay, is_usable, sized_block, span}
+use Rattle.vc_best.proofs.Common.{AreExtents, Bytes, Extent, IsBusy, IsLegal, IsMerged, IsTiled, all_busy, block_of, busy_in, extent_in, extent_of, extents, extents_of, first_of, free_bytes, in_order, is_free, is_merged, layout_by, pair_of, room_of, tiling}
 use mathlib.Core.Bool.{Bool-set}
 use Rattle.vc_model.specs.Resize.{meets}
 use Rattle.vc_model.proofs.Pairs.{AllPairs-head, AllPairs-tail}
-use Rattle.vc_seg.specs.Segment.{Bytes, pair_of}
-use Rattle.vc_layouts.specs.InOrder.{in_order}
 use Rattle.vc_layouts.proofs.InOrder.{All-in_order, any-order, own-place}
-use Rattle.vc_extent.specs.Change.{extent_in, first_of}
-use Rattle.vc_extent.specs.Extent.{Extent, extents}
-use Rattle.vc_extent.specs.Tiles.{IsLegal, IsTiled}
-use Rattle.vc_extent.specs.Tiling.{AreExtents, IsBusy, extent_of, extents_of, tiling}
-use Rattle.vc_best.specs.Blocks.{all_busy, block_of, busy_in, layout_by}
-use Rattle.vc_best.specs.Free.{IsMerged, free_bytes, is_free, is_merged, room_of}
 use Rattle.vc_best.proofs.Layouts.{behind_of, below-others, busy-seg, lies-front}
-use Rattle.vc_best.proofs.Lies.{Ends, IsWithin, Lies, lies-behind, lies-tiled, lies-within}
+use Rattle.vc_best.proofs.Lies.{Differ, Ends, IsWithin, Lies, Tiled, lies-behind, lies-tiled, lies-within}
 use Rattle.vc_best.proofs.Parts.{above, above-others, below, busy-are, busy-one, front, front-is, lead, named-off, rear}
 use Rattle.vc_best.proofs.Tilings.{All-all_busy, All-busy_in}
 
@@ -46,24 +39,22 @@ record Own (segs : List Bytes) (f : Run) : Type 0 where
   usable : is_usable (map pair_of segs) f ≡ (leb 16 f.from && leb (f.to + 16) (length bytes))
   merged : IsMerged (tiling segs) → is_merged false (extents bytes) ≡ true
 
-own : (f : Run) (segs : List Bytes) → AllPairs (λ (a b : Bytes). a.number ≢ b.number) segs → All (λ s. IsTiled s.bytes) segs → (extents_of f.seg (tiling segs) ≡ [] → ⊥) → Own segs f
+own : (f : Run) (segs : List Bytes) → AllPairs Differ segs → All Tiled segs → (extents_of f.seg (tiling segs) ≡ [] → ⊥) → Own segs f
 own f [] distinct tiled some = absurd (some refl)
 own f (s ∷ ss) distinct tiled some =
-    let R : Bytes → Bytes → Type 0 = λ a b. a.number ≢ b.number in
-    let T : Bytes → Type 0 = λ x. IsTiled x.bytes in
     let M : ℕ × List Extent → Type 0 = λ x. is_merged false x.1 ≡ true in
     ⊎_elim
     (λ (t : eqb s.number f.seg ≡ true).
     let same = eqb-true s.number f.seg t in
     record {
       bytes = s.bytes;
-      tiled = All-head T s ss tiled;
+      tiled = All-head Tiled s ss tiled;
       extents_are = rw t refl;
-      usable = rw (eq-eqb f.seg s.number (sym same)) (rw (not-usable f ss (All-weaker (R s) (λ b. f.seg ≢ b.number) (λ b other e. other (same ∙ e)) ss (AllPairs-head R s ss distinct))) (or-false (leb 16 f.from && leb (f.to + 16) (length s.bytes))));
+      usable = rw (eq-eqb f.seg s.number (sym same)) (rw (not-usable f ss (All-weaker (Differ s) (λ b. f.seg ≢ b.number) (λ b other e. other (same ∙ e)) ss (AllPairs-head Differ s ss distinct))) (or-false (leb 16 f.from && leb (f.to + 16) (length s.bytes))));
       merged = λ m. All-head M (s.number, extents s.bytes) (tiling ss) m;
     })
     (λ (t : eqb s.number f.seg ≡ false).
-    let r : Own ss f = own f ss (AllPairs-tail R s ss distinct) (All-tail T s ss tiled) (rw t at some) in
+    let r : Own ss f = own f ss (AllPairs-tail Differ s ss distinct) (All-tail Tiled s ss tiled) (rw t at some) in
     record {
       bytes = r.bytes;
       tiled = r.tiled;

@@ -1,18 +1,11 @@
 -- Segments that come, go or are emptied.
 use Rattle.vc_base.proofs.Common.{◌≡◌, ℕ, ◌+◌, ◌-◌, ◌<◌, Bool, true, false, not, eqb, ltb, ◌≢◌, ◌⊎◌, ◌↔◌, List, [], ◌∷◌, ◌++◌, map, length, IsTrue, ◌==◌, Some, All, filter, AllPairs, sym, refl, ap, ◌∙◌, subst, inl, inr, ⊎_elim, append-nil, arith, ltb-false, eq-eqb, ne_eqb, eqb-true, ∥∥₁_elim, ℕ_set, cases_Bool, eqb-false, or_left, or_right, All-append, All-head, All-map, All-nil, All-tail, All-weaker, list_any-append, list_any, is_occupied, Block, with_grant, new_segment}
+use Rattle.vc_best.proofs.Common.{AreExtents, Bytes, Extent, IsMerged, IsOneFree, IsThere, all_busy, busy_in, extents, extents_of, free_extent, in_order, is_merged, layout_by, no_links, pair_of, size_of, tiling}
 use Rattle.std.proofs.lemmas.Grind.{flat_map-append}
 use Rattle.vc_model.proofs.Pairs.{AllPairs-head, AllPairs-tail}
-use Rattle.vc_seg.specs.Segment.{Bytes, pair_of}
-use Rattle.vc_layouts.specs.InOrder.{in_order}
 use Rattle.vc_layouts.proofs.InOrder.{All-in_order, any-order}
-use Rattle.vc_extent.specs.Change.{IsOneFree}
-use Rattle.vc_extent.specs.Extent.{Extent, extents, free_extent, no_links}
-use Rattle.vc_extent.specs.Tiles.{IsTiled}
-use Rattle.vc_extent.specs.Tiling.{AreExtents, IsThere, extents_of, size_of, tiling}
-use Rattle.vc_best.specs.Blocks.{all_busy, busy_in, layout_by}
-use Rattle.vc_best.specs.Free.{IsMerged, is_merged}
 use Rattle.vc_best.proofs.Layouts.{busy-seg}
-use Rattle.vc_best.proofs.Lies.{Lies, lies-tiled}
+use Rattle.vc_best.proofs.Lies.{Differ, Lies, Tiled, lies-tiled}
 use Rattle.vc_best.proofs.Parts.{busy-none}
 use mathlib.Core.Bool.{Bool-set}
 use Rattle.vc_best.proofs.Sets.{blocks-set, extents-set}
@@ -53,37 +46,35 @@ others-of n s ss t h =
     All-map (λ (x : ℕ × List Extent). eqb x.0 n ≡ false) (λ (x : Bytes). (x.number, extents x.bytes)) ss
     (All-weaker (λ (b : Bytes). s.number ≢ b.number) (λ (b : Bytes). eqb b.number n ≡ false) (λ b other. ne_eqb b.number n (λ e. other (eqb-true s.number n t ∙ sym e))) ss h)
 
-removed : (n : ℕ) (segs : List Bytes) → AllPairs (λ (a b : Bytes). a.number ≢ b.number) segs → IsOneFree (extents_of n (tiling segs)) → all_busy (filter (λ (s : ℕ × List Extent). not (eqb s.0 n)) (tiling segs)) ≡ all_busy (tiling segs)
+removed : (n : ℕ) (segs : List Bytes) → AllPairs Differ segs → IsOneFree (extents_of n (tiling segs)) → all_busy (filter (λ (s : ℕ × List Extent). not (eqb s.0 n)) (tiling segs)) ≡ all_busy (tiling segs)
 removed n [] distinct free = refl
 removed n (s ∷ ss) distinct free =
-    let R : Bytes → Bytes → Type 0 = λ a b. a.number ≢ b.number in
     ⊎_elim
     (λ (t : eqb s.number n ≡ true).
     let free' : IsOneFree (extents s.bytes) = rw t at free in
-    rw t (ap all_busy (filter-others n (tiling ss) (others-of n s ss t (AllPairs-head R s ss distinct)))
+    rw t (ap all_busy (filter-others n (tiling ss) (others-of n s ss t (AllPairs-head Differ s ss distinct)))
     ∙ ap (λ bs. bs ++ all_busy (tiling ss)) (sym (one-none s.number (extents s.bytes) free'))))
     (λ (t : eqb s.number n ≡ false).
     let free' : IsOneFree (extents_of n (tiling ss)) = rw t at free in
-    rw t (ap (λ bs. busy_in (s.number, extents s.bytes) ++ bs) (removed n ss (AllPairs-tail R s ss distinct) free')))
+    rw t (ap (λ bs. busy_in (s.number, extents s.bytes) ++ bs) (removed n ss (AllPairs-tail Differ s ss distinct) free')))
     (cases_Bool (eqb s.number n))
 
 -- then none of the blocks is in it
-nowhere : (n : ℕ) (segs : List Bytes) → AllPairs (λ (a b : Bytes). a.number ≢ b.number) segs → IsOneFree (extents_of n (tiling segs)) → All (λ b. b.seg ≢ n) (all_busy (tiling segs))
+nowhere : (n : ℕ) (segs : List Bytes) → AllPairs Differ segs → IsOneFree (extents_of n (tiling segs)) → All (λ b. b.seg ≢ n) (all_busy (tiling segs))
 nowhere n [] distinct free = All-nil (λ (b : Block ℕ). b.seg ≢ n)
 nowhere n (s ∷ ss) distinct free =
-    let R : Bytes → Bytes → Type 0 = λ a b. a.number ≢ b.number in
     let Q : Block ℕ → Type 0 = λ b. b.seg ≢ n in
     ⊎_elim
     (λ (t : eqb s.number n ≡ true).
     let free' : IsOneFree (extents s.bytes) = rw t at free in
     let e : all_busy (tiling (s ∷ ss)) ≡ all_busy (tiling ss) = ap (λ bs. bs ++ all_busy (tiling ss)) (one-none s.number (extents s.bytes) free') in
     subst (λ (bs : List (Block ℕ)). All Q bs) (sym e)
-    (All-weaker (λ c. s.number ≢ c.seg) Q (λ c other same. other (eqb-true s.number n t ∙ sym same)) (all_busy (tiling ss)) (other-seg s ss (AllPairs-head R s ss distinct))))
+    (All-weaker (λ c. s.number ≢ c.seg) Q (λ c other same. other (eqb-true s.number n t ∙ sym same)) (all_busy (tiling ss)) (other-seg s ss (AllPairs-head Differ s ss distinct))))
     (λ (t : eqb s.number n ≡ false).
     let free' : IsOneFree (extents_of n (tiling ss)) = rw t at free in
     All-append Q (busy_in (s.number, extents s.bytes)) (all_busy (tiling ss))
     (All-weaker (λ c. c.seg ≡ s.number) Q (λ c is same. eqb-false s.number n t (sym is ∙ same)) (busy_in (s.number, extents s.bytes)) (busy-seg s.number (extents s.bytes)))
-    (nowhere n ss (AllPairs-tail R s ss distinct) free'))
+    (nowhere n ss (AllPairs-tail Differ s ss distinct) free'))
     (cases_Bool (eqb s.number n))
 
 not-any : (n : ℕ) (bs : List (Block ℕ)) → All (λ b. b.seg ≢ n) bs → is_occupied bs n ≡ false
@@ -112,24 +103,23 @@ some-busy n stop at (e ∷ es) lt h merged busy =
         (λ (u : ltb 0 x.size ≡ false). let m : false ≡ true = rw u at merged in absurd (cc))
         (cases_Bool (ltb 0 x.size))
 
-occupied-in : (n : ℕ) (segs : List Bytes) → All (λ s. IsTiled s.bytes) segs → IsMerged (tiling segs) → IsThere n segs → (IsOneFree (extents_of n (tiling segs)) → ⊥) → is_occupied (all_busy (tiling segs)) n ≡ true
+occupied-in : (n : ℕ) (segs : List Bytes) → All Tiled segs → IsMerged (tiling segs) → IsThere n segs → (IsOneFree (extents_of n (tiling segs)) → ⊥) → is_occupied (all_busy (tiling segs)) n ≡ true
 occupied-in n [] tiled merged there busy = absurd (cc)
 occupied-in n (s ∷ ss) tiled merged there busy =
-    let T : Bytes → Type 0 = λ x. IsTiled x.bytes in
     let M : ℕ × List Extent → Type 0 = λ x. is_merged false x.1 ≡ true in
     let own : List (Block ℕ) = busy_in (s.number, extents s.bytes) in
     let test : Block ℕ → Bool = λ b. eqb b.seg n in
     list_any-append test own (all_busy (tiling ss))
     ∙ ⊎_elim
     (λ (t : eqb s.number n ≡ true).
-    let tile = All-head T s ss tiled in
+    let tile = All-head Tiled s ss tiled in
     let least = tile.size.least in
     let busy' : IsOneFree (extents s.bytes) → ⊥ = rw t at busy in
     let some : is_occupied own s.number ≡ true = some-busy s.number (length s.bytes - 16) 16 (extents s.bytes) (omega arith) (lies-tiled s.bytes tile) (All-head M (s.number, extents s.bytes) (tiling ss) merged) busy' in
     or_left (list_any test own) (list_any test (all_busy (tiling ss))) (subst (λ (m : ℕ). is_occupied own m ≡ true) (eqb-true s.number n t) some))
     (λ (t : eqb s.number n ≡ false).
     or_right (list_any test own) (list_any test (all_busy (tiling ss)))
-    (occupied-in n ss (All-tail T s ss tiled) (All-tail M (s.number, extents s.bytes) (tiling ss) merged) (rw t at there) (rw t at busy)))
+    (occupied-in n ss (All-tail Tiled s ss tiled) (All-tail M (s.number, extents s.bytes) (tiling ss) merged) (rw t at there) (rw t at busy)))
     (cases_Bool (eqb s.number n))
 
 -- whether a segment is one free extent is decided
@@ -167,16 +157,15 @@ module _ (old : List Bytes) (index : List ℕ) (n : ℕ) (k : ∥ AreExtents old
   free-by merged there none = ⊎_elim (λ h. h) (λ h. absurd (let no : true ≡ false = sym (occupied merged there h) ∙ none in cc)) (one-or (extents_of n (tiling old)))
 
 -- the extents of a segment of that many bytes
-lies-there : (n size : ℕ) (segs : List Bytes) → All (λ s. IsTiled s.bytes) segs → size_of n (map pair_of segs) ≡ Some size → Lies (size - 16) 16 (extents_of n (tiling segs))
+lies-there : (n size : ℕ) (segs : List Bytes) → All Tiled segs → size_of n (map pair_of segs) ≡ Some size → Lies (size - 16) 16 (extents_of n (tiling segs))
 lies-there n size [] tiled e = absurd (cc)
 lies-there n size (s ∷ ss) tiled e =
-    let T : Bytes → Type 0 = λ x. IsTiled x.bytes in
     ⊎_elim
     (λ (t : eqb s.number n ≡ true).
     let own : Some (length s.bytes) ≡ Some size = rw t at e in
     let same : length s.bytes ≡ size = cc in
-    rw t (subst (λ (m : ℕ). Lies (m - 16) 16 (extents s.bytes)) same (lies-tiled s.bytes (All-head T s ss tiled))))
-    (λ (t : eqb s.number n ≡ false). rw t (lies-there n size ss (All-tail T s ss tiled) (rw t at e)))
+    rw t (subst (λ (m : ℕ). Lies (m - 16) 16 (extents s.bytes)) same (lies-tiled s.bytes (All-head Tiled s ss tiled))))
+    (λ (t : eqb s.number n ≡ false). rw t (lies-there n size ss (All-tail Tiled s ss tiled) (rw t at e)))
     (cases_Bool (eqb s.number n))
 
 -- one has the whole usable part of its segment where none is behind it

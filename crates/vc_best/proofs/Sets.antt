@@ -1,11 +1,10 @@
 -- Lists of extents and of blocks are sets.
 use Rattle.vc_base.proofs.Common.{ℕ, List, Option, ℕ_set, Run, Block, Layout}
+use Rattle.vc_best.proofs.Common.{Extent, IsMerged}
 use mathlib.Core.Sum.{⊎_set}
 use Rattle.std.proofs.Math.Bool.{Bool-set}
 use mathlib.Core.List.{is_set}
 use Rattle.vc_base.proofs.Sets.{bytes-set, block-set}
-use Rattle.vc_extent.specs.Extent.{Extent}
-use Rattle.vc_best.specs.Free.{IsMerged}
 
 pub extent-set : IsSet Extent
 extent-set = hlevel (ℕ_set, bytes-set)

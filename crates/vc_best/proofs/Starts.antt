@@ -1,9 +1,6 @@
 -- An address that is 0 or names a busy extent, where it is not 0.
 use Rattle.vc_base.proofs.Common.{◌≡◌, ℕ, ◌≤◌, Bool, true, false, ◌⊎◌, List, IfSome, IsTrue, Some, None, Option, option_map, sym, ◌∙◌, inl, inr, ⊎_elim, le_prop, ∥∥₁_elim, place_of, HasBlock}
-use Rattle.vc_base.specs.declared.addr.Addr.{Addr}
-use Rattle.vc_seg.specs.Segment.{Bytes}
-use Rattle.vc_extent.specs.Tiling.{AreExtents, IsBusy, tiling}
-use Rattle.vc_best.specs.Blocks.{layout_by}
+use Rattle.vc_best.proofs.Common.{Addr, AreExtents, Bytes, IsBusy, layout_by, tiling}
 use Rattle.vc_best.proofs.Found.{busy-of, has-of}
 use Rattle.vc_best.proofs.Known.{cut-of}
 

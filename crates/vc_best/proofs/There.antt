@@ -1,10 +1,9 @@
 -- The block that is put, or that gets another size, stands at the address that is answered.
 use Rattle.vc_base.proofs.Common.{◌≡◌, ℕ, true, false, cond, ◌≢◌, List, [], ◌∷◌, take, IfSome, IfOk, Some, None, Ok, Err, Option, Result, option_map, sym, refl, ap, ◌∙◌, subst, ⊎_elim, cases_Bool, address, place_of, without_block_at, zeros, Terms, Block, Layout, is_at, without_block, sized_block, HasBlock, change_block, find_block, rewritten_block, with_bytes_at}
-use Rattle.vc_base.specs.declared.addr.Addr.{Addr}
+use Rattle.vc_best.proofs.Common.{Addr, IsPutByAsking, IsPutInGap}
 use Rattle.vc_base.proofs.Places.{at-place}
 use Rattle.vc_model.proofs.Owned.{address-place_of}
 use Rattle.vc_seg.specs.declared.fault.RegionFault.{RegionFault}
-use Rattle.vc_best.specs.Standing.{IsPutByAsking, IsPutInGap}
 use Rattle.vc_best.proofs.Asking.{Answers-in_gap}
 use Rattle.vc_best.proofs.ResizeAnswers.{new-found}
 

@@ -1,19 +1,14 @@
 -- Tiled segments have blocks with heads.
 use Rattle.vc_base.proofs.Common.{◌≡◌, ℕ, suc, ◌+◌, ◌-◌, ◌%◌, ◌<◌, ◌≤◌, true, false, ltb, ◌≢◌, List, [], ◌∷◌, map, length, get_or, All, filter, AllPairs, sym, refl, ◌∙◌, inl, inr, ⊎_elim, arith, ltb-true, ∥∥₁_elim, cases_Bool, All-append, All-filter, All-head, All-map, All-nil, All-tail, All-weaker, filter_passes, AllPairs-cons, IsSegmentSize, Block, footprint, span, HasWholeBlocks, HaveOwnNumbers, IsApart, IsSound, IsUsable}
+use Rattle.vc_best.proofs.Common.{AreExtents, AreSegments, Bytes, Extent, IsRegionSegment, IsTiled, all_busy, block_of, busy_in, extents, in_order, is_busy, layout_by, pair_of, tiling}
 use Rattle.vc_model.proofs.Pairs.{AllPairs-head, AllPairs-tail}
-use Rattle.vc_seg.specs.Segment.{AreSegments, Bytes, IsRegionSegment, pair_of}
 use Rattle.vc_layouts.proofs.Lists.{AllPairs-append, AllPairs-map, AllPairs-nil}
 use Rattle.vc_layouts.proofs.Blocks.{apart_by_seg}
-use Rattle.vc_layouts.specs.InOrder.{in_order}
 use Rattle.vc_layouts.proofs.InOrder.{All-in_order}
-use Rattle.vc_extent.specs.Extent.{Extent, extents}
-use Rattle.vc_extent.specs.Tiles.{IsTiled}
-use Rattle.vc_extent.specs.Tiling.{AreExtents, tiling}
-use Rattle.vc_best.specs.Blocks.{all_busy, block_of, busy_in, is_busy, layout_by}
 use Rattle.vc_best.proofs.HaveHeads.{HaveHeads}
 use Rattle.vc_best.proofs.Heads.{IsSound-heads}
 use Rattle.vc_best.proofs.Layouts.{busy-seg}
-use Rattle.vc_best.proofs.Lies.{Ends, IsWithin, Lies, lies-behind, lies-tiled, lies-within}
+use Rattle.vc_best.proofs.Lies.{Differ, Ends, IsWithin, Lies, Tiled, lies-behind, lies-tiled, lies-within}
 use Rattle.vc_best.proofs.Apart.{order-before}
 
 -- the blocks of a segment, and those of all
@@ -57,15 +52,13 @@ other-seg s ss h =
     (All-weaker (λ (b : Bytes). s.number ≢ b.number) (λ (b : Bytes). All (λ c. s.number ≢ c.seg) (busy_in (b.number, extents b.bytes)))
     (λ b other. All-weaker (λ c. c.seg ≡ b.number) (λ c. s.number ≢ c.seg) (λ c is same. other (same ∙ is)) (busy_in (b.number, extents b.bytes)) (busy-seg b.number (extents b.bytes))) ss h))
 
-pub all-apart : (segs : List Bytes) → AllPairs (λ (a b : Bytes). a.number ≢ b.number) segs → All (λ s. IsTiled s.bytes) segs → AllPairs Apart (all_busy (tiling segs))
+pub all-apart : (segs : List Bytes) → AllPairs Differ segs → All Tiled segs → AllPairs Apart (all_busy (tiling segs))
 all-apart [] distinct tiled = AllPairs-nil Apart
 all-apart (s ∷ ss) distinct tiled =
-    let R : Bytes → Bytes → Type 0 = λ a b. a.number ≢ b.number in
-    let T : Bytes → Type 0 = λ x. IsTiled x.bytes in
-    let others = other-seg s ss (AllPairs-head R s ss distinct) in
+    let others = other-seg s ss (AllPairs-head Differ s ss distinct) in
     AllPairs-append Apart (busy_in (s.number, extents s.bytes)) (all_busy (tiling ss))
-    (busy-apart s.number (length s.bytes - 16) 16 (extents s.bytes) refl (lies-tiled s.bytes (All-head T s ss tiled)))
-    (all-apart ss (AllPairs-tail R s ss distinct) (All-tail T s ss tiled))
+    (busy-apart s.number (length s.bytes - 16) 16 (extents s.bytes) refl (lies-tiled s.bytes (All-head Tiled s ss tiled)))
+    (all-apart ss (AllPairs-tail Differ s ss distinct) (All-tail Tiled s ss tiled))
     (All-weaker (λ c. c.seg ≡ s.number) (λ c. All (Apart c) (all_busy (tiling ss)))
     (λ c is. All-weaker (λ d. s.number ≢ d.seg) (Apart c) (λ d other. apart_by_seg (footprint c) (footprint d) (λ same. other (sym is ∙ same))) (all_busy (tiling ss)) others)
     (busy_in (s.number, extents s.bytes)) (busy-seg s.number (extents s.bytes)))
@@ -121,14 +114,13 @@ lodged-here s ss legal tiled =
     })
     (extents s.bytes) (lies-within stop 16 (extents s.bytes) refl (lies-tiled s.bytes tiled)))
 
-pub all-lodged : (segs : List Bytes) → All IsRegionSegment segs → All (λ s. IsTiled s.bytes) segs → All (Lodged segs) (all_busy (tiling segs))
+pub all-lodged : (segs : List Bytes) → All IsRegionSegment segs → All Tiled segs → All (Lodged segs) (all_busy (tiling segs))
 all-lodged [] legal tiled = All-nil (Lodged [])
 all-lodged (s ∷ ss) legal tiled =
-    let T : Bytes → Type 0 = λ x. IsTiled x.bytes in
     All-append (Lodged (s ∷ ss)) (busy_in (s.number, extents s.bytes)) (all_busy (tiling ss))
-    (lodged-here s ss (All-head IsRegionSegment s ss legal) (All-head T s ss tiled))
+    (lodged-here s ss (All-head IsRegionSegment s ss legal) (All-head Tiled s ss tiled))
     (All-weaker (Lodged ss) (Lodged (s ∷ ss)) (lodged-there s ss) (all_busy (tiling ss))
-    (all-lodged ss (All-tail IsRegionSegment s ss legal) (All-tail T s ss tiled)))
+    (all-lodged ss (All-tail IsRegionSegment s ss legal) (All-tail Tiled s ss tiled)))
 
 own-numbers : (segs : List Bytes) → AreSegments segs → HaveOwnNumbers (map pair_of segs)
 own-numbers segs h = record {

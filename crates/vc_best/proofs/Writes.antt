@@ -1,19 +1,13 @@
 -- Bytes that are put into a block of a best region.
 use Rattle.vc_base.proofs.Common.{◌≡◌, ℕ, List, [], map, length, sym, refl, ap, ◌∙◌, subst, ∥∥₁_elim, place_of, with_bytes, Layout, without_block, HasWholeBlocks, HasBlock}
+use Rattle.vc_best.proofs.Common.{AreExtents, Bytes, Extent, HasGaps, IsBusy, IsMerged, busy_extent, change_extent, extent_of, layout_by, pair_of, tiling, write}
 use Rattle.vc_seg.specs.OneBlock.{IsBlockWritten}
-use Rattle.vc_seg.specs.Segment.{Bytes, pair_of}
-use Rattle.vc_extent.specs.Change.{write}
-use Rattle.vc_extent.specs.Extent.{Extent, busy_extent}
-use Rattle.vc_extent.specs.Tiling.{AreExtents, IsBusy, change_extent, extent_of, tiling}
-use Rattle.vc_gaps.specs.GapTree.{HasGaps}
-use Rattle.vc_best.specs.Blocks.{layout_by}
-use Rattle.vc_best.specs.Free.{IsMerged}
 use Rattle.vc_best.proofs.BlockCounts.{written-count}
 use Rattle.vc_best.proofs.Found.{busy-of}
 use Rattle.vc_best.proofs.Held.{AreHeld, held, layout-written, merged-of, most-of, most-written, tree-of}
 use Rattle.vc_best.proofs.Known.{cut-of}
 use Rattle.vc_best.proofs.Merges.{merged-one}
-use Rattle.vc_best.proofs.Others.{others-write}
+use Rattle.vc_layouts.proofs.Resizes.{others-written}
 use Rattle.vc_best.proofs.Outs.{gaps-written}
 use Rattle.vc_best.proofs.Sets.{merged-prop}
 
@@ -24,7 +18,7 @@ module _ (old new : List Bytes) (i j : List ℕ) (k : ∥ AreExtents old i ∥�
   pub written : IsBlockWritten a off src (layout_by old) (layout_by new)
   written =
       let layout = layout-written old new i j a off src k l busy is pairs in
-      record { layout = layout; others = ap (λ (r : Layout ℕ). without_block (place_of a) r.blocks) layout ∙ others-write off src (place_of a) (layout_by old).blocks }
+      record { layout = layout; others = ap (λ (r : Layout ℕ). without_block (place_of a) r.blocks) layout ∙ others-written off src (place_of a) (layout_by old).blocks }
 
   pub written-held : ∥ IsMerged (tiling old) ∥₁ → ∥ HasWholeBlocks (layout_by old) ∥₁ → AreHeld new
   written-held m w =

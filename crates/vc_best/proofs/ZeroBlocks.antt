@@ -1,10 +1,6 @@
 -- What a block of zeros in a free extent does to the blocks and to what is free.
 use Rattle.vc_base.proofs.Common.{◌≡◌, ℕ, ◌+◌, ◌≤◌, Bool, true, false, not, ◌&&◌, ltb, List, ◌∷◌, ◌++◌, replicate, refl, ap, ◌∙◌, ⊎_elim, arith, le-ltb, lt-ltb, and_from, and_parts, cases_Bool, zeros, span}
-use Rattle.vc_extent.specs.Extent.{Extent, busy_extent}
-use Rattle.vc_extent.specs.Tiling.{IsFree, change_extent, extent_of}
-use Rattle.vc_best.specs.Blocks.{busy_in, is_busy}
-use Rattle.vc_best.specs.Changes.{carve, free_part}
-use Rattle.vc_best.specs.Free.{IsMerged, is_merged}
+use Rattle.vc_best.proofs.Common.{Extent, IsFree, IsMerged, busy_extent, busy_in, carve, change_extent, extent_of, free_part, is_busy, is_merged}
 use Rattle.vc_best.proofs.Known.{IsCut}
 use Rattle.vc_best.proofs.Layouts.{behind_of}
 use Rattle.vc_best.proofs.Merges.{merged-at, merged-weaker}
@@ -17,13 +13,17 @@ part-busy n from to ys =
     (λ (t : ltb from to ≡ false). rw t refl)
     (cases_Bool (ltb from to))
 
+-- the block, and what is behind it
+abbrev block : ℕ → ℕ → ℕ → Extent
+block off size tag = busy_extent off (span size) size tag (replicate size 0)
+
+abbrev behind : ℕ → ℕ → Extent → List Extent → List Extent
+behind off size e ys = free_part (off + span size) (e.off + e.span) ++ ys
+
 pub carve-busy : (n off size tag : ℕ) (e : Extent) (ys : List Extent) → 1 ≤ size → busy_in (n, carve off size tag e ys) ≡ zeros tag size (n, off) ∷ busy_in (n, ys)
 carve-busy n off size tag e ys some =
-    let x : Extent = busy_extent off (span size) size tag (replicate size 0) in
-    let rest : List Extent = free_part (off + span size) (e.off + e.span) ++ ys in
-    let yes : ltb 0 size ≡ true = lt-ltb 0 size (omega arith) in
-    part-busy n e.off off (x ∷ rest)
-    ∙ (rw yes (ap (λ bs. zeros tag size (n, off) ∷ bs) (part-busy n (off + span size) (e.off + e.span) ys)))
+    part-busy n e.off off (block off size tag ∷ behind off size e ys)
+    ∙ (rw (lt-ltb 0 size (omega arith)) (ap (λ bs. zeros tag size (n, off) ∷ bs) (part-busy n (off + span size) (e.off + e.span) ys)))
 
 -- a free part where the next is busy, or behind a busy one
 part-front : (b : Bool) (from to : ℕ) (zs : List Extent) → not (b && true) ≡ true → ((v : Bool) → is_merged v zs ≡ true) → is_merged b (free_part from to ++ zs) ≡ true
@@ -46,14 +46,11 @@ not-and_false false = refl
 
 pub carve-merged : (b : Bool) (off size tag : ℕ) (e : Extent) (ys : List Extent) → e.size ≡ 0 → 1 ≤ size → is_merged b (e ∷ ys) ≡ true → is_merged b (carve off size tag e ys) ≡ true
 carve-merged b off size tag e ys free some m =
-    let x : Extent = busy_extent off (span size) size tag (replicate size 0) in
     let no : is_busy e ≡ false = le-ltb 0 e.size (omega arith) in
-    let yes : ltb 0 size ≡ true = lt-ltb 0 size (omega arith) in
     let both : (not (b && true) && is_merged true ys) ≡ true = rw no at m in
     let parts = and_parts (not (b && true)) (is_merged true ys) both in
-    let rest : List Extent = free_part (off + span size) (e.off + e.span) ++ ys in
-    part-front b e.off off (x ∷ rest) parts.0
-    (λ v. rw yes (and_from (not (v && false)) (is_merged false rest) (not-and_false v) (part-back (off + span size) (e.off + e.span) ys parts.1)))
+    part-front b e.off off (block off size tag ∷ behind off size e ys) parts.0
+    (λ v. rw (lt-ltb 0 size (omega arith)) (and_from (not (v && false)) (is_merged false (behind off size e ys)) (not-and_false v) (part-back (off + span size) (e.off + e.span) ys parts.1)))
 
 -- no two free extents meet where a block is put into one
 pub merged-carved : (t : List (ℕ × List Extent)) (a off size tag : ℕ) → IsCut t a → IsFree t a → 1 ≤ size → IsMerged t → IsMerged (change_extent a (carve off size tag) t)

@@ -1,5 +1,5 @@
 use Rattle.vc_base.proofs.Common.{refl, ◌∙◌, arith, ∥∥₁_elim}
-use Rattle.vc_extent.specs.Tiling.{tiling}
+use Rattle.vc_best.proofs.Common.{tiling}
 use Rattle.vc_best.proofs.Carves.{back-none, back-some}
 use Rattle.vc_best.proofs.Known.{cut-of}
 use Rattle.vc_best.proofs.Outs.{gaps-back}
@@ -8,21 +8,18 @@ use Rattle.vc_best.proofs.carve.cut_back.Goals as goal
 
 pub returns-then-bytes-span_at-clause-changed : goal.returns-then-bytes-span_at-clause-changed
 returns-then-bytes-span_at-clause-changed g c =
-    let e = c.args.extents.now in
     record {
-      tiling = ∥∥₁_elim e.kept (hlevel (tiling-set)) (λ k. c.split.ensures.changed.tiling ∙ back-some (tiling e.segs.items) c.args.a.0 c.args.bytes (cut-of e.segs.items e.index.items c.args.a.0 k c.requires.free.named) (omega arith));
+      tiling = ∥∥₁_elim c.args.extents.now.kept (hlevel (tiling-set)) (λ k. c.split.ensures.changed.tiling ∙ back-some (tiling c.args.extents.now.segs.items) c.args.a.0 c.args.bytes (cut-of _ _ c.args.a.0 k c.requires.free.named) (omega arith));
       pairs = c.split.ensures.changed.pairs;
     }
 
 pub returns-else-bytes-span_at-clause-changed : goal.returns-else-bytes-span_at-clause-changed
 returns-else-bytes-span_at-clause-changed g c =
-    let e = c.args.extents.now in
     record {
-      tiling = ∥∥₁_elim e.kept (hlevel (tiling-set)) (λ k. back-none (tiling e.segs.items) c.args.a.0 c.args.bytes (cut-of e.segs.items e.index.items c.args.a.0 k c.requires.free.named) (omega arith));
+      tiling = ∥∥₁_elim c.args.extents.now.kept (hlevel (tiling-set)) (λ k. back-none (tiling c.args.extents.now.segs.items) c.args.a.0 c.args.bytes (cut-of _ _ c.args.a.0 k c.requires.free.named) (omega arith));
       pairs = refl;
     }
 
 pub returns-then-bytes-span_at-clause-gaps : goal.returns-then-bytes-span_at-clause-gaps
 returns-then-bytes-span_at-clause-gaps g c =
-    let e = c.args.extents.now in
-    gaps-back e.segs.items e.index.items e.kept c.args.a.0 c.requires.free.named (tiling c.split.new.self.segs.items) c.args.bytes c.split.result.0 c.requires.least (omega arith) c.requires.multiple c.split.ensures.changed.tiling c.split.ensures.rest
+    gaps-back _ _ c.args.extents.now.kept c.args.a.0 c.requires.free.named (tiling c.split.new.self.segs.items) c.args.bytes c.split.result.0 c.requires.least (omega arith) c.requires.multiple c.split.ensures.changed.tiling c.split.ensures.rest

@@ -1,6 +1,5 @@
 use Rattle.vc_base.proofs.Common.{replicate, ap, ◌∙◌, arith, le_prop, ∥∥₁_elim}
-use Rattle.vc_extent.specs.Extent.{Extent}
-use Rattle.vc_extent.specs.Tiling.{IsBusy, extent_of, tiling}
+use Rattle.vc_best.proofs.Common.{Extent, IsBusy, extent_of, tiling}
 use Rattle.vc_best.proofs.Carves.{laid, marked}
 use Rattle.vc_best.proofs.Known.{cut-of}
 use Rattle.vc_best.proofs.Outs.{gaps-laid}
@@ -30,13 +29,12 @@ fill-requires-clause-within c =
 
 pub returns-clause-changed : goal.returns-clause-changed
 returns-clause-changed c =
-    let e = c.args.extents.now in
     let t1 = tiling c.mark_busy.new.self.segs.items in
     record {
       tiling =
-          ∥∥₁_elim e.kept (hlevel (tiling-set))
+          ∥∥₁_elim c.args.extents.now.kept (hlevel (tiling-set))
           (λ k.
-          laid (tiling e.segs.items) t1 c.args.a.0 c.args.size c.args.tag (extent_of t1 c.args.a.0).body (cut-of e.segs.items e.index.items c.args.a.0 k c.requires.free.named) c.mark_busy.ensures.changed.tiling
+          laid (tiling c.args.extents.now.segs.items) t1 c.args.a.0 c.args.size c.args.tag (extent_of t1 c.args.a.0).body (cut-of _ _ c.args.a.0 k c.requires.free.named) c.mark_busy.ensures.changed.tiling
           (tiling c.fill.new.self.segs.items) c.mark_busy.ensures.len c.fill.ensures.tiling);
       pairs = c.fill.ensures.pairs ∙ c.mark_busy.ensures.changed.pairs;
     }

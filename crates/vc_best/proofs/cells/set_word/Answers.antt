@@ -1,7 +1,6 @@
 use Rattle.vc_base.proofs.Common.{ℕ, ◌+◌, ◌*◌, length, ap, ◌∙◌, arith, bytes_at, with_word, with_bytes, Layout}
+use Rattle.vc_best.proofs.Common.{blocks_in, cells_in, cells_of, layout_of, zeroed_layout}
 use Rattle.vc_base.specs.Cells.{put}
-use Rattle.vc_best.specs.Cells.{cells_in, cells_of, zeroed_layout}
-use Rattle.vc_best.specs.Parts.{blocks_in, layout_of}
 use Rattle.vc_best.proofs.CellBytes.{cell, cell-most, cell-range, cells-written, layout-written}
 use Rattle.vc_best.proofs.cells.set_word.Goals as goal
 

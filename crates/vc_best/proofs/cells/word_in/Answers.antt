@@ -1,5 +1,5 @@
 use Rattle.vc_base.proofs.Common.{◌+◌, ◌*◌, ap, ◌∙◌, arith, w64, from_le_bytes, word}
-use Rattle.vc_best.specs.Parts.{layout_of}
+use Rattle.vc_best.proofs.Common.{layout_of}
 use Rattle.vc_best.proofs.CellBytes.{cell-most, cell-range, cell-read}
 use Rattle.vc_best.proofs.cells.word_in.Goals as goal
 

@@ -1,7 +1,5 @@
 use Rattle.vc_base.proofs.Common.{◌≡◌, map}
-use Rattle.vc_seg.specs.Segment.{pair_of}
-use Rattle.vc_extent.specs.Tiling.{tiling}
-use Rattle.vc_best.specs.GapsChange.{HasGapsBelow}
+use Rattle.vc_best.proofs.Common.{HasGapsBelow, pair_of, tiling}
 use Rattle.vc_best.proofs.EmptySegments.{AreFree}
 use Rattle.vc_best.proofs.compact.clear.Given as goal
 

@@ -1,10 +1,6 @@
 use Rattle.vc_base.proofs.Common.{ℕ, not, ◌≢◌, List, IsSome, All, Option, sym, ap, ◌∙◌, subst}
+use Rattle.vc_best.proofs.Common.{CanLinkGap, Extent, GapLinked, IsThere, one_free, plain, tiling}
 use Rattle.std.proofs.Math.Bool.{not-not}
-use Rattle.vc_extent.specs.Change.{one_free}
-use Rattle.vc_extent.specs.Extent.{Extent}
-use Rattle.vc_extent.specs.Tiling.{IsThere, tiling}
-use Rattle.vc_gaps.specs.ButLinks.{plain}
-use Rattle.vc_gaps.specs.GapTree.{CanLinkGap, GapLinked}
 use Rattle.vc_best.proofs.Backs.{some-of}
 use Rattle.vc_best.proofs.EmptyGaps.{below-linked, below-none, can-clear}
 use Rattle.vc_best.proofs.EmptySegments.{change-none, no-value, none-there}
@@ -26,18 +22,16 @@ returns-else-is_some-clause-gaps g c = below-none c.args.number (tiling c.args.e
 
 pub link_gap-requires : goal.link_gap-requires
 link_gap-requires g c =
-    let e = c.args.extents.now in
     let t1 = tiling c.reset-a.new.self.segs.items in
     subst (CanLinkGap t1 c.args.root.now.0) (sym c.reset-a.ensures.value)
-    (can-clear e.segs.items e.index.items c.args.number c.args.root.now.0 e.kept (there g (goal.at.link_gap-requires g c).Then-is_some) t1 c.reset-a.ensures.tiling c.requires.gaps)
+    (can-clear _ _ c.args.number c.args.root.now.0 c.args.extents.now.kept (there g (goal.at.link_gap-requires g c).Then-is_some) t1 c.reset-a.ensures.tiling c.requires.gaps)
 
 pub returns-then-is_some-clause-plain : goal.returns-then-is_some-clause-plain
 returns-then-is_some-clause-plain g c = c.link_gap.ensures.rest.extents ∙ ap plain c.reset-a.ensures.tiling
 
 pub returns-then-is_some-clause-gaps : goal.returns-then-is_some-clause-gaps
 returns-then-is_some-clause-gaps g c =
-    let e = c.args.extents.now in
     let t1 = tiling c.reset-a.new.self.segs.items in
     let t2 = tiling c.link_gap.new.extents.segs.items in
-    below-linked e.segs.items e.index.items c.args.number c.args.root.now.0 e.kept (there g (goal.at.returns-then-is_some-clause-gaps g c).Then-is_some) t1 c.reset-a.ensures.tiling c.requires.gaps t2 c.link_gap.result.0 c.link_gap.ensures.rest.extents
+    below-linked _ _ c.args.number c.args.root.now.0 c.args.extents.now.kept (there g (goal.at.returns-then-is_some-clause-gaps g c).Then-is_some) t1 c.reset-a.ensures.tiling c.requires.gaps t2 c.link_gap.result.0 c.link_gap.ensures.rest.extents
     (subst (λ (z : ℕ). GapLinked t1 t2 c.args.root.now.0 z c.link_gap.result.0) c.reset-a.ensures.value c.link_gap.ensures.linked)

@@ -1,14 +1,9 @@
 use Rattle.vc_base.proofs.Common.{◌≡◌, ℕ, true, false, not, eqb, List, [], ◌∷◌, ◌++◌, map, length, IsSome, All, filter, sym, refl, ap, ◌∙◌, subst, arith, ∥∥₁_elim, ℕ_set, All-filter, address, HasOut, without_last, Layout}
+use Rattle.vc_best.proofs.Common.{Extent, HasGaps, IsMerged, IsNamed, IsOneFree, IsThere, extent_of, extents_of, is_merged, pair_of, size_of, tiling}
 use Rattle.vc_base.proofs.Options.{none_where}
 use Rattle.vc_seg.specs.Back.{is_marked, stays_from}
-use Rattle.vc_seg.specs.Segment.{pair_of}
 use Rattle.vc_seg.proofs.Backs.{Contains-ends, Contains-own, is_kept-marked, is_kept-unmarked}
-use Rattle.vc_extent.specs.Extent.{Extent}
-use Rattle.vc_extent.specs.Change.{IsOneFree}
-use Rattle.vc_extent.specs.Tiling.{IsNamed, IsThere, extent_of, extents_of, size_of, tiling}
-use Rattle.vc_gaps.specs.GapTree.{HasGaps}
 use Rattle.vc_gaps.proofs.Added.{gaps-removed}
-use Rattle.vc_best.specs.Free.{IsMerged, is_merged}
 use Rattle.vc_best.proofs.Backs.{kept-none, one-gone, out-gone, some-of}
 use Rattle.vc_best.proofs.EmptyGaps.{first-off, one-first, start-address}
 use Rattle.vc_best.proofs.Layouts.{behind_of}
@@ -41,14 +36,13 @@ there g c = subst IsSome c.has.ensures (some-of c.has.result c.is_none.result c.
 
 one : (g : Over) (c : After-first-first g) → IsOneFree (extents_of c.args.number (tiling c.args.extents.now.segs.items))
 one g c =
-    let e = c.args.extents.now in
-    free-by e.segs.items e.index.items c.args.number e.kept c.requires.kept.merged (there g c) (sym (c.requires.marks c.args.number (there g c)) ∙ c.if-marks-number.false)
+    free-by _ _ c.args.number c.args.extents.now.kept c.requires.kept.merged (there g c) (sym (c.requires.marks c.args.number (there g c)) ∙ c.if-marks-number.false)
 
 whole : (g : Over) (c : After-first-first g) → extents_of c.args.number (tiling c.args.extents.now.segs.items) ≡ extent_of (tiling c.args.extents.now.segs.items) c.first-first.result.0 ∷ behind_of (tiling c.args.extents.now.segs.items) c.first-first.result.0
-whole g c = let e = c.args.extents.now in start-whole e.segs.items e.index.items c.args.number c.first-first.result.0 e.kept (there g c) c.first-first.ensures
+whole g c = start-whole _ _ c.args.number c.first-first.result.0 c.args.extents.now.kept (there g c) c.first-first.ensures
 
 named : (g : Over) (c : After-first-first g) → IsNamed (tiling c.args.extents.now.segs.items) c.first-first.result.0
-named g c = let e = c.args.extents.now in start-named e.segs.items e.index.items c.args.number c.first-first.result.0 e.kept (there g c) c.first-first.ensures
+named g c = start-named _ _ c.args.number c.first-first.result.0 c.args.extents.now.kept (there g c) c.first-first.ensures
 
 pub first-first-requires : goal.first-first-requires
 first-first-requires g c = subst IsSome c.has.ensures (some-of c.has.result c.is_none.result c.is_none.ensures c.if-is_none.false)
@@ -83,37 +77,33 @@ give_back_one-requires-clause-out g c =
 
 pub returns-clause-given : goal.returns-clause-given
 returns-clause-given g c =
-    let e = c.args.extents.now in
-    let m = c.unlink_gap.new.extents in
     record {
       segments =
           c.remove-segment.ensures.pairs
           ∙ ap (filter (λ (s : ℕ × ℕ). not (eqb s.0 c.args.number))) c.unlink_gap.ensures.rest.pairs
-          ∙ is_kept-unmarked (λ (s : ℕ × ℕ). s) (is_marked c.args.marks.now) c.args.number (map pair_of e.segs.items) c.if-marks-number.false;
+          ∙ is_kept-unmarked (λ (s : ℕ × ℕ). s) (is_marked c.args.marks.now) c.args.number (map pair_of c.args.extents.now.segs.items) c.if-marks-number.false;
       blocks =
-          layout-removed m.segs.items m.index.items c.args.number m.kept c.remove-segment.new.self.segs.items (still g (goal.at.returns-clause-given g c).After-unlink_gap) c.remove-segment.ensures.tiling
-          ∙ ap (λ (r : Layout ℕ). r.blocks) (layout-stays e.segs.items m.segs.items c.unlink_gap.ensures.rest);
+          layout-removed _ _ c.args.number c.unlink_gap.new.extents.kept c.remove-segment.new.self.segs.items (still g (goal.at.returns-clause-given g c).After-unlink_gap) c.remove-segment.ensures.tiling
+          ∙ ap (λ (r : Layout ℕ). r.blocks) (layout-stays c.args.extents.now.segs.items c.unlink_gap.new.extents.segs.items c.unlink_gap.ensures.rest);
       count =
-          ∥∥₁_elim m.kept (hlevel (ℕ_set)) (λ k. one-gone m.segs.items c.remove-segment.new.self.segs.items c.args.number c.remove-segment.result k.segments c.remove-segment.ensures.contains c.remove-segment.ensures.number c.remove-segment.ensures.segs)
+          ∥∥₁_elim c.unlink_gap.new.extents.kept (hlevel (ℕ_set)) (λ k. one-gone c.unlink_gap.new.extents.segs.items c.remove-segment.new.self.segs.items c.args.number c.remove-segment.result k.segments c.remove-segment.ensures.contains c.remove-segment.ensures.number c.remove-segment.ensures.segs)
           ∙ ap length c.unlink_gap.ensures.rest.pairs;
     }
 
 pub returns-clause-kept : goal.returns-clause-kept
 returns-clause-kept g c =
-    let e = c.args.extents.now in
     let n = c.args.number in
-    let m = c.unlink_gap.new.extents in
-    let t1 = tiling m.segs.items in
+    let t1 = tiling c.unlink_gap.new.extents.segs.items in
     let at = goal.at.returns-clause-kept g c in
     let o = one-first (extents_of n t1) (still g at.After-unlink_gap) in
     let here = there g at.After-first-first in
-    let off : o.0.off ≡ 32 = first-off m.segs.items m.index.items n m.kept (subst (λ (ss : List (ℕ × ℕ)). IsSome (size_of n ss)) (sym c.unlink_gap.ensures.rest.pairs) here) o.0 [] o.1 in
-    let first : c.first-first.result.0 ≡ address (n, 32) = start-address e.segs.items e.index.items n e.kept here c.first-first.result.0 c.first-first.ensures in
+    let off : o.0.off ≡ 32 = first-off _ _ n c.unlink_gap.new.extents.kept (subst (λ (ss : List (ℕ × ℕ)). IsSome (size_of n ss)) (sym c.unlink_gap.ensures.rest.pairs) here) o.0 [] o.1 in
+    let first : c.first-first.result.0 ≡ address (n, 32) = start-address _ _ n c.args.extents.now.kept here c.first-first.result.0 c.first-first.ensures in
     record {
       merged =
           subst IsMerged (sym c.remove-segment.ensures.tiling)
           (All-filter (λ (s : ℕ × List Extent). not (eqb s.0 n)) (λ (s : ℕ × List Extent). is_merged false s.1 ≡ true) t1
-          (merged-stays (tiling e.segs.items) t1 c.unlink_gap.ensures.rest.extents c.requires.kept.merged));
+          (merged-stays (tiling c.args.extents.now.segs.items) t1 c.unlink_gap.ensures.rest.extents c.requires.kept.merged));
       gaps =
           gaps-removed t1 (tiling c.remove-segment.new.self.segs.items) c.unlink_gap.result.0 n o.0 [] o.1 off c.remove-segment.ensures.tiling
           (subst (λ (z : ℕ). HasGaps t1 c.unlink_gap.result.0 (z ∷ [])) first (c.unlink_gap.ensures.unlinked.gaps [] c.requires.kept.gaps));
@@ -121,14 +111,13 @@ returns-clause-kept g c =
 
 pub returns-clause-disc : goal.returns-clause-disc
 returns-clause-disc g c =
-    let m = c.unlink_gap.new.extents in
     record {
       out = λ rest e.
-          ∥∥₁_elim m.kept (hlevel (pairs-set))
+          ∥∥₁_elim c.unlink_gap.new.extents.kept (hlevel (pairs-set))
           (λ k.
           c.give_back_one.ensures.out
           ∙ (ap (without_last (pair_of c.remove-segment.result)) (e ∙ ap (λ (ss : List (ℕ × ℕ)). rest ++ ss) (sym c.unlink_gap.ensures.rest.pairs))
-          ∙ out-gone m.segs.items c.remove-segment.new.self.segs.items c.args.number c.remove-segment.result k.segments c.remove-segment.ensures.contains c.remove-segment.ensures.number c.remove-segment.ensures.segs rest));
+          ∙ out-gone c.unlink_gap.new.extents.segs.items c.remove-segment.new.self.segs.items c.args.number c.remove-segment.result k.segments c.remove-segment.ensures.contains c.remove-segment.ensures.number c.remove-segment.ensures.segs rest));
       kept = c.give_back_one.ensures.kept;
       faults = c.give_back_one.ensures.faults;
     }

@@ -1,10 +1,8 @@
 use Rattle.vc_base.proofs.Common.{◌≡◌, ℕ, true, List, map, length, IsSome, All, filter, sym, refl, ap, ◌∙◌, subst, arith, le_prop, ∥∥₁_elim, All-weaker, filter_passes, is_occupied, Block}
+use Rattle.vc_best.proofs.Common.{layout_by, pair_of, size_of}
 use Rattle.vc_seg.specs.Back.{is_kept, is_marked, stays_from}
-use Rattle.vc_seg.specs.Segment.{pair_of}
 use Rattle.vc_seg.proofs.Backs.{HasOut-left, TookBack-more, TookBack-none, stays_from-first, stays_from-last, stays_from-more}
 use Rattle.vc_seg.proofs.Filters.{filter-agree_on}
-use Rattle.vc_extent.specs.Tiling.{size_of}
-use Rattle.vc_best.specs.Blocks.{layout_by}
 use Rattle.vc_best.proofs.Backs.{all-there, left-there, pairs-first, pairs-last}
 use Rattle.vc_best.proofs.Lends.{segments-by}
 use Rattle.vc_best.proofs.compact.give_back_unmarked.Given.{Over}

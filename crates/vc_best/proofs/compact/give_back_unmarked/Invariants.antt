@@ -1,8 +1,6 @@
 use Rattle.vc_base.proofs.Common.{◌≡◌, ◌+◌, map, length, filter, TookBack}
+use Rattle.vc_best.proofs.Common.{AreKept, layout_by, pair_of}
 use Rattle.vc_seg.specs.Back.{is_marked, stays_from}
-use Rattle.vc_seg.specs.Segment.{pair_of}
-use Rattle.vc_best.specs.Blocks.{layout_by}
-use Rattle.vc_best.specs.Standing.{AreKept}
 use Rattle.vc_best.proofs.compact.give_back_unmarked.Given as goal
 
 -- of those below the number, the segments that aren't marked are back

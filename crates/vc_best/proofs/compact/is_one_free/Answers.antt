@@ -1,5 +1,5 @@
 use Rattle.vc_base.proofs.Common.{◌≡◌, ◌+◌, ◌<◌, true, false, ◌∷◌, IsSome, sym, refl, subst, arith, eq-eqb, eqb-true}
-use Rattle.vc_extent.specs.Tiling.{IsNamed, IsThere, extent_of, extents_of, tiling}
+use Rattle.vc_best.proofs.Common.{IsNamed, IsThere, extent_of, extents_of, tiling}
 use Rattle.vc_best.proofs.Layouts.{behind_of}
 use Rattle.vc_best.proofs.Nexts.{not-busy}
 use Rattle.vc_best.proofs.Segments.{one-by_span, one-not}
@@ -12,10 +12,10 @@ there : (g : Over) (c : After-first-first g) → IsThere c.args.seg c.args.exten
 there g c = subst IsSome (sym c.requires) refl
 
 named : (g : Over) (c : After-first-first g) → IsNamed (tiling c.args.extents.now.segs.items) c.first-first.result.0
-named g c = let e = c.args.extents.now in start-named e.segs.items e.index.items c.args.seg c.first-first.result.0 e.kept (there g c) c.first-first.ensures
+named g c = start-named _ _ c.args.seg c.first-first.result.0 c.args.extents.now.kept (there g c) c.first-first.ensures
 
 whole : (g : Over) (c : After-first-first g) → extents_of c.args.seg (tiling c.args.extents.now.segs.items) ≡ extent_of (tiling c.args.extents.now.segs.items) c.first-first.result.0 ∷ behind_of (tiling c.args.extents.now.segs.items) c.first-first.result.0
-whole g c = let e = c.args.extents.now in start-whole e.segs.items e.index.items c.args.seg c.first-first.result.0 e.kept (there g c) c.first-first.ensures
+whole g c = start-whole _ _ c.args.seg c.first-first.result.0 c.args.extents.now.kept (there g c) c.first-first.ensures
 
 pub is_busy-requires : goal.is_busy-requires
 is_busy-requires g c = named g (goal.at.is_busy-requires g c).After-first-first
@@ -25,30 +25,27 @@ span_at-requires g c = named g (goal.at.span_at-requires g c).After-first-first
 
 pub overflow_add-result : goal.overflow_add-result
 overflow_add-result g c =
-    let e = c.args.extents.now in
-    let end = named-end e.segs.items e.index.items c.first-first.result.0 e.kept (named g (goal.at.overflow_add-result g c).After-first-first) in
+    let end = named-end _ _ c.first-first.result.0 c.args.extents.now.kept (named g (goal.at.overflow_add-result g c).After-first-first) in
     omega arith
 
 pub returns-then-not-is_busy : goal.returns-then-not-is_busy
 returns-then-not-is_busy g c =
-    let e = c.args.extents.now in
-    let t = tiling e.segs.items in
+    let t = tiling c.args.extents.now.segs.items in
     let a = c.first-first.result.0 in
     let w = whole g (goal.at.returns-then-not-is_busy g c).After-first-first in
     let free = not-busy c.is_busy.result (extent_of t a).size c.is_busy.ensures.1 c.if-not-is_busy.true in
     let span = c.span_at.ensures.value in (
-      λ q. one-by_span e.segs.items e.index.items c.args.seg c.args.size (extent_of t a) (behind_of t a) e.kept c.requires w free (let is = eqb-true (c.span_at.result + 32) c.args.size q in omega arith),
-      λ h. eq-eqb (c.span_at.result + 32) c.args.size (let is = (one-not e.segs.items e.index.items c.args.seg c.args.size (extent_of t a) (behind_of t a) e.kept c.requires w h).1 in omega arith),
+      λ q. one-by_span _ _ c.args.seg c.args.size (extent_of t a) (behind_of t a) c.args.extents.now.kept c.requires w free (let is = eqb-true (c.span_at.result + 32) c.args.size q in omega arith),
+      λ h. eq-eqb (c.span_at.result + 32) c.args.size (let is = (one-not _ _ c.args.seg c.args.size (extent_of t a) (behind_of t a) c.args.extents.now.kept c.requires w h).1 in omega arith),
     )
 
 pub returns-else-not-is_busy : goal.returns-else-not-is_busy
 returns-else-not-is_busy g c =
-    let e = c.args.extents.now in
-    let t = tiling e.segs.items in
+    let t = tiling c.args.extents.now.segs.items in
     let a = c.first-first.result.0 in
     let w = whole g (goal.at.returns-else-not-is_busy g c).After-first-first in
     let yes : c.is_busy.result ≡ true = c.if-not-is_busy.false in
     let busy : 0 < (extent_of t a).size = c.is_busy.ensures.0 yes in (
       λ q. absurd (let no : false ≡ true = rw yes at q in cc),
-      λ h. absurd (let free = (one-not e.segs.items e.index.items c.args.seg c.args.size (extent_of t a) (behind_of t a) e.kept c.requires w h).0 in omega arith),
+      λ h. absurd (let free = (one-not _ _ c.args.seg c.args.size (extent_of t a) (behind_of t a) c.args.extents.now.kept c.requires w h).0 in omega arith),
     )

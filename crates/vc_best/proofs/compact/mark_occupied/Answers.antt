@@ -1,13 +1,11 @@
 use Rattle.vc_base.proofs.Common.{◌≡◌, ℕ, true, false, eqb, sym, ap, ◌∙◌, subst, ⊎_elim, arith, length-set, get_or-set_other, eqb-true, le_prop, ∥∥₁_elim, cases_Bool, eqb-false, is_occupied}
+use Rattle.vc_best.proofs.Common.{IsThere, layout_by}
 use Rattle.std.proofs.lemmas.Grind.{get_or-set_at}
-use Rattle.vc_extent.specs.Tiling.{IsThere}
 use Rattle.vc_extent.proofs.Places.{there-first, there-last}
-use Rattle.vc_best.specs.Blocks.{layout_by}
 use Rattle.vc_best.proofs.compact.mark_occupied.Goals as goal
 
 pub loop-number-preserved : goal.loop-number-preserved
 loop-number-preserved g c =
-    let e = c.args.extents.now in
     record {
       long = length-set c.loop-number.marks c.loop-number.number c.has_block.result ∙ c.loop-number.invariant.long;
       marks = λ n first lt there.
@@ -17,7 +15,7 @@ loop-number-preserved g c =
           let is = eqb-true n m t in
           let within = c.loop-number.invariant.long in
           get_or-set_at c.loop-number.marks m n c.has_block.result false is (omega arith)
-          ∙ c.has_block.ensures (subst (λ (k : ℕ). IsThere k e.segs.items) is there) ∙ ap (is_occupied (layout_by e.segs.items).blocks) (sym is))
+          ∙ c.has_block.ensures (subst (λ (k : ℕ). IsThere k c.args.extents.now.segs.items) is there) ∙ ap (is_occupied (layout_by c.args.extents.now.segs.items).blocks) (sym is))
           (λ (t : eqb n m ≡ false).
           let other = eqb-false n m t in
           get_or-set_other c.loop-number.marks m n c.has_block.result false other ∙ c.loop-number.invariant.marks n first (omega arith) there)
@@ -26,7 +24,6 @@ loop-number-preserved g c =
 
 pub returns-clause-marks : goal.returns-clause-marks
 returns-clause-marks g c = λ n there.
-    let e = c.args.extents.now in
-    let first = ∥∥₁_elim e.kept le_prop (λ k. there-first n e.segs.items k.segments.legal there) in
-    let last = ∥∥₁_elim e.kept le_prop (λ k. there-last n e.segs.items k.segments.legal there) in
+    let first = ∥∥₁_elim c.args.extents.now.kept le_prop (λ k. there-first n c.args.extents.now.segs.items k.segments.legal there) in
+    let last = ∥∥₁_elim c.args.extents.now.kept le_prop (λ k. there-last n c.args.extents.now.segs.items k.segments.legal there) in
     c.loop-number.invariant.marks n first (omega arith) there

@@ -1,7 +1,6 @@
 use Rattle.vc_base.proofs.Common.{◌≡◌, ℕ, ◌<◌, ◌≤◌, length, is_occupied}
+use Rattle.vc_best.proofs.Common.{IsThere, layout_by}
 use Rattle.vc_seg.specs.Back.{is_marked}
-use Rattle.vc_extent.specs.Tiling.{IsThere}
-use Rattle.vc_best.specs.Blocks.{layout_by}
 use Rattle.vc_best.proofs.compact.mark_occupied.Given as goal
 
 -- of the numbers below this one, those are marked in whose segments a block is

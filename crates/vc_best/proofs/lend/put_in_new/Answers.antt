@@ -1,13 +1,12 @@
 use Rattle.vc_base.proofs.Common.{◌≡◌, ℕ, ◌+◌, ◌-◌, ◌≤◌, false, ◌≢◌, List, Err, Result, IsErrOf, sym, ap, ◌∙◌, subst, arith, place_of, best_need, IsSegmentSize, Terms, Layout, with_grant, Granted, TooMany, ask, new_segment, round_up, span}
-use Rattle.vc_base.specs.declared.addr.Addr.{Addr}
+use Rattle.vc_best.proofs.Common.{Addr, AreWhole, IsPutInGap, layout_by}
 use Rattle.vc_seg.specs.declared.fault.RegionFault.{RegionFault}
 use Rattle.vc_seg.proofs.Rounding.{round_up-least}
 use Rattle.vc_seg.specs.declared.fault.RegionFault.TheVariants as code
 use Rattle.vc_seg.specs.Lend.{IsNoGrant}
 use Rattle.vc_extent.specs.declared.extents.Extents.{Extents}
-use Rattle.vc_best.specs.Blocks.{layout_by}
-use Rattle.vc_best.specs.Standing.{AreWhole, IsPutInGap}
-use Rattle.vc_best.proofs.Asking.{Answers-fault, Answers-granted, Served-granted}
+use Rattle.vc_layouts.proofs.Segments.{Served-granted}
+use Rattle.vc_best.proofs.Asking.{Answers-fault, Answers-granted}
 use Rattle.vc_best.proofs.BlockCounts.{put-count}
 use Rattle.vc_best.proofs.Lends.{lent-out, segments-by}
 use Rattle.vc_best.proofs.Rounding.{IsAligned-from_IsAlign, IsSegmentSize-need}
@@ -40,25 +39,23 @@ lend_next-requires-clause-bytes g c = legal g (goal.at.lend_next-requires-clause
 
 pub put_in_out-requires : goal.put_in_out-requires
 put_in_out-requires g c =
-    let e = c.args.extents.now in
     let b = (goal.at.put_in_out-requires g c).After-rounded_up-bytes in
-    lent-out e.segs.items c.lend_next.new.extents.segs.items e.index.items e.kept c.args.root.now.0 c.in-Ok.number c.rounded_up-bytes.result c.args.size c.args.align c.new-a.result.0 c.new-a.ensures.place c.new-a.ensures.value
+    lent-out _ c.lend_next.new.extents.segs.items _ c.args.extents.now.kept c.args.root.now.0 c.in-Ok.number c.rounded_up-bytes.result c.args.size c.args.align c.new-a.result.0 c.new-a.ensures.place c.new-a.ensures.value
     (terms g b) c.in-Ok.ensures.lent c.requires.allowed c.requires.whole c.requires.none (legal g b) (fits g b)
 
 pub returns-in-Ok-clause-put : goal.returns-in-Ok-clause-put
 returns-in-Ok-clause-put g c =
-    let e = c.args.extents.now in
     let n = c.in-Ok.number in
     let bytes = c.rounded_up-bytes.result in
-    let old = layout_by e.segs.items in
+    let old = layout_by c.args.extents.now.segs.items in
     let new = layout_by c.put_in_out.new.extents.segs.items in
     let lent = with_grant old (new_segment n bytes) in
     let b = (goal.at.returns-in-Ok-clause-put g c).After-rounded_up-bytes in
     let l = c.in-Ok.ensures.lent in
     let put : IsPutInGap lent new c.args.tag c.args.size c.args.align c.put_in_out.result.0 =
-    subst (λ (r : Layout ℕ). IsPutInGap r new c.args.tag c.args.size c.args.align c.put_in_out.result.0) (layout-added e.segs.items c.lend_next.new.extents.segs.items n bytes (bytes - 32) l.extents l.pairs) c.put_in_out.ensures.put in
+    subst (λ (r : Layout ℕ). IsPutInGap r new c.args.tag c.args.size c.args.align c.put_in_out.result.0) (layout-added c.args.extents.now.segs.items c.lend_next.new.extents.segs.items n bytes (bytes - 32) l.extents l.pairs) c.put_in_out.ensures.put in
     let granted : ask (terms g b) (best_need (terms g b) c.args.size c.args.align) old.segments false ≡ Granted (new_segment n bytes) =
-    ap (λ (k : ℕ). ask (terms g b) k old.segments false) (sym (need g b)) ∙ ap (λ (ss : List (ℕ × ℕ)). ask (terms g b) bytes ss false) (segments-by e.segs.items) ∙ l.granted in
+    ap (λ (k : ℕ). ask (terms g b) k old.segments false) (sym (need g b)) ∙ ap (λ (ss : List (ℕ × ℕ)). ask (terms g b) bytes ss false) (segments-by c.args.extents.now.segs.items) ∙ l.granted in
     record {
       answer = Answers-granted old new (terms g b) c.args.tag c.args.size c.args.align c.requires.none (new_segment n bytes) granted c.put_in_out.result put;
       count = put-count lent new c.args.tag c.args.size (place_of c.put_in_out.result.0) put.layout;

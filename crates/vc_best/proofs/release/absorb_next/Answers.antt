@@ -1,6 +1,5 @@
 use Rattle.vc_base.proofs.Common.{◌≡◌, IsSomeAnd, Some, Option, sym, refl, ◌∙◌, subst, arith, ∥∥₁_elim, address, place_of}
-use Rattle.vc_extent.specs.Extent.{Extent}
-use Rattle.vc_extent.specs.Tiling.{extent_of, next_of, tiling}
+use Rattle.vc_best.proofs.Common.{Extent, extent_of, next_of, tiling}
 use Rattle.vc_best.proofs.FreeGaps.{gaps-joined_next, gaps-unjoined, joined-free}
 use Rattle.vc_best.proofs.Known.{cut-of}
 use Rattle.vc_best.proofs.Linking.{name-busy, name-none, next-size}
@@ -12,10 +11,9 @@ use Rattle.vc_best.proofs.release.absorb_next.Goals.{After-is_busy}
 
 pub returns-in_default-clause-changed : goal.returns-in_default-clause-changed
 returns-in_default-clause-changed c =
-    let e = c.args.extents.now in
-    let t = tiling e.segs.items in
+    let t = tiling c.args.extents.now.segs.items in
     record {
-      tiling = ∥∥₁_elim e.kept (hlevel (tiling-set)) (λ k. absorb-none t c.args.a.0 (cut-of e.segs.items e.index.items c.args.a.0 k c.requires.free.named) (no-address _ (next_of t c.args.a.0) c.in_default.ensures.value));
+      tiling = ∥∥₁_elim c.args.extents.now.kept (hlevel (tiling-set)) (λ k. absorb-none t c.args.a.0 (cut-of _ _ c.args.a.0 k c.requires.free.named) (no-address _ (next_of t c.args.a.0) c.in_default.ensures.value));
       pairs = refl;
     }
 
@@ -25,9 +23,8 @@ behind c = some-address _ c.in-Some.next.0 (next_of (tiling c.args.extents.now.s
 
 size : (c : After-is_busy) → (extent_of (tiling c.args.extents.now.segs.items) c.in-Some.next.0).size ≡ (behind c).0.size
 size c =
-    let e = c.args.extents.now in
     let f = behind c in
-    next-size e.segs.items e.index.items e.kept c.args.a.0 c.requires.free.named c.in-Some.next.0 f.0 f.1 f.2
+    next-size _ _ c.args.extents.now.kept c.args.a.0 c.requires.free.named c.in-Some.next.0 f.0 f.1 f.2
 
 pub join-requires-clause-next : goal.join-requires-clause-next
 join-requires-clause-next c =
@@ -37,25 +34,23 @@ join-requires-clause-next c =
 
 pub returns-then-not-is_busy-clause-changed : goal.returns-then-not-is_busy-clause-changed
 returns-then-not-is_busy-clause-changed c =
-    let e = c.args.extents.now in
-    let t = tiling e.segs.items in
+    let t = tiling c.args.extents.now.segs.items in
     let n = (goal.at.returns-then-not-is_busy-clause-changed c).After-is_busy in
     let f = behind n in
     let free = sym (size n) ∙ not-busy c.is_busy.result (extent_of t c.in-Some.next.0).size c.is_busy.ensures.1 c.if-not-is_busy.true in
     record {
-      tiling = ∥∥₁_elim e.kept (hlevel (tiling-set)) (λ k. c.join.ensures.tiling ∙ absorb-free_next t c.args.a.0 (cut-of e.segs.items e.index.items c.args.a.0 k c.requires.free.named) f.0 f.1 free);
+      tiling = ∥∥₁_elim c.args.extents.now.kept (hlevel (tiling-set)) (λ k. c.join.ensures.tiling ∙ absorb-free_next t c.args.a.0 (cut-of _ _ c.args.a.0 k c.requires.free.named) f.0 f.1 free);
       pairs = c.join.ensures.pairs;
     }
 
 pub returns-else-not-is_busy-clause-changed : goal.returns-else-not-is_busy-clause-changed
 returns-else-not-is_busy-clause-changed c =
-    let e = c.args.extents.now in
     let n = (goal.at.returns-else-not-is_busy-clause-changed c).After-is_busy in
     let f = behind n in
     let s = size n in
     let busy = c.is_busy.ensures.0 c.if-not-is_busy.false in
     record {
-      tiling = ∥∥₁_elim e.kept (hlevel (tiling-set)) (λ k. absorb-busy_next (tiling e.segs.items) c.args.a.0 (cut-of e.segs.items e.index.items c.args.a.0 k c.requires.free.named) f.0 f.1 (omega (arith, s, busy)));
+      tiling = ∥∥₁_elim c.args.extents.now.kept (hlevel (tiling-set)) (λ k. absorb-busy_next (tiling c.args.extents.now.segs.items) c.args.a.0 (cut-of _ _ c.args.a.0 k c.requires.free.named) f.0 f.1 (omega (arith, s, busy)));
       pairs = refl;
     }
 
@@ -74,15 +69,11 @@ returns-else-not-is_busy-clause-gaps c =
 
 pub returns-then-not-is_busy-clause-gaps : goal.returns-then-not-is_busy-clause-gaps
 returns-then-not-is_busy-clause-gaps c =
-    let e = c.args.extents.now in
-    let m = c.join.new.self in
     let n = (goal.at.returns-then-not-is_busy-clause-gaps c).After-is_busy in
-    let free = sym (size n) ∙ not-busy c.is_busy.result (extent_of (tiling e.segs.items) c.in-Some.next.0).size c.is_busy.ensures.1 c.if-not-is_busy.true in
-    gaps-joined_next e.segs.items m.segs.items e.index.items m.index.items e.kept m.kept c.args.a.0 (behind n).0 c.requires.free c.join.ensures.tiling (behind n).1 free
+    let free = sym (size n) ∙ not-busy c.is_busy.result (extent_of (tiling c.args.extents.now.segs.items) c.in-Some.next.0).size c.is_busy.ensures.1 c.if-not-is_busy.true in
+    gaps-joined_next _ _ _ _ c.args.extents.now.kept c.join.new.self.kept c.args.a.0 (behind n).0 c.requires.free c.join.ensures.tiling (behind n).1 free
 
 pub returns-then-not-is_busy-clause-free : goal.returns-then-not-is_busy-clause-free
 returns-then-not-is_busy-clause-free c =
-    let e = c.args.extents.now in
-    let m = c.join.new.self in
     let f = behind (goal.at.returns-then-not-is_busy-clause-free c).After-is_busy in
-    joined-free e.segs.items m.segs.items e.index.items m.index.items e.kept m.kept c.args.a.0 f.0 c.requires.free c.join.ensures.tiling f.1
+    joined-free _ _ _ _ c.args.extents.now.kept c.join.new.self.kept c.args.a.0 f.0 c.requires.free c.join.ensures.tiling f.1

@@ -1,8 +1,5 @@
 use Rattle.vc_base.proofs.Common.{◌≡◌, ℕ, suc, ◌<◌, List, ◌++◌, length, get_or, drop, sym, ap, ◌∙◌, subst, add-one}
-use Rattle.vc_seg.specs.Segment.{Bytes}
-use Rattle.vc_extent.specs.Extent.{Extent, extents}
-use Rattle.vc_extent.specs.Tiling.{IsThere, extents_of, tiling}
-use Rattle.vc_best.specs.Counts.{HaveRoom, all_extents, counts_with}
+use Rattle.vc_best.proofs.Common.{Bytes, Extent, HaveRoom, IsThere, all_extents, counts_with, extents, extents_of, tiling}
 use Rattle.vc_best.proofs.Along.{pair-at, there-at, tiling-next}
 use Rattle.vc_best.proofs.Counts.{counted-append, room-front, room-rest}
 use Rattle.vc_best.proofs.stat.count_all.Given.{Over}

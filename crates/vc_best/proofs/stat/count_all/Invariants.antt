@@ -1,6 +1,5 @@
 use Rattle.vc_base.proofs.Common.{◌≡◌, drop}
-use Rattle.vc_extent.specs.Tiling.{tiling}
-use Rattle.vc_best.specs.Counts.{HaveRoom, all_extents, counts_with, counts_of_none}
+use Rattle.vc_best.proofs.Common.{HaveRoom, all_extents, counts_of_none, counts_with, tiling}
 use Rattle.vc_best.proofs.stat.count_all.Given as goal
 
 -- the counts so far, taken on over the segments that are left, are the result

@@ -1,6 +1,5 @@
 use Rattle.vc_base.proofs.Common.{◌≡◌, length}
-use Rattle.vc_extent.specs.Tiling.{extents_of, tiling}
-use Rattle.vc_best.specs.Counts.{HaveRoom, counts_with}
+use Rattle.vc_best.proofs.Common.{HaveRoom, counts_with, extents_of, tiling}
 use Rattle.vc_best.proofs.Walks.{IsOn, left}
 use Rattle.vc_best.proofs.stat.count_segment.Given as goal
 

@@ -1,14 +1,8 @@
 use Rattle.vc_base.proofs.Common.{◌≡◌, ℕ, ◌-◌, ◌<◌, ◌≤◌, List, ◌++◌, replicate, sym, refl, ap, ◌∙◌, subst, arith, ∥∥₁_elim, with_bytes}
-use Rattle.vc_extent.specs.Extent.{Extent, busy_extent}
-use Rattle.vc_extent.specs.Change.{write}
-use Rattle.vc_extent.specs.Tiling.{IsBusy, change_extent, extent_of, tiling}
-use Rattle.vc_best.specs.Blocks.{layout_by}
-use Rattle.vc_best.specs.Free.{IsMerged}
+use Rattle.vc_best.proofs.Common.{Extent, HasGaps, IsBusy, IsMerged, busy_extent, change_extent, extent_of, free_next, layout_by, tiling, write}
 use Rattle.vc_best.proofs.Held.{layout-written}
 use Rattle.vc_best.proofs.Known.{cut-of}
 use Rattle.vc_best.proofs.Merges.{merged-one}
-use Rattle.vc_gaps.specs.GapTree.{HasGaps}
-use Rattle.vc_best.specs.Beside.{free_next}
 use Rattle.vc_best.proofs.Outs.{gaps-written, next-written, written-busy}
 use Rattle.vc_best.proofs.OtherSizes.{moved-busy, moved-extent, moved-merged, there-cut, there-filled}
 use Rattle.vc_best.proofs.Sets.{merged-prop}
@@ -19,15 +13,11 @@ use Rattle.vc_best.proofs.stay.resize_there.Goals.{After-move_border}
 -- once the border behind it has moved it is busy still, and no two free extents stand beside each other
 moved : (g : Over) (c : After-move_border g) → IsBusy (tiling c.move_border.new.extents.segs.items) c.args.a.0
 moved g c =
-    let e = c.args.extents.now in
-    let n = c.move_border.new.extents in
-    moved-busy e.segs.items n.segs.items e.index.items n.index.items c.args.a.0 c.args.size (extent_of (tiling n.segs.items) c.args.a.0).body e.kept n.kept c.requires.busy c.requires.sized.some c.requires.room c.move_border.ensures.moved.border c.move_border.ensures.moved.pairs
+    moved-busy _ _ _ _ c.args.a.0 c.args.size (extent_of (tiling c.move_border.new.extents.segs.items) c.args.a.0).body c.args.extents.now.kept c.move_border.new.extents.kept c.requires.busy c.requires.sized.some c.requires.room c.move_border.ensures.moved.border c.move_border.ensures.moved.pairs
 
 merged : (g : Over) (c : After-move_border g) → IsMerged (tiling c.move_border.new.extents.segs.items)
 merged g c =
-    let e = c.args.extents.now in
-    let n = c.move_border.new.extents in
-    moved-merged e.segs.items n.segs.items e.index.items n.index.items c.args.a.0 c.args.size (extent_of (tiling n.segs.items) c.args.a.0).body e.kept n.kept c.requires.busy c.requires.sized.some c.requires.room c.move_border.ensures.moved.border c.move_border.ensures.moved.pairs c.requires.merged
+    moved-merged _ _ _ _ c.args.a.0 c.args.size (extent_of (tiling c.move_border.new.extents.segs.items) c.args.a.0).body c.args.extents.now.kept c.move_border.new.extents.kept c.requires.busy c.requires.sized.some c.requires.room c.move_border.ensures.moved.border c.move_border.ensures.moved.pairs c.requires.merged
 
 pub fill-requires-clause-busy : goal.fill-requires-clause-busy
 fill-requires-clause-busy g c = moved g (goal.at.fill-requires-clause-busy g c).After-move_border
@@ -72,8 +62,7 @@ returns-then-old-size-clause-named g c =
 
 pub returns-then-old-size-clause-gaps : goal.returns-then-old-size-clause-gaps
 returns-then-old-size-clause-gaps g c =
-    let n = c.move_border.new.extents in
-    let t1 = tiling n.segs.items in
+    let t1 = tiling c.move_border.new.extents.segs.items in
     let t2 = tiling c.fill.new.self.segs.items in
     let a = c.args.a.0 in
     let busy = moved g (goal.at.returns-then-old-size-clause-gaps g c).After-move_border in
@@ -81,7 +70,7 @@ returns-then-old-size-clause-gaps g c =
     let src = replicate (c.args.size - off) 0 in
     record {
       gaps = λ root out h.
-          subst (λ (ns : List ℕ). HasGaps t2 root (ns ++ out)) (sym (next-written n.segs.items n.index.items n.kept t2 a off src busy.named c.fill.ensures.tiling))
+          subst (λ (ns : List ℕ). HasGaps t2 root (ns ++ out)) (sym (next-written _ _ c.move_border.new.extents.kept t2 a off src busy.named c.fill.ensures.tiling))
           (gaps-written t1 t2 a off src c.fill.ensures.tiling busy root (free_next t1 a ++ out) (c.move_border.ensures.gaps.gaps root out h));
       same_span = λ same root out h. gaps-written t1 t2 a off src c.fill.ensures.tiling busy root out (c.move_border.ensures.gaps.same_span same root out h);
     }

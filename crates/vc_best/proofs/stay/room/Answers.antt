@@ -1,7 +1,5 @@
 use Rattle.vc_base.proofs.Common.{◌≡◌, ℕ, ◌+◌, ◌≤◌, Some, sym, ap, ◌∙◌, arith, le_prop, ∥∥₁_elim, ℕ_set, address, place_of}
-use Rattle.vc_extent.specs.Extent.{Extent}
-use Rattle.vc_extent.specs.Tiling.{extent_of, next_of, tiling}
-use Rattle.vc_best.specs.Free.{free_bytes}
+use Rattle.vc_best.proofs.Common.{Extent, extent_of, free_bytes, next_of, tiling}
 use Rattle.vc_best.proofs.Borders.{free-busy, free-free}
 use Rattle.vc_best.proofs.Known.{cut-of}
 use Rattle.vc_best.proofs.Linking.{next-size}
@@ -17,30 +15,27 @@ behind g c = some-address (place_of c.args.a.0).0 c.in-Some.next.0 (next_of (til
 
 size : (g : Over) (c : After-is_busy g) → (extent_of (tiling c.args.extents.now.segs.items) c.in-Some.next.0).size ≡ (behind g c).0.size
 size g c =
-    let e = c.args.extents.now in
     let f = behind g c in
-    next-size e.segs.items e.index.items e.kept c.args.a.0 c.requires.named c.in-Some.next.0 f.0 f.1 f.2
+    next-size _ _ c.args.extents.now.kept c.args.a.0 c.requires.named c.in-Some.next.0 f.0 f.1 f.2
 
 span : (g : Over) (c : After-is_busy g) → (extent_of (tiling c.args.extents.now.segs.items) c.in-Some.next.0).span ≡ (behind g c).0.span
 span g c =
-    let e = c.args.extents.now in
     let f = behind g c in
-    ∥∥₁_elim e.kept (hlevel (ℕ_set)) (λ k. ap (λ (x : Extent). x.span) (next-extent (tiling e.segs.items) c.args.a.0 c.in-Some.next.0 f.0 (cut-of e.segs.items e.index.items c.args.a.0 k c.requires.named) f.1 f.2))
+    ∥∥₁_elim c.args.extents.now.kept (hlevel (ℕ_set)) (λ k. ap (λ (x : Extent). x.span) (next-extent (tiling c.args.extents.now.segs.items) c.args.a.0 c.in-Some.next.0 f.0 (cut-of _ _ c.args.a.0 k c.requires.named) f.1 f.2))
 
 pub overflow_add-result : goal.overflow_add-result
 overflow_add-result g c =
-    let e = c.args.extents.now in
-    let t = tiling e.segs.items in
+    let t = tiling c.args.extents.now.segs.items in
     let a = c.args.a.0 in
     let b = c.in-Some.next.0 in
     let f = behind g (goal.at.overflow_add-result g c).After-is_busy in
     let end : (place_of a).1 + (extent_of t a).span + (extent_of t b).span ≤ 33554432 =
-    ∥∥₁_elim e.kept (hlevel (le_prop))
+    ∥∥₁_elim c.args.extents.now.kept (hlevel (le_prop))
     (λ k.
-    let cut = cut-of e.segs.items e.index.items a k c.requires.named in
+    let cut = cut-of _ _ a k c.requires.named in
     let o = next-off t a b f.0 cut f.1 f.2 in
     let p = ap (λ (q : ℕ × ℕ). q.1) (next-place t a b f.0 cut f.1 f.2) in
-    let m = named-end e.segs.items e.index.items b e.kept c.in-Some.ensures.named in
+    let m = named-end _ _ b c.args.extents.now.kept c.in-Some.ensures.named in
     omega arith) in
     omega (arith, end, c.span_at-own.ensures.value, c.span_at.ensures.value)
 

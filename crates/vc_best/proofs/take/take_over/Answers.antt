@@ -1,6 +1,5 @@
 use Rattle.vc_base.proofs.Common.{◌≡◌, ◌≤◌, ◌⊎◌, [], take, sym, ◌∙◌, inl, inr, arith, place_of}
-use Rattle.vc_extent.specs.Tiling.{extent_of, tiling}
-use Rattle.vc_best.specs.Blocks.{layout_by}
+use Rattle.vc_best.proofs.Common.{extent_of, layout_by, tiling}
 use Rattle.vc_best.proofs.Moves.{body-long, copied-busy, copied-layout, copied-merged, take-both, taken-over}
 use Rattle.vc_best.proofs.BlockCounts.{freed-count, written-count}
 use Rattle.vc_best.proofs.Found.{has-of}
@@ -14,13 +13,11 @@ free_block-requires-clause-busy g c = copied-busy c.args.extents.now.segs.items 
 
 pub free_block-requires-clause-kept : goal.free_block-requires-clause-kept
 free_block-requires-clause-kept g c =
-    let e = c.args.extents.now in
-    let n = c.copy.new.self in
-    let t = tiling e.segs.items in
+    let t = tiling c.args.extents.now.segs.items in
     let src = take c.if-own-size.len (extent_of t c.args.a.0).body in
     record {
-      merged = copied-merged e.segs.items n.segs.items e.index.items n.index.items c.args.a.0 c.args.to.0 src e.kept n.kept c.requires.busy c.requires.to c.copy.ensures.tiling c.copy.ensures.pairs c.requires.whole.kept.merged;
-      gaps = gaps-written t (tiling n.segs.items) c.args.to.0 0 src c.copy.ensures.tiling c.requires.to c.args.root.now.0 [] c.requires.whole.kept.gaps;
+      merged = copied-merged _ _ _ _ c.args.a.0 c.args.to.0 src c.args.extents.now.kept c.copy.new.self.kept c.requires.busy c.requires.to c.copy.ensures.tiling c.copy.ensures.pairs c.requires.whole.kept.merged;
+      gaps = gaps-written t (tiling c.copy.new.self.segs.items) c.args.to.0 0 src c.copy.ensures.tiling c.requires.to c.args.root.now.0 [] c.requires.whole.kept.gaps;
     }
 
 pub returns-clause-moved : goal.returns-clause-moved
@@ -28,20 +25,18 @@ returns-clause-moved g c =
     let own = c.size_at-own.result in
     let len : ((c.if-own-size.len ≡ own) × (own ≤ c.args.size)) ⊎ (c.if-own-size.len ≡ c.args.size) =
     elim c.if-own-size.branch [ then-own-size w ↦ inl (w.len-is, let lt = w.if-own-size in omega arith) | else-own-size w ↦ inr w.len-is ] in
-    let e = c.args.extents.now in
-    let n = c.copy.new.self in
-    let r = layout_by e.segs.items in
-    let m = layout_by n.segs.items in
+    let r = layout_by c.args.extents.now.segs.items in
+    let m = layout_by c.copy.new.self.segs.items in
     let last = layout_by c.free_block.new.extents.segs.items in
-    let body = (extent_of (tiling e.segs.items) c.args.a.0).body in
+    let body = (extent_of (tiling c.args.extents.now.segs.items) c.args.a.0).body in
     let src = take c.if-own-size.len body in
-    let long = body-long e.segs.items e.index.items c.args.a.0 e.kept c.requires.busy ∙ sym c.size_at-own.ensures in
-    let copied = copied-layout e.segs.items n.segs.items e.index.items n.index.items c.args.a.0 c.args.to.0 src e.kept n.kept c.requires.busy c.requires.to c.copy.ensures.tiling c.copy.ensures.pairs in
-    let busy = copied-busy e.segs.items n.segs.items e.index.items n.index.items c.args.a.0 c.args.to.0 src e.kept n.kept c.requires.busy c.requires.to c.copy.ensures.tiling c.copy.ensures.pairs in
+    let long = body-long _ _ c.args.a.0 c.args.extents.now.kept c.requires.busy ∙ sym c.size_at-own.ensures in
+    let copied = copied-layout _ _ _ _ c.args.a.0 c.args.to.0 src c.args.extents.now.kept c.copy.new.self.kept c.requires.busy c.requires.to c.copy.ensures.tiling c.copy.ensures.pairs in
+    let busy = copied-busy _ _ _ _ c.args.a.0 c.args.to.0 src c.args.extents.now.kept c.copy.new.self.kept c.requires.busy c.requires.to c.copy.ensures.tiling c.copy.ensures.pairs in
     record {
-      moved = taken-over e.segs.items n.segs.items e.index.items n.index.items c.args.a.0 c.args.to.0 src e.kept n.kept c.requires.busy c.requires.to c.copy.ensures.tiling c.copy.ensures.pairs last c.args.size c.free_block.ensures.layout (take-both c.if-own-size.len own c.args.size body long len);
+      moved = taken-over _ _ _ _ c.args.a.0 c.args.to.0 src c.args.extents.now.kept c.copy.new.self.kept c.requires.busy c.requires.to c.copy.ensures.tiling c.copy.ensures.pairs last c.args.size c.free_block.ensures.layout (take-both c.if-own-size.len own c.args.size body long len);
       count =
-          freed-count n.segs.items n.index.items n.kept c.args.a.0 last (has-of n.segs.items n.index.items c.args.a.0 n.kept busy)
+          freed-count _ _ c.copy.new.self.kept c.args.a.0 last (has-of _ _ c.args.a.0 c.copy.new.self.kept busy)
           (most-written r m (place_of c.args.to.0) 0 src copied c.requires.whole.sizes) c.free_block.ensures.layout
           ∙ written-count r m (place_of c.args.to.0) 0 src copied;
     }

@@ -1,11 +1,8 @@
 use Rattle.vc_base.proofs.Common.{ℕ, List, [], ◌∷◌, ◌++◌, sym, refl, ap, ◌∙◌, subst, place_of, without_block_at, Layout}
+use Rattle.vc_best.proofs.Common.{HasGaps, StaysButLinks, free_before, free_next, tiling}
 use Rattle.vc_base.proofs.Members.{within-head}
-use Rattle.vc_extent.specs.Tiling.{tiling}
-use Rattle.vc_gaps.specs.ButLinks.{StaysButLinks}
 use Rattle.vc_gaps.specs.GapLaws.{but_links_twice}
-use Rattle.vc_gaps.specs.GapTree.{HasGaps}
 use Rattle.vc_gaps.proofs.GapTrees.{can_link-out}
-use Rattle.vc_best.specs.Beside.{free_before, free_next}
 use Rattle.vc_best.proofs.Linking.{gaps-none_more}
 use Rattle.vc_best.proofs.Plain.{before_name-stays, busy-still, layout-stays, merged-stays, named-stays, next_name-stays}
 use Rattle.vc_best.proofs.tree.free_block.Given.{Over}

@@ -1,9 +1,7 @@
 use Rattle.vc_base.proofs.Common.{◌≡◌, ℕ, true, List, [], ◌∷◌, sym, refl, subst, contains}
+use Rattle.vc_best.proofs.Common.{HasGaps, extent_of, free_next, tiling}
 use Rattle.vc_base.proofs.Members.{within-head}
-use Rattle.vc_extent.specs.Tiling.{extent_of, tiling}
-use Rattle.vc_gaps.specs.GapTree.{HasGaps}
 use Rattle.vc_gaps.proofs.GapTrees.{can_link-out}
-use Rattle.vc_best.specs.Beside.{free_next}
 use Rattle.vc_best.proofs.Linking.{next-not, next-one}
 use Rattle.vc_best.proofs.Nexts.{not-busy}
 use Rattle.vc_best.proofs.tree.link_next.Given.{Over}
@@ -13,18 +11,16 @@ use Rattle.vc_best.proofs.tree.link_next.Goals.{Then-not-is_busy}
 -- the extent behind is the one that is out
 free : (g : Over) (c : Then-not-is_busy g) → free_next (tiling c.args.extents.now.segs.items) c.args.a.0 ≡ c.in-Some.next.0 ∷ []
 free g c =
-    let e = c.args.extents.now in
     let b = c.in-Some.next.0 in
-    next-one e.segs.items e.index.items e.kept c.args.a.0 c.requires.named b c.in-Some.ensures.value (not-busy c.is_busy.result (extent_of (tiling e.segs.items) b).size c.is_busy.ensures.1 c.if-not-is_busy.true)
+    next-one _ _ c.args.extents.now.kept c.args.a.0 c.requires.named b c.in-Some.ensures.value (not-busy c.is_busy.result (extent_of (tiling c.args.extents.now.segs.items) b).size c.is_busy.ensures.1 c.if-not-is_busy.true)
 
 pub link_gap-requires : goal.link_gap-requires
 link_gap-requires g c =
-    let e = c.args.extents.now in
-    let t = tiling e.segs.items in
+    let t = tiling c.args.extents.now.segs.items in
     let b = c.in-Some.next.0 in
     can_link-out t c.args.root.now.0 (free_next t c.args.a.0) b c.requires.gaps
     (subst (λ (ns : List ℕ). contains ns b ≡ true) (sym (free g (goal.at.link_gap-requires g c).Then-not-is_busy)) (within-head b []))
-    (record { named = c.in-Some.ensures.named; free = not-busy c.is_busy.result (extent_of (tiling e.segs.items) b).size c.is_busy.ensures.1 c.if-not-is_busy.true })
+    (record { named = c.in-Some.ensures.named; free = not-busy c.is_busy.result (extent_of (tiling c.args.extents.now.segs.items) b).size c.is_busy.ensures.1 c.if-not-is_busy.true })
 
 pub returns-then-not-is_busy-clause-gaps : goal.returns-then-not-is_busy-clause-gaps
 returns-then-not-is_busy-clause-gaps g c =
@@ -33,6 +29,5 @@ returns-then-not-is_busy-clause-gaps g c =
 
 pub returns-else-not-is_busy-clause-gaps : goal.returns-else-not-is_busy-clause-gaps
 returns-else-not-is_busy-clause-gaps g c =
-    let e = c.args.extents.now in
-    subst (HasGaps (tiling e.segs.items) c.args.root.now.0)
-    (next-not e.segs.items e.index.items e.kept c.args.a.0 c.requires.named c.in-Some.next.0 c.in-Some.ensures.value (c.is_busy.ensures.0 c.if-not-is_busy.false)) c.requires.gaps
+    subst (HasGaps (tiling c.args.extents.now.segs.items) c.args.root.now.0)
+    (next-not _ _ c.args.extents.now.kept c.args.a.0 c.requires.named c.in-Some.next.0 c.in-Some.ensures.value (c.is_busy.ensures.0 c.if-not-is_busy.false)) c.requires.gaps

@@ -1,9 +1,5 @@
 use Rattle.vc_base.proofs.Common.{◌≡◌, ◌+◌, ◌<◌, false, [], ◌++◌, IfSome, Some, None, Option, refl, ◌∙◌, contains, address, place_of, span}
-use Rattle.vc_base.specs.declared.addr.Addr.{Addr}
-use Rattle.vc_extent.specs.Tiling.{change_extent, extent_of, tiling}
-use Rattle.vc_gaps.specs.GapTree.{HasGaps}
-use Rattle.vc_best.specs.Beside.{some_name}
-use Rattle.vc_best.specs.Changes.{carve, cut_back}
+use Rattle.vc_best.proofs.Common.{Addr, HasGaps, carve, change_extent, cut_back, extent_of, some_name, tiling}
 use Rattle.vc_best.proofs.Carves.{back-free, back-span, carved-whole, front-apart, front-can, front-free, rest-can}
 use Rattle.vc_best.proofs.Linking.{gaps-none_more, gaps-whole}
 use Rattle.vc_best.proofs.Outs.{gaps-put}
@@ -23,19 +19,16 @@ behind g c = rw (← c.span_of.ensures) c.cut_back-rest.ensures.rest
 
 pub cut_back-rest-requires-clause-free : goal.cut_back-rest-requires-clause-free
 cut_back-rest-requires-clause-free g c =
-    let e = c.args.extents.now in
-    front-free e.segs.items e.index.items e.kept _ c.args.a.0 _ c.args.off c.args.size c.args.tag c.requires.room c.cut_front-front.ensures.rest c.cut_front-front.ensures.changed.tiling
+    front-free _ _ c.args.extents.now.kept _ c.args.a.0 _ c.args.off c.args.size c.args.tag c.requires.room c.cut_front-front.ensures.rest c.cut_front-front.ensures.changed.tiling
 
 pub lay_zeros-requires-clause-free : goal.lay_zeros-requires-clause-free
 lay_zeros-requires-clause-free g c =
-    let e = c.args.extents.now in
-    back-free e.segs.items e.index.items e.kept _ c.args.a.0 _ c.args.off c.args.size c.args.tag c.requires.room c.cut_front-front.ensures.rest c.cut_front-front.ensures.changed.tiling _
+    back-free _ _ c.args.extents.now.kept _ c.args.a.0 _ c.args.off c.args.size c.args.tag c.requires.room c.cut_front-front.ensures.rest c.cut_front-front.ensures.changed.tiling _
     (cut g (goal.at.lay_zeros-requires-clause-free g c).After-cut_back-rest)
 
 pub lay_zeros-requires-clause-span : goal.lay_zeros-requires-clause-span
 lay_zeros-requires-clause-span g c =
-    let e = c.args.extents.now in
-    back-span e.segs.items e.index.items e.kept _ c.args.a.0 _ c.args.off c.args.size c.args.tag c.requires.room c.cut_front-front.ensures.rest c.cut_front-front.ensures.changed.tiling _
+    back-span _ _ c.args.extents.now.kept _ c.args.a.0 _ c.args.off c.args.size c.args.tag c.requires.room c.cut_front-front.ensures.rest c.cut_front-front.ensures.changed.tiling _
     (cut g (goal.at.lay_zeros-requires-clause-span g c).After-cut_back-rest)
 
 -- what was cut off is out of the tree
@@ -47,54 +40,46 @@ out g c =
 
 pub link_some-requires : goal.link_some-requires
 link_some-requires g c =
-    let e = c.args.extents.now in
     let at = goal.at.link_some-requires g c in
-    front-can e.segs.items e.index.items e.kept _ c.args.a.0 _ c.args.off c.args.size c.args.tag c.requires.room c.cut_front-front.ensures.rest c.cut_front-front.ensures.changed.tiling _ (cut g at.After-cut_back-rest) _ c.lay_zeros.ensures.changed.tiling
+    front-can _ _ c.args.extents.now.kept _ c.args.a.0 _ c.args.off c.args.size c.args.tag c.requires.room c.cut_front-front.ensures.rest c.cut_front-front.ensures.changed.tiling _ (cut g at.After-cut_back-rest) _ c.lay_zeros.ensures.changed.tiling
     c.cut_front-front.result.0 c.cut_back-rest.result c.args.root.now.0 c.cut_front-front.ensures.front (behind g at.After-cut_back-rest) (out g at.After-lay_zeros)
 
 -- what is behind is out once what is before is in
 left : (g : Over) (c : After-link_some g) → HasGaps (tiling c.link_some.new.extents.segs.items) c.link_some.new.root.0 (some_name c.cut_back-rest.result)
 left g c =
-    let e = c.args.extents.now in
     let at = goal.at.After-link_some g c in
     c.link_some.ensures.gaps _
-    (front-apart e.segs.items e.index.items e.kept _ c.args.a.0 _ c.args.off c.args.size c.args.tag c.requires.room c.cut_front-front.ensures.rest c.cut_front-front.ensures.changed.tiling _ (cut g at.After-cut_back-rest) _ c.lay_zeros.ensures.changed.tiling
+    (front-apart _ _ c.args.extents.now.kept _ c.args.a.0 _ c.args.off c.args.size c.args.tag c.requires.room c.cut_front-front.ensures.rest c.cut_front-front.ensures.changed.tiling _ (cut g at.After-cut_back-rest) _ c.lay_zeros.ensures.changed.tiling
     c.cut_front-front.result.0 c.cut_back-rest.result c.args.root.now.0 c.cut_front-front.ensures.front (behind g at.After-cut_back-rest))
     (out g at.After-lay_zeros)
 
 pub link_some-requires-2 : goal.link_some-requires-2
 link_some-requires-2 g c =
-    let e = c.args.extents.now in
     let at = goal.at.link_some-requires-2 g c in
-    rest-can e.segs.items e.index.items e.kept _ c.args.a.0 _ c.args.off c.args.size c.args.tag c.requires.room c.cut_front-front.ensures.rest c.cut_front-front.ensures.changed.tiling _ (cut g at.After-cut_back-rest) _ c.lay_zeros.ensures.changed.tiling
+    rest-can _ _ c.args.extents.now.kept _ c.args.a.0 _ c.args.off c.args.size c.args.tag c.requires.room c.cut_front-front.ensures.rest c.cut_front-front.ensures.changed.tiling _ (cut g at.After-cut_back-rest) _ c.lay_zeros.ensures.changed.tiling
     c.cut_front-front.result.0 c.cut_back-rest.result c.args.root.now.0 c.cut_front-front.ensures.front (behind g at.After-cut_back-rest) _ _ c.link_some.ensures.rest.extents (left g at.After-link_some)
 
 -- the tiling with the block
 carved : (g : Over) (c : After-lay_zeros g) → tiling c.lay_zeros.new.extents.segs.items ≡ change_extent c.args.a.0 (carve c.args.off c.args.size c.args.tag) (tiling c.args.extents.now.segs.items)
 carved g c =
-    let e = c.args.extents.now in
-    carved-whole e.segs.items e.index.items e.kept _ c.args.a.0 _ c.args.off c.args.size c.args.tag c.requires.room c.cut_front-front.ensures.rest c.cut_front-front.ensures.changed.tiling _ (cut g (goal.at.After-lay_zeros g c).After-cut_back-rest) _ c.lay_zeros.ensures.changed.tiling
+    carved-whole _ _ c.args.extents.now.kept _ c.args.a.0 _ c.args.off c.args.size c.args.tag c.requires.room c.cut_front-front.ensures.rest c.cut_front-front.ensures.changed.tiling _ (cut g (goal.at.After-lay_zeros g c).After-cut_back-rest) _ c.lay_zeros.ensures.changed.tiling
 
 pub returns-clause-layout : goal.returns-clause-layout
 returns-clause-layout g c =
-    let e = c.args.extents.now in
-    let n = c.lay_zeros.new.extents in
     layout-stays c.link_some.new.extents.segs.items c.link_some-2.new.extents.segs.items c.link_some-2.ensures.rest
-    ∙ layout-stays n.segs.items c.link_some.new.extents.segs.items c.link_some.ensures.rest
-    ∙ carved-layout e.segs.items n.segs.items e.index.items n.index.items e.kept n.kept c.args.a.0 c.args.off c.args.size c.args.tag c.requires.room.free c.requires.room.sized.some (carved g (goal.at.returns-clause-layout g c).After-lay_zeros)
+    ∙ layout-stays c.lay_zeros.new.extents.segs.items c.link_some.new.extents.segs.items c.link_some.ensures.rest
+    ∙ carved-layout _ _ _ _ c.args.extents.now.kept c.lay_zeros.new.extents.kept c.args.a.0 c.args.off c.args.size c.args.tag c.requires.room.free c.requires.room.sized.some (carved g (goal.at.returns-clause-layout g c).After-lay_zeros)
     (c.lay_zeros.ensures.changed.pairs ∙ c.cut_back-rest.ensures.changed.pairs ∙ c.cut_front-front.ensures.changed.pairs)
 
 pub returns-clause-kept : goal.returns-clause-kept
 returns-clause-kept g c =
-    let e = c.args.extents.now in
-    let n = c.lay_zeros.new.extents in
     let t2 = tiling c.link_some.new.extents.segs.items in
     let at = goal.at.returns-clause-kept g c in
     record {
       merged =
           merged-stays t2 (tiling c.link_some-2.new.extents.segs.items) c.link_some-2.ensures.rest.extents
-          (merged-stays (tiling n.segs.items) t2 c.link_some.ensures.rest.extents
-          (carved-merged e.segs.items n.segs.items e.index.items n.index.items e.kept n.kept c.args.a.0 c.args.off c.args.size c.args.tag c.requires.room.free c.requires.room.sized.some (carved g at.After-lay_zeros) c.requires.merged));
+          (merged-stays (tiling c.lay_zeros.new.extents.segs.items) t2 c.link_some.ensures.rest.extents
+          (carved-merged _ _ _ _ c.args.extents.now.kept c.lay_zeros.new.extents.kept c.args.a.0 c.args.off c.args.size c.args.tag c.requires.room.free c.requires.room.sized.some (carved g at.After-lay_zeros) c.requires.merged));
       gaps = c.link_some-2.ensures.gaps [] (none c.cut_back-rest.result) (gaps-none_more t2 c.link_some.new.root.0 (some_name c.cut_back-rest.result) (left g at.After-link_some));
     }
   where

@@ -1,7 +1,5 @@
 use Rattle.vc_base.proofs.Common.{ℕ, [], sym, refl, subst, Layout, span}
-use Rattle.vc_extent.specs.Tiling.{tiling}
-use Rattle.vc_best.specs.Blocks.{layout_by}
-use Rattle.vc_best.specs.Standing.{IsPutInGap}
+use Rattle.vc_best.proofs.Common.{IsPutInGap, layout_by, tiling}
 use Rattle.vc_best.proofs.Bests.{best-free, least-stays}
 use Rattle.vc_best.proofs.Held.{AreMost}
 use Rattle.vc_best.proofs.Linking.{in-tree}

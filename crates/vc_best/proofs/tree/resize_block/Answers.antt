@@ -1,7 +1,5 @@
 use Rattle.vc_base.proofs.Common.{ℕ, ◌≤◌, [], sym, ap, ◌∙◌, subst, place_of, Layout, resize_there, span}
-use Rattle.vc_extent.specs.Tiling.{tiling}
-use Rattle.vc_gaps.specs.GapTree.{HasGaps}
-use Rattle.vc_best.specs.Beside.{free_next}
+use Rattle.vc_best.proofs.Common.{HasGaps, free_next, tiling}
 use Rattle.vc_best.proofs.Linking.{gaps-none_more, gaps-whole}
 use Rattle.vc_best.proofs.Plain.{busy-still, layout-stays, merged-stays, next_name-stays, room-stays}
 use Rattle.vc_best.proofs.tree.resize_block.Goals as goal

@@ -1,20 +1,17 @@
 use Rattle.vc_base.proofs.Common.{[], sym, subst}
-use Rattle.vc_extent.specs.Tiling.{extent_of, tiling}
-use Rattle.vc_gaps.specs.GapTree.{HasGaps}
+use Rattle.vc_best.proofs.Common.{HasGaps, extent_of, tiling}
 use Rattle.vc_best.proofs.Linking.{next-not, next-one}
 use Rattle.vc_best.proofs.Nexts.{not-busy}
 use Rattle.vc_best.proofs.tree.unlink_next.Goals as goal
 
 pub returns-then-not-is_busy-clause-gaps : goal.returns-then-not-is_busy-clause-gaps
 returns-then-not-is_busy-clause-gaps c =
-    let e = c.args.extents.now in
     let b = c.in-Some.next.0 in
     subst (HasGaps (tiling c.unlink_gap.new.extents.segs.items) c.unlink_gap.result.0)
-    (sym (next-one e.segs.items e.index.items e.kept c.args.a.0 c.requires.named b c.in-Some.ensures.value (not-busy c.is_busy.result (extent_of (tiling e.segs.items) b).size c.is_busy.ensures.1 c.if-not-is_busy.true)))
+    (sym (next-one _ _ c.args.extents.now.kept c.args.a.0 c.requires.named b c.in-Some.ensures.value (not-busy c.is_busy.result (extent_of (tiling c.args.extents.now.segs.items) b).size c.is_busy.ensures.1 c.if-not-is_busy.true)))
     (c.unlink_gap.ensures.unlinked.gaps [] c.requires.gaps)
 
 pub returns-else-not-is_busy-clause-gaps : goal.returns-else-not-is_busy-clause-gaps
 returns-else-not-is_busy-clause-gaps c =
-    let e = c.args.extents.now in
-    subst (HasGaps (tiling e.segs.items) c.args.root.now.0)
-    (sym (next-not e.segs.items e.index.items e.kept c.args.a.0 c.requires.named c.in-Some.next.0 c.in-Some.ensures.value (c.is_busy.ensures.0 c.if-not-is_busy.false))) c.requires.gaps
+    subst (HasGaps (tiling c.args.extents.now.segs.items) c.args.root.now.0)
+    (sym (next-not _ _ c.args.extents.now.kept c.args.a.0 c.requires.named c.in-Some.next.0 c.in-Some.ensures.value (c.is_busy.ensures.0 c.if-not-is_busy.false))) c.requires.gaps

@@ -1,8 +1,5 @@
 use Rattle.vc_base.proofs.Common.{◌≡◌, ℕ, ◌+◌, IfSome, Some, None, Option, option_map, sym, refl, subst, place_of}
-use Rattle.vc_base.specs.declared.addr.Addr.{Addr}
-use Rattle.vc_extent.specs.Tiling.{extents_of, tiling}
-use Rattle.vc_best.specs.Blocks.{busy_in}
-use Rattle.vc_best.specs.Next.{IsFirst}
+use Rattle.vc_best.proofs.Common.{Addr, IsFirst, busy_in, extents_of, tiling}
 use Rattle.vc_best.proofs.Ahead.{first-lower}
 use Rattle.vc_best.proofs.Firsts.{first-behind}
 use Rattle.vc_best.proofs.Walks.{on-next}

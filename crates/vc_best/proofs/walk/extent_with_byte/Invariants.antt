@@ -1,6 +1,5 @@
 use Rattle.vc_base.proofs.Common.{◌≡◌, length, find, holds_byte}
-use Rattle.vc_extent.specs.Tiling.{extents_of, tiling}
-use Rattle.vc_best.specs.Blocks.{busy_in}
+use Rattle.vc_best.proofs.Common.{busy_in, extents_of, tiling}
 use Rattle.vc_best.proofs.Walks.{IsOn, left}
 use Rattle.vc_best.proofs.walk.extent_with_byte.Given as goal
 

@@ -1,8 +1,5 @@
 use Rattle.vc_base.proofs.Common.{length, Option, option_map, ap, ◌∙◌, subst, arith, place_of}
-use Rattle.vc_base.specs.declared.addr.Addr.{Addr}
-use Rattle.vc_extent.specs.Tiling.{extent_of, extents_of, tiling}
-use Rattle.vc_best.specs.Blocks.{busy_in}
-use Rattle.vc_best.specs.Next.{IsFirst}
+use Rattle.vc_best.proofs.Common.{Addr, IsFirst, busy_in, extent_of, extents_of, tiling}
 use Rattle.vc_best.proofs.Firsts.{first-on}
 use Rattle.vc_best.proofs.Nexts.{not-busy}
 use Rattle.vc_best.proofs.Walks.{IsOn, left, left-next, on-next}

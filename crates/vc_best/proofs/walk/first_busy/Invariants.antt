@@ -1,7 +1,5 @@
 use Rattle.vc_base.proofs.Common.{length, option_map, place_of}
-use Rattle.vc_extent.specs.Tiling.{extents_of, tiling}
-use Rattle.vc_best.specs.Blocks.{busy_in}
-use Rattle.vc_best.specs.Next.{IsFirst}
+use Rattle.vc_best.proofs.Common.{IsFirst, busy_in, extents_of, tiling}
 use Rattle.vc_best.proofs.Walks.{IsOn, left}
 use Rattle.vc_best.proofs.walk.first_busy.Given as goal
 

@@ -1,9 +1,6 @@
 use Rattle.vc_base.proofs.Common.{◌≡◌, ℕ, ◌<◌, List, IfSome, IsSome, All, Option, option_map, sym, ◌∙◌, subst, arith, All-nil, address, place_of, Block, address_of}
+use Rattle.vc_best.proofs.Common.{Extent, IsFirst, busy_in, extents_of, tiling}
 use Rattle.vc_base.proofs.Options.{none_where}
-use Rattle.vc_extent.specs.Extent.{Extent}
-use Rattle.vc_extent.specs.Tiling.{extents_of, tiling}
-use Rattle.vc_best.specs.Blocks.{busy_in}
-use Rattle.vc_best.specs.Next.{IsFirst}
 use Rattle.vc_best.proofs.Ahead.{blocks-low, first-lower, start-address}
 use Rattle.vc_best.proofs.AtBytes.{none-extents}
 use Rattle.vc_best.proofs.Backs.{some-of}

@@ -1,8 +1,5 @@
 use Rattle.vc_base.proofs.Common.{◌≡◌, ◌≤◌, IfSome, Some, Option, option_map, sym, subst, arith, address, place_of}
-use Rattle.vc_base.specs.declared.addr.Addr.{Addr}
-use Rattle.vc_extent.specs.Tiling.{extents_of, tiling}
-use Rattle.vc_best.specs.Blocks.{all_busy, busy_in}
-use Rattle.vc_best.specs.Next.{IsFirst}
+use Rattle.vc_best.proofs.Common.{Addr, IsFirst, all_busy, busy_in, extents_of, tiling}
 use Rattle.vc_best.proofs.Ahead.{end-all, first-lower, first-none, first-some, skip, widen}
 use Rattle.vc_best.proofs.walk.first_in_segments.Goals as goal
 

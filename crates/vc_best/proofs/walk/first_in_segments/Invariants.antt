@@ -1,6 +1,5 @@
 use Rattle.vc_base.proofs.Common.{◌≤◌, All, address, address_of}
-use Rattle.vc_extent.specs.Tiling.{tiling}
-use Rattle.vc_best.specs.Blocks.{all_busy}
+use Rattle.vc_best.proofs.Common.{all_busy, tiling}
 use Rattle.vc_best.proofs.walk.first_in_segments.Given as goal
 
 -- no block stands from the first segment on before the one of this number

@@ -1,9 +1,6 @@
 use Rattle.vc_base.proofs.Common.{◌≡◌, ℕ, ◌+◌, ◌≤◌, [], length, Ok, Err, option_map, sym, ap, ◌∙◌, subst, arith, place_of, place_in, Layout, span}
-use Rattle.vc_extent.specs.Tiling.{tiling}
+use Rattle.vc_best.proofs.Common.{AreAllowed, AreWhole, HasGaps, IsPutInGap, layout_by, tiling}
 use Rattle.vc_gaps.proofs.GapTrees.{gap_tree-of}
-use Rattle.vc_gaps.specs.GapTree.{HasGaps}
-use Rattle.vc_best.specs.Blocks.{layout_by}
-use Rattle.vc_best.specs.Standing.{AreAllowed, AreWhole, IsPutInGap}
 use Rattle.vc_best.proofs.Asking.{Answers-in_gap, Asks-in_gap, IsPutByAsking-same}
 use Rattle.vc_best.proofs.Bests.{least-found, least-none}
 use Rattle.vc_best.proofs.BlockCounts.{put-count}
@@ -40,9 +37,8 @@ allowed g c = record { sized = c.requires.size; aligned = c.requires.align }
 
 pub fit-least-requires-clause-tree : goal.fit-least-requires-clause-tree
 fit-least-requires-clause-tree g c =
-    let e = c.args.self.now.extents in
     let root = c.args.self.now.root.0 in
-    gap_tree-of (tiling e.segs.items) root [] (tree-of e.segs.items e.index.items root e.kept c.args.self.now.gaps)
+    gap_tree-of (tiling c.args.self.now.extents.segs.items) root [] (tree-of _ _ root c.args.self.now.extents.kept c.args.self.now.gaps)
 
 pub put_in_gap-to-requires-clause-least : goal.put_in_gap-to-requires-clause-least
 put_in_gap-to-requires-clause-least g c =
@@ -64,19 +60,17 @@ put_in_new-requires-clause-whole g c = whole g (goal.at.put_in_new-requires-clau
 
 pub put_in_new-requires-clause-none : goal.put_in_new-requires-clause-none
 put_in_new-requires-clause-none g c =
-    let e = c.args.self.now.extents in
-    let t = tiling e.segs.items in
+    let t = tiling c.args.self.now.extents.segs.items in
     let f = (goal.at.put_in_new-requires-clause-none g c).After-fit-least in
     ap (λ (r : Layout ℕ). place_in r c.args.size c.args.align) (same g f)
-    ∙ place-runs e.segs.items e.index.items c.args.size c.args.align e.kept (merged-of t c.args.self.now.merged)
+    ∙ place-runs _ _ c.args.size c.args.align c.args.self.now.extents.kept (merged-of t c.args.self.now.merged)
     ∙ ap (option_map (place_at c.args.align)) (least-none t (span c.args.size) c.span_of.result c.args.align c.fit-least.result.1 c.in-None.is c.span_of.ensures (c.fit-least.ensures.fitted.best (before g f)))
 
 -- they are below 2^32 with the new one
 few : (g : Over) (c : After-fit-least g) → c.args.self.now.busy ≤ 1072693248
 few g c =
-    let e = c.args.self.now.extents in
     let all = c.args.self.now.counted in
-    let f = blocks-few e.segs.items e.index.items e.kept in
+    let f = blocks-few _ _ c.args.self.now.extents.kept in
     omega (arith, all, f)
 
 pub overflow_add-self : goal.overflow_add-self

@@ -1,5 +1,5 @@
 use Rattle.vc_base.proofs.Common.{ℕ, length, sym, ap, ◌∙◌, subst, Layout}
-use Rattle.vc_best.specs.Blocks.{layout_by}
+use Rattle.vc_best.proofs.Common.{layout_by}
 use Rattle.vc_best.proofs.Held.{AreMost, held, kept-of, most-of}
 use Rattle.vc_best.proofs.best.Best.compact.Goals as goal
 

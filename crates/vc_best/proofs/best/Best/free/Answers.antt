@@ -1,6 +1,6 @@
 use Rattle.vc_base.proofs.Common.{◌≡◌, ℕ, ◌+◌, length, sym, subst, arith, place_of, Layout}
+use Rattle.vc_best.proofs.Common.{layout_by}
 use Rattle.vc_seg.specs.OneBlock.{IsBlockFreed}
-use Rattle.vc_best.specs.Blocks.{layout_by}
 use Rattle.vc_best.proofs.BlockCounts.{freed-count}
 use Rattle.vc_best.proofs.Found.{busy-of}
 use Rattle.vc_best.proofs.Held.{held, kept-of, most-of, most-without}
@@ -18,8 +18,7 @@ free_block-requires-clause-kept g c = kept-of c.args.self.now.extents.segs.items
 
 freed : (g : Over) (c : After-free_block g) → length (layout_by c.free_block.new.extents.segs.items).blocks + 1 ≡ length (layout_by c.args.self.now.extents.segs.items).blocks
 freed g c =
-    let e = c.args.self.now.extents in
-    freed-count e.segs.items e.index.items e.kept c.args.a.0 (layout_by c.free_block.new.extents.segs.items) c.requires.block (most-of (layout_by e.segs.items) c.args.self.now.whole) c.free_block.ensures.layout
+    freed-count _ _ c.args.self.now.extents.kept c.args.a.0 (layout_by c.free_block.new.extents.segs.items) c.requires.block (most-of (layout_by c.args.self.now.extents.segs.items) c.args.self.now.whole) c.free_block.ensures.layout
 
 pub overflow_sub-self : goal.overflow_sub-self
 overflow_sub-self g c = let less = freed g (goal.at.overflow_sub-self g c).After-free_block in let all = c.args.self.now.counted in omega (arith, less, all)
@@ -31,8 +30,7 @@ invariant_of-self g c =
 
 pub returns-clause-freed : goal.returns-clause-freed
 returns-clause-freed g c =
-    let e = c.args.self.now.extents in
-    let r = layout_by e.segs.items in
-    let heads = held-heads e.segs.items e.index.items e.kept (most-of r c.args.self.now.whole) in
+    let r = layout_by c.args.self.now.extents.segs.items in
+    let heads = held-heads _ _ c.args.self.now.extents.kept (most-of r c.args.self.now.whole) in
     subst (λ (l : Layout ℕ). IsBlockFreed c.args.a.0 r.blocks l.blocks) (sym c.free_block.ensures.layout)
     (record { one_less = one-less r c.args.a.0 heads c.requires.block; freed = stands-removed r c.args.a.0 heads; none_left = none-there r c.args.a.0 heads })

@@ -1,5 +1,5 @@
 use Rattle.vc_base.proofs.Common.{◌≡◌, ℕ, ◌+◌, ◌-◌, ◌≤◌, List, length, take, drop, Some, option_map, sym, ap, ◌∙◌, arith, rules}
-use Rattle.vc_best.specs.Blocks.{layout_by}
+use Rattle.vc_best.proofs.Common.{layout_by}
 use Rattle.vc_best.proofs.Found.{busy-of}
 use Rattle.vc_best.proofs.Held.{block-is, most-of, range-within, size-most}
 use Rattle.vc_best.proofs.best.Best.read.Goals as goal

@@ -1,8 +1,8 @@
 use Rattle.vc_base.proofs.Common.{◌≡◌, ℕ, false, Some, option_map, sym, refl, ap, ◌∙◌, arith, place_of, Layout, without_block, can_stay, HasBlock, find_block}
-use Rattle.vc_extent.specs.Tiling.{tiling}
-use Rattle.vc_best.specs.Blocks.{layout_by}
-use Rattle.vc_best.proofs.Asking.{Served-later, Served-unasked}
-use Rattle.vc_best.proofs.Others.{others-moved, others-sized}
+use Rattle.vc_best.proofs.Common.{layout_by, tiling}
+use Rattle.vc_layouts.proofs.Resizes.{others-sized}
+use Rattle.vc_layouts.proofs.Segments.{Served-later, Served-unasked}
+use Rattle.vc_best.proofs.Others.{others-moved}
 use Rattle.vc_best.proofs.ResizeAnswers.{resize-stays, resize-fixed, resize-moves, resize-refused, new-among, new-room, old-among, old-found, none-stays}
 use Rattle.vc_best.proofs.BlockCounts.{sized-count}
 use Rattle.vc_best.proofs.Found.{busy-of}

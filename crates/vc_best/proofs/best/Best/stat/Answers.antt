@@ -1,4 +1,4 @@
-use Rattle.vc_extent.specs.Tiling.{tiling}
+use Rattle.vc_best.proofs.Common.{tiling}
 use Rattle.vc_best.proofs.Held.{merged-of}
 use Rattle.vc_best.proofs.best.Best.stat.Goals as goal
 

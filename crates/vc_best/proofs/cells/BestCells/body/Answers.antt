@@ -1,6 +1,5 @@
 use Rattle.vc_base.proofs.Common.{◌-◌, take, drop, ap, ◌∙◌, arith, take_rest, bytes_at}
-use Rattle.vc_best.specs.Cells.{cells_in}
-use Rattle.vc_best.specs.Parts.{layout_of}
+use Rattle.vc_best.proofs.Common.{cells_in, layout_of}
 use Rattle.vc_best.proofs.CellBytes.{cell-block, cell-range, cell-read, cell-size}
 use Rattle.vc_best.proofs.cells.BestCells.body.Goals as goal
 

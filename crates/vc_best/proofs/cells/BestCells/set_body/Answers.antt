@@ -1,6 +1,5 @@
 use Rattle.vc_base.proofs.Common.{ℕ, length, ap, ◌∙◌, arith, Layout}
-use Rattle.vc_best.specs.Cells.{cells_of, zeroed_layout}
-use Rattle.vc_best.specs.Parts.{blocks_in, layout_of}
+use Rattle.vc_best.proofs.Common.{blocks_in, cells_of, layout_of, zeroed_layout}
 use Rattle.vc_best.proofs.CellBytes.{cell, cell-range, cells-written, layout-written}
 use Rattle.vc_best.proofs.cells.BestCells.set_body.Goals as goal
 
