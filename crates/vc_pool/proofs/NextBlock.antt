@@ -1,5 +1,5 @@
 -- The block with the least address above one, by segments and cells.
-use Rattle.vc_base.proofs.Common.{◌≡◌, ℕ, ◌*◌, ◌/◌, ◌%◌, ◌<◌, ◌≤◌, ◌≢◌, ◌⊎◌, List, [], ◌∷◌, map, length, get_or, IfSome, IfNone, Some, None, All, Option, option_map, sym, refl, ap, ◌∙◌, subst, inl, inr, ⊎_elim, mul-le-mul_right, arith, eq-eqb, ne_eqb, cases_eq, cases_lt, All-contains, All-map, All-nil, address, Block, address_of, least_above, cell_for, cell_offset, HasBlock, next_block, next_segment}
+use Rattle.vc_base.proofs.Common.{◌≡◌, ℕ, ◌*◌, ◌/◌, ◌%◌, ◌<◌, ◌≤◌, ◌≢◌, ◌⊎◌, List, [], ◌∷◌, map, length, get_or, IfSome, IfNone, Some, None, All, Option, option_map, sym, refl, ap, ◌∙◌, subst, inl, inr, ⊎_elim, mul-le-mul_right, arith, cases_eq, cases_lt, All-contains, All-map, All-nil, Block, address_of, least_above, cell_for, cell_offset, HasBlock, next_block, next_segment}
 use Rattle.vc_base.specs.declared.addr.Addr.{Addr}
 use Rattle.vc_base.proofs.Quantifiers.{All-unmap}
 use Rattle.vc_seg.specs.Segment.{AreSegments}

@@ -17,6 +17,7 @@ use Rattle.vc_pool_cells.specs.Carve.{IsUncarved}
 use Rattle.vc_pool.specs.Compacting.{IsCompacted}
 use Rattle.vc_pool.specs.Sizes.{element_of}
 use Rattle.vc_pool.specs.Read.{pool_by}
+use Rattle.vc_pool.proofs.PoolParts.{layout-of}
 
 -- no segment, no element size and no cell
 none-kept : IsPool 0 [] 0
@@ -47,7 +48,7 @@ pub empty-is : (segs : List PoolSegment) → segs ≡ [] → pool_by segs 0 0 �
 empty-is segs e = ap (λ (ss : List PoolSegment). pool_by ss 0 0) e ∙ none-is
 
 module _ (segs segs' : List PoolSegment) (element : ℕ) where
-  pub becomes-pool : (freed : ℕ) (after : Layout ℕ) → Becomes element (cells_in segs) (cells_in segs') freed after → pool_by segs' element freed ≡ record (pool_by segs element freed) { layout = after }
+  becomes-pool : (freed : ℕ) (after : Layout ℕ) → Becomes element (cells_in segs) (cells_in segs') freed after → pool_by segs' element freed ≡ record (pool_by segs element freed) { layout = after }
   unfolding pool_by
   becomes-pool freed after h = λ j. record { layout = h.layout j; element = element_of element; freed = h.freed j; carved = h.carved j }
 
@@ -62,6 +63,21 @@ module _ (segs segs' : List PoolSegment) (element : ℕ) where
   pub compacted-pool : (after before : ℕ) → IsCompacted element (cells_in segs) (cells_in segs') before after → pool_by segs' element after ≡ pool_compact (pool_by segs element before)
   unfolding pool_by
   compacted-pool after before h = λ j. record { layout = h.layout j; element = element_of element; freed = h.freed j; carved = h.carved j }
+
+-- a call that changes one block, on the list that is lent to it, and what the list holds then
+module _ (element freed : ℕ) (segs lent back after : List PoolSegment) (change : Layout ℕ → Layout ℕ) (is : lent ≡ segs) (holds : after ≡ back) (h : IsPool element (cells_in segs) freed)
+    (call : (last : ℕ) → IsPool element (cells_in lent) last → Becomes element (cells_in lent) (cells_in back) last (change (layout_by (cell_for element) (cells_in lent)))) where
+  became : Becomes element (cells_in segs) (cells_in back) freed (change (layout_by (cell_for element) (cells_in segs)))
+  became =
+      subst (λ (ss : List PoolSegment). (last : ℕ) → IsPool element (cells_in ss) last → Becomes element (cells_in ss) (cells_in back) last (change (layout_by (cell_for element) (cells_in ss)))) is call freed h
+
+  pub became-kept : IsPool element (cells_in after) freed
+  became-kept = subst (λ (ss : List PoolSegment). IsPool element (cells_in ss) freed) (sym holds) became.kept
+
+  pub became-pool : pool_by after element freed ≡ record (pool_by segs element freed) { layout = change (pool_by segs element freed).layout }
+  became-pool =
+      ap (λ (ss : List PoolSegment). pool_by ss element freed) holds
+      ∙ (becomes-pool segs back element freed _ became ∙ ap (λ (l : Layout ℕ). record (pool_by segs element freed) { layout = change l }) (sym (layout-of segs element freed)))
 
 -- the segments as number and size
 pub pairs-of : (segs : List PoolSegment) (element freed : ℕ) → (pool_by segs element freed).layout.segments ≡ map pair_of (cells_in segs)

@@ -1,15 +1,10 @@
-use Rattle.vc_base.proofs.Common.{◌≡◌, ℕ, ◌≤◌, List, ◌++◌, length, take, drop, None, sym, ap, ◌∙◌, subst, arith, with_items_is, place_of, Layout, Done, Pool, cell_for, resize_there}
-use Rattle.vc_pool_cells.specs.Blocks.{layout_by}
-use Rattle.vc_pool_cells.specs.Call.{Becomes}
-use Rattle.vc_pool_cells.specs.Kept.{IsPool}
-use Rattle.vc_pool_cells.specs.Place.{cells_in}
-use Rattle.vc_pool_cells.specs.declared.segment.PoolSegment.{PoolSegment}
+use Rattle.vc_base.proofs.Common.{◌≡◌, ℕ, ◌≤◌, ◌++◌, length, take, drop, None, sym, ap, ◌∙◌, arith, with_items_is, place_of, Done, Pool, resize_there}
 use Rattle.vc_pool.specs.Read.{pool_by}
 use Rattle.vc_pool.proofs.PutOutcome.{resize-greater, resize-stays}
 use Rattle.vc_pool.proofs.PutBlocks.{resize-kept}
 use Rattle.vc_pool.proofs.PoolCalls.{with-set}
-use Rattle.vc_pool.proofs.PoolParts.{layout-of, sound-kept, with-block}
-use Rattle.vc_pool.proofs.PoolAfterCalls.{becomes-pool}
+use Rattle.vc_pool.proofs.PoolParts.{sound-kept, with-block}
+use Rattle.vc_pool.proofs.PoolAfterCalls.{became-kept, became-pool}
 use Rattle.vc_pool.proofs.Sound.{kept-of}
 use Rattle.vc_pool.proofs.pool.Pool.resize.Goals as goal
 use Rattle.vc_pool.proofs.pool.Pool.resize.Goals.{After-resize_at}
@@ -18,19 +13,10 @@ use Rattle.vc_pool.proofs.pool.Pool.resize.Given.{Over}
 items : (g : Over) (c : After-resize_at g) → take c.args.self.now.segs.len (c.resize_at.new.segs ++ drop (length c.resize_at.new.segs) c.args.self.now.segs.items) ≡ c.resize_at.new.segs
 items g c = with_items_is c.args.self.now.segs c.resize_at.new.segs (omega (arith, c.resize_at.auto.segs, c.deref_mut.ensures.len))
 
-becomes : (g : Over) (c : After-resize_at g) →
-    Becomes c.args.self.now.element (cells_in c.args.self.now.segs.items) (cells_in c.resize_at.new.segs) c.args.self.now.freed.0 (resize_there (layout_by (cell_for c.args.self.now.element) (cells_in c.args.self.now.segs.items)) (place_of c.args.a.0) c.args.size)
-becomes g c =
-    subst
-    (λ (ss : List PoolSegment). (freed : ℕ) → IsPool c.args.self.now.element (cells_in ss) freed → Becomes c.args.self.now.element (cells_in ss) (cells_in c.resize_at.new.segs) freed (resize_there (layout_by (cell_for c.args.self.now.element) (cells_in ss)) (place_of c.args.a.0) c.args.size))
-    c.deref_mut.ensures.value c.resize_at.ensures c.args.self.now.freed.0 (kept-of c.args.self.now)
-
 pool : (g : Over) (c : After-resize_at g) → pool_by (take c.args.self.now.segs.len (c.resize_at.new.segs ++ drop (length c.resize_at.new.segs) c.args.self.now.segs.items)) c.args.self.now.element c.args.self.now.freed.0
     ≡ record (pool_by c.args.self.now.segs.items c.args.self.now.element c.args.self.now.freed.0) { layout = resize_there (pool_by c.args.self.now.segs.items c.args.self.now.element c.args.self.now.freed.0).layout (place_of c.args.a.0) c.args.size }
 pool g c =
-    ap (λ (ss : List PoolSegment). pool_by ss c.args.self.now.element c.args.self.now.freed.0) (items g c)
-    ∙ (becomes-pool c.args.self.now.segs.items c.resize_at.new.segs c.args.self.now.element c.args.self.now.freed.0 _ (becomes g c)
-    ∙ ap (λ (l : Layout ℕ). record (pool_by c.args.self.now.segs.items c.args.self.now.element c.args.self.now.freed.0) { layout = resize_there l (place_of c.args.a.0) c.args.size }) (sym (layout-of c.args.self.now.segs.items c.args.self.now.element c.args.self.now.freed.0)))
+    became-pool c.args.self.now.element c.args.self.now.freed.0 c.args.self.now.segs.items _ c.resize_at.new.segs _ (λ l. resize_there l (place_of c.args.a.0) c.args.size) c.deref_mut.ensures.value (items g c) (kept-of c.args.self.now) c.resize_at.ensures
 
 pub resize_at-requires-clause-kept : goal.resize_at-requires-clause-kept
 resize_at-requires-clause-kept g c = rw c.deref_mut.ensures.value (kept-of c.args.self.now).cells
@@ -38,8 +24,7 @@ resize_at-requires-clause-kept g c = rw c.deref_mut.ensures.value (kept-of c.arg
 pub invariant_of-self : goal.invariant_of-self
 invariant_of-self g c =
     let at = (goal.at.invariant_of-self g c).After-resize_at in
-    let now : IsPool c.args.self.now.element (cells_in (take c.args.self.now.segs.len (c.resize_at.new.segs ++ drop (length c.resize_at.new.segs) c.args.self.now.segs.items))) c.args.self.now.freed.0 =
-    subst (λ (ss : List PoolSegment). IsPool c.args.self.now.element (cells_in ss) c.args.self.now.freed.0) (sym (items g at)) (becomes g at).kept in
+    let now = became-kept c.args.self.now.element c.args.self.now.freed.0 c.args.self.now.segs.items _ c.resize_at.new.segs _ (λ l. resize_there l (place_of c.args.a.0) c.args.size) c.deref_mut.ensures.value (items g at) (kept-of c.args.self.now) c.resize_at.ensures in
     record { kept = ∣ now ∣₁; sound = sound-kept _ c.args.self.now.element c.args.self.now.freed.0 now }
 
 pub returns-clause-ok : goal.returns-clause-ok
