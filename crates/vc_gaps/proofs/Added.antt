@@ -1,13 +1,7 @@
 -- A tree of gaps where a segment is added or taken out.
 use Rattle.vc_base.proofs.Common.{◌≡◌, ℕ, ◌+◌, ◌*◌, ◌/◌, ◌%◌, ◌<◌, true, false, cond, not, ◌&&◌, eqb, ltb, ◌≢◌, List, [], ◌∷◌, ◌++◌, filter, sym, refl, ap, ◌∙◌, subst, ⊎_elim, true≢false, arith, eq-eqb, ne_eqb, eqb-true, cases_Bool, cases_eq, contains, address, place_of}
+use Rattle.vc_gaps.proofs.Common.{Bytes, Extent, HasGaps, IsFree, IsThere, Tiling, extent_in, extent_of, extents_of, free_extent, is_free, no_links, tiling}
 use Rattle.vc_base.proofs.Members.{apart-head, within-head, within-cases}
-use Rattle.vc_seg.specs.Segment.{Bytes}
-use Rattle.vc_extent.specs.Extent.{Extent, free_extent, no_links}
-use Rattle.vc_extent.specs.Change.{extent_in}
-use Rattle.vc_extent.specs.Tiling.{IsFree, IsThere, extent_of, extents_of, tiling}
-use Rattle.vc_gaps.specs.ButLinks.{Tiling}
-use Rattle.vc_gaps.specs.GapStore.{is_free}
-use Rattle.vc_gaps.specs.GapTree.{HasGaps}
 use Rattle.vc_gaps.proofs.Carried.{gaps-touched}
 use Rattle.vc_gaps.proofs.Marked.{contains-there, none-of, out-of}
 
@@ -50,7 +44,7 @@ extents-left n m (s ∷ ss) ne =
     (cases_Bool (eqb s.0 n))
 
 -- the address of the first extent of a segment
-first-place : (n : ℕ) → place_of (address (n, 32)) ≡ (n, 32)
+pub first-place : (n : ℕ) → place_of (address (n, 32)) ≡ (n, 32)
 first-place n =
     let seg : (n * 1048576 + 1) / 1048576 ≡ n = omega arith in
     let off : (n * 1048576 + 1) % 1048576 * 32 ≡ 32 = omega arith in

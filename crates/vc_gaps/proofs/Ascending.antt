@@ -1,8 +1,8 @@
 -- Lists of names that ascend by a key.
-use Rattle.vc_base.proofs.Common.{◌≡◌, ℕ, ◌+◌, ◌≤◌, Bool, true, false, cond, not, ◌&&◌, ◌||◌, eqb, ltb, ◌≢◌, ◌⊎◌, List, [], ◌∷◌, nat_lt, ◌==◌, Some, None, find, nat_cmp, is_gt, is_ge, sym, refl, ap, ◌∙◌, subst, inl, inr, ⊎_elim, true≢false, arith, ltb-false, ltb-true, le-ltb, lt-ltb, eq-eqb, ne_eqb, eqb-true, cases_Bool, eqb-false, list_any, ordering_index, AreDistinct, contains, without, put_by}
+use Rattle.vc_base.proofs.Common.{◌≡◌, ℕ, ◌+◌, ◌≤◌, Bool, true, false, cond, not, ◌&&◌, ◌||◌, eqb, ltb, ◌≢◌, List, [], ◌∷◌, nat_lt, ◌==◌, Some, None, find, nat_cmp, is_gt, sym, refl, ap, ◌∙◌, subst, ⊎_elim, true≢false, arith, ltb-false, ltb-true, le-ltb, lt-ltb, eq-eqb, ne_eqb, eqb-true, cases_Bool, eqb-false, ordering_index, AreDistinct, contains, without, put_by}
+use Rattle.vc_gaps.proofs.Common.{AscendFrom}
 use Rattle.vc_base.proofs.Members.{within-head, within-tail, within-cases}
 use Rattle.vc_splay.specs.Guide.{RisesFrom, order_with_name}
-use Rattle.vc_gaps.specs.GapTree.{AscendFrom}
 
 module _ (key : ℕ → ℕ) where
   pub ascend-more : (low from : ℕ) (xs : List ℕ) → low ≤ from → AscendFrom key from xs → AscendFrom key low xs

@@ -1,12 +1,7 @@
 -- A tree of gaps where the border between a busy extent and a gap that is out moves.
 use Rattle.vc_base.proofs.Common.{◌≡◌, ℕ, ◌+◌, ◌-◌, ◌/◌, ◌<◌, ◌≤◌, Bool, true, false, cond, not, ◌&&◌, eqb, ◌≢◌, List, [], ◌∷◌, take, Some, sym, refl, ap, ◌∙◌, subst, ⊎_elim, true≢false, arith, eq-eqb, ne_eqb, contains, address, place_of, span}
+use Rattle.vc_gaps.proofs.Common.{Extent, HasGaps, IsBusy, Tiling, busy_extent, change_extent, extent_in, extent_of, extents_of, free_extent, is_free, next_of, no_links, shrink, stretch}
 use Rattle.vc_base.proofs.Members.{apart-head, apart-tail, within-head, within-cases}
-use Rattle.vc_extent.specs.Extent.{Extent, busy_extent, free_extent, no_links}
-use Rattle.vc_extent.specs.Change.{extent_in, shrink, stretch}
-use Rattle.vc_extent.specs.Tiling.{IsBusy, change_extent, extent_of, extents_of, next_of}
-use Rattle.vc_gaps.specs.ButLinks.{Tiling}
-use Rattle.vc_gaps.specs.GapStore.{is_free}
-use Rattle.vc_gaps.specs.GapTree.{HasGaps}
 use Rattle.vc_gaps.proofs.Carried.{gaps-touched}
 use Rattle.vc_gaps.proofs.Joined.{first-cons}
 use Rattle.vc_gaps.proofs.Marked.{busy-none, contains-there, none-of, out-of}

@@ -1,13 +1,9 @@
 -- A tree of gaps in a tiling that changes elsewhere: no link, span or state of a gap that is in it changes.
 use Rattle.vc_base.proofs.Common.{◌≡◌, ℕ, Bool, true, false, not, ◌&&◌, eqb, ltb, List, [], ◌∷◌, sym, refl, ap, ◌∙◌, subst, ⊎_elim, true≢false, cases_Bool, contains}
+use Rattle.vc_gaps.proofs.Common.{Extent, HasGapTree, HasGaps, Tiling, extent_of, gap_key, gap_store, is_free, key_of}
 use Rattle.vc_base.proofs.Members.{within-head, within-tail, within-front, within-rest}
 use Rattle.vc_splay.specs.Stands.{IsNode, Stands}
 use Rattle.vc_splay.specs.Tree.{Tree, Leaf, Node, name_of, names}
-use Rattle.vc_extent.specs.Extent.{Extent}
-use Rattle.vc_extent.specs.Tiling.{extent_of}
-use Rattle.vc_gaps.specs.ButLinks.{Tiling}
-use Rattle.vc_gaps.specs.GapStore.{gap_key, gap_store, is_free, key_of}
-use Rattle.vc_gaps.specs.GapTree.{HasGapTree, HasGaps}
 use Rattle.vc_gaps.proofs.Ascending.{ascend-same}
 use Rattle.vc_gaps.proofs.GapTrees.{tree-free}
 

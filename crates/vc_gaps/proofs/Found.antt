@@ -1,16 +1,10 @@
 -- The first gap of a tree that holds a block is the least one.
 use Rattle.vc_base.proofs.Common.{◌≡◌, ℕ, ◌≤◌, true, not, ◌&&◌, ◌≢◌, List, [], Some, None, filter, Option, option_map, find, is_ge, sym, ap, ◌∙◌, le-leb, ∥∥₁_elim, ℕ_set, contains, some_address, Run, holds, least}
+use Rattle.vc_gaps.proofs.Common.{AreExtents, Bytes, GapFitted, GapTreeAfter, HasGapTree, HasGaps, IsAmongGaps, StaysButLinks, Tiling, extent_of, free_runs, from_on, gap_fits, gap_side, gap_store, holds_at, is_free, is_free-stays, key_of, run_at, tiling}
 use Rattle.std.proofs.Props.{props}
-use Rattle.vc_seg.specs.Segment.{Bytes}
 use Rattle.vc_splay.specs.Guide.{least_at}
 use Rattle.vc_splay.specs.Stands.{IsTree, TreeAfter}
 use Rattle.vc_splay.specs.Tree.{Tree, names}
-use Rattle.vc_extent.specs.Tiling.{AreExtents, extent_of, tiling}
-use Rattle.vc_gaps.specs.ButLinks.{Tiling, StaysButLinks}
-use Rattle.vc_gaps.specs.Fits.{free_runs, from_on, holds_at, run_at}
-use Rattle.vc_gaps.specs.GapLaws.{gap_fits, is_free-stays}
-use Rattle.vc_gaps.specs.GapStore.{gap_side, gap_store, is_free, key_of}
-use Rattle.vc_gaps.specs.GapTree.{GapFitted, GapTreeAfter, HasGapTree, HasGaps, IsAmongGaps}
 use Rattle.vc_gaps.proofs.Ascending.{IsLeast, find-least, find-none, find-same}
 use Rattle.vc_gaps.proofs.GapTrees.{gap-found, tree-free}
 use Rattle.vc_gaps.proofs.Holding.{gap_off, holds-by_32, holds-span, holds-stays, side-by}

@@ -1,18 +1,12 @@
 -- Trees of gaps before and after a call on them.
-use Rattle.vc_base.proofs.Common.{◌≡◌, ℕ, ◌^◌, ◌<◌, Bool, true, false, not, ◌&&◌, ◌||◌, eqb, ◌⊎◌, List, [], ◌∷◌, ◌++◌, ◌==◌, sym, refl, ap, ◌∙◌, subst, inl, inr, ⊎_elim, true≢false, arith, lt-ltb, eq-eqb, eqb-true, cases_Bool, AreDistinct, contains, without, put_by}
-use Rattle.vc_base.proofs.Members.{within-cases, within-either}
+use Rattle.vc_base.proofs.Common.{◌≡◌, ℕ, ◌^◌, ◌<◌, Bool, true, false, not, ◌&&◌, ◌||◌, eqb, List, ◌∷◌, ◌==◌, sym, refl, ap, ◌∙◌, subst, ⊎_elim, true≢false, arith, lt-ltb, eq-eqb, eqb-true, cases_Bool, AreDistinct, contains, without, put_by}
+use Rattle.vc_gaps.proofs.Common.{AreExtents, AscendFrom, Bytes, CanLinkGap, GapLinked, GapTreeAfter, GapUnlinked, HasGapTree, HasGaps, IsFree, IsGapTree, IsInGaps, StaysButLinks, Tiling, extent_of, gap_fits, gap_key, gap_none, gap_side, gap_store, is_free, is_free-stays, key-stays, key_of, plain, tiling}
 use Rattle.vc_splay.proofs.StandsLemmas.{Stands-there}
-use Rattle.vc_seg.specs.Segment.{Bytes}
 use Rattle.vc_splay.specs.Guide.{CanFind, CanLink, Rises, order_with_name}
-use Rattle.vc_splay.specs.Stands.{IsIn, IsTree, Stands, TreeAfter}
+use Rattle.vc_splay.specs.Stands.{IsIn, IsTree, TreeAfter}
 use Rattle.vc_splay.specs.Store.{SameLinks, Store}
-use Rattle.vc_splay.specs.Tree.{Tree, Leaf, Node, names}
-use Rattle.vc_extent.specs.Tiling.{AreExtents, IsFree, extent_of, tiling}
-use Rattle.vc_gaps.specs.ButLinks.{Tiling, StaysButLinks, plain}
-use Rattle.vc_gaps.specs.GapLaws.{gap_fits, gap_none, is_free-stays, key-stays}
-use Rattle.vc_gaps.specs.GapStore.{gap_key, gap_side, gap_store, is_free, key_of}
+use Rattle.vc_splay.specs.Tree.{Tree, names}
 use Rattle.vc_gaps.specs.GapUnique.{one_list}
-use Rattle.vc_gaps.specs.GapTree.{AscendFrom, CanLinkGap, GapLinked, GapTreeAfter, GapUnlinked, HasGapTree, HasGaps, IsGapTree, IsInGaps}
 use Rattle.vc_gaps.proofs.Ascending.{ascend-put, ascend-rises, ascend-same, ascend-without, contains-put, contains-without, linked-put}
 
 module _ (t : Tiling) (root : ℕ) (xs : List ℕ) (h : HasGapTree t root xs) where

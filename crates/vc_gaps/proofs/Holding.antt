@@ -1,13 +1,8 @@
 -- Which free extents hold a block, by their offsets and spans.
 use Rattle.vc_base.proofs.Common.{◌≡◌, ℕ, ◌+◌, ◌-◌, ◌^◌, ◌<◌, ◌≤◌, true, false, eqb, ltb, leb, List, [], nat_cmp, is_ge, sym, refl, ap, ◌∙◌, ⊎_elim, arith, ltb-false, ltb-true, le-leb, leb-false, leb-true, le_prop, ∥∥₁_elim, cases_Bool, lt-leb, place_of, round_up}
-use Rattle.vc_seg.specs.Segment.{Bytes}
+use Rattle.vc_gaps.proofs.Common.{AreExtents, Bytes, IsThere, Tiling, extent_of, extents_of, gap_key, gap_side, holds_at, is_free, is_free-named, key_of, plain, span-stays, tiling}
 use Rattle.vc_seg.proofs.Rounding.{round_up-least}
-use Rattle.vc_extent.specs.Tiling.{AreExtents, IsThere, extent_of, extents_of, tiling}
 use Rattle.vc_extent.proofs.Places.{found, named-there, named-off}
-use Rattle.vc_gaps.specs.ButLinks.{Tiling, plain}
-use Rattle.vc_gaps.specs.Fits.{holds_at}
-use Rattle.vc_gaps.specs.GapLaws.{is_free-named, span-stays}
-use Rattle.vc_gaps.specs.GapStore.{gap_key, gap_side, is_free, key_of}
 use Rattle.vc_gaps.proofs.Named.{extent_in-off}
 
 -- two tests of numbers that mean the same

@@ -1,16 +1,10 @@
 -- A tree of gaps where two gaps that are out are joined; and what lies inside an extent, which no address names.
 use Rattle.vc_base.proofs.Common.{◌≡◌, ℕ, ◌+◌, ◌-◌, ◌/◌, ◌<◌, true, false, cond, not, ◌&&◌, eqb, ltb, ◌≢◌, List, [], ◌∷◌, length, get_or, Some, sym, refl, ap, ◌∙◌, subst, ⊎_elim, true≢false, arith, ne_eqb, eqb-true, ∥∥₁_elim, ℕ_set, cases_Bool, eqb-false, contains, address, place_of}
+use Rattle.vc_gaps.proofs.Common.{AreExtents, Bytes, Extent, HasGaps, IsThere, Tiling, change_extent, extent_in, extent_of, extents, extents_of, first_of, free_extent, is_free, join, next_of, no_links, tiling}
 use Rattle.vc_base.proofs.Members.{apart-head, apart-tail, within-head, within-tail, within-cases}
-use Rattle.vc_seg.specs.Segment.{Bytes}
-use Rattle.vc_extent.specs.Extent.{Extent, extents, free_extent, no_links}
-use Rattle.vc_extent.specs.Change.{extent_in, first_of, join}
 use Rattle.vc_extent.specs.Tiles.{Tiles}
-use Rattle.vc_extent.specs.Tiling.{AreExtents, IsThere, change_extent, extent_of, extents_of, next_of, tiling}
 use Rattle.vc_extent.proofs.Places.{found, named-there}
 use Rattle.vc_extent.proofs.Tiled.{named-above, off-at}
-use Rattle.vc_gaps.specs.ButLinks.{Tiling}
-use Rattle.vc_gaps.specs.GapStore.{is_free}
-use Rattle.vc_gaps.specs.GapTree.{HasGaps}
 use Rattle.vc_gaps.proofs.Carried.{gaps-touched}
 use Rattle.vc_gaps.proofs.Named.{extent_in-off}
 use Rattle.vc_gaps.proofs.Marked.{contains-there, none-of, out-of}

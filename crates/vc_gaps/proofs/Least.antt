@@ -1,11 +1,8 @@
 -- The least of the runs that hold a block is that of the free extent with the least key.
 use Rattle.vc_base.proofs.Common.{◌≡◌, ℕ, ◌+◌, ◌-◌, ◌*◌, ◌/◌, ◌%◌, ◌^◌, ◌<◌, ◌≤◌, Bool, true, false, cond, ◌&&◌, ◌||◌, eqb, ltb, List, [], ◌∷◌, Some, None, fold, filter, Option, sym, refl, ap, ◌∙◌, subst, ⊎_elim, arith, ltb-false, ltb-true, le-ltb, lt-ltb, eqb-true, cases_Bool, eqb-false, place_of, Run, bytes_of, least}
+use Rattle.vc_gaps.proofs.Common.{Tiling, extent_of, extents_of, is_free, key_of, run_at}
 use Rattle.vc_model.specs.Gap.{comes_before}
 use Rattle.vc_model.specs.Place.{lesser}
-use Rattle.vc_extent.specs.Tiling.{extent_of, extents_of}
-use Rattle.vc_gaps.specs.ButLinks.{Tiling}
-use Rattle.vc_gaps.specs.Fits.{run_at}
-use Rattle.vc_gaps.specs.GapStore.{is_free, key_of}
 use Rattle.vc_gaps.proofs.Named.{extent_in-off}
 use Rattle.vc_gaps.proofs.Runs.{AreGaps, HasRun, IsGap}
 

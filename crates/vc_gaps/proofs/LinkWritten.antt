@@ -1,15 +1,9 @@
 -- A link of a free extent is written: the store of gaps after it, and what stays.
 use Rattle.vc_base.proofs.Common.{◌≡◌, ℕ, true, false, cond, eqb, ◌≢◌, List, [], ◌∷◌, map, sym, refl, ap, ◌∙◌, subst, ⊎_elim, eq-eqb, cases_Bool, cases_eq, place_of}
-use Rattle.vc_seg.specs.Segment.{Bytes, pair_of}
+use Rattle.vc_gaps.proofs.Common.{Bytes, Extent, StaysButLinks, Tiling, change_at, change_extent, change_in, extent_in, extent_of, extents_of, free_extent, gap_store, is_free, is_free-named, is_free-size, is_free-stays, pair_of, plain, set_link, tiling, with_link, without_links}
 use Rattle.vc_splay.specs.Store.{with_kid, with_parent}
 use Rattle.vc_splay.proofs.StoreLemmas.{with_kid-is, with_parent-is}
-use Rattle.vc_extent.specs.Extent.{Extent, free_extent}
-use Rattle.vc_extent.specs.Change.{change_at, extent_in, set_link, with_link}
-use Rattle.vc_extent.specs.Tiling.{change_extent, change_in, extent_of, extents_of, tiling}
-use Rattle.vc_gaps.specs.ButLinks.{Tiling, StaysButLinks, plain, without_links}
-use Rattle.vc_gaps.specs.GapStore.{gap_store, is_free}
 use Rattle.vc_gaps.proofs.Named.{behind_of, extent_in-off, extent_of-here, extent_of-single}
-use Rattle.vc_gaps.specs.GapLaws.{is_free-named, is_free-size, is_free-stays}
 
 -- an extent with other links
 abbrev pub relinked : ℕ → ℕ → Extent → Extent

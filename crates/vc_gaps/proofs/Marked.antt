@@ -1,12 +1,7 @@
 -- A tree of gaps where an extent that isn't in it changes, or a segment is added.
 use Rattle.vc_base.proofs.Common.{◌≡◌, ℕ, ◌+◌, ◌-◌, ◌<◌, ◌≤◌, true, false, cond, not, ◌&&◌, ◌||◌, eqb, ltb, ◌≢◌, List, [], ◌∷◌, sym, refl, ap, ◌∙◌, subst, ⊎_elim, true≢false, arith, ne_eqb, and-false, contains, address, place_of}
+use Rattle.vc_gaps.proofs.Common.{Extent, HasGaps, IsBusy, Tiling, change_extent, extent_in, extent_of, extents_of, free_extent, is_free, mark_busy, mark_free, no_links, split}
 use Rattle.vc_base.proofs.Members.{apart-head, apart-tail, within-head, within-cases}
-use Rattle.vc_extent.specs.Extent.{Extent, free_extent, no_links}
-use Rattle.vc_extent.specs.Change.{extent_in, mark_busy, mark_free, split}
-use Rattle.vc_extent.specs.Tiling.{IsBusy, change_extent, extent_of, extents_of}
-use Rattle.vc_gaps.specs.ButLinks.{Tiling}
-use Rattle.vc_gaps.specs.GapStore.{is_free}
-use Rattle.vc_gaps.specs.GapTree.{HasGaps}
 use Rattle.vc_gaps.proofs.Carried.{gaps-touched}
 use Rattle.vc_gaps.proofs.Named.{behind_of, extent_in-off, extent_of-here, extent_of-other, extent_of-single, off-differs}
 

@@ -1,10 +1,7 @@
 -- What addresses name in a tiling after a change of one extent.
 use Rattle.vc_base.proofs.Common.{◌≡◌, ℕ, ◌/◌, ◌<◌, true, false, cond, eqb, ◌≢◌, List, [], ◌∷◌, sym, refl, ap, ◌∙◌, ⊎_elim, arith, ne_eqb, eqb-true, cases_Bool, cases_eq, place_of}
-use Rattle.vc_extent.specs.Extent.{Extent}
-use Rattle.vc_extent.specs.Change.{behind, change_at, extent_in}
-use Rattle.vc_extent.specs.Tiling.{change_extent, change_in, extent_of, extents_of}
+use Rattle.vc_gaps.proofs.Common.{Extent, Tiling, behind, change_at, change_extent, change_in, extent_in, extent_of, extents_of}
 use Rattle.vc_extent.proofs.Changed.{named-changed}
-use Rattle.vc_gaps.specs.ButLinks.{Tiling}
 
 -- an offset names an extent with that offset
 pub extent_in-off : (off : ℕ) (es : List Extent) → (extent_in off es).off ≡ off

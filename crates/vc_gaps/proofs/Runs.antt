@@ -1,15 +1,8 @@
 -- The runs of a tiling's free extents are those that its addresses name.
 use Rattle.vc_base.proofs.Common.{◌≡◌, ℕ, zero, suc, ◌+◌, ◌-◌, ◌*◌, ◌/◌, ◌%◌, ◌<◌, ◌≤◌, true, false, eqb, ◌≢◌, ◌⊎◌, List, [], ◌∷◌, ◌++◌, map, length, get_or, All, filter, AllPairs, sym, refl, ap, ◌∙◌, subst, inl, inr, ⊎_elim, arith, lt-ltb, eq-eqb, ne_eqb, eqb-true, cases_Bool, All-head, All-tail, address, place_of, Run}
-use Rattle.vc_seg.specs.Segment.{Bytes}
-use Rattle.vc_extent.specs.Extent.{Extent, extents}
-use Rattle.vc_extent.specs.Change.{extent_in}
+use Rattle.vc_gaps.proofs.Common.{AreExtents, Bytes, Extent, Tiling, extent_in, extent_of, extents, extents_of, free_runs, is_free, is_free-named, is_free-size, run_at, run_of_extent, tiling}
 use Rattle.vc_extent.specs.Tiles.{IsTiled, Tiles}
-use Rattle.vc_extent.specs.Tiling.{AreExtents, extent_of, extents_of, tiling}
 use Rattle.vc_extent.proofs.Tiled.{off-at, tiles-lt}
-use Rattle.vc_gaps.specs.ButLinks.{Tiling}
-use Rattle.vc_gaps.specs.Fits.{free_runs, run_at, run_of_extent}
-use Rattle.vc_gaps.specs.GapStore.{is_free}
-use Rattle.vc_gaps.specs.GapLaws.{is_free-named, is_free-size}
 
 abbrev runs_in : ℕ → List Extent → List Run
 runs_in n es = map (run_of_extent n) (filter (λ e. eqb e.size 0) es)

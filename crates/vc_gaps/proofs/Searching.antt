@@ -1,13 +1,8 @@
 -- A search along the gaps of a tree.
 use Rattle.vc_base.proofs.Common.{◌≡◌, ℕ, ◌+◌, ◌-◌, ◌^◌, ◌<◌, Bool, true, false, cond, eqb, ◌≢◌, List, sym, ◌∙◌, subst, ⊎_elim, true≢false, arith, ne_eqb, cases_Bool, eqb-false, contains, next_in, some_address}
-use Rattle.vc_seg.specs.Segment.{Bytes}
+use Rattle.vc_gaps.proofs.Common.{AreExtents, Bytes, Extent, HasGapTree, IsAmongGaps, IsInGaps, extent_of, gap_none, gap_store, is_free, key_of, tiling}
 use Rattle.vc_splay.specs.Stands.{IsTree, IsWithin}
 use Rattle.vc_splay.specs.Tree.{Tree, names}
-use Rattle.vc_extent.specs.Extent.{Extent}
-use Rattle.vc_extent.specs.Tiling.{AreExtents, extent_of, tiling}
-use Rattle.vc_gaps.specs.GapLaws.{gap_none}
-use Rattle.vc_gaps.specs.GapStore.{gap_store, is_free, key_of}
-use Rattle.vc_gaps.specs.GapTree.{HasGapTree, IsAmongGaps, IsInGaps}
 use Rattle.vc_gaps.proofs.GapTrees.{is_in, tree-distinct, tree-free}
 use Rattle.vc_gaps.proofs.Walking.{IsNext, Walked, is_next, walk-on}
 

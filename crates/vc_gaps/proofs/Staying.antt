@@ -1,10 +1,6 @@
 -- What stays of a tiling where all but links stays: its numbers, its busy extents, and what stands before and behind one.
 use Rattle.vc_base.proofs.Common.{◌≡◌, ℕ, true, false, eqb, List, [], ◌∷◌, map, Some, None, Option, option_map, sym, refl, ap, ◌∙◌, ⊎_elim, cases_Bool, place_of}
-use Rattle.vc_extent.specs.Extent.{Extent}
-use Rattle.vc_extent.specs.Change.{behind, first_of, last_before}
-use Rattle.vc_extent.specs.Tiling.{extents_of, next_of, previous_of}
-use Rattle.vc_gaps.specs.ButLinks.{Tiling, plain, without_links}
-use Rattle.vc_gaps.specs.GapLaws.{extents_of-plain, without-off}
+use Rattle.vc_gaps.proofs.Common.{Extent, Tiling, behind, extents_of, extents_of-plain, first_of, last_before, next_of, plain, previous_of, without-off, without_links}
 
 behind-plain : (off : ℕ) (es : List Extent) → behind off (map without_links es) ≡ map without_links (behind off es)
 behind-plain off [] = refl

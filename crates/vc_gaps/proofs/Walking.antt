@@ -1,8 +1,7 @@
 -- A walk along a list of names that ascend, from one to the next.
 use Rattle.vc_base.proofs.Common.{◌≡◌, ℕ, ◌+◌, ◌<◌, ◌≤◌, Bool, true, false, cond, eqb, ◌≢◌, List, [], ◌∷◌, length, Some, None, find, sym, refl, ap, ◌∙◌, subst, ⊎_elim, true≢false, arith, eq-eqb, ne_eqb, eqb-true, cases_Bool, eqb-false, AreDistinct, contains, first_in, next_in, some_address}
+use Rattle.vc_gaps.proofs.Common.{AscendFrom, from_on}
 use Rattle.vc_base.proofs.Members.{apart-head, apart-tail, within-head, within-tail}
-use Rattle.vc_gaps.specs.Fits.{from_on}
-use Rattle.vc_gaps.specs.GapTree.{AscendFrom}
 use Rattle.vc_gaps.proofs.Ascending.{ascend-least}
 
 -- an address that is one, and one that is none

@@ -1,9 +1,5 @@
 use Rattle.vc_base.proofs.Common.{sym, ◌∙◌, arith}
-use Rattle.vc_extent.specs.Tiling.{tiling}
-use Rattle.vc_gaps.specs.Fits.{holds_at}
-use Rattle.vc_gaps.specs.GapStore.{key_of}
-use Rattle.vc_gaps.specs.GapTree.{IsAmongGaps}
-use Rattle.vc_gaps.specs.GapLaws.{gap_fits}
+use Rattle.vc_gaps.proofs.Common.{IsAmongGaps, gap_fits, holds_at, key_of, tiling}
 use Rattle.vc_gaps.proofs.Searching.{above-less, at-gap, gap-free, gap-within, key-small, next-gap, no-zero, on-gap}
 use Rattle.vc_gaps.proofs.Walking.{next-above, walk-end, walk-found, walk-none, walk-steps}
 use Rattle.vc_gaps.proofs.fitting.first_that_holds.Goals as goal

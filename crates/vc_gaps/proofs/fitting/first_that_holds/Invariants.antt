@@ -1,8 +1,5 @@
 use Rattle.vc_base.proofs.Common.{◌≡◌, ℕ, ◌-◌, ◌≤◌, true, cond, eqb, ◌≢◌, List, contains}
-use Rattle.vc_extent.specs.Tiling.{tiling}
-use Rattle.vc_gaps.specs.Fits.{holds_at}
-use Rattle.vc_gaps.specs.GapStore.{key_of}
-use Rattle.vc_gaps.specs.GapTree.{HasGapTree}
+use Rattle.vc_gaps.proofs.Common.{HasGapTree, holds_at, key_of, tiling}
 use Rattle.vc_gaps.proofs.Walking.{Walked}
 use Rattle.vc_gaps.proofs.fitting.first_that_holds.Given as goal
 

@@ -1,5 +1,5 @@
 use Rattle.vc_base.proofs.Common.{length, ap, arith}
-use Rattle.vc_extent.specs.Tiling.{tiling}
+use Rattle.vc_gaps.proofs.Common.{tiling}
 use Rattle.vc_gaps.proofs.Found.{among-first, first-within, fitted-by_32, fitted-on}
 use Rattle.vc_gaps.proofs.GapTrees.{can_find, gap-found}
 use Rattle.vc_gaps.proofs.fitting.fit_in.Goals as goal

@@ -1,4 +1,4 @@
-use Rattle.vc_extent.specs.Tiling.{tiling}
+use Rattle.vc_gaps.proofs.Common.{tiling}
 use Rattle.vc_gaps.proofs.Holding.{gap_off, holds-computed}
 use Rattle.vc_gaps.proofs.fitting.holds.Goals as goal
 

@@ -1,4 +1,4 @@
-use Rattle.vc_extent.specs.Tiling.{tiling}
+use Rattle.vc_gaps.proofs.Common.{tiling}
 use Rattle.vc_gaps.proofs.GapTrees.{can_link, free-bool, linked-gap}
 use Rattle.vc_gaps.proofs.linking.link_in.Goals as goal
 

@@ -1,4 +1,4 @@
-use Rattle.vc_extent.specs.Tiling.{tiling}
+use Rattle.vc_gaps.proofs.Common.{tiling}
 use Rattle.vc_gaps.proofs.GapTrees.{is_in, unlinked-gap}
 use Rattle.vc_gaps.proofs.linking.unlink_in.Goals as goal
 

@@ -1,5 +1,5 @@
 use Rattle.vc_base.proofs.Common.{refl}
-use Rattle.vc_extent.specs.Tiling.{tiling}
+use Rattle.vc_gaps.proofs.Common.{tiling}
 use Rattle.vc_gaps.proofs.LinkWritten.{first-linked, but-linked}
 use Rattle.vc_gaps.proofs.gaps.GapsNodes.set_left.Goals as goal
 
