@@ -19,14 +19,14 @@ use Rattle.vc_region.proofs.Writing.{poke-labels, watch-blocks}
 use Rattle.vc_seg.specs.declared.profile_row.ProfileRow.{ProfileRow}
 use Rattle.vc_script.specs.declared.refusal.Refusal.TheVariants as why
 use Rattle.vc_script.specs.declared.reply.Reply.TheVariants.{Poked, Watched}
-use Rattle.vc_commands.specs.Held.{Held, IsNamed, home_of}
+use Rattle.vc_commands.specs.Held.{HasName, Held, IsNamed, home_of}
 use Rattle.vc_commands.specs.Audit.{damage_item, is_poke, poke_block, poke_byte, poke_in, watch_block, watch_in}
 use Rattle.vc_commands.specs.Labels.{MovesLabel, kept_of, name_of}
 use Rattle.vc_commands.specs.Home as home
 use Rattle.vc_commands.specs.Home.{Home, changed_to, refusal_alone}
 use Rattle.vc_commands.specs.RegionRun.{GivesRegion}
 use Rattle.vc_commands.specs.declared.region.labels.Labels.{Labels}
-use Rattle.vc_commands.proofs.FoundBlocks.{HasName, TheBlock, label_of, on_block-there, the_block}
+use Rattle.vc_commands.proofs.FoundBlocks.{TheBlock, label_of, on_block-there, the_block}
 use Rattle.vc_commands.proofs.Moving.{named-moved}
 use Rattle.vc_commands.proofs.Listing.{from_some}
 use Rattle.vc_commands.proofs.Resizing.{found-place}

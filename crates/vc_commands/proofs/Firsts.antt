@@ -1,5 +1,5 @@
 -- The first item that passes a test.
-use Rattle.vc_base.proofs.Common.{◌≡◌, ℕ, zero, suc, ◌+◌, ◌<◌, Bool, true, false, cond, ◌||◌, List, [], ◌∷◌, map, length, get_or, take, set, slice_get, Some, None, find, sym, refl, ap, ◌∙◌, add-one, arith, or-true, or_parts, any_passes_from_place, none-some, same_Some, list_any}
+use Rattle.vc_base.proofs.Common.{◌≡◌, ℕ, zero, suc, ◌+◌, ◌<◌, Bool, true, false, cond, ◌||◌, List, [], ◌∷◌, map, length, get_or, take, set, slice_get, Some, None, find, sym, refl, ap, ◌∙◌, add-one, arith, or_parts, any_passes_from_place, none-some, same_Some, list_any}
 use Rattle.std.proofs.lemmas.List.{take-map}
 use Rattle.vc_base.proofs.Quantifiers.{any-map}
 use Rattle.vc_base.proofs.Lists.{slice_get-set}

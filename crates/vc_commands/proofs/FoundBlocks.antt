@@ -1,5 +1,5 @@
 -- The block of a name, in a region with tags and in the one with names.
-use Rattle.vc_base.proofs.Common.{◌≡◌, ℕ, suc, ◌≤◌, true, ◌||◌, List, [], ◌∷◌, map, is_some, ◌==◌, Some, None, Contains, option_map, find, bytes_eq, sym, refl, ap, ◌∙◌, ⊎_elim, arith, eqb-true, cases_Bool, false≢true, same_Some, list_any, place_of, Block, address_of, relabel_block, HasBlock, find_block}
+use Rattle.vc_base.proofs.Common.{◌≡◌, ℕ, suc, ◌≤◌, true, ◌||◌, List, [], ◌∷◌, map, is_some, ◌==◌, Some, None, Option, IfSome, Contains, option_map, find, bytes_eq, sym, refl, ap, ◌∙◌, ⊎_elim, arith, eqb-true, cases_Bool, false≢true, same_Some, list_any, place_of, Block, address_of, relabel_block, HasBlock, find_block}
 use Rattle.vc_region.specs.Region.{Region, blocks_of, region_with_labels}
 use Rattle.vc_model.specs.Place.{IsAlign}
 use Rattle.vc_base.specs.declared.addr.Addr.{Addr}
@@ -18,7 +18,7 @@ use Rattle.vc_commands.specs.FreedNames.{line_of}
 use Rattle.vc_commands.specs.declared.region.labels.Label.{Label}
 use Rattle.vc_commands.specs.declared.region.labels.Labels.{Labels}
 use Rattle.vc_commands.specs.Labels.{kept_of, label_at, name_of, tag_of}
-use Rattle.vc_commands.specs.Held.{Held, IsLive, IsNamed, home_of}
+use Rattle.vc_commands.specs.Held.{HasName, Held, IsLive, IsNamed, home_of}
 use Rattle.vc_script.specs.declared.refusal.Refusal.{Refusal}
 use Rattle.vc_script.specs.declared.reply.Reply.TheVariants.{Refused}
 use Rattle.vc_commands.specs.RegionRun.{GivesRegion}
@@ -55,12 +55,6 @@ pub record TheBlock (r : Region ℕ) (labels : Labels) (x : List ℕ) (tag a : �
 -- a name of a region's blocks, by its tag, whose label has an address
 abbrev pub label_of : List ℕ → Addr → Label
 label_of x addr = record { name = x; at = addr }
-
-pub record HasName (r : Region ℕ) (labels : Labels) (x : List ℕ) (addr : Addr) : Type 0 where
-  pub names : IsNamed r labels
-  pub tag : ℕ
-  pub named : tag_of labels x ≡ Some tag
-  pub there : label_at labels tag ≡ Some (label_of x addr)
 
 -- by what the labels tell of it
 pub has-name : {r : Region ℕ} {labels : Labels} {x : List ℕ} {addr : Addr} → IsNamed r labels → (tag : ℕ) × (tag_of labels x ≡ Some tag) × (label_at labels tag ≡ Some (label_of x addr)) → HasName r labels x addr
@@ -100,6 +94,11 @@ module _ {r : Region ℕ} {labels : Labels} {x : List ℕ} {addr : Addr} (has : 
 -- it stands in a region of its tags at the address of the name
 pub name-there : {I : Type 0} {V : I → Type 0} (r : Open I V) {labels : Labels} {x : List ℕ} {addr : Addr} → HasName (rest_in r) labels x addr → HasBlock (blocks_of (region_of r)) addr.0
 name-there r {addr = addr} has = has-rest (region_of r) addr.0 (the_block has).there
+
+-- so it is found with what the labels tell
+pub if_some-map : {A : Type 0} {P Q : A → Type 0} (o : Option A) → ((x : A) → P x → Q x) → IfSome o P → IfSome o Q
+if_some-map None f h = tt
+if_some-map (Some x) f h = f x h
 
 -- what is done with it
 pub on_block-there : (h : Held) (x : List ℕ) (tag a : ℕ) (b : TheBlock h.region h.labels x tag a) (act : Block home.Label → Changed) → on_block (home_of h) x act ≡ act (relabel_block (name_of h.labels) b.block)

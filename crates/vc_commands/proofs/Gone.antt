@@ -9,7 +9,7 @@ use Rattle.vc_script.specs.declared.reply.Reply.TheVariants.{Freed}
 use Rattle.vc_commands.specs.Home as home
 use Rattle.vc_commands.specs.Home.{Home, refusal_alone}
 use Rattle.vc_commands.specs.FreedNames.{with_line}
-use Rattle.vc_commands.specs.Held.{Held, home_of}
+use Rattle.vc_commands.specs.Held.{HasName, Held, home_of}
 use Rattle.vc_commands.specs.Blocks.{free_block, free_in, change_by_free, kept_freed}
 use Rattle.vc_commands.specs.Labels.{SameLabels, WithoutLabel, kept_of, label_at, name_of, tag_of}
 use Rattle.vc_seg.specs.Answer.{IsRefusal}
@@ -19,7 +19,7 @@ use Rattle.vc_commands.specs.RegionRun.{GivesRegion}
 use Rattle.vc_commands.specs.declared.region.labels.Label.{Label}
 use Rattle.vc_commands.specs.declared.region.labels.Labels.{Labels}
 use Rattle.vc_commands.proofs.Answers.{Told, fault-told}
-use Rattle.vc_commands.proofs.FoundBlocks.{HasName, TheBlock, label_of, on_block-there, the_block}
+use Rattle.vc_commands.proofs.FoundBlocks.{TheBlock, label_of, on_block-there, the_block}
 use Rattle.vc_commands.proofs.Moving.{region-less}
 
 module _ (h : Held) {x : List ℕ} {addr : Addr} (has : HasName h.region h.labels x addr) (line : ℕ) where

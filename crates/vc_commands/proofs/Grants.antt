@@ -1,5 +1,5 @@
 -- Which replies tell that a segment was refused.
-use Rattle.vc_base.proofs.Common.{◌≡◌, ℕ, ◌+◌, Bool, true, false, cond, ◌&&◌, List, [], ◌∷◌, length, ℤ, IfSome, nat_le, Some, None, Option, find, refl, ◌∙◌, subst, Block, Done, Fault, Outcome, Put, Refused, block_at, segment_at}
+use Rattle.vc_base.proofs.Common.{◌≡◌, ℕ, ◌+◌, Bool, true, false, cond, ◌&&◌, List, [], ◌∷◌, length, ℤ, IfSome, nat_le, Some, None, Option, find, refl, ◌∙◌, subst, Block, Done, Outcome, Put, Refused, block_at, segment_at}
 use Rattle.vc_model.specs.Outcome as model
 use Rattle.vc_region.proofs.Freeing.{free-granted}
 use Rattle.vc_region.specs.Region.{Region, blocks_of, region_align, region_alloc, region_free, region_resize, segments_of, watch_at, aligns, is_debug, is_profile}

@@ -10,7 +10,8 @@ use Rattle.vc_commands.specs.Home as home
 use Rattle.vc_commands.specs.Labels.{AreLabels, MovesLabel, WithLabel, WithoutLabel, kept_of, label_at, name_of, tag_of}
 use Rattle.vc_commands.specs.Held.{IsLive, IsNamed, tag_count}
 use Rattle.vc_commands.proofs.FoundBlocks.{TheBlock}
-use Rattle.vc_commands.proofs.Lists.{all-join, all-without, any-alike, any-split, count-split, others-apart}
+use Rattle.vc_audit.proofs.ProfileLists.{all-join, all-without, others-apart}
+use Rattle.vc_commands.proofs.Lists.{any-alike, any-split, count-split}
 use Rattle.vc_commands.proofs.Names.{has-label-any, name-alike, name-here, name-none, named_by, other_bytes}
 
 zero-or : (n : ℕ) → (n ≡ 0) ⊎ (1 ≤ n)
@@ -124,7 +125,7 @@ module _ (old : Labels) (r : Region ℕ) (names : IsNamed r old) (x : List ℕ) 
   pub rest-stays : (new : Labels) → ((t : ℕ) → 1 ≤ t → t ≢ tag → label_at new t ≡ label_at old t) → AllByRecursion (Stays old new) (without_block (place_of label.at.0) (blocks_of r))
   rest-stays new same =
       stay-others new same (without_block (place_of label.at.0) (blocks_of r))
-      (all-without (place_of label.at.0) b.block (λ c. 1 ≤ c.label → IsLive old c) (blocks_of r) names.live)
+      (all-without (λ c. 1 ≤ c.label → IsLive old c) (place_of label.at.0) (blocks_of r) names.live)
       (others-apart (place_of label.at.0) b.block (blocks_of r) b.found names.places)
 
   -- the block has another address, or another size or bytes, under its tag

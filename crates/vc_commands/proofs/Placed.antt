@@ -1,5 +1,5 @@
 -- A command that puts a new block under a name in an open region.
-use Rattle.vc_base.proofs.Common.{◌≡◌, ℕ, ◌≤◌, Bool, false, List, [], IfSome, Some, None, Ok, Option, Result, refl, Discipline, HasOut, Outcome, Put, outcome_as}
+use Rattle.vc_base.proofs.Common.{◌≡◌, ℕ, ◌≤◌, Bool, false, List, [], IfSome, Some, None, Ok, Option, Result, Discipline, HasOut, Outcome, Put, outcome_as}
 use Rattle.vc_model.proofs.Keeping.{NoneRefused-same}
 use Rattle.vc_base.specs.declared.addr.Addr.{Addr}
 use Rattle.vc_region.specs.Cells.{cells_in, rest_in}

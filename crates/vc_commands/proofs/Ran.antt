@@ -1,5 +1,5 @@
 -- What running a command promises, from what its own function does.
-use Rattle.vc_base.proofs.Common.{◌≡◌, ℕ, Bool, true, false, List, length, IfOk, OnErr, None, Ok, Err, Option, Result, sym, refl, ap, ◌∙◌, subst, inl, false≢true, is_list, Discipline, NoneRefused, Layout}
+use Rattle.vc_base.proofs.Common.{◌≡◌, ℕ, Bool, true, false, List, length, IfOk, OnErr, None, Ok, Err, Option, Result, sym, refl, ◌∙◌, subst, inl, false≢true, is_list, Discipline, NoneRefused, Layout}
 use Rattle.vc_model.proofs.Keeping.{NoneRefused-equal}
 use Rattle.vc_base.specs.declared.dict_method.DictMethod.{DictMethod}
 use Rattle.vc_base.specs.declared.dict_method.DictMethod.TheVariants.{DtSet, DtBag, DtOset, DtObag, DtList, DtStack, DtQueue}

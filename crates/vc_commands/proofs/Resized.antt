@@ -1,5 +1,5 @@
 -- A resize of the block of a name in an open region, by what it leaves but for the bytes in cells.
-use Rattle.vc_base.proofs.Common.{◌≡◌, ℕ, Bool, List, IfOk, Result, place_of, Discipline, HasOut}
+use Rattle.vc_base.proofs.Common.{ℕ, Bool, List, IfOk, Result, place_of, Discipline, HasOut}
 use Rattle.vc_base.specs.declared.addr.Addr.{Addr}
 use Rattle.vc_region.specs.Cells.{cells_in, rest_in}
 use Rattle.vc_region.specs.Parts.{disc_in, region_of}
@@ -9,10 +9,10 @@ use Rattle.vc_region.proofs.Sound.{own_places}
 use Rattle.vc_seg.specs.Answer.{Answers, Asks}
 use Rattle.vc_seg.specs.OneBlock.{IsBlockKept}
 use Rattle.vc_seg.specs.declared.fault.RegionFault.{RegionFault}
-use Rattle.vc_commands.specs.Held.{Held, IsChange, IsNamed}
+use Rattle.vc_commands.specs.Held.{HasName, Held, IsChange, IsNamed}
 use Rattle.vc_commands.specs.declared.region.labels.Labels.{Labels}
 use Rattle.vc_commands.proofs.Answers.{asks-kept, asks-out, changed-by}
-use Rattle.vc_commands.proofs.FoundBlocks.{HasName, TheBlock, the_block}
+use Rattle.vc_commands.proofs.FoundBlocks.{TheBlock, the_block}
 use Rattle.vc_commands.proofs.Seen.{SeenMoved, seen-asks, seen-resize}
 
 module _ {I : Type 0} {V : I → Type 0} (meaning : (x : I) × V x → Discipline) (was is : Open I V) {labels : Labels} {x : List ℕ} {addr : Addr} (has : HasName (rest_in was) labels x addr) (size : ℕ) (may_move : Bool) (result : Result Addr RegionFault) where

@@ -14,7 +14,7 @@ use Rattle.vc_script.specs.Needs.{need_shown}
 use Rattle.vc_script.specs.declared.refusal.Refusal.TheVariants as why
 use Rattle.vc_script.specs.declared.reply.Reply.{Reply}
 use Rattle.vc_commands.specs.Home.{Changed, Home, refusal_alone}
-use Rattle.vc_commands.specs.Held.{Held, IsNamed, home_of}
+use Rattle.vc_commands.specs.Held.{HasName, Held, IsNamed, home_of}
 use Rattle.vc_commands.specs.Blocks.{at_place, is_size, put_in, resize_block, resize_in}
 use Rattle.vc_commands.specs.Labels.{AreLabels, MovesLabel, kept_of, name_of}
 use Rattle.vc_commands.specs.FreedNames.{FreedNames}
@@ -23,7 +23,7 @@ use Rattle.vc_commands.specs.RegionCommands.{is_for_block}
 use Rattle.vc_commands.specs.declared.region.labels.Label.{Label}
 use Rattle.vc_commands.specs.declared.region.labels.Labels.{Labels}
 use Rattle.vc_commands.proofs.Answers.{Told, fault-told}
-use Rattle.vc_commands.proofs.FoundBlocks.{HasName, TheBlock, label_of, on_block-there, the_block}
+use Rattle.vc_commands.proofs.FoundBlocks.{TheBlock, label_of, on_block-there, the_block}
 use Rattle.vc_commands.proofs.Listing.{from_some}
 use Rattle.vc_commands.proofs.Moving.{name-moved, named-moved}
 use Rattle.vc_commands.proofs.Names.{relabelled-names}

@@ -1,5 +1,5 @@
 -- What is done with the bytes of the block of a name.
-use Rattle.vc_base.proofs.Common.{◌≡◌, ℕ, ◌+◌, ◌<◌, ◌≤◌, Bool, true, false, cond, ◌&&◌, List, length, take, drop, IfSome, nat_le, Some, Option, option_map, sym, refl, ap, ◌∙◌, subst, arith, nat_tests, and_right, same_Some, address, place_of, Block, address_of, without_block, HaveOwnPlaces, find_block}
+use Rattle.vc_base.proofs.Common.{◌≡◌, ℕ, ◌+◌, ◌<◌, ◌≤◌, true, false, cond, ◌&&◌, List, length, take, drop, IfSome, nat_le, Some, Option, option_map, sym, refl, ap, ◌∙◌, subst, arith, nat_tests, and_right, same_Some, address, place_of, Block, address_of, without_block, HaveOwnPlaces, find_block}
 use Rattle.vc_base.specs.declared.addr.Addr.{Addr}
 use Rattle.vc_region.specs.Region.{Region, blocks_of, region_write, region_with_labels, keeps_freed, watch_at}
 use Rattle.vc_region.proofs.Keeps.{write-keeps}
@@ -8,11 +8,11 @@ use Rattle.vc_script.specs.declared.refusal.Refusal.TheVariants as why
 use Rattle.vc_script.specs.declared.reply.Reply.TheVariants.{Written, Hex, Size}
 use Rattle.vc_commands.specs.Home as home
 use Rattle.vc_commands.specs.Home.{Home, changed_to, reply_alone, refusal_alone}
-use Rattle.vc_commands.specs.Held.{Held, IsNamed, home_of}
+use Rattle.vc_commands.specs.Held.{HasName, Held, IsNamed, home_of}
 use Rattle.vc_commands.specs.Blocks.{read_block, read_in, size_in, write_block, write_in}
 use Rattle.vc_commands.specs.Labels.{MovesLabel, kept_of, name_of}
 use Rattle.vc_commands.specs.RegionRun.{GivesRegion}
-use Rattle.vc_commands.proofs.FoundBlocks.{HasName, TheBlock, label_of, on_block-there, the_block}
+use Rattle.vc_commands.proofs.FoundBlocks.{TheBlock, label_of, on_block-there, the_block}
 use Rattle.vc_model.proofs.Owned.{address-place_of}
 use Rattle.vc_region.proofs.Writing.{write-labels}
 use Rattle.vc_commands.proofs.Listing.{from_some}

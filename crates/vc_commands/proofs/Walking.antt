@@ -1,5 +1,5 @@
 -- A walk along what is seen through a dictionary, and the objects at the places that are answered.
-use Rattle.vc_base.proofs.Common.{◌≡◌, ℕ, ◌+◌, ◌<◌, Bool, true, false, not, ◌&&◌, List, [], ◌∷◌, ◌++◌, map, length, IfSome, if◌then◌else◌, IsSome, Some, None, Option, option_map, find, sym, refl, ap, ◌∙◌, subst, append_assoc, append-nil, arith, length-append, or_right, length-map, map-append, AllByRecursion, list_any}
+use Rattle.vc_base.proofs.Common.{◌≡◌, ℕ, ◌+◌, ◌<◌, Bool, true, false, not, ◌&&◌, List, [], ◌∷◌, ◌++◌, map, length, IfSome, if◌then◌else◌, IsSome, Some, None, Option, option_map, find, sym, refl, ap, ◌∙◌, subst, append_assoc, append-nil, arith, length-append, length-map, map-append, AllByRecursion, list_any}
 use Rattle.vc_base.specs.declared.addr.Addr.{Addr}
 use Rattle.vc_base.proofs.Quantifiers.{all-middle, any-middle}
 use Rattle.vc_dtdisc.specs.Finding.{before_first_from, behind_last, first_of, last_from}

@@ -2,6 +2,7 @@
 use Rattle.std.specs.Prelude.{◌≡◌, ℕ, ◌-◌, ◌≤◌, List, [], Some, length, take, count_by, nat_lt, is_some, false}
 use Rattle.std.specs.List.{AllByRecursion}
 use Rattle.vc_base.specs.Cells.{Blocks}
+use Rattle.vc_base.specs.declared.addr.Addr.{Addr}
 use Rattle.vc_model.specs.Discipline.{Discipline, HasOut, Kept, Unserved}
 use Rattle.vc_model.specs.Layout.{Block, address_of, place_of_block}
 use Rattle.vc_model.specs.Addr.{place_of}
@@ -56,6 +57,13 @@ pub record IsNamed (region : Region ℕ) (labels : Labels) : Type 0 where
   pub known : (x : List ℕ) → is_some (tag_of labels x) ≡ has_label x (region_with_labels (name_of labels) region)
   pub places : HaveOwnPlaces (blocks_of region)
   pub none : keeps_freed region ≡ false → kept_of labels ≡ []
+
+-- the block of a name has a tag, whose label tells the block's address
+pub record HasName (region : Region ℕ) (labels : Labels) (x : List ℕ) (addr : Addr) : Type 0 where
+  pub names : IsNamed region labels
+  pub tag : ℕ
+  pub named : tag_of labels x ≡ Some tag
+  pub there : label_at labels tag ≡ Some (record { name = x; at = addr })
 
 -- what is out of a discipline without segments that are the last of those
 abbrev pub out_without : Discipline → List (ℕ × ℕ) → List (ℕ × ℕ)

@@ -10,7 +10,7 @@ ghost use Rattle.vc_commands.specs.Labels.{name_of};
 ghost use Rattle.vc_commands.specs.Home.{reply_alone};
 
 use crate::region::blocks::no_block;
-use crate::region::home::HomeEntry;
+use crate::region::home::{HomeEntry, find_block};
 use crate::region::labels::Labels;
 use crate::region::marks::{is_debug, is_profile};
 use std::alloc::Global;
@@ -96,7 +96,7 @@ impl HomeEntry {
         ensures served { NoneRefused (disc_in state self.old.region)
             (disc_in state self.new.region) }
     {
-        let Some(at) = labels.find(name) else {
+        let Some(at) = find_block(&self.region, labels, name) else {
             return Reply::Refused(no_block(labels, name));
         };
         if !is_debug(&self.region) {
@@ -125,7 +125,7 @@ impl HomeEntry {
             self.old labels.now self.new labels.now }
         ensures change { ChangesRegion state self.old labels.now self.new labels.now }
     {
-        let Some(at) = labels.find(name) else {
+        let Some(at) = find_block(&self.region, labels, name) else {
             return Ok(Reply::Refused(no_block(labels, name)));
         };
         if !is_debug(&self.region) {

@@ -12,7 +12,7 @@ ghost use Rattle.vc_commands.specs.Labels.{AreLabels, kept_of, tag_of};
 ghost use Rattle.vc_commands.specs.Naming.{NamesPut, TellsFault, new_refused};
 ghost use Rattle.vc_commands.specs.RegionCommands.{is_for_block};
 
-use crate::region::home::{HomeEntry, place_of};
+use crate::region::home::{HomeEntry, find_block, place_of};
 use crate::region::labels::Labels;
 use crate::region::marks::{aligns, keeps_freed, watch_line};
 use vc_base::{Addr, Name, OutOfMemory};
@@ -221,7 +221,7 @@ impl HomeEntry {
             (Some (size, 32)) self.old labels.old self.new labels.new }
         ensures change { ChangesRegion state self.old labels.old self.new labels.new }
     {
-        let Some(at) = labels.find(name) else {
+        let Some(at) = find_block(&self.region, labels, name) else {
             return Ok(Reply::Refused(no_block(labels, name)));
         };
         if !is_size(size) {
@@ -252,7 +252,7 @@ impl HomeEntry {
             self.old labels.old self.new labels.new }
         ensures change { ChangesRegion state self.old labels.old self.new labels.new }
     {
-        let Some(at) = labels.find(name) else {
+        let Some(at) = find_block(&self.region, labels, name) else {
             return Ok(Reply::Refused(no_block(labels, name)));
         };
         let watch = watch_line(&self.region, at);

@@ -7,7 +7,7 @@ ghost use Rattle.vc_commands.specs.Held.{IsNamed};
 ghost use Rattle.vc_commands.specs.Blocks.{read_in, size_in, write_in};
 
 use crate::region::blocks::no_block;
-use crate::region::home::HomeEntry;
+use crate::region::home::{HomeEntry, find_block};
 use crate::region::labels::Labels;
 use crate::region::marks::watch_line;
 use std::alloc::Global;
@@ -33,7 +33,7 @@ impl HomeEntry {
         ensures served { NoneRefused (disc_in state self.old.region)
             (disc_in state self.new.region) }
     {
-        match labels.find(name) {
+        match find_block(&self.region, labels, name) {
             None => Reply::Refused(no_block(labels, name)),
             Some(at) => {
                 if off as u64 + bytes.len() as u64 > self.region.size(at) as u64 {
@@ -60,7 +60,7 @@ impl HomeEntry {
             (λ h. read_in h name.now off len)
             self.now labels.now (region_with self.now labels.now) reply) }
     {
-        match labels.find(name) {
+        match find_block(&self.region, labels, name) {
             None => Ok(Reply::Refused(no_block(labels, name))),
             Some(at) => {
                 if len == 0 || len > 4096 || off as u64 + len as u64 > self.region.size(at) as u64 {
@@ -79,7 +79,7 @@ impl HomeEntry {
             (λ h. size_in h name.now)
             self.now labels.now (region_with self.now labels.now) result }
     {
-        match labels.find(name) {
+        match find_block(&self.region, labels, name) {
             None => Reply::Refused(no_block(labels, name)),
             Some(at) => Reply::Size(*name, self.region.size(at)),
         }

@@ -1,14 +1,15 @@
-ghost use Rattle.std.specs.Prelude.{◌≡◌, Some};
-ghost use Rattle.vc_base.specs.Prelude.{place_of, HasOut};
+ghost use Rattle.std.specs.Prelude.{◌≡◌, Some, None, IfSome, IfNone};
+ghost use Rattle.vc_base.specs.Prelude.{place_of, HasBlock, HasOut};
 ghost use Rattle.vc_region.specs.Cells.{rest_in};
-ghost use Rattle.vc_region.specs.Parts.{disc_in};
+ghost use Rattle.vc_region.specs.Parts.{blocks_in, disc_in};
 ghost use Rattle.vc_region.specs.Region.{segments_of};
-ghost use Rattle.vc_commands.specs.Held.{IsNamed};
+ghost use Rattle.vc_commands.specs.Held.{HasName, IsNamed};
+ghost use Rattle.vc_commands.specs.Labels.{tag_of};
 ghost use Rattle.vc_commands.specs.RegionCommands.{block_asked, in_region};
 
 use crate::region::labels::Labels;
 use std::alloc::Global;
-use vc_base::{Addr, OutOfMemory};
+use vc_base::{Addr, Name, OutOfMemory};
 use vc_region::Region;
 use vc_script::{Command, Place, Refusal, Reply};
 use vc_seg::{BoxedDisc, SegDisc};
@@ -31,6 +32,16 @@ pub(crate) fn place_of(at: Addr) -> Place
         seg: at.seg(),
         off: at.off(),
     }
+}
+
+// The address of the block of a name in the region whose names these are, where it has one.
+pub(crate) fn find_block(region: &Region, labels: &Labels, name: &Name) -> Option<Addr>
+    requires { IsNamed (rest_in region.now) labels.now }
+    ensures some { IfSome result (λ at. HasName (rest_in region.now) labels.now name.now at) }
+    ensures there { IfSome result (λ at. HasBlock (blocks_in region.now) at.0) }
+    ensures none { IfNone result (tag_of labels.now name.now ≡ None) }
+{
+    labels.find(name)
 }
 
 impl HomeEntry {

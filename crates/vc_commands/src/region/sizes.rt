@@ -4,7 +4,7 @@ ghost use Rattle.vc_commands.specs.Held.{IsNamed};
 ghost use Rattle.vc_commands.specs.RegionRun.{region_with};
 ghost use Rattle.vc_commands.specs.Sizes.{size_named};
 
-use crate::region::home::HomeEntry;
+use crate::region::home::{HomeEntry, find_block};
 use crate::region::labels::Labels;
 use vc_base::Name;
 
@@ -15,7 +15,7 @@ impl HomeEntry {
         requires names { IsNamed (rest_in self.now.region) labels.now }
         ensures { result ≡ size_named name.now (region_with self.now labels.now).0 }
     {
-        match labels.find(name) {
+        match find_block(&self.region, labels, name) {
             None => 0,
             Some(at) => self.region.size(at),
         }

@@ -17,8 +17,7 @@ loop-row-preserved g c =
 
 pub loop-row-smaller : goal.loop-row-smaller
 loop-row-smaller g c =
-    let r = region_of c.args.region.now in
-    let e = ap length (row-next (rows_in r) c.loop-row.i c.in-Some.row (sym (row-is r c.loop-row.i) ∙ sym c.in-Some.ensures)) in
+    let e = ap length (row-next (rows_in (region_of c.args.region.now)) c.loop-row.i c.in-Some.row (sym (row-is (region_of c.args.region.now) c.loop-row.i) ∙ sym c.in-Some.ensures)) in
     omega (arith, e)
 
 pub returns : goal.returns

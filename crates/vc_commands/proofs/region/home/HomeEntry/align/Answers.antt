@@ -1,4 +1,4 @@
-use Rattle.vc_base.proofs.Common.{◌≡◌, ℕ, true, false, List, [], ◌∷◌, Some, None, sym, refl, ap, ◌∙◌, subst, rules, and_parts, Discipline}
+use Rattle.vc_base.proofs.Common.{◌≡◌, ℕ, true, false, List, [], ◌∷◌, Some, None, sym, ap, ◌∙◌, subst, rules, and_parts, Discipline}
 use Rattle.vc_model.proofs.Keeping.{NoneRefused-same}
 use Rattle.vc_region.specs.Region.{region_align}
 use Rattle.vc_region.specs.Cells.{rest_in}

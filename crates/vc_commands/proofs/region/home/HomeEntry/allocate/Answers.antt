@@ -1,4 +1,4 @@
-use Rattle.vc_base.proofs.Common.{◌≡◌, ◌≤◌, false, Some, None, sym, refl, ap, ◌∙◌, subst, rules, Discipline}
+use Rattle.vc_base.proofs.Common.{◌≡◌, ◌≤◌, false, Some, None, sym, ap, ◌∙◌, subst, rules, Discipline}
 use Rattle.vc_model.proofs.Keeping.{NoneRefused-same}
 use Rattle.vc_region.specs.Region.{region_alloc}
 use Rattle.vc_region.specs.Cells.{rest_in}

@@ -9,7 +9,7 @@ use Rattle.vc_commands.specs.Held.{IsNamed, home_of}
 use Rattle.vc_commands.specs.Blocks.{free_block, kept_freed}
 use Rattle.vc_commands.specs.RegionRun.{held_of}
 use Rattle.vc_commands.proofs.Answers.{change-same, changed-alike, err-all, if_ok-all}
-use Rattle.vc_commands.proofs.FoundBlocks.{HasName, gives-none, has-name, label_of, name-there, the_block}
+use Rattle.vc_commands.proofs.FoundBlocks.{gives-none, label_of, the_block}
 use Rattle.vc_region.proofs.Freeing.{free-segments}
 use Rattle.vc_commands.proofs.Gone.{gives-freed, step-kept, kept-after, none-after, removed-label, removed-so}
 use Rattle.vc_commands.proofs.Lists.{index}
@@ -20,7 +20,6 @@ use Rattle.vc_commands.proofs.Runs.{runs-granted}
 use Rattle.vc_commands.proofs.Listing.{places_in}
 use Rattle.vc_commands.proofs.region.home.HomeEntry.free.Given as given
 use Rattle.vc_commands.proofs.region.home.HomeEntry.free.Goals as goal
-use Rattle.vc_commands.proofs.region.home.HomeEntry.free.Goals.{In-Some}
 
 abbrev meaning : (g : given.Over) → (x : g.dyn-1.0.I) × (g.dyn-1.0.entry x).0.Denot → Discipline
 meaning g p = (g.dyn-1.0.entry p.0).1.state p.1
@@ -34,18 +33,9 @@ returns-in_default g c =
       change = λ r. change-same (held_of (meaning g) r c.args.self.now c.args.labels.now) c.args.labels.now c.requires.lent c.requires.names;
     }
 
--- the block of the name
-named : (g : given.Over) (c : In-Some g) → HasName (rest_in c.args.self.now.region) c.args.labels.now c.args.name.now c.in-Some.at
-named g c = has-name c.requires.names c.in-Some.ensures.some
-
-pub watch_line-watch-requires : goal.watch_line-watch-requires
-watch_line-watch-requires g c = name-there c.args.self.now.region (named g (goal.at.watch_line-watch-requires g c).In-Some)
-
-pub free-requires : goal.free-requires
-free-requires g c = name-there c.args.self.now.region (named g (goal.at.free-requires g c).In-Some)
-
 pub returns-in-Ok : goal.returns-in-Ok
 returns-in-Ok g c =
+    let has = c.in-Some.ensures.some in
     let name = c.args.name.now in
     let line = c.args.line in
     let was = region_of c.args.self.now.region in
@@ -54,7 +44,6 @@ returns-in-Ok g c =
     let new = rest_in c.free.new.self in
     let labels = c.args.labels.now in
     let labels' = c.free-in-Ok.new.self in
-    let has = named g (goal.at.returns-in-Ok g c).In-Some in
     let a = c.in-Some.at.0 in
     let b = the_block has in
     let i = index (place_of a) b.block (blocks_of was) (seen-found was a b.block b.found b.first) in
@@ -76,12 +65,11 @@ returns-in-Ok g c =
 
 pub returns-in-Err : goal.returns-in-Err
 returns-in-Err g c =
-    let has = named g (goal.at.returns-in-Err g c).In-Some in
-    let b = the_block has in
+    let b = the_block c.in-Some.ensures.some in
     let kept = seen-kept (region_of c.args.self.now.region) c.in-Some.at.0 b.block b.found b.first c.in-Err.fault (region_of c.free.new.self) c.in-Err.ensures.answer.0 c.in-Err.ensures.answer.1 in
     record {
       runs = runs-granted _ _ _ _ _ _ _ None (λ h need. granted-free h c.args.name.now c.args.line)
-          (if_ok-all c.refused.result _ (λ r. step-kept (held_of (meaning g) r c.args.self.now c.args.labels.now) has c.args.line c.in-Err.fault c.refused.result c.refused.ensures kept.0 (rest_in c.free.new.self) kept.1))
+          (if_ok-all c.refused.result _ (λ r. step-kept (held_of (meaning g) r c.args.self.now c.args.labels.now) c.in-Some.ensures.some c.args.line c.in-Err.fault c.refused.result c.refused.ensures kept.0 (rest_in c.free.new.self) kept.1))
           (err-all c.refused.result (ap (λ q. (region_with_labels (name_of c.args.labels.now) q, kept_of c.args.labels.now)) kept.1)) (NoneRefused-equal _ _ c.free.ensures.disc);
       change = λ r.
           changed-alike (held_of (meaning g) r c.args.self.now c.args.labels.now) (disc_in (meaning g) c.free.new.self) (rest_in c.free.new.self) (cells_in c.free.new.self) c.args.labels.now (ap region_cells c.in-Err.ensures.answer.1) c.requires.lent c.free.ensures.disc

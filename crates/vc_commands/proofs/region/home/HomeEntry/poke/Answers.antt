@@ -10,7 +10,7 @@ use Rattle.vc_commands.specs.Audit.{is_poke, poke_block, poke_in}
 use Rattle.vc_commands.specs.RegionRun.{held_of}
 use Rattle.vc_commands.proofs.Answers.{NotNoSegment, changed-alike, gives-unchanged}
 use Rattle.vc_commands.proofs.Auditing.{gives-poked, named-poked, poke-method, poke-range, poked-segments}
-use Rattle.vc_commands.proofs.FoundBlocks.{HasName, has-name, name-there, gives-none}
+use Rattle.vc_commands.proofs.FoundBlocks.{gives-none}
 use Rattle.vc_region.proofs.Rest.{rest-debug, rest-poke, rest-watch_at}
 use Rattle.vc_region.proofs.RestCells.{poke-cells}
 use Rattle.vc_region.proofs.RestFound.{rest-size}
@@ -19,23 +19,9 @@ use Rattle.vc_commands.proofs.Touching.{size-told}
 use Rattle.vc_commands.proofs.Listing.{places_in}
 use Rattle.vc_commands.proofs.region.home.HomeEntry.poke.Given as given
 use Rattle.vc_commands.proofs.region.home.HomeEntry.poke.Goals as goal
-use Rattle.vc_commands.proofs.region.home.HomeEntry.poke.Goals.{In-Some}
 
 abbrev meaning : (g : given.Over) → (x : g.dyn-1.0.I) × (g.dyn-1.0.entry x).0.Denot → Discipline
 meaning g p = (g.dyn-1.0.entry p.0).1.state p.1
-
--- the block of the name
-named : (g : given.Over) (c : In-Some g) → HasName (rest_in c.args.self.now.region) c.args.labels.now c.args.name.now c.in-Some.at
-named g c = has-name c.requires.names c.in-Some.ensures.some
-
-pub size-requires : goal.size-requires
-size-requires g c = name-there c.args.self.now.region (named g (goal.at.size-requires g c).In-Some)
-
-pub watched-watch-requires-clause-block : goal.watched-watch-requires-clause-block
-watched-watch-requires-clause-block g c = name-there c.args.self.now.region (named g (goal.at.watched-watch-requires-clause-block g c).In-Some)
-
-pub poke-requires-clause-block : goal.poke-requires-clause-block
-poke-requires-clause-block g c = name-there c.args.self.now.region (named g (goal.at.poke-requires-clause-block g c).In-Some)
 
 pub returns-in_default-clause-step : goal.returns-in_default-clause-step
 returns-in_default-clause-step g c = λ r.
@@ -45,20 +31,19 @@ pub returns-then-not-is_debug-clause-step : goal.returns-then-not-is_debug-claus
 returns-then-not-is_debug-clause-step g c = λ r.
     let h = held_of (meaning g) r c.args.self.now c.args.labels.now in
     gives-unchanged (home_of h) (poke_in (home_of h) c.args.name.now c.args.off c.args.byte) why.WrongMethod
-    (poke-method h (named g (goal.at.returns-then-not-is_debug-clause-step g c).In-Some) c.args.off c.args.byte (sym c.is_debug.ensures ∙ c.if-not-is_debug.true))
+    (poke-method h c.in-Some.ensures.some c.args.off c.args.byte (sym c.is_debug.ensures ∙ c.if-not-is_debug.true))
 
 pub returns-then-not-is_poke-clause-step : goal.returns-then-not-is_poke-clause-step
 returns-then-not-is_poke-clause-step g c = λ r.
-    let has = named g (goal.at.returns-then-not-is_poke-clause-step g c).In-Some in
     let h = held_of (meaning g) r c.args.self.now c.args.labels.now in
-    let size = size-told h has c.size.result (rest-size (region_of c.args.self.now.region) (place_of c.in-Some.at.0) ∙ c.size.ensures) in
+    let size = size-told h c.in-Some.ensures.some c.size.result (rest-size (region_of c.args.self.now.region) (place_of c.in-Some.at.0) ∙ c.size.ensures) in
     gives-unchanged (home_of h) (poke_in (home_of h) c.args.name.now c.args.off c.args.byte) why.Range
-    (poke-range h has c.args.off c.args.byte (sym c.is_debug.ensures ∙ c.if-not-is_debug.false)
+    (poke-range h c.in-Some.ensures.some c.args.off c.args.byte (sym c.is_debug.ensures ∙ c.if-not-is_debug.false)
     (ap (λ n. is_poke n c.args.off c.args.byte) size ∙ (sym (ap (λ z. is_poke c.size.result z c.args.byte) (to_z-of_z w64 c.args.off c.ranges.off)) ∙ (sym c.is_poke.ensures ∙ c.if-not-is_poke.true))))
 
 pub returns : goal.returns
 returns g c =
-    let has = named g (goal.at.returns g c).In-Some in
+    let has = c.in-Some.ensures.some in
     let before : List ℕ → Held = λ r. held_of (meaning g) r c.args.self.now c.args.labels.now in
     let name = c.args.name.now in
     let off = c.args.off in

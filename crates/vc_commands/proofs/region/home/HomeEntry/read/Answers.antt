@@ -1,32 +1,20 @@
-use Rattle.vc_base.proofs.Common.{◌+◌, ◌≤◌, ◌&&◌, nat_le, Some, sym, ap, ◌∙◌, arith, rules, common_steps, place_of, Discipline}
-use Rattle.vc_region.specs.Cells.{rest_in}
+use Rattle.vc_base.proofs.Common.{◌+◌, ◌≤◌, ◌&&◌, nat_le, Some, sym, ap, ◌∙◌, arith, place_of, Discipline}
 use Rattle.vc_region.specs.Parts.{region_of}
 use Rattle.vc_script.specs.declared.refusal.Refusal.TheVariants as why
 use Rattle.vc_commands.specs.Held.{home_of}
 use Rattle.vc_commands.specs.Blocks.{read_block, read_in}
 use Rattle.vc_commands.specs.RegionRun.{held_of}
 use Rattle.vc_commands.proofs.Answers.{gives-unchanged}
-use Rattle.vc_commands.proofs.FoundBlocks.{HasName, has-name, name-there, gives-none}
+use Rattle.vc_commands.proofs.FoundBlocks.{gives-none}
 use Rattle.vc_region.proofs.RestFound.{rest-size}
 use Rattle.vc_commands.proofs.Seen.{seen-bytes}
 use Rattle.vc_commands.proofs.Touching.{b, bytes-told, gives-read, range-beyond, range-many, range-none, range-within, read-range, size-told}
 use Rattle.vc_commands.proofs.region.home.HomeEntry.read.Given as given
 use Rattle.vc_commands.proofs.region.home.HomeEntry.read.Goals as goal
-use Rattle.vc_commands.proofs.region.home.HomeEntry.read.Goals.{In-Some}
 use Rattle.vc_commands.proofs.region.home.HomeEntry.read.Goals.{then-len-eq0-via-then-len-eq0, then-len-eq0-via-else-len-eq0+then-len-gt4096, then-len-eq0-via-else-len-eq0+else-len-gt4096+then-off-len}
 
 abbrev meaning : (g : given.Over) → (x : g.dyn-1.0.I) × (g.dyn-1.0.entry x).0.Denot → Discipline
 meaning g p = (g.dyn-1.0.entry p.0).1.state p.1
-
--- the block of the name
-named : (g : given.Over) (c : In-Some g) → HasName (rest_in c.args.self.now.region) c.args.labels.now c.args.name.now c.in-Some.at
-named g c = has-name c.requires.names c.in-Some.ensures.some
-
-pub size-requires : goal.size-requires
-size-requires g c = name-there c.args.self.now.region (named g (goal.at.size-requires g c).In-Some)
-
-pub read-requires : goal.read-requires
-read-requires g c = record { block = name-there c.args.self.now.region (named g (goal.at.read-requires g c).In-Some); range = first_of (search rules, grind (arith, common_steps)) }
 
 pub returns-in-None : goal.returns-in-None
 returns-in-None g c = λ r.
@@ -34,22 +22,21 @@ returns-in-None g c = λ r.
 
 pub returns-then-len-eq0 : goal.returns-then-len-eq0
 returns-then-len-eq0 g c = λ r.
-    let has = named g (goal.at.returns-then-len-eq0 g c).In-Some in
     let h = held_of (meaning g) r c.args.self.now c.args.labels.now in
-    let block = (b h has).block in
+    let block = (b h c.in-Some.ensures.some).block in
     gives-unchanged (home_of h) (read_in (home_of h) c.args.name.now c.args.off c.args.len) why.Range
-    (read-range h has c.args.off c.args.len
+    (read-range h c.in-Some.ensures.some c.args.off c.args.len
     (elim c.then-len-eq0.branch [
       | then-len-eq0-via-then-len-eq0 w ↦ range-none c.args.off c.args.len block.size (omega arith)
       | then-len-eq0-via-else-len-eq0+then-len-gt4096 w ↦ range-many c.args.off c.args.len block.size (omega arith)
       | then-len-eq0-via-else-len-eq0+else-len-gt4096+then-off-len w ↦
-          let same = size-told h has w.size.result (rest-size (region_of c.args.self.now.region) (place_of c.in-Some.at.0) ∙ w.size.ensures) in
+          let same = size-told h c.in-Some.ensures.some w.size.result (rest-size (region_of c.args.self.now.region) (place_of c.in-Some.at.0) ∙ w.size.ensures) in
           range-beyond c.args.off c.args.len block.size (omega (arith, same))
     ]))
 
 pub returns-in_ok-bytes-in-Some : goal.returns-in_ok-bytes-in-Some
 returns-in_ok-bytes-in-Some g c = λ r.
-    let has = named g (goal.at.returns-in_ok-bytes-in-Some g c).In-Some in
+    let has = c.in-Some.ensures.some in
     let h = held_of (meaning g) r c.args.self.now c.args.labels.now in
     let block = b h has in
     let few : c.args.len ≤ 4096 = omega arith in

@@ -13,12 +13,11 @@ use Rattle.vc_commands.specs.RegionCommands.{is_for_block}
 use Rattle.vc_commands.specs.RegionRun.{held_of}
 use Rattle.vc_commands.specs.Labels.{MovesLabel, kept_of, name_of}
 use Rattle.vc_commands.proofs.Answers.{change-same, told-served, asks-unserved, gives-unchanged, NotNoSegment, err-all, get_ok, if_ok-all, none-no_segment, told-no_segment}
-use Rattle.vc_commands.proofs.FoundBlocks.{HasName, gives-none, has-name, label_of, name-there}
+use Rattle.vc_commands.proofs.FoundBlocks.{gives-none, label_of}
 use Rattle.vc_commands.proofs.Resized.{Resizes, asks, resized-change, seen}
 use Rattle.vc_commands.proofs.Resizing.{gives-place, gives-resized, named-resized, resize-size, step-fault}
 use Rattle.vc_commands.proofs.region.home.HomeEntry.resize.Given as given
 use Rattle.vc_commands.proofs.region.home.HomeEntry.resize.Goals as goal
-use Rattle.vc_commands.proofs.region.home.HomeEntry.resize.Goals.{In-Some}
 
 abbrev meaning : (g : given.Over) → (x : g.dyn-1.0.I) × (g.dyn-1.0.entry x).0.Denot → Discipline
 meaning g p = (g.dyn-1.0.entry p.0).1.state p.1
@@ -35,10 +34,6 @@ returns-in_default g c =
       change = λ r. change-same (held_of (meaning g) r c.args.self.now c.args.labels.now) c.args.labels.now c.requires.lent c.requires.names;
     }
 
--- the block of the name
-named : (g : given.Over) (c : In-Some g) → HasName (rest_in c.args.self.now.region) c.args.labels.now c.args.name.now c.in-Some.at
-named g c = has-name c.requires.names c.in-Some.ensures.some
-
 pub returns-then-not-is_size : goal.returns-then-not-is_size
 returns-then-not-is_size g c =
     record {
@@ -46,7 +41,7 @@ returns-then-not-is_size g c =
         step = λ r.
             let h = held_of (meaning g) r c.args.self.now c.args.labels.now in
             gives-unchanged (home_of h) (resize_in (home_of h) c.args.name.now c.args.size c.args.may_move false) why.Size
-            (resize-size h (named g (goal.at.returns-then-not-is_size g c).In-Some) c.args.size c.args.may_move false (sym c.if-not-is_size.ensures));
+            (resize-size h c.in-Some.ensures.some c.args.size c.args.may_move false (sym c.if-not-is_size.ensures));
         err = tt;
         unserved = λ e. absurd (none-no_segment why.Size (λ is. cc) e);
         served = λ _. NoneRefused-same _;
@@ -54,15 +49,9 @@ returns-then-not-is_size g c =
       change = λ r. change-same (held_of (meaning g) r c.args.self.now c.args.labels.now) c.args.labels.now c.requires.lent c.requires.names;
     }
 
-pub watch_line-watch-requires : goal.watch_line-watch-requires
-watch_line-watch-requires g c = name-there c.args.self.now.region (named g (goal.at.watch_line-watch-requires g c).In-Some)
-
-pub resize-requires-clause-block : goal.resize-requires-clause-block
-resize-requires-clause-block g c = name-there c.args.self.now.region (named g (goal.at.resize-requires-clause-block g c).In-Some)
-
 pub returns-in-Ok : goal.returns-in-Ok
 returns-in-Ok g c =
-    let has = named g (goal.at.returns-in-Ok g c).In-Some in
+    let has = c.in-Some.ensures.some in
     let done : Resizes (meaning g) c.args.self.now.region c.resize.new.self has c.args.size c.args.may_move (Ok c.in-Ok.to) = record { answer = c.in-Ok.ensures.answer; asks = c.in-Ok.ensures.disc; kept = c.in-Ok.ensures.kept } in
     let rest = seen (meaning g) c.args.self.now.region c.resize.new.self has c.args.size c.args.may_move (Ok c.in-Ok.to) done in
     let new = rest_in c.resize.new.self in
@@ -86,20 +75,19 @@ returns-in-Ok g c =
 
 pub returns-in-Err : goal.returns-in-Err
 returns-in-Err g c =
-    let has = named g (goal.at.returns-in-Err g c).In-Some in
-    let done : Resizes (meaning g) c.args.self.now.region c.resize.new.self has c.args.size c.args.may_move (Err c.in-Err.fault) = record { answer = c.in-Err.ensures.answer; asks = c.in-Err.ensures.disc; kept = c.in-Err.ensures.kept } in
-    let rest = seen (meaning g) c.args.self.now.region c.resize.new.self has c.args.size c.args.may_move (Err c.in-Err.fault) done in
-    let asked = asks (meaning g) c.args.self.now.region c.resize.new.self has c.args.size c.args.may_move (Err c.in-Err.fault) done in
+    let done : Resizes (meaning g) c.args.self.now.region c.resize.new.self c.in-Some.ensures.some c.args.size c.args.may_move (Err c.in-Err.fault) = record { answer = c.in-Err.ensures.answer; asks = c.in-Err.ensures.disc; kept = c.in-Err.ensures.kept } in
+    let rest = seen (meaning g) c.args.self.now.region c.resize.new.self c.in-Some.ensures.some c.args.size c.args.may_move (Err c.in-Err.fault) done in
+    let asked = asks (meaning g) c.args.self.now.region c.resize.new.self c.in-Some.ensures.some c.args.size c.args.may_move (Err c.in-Err.fault) done in
     record {
       runs = record {
         step = if_ok-all c.refused.result _ (λ r.
-            step-fault (held_of (meaning g) r c.args.self.now c.args.labels.now) has c.args.size c.args.may_move (sym c.if-not-is_size.ensures) c.in-Err.fault c.refused.result c.refused.ensures rest.answer.0 (rest_in c.resize.new.self) rest.answer.1);
+            step-fault (held_of (meaning g) r c.args.self.now c.args.labels.now) c.in-Some.ensures.some c.args.size c.args.may_move (sym c.if-not-is_size.ensures) c.in-Err.fault c.refused.result c.refused.ensures rest.answer.0 (rest_in c.resize.new.self) rest.answer.1);
         err = err-all c.refused.result (ap (λ q. (region_with_labels (name_of c.args.labels.now) q, kept_of c.args.labels.now)) rest.answer.1);
         unserved = λ e. asks-unserved c.in-Err.fault _ _ _ _ _ (told-no_segment c.in-Err.fault c.refused.result c.refused.ensures e) asked;
         served = λ other. told-served c.in-Err.fault c.refused.result _ _ _ _ _ c.refused.ensures c.in-Err.ensures.disc other;
       };
       change = λ r.
-          resized-change (meaning g) c.args.self.now.region c.resize.new.self has c.args.size c.args.may_move (Err c.in-Err.fault) done r c.args.self.now.place c.args.labels.now c.requires.lent
+          resized-change (meaning g) c.args.self.now.region c.resize.new.self c.in-Some.ensures.some c.args.size c.args.may_move (Err c.in-Err.fault) done r c.args.self.now.place c.args.labels.now c.requires.lent
           (subst (λ q. IsNamed q c.args.labels.now) (sym rest.answer.1) c.requires.names);
     }
 

@@ -1,25 +1,16 @@
 use Rattle.vc_base.proofs.Common.{◌∙◌, place_of, Discipline}
-use Rattle.vc_region.specs.Cells.{rest_in}
 use Rattle.vc_region.specs.Parts.{region_of}
 use Rattle.vc_script.specs.declared.reply.Reply.TheVariants.{Size}
 use Rattle.vc_commands.specs.RegionRun.{held_of}
 use Rattle.vc_commands.specs.Home.{reply_alone}
-use Rattle.vc_commands.proofs.FoundBlocks.{HasName, has-name, name-there, gives-none}
+use Rattle.vc_commands.proofs.FoundBlocks.{gives-none}
 use Rattle.vc_region.proofs.RestFound.{rest-size}
 use Rattle.vc_commands.proofs.Touching.{gives-size, size-told}
 use Rattle.vc_commands.proofs.region.home.HomeEntry.size.Given as given
 use Rattle.vc_commands.proofs.region.home.HomeEntry.size.Goals as goal
-use Rattle.vc_commands.proofs.region.home.HomeEntry.size.Goals.{In-Some}
 
 abbrev meaning : (g : given.Over) → (x : g.dyn-1.0.I) × (g.dyn-1.0.entry x).0.Denot → Discipline
 meaning g p = (g.dyn-1.0.entry p.0).1.state p.1
-
--- the block of the name
-named : (g : given.Over) (c : In-Some g) → HasName (rest_in c.args.self.now.region) c.args.labels.now c.args.name.now c.in-Some.at
-named g c = has-name c.requires.names c.in-Some.ensures.some
-
-pub size-requires : goal.size-requires
-size-requires g c = name-there c.args.self.now.region (named g (goal.at.size-requires g c).In-Some)
 
 pub returns-in-None : goal.returns-in-None
 returns-in-None g c = λ r.
@@ -27,6 +18,6 @@ returns-in-None g c = λ r.
 
 pub returns-in-Some : goal.returns-in-Some
 returns-in-Some g c = λ r.
-    let has = named g (goal.at.returns-in-Some g c).In-Some in
+    let has = c.in-Some.ensures.some in
     let h = held_of (meaning g) r c.args.self.now c.args.labels.now in
     gives-size h has c.size.result (size-told h has c.size.result (rest-size (region_of c.args.self.now.region) (place_of c.in-Some.at.0) ∙ c.size.ensures))

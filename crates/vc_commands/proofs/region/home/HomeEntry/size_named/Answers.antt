@@ -1,17 +1,15 @@
 use Rattle.vc_base.proofs.Common.{ℕ, [], is_some, Option, option_map, unwrap_or, sym, ap, ◌∙◌, place_of, Discipline, Block}
-use Rattle.vc_region.specs.Cells.{rest_in}
 use Rattle.vc_region.specs.Parts.{region_of}
 use Rattle.vc_region.specs.Region.{blocks_of}
 use Rattle.vc_commands.specs.Blocks.{is_block}
 use Rattle.vc_commands.specs.Home as home
 use Rattle.vc_commands.specs.RegionRun.{held_of, region_with}
 use Rattle.vc_commands.proofs.Firsts.{find-none}
-use Rattle.vc_commands.proofs.FoundBlocks.{HasName, has-name, name-there, the_block}
+use Rattle.vc_commands.proofs.FoundBlocks.{the_block}
 use Rattle.vc_commands.proofs.Touching.{size-told}
 use Rattle.vc_region.proofs.RestFound.{rest-size}
 use Rattle.vc_commands.proofs.region.home.HomeEntry.size_named.Given as given
 use Rattle.vc_commands.proofs.region.home.HomeEntry.size_named.Goals as goal
-use Rattle.vc_commands.proofs.region.home.HomeEntry.size_named.Goals.{In-Some}
 
 abbrev meaning : (g : given.Over) → (x : g.dyn-1.0.I) × (g.dyn-1.0.entry x).0.Denot → Discipline
 meaning g p = (g.dyn-1.0.entry p.0).1.state p.1
@@ -19,20 +17,13 @@ meaning g p = (g.dyn-1.0.entry p.0).1.state p.1
 abbrev size_found : Option (Block home.Label) → ℕ
 size_found o = unwrap_or (option_map (λ b. b.size) o) 0
 
--- the block of the name
-named : (g : given.Over) (c : In-Some g) → HasName (rest_in c.args.self.now.region) c.args.labels.now c.args.name.now c.in-Some.at
-named g c = has-name c.requires.names c.in-Some.ensures.some
-
-pub size-requires : goal.size-requires
-size-requires g c = name-there c.args.self.now.region (named g (goal.at.size-requires g c).In-Some)
-
 pub returns-in-None : goal.returns-in-None
 returns-in-None g c =
     sym (ap size_found (find-none (is_block c.args.name.now) (blocks_of (region_with c.args.self.now c.args.labels.now).0) (sym (c.requires.names.known c.args.name.now) ∙ ap is_some c.in-None.ensures.none)))
 
 pub returns-in-Some : goal.returns-in-Some
 returns-in-Some g c =
-    let has = named g (goal.at.returns-in-Some g c).In-Some in
+    let has = c.in-Some.ensures.some in
     let h = held_of (meaning g) [] c.args.self.now c.args.labels.now in
     sym (ap size_found (the_block has).named
     ∙ size-told h has c.size.result (rest-size (region_of c.args.self.now.region) (place_of c.in-Some.at.0) ∙ c.size.ensures))

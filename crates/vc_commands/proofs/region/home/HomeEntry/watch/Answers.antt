@@ -1,4 +1,4 @@
-use Rattle.vc_base.proofs.Common.{◌≡◌, ℕ, List, None, sym, refl, ap, ◌∙◌, place_of, Discipline}
+use Rattle.vc_base.proofs.Common.{◌≡◌, ℕ, List, None, sym, ap, ◌∙◌, place_of, Discipline}
 use Rattle.vc_model.proofs.Keeping.{NoneRefused-equal, NoneRefused-same}
 use Rattle.vc_region.specs.Region.{region_watch, segments_of}
 use Rattle.vc_region.specs.Cells.{cells_in, region_cells, rest_in, rest_of}
@@ -9,7 +9,7 @@ use Rattle.vc_commands.specs.Audit.{watch_block, watch_in}
 use Rattle.vc_commands.specs.RegionRun.{held_of}
 use Rattle.vc_commands.proofs.Answers.{change-same, changed-alike, gives-unchanged}
 use Rattle.vc_commands.proofs.Auditing.{gives-watched, named-watched, watch-method, watched-segments}
-use Rattle.vc_commands.proofs.FoundBlocks.{HasName, has-name, name-there, gives-none}
+use Rattle.vc_commands.proofs.FoundBlocks.{gives-none}
 use Rattle.vc_region.proofs.Rest.{rest-debug, rest-watch}
 use Rattle.vc_region.proofs.RestCells.{watch-cells}
 use Rattle.vc_commands.proofs.Grants.{granted-watch}
@@ -17,17 +17,9 @@ use Rattle.vc_commands.proofs.Runs.{runs-granted}
 use Rattle.vc_commands.proofs.Listing.{places_in}
 use Rattle.vc_commands.proofs.region.home.HomeEntry.watch.Given as given
 use Rattle.vc_commands.proofs.region.home.HomeEntry.watch.Goals as goal
-use Rattle.vc_commands.proofs.region.home.HomeEntry.watch.Goals.{In-Some}
 
 abbrev meaning : (g : given.Over) → (x : g.dyn-1.0.I) × (g.dyn-1.0.entry x).0.Denot → Discipline
 meaning g p = (g.dyn-1.0.entry p.0).1.state p.1
-
--- the block of the name
-named : (g : given.Over) (c : In-Some g) → HasName (rest_in c.args.self.now.region) c.args.labels.now c.args.name.now c.in-Some.at
-named g c = has-name c.requires.names c.in-Some.ensures.some
-
-pub watch-requires-clause-block : goal.watch-requires-clause-block
-watch-requires-clause-block g c = name-there c.args.self.now.region (named g (goal.at.watch-requires-clause-block g c).In-Some)
 
 pub watch-requires-clause-method : goal.watch-requires-clause-method
 watch-requires-clause-method g c = sym (rest-debug (region_of c.args.self.now.region)) ∙ (sym c.is_debug.ensures ∙ c.if-not-is_debug.false)
@@ -48,14 +40,14 @@ returns-then-not-is_debug g c =
           (λ r.
           let h = held_of (meaning g) r c.args.self.now c.args.labels.now in
           gives-unchanged (home_of h) (watch_in (home_of h) c.args.line c.args.name.now) why.WrongMethod
-          (watch-method h (named g (goal.at.returns-then-not-is_debug g c).In-Some) c.args.line (sym c.is_debug.ensures ∙ c.if-not-is_debug.true)))
+          (watch-method h c.in-Some.ensures.some c.args.line (sym c.is_debug.ensures ∙ c.if-not-is_debug.true)))
           tt (NoneRefused-same _);
       change = λ r. change-same (held_of (meaning g) r c.args.self.now c.args.labels.now) c.args.labels.now c.requires.lent c.requires.names;
     }
 
 pub returns : goal.returns
 returns g c =
-    let has = named g (goal.at.returns g c).In-Some in
+    let has = c.in-Some.ensures.some in
     let before : List ℕ → Held = λ r. held_of (meaning g) r c.args.self.now c.args.labels.now in
     let name = c.args.name.now in
     let line = c.args.line in

@@ -1,4 +1,4 @@
-use Rattle.vc_base.proofs.Common.{◌≡◌, ℕ, ◌+◌, List, length, nat_le, ap, ◌∙◌, subst, arith, rules, common_steps, place_of, Discipline}
+use Rattle.vc_base.proofs.Common.{◌≡◌, ℕ, ◌+◌, List, length, nat_le, ap, ◌∙◌, subst, arith, place_of, Discipline}
 use Rattle.vc_model.proofs.Keeping.{NoneRefused-equal}
 use Rattle.vc_region.specs.Region.{region_write, segments_of}
 use Rattle.vc_region.proofs.Clearing.{written-segments}
@@ -9,30 +9,16 @@ use Rattle.vc_commands.specs.Held.{Held, home_of}
 use Rattle.vc_commands.specs.Blocks.{write_block, write_in}
 use Rattle.vc_commands.specs.RegionRun.{held_of}
 use Rattle.vc_commands.proofs.Answers.{NotNoSegment, changed-alike, gives-unchanged}
-use Rattle.vc_commands.proofs.FoundBlocks.{HasName, has-name, name-there, gives-none, the_block}
+use Rattle.vc_commands.proofs.FoundBlocks.{gives-none, the_block}
 use Rattle.vc_commands.proofs.Touching.{gives-written, le-beyond, le-within, named-written, size-told, write-range}
 use Rattle.vc_region.proofs.RestFound.{rest-size}
 use Rattle.vc_commands.proofs.Seen.{cells-written, seen-write, seen-written}
 use Rattle.vc_commands.proofs.Listing.{places_in}
 use Rattle.vc_commands.proofs.region.home.HomeEntry.write.Given as given
 use Rattle.vc_commands.proofs.region.home.HomeEntry.write.Goals as goal
-use Rattle.vc_commands.proofs.region.home.HomeEntry.write.Goals.{In-Some}
 
 abbrev meaning : (g : given.Over) → (x : g.dyn-1.0.I) × (g.dyn-1.0.entry x).0.Denot → Discipline
 meaning g p = (g.dyn-1.0.entry p.0).1.state p.1
-
--- the block of the name
-named : (g : given.Over) (c : In-Some g) → HasName (rest_in c.args.self.now.region) c.args.labels.now c.args.name.now c.in-Some.at
-named g c = has-name c.requires.names c.in-Some.ensures.some
-
-pub size-requires : goal.size-requires
-size-requires g c = name-there c.args.self.now.region (named g (goal.at.size-requires g c).In-Some)
-
-pub watch_line-watch-requires : goal.watch_line-watch-requires
-watch_line-watch-requires g c = name-there c.args.self.now.region (named g (goal.at.watch_line-watch-requires g c).In-Some)
-
-pub write-requires : goal.write-requires
-write-requires g c = record { block = name-there c.args.self.now.region (named g (goal.at.write-requires g c).In-Some); range = first_of (search rules, grind (arith, common_steps)) }
 
 pub returns-in-None-clause-step : goal.returns-in-None-clause-step
 returns-in-None-clause-step g c = λ r.
@@ -40,17 +26,16 @@ returns-in-None-clause-step g c = λ r.
 
 pub returns-then-off-bytes-clause-step : goal.returns-then-off-bytes-clause-step
 returns-then-off-bytes-clause-step g c = λ r.
-    let has = named g (goal.at.returns-then-off-bytes-clause-step g c).In-Some in
     let h = held_of (meaning g) r c.args.self.now c.args.labels.now in
     let last = c.args.off + length c.args.bytes.now in
-    let size = size-told h has c.size.result (rest-size (region_of c.args.self.now.region) (place_of c.in-Some.at.0) ∙ c.size.ensures) in
+    let size = size-told h c.in-Some.ensures.some c.size.result (rest-size (region_of c.args.self.now.region) (place_of c.in-Some.at.0) ∙ c.size.ensures) in
     gives-unchanged (home_of h) (write_in (home_of h) c.args.name.now c.args.off c.args.bytes.now) why.Range
-    (write-range h has c.args.off c.args.bytes.now
+    (write-range h c.in-Some.ensures.some c.args.off c.args.bytes.now
     (ap (nat_le last) size ∙ le-beyond last c.size.result (omega arith)))
 
 pub returns-else-off-bytes : goal.returns-else-off-bytes
 returns-else-off-bytes g c =
-    let has = named g (goal.at.returns-else-off-bytes g c).In-Some in
+    let has = c.in-Some.ensures.some in
     let before : List ℕ → Held = λ r. held_of (meaning g) r c.args.self.now c.args.labels.now in
     let name = c.args.name.now in
     let off = c.args.off in
