@@ -33,7 +33,7 @@ use Rattle.vc_session.specs.Replay.{IsReplay, IsRunOf, Told}
 use Rattle.vc_session.specs.Run.{script}
 use Rattle.vc_session.specs.SoFar.{AtEnd}
 use Rattle.vc_session.specs.Streams.{Flows}
-use Rattle.vc_session.specs.Text.{cut_short_text, counts_of, good_lines, is_quiet, lines_text, stat_line, numbers_text, stats_by, summary, summary_by, tail_lines, text_of}
+use Rattle.vc_session.specs.Text.{replies_text, counts_of, good_lines, is_quiet, lines_text, stat_line, numbers_text, stats_by, summary, summary_by, tail_lines, text_of}
 use Rattle.vc_session.proofs.Progress.{progress-end, told-more}
 use Rattle.vc_session.proofs.ShownNeeds.{IsUnnumbered, NoLine, none-unnumbered}
 use Rattle.vc_words.specs.declared.words.Words.{Words}
@@ -87,9 +87,9 @@ pub text-ends : {start now : Moment} {counts : Counts} {text : List ℕ} {count 
 text-ends {now = now} {counts = counts} w lines after tail p few is told =
     progress-end p (text_of w lines) tail after few
     (λ quiet n below. subst (λ t. NoLine n (ended_lines t)) (sym is) (tail-none w lines counts now.state.homes p.proper_state n below))
-    (ap (λ s. cut_short_text (is_quiet w) p.ran ++ lines_text (tail_lines w lines (counts_of p.ran) s.homes)) p.state
-    ∙ (ap (λ ls. cut_short_text (is_quiet w) p.ran ++ lines_text (ls ++ stats_by w.stat now.state.homes)) (summary-same (is_quiet w) lines (counts_of p.ran) counts (λ quiet. sym (p.counted quiet)))
-    ∙ ap (λ t. cut_short_text (is_quiet w) p.ran ++ t) (sym is)))
+    (ap (λ s. replies_text (is_quiet w) p.ran ++ lines_text (tail_lines w lines (counts_of p.ran) s.homes)) p.state
+    ∙ (ap (λ ls. replies_text (is_quiet w) p.ran ++ lines_text (ls ++ stats_by w.stat now.state.homes)) (summary-same (is_quiet w) lines (counts_of p.ran) counts (λ quiet. sym (p.counted quiet)))
+    ∙ ap (λ t. replies_text (is_quiet w) p.ran ++ t) (sym is)))
     told
 
 good-same : (bad : Option (ℕ × LineFault)) (lines total : ℕ) → (bad ≡ None → lines ≡ total) → good_lines bad lines ≡ good_lines bad total

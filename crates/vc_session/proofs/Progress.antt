@@ -26,7 +26,7 @@ use Rattle.vc_session.specs.ProperState.{IsProperState}
 use Rattle.vc_session.specs.QuietText.{body_by, line_by, needs_by_text}
 use Rattle.vc_session.specs.Replay.{IsRunOf, Told, all_told, run_by}
 use Rattle.vc_session.specs.Run.{Ran, lines_of, nothing_ran, run_from}
-use Rattle.vc_session.specs.Text.{cut_short_text, counts_of}
+use Rattle.vc_session.specs.Text.{replies_text, counts_of}
 use Rattle.vc_session.proofs.ProperSteps.{proper-step}
 use Rattle.vc_session.proofs.Runs.{one_more, run-push, step_after}
 use Rattle.vc_session.proofs.ShownNeeds.{NoLine, shows-needs}
@@ -229,10 +229,10 @@ module _ {quiet : Bool} {start now : Moment} {counts : Counts} {text : List ℕ}
   shows : (tail : List ℕ) → count < 2 ^ 64 → (quiet ≡ true → (n : ℕ) → n < 2 ^ 64 → NoLine n (ended_lines tail)) → ShowsNeeds (needs_by_text quiet (lines_of done) (text ++ tail)) p.ran.replies
   shows tail few none =
       subst (λ t. ShowsNeeds (needs_by_text quiet (lines_of done) (t ++ tail)) p.ran.replies) (sym p.told)
-      (subst (λ ns. ShowsNeeds (needs_by_text quiet ns (cut_short_text quiet p.ran ++ tail)) p.ran.replies) (sym p.lines)
+      (subst (λ ns. ShowsNeeds (needs_by_text quiet ns (replies_text quiet p.ran ++ tail)) p.ran.replies) (sym p.lines)
       (shows-needs quiet p.ran.replies tail (few_lines few) (subst AreAscending p.lines p.rising) p.proper none))
 
-  pub progress-end : (said : Ran → List ℕ) (tail : List ℕ) (after : Option (List ℕ)) → count < 2 ^ 64 → (quiet ≡ true → (n : ℕ) → n < 2 ^ 64 → NoLine n (ended_lines tail)) → said p.ran ≡ cut_short_text quiet p.ran ++ tail → Told start.written after (text ++ tail) → IsRunOf quiet said start (moment_at_end (over_sink now after)) done
+  pub progress-end : (said : Ran → List ℕ) (tail : List ℕ) (after : Option (List ℕ)) → count < 2 ^ 64 → (quiet ≡ true → (n : ℕ) → n < 2 ^ 64 → NoLine n (ended_lines tail)) → said p.ran ≡ replies_text quiet p.ran ++ tail → Told start.written after (text ++ tail) → IsRunOf quiet said start (moment_at_end (over_sink now after)) done
   progress-end said tail after few none says told =
       let ran : run_by quiet start done (text ++ tail) ≡ p.ran = p.run (needs_by_text quiet (lines_of done) (text ++ tail)) (shows tail few none) in
       record {

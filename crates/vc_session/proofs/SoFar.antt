@@ -21,7 +21,7 @@ use Rattle.vc_session.specs.ProperState.{IsProperState}
 use Rattle.vc_session.specs.Replay.{IsCutShort, IsRunOf, ShowsNoFault, Stops, StopsAtFault, Told}
 use Rattle.vc_session.specs.Run.{commands_in, fault_in, nothing_ran, script, wholly_read}
 use Rattle.vc_session.specs.SoFar.{AtEnd, FoundSoFar, Reading, Running, SoFar, ended_rest, fuel, judged_rest}
-use Rattle.vc_session.specs.Text.{cut_short_text, counts_of}
+use Rattle.vc_session.specs.Text.{replies_text, counts_of}
 use Rattle.vc_session.proofs.Feeds.{Feeds, fed-feeds}
 use Rattle.vc_session.proofs.Progress.{progress-end, progress-over}
 use Rattle.vc_session.proofs.RunMiddle.{bad-line, running-line, running-over, running-same, running-start}
@@ -95,8 +95,8 @@ module _ {tool : Tool} {quiet : Bool} {start now : Moment} {counts : Counts} {te
     unread = same ∙ r.unread;
     no_fault = shows-none;
     run =
-        subst (IsRunOf quiet (cut_short_text quiet) start (moment_at_end (over_sink now after))) (sym (ap (commands_in tool) read_lines ∙ (running.script [] ∙ append-nil running.done)))
-        (progress-end running.progress (cut_short_text quiet) [] after (omega (arith, few)) (λ is_quiet n below xs. refl) (sym (append-nil (cut_short_text quiet running.progress.ran))) (subst (Told start.written after) (sym (append-nil text)) told));
+        subst (IsRunOf quiet (replies_text quiet) start (moment_at_end (over_sink now after))) (sym (ap (commands_in tool) read_lines ∙ (running.script [] ∙ append-nil running.done)))
+        (progress-end running.progress (replies_text quiet) [] after (omega (arith, few)) (λ is_quiet n below xs. refl) (sym (append-nil (replies_text quiet running.progress.ran))) (subst (Told start.written after) (sym (append-nil text)) told));
   }
 
 reading-start : (tool : Tool) (o : Option (List ℕ)) → IfSome o (λ input. Reading tool input o new_cutting [] [])

@@ -12,7 +12,7 @@ use Rattle.vc_script.specs.ProperReply.{IsProperReply}
 use Rattle.vc_seg.specs.declared.shelf.Shelf.{Shelf}
 use Rattle.vc_session.specs.ProperState.{IsProperOver, IsProperState}
 use Rattle.vc_session.specs.Run.{Ran, lines_of, nothing_ran, run_from}
-use Rattle.vc_session.specs.Text.{cut_short_text, counts_of}
+use Rattle.vc_session.specs.Text.{replies_text, counts_of}
 use Rattle.vc_steps.specs.Account.{Settles}
 use Rattle.vc_steps.specs.Homes.{state_over}
 use Rattle.vc_steps.specs.Moment.{Moment}
@@ -32,7 +32,7 @@ pub record Progress (quiet : Bool) (start now : Moment) (counts : Counts) (text 
   pub state : ran.state ≡ now.state
   pub settles : Settles start.accounts now.accounts ran.refusals
   pub gone : now.gone ≡ tell ran.told start.gone
-  pub told : text ≡ cut_short_text quiet ran
+  pub told : text ≡ replies_text quiet ran
   pub counted : IsTrue quiet → counts ≡ counts_of ran
 
 -- a quiet run can count a command on any line behind that number

@@ -14,7 +14,7 @@ use Rattle.vc_script.specs.Judged.{judged_lines}
 use Rattle.vc_generate.specs.Generated.{commands_of_seed}
 use Rattle.vc_session.specs.QuietText.{needs_by_text}
 use Rattle.vc_session.specs.Run.{Ran, commands_in, fault_in, first_bad, lines_of, run_from, script, wholly_read}
-use Rattle.vc_session.specs.Text.{cut_short_text, good_lines, is_quiet, text_of}
+use Rattle.vc_session.specs.Text.{replies_text, good_lines, is_quiet, text_of}
 use Rattle.vc_words.specs.declared.words.Words.{Words}
 
 -- what a sink told, followed by a piece
@@ -103,7 +103,7 @@ pub record IsCutShort (tool : Tool) (quiet : Bool) (before after : Moment) (inpu
   pub split : input ≡ bytes ++ rest
   pub unread : left ≡ Some rest
   pub no_fault : ShowsNoFault tool bytes
-  pub run : IsRunOf quiet (cut_short_text quiet) before after (commands_in tool (wholly_read bytes))
+  pub run : IsRunOf quiet (replies_text quiet) before after (commands_in tool (wholly_read bytes))
 
 -- commands on the lines from a number on
 abbrev pub on_lines : ℕ → List Command → List (ℕ × Command)

@@ -5,7 +5,8 @@ use Rattle.vc_model.specs.Layout.{Block}
 use Rattle.vc_dtdisc.specs.Shapes.{rules_of}
 use Rattle.vc_dtdisc.specs.declared.shape.Shape.TheVariants.{Whole, Field, Text, Fold, Reverse, Clip}
 use Rattle.vc_region.specs.Region.{OfBest}
-use Rattle.vc_script.specs.declared.tool.Tool.TheVariants.{Vmreplay}
+use Rattle.vc_script.specs.declared.tool.Tool.TheVariants.{Vmreplay, Dtrun}
+use Rattle.vc_script.specs.Needs.{Need}
 use Rattle.vc_session.specs.Run.{Ran, run_from, script}
 use Rattle.vc_session.specs.Text.{text_of}
 use Rattle.vc_words.specs.declared.words.Words.{Words}
@@ -125,3 +126,15 @@ moved_state =
 -- what a script of regions writes from a state, where no segment is refused
 abbrev pub text_from : State → List ℕ → List ℕ
 text_from s input = plain_text (run_from s (script Vmreplay input) [])
+
+-- that, and the state that it leaves
+abbrev pub part_from : State → List ℕ → List ℕ × State
+part_from s input = (text_from s input, (run_from s (script Vmreplay input) []).state)
+
+-- what it writes at first, where segments are refused on these lines
+abbrev pub text_refusing : List (ℕ × Need) → List ℕ → List ℕ
+text_refusing needs input = plain_text (run_from at_first (script Vmreplay input) needs)
+
+-- what a script of dictionaries writes, where no segment is refused
+abbrev pub dicts_text : List ℕ → List ℕ
+dicts_text input = plain_text (run_from with_kinds (script Dtrun input) [])

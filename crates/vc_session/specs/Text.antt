@@ -70,10 +70,10 @@ tail_lines w lines c homes = summary_by (is_quiet w) lines c ++ stats_by w.stat 
 abbrev pub lines_text : List (List ℕ) → List ℕ
 lines_text lines = flat_map (λ line. line ++ 10 ∷ []) lines
 
--- what a run that was cut short writes
-abbrev pub cut_short_text : Bool → Ran → List ℕ
-cut_short_text quiet r = body_by quiet r.replies
+-- what a run writes of its replies, and all that one writes that is cut short
+abbrev pub replies_text : Bool → Ran → List ℕ
+replies_text quiet r = body_by quiet r.replies
 
 -- what a run of so many lines writes
 abbrev pub text_of : Words → ℕ → Ran → List ℕ
-text_of w lines r = cut_short_text (is_quiet w) r ++ lines_text (tail_lines w lines (counts_of r) r.state.homes)
+text_of w lines r = replies_text (is_quiet w) r ++ lines_text (tail_lines w lines (counts_of r) r.state.homes)

@@ -1,7 +1,0 @@
-use Rattle.vc_base.proofs.Common.{refl, digits}
-use Rattle.percent_encoding.specs.Percent.{percent_decode}
-use Rattle.vc_session.proofs.dict_rows.ordered_set_of_fruit.Goals as goal
-
-pub returns : goal.returns
-unfolding digits percent_decode
-returns c = refl

@@ -1,6 +1,0 @@
-use Rattle.vc_base.proofs.Common.{refl, digits}
-use Rattle.vc_session.proofs.method_rows.method_refusals.Goals as goal
-
-pub returns : goal.returns
-unfolding digits
-returns c = refl

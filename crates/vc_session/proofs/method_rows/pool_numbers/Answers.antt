@@ -1,6 +1,0 @@
-use Rattle.vc_base.proofs.Common.{refl, digits}
-use Rattle.vc_session.proofs.method_rows.pool_numbers.Goals as goal
-
-pub returns : goal.returns
-unfolding digits
-returns c = refl
