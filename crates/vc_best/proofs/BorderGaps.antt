@@ -1,6 +1,6 @@
 -- The tree of gaps where the border behind a block moves.
 use Rattle.vc_base.proofs.Common.{◌≡◌, ℕ, ◌+◌, ◌-◌, ◌%◌, ◌<◌, ◌≤◌, Bool, true, false, cond, not, ◌&&◌, eqb, ◌≢◌, List, [], ◌∷◌, ◌++◌, map, Some, None, Option, sym, refl, ap, ◌∙◌, subst, ⊎_elim, arith, eq-eqb, ne_eqb, ∥∥₁_elim, ℕ_set, and_parts, cases_Bool, cases_eq, address, place_of, span}
-use Rattle.vc_best.proofs.Common.{AreExtents, Bytes, Extent, GapsChange, HasGaps, IsBorderMoved, IsBusy, IsMerged, Tiling, absorb, behind, busy_extent, change_extent, extent_of, extents_of, first_of, free_bytes, free_extent, free_name, free_next, is_busy, is_free, is_merged, next_of, no_links, pair_of, room_of, set_size, shrink, stretch, tiling}
+use Rattle.vc_best.proofs.Common.{AreExtents, Bytes, Extent, GapsChange, HasGaps, IsBorderMoved, IsBusy, IsMerged, Tiling, absorb, behind, behind_of, busy_extent, change_extent, extent_of, extents_of, first_of, free_bytes, free_extent, free_name, free_next, is_busy, is_free, is_merged, next_of, no_links, pair_of, room_of, set_size, shrink, stretch, tiling}
 use Rattle.vc_base.proofs.Sets.{bytes-set}
 use Rattle.vc_gaps.specs.GapStore.{is_free as names_free}
 use Rattle.vc_gaps.proofs.Bordered.{gaps-filled, gaps-shrunk, gaps-stretched}
@@ -10,7 +10,6 @@ use Rattle.vc_gaps.proofs.Named.{extent_in-off, extent_of-here}
 use Rattle.vc_best.proofs.Borders.{border-shrunk, free-free, next-shrunk, rest-next, shrunk-kept, shrunk-len}
 use Rattle.vc_best.proofs.Cuts.{behind-here}
 use Rattle.vc_best.proofs.Known.{cut-of, off-of, then-behind}
-use Rattle.vc_best.proofs.Layouts.{behind_of}
 use Rattle.vc_best.proofs.Merges.{merged-in}
 use Rattle.vc_best.proofs.Nexts.{next-extent, next-off, next-place}
 use Rattle.vc_best.proofs.Outs.{inside-not, next-kept}

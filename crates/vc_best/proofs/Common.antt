@@ -21,3 +21,4 @@ pub use Rattle.vc_best.specs.Cells.{StaysButCells, block_shown, cell_bytes, cell
 pub use Rattle.vc_best.specs.GapsChange.{GapsChange, HasGapsBelow}
 pub use Rattle.vc_best.specs.Counts.{HaveRoom, all_extents, busy_sizes, counts_of_none, counts_with, free_spans}
 pub use Rattle.vc_best.specs.Parts.{blocks_in, disc_in, layout_of, segments_in}
+pub use Rattle.vc_gaps.proofs.Named.{behind_of}

@@ -1,6 +1,7 @@
 -- The counts of all extents are those of the blocks and of the gaps, and stay in 64 bits.
-use Rattle.vc_base.proofs.Common.{◌≡◌, ℕ, suc, ◌+◌, ◌-◌, ◌*◌, ◌≤◌, Bool, true, false, List, [], ◌∷◌, ◌++◌, map, length, All, sum, filter, sym, refl, ap, ◌∙◌, ⊎_elim, arith, length-append, le_prop, ∥∥₁_elim, cases_Bool, All-head, All-map, All-tail, filter-append, sum_by-append, sum_by-cons, length-map, map-append, bytes_of, Block, lies_before, with_block, block_count, gaps_of, greatest}
+use Rattle.vc_base.proofs.Common.{◌≡◌, ℕ, suc, ◌+◌, ◌-◌, ◌*◌, ◌≤◌, Bool, true, false, List, [], ◌∷◌, ◌++◌, map, length, All, sum, filter, sym, refl, ap, ◌∙◌, ⊎_elim, arith, length-append, le_prop, ∥∥₁_elim, cases_Bool, All-head, All-map, All-tail, sum_by-append, sum_by-cons, length-map, map-append, bytes_of, Block, lies_before, with_block, block_count, gaps_of, greatest}
 use Rattle.vc_best.proofs.Common.{AreExtents, Bytes, Extent, HaveRoom, IsLegal, IsMerged, all_busy, all_extents, block_of, busy_in, busy_sizes, counts_of_none, counts_with, extents, free_in, free_runs, free_spans, in_order, is_busy, is_free, layout_by, pair_of, run_of_extent, tiling}
+use Rattle.vc_best.proofs.Counts.{shown-append}
 use Rattle.vc_model.specs.Numbers.{block_bytes, gap_bytes, gap_count, greatest_block, greatest_gap}
 use Rattle.vc_layouts.specs.Tally.{HasRoom, tally_of}
 use Rattle.vc_layouts.proofs.Tallies.{sizes-most, tallied-order, tally_of-bytes, tally_of-count, tally_of-most}
@@ -14,35 +15,31 @@ record Few (sizes : List ℕ) (room : ℕ) : Type 0 where
   all : sum sizes ≤ room
 
 -- some of the extents, of which each counts what it spans at most
-module _ (p : Extent → Bool) (g : Extent → ℕ) where
-  counted-append : (xs ys : List Extent) → map g (filter p (xs ++ ys)) ≡ map g (filter p xs) ++ map g (filter p ys)
-  counted-append xs ys = ap (map g) (filter-append p xs ys) ∙ map-append g (filter p xs) (filter p ys)
+module _ (p : Extent → Bool) (g : Extent → ℕ) (within : (e : Extent) → IsLegal e → g e ≤ e.span) where
+  few-in : (stop at : ℕ) (es : List Extent) → Lies stop at es → Few (map g (filter p es)) (stop - at)
+  few-in stop at [] h = record { long = omega arith; all = omega arith }
+  few-in stop at (e ∷ es) h =
+      let r = few-in stop (at + e.span) es h.1 in
+      let end = h.0.within in
+      let least = h.0.legal.least in
+      let long = r.long in
+      let all = r.all in
+      ⊎_elim
+      (λ (t : p e ≡ true). rw t (record { long = omega arith; all = omega (arith, sum_by-cons (λ (m : ℕ). m) (g e) (map g (filter p es)), within e h.0.legal) }))
+      (λ (t : p e ≡ false). rw t (record { long = omega arith; all = omega arith }))
+      (cases_Bool (p e))
 
-  module _ (within : (e : Extent) → IsLegal e → g e ≤ e.span) where
-    few-in : (stop at : ℕ) (es : List Extent) → Lies stop at es → Few (map g (filter p es)) (stop - at)
-    few-in stop at [] h = record { long = omega arith; all = omega arith }
-    few-in stop at (e ∷ es) h =
-        let r = few-in stop (at + e.span) es h.1 in
-        let end = h.0.within in
-        let least = h.0.legal.least in
-        let long = r.long in
-        let all = r.all in
-        ⊎_elim
-        (λ (t : p e ≡ true). rw t (record { long = omega arith; all = omega (arith, sum_by-cons (λ (m : ℕ). m) (g e) (map g (filter p es)), within e h.0.legal) }))
-        (λ (t : p e ≡ false). rw t (record { long = omega arith; all = omega arith }))
-        (cases_Bool (p e))
-
-    all-few : (segs : List Bytes) → All Tiled segs → Few (map g (filter p (all_extents (tiling segs)))) (length segs * 33554432)
-    all-few [] h = record { long = omega arith; all = omega arith }
-    all-few (s ∷ ss) h =
-        let tile = All-head Tiled s ss h in
-        let r = all-few ss (All-tail Tiled s ss h) in
-        let own = few-in (length s.bytes - 16) 16 (extents s.bytes) (lies-tiled s.bytes tile) in
-        let most = tile.size.most in
-        let xs = map g (filter p (extents s.bytes)) in
-        let ys = map g (filter p (all_extents (tiling ss))) in
-        rw (counted-append (extents s.bytes) (all_extents (tiling ss)))
-        (record { long = omega (arith, r.long, own.long, length-append xs ys); all = omega (arith, r.all, own.all, sum_by-append (λ (m : ℕ). m) xs ys) })
+  all-few : (segs : List Bytes) → All Tiled segs → Few (map g (filter p (all_extents (tiling segs)))) (length segs * 33554432)
+  all-few [] h = record { long = omega arith; all = omega arith }
+  all-few (s ∷ ss) h =
+      let tile = All-head Tiled s ss h in
+      let r = all-few ss (All-tail Tiled s ss h) in
+      let own = few-in (length s.bytes - 16) 16 (extents s.bytes) (lies-tiled s.bytes tile) in
+      let most = tile.size.most in
+      let xs = map g (filter p (extents s.bytes)) in
+      let ys = map g (filter p (all_extents (tiling ss))) in
+      rw (shown-append p g (extents s.bytes) (all_extents (tiling ss)))
+      (record { long = omega (arith, r.long, own.long, length-append xs ys); all = omega (arith, r.all, own.all, sum_by-append (λ (m : ℕ). m) xs ys) })
 
 -- the sizes of all blocks, as extents stand
 sizes-all : (t : List (ℕ × List Extent)) → map (λ b. b.size) (all_busy t) ≡ busy_sizes (all_extents t)
@@ -51,7 +48,7 @@ sizes-all (s ∷ ss) =
     map-append (λ (b : Block ℕ). b.size) (busy_in s) (all_busy ss)
     ∙ (ap (λ ns. ns ++ map (λ b. b.size) (all_busy ss)) (sizes-in s.0 (filter is_busy s.1))
     ∙ (ap (λ ns. busy_sizes s.1 ++ ns) (sizes-all ss)
-    ∙ sym (counted-append is_busy (λ (e : Extent). e.size) s.1 (all_extents ss))))
+    ∙ sym (shown-append is_busy (λ (e : Extent). e.size) s.1 (all_extents ss))))
   where
     sizes-in : (n : ℕ) (es : List Extent) → map (λ b. b.size) (map (block_of n) es) ≡ map (λ (e : Extent). e.size) es
     sizes-in n [] = refl
@@ -64,7 +61,7 @@ spans-all (s ∷ ss) =
     map-append bytes_of (free_in s) (free_runs ss)
     ∙ (ap (λ ns. ns ++ map bytes_of (free_runs ss)) (spans-in s.0 (filter is_free s.1))
     ∙ (ap (λ ns. free_spans s.1 ++ ns) (spans-all ss)
-    ∙ sym (counted-append is_free (λ (e : Extent). e.span) s.1 (all_extents ss))))
+    ∙ sym (shown-append is_free (λ (e : Extent). e.span) s.1 (all_extents ss))))
   where
     spans-in : (n : ℕ) (es : List Extent) → map bytes_of (map (run_of_extent n) es) ≡ map (λ (e : Extent). e.span) es
     spans-in n [] = refl

@@ -1,28 +1,26 @@
 -- Counts, taken on extent by extent.
-use Rattle.vc_base.proofs.Common.{◌≡◌, ℕ, List, ◌++◌, map, filter, ap, ◌∙◌, subst, arith, length-append, filter-append, sum_by-append, map-append}
+use Rattle.vc_base.proofs.Common.{◌≡◌, ℕ, Bool, List, ◌++◌, map, filter, ap, ◌∙◌, subst, arith, length-append, filter-append, sum_by-append, map-append}
 use Rattle.vc_best.proofs.Common.{Extent, HaveRoom, busy_sizes, counts_with, free_spans, is_busy, is_free}
 use Rattle.vc_layouts.specs.Tally.{HasRoom, tallied_all}
 use Rattle.vc_layouts.proofs.Tallies.{HasRoom-rest, tallied_all-append}
 use Rattle.vc_best.specs.declared.stat.Counts.{Counts}
 use Rattle.vc_layouts.specs.declared.tally.Tally.{Tally}
 
-busy-append : (xs ys : List Extent) → busy_sizes (xs ++ ys) ≡ busy_sizes xs ++ busy_sizes ys
-busy-append xs ys = ap (map (λ (e : Extent). e.size)) (filter-append is_busy xs ys) ∙ map-append (λ (e : Extent). e.size) (filter is_busy xs) (filter is_busy ys)
-
-free-append : (xs ys : List Extent) → free_spans (xs ++ ys) ≡ free_spans xs ++ free_spans ys
-free-append xs ys = ap (map (λ (e : Extent). e.span)) (filter-append is_free xs ys) ∙ map-append (λ (e : Extent). e.span) (filter is_free xs) (filter is_free ys)
+-- what is shown of those of two lists that pass a test
+pub shown-append : (p : Extent → Bool) (g : Extent → ℕ) (xs ys : List Extent) → map g (filter p (xs ++ ys)) ≡ map g (filter p xs) ++ map g (filter p ys)
+shown-append p g xs ys = ap (map g) (filter-append p xs ys) ∙ map-append g (filter p xs) (filter p ys)
 
 pub counted-append : (c : Counts) (xs ys : List Extent) → counts_with c (xs ++ ys) ≡ counts_with (counts_with c xs) ys
 counted-append c xs ys =
-    let b = ap (tallied_all c.blocks) (busy-append xs ys) ∙ tallied_all-append c.blocks (busy_sizes xs) (busy_sizes ys) in
-    let f = ap (tallied_all c.gaps) (free-append xs ys) ∙ tallied_all-append c.gaps (free_spans xs) (free_spans ys) in
+    let b = ap (tallied_all c.blocks) (shown-append is_busy (λ (e : Extent). e.size) xs ys) ∙ tallied_all-append c.blocks (busy_sizes xs) (busy_sizes ys) in
+    let f = ap (tallied_all c.gaps) (shown-append is_free (λ (e : Extent). e.span) xs ys) ∙ tallied_all-append c.gaps (free_spans xs) (free_spans ys) in
     λ i. record { blocks = b i; gaps = f i }
 
 pub room-rest : (c : Counts) (xs ys : List Extent) → HaveRoom c (xs ++ ys) → HaveRoom (counts_with c xs) ys
 room-rest c xs ys h =
     record {
-      blocks = HasRoom-rest c.blocks (busy_sizes xs) (busy_sizes ys) (subst (HasRoom c.blocks) (busy-append xs ys) h.blocks);
-      gaps = HasRoom-rest c.gaps (free_spans xs) (free_spans ys) (subst (HasRoom c.gaps) (free-append xs ys) h.gaps);
+      blocks = HasRoom-rest c.blocks (busy_sizes xs) (busy_sizes ys) (subst (HasRoom c.blocks) (shown-append is_busy (λ (e : Extent). e.size) xs ys) h.blocks);
+      gaps = HasRoom-rest c.gaps (free_spans xs) (free_spans ys) (subst (HasRoom c.gaps) (shown-append is_free (λ (e : Extent). e.span) xs ys) h.gaps);
     }
 
 front : (t : Tally) (ms ns : List ℕ) → HasRoom t (ms ++ ns) → HasRoom t ms
@@ -34,6 +32,6 @@ front t ms ns h =
 pub room-front : (c : Counts) (xs ys : List Extent) → HaveRoom c (xs ++ ys) → HaveRoom c xs
 room-front c xs ys h =
     record {
-      blocks = front c.blocks (busy_sizes xs) (busy_sizes ys) (subst (HasRoom c.blocks) (busy-append xs ys) h.blocks);
-      gaps = front c.gaps (free_spans xs) (free_spans ys) (subst (HasRoom c.gaps) (free-append xs ys) h.gaps);
+      blocks = front c.blocks (busy_sizes xs) (busy_sizes ys) (subst (HasRoom c.blocks) (shown-append is_busy (λ (e : Extent). e.size) xs ys) h.blocks);
+      gaps = front c.gaps (free_spans xs) (free_spans ys) (subst (HasRoom c.gaps) (shown-append is_free (λ (e : Extent). e.span) xs ys) h.gaps);
     }

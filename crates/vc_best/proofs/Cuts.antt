@@ -109,14 +109,6 @@ module _ (stop at off : ℕ) (es : List Extent) (c : Cut stop at off es) where
 
 -- changes of one segment
 module _ (n : ℕ) where
-  pub extents-changed : (t : List (ℕ × List Extent)) (off : ℕ) (f : Extent → List Extent → List Extent) → extents_of n (change_in n (change_at off f) t) ≡ change_at off f (extents_of n t)
-  extents-changed [] off f = refl
-  extents-changed (s ∷ ss) off f =
-      ⊎_elim
-      (λ (e : eqb s.0 n ≡ true). rw e (rw e refl))
-      (λ (e : eqb s.0 n ≡ false). rw e (rw e (extents-changed ss off f)))
-      (cases_Bool (eqb s.0 n))
-
   pub change_in-twice : (t : List (ℕ × List Extent)) (g h : List Extent → List Extent) → change_in n h (change_in n g t) ≡ change_in n (λ es. h (g es)) t
   change_in-twice [] g h = refl
   change_in-twice (s ∷ ss) g h =

@@ -1,8 +1,8 @@
 -- The tree of gaps where each segment becomes one free extent, by ascending number; and the first extent of a segment.
 use Rattle.vc_base.proofs.Common.{◌≡◌, ℕ, ◌+◌, ◌-◌, ◌<◌, ◌≤◌, Bool, true, false, cond, ◌&&◌, ◌||◌, eqb, ltb, ◌≢◌, List, [], ◌∷◌, map, Some, All, option_map, sym, refl, ap, ◌∙◌, subst, ⊎_elim, arith, ltb-false, ltb-true, le-ltb, lt-ltb, eq-eqb, ne_eqb, and-false, le_prop, ∥∥₁_elim, ℕ_set, cases_Bool, cases_eq, All-cons, All-head, All-tail, contains, address, place_of, put_by}
 use Rattle.vc_best.proofs.Common.{AreExtents, Bytes, CanLinkGap, Extent, GapLinked, HasGapTree, HasGaps, HasGapsBelow, IsFree, IsOneFree, IsThere, Tiling, change_in, extent_in, extent_of, extents_of, first_of, free_extent, no_links, one_free, plain, spans, tiling, without_links}
+use Rattle.vc_gaps.proofs.Added.{first-place}
 use Rattle.vc_model.proofs.Owned.{address-place_of}
-use Rattle.vc_layouts.proofs.Blocks.{place_of-address}
 use Rattle.vc_gaps.specs.GapLaws.{is_free-named, is_free-stays}
 use Rattle.vc_gaps.specs.GapStore.{is_free, key_of}
 use Rattle.vc_gaps.proofs.Ascending.{contains-put}
@@ -73,9 +73,6 @@ same-below m n ne =
     (λ (t : ltb m n ≡ true). let lt = ltb-true m n t in t ∙ sym (lt-ltb m (n + 1) (omega arith)))
     (λ (t : ltb m n ≡ false). let le = ltb-false m n t in t ∙ sym (le-ltb m (n + 1) (omega (arith, le, ne))))
     (cases_Bool (ltb m n))
-
-first-place : (n : ℕ) → place_of (address (n, 32)) ≡ (n, 32)
-first-place n = place_of-address n 32 (omega arith) refl
 
 -- where no segment has a number
 pub below-none : (n : ℕ) (t : Tiling) (root : ℕ) → All (λ s. s.0 ≢ n) t → HasGapsBelow n t root → HasGapsBelow (n + 1) t root

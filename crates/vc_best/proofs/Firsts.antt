@@ -1,6 +1,7 @@
 -- The first block from an address on, and the block that holds a byte.
 use Rattle.vc_base.proofs.Common.{◌≡◌, ℕ, zero, suc, ◌+◌, ◌-◌, ◌%◌, ◌<◌, ◌≤◌, Bool, true, false, ◌&&◌, eqb, ltb, leb, ◌≢◌, List, [], ◌∷◌, ◌++◌, length, get_or, IfSome, Some, None, All, filter, Option, option_map, AllPairs, find, sym, refl, ap, ◌∙◌, subst, ⊎_elim, arith, ltb-true, le-ltb, lt-ltb, le_prop, ∥∥₁_elim, ℕ_set, and_left, cases_Bool, cases_lt, All-append, All-cons, All-head, All-nil, All-tail, All-weaker, get_or-map, length-map, address, place_of, Block, address_of, HasBlock, holds_byte, next_block}
-use Rattle.vc_best.proofs.Common.{Addr, AreExtents, Bytes, Extent, IsBusy, IsFirst, IsNamed, all_busy, block_of, busy_in, extent_of, extents_of, in_order, layout_by, next_of, tiling}
+use Rattle.vc_best.proofs.Common.{Addr, AreExtents, Bytes, Extent, IsBusy, IsFirst, IsNamed, all_busy, behind_of, block_of, busy_in, extent_of, extents_of, in_order, layout_by, next_of, tiling}
+use Rattle.vc_gaps.proofs.Joined.{first-cons}
 use mathlib.Core.Sum.{⊎_set}
 use Rattle.vc_base.proofs.Places.{span-least}
 use Rattle.vc_model.proofs.Pairs.{AllPairs-head, AllPairs-tail}
@@ -9,9 +10,8 @@ use Rattle.vc_best.proofs.Apart.{Before, order-before}
 use Rattle.vc_best.proofs.Found.{has-of}
 use Rattle.vc_best.proofs.Frees.{own-blocks}
 use Rattle.vc_best.proofs.Known.{IsCut, cut-of, off-of}
-use Rattle.vc_best.proofs.Layouts.{behind_of}
 use Rattle.vc_best.proofs.Lies.{Ends, Lies, lies-behind}
-use Rattle.vc_best.proofs.Nexts.{next-above, next-seg, no-address, none-first, some-address, some-first}
+use Rattle.vc_best.proofs.Nexts.{next-above, next-seg, no-address, none-first, some-address}
 use Rattle.vc_best.proofs.Ordered.{Less, least_above-first}
 use Rattle.vc_best.proofs.Parts.{busy-append, busy-none}
 use Rattle.vc_best.proofs.Sets.{found-set}
@@ -115,7 +115,7 @@ module _ (t : List (ℕ × List Extent)) (a : ℕ) (c : IsCut t a) where
 
   pub next-least : (y : Extent) (b : ℕ) → next_of t a ≡ Some y → b ≡ address (n, y.off) → All (λ d. a + 1 ≤ address_of d → b ≤ address_of d) (busy_in (n, extents_of n t))
   next-least y b next value =
-      let tail = some-first (behind_of t a) y next in
+      let tail = first-cons (behind_of t a) y next in
       let zs : List Extent = tail.0 in
       let lies = subst (λ (es : List Extent). Lies (c.size - 16) ((place_of a).1 - 16) (e ∷ es)) tail.1 c.cut.here in
       let m = c.cut.here.0.legal.multiple in

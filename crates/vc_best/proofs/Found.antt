@@ -1,11 +1,11 @@
 -- The block at an address is that of the busy extent that it names.
 use Rattle.vc_base.proofs.Common.{◌≡◌, ℕ, suc, ◌+◌, ◌-◌, ◌%◌, ◌<◌, ◌≤◌, Bool, true, false, ◌≢◌, List, [], ◌∷◌, map, length, get_or, Some, All, Option, AllPairs, find, sym, refl, ap, ◌∙◌, subst, ⊎_elim, arith, eq-eqb, ne_eqb, le_prop, ∥∥₁_elim, cases_Bool, All-append, All-cons, All-contains, All-head, All-map, All-nil, All-tail, get_or-map, length-map, none-some, same_Some, place_of, Block, address_of, is_at, HasBlock, find_block}
 use Rattle.vc_best.proofs.Common.{AreExtents, Bytes, Extent, IsBusy, IsTiled, all_busy, block_of, busy_in, extent_in, extent_of, extents, extents_of, in_order, layout_by, tiling}
+use Rattle.vc_gaps.proofs.Named.{extent_in-off}
 use Rattle.vc_model.proofs.Pairs.{AllPairs-head, AllPairs-tail}
 use Rattle.vc_layouts.proofs.Blocks.{place_of-address}
 use Rattle.vc_layouts.proofs.InOrder.{All-in_order, find-with}
 use Rattle.vc_best.proofs.Layouts.{blocks-busy, none-other, other_blocks, own-at}
-use Rattle.vc_best.proofs.Parts.{named-off}
 use Rattle.vc_best.proofs.Lies.{Lies, lies-behind, lies-tiled, lies-within}
 use Rattle.vc_best.proofs.Sets.{found-set}
 use Rattle.vc_best.proofs.Tilings.{All-busy_in, all-lodged, other-seg}
@@ -98,6 +98,6 @@ module _ (segs : List Bytes) (index : List ℕ) (a : ℕ) (k : ∥ AreExtents se
       let b : Block ℕ = block_of (place_of a).0 e in
       let bs : List (Block ℕ) = (layout_by segs).blocks in
       let r = contains-found (is_at (place_of a)) bs b (found-of h) in
-      let off : e.off ≡ (place_of a).1 = named-off (place_of a).1 (extents_of (place_of a).0 (tiling segs)) h.named in
+      let off : e.off ≡ (place_of a).1 = extent_in-off (place_of a).1 (extents_of (place_of a).0 (tiling segs)) in
       let own : address_of b ≡ a = rw off (omega arith) in
       (r.0, omega (arith, r.1, length-map bs address_of), get_or-map address_of bs r.0 b a r.1 ∙ (ap address_of r.2 ∙ own))

@@ -1,12 +1,12 @@
 -- A block that is freed, and the free extents before and behind it.
 use Rattle.vc_base.proofs.Common.{◌≡◌, ℕ, ◌+◌, ◌-◌, ◌%◌, ◌<◌, ◌≤◌, Bool, true, false, not, ◌&&◌, eqb, ◌≢◌, ◌⊎◌, List, [], ◌∷◌, ◌++◌, Some, None, All, filter, Option, sym, refl, ap, ◌∙◌, subst, inl, inr, ⊎_elim, arith, le-ltb, lt-ltb, eq-eqb, ne_eqb, and_from, and_parts, cases_Bool, All-cons, All-nil, address, place_of}
-use Rattle.vc_best.proofs.Common.{Extent, IsBusy, IsFree, IsMerged, IsNamed, absorb, behind, busy_in, change_at, change_extent, change_in, extent_in, extent_of, extents_of, first_of, free_before, free_extent, free_name, free_next, is_busy, is_free, is_merged, join, last_before, mark_free, next_of, no_links, previous_of}
+use Rattle.vc_best.proofs.Common.{Extent, IsBusy, IsFree, IsMerged, IsNamed, absorb, behind, behind_of, busy_in, change_at, change_extent, change_in, extent_in, extent_of, extents_of, first_of, free_before, free_extent, free_name, free_next, is_busy, is_free, is_merged, join, last_before, mark_free, next_of, no_links, previous_of}
+use Rattle.vc_gaps.proofs.Joined.{first-cons}
 use Rattle.vc_model.proofs.Owned.{address-place_of}
 use Rattle.vc_layouts.proofs.Blocks.{place_of-address}
 use Rattle.vc_best.proofs.Cuts.{Cut, behind-here, change_at-here, change_at-skip, change_in-same, cut, cut-change, extent_in-here, lower-other}
 use Rattle.vc_best.proofs.Known.{IsCut, now-none, now-same, off-of, then-behind, then-extent, then-steps}
-use Rattle.vc_best.proofs.Nexts.{none-first, some-first}
-use Rattle.vc_best.proofs.Layouts.{behind_of}
+use Rattle.vc_best.proofs.Nexts.{none-first}
 use Rattle.vc_best.proofs.Lies.{Lies}
 use Rattle.vc_best.proofs.Merges.{merged-any, merged-at, merged-change, merged-weaker}
 
@@ -321,7 +321,7 @@ module _ (t : List (ℕ × List Extent)) (a : ℕ) (c : IsCut t a) where
 
   module _ (y : Extent) (next : next_of t a ≡ Some y) where
     next-tail : (zs : List Extent) × (behind_of t a ≡ y ∷ zs)
-    next-tail = some-first (behind_of t a) y next
+    next-tail = first-cons (behind_of t a) y next
 
     pub absorb-busy_next : 0 < y.size → t ≡ change_extent a absorb t
     absorb-busy_next busy =

@@ -1,9 +1,9 @@
 -- The tree of gaps where a block is freed and becomes one with the free extents beside it.
 use Rattle.vc_base.proofs.Common.{◌≡◌, ℕ, ◌+◌, ◌-◌, ◌<◌, List, [], ◌∷◌, ◌++◌, Some, sym, refl, ap, ◌∙◌, subst, arith, le_prop, ∥∥₁_elim, ℕ_set, address, place_of}
-use Rattle.vc_best.proofs.Common.{AreExtents, Bytes, Extent, GapsChange, HasGaps, IsBusy, IsFree, Tiling, change_extent, extent_of, free_before, free_extent, free_name, free_next, join, mark_free, next_of, no_links, tiling}
+use Rattle.vc_best.proofs.Common.{AreExtents, Bytes, Extent, GapsChange, HasGaps, IsBusy, IsFree, Tiling, behind_of, change_extent, extent_of, free_before, free_extent, free_name, free_next, join, mark_free, next_of, no_links, tiling}
 use Rattle.vc_gaps.proofs.Joined.{first-cons, gaps-joined}
 use Rattle.vc_gaps.proofs.Marked.{gaps-freed}
-use Rattle.vc_gaps.proofs.Named.{behind_of, extent_of-here, own-off}
+use Rattle.vc_gaps.proofs.Named.{extent_of-here, own-off}
 use Rattle.vc_best.proofs.Known.{cut-of}
 use Rattle.vc_best.proofs.Lies.{Lies}
 use Rattle.vc_best.proofs.Nexts.{next-off}

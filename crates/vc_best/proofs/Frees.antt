@@ -1,5 +1,5 @@
 -- The gaps are the free runs, where no two free extents stand beside each other.
-use Rattle.vc_base.proofs.Common.{◌≡◌, ℕ, ◌+◌, ◌-◌, ◌%◌, ◌<◌, ◌≤◌, true, false, ◌&&◌, eqb, ltb, ◌≢◌, List, [], ◌∷◌, ◌++◌, map, length, get_or, All, filter, AllPairs, sym, refl, ap, ◌∙◌, ⊎_elim, append-nil, arith, ltb-true, le-ltb, lt-ltb, eq-eqb, ne_eqb, eqb-true, ∥∥₁_elim, and_from, and_parts, cases_Bool, eqb-false, or_right, All-cons, All-head, All-nil, All-tail, All-weaker, filter-append, Run, gaps_between, run_of, Block, footprint, footprints, lies_before, with_block, gaps_of, span, IsApart}
+use Rattle.vc_base.proofs.Common.{◌≡◌, ℕ, ◌+◌, ◌-◌, ◌%◌, ◌<◌, ◌≤◌, true, false, ◌&&◌, eqb, ltb, ◌≢◌, List, [], ◌∷◌, ◌++◌, map, length, get_or, All, filter, AllPairs, sym, refl, ap, ◌∙◌, ⊎_elim, append-nil, arith, ltb-true, le-ltb, lt-ltb, eq-eqb, ne_eqb, eqb-true, ∥∥₁_elim, and_from, and_parts, cases_Bool, eqb-false, or_right, All-cons, All-head, All-nil, All-tail, All-weaker, filter-append, Run, gaps_between, run_of, Block, footprint, footprints, lies_before, with_block, gaps_of, span}
 use Rattle.vc_best.proofs.Common.{AreExtents, Bytes, Extent, IsMerged, all_busy, block_of, busy_in, extents, extents_of, free_in, free_runs, in_order, is_merged, layout_by, pair_of, run_of_extent, tiling}
 use Rattle.vc_model.proofs.Pairs.{AllPairs-head, AllPairs-tail}
 use Rattle.vc_best.proofs.LeftGaps.{gaps_left, gaps_left_in}
@@ -7,7 +7,7 @@ use Rattle.vc_best.proofs.Layouts.{busy-seg}
 use Rattle.vc_best.proofs.Lies.{Differ, Ends, IsAt, Lies, Tiled, lies-behind, lies-tiled}
 use Rattle.vc_best.proofs.Ordered.{gaps-left}
 use Rattle.vc_best.proofs.Sets.{runs-set}
-use Rattle.vc_best.proofs.Tilings.{All-busy_in, all-apart, all-lodged, other-seg}
+use Rattle.vc_best.proofs.Tilings.{All-busy_in, Apart, all-apart, all-lodged, other-seg}
 use Rattle.vc_best.proofs.Along.{own-from}
 use Rattle.vc_best.proofs.Apart.{order-before}
 
@@ -76,9 +76,6 @@ own-skip n b (c ∷ cs) other =
     (λ (u : eqb c.seg n ≡ false). rw u (own-skip n b cs other))
     (cases_Bool (eqb c.seg n))))
     (cases_Bool (lies_before b c))
-
-abbrev Apart : Block ℕ → Block ℕ → Type 0
-Apart a b = IsApart (footprint a) (footprint b)
 
 rises-order : (bs : List (Block ℕ)) → All (λ b. 32 ≤ b.off) bs → AllPairs Apart bs → AllPairs Rises (in_order bs)
 rises-order bs offs apart = λ i j d lt within. ⊎_elim (λ u. omega (arith, u)) (λ u. omega (arith, u.0)) (order-before bs offs apart i j d lt within)

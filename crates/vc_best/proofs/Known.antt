@@ -1,9 +1,9 @@
 -- What is known of the extents of a segment.
-use Rattle.vc_base.proofs.Common.{◌≡◌, ℕ, ◌+◌, ◌-◌, ◌≤◌, List, [], ◌∷◌, ◌++◌, length, get_or, sym, ap, ◌∙◌, subst, arith, place_of, IsSegmentSize}
-use Rattle.vc_best.proofs.Common.{AreExtents, Bytes, Extent, IsNamed, IsThere, behind, change_at, change_extent, extent_in, extent_of, extents_of, tiling}
+use Rattle.vc_base.proofs.Common.{◌≡◌, ℕ, ◌+◌, ◌-◌, ◌≤◌, List, [], ◌∷◌, ◌++◌, length, get_or, sym, refl, ap, ◌∙◌, subst, arith, place_of, IsSegmentSize}
+use Rattle.vc_best.proofs.Common.{AreExtents, Bytes, Extent, IsNamed, IsThere, behind, behind_of, change_at, change_extent, extent_in, extent_of, extents_of, tiling}
+use Rattle.vc_gaps.proofs.Named.{extents_of-here}
 use Rattle.vc_extent.proofs.Places.{found, named-there, there-first, there-last}
-use Rattle.vc_best.proofs.Cuts.{Cut, change_in-none, change_in-same, cut, cut-behind, cut-change, cut-extent, cut-steps, extents-changed, steps}
-use Rattle.vc_best.proofs.Layouts.{behind_of}
+use Rattle.vc_best.proofs.Cuts.{Cut, change_in-none, change_in-same, cut, cut-behind, cut-change, cut-extent, cut-steps, steps}
 use Rattle.vc_best.proofs.Lies.{Lies, lies-tiled}
 
 -- the extents of a segment lie one behind the other in its usable part
@@ -53,7 +53,7 @@ cut-of segs index a k named =
 -- after the extent that an address names changed, and those behind it
 module _ (t new : List (ℕ × List Extent)) (a b : ℕ) (f : Extent → List Extent → List Extent) (c : IsCut t a) (is : new ≡ change_extent a f t) (same : (place_of b).0 ≡ (place_of a).0) (le : (place_of a).1 ≤ (place_of b).1) where
   after : extents_of (place_of b).0 new ≡ change_at (place_of a).1 f (extents_of (place_of a).0 t)
-  after = ap (λ (m : ℕ). extents_of m new) same ∙ (ap (extents_of (place_of a).0) is ∙ extents-changed (place_of a).0 t (place_of a).1 f)
+  after = ap (λ (m : ℕ). extents_of m new) same ∙ (ap (extents_of (place_of a).0) is ∙ extents_of-here (place_of a).0 (change_at (place_of a).1 f) t refl)
 
   pub then-extent : extent_of new b ≡ extent_in (place_of b).1 (f (extent_of t a) (behind_of t a))
   then-extent = ap (extent_in (place_of b).1) after ∙ cut-extent (c.size - 16) 16 (place_of a).1 (extents_of (place_of a).0 t) c.cut (place_of b).1 f le

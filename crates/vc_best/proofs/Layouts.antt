@@ -1,15 +1,12 @@
 -- What the segments and the blocks become where one extent changes.
 use Rattle.vc_base.proofs.Common.{◌≡◌, ℕ, ◌+◌, ◌-◌, ◌%◌, ◌<◌, ◌≤◌, true, false, eqb, ◌≢◌, List, [], ◌∷◌, ◌++◌, map, length, get_or, All, filter, AllPairs, sym, refl, ap, ◌∙◌, subst, ⊎_elim, arith, ne_eqb, eqb-true, ∥∥₁_elim, and_right, cases_Bool, All-append, All-cons, All-filter, All-head, All-map, All-nil, All-tail, All-weaker, place_of, without_block_at, Block, is_at, place_of_block, with_block, without_block, change_block}
-use Rattle.vc_best.proofs.Common.{AreExtents, Bytes, Extent, IsNamed, IsTiled, all_busy, behind, block_of, busy_in, change_at, change_extent, change_in, extent_in, extent_of, extents, extents_of, in_order, is_busy, layout_by, pair_of, tiling}
+use Rattle.vc_best.proofs.Common.{AreExtents, Bytes, Extent, IsNamed, IsTiled, all_busy, behind_of, block_of, busy_in, change_at, change_extent, extent_in, extent_of, extents, extents_of, in_order, is_busy, layout_by, pair_of, tiling}
+use Rattle.vc_gaps.proofs.Named.{extent_in-off, extents_of-here}
 use Rattle.vc_model.proofs.Pairs.{AllPairs-head, AllPairs-tail}
 use Rattle.vc_layouts.proofs.InOrder.{All-in_order, NoneAt, change-with, order-middle, own-place, without-with}
 use Rattle.vc_best.proofs.Lies.{Differ, Ends, IsWithin, Lies, Tiled, lies-behind, lies-tiled, lies-within}
 use Rattle.vc_best.proofs.Sets.{layout-set}
-use Rattle.vc_best.proofs.Parts.{above, below, busy-are, busy-changed, busy-none, busy-one, front, front-changed, front-is, lead, named-off, none-above, none-lead, none-others, rear}
-
--- the extents behind the one that an address names
-abbrev pub behind_of : List (ℕ × List Extent) → ℕ → List Extent
-behind_of t a = behind (place_of a).1 (extents_of (place_of a).0 t)
+use Rattle.vc_best.proofs.Parts.{above, below, busy-are, busy-changed, busy-none, busy-one, front, front-changed, front-is, lead, none-above, none-lead, none-others, rear}
 
 -- what lies behind the front of what lies so
 lies-split : (stop at : ℕ) (xs : List Extent) (e : Extent) (es : List Extent) → (at + 16) % 32 ≡ 0 → Lies stop at (xs ++ e ∷ es) → All (Ends e) es
@@ -89,7 +86,7 @@ module _ (segs : List Bytes) (index : List ℕ) (k : AreExtents segs index) (a :
   pub none-rest : NoneAt (place_of a) (busy_in ((place_of a).0, behind_of (tiling segs) a) ++ rear (tiling segs) a)
   none-rest =
       let own = own-lies in
-      let at : e.off ≡ off = named-off off (extents_of n (tiling segs)) named in
+      let at : e.off ≡ off = extent_in-off off (extents_of n (tiling segs)) in
       let ends : All (Ends e) ys = lies-split (length own.0 - 16) 16 (front off (extents_of n (tiling segs))) e ys refl own.1 in
       All-append (λ (c : Block ℕ). is_at (place_of a) c ≡ false) (busy_in (n, ys)) (rear (tiling segs) a)
       (none-elsewhere n off ys (All-weaker (Ends e) (λ x. x.off ≢ off) (λ x h same. omega (arith, h, same, at, named)) ys ends))
@@ -106,7 +103,7 @@ module _ (segs : List Bytes) (index : List ℕ) (k : AreExtents segs index) (a :
   none-other = All-in_order (λ (c : Block ℕ). is_at (place_of a) c ≡ false) (lead (tiling segs) a ++ (busy_in ((place_of a).0, behind_of (tiling segs) a) ++ rear (tiling segs) a)) none-others-at
 
   own-off : (extent_of (tiling segs) a).off ≡ (place_of a).1
-  own-off = named-off (place_of a).1 (extents_of (place_of a).0 (tiling segs)) named
+  own-off = extent_in-off (place_of a).1 (extents_of (place_of a).0 (tiling segs))
 
   pub own-at : is_at (place_of a) (block_of (place_of a).0 (extent_of (tiling segs) a)) ≡ true
   own-at = rw own-off (own-place (block_of (place_of a).0 (record (extent_of (tiling segs) a) { off = (place_of a).1 })))
@@ -121,15 +118,6 @@ module _ (segs : List Bytes) (index : List ℕ) (k : AreExtents segs index) (a :
   pub blocks-free : (extent_of (tiling segs) a).size ≡ 0 → in_order (all_busy (tiling segs)) ≡ other_blocks
   blocks-free free =
       ap in_order (busy-are (tiling segs) a named ∙ ap (λ bs. lead (tiling segs) a ++ (bs ++ rear (tiling segs) a)) (busy-none (place_of a).0 (extent_of (tiling segs) a) (behind_of (tiling segs) a) free))
-
--- the extents of a segment that changed
-extents-changed : (n off : ℕ) (g : List Extent → List Extent) (t : List (ℕ × List Extent)) → 0 < (extent_in off (extents_of n t)).span → extents_of n (change_in n g t) ≡ g (extents_of n t)
-extents-changed n off g [] named = absurd (omega (arith, named))
-extents-changed n off g (s ∷ ss) named =
-    ⊎_elim
-    (λ (t : eqb s.0 n ≡ true). rw t (rw t refl))
-    (λ (t : eqb s.0 n ≡ false). let named' : 0 < (extent_in off (extents_of n ss)).span = rw t at named in rw t (rw t (extents-changed n off g ss named')))
-    (cases_Bool (eqb s.0 n))
 
 -- each block of a segment has its number
 pub busy-seg : (n : ℕ) (es : List Extent) → All (λ c. c.seg ≡ n) (busy_in (n, es))
@@ -200,7 +188,7 @@ module _ (old new : List Bytes) (io jn : List ℕ) (ko : ∥ AreExtents old io �
       let ys : List Extent = behind_of (tiling old) a in
       let fr : List Extent = front off (extents_of n (tiling old)) in
       let zs : List Extent = f (extent_of (tiling old) a) ys in
-      let is : extents_of n (tiling new) ≡ fr ++ zs = ap (extents_of n) t ∙ (extents-changed n off (change_at off f) (tiling old) named ∙ front-changed off f (extents_of n (tiling old)) named) in
+      let is : extents_of n (tiling new) ≡ fr ++ zs = ap (extents_of n) t ∙ (extents_of-here n (change_at off f) (tiling old) refl ∙ front-changed off f (extents_of n (tiling old)) named) in
       let apart = new-apart new jn j n fr zs b (busy_in (n, ys)) is e in
       let none : NoneAt (place_of_block b) (lead (tiling old) a) =
       subst (λ (m : ℕ). NoneAt (m, b.off) (lead (tiling old) a)) (sym apart.0)

@@ -1,7 +1,7 @@
 -- What is left of the blocks where one is freed.
 use Rattle.vc_base.proofs.Common.{◌≡◌, ℕ, List, map, refl, place_of, without_block_at}
-use Rattle.vc_best.proofs.Common.{AreExtents, Bytes, IsBusy, IsFree, absorb, change_extent, extent_of, layout_by, mark_free, pair_of, tiling}
-use Rattle.vc_best.proofs.Layouts.{behind_of, layout-freed, layout-same}
+use Rattle.vc_best.proofs.Common.{AreExtents, Bytes, IsBusy, IsFree, absorb, behind_of, change_extent, extent_of, layout_by, mark_free, pair_of, tiling}
+use Rattle.vc_best.proofs.Layouts.{layout-freed, layout-same}
 use Rattle.vc_best.proofs.FreeBlocks.{absorb-busy}
 
 -- a free extent that takes the next free one leaves the blocks

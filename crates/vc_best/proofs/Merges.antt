@@ -1,9 +1,8 @@
 -- No two free extents stand beside each other, before and after a change.
 use Rattle.vc_base.proofs.Common.{◌≡◌, ℕ, ◌-◌, Bool, true, false, not, ◌&&◌, eqb, List, [], ◌∷◌, ◌++◌, All, sym, refl, ap, ◌∙◌, ⊎_elim, and_from, and_parts, cases_Bool, All-cons, All-head, All-tail, place_of}
-use Rattle.vc_best.proofs.Common.{Extent, IsMerged, change_at, change_extent, change_in, extent_of, extents_of, is_busy, is_free, is_merged}
+use Rattle.vc_best.proofs.Common.{Extent, IsMerged, behind_of, change_at, change_extent, change_in, extent_of, extents_of, is_busy, is_free, is_merged}
 use Rattle.vc_best.proofs.Cuts.{cut-change}
 use Rattle.vc_best.proofs.Known.{IsCut}
-use Rattle.vc_best.proofs.Layouts.{behind_of}
 
 -- what stands before a place where nothing new meets
 pub merged-front : (xs zs ws : List Extent) → ((b : Bool) → is_merged b zs ≡ true → is_merged b ws ≡ true) → (b : Bool) → is_merged b (xs ++ zs) ≡ true → is_merged b (xs ++ ws) ≡ true

@@ -1,10 +1,10 @@
 -- The extent behind one, and the address that names it.
 use Rattle.vc_base.proofs.Common.{◌≡◌, ℕ, zero, suc, ◌+◌, ◌-◌, ◌<◌, Bool, true, false, ◌≢◌, List, [], ◌∷◌, ◌++◌, IsTrue, Some, None, All, Option, option_map, sym, refl, ap, ◌∙◌, subst, arith, ne_eqb, address, place_of}
-use Rattle.vc_best.proofs.Common.{Extent, behind, extent_in, extent_of, extents_of, first_of, next_of}
+use Rattle.vc_best.proofs.Common.{Extent, behind, behind_of, extent_in, extent_of, extents_of, first_of, next_of}
+use Rattle.vc_gaps.proofs.Joined.{first-cons}
 use Rattle.vc_layouts.proofs.Blocks.{place_of-address}
 use Rattle.vc_best.proofs.Cuts.{behind-here, behind-skip, extent_in-here, extent_in-skip, lower-other}
 use Rattle.vc_best.proofs.Known.{IsCut, off-of}
-use Rattle.vc_best.proofs.Layouts.{behind_of}
 use Rattle.vc_best.proofs.Lies.{Lies}
 
 -- addresses of extents
@@ -20,13 +20,9 @@ pub none-first : (ys : List Extent) → first_of ys ≡ None → ys ≡ []
 none-first [] e = refl
 none-first (y ∷ ys) e = absurd (cc)
 
-pub some-first : (ys : List Extent) (y : Extent) → first_of ys ≡ Some y → (zs : List Extent) × (ys ≡ y ∷ zs)
-some-first [] y e = absurd (cc)
-some-first (x ∷ xs) y e = let same : x ≡ y = cc in (xs, ap (λ (z : Extent). z ∷ xs) same)
-
 module _ (t : List (ℕ × List Extent)) (a b : ℕ) (y : Extent) (c : IsCut t a) (next : next_of t a ≡ Some y) (value : b ≡ address ((place_of a).0, y.off)) where
   tail : (zs : List Extent) × (behind_of t a ≡ y ∷ zs)
-  tail = some-first (behind_of t a) y next
+  tail = first-cons (behind_of t a) y next
 
   lies : Lies (c.size - 16) ((place_of a).1 - 16) (extent_of t a ∷ y ∷ tail.0)
   lies = subst (λ (ys : List Extent). Lies (c.size - 16) ((place_of a).1 - 16) (extent_of t a ∷ ys)) tail.1 c.cut.here

@@ -1,11 +1,11 @@
 -- A block of another size where it is.
 use Rattle.vc_base.proofs.Common.{◌≡◌, ℕ, ◌+◌, ◌-◌, ◌<◌, ◌≤◌, true, false, not, ◌&&◌, List, [], ◌∷◌, ◌++◌, map, length, take, drop, replicate, Some, sym, refl, ap, ◌∙◌, subst, ⊎_elim, append-nil, arith, drop_of_length-le, take_all, lt-ltb, ∥∥₁_elim, ℕ_set, and_from, and_parts, cases_Bool, length-replicate, place_of, with_bytes, Block, Layout, is_at, fitted_bytes, resize_there, sized_block, span, change_block, find_block, rewritten_block}
-use Rattle.vc_best.proofs.Common.{AreExtents, Bytes, Extent, IsBusy, IsMerged, block_of, busy_extent, busy_in, change_extent, extent_in, extent_of, is_busy, is_merged, layout_by, move_border, pair_of, room_of, tiling}
+use Rattle.vc_best.proofs.Common.{AreExtents, Bytes, Extent, IsBusy, IsMerged, behind_of, block_of, busy_extent, busy_in, change_extent, extent_in, extent_of, is_busy, is_merged, layout_by, move_border, pair_of, room_of, tiling}
 use Rattle.vc_best.proofs.Borders.{IsBehind, behind-border}
 use Rattle.vc_best.proofs.Cuts.{extent_in-here}
 use Rattle.vc_best.proofs.Found.{found-of}
 use Rattle.vc_best.proofs.Known.{cut-of, off-of, then-extent}
-use Rattle.vc_best.proofs.Layouts.{behind_of, layout-changed}
+use Rattle.vc_best.proofs.Layouts.{layout-changed}
 use Rattle.vc_best.proofs.Merges.{merged-at}
 use Rattle.vc_best.proofs.Sets.{extent-set, merged-prop}
 

@@ -1,6 +1,6 @@
 -- The tree of gaps where a free extent is cut, call by call, and which gaps are out of it then.
 use Rattle.vc_base.proofs.Common.{◌≡◌, ℕ, ◌+◌, ◌-◌, ◌/◌, ◌%◌, ◌<◌, ◌≤◌, Bool, true, false, ◌||◌, eqb, List, [], ◌∷◌, ◌++◌, sym, refl, ap, ◌∙◌, subst, ⊎_elim, arith, ∥∥₁_elim, cases_Bool, contains, address, place_of, with_bytes}
-use Rattle.vc_best.proofs.Common.{AreExtents, Bytes, Extent, GapsChange, HasGaps, IsBusy, IsNamed, Tiling, behind, busy_extent, change_extent, extent_of, extents_of, first_of, free_name, free_next, mark_busy, split, tiling, write}
+use Rattle.vc_best.proofs.Common.{AreExtents, Bytes, Extent, GapsChange, HasGaps, IsBusy, IsNamed, Tiling, behind, behind_of, busy_extent, change_extent, extent_of, extents_of, first_of, free_name, free_next, mark_busy, split, tiling, write}
 use Rattle.vc_base.proofs.Booleans.{or-swap}
 use Rattle.vc_base.proofs.Sets.{bytes-set}
 use Rattle.vc_layouts.proofs.Blocks.{place_of-address}
@@ -8,7 +8,7 @@ use Rattle.vc_gaps.specs.GapStore.{is_free}
 use Rattle.vc_gaps.proofs.GapTrees.{gaps-same}
 use Rattle.vc_gaps.proofs.Joined.{inside-none}
 use Rattle.vc_gaps.proofs.Marked.{gaps-busy, gaps-split, gaps-stay}
-use Rattle.vc_gaps.proofs.Named.{behind_of, extent_in-off, extent_of-here}
+use Rattle.vc_gaps.proofs.Named.{extent_in-off, extent_of-here}
 use Rattle.vc_best.proofs.Cuts.{behind-here}
 use Rattle.vc_best.proofs.Known.{cut-of, then-behind}
 use Rattle.vc_best.proofs.Walks.{named-end}

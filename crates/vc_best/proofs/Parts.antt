@@ -35,14 +35,6 @@ module _ (off : ℕ) where
       (λ (t : eqb e.off off ≡ false). let named' : 0 < (extent_in off es).span = rw t at named in rw t (ap (λ xs. e ∷ xs) (front-changed f es named')))
       (cases_Bool (eqb e.off off))
 
-  pub named-off : (es : List Extent) → 0 < (extent_in off es).span → (extent_in off es).off ≡ off
-  named-off [] named = absurd (omega (arith, named))
-  named-off (e ∷ es) named =
-      ⊎_elim
-      (λ (t : eqb e.off off ≡ true). rw t (eqb-true e.off off t))
-      (λ (t : eqb e.off off ≡ false). let named' : 0 < (extent_in off es).span = rw t at named in rw t (named-off es named'))
-      (cases_Bool (eqb e.off off))
-
   front-others : (es : List Extent) → All (λ e. eqb e.off off ≡ false) (front off es)
   front-others [] = All-nil (λ (e : Extent). eqb e.off off ≡ false)
   front-others (e ∷ es) =

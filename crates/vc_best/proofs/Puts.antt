@@ -1,6 +1,6 @@
 -- A block of zeros in the least free run that holds it.
 use Rattle.vc_base.proofs.Common.{◌≡◌, ℕ, ◌+◌, ◌%◌, ◌≤◌, false, List, map, Some, All, filter, option_map, sym, ap, ◌∙◌, subst, arith, leb-true, ∥∥₁_elim, address, place_of, place_in, zeros, Run, Block, Layout, is_at, holds, least, lowest_offset, round_up, span}
-use Rattle.vc_best.proofs.Common.{AreExtents, Bytes, CanPutBlock, IsFree, IsLeastOut, IsMerged, IsPutInGap, carve, change_extent, extent_of, free_runs, layout_by, pair_of, run_at, tiling}
+use Rattle.vc_best.proofs.Common.{AreExtents, Bytes, CanPutBlock, IsFree, IsLeastOut, IsMerged, IsPutInGap, behind_of, carve, change_extent, extent_of, free_runs, layout_by, pair_of, run_at, tiling}
 use Rattle.vc_base.proofs.Places.{span-least}
 use Rattle.vc_seg.proofs.Rounding.{round_up-least, round_up-mod_32}
 use Rattle.vc_layouts.specs.Put.{with_zeros}
@@ -13,7 +13,7 @@ use Rattle.vc_best.proofs.Held.{AreMost}
 use Rattle.vc_best.proofs.HaveHeads.{AreApart}
 use Rattle.vc_best.proofs.HeldHeads.{held-heads}
 use Rattle.vc_best.proofs.Known.{cut-of}
-use Rattle.vc_best.proofs.Layouts.{behind_of, layout-put}
+use Rattle.vc_best.proofs.Layouts.{layout-put}
 use Rattle.vc_best.proofs.Rounding.{IsAligned, IsAligned-from_IsAlign}
 use Rattle.vc_best.proofs.Sets.{merged-prop}
 use Rattle.vc_best.proofs.Stands.{alone, none-at}

@@ -1,13 +1,14 @@
 -- A block can have a size where it is exactly where its room is enough.
 use Rattle.vc_base.proofs.Common.{◌≡◌, ℕ, ◌+◌, ◌-◌, ◌%◌, ◌<◌, ◌≤◌, Bool, true, false, not, ◌&&◌, ◌||◌, eqb, ltb, leb, ◌≢◌, ◌⊎◌, List, [], ◌∷◌, ◌++◌, map, length, get_or, All, AllPairs, sym, refl, ap, ◌∙◌, subst, inl, inr, ⊎_elim, arith, ltb-true, le-ltb, lt-ltb, eq-eqb, ne_eqb, eqb-true, le-leb, leb-false, leb-true, or-false, ∥∥₁_elim, and_from, and_left, and_parts, and_right, cases_Bool, eqb-false, lt-leb, or_left, or_right, All-append, All-cons, All-head, All-nil, All-tail, All-weaker, list_any-append, list_all, list_any, place_of, Run, Block, footprint, is_at, can_stay, is_usable, sized_block, span}
-use Rattle.vc_best.proofs.Common.{AreExtents, Bytes, Extent, IsBusy, IsLegal, IsMerged, IsTiled, all_busy, block_of, busy_in, extent_in, extent_of, extents, extents_of, first_of, free_bytes, in_order, is_free, is_merged, layout_by, pair_of, room_of, tiling}
+use Rattle.vc_best.proofs.Common.{AreExtents, Bytes, Extent, IsBusy, IsLegal, IsMerged, IsTiled, all_busy, behind_of, block_of, busy_in, extent_in, extent_of, extents, extents_of, first_of, free_bytes, in_order, is_free, is_merged, layout_by, pair_of, room_of, tiling}
+use Rattle.vc_gaps.proofs.Named.{extent_in-off}
 use mathlib.Core.Bool.{Bool-set}
 use Rattle.vc_model.specs.Resize.{meets}
 use Rattle.vc_model.proofs.Pairs.{AllPairs-head, AllPairs-tail}
 use Rattle.vc_layouts.proofs.InOrder.{All-in_order, any-order, own-place}
-use Rattle.vc_best.proofs.Layouts.{behind_of, below-others, busy-seg, lies-front}
+use Rattle.vc_best.proofs.Layouts.{below-others, busy-seg, lies-front}
 use Rattle.vc_best.proofs.Lies.{Differ, Ends, IsWithin, Lies, Tiled, lies-behind, lies-tiled, lies-within}
-use Rattle.vc_best.proofs.Parts.{above, above-others, below, busy-are, busy-one, front, front-is, lead, named-off, rear}
+use Rattle.vc_best.proofs.Parts.{above, above-others, below, busy-are, busy-one, front, front-is, lead, rear}
 use Rattle.vc_best.proofs.Tilings.{All-all_busy, All-busy_in}
 
 -- all pass a test where none fails it
@@ -200,7 +201,7 @@ module _ (segs : List Bytes) (index : List ℕ) (k : AreExtents segs index) (mer
   parts = front-is (place_of a).1 es h.named
 
   place : e.off ≡ (place_of a).1
-  place = named-off (place_of a).1 es h.named
+  place = extent_in-off (place_of a).1 es
 
   ours : Own segs (wide n size e)
   ours = own (wide n size e) segs k.segments.distinct k.tiled (λ none. let lt : 0 < 0 = subst (λ (xs : List Extent). 0 < (extent_in (place_of a).1 xs).span) none h.named in omega (arith, lt))

@@ -24,7 +24,7 @@ All-all_busy P (s ∷ ss) h =
     All-append P (busy_in s) (all_busy ss) (All-head Q s ss h) (All-all_busy P ss (All-tail Q s ss h))
 
 -- blocks of one segment don't overlap
-abbrev Apart : Block ℕ → Block ℕ → Type 0
+abbrev pub Apart : Block ℕ → Block ℕ → Type 0
 Apart a b = IsApart (footprint a) (footprint b)
 
 busy-apart : (n stop at : ℕ) (es : List Extent) → (at + 16) % 32 ≡ 0 → Lies stop at es → AllPairs Apart (busy_in (n, es))

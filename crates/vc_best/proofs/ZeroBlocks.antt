@@ -1,8 +1,7 @@
 -- What a block of zeros in a free extent does to the blocks and to what is free.
 use Rattle.vc_base.proofs.Common.{◌≡◌, ℕ, ◌+◌, ◌≤◌, Bool, true, false, not, ◌&&◌, ltb, List, ◌∷◌, ◌++◌, replicate, refl, ap, ◌∙◌, ⊎_elim, arith, le-ltb, lt-ltb, and_from, and_parts, cases_Bool, zeros, span}
-use Rattle.vc_best.proofs.Common.{Extent, IsFree, IsMerged, busy_extent, busy_in, carve, change_extent, extent_of, free_part, is_busy, is_merged}
+use Rattle.vc_best.proofs.Common.{Extent, IsFree, IsMerged, behind_of, busy_extent, busy_in, carve, change_extent, extent_of, free_part, is_busy, is_merged}
 use Rattle.vc_best.proofs.Known.{IsCut}
-use Rattle.vc_best.proofs.Layouts.{behind_of}
 use Rattle.vc_best.proofs.Merges.{merged-at, merged-weaker}
 
 -- no block is in a free part

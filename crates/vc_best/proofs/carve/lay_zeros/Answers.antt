@@ -1,4 +1,4 @@
-use Rattle.vc_base.proofs.Common.{replicate, ap, ◌∙◌, arith, le_prop, ∥∥₁_elim}
+use Rattle.vc_base.proofs.Common.{◌≡◌, replicate, ap, ◌∙◌, arith, ∥∥₁_elim, ℕ_set}
 use Rattle.vc_best.proofs.Common.{Extent, IsBusy, extent_of, tiling}
 use Rattle.vc_best.proofs.Carves.{laid, marked}
 use Rattle.vc_best.proofs.Known.{cut-of}
@@ -7,25 +7,21 @@ use Rattle.vc_best.proofs.Sets.{tiling-set}
 use Rattle.vc_best.proofs.carve.lay_zeros.Goals as goal
 use Rattle.vc_best.proofs.carve.lay_zeros.Goals.{After-mark_busy}
 
+-- what is marked has the span that it had, and the size that was asked for
+span : (c : After-mark_busy) → (extent_of (tiling c.mark_busy.new.self.segs.items) c.args.a.0).span ≡ (extent_of (tiling c.args.extents.now.segs.items) c.args.a.0).span
+span c = ∥∥₁_elim c.args.extents.now.kept (hlevel (ℕ_set)) (λ k. ap (λ (x : Extent). x.span) (marked _ _ c.args.a.0 c.args.size c.args.tag (extent_of (tiling c.mark_busy.new.self.segs.items) c.args.a.0).body (cut-of _ _ c.args.a.0 k c.requires.free.named) c.mark_busy.ensures.changed.tiling))
+
+size : (c : After-mark_busy) → (extent_of (tiling c.mark_busy.new.self.segs.items) c.args.a.0).size ≡ c.args.size
+size c = ∥∥₁_elim c.args.extents.now.kept (hlevel (ℕ_set)) (λ k. ap (λ (x : Extent). x.size) (marked _ _ c.args.a.0 c.args.size c.args.tag (extent_of (tiling c.mark_busy.new.self.segs.items) c.args.a.0).body (cut-of _ _ c.args.a.0 k c.requires.free.named) c.mark_busy.ensures.changed.tiling))
+
 busy : (c : After-mark_busy) → IsBusy (tiling c.mark_busy.new.self.segs.items) c.args.a.0
-busy c =
-    ∥∥₁_elim c.args.extents.now.kept (hlevel (le_prop))
-    (λ k.
-    let t = tiling c.args.extents.now.segs.items in
-    let e = marked t (tiling c.mark_busy.new.self.segs.items) c.args.a.0 c.args.size c.args.tag (extent_of (tiling c.mark_busy.new.self.segs.items) c.args.a.0).body (cut-of c.args.extents.now.segs.items c.args.extents.now.index.items c.args.a.0 k c.requires.free.named) c.mark_busy.ensures.changed.tiling in
-    let named = c.requires.free.named in
-    record { named = rw (ap (λ (x : Extent). x.span) e) named; busy = rw (ap (λ (x : Extent). x.size) e) (omega arith) })
+busy c = record { named = rw (span c) c.requires.free.named; busy = rw (size c) (omega arith) }
 
 pub fill-requires-clause-busy : goal.fill-requires-clause-busy
 fill-requires-clause-busy c = busy (goal.at.fill-requires-clause-busy c).After-mark_busy
 
 pub fill-requires-clause-within : goal.fill-requires-clause-within
-fill-requires-clause-within c =
-    ∥∥₁_elim c.args.extents.now.kept (hlevel (le_prop))
-    (λ k.
-    let t = tiling c.args.extents.now.segs.items in
-    let e = marked t (tiling c.mark_busy.new.self.segs.items) c.args.a.0 c.args.size c.args.tag (extent_of (tiling c.mark_busy.new.self.segs.items) c.args.a.0).body (cut-of c.args.extents.now.segs.items c.args.extents.now.index.items c.args.a.0 k c.requires.free.named) c.mark_busy.ensures.changed.tiling in
-    rw (ap (λ (x : Extent). x.size) e) (omega arith))
+fill-requires-clause-within c = rw (size (goal.at.fill-requires-clause-within c).After-mark_busy) (omega arith)
 
 pub returns-clause-changed : goal.returns-clause-changed
 returns-clause-changed c =

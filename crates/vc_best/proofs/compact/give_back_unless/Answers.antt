@@ -1,12 +1,11 @@
 use Rattle.vc_base.proofs.Common.{◌≡◌, ℕ, true, false, not, eqb, List, [], ◌∷◌, ◌++◌, map, length, IsSome, All, filter, sym, refl, ap, ◌∙◌, subst, arith, ∥∥₁_elim, ℕ_set, All-filter, address, HasOut, without_last, Layout}
-use Rattle.vc_best.proofs.Common.{Extent, HasGaps, IsMerged, IsNamed, IsOneFree, IsThere, extent_of, extents_of, is_merged, pair_of, size_of, tiling}
+use Rattle.vc_best.proofs.Common.{Extent, HasGaps, IsMerged, IsNamed, IsOneFree, IsThere, behind_of, extent_of, extents_of, is_merged, pair_of, size_of, tiling}
 use Rattle.vc_base.proofs.Options.{none_where}
 use Rattle.vc_seg.specs.Back.{is_marked, stays_from}
 use Rattle.vc_seg.proofs.Backs.{Contains-ends, Contains-own, is_kept-marked, is_kept-unmarked}
 use Rattle.vc_gaps.proofs.Added.{gaps-removed}
 use Rattle.vc_best.proofs.Backs.{kept-none, one-gone, out-gone, some-of}
 use Rattle.vc_best.proofs.EmptyGaps.{first-off, one-first, start-address}
-use Rattle.vc_best.proofs.Layouts.{behind_of}
 use Rattle.vc_best.proofs.Linking.{in-tree}
 use Rattle.vc_best.proofs.Plain.{layout-stays, merged-stays, one_free-stays}
 use Rattle.vc_best.proofs.Segments.{free-by, layout-removed}

@@ -11,13 +11,12 @@ use Rattle.vc_best.proofs.compact.give_back_unmarked.Goals.{After-loop-number}
 
 pub loop-number-init : goal.loop-number-init
 loop-number-init g c =
-    let e = c.args.extents.now in
     record {
-      segments = sym (stays_from-first (λ (s : ℕ × ℕ). s) (is_marked c.args.marks.now) (map pair_of e.segs.items) (∥∥₁_elim e.kept (hlevel (le_prop)) (λ k. pairs-first e.segs.items k.segments)));
+      segments = sym (stays_from-first (λ (s : ℕ × ℕ). s) (is_marked c.args.marks.now) (map pair_of c.args.extents.now.segs.items) (∥∥₁_elim c.args.extents.now.kept (hlevel (le_prop)) (λ k. pairs-first c.args.extents.now.segs.items k.segments)));
       blocks = refl;
       kept = c.requires.kept;
       count = omega arith;
-      back = TookBack-none _ (map pair_of e.segs.items);
+      back = TookBack-none _ (map pair_of c.args.extents.now.segs.items);
     }
 
 pub give_back_unless-count-requires-clause-kept : goal.give_back_unless-count-requires-clause-kept
@@ -28,9 +27,8 @@ give_back_unless-count-requires-clause-out g c = HasOut-left _ _ (map pair_of c.
 
 pub give_back_unless-count-requires-clause-marks : goal.give_back_unless-count-requires-clause-marks
 give_back_unless-count-requires-clause-marks g c = λ n there.
-    let i = c.loop-number.invariant in
-    let p = λ (s : ℕ × ℕ). stays_from (is_marked c.args.marks.now) c.loop-number.number s.0 in
-    c.requires.marks n (left-there p n (map pair_of c.args.extents.now.segs.items) (subst (λ (ss : List (ℕ × ℕ)). IsSome (size_of n ss)) i.segments there)) ∙ ap (λ (bs : List (Block ℕ)). is_occupied bs n) (sym i.blocks)
+    c.requires.marks n (left-there (λ (s : ℕ × ℕ). stays_from (is_marked c.args.marks.now) c.loop-number.number s.0) n (map pair_of c.args.extents.now.segs.items) (subst (λ (ss : List (ℕ × ℕ)). IsSome (size_of n ss)) c.loop-number.invariant.segments there))
+    ∙ ap (λ (bs : List (Block ℕ)). is_occupied bs n) (sym c.loop-number.invariant.blocks)
 
 pub give_back_unless-count-requires-clause-ascending : goal.give_back_unless-count-requires-clause-ascending
 give_back_unless-count-requires-clause-ascending g c =
@@ -66,20 +64,20 @@ left g c =
     ∙ filter-agree_on (λ s. keeps s.0) (λ s. is_occupied (layout_by e.segs.items).blocks s.0) ss
     (All-weaker (λ (s : ℕ × ℕ). IsSome (size_of s.0 ss)) (λ s. keeps s.0 ≡ is_occupied (layout_by e.segs.items).blocks s.0) (λ s there. c.requires.marks s.0 there) ss (all-there ss)))
 
+kept : (g : Over) (c : After-loop-number g) → map pair_of c.loop-number.extents.segs.items ≡ filter (λ s. is_occupied (layout_by c.args.extents.now.segs.items).blocks s.0) (layout_by c.args.extents.now.segs.items).segments
+kept g c = left g c ∙ ap (filter (λ (s : ℕ × ℕ). is_occupied (layout_by c.args.extents.now.segs.items).blocks s.0)) (sym (segments-by c.args.extents.now.segs.items))
+
 pub returns-clause-layout : goal.returns-clause-layout
 returns-clause-layout g c =
-    let old = c.args.extents.now.segs.items in
-    let ss = segments-by c.loop-number.extents.segs.items ∙ (left g (goal.at.returns-clause-layout g c).After-loop-number ∙ ap (filter (λ (s : ℕ × ℕ). is_occupied (layout_by old).blocks s.0)) (sym (segments-by old))) in
+    let ss = segments-by c.loop-number.extents.segs.items ∙ kept g (goal.at.returns-clause-layout g c).After-loop-number in
     let bs = c.loop-number.invariant.blocks in
     λ j. record { segments = ss j; blocks = bs j }
 
 pub returns-clause-count : goal.returns-clause-count
 returns-clause-count g c =
-    let old = c.args.extents.now.segs.items in
-    let now = ap length (left g (goal.at.returns-clause-count g c).After-loop-number ∙ ap (filter (λ (s : ℕ × ℕ). is_occupied (layout_by old).blocks s.0)) (sym (segments-by old))) in
-    let all = ap length (segments-by old) in
-    let count = c.loop-number.invariant.count in
-    omega arith
+    let now = ap length (kept g (goal.at.returns-clause-count g c).After-loop-number) in
+    let all = ap length (segments-by c.args.extents.now.segs.items) in
+    omega (arith, c.loop-number.invariant.count)
 
 pub returns-clause-kept : goal.returns-clause-kept
 returns-clause-kept g c = c.loop-number.invariant.kept

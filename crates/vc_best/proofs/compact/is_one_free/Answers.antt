@@ -1,6 +1,5 @@
 use Rattle.vc_base.proofs.Common.{◌≡◌, ◌+◌, ◌<◌, true, false, ◌∷◌, IsSome, sym, refl, subst, arith, eq-eqb, eqb-true}
-use Rattle.vc_best.proofs.Common.{IsNamed, IsThere, extent_of, extents_of, tiling}
-use Rattle.vc_best.proofs.Layouts.{behind_of}
+use Rattle.vc_best.proofs.Common.{IsNamed, IsThere, behind_of, extent_of, extents_of, tiling}
 use Rattle.vc_best.proofs.Nexts.{not-busy}
 use Rattle.vc_best.proofs.Segments.{one-by_span, one-not}
 use Rattle.vc_best.proofs.Walks.{named-end, start-named, start-whole}

@@ -90,8 +90,5 @@ returns-in-Err-clause-whole g c = subst (λ (e : Extents). AreWhole e.segs.items
 
 pub returns-in-Ok-clause-disc : goal.returns-in-Ok-clause-disc
 returns-in-Ok-clause-disc g c =
-    let segs = c.args.extents.now.segs.items in
-    let bytes = c.rounded_up-bytes.result in
-    let l = c.in-Ok.ensures.lent in
-    Served-granted _ _ _ _ c.in-Ok.number bytes _ (need g (goal.at.returns-in-Ok-clause-disc g c).After-rounded_up-bytes)
-    (ap (λ (r : Layout ℕ). r.segments) c.put_in_out.ensures.put.layout ∙ ap (λ (r : Layout ℕ). r.segments) (layout-added segs c.lend_next.new.extents.segs.items c.in-Ok.number bytes (bytes - 32) l.extents l.pairs)) c.in-Ok.ensures.disc
+    Served-granted _ _ _ _ c.in-Ok.number c.rounded_up-bytes.result _ (need g (goal.at.returns-in-Ok-clause-disc g c).After-rounded_up-bytes)
+    (ap (λ (r : Layout ℕ). r.segments) c.put_in_out.ensures.put.layout ∙ ap (λ (r : Layout ℕ). r.segments) (layout-added c.args.extents.now.segs.items c.lend_next.new.extents.segs.items c.in-Ok.number c.rounded_up-bytes.result (c.rounded_up-bytes.result - 32) c.in-Ok.ensures.lent.extents c.in-Ok.ensures.lent.pairs)) c.in-Ok.ensures.disc

@@ -36,21 +36,18 @@ pub returns-then-not-is_busy-clause-changed : goal.returns-then-not-is_busy-clau
 returns-then-not-is_busy-clause-changed c =
     let t = tiling c.args.extents.now.segs.items in
     let n = (goal.at.returns-then-not-is_busy-clause-changed c).After-is_busy in
-    let f = behind n in
     let free = sym (size n) ∙ not-busy c.is_busy.result (extent_of t c.in-Some.next.0).size c.is_busy.ensures.1 c.if-not-is_busy.true in
     record {
-      tiling = ∥∥₁_elim c.args.extents.now.kept (hlevel (tiling-set)) (λ k. c.join.ensures.tiling ∙ absorb-free_next t c.args.a.0 (cut-of _ _ c.args.a.0 k c.requires.free.named) f.0 f.1 free);
+      tiling = ∥∥₁_elim c.args.extents.now.kept (hlevel (tiling-set)) (λ k. c.join.ensures.tiling ∙ absorb-free_next t c.args.a.0 (cut-of _ _ c.args.a.0 k c.requires.free.named) (behind n).0 (behind n).1 free);
       pairs = c.join.ensures.pairs;
     }
 
 pub returns-else-not-is_busy-clause-changed : goal.returns-else-not-is_busy-clause-changed
 returns-else-not-is_busy-clause-changed c =
     let n = (goal.at.returns-else-not-is_busy-clause-changed c).After-is_busy in
-    let f = behind n in
-    let s = size n in
     let busy = c.is_busy.ensures.0 c.if-not-is_busy.false in
     record {
-      tiling = ∥∥₁_elim c.args.extents.now.kept (hlevel (tiling-set)) (λ k. absorb-busy_next (tiling c.args.extents.now.segs.items) c.args.a.0 (cut-of _ _ c.args.a.0 k c.requires.free.named) f.0 f.1 (omega (arith, s, busy)));
+      tiling = ∥∥₁_elim c.args.extents.now.kept (hlevel (tiling-set)) (λ k. absorb-busy_next (tiling c.args.extents.now.segs.items) c.args.a.0 (cut-of _ _ c.args.a.0 k c.requires.free.named) (behind n).0 (behind n).1 (omega (arith, size n, busy)));
       pairs = refl;
     }
 
@@ -63,9 +60,7 @@ pub returns-else-not-is_busy-clause-gaps : goal.returns-else-not-is_busy-clause-
 returns-else-not-is_busy-clause-gaps c =
     let t = tiling c.args.extents.now.segs.items in
     let n = (goal.at.returns-else-not-is_busy-clause-gaps c).After-is_busy in
-    let f = behind n in
-    let s = size n in
-    gaps-unjoined t c.args.a.0 (name-busy _ (next_of t c.args.a.0) f.0 f.1 (let busy = c.is_busy.ensures.0 c.if-not-is_busy.false in omega (arith, s, busy)))
+    gaps-unjoined t c.args.a.0 (name-busy _ (next_of t c.args.a.0) (behind n).0 (behind n).1 (omega (arith, size n, c.is_busy.ensures.0 c.if-not-is_busy.false)))
 
 pub returns-then-not-is_busy-clause-gaps : goal.returns-then-not-is_busy-clause-gaps
 returns-then-not-is_busy-clause-gaps c =

@@ -1,7 +1,6 @@
 use Rattle.vc_base.proofs.Common.{◌≡◌, [], ◌∷◌, ◌++◌, length, Option, sym, ap, ◌∙◌, subst, arith}
-use Rattle.vc_best.proofs.Common.{Addr, HaveRoom, counts_with, extent_of, tiling}
+use Rattle.vc_best.proofs.Common.{Addr, HaveRoom, behind_of, counts_with, extent_of, tiling}
 use Rattle.vc_best.proofs.Counts.{counted-append, room-front, room-rest}
-use Rattle.vc_best.proofs.Layouts.{behind_of}
 use Rattle.vc_best.proofs.Walks.{IsOn, left, left-named, left-next, on-next, start-left, start-named, start-seg}
 use Rattle.vc_best.proofs.stat.count_segment.Goals as goal
 

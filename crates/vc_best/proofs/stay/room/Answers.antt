@@ -15,8 +15,7 @@ behind g c = some-address (place_of c.args.a.0).0 c.in-Some.next.0 (next_of (til
 
 size : (g : Over) (c : After-is_busy g) → (extent_of (tiling c.args.extents.now.segs.items) c.in-Some.next.0).size ≡ (behind g c).0.size
 size g c =
-    let f = behind g c in
-    next-size _ _ c.args.extents.now.kept c.args.a.0 c.requires.named c.in-Some.next.0 f.0 f.1 f.2
+    next-size _ _ c.args.extents.now.kept c.args.a.0 c.requires.named c.in-Some.next.0 (behind g c).0 (behind g c).1 (behind g c).2
 
 span : (g : Over) (c : After-is_busy g) → (extent_of (tiling c.args.extents.now.segs.items) c.in-Some.next.0).span ≡ (behind g c).0.span
 span g c =
@@ -42,9 +41,8 @@ overflow_add-result g c =
 pub returns-then-is_busy : goal.returns-then-is_busy
 returns-then-is_busy g c =
     let n = (goal.at.returns-then-is_busy g c).After-is_busy in
-    let f = behind g n in
     let none : free_bytes (next_of (tiling c.args.extents.now.segs.items) c.args.a.0) ≡ 0 =
-    free-busy (next_of (tiling c.args.extents.now.segs.items) c.args.a.0) f.0 f.1 (let busy = c.is_busy.ensures.0 c.if-is_busy.true in let s = size g n in omega (arith, busy, s)) in
+    free-busy (next_of (tiling c.args.extents.now.segs.items) c.args.a.0) (behind g n).0 (behind g n).1 (omega (arith, c.is_busy.ensures.0 c.if-is_busy.true, size g n)) in
     omega (arith, none, c.span_at-own.ensures.value)
 
 pub returns-else-is_busy : goal.returns-else-is_busy

@@ -1,7 +1,6 @@
 use Rattle.vc_base.proofs.Common.{◌+◌, ◌<◌, ◌≤◌, List, length, Some, Option, option_map, find, sym, ap, ◌∙◌, subst, arith, place_of, place_of_block, holds_byte}
-use Rattle.vc_best.proofs.Common.{Addr, Extent, busy_in, extent_of, tiling}
+use Rattle.vc_best.proofs.Common.{Addr, Extent, behind_of, busy_in, extent_of, tiling}
 use Rattle.vc_best.proofs.AtBytes.{find-here, find-not, not-shown}
-use Rattle.vc_best.proofs.Layouts.{behind_of}
 use Rattle.vc_best.proofs.Walks.{IsOn, left, left-named, left-next, named-own, on-next, start-left, start-named, start-seg}
 use Rattle.vc_best.proofs.walk.extent_with_byte.Goals as goal
 

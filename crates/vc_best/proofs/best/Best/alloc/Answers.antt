@@ -69,9 +69,8 @@ put_in_new-requires-clause-none g c =
 -- they are below 2^32 with the new one
 few : (g : Over) (c : After-fit-least g) → c.args.self.now.busy ≤ 1072693248
 few g c =
-    let all = c.args.self.now.counted in
     let f = blocks-few _ _ c.args.self.now.extents.kept in
-    omega (arith, all, f)
+    omega (arith, c.args.self.now.counted, f)
 
 pub overflow_add-self : goal.overflow_add-self
 overflow_add-self g c = let f = few g (goal.at.overflow_add-self g c).After-fit-least in omega arith
@@ -86,8 +85,7 @@ invariant_of-self g c =
     let h = held n.segs.items n.index.items n.kept w.sizes w.kept.merged in
     let one = put-count (layout_by c.fit-least.new.extents.segs.items) (layout_by n.segs.items) c.args.tag c.args.size (place_of c.put_in_gap-to.result.0) c.put_in_gap-to.ensures.put.layout in
     let old = ap (λ (r : Layout ℕ). length r.blocks) (same g (goal.at.invariant_of-self g c).After-fit-least) in
-    let all = c.args.self.now.counted in
-    record { sound = h.sound; whole = h.whole; merged = h.merged; gaps = ∣ w.kept.gaps ∣₁; counted = omega (arith, one, old, all) }
+    record { sound = h.sound; whole = h.whole; merged = h.merged; gaps = ∣ w.kept.gaps ∣₁; counted = omega (arith, one, old, c.args.self.now.counted) }
 
 -- what the call that may ask leaves
 left : (g : Over) (c : After-put_in_new g) → AreHeld c.put_in_new.new.extents.segs.items
@@ -101,8 +99,7 @@ invariant_of-self-in-Ok g c =
     let h = left g at.After-put_in_new in
     let one : length (layout_by c.put_in_new.new.extents.segs.items).blocks ≡ length (layout_by c.fit-least.new.extents.segs.items).blocks + 1 = c.in-Ok.ensures.put.count in
     let old = ap (λ (r : Layout ℕ). length r.blocks) (same g at.After-fit-least) in
-    let all = c.args.self.now.counted in
-    record { sound = h.sound; whole = h.whole; merged = h.merged; gaps = ∣ c.put_in_new.ensures.whole.kept.gaps ∣₁; counted = omega (arith, one, old, all) }
+    record { sound = h.sound; whole = h.whole; merged = h.merged; gaps = ∣ c.put_in_new.ensures.whole.kept.gaps ∣₁; counted = omega (arith, one, old, c.args.self.now.counted) }
 
 pub invariant_of-self-in-Err-1 : goal.invariant_of-self-in-Err-1
 invariant_of-self-in-Err-1 g c =

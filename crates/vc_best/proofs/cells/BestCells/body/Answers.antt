@@ -8,15 +8,12 @@ size-requires g c = cell-block (layout_of c.args.self.now) c.args.self.now.whole
 
 pub overflow_sub-size : goal.overflow_sub-size
 overflow_sub-size g c =
-    let size = cell-size (layout_of c.args.self.now) c.args.self.now.whole c.args.at.0 32 c.requires c.size.result c.size.ensures in
-    let enough = c.requires.enough in
-    omega (arith, size, enough)
+    omega (arith, cell-size (layout_of c.args.self.now) c.args.self.now.whole c.args.at.0 32 c.requires c.size.result c.size.ensures, c.requires.enough)
 
 pub read-requires : goal.read-requires
 read-requires g c =
     let size = cell-size (layout_of c.args.self.now) c.args.self.now.whole c.args.at.0 32 c.requires c.size.result c.size.ensures in
-    let enough = c.requires.enough in
-    cell-range (layout_of c.args.self.now) c.args.self.now.whole c.args.at.0 32 c.requires 32 (c.size.result - 32) (omega (arith, size, enough))
+    cell-range (layout_of c.args.self.now) c.args.self.now.whole c.args.at.0 32 c.requires 32 (c.size.result - 32) (omega (arith, size, c.requires.enough))
 
 pub returns : goal.returns
 returns g c =
