@@ -79,10 +79,9 @@ placed_in d (Some o) = refl
 pub alone_beside : {all : Layered} {links : Links} {d : ℕ} (back : Bool) (p : ℕ × Addr) (next : Option Addr) (result : Option (ℕ × Addr)) → AreLayers all → IsPath all links d → below links d ≡ None → IsVisible all links d (numbers_of p)
     → option_map number_of next ≡ place_beside back p.1.0 (all.layer d).objects → option_map numbers_of result ≡ option_map (λ a. (d, a)) (option_map number_of next) → Answers result (neighbour back (is_at (numbers_of p)) (visible_of all links d))
 alone_beside {all} {links} {d} back p next result laws path' none seen n r =
-    let objects = (all.layer d).objects in
     r
     ∙ ap (option_map (λ a. (d, a))) n
-    ∙ placed_in d (neighbour back (stands_at p.1.0) objects)
+    ∙ placed_in d (neighbour back (stands_at p.1.0) (all.layer d).objects)
     ∙ ap (option_map place_of) (sym (ap (neighbour back (is_at (numbers_of p))) (visible_alone all links d laws path' none)
-    ∙ ap (λ z. neighbour back (is_at (z, p.1.0)) (objects_of all d)) (dict_here d p.0 p.1.0 objects (seen_alone all links d p laws path' none seen))
-    ∙ neighbour_map back d p.1.0 objects))
+    ∙ ap (λ z. neighbour back (is_at (z, p.1.0)) (objects_of all d)) (dict_here d p.0 p.1.0 (all.layer d).objects (seen_alone all links d p laws path' none seen))
+    ∙ neighbour_map back d p.1.0 (all.layer d).objects))

@@ -105,9 +105,8 @@ before_from rules laws x test before (y ∷ ys) s l h = elim (cases_Bool (is_beh
   | inl t ↦ absurd (true≢false (sym h ∙ both_all rules laws x test (y ∷ ys) l (all_behind_one rules laws x y ys t s)))
   | inr t ↦ elim (cases_Bool (is_before rules (Some x) y)) as (λ _. before_first_from before test (y ∷ ys) ≡ option_or (before_first_from None test (filter (is_level rules x) (y ∷ ys))) (last_from before (filter (is_before rules (Some x)) (y ∷ ys)))) [
     | inl w ↦
-        let apart = before_apart rules laws x y w in
-        let fail = fails (test y) (is_level rules x y) l.0 apart in
-        rw (fail, apart, w) (before_from rules laws x test (Some y) ys s.1 l.1 (rw fail at h))
+        let fail = fails (test y) (is_level rules x y) l.0 (before_apart rules laws x y w) in
+        rw (fail, (before_apart rules laws x y w), w) (before_from rules laws x test (Some y) ys s.1 l.1 (rw fail at h))
     | inr w ↦
         let m : is_level rules x y ≡ true = laws.tied y.bytes x.bytes t w in
         let upper = all-weaken (IsUpto rules y) (IsUpto rules x) ys (λ z g. laws.upto x.bytes y.bytes z.bytes w g) s.0 in

@@ -61,6 +61,9 @@ before_less : (rules : Rules) → AreOrdered rules → (best : Option (Seen ℕ)
 before_less rules laws None x u h g = absurd (true≢false g)
 before_less rules laws (Some a) x u h g = laws.upto x.bytes a.bytes u.bytes (laws.one a.bytes x.bytes h) g
 
+none_upto : (rules : Rules) → AreOrdered rules → (best : Option (Seen ℕ)) (x : Seen ℕ) (xs : List (Seen ℕ)) → is_before rules best x ≡ false → AllByRecursion (IsUpto rules x) xs → NoneBefore rules best xs
+none_upto rules laws best x xs t s = all-weaken (IsUpto rules x) (λ y. is_before rules best y ≡ false) xs (λ y g. before_upto rules laws best x y t g) s
+
 -- the least of a sorted layer, without what is hidden, is its first
 least_layer : (rules : Rules) → AreOrdered rules → (best : Option (Seen ℕ)) (above layer : List (Seen ℕ)) → NoneBefore rules best above → AreSorted rules layer → least rules best (filter (λ o. not (is_hidden rules above o)) layer) ≡ nearer false rules best (first_of layer)
 least_layer rules laws best above [] h s = refl
@@ -71,8 +74,7 @@ least_layer rules laws best above (x ∷ xs) h s =
           let seen : is_hidden rules above x ≡ false = any_none (λ u. is_match rules x.bytes u.bytes) above (all-weaken (λ u. is_before rules best u ≡ false) (λ u. is_match rules x.bytes u.bytes ≡ false) above (λ u g. before_apart rules laws best x u t g) h) in
           rw (seen, t) (least_kept rules (Some x) (filter p xs) (all_filter (IsUpto rules x) p xs s.0))
       | inr t ↦
-          let rest = all-weaken (IsUpto rules x) (λ y. is_before rules best y ≡ false) xs (λ y g. before_upto rules laws best x y t g) s.0 in
-          rw t (least_kept rules best (filter p (x ∷ xs)) (all_filter (λ y. is_before rules best y ≡ false) p (x ∷ xs) (t, rest)))
+          rw t (least_kept rules best (filter p (x ∷ xs)) (all_filter (λ y. is_before rules best y ≡ false) p (x ∷ xs) (t, none_upto rules laws best x xs t s.0)))
     ]
 
 -- and no object of the layer and of those above goes before it
@@ -83,8 +85,7 @@ before_layer rules laws best above (x ∷ xs) h s = elim (cases_Bool (is_before 
       let upper = all-weaken (λ u. is_before rules best u ≡ false) (IsUpto rules x) above (λ u g. before_less rules laws best x u t g) h in
       rw t (all-append (IsUpto rules x) above (x ∷ xs) upper (itself rules laws x, s.0))
   | inr t ↦
-      let rest = all-weaken (IsUpto rules x) (λ y. is_before rules best y ≡ false) xs (λ y g. before_upto rules laws best x y t g) s.0 in
-      rw t (all-append (λ y. is_before rules best y ≡ false) above (x ∷ xs) h (t, rest))
+      rw t (all-append (λ y. is_before rules best y ≡ false) above (x ∷ xs) h (t, none_upto rules laws best x xs t s.0))
 ]
 
 -- the least of the layers is the least of their firsts

@@ -1,5 +1,5 @@
 -- The last object of a dictionary that matches another one, and the neighbours of what has a key among what is seen.
-use Rattle.vc_base.proofs.Common.{◌≡◌, ℕ, ◌<◌, Bool, true, false, cond, List, [], ◌∷◌, ◌++◌, map, length, IsSome, Some, None, filter, Option, option_map, find, is_eq, sym, refl, ap, ◌∙◌, subst, inl, inr, true≢false, append_assoc, arith, cases_Bool, filter-append, none-some, AllByRecursion, list_any, option_or, AreDistinct, is_ordered}
+use Rattle.vc_base.proofs.Common.{◌≡◌, ℕ, ◌<◌, Bool, true, false, cond, List, [], ◌∷◌, ◌++◌, map, length, IsSome, Some, None, filter, Option, option_map, find, is_eq, sym, refl, ap, ◌∙◌, subst, inl, inr, true≢false, cases_Bool, filter-append, none-some, AllByRecursion, list_any, option_or, AreDistinct, is_ordered}
 use Rattle.std.specs.Cmp.{Equal-is}
 use Rattle.std.proofs.lemmas.Cmp.{alike_right, tied_itself}
 use Rattle.vc_base.proofs.Quantifiers.{all-weaken}
@@ -16,7 +16,7 @@ use Rattle.vc_paths.specs.Shown.{IsPlaceIn, objects_from}
 use Rattle.vc_paths.specs.Visible.{Seen, seen_bytes, stacked_objects}
 use Rattle.vc_paths.proofs.EndLemmas.{last-append, last-or, filter-same}
 use Rattle.vc_paths.proofs.OrderLemmas.{all_filter, filter_kept, ordered, tied_keys}
-use Rattle.vc_paths.proofs.PlaceLemmas.{Standing, behind-here, from-first, from-here, place-first, standing, there}
+use Rattle.vc_paths.proofs.PlaceLemmas.{Standing, fewer-left, from-here, left-beside, place-beside, standing, there}
 use Rattle.vc_paths.proofs.SameLemmas.{Agree, Implies, first-same, last-same}
 use Rattle.vc_paths.proofs.SeekLemmas.{alike-rules, path-first}
 use Rattle.vc_paths.proofs.SightLemmas.{IsThere, all-found, all-last, at-itself, one-there, visible-there}
@@ -37,22 +37,13 @@ or-twice (Some x) a b = refl
 
 -- the rest behind an object, and its place
 pub rest-behind : (objects : List Object) (at : ℕ) (s : Standing objects at) → AreDistinct (map (λ o. o.at) objects) → objects_from (place_behind at objects) objects ≡ s.behind
-rest-behind objects at s d =
-    let whole : objects ≡ (s.before ++ s.one ∷ []) ++ s.behind = s.whole ∙ sym (append_assoc s.before (s.one ∷ []) s.behind) in
-    ap (λ z. objects_from z objects) (behind-here objects at s)
-    ∙ ap (objects_from (place_in (first_of s.behind))) whole
-    ∙ from-first (s.before ++ s.one ∷ []) s.behind (subst (λ z. AreDistinct (map (λ o. o.at) z)) whole d)
+rest-behind objects at s d = left-beside d s false refl
 
 pub place-behind : (objects : List Object) (at : ℕ) → AreDistinct (map (λ o. o.at) objects) → IsSome (bytes_there at objects) → IsPlaceIn objects (place_behind at objects)
-place-behind objects at d h =
-    let s = standing objects at d h in
-    let whole : objects ≡ (s.before ++ s.one ∷ []) ++ s.behind = s.whole ∙ sym (append_assoc s.before (s.one ∷ []) s.behind) in
-    subst (IsPlaceIn objects) (sym (behind-here objects at s)) (subst (λ z. IsPlaceIn z (place_in (first_of s.behind))) (sym whole) (place-first (s.before ++ s.one ∷ []) s.behind))
+place-behind objects at d h = place-beside false (standing objects at d h) refl
 
 pub shorter-behind : (objects : List Object) (at : ℕ) → AreDistinct (map (λ o. o.at) objects) → IsSome (bytes_there at objects) → length (objects_from (place_behind at objects) objects) < length (objects_from (Some at) objects)
-shorter-behind objects at d h =
-    let s = standing objects at d h in
-    omega (arith, ap length (rest-behind objects at s d), ap length (from-here objects at s))
+shorter-behind objects at d h = fewer-left d (standing objects at d h) false refl
 
 -- from an object on that passes
 passing-from : (test : Object → Bool) (x : Object) (xs : List Object) → test x ≡ true → place_in (last_of (filter test (x ∷ xs))) ≡ option_or (place_in (last_of (filter test xs))) (Some x.at)

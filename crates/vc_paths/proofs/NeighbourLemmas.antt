@@ -298,12 +298,11 @@ pub neighbour_found : {all : Layered} {links : Links} {d : ℕ} (back : Bool) (p
     → option_map number_of next ≡ place_beside back p.1.0 (all.layer p.0).objects → near ≡ if_level (all.layer p.0).rules (object_there all p) (object_at all (place_in_dict p.0 next))
     → neighbour back (is_at (numbers_of p)) (visible_of all links d) ≡ option_or near (end_of back (filter (is_past back (all.layer d).rules (object_there all p)) (visible_of all links d)))
 neighbour_found {all} {links} {d} back p next {near} laws on visible' n e =
-    let rules = (all.layer d).rules in
     let v = visited_at all links d p laws on.path on.method visible' in
     let beside = (beside_shown back next laws v.stands n).object ∙ sym (neighbour_map back p.0 p.1.0 (all.layer p.0).objects) in
-    neighbour_among back rules all p v.one (visible_of all links d) v.visited
-    ∙ ap (λ z. option_or z (end_of back (filter (is_past back rules (Some v.one)) (visible_of all links d)))) (sym (e ∙ v.beside (object_at all (place_in_dict p.0 next)) ∙ ap (if_level rules (Some v.one)) beside))
-    ∙ ap (λ z. option_or near (end_of back (filter (is_past back rules z) (visible_of all links d)))) (sym v.is)
+    neighbour_among back (all.layer d).rules all p v.one (visible_of all links d) v.visited
+    ∙ ap (λ z. option_or z (end_of back (filter (is_past back (all.layer d).rules (Some v.one)) (visible_of all links d)))) (sym (e ∙ v.beside (object_at all (place_in_dict p.0 next)) ∙ ap (if_level (all.layer d).rules (Some v.one)) beside))
+    ∙ ap (λ z. option_or near (end_of back (filter (is_past back (all.layer d).rules z) (visible_of all links d)))) (sym v.is)
 
 -- a place that stands is the answer where it comes first
 some_answer : (d : ℕ) (at : Addr) (o : Option (List ℕ)) (rest : Option (Seen ℕ)) → is_some o ≡ true → Some (d, at.0) ≡ option_map place_of (option_or (option_map (λ (bytes : List ℕ). seen_in d (record { at = at.0; bytes = bytes })) o) rest)

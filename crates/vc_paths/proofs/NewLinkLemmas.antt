@@ -96,8 +96,7 @@ any-none test first zero x h l m = absurd (omega (arith, l, m))
 any-none test first (suc more) x h l m = elim (eqb_tells first x) as (λ _. test x ≡ false) [
   | inl same ↦ subst (λ z. test z ≡ false) same.1 (or_parts (test first) (list_any test (numbers_from (suc first) more)) h).0
   | inr apart ↦
-      let ne = apart.1 in
-      any-none test (suc first) more x (or_parts (test first) (list_any test (numbers_from (suc first) more)) h).1 (omega (arith, ne, l)) (omega (arith, m))
+      any-none test (suc first) more x (or_parts (test first) (list_any test (numbers_from (suc first) more)) h).1 (omega (arith, apart.1, l)) (omega (arith, m))
 ]
 
 pub none-any : (test : ℕ → Bool) (first more : ℕ) → ((x : ℕ) → first ≤ x → x < first + more → test x ≡ false) → list_any test (numbers_from first more) ≡ false
@@ -110,8 +109,7 @@ some-any test first zero x h l m = absurd (omega (arith, l, m))
 some-any test first (suc more) x h l m = elim (eqb_tells first x) as (λ _. list_any test (numbers_from first (suc more)) ≡ true) [
   | inl same ↦ rw (ap test same.1 ∙ h) refl
   | inr apart ↦
-      let ne = apart.1 in
-      or_right (test first) (list_any test (numbers_from (suc first) more)) (some-any test (suc first) more x h (omega (arith, ne, l)) (omega (arith, m)))
+      or_right (test first) (list_any test (numbers_from (suc first) more)) (some-any test (suc first) more x h (omega (arith, apart.1, l)) (omega (arith, m)))
 ]
 
 -- with another link where no path is too long

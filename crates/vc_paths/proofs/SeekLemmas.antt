@@ -122,9 +122,8 @@ some-there (Some o) more p h = h
 pub IsSought-found : {all now : Layered} {links : Links} {d e a : ℕ} {key : List ℕ} {at : Option ℕ} → AreLayers all → IsPath all links d → ArePaths links → at ≡ Some e → IsSought all links d key at
     → Same all now → Some a ≡ place_with (now.layer e).rules key (now.layer e).objects → Some (e, a) ≡ option_map place_of (find (has_key_in all d key) (visible_of all links d))
 IsSought-found {all} {now} {links} {d} {e} {a} {key} lawful path p is s same hit =
-    let test = has_key_in all d key in
-    sym (ap (option_map place_of) (sym s.found ∙ ap (found_along all test) (down-on p is refl))
-    ∙ some-there (find test (objects_of all e)) (found_along all test (down links (below links e))) (e, a) (found-here key lawful path (on-head p is s.on) same hit))
+    sym (ap (option_map place_of) (sym s.found ∙ ap (found_along all (has_key_in all d key)) (down-on p is refl))
+    ∙ some-there (find (has_key_in all d key) (objects_of all e)) (found_along all (has_key_in all d key) (down links (below links e))) (e, a) (found-here key lawful path (on-head p is s.on) same hit))
 
 pub IsSought-end : {all : Layered} {links : Links} {d : ℕ} {key : List ℕ} {at : Option ℕ} → at ≡ None → IsSought all links d key at → ◌≡◌ {A = Option (ℕ × ℕ)} None (option_map place_of (find (has_key_in all d key) (visible_of all links d)))
 IsSought-end {all} {links} {d} {key} is s =

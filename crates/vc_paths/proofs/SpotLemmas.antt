@@ -47,9 +47,8 @@ any-apart e a u (x ∷ xs) h = ap (λ z. (z && eqb x.at a) || list_any (is_place
 apart-none : (e a : ℕ) (objects : ℕ → List Object) (us : List ℕ) → contains us e ≡ false → list_any (is_place (e, a)) (flat_map (λ u. places u (objects u)) us) ≡ false
 apart-none e a objects [] h = refl
 apart-none e a objects (u ∷ us) h =
-    let w = or_parts (eqb u e) (contains us e) h in
     list_any-append (is_place (e, a)) (places u (objects u)) (flat_map (λ x. places x (objects x)) us)
-    ∙ or_from (list_any (is_place (e, a)) (places u (objects u))) (list_any (is_place (e, a)) (flat_map (λ x. places x (objects x)) us)) (any-apart e a u (objects u) w.0) (apart-none e a objects us w.1)
+    ∙ or_from (list_any (is_place (e, a)) (places u (objects u))) (list_any (is_place (e, a)) (flat_map (λ x. places x (objects x)) us)) (any-apart e a u (objects u) (or_parts (eqb u e) (contains us e) h).0) (apart-none e a objects us (or_parts (eqb u e) (contains us e) h).1)
 
 -- the numbers before one that stands in just one place
 above-at : (e : ℕ) (upper lower : List ℕ) → contains upper e ≡ false → above (Some e) (upper ++ e ∷ lower) ≡ upper

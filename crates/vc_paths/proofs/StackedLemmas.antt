@@ -64,10 +64,9 @@ hidden-key rules key above o lawful h =
 pub stacked-hidden : {N : Type 0} (rules : Rules) (key : List ℕ) (above : List (Seen N)) (layers : List (List (Seen N))) → AreLawful rules → list_any (with_key rules key) above ≡ true → filter (with_key rules key) (stacked_objects rules above layers) ≡ []
 stacked-hidden rules key above [] lawful h = refl
 stacked-hidden rules key above (xs ∷ lower) lawful h =
-    let t = with_key rules key in
-    filter-append t (filter (λ o. not (is_hidden rules above o)) xs) (stacked_objects rules (above ++ xs) lower)
-    ∙ ap (λ z. z ++ filter t (stacked_objects rules (above ++ xs) lower)) (filter-apart t (λ o. not (is_hidden rules above o)) xs (λ o k. not_from_true (is_hidden rules above o) (hidden-key rules key above o lawful k ∙ h)))
-    ∙ stacked-hidden rules key (above ++ xs) lower lawful (list_any-append t above xs ∙ or_left (list_any t above) (list_any t xs) h)
+    filter-append (with_key rules key) (filter (λ o. not (is_hidden rules above o)) xs) (stacked_objects rules (above ++ xs) lower)
+    ∙ ap (λ z. z ++ filter (with_key rules key) (stacked_objects rules (above ++ xs) lower)) (filter-apart (with_key rules key) (λ o. not (is_hidden rules above o)) xs (λ o k. not_from_true (is_hidden rules above o) (hidden-key rules key above o lawful k ∙ h)))
+    ∙ stacked-hidden rules key (above ++ xs) lower lawful (list_any-append (with_key rules key) above xs ∙ or_left (list_any (with_key rules key) above) (list_any (with_key rules key) xs) h)
 
 -- behind layers of which none has it, those that have it are those of the first layer that has some
 pub stacked-having : {N : Type 0} (rules : Rules) (key : List ℕ) (above : List (Seen N)) (layers : List (List (Seen N))) → AreLawful rules → list_any (with_key rules key) above ≡ false → filter (with_key rules key) (stacked_objects rules above layers) ≡ filter (with_key rules key) (first_having (with_key rules key) layers)
@@ -91,5 +90,4 @@ stacked-key rules key layers lawful = stacked-having rules key [] layers lawful 
 -- so what is found there is what that layer finds
 pub stacked-found : {N : Type 0} (rules : Rules) (key : List ℕ) (layers : List (List (Seen N))) → AreLawful rules → find (with_key rules key) (stacked_objects rules [] layers) ≡ find (with_key rules key) (first_having (with_key rules key) layers)
 stacked-found rules key layers lawful =
-    let t = with_key rules key in
-    find-filter t (stacked_objects rules [] layers) ∙ ap first_of (stacked-key rules key layers lawful) ∙ sym (find-filter t (first_having t layers))
+    find-filter (with_key rules key) (stacked_objects rules [] layers) ∙ ap first_of (stacked-key rules key layers lawful) ∙ sym (find-filter (with_key rules key) (first_having (with_key rules key) layers))

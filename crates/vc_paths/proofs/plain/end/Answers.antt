@@ -35,7 +35,6 @@ returns-then-back-clause-found g c =
 
 pub returns-else-back-clause-found : goal.returns-else-back-clause-found
 returns-else-back-clause-found g c =
-    let shows = flat_map (shown_in (g.Y.Layers.layered c.args.layers.now) c.args.paths.now c.args.d) in
     c.first_below.ensures.found
-    ∙ ap (λ z. end_of z (shows (down c.args.paths.now (Some c.args.d)))) (sym c.if-back.false)
+    ∙ ap (λ z. end_of z ((flat_map (shown_in (g.Y.Layers.layered c.args.layers.now) c.args.paths.now c.args.d)) (down c.args.paths.now (Some c.args.d)))) (sym c.if-back.false)
     ∙ visible g (goal.at.returns-else-back-clause-found g c).After-show_invariant

@@ -29,19 +29,17 @@ loop-layer-init g c = record {
 
 pub end_in-found-requires : goal.end_in-found-requires
 end_in-found-requires g c =
-    let i = c.loop-layer.invariant in
-    record { path = on-kept i.same c.requires.path; other = alike-kept i.same (on-head c.show_invariant.ensures c.in-Some.is i.path) }
+    record { path = on-kept c.loop-layer.invariant.same c.requires.path; other = alike-kept c.loop-layer.invariant.same (on-head c.show_invariant.ensures c.in-Some.is c.loop-layer.invariant.path) }
 
 pub returns-then-is_some : goal.returns-then-is_some
 returns-then-is_some g c =
-    let i = c.loop-layer.invariant in
     let after = (goal.at.returns-then-is_some g c).After-end_in-found in
     let some = is_some-map numbers_of c.end_in-found.result ∙ sym c.is_some.ensures ∙ c.if-is_some.true in
     let shows = shown_in (g.Y.Layers.layered c.args.layers.now) c.args.paths.now c.args.d in
     record {
-      found = below-found shows c.show_invariant.ensures c.in-Some.is (first g after) some ∙ sym i.answer;
+      found = below-found shows c.show_invariant.ensures c.in-Some.is (first g after) some ∙ sym c.loop-layer.invariant.answer;
       unchanged = record {
-        layers = same-over i.same c.end_in-found.ensures.unchanged.layers;
+        layers = same-over c.loop-layer.invariant.same c.end_in-found.ensures.unchanged.layers;
         stays = stays g after;
       };
     }
@@ -54,25 +52,23 @@ loop-layer-smaller g c = down-next c.show_invariant.ensures c.in-Some.is c.below
 
 pub loop-layer-preserved : goal.loop-layer-preserved
 loop-layer-preserved g c =
-    let i = c.loop-layer.invariant in
     let paths = c.show_invariant.ensures in
     let after = (goal.at.loop-layer-preserved g c).After-end_in-found in
     let none = is_some-map numbers_of c.end_in-found.result ∙ sym c.is_some.ensures ∙ c.if-is_some.false in
     record {
-      same = same-over i.same c.end_in-found.ensures.unchanged.layers;
+      same = same-over c.loop-layer.invariant.same c.end_in-found.ensures.unchanged.layers;
       stays = stays g after;
-      path = on-next paths c.in-Some.is c.below-layer.ensures i.path;
-      answer = i.answer
+      path = on-next paths c.in-Some.is c.below-layer.ensures c.loop-layer.invariant.path;
+      answer = c.loop-layer.invariant.answer
           ∙ below-past (shown_in (g.Y.Layers.layered c.args.layers.now) c.args.paths.now c.args.d) paths c.in-Some.is c.below-layer.ensures (first g after) none;
     }
 
 pub returns : goal.returns
 returns g c =
-    let i = c.loop-layer.invariant in
     record {
-      found = below-end (shown_in (g.Y.Layers.layered c.args.layers.now) c.args.paths.now c.args.d) c.show_invariant.ensures c.in_default.is ∙ sym i.answer;
+      found = below-end (shown_in (g.Y.Layers.layered c.args.layers.now) c.args.paths.now c.args.d) c.show_invariant.ensures c.in_default.is ∙ sym c.loop-layer.invariant.answer;
       unchanged = record {
-        layers = i.same;
-        stays = i.stays;
+        layers = c.loop-layer.invariant.same;
+        stays = c.loop-layer.invariant.stays;
       };
     }

@@ -13,10 +13,8 @@ matched : (g : Over) (c : After-has_like g) (bytes : List ℕ)
     → bytes_there c.args.at.0 ((g.Y.Layers.layered c.args.layers.now).layer c.args.e).objects ≡ Some bytes
     → has_match (g.Y.Layers.layered c.args.layers.now) c.args.d bytes c.in-Some.u ≡ c.has_like.result
 matched g c =
-    let i = c.loop-upper.invariant in
-    let paths = c.show_invariant.ensures in
-    match-told c.args.e c.args.at.0 i.same (g.met.Y.Layers.lawful c.args.layers.now)
-    (on-head paths refl c.requires.layer.path) (on-head paths c.in-Some.is i.path) c.has_like.ensures.found
+    match-told c.args.e c.args.at.0 c.loop-upper.invariant.same (g.met.Y.Layers.lawful c.args.layers.now)
+    (on-head c.show_invariant.ensures refl c.requires.layer.path) (on-head c.show_invariant.ensures c.in-Some.is c.loop-upper.invariant.path) c.has_like.ensures.found
 
 pub loop-upper-init : goal.loop-upper-init
 loop-upper-init g c =
@@ -35,8 +33,7 @@ returns-then-e-u-clause-hidden g c = λ bytes there.
 
 pub has_like-requires-clause-upper : goal.has_like-requires-clause-upper
 has_like-requires-clause-upper g c =
-    let i = c.loop-upper.invariant in
-    i.same.has c.in-Some.u (on-head c.show_invariant.ensures c.in-Some.is i.path).there
+    c.loop-upper.invariant.same.has c.in-Some.u (on-head c.show_invariant.ensures c.in-Some.is c.loop-upper.invariant.path).there
 
 pub has_like-requires-clause-kinds : goal.has_like-requires-clause-kinds
 has_like-requires-clause-kinds g c =
@@ -54,16 +51,14 @@ loop-upper-smaller g c = down-next c.show_invariant.ensures c.in-Some.is c.below
 
 pub loop-upper-preserved : goal.loop-upper-preserved
 loop-upper-preserved g c =
-    let i = c.loop-upper.invariant in
-    let paths = c.show_invariant.ensures in
     record {
-      same = same-over i.same c.has_like.ensures.unchanged.layers;
-      stays = g.met.Y.Layers.transitive c.args.layers.now c.loop-upper.layers c.has_like.new.layers i.stays c.has_like.ensures.unchanged.stays;
-      path = on-next paths c.in-Some.is c.below-upper.ensures i.path;
+      same = same-over c.loop-upper.invariant.same c.has_like.ensures.unchanged.layers;
+      stays = g.met.Y.Layers.transitive c.args.layers.now c.loop-upper.layers c.has_like.new.layers c.loop-upper.invariant.stays c.has_like.ensures.unchanged.stays;
+      path = on-next c.show_invariant.ensures c.in-Some.is c.below-upper.ensures c.loop-upper.invariant.path;
       answer = λ bytes there.
           let none = matched g (goal.at.loop-upper-preserved g c).After-has_like bytes there ∙ c.if-has_like.false in
           let likes = has_match (g.Y.Layers.layered c.args.layers.now) c.args.d bytes in
-          i.answer bytes there ∙ cover-less likes paths c.args.e c.in-Some.is c.if-e-u.false c.below-upper.ensures none;
+          c.loop-upper.invariant.answer bytes there ∙ cover-less likes c.show_invariant.ensures c.args.e c.in-Some.is c.if-e-u.false c.below-upper.ensures none;
     }
 
 pub returns-clause-hidden : goal.returns-clause-hidden

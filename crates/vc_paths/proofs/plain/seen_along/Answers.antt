@@ -39,11 +39,10 @@ is_hidden-requires g c =
 pub returns-then-not-is_hidden : goal.returns-then-not-is_hidden
 returns-then-not-is_hidden g c =
     let after = (goal.at.returns-then-not-is_hidden g c).After-is_hidden in
-    let w = here g after in
     record {
-      found = end-seen w c.args.back c.if-not-is_hidden.true ∙ sym (ap place_in c.loop-here.invariant.answer);
+      found = end-seen (here g after) c.args.back c.if-not-is_hidden.true ∙ sym (ap place_in c.loop-here.invariant.answer);
       unchanged = record {
-        layers = w.same;
+        layers = (here g after).same;
         stays = stays g after;
       };
     }
@@ -69,12 +68,11 @@ loop-here-preserved g c =
 
 pub returns : goal.returns
 returns g c =
-    let i = c.loop-here.invariant in
     record {
       found = end-none c.args.back (g.Y.Layers.layered c.args.layers.now) c.args.paths.now c.args.d c.args.e (ap (option_map number_of) c.in_default.is)
-          ∙ sym (ap place_in i.answer);
+          ∙ sym (ap place_in c.loop-here.invariant.answer);
       unchanged = record {
-        layers = i.same;
-        stays = i.stays;
+        layers = c.loop-here.invariant.same;
+        stays = c.loop-here.invariant.stays;
       };
     }

@@ -42,10 +42,9 @@ returns-in-Some-clause-found g c =
 pub returns-then-back-clause-found : goal.returns-then-back-clause-found
 returns-then-back-clause-found g c =
     let s = here g (goal.at.returns-then-back-clause-found g c).After-show_invariant in
-    let shows = shown_in (g.Y.Layers.layered c.args.layers.now) c.args.paths.now c.args.d in
     c.last_above.ensures.found
     ∙ ap (λ z. last_of (flat_map z (onward s true))) (shown-kept c.args.paths.now c.args.d c.seen_along.ensures.unchanged.layers)
-    ∙ ap (λ z. end_of z (flat_map shows (onward s z))) (sym c.if-back.true)
+    ∙ ap (λ z. end_of z (flat_map (shown_in (g.Y.Layers.layered c.args.layers.now) c.args.paths.now c.args.d) (onward s z))) (sym c.if-back.true)
     ∙ sym (walked s c.args.back c.beside-start.ensures (sym (ap (option_map number_of) c.in-None.is) ∙ c.seen_along.ensures.found))
 
 pub returns-else-back-clause-found : goal.returns-else-back-clause-found

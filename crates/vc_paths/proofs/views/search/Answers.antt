@@ -12,13 +12,11 @@ loop-at-init g c = record {
 
 pub find-requires : goal.find-requires
 find-requires g c =
-    let i = c.loop-at.invariant in
-    i.layers.has c.in-Some.e (on-head c.show_invariant.ensures c.in-Some.is i.sought.on).there
+    c.loop-at.invariant.layers.has c.in-Some.e (on-head c.show_invariant.ensures c.in-Some.is c.loop-at.invariant.sought.on).there
 
 pub returns-in-Some-find-clause-found : goal.returns-in-Some-find-clause-found
 returns-in-Some-find-clause-found g c =
-    let i = c.loop-at.invariant in
-    IsSought-found (g.met.Y.Layers.lawful c.args.layers.now) c.requires c.show_invariant.ensures c.in-Some.is i.sought i.layers c.in-Some-find.ensures.found
+    IsSought-found (g.met.Y.Layers.lawful c.args.layers.now) c.requires c.show_invariant.ensures c.in-Some.is c.loop-at.invariant.sought c.loop-at.invariant.layers c.in-Some-find.ensures.found
 
 pub below-at-requires : goal.below-at-requires
 below-at-requires g c = c.loop-at.invariant.sought.on.number c.in-Some.e c.in-Some.is
@@ -28,12 +26,11 @@ loop-at-smaller g c = down-next c.show_invariant.ensures c.in-Some.is c.below-at
 
 pub loop-at-preserved : goal.loop-at-preserved
 loop-at-preserved g c =
-    let i = c.loop-at.invariant in
     let laws = g.met.Y.Layers.lawful c.args.layers.now in
     record {
-      layers = same-over i.layers c.find.ensures.layers;
-      stays = g.met.Y.Layers.transitive c.args.layers.now c.loop-at.layers c.find.new.self i.stays c.find.ensures.stays;
-      sought = IsSought-next laws c.requires c.show_invariant.ensures c.in-Some.is c.below-at.ensures i.sought i.layers c.in_default-find.ensures.found;
+      layers = same-over c.loop-at.invariant.layers c.find.ensures.layers;
+      stays = g.met.Y.Layers.transitive c.args.layers.now c.loop-at.layers c.find.new.self c.loop-at.invariant.stays c.find.ensures.stays;
+      sought = IsSought-next laws c.requires c.show_invariant.ensures c.in-Some.is c.below-at.ensures c.loop-at.invariant.sought c.loop-at.invariant.layers c.in_default-find.ensures.found;
     }
 
 pub returns-clause-found : goal.returns-clause-found
