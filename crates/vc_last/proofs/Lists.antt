@@ -1,5 +1,5 @@
 -- Lists by their last item.
-use Rattle.vc_base.proofs.Common.{◌≡◌, ◌-◌, List, [], ◌∷◌, ◌++◌, map, length, get_or, slice_get, Some, None, All, Option, option_map, remove, AllPairs, refl, ap, ◌∙◌, subst, arith, All-cons, All-head, All-nil, All-tail, get_or_append_left, length_push, none-some, same_Some}
+use Rattle.vc_base.proofs.Common.{◌≡◌, ℕ, ◌-◌, List, [], ◌∷◌, ◌++◌, map, length, get_or, slice_get, Some, None, All, Option, option_map, remove, AllPairs, refl, ap, ◌∙◌, subst, arith, All-cons, All-head, All-nil, All-tail, get_or_append_left, length_push, none-some, same_Some}
 use Rattle.std.specs.List.{last_or}
 use Rattle.vc_model.specs.Last.{last_of}
 use Rattle.vc_model.proofs.Pairs.{AllPairs-head, AllPairs-tail}
@@ -69,3 +69,10 @@ last_or-push o (y ∷ ys) x = last_or-push (Some y) ys x
 
 pub last_of-push : {A : Type 0} (xs : List A) (x : A) → last_of (xs ++ x ∷ []) ≡ Some x
 last_of-push xs x = last_or-push None xs x
+
+-- a pair of numbers by its parts
+abbrev pub some_pair : ℕ → ℕ → Option (ℕ × ℕ)
+some_pair m k = Some (m, k)
+
+pub pair : (m n k l : ℕ) → m ≡ n → k ≡ l → some_pair m k ≡ some_pair n l
+pair m n k l e f = λ i. some_pair (e i) (f i)

@@ -46,7 +46,7 @@ fn add_segment(
 
     ensures lent { IfOk result (λ n. IsLent (state disc.old).terms n bytes segs.old.items segs.new.items) }
     ensures segments { AreSegments segs.new.items }
-    ensures room { vec_capacity segs.new ≡ vec_capacity segs.old }
+    ensures room { 1023 ≤ vec_capacity segs.new }
 
     ensures fault { IfErr result (IsNoGrant (state disc.old).terms bytes (map pair_of segs.old.items)) }
     ensures may { IsErrOf result RegionFault.OutOfMemory

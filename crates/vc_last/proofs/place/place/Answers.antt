@@ -2,16 +2,11 @@ use Rattle.vc_base.proofs.Common.{◌≡◌, ℕ, length, Some, None, Option, op
 use Rattle.vc_model.specs.Last.{place_behind_latest}
 use Rattle.vc_seg.specs.Segment.{pair_of}
 use Rattle.vc_last.specs.Read.{layout_by}
+use Rattle.vc_last.proofs.Lists.{pair}
 use Rattle.vc_last.proofs.Newest.{newest-last}
 use Rattle.vc_last.proofs.Places.{place-none, place-some}
 use Rattle.vc_last.proofs.place.place.Goals as goal
 use Rattle.vc_last.proofs.place.place.Goals.{After-number-number}
-
-abbrev some_pair : ℕ → ℕ → Option (ℕ × ℕ)
-some_pair m k = Some (m, k)
-
-pair : (m n k l : ℕ) → m ≡ n → k ≡ l → some_pair m k ≡ some_pair n l
-pair m n k l e f = λ i. some_pair (e i) (f i)
 
 is : (c : After-number-number) → newest (layout_by c.args.segs.now c.args.latest.0) ≡ Some (pair_of c.in_ok-newest.newest.now)
 is c =

@@ -1,15 +1,10 @@
 use Rattle.vc_base.proofs.Common.{◌≡◌, ℕ, ◌-◌, Some, None, Option, option_map, find, sym, ap, ◌∙◌, place_of, Block, address_of, holds_byte}
 use Rattle.vc_last.specs.Chain.{blocks_from}
 use Rattle.vc_last.specs.Head.{block_of}
+use Rattle.vc_last.proofs.Lists.{pair}
 use Rattle.vc_last.proofs.Chains.{latest-some, latest-head}
 use Rattle.vc_last.proofs.Walks.{block-is, find-among, find-end, find-here, find-step, shorter, rest-kept}
 use Rattle.vc_last.proofs.walk.block_in.Goals as goal
-
-abbrev some_pair : ℕ → ℕ → Option (ℕ × ℕ)
-some_pair m k = Some (m, k)
-
-pair : (m n k l : ℕ) → m ≡ n → k ≡ l → some_pair m k ≡ some_pair n l
-pair m n k l e f = λ i. some_pair (e i) (f i)
 
 pub holds-requires : goal.holds-requires
 holds-requires c = latest-head c.args.segs.now c.loop-at.at.0 c.loop-at-test.true c.loop-at.invariant.kept
