@@ -1,10 +1,9 @@
 -- Blocks stay where a segment is added, and where those without blocks go.
-use Rattle.vc_base.proofs.Common.{◌≡◌, ℕ, ◌+◌, ◌-◌, ◌*◌, ◌/◌, ◌<◌, ◌≤◌, Bool, true, false, cond, eqb, ◌≢◌, List, [], ◌∷◌, ◌++◌, length, get_or, take, drop, All, filter, sym, refl, ap, ◌∙◌, subst, ⊎_elim, arith, eq-eqb, ne_eqb, cases_Bool, cases_eq, All-head, All-tail, list_any_at, is_occupied, Block, address_of, span}
+use Rattle.vc_base.proofs.Common.{◌≡◌, ℕ, ◌+◌, ◌*◌, ◌/◌, ◌<◌, Bool, true, false, cond, eqb, ◌≢◌, List, [], ◌∷◌, ◌++◌, length, get_or, All, filter, sym, refl, ap, ◌∙◌, subst, ⊎_elim, arith, eq-eqb, ne_eqb, cases_Bool, cases_eq, All-head, All-tail, list_any_at, is_occupied, Block, address_of}
 use Rattle.vc_seg.specs.Segment.{AreSegments, Bytes}
 use Rattle.vc_seg.proofs.Backs.{AreSegments-filter}
 use Rattle.vc_seg.specs.Memory.{bytes_of_number}
 use Rattle.vc_seg.proofs.BytesByNumber.{bytes_of_number-append}
-use Rattle.vc_seg.specs.Field.{field_at}
 use Rattle.vc_extent.specs.Tiling.{index_from}
 use Rattle.vc_last.specs.Head.{HasHead}
 use Rattle.vc_last.specs.Chain.{IsChain, IsLastOf, rank}

@@ -1,4 +1,4 @@
-use Rattle.vc_base.proofs.Common.{◌≡◌, ℕ, ◌+◌, ◌-◌, ◌<◌, ◌≤◌, List, length, take, drop, replicate, refl, ap, ◌∙◌, subst, arith, length-replicate, places, same_lists, with_bytes, fitted_bytes}
+use Rattle.vc_base.proofs.Common.{◌≡◌, ℕ, ◌+◌, ◌-◌, ◌<◌, ◌≤◌, List, length, take, drop, replicate, ap, ◌∙◌, subst, arith, length-replicate, places, same_lists, with_bytes, fitted_bytes}
 use Rattle.vc_seg.specs.Frame.{StaysOutside}
 use Rattle.vc_seg.proofs.Frames.{stays-written, wider}
 use Rattle.vc_last.proofs.head.zero_behind.Goals as goal
@@ -24,6 +24,3 @@ returns-then-size-old-clause-rest c =
 
 pub returns-else-size-old-clause-bytes : goal.returns-else-size-old-clause-bytes
 returns-else-size-old-clause-bytes c = cut c.args.off c.args.old c.args.size c.args.seg.now.bytes c.if-size-old.false c.requires.before
-
-pub returns-else-size-old-clause-rest : goal.returns-else-size-old-clause-rest
-returns-else-size-old-clause-rest c = record { number = refl; len = refl; below = refl; above = refl }

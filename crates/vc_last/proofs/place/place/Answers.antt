@@ -1,4 +1,4 @@
-use Rattle.vc_base.proofs.Common.{◌≡◌, ℕ, length, Some, None, Option, option_map, option_copied, sym, ap, ◌∙◌, arith, newest}
+use Rattle.vc_base.proofs.Common.{◌≡◌, ℕ, length, Some, None, option_map, option_copied, sym, ap, ◌∙◌, arith, newest}
 use Rattle.vc_model.specs.Last.{place_behind_latest}
 use Rattle.vc_seg.specs.Segment.{pair_of}
 use Rattle.vc_last.specs.Read.{layout_by}

@@ -53,6 +53,3 @@ returns-clause-layout c =
 pub returns-clause-fresh : goal.returns-clause-fresh
 returns-clause-fresh c =
     place-fresh (layout_by c.args.segs.now.items c.args.latest.0) c.args.size (c.args.seg, c.args.off) c.requires.some c.requires.place (row-by c.args.segs.now.items c.args.latest.0 c.requires.kept.last) c.new.result.0 c.new.ensures.place
-
-pub returns-clause-at : goal.returns-clause-at
-returns-clause-at c = record { address = c.new.ensures.value; place = c.new.ensures.place }

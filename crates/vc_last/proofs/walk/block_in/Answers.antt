@@ -1,4 +1,4 @@
-use Rattle.vc_base.proofs.Common.{◌≡◌, ℕ, ◌-◌, Some, None, Option, option_map, find, sym, ap, ◌∙◌, place_of, Block, address_of, holds_byte}
+use Rattle.vc_base.proofs.Common.{ℕ, ◌-◌, Some, None, option_map, find, sym, ap, ◌∙◌, place_of, Block, address_of, holds_byte}
 use Rattle.vc_last.specs.Chain.{blocks_from}
 use Rattle.vc_last.specs.Head.{block_of}
 use Rattle.vc_last.proofs.Lists.{pair}

@@ -15,12 +15,3 @@ invariant_of-self g c =
 
 pub returns-clause-put : goal.returns-clause-put
 returns-clause-put g c = put-alloc _ (layout_by c.args.self.now.segs.items c.args.self.now.latest.0) (layout_by c.alloc_in.new.segs.items c.alloc_in.new.latest.0) c.args.tag c.args.size c.alloc_in.result c.alloc_in.ensures.alloc.answer c.alloc_in.ensures.alloc.fresh
-
-pub returns-clause-answer : goal.returns-clause-answer
-returns-clause-answer g c = c.alloc_in.ensures.alloc.answer
-
-pub returns-clause-disc : goal.returns-clause-disc
-returns-clause-disc g c = c.alloc_in.ensures.alloc.disc
-
-pub returns-clause-no_memory : goal.returns-clause-no_memory
-returns-clause-no_memory g c = c.alloc_in.ensures.alloc.no_memory

@@ -10,15 +10,3 @@ pub invariant_of-self : goal.invariant_of-self
 invariant_of-self g c =
     let kept = ∥∥₁_map c.args.self.now.kept (λ (k : IsLast c.args.self.now.segs.items c.args.self.now.latest.0). c.resize_in.ensures.kept.last) in
     record { kept = kept; reserved = c.resize_in.ensures.kept.room; sound = have-sound c.resize_in.new.segs.items c.resize_in.new.at.0 kept }
-
-pub returns-clause-answer : goal.returns-clause-answer
-returns-clause-answer g c = c.resize_in.ensures.resize.answer
-
-pub returns-clause-disc : goal.returns-clause-disc
-returns-clause-disc g c = c.resize_in.ensures.resize.disc
-
-pub returns-clause-no_memory : goal.returns-clause-no_memory
-returns-clause-no_memory g c = c.resize_in.ensures.resize.no_memory
-
-pub returns-clause-kept : goal.returns-clause-kept
-returns-clause-kept g c = c.resize_in.ensures.resize.kept
