@@ -74,13 +74,17 @@ all-few cell element n (s ∷ ss) h =
 pub all-legal : (segs : List Cells) → AreSegments (map segment_of segs) → All (λ s. IsRegionSegment (segment_of s)) segs
 all-legal segs h = λ k d lt. subst IsRegionSegment (get_or-map segment_of segs k d (segment_of d) lt) (h.legal k (segment_of d) (omega (arith, lt, length-map segs segment_of)))
 
--- a block is in a cell, and has the size of its pair
-pub record IsIn (cell : ℕ) (segs : List Cells) (b : Block ℕ) : Type 0 where
+-- a block is in a cell of a segment, and has the size of its pair
+pub record IsInCell (cell : ℕ) (s : Cells) (b : Block ℕ) : Type 0 where
   pub index : ℕ
   pub offset : b.off ≡ cell_offset cell index
-  pub listed : index < length (cells_at b.seg segs).pairs
-  pub size : b.size ≡ (pair_at index (cells_at b.seg segs)).0
+  pub listed : index < length s.pairs
+  pub size : b.size ≡ (pair_at index s).0
   pub some : 1 ≤ b.size
+
+-- of the one of its number
+abbrev pub IsIn : ℕ → List Cells → Block ℕ → Type 0
+IsIn cell segs b = IsInCell cell (cells_at b.seg segs) b
 
 -- the same of a run of cells from an offset on
 record IsOf (n cell off : ℕ) (cs : List (ℕ × ℕ)) (b : Block ℕ) : Type 0 where
@@ -104,17 +108,6 @@ run-of n cell off bytes (c ∷ cs) =
     (cell_blocks n bytes cell (off + cell) cs)
     (run-of n cell (off + cell) bytes cs))
 
--- what is told of a block by the segment of its number
-moved : (cell : ℕ) (b : Block ℕ) (ss rs : List Cells) → cells_at b.seg ss ≡ cells_at b.seg rs → IsIn cell rs b → IsIn cell ss b
-moved cell b ss rs e h =
-    record {
-      index = h.index;
-      offset = h.offset;
-      listed = subst (λ (x : Cells). h.index < length x.pairs) (sym e) h.listed;
-      size = subst (λ (x : Cells). b.size ≡ (pair_at h.index x).0) (sym e) h.size;
-      some = h.some;
-    }
-
 -- each block is in a cell
 all-in : (cell : ℕ) (segs : List Cells) → AllPairs (λ (a b : Cells). a.number ≢ b.number) segs → All (IsIn cell segs) (flat_map (segment_blocks cell) segs)
 all-in cell [] apart = All-nil (IsIn cell [])
@@ -128,17 +121,12 @@ all-in cell (s ∷ ss) apart =
     (All-weaker (IsOf s.number cell 32 s.pairs) P
     (λ b h.
     let is : cells_at b.seg (s ∷ ss) ≡ s = rw (eq-eqb s.number b.seg (sym h.seg)) refl in
-    record {
-      index = h.index;
-      offset = h.offset;
-      listed = subst (λ (x : Cells). h.index < length x.pairs) (sym is) h.listed;
-      size = subst (λ (x : Cells). b.size ≡ (pair_at h.index x).0) (sym is) h.size;
-      some = h.some;
-    })
+    subst (λ (x : Cells). IsInCell cell x b) (sym is) (record { index = h.index; offset = h.offset; listed = h.listed; size = h.size; some = h.some }))
     (segment_blocks cell s) (run-of s.number cell 32 s.bytes s.pairs))
     (λ k d lt.
     let b : Block ℕ = get_or (flat_map (segment_blocks cell) ss) k d in
-    moved cell b (s ∷ ss) ss (rw (ne_eqb s.number b.seg (λ e. others k d lt (sym e))) refl) (rest k d lt))
+    let is : cells_at b.seg (s ∷ ss) ≡ cells_at b.seg ss = rw (ne_eqb s.number b.seg (λ e. others k d lt (sym e))) refl in
+    subst (λ (x : Cells). IsInCell cell x b) (sym is) (rest k d lt))
 
 -- so one is in the cell at its place
 in-live : (cell : ℕ) (segs : List Cells) (b : Block ℕ) → IsIn cell segs b → IsBlockCell cell segs (b.seg, b.off)
