@@ -7,7 +7,8 @@
 
    The script is written through a mapping of its file, which holds newlines where nothing is written yet, and a line becomes
    one by its first byte. So the script is whole at every moment, however the program ends; where it ends without its
-   destructors, blank lines follow, which record cuts off.
+   destructors, blank lines follow, which record cuts off. Behind each line there is room for a last one, which says that the
+   recording stops where the file gets no more room.
 
    VMREPLAY_RECORD is the path of the script, VMREPLAY_RECORD_PID the process that writes it, VMREPLAY_RECORD_OPEN the words
    of its command open, and VMREPLAY_RECORD_SITES is "no" where the sites of calls are left out. A program that another
@@ -25,10 +26,15 @@
 #include <sys/mman.h>
 #include <sys/resource.h>
 #include <sys/stat.h>
+#include <ucontext.h>
 #include <unistd.h>
+#include <unwind.h>
 
 /* What a script and a region can have. */
 enum { MOST_LABELS = 1000000, LARGEST_SIZE = 16777216, LEAST_ALIGN = 32, LARGEST_ALIGN = 4096, LONGEST_NAME = 32 };
+
+/* The room for the last line. */
+enum { LAST = 128 };
 
 /* The allocator behind this library. */
 
@@ -201,53 +207,84 @@ static void fill(size_t to)
     }
 }
 
-/* Maps the file from the next line on, and answers whether n more bytes have room there. */
+/* Maps the file from the next line on, and answers whether n more bytes have room there, and a last line behind them. What
+   was mapped stays where they have none. */
 static int map_on(size_t n)
 {
     enum { ROOM = 1 << 18 };
     size_t page = sysconf(_SC_PAGESIZE), from = written / page * page, limit = limit_of_files();
-    unmap();
+    char *fresh;
     if (!is_open()) return 0;
     fill(from + ROOM < limit ? from + ROOM : limit);
-    if (written + n > filled) return 0;
-    mapped = mmap(NULL, filled - from, PROT_READ | PROT_WRITE, MAP_SHARED, file, from);
-    if (mapped == MAP_FAILED) {
-        mapped = NULL;
-        return 0;
-    }
+    if (written + n + LAST > filled) return 0;
+    fresh = mmap(NULL, filled - from, PROT_READ | PROT_WRITE, MAP_SHARED, file, from);
+    if (fresh == MAP_FAILED) return 0;
+    unmap();
+    mapped = fresh;
     mapped_from = from;
     mapped_to = filled;
     return 1;
 }
 
-/* Writes one line, or none of it. */
-static void put(const char *line, size_t n)
+/* Writes a line to the end of the file, and answers whether it and a last one behind it have room. */
+static int write_on(const char *line, size_t n)
 {
-    volatile char *to;
+    ssize_t put;
+    if (!is_open() || written + n + LAST > limit_of_files()) return 0;
+    if (fallocate(file, FALLOC_FL_KEEP_SIZE, written, n + LAST) != 0 && (errno == ENOSPC || errno == EDQUOT)) return 0;
+    put = pwrite(file, line, n, written);
+    if (put > 0) filled = written + put;
+    if (put != (ssize_t)n) return 0;
+    written = filled;
+    return 1;
+}
+
+/* Writes a line to where the file is mapped. */
+static void store(const char *line, size_t n)
+{
+    volatile char *to = mapped + (written - mapped_from);
     size_t i;
-    int before, has_room;
-    if (stopped) return;
-    if (written + n > mapped_to || is_ending) {
-        pthread_setcancelstate(PTHREAD_CANCEL_DISABLE, &before);
-        if (is_ending) {
-            has_room = is_open() && written + n <= limit_of_files() && pwrite(file, line, n, written) == (ssize_t)n;
-            if (has_room) filled = written += n;
-        } else {
-            has_room = map_on(n);
-        }
-        if (!has_room) {
-            filled = written + n;
-            cut();
-            stop();
-        }
-        pthread_setcancelstate(before, NULL);
-        if (!has_room || is_ending) return;
-    }
-    to = mapped + (written - mapped_from);
     to[0] = '#';
     for (i = 1; i < n; i++) to[i] = line[i];
     to[0] = line[0];
     written += n;
+}
+
+/* Ends the script before the program's end with a line that says why. */
+static void stop_early(const char *why)
+{
+    static const char front[] = "# the recording stops here: ";
+    char line[LAST];
+    size_t n = sizeof front - 1;
+    ssize_t put;
+    if (stopped) return;
+    stop();
+    memcpy(line, front, n);
+    while (*why) line[n++] = *why++;
+    line[n++] = '\n';
+    if (mapped && written + n <= mapped_to) {
+        store(line, n);
+    } else if (is_open() && written + n <= limit_of_files()) {
+        put = pwrite(file, line, n, written);
+        if (put > 0) filled = written + put > filled ? written + put : filled;
+        if (put == (ssize_t)n) written += n;
+    }
+    cut();
+}
+
+/* Writes one line, or none of it. */
+static void put(const char *line, size_t n)
+{
+    int before, has_room;
+    if (stopped) return;
+    if (written + n + LAST > mapped_to || is_ending) {
+        pthread_setcancelstate(PTHREAD_CANCEL_DISABLE, &before);
+        has_room = is_ending ? write_on(line, n) : map_on(n);
+        if (!has_room) stop_early("its file has no room for more");
+        pthread_setcancelstate(before, NULL);
+        if (!has_room || is_ending) return;
+    }
+    store(line, n);
 }
 
 struct line {
@@ -275,9 +312,30 @@ static void end_line(struct line *line)
     put(line->bytes, line->used);
 }
 
-/* The region's name, and whether it is of a method with align. */
-static char region[LONGEST_NAME + 1];
+/* The regions that the blocks are spread over, and whether they are of a method with align. A block's label is its region's
+   number in this list, counted from 0, times 2 to the 20th and its own number. Of each region, the labels that were freed,
+   which are used again, the last freed first; how many were made; and what its blocks take of it, each at most the least
+   segment. */
+enum { MOST_REGIONS = 12, LABEL_BITS = 20 };
+
+struct region {
+    char name[LONGEST_NAME + 1];
+    uint32_t *freed_labels, freed, made;
+    size_t taken;
+    int is_told;
+};
+
+static struct region regions[MOST_REGIONS];
+static size_t region_count;
 static int has_align;
+
+/* The least segment that the disciplines lend. */
+static size_t least_segment;
+
+static struct region *region_of(uint32_t label)
+{
+    return &regions[label >> LABEL_BITS];
+}
 
 /* 'COMMAND REGION bLABEL', to which more words may be added. */
 static void begin_command(struct line *line, const char *command, uint32_t label)
@@ -285,9 +343,9 @@ static void begin_command(struct line *line, const char *command, uint32_t label
     line->used = 0;
     word(line, command);
     word(line, " ");
-    word(line, region);
+    word(line, region_of(label)->name);
     word(line, " b");
-    number(line, label);
+    number(line, label & ((1 << LABEL_BITS) - 1));
 }
 
 static void comment(const char *call, size_t align, size_t size, const char *why)
@@ -309,20 +367,45 @@ static void comment(const char *call, size_t align, size_t size, const char *why
 /* What is said of a block that isn't in the script. */
 static const char no_block[] = ": a script has no such block";
 
-/* The labels. Those that were freed are used again, the last freed first. */
+/* What a block takes of its region, but no more than the least segment. */
+static size_t span_of(size_t size)
+{
+    size_t span = (size + 16 + 31) / 32 * 32;
+    return span < least_segment ? span : least_segment;
+}
 
-static uint32_t *freed_labels;
-static uint32_t freed, made;
-
+/* A label for a new block, of the region whose blocks take least: 0 where each has as many as it can have. */
 static uint32_t take_label(void)
 {
-    if (freed) return freed_labels[--freed];
-    return made < MOST_LABELS ? ++made : 0;
+    struct region *least = NULL;
+    size_t i;
+    for (i = 0; i < region_count; i++)
+        if ((regions[i].freed || regions[i].made < MOST_LABELS) && (!least || regions[i].taken < least->taken)) least = &regions[i];
+    if (!least) return 0;
+    return (uint32_t)(least - regions) << LABEL_BITS | (least->freed ? least->freed_labels[--least->freed] : ++least->made);
 }
 
 static void give_label(uint32_t label)
 {
-    freed_labels[freed++] = label;
+    struct region *region = region_of(label);
+    region->freed_labels[region->freed++] = label & ((1 << LABEL_BITS) - 1);
+}
+
+/* Counts a block of this size in place of one of the size before, each 0 where there is none. Tells once that the region's
+   blocks take as much as 256 of the least segments, of which a region has at most 1,023: from there on the blocks and the gaps
+   between them may meet that limit. */
+static void count_block(uint32_t label, size_t before, size_t size)
+{
+    struct region *region = region_of(label);
+    struct line line = { .used = 0 };
+    if (before) region->taken -= span_of(before);
+    if (size) region->taken += span_of(size);
+    if (region->is_told || region->taken < 256 * least_segment) return;
+    region->is_told = 1;
+    word(&line, "# here the blocks of ");
+    word(&line, region->name);
+    word(&line, " take a quarter of the segments that a region can have");
+    end_line(&line);
 }
 
 /* The live blocks: a table by address with open addressing, at most half full. Label 0 is a block that isn't in the script. */
@@ -367,7 +450,7 @@ static void remember(void *p, uint32_t label, size_t size)
 {
     struct block *block;
     if (2 * (lives + 1) > places && !double_table()) {
-        stop();
+        stop_early("there is no memory for more blocks");
         return;
     }
     block = look_up((uintptr_t)p);
@@ -397,17 +480,28 @@ static void forget(struct block *block)
 
 static int has_sites;
 
-/* What of a file is mapped, and the file itself, so that its symbols can be read. */
+/* What of a file is mapped, and the file itself, so that its symbols can be read. The mapping is known by its line in the list
+   of mappings. */
 struct module {
     uintptr_t from, to;
     size_t offset;
+    uint64_t line;
     char name[64];
     const char *bytes;
-    size_t size;
+    size_t size, mapped;
+    int is_seen;
 };
 
 static struct module modules[512];
 static size_t module_count;
+
+/* FNV-1a. */
+static uint64_t hash_of(const char *text)
+{
+    uint64_t hash = UINT64_C(0xcbf29ce484222325);
+    while (*text) hash = (hash ^ (unsigned char)*text++) * UINT64_C(0x100000001b3);
+    return hash;
+}
 
 static int is_in(const struct module *module, size_t at, size_t n)
 {
@@ -426,7 +520,7 @@ static void map_module(struct module *module, const char *file_path)
     close(fd);
     if (p == MAP_FAILED) return;
     module->bytes = p;
-    module->size = is.st_size;
+    module->size = module->mapped = is.st_size;
     if (!is_in(module, 0, sizeof(ElfW(Ehdr))) || memcmp(p, ELFMAG, SELFMAG) != 0) module->size = 0;
 }
 
@@ -453,6 +547,7 @@ static int read_mapping(struct module *module, const char *line, uintptr_t addre
     if (address < module->from || address >= module->to) return 0;
     at += 6;
     module->offset = hexadecimal(&at);
+    module->line = hash_of(line);
     for (i = 0; i < 2; i++) {
         at += strspn(at, " ");
         at += strcspn(at, " ");
@@ -465,25 +560,21 @@ static int read_mapping(struct module *module, const char *line, uintptr_t addre
     return 1;
 }
 
-/* The module in which the address lies. */
-static struct module *module_of(uintptr_t address)
+/* Hands each line of the list of mappings on, until one is taken. Answers whether one was, and -1 where there is no list. */
+static int each_mapping(int (*take)(const char *line, uintptr_t address), uintptr_t address)
 {
     static char text[8192];
-    size_t i, n = 0;
+    size_t n = 0;
     ssize_t got;
-    int fd, found = 0;
-    for (i = 0; i < module_count; i++)
-        if (address >= modules[i].from && address < modules[i].to) return &modules[i];
-    if (module_count == sizeof modules / sizeof *modules) return NULL;
-    fd = open("/proc/self/maps", O_RDONLY | O_CLOEXEC);
-    if (fd < 0) return NULL;
-    while (!found && (got = read(fd, text + n, sizeof text - 1 - n)) > 0) {
+    int fd = open("/proc/self/maps", O_RDONLY | O_CLOEXEC), taken = 0;
+    if (fd < 0) return -1;
+    while (!taken && (got = read(fd, text + n, sizeof text - 1 - n)) > 0) {
         char *line = text, *end;
         n += got;
         text[n] = 0;
-        while (!found && (end = strchr(line, '\n'))) {
+        while (!taken && (end = strchr(line, '\n'))) {
             *end = 0;
-            found = read_mapping(&modules[module_count], line, address);
+            taken = take(line, address);
             line = end + 1;
         }
         n -= line - text;
@@ -491,7 +582,22 @@ static struct module *module_of(uintptr_t address)
         if (n == sizeof text - 1) n = 0;
     }
     close(fd);
-    return found ? &modules[module_count++] : NULL;
+    return taken;
+}
+
+static int take_mapping(const char *line, uintptr_t address)
+{
+    return read_mapping(&modules[module_count], line, address);
+}
+
+/* The module in which the address lies. */
+static struct module *module_of(uintptr_t address)
+{
+    size_t i;
+    for (i = 0; i < module_count; i++)
+        if (address >= modules[i].from && address < modules[i].to) return &modules[i];
+    if (module_count == sizeof modules / sizeof *modules) return NULL;
+    return each_mapping(take_mapping, address) == 1 ? &modules[module_count++] : NULL;
 }
 
 /* The address by which the file's symbols go, or 0. */
@@ -509,11 +615,42 @@ static uintptr_t place_in(const struct module *module, uintptr_t address)
     return 0;
 }
 
-/* The name of the function at this place by the file's symbols, of which a table for linking holds more than the other. */
-static const char *function_at(const struct module *module, uintptr_t place)
+/* The functions that are looked through, by their names, and whether a call of each came yet. */
+struct wrapper {
+    const char *name;
+    int came;
+};
+
+static struct wrapper wrappers[64];
+static size_t wrapper_count;
+
+/* What a function is to its callers: one that is their site, an operator new, or the wrapper of that number and 2. */
+enum { IS_SITE, IS_OPERATOR, IS_WRAPPER };
+
+/* Whether the name is that of the wrapper, or begins with it where a compiler has split the function, as in 'wrap.part.0', or
+   made it of a template, as in 'wrap<int>'. */
+static int is_named(const char *name, const char *wrapper)
+{
+    size_t n = strlen(wrapper);
+    return strncmp(name, wrapper, n) == 0 && (!name[n] || name[n] == '.' || name[n] == '<');
+}
+
+static int role_of(const char *name)
+{
+    size_t i;
+    if (strncmp(name, "_Znw", 4) == 0 || strncmp(name, "_Zna", 4) == 0) return IS_OPERATOR;
+    for (i = 0; i < wrapper_count; i++)
+        if (is_named(name, wrappers[i].name)) return IS_WRAPPER + i;
+    return IS_SITE;
+}
+
+/* The name of the function at this place by the file's symbols, of which a table for linking holds more than the other; and
+   its role, which any of its names may tell. */
+static const char *function_at(const struct module *module, uintptr_t place, int *role)
 {
     static const uint32_t kinds[] = { SHT_SYMTAB, SHT_DYNSYM };
     const ElfW(Ehdr) *head = (const void *)module->bytes;
+    const char *found = NULL;
     size_t kind, i, k;
     if (!is_in(module, 0, sizeof *head) || head->e_shentsize != sizeof(ElfW(Shdr))) return NULL;
     if (!is_in(module, head->e_shoff, head->e_shnum * sizeof(ElfW(Shdr)))) return NULL;
@@ -529,13 +666,36 @@ static const char *function_at(const struct module *module, uintptr_t place)
                 const ElfW(Sym) *symbol = &symbols[k];
                 int type = ELF64_ST_TYPE(symbol->st_info);
                 const char *name = module->bytes + names->sh_offset + symbol->st_name;
-                if ((type != STT_FUNC && type != STT_GNU_IFUNC) || symbol->st_shndx == SHN_UNDEF) continue;
                 if (place < symbol->st_value || place - symbol->st_value >= symbol->st_size) continue;
-                if (symbol->st_name < names->sh_size && memchr(name, 0, names->sh_size - symbol->st_name)) return name;
+                if ((type != STT_FUNC && type != STT_GNU_IFUNC) || symbol->st_shndx == SHN_UNDEF) continue;
+                if (symbol->st_name >= names->sh_size || !memchr(name, 0, names->sh_size - symbol->st_name)) continue;
+                if (!found) found = name;
+                if (!*role) *role = role_of(name);
+                if (*role || !wrapper_count) return found;
             }
         }
     }
-    return NULL;
+    return found;
+}
+
+/* The role of a function of C++ by its readable name, which may have a type in front and has parameters behind it. */
+static int readable_role(char *readable)
+{
+    char *name = readable, *at;
+    size_t depth = 0;
+    int role;
+    for (at = readable; *at; at++) {
+        if (strncmp(at, "(anonymous namespace)", 21) == 0) at += 20;
+        else if (*at == '<') depth++;
+        else if (*at == '>' && depth) depth--;
+        else if (*at == ' ' && !depth) name = at + 1;
+        else if (*at == '(' && !depth) break;
+    }
+    if (!*at) return role_of(name);
+    *at = 0;
+    role = role_of(name);
+    *at = '(';
+    return role;
 }
 
 static int is_letter(char c)
@@ -543,29 +703,103 @@ static int is_letter(char c)
     return (c >= 'a' && c <= 'z') || (c >= 'A' && c <= 'Z');
 }
 
-/* Writes at most so many bytes of the text as a name of the script language, and answers how many: what stands before the
-   first letter is left out, and what a name can't have is '_'. */
+/* Writes the text as a name of the script language of at most so many bytes, which are 10 at least, and answers how many:
+   what stands before the first letter is left out, and what a name can't have is '_'. A longer one is its front, '_' and eight
+   digits of its hash. */
 static size_t as_name(char *name, const char *text, size_t most)
 {
-    size_t n = 0;
-    while (*text && !is_letter(*text)) text++;
-    for (; *text && n < most; text++)
-        name[n++] = is_letter(*text) || (*text >= '0' && *text <= '9') || *text == '.' ? *text : '_';
+    const char *at = text;
+    uint64_t hash = hash_of(text);
+    size_t n = 0, i;
+    while (*at && !is_letter(*at)) at++;
+    for (; *at && n < most; at++)
+        name[n++] = is_letter(*at) || (*at >= '0' && *at <= '9') || *at == '.' ? *at : '_';
+    if (*at) {
+        name[most - 9] = '_';
+        for (i = 1; i <= 8; i++, hash >>= 4) name[most - i] = "0123456789abcdef"[hash & 15];
+    }
     name[n] = 0;
     return n;
 }
 
-/* 'FUNCTION', else 'MODULE_0xPLACE', else 'unknown'. */
-static void name_site(char *name, uintptr_t address)
+/* The sites that are known: a table by address with open addressing, at most half full. A name whose whole was told has an
+   entry too, at its hash with the highest bit, where no address is. */
+struct site {
+    uintptr_t at;
+    int role;
+    char name[LONGEST_NAME + 1];
+};
+
+static struct site *sites;
+static size_t site_places, site_count;
+
+/* Of the site that was named last: what its name stands for, where that is another. */
+static char whole[3800];
+static int is_mangled;
+
+/* Where C++'s names are made readable, a function that the program has for it. It takes much of the stack, so it gets one. */
+static char *(*demangle)(const char *, char *, size_t *, int *);
+static const char *mangled;
+static char *demangled;
+static ucontext_t around, within;
+
+static void run_demangle(void)
+{
+    int status;
+    demangled = demangle(mangled, NULL, NULL, &status);
+}
+
+static char *demangle_name(const char *name)
+{
+    enum { STACK = 1 << 20 };
+    static char *stack;
+    if (!stack) stack = pages(STACK);
+    if (!stack || !demangle || strlen(name) > 3000 || getcontext(&within) != 0) return NULL;
+    within.uc_stack.ss_sp = stack;
+    within.uc_stack.ss_size = STACK;
+    within.uc_link = &around;
+    mangled = name;
+    demangled = NULL;
+    makecontext(&within, run_demangle, 0);
+    return swapcontext(&around, &within) == 0 ? demangled : NULL;
+}
+
+/* The library of C++ that the program has loaded, else null. Not with the lock held: the loader allocates with its own held. */
+static void *cxx_library(void)
+{
+    static const char *const names[] = { "libstdc++.so.6", "libc++abi.so.1" };
+    void *library = NULL;
+    size_t i;
+    for (i = 0; !library && i < sizeof names / sizeof *names; i++) library = dlopen(names[i], RTLD_LAZY | RTLD_NOLOAD);
+    if (!library) dlerror();
+    return library;
+}
+
+/* Names a site 'FUNCTION', else 'MODULE_0xPLACE', else 'unknown'. */
+static void name_site(struct site *site, uintptr_t address)
 {
     struct module *module = module_of(address - 1);
     uintptr_t place = module ? place_in(module, address - 1) : 0;
-    const char *function = place ? function_at(module, place) : NULL;
+    const char *function;
+    char *readable = NULL;
     char digits[24];
-    size_t at = sizeof digits, n;
-    if (function && as_name(name, function, LONGEST_NAME)) return;
+    size_t at = sizeof digits, n, i;
+    site->role = IS_SITE;
+    is_mangled = 0;
+    whole[0] = 0;
+    function = place ? function_at(module, place, &site->role) : NULL;
+    if (function && as_name(site->name, function, LONGEST_NAME)) {
+        is_mangled = strncmp(function, "_Z", 2) == 0;
+        if (is_mangled) readable = demangle_name(function);
+        if (readable && !site->role) site->role = readable_role(readable);
+        if (is_mangled || strcmp(site->name, function) != 0) strncpy(whole, readable ? readable : function, sizeof whole - 1);
+        for (i = 0; whole[i]; i++)
+            if (whole[i] > 0 && whole[i] < ' ') whole[i] = '?';
+        free(readable);
+        return;
+    }
     if (!module) {
-        as_name(name, "unknown", LONGEST_NAME);
+        strcpy(site->name, "unknown");
         return;
     }
     place = place ? place + 1 : address - module->from + module->offset;
@@ -574,19 +808,14 @@ static void name_site(char *name, uintptr_t address)
     digits[--at] = 'x';
     digits[--at] = '0';
     digits[--at] = '_';
-    n = as_name(name, module->name, LONGEST_NAME - (sizeof digits - 1 - at));
-    if (!n) n = as_name(name, "memory", LONGEST_NAME);
-    strcpy(name + n, digits + at);
+    n = as_name(site->name, module->name, LONGEST_NAME - (sizeof digits - 1 - at));
+    if (!n) n = as_name(site->name, "memory", LONGEST_NAME);
+    strcpy(site->name + n, digits + at);
+    if (strlen(module->name) > LONGEST_NAME - (sizeof digits - 1 - at)) {
+        strcpy(whole, module->name);
+        strcat(whole, digits + at);
+    }
 }
-
-/* The sites that are known: a table by address with open addressing, at most half full. */
-struct site {
-    uintptr_t at;
-    char name[LONGEST_NAME + 1];
-};
-
-static struct site *sites;
-static size_t site_places, site_count;
 
 static struct site *look_up_site(uintptr_t at)
 {
@@ -595,60 +824,254 @@ static struct site *look_up_site(uintptr_t at)
     return &sites[i];
 }
 
-static int double_sites(void)
+/* Makes the table anew with so many places, and with the sites that are kept. */
+static int move_sites(size_t to, int (*keeps)(uintptr_t at))
 {
     struct site *before = sites;
     size_t count = site_places, i;
-    struct site *after = pages((count ? 2 * count : 1024) * sizeof *after);
+    struct site *after = pages(to * sizeof *after);
     if (!after) return 0;
     sites = after;
-    site_places = count ? 2 * count : 1024;
+    site_places = to;
+    site_count = 0;
     for (i = 0; i < count; i++)
-        if (before[i].at) *look_up_site(before[i].at) = before[i];
+        if (before[i].at && (!keeps || keeps(before[i].at))) {
+            *look_up_site(before[i].at) = before[i];
+            site_count++;
+        }
     if (before) munmap(before, count * sizeof *before);
     return 1;
 }
 
-static const char *site_of(uintptr_t address)
+/* Whether two more sites have room. */
+static int has_site_room(void)
 {
-    struct site *site;
+    return 2 * (site_count + 2) <= site_places || move_sites(site_places ? 2 * site_places : 1024, NULL);
+}
+
+/* Tells what a site's name stands for, once. */
+static void tell_whole(const char *name)
+{
+    static char line[sizeof whole + 64];
+    uintptr_t at = hash_of(name) | ~(UINTPTR_MAX >> 1);
+    struct site *told = look_up_site(at);
+    if (told->at) return;
+    told->at = at;
+    site_count++;
+    strcpy(line, "# site ");
+    strcat(line, name);
+    strcat(line, " is ");
+    strcat(line, whole);
+    strcat(line, "\n");
+    put(line, strlen(line));
+}
+
+/* The site of a call that returns to this address, and null where there is no memory for one. The lock is held, and is given
+   up for a while where a function is looked for that makes names readable. */
+static struct site *site_at(uintptr_t address)
+{
+    static int tries = 50;
+    struct site fresh = { .at = address }, *site;
     int before;
-    if (2 * (site_count + 1) > site_places && !double_sites()) return "unknown";
+    if (!has_site_room()) return NULL;
     site = look_up_site(address);
-    if (!site->at) {
-        pthread_setcancelstate(PTHREAD_CANCEL_DISABLE, &before);
-        name_site(site->name, address);
-        pthread_setcancelstate(before, NULL);
-        site->at = address;
-        site_count++;
+    if (site->at) return site;
+    pthread_setcancelstate(PTHREAD_CANCEL_DISABLE, &before);
+    name_site(&fresh, address);
+    if (is_mangled && !demangle && tries > 0) {
+        void *found = NULL, *library;
+        tries--;
+        pthread_mutex_unlock(&lock);
+        library = cxx_library();
+        if (library) found = dlsym(library, "__cxa_demangle");
+        pthread_mutex_lock(&lock);
+        *(void **)&demangle = found;
+        name_site(&fresh, address);
     }
-    return site->name;
+    pthread_setcancelstate(before, NULL);
+    if (!has_site_room()) return NULL;
+    site = look_up_site(address);
+    if (!site->at) site_count++;
+    *site = fresh;
+    if (fresh.role == IS_SITE && *whole) tell_whole(fresh.name);
+    return site;
+}
+
+/* Return addresses of the calls that led here, from one that is known on. */
+struct frames {
+    uintptr_t from, at[32];
+    size_t count, skipped;
+};
+
+static _Unwind_Reason_Code note_frame(struct _Unwind_Context *context, void *to)
+{
+    struct frames *frames = to;
+    uintptr_t at = _Unwind_GetIP(context);
+    if (frames->count || at == frames->from) frames->at[frames->count++] = at;
+    else if (++frames->skipped > 32) return _URC_END_OF_STACK;
+    return frames->count < sizeof frames->at / sizeof *frames->at ? _URC_NO_REASON : _URC_END_OF_STACK;
+}
+
+/* Tells once that a wrapper is looked through. */
+static void tell_through(int role)
+{
+    struct line line = { .used = 0 };
+    if (role < IS_WRAPPER || wrappers[role - IS_WRAPPER].came) return;
+    wrappers[role - IS_WRAPPER].came = 1;
+    word(&line, "# looked through: ");
+    word(&line, wrappers[role - IS_WRAPPER].name);
+    end_line(&line);
+}
+
+/* The name of who called: of the function, or where that is looked through, of the first that isn't among those that called
+   it. The lock is held, and is given up while these are looked for, since the unwinder may wait for the loader. */
+static const char *site_of(uintptr_t caller)
+{
+    struct site *site = site_at(caller);
+    struct frames frames = { .from = caller };
+    size_t i;
+    int before, role;
+    if (!site || site->role == IS_SITE) return site ? site->name : "unknown";
+    pthread_setcancelstate(PTHREAD_CANCEL_DISABLE, &before);
+    pthread_mutex_unlock(&lock);
+    _Unwind_Backtrace(note_frame, &frames);
+    pthread_mutex_lock(&lock);
+    pthread_setcancelstate(before, NULL);
+    for (i = 0; i + 1 < frames.count; i++) {
+        site = site_at(frames.at[i]);
+        role = site ? site->role : IS_SITE;
+        site = site_at(frames.at[i + 1]);
+        if (!site) break;
+        tell_through(role);
+        if (site->role == IS_SITE) break;
+    }
+    if (frames.count < 2) site = site_at(caller);
+    return site ? site->name : "unknown";
+}
+
+/* What is still mapped as it was. */
+
+static int see_mapping(const char *line, uintptr_t unused)
+{
+    uint64_t hash = hash_of(line);
+    size_t i;
+    (void)unused;
+    for (i = 0; i < module_count; i++)
+        if (modules[i].line == hash) modules[i].is_seen = 1;
+    return 0;
+}
+
+static int is_kept(uintptr_t at)
+{
+    size_t i;
+    if (at > UINTPTR_MAX >> 1) return 1;
+    for (i = 0; i < module_count; i++)
+        if (at - 1 >= modules[i].from && at - 1 < modules[i].to) return 1;
+    return 0;
+}
+
+/* Forgets the modules that are no longer there, and their sites. */
+static void forget_unmapped(void)
+{
+    size_t i, kept = 0;
+    int before;
+    pthread_setcancelstate(PTHREAD_CANCEL_DISABLE, &before);
+    for (i = 0; i < module_count; i++) modules[i].is_seen = 0;
+    each_mapping(see_mapping, 0);
+    for (i = 0; i < module_count; i++) {
+        if (modules[i].is_seen) modules[kept++] = modules[i];
+        else if (modules[i].bytes) munmap((void *)modules[i].bytes, modules[i].mapped);
+    }
+    if (kept < module_count) {
+        module_count = kept;
+        if (sites && !move_sites(site_places, is_kept)) {
+            memset(sites, 0, site_places * sizeof *sites);
+            site_count = 0;
+        }
+    }
+    pthread_setcancelstate(before, NULL);
+}
+
+/* The method's word, and behind it the number of the first region's discipline. */
+static char method[16];
+static unsigned long place;
+
+/* Takes the words of the command open, and the number of regions. Of the next ones the names are that name with a number, from
+   2 on, and the disciplines those behind that one. Answers whether it can. */
+static int read_open(const char *words, size_t count)
+{
+    size_t length = strcspn(words, " "), n, i;
+    struct line line;
+    if (count < 1 || count > MOST_REGIONS || length + (count > 1) + (count > 9) > LONGEST_NAME || !words[length]) return 0;
+    n = strcspn(words + length + 1, " ");
+    if (n >= sizeof method) return 0;
+    memcpy(method, words + length + 1, n);
+    place = strtoul(words + length + 1 + n, NULL, 10);
+    has_align = strcmp(method, "best") == 0 || strcmp(method, "profile") == 0;
+    least_segment = place >= 9 && place <= 12 ? 65536 : 4096;
+    for (i = 0; i < count; i++) {
+        line.used = 0;
+        if (i) number(&line, i + 1);
+        memcpy(regions[i].name, words, length);
+        memcpy(regions[i].name + length, line.bytes, line.used);
+        regions[i].freed_labels = pages(MOST_LABELS * sizeof *regions[i].freed_labels);
+        if (!regions[i].freed_labels) return 0;
+    }
+    region_count = count;
+    return 1;
+}
+
+static void tell_open(size_t i)
+{
+    struct line line = { .used = 0 };
+    word(&line, "open ");
+    word(&line, regions[i].name);
+    word(&line, " ");
+    word(&line, method);
+    word(&line, " ");
+    number(&line, place + i);
+    end_line(&line);
+}
+
+/* Takes the names of the functions to look through, a line for each. */
+static void read_wrappers(const char *names)
+{
+    static char kept[4096];
+    char *at = kept;
+    if (!names || strlen(names) >= sizeof kept) return;
+    strcpy(kept, names);
+    while (*at && wrapper_count < sizeof wrappers / sizeof *wrappers) {
+        char *end = strchr(at, '\n');
+        if (end) *end = 0;
+        if (*at) wrappers[wrapper_count++].name = at;
+        if (!end) break;
+        at = end + 1;
+    }
 }
 
 /* Begins the script, where the process has its environment by now. */
 static void begin(void)
 {
     extern char **environ;
-    const char *name, *writer, *words, *sites;
+    const char *name, *writer, *words, *sites, *count;
     struct line line = { .used = 0 };
     pid_t self = getpid();
     size_t n;
-    int before;
+    int before, is_ready;
     if (!environ) return;
     mark_writer();
     name = getenv("VMREPLAY_RECORD");
     writer = getenv("VMREPLAY_RECORD_PID");
     words = getenv("VMREPLAY_RECORD_OPEN");
+    count = getenv("VMREPLAY_RECORD_REGIONS");
     sites = getenv("VMREPLAY_RECORD_SITES");
-    if (!words) words = "r best 9";
     n = name ? strlen(name) : 0;
-    if (n == 0 || n > sizeof path - 32 || strcspn(words, " ") > LONGEST_NAME || strlen(words) > 100) {
+    if (n == 0 || n > sizeof path - 32) {
         stop();
         return;
     }
-    memcpy(region, words, strcspn(words, " "));
-    has_align = strstr(words, " best ") || strstr(words, " profile ");
     has_sites = !sites || strcmp(sites, "no") != 0;
+    read_wrappers(getenv("VMREPLAY_RECORD_THROUGH"));
     memcpy(path, name, n + 1);
     if (!writer || strtol(writer, NULL, 10) != self) {
         word(&line, ".");
@@ -658,19 +1081,16 @@ static void begin(void)
         line.used = 0;
     }
     pthread_setcancelstate(PTHREAD_CANCEL_DISABLE, &before);
-    freed_labels = pages(MOST_LABELS * sizeof *freed_labels);
     file = open_file(O_RDWR | O_CREAT);
-    if (!freed_labels || !double_table() || file < 0 || fstat(file, &file_is) != 0 || !S_ISREG(file_is.st_mode)
-        || ftruncate(file, 0) != 0) {
+    is_ready = file >= 0 && double_table() && fstat(file, &file_is) == 0 && S_ISREG(file_is.st_mode) && ftruncate(file, 0) == 0
+        && read_open(words ? words : "r best 9", count ? strtoul(count, NULL, 10) : 1);
+    if (!is_ready) {
         if (file >= 0) close(file);
         file = -1;
         stop();
     }
     pthread_setcancelstate(before, NULL);
-    word(&line, "open ");
-    word(&line, words);
-    end_line(&line);
-    line.used = 0;
+    tell_open(0);
     word(&line, "# ");
     for (name = program_invocation_short_name; *name && line.used < 200; name++) {
         char one[2] = { *name > ' ' && *name <= '~' ? *name : '?', 0 };
@@ -679,6 +1099,7 @@ static void begin(void)
     word(&line, ", process ");
     number(&line, self);
     end_line(&line);
+    for (n = 1; n < region_count; n++) tell_open(n);
 }
 
 /* Takes the lock, where something is to be written. It isn't in a child, nor in a signal's handler that comes between. */
@@ -712,21 +1133,36 @@ static void tell_gone(uint32_t label, size_t size)
     }
     begin_command(&line, "free", label);
     end_line(&line);
+    count_block(label, size, 0);
     give_label(label);
 }
 
+/* Whether a block with this size and alignment can be in a script. */
+static int is_block(size_t align, size_t size)
+{
+    return size > 0 && size <= LARGEST_SIZE && align <= LARGEST_ALIGN;
+}
+
+/* The site of such a block, and null where its line has none. */
+static const char *site_for(size_t align, size_t size, void *caller)
+{
+    if (!has_sites || !is_block(align, size) || (align && has_align)) return NULL;
+    return site_of((uintptr_t)caller);
+}
+
 /* A new block, and its label: 0 where it can't be in the script. */
-static uint32_t tell_new(const char *call, size_t align, size_t size, void *caller)
+static uint32_t tell_new(const char *call, size_t align, size_t size, const char *site)
 {
     struct line line;
     uint32_t label;
-    if (size == 0 || size > LARGEST_SIZE || align > LARGEST_ALIGN) {
+    if (!is_block(align, size)) {
         comment(call, align, size, no_block);
         return 0;
     }
     label = take_label();
     if (!label) {
-        comment(call, align, size, ": the region has no more than 1,000,000 blocks");
+        comment(call, align, size, region_count == 1 ? ": the region has no more than 1,000,000 blocks"
+            : ": each of the regions has no more than 1,000,000 blocks");
         return 0;
     }
     if (align && !has_align) {
@@ -739,11 +1175,12 @@ static uint32_t tell_new(const char *call, size_t align, size_t size, void *call
     if (align) {
         word(&line, " ");
         number(&line, align);
-    } else if (has_sites) {
+    } else if (site) {
         word(&line, " @");
-        word(&line, site_of((uintptr_t)caller));
+        word(&line, site);
     }
     end_line(&line);
+    count_block(label, 0, size);
     return label;
 }
 
@@ -768,9 +1205,11 @@ static void *came(const char *call, size_t align, size_t size, void *p, void *ca
     int error = errno;
     size_t power = 1;
     while (power < align && power <= SIZE_MAX / 2) power *= 2;
+    if (power < LEAST_ALIGN) power = 0;
     if (p && enter()) {
+        const char *site = site_for(power, size, caller);
         drop_unseen(p);
-        remember(p, tell_new(call, power < LEAST_ALIGN ? 0 : power, size, caller), size);
+        remember(p, tell_new(call, power, size, site), size);
         leave();
     }
     errno = error;
@@ -789,7 +1228,7 @@ static void goes(void *p)
 }
 
 /* The block at old, which may be none that is known, now has this size and stands at p; with p null it is gone. */
-static void tell_resized(void *old, size_t size, void *p, void *caller)
+static void tell_resized(void *old, size_t size, void *p, const char *site)
 {
     struct block *block = look_up((uintptr_t)old), taken = *block;
     uint32_t label = taken.at ? taken.label : 0;
@@ -802,7 +1241,7 @@ static void tell_resized(void *old, size_t size, void *p, void *caller)
     drop_unseen(p);
     if (!label) {
         if (taken.at) tell_gone(0, taken.size);
-        label = tell_new("realloc", 0, size, caller);
+        label = tell_new("realloc", 0, size, site);
     } else if (size == 0 || size > LARGEST_SIZE) {
         comment("realloc", 0, size, no_block);
         tell_gone(label, taken.size);
@@ -813,6 +1252,7 @@ static void tell_resized(void *old, size_t size, void *p, void *caller)
         number(&line, size);
         word(&line, " move");
         end_line(&line);
+        count_block(label, taken.size, size);
     }
     remember(p, label, size);
 }
@@ -831,22 +1271,40 @@ static void *take_new_from(void)
 
 /* The calls. */
 
-__attribute__((constructor)) static void start(void)
+/* The process has made a child by fork, which writes nothing. */
+static void forked(void)
 {
+    static const char line[] = "# fork: the child is in no script, but where it becomes another program\n";
     int error = errno;
-    if (is_found() && enter()) leave();
+    if (enter()) {
+        put(line, sizeof line - 1);
+        leave();
+    }
     errno = error;
 }
 
-/* What is written after this, by destructors that run later, is written line by line. */
+__attribute__((constructor)) static void start(void)
+{
+    int error = errno;
+    if (is_found() && enter()) {
+        pthread_atfork(NULL, forked, NULL);
+        leave();
+    }
+    errno = error;
+}
+
+/* What is written after this, by destructors that run later, is written line by line. Where the file can't be written to any
+   more, what is mapped stays. */
 __attribute__((destructor)) static void finish(void)
 {
     int error = errno;
     if (owner && !inside && is_writer()) {
         inside = 1;
         pthread_mutex_lock(&lock);
-        cut();
-        is_ending = 1;
+        if (!stopped && is_open() && limit_of_files() - written > 4096 && limit_of_files() > written) {
+            cut();
+            is_ending = 1;
+        }
         leave();
     }
     errno = error;
@@ -884,6 +1342,8 @@ void free(void *p)
 /* The lock is held over the allocator's own call, since that frees the old place before the line is written. */
 static void *resized(void *old, size_t size, void *caller)
 {
+    const struct block *block;
+    const char *site;
     void *p;
     int error;
     if (!old && !is_found()) return early_alloc(0, size);
@@ -895,9 +1355,13 @@ static void *resized(void *old, size_t size, void *caller)
         return p;
     }
     if (!enter()) return next_realloc(old, size);
+    error = errno;
+    block = look_up((uintptr_t)old);
+    site = block->at && block->label ? NULL : site_for(0, size, caller);
+    errno = error;
     p = next_realloc(old, size);
     error = errno;
-    if (p || size == 0) tell_resized(old, size, p, caller);
+    if (p || size == 0) tell_resized(old, size, p, site);
     leave();
     errno = error;
     return p;
@@ -943,24 +1407,76 @@ int posix_memalign(void **p, size_t align, size_t size)
     return fault;
 }
 
-/* C++'s operators new and new[], of 64-bit systems, so that who called them is the site. */
+/* What a library took its place from may be forgotten when it is gone. */
+int dlclose(void *handle)
+{
+    static int (*next)(void *);
+    int (*found)(void *) = __atomic_load_n(&next, __ATOMIC_RELAXED);
+    int status, error;
+    if (!found) {
+        *(void **)&found = dlsym(RTLD_NEXT, "dlclose");
+        __atomic_store_n(&next, found, __ATOMIC_RELAXED);
+    }
+    status = found(handle);
+    error = errno;
+    if (enter()) {
+        forget_unmapped();
+        leave();
+    }
+    errno = error;
+    return status;
+}
+
+/* C++'s operators new and new[], of 64-bit systems, so that who called them is the site. Each is passed on to the one behind
+   this library; where the program has loaded C++'s library later, to that; and else to what they do by themselves. */
 #ifdef __LP64__
-#define OPERATOR(name) \
-    void *name(size_t size) \
+
+static void *operator_behind(const char *name)
+{
+    void *found, *library;
+    int before = inside;
+    inside = 1;
+    found = dlsym(RTLD_NEXT, name);
+    if (!found) {
+        dlerror();
+        library = cxx_library();
+        if (library) found = dlsym(library, name);
+    }
+    inside = before;
+    return found;
+}
+
+static void *plain_new(size_t size, size_t align, int throws)
+{
+    void *p = align ? aligned_alloc(align, size) : malloc(size ? size : 1);
+    if (!p && throws) abort();
+    return p;
+}
+
+#define OPERATOR(name, parameters, arguments, plain) \
+    void *name parameters \
     { \
-        static void *(*next)(size_t); \
-        void *(*found)(size_t) = __atomic_load_n(&next, __ATOMIC_RELAXED); \
+        static void *(*next) parameters; \
+        void *(*found) parameters = __atomic_load_n(&next, __ATOMIC_RELAXED); \
         void *p; \
         if (!found) { \
-            *(void **)&found = dlsym(RTLD_NEXT, #name); \
+            *(void **)&found = operator_behind(#name); \
             __atomic_store_n(&next, found, __ATOMIC_RELAXED); \
         } \
         if (!new_from) new_from = __builtin_return_address(0); \
-        p = found(size); \
+        p = found ? found arguments : plain; \
         new_from = NULL; \
         return p; \
     }
 
-OPERATOR(_Znwm)
-OPERATOR(_Znam)
+OPERATOR(_Znwm, (size_t size), (size), plain_new(size, 0, 1))
+OPERATOR(_Znam, (size_t size), (size), plain_new(size, 0, 1))
+OPERATOR(_ZnwmRKSt9nothrow_t, (size_t size, const void *none), (size, none), plain_new(size, 0, 0))
+OPERATOR(_ZnamRKSt9nothrow_t, (size_t size, const void *none), (size, none), plain_new(size, 0, 0))
+OPERATOR(_ZnwmSt11align_val_t, (size_t size, size_t align), (size, align), plain_new(size, align, 1))
+OPERATOR(_ZnamSt11align_val_t, (size_t size, size_t align), (size, align), plain_new(size, align, 1))
+OPERATOR(_ZnwmSt11align_val_tRKSt9nothrow_t, (size_t size, size_t align, const void *none), (size, align, none),
+    plain_new(size, align, 0))
+OPERATOR(_ZnamSt11align_val_tRKSt9nothrow_t, (size_t size, size_t align, const void *none), (size, align, none),
+    plain_new(size, align, 0))
 #endif

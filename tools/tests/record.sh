@@ -4,7 +4,7 @@ record=$here/record
 can_record=no
 if has cc; then
     can_record=yes
-    for name in sizes threads closes many sites; do compiled "$name" || exit 1; done
+    for name in sizes threads closes many sites wraps live closed; do compiled "$name" || exit 1; done
     for name in early slow; do preloaded "$name" || exit 1; done
 else
     skipped "all that is recorded: there is no cc"
@@ -31,11 +31,12 @@ sizes() {
 
 many() {
     # More blocks than a region can have.
-    "$record" many.vm -- ./many
+    "$record" -q many.vm -- ./many
     check "1,000,005 live blocks: status 0" same "$?" 0
     check "1,000,005 live blocks: 1,000,001 lines of alloc and of free" \
         same "$(lines alloc many.vm) $(lines free many.vm)" "1000001 1000001"
-    check "1,000,005 live blocks: a comment for each of the others, its resizing and its end" same "$(lines '#' many.vm)" 13
+    check "1,000,005 live blocks: a comment for each of the others, its resizing and its end" \
+        same "$(grep -c ' of [0-9]* bytes: ' many.vm)" 12
     awk '$1 == "alloc" { bad += $3 in live; live[$3]; if (++n > most) most = n; split($3, w, "b"); if (w[2] > top) top = w[2] }
         $1 == "free" { bad += !($3 in live); delete live[$3]; n-- }
         END { print bad + 0, most + 0, top + 0 }' many.vm > many.got
@@ -69,6 +70,7 @@ threads() {
     check "$name: $live blocks with $bytes bytes are left, as the program counted" \
         same "$(left threads.vm)" "$((live + none_live)) $((bytes + none_bytes))"
     check "$name: the children wrote no script" same "$(ls threads.vm.* 2> /dev/null)" ""
+    check "$name: a comment for each child" same "$(grep -c '^# fork: ' threads.vm)" 20
 }
 
 started() {
@@ -96,12 +98,34 @@ in_the_way() {
     check "closed files: its own file holds what it wrote alone" same "$(cat own)" own
     check "closed files: 101 blocks before the limit and 100 behind it are recorded" same "$(lines alloc closes.vm)" 201
     check "closed files: the script runs to its end" runs closes.vm
-    (ulimit -f 8 && "$record" limit.vm -- ./threads 3000 > counts.limit)
-    check "a limit of 8 blocks for files: the program goes on" same "$?" 0
-    check "a limit of 8 blocks for files: the script ends with a whole line" same "$(tail -c 1 limit.vm | od -An -c | tr -d ' ')" '\n'
+    (ulimit -f 8 && "$record" limit.vm -- ./threads 3000 > counts.limit) 2> fault
+    check "a limit of 8 blocks for files: the program goes on, and the status is 124" same "$? $(wc -l < counts.limit)" "124 1"
+    check "a limit of 8 blocks for files: it is told, with the program's status" \
+        same "$(cat fault)" "record: $dir/limit.vm ends before its program did (status 0): its file has no room for more"
+    check "a limit of 8 blocks for files: the script's last line tells it" \
+        same "$(tail -n 1 limit.vm)" "# the recording stops here: its file has no room for more"
     check "a limit of 8 blocks for files: 4,096 bytes at most are written, and 4,000 at least" \
         test "$(wc -c < limit.vm)" -le 4096 -a "$(wc -c < limit.vm)" -ge 4000
     check "a limit of 8 blocks for files: the script runs to its end" runs limit.vm
+    (ulimit -f 8 && "$record" limit.vm -- sh -c './threads 3000; exit 6' > counts.limit) 2> fault
+    check "a limit of 8 blocks for files: of a started program it is told too" \
+        same "$? $(sed 's/.*limit.vm.[0-9]* //' fault)" "124 ends before its program did (status 6): its file has no room for more"
+    (ulimit -f 1 && "$record" limit.vm -- echo run > limit.out) 2> fault
+    check "a limit of 1 block for files: it is told, and the program isn't run" \
+        same "$? $(cat fault limit.out)" "2 record: $dir/limit.vm has no room for 1,024 bytes"
+    mkdir -p small
+    if has unshare && unshare -rm mount -t tmpfs -o size=32k none small 2> /dev/null; then
+        unshare -rm sh -c 'mount -t tmpfs -o size=32k none small && "$1" small/vm -- ./threads 3000 > counts.limit
+            echo "$?" > status; cp small/vm full.vm' sh "$record" 2> fault
+        check "a full disk: the program goes on, and the status is 124" same "$(cat status) $(wc -l < counts.limit)" "124 1"
+        check "a full disk: the script's last line tells it" \
+            same "$(tail -n 1 full.vm)" "# the recording stops here: its file has no room for more"
+        check "a full disk: 32,768 bytes at most are written, and 32,000 at least" \
+            test "$(wc -c < full.vm)" -le 32768 -a "$(wc -c < full.vm)" -ge 32000
+        check "a full disk: the script runs to its end" runs full.vm
+    else
+        skipped "a full disk: none can be made here"
+    fi
     # shellcheck disable=SC2016
     "$record" killed.vm -- sh -c './sizes & wait; kill -9 $$' 2> /dev/null
     check "a killed program: its script runs to its end" runs killed.vm
@@ -151,16 +175,79 @@ sites() {
     else
         skipped "a program without symbols: there is no strip"
     fi
-    "$record" --no-sites sites.vm -- ./sites
-    check "sites: --no-sites leaves them out" same "$(grep -c @ sites.vm)" 0
-    if has c++ && c++ -O0 -o new "$here/tests/new.cc" 2> /dev/null; then
-        "$record" new.vm -- ./new
-        check "sites: that of operator new is who called it" same "$(sed -n 's/^alloc r b[0-9]* 4321 @//p' new.vm)" Z5ownerv
-        check "sites: that of operator new[] too" same "$(sed -n 's/^alloc r b[0-9]* 1234 @//p' new.vm)" Z6ownersv
-    else
-        skipped "the sites of C++: there is no c++"
-    fi
+    "$record" --no-sites none.vm -- ./sites
+    check "sites: --no-sites leaves them out" same "$(grep -c '@\|^# site .* is ' none.vm)" 0
 
+    # Functions that are looked through.
+    "$record" -w xmalloc -w xrealloc -w copy -w xcalloc wraps.vm -- ./wraps 2> fault
+    check "-w: a function that no call came from is told" same "$? $(cat fault)" "0 record: no call came from xcalloc"
+    check "-w: the sites are the functions that asked, as often as they did" \
+        same "$(sites_of wraps.vm)" "5 deep 1 make_less 2 make_line 1 make_plain 3 make_word"
+    check "-w: each that is looked through has a comment" \
+        same "$(sed -n 's/^# looked through: //p' wraps.vm | tr '\n' ' ')" "xmalloc copy xrealloc "
+    "$record" -w copy wraps.vm -- ./wraps 2> fault
+    check "-w: a function that calls the allocator by another one alone isn't looked through" \
+        same "$? $(sites_of wraps.vm); $(cat fault)" "0 1 make_plain 10 xmalloc 1 xrealloc; record: no call came from copy"
+    cc -O2 -fno-builtin -fomit-frame-pointer -o wraps2 "$here/tests/wraps.c"
+    "$record" -w xmalloc -w xrealloc -w copy wraps.vm -- ./wraps2
+    check "-w: without frame pointers too" same "$(sites_of wraps.vm)" "5 deep 1 make_less 2 make_line 1 make_plain 3 make_word"
+
+    # Names that are cut.
+    name=$(sed -n 's/^# site \(.*\) is a_function_with_a_name_of_more_than_32_bytes$/\1/p' sites.vm)
+    check "a long name is a front and a hash, told whole in front of its first use" \
+        same "$(grep -n "$name" sites.vm | cut -d : -f 2 | tr '\n' ';')" \
+        "# site $name is a_function_with_a_name_of_more_than_32_bytes;alloc r b5 33 @$name;"
+    check "a name without its first characters is told whole too" grep -qx '# site underscored is _underscored' sites.vm
+
+    # Libraries that go.
+    for name in first second; do
+        cc -O0 -fno-builtin -shared -fPIC -DALLOCATES="alloc_$name" -DWANTED="$((1000 + ${#name}))" -o "$name.so" "$here/tests/plugin.c"
+    done
+    "$record" closed.vm -- ./closed ./first.so alloc_first goes ./second.so alloc_second goes ./first.so alloc_first stays > same
+    check "dlclose: a library in another's place has sites of its own" \
+        same "$? $(sed -n 's/^alloc r b[0-9]* \(100[56]\) @/\1 /p' closed.vm | tr '\n' ' ')" \
+        "0 1005 alloc_first 1006 alloc_second 1005 alloc_first "
+    grep -q same same || skipped "dlclose: no library came to stand in another's place"
+
+    # C++.
+    if ! has c++ || ! c++ -O0 -o new "$here/tests/new.cc" 2> /dev/null; then
+        skipped "the sites of C++: there is no c++"
+        return
+    fi
+    "$record" new.vm -- ./new
+    for call in '4321 owner new' '1234 owners new[]' '4322 quiet new(nothrow)' '1235 quiets new[](nothrow)'; do
+        # shellcheck disable=SC2086
+        set -- $call
+        site=$(sed -n "s/^alloc r b[0-9]* $1 @//p" new.vm)
+        check "C++: the site of operator $3 is who called it" same "$site" "Z${#2}$2v"
+        check "C++: its readable name stands in a comment" grep -qxF "# site $site is $2()" new.vm
+    done
+    for type in long char; do
+        echo "shop::part* shop::make_a_part_of_the_whole<shop::part>(shop::part*, int, $type)"
+    done > parts
+    sed -n 's/^# site \(ZN4shop[A-Za-z0-9_]*\) is \(.*\)/\2/p' new.vm > parts.got
+    check "C++: long names that begin alike are two sites, each told whole" diff parts parts.got
+    check "C++: these two names" same "$(sed -n 's/^alloc r b[0-9]* 50 @//p' new.vm | sort -u | awk 'length == 32' | wc -l)" 2
+    check "C++: the script runs to its end" runs new.vm
+    "$record" -w shop::make_a_part_of_the_whole new.vm -- ./new
+    check "C++: a function is looked through by its readable name" same "$(sites_of new.vm | grep -o '[0-9] main')" "2 main"
+    c++ -O0 -o own "$here/tests/own.cc"
+    "$record" own.vm -- ./own
+    check "C++: operators new of the program's own are looked through" \
+        same "$(sed -n 's/^alloc r b[0-9]* \(10[123]\) @/\1 /p' own.vm | tr '\n' ' ')" \
+        "101 Z4asksv 102 Z9asks_manyv 103 Z12asks_quietlyv "
+    c++ -O0 -shared -fPIC -o plugin.so "$here/tests/plugin.cc"
+    "$record" plugin.vm -- ./closed ./plugin.so allocates stays
+    check "C++: a library that a program of C loads has its operators" \
+        same "$? $(sed -n 's/^alloc r b[0-9]* \(777\|8\) @allocates/\1/p' plugin.vm | tr '\n' ' ')" "0 777 8 "
+}
+
+# The sites that a script has, each behind the number of its lines.
+sites_of() {
+    awk '$1 == "alloc" { n[substr($5, 2)]++ } END { for (site in n) print n[site], site }' "$1" | LC_ALL=C sort -k 2 | tr '\n' ' ' | sed 's/ $//'
+}
+
+options() {
     # Region, method and discipline.
     "$record" -r heap -m debug -d 1 options.vm -- ./sizes
     check "options: the script opens the region of them" same "$(head -n 1 options.vm)" "open heap debug 1"
@@ -169,19 +256,72 @@ sites() {
     check "options: a method that is none" same "$("$record" -m bset options.vm -- true 2> /dev/null; echo $?)" 2
     check "options: a region's name that is none" same "$("$record" -r 9 options.vm -- true 2> /dev/null; echo $?)" 2
     check "options: a discipline that is none" same "$("$record" -d x options.vm -- true 2> /dev/null; echo $?)" 2
-    awk 'BEGIN { print "open r best 9"; for (i = 1; i <= 1100; i++) print "alloc r b" i " 60000" }' > segments.vm
-    check "1,100 blocks of 60,000 bytes are too many segments" \
-        same "$("$program" < segments.vm | grep -c '^refused: too many segments$')" 77
+    for words in '-s 0' '-s 13' '-s x' '-s 2 -d 12' '-s 2 -d 0' '-w' '-s'; do
+        # shellcheck disable=SC2086
+        check "options: $words" same "$("$record" $words options.vm -- echo run 2> /dev/null; echo $?)" 2
+    done
+}
+
+# What is refused of a script.
+refusals() {
+    printf '#include <stdlib.h>\nint main(void) { void *a = malloc(10), *b = malloc(20); free(a); free(b); return 0; }\n' |
+        cc -O0 -fno-builtin -o fifo -x c -
+    told="commands are refused when it is run, the first in line 5:"
+    "$record" -p "$program" -m last refused.vm -- ./fifo 2> fault
+    check "in a last region: the refused commands are told" \
+        same "$? $(cat fault)" "0 record: $dir/refused.vm: 1 of 5 $told not last"
+    "$record" -p "$program" -m pool refused.vm -- ./sites 2> fault
+    check "in a pool: the refused commands are told" \
+        same "$? $(cat fault)" "0 record: $dir/refused.vm: 7 of 11 $told pool size"
+    "$record" -p "$dir/none" -m pool refused.vm -- ./sites 2> fault
+    check "in a pool: without vmreplay it is told that they aren't counted" same "$? $(cat fault)" \
+        "0 record: $dir/refused.vm: commands may be refused when it is run; there is no $dir/none to count them"
+    "$record" -p "$program" -q -m pool refused.vm -- ./sites 2> fault
+    check "with -q nothing is told" same "$? $(cat fault)" "0 "
+    "$record" -p "$program" -c refused.vm -- ./sites 2> fault
+    check "with -c, of a script of which nothing is refused, nothing is told" same "$? $(cat fault)" "0 "
+    "$record" -p "$program" -d 17 refused.vm -- ./fifo 2> fault
+    check "over no discipline: all commands are told" same "$? $(cat fault)" \
+        "0 record: $dir/refused.vm: 5 of 5 commands are refused when it is run, the first in line 1: no such discipline"
+    # Blocks of 60,000 bytes take a segment each, of which a region has 1,023.
+    "$record" -p "$program" refused.vm -- ./live 1100 60000 2> fault
+    check "1,100 blocks of 60,000 bytes: the refused are told without a word" same "$? $(sed 's/first in.*:/first:/' fault)" \
+        "0 record: $dir/refused.vm: 77 of 1,101 commands are refused when it is run, the first: too many segments"
+    check "1,100 blocks of 60,000 bytes: a line tells when they take much" \
+        same "$(grep -c '^# here the blocks of r take a quarter of the segments that a region can have$' refused.vm)" 1
     check "the manual page of record says so" grep -q 'too many segments' "$here/../man/vmrecord.1"
+}
+
+# Blocks in more than one region.
+spread() {
+    "$record" -s 3 -r heap spread.vm -- ./live 5 100
+    {
+        printf 'open heap%s best %s\n' '' 9 2 10 3 11
+        printf 'alloc heap%s b%s 100 @main\n' '' 1 2 1 3 1 '' 2 2 2
+    } > spread.lines
+    grep -v '^#' spread.vm > spread.got
+    check "three regions: each block is in the one whose blocks take least" diff spread.lines spread.got
+    check "three regions: the script runs to its end" runs spread.vm
+    "$record" -p "$program" -c -s 2 spread.vm -- ./live 1100 60000 2> fault
+    check "two regions: of 1,100 blocks of 60,000 bytes none is refused" same "$? $(cat fault)" "0 "
+    check "two regions: 550 blocks are in each" same "$(grep -c '^alloc r ' spread.vm) $(grep -c '^alloc r2 ' spread.vm)" "550 550"
+    "$record" -s 4 spread.vm -- ./sizes
+    check "four regions: a block is resized and freed in its own" runs spread.vm
+    check "four regions: the commands are those of one" same \
+        "$(sed -n 's/^\([a-z]*\) r[234]\{0,1\} b[0-9][0-9]*/\1/p' spread.vm)" \
+        "$(sed -n 's/^\([a-z]*\) r b[0-9][0-9]*/\1/p' "$here/tests/sizes.lines")"
 }
 
 if [ "$can_record" = yes ]; then
     sizes
-    many
-    threads "threads over a slow realloc" "$dir/slow.so" 500
-    threads threads "" 3000
+many
+threads "threads over a slow realloc" "$dir/slow.so" 500
+threads threads "" 3000
     started
     in_the_way
     nothing
     sites
+    options
+    refusals
+    spread
 fi
