@@ -9,8 +9,8 @@ BINDIR = $(PREFIX)/bin
 LIBDIR = $(BINDIR)/../lib/kolbista
 MANDIR = $(PREFIX)/share/man
 DOCDIR = $(PREFIX)/share/doc/kolbista
-TOOLS = record picture curve sites check
-PAGES = vmreplay.1 dtrun.1 vmrecord.1 vmpicture.1 vmcurve.1 vmsites.1 vmcheck.1
+TOOLS = record picture curve sites check from
+PAGES = vmreplay.1 dtrun.1 vmrecord.1 vmpicture.1 vmcurve.1 vmsites.1 vmcheck.1 vmfrom.1
 
 # Proves both programs and all below them, runs each on its sample script, and leaves them in bin/.
 all: needs-rt

@@ -9,16 +9,22 @@ bin/dtrun bin/vmreplay
 bin/vmcurve bin/vmpicture bin/vmrecord
 bin/vmsites share/man/man1/vmsites.1
 bin/vmcheck share/man/man1/vmcheck.1
+bin/vmfrom share/man/man1/vmfrom.1
 share/doc/kolbista/script.md
 share/man/man1/dtrun.1 share/man/man1/vmreplay.1
 share/man/man1/vmcurve.1 share/man/man1/vmpicture.1 share/man/man1/vmrecord.1
 END
         check "installed: programs, tools, pages and the script language" same \
             "$(cd "$at" && find bin share -type f ! -path '*/examples/*' | sort)" "$(tr ' ' '\n' < installed.files | sort)"
-        if has cc && compiled sizes; then
+        if has cc && compiled sizes && compiled live; then
             "$at/bin/vmrecord" installed.vm -- ./sizes
             grep -v '^# sizes, process' installed.vm > sizes.lines
             check "installed: vmrecord records" diff "$here/tests/sizes.lines" sizes.lines
+            "$at/bin/vmrecord" -m pool installed.vm -- ./live 5 100 2> fault
+            check "installed: vmrecord finds vmreplay" same "$? $(cat fault)" "0 "
+            "$at/bin/vmrecord" -d 17 installed.vm -- ./live 5 100 2> fault
+            check "installed: vmrecord tells what is refused" \
+                same "$(grep -c ': 6 of 6 commands are refused when it is run' fault)" 1
         fi
         "$at/bin/vmcurve" "$at/share/doc/kolbista/examples/trace.vm" > installed.svg
         check "installed: vmcurve finds vmreplay" grep -q '8,076' installed.svg
