@@ -13,7 +13,8 @@ use Rattle.vc_last.specs.Chain.{IsLast, blocks_from}
 use Rattle.vc_last.specs.Head.{before_of, block_of}
 use Rattle.vc_last.specs.Read.{layout_by}
 use Rattle.vc_last.proofs.Latest.{IsExact-front, IsLatestAt, call-latest, call-other, freed-latest, none-there, without-latest}
-use Rattle.vc_last.proofs.Resizes.{others-sized, there-latest, there-sized}
+use Rattle.vc_layouts.proofs.Resizes.{others-sized, there-sized}
+use Rattle.vc_last.proofs.Resizes.{there-latest}
 use Rattle.vc_last.proofs.Allocations.{row}
 use Rattle.vc_last.proofs.Chains.{chain-heads, head-exact, latest-some}
 use Rattle.vc_last.proofs.Changes.{elsewhere-latest, here-latest}
