@@ -47,7 +47,7 @@ fewer_by : (steps' steps found chain left rest all : ℕ) → steps' ≤ steps +
 fewer_by steps' steps found chain left rest all f e n h = omega (arith, f, e, n, h)
 
 -- the first of what is left was taken
-module _ (rules : Rules) (hash : DtHash) (start : Blocks) (holders : List ℕ) (passed : ℕ) (left left' : DtList) (set : DtHash) (lost : DtList) (b b1 : Blocks) (at begun steps : ℕ)
+module _ {rules : Rules} {hash : DtHash} {start : Blocks} {holders : List ℕ} {passed : ℕ} {left left' : DtList} {set : DtHash} {lost : DtList} {b b1 : Blocks} {at begun steps : ℕ}
     (more : passed < length holders) (s : ChainWeeding rules hash start holders passed left set lost b begun steps) (t : Taken at s.rest b left' b1) where
   table-is : set.table.0 ≡ hash.table.0
   table-is = ap (λ (z : Addr). z.0) s.table

@@ -21,7 +21,7 @@ sorted_next true rules b done at tail s = sorted_remove rules b done at tail s
 sorted_next false rules b done at tail s = subst (λ z. IsSorted rules b z) (sym (append_assoc done (at ∷ []) tail)) s
 
 -- the first of what is left was taken
-module _ (rules : Rules) (start : Blocks) (holders : List ℕ) (passed : ℕ) (left left' : DtList) (weeded : Weeded) (b b1 : Blocks) (at : ℕ) (s : NeighbourWeeding rules start holders passed left weeded b) (t : Taken at s.rest b left' b1) where
+module _ {rules : Rules} {start : Blocks} {holders : List ℕ} {passed : ℕ} {left left' : DtList} {weeded : Weeded} {b b1 : Blocks} {at : ℕ} (s : NeighbourWeeding rules start holders passed left weeded b) (t : Taken at s.rest b left' b1) where
   at-in : contains s.rest at ≡ true
   at-in = rest_some at s.rest t.tail t.whole
 

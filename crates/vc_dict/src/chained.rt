@@ -1,6 +1,7 @@
 ghost use Rattle.std.specs.Prelude.{ℕ, ◌+◌, ◌<◌, ◌≤◌, List, [], true, length};
 ghost use Rattle.vc_base.specs.Prelude.{Blocks};
 ghost use Rattle.vc_dtlist.specs.Linked.{StandsFor};
+ghost use Rattle.vc_dtlist.specs.TableWrites.{ChangesIn};
 ghost use Rattle.vc_dthash.specs.declared.dt_hash.DtHash.{DtHash};
 ghost use Rattle.vc_dthash.specs.Hashed.{CanChain, list_of};
 ghost use Rattle.vc_dict.specs.Orders.{dropped_holders, kept_holders};
@@ -25,13 +26,13 @@ fn weed_one<C: Cells, D: DictDisc, L>(
 )
     requires { CanWeedChain (D.rules kind.now) left.old kept.old dropped.old
         (C.blocks cells.old) }
-    ensures weeding { (hash : DtHash) (start : Blocks) (holders : List ℕ) (passed begun : ℕ)
+    ensures { ChangesIn C.blocks C.RestStays cells.old cells.new
+        (λ old new. (hash : DtHash) (start : Blocks) (holders : List ℕ) (passed begun : ℕ)
         → passed < length holders
         → ChainWeeding (D.rules kind.now) hash start holders passed left.old kept.old dropped.old
-        (C.blocks cells.old) begun steps.old
+        old begun steps.old
         → ChainWeeding (D.rules kind.now) hash start holders (passed + 1) left.new kept.new
-        dropped.new (C.blocks cells.new) begun steps.new }
-    ensures rest { C.RestStays cells.old cells.new }
+        dropped.new new begun steps.new) }
 {
     let at = take_front(left, cells);
     let found = kept.find(cells, kind, kind.key(cells.body(at)), steps);
@@ -51,15 +52,14 @@ pub(crate) fn weed_chains<C: Cells, D: DictDisc, L>(
     steps: &mut Steps<L>,
 ) -> Weeded
     requires { CanChain hash (C.blocks cells.old) }
-    ensures weeded { (holders : List ℕ) → StandsFor (list_of hash) (C.blocks cells.old) holders
+    ensures weeded { ChangesIn C.blocks C.RestStays cells.old cells.new
+        (λ old new. (holders : List ℕ) → StandsFor (list_of hash) old holders
         → IsSettled true (D.rules kind.now) hash holders
-        (kept_holders (D.rules kind.now) (C.blocks cells.old) [] holders)
-        (dropped_holders (D.rules kind.now) (C.blocks cells.old) [] holders)
-        (C.blocks cells.old) result (C.blocks cells.new) }
+        (kept_holders (D.rules kind.now) old [] holders)
+        (dropped_holders (D.rules kind.now) old [] holders) old result new) }
     ensures compares { (holders : List ℕ) → StandsFor (list_of hash) (C.blocks cells.old) holders
         → steps.new ≤ steps.old
         + chain_compares (D.rules kind.now) (C.blocks cells.old) hash.slots [] holders }
-    ensures rest { C.RestStays cells.old cells.new }
 {
     let mut left = DtList {
         first: hash.first,

@@ -4,6 +4,7 @@ ghost use Rattle.vc_base.specs.Prelude.{Blocks, IsHolder, contains, first_in, la
 ghost use Rattle.vc_dtdisc.specs.Finds.{find_key};
 ghost use Rattle.vc_dtdisc.specs.Rules.{Rules};
 ghost use Rattle.vc_dtlist.specs.Linked.{Finds, number_of};
+ghost use Rattle.vc_dtlist.specs.TableWrites.{ChangesIn};
 ghost use Rattle.vc_dict.specs.Methods.{wanted_by};
 ghost use Rattle.vc_dict.specs.Changes.{current_without, order_by_link, order_without};
 ghost use Rattle.vc_dict.specs.Turned.{behind_dropped};
@@ -224,11 +225,10 @@ impl Dict {
     // Takes a holder out, and leaves the current one.
     fn unlink_heads<C: Cells, D: DictDisc>(&mut self, cells: &mut C, kind: &D, at: Addr)
         requires { IsMember (D.rules kind.now) self.old (C.blocks cells.old) at.0 }
-        ensures dict { (holders : List ℕ)
-            → Stands (D.rules kind.now) self.old (C.blocks cells.old) holders
-            → Became (D.rules kind.now) holders self.old (C.blocks cells.old) self.new
-            (C.blocks cells.new) (without at.0 holders) self.old.current.0 }
-        ensures rest { C.RestStays cells.old cells.new }
+        ensures { ChangesIn C.blocks C.RestStays cells.old cells.new
+            (λ old new. (holders : List ℕ) → Stands (D.rules kind.now) self.old old holders
+            → Became (D.rules kind.now) holders self.old old self.new new (without at.0 holders)
+            self.old.current.0) }
     {
         self.heads.unlink(cells, kind, at);
         self.count -= 1;
@@ -239,12 +239,11 @@ impl Dict {
         requires dict { IsDict (D.rules kind.now) self.old (C.blocks cells.old) }
         requires found { (at : ℕ) → option_map number_of found ≡ Some at
             → IsMember (D.rules kind.now) self.old (C.blocks cells.old) at }
-        ensures dict { (holders : List ℕ)
-            → Stands (D.rules kind.now) self.old (C.blocks cells.old) holders
-            → Became (D.rules kind.now) holders self.old (C.blocks cells.old) self.new
-            (C.blocks cells.new) (order_without (option_map number_of found) holders)
-            (current_without (option_map number_of found) self.old.current.0 holders) }
-        ensures rest { C.RestStays cells.old cells.new }
+        ensures { ChangesIn C.blocks C.RestStays cells.old cells.new
+            (λ old new. (holders : List ℕ) → Stands (D.rules kind.now) self.old old holders
+            → Became (D.rules kind.now) holders self.old old self.new new
+            (order_without (option_map number_of found) holders)
+            (current_without (option_map number_of found) self.old.current.0 holders)) }
     {
         if let Some(at) = found {
             self.leave(cells, at);

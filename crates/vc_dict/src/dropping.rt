@@ -1,5 +1,6 @@
 ghost use Rattle.std.specs.Prelude.{ℕ, List, [], true};
 ghost use Rattle.vc_dtlist.specs.Linked.{StandsFor};
+ghost use Rattle.vc_dtlist.specs.TableWrites.{ChangesIn};
 ghost use Rattle.vc_dthash.specs.Hashed.{CanChain, list_of};
 ghost use Rattle.vc_dict.specs.Weeding.{CanSettle, IsSettled, Settled};
 
@@ -14,10 +15,9 @@ use vc_dtlist::DtList;
 // All holders of a list, put into the chains of a table.
 fn chain_all<C: Cells, D: DictDisc>(hash: DtHash, cells: &mut C, kind: &D) -> Weeded
     requires { CanChain hash (C.blocks cells.old) }
-    ensures chained { (holders : List ℕ) → StandsFor (list_of hash) (C.blocks cells.old) holders
-        → IsSettled true (D.rules kind.now) hash holders holders [] (C.blocks cells.old) result
-        (C.blocks cells.new) }
-    ensures rest { C.RestStays cells.old cells.new }
+    ensures { ChangesIn C.blocks C.RestStays cells.old cells.new
+        (λ old new. (holders : List ℕ) → StandsFor (list_of hash) old holders
+        → IsSettled true (D.rules kind.now) hash holders holders [] old result new) }
 {
     hash.chain_up(cells, kind);
     Weeded {
@@ -40,10 +40,9 @@ pub(crate) fn weed_by<C: Cells, D: DictDisc, L>(
     steps: &mut Steps<L>,
 ) -> Weeded
     requires { CanSettle (D.rules kind.now) method hash (C.blocks cells.old) }
-    ensures weeded { (holders : List ℕ) → StandsFor (list_of hash) (C.blocks cells.old) holders
-        → Settled (D.rules kind.now) method hash holders (C.blocks cells.old) result
-        (C.blocks cells.new) }
-    ensures rest { C.RestStays cells.old cells.new }
+    ensures { ChangesIn C.blocks C.RestStays cells.old cells.new
+        (λ old new. (holders : List ℕ) → StandsFor (list_of hash) old holders
+        → Settled (D.rules kind.now) method hash holders old result new) }
 {
     let list = DtList {
         first: hash.first,

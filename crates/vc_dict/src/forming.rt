@@ -1,5 +1,6 @@
 ghost use Rattle.std.specs.Prelude.{◌≡◌, ℕ, List, true, if◌then◌else◌};
 ghost use Rattle.vc_base.specs.Prelude.{has_table, is_ordered};
+ghost use Rattle.vc_dtlist.specs.TableWrites.{ChangesIn};
 ghost use Rattle.vc_dict.specs.Forming.{CanTakeForm, IsInForm};
 ghost use Rattle.vc_dict.specs.Passes.{IsCounted};
 ghost use Rattle.vc_dict.specs.Stands.{IsForm, slots_at, table_at};
@@ -27,12 +28,11 @@ pub(crate) fn in_form<C: Cells, D: DictDisc, L>(
     ensures form { IsForm method result }
     ensures table { table_at result ≡ (if has_table method then table else record { 0 = 0 }) }
     ensures slots { slots_at result ≡ (if has_table method then slots else 0) }
-    ensures heads { (holders : List ℕ)
+    ensures heads { ChangesIn C.blocks C.RestStays cells.old cells.new
+        (λ old new. (holders : List ℕ)
         → CanTakeForm (D.rules kind.now) method
         (record { first = list.first; last = list.last; table = table; slots = slots; count = count })
-        (C.blocks cells.old) holders
-        → IsInForm (D.rules kind.now) holders (C.blocks cells.old) result (C.blocks cells.new) }
-    ensures rest { C.RestStays cells.old cells.new }
+        old holders → IsInForm (D.rules kind.now) holders old result new) }
 {
     if method.has_table() {
         Heads::Hash(DtHash {

@@ -3,6 +3,7 @@ ghost use Rattle.std.specs.Option.{option_map};
 ghost use Rattle.vc_base.specs.Prelude.{Blocks, first_in, last_in, next_in, previous_in, without};
 ghost use Rattle.vc_dtdisc.specs.Rules.{Rules};
 ghost use Rattle.vc_dtlist.specs.Linked.{Finds, number_of};
+ghost use Rattle.vc_dtlist.specs.TableWrites.{ChangesIn};
 ghost use Rattle.vc_dthash.specs.Hashed.{Listed};
 ghost use Rattle.vc_dthash.specs.Slots.{wanted_slots};
 ghost use Rattle.vc_dict.specs.Changes.{order_by_link};
@@ -96,16 +97,13 @@ impl Heads {
         steps: &mut Steps<L>,
     )
         requires { CanJoin (D.rules kind.now) method self.old (C.blocks cells.old) current.0 at.0 append }
-        ensures heads { (holders : List ℕ)
-            → HeadsFor (D.rules kind.now) self.old (C.blocks cells.old) holders
-            → HeadsTurned (D.rules kind.now) (at.0 ∷ holders) self.old (C.blocks cells.old) self.new
-            (C.blocks cells.new)
-            (order_by_link append method (D.rules kind.now) (C.blocks cells.old) current.0 at.0
-            holders) }
+        ensures heads { ChangesIn C.blocks C.RestStays cells.old cells.new
+            (λ old new. (holders : List ℕ) → HeadsFor (D.rules kind.now) self.old old holders
+            → HeadsTurned (D.rules kind.now) (at.0 ∷ holders) self.old old self.new new
+            (order_by_link append method (D.rules kind.now) old current.0 at.0 holders)) }
         ensures steps { (holders : List ℕ)
             → HeadsFor (D.rules kind.now) self.old (C.blocks cells.old) holders
             → steps.new ≤ steps.old + length holders }
-        ensures rest { C.RestStays cells.old cells.new }
     {
         match self {
             Heads::Hash(hash) => hash.link(cells, kind, at),
@@ -131,11 +129,9 @@ impl Heads {
             → HeadsFor (D.rules kind.now) self.old (C.blocks cells.old) holders
             → steps.new ≤ steps.old
             + heads_compares (D.rules kind.now) self.old (C.blocks cells.old) key.now holders }
-        ensures heads { (holders : List ℕ)
-            → HeadsFor (D.rules kind.now) self.old (C.blocks cells.old) holders
-            → HeadsTurned (D.rules kind.now) holders self.old (C.blocks cells.old) self.new
-            (C.blocks cells.new) holders }
-        ensures rest { C.RestStays cells.old cells.new }
+        ensures heads { ChangesIn C.blocks C.RestStays cells.old cells.new
+            (λ old new. (holders : List ℕ) → HeadsFor (D.rules kind.now) self.old old holders
+            → HeadsTurned (D.rules kind.now) holders self.old old self.new new holders) }
     {
         match self {
             Heads::Hash(hash) => hash.find(cells, kind, key, steps),
@@ -147,11 +143,10 @@ impl Heads {
     // Takes a holder out.
     pub(crate) fn unlink<C: Cells, D: DictDisc>(&mut self, cells: &mut C, kind: &D, at: Addr)
         requires { HasHolder self.old (C.blocks cells.old) at.0 }
-        ensures heads { (holders : List ℕ)
-            → HeadsFor (D.rules kind.now) self.old (C.blocks cells.old) holders
-            → HeadsTurned (D.rules kind.now) (at.0 ∷ holders) self.old (C.blocks cells.old) self.new
-            (C.blocks cells.new) (without at.0 holders) }
-        ensures rest { C.RestStays cells.old cells.new }
+        ensures { ChangesIn C.blocks C.RestStays cells.old cells.new
+            (λ old new. (holders : List ℕ) → HeadsFor (D.rules kind.now) self.old old holders
+            → HeadsTurned (D.rules kind.now) (at.0 ∷ holders) self.old old self.new new
+            (without at.0 holders)) }
     {
         match self {
             Heads::Hash(hash) => hash.unlink(cells, kind, at),
@@ -219,10 +214,9 @@ impl Heads {
     // Their holders, of which there are so many, as a list.
     pub(crate) fn into_list<C: Cells>(self, count: u64, cells: &mut C) -> DtList
         requires { AreHeads self (C.blocks cells.old) count }
-        ensures list { (rules : Rules) (holders : List ℕ)
-            → HeadsFor rules self (C.blocks cells.old) holders
-            → Listed holders (C.blocks cells.old) result (C.blocks cells.new) }
-        ensures rest { C.RestStays cells.old cells.new }
+        ensures { ChangesIn C.blocks C.RestStays cells.old cells.new
+            (λ old new. (rules : Rules) (holders : List ℕ) → HeadsFor rules self old holders
+            → Listed holders old result new) }
     {
         match self {
             Heads::Hash(hash) => hash.into_list(cells),

@@ -1,6 +1,7 @@
 ghost use Rattle.std.specs.Prelude.{◌≡◌, ℕ, ◌+◌, ◌<◌, ◌≤◌, List, [], length};
 ghost use Rattle.vc_base.specs.Prelude.{Blocks, IsHolder};
 ghost use Rattle.vc_dtlist.specs.Linked.{IsList, StandsFor};
+ghost use Rattle.vc_dtlist.specs.TableWrites.{ChangesIn};
 ghost use Rattle.vc_dict.specs.Orders.{dropped_holders, kept_holders};
 ghost use Rattle.vc_dict.specs.Weeding.{AreWeeded, CanWeed, IsSortedList, NeighbourWeeding, last_matches};
 
@@ -42,13 +43,11 @@ fn weed_one<C: Cells, D: DictDisc, L>(
     steps: &mut Steps<L>,
 )
     requires { CanWeed (D.rules kind.now) left.old weeded.old (C.blocks cells.old) }
-    ensures weeding { (start : Blocks) (holders : List ℕ) (passed : ℕ) → passed < length holders
-        → NeighbourWeeding (D.rules kind.now) start holders passed left.old weeded.old
-        (C.blocks cells.old)
-        → NeighbourWeeding (D.rules kind.now) start holders (passed + 1) left.new weeded.new
-        (C.blocks cells.new) }
+    ensures weeding { ChangesIn C.blocks C.RestStays cells.old cells.new
+        (λ old new. (start : Blocks) (holders : List ℕ) (passed : ℕ) → passed < length holders
+        → NeighbourWeeding (D.rules kind.now) start holders passed left.old weeded.old old
+        → NeighbourWeeding (D.rules kind.now) start holders (passed + 1) left.new weeded.new new) }
     ensures steps { steps.new ≤ steps.old + 1 }
-    ensures rest { C.RestStays cells.old cells.new }
 {
     let at = take_front(left, cells);
     let drop = matches_last(&weeded.kept, cells, kind, at, steps);
@@ -64,12 +63,11 @@ pub(crate) fn weed_neighbours<C: Cells, D: DictDisc, L>(
     steps: &mut Steps<L>,
 ) -> Weeded
     requires { IsSortedList (D.rules kind.now) list (C.blocks cells.old) count }
-    ensures weeded { (holders : List ℕ) → StandsFor list (C.blocks cells.old) holders
-        → AreWeeded holders (kept_holders (D.rules kind.now) (C.blocks cells.old) [] holders)
-        (dropped_holders (D.rules kind.now) (C.blocks cells.old) [] holders)
-        (C.blocks cells.old) result (C.blocks cells.new) }
+    ensures weeded { ChangesIn C.blocks C.RestStays cells.old cells.new
+        (λ old new. (holders : List ℕ) → StandsFor list old holders
+        → AreWeeded holders (kept_holders (D.rules kind.now) old [] holders)
+        (dropped_holders (D.rules kind.now) old [] holders) old result new) }
     ensures steps { steps.new ≤ steps.old + count }
-    ensures rest { C.RestStays cells.old cells.new }
 {
     let mut left = list;
     let mut weeded = Weeded {

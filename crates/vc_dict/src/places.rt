@@ -1,7 +1,8 @@
 ghost use Rattle.std.specs.Prelude.{◌≡◌, ◌≢◌, ℕ, List, Bool, false};
 ghost use Rattle.vc_base.specs.Prelude.{Blocks, is_ordered};
 ghost use Rattle.vc_dtdisc.specs.Rules.{Rules};
-ghost use Rattle.vc_dtlist.specs.Linked.{CanAdd, IsIn, StandsFor, Turned, Turns};
+ghost use Rattle.vc_dtlist.specs.Linked.{CanAdd, IsIn, StandsFor, Turns, TurnsIn};
+ghost use Rattle.vc_dtlist.specs.TableWrites.{ChangesIn};
 ghost use Rattle.vc_dict.specs.Changes.{before_current, behind_current, order_by_insert, order_by_link};
 
 use vc_base::{Addr, Cells, DictMethod};
@@ -11,9 +12,8 @@ use vc_dtlist::DtList;
 fn put_before<C: Cells>(list: &mut DtList, cells: &mut C, mark: Addr, at: Addr)
     requires list { CanAdd list.old (C.blocks cells.old) at.0 }
     requires mark { mark.0 ≢ 0 → IsIn list.old (C.blocks cells.old) mark.0 }
-    ensures list { Turns at.0 list.old (C.blocks cells.old) list.new (C.blocks cells.new)
+    ensures { TurnsIn C.blocks C.RestStays at.0 list.old cells.old list.new cells.new
         (before_current mark.0 at.0) }
-    ensures rest { C.RestStays cells.old cells.new }
 {
     if mark == Addr::NONE {
         list.push_front(cells, at);
@@ -26,9 +26,8 @@ fn put_before<C: Cells>(list: &mut DtList, cells: &mut C, mark: Addr, at: Addr)
 fn put_behind<C: Cells>(list: &mut DtList, cells: &mut C, mark: Addr, at: Addr)
     requires list { CanAdd list.old (C.blocks cells.old) at.0 }
     requires mark { mark.0 ≢ 0 → IsIn list.old (C.blocks cells.old) mark.0 }
-    ensures list { Turns at.0 list.old (C.blocks cells.old) list.new (C.blocks cells.new)
+    ensures { TurnsIn C.blocks C.RestStays at.0 list.old cells.old list.new cells.new
         (behind_current mark.0 at.0) }
-    ensures rest { C.RestStays cells.old cells.new }
 {
     if mark == Addr::NONE {
         list.push_back(cells, at);
@@ -42,9 +41,9 @@ fn put<C: Cells>(list: &mut DtList, cells: &mut C, method: DictMethod, current: 
     requires list { CanAdd list.old (C.blocks cells.old) at.0 }
     requires mark { current.0 ≢ 0 → IsIn list.old (C.blocks cells.old) current.0 }
     requires method { is_ordered method ≡ false }
-    ensures list { (rules : Rules) → Turns at.0 list.old (C.blocks cells.old) list.new
-        (C.blocks cells.new) (order_by_insert method rules (C.blocks cells.old) current.0 at.0) }
-    ensures rest { C.RestStays cells.old cells.new }
+    ensures { ChangesIn C.blocks C.RestStays cells.old cells.new
+        (λ old new. (rules : Rules)
+        → Turns at.0 list.old old list.new new (order_by_insert method rules old current.0 at.0)) }
 {
     match method {
         DictMethod::DtList => put_before(list, cells, current, at),
@@ -65,9 +64,10 @@ pub(crate) fn put_linked<C: Cells>(
     requires list { CanAdd list.old (C.blocks cells.old) at.0 }
     requires mark { current.0 ≢ 0 → IsIn list.old (C.blocks cells.old) current.0 }
     requires method { is_ordered method ≡ false }
-    ensures list { (rules : Rules) → Turns at.0 list.old (C.blocks cells.old) list.new
-        (C.blocks cells.new) (order_by_link append method rules (C.blocks cells.old) current.0 at.0) }
-    ensures rest { C.RestStays cells.old cells.new }
+    ensures { ChangesIn C.blocks C.RestStays cells.old cells.new
+        (λ old new. (rules : Rules)
+        → Turns at.0 list.old old list.new new
+        (order_by_link append method rules old current.0 at.0)) }
 {
     if append {
         put_behind(list, cells, current, at);

@@ -1,5 +1,6 @@
 ghost use Rattle.std.specs.Prelude.{◌≡◌, ◌≢◌, ℕ, List, true, false, ◌&&◌, if◌then◌else◌};
 ghost use Rattle.vc_base.specs.Prelude.{Blocks, has_table};
+ghost use Rattle.vc_dtlist.specs.TableWrites.{ChangesIn};
 ghost use Rattle.vc_dict.specs.Methods.{slots_between};
 ghost use Rattle.vc_dict.specs.Stands.{Stands, slots_in, table_in};
 ghost use Rattle.vc_dict.specs.Turned.{CanRemethod, Remethoded, Unchanged};
@@ -65,11 +66,10 @@ impl Dict {
     ) -> Dropped
         requires { CanRemethod (D.rules kind.now) self.old (C.blocks cells.old) method table.0
             slots }
-        ensures dict { (holders : List ℕ)
-            → Stands (D.rules kind.now) self.old (C.blocks cells.old) holders
-            → Remethoded (D.rules kind.now) method table.0 slots holders self.old
-            (C.blocks cells.old) self.new (C.blocks cells.new) result }
-        ensures rest { C.RestStays cells.old cells.new }
+        ensures { ChangesIn C.blocks C.RestStays cells.old cells.new
+            (λ old new. (holders : List ℕ) → Stands (D.rules kind.now) self.old old holders
+            → Remethoded (D.rules kind.now) method table.0 slots holders self.old old self.new new
+            result) }
     {
         let list = self.heads.into_list(self.count, cells);
         let ordered = order_by(list, self.count, method, cells, kind, steps);

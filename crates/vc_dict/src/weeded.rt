@@ -1,5 +1,6 @@
 ghost use Rattle.std.specs.Prelude.{◌≡◌, ℕ, List, false};
 ghost use Rattle.vc_base.specs.Prelude.{contains};
+ghost use Rattle.vc_dtlist.specs.TableWrites.{ChangesIn};
 ghost use Rattle.vc_dict.specs.Weeding.{Added, CanAddPart, Parts};
 
 use vc_base::{Addr, Cells};
@@ -17,10 +18,10 @@ impl Weeded {
     // Puts a holder behind those that are dropped, or those that are kept, which are a list.
     pub(crate) fn add<C: Cells>(&mut self, cells: &mut C, at: Addr, drop: bool)
         requires { CanAddPart self.old (C.blocks cells.old) at.0 }
-        ensures added { (done gone : List ℕ) → Parts self.old (C.blocks cells.old) done gone
+        ensures { ChangesIn C.blocks C.RestStays cells.old cells.new
+            (λ old new. (done gone : List ℕ) → Parts self.old old done gone
             → contains done at.0 ≡ false → contains gone at.0 ≡ false
-            → Added at.0 drop done gone (C.blocks cells.old) self.new (C.blocks cells.new) }
-        ensures rest { C.RestStays cells.old cells.new }
+            → Added at.0 drop done gone old self.new new) }
     {
         if drop {
             self.dropped.push_back(cells, at);

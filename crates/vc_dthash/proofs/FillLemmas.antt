@@ -100,8 +100,7 @@ due_by xs front rest at whole e end = record {
 
 pub due : (b0 b : Blocks) (table slots : ℕ) (xs : List ℕ) (passed at : ℕ) (w : Filling b0 b table slots xs passed at) → passed < length xs → Due xs w.rest at
 due b0 b table slots xs passed at w h =
-    let long : length xs ≡ length w.front + length w.rest = ap length w.whole ∙ length-append w.front w.rest in
-    due_by xs w.front w.rest at w.whole w.next (ending w.front (omega (arith, h, w.count)))
+    due_by xs w.front w.rest at w.whole w.next (ending w.front (omega (arith, h, w.count, ap length w.whole ∙ length-append w.front w.rest)))
 
 due_within : (xs rest : List ℕ) (at : ℕ) (d : Due xs rest at) → contains xs at ≡ true
 due_within xs rest at d = subst (λ z. contains z at ≡ true) (sym d.whole) (within-rest d.front (at ∷ rest) at (within-head at rest))
@@ -165,8 +164,7 @@ none_before (x ∷ xs) rest h = absurd (omega (arith, h))
 
 pub Filling-end : (b0 b : Blocks) (table slots : ℕ) (xs : List ℕ) (passed at : ℕ) → Filling b0 b table slots xs passed at → length xs ≤ passed → Filled table slots xs b0 b
 Filling-end b0 b table slots xs passed at w h =
-    let long : length xs ≡ length w.front + length w.rest = ap length w.whole ∙ length-append w.front w.rest in
-    let all : w.rest ≡ xs = sym (w.whole ∙ none_before w.front w.rest (omega (arith, h, w.count))) in
+    let all : w.rest ≡ xs = sym (w.whole ∙ none_before w.front w.rest (omega (arith, h, w.count, ap length w.whole ∙ length-append w.front w.rest))) in
     record {
       chains = subst (λ z. AreChained (λ a. word_at b0 a 3) b table slots z) all w.chains;
       words = w.words;

@@ -62,10 +62,9 @@ going_by list b0 b xs front (y ∷ ys) at l whole e k h =
       fits = omega (arith, told, fits);
     }
 
-pub Marking-going : (P : Blocks → ℕ → Type 0) (list : DtList) (b0 b : Blocks) (xs : List ℕ) (passed at : ℕ) → LinksFor list b0 xs → (w : Marking P b0 b xs passed at) → passed < length xs → Going b0 b xs w.front w.rest at
-Marking-going P list b0 b xs passed at l w h =
-    let long : length xs ≡ length w.front + length w.rest = ap length w.whole ∙ length-append w.front w.rest in
-    going_by list b0 b xs w.front w.rest at l w.whole w.next w.keeps (omega (arith, h, w.count))
+pub Marking-going : {P : Blocks → ℕ → Type 0} {list : DtList} {b0 b : Blocks} {xs : List ℕ} {passed at : ℕ} → LinksFor list b0 xs → (w : Marking P b0 b xs passed at) → passed < length xs → Going b0 b xs w.front w.rest at
+Marking-going {list = list} {b0 = b0} {b = b} {xs = xs} {at = at} l w h =
+    going_by list b0 b xs w.front w.rest at l w.whole w.next w.keeps (omega (arith, h, w.count, ap length w.whole ∙ length-append w.front w.rest))
 
 -- it was written: its links stay, and whatever holds of others still does
 last_of_two : (front : List ℕ) (at a : ℕ) (t : Bool) → contains front a ≡ t → a ≢ at → contains (front ++ at ∷ []) a ≡ true → contains front a ≡ true
@@ -80,7 +79,7 @@ link_by b0 b b' at w own links a k h = elim (eqb_tells a at) as (λ _. word_at b
 
 pub Marking-next : (P : Blocks → ℕ → Type 0) (list : DtList) (b0 b b' : Blocks) (xs : List ℕ) (passed at n : ℕ) → ((a : ℕ) → b' a ≡ b a → P b a → P b' a) → LinksFor list b0 xs → Marking P b0 b xs passed at → passed < length xs → WordsWritten b b' at → ((k : ℕ) → k < 2 → word_at b' at k ≡ word_at b at k) → P b' at → n ≡ word_at b' at 1 → Marking P b0 b' xs (passed + 1) n
 Marking-next P list b0 b b' xs passed at n stays l w h written own mark e =
-    let go = Marking-going P list b0 b xs passed at l w h in
+    let go = Marking-going l w h in
     let links = link_by b0 b b' at written own w.links in
     record {
       front = w.front ++ at ∷ [];
@@ -108,8 +107,7 @@ none_behind front (x ∷ xs) h = absurd (omega (arith, h))
 
 pub Marking-end : (P : Blocks → ℕ → Type 0) (list : DtList) (b0 b : Blocks) (xs : List ℕ) (passed at : ℕ) → LinksFor list b0 xs → Marking P b0 b xs passed at → length xs ≤ passed → Marked P list xs b0 b
 Marking-end P list b0 b xs passed at l w h =
-    let long : length xs ≡ length w.front + length w.rest = ap length w.whole ∙ length-append w.front w.rest in
-    let all : xs ≡ w.front = w.whole ∙ none_behind w.front w.rest (omega (arith, h, w.count)) in
+    let all : xs ≡ w.front = w.whole ∙ none_behind w.front w.rest (omega (arith, h, w.count, ap length w.whole ∙ length-append w.front w.rest)) in
     record {
       links = LinksFor-kept list b0 b xs w.keeps.there w.keeps.sizes (λ a k _ few. w.links a k few) l;
       marks = λ a k. w.marks a (subst (λ z. contains z a ≡ true) all k);

@@ -3,6 +3,7 @@ ghost use Rattle.vc_base.specs.Prelude.{HasBytes, word_at};
 ghost use Rattle.vc_base.specs.Holders.{last_of};
 ghost use Rattle.vc_dtdisc.specs.Finds.{has_key};
 ghost use Rattle.vc_dtlist.specs.Linked.{IsPlain, LinksFor};
+ghost use Rattle.vc_dtlist.specs.TableWrites.{ChangesIn};
 ghost use Rattle.vc_dthash.specs.Chained.{HasChainPlace, IsChainPlace, IsHashed};
 ghost use Rattle.vc_dthash.specs.ChainWrites.{CanFill, CanFront, CanPoint, Cleared, Filled, Fronted, IsLinkedBy, Marked, Pointed, SlotWritten};
 
@@ -22,8 +23,8 @@ pub(crate) fn slot_of(hash: u64, slots: u32) -> u32
 // Writes one slot of a table.
 fn set_slot<C: Cells>(cells: &mut C, table: Addr, k: u32, to: u64)
     requires { HasBytes (C.blocks cells.old) table.0 (8 * k + 8) }
-    ensures written { SlotWritten (C.blocks cells.old) (C.blocks cells.new) table.0 k to }
-    ensures rest { C.RestStays cells.old cells.new }
+    ensures { ChangesIn C.blocks C.RestStays cells.old cells.new
+        (λ old new. SlotWritten old new table.0 k to) }
 {
     cells.set_slot(table, k, to);
 }
@@ -81,8 +82,8 @@ pub(crate) fn seek_before<C: Cells>(cells: &C, table: Addr, k: u32, count: u64, 
 // Lets a chain go on at an address behind one of its holders, or begin there where none is named.
 pub(crate) fn point<C: Cells>(cells: &mut C, table: Addr, k: u32, before: Addr, to: Addr)
     requires { CanPoint (C.blocks cells.old) table.0 k before.0 }
-    ensures pointed { Pointed (C.blocks cells.old) (C.blocks cells.new) table.0 k before.0 to.0 }
-    ensures rest { C.RestStays cells.old cells.new }
+    ensures { ChangesIn C.blocks C.RestStays cells.old cells.new
+        (λ old new. Pointed old new table.0 k before.0 to.0) }
 {
     if before == Addr::NONE {
         set_slot(cells, table, k, to.0 as u64);
@@ -94,8 +95,8 @@ pub(crate) fn point<C: Cells>(cells: &mut C, table: Addr, k: u32, before: Addr, 
 // Writes 0 into each slot of a table.
 pub(crate) fn clear<C: Cells>(cells: &mut C, table: Addr, slots: u32)
     requires { HasBytes (C.blocks cells.old) table.0 (8 * slots) }
-    ensures cleared { Cleared (C.blocks cells.old) (C.blocks cells.new) table.0 slots }
-    ensures rest { C.RestStays cells.old cells.new }
+    ensures { ChangesIn C.blocks C.RestStays cells.old cells.new
+        (λ old new. Cleared old new table.0 slots) }
 {
     for k in 0..slots {
         set_slot(cells, table, k, 0);
@@ -105,9 +106,8 @@ pub(crate) fn clear<C: Cells>(cells: &mut C, table: Addr, slots: u32)
 // Puts a holder at the front of its chain.
 fn put_front<C: Cells>(cells: &mut C, table: Addr, slots: u32, at: Addr)
     requires { CanFront (C.blocks cells.old) table.0 slots at.0 }
-    ensures fronted { Fronted (C.blocks cells.old) (C.blocks cells.new) table.0
-        (word_at (C.blocks cells.old) at.0 3 % slots) at.0 }
-    ensures rest { C.RestStays cells.old cells.new }
+    ensures { ChangesIn C.blocks C.RestStays cells.old cells.new
+        (λ old new. Fronted old new table.0 (word_at old at.0 3 % slots) at.0) }
 {
     let k = slot_of(cells.load(at, 3), slots);
     let first = cells.slot(table, k);
@@ -118,9 +118,9 @@ fn put_front<C: Cells>(cells: &mut C, table: Addr, slots: u32, at: Addr)
 // Puts holders into the chains of a table of zeros, from the last one to the first, by the hashes in their words 3.
 pub(crate) fn fill<C: Cells>(list: DtList, count: u64, cells: &mut C, table: Addr, slots: u32)
     requires { CanFill list (C.blocks cells.old) table.0 slots count }
-    ensures filled { (holders : List ℕ) → LinksFor list (C.blocks cells.old) holders
-        → Filled table.0 slots holders (C.blocks cells.old) (C.blocks cells.new) }
-    ensures rest { C.RestStays cells.old cells.new }
+    ensures { ChangesIn C.blocks C.RestStays cells.old cells.new
+        (λ old new. (holders : List ℕ) → LinksFor list old holders
+        → Filled table.0 slots holders old new) }
 {
     let mut at = list.last;
     for _passed in 0..count {
@@ -132,9 +132,9 @@ pub(crate) fn fill<C: Cells>(list: DtList, count: u64, cells: &mut C, table: Add
 // Writes 0 into words 2 and 3 of each holder.
 pub(crate) fn free_all<C: Cells>(list: DtList, count: u64, cells: &mut C)
     requires { IsLinkedBy list (C.blocks cells.old) count }
-    ensures marked { (holders : List ℕ) → LinksFor list (C.blocks cells.old) holders
-        → Marked IsPlain list holders (C.blocks cells.old) (C.blocks cells.new) }
-    ensures rest { C.RestStays cells.old cells.new }
+    ensures { ChangesIn C.blocks C.RestStays cells.old cells.new
+        (λ old new. (holders : List ℕ) → LinksFor list old holders
+        → Marked IsPlain list holders old new) }
 {
     let mut at = list.first;
     for _passed in 0..count {
@@ -147,10 +147,9 @@ pub(crate) fn free_all<C: Cells>(list: DtList, count: u64, cells: &mut C)
 // Writes the hash of its key into word 3 of each holder.
 pub(crate) fn hash_all<C: Cells, D: DictDisc>(list: DtList, count: u64, cells: &mut C, kind: &D)
     requires { IsLinkedBy list (C.blocks cells.old) count }
-    ensures marked { (holders : List ℕ) → LinksFor list (C.blocks cells.old) holders
-        → Marked (IsHashed (D.rules kind.now)) list holders (C.blocks cells.old)
-        (C.blocks cells.new) }
-    ensures rest { C.RestStays cells.old cells.new }
+    ensures { ChangesIn C.blocks C.RestStays cells.old cells.new
+        (λ old new. (holders : List ℕ) → LinksFor list old holders
+        → Marked (IsHashed (D.rules kind.now)) list holders old new) }
 {
     let mut at = list.first;
     for _passed in 0..count {

@@ -3,6 +3,7 @@ ghost use Rattle.std.specs.Option.{option_map};
 ghost use Rattle.vc_base.specs.Prelude.{Blocks, first_in, last_in, next_in, previous_in, without};
 ghost use Rattle.vc_dtdisc.specs.Rules.{Rules};
 ghost use Rattle.vc_dtlist.specs.Linked.{StandsFor, number_of};
+ghost use Rattle.vc_dtlist.specs.TableWrites.{ChangesIn};
 ghost use Rattle.vc_dthash.specs.Chained.{FindsInSlot};
 ghost use Rattle.vc_dthash.specs.Hashed.{Adopts, CanAdopt, CanChain, CanLink, ChainedUp, HashFor, HashTurns, IsHash, IsKept, IsLinked, Listed, list_of};
 ghost use Rattle.vc_dthash.specs.Slots.{most_slots, slots_for, wanted_slots};
@@ -105,9 +106,8 @@ impl DtHash {
     ) -> Addr
         requires { CanAdopt (D.rules kind.now) self.old (C.blocks cells.old) table.0 slots }
         ensures old { result ≡ self.old.table }
-        ensures hash { Adopts (D.rules kind.now) table.0 slots self.old (C.blocks cells.old) self.new
-            (C.blocks cells.new) }
-        ensures rest { C.RestStays cells.old cells.new }
+        ensures hash { ChangesIn C.blocks C.RestStays cells.old cells.new
+            (λ old new. Adopts (D.rules kind.now) table.0 slots self.old old self.new new) }
     {
         let old = self.table;
         clear(cells, table, slots);
@@ -130,10 +130,9 @@ impl DtHash {
     /// Its holders as a list: words 2 and 3 of each are 0 then, and its table no longer leads to them.
     pub fn into_list<C: Cells>(self, cells: &mut C) -> DtList
         requires { IsKept self (C.blocks cells.old) }
-        ensures list { (rules : Rules) (holders : List ℕ)
-            → HashFor rules self (C.blocks cells.old) holders
-            → Listed holders (C.blocks cells.old) result (C.blocks cells.new) }
-        ensures rest { C.RestStays cells.old cells.new }
+        ensures { ChangesIn C.blocks C.RestStays cells.old cells.new
+            (λ old new. (rules : Rules) (holders : List ℕ) → HashFor rules self old holders
+            → Listed holders old result new) }
     {
         free_all(self.list(), self.count, cells);
         self.list()
@@ -143,10 +142,9 @@ impl DtHash {
     /// table has room for them as in `adopt_table`, or there is none of either.
     pub fn chain_up<C: Cells, D: DictDisc>(self, cells: &mut C, kind: &D)
         requires { CanChain self (C.blocks cells.old) }
-        ensures chained { (holders : List ℕ)
-            → StandsFor (list_of self) (C.blocks cells.old) holders
-            → ChainedUp (D.rules kind.now) self holders (C.blocks cells.old) (C.blocks cells.new) }
-        ensures rest { C.RestStays cells.old cells.new }
+        ensures { ChangesIn C.blocks C.RestStays cells.old cells.new
+            (λ old new. (holders : List ℕ) → StandsFor (list_of self) old holders
+            → ChainedUp (D.rules kind.now) self holders old new) }
     {
         hash_all(self.list(), self.count, cells, kind);
         if self.table == Addr::NONE {
@@ -160,10 +158,9 @@ impl DtHash {
     /// is none.
     pub fn link<C: Cells, D: DictDisc>(&mut self, cells: &mut C, kind: &D, at: Addr)
         requires { CanLink (D.rules kind.now) self.old (C.blocks cells.old) at.0 }
-        ensures hash { HashTurns (D.rules kind.now) at.0 self.old (C.blocks cells.old) self.new
-            (C.blocks cells.new)
-            (λ xs. xs ++ at.0 ∷ []) }
-        ensures rest { C.RestStays cells.old cells.new }
+        ensures { ChangesIn C.blocks C.RestStays cells.old cells.new
+            (λ old new. HashTurns (D.rules kind.now) at.0 self.old old self.new new
+            (λ xs. xs ++ at.0 ∷ [])) }
     {
         let hash = kind.hash(kind.key(cells.body(at)));
         let k = slot_of(hash, self.slots);
@@ -181,10 +178,8 @@ impl DtHash {
     /// Takes a holder of the list out. It keeps its bytes behind the words.
     pub fn unlink<C: Cells, D: DictDisc>(&mut self, cells: &mut C, kind: &D, at: Addr)
         requires { IsLinked self.old (C.blocks cells.old) at.0 }
-        ensures hash { HashTurns (D.rules kind.now) at.0 self.old (C.blocks cells.old) self.new
-            (C.blocks cells.new)
-            (without at.0) }
-        ensures rest { C.RestStays cells.old cells.new }
+        ensures { ChangesIn C.blocks C.RestStays cells.old cells.new
+            (λ old new. HashTurns (D.rules kind.now) at.0 self.old old self.new new (without at.0)) }
     {
         let k = slot_of(cells.load(at, 3), self.slots);
         let behind = neighbour(cells, at, 2);

@@ -1,7 +1,7 @@
 -- Lists of addresses: which hold one, and which hold none twice.
-use Rattle.vc_base.proofs.Common.{◌≡◌, ℕ, ◌+◌, true, false, ◌≢◌, List, [], ◌∷◌, ◌++◌, length, Some, None, sym, refl, ap, inl, inr, true≢false, arith, eq-eqb, ne_eqb, eqb_tells, AreDistinct, contains, first_in, first_of, last_in, next_in, previous_in, some_address, without}
+use Rattle.vc_base.proofs.Common.{◌≡◌, ℕ, ◌+◌, true, false, ◌≢◌, List, [], ◌∷◌, ◌++◌, length, sym, refl, ap, inl, inr, true≢false, arith, eq-eqb, ne_eqb, eqb_tells, AreDistinct, contains, first_in, first_of, last_in, some_address, without}
 use Rattle.vc_base.specs.Holders.{inserted_after, inserted_before, last_of}
-use Rattle.vc_base.proofs.Members.{apart-head, apart-tail, apart-cons, apart-front, apart-rest, apart-removed, previous_in-behind}
+use Rattle.vc_base.proofs.Members.{apart-head, apart-tail, apart-cons, apart-front, apart-rest}
 
 pub apart-append : (xs ys : List ℕ) (a : ℕ) → contains xs a ≡ false → contains ys a ≡ false → contains (xs ++ ys) a ≡ false
 apart-append [] ys a h k = k

@@ -1,5 +1,5 @@
 -- A list over blocks of which none of its holders changed, as those that a call on another list left.
-use Rattle.vc_base.proofs.Common.{◌≡◌, ℕ, ◌<◌, true, false, List, [], ◌∷◌, length, is_some, All, unwrap_or, refl, ap, ◌∙◌, inl, inr, arith, eq-eqb, eqb_tells, All-cons, All-head, All-nil, All-tail, Blocks, HasBytes, bytes_at, word, word_at, KeepsBut, contains, first_of}
+use Rattle.vc_base.proofs.Common.{◌≡◌, ℕ, ◌<◌, true, false, List, [], ◌∷◌, length, is_some, All, unwrap_or, refl, ap, ◌∙◌, arith, All-cons, All-head, All-nil, All-tail, Blocks, HasBytes, bytes_at, word, word_at, KeepsBut, contains, first_of}
 use Rattle.vc_base.proofs.Members.{within-head, within-tail}
 use Rattle.vc_dtlist.specs.declared.dt_list.DtList.{DtList}
 use Rattle.vc_dtlist.specs.TableWrites.{KeepsTables}

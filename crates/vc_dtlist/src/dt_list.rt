@@ -3,6 +3,7 @@ ghost use Rattle.std.specs.Option.{option_map};
 ghost use Rattle.vc_base.specs.Prelude.{Blocks, first_in, last_in, next_in, previous_in, without};
 ghost use Rattle.vc_base.specs.Holders.{inserted_after, inserted_before};
 ghost use Rattle.vc_dtlist.specs.Linked.{CanAdd, CanJoin, CanPlace, Finds, IsIn, IsJoined, IsList, JoinsBetween, LinksBetween, Relinks, StandsFor, TurnsIn, number_of};
+ghost use Rattle.vc_dtlist.specs.TableWrites.{ChangesIn};
 ghost use Rattle.vc_dtlist.specs.Sought.{Seeks, stands_so};
 
 use crate::Sought;
@@ -55,9 +56,8 @@ impl DtList {
     // Puts a holder between two neighbours, either of which may be none, and keeps its other words.
     fn join<C: Cells>(&mut self, cells: &mut C, before: Addr, at: Addr, behind: Addr)
         requires { CanPlace self.old (C.blocks cells.old) before.0 at.0 behind.0 }
-        ensures list { JoinsBetween before.0 at.0 behind.0 self.old (C.blocks cells.old) self.new
-            (C.blocks cells.new) }
-        ensures rest { C.RestStays cells.old cells.new }
+        ensures { ChangesIn C.blocks C.RestStays cells.old cells.new
+            (λ old new. JoinsBetween before.0 at.0 behind.0 self.old old self.new new) }
     {
         set_ends(cells, at, before, behind);
         set_link(cells, before, 1, at);
@@ -69,9 +69,8 @@ impl DtList {
     // Puts a holder between two neighbours, either of which may be none.
     fn link<C: Cells>(&mut self, cells: &mut C, before: Addr, at: Addr, behind: Addr)
         requires { CanPlace self.old (C.blocks cells.old) before.0 at.0 behind.0 }
-        ensures list { LinksBetween before.0 at.0 behind.0 self.old (C.blocks cells.old) self.new
-            (C.blocks cells.new) }
-        ensures rest { C.RestStays cells.old cells.new }
+        ensures { ChangesIn C.blocks C.RestStays cells.old cells.new
+            (λ old new. LinksBetween before.0 at.0 behind.0 self.old old self.new new) }
     {
         set_plain(cells, at);
         self.join(cells, before, at, behind);
@@ -81,9 +80,8 @@ impl DtList {
     /// words 2 and 3 of each. It has at least 33 bytes and isn't one of them.
     pub fn join_back<C: Cells>(&mut self, cells: &mut C, at: Addr)
         requires { CanJoin self.old (C.blocks cells.old) at.0 }
-        ensures list { Relinks at.0 self.old (C.blocks cells.old) self.new (C.blocks cells.new)
-            (λ xs. xs ++ at.0 ∷ []) }
-        ensures rest { C.RestStays cells.old cells.new }
+        ensures { ChangesIn C.blocks C.RestStays cells.old cells.new
+            (λ old new. Relinks at.0 self.old old self.new new (λ xs. xs ++ at.0 ∷ [])) }
     {
         let last = self.last;
         self.join(cells, last, at, Addr::NONE);
@@ -93,9 +91,8 @@ impl DtList {
     /// of each.
     pub fn part<C: Cells>(&mut self, cells: &mut C, at: Addr)
         requires { IsJoined self.old (C.blocks cells.old) at.0 }
-        ensures list { Relinks at.0 self.old (C.blocks cells.old) self.new (C.blocks cells.new)
-            (without at.0) }
-        ensures rest { C.RestStays cells.old cells.new }
+        ensures { ChangesIn C.blocks C.RestStays cells.old cells.new
+            (λ old new. Relinks at.0 self.old old self.new new (without at.0)) }
     {
         let before = neighbour(cells, at, 0);
         let behind = neighbour(cells, at, 1);

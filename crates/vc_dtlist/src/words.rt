@@ -1,8 +1,9 @@
-ghost use Rattle.std.specs.Prelude.{◌≡◌, ℕ, ◌<◌, ◌≤◌, ◌^◌, ◌==◌, if◌then◌else◌};
+ghost use Rattle.std.specs.Prelude.{◌≡◌, ◌<◌, ◌^◌, ◌==◌, if◌then◌else◌};
 ghost use Rattle.std.specs.Option.{option_map};
 ghost use Rattle.vc_base.specs.Prelude.{some_address, HasBytes, word_at};
-ghost use Rattle.vc_base.specs.Cells.{WordWritten, WordsWritten};
-ghost use Rattle.vc_dtlist.specs.Linked.{HasWords, IsPlain};
+ghost use Rattle.vc_base.specs.Cells.{WordWritten};
+ghost use Rattle.vc_dtlist.specs.Linked.{HasWords};
+ghost use Rattle.vc_dtlist.specs.TableWrites.{ChangesIn, EndsWritten, PlainWritten};
 
 use vc_base::{Addr, Cells};
 
@@ -10,8 +11,8 @@ use vc_base::{Addr, Cells};
 pub fn set_word<C: Cells>(cells: &mut C, at: Addr, k: u32, value: u64)
     requires word { k < 4 }
     requires holder { HasBytes (C.blocks cells.old) at.0 32 }
-    ensures written { WordWritten (C.blocks cells.old) (C.blocks cells.new) at.0 k value }
-    ensures rest { C.RestStays cells.old cells.new }
+    ensures { ChangesIn C.blocks C.RestStays cells.old cells.new
+        (λ old new. WordWritten old new at.0 k value) }
 {
     cells.store(at, k, value);
 }
@@ -19,12 +20,8 @@ pub fn set_word<C: Cells>(cells: &mut C, at: Addr, k: u32, value: u64)
 // Writes the words of a holder that name its neighbours.
 pub(crate) fn set_ends<C: Cells>(cells: &mut C, at: Addr, before: Addr, behind: Addr)
     requires { HasBytes (C.blocks cells.old) at.0 32 }
-    ensures written { WordsWritten (C.blocks cells.old) (C.blocks cells.new) at.0 }
-    ensures previous { word_at (C.blocks cells.new) at.0 0 ≡ before.0 }
-    ensures next { word_at (C.blocks cells.new) at.0 1 ≡ behind.0 }
-    ensures words { (a k : ℕ) → 2 ≤ k
-        → word_at (C.blocks cells.new) a k ≡ word_at (C.blocks cells.old) a k }
-    ensures rest { C.RestStays cells.old cells.new }
+    ensures { ChangesIn C.blocks C.RestStays cells.old cells.new
+        (EndsWritten at.0 before.0 behind.0) }
 {
     set_word(cells, at, 0, before.0 as u64);
     set_word(cells, at, 1, behind.0 as u64);
@@ -33,9 +30,7 @@ pub(crate) fn set_ends<C: Cells>(cells: &mut C, at: Addr, before: Addr, behind: 
 // Writes the other two words of a holder: 0 into each.
 pub(crate) fn set_plain<C: Cells>(cells: &mut C, at: Addr)
     requires { HasBytes (C.blocks cells.old) at.0 32 }
-    ensures written { WordsWritten (C.blocks cells.old) (C.blocks cells.new) at.0 }
-    ensures plain { IsPlain (C.blocks cells.new) at.0 }
-    ensures rest { C.RestStays cells.old cells.new }
+    ensures { ChangesIn C.blocks C.RestStays cells.old cells.new (PlainWritten at.0) }
 {
     set_word(cells, at, 2, 0);
     set_word(cells, at, 3, 0);
@@ -45,8 +40,8 @@ pub(crate) fn set_plain<C: Cells>(cells: &mut C, at: Addr)
 pub(crate) fn set_link<C: Cells>(cells: &mut C, at: Addr, k: u32, to: Addr)
     requires word { k < 4 }
     requires holder { HasWords (C.blocks cells.old) at.0 }
-    ensures written { WordWritten (C.blocks cells.old) (C.blocks cells.new) at.0 k to.0 }
-    ensures rest { C.RestStays cells.old cells.new }
+    ensures { ChangesIn C.blocks C.RestStays cells.old cells.new
+        (λ old new. WordWritten old new at.0 k to.0) }
 {
     if at != Addr::NONE {
         set_word(cells, at, k, to.0 as u64);

@@ -110,7 +110,7 @@ pub node-link_fits : (blocks : Blocks) (a k : ℕ) → k < 3 → is_node blocks 
 node-link_fits blocks a k few h = link_small k (bytes_at blocks a) ((node-is blocks a h).links k few)
 
 -- a link of a node was written
-module _ (old new : Blocks) (n k value : ℕ) (w : NumberWritten old new n k value) (few : k < 3) (node : is_node old n ≡ true) where
+module _ {old new : Blocks} {n k value : ℕ} (w : NumberWritten old new n k value) (few : k < 3) (node : is_node old n ≡ true) where
   link-after : (j : ℕ) → j < 3 → is_link j (bytes_at new n) ≡ true
   link-after j lt = elim (eqb_tells j k) as (λ _. is_link j (bytes_at new n) ≡ true) [
     | inl same ↦ subst (λ z. is_link z (bytes_at new n) ≡ true) (sym same.1) w.link

@@ -2,6 +2,7 @@ ghost use Rattle.std.specs.Prelude.{◌≡◌, ℕ, ◌+◌, ◌≤◌, List, �
 ghost use Rattle.vc_base.specs.Prelude.{without};
 ghost use Rattle.vc_dtdisc.specs.Rules.{Rules};
 ghost use Rattle.vc_dtlist.specs.Linked.{Finds};
+ghost use Rattle.vc_dtlist.specs.TableWrites.{ChangesIn};
 ghost use Rattle.vc_dtlist.specs.Sought.{Seeks, stands_so};
 ghost use Rattle.vc_dtord.specs.Ordered.{CanLink, IsLinked, IsOrd, OrdFor, OrdTurned, order_with};
 
@@ -24,14 +25,12 @@ pub(crate) fn link_in<'a, C: Cells, D: DictDisc, L>(
 ) -> DtOrd
     requires { CanLink (D.rules kind.now) ord (C.blocks nodes.old.cells.now)
         nodes.old.mark.0 }
-    ensures linked { (xs : List ℕ)
-        → OrdFor (D.rules kind.now) ord (C.blocks nodes.old.cells.now) xs
-        → OrdTurned (D.rules kind.now) (nodes.old.mark.0 ∷ xs)
-        (C.blocks nodes.old.cells.now) result (C.blocks nodes.new.cells.now)
-        (order_with (D.rules kind.now) (C.blocks nodes.old.cells.now) nodes.old.mark.0 xs)
-        × (steps.new ≤ steps.old + length xs) }
+    ensures linked { ChangesIn C.blocks C.RestStays nodes.old.cells.now nodes.new.cells.now
+        (λ old new. (xs : List ℕ) → OrdFor (D.rules kind.now) ord old xs
+        → OrdTurned (D.rules kind.now) (nodes.old.mark.0 ∷ xs) old result new
+        (order_with (D.rules kind.now) old nodes.old.mark.0 xs)
+        × (steps.new ≤ steps.old + length xs)) }
     ensures same { nodes.new.cells.ghost_name ≡ nodes.old.cells.ghost_name }
-    ensures rest { C.RestStays nodes.old.cells.now nodes.new.cells.now }
 {
     let at = nodes.mark;
     clear_words(nodes.cells, at);
@@ -43,12 +42,10 @@ pub(crate) fn link_in<'a, C: Cells, D: DictDisc, L>(
 #[inline(always)]
 pub(crate) fn unlink_in<'a, C: Cells>(nodes: &mut Holders<'a, C>, ord: DtOrd) -> DtOrd
     requires { IsLinked ord (C.blocks nodes.old.cells.now) nodes.old.mark.0 }
-    ensures list { (rules : Rules) (xs : List ℕ)
-        → OrdFor rules ord (C.blocks nodes.old.cells.now) xs
-        → OrdTurned rules xs (C.blocks nodes.old.cells.now) result
-        (C.blocks nodes.new.cells.now) (without nodes.old.mark.0 xs) }
+    ensures list { ChangesIn C.blocks C.RestStays nodes.old.cells.now nodes.new.cells.now
+        (λ old new. (rules : Rules) (xs : List ℕ) → OrdFor rules ord old xs
+        → OrdTurned rules xs old result new (without nodes.old.mark.0 xs)) }
     ensures same { nodes.new.cells.ghost_name ≡ nodes.old.cells.ghost_name }
-    ensures rest { C.RestStays nodes.old.cells.now nodes.new.cells.now }
 {
     let at = nodes.mark;
     let root = unlink(nodes, ord.root.0, at.0);
@@ -66,14 +63,11 @@ pub(crate) fn find_in<'a, C: Cells, D: DictDisc, L>(
 ) -> (DtOrd, Option<Addr>)
     requires ord { IsOrd (D.rules kind.now) ord (C.blocks nodes.old.cells.now) }
     requires mark { nodes.old.mark ≡ ord.root }
-    ensures found { (xs : List ℕ)
-        → OrdFor (D.rules kind.now) ord (C.blocks nodes.old.cells.now) xs
-        → Finds (D.rules kind.now) (C.blocks nodes.old.cells.now) key.now xs result.1
-        steps.old steps.new
-        × OrdTurned (D.rules kind.now) xs (C.blocks nodes.old.cells.now) result.0
-        (C.blocks nodes.new.cells.now) xs }
+    ensures found { ChangesIn C.blocks C.RestStays nodes.old.cells.now nodes.new.cells.now
+        (λ old new. (xs : List ℕ) → OrdFor (D.rules kind.now) ord old xs
+        → Finds (D.rules kind.now) old key.now xs result.1 steps.old steps.new
+        × OrdTurned (D.rules kind.now) xs old result.0 new xs) }
     ensures same { nodes.new.cells.ghost_name ≡ nodes.old.cells.ghost_name }
-    ensures rest { C.RestStays nodes.old.cells.now nodes.new.cells.now }
 {
     let (root, at) = find_first(nodes, ord.root.0, &ByKey { kind, key }, steps);
     (DtOrd { root: Addr(root) }, found(Addr(at)))
@@ -90,14 +84,11 @@ pub(crate) fn at_least_in<'a, C: Cells, D: DictDisc, L>(
 ) -> (DtOrd, Option<Addr>)
     requires ord { IsOrd (D.rules kind.now) ord (C.blocks nodes.old.cells.now) }
     requires mark { nodes.old.mark ≡ ord.root }
-    ensures found { (xs : List ℕ)
-        → OrdFor (D.rules kind.now) ord (C.blocks nodes.old.cells.now) xs
-        → Seeks (stands_so Sought.NotLess (D.rules kind.now) (C.blocks nodes.old.cells.now)
-        key.now) xs result.1 steps.old steps.new
-        × OrdTurned (D.rules kind.now) xs (C.blocks nodes.old.cells.now) result.0
-        (C.blocks nodes.new.cells.now) xs }
+    ensures found { ChangesIn C.blocks C.RestStays nodes.old.cells.now nodes.new.cells.now
+        (λ old new. (xs : List ℕ) → OrdFor (D.rules kind.now) ord old xs
+        → Seeks (stands_so Sought.NotLess (D.rules kind.now) old key.now) xs result.1 steps.old
+        steps.new × OrdTurned (D.rules kind.now) xs old result.0 new xs) }
     ensures same { nodes.new.cells.ghost_name ≡ nodes.old.cells.ghost_name }
-    ensures rest { C.RestStays nodes.old.cells.now nodes.new.cells.now }
 {
     let (root, at) = find_least_at(nodes, ord.root.0, &ByKey { kind, key }, steps);
     (DtOrd { root: Addr(root) }, found(Addr(at)))

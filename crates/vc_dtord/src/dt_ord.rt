@@ -3,6 +3,7 @@ ghost use Rattle.std.specs.Option.{option_map};
 ghost use Rattle.vc_base.specs.Prelude.{Blocks, first_in, last_in, next_in, previous_in, without};
 ghost use Rattle.vc_dtdisc.specs.Rules.{Rules};
 ghost use Rattle.vc_dtlist.specs.Linked.{Finds, number_of};
+ghost use Rattle.vc_dtlist.specs.TableWrites.{ChangesIn};
 ghost use Rattle.vc_dtlist.specs.Sought.{Seeks, stands_so};
 ghost use Rattle.vc_dtord.specs.Ordered.{CanLink, IsLinked, IsOrd, IsOrdered, OrdFor, OrdTurned, order_with};
 
@@ -42,14 +43,13 @@ impl DtOrd {
         steps: &mut Steps<L>,
     )
         requires { CanLink (D.rules kind.now) self.old (C.blocks cells.old) at.0 }
-        ensures list { (holders : List ℕ)
-            → OrdFor (D.rules kind.now) self.old (C.blocks cells.old) holders
-            → OrdTurned (D.rules kind.now) (at.0 ∷ holders) (C.blocks cells.old) self.new
-            (C.blocks cells.new) (order_with (D.rules kind.now) (C.blocks cells.old) at.0 holders) }
+        ensures list { ChangesIn C.blocks C.RestStays cells.old cells.new
+            (λ old new. (holders : List ℕ) → OrdFor (D.rules kind.now) self.old old holders
+            → OrdTurned (D.rules kind.now) (at.0 ∷ holders) old self.new new
+            (order_with (D.rules kind.now) old at.0 holders)) }
         ensures steps { (holders : List ℕ)
             → OrdFor (D.rules kind.now) self.old (C.blocks cells.old) holders
             → steps.new ≤ steps.old + length holders }
-        ensures rest { C.RestStays cells.old cells.new }
     {
         *self = link_in(&mut Holders { cells, mark: at }, *self, kind, steps);
     }
@@ -57,11 +57,9 @@ impl DtOrd {
     /// Takes a holder of the list out. It keeps its bytes behind the words.
     pub fn unlink<C: Cells>(&mut self, cells: &mut C, at: Addr)
         requires { IsLinked self.old (C.blocks cells.old) at.0 }
-        ensures list { (rules : Rules) (holders : List ℕ)
-            → OrdFor rules self.old (C.blocks cells.old) holders
-            → OrdTurned rules holders (C.blocks cells.old) self.new (C.blocks cells.new)
-            (without at.0 holders) }
-        ensures rest { C.RestStays cells.old cells.new }
+        ensures { ChangesIn C.blocks C.RestStays cells.old cells.new
+            (λ old new. (rules : Rules) (holders : List ℕ) → OrdFor rules self.old old holders
+            → OrdTurned rules holders old self.new new (without at.0 holders)) }
     {
         *self = unlink_in(&mut Holders { cells, mark: at }, *self);
     }
@@ -80,11 +78,9 @@ impl DtOrd {
             → OrdFor (D.rules kind.now) self.old (C.blocks cells.old) holders
             → Finds (D.rules kind.now) (C.blocks cells.old) key.now holders result
             steps.old steps.new }
-        ensures list { (holders : List ℕ)
-            → OrdFor (D.rules kind.now) self.old (C.blocks cells.old) holders
-            → OrdTurned (D.rules kind.now) holders (C.blocks cells.old) self.new
-            (C.blocks cells.new) holders }
-        ensures rest { C.RestStays cells.old cells.new }
+        ensures list { ChangesIn C.blocks C.RestStays cells.old cells.new
+            (λ old new. (holders : List ℕ) → OrdFor (D.rules kind.now) self.old old holders
+            → OrdTurned (D.rules kind.now) holders old self.new new holders) }
     {
         let mark = self.root;
         let (ord, at) = find_in(&mut Holders { cells, mark }, *self, kind, key, steps);
@@ -106,11 +102,9 @@ impl DtOrd {
             → OrdFor (D.rules kind.now) self.old (C.blocks cells.old) holders
             → Seeks (stands_so Sought.NotLess (D.rules kind.now) (C.blocks cells.old) key.now)
             holders result steps.old steps.new }
-        ensures list { (holders : List ℕ)
-            → OrdFor (D.rules kind.now) self.old (C.blocks cells.old) holders
-            → OrdTurned (D.rules kind.now) holders (C.blocks cells.old) self.new
-            (C.blocks cells.new) holders }
-        ensures rest { C.RestStays cells.old cells.new }
+        ensures list { ChangesIn C.blocks C.RestStays cells.old cells.new
+            (λ old new. (holders : List ℕ) → OrdFor (D.rules kind.now) self.old old holders
+            → OrdTurned (D.rules kind.now) holders old self.new new holders) }
     {
         let mark = self.root;
         let (ord, at) = at_least_in(&mut Holders { cells, mark }, *self, kind, key, steps);

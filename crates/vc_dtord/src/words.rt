@@ -1,5 +1,6 @@
 ghost use Rattle.std.specs.Prelude.{◌≡◌, ◌<◌, true};
 ghost use Rattle.vc_base.specs.Prelude.{HasBytes, IsHolder, word_at};
+ghost use Rattle.vc_dtlist.specs.TableWrites.{ChangesIn};
 ghost use Rattle.vc_dtord.specs.Nodes.{is_node};
 ghost use Rattle.vc_dtord.specs.WordWrites.{IsHolderCleared, NumberWritten};
 
@@ -21,8 +22,8 @@ pub(crate) fn link_at<C: Cells>(cells: &C, n: u32, k: u32) -> u32
 pub(crate) fn write_word<C: Cells>(cells: &mut C, at: Addr, k: u32, value: u32)
     requires word { k < 4 }
     requires holder { HasBytes (C.blocks cells.old) at.0 32 }
-    ensures written { NumberWritten (C.blocks cells.old) (C.blocks cells.new) at.0 k value }
-    ensures rest { C.RestStays cells.old cells.new }
+    ensures { ChangesIn C.blocks C.RestStays cells.old cells.new
+        (λ old new. NumberWritten old new at.0 k value) }
 {
     cells.store(at, k, value as u64);
 }
@@ -30,8 +31,8 @@ pub(crate) fn write_word<C: Cells>(cells: &mut C, at: Addr, k: u32, value: u32)
 // Makes the four words of a holder 0, whatever they were.
 pub(crate) fn clear_words<C: Cells>(cells: &mut C, at: Addr)
     requires { IsHolder (C.blocks cells.old) at.0 }
-    ensures cleared { IsHolderCleared (C.blocks cells.old) (C.blocks cells.new) at.0 }
-    ensures rest { C.RestStays cells.old cells.new }
+    ensures { ChangesIn C.blocks C.RestStays cells.old cells.new
+        (λ old new. IsHolderCleared old new at.0) }
 {
     write_word(cells, at, 0, 0);
     write_word(cells, at, 1, 0);

@@ -16,10 +16,13 @@ set_slot-requires g c =
 pub loop-k-preserved : goal.loop-k-preserved
 loop-k-preserved g c = (
   Cleared-next (g.C.Cells.blocks c.args.cells.now) (g.C.Cells.blocks c.loop-k.cells) (g.C.Cells.blocks c.set_slot.new.cells) c.args.table.0 c.loop-k.k
-      c.loop-k.invariant.0 c.set_slot.ensures.written,
+      c.loop-k.invariant.0 c.set_slot.ensures.change,
   g.met.C.Cells.transitive c.args.cells.now c.loop-k.cells c.set_slot.new.cells c.loop-k.invariant.1 c.set_slot.ensures.rest,
 )
 
-pub returns-clause-cleared : goal.returns-clause-cleared
-returns-clause-cleared g c =
-    record { zeros = λ k h. c.loop-k.invariant.0.zeros k (omega (arith, h, c.loop-k-test.false)); keeps = c.loop-k.invariant.0.keeps }
+pub returns : goal.returns
+returns g c = record {
+  change =
+      record { zeros = λ k h. c.loop-k.invariant.0.zeros k (omega (arith, h, c.loop-k-test.false)); keeps = c.loop-k.invariant.0.keeps };
+  rest = c.loop-k.invariant.1;
+}

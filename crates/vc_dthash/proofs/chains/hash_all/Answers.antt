@@ -14,56 +14,47 @@ loop-passed-init g c = (
 
 pub body-requires : goal.body-requires
 body-requires g c =
-    (Marking-going (IsHashed (g.D.DictDisc.rules c.args.kind.now)) c.args.list (g.C.Cells.blocks c.args.cells.now) (g.C.Cells.blocks c.loop-passed.cells) c.requires.holders c.loop-passed._passed c.loop-passed.at.0 c.requires.links
-    (c.loop-passed.invariant.0 c.requires.holders c.requires.links) (omega (arith, c.loop-passed-test.true, c.requires.many))).words
+    (Marking-going c.requires.links (c.loop-passed.invariant.0 c.requires.holders c.requires.links) (omega (arith, c.loop-passed-test.true, c.requires.many))).words
 
 pub set_word-requires-clause-holder : goal.set_word-requires-clause-holder
 set_word-requires-clause-holder g c =
-    (Marking-going (IsHashed (g.D.DictDisc.rules c.args.kind.now)) c.args.list (g.C.Cells.blocks c.args.cells.now) (g.C.Cells.blocks c.loop-passed.cells) c.requires.holders c.loop-passed._passed c.loop-passed.at.0 c.requires.links
-    (c.loop-passed.invariant.0 c.requires.holders c.requires.links) (omega (arith, c.loop-passed-test.true, c.requires.many))).words
+    (Marking-going c.requires.links (c.loop-passed.invariant.0 c.requires.holders c.requires.links) (omega (arith, c.loop-passed-test.true, c.requires.many))).words
 
 pub neighbour-at-requires-clause-holder : goal.neighbour-at-requires-clause-holder
 neighbour-at-requires-clause-holder g c =
-    let go =
-    Marking-going (IsHashed (g.D.DictDisc.rules c.args.kind.now)) c.args.list (g.C.Cells.blocks c.args.cells.now) (g.C.Cells.blocks c.loop-passed.cells) c.requires.holders c.loop-passed._passed c.loop-passed.at.0 c.requires.links
-    (c.loop-passed.invariant.0 c.requires.holders c.requires.links) (omega (arith, c.loop-passed-test.true, c.requires.many)) in
-    HasBytes-written (g.C.Cells.blocks c.loop-passed.cells) (g.C.Cells.blocks c.set_word.new.cells) c.loop-passed.at.0 c.loop-passed.at.0 32 c.set_word.ensures.written.written go.words
+    HasBytes-written (g.C.Cells.blocks c.loop-passed.cells) (g.C.Cells.blocks c.set_word.new.cells) c.loop-passed.at.0 c.loop-passed.at.0 32 c.set_word.ensures.change.written (Marking-going c.requires.links (c.loop-passed.invariant.0 c.requires.holders c.requires.links) (omega (arith, c.loop-passed-test.true, c.requires.many))).words
 
 pub neighbour-at-requires-clause-fits : goal.neighbour-at-requires-clause-fits
 neighbour-at-requires-clause-fits g c =
-    let go =
-    Marking-going (IsHashed (g.D.DictDisc.rules c.args.kind.now)) c.args.list (g.C.Cells.blocks c.args.cells.now) (g.C.Cells.blocks c.loop-passed.cells) c.requires.holders c.loop-passed._passed c.loop-passed.at.0 c.requires.links
-    (c.loop-passed.invariant.0 c.requires.holders c.requires.links) (omega (arith, c.loop-passed-test.true, c.requires.many)) in
-    let w = c.set_word.ensures.written.other_words 1 (omega arith) in
+    let w = c.set_word.ensures.change.other_words 1 (omega arith) in
     let l = (c.loop-passed.invariant.0 c.requires.holders c.requires.links).links c.loop-passed.at.0 1 (omega arith) in
-    rw (w, l) go.fits
+    rw (w, l) (Marking-going c.requires.links (c.loop-passed.invariant.0 c.requires.holders c.requires.links) (omega (arith, c.loop-passed-test.true, c.requires.many))).fits
 
 pub loop-passed-preserved : goal.loop-passed-preserved
 loop-passed-preserved g c =
     let rules = g.D.DictDisc.rules c.args.kind.now in
-    let old = g.C.Cells.blocks c.args.cells.now in
     let now = g.C.Cells.blocks c.loop-passed.cells in
     let new = g.C.Cells.blocks c.set_word.new.cells in
     let at = c.loop-passed.at.0 in
-    let w = c.set_word.ensures.written in
-    let go =
-    Marking-going (IsHashed (g.D.DictDisc.rules c.args.kind.now)) c.args.list (g.C.Cells.blocks c.args.cells.now) (g.C.Cells.blocks c.loop-passed.cells) c.requires.holders c.loop-passed._passed c.loop-passed.at.0 c.requires.links
-    (c.loop-passed.invariant.0 c.requires.holders c.requires.links) (omega (arith, c.loop-passed-test.true, c.requires.many)) in
+    let w = c.set_word.ensures.change in
     let hash : c.hash-hash.result ≡ hash_at rules now at = c.hash-hash.ensures ∙ ap rules.hash (c.key.ensures ∙ ap rules.key c.body.ensures) in (
       λ holders s.
-          let long : length holders ≡ length c.requires.holders = ap length (LinksFor-unique c.args.list old holders c.requires.holders s c.requires.links) in
-          Marking-next (IsHashed rules) c.args.list old now new holders c.loop-passed._passed at c.neighbour-at.result.0
+          let long : length holders ≡ length c.requires.holders = ap length (LinksFor-unique c.args.list (g.C.Cells.blocks c.args.cells.now) holders c.requires.holders s c.requires.links) in
+          Marking-next (IsHashed rules) c.args.list (g.C.Cells.blocks c.args.cells.now) now new holders c.loop-passed._passed at c.neighbour-at.result.0
           (λ a e p. word-same now new a 3 e ∙ (p ∙ sym (ap (λ o. rules.hash (rules.key o)) (body-same now new a e))))
           s (c.loop-passed.invariant.0 holders s) (omega (arith, c.loop-passed-test.true, c.requires.many, long)) w.written
           (λ k few. w.other_words k (omega (arith, few)))
-          (w.read go.words.there ∙ (hash ∙ sym (ap (λ o. rules.hash (rules.key o)) (w.written.bodies at))))
+          (w.read (Marking-going c.requires.links (c.loop-passed.invariant.0 c.requires.holders c.requires.links) (omega (arith, c.loop-passed-test.true, c.requires.many))).words.there ∙ (hash ∙ sym (ap (λ o. rules.hash (rules.key o)) (w.written.bodies at))))
           c.neighbour-at.ensures,
       g.met.C.Cells.transitive c.args.cells.now c.loop-passed.cells c.set_word.new.cells c.loop-passed.invariant.1 c.set_word.ensures.rest,
     )
 
-pub returns-clause-marked : goal.returns-clause-marked
-returns-clause-marked g c = λ holders s.
-    let old = g.C.Cells.blocks c.args.cells.now in
-    let long : length holders ≡ length c.requires.holders = ap length (LinksFor-unique c.args.list old holders c.requires.holders s c.requires.links) in
-    Marking-end (IsHashed (g.D.DictDisc.rules c.args.kind.now)) c.args.list old (g.C.Cells.blocks c.loop-passed.cells) holders c.loop-passed._passed c.loop-passed.at.0 s
-    (c.loop-passed.invariant.0 holders s) (omega (arith, c.loop-passed-test.false, c.requires.many, long))
+pub returns : goal.returns
+returns g c = record {
+  change = λ holders s.
+      let old = g.C.Cells.blocks c.args.cells.now in
+      let long : length holders ≡ length c.requires.holders = ap length (LinksFor-unique c.args.list old holders c.requires.holders s c.requires.links) in
+      Marking-end (IsHashed (g.D.DictDisc.rules c.args.kind.now)) c.args.list old (g.C.Cells.blocks c.loop-passed.cells) holders c.loop-passed._passed c.loop-passed.at.0 s
+      (c.loop-passed.invariant.0 holders s) (omega (arith, c.loop-passed-test.false, c.requires.many, long));
+  rest = c.loop-passed.invariant.1;
+}

@@ -10,17 +10,19 @@ slot-first-requires g c = slot-place (g.C.Cells.blocks c.args.cells.now) c.args.
 
 pub set_slot-requires : goal.set_slot-requires
 set_slot-requires g c =
-    let old = g.C.Cells.blocks c.args.cells.now in
     let k = c.slot_of-k.result in
-    HasBytes-written old (g.C.Cells.blocks c.set_word.new.cells) c.args.at.0 c.args.table.0 (8 * k + 8) c.set_word.ensures.written.written
-    (slot-place old c.args.table.0 k c.args.slots c.requires.place c.slot_of-k.ensures.below)
+    HasBytes-written (g.C.Cells.blocks c.args.cells.now) (g.C.Cells.blocks c.set_word.new.cells) c.args.at.0 c.args.table.0 (8 * k + 8) c.set_word.ensures.change.written
+    (slot-place (g.C.Cells.blocks c.args.cells.now) c.args.table.0 k c.args.slots c.requires.place c.slot_of-k.ensures.below)
 
-pub returns-clause-fronted : goal.returns-clause-fronted
-returns-clause-fronted g c =
-    let old = g.C.Cells.blocks c.args.cells.now in
-    let mid = g.C.Cells.blocks c.set_word.new.cells in
-    let new = g.C.Cells.blocks c.set_slot.new.cells in
-    let table = c.args.table.0 in
-    let at = c.args.at.0 in
-    subst (λ k. Fronted old new table k at) (c.slot_of-k.ensures.value ∙ ap (λ z. z % c.args.slots) c.load.ensures)
-    (Fronted-made old mid new table c.slot_of-k.result at c.slot-first.result c.set_word.ensures.written c.set_slot.ensures.written c.requires.apart c.requires.holder.there c.slot-first.ensures)
+pub returns : goal.returns
+returns g c = record {
+  change =
+      let old = g.C.Cells.blocks c.args.cells.now in
+      let mid = g.C.Cells.blocks c.set_word.new.cells in
+      let new = g.C.Cells.blocks c.set_slot.new.cells in
+      let table = c.args.table.0 in
+      let at = c.args.at.0 in
+      subst (λ k. Fronted old new table k at) (c.slot_of-k.ensures.value ∙ ap (λ z. z % c.args.slots) c.load.ensures)
+      (Fronted-made old mid new table c.slot_of-k.result at c.slot-first.result c.set_word.ensures.change c.set_slot.ensures.change c.requires.apart c.requires.holder.there c.slot-first.ensures);
+  rest = g.met.C.Cells.transitive _ _ _ c.set_word.ensures.rest c.set_slot.ensures.rest;
+}

@@ -10,21 +10,20 @@ find_least_at-root-requires g c =
     can_find (g.D.DictDisc.rules c.args.kind.now) c.args.ord (g.C.Cells.blocks h.cells.now) h.mark.0 (ap (λ a. a.0) c.requires.mark) (g.met.D.DictDisc.lawful c.args.kind.now).order c.args.key.now c.requires.ord
 
 pub returns-clause-found : goal.returns-clause-found
-returns-clause-found g c = λ xs s.
-    let h = c.args.nodes.now in
-    let rules = g.D.DictDisc.rules c.args.kind.now in
-    let b = g.C.Cells.blocks h.cells.now in
-    let f = c.find_least_at-root in
-    let mark = ap (λ a. a.0) c.requires.mark in (
-      record {
-        first = c.found.ensures ∙ f.ensures.answer s.tree (tree-found rules c.args.ord b h.mark.0 mark xs s) ∙ ap (λ ys. least_at (stands_to rules b c.args.key.now) ys) s.list;
-        steps = steps-found rules c.args.ord b h.mark.0 mark c.args.steps.now f.new.steps f.ensures.most_steps xs s;
-      },
-      kept-found rules c.args.ord b h.mark.0 mark (g.C.Cells.blocks f.new.nodes.cells.now) f.new.nodes.mark.0 _ f.ensures.rest.3 f.ensures.tree xs s,
-    )
+returns-clause-found g c = record {
+  change = λ xs s.
+      let rules = g.D.DictDisc.rules c.args.kind.now in
+      let b = g.C.Cells.blocks c.args.nodes.now.cells.now in
+      let f = c.find_least_at-root in
+      let mark = ap (λ a. a.0) c.requires.mark in (
+        record {
+          first = c.found.ensures ∙ f.ensures.answer s.tree (tree-found rules c.args.ord b c.args.nodes.now.mark.0 mark xs s) ∙ ap (λ ys. least_at (stands_to rules b c.args.key.now) ys) s.list;
+          steps = steps-found rules c.args.ord b c.args.nodes.now.mark.0 mark c.args.steps.now f.new.steps f.ensures.most_steps xs s;
+        },
+        kept-found rules c.args.ord b c.args.nodes.now.mark.0 mark (g.C.Cells.blocks f.new.nodes.cells.now) f.new.nodes.mark.0 _ f.ensures.rest.3 f.ensures.tree xs s,
+      );
+  rest = c.find_least_at-root.ensures.rest.2;
+}
 
 pub returns-clause-same : goal.returns-clause-same
 returns-clause-same g c = c.find_least_at-root.ensures.rest.0
-
-pub returns-clause-rest : goal.returns-clause-rest
-returns-clause-rest g c = c.find_least_at-root.ensures.rest.2

@@ -18,9 +18,9 @@ ordered-so g c holders s =
     let b' = g.C.Cells.blocks c.into_list-list.new.cells in
     let b1 = g.C.Cells.blocks c.order_by-ordered.new.cells in
     let list = c.order_by-ordered.result in
-    let l = c.into_list-list.ensures.list rules holders s.heads in
+    let l = c.into_list-list.ensures.change rules holders s.heads in
     let o : Ordered rules holders (ordered_by c.args.method rules b holders) b' list b1 =
-    subst (λ z. Ordered rules holders z b' list b1) (ordered_by_same c.args.method rules b b' holders holders l.keeps) (c.order_by-ordered.ensures.sorted holders l.stands) in
+    subst (λ z. Ordered rules holders z b' list b1) (ordered_by_same c.args.method rules b b' holders holders l.keeps) (c.order_by-ordered.ensures.change holders l.stands) in
     record { stands = o.stands; keeps = KeepsBut-step holders holders b b' b1 l.keeps o.keeps (λ x h. h) }
 
 -- it takes them with the table that it has then
@@ -45,13 +45,16 @@ weed_by-weeded-requires g c = can-settle (turning g (goal.at.weed_by-weeded-requ
 pub in_form-self-requires : goal.in_form-self-requires
 in_form-self-requires g c = λ h.
     let t = turning g (goal.at.in_form-self-requires g c).After-table_by-slots c.requires.holders c.requires.stands in
-    let w = c.weed_by-weeded.ensures.weeded _ t.listed in
+    let w = c.weed_by-weeded.ensures.change _ t.listed in
     record { holders = _; stands = (in-order t w h).0; length = kept-count t w }
 
-pub returns-clause-dict : goal.returns-clause-dict
-returns-clause-dict g c = λ holders s.
-    let t = turning g (goal.at.returns-clause-dict g c).After-table_by-slots holders s in
-    let w = c.weed_by-weeded.ensures.weeded _ t.listed in
-    let form = c.in_form-self.ensures in
-    Remethoded-made t w (g.C.Cells.blocks c.in_form-self.new.cells) c.in_form-self.result c.table_left-left.result c.table_left-left.ensures form.form form.table form.slots
-    (form.heads _ (can-take t w))
+pub returns : goal.returns
+returns g c = record {
+  change = λ holders s.
+      let t = turning g (goal.at.returns g c).After-table_by-slots holders s in
+      let w = c.weed_by-weeded.ensures.change _ t.listed in
+      let form = c.in_form-self.ensures in
+      Remethoded-made t w (g.C.Cells.blocks c.in_form-self.new.cells) c.in_form-self.result c.table_left-left.result c.table_left-left.ensures form.form form.table form.slots
+      (form.heads.change _ (can-take t w));
+  rest = g.met.C.Cells.transitive _ _ _ (g.met.C.Cells.transitive _ _ _ (g.met.C.Cells.transitive _ _ _ c.into_list-list.ensures.rest c.order_by-ordered.ensures.rest) c.weed_by-weeded.ensures.rest) c.in_form-self.ensures.heads.rest;
+}

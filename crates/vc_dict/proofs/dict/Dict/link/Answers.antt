@@ -17,4 +17,4 @@ returns-clause-dict g c = λ holders s.
     let at = c.args.at.0 in
     let ys = order_by_link c.args.append d.method rules b d.current.0 at holders in
     let long : length ys ≡ length holders + 1 = length-linked c.args.append d.method rules b d.current.0 at holders in
-    Became-heads rules d c.link.new.self (d.count + 1) c.args.at b (g.C.Cells.blocks c.link.new.cells) (at ∷ holders) holders ys s (c.link.ensures.heads holders s.heads) (omega (arith, long, s.count))
+    Became-heads rules d c.link.new.self (d.count + 1) c.args.at b (g.C.Cells.blocks c.link.new.cells) (at ∷ holders) holders ys s (c.link.ensures.heads.change holders s.heads) (omega (arith, long, s.count))

@@ -24,16 +24,13 @@ adopt_table-before-requires g c =
 
 pub link-requires : goal.link-requires
 link-requires g c =
-    let b = g.C.Cells.blocks c.args.cells.now in
-    let b1 = g.C.Cells.blocks c.adopt_table-before.new.cells in
-    let h1 = c.adopt_table-before.new.self in
-    let a = c.adopt_table-before.ensures.hash [] (c.new-hash.ensures (g.D.DictDisc.rules c.args.kind.now) b) in
-    let ne : h1.table.0 ≢ 1 = omega (arith, a.table) in
-    let sized = sized-kept (c.new-hash.result.table.0 ∷ 4 ∷ []) [] b b1 a.keeps c.requires in
+    let a = c.adopt_table-before.ensures.hash.change [] (c.new-hash.ensures (g.D.DictDisc.rules c.args.kind.now) (g.C.Cells.blocks c.args.cells.now)) in
+    let ne : c.adopt_table-before.new.self.table.0 ≢ 1 = omega (arith, a.table) in
+    let sized = sized-kept (c.new-hash.result.table.0 ∷ 4 ∷ []) [] (g.C.Cells.blocks c.args.cells.now) (g.C.Cells.blocks c.adopt_table-before.new.cells) a.keeps c.requires in
     record {
       holders = [];
       stands = a.stands;
-      apart = apart-cons h1.table.0 [] 1 ne refl;
+      apart = apart-cons c.adopt_table-before.new.self.table.0 [] 1 ne refl;
       holder = sized.holders 1 (omega arith) (omega arith);
       room = rw (a.slots, a.stands.count) refl;
     }
@@ -42,15 +39,14 @@ pub link-requires-2 : goal.link-requires-2
 link-requires-2 g c =
     let b = g.C.Cells.blocks c.args.cells.now in
     let b1 = g.C.Cells.blocks c.adopt_table-before.new.cells in
-    let b2 = g.C.Cells.blocks c.link.new.cells in
     let h1 = c.adopt_table-before.new.self in
     let h2 = c.link.new.self in
-    let a = c.adopt_table-before.ensures.hash [] (c.new-hash.ensures (g.D.DictDisc.rules c.args.kind.now) b) in
-    let t = c.link.ensures.hash [] a.stands in
+    let a = c.adopt_table-before.ensures.hash.change [] (c.new-hash.ensures (g.D.DictDisc.rules c.args.kind.now) b) in
+    let t = c.link.ensures.change [] a.stands in
     let table : h2.table.0 ≡ 4 = ap (λ (z : Addr). z.0) t.table ∙ a.table in
     let slots : h2.slots ≡ 16 = t.slots ∙ a.slots in
     let ne : h2.table.0 ≢ 2 = omega (arith, table) in
-    let sized = sized-kept (h1.table.0 ∷ []) (1 ∷ []) b1 b2 t.keeps (sized-kept (c.new-hash.result.table.0 ∷ 4 ∷ []) [] b b1 a.keeps c.requires) in
+    let sized = sized-kept (h1.table.0 ∷ []) (1 ∷ []) b1 (g.C.Cells.blocks c.link.new.cells) t.keeps (sized-kept (c.new-hash.result.table.0 ∷ 4 ∷ []) [] b b1 a.keeps c.requires) in
     record {
       holders = 1 ∷ [];
       stands = t.stands;
@@ -61,24 +57,21 @@ link-requires-2 g c =
 
 pub returns-clause-hash : goal.returns-clause-hash
 returns-clause-hash g c =
-    let a = c.adopt_table-before.ensures.hash [] (c.new-hash.ensures (g.D.DictDisc.rules c.args.kind.now) (g.C.Cells.blocks c.args.cells.now)) in
-    let t = c.link.ensures.hash [] a.stands in
-    (c.link-2.ensures.hash (1 ∷ []) t.stands).stands
+    let a = c.adopt_table-before.ensures.hash.change [] (c.new-hash.ensures (g.D.DictDisc.rules c.args.kind.now) (g.C.Cells.blocks c.args.cells.now)) in
+    (c.link-2.ensures.change (1 ∷ []) (c.link.ensures.change [] a.stands).stands).stands
 
 pub returns-clause-table : goal.returns-clause-table
 returns-clause-table g c =
-    let a = c.adopt_table-before.ensures.hash [] (c.new-hash.ensures (g.D.DictDisc.rules c.args.kind.now) (g.C.Cells.blocks c.args.cells.now)) in
-    let t = c.link.ensures.hash [] a.stands in
-    let u = c.link-2.ensures.hash (1 ∷ []) t.stands in
-    ap (λ (z : Addr). z.0) (u.table ∙ t.table) ∙ a.table
+    let a = c.adopt_table-before.ensures.hash.change [] (c.new-hash.ensures (g.D.DictDisc.rules c.args.kind.now) (g.C.Cells.blocks c.args.cells.now)) in
+    let u = c.link-2.ensures.change (1 ∷ []) (c.link.ensures.change [] a.stands).stands in
+    ap (λ (z : Addr). z.0) (u.table ∙ (c.link.ensures.change [] a.stands).table) ∙ a.table
 
 pub returns-clause-sized : goal.returns-clause-sized
 returns-clause-sized g c =
     let b = g.C.Cells.blocks c.args.cells.now in
     let b1 = g.C.Cells.blocks c.adopt_table-before.new.cells in
     let b2 = g.C.Cells.blocks c.link.new.cells in
-    let a = c.adopt_table-before.ensures.hash [] (c.new-hash.ensures (g.D.DictDisc.rules c.args.kind.now) b) in
-    let t = c.link.ensures.hash [] a.stands in
-    let u = c.link-2.ensures.hash (1 ∷ []) t.stands in
+    let a = c.adopt_table-before.ensures.hash.change [] (c.new-hash.ensures (g.D.DictDisc.rules c.args.kind.now) b) in
+    let t = c.link.ensures.change [] a.stands in
     let sized = sized-kept (c.adopt_table-before.new.self.table.0 ∷ []) (1 ∷ []) b1 b2 t.keeps (sized-kept (c.new-hash.result.table.0 ∷ 4 ∷ []) [] b b1 a.keeps c.requires) in
-    sized-kept (c.link.new.self.table.0 ∷ []) (2 ∷ 1 ∷ []) b2 (g.C.Cells.blocks c.link-2.new.cells) u.keeps sized
+    sized-kept (c.link.new.self.table.0 ∷ []) (2 ∷ 1 ∷ []) b2 (g.C.Cells.blocks c.link-2.new.cells) (c.link-2.ensures.change (1 ∷ []) t.stands).keeps sized

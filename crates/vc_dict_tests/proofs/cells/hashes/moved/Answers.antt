@@ -19,5 +19,5 @@ adopt_table-before-requires g c =
 
 pub unlink-requires : goal.unlink-requires
 unlink-requires g c =
-    let a = c.adopt_table-before.ensures.hash (1 ∷ 2 ∷ []) c.requires.hash in
+    let a = c.adopt_table-before.ensures.hash.change (1 ∷ 2 ∷ []) c.requires.hash in
     record { rules = g.D.DictDisc.rules c.args.kind.now; holders = 1 ∷ 2 ∷ []; stands = a.stands; within = refl }

@@ -7,13 +7,11 @@ unlink-requires g c = record { holders = 3 ∷ 1 ∷ 2 ∷ []; stands = c.requir
 
 pub next-behind-requires : goal.next-behind-requires
 next-behind-requires g c =
-    let t = c.unlink.ensures.list (3 ∷ 1 ∷ 2 ∷ []) c.requires.list in
-    record { holders = 3 ∷ 2 ∷ []; stands = t.stands; within = refl }
+    record { holders = 3 ∷ 2 ∷ []; stands = (c.unlink.ensures.list (3 ∷ 1 ∷ 2 ∷ []) c.requires.list).stands; within = refl }
 
 pub before-requires-clause-mark : goal.before-requires-clause-mark
 before-requires-clause-mark g c =
-    let t = c.unlink.ensures.list (3 ∷ 1 ∷ 2 ∷ []) c.requires.list in
-    record { holders = 3 ∷ 2 ∷ []; stands = t.stands; within = refl }
+    record { holders = 3 ∷ 2 ∷ []; stands = (c.unlink.ensures.list (3 ∷ 1 ∷ 2 ∷ []) c.requires.list).stands; within = refl }
 
 pub before-requires-clause-at : goal.before-requires-clause-at
 before-requires-clause-at g c =

@@ -3,31 +3,26 @@ use Rattle.vc_dict_tests.proofs.cells.orders.asked.Goals as goal
 
 pub first-least-requires : goal.first-least-requires
 first-least-requires g c =
-    let r = c.requires in
-    record { rules = g.D.DictDisc.rules c.args.kind.now; is = record { holders = r.holders; stands = r.stands } }
+    record { rules = g.D.DictDisc.rules c.args.kind.now; is = record { holders = c.requires.holders; stands = c.requires.stands } }
 
 pub last-greatest-requires : goal.last-greatest-requires
 last-greatest-requires g c =
-    let r = c.requires in
-    record { rules = g.D.DictDisc.rules c.args.kind.now; is = record { holders = r.holders; stands = r.stands } }
+    record { rules = g.D.DictDisc.rules c.args.kind.now; is = record { holders = c.requires.holders; stands = c.requires.stands } }
 
 pub next-behind-requires : goal.next-behind-requires
 next-behind-requires g c =
-    let r = c.requires in
-    record { rules = g.D.DictDisc.rules c.args.kind.now; holders = r.holders; stands = r.stands; within = r.within 2 (omega arith) (omega arith) }
+    record { rules = g.D.DictDisc.rules c.args.kind.now; holders = c.requires.holders; stands = c.requires.stands; within = c.requires.within 2 (omega arith) (omega arith) }
 
 pub prev-before-requires : goal.prev-before-requires
 prev-before-requires g c =
-    let r = c.requires in
-    record { rules = g.D.DictDisc.rules c.args.kind.now; holders = r.holders; stands = r.stands; within = r.within 1 (omega arith) (omega arith) }
+    record { rules = g.D.DictDisc.rules c.args.kind.now; holders = c.requires.holders; stands = c.requires.stands; within = c.requires.within 1 (omega arith) (omega arith) }
 
 pub unlink-requires : goal.unlink-requires
 unlink-requires g c =
-    let r = c.requires in
-    record { rules = g.D.DictDisc.rules c.args.kind.now; holders = r.holders; stands = r.stands; within = r.within 2 (omega arith) (omega arith) }
+    record { rules = g.D.DictDisc.rules c.args.kind.now; holders = c.requires.holders; stands = c.requires.stands; within = c.requires.within 2 (omega arith) (omega arith) }
 
 pub first-left-requires : goal.first-left-requires
 first-left-requires g c =
     let rules = g.D.DictDisc.rules c.args.kind.now in
     let r = c.requires in
-    record { rules = rules; is = record { holders = without 2 r.holders; stands = (c.unlink.ensures.list rules r.holders r.stands).stands } }
+    record { rules = rules; is = record { holders = without 2 r.holders; stands = (c.unlink.ensures.change rules r.holders r.stands).stands } }

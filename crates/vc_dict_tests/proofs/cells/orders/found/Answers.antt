@@ -6,16 +6,14 @@ find-c-requires g c = record { holders = c.requires.holders; stands = c.requires
 
 pub at_least-bb-requires : goal.at_least-bb-requires
 at_least-bb-requires g c =
-    let r = c.requires in
-    let t = c.find-c.ensures.list r.holders r.stands in
-    record { holders = r.holders; stands = t.stands }
+    record { holders = c.requires.holders; stands = (c.find-c.ensures.list.change c.requires.holders c.requires.stands).stands }
 
 pub returns : goal.returns
 returns g c =
     let b1 = g.C.Cells.blocks c.find-c.new.cells in
     let r = c.requires in
-    let t = c.find-c.ensures.list r.holders r.stands in
-    let u = c.at_least-bb.ensures.list r.holders t.stands in
+    let t = c.find-c.ensures.list.change r.holders r.stands in
+    let u = c.at_least-bb.ensures.list.change r.holders t.stands in
     record {
       holders = r.holders;
       stands = u.stands;

@@ -10,7 +10,7 @@ returns g c =
     let b = g.C.Cells.blocks c.args.cells.now in
     let at = c.args.at.0 in
     let r = c.requires in
-    let t = c.link.ensures.list r.holders r.stands in
+    let t = c.link.ensures.list.change r.holders r.stands in
     record {
       holders = order_with rules b at r.holders;
       stands = t.stands;

@@ -11,30 +11,25 @@ use Rattle.vc_dthash.proofs.dt_hash.DtHash.find.Goals.{After-is_found}
 
 pub returns-then-self-eq0 : goal.returns-then-self-eq0
 returns-then-self-eq0 g c = λ holders s.
-    let rules = g.D.DictDisc.rules c.args.kind.now in
     let b = g.C.Cells.blocks c.args.cells.now in
     record {
-      first = sym (ap (find_key rules b c.args.key.now) (no-slots rules c.args.self.now b holders s c.if-self-eq0.true));
+      first = sym (ap (find_key (g.D.DictDisc.rules c.args.kind.now) b c.args.key.now) (no-slots (g.D.DictDisc.rules c.args.kind.now) c.args.self.now b holders s c.if-self-eq0.true));
       steps = omega arith;
       alike = omega arith;
     }
 
 pub head-at-requires-clause-fits : goal.head-at-requires-clause-fits
 head-at-requires-clause-fits g c =
-    let rules = g.D.DictDisc.rules c.args.kind.now in
-    let self = c.args.self.now in
     let b = g.C.Cells.blocks c.args.cells.now in
     let k = c.slot_of.result in
-    let chain = chain-is rules self b c.requires.holders k c.requires.stands c.slot_of.ensures.below in
-    Leads-fits b (word_at b self.table.0 k) (chain_of (hash_at rules b) self.slots k c.requires.holders) chain.addresses chain.leads
+    let chain = chain-is (g.D.DictDisc.rules c.args.kind.now) c.args.self.now b c.requires.holders k c.requires.stands c.slot_of.ensures.below in
+    Leads-fits b (word_at b c.args.self.now.table.0 k) (chain_of (hash_at (g.D.DictDisc.rules c.args.kind.now) b) c.args.self.now.slots k c.requires.holders) chain.addresses chain.leads
 
 pub loop-passed-init : goal.loop-passed-init
 loop-passed-init g c = λ holders s.
-    let rules = g.D.DictDisc.rules c.args.kind.now in
-    let self = c.args.self.now in
     let b = g.C.Cells.blocks c.args.cells.now in
-    SlotWalk-start rules self.table.0 self.slots b c.args.key.now holders c.hash-hash.result c.slot_of.result c.head-at.result.0 c.args.steps.now
-    c.hash-hash.ensures c.slot_of.ensures.value (chain-is rules self b holders c.slot_of.result s c.slot_of.ensures.below) c.head-at.ensures
+    SlotWalk-start (g.D.DictDisc.rules c.args.kind.now) c.args.self.now.table.0 c.args.self.now.slots b c.args.key.now holders c.hash-hash.result c.slot_of.result c.head-at.result.0 c.args.steps.now
+    c.hash-hash.ensures c.slot_of.ensures.value (chain-is (g.D.DictDisc.rules c.args.kind.now) c.args.self.now b holders c.slot_of.result s c.slot_of.ensures.below) c.head-at.ensures
 
 pub returns-then-eq : goal.returns-then-eq
 returns-then-eq g c = λ holders s.
@@ -87,7 +82,6 @@ loop-passed-preserved g c = λ holders s.
 
 pub returns : goal.returns
 returns g c = λ holders s.
-    let rules = g.D.DictDisc.rules c.args.kind.now in
     let self = c.args.self.now in
-    let short = chain-short rules self (g.C.Cells.blocks c.args.cells.now) holders (rules.hash c.args.key.now % self.slots) s in
+    let short = chain-short (g.D.DictDisc.rules c.args.kind.now) self (g.C.Cells.blocks c.args.cells.now) holders ((g.D.DictDisc.rules c.args.kind.now).hash c.args.key.now % self.slots) s in
     SlotWalk-over (c.loop-passed.invariant holders s) (g.met.D.DictDisc.lawful c.args.kind.now) (omega (arith, short, c.loop-passed-test.false))

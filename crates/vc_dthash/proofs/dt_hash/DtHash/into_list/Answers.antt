@@ -7,10 +7,13 @@ free_all-requires g c =
     let r = c.requires.is in
     record { holders = r.holders; links = rw c.list.ensures r.stands.links; many = r.stands.count }
 
-pub returns-clause-list : goal.returns-clause-list
-returns-clause-list g c = λ rules holders s.
-    let m = c.free_all.ensures.marked holders (rw c.list.ensures s.links) in
-    record {
-      stands = record { links = rw (c.list-2.ensures, ← c.list.ensures) m.links; plain = all-of (IsPlain (g.C.Cells.blocks c.free_all.new.cells)) holders m.marks };
-      keeps = m.keeps;
-    }
+pub returns : goal.returns
+returns g c = record {
+  change = λ rules holders s.
+      let m = c.free_all.ensures.change holders (rw c.list.ensures s.links) in
+      record {
+        stands = record { links = rw (c.list-2.ensures, ← c.list.ensures) m.links; plain = all-of (IsPlain (g.C.Cells.blocks c.free_all.new.cells)) holders m.marks };
+        keeps = m.keeps;
+      };
+  rest = c.free_all.ensures.rest;
+}

@@ -14,14 +14,11 @@ slot_of-k-requires g c = slots-wanted c.args.self.now.slots c.args.self.now.coun
 
 pub seek_before-before-requires : goal.seek_before-before-requires
 seek_before-before-requires g c =
-    let rules = g.D.DictDisc.rules c.args.kind.now in
-    let self = c.args.self.now in
-    let b = g.C.Cells.blocks c.args.cells.now in
     let k = c.slot_of-k.result in
     record {
-      front = chain_of (hash_at rules b) self.slots k c.requires.holders;
+      front = chain_of (hash_at (g.D.DictDisc.rules c.args.kind.now) (g.C.Cells.blocks c.args.cells.now)) c.args.self.now.slots k c.requires.holders;
       rest = [];
-      place = end-place rules self b c.requires.holders k c.requires.stands c.slot_of-k.ensures.below;
+      place = end-place (g.D.DictDisc.rules c.args.kind.now) c.args.self.now (g.C.Cells.blocks c.args.cells.now) c.requires.holders k c.requires.stands c.slot_of-k.ensures.below;
     }
 
 pub set_word-requires-clause-holder : goal.set_word-requires-clause-holder
@@ -30,23 +27,22 @@ set_word-requires-clause-holder g c = fewer (g.C.Cells.blocks c.args.cells.now) 
 pub set_word-requires-2-clause-holder : goal.set_word-requires-2-clause-holder
 set_word-requires-2-clause-holder g c =
     let b = g.C.Cells.blocks c.args.cells.now in
-    HasBytes-written b (g.C.Cells.blocks c.set_word.new.cells) c.args.at.0 c.args.at.0 32 c.set_word.ensures.written.written (fewer b c.args.at.0 c.requires.holder)
+    HasBytes-written b (g.C.Cells.blocks c.set_word.new.cells) c.args.at.0 c.args.at.0 32 c.set_word.ensures.change.written (fewer b c.args.at.0 c.requires.holder)
 
 pub point-requires : goal.point-requires
 point-requires g c =
     joined-point (joins c.requires.stands c.requires.apart c.requires.holder (g.met.C.Cells.addresses c.args.cells.now c.args.at.0 c.requires.holder.there) c.slot_of-k.ensures.value c.slot_of-k.ensures.below
-    c.hash-hash.ensures c.key.ensures c.body.ensures c.seek_before-before.ensures c.set_word.ensures.written c.set_word-2.ensures.written)
+    c.hash-hash.ensures c.key.ensures c.body.ensures c.seek_before-before.ensures c.set_word.ensures.change c.set_word-2.ensures.change)
 
 pub join_back-requires : goal.join_back-requires
 join_back-requires g c =
-    let b = g.C.Cells.blocks c.point.new.cells in
     let j = joins c.requires.stands c.requires.apart c.requires.holder (g.met.C.Cells.addresses c.args.cells.now c.args.at.0 c.requires.holder.there) c.slot_of-k.ensures.value c.slot_of-k.ensures.below
-    c.hash-hash.ensures c.key.ensures c.body.ensures c.seek_before-before.ensures c.set_word.ensures.written c.set_word-2.ensures.written in
+    c.hash-hash.ensures c.key.ensures c.body.ensures c.seek_before-before.ensures c.set_word.ensures.change c.set_word-2.ensures.change in
     record {
       holders = c.requires.holders;
-      links = rw c.list-list.ensures (joined-links j b c.point.ensures.pointed);
+      links = rw c.list-list.ensures (joined-links j (g.C.Cells.blocks c.point.new.cells) c.point.ensures.change);
       apart = apart-tail c.args.self.now.table.0 c.requires.holders c.args.at.0 c.requires.apart;
-      holder = joined-holder j b c.point.ensures.pointed;
+      holder = joined-holder j (g.C.Cells.blocks c.point.new.cells) c.point.ensures.change;
     }
 
 pub overflow_add-self : goal.overflow_add-self
@@ -54,21 +50,16 @@ overflow_add-self g c =
     let h = few (g.D.DictDisc.rules c.args.kind.now) c.args.self.now (g.C.Cells.blocks c.args.cells.now) c.requires.holders c.requires.stands in
     omega (arith, h)
 
-pub returns-clause-hash : goal.returns-clause-hash
-returns-clause-hash g c = λ holders s.
-    let rules = g.D.DictDisc.rules c.args.kind.now in
-    let self = c.args.self.now in
-    let b = g.C.Cells.blocks c.point.new.cells in
-    let apart : contains (self.table.0 ∷ holders) c.args.at.0 ≡ false = rw (HashFor-unique rules rules self (g.C.Cells.blocks c.args.cells.now) holders c.requires.holders s c.requires.stands) c.requires.apart in
-    let j = joins s apart c.requires.holder (g.met.C.Cells.addresses c.args.cells.now c.args.at.0 c.requires.holder.there) c.slot_of-k.ensures.value c.slot_of-k.ensures.below
-    c.hash-hash.ensures c.key.ensures c.body.ensures c.seek_before-before.ensures c.set_word.ensures.written c.set_word-2.ensures.written in
-    HashTurned-joined j b c.point.ensures.pointed
-    _ (g.C.Cells.blocks c.join_back.new.cells) (room self.slots self.count c.requires.room) (c.join_back.ensures.list holders (rw c.list-list.ensures (joined-links j b c.point.ensures.pointed))) refl refl refl
-
-pub returns-clause-rest : goal.returns-clause-rest
-returns-clause-rest g c =
-    let through = g.met.C.Cells.transitive in
-    let start = c.args.cells.now in
-    let end = c.join_back.new.cells in
-    let written = through start c.set_word.new.cells c.set_word-2.new.cells c.set_word.ensures.rest c.set_word-2.ensures.rest in
-    through start c.point.new.cells end (through start c.set_word-2.new.cells c.point.new.cells written c.point.ensures.rest) c.join_back.ensures.rest
+pub returns : goal.returns
+returns g c = record {
+  change = λ holders s.
+      let rules = g.D.DictDisc.rules c.args.kind.now in
+      let self = c.args.self.now in
+      let b = g.C.Cells.blocks c.point.new.cells in
+      let apart : contains (self.table.0 ∷ holders) c.args.at.0 ≡ false = rw (HashFor-unique rules rules self (g.C.Cells.blocks c.args.cells.now) holders c.requires.holders s c.requires.stands) c.requires.apart in
+      let j = joins s apart c.requires.holder (g.met.C.Cells.addresses c.args.cells.now c.args.at.0 c.requires.holder.there) c.slot_of-k.ensures.value c.slot_of-k.ensures.below
+      c.hash-hash.ensures c.key.ensures c.body.ensures c.seek_before-before.ensures c.set_word.ensures.change c.set_word-2.ensures.change in
+      HashTurned-joined j b c.point.ensures.change
+      _ (g.C.Cells.blocks c.join_back.new.cells) (room self.slots self.count c.requires.room) (c.join_back.ensures.change holders (rw c.list-list.ensures (joined-links j b c.point.ensures.change))) refl refl refl;
+  rest = g.met.C.Cells.transitive _ _ _ (g.met.C.Cells.transitive _ _ _ (g.met.C.Cells.transitive _ _ _ c.set_word.ensures.rest c.set_word-2.ensures.rest) c.point.ensures.rest) c.join_back.ensures.rest;
+}

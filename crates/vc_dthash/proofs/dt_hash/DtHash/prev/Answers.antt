@@ -6,13 +6,11 @@ use Rattle.vc_dthash.proofs.dt_hash.DtHash.prev.Goals as goal
 
 pub neighbour-requires-clause-holder : goal.neighbour-requires-clause-holder
 neighbour-requires-clause-holder g c =
-    let r = c.requires in
-    (at_linked (list_of c.args.self.now) (g.C.Cells.blocks c.args.cells.now) c.args.at.0 r.holders r.stands.links r.within).words
+    (at_linked (list_of c.args.self.now) (g.C.Cells.blocks c.args.cells.now) c.args.at.0 c.requires.holders c.requires.stands.links c.requires.within).words
 
 pub neighbour-requires-clause-fits : goal.neighbour-requires-clause-fits
 neighbour-requires-clause-fits g c =
-    let r = c.requires in
-    (at_linked (list_of c.args.self.now) (g.C.Cells.blocks c.args.cells.now) c.args.at.0 r.holders r.stands.links r.within).previous_fits
+    (at_linked (list_of c.args.self.now) (g.C.Cells.blocks c.args.cells.now) c.args.at.0 c.requires.holders c.requires.stands.links c.requires.within).previous_fits
 
 pub returns : goal.returns
 returns g c = λ rules holders s.

@@ -44,7 +44,7 @@ returns g c = record {
       Turned-same at ((p.front ++ mark ∷ []) ++ p.rest) holders b c.link.new.self (g.C.Cells.blocks c.link.new.cells)
       ((p.front ++ mark ∷ []) ++ at ∷ p.rest) (inserted_after mark at holders) (e ∙ sym p.whole)
       (append_assoc p.front (mark ∷ []) (at ∷ p.rest) ∙ sym (inserted_after-split p.front mark p.rest at p.before) ∙ ap (inserted_after mark at) (sym p.whole))
-      (c.link.ensures.list (p.front ++ mark ∷ []) p.rest s (apart_in list b at c.requires.at ((p.front ++ mark ∷ []) ++ p.rest) s)
+      (c.link.ensures.change (p.front ++ mark ∷ []) p.rest s (apart_in list b at c.requires.at ((p.front ++ mark ∷ []) ++ p.rest) s)
       (sym (last_of-append 0 p.front (mark ∷ []))) (c.neighbour-next.ensures ∙ next_word b p.front mark p.rest one.links.chain));
   rest = c.link.ensures.rest;
 }

@@ -41,7 +41,7 @@ returns g c = record {
       Turned-same at (p.front ++ mark ∷ p.rest) holders b c.link.new.self (g.C.Cells.blocks c.link.new.cells)
       (p.front ++ at ∷ mark ∷ p.rest) (inserted_before mark at holders) (sym p.whole)
       (sym (inserted_before-split p.front mark p.rest at p.before) ∙ ap (inserted_before mark at) (sym p.whole))
-      (c.link.ensures.list p.front (mark ∷ p.rest) s (apart_in list b at c.requires.at (p.front ++ mark ∷ p.rest) s)
+      (c.link.ensures.change p.front (mark ∷ p.rest) s (apart_in list b at c.requires.at (p.front ++ mark ∷ p.rest) s)
       (c.neighbour-previous.ensures ∙ previous_word b p.front mark p.rest s.links.chain) refl);
   rest = c.link.ensures.rest;
 }

@@ -17,11 +17,14 @@ join-requires g c =
       next = refl;
     }
 
-pub returns-clause-list : goal.returns-clause-list
-returns-clause-list g c = λ holders s.
-    let old = g.C.Cells.blocks c.args.cells.now in
-    let at = c.args.at.0 in
-    let e = append-nil holders in
-    let apart : contains holders at ≡ false = rw (LinksFor-unique c.args.self.now old holders c.requires.holders s c.requires.links) c.requires.apart in
-    subst (λ z. Relinked at z old c.join.new.self (g.C.Cells.blocks c.join.new.cells) (holders ++ at ∷ [])) e
-    (c.join.ensures.list holders [] (subst (λ z. LinksFor c.args.self.now old z) (sym e) s) (subst (λ z. contains z at ≡ false) (sym e) apart) s.last refl)
+pub returns : goal.returns
+returns g c = record {
+  change = λ holders s.
+      let old = g.C.Cells.blocks c.args.cells.now in
+      let at = c.args.at.0 in
+      let e = append-nil holders in
+      let apart : contains holders at ≡ false = rw (LinksFor-unique c.args.self.now old holders c.requires.holders s c.requires.links) c.requires.apart in
+      subst (λ z. Relinked at z old c.join.new.self (g.C.Cells.blocks c.join.new.cells) (holders ++ at ∷ [])) e
+      (c.join.ensures.change holders [] (subst (λ z. LinksFor c.args.self.now old z) (sym e) s) (subst (λ z. contains z at ≡ false) (sym e) apart) s.last refl);
+  rest = c.join.ensures.rest;
+}

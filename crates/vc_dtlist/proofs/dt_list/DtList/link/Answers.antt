@@ -9,23 +9,25 @@ set_plain-requires g c = fewer (g.C.Cells.blocks c.args.cells.now) c.args.at.0 c
 
 pub join-requires : goal.join-requires
 join-requires g c =
-    let old = g.C.Cells.blocks c.args.cells.now in
     let mid = g.C.Cells.blocks c.set_plain.new.cells in
     let r = c.requires in
     record {
       front = r.front;
       rest = r.rest;
-      links = LinksFor-other old mid c.args.at.0 c.args.self.now (r.front ++ r.rest) c.set_plain.ensures.written r.apart r.links;
+      links = LinksFor-other (g.C.Cells.blocks c.args.cells.now) mid c.args.at.0 c.args.self.now (r.front ++ r.rest) c.set_plain.ensures.change.written r.apart r.links;
       apart = r.apart;
-      holder = HasBytes-written old mid c.args.at.0 c.args.at.0 33 c.set_plain.ensures.written r.holder;
+      holder = HasBytes-written (g.C.Cells.blocks c.args.cells.now) mid c.args.at.0 c.args.at.0 33 c.set_plain.ensures.change.written r.holder;
       previous = r.previous;
       next = r.next;
     }
 
-pub returns-clause-list : goal.returns-clause-list
-returns-clause-list g c = λ front rest s apart pe ne.
-    let old = g.C.Cells.blocks c.args.cells.now in
-    let mid = g.C.Cells.blocks c.set_plain.new.cells in
-    let w = c.set_plain.ensures.written in
-    Turned-joined old mid (g.C.Cells.blocks c.join.new.cells) c.join.new.self c.args.at.0 front rest s.plain apart w c.set_plain.ensures.plain
-    (c.join.ensures.list front rest (LinksFor-other old mid c.args.at.0 c.args.self.now (front ++ rest) w apart s.links) apart pe ne)
+pub returns : goal.returns
+returns g c = record {
+  change = λ front rest s apart pe ne.
+      let old = g.C.Cells.blocks c.args.cells.now in
+      let mid = g.C.Cells.blocks c.set_plain.new.cells in
+      let w = c.set_plain.ensures.change.written in
+      Turned-joined old mid (g.C.Cells.blocks c.join.new.cells) c.join.new.self c.args.at.0 front rest s.plain apart w c.set_plain.ensures.change.plain
+      (c.join.ensures.change front rest (LinksFor-other old mid c.args.at.0 c.args.self.now (front ++ rest) w apart s.links) apart pe ne);
+  rest = g.met.C.Cells.transitive _ _ _ c.set_plain.ensures.rest c.join.ensures.rest;
+}

@@ -23,19 +23,22 @@ set_link-requires-clause-holder g c = λ some.
 
 pub set_link-requires-2-clause-holder : goal.set_link-requires-2-clause-holder
 set_link-requires-2-clause-holder g c = λ some.
-    HasBytes-written (g.C.Cells.blocks c.args.cells.now) (g.C.Cells.blocks c.set_link.new.cells) c.neighbour-before.result.0 c.neighbour-behind.result.0 32 c.set_link.ensures.written.written
+    HasBytes-written (g.C.Cells.blocks c.args.cells.now) (g.C.Cells.blocks c.set_link.new.cells) c.neighbour-before.result.0 c.neighbour-behind.result.0 32 c.set_link.ensures.change.written
     ((at_joined c.args.self.now (g.C.Cells.blocks c.args.cells.now) c.args.at.0 c.requires).next_words c.neighbour-behind.result.0 c.neighbour-behind.ensures some)
 
-pub returns-clause-list : goal.returns-clause-list
-returns-clause-list g c = λ holders s.
-    let blocks = g.C.Cells.blocks in
-    let old = blocks c.args.cells.now in
-    let at = c.args.at.0 in
-    let new : DtList = record { first = c.end_of-self.result; last = c.end_of-self-2.result } in
-    let law = g.met.C.Cells.addresses in
-    let within : contains holders at ≡ true = rw (LinksFor-unique c.args.self.now old holders c.requires.holders s c.requires.links) c.requires.within in
-    Relinked-parted c.args.self.now new old (blocks c.set_link.new.cells) (blocks c.set_link-2.new.cells)
-    c.neighbour-before.result.0 at c.neighbour-behind.result.0 holders s (split holders at within)
-    (λ some. absurd (omega (arith, (law c.args.cells.now 0 some).some)))
-    c.neighbour-before.ensures c.neighbour-behind.ensures c.set_link.ensures.written c.set_link-2.ensures.written
-    c.end_of-self.ensures c.end_of-self-2.ensures
+pub returns : goal.returns
+returns g c = record {
+  change = λ holders s.
+      let blocks = g.C.Cells.blocks in
+      let old = blocks c.args.cells.now in
+      let at = c.args.at.0 in
+      let new : DtList = record { first = c.end_of-self.result; last = c.end_of-self-2.result } in
+      let law = g.met.C.Cells.addresses in
+      let within : contains holders at ≡ true = rw (LinksFor-unique c.args.self.now old holders c.requires.holders s c.requires.links) c.requires.within in
+      Relinked-parted c.args.self.now new old (blocks c.set_link.new.cells) (blocks c.set_link-2.new.cells)
+      c.neighbour-before.result.0 at c.neighbour-behind.result.0 holders s (split holders at within)
+      (λ some. absurd (omega (arith, (law c.args.cells.now 0 some).some)))
+      c.neighbour-before.ensures c.neighbour-behind.ensures c.set_link.ensures.change c.set_link-2.ensures.change
+      c.end_of-self.ensures c.end_of-self-2.ensures;
+  rest = g.met.C.Cells.transitive _ _ _ c.set_link.ensures.rest c.set_link-2.ensures.rest;
+}

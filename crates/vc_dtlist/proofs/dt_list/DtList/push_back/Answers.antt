@@ -25,6 +25,6 @@ returns g c = record {
       let e = append-nil holders in
       let apart = apart_in c.args.self.now (blocks c.args.cells.now) at c.requires holders s in
       subst (λ z. Turned at z (blocks c.args.cells.now) c.link.new.self (blocks c.link.new.cells) (holders ++ at ∷ [])) e
-      (c.link.ensures.list holders [] (subst (λ z. StandsFor c.args.self.now (blocks c.args.cells.now) z) (sym e) s) (subst (λ z. contains z at ≡ false) (sym e) apart) s.links.last refl);
+      (c.link.ensures.change holders [] (subst (λ z. StandsFor c.args.self.now (blocks c.args.cells.now) z) (sym e) s) (subst (λ z. contains z at ≡ false) (sym e) apart) s.links.last refl);
   rest = c.link.ensures.rest;
 }

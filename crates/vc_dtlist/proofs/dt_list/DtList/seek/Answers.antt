@@ -22,10 +22,9 @@ pub returns-then-is_in : goal.returns-then-is_in
 returns-then-is_in g c = λ holders s.
     let rules = g.D.DictDisc.rules c.args.kind.now in
     let b = g.C.Cells.blocks c.args.cells.now in
-    let some = eqb-false c.loop-passed.at.0 0 (sym c.eq.ensures ∙ c.if-eq.false) in
     let test = test-is c.args.sought rules b c.args.key.now c.loop-passed.at.0 c.body.result.now c.key.result.now c.compare.result c.is_in.result c.body.ensures c.key.ensures c.compare.ensures.value c.is_in.ensures in
     Seeks-some (stands_so c.args.sought rules b c.args.key.now) c.args.self.now b holders c.loop-passed._passed c.args.steps.now c.loop-passed.steps c.compare.new.steps c.loop-passed.at
-    s (c.loop-passed.invariant holders s) some (test ∙ c.if-is_in.true) c.compare.ensures.step
+    s (c.loop-passed.invariant holders s) (eqb-false c.loop-passed.at.0 0 (sym c.eq.ensures ∙ c.if-eq.false)) (test ∙ c.if-is_in.true) c.compare.ensures.step
 
 pub neighbour-at-requires-clause-holder : goal.neighbour-at-requires-clause-holder
 neighbour-at-requires-clause-holder g c =
@@ -43,10 +42,9 @@ pub loop-passed-preserved : goal.loop-passed-preserved
 loop-passed-preserved g c = λ holders s.
     let rules = g.D.DictDisc.rules c.args.kind.now in
     let b = g.C.Cells.blocks c.args.cells.now in
-    let some = eqb-false c.loop-passed.at.0 0 (sym c.eq.ensures ∙ c.if-eq.false) in
     let test = test-is c.args.sought rules b c.args.key.now c.loop-passed.at.0 c.body.result.now c.key.result.now c.compare.result c.is_in.result c.body.ensures c.key.ensures c.compare.ensures.value c.is_in.ensures in
     walk_on (stands_so c.args.sought rules b c.args.key.now) c.args.self.now b holders c.loop-passed._passed c.loop-passed.at.0 c.neighbour-at.result.0 c.args.steps.now c.loop-passed.steps c.compare.new.steps
-    s (c.loop-passed.invariant holders s) some (test ∙ c.if-is_in.false) c.neighbour-at.ensures c.compare.ensures.step
+    s (c.loop-passed.invariant holders s) (eqb-false c.loop-passed.at.0 0 (sym c.eq.ensures ∙ c.if-eq.false)) (test ∙ c.if-is_in.false) c.neighbour-at.ensures c.compare.ensures.step
 
 pub returns : goal.returns
 returns g c = λ holders s.

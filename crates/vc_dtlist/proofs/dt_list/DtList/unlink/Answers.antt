@@ -8,6 +8,6 @@ pub returns : goal.returns
 returns g c = record {
   list = λ holders s.
       Turned-parted (g.C.Cells.blocks c.args.cells.now) (g.C.Cells.blocks c.part.new.cells) c.part.new.self c.args.at.0 holders s.plain
-      (c.part.ensures.list holders s.links);
+      (c.part.ensures.change holders s.links);
   rest = c.part.ensures.rest;
 }

@@ -2,7 +2,10 @@ use Rattle.vc_base.proofs.Common.{rules}
 use Rattle.vc_dtord.proofs.dt_ord.DtOrd.find.Goals as goal
 
 pub returns-clause-found : goal.returns-clause-found
-returns-clause-found g c = λ xs s. (c.find_in-at.ensures.found xs s).0
+returns-clause-found g c = λ xs s. (c.find_in-at.ensures.found.change xs s).0
 
 pub returns-clause-list : goal.returns-clause-list
-returns-clause-list g c = λ xs s. let turned = (c.find_in-at.ensures.found xs s).1 in search rules
+returns-clause-list g c = record {
+  change = λ xs s. let turned = (c.find_in-at.ensures.found.change xs s).1 in search rules;
+  rest = let stays = c.find_in-at.ensures.found.rest in search rules;
+}

@@ -5,21 +5,10 @@ use Rattle.vc_dtord.proofs.holders.HoldersNodes.set_up.Goals as goal
 
 pub write_word-requires-clause-holder : goal.write_word-requires-clause-holder
 write_word-requires-clause-holder g c =
-    let s = c.args.self.now in
-    node-words (g.C.Cells.blocks s.cells.now) c.args.n (beside-node (g.C.Cells.blocks s.cells.now) s.mark.0 c.args.n c.requires)
+    node-words (g.C.Cells.blocks c.args.self.now.cells.now) c.args.n (beside-node (g.C.Cells.blocks c.args.self.now.cells.now) c.args.self.now.mark.0 c.args.n c.requires)
 
 pub returns-clause-store : goal.returns-clause-store
-returns-clause-store g c =
-    let s = c.args.self.now in
-    let old = g.C.Cells.blocks s.cells.now in
-    parent-after old (g.C.Cells.blocks c.write_word.new.cells) c.args.n 2 c.args.v c.write_word.ensures.written (omega arith) (beside-node old s.mark.0 c.args.n c.requires) s.mark.0 refl
+returns-clause-store g c = parent-after c.write_word.ensures.change (omega arith) (beside-node (g.C.Cells.blocks c.args.self.now.cells.now) c.args.self.now.mark.0 c.args.n c.requires) c.args.self.now.mark.0 refl
 
 pub returns-clause-rest : goal.returns-clause-rest
-returns-clause-rest g c =
-    let s = c.args.self.now in
-    let old = g.C.Cells.blocks s.cells.now in (
-      refl,
-      refl,
-      c.write_word.ensures.rest,
-      stays-after old (g.C.Cells.blocks c.write_word.new.cells) c.args.n 2 c.args.v c.write_word.ensures.written (omega arith) (beside-node old s.mark.0 c.args.n c.requires),
-    )
+returns-clause-rest g c = (refl, refl, c.write_word.ensures.rest, stays-after c.write_word.ensures.change (omega arith) (beside-node (g.C.Cells.blocks c.args.self.now.cells.now) c.args.self.now.mark.0 c.args.n c.requires))

@@ -8,9 +8,8 @@ use Rattle.vc_dict_tests.proofs.paths.toy.ToyLayers.find.Goals as goal
 
 pub returns-then-is_eq-clause-found : goal.returns-then-is_eq-clause-found
 returns-then-is_eq-clause-found g c =
-    let bytes = c.bytes_of-bytes.result.now in
     let key = c.args.key.now in
-    sym (found-here key bytes c.loop-i.i c.loop-i-test.true (sym (ap is_eq c.compare.ensures) ∙ (sym c.is_eq.ensures ∙ c.if-is_eq.true)))
+    sym (found-here key c.bytes_of-bytes.result.now c.loop-i.i c.loop-i-test.true (sym (ap is_eq c.compare.ensures) ∙ (sym c.is_eq.ensures ∙ c.if-is_eq.true)))
     ∙ (c.loop-i.invariant ∙ ap (λ bs. place_with (rules_of Fold) key (objects_from 1 bs)) c.bytes_of-bytes.ensures.bytes)
 
 pub loop-i-preserved : goal.loop-i-preserved
