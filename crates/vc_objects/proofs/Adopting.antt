@@ -15,7 +15,7 @@ use Rattle.vc_objects.specs.Objects.{Dictionary, Table, own_blocks}
 use Rattle.vc_objects.specs.Unlabelled.{MakesCell}
 use Rattle.vc_objects.specs.Parts.{CanGrow, IsWhole, dictionary_of, object_of, table_of}
 use Rattle.vc_objects.proofs.Mapped.{objects-kept}
-use Rattle.vc_objects.proofs.Owning.{all-objects, apart-holders, apart-owned, apart-table, each-object}
+use Rattle.vc_objects.proofs.Owning.{all-objects, apart-holders, apart-owned, apart-table, cell-apart, cell-kept, cell-shows, each-object, holder-apart, none-there, other-table, own-apart}
 
 abbrev made : DictMethod → List Object → Option ℕ → Option Table → Dictionary
 made m os c t = record { method = m; objects = os; current = c; table = t }
@@ -32,40 +32,9 @@ module _ (rules : Rules) (d0 : Dict) (B0 B1 : Blocks) (t slots : ℕ) (can : Can
   abbrev hs : List ℕ
   hs = holders_of d0 B0
 
-  -- the block is another one than those of the dictionary
-  cell-apart : (a : ℕ) → IsSome (B0 a) → a ≢ t
-  cell-apart a h e = true≢false (sym h ∙ ap is_some (ap B0 e ∙ cell.fresh))
-
-  holder-apart : (a : ℕ) → contains hs a ≡ true → a ≢ t
-  holder-apart a h = cell-apart a (holder-there rules d0 B0 hs a can.stands h).there
-
-  none-there : contains hs t ≡ false
-  none-there =
-      ⊎_elim
-      (λ (within : contains hs t ≡ true). absurd (holder-apart t within refl))
-      (λ (apart : contains hs t ≡ false). apart)
-      (cases_Bool (contains hs t))
-
-  other-table : (table_in d0).0 ≢ t
-  other-table = elim (eqb_tells (table_in d0).0 0) as (λ _. (table_in d0).0 ≢ t) [
-    | inl same ↦ λ e. let some = cell.address.some in let z = same.1 in omega (arith, e, some, z)
-    | inr apart ↦ cell-apart (table_in d0).0 ((Stands-table _ _ _ _ can.stands).some apart.1).there
-  ]
-
-  own-apart : (a : ℕ) → contains ((table_in d0).0 ∷ hs) a ≡ true → a ≢ t
-  own-apart a w = elim (eqb_tells (table_in d0).0 a) as (λ _. a ≢ t) [
-    | inl same ↦ λ e. other-table (same.1 ∙ e)
-    | inr apart ↦ holder-apart a (rw apart.0 at w)
-  ]
-
-  kept-placed : (a : ℕ) → a ≢ t → B1 a ≡ B0 a
-  kept-placed a ne = ap (λ (f : Blocks). f a) cell.cells ∙ put_other a t (replicate (8 * slots) 0) B0 ne
-
-  shows : B1 t ≡ Some (replicate (8 * slots) 0)
-  shows = ap (λ (f : Blocks). f t) cell.cells ∙ put_same t (replicate (8 * slots) 0) B0
-
+  -- the dictionary stands as it did
   pub stands-placed : Stands rules d0 B1 (holders_of d0 B0)
-  stands-placed = Stands-own rules d0 B0 B1 hs (λ a some w. kept-placed a (own-apart a w)) can.stands
+  stands-placed = Stands-own rules d0 B0 B1 hs (λ a some w. cell-kept can.stands cell a (own-apart can.stands cell a w)) can.stands
 
   pub can-adopt : CanAdopt rules d0 B1 t slots
   can-adopt = record {
@@ -74,19 +43,19 @@ module _ (rules : Rules) (d0 : Dict) (B0 B1 : Blocks) (t slots : ℕ) (can : Can
     method = can.method;
     fits = record {
       slots_allowed = can.allowed;
-      there = ap is_some shows;
-      size = ap (λ o. length (unwrap_or o [])) shows ∙ length-replicate (8 * slots) 0;
+      there = ap is_some (cell-shows can.stands cell);
+      size = ap (λ o. length (unwrap_or o [])) (cell-shows can.stands cell) ∙ length-replicate (8 * slots) 0;
       enough = can.enough;
-      apart = none-there;
+      apart = none-there can.stands cell;
     };
-    another = λ e. other-table (sym e);
+    another = λ e. other-table can.stands cell (sym e);
   }
 
   -- the table before it stands still
   pub old-there : (d1 : Dict) (B2 : Blocks) → Adopted rules t slots (holders_of d0 B0) d0 B1 d1 B2 → (a : ℕ) → a ≡ (table_in d0).0 → a ≢ 0 → IsSome (B2 a)
   old-there d1 B2 adopted a is some =
       let there : IsSome (B0 a) = subst (λ n. IsSome (B0 n)) (sym is) ((Stands-table _ _ _ _ can.stands).some (λ z. some (is ∙ z))).there in
-      adopted.keeps.there a ∙ (ap is_some (kept-placed a (cell-apart a there)) ∙ there)
+      adopted.keeps.there a ∙ (ap is_some (cell-kept can.stands cell a (cell-apart can.stands cell a there)) ∙ there)
 
   module _ (d1 : Dict) (B2 B3 : Blocks) (adopted : Adopted rules t slots (holders_of d0 B0) d0 B1 d1 B2) (after : (a : ℕ) → a ≢ (table_in d0).0 → B3 a ≡ B2 a) where
     outside : (a : ℕ) → contains hs a ≡ true → a ≢ (table_in d0).0
@@ -96,7 +65,7 @@ module _ (rules : Rules) (d0 : Dict) (B0 B1 : Blocks) (t slots : ℕ) (can : Can
     stands-then =
         Stands-own rules d1 B2 B3 hs
         (λ a some w. after a (elim (eqb_tells (table_in d1).0 a) as (λ _. a ≢ (table_in d0).0) [
-          | inl same ↦ λ e. other-table (sym e ∙ (sym same.1 ∙ adopted.table))
+          | inl same ↦ λ e. other-table can.stands cell (sym e ∙ (sym same.1 ∙ adopted.table))
           | inr apart ↦ outside a (rw apart.0 at w)
         ]))
         adopted.stands
@@ -107,8 +76,8 @@ module _ (rules : Rules) (d0 : Dict) (B0 B1 : Blocks) (t slots : ℕ) (can : Can
     object : (a : ℕ) → contains hs a ≡ true → object_at B3 a ≡ object_at B0 a
     object a w =
         let bytes : Option (List ℕ) → List ℕ = λ o. body_of (unwrap_or o []) in
-        let apart : contains ((table_in d0).0 ∷ t ∷ []) a ≡ false = apart-cons (table_in d0).0 (t ∷ []) a (λ e. outside a w (sym e)) (apart-cons t [] a (λ e. holder-apart a w (sym e)) refl) in
-        ap bytes (after a (outside a w)) ∙ (adopted.keeps.bodies a apart ∙ ap bytes (kept-placed a (holder-apart a w)))
+        let apart : contains ((table_in d0).0 ∷ t ∷ []) a ≡ false = apart-cons (table_in d0).0 (t ∷ []) a (λ e. outside a w (sym e)) (apart-cons t [] a (λ e. holder-apart can.stands cell a w (sym e)) refl) in
+        ap bytes (after a (outside a w)) ∙ (adopted.keeps.bodies a apart ∙ ap bytes (cell-kept can.stands cell a (holder-apart can.stands cell a w)))
 
     objects : map (object_of B3) (holders_of d1 B3) ≡ map (object_of B0) hs
     objects = ap (map (object_of B3)) told ∙ objects-kept B0 B3 hs object
@@ -140,7 +109,7 @@ module _ (rules : Rules) (d0 : Dict) (B0 B1 : Blocks) (t slots : ℕ) (can : Can
           let block : t ≢ a = subst (λ n. n ≢ a) adopted.table (apart-table d1 B3 a some.1 new) in
           after a (λ e. table (sym e))
           ∙ (adopted.keeps.others a (apart-cons (table_in d0).0 (t ∷ []) a table (apart-cons t [] a block refl)) (apart-holders d0 B0 a old)
-          ∙ kept-placed a (λ e. block (sym e)))
+          ∙ cell-kept can.stands cell a (λ e. block (sym e)))
     ]
 
     pub fresh-grown : (a : ℕ) → contains (own_blocks (dictionary_of d1 B3)) a ≡ true → contains (own_blocks (dictionary_of d0 B0)) a ≡ false → B0 a ≡ None

@@ -36,19 +36,13 @@ slots-enough n h = enough 17 0 16 n refl refl h
 pub slots-least : (s : ℕ) → IsSlots s → 16 ≤ s
 slots-least s is =
     let p : 2 ^ 0 ≤ 2 ^ is.doublings = pow_mono {i = 0} {j = is.doublings} (omega arith) in
-    let value = is.value in
-    omega (arith, p, value)
+    omega (arith, p, is.value)
 
 pub slots-most : (s : ℕ) → IsSlots s → s ≤ 2097152
 slots-most s is =
     let p : 2 ^ is.doublings ≤ 2 ^ 17 = pow_mono {i = is.doublings} {j = 17} is.few in
-    let value = is.value in
-    omega (arith, p, value)
+    omega (arith, p, is.value)
 
 -- a table is a block of a size that a region puts
 pub table-sized : (s : ℕ) → IsSlots s → IsSize (8 * s)
-table-sized s is =
-    let most = slots-most s is in
-    let p : 2 ^ 0 ≤ 2 ^ is.doublings = pow_mono {i = 0} {j = is.doublings} (omega arith) in
-    let value = is.value in
-    record { some = omega (arith, p, value); most = omega (arith, most) }
+table-sized s is = record { some = omega (arith, slots-least s is); most = omega (arith, slots-most s is) }

@@ -69,10 +69,10 @@ emptied-none rules d b whole none =
     ap (λ os. with os d.current.0) none ∙ ap (λ c. with [] c) (none_current d.current.0 lone)
 
 -- it owns no more then
-pub emptied-fewer : (d : Dictionary) (a : ℕ) → contains (own_blocks d) a ≡ false → contains (own_blocks (without_objects d)) a ≡ false
-emptied-fewer d a h =
+pub emptied-fewer : (d left : Dictionary) → left ≡ without_objects d → (a : ℕ) → contains (own_blocks d) a ≡ false → contains (own_blocks left) a ≡ false
+emptied-fewer d left e a h =
     let front = map (λ (t : Table). t.at) (option_list d.table) in
-    apart-append front [] a (apart-front front (map (λ (o : Object). o.at) d.objects) a h) refl
+    ap (λ z. contains (own_blocks z) a) e ∙ apart-append front [] a (apart-front front (map (λ (o : Object). o.at) d.objects) a h) refl
 
 module _ {I : Type 0} {V : I → Type 0} (meaning : (x : I) × V x → Discipline) where
   -- the table goes, too

@@ -1,6 +1,7 @@
 -- Which table is wanted, and what there is once a set or bag has it.
 use Rattle.vc_base.proofs.Common.{◌≡◌, ℕ, suc, ◌+◌, ◌*◌, ◌^◌, ◌<◌, ◌≤◌, Bool, true, false, ◌&&◌, ◌≢◌, List, map, length, if◌then◌else◌, nat_lt, ◌==◌, Some, None, Option, sym, refl, ap, ◌∙◌, subst, inl, inr, pow-suc, arith, pow_mono, ltb-true, le-ltb, ne_eqb, eqb_tells, cases_lt, length-map, none-some, same_Some, Blocks, has_table}
 use Rattle.vc_dtdisc.specs.Rules.{Rules}
+use Rattle.vc_dthash.specs.Hashed.{IsTable}
 use Rattle.vc_dthash.specs.Slots.{IsSlots, most_slots, slots_for, wanted_slots}
 use Rattle.vc_dict.specs.Listed.{holders_of}
 use Rattle.vc_dict.specs.Methods.{wanted_by}
@@ -55,52 +56,40 @@ few-doublings slots is small = elim (cases_lt is.doublings 17) as (λ _. is.doub
   | inl less ↦ omega (arith, less)
   | inr more ↦
       let p : 2 ^ 17 ≤ 2 ^ is.doublings = pow_mono {i = 17} {j = is.doublings} more in
-      let value = is.value in
-      absurd (omega (arith, p, value, small))
+      absurd (omega (arith, p, is.value, small))
 ]
 
 doubled-slots : (slots : ℕ) → IsSlots slots → slots < most_slots → IsSlots (2 * slots)
 doubled-slots slots is small =
-    let value = is.value in
-    let more = pow-suc 2 is.doublings in
-    let few = few-doublings slots is small in
-    record { doublings = suc is.doublings; few = omega (arith, few); value = omega (arith, value, more) }
+    record { doublings = suc is.doublings; few = omega (arith, few-doublings slots is small); value = omega (arith, is.value, pow-suc 2 is.doublings) }
 
 -- where slots are wanted a set or bag can get a table of these, and then none are wanted
 module _ (rules : Rules) (d : Dict) (b : Blocks) (n : ℕ) (whole : IsWhole rules d b) (wants : wanted_by d.method (slots_in d) d.count 1 ≡ Some n) where
+  tabled : (has_table d.method ≡ true) × (wanted_slots (slots_in d) d.count 1 ≡ Some n)
+  tabled = by_table (has_table d.method) (wanted_slots (slots_in d) d.count 1) n wants
+
+  table : IsTable b (holders_of d b) (table_in d).0 (slots_in d)
+  table = (Stands-table _ _ _ _ whole.stands).some (whole.table tabled.0)
+
   grows : (n ≡ 2 * (slots_in d)) × ((slots_in d) < most_slots)
-  grows =
-      let by = by_table (has_table d.method) (wanted_slots (slots_in d) d.count 1) n wants in
-      let t = (Stands-table _ _ _ _ whole.stands).some (whole.table by.0) in
-      let some = slots-least (slots_in d) t.slots_allowed in
-      doubles (slots_in d) d.count n (λ e. let z = e in omega (arith, some, z)) by.1
+  grows = doubles (slots_in d) d.count n (λ e. omega (arith, slots-least (slots_in d) table.slots_allowed, e)) tabled.1
 
   pub can-grow : CanGrow rules d b n
-  can-grow =
-      let by = by_table (has_table d.method) (wanted_slots (slots_in d) d.count 1) n wants in
-      let t = (Stands-table _ _ _ _ whole.stands).some (whole.table by.0) in
-      let fits = t.enough grows.1 in
-      record {
-        stands = whole.stands;
-        current = whole.current;
-        objects = whole.objects;
-        method = by.0;
-        allowed = subst IsSlots (sym grows.0) (doubled-slots (slots_in d) t.slots_allowed grows.1);
-        enough = λ few. let twice = grows.0 in omega (arith, fits, twice);
-      }
+  can-grow = record {
+    stands = whole.stands;
+    current = whole.current;
+    objects = whole.objects;
+    method = tabled.0;
+    allowed = subst IsSlots (sym grows.0) (doubled-slots (slots_in d) table.slots_allowed grows.1);
+    enough = λ few. omega (arith, table.enough grows.1, grows.0);
+  }
 
   pub no-more : wanted_slots n d.count 1 ≡ None
   no-more =
-      let by = by_table (has_table d.method) (wanted_slots (slots_in d) d.count 1) n wants in
-      let t = (Stands-table _ _ _ _ whole.stands).some (whole.table by.0) in
-      let some = slots-least (slots_in d) t.slots_allowed in
-      let fits = t.enough grows.1 in
-      let twice = grows.0 in
-      let count = whole.stands.count in
-      enough-slots n d.count (λ e. let z = e in omega (arith, some, z, twice)) (omega (arith, some, fits, twice, count))
+      let some = slots-least (slots_in d) table.slots_allowed in
+      enough-slots n d.count (λ e. omega (arith, some, e, grows.0)) (omega (arith, some, table.enough grows.1, grows.0, whole.stands.count))
 
   pub no-more-told : wanted_by d.method n (length (dictionary_of d b).objects) 1 ≡ None
   no-more-told =
-      let by = by_table (has_table d.method) (wanted_slots (slots_in d) d.count 1) n wants in
       ap (λ count. wanted_by d.method n count 1) (length-map (holders_of d b) (object_of b) ∙ sym whole.stands.count)
-      ∙ (ap (λ t. if t then wanted_slots n d.count 1 else None) by.0 ∙ no-more)
+      ∙ (ap (λ t. if t then wanted_slots n d.count 1 else None) tabled.0 ∙ no-more)

@@ -22,7 +22,7 @@ use Rattle.vc_objects.specs.Parts.{IsWhole, dictionary_of, object_of, table_of}
 use Rattle.vc_objects.proofs.Adopting.{same-dictionary}
 use Rattle.vc_objects.proofs.Growing.{wanted-told}
 use Rattle.vc_objects.proofs.Mapped.{none-mapped, objects-kept}
-use Rattle.vc_objects.proofs.Owning.{all-objects, apart-holders, apart-owned, apart-table, each-object}
+use Rattle.vc_objects.proofs.Owning.{all-objects, apart-holders, apart-owned, apart-table, cell-kept, cell-shows, each-object, holder-apart, none-there, other-table, own-apart}
 
 -- a body that is written whole is read back
 body-written : (body bytes : List ℕ) → length body + 32 ≡ length bytes → drop 32 (with_bytes 32 body bytes) ≡ body
@@ -39,18 +39,15 @@ module _ (rules : Rules) (d0 : Dict) (B0 B1 B2 : Blocks) (at : ℕ) (bytes : Lis
   abbrev zeros : List ℕ
   zeros = replicate (32 + length bytes) 0
 
-  shows : B1 at ≡ Some zeros
-  shows = ap (λ (f : Blocks). f at) cell.cells ∙ put_same at zeros B0
-
   long : length bytes + 32 ≡ length (bytes_at B1 at)
   long =
       let zeroes : length zeros ≡ 32 + length bytes = length-replicate (32 + length bytes) 0 in
-      let is : length (bytes_at B1 at) ≡ length zeros = ap (λ o. length (unwrap_or o [])) shows in
+      let is : length (bytes_at B1 at) ≡ length zeros = ap (λ o. length (unwrap_or o [])) (cell-shows whole.stands cell) in
       omega (arith, zeroes, is)
 
   -- the block has room for four words, and for the object behind them
   pub body-place : HasBytes B1 at 32
-  body-place = let is = long in record { there = ap is_some shows; enough = omega (arith, is) }
+  body-place = let is = long in record { there = ap is_some (cell-shows whole.stands cell); enough = omega (arith, is) }
 
   pub body-length : length bytes + 32 ≡ length (bytes_at B1 at)
   body-length = long
@@ -63,41 +60,14 @@ module _ (rules : Rules) (d0 : Dict) (B0 B1 B2 : Blocks) (at : ℕ) (bytes : Lis
 
   kept : (a : ℕ) → a ≢ at → B2 a ≡ B0 a
   kept a ne =
-      ap (λ (f : Blocks). f a) written
-      ∙ (put_other a at (with_bytes 32 bytes (bytes_at B1 at)) B1 ne
-      ∙ (ap (λ (f : Blocks). f a) cell.cells ∙ put_other a at zeros B0 ne))
+      ap (λ (f : Blocks). f a) written ∙ (put_other a at (with_bytes 32 bytes (bytes_at B1 at)) B1 ne ∙ cell-kept whole.stands cell a ne)
 
-  -- it is another one than those of the dictionary
-  cell-apart : (a : ℕ) → IsSome (B0 a) → a ≢ at
-  cell-apart a h e = true≢false (sym h ∙ ap is_some (ap B0 e ∙ cell.fresh))
-
-  holder-apart : (a : ℕ) → contains hs a ≡ true → a ≢ at
-  holder-apart a h = cell-apart a (holder-there rules d0 B0 hs a whole.stands h).there
-
-  none-there : contains hs at ≡ false
-  none-there =
-      ⊎_elim
-      (λ (within : contains hs at ≡ true). absurd (holder-apart at within refl))
-      (λ (apart : contains hs at ≡ false). apart)
-      (cases_Bool (contains hs at))
-
-  other-table : (table_in d0).0 ≢ at
-  other-table = elim (eqb_tells (table_in d0).0 0) as (λ _. (table_in d0).0 ≢ at) [
-    | inl same ↦ λ e. let some = cell.address.some in let z = same.1 in omega (arith, e, some, z)
-    | inr apart ↦ cell-apart (table_in d0).0 ((Stands-table _ _ _ _ whole.stands).some apart.1).there
-  ]
-
-  own-apart : (a : ℕ) → contains ((table_in d0).0 ∷ hs) a ≡ true → a ≢ at
-  own-apart a w = elim (eqb_tells (table_in d0).0 a) as (λ _. a ≢ at) [
-    | inl same ↦ λ e. other-table (same.1 ∙ e)
-    | inr apart ↦ holder-apart a (rw apart.0 at w)
-  ]
-
+  -- the dictionary stands as it did
   pub stands-put : Stands rules d0 B2 (holders_of d0 B0)
-  stands-put = Stands-own rules d0 B0 B2 hs (λ a some w. kept a (own-apart a w)) whole.stands
+  stands-put = Stands-own rules d0 B0 B2 hs (λ a some w. kept a (own-apart whole.stands cell a w)) whole.stands
 
   objects-put : map (object_of B2) hs ≡ map (object_of B0) hs
-  objects-put = objects-kept B0 B2 hs (λ a w. ap (λ o. body_of (unwrap_or o [])) (kept a (holder-apart a w)))
+  objects-put = objects-kept B0 B2 hs (λ a w. ap (λ o. body_of (unwrap_or o [])) (kept a (holder-apart whole.stands cell a w)))
 
   holder : IsHolder B2 at
   holder =
@@ -112,7 +82,7 @@ module _ (rules : Rules) (d0 : Dict) (B0 B1 B2 : Blocks) (at : ℕ) (bytes : Lis
   can-link append room lone list = record {
     holders = hs;
     stands = stands-put;
-    apart = apart-cons (table_in d0).0 hs at other-table none-there;
+    apart = apart-cons (table_in d0).0 hs at (other-table whole.stands cell) (none-there whole.stands cell);
     holder = holder;
     current = whole.current;
     room = sym (wanted-told rules d0 B0 hs whole.stands) ∙ room;
@@ -139,7 +109,7 @@ module _ (rules : Rules) (d0 : Dict) (B0 B1 B2 : Blocks) (at : ℕ) (bytes : Lis
         (cases_Bool (contains hs a))
 
     no-table : contains ys (table_in d0).0 ≡ false
-    no-table = apart-linked append d0.method rules B2 d0.current.0 at hs (table_in d0).0 (λ e. other-table (sym e)) (table-apart rules d0 B0 hs whole.stands)
+    no-table = apart-linked append d0.method rules B2 d0.current.0 at hs (table_in d0).0 (λ e. other-table whole.stands cell (sym e)) (table-apart rules d0 B0 hs whole.stands)
 
     body-kept : (a : ℕ) → contains ys a ≡ true → object_at B3 a ≡ object_at B2 a
     body-kept a w = became.keeps.bodies a (apart-cons (table_in d0).0 [] a (λ e. true≢false (sym (ap (contains ys) e ∙ w) ∙ no-table)) refl)
@@ -179,7 +149,7 @@ module _ (rules : Rules) (d0 : Dict) (B0 B1 B2 : Blocks) (at : ℕ) (bytes : Lis
             | inl same ↦ subst (λ n. IsObject (object_at B2 n)) same.1 (subst IsObject (sym object-put) object)
             | inr apart ↦
                 let within = one-of a apart.1 w in
-                subst IsObject (sym (ap (λ o. body_of (unwrap_or o [])) (kept a (holder-apart a within)))) (each-object IsObject B0 hs whole.objects a within)
+                subst IsObject (sym (ap (λ o. body_of (unwrap_or o [])) (kept a (holder-apart whole.stands cell a within)))) (each-object IsObject B0 hs whole.objects a within)
           ])));
     }
 

@@ -50,21 +50,23 @@ apart-table rules d b xs a s w =
 
 module _ {I : Type 0} {V : I → Type 0} (meaning : (x : I) × V x → Discipline) (rules : Rules) (before after : Best I V) (old new : Dict) (whole : IsWhole rules old (cells_in before))
     (t : Became rules (holders_of old (cells_in before)) old (cells_in before) new (cells_in after) (holders_of old (cells_in before)) old.current.0) (stays : StaysButCells before after) where
-  same-objects : map (object_of (cells_in after)) (holders_of old (cells_in before)) ≡ map (object_of (cells_in before)) (holders_of old (cells_in before))
+  -- the holders
+  abbrev xs : List ℕ
+  xs = holders_of old (cells_in before)
+
+  same-objects : map (object_of (cells_in after)) xs ≡ map (object_of (cells_in before)) xs
   same-objects =
-      objects-kept (cells_in before) (cells_in after) (holders_of old (cells_in before))
-      (λ a w. t.keeps.bodies a (apart-table rules old (cells_in before) (holders_of old (cells_in before)) a whole.stands w))
+      objects-kept (cells_in before) (cells_in after) xs
+      (λ a w. t.keeps.bodies a (apart-table rules old (cells_in before) xs a whole.stands w))
 
   same-dictionary : dictionary_in new after ≡ dictionary_in old before
   same-dictionary =
-      let xs = holders_of old (cells_in before) in
       dictionary-told rules new (cells_in after) xs t.stands
       ∙ dictionary-same new.method old.method (map (object_of (cells_in after)) xs) (map (object_of (cells_in before)) xs) new.current.0 old.current.0 (table_in new).0 (table_in old).0 (slots_in new) (slots_in old)
       t.method same-objects t.current (ap (λ z. z.0) t.table) t.slots
 
   still-whole : IsWhole rules new (cells_in after)
   still-whole =
-      let xs = holders_of old (cells_in before) in
       IsWhole-told rules new (cells_in after) xs t.stands
       (subst (λ z. contains (0 ∷ xs) z ≡ true) (sym t.current) whole.current)
       (λ h e. whole.table (sym (ap has_table t.method) ∙ h) (sym (ap (λ z. z.0) t.table) ∙ e))
@@ -74,7 +76,6 @@ module _ {I : Type 0} {V : I → Type 0} (meaning : (x : I) × V x → Disciplin
   others-stay a apart = elim (eqb_tells a 0) as (λ _. cells_in after a ≡ cells_in before a) [
     | inl zero ↦ ap (cells_in after) zero.1 ∙ none-at after ∙ sym (none-at before) ∙ ap (cells_in before) (sym zero.1)
     | inr some ↦
-        let xs = holders_of old (cells_in before) in
         let neither : contains ((table_in old).0 ∷ xs) a ≡ false = sym (owned-within old (cells_in before) a some.1) ∙ apart in
         t.keeps.others a (apart-cons (table_in old).0 [] a (apart-head (table_in old).0 xs a neither) refl) (apart-tail (table_in old).0 xs a neither)
   ]

@@ -1,14 +1,18 @@
 -- The addresses of a dictionary's own blocks, its table's and its holders', and what holds of each of its objects.
-use Rattle.vc_base.proofs.Common.{◌≡◌, ℕ, Bool, true, false, ◌≢◌, List, [], ◌∷◌, ◌++◌, map, if◌then◌else◌, ◌==◌, Some, None, sym, refl, ap, ◌∙◌, subst, inl, inr, true≢false, ne_eqb, eqb_tells, AllByRecursion, Blocks, contains}
+use Rattle.vc_base.proofs.Common.{◌≡◌, ℕ, Bool, true, false, ◌≢◌, List, [], ◌∷◌, ◌++◌, map, replicate, is_some, if◌then◌else◌, ◌==◌, IsSome, Some, None, sym, refl, ap, ◌∙◌, subst, inl, inr, ⊎_elim, true≢false, arith, ne_eqb, eqb_tells, cases_Bool, AllByRecursion, Blocks, contains}
+use Rattle.vc_base.proofs.CellsLemmas.{put_other, put_same}
 use Rattle.vc_base.proofs.Members.{apart-head, apart-cons, apart-rest, within-head, within-tail}
 use Rattle.vc_dtdisc.specs.Finds.{object_at}
 use Rattle.vc_dtdisc.specs.Objects.{Object}
+use Rattle.vc_dtdisc.specs.Rules.{Rules}
 use Rattle.vc_dict.specs.Listed.{holders_of}
 use Rattle.vc_dict.specs.declared.dict.Dict.{Dict}
+use Rattle.vc_dict.proofs.OwnLemmas.{Stands-table, holder-there}
 use Rattle.vc_objects.specs.Objects.{Table, option_list, own_blocks}
+use Rattle.vc_objects.specs.Unlabelled.{MakesCell}
 use Rattle.vc_objects.specs.Parts.{dictionary_of, object_of}
 use Rattle.vc_objects.proofs.Mapped.{addresses-mapped}
-use Rattle.vc_dict.specs.Stands.{slots_in, table_in}
+use Rattle.vc_dict.specs.Stands.{Stands, slots_in, table_in}
 
 -- a table at an address, or none at 0
 abbrev pub table_at : ℕ → List ℕ
@@ -65,3 +69,36 @@ each-object P b (x ∷ xs) all a h = elim (eqb_tells x a) as (λ _. P (object_at
   | inl same ↦ subst (λ z. P (object_at b z)) same.1 all.0
   | inr apart ↦ each-object P b xs all.1 a (rw apart.0 at h)
 ]
+
+-- a block that is put is another one than those of a dictionary, and all others stay
+module _ {rules : Rules} {d : Dict} {b b' : Blocks} {size at : ℕ} (stands : Stands rules d b (holders_of d b)) (cell : MakesCell b size at b') where
+  pub cell-apart : (a : ℕ) → IsSome (b a) → a ≢ at
+  cell-apart a h e = true≢false (sym h ∙ ap is_some (ap b e ∙ cell.fresh))
+
+  pub holder-apart : (a : ℕ) → contains (holders_of d b) a ≡ true → a ≢ at
+  holder-apart a h = cell-apart a (holder-there rules d b (holders_of d b) a stands h).there
+
+  pub none-there : contains (holders_of d b) at ≡ false
+  none-there =
+      ⊎_elim
+      (λ (within : contains (holders_of d b) at ≡ true). absurd (holder-apart at within refl))
+      (λ (apart : contains (holders_of d b) at ≡ false). apart)
+      (cases_Bool (contains (holders_of d b) at))
+
+  pub other-table : (table_in d).0 ≢ at
+  other-table = elim (eqb_tells (table_in d).0 0) as (λ _. (table_in d).0 ≢ at) [
+    | inl same ↦ λ e. omega (arith, e, cell.address.some, same.1)
+    | inr apart ↦ cell-apart (table_in d).0 ((Stands-table _ _ _ _ stands).some apart.1).there
+  ]
+
+  pub own-apart : (a : ℕ) → contains ((table_in d).0 ∷ holders_of d b) a ≡ true → a ≢ at
+  own-apart a w = elim (eqb_tells (table_in d).0 a) as (λ _. a ≢ at) [
+    | inl same ↦ λ e. other-table (same.1 ∙ e)
+    | inr apart ↦ holder-apart a (rw apart.0 at w)
+  ]
+
+  pub cell-shows : b' at ≡ Some (replicate size 0)
+  cell-shows = ap (λ (f : Blocks). f at) cell.cells ∙ put_same at (replicate size 0) b
+
+  pub cell-kept : (a : ℕ) → a ≢ at → b' a ≡ b a
+  cell-kept a ne = ap (λ (f : Blocks). f a) cell.cells ∙ put_other a at (replicate size 0) b ne

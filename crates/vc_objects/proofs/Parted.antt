@@ -97,20 +97,23 @@ out_by p q a false e w h = e
 out_by p q a true e w h = absurd (true≢false (sym h ∙ w e))
 
 module _ (method : DictMethod) (rules : Rules) (b : Blocks) (xs : List ℕ) where
-  -- those that a method keeps of some holders, and those that it drops
+  -- some holders in the order of a method, those that it keeps, and those that it drops
+  abbrev pub ordered : List ℕ
+  ordered = ordered_by method rules b xs
+
   abbrev pub keeps : List ℕ
-  keeps = kept_by method rules b (ordered_by method rules b xs)
+  keeps = kept_by method rules b ordered
 
   abbrev pub drops : List ℕ
-  drops = dropped_by method rules b (ordered_by method rules b xs)
+  drops = dropped_by method rules b ordered
 
   pub apart-keeps : (a : ℕ) → contains xs a ≡ false → contains keeps a ≡ false
-  apart-keeps a h = within_kept_by method rules b (ordered_by method rules b xs) a (within_ordered method rules b xs a h)
+  apart-keeps a h = within_kept_by method rules b ordered a (within_ordered method rules b xs a h)
 
   pub apart-drops : (a : ℕ) → contains xs a ≡ false → contains drops a ≡ false
   apart-drops a h =
-      apart-either (is_set method) (dropped_holders rules b [] (ordered_by method rules b xs)) [] a
-      (within_dropped rules b [] (ordered_by method rules b xs) a (within_ordered method rules b xs a h)) refl
+      apart-either (is_set method) (dropped_holders rules b [] ordered) [] a
+      (within_dropped rules b [] ordered a (within_ordered method rules b xs a h)) refl
 
   pub within-keeps : (a : ℕ) → contains keeps a ≡ true → contains xs a ≡ true
   within-keeps a h = in_by (contains keeps) (contains xs) a (contains xs a) refl (apart-keeps a) h
@@ -120,16 +123,14 @@ module _ (method : DictMethod) (rules : Rules) (b : Blocks) (xs : List ℕ) wher
 
   pub distinct-drops : AreDistinct xs → AreDistinct drops
   distinct-drops d =
-      either_distinct (is_set method) (dropped_holders rules b [] (ordered_by method rules b xs)) []
-      (distinct_dropped rules b [] (ordered_by method rules b xs) (distinct_ordered method rules b xs d)) tt
+      either_distinct (is_set method) (dropped_holders rules b [] ordered) []
+      (distinct_dropped rules b [] ordered (distinct_ordered method rules b xs d)) tt
 
   pub keeps-apart : AreDistinct xs → (a : ℕ) → contains keeps a ≡ true → contains drops a ≡ false
   keeps-apart d a h =
-      let os = ordered_by method rules b xs in
       out_by (contains keeps) (contains drops) a (contains drops a) refl
-      (set_apart (is_set method) (kept_holders rules b [] os) (dropped_holders rules b [] os) os a (none_both rules b [] os a (distinct_ordered method rules b xs d))) h
+      (set_apart (is_set method) (kept_holders rules b [] ordered) (dropped_holders rules b [] ordered) ordered a (none_both rules b [] ordered a (distinct_ordered method rules b xs d))) h
 
   pub length-parted : length keeps + length drops ≡ length xs
   length-parted =
-      let os = ordered_by method rules b xs in
-      set_length (is_set method) (kept_holders rules b [] os) (dropped_holders rules b [] os) os (let e = length_parted rules b [] os in omega (arith, e)) ∙ length-ordered method rules b xs
+      set_length (is_set method) (kept_holders rules b [] ordered) (dropped_holders rules b [] ordered) ordered (let e = length_parted rules b [] ordered in omega (arith, e)) ∙ length-ordered method rules b xs

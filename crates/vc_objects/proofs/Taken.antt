@@ -1,5 +1,6 @@
 -- What is left of a dictionary and of its region when one of its holders is taken out and freed.
-use Rattle.vc_base.proofs.Common.{◌≡◌, ℕ, ◌≤◌, Bool, true, false, ◌≢◌, List, [], ◌∷◌, map, if◌then◌else◌, ◌==◌, Some, None, Option, unwrap_or, sym, refl, ap, ◌∙◌, subst, inl, inr, ⊎_elim, true≢false, eqb_tells, cases_Bool, AllByRecursion, Blocks, IsHolder, body_of, AreDistinct, contains, first_in, without, has_table, Discipline, Layout}
+use Rattle.vc_base.proofs.Common.{◌≡◌, ℕ, ◌≤◌, Bool, true, false, ◌≢◌, List, [], ◌∷◌, map, if◌then◌else◌, ◌==◌, Some, None, Option, option_map, unwrap_or, sym, refl, ap, ◌∙◌, subst, inl, inr, ⊎_elim, true≢false, eqb_tells, cases_Bool, AllByRecursion, Blocks, IsHolder, body_of, AreDistinct, contains, first_in, without, has_table, Discipline, Layout}
+use Rattle.vc_dtdisc.specs.Finding.{first_of}
 use Rattle.vc_dtdisc.specs.Finds.{object_at}
 use Rattle.vc_dtdisc.specs.Objects.{Object, address_of, without_object}
 use Rattle.vc_dtdisc.specs.Rules.{Gone, IsObject, Rules}
@@ -25,7 +26,7 @@ use Rattle.vc_objects.specs.Promises.{TakesOut}
 use Rattle.vc_objects.specs.Remove.{remove_found}
 use Rattle.vc_objects.proofs.Leaving.{keeps-same, none-at}
 use Rattle.vc_objects.proofs.Looking.{IsWhole-told, apart-table, dictionary-same, dictionary-told}
-use Rattle.vc_objects.proofs.Mapped.{current-mapped, objects-kept, without-mapped}
+use Rattle.vc_objects.proofs.Mapped.{current-mapped, first-mapped, objects-kept, without-mapped}
 use Rattle.vc_objects.proofs.Owning.{each-object, owned-within}
 use Rattle.vc_objects.proofs.Unlabelled.{left-cell}
 
@@ -79,18 +80,22 @@ pub record IsTaken {I : Type 0} {V : I → Type 0} (rules : Rules) (before mid :
   pub became : Became rules (holders_of old (cells_in before)) old (cells_in before) new (cells_in mid) (without at (holders_of old (cells_in before)))
       (changes.current_without (Some at) old.current.0 (holders_of old (cells_in before)))
 
-module _ {I : Type 0} {V : I → Type 0} (rules : Rules) (before mid : Best I V) (old new : Dict) (at : ℕ) (taken : IsTaken rules before mid old new at) where
+module _ {I : Type 0} {V : I → Type 0} {rules : Rules} {before mid : Best I V} {old new : Dict} {at : ℕ} (taken : IsTaken rules before mid old new at) where
+  -- the holders before
+  abbrev xs : List ℕ
+  xs = holders_of old (cells_in before)
+
   -- its object stays
   pub object-stays : object_at (cells_in mid) at ≡ object_at (cells_in before) at
-  object-stays = taken.became.keeps.bodies at (apart-table rules old (cells_in before) (holders_of old (cells_in before)) at taken.whole.stands taken.within)
+  object-stays = taken.became.keeps.bodies at (apart-table rules old (cells_in before) xs at taken.whole.stands taken.within)
 
   pub object-small : IsObject (object_at (cells_in mid) at)
   object-small =
-      subst (λ z. IsObject z) (sym object-stays) (each-object IsObject (cells_in before) (holders_of old (cells_in before)) taken.whole.objects at taken.within)
+      subst (λ z. IsObject z) (sym object-stays) (each-object IsObject (cells_in before) xs taken.whole.objects at taken.within)
 
   pub holder-stays : IsHolder (cells_in mid) at
   holder-stays =
-      let h = holder-there rules old (cells_in before) (holders_of old (cells_in before)) at taken.whole.stands taken.within in
+      let h = holder-there rules old (cells_in before) xs at taken.whole.stands taken.within in
       record { there = taken.became.keeps.there at ∙ h.there; enough = subst (λ n. 33 ≤ n) (sym (taken.became.keeps.sizes at)) h.enough }
 
   -- and it is freed
@@ -98,29 +103,26 @@ module _ {I : Type 0} {V : I → Type 0} (rules : Rules) (before mid : Best I V)
     left : (a : ℕ) → at ≢ a → cells_in after a ≡ cells_in mid a
     left a ne = ap (λ (f : Blocks). f a) free.cells ∙ left-cell (cells_in mid) at a ne
 
-    others_apart : (a : ℕ) → contains (without at (holders_of old (cells_in before))) a ≡ true → at ≢ a
+    others_apart : (a : ℕ) → contains (without at xs) a ≡ true → at ≢ a
     others_apart a h e =
-        let xs = holders_of old (cells_in before) in
         true≢false (sym h ∙ ap (contains (without at xs)) (sym e) ∙ gone-apart at xs (holders-distinct _ _ _ _ taken.whole.stands))
 
     table_differs : at ≢ (table_in new).0
     table_differs e =
-        let xs = holders_of old (cells_in before) in
         differs xs at (table_in old).0 taken.within (table-apart rules old (cells_in before) xs taken.whole.stands) (e ∙ ap (λ z. z.0) taken.became.table)
 
-    own_apart : (a : ℕ) → contains ((table_in new).0 ∷ without at (holders_of old (cells_in before))) a ≡ true → at ≢ a
+    own_apart : (a : ℕ) → contains ((table_in new).0 ∷ without at xs) a ≡ true → at ≢ a
     own_apart a h = elim (eqb_tells (table_in new).0 a) as (λ _. at ≢ a) [
       | inl same ↦ λ e. table_differs (e ∙ sym same.1)
       | inr apart ↦ others_apart a (rw apart.0 at h)
     ]
 
-    stands-after : Stands rules new (cells_in after) (without at (holders_of old (cells_in before)))
+    stands-after : Stands rules new (cells_in after) (without at xs)
     stands-after =
-        Stands-own rules new (cells_in mid) (cells_in after) (without at (holders_of old (cells_in before))) (λ a _ h. left a (own_apart a h)) taken.became.stands
+        Stands-own rules new (cells_in mid) (cells_in after) (without at xs) (λ a _ h. left a (own_apart a h)) taken.became.stands
 
-    objects-after : map (object_of (cells_in after)) (without at (holders_of old (cells_in before))) ≡ without_object address_of at (dictionary_in old before).objects
+    objects-after : map (object_of (cells_in after)) (without at xs) ≡ without_object address_of at (dictionary_in old before).objects
     objects-after =
-        let xs = holders_of old (cells_in before) in
         objects-kept (cells_in before) (cells_in after) (without at xs)
         (λ a w. ap (λ o. body_of (unwrap_or o [])) (left a (others_apart a w))
         ∙ taken.became.keeps.bodies a (apart-table rules old (cells_in before) xs a taken.whole.stands (left-within xs at a w)))
@@ -128,7 +130,6 @@ module _ {I : Type 0} {V : I → Type 0} (rules : Rules) (before mid : Best I V)
 
     pub dict-after : dictionary_in new after ≡ (remove_found (rest_in before) (dictionary_in old before) (Some (object_of (cells_in before) at))).dict
     dict-after =
-        let xs = holders_of old (cells_in before) in
         let os = without_object address_of at (dictionary_in old before).objects in
         let zero : contains xs 0 ≡ false = none-at_0 _ _ _ _ taken.whole.stands in
         let with : Option ℕ → Dictionary = λ c. record { method = old.method; objects = os; current = c; table = table_of (table_in old).0 (slots_in old) } in
@@ -139,7 +140,6 @@ module _ {I : Type 0} {V : I → Type 0} (rules : Rules) (before mid : Best I V)
 
     whole-after : IsWhole rules new (cells_in after)
     whole-after =
-        let xs = holders_of old (cells_in before) in
         IsWhole-told rules new (cells_in after) (without at xs) stands-after
         (subst (λ z. contains (0 ∷ without at xs) z ≡ true) (sym taken.became.current) (current-removed (Some at) old.current.0 xs taken.whole.current))
         (λ h e. taken.whole.table (sym (ap has_table taken.became.method) ∙ h) (sym (ap (λ z. z.0) taken.became.table) ∙ e))
@@ -149,7 +149,6 @@ module _ {I : Type 0} {V : I → Type 0} (rules : Rules) (before mid : Best I V)
     others-after a apart_own = elim (eqb_tells a 0) as (λ _. cells_in after a ≡ cells_in before a) [
       | inl zero ↦ ap (cells_in after) zero.1 ∙ none-at after ∙ sym (none-at before) ∙ ap (cells_in before) (sym zero.1)
       | inr some ↦
-          let xs = holders_of old (cells_in before) in
           let apart : contains ((table_in old).0 ∷ xs) a ≡ false = sym (owned-within old (cells_in before) a some.1) ∙ apart_own in
           let other : contains xs a ≡ false = apart-tail (table_in old).0 xs a apart in
           left a (differs xs at a taken.within other) ∙ taken.became.keeps.others a (apart-cons (table_in old).0 [] a (apart-head (table_in old).0 xs a apart) refl) other
@@ -202,7 +201,16 @@ takes-none meaning rules before after old new o tells out told none looks empty 
   nothing = λ _. empty;
 }
 
--- the first holder is one of them
-pub first-within : (xs : List ℕ) (at : ℕ) → Some at ≡ first_in xs → contains xs at ≡ true
+-- the first holder is one of them, and was taken out
+first-within : (xs : List ℕ) (at : ℕ) → Some at ≡ first_in xs → contains xs at ≡ true
 first-within [] at e = cc
 first-within (x ∷ xs) at e = subst (λ z. contains (x ∷ xs) z ≡ true) (sym (ap (λ o. unwrap_or o 0) e)) (within-head x xs)
+
+pub taken-first : {I : Type 0} {V : I → Type 0} {rules : Rules} {before mid : Best I V} {old new : Dict} {at : ℕ} → IsWhole rules old (cells_in before) → Some at ≡ first_in (holders_of old (cells_in before))
+    → Became rules (holders_of old (cells_in before)) old (cells_in before) new (cells_in mid) (without at (holders_of old (cells_in before))) (changes.current_without (Some at) old.current.0 (holders_of old (cells_in before)))
+    → IsTaken rules before mid old new at
+taken-first whole first became = record { whole = whole; within = first-within _ _ first; became = became }
+
+-- and it is that of the first object
+pub first-object : (b : Blocks) (xs : List ℕ) (o : Option ℕ) → o ≡ first_in xs → first_of (map (object_of b) xs) ≡ option_map (object_of b) o
+first-object b xs o e = first-mapped b xs ∙ ap (option_map (object_of b)) (sym e)

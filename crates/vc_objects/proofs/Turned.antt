@@ -95,18 +95,10 @@ module _ (rules : Rules) (method : DictMethod) (d : Dict) (b : Blocks) (t s : �
   module _ (d' : Dict) (b2 : Blocks) (answer : Dropped) (done : Remethoded rules method t s (holders_of d b) d b d' b2 answer) where
     -- those that were dropped
     pub fewer-turned : d'.count ≤ d.count
-    fewer-turned =
-        let e = length-parted method rules b hs in
-        let old = can.whole.stands.count in
-        let new = done.stands.count in
-        omega (arith, e, old, new)
+    fewer-turned = omega (arith, length-parted method rules b hs, can.whole.stands.count, done.stands.count)
 
     pub count-dropped : d.count - d'.count ≡ length gs
-    count-dropped =
-        let e = length-parted method rules b hs in
-        let old = can.whole.stands.count in
-        let new = done.stands.count in
-        omega (arith, e, old, new)
+    count-dropped = omega (arith, length-parted method rules b hs, can.whole.stands.count, done.stands.count)
 
     pub has-dropped : HasDropped b2 answer.first.0 (d.count - d'.count)
     has-dropped = record {

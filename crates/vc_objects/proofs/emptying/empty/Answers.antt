@@ -26,14 +26,12 @@ loop-passed-init g c =
 
 pub loop-passed-preserved : goal.loop-passed-preserved
 loop-passed-preserved g c =
-    let rules = g.D.DictDisc.rules c.args.kind.now in
-    let gone = g.D.DictDisc.gone c.args.kind.now in
     let l = c.loop-passed in
-    let counted = counts-objects rules c.args.dict.now (cells_in c.args.best.now) c.requires.whole in
+    let counted = counts-objects (g.D.DictDisc.rules c.args.kind.now) c.args.dict.now (cells_in c.args.best.now) c.requires.whole in
     let before = c.loop-passed-test.true in
     record {
       emptying =
-          emptying-next (meaning g) rules c.args.best.now c.args.dict.now gone l._passed l.best l.dict (g.D.DictDisc.gone l.kind) l.invariant.emptying
+          emptying-next (meaning g) (g.D.DictDisc.rules c.args.kind.now) c.args.best.now c.args.dict.now (g.D.DictDisc.gone c.args.kind.now) l._passed l.best l.dict (g.D.DictDisc.gone l.kind) l.invariant.emptying
           (g.D.DictDisc.rules l.kind) (g.D.DictDisc.rules c.take_one.new.kind) c.take_one.new.best c.take_one.new.dict (g.D.DictDisc.gone c.take_one.new.kind) l.invariant.rules (omega (arith, before, counted)) c.take_one.ensures.empties;
       rules = c.take_one.ensures.empties.kind ∙ l.invariant.rules;
     }

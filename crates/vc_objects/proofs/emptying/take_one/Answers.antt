@@ -11,7 +11,7 @@ use Rattle.vc_objects.specs.Parts.{dictionary_in, object_of}
 use Rattle.vc_objects.specs.Remove.{Removed, remove_found}
 use Rattle.vc_objects.proofs.Looking.{Looks-became}
 use Rattle.vc_objects.proofs.Mapped.{first-mapped}
-use Rattle.vc_objects.proofs.Taken.{IsTaken, dict-after, first-within, holder-stays, leaves-taken, object-stays, region-taken}
+use Rattle.vc_objects.proofs.Taken.{IsTaken, dict-after, first-object, holder-stays, leaves-taken, object-stays, region-taken, taken-first}
 use Rattle.vc_objects.proofs.emptying.take_one.Given.{Over}
 use Rattle.vc_objects.proofs.emptying.take_one.Goals as goal
 use Rattle.vc_objects.proofs.emptying.take_one.Goals.{In-None, In-Some}
@@ -22,67 +22,47 @@ meaning g p = (goal.SegDisc-dyn g p).state p.1
 
 -- the first holder was taken out, which is that of the first object
 here : (g : Over) (c : In-Some g) → IsTaken (g.D.DictDisc.rules c.args.kind.now) c.args.best.now c.take_first.new.cells c.args.dict.now c.take_first.new.self c.in-Some.at.0
-here g c =
-    let xs = holders_of c.args.dict.now (cells_in c.args.best.now) in
-    record {
-      whole = c.requires.whole;
-      within = first-within xs c.in-Some.at.0 (c.in-Some.ensures.first xs c.requires.whole.stands);
-      became = c.in-Some.ensures.dict xs c.requires.whole.stands;
-    }
+here g c = taken-first c.requires.whole (c.in-Some.ensures.first _ c.requires.whole.stands) (c.in-Some.ensures.dict _ c.requires.whole.stands)
 
 first-here : (g : Over) (c : In-Some g) → first_of (dictionary_in c.args.dict.now c.args.best.now).objects ≡ Some (object_of (cells_in c.args.best.now) c.in-Some.at.0)
-first-here g c =
-    let b = cells_in c.args.best.now in
-    let xs = holders_of c.args.dict.now b in
-    first-mapped b xs ∙ ap (option_map (object_of b)) (sym (c.in-Some.ensures.first xs c.requires.whole.stands))
+first-here g c = first-object (cells_in c.args.best.now) (holders_of c.args.dict.now (cells_in c.args.best.now)) _ (c.in-Some.ensures.first _ c.requires.whole.stands)
 
 -- there was none
 none-here : (g : Over) (c : In-None g) → first_of (dictionary_in c.args.dict.now c.args.best.now).objects ≡ None
-none-here g c =
-    let b = cells_in c.args.best.now in
-    let xs = holders_of c.args.dict.now b in
-    first-mapped b xs ∙ ap (option_map (object_of b)) (sym (c.in-None.ensures.first xs c.requires.whole.stands))
+none-here g c = first-object (cells_in c.args.best.now) (holders_of c.args.dict.now (cells_in c.args.best.now)) _ (c.in-None.ensures.first _ c.requires.whole.stands)
 
 looks-here : (g : Over) (c : In-None g) → Looks (meaning g) (g.D.DictDisc.rules c.args.kind.now) c.args.best.now c.args.dict.now c.take_first.new.cells c.take_first.new.self
 looks-here g c =
     Looks-became (meaning g) (g.D.DictDisc.rules c.args.kind.now) c.args.best.now c.take_first.new.cells c.args.dict.now c.take_first.new.self c.requires.whole
-    (c.in-None.ensures.dict (holders_of c.args.dict.now (cells_in c.args.best.now)) c.requires.whole.stands) c.in-None.ensures.rest
+    (c.in-None.ensures.dict _ c.requires.whole.stands) c.in-None.ensures.rest
 
 pub body-requires : goal.body-requires
 body-requires g c =
-    let holder = holder-stays (g.D.DictDisc.rules c.args.kind.now) c.args.best.now c.take_first.new.cells c.args.dict.now c.take_first.new.self c.in-Some.at.0 (here g (goal.at.body-requires g c).In-Some) in
-    let enough = holder.enough in
-    record { there = holder.there; enough = omega (arith, enough) }
+    let holder = holder-stays (here g (goal.at.body-requires g c).In-Some) in
+    record { there = holder.there; enough = omega (arith, holder.enough) }
 
 pub free_cell-requires : goal.free_cell-requires
-free_cell-requires g c =
-    (holder-stays (g.D.DictDisc.rules c.args.kind.now) c.args.best.now c.take_first.new.cells c.args.dict.now c.take_first.new.self c.in-Some.at.0 (here g (goal.at.free_cell-requires g c).In-Some)).there
+free_cell-requires g c = (holder-stays (here g (goal.at.free_cell-requires g c).In-Some)).there
 
 pub returns-in-Some : goal.returns-in-Some
 returns-in-Some g c =
-    let rules = g.D.DictDisc.rules c.args.kind.now in
     let gone = g.D.DictDisc.gone c.args.kind.now in
-    let old = c.args.best.now in
-    let mid = c.take_first.new.cells in
     let new = c.free_cell.new.best in
-    let dict = c.args.dict.now in
-    let dict' = c.take_first.new.self in
-    let at = c.in-Some.at.0 in
     let before = (goal.at.returns-in-Some g c).In-Some in
     let is = here g before in
     let found = sym (first-here g before) in
-    let removed : Option Object → Removed ℕ = λ o. remove_found (rest_in old) (dictionary_in dict old) o in
+    let removed : Option Object → Removed ℕ = λ o. remove_found (rest_in c.args.best.now) (dictionary_in c.args.dict.now c.args.best.now) o in
     let rest = c.in-Some.ensures.rest in
     let frees = c.free_cell.ensures.frees in
     record {
       empties = record {
         kind = c.freed.ensures.rules;
-        region = region-taken rules old mid dict dict' at is (meaning g) new rest frees ∙ ap (λ (o : Option Object). (removed o).region) found;
-        dict = dict-after rules old mid dict dict' at is (meaning g) new rest frees ∙ ap (λ (o : Option Object). (removed o).dict) found;
-        leaves = leaves-taken rules old mid dict dict' at is (meaning g) new rest frees;
-        disc = frees.around.disc ∙ stays-disc (meaning g) old mid rest;
+        region = region-taken is (meaning g) new rest frees ∙ ap (λ (o : Option Object). (removed o).region) found;
+        dict = dict-after is (meaning g) new rest frees ∙ ap (λ (o : Option Object). (removed o).dict) found;
+        leaves = leaves-taken is (meaning g) new rest frees;
+        disc = frees.around.disc ∙ stays-disc (meaning g) c.args.best.now c.take_first.new.cells rest;
         gone =
-            c.freed.ensures.gone ∙ ap (gone_after gone) (c.body.ensures ∙ object-stays rules old mid dict dict' at is)
+            c.freed.ensures.gone ∙ ap (gone_after gone) (c.body.ensures ∙ object-stays is)
             ∙ ap (λ (o : Option Object). told_each (option_list (removed o).gone) gone) found;
       };
     }

@@ -19,7 +19,6 @@ returns-clause-found g c =
 
 pub returns-clause-looks : goal.returns-clause-looks
 returns-clause-looks g c =
-    let rules = g.D.DictDisc.rules c.args.kind.now in
     let xs = holders_of c.args.dict.now (cells_in c.args.best.now) in
-    Looks-became _ rules c.args.best.now c.find.new.cells c.args.dict.now c.find.new.self c.requires.whole
+    Looks-became _ (g.D.DictDisc.rules c.args.kind.now) c.args.best.now c.find.new.cells c.args.dict.now c.find.new.self c.requires.whole
     (c.find.ensures.dict xs c.requires.whole.stands) c.find.ensures.rest

@@ -82,12 +82,10 @@ returns-in-Ok g c =
 
 pub returns-in-Err : goal.returns-in-Err
 returns-in-Err g c =
-    let rules = g.D.DictDisc.rules c.args.kind.now in
     let old = c.args.best.now in
     let new = c.alloc_cell.new.best in
-    let dict = c.args.dict.now in
     let puts = c.in-Err.ensures.puts in
-    let same = ap (λ (b : Blocks). dictionary_of dict b) puts.same in
+    let same = ap (λ (b : Blocks). dictionary_of c.args.dict.now b) puts.same in
     record {
       holds = record {
         ok = tt;
@@ -97,7 +95,7 @@ returns-in-Err g c =
             (best_need (disc_in (meaning g) old).terms (holder_size c.args.object.now) 32) c.in-Err.fault puts.asks;
       };
       leaves =
-          leaves-refused (meaning g) rules dict old new c.requires.can.ask.whole
+          leaves-refused (meaning g) (g.D.DictDisc.rules c.args.kind.now) c.args.dict.now old new c.requires.can.ask.whole
           (asked-keeps _ _ (segments_in old) (segments_in new) _ c.in-Err.fault (ap (λ (r : Layout ℕ). r.segments) puts.answer.1) puts.asks)
           puts.answer.1 puts.same;
       table = ap (λ (d : Dictionary). d.table) same;

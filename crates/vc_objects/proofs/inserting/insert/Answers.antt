@@ -44,18 +44,15 @@ hold-requires-clause-can g c =
 
 pub returns-in-Ok-hold : goal.returns-in-Ok-hold
 returns-in-Ok-hold g c =
-    let old = dictionary_in c.args.dict.now c.args.best.now in
-    let grown = dictionary_in c.grow.new.dict c.grow.new.best in
-    let grows = c.in-Ok.ensures.grows in
     let holds = c.in-Ok-hold.ensures.holds in
     record {
       inserts = record {
         ok =
-            inserted-stored _ _ (rest_in c.args.best.now) old c.args.append c.args.object.now _ _ (rest_in c.grow.new.best) grown
-            (rest_in c.hold.new.best) (dictionary_in c.hold.new.dict c.hold.new.best) c.grow.ensures.leaves.rest.disc.kept.terms grows.ok holds.ok;
+            inserted-stored _ _ (rest_in c.args.best.now) (dictionary_in c.args.dict.now c.args.best.now) c.args.append c.args.object.now _ _ (rest_in c.grow.new.best) (dictionary_in c.grow.new.dict c.grow.new.best)
+            (rest_in c.hold.new.best) (dictionary_in c.hold.new.dict c.hold.new.best) c.grow.ensures.leaves.rest.disc.kept.terms c.in-Ok.ensures.grows.ok holds.ok;
         err = tt;
         leaves = rest-trans _ _ c.args.best.now c.grow.new.best c.hold.new.best c.args.dict.now c.grow.new.dict c.hold.new.dict c.grow.ensures.leaves c.hold.ensures.leaves (kept g (goal.at.returns-in-Ok-hold g c).In-Ok) c.hold.ensures.table;
-        asked = NoneRefused-trans _ _ _ grows.asked holds.asked;
+        asked = NoneRefused-trans _ _ _ c.in-Ok.ensures.grows.asked holds.asked;
       };
       compares = more g (goal.at.returns-in-Ok-hold g c).In-Ok c.hold.new.steps c.hold.ensures.compares;
     }
@@ -63,21 +60,18 @@ returns-in-Ok-hold g c =
 pub returns-in-Some : goal.returns-in-Some
 returns-in-Some g c =
     let old = dictionary_in c.args.dict.now c.args.best.now in
-    let grown = dictionary_in c.grow.new.dict c.grow.new.best in
-    let grows = c.in-Ok.ensures.grows in
-    let holds = c.in-Err-hold.ensures.holds in
     let terms = c.grow.ensures.leaves.rest.disc.kept.terms in
     record {
       inserts = record {
         ok =
-            inserted-no_holder _ _ (rest_in c.args.best.now) old c.args.append c.args.object.now _ _ (rest_in c.grow.new.best) grown
-            (rest_in c.hold.new.best) (dictionary_in c.hold.new.dict c.hold.new.best) c.in-Err-hold.fault c.in-Some.want terms grows.ok holds.err.0 (sym c.in-Some.ensures)
-            holds.err.1.region holds.err.1.dict;
+            inserted-no_holder _ _ (rest_in c.args.best.now) old c.args.append c.args.object.now _ _ (rest_in c.grow.new.best) (dictionary_in c.grow.new.dict c.grow.new.best)
+            (rest_in c.hold.new.best) (dictionary_in c.hold.new.dict c.hold.new.best) c.in-Err-hold.fault c.in-Some.want terms c.in-Ok.ensures.grows.ok c.in-Err-hold.ensures.holds.err.0 (sym c.in-Some.ensures)
+            c.in-Err-hold.ensures.holds.err.1.region c.in-Err-hold.ensures.holds.err.1.dict;
         err = tt;
         leaves = rest-trans _ _ c.args.best.now c.grow.new.best c.hold.new.best c.args.dict.now c.grow.new.dict c.hold.new.dict c.grow.ensures.leaves c.hold.ensures.leaves (kept g (goal.at.returns-in-Some g c).In-Ok) c.hold.ensures.table;
         asked =
             asked-no_holder (slots_wanted old) c.args.object.now (disc_in (meaning g) c.args.best.now) (disc_in (meaning g) c.grow.new.best) (disc_in (meaning g) c.hold.new.best)
-            c.in-Err-hold.fault c.in-Some.want (sym c.in-Some.ensures) c.grow.ensures.same grows.asked holds.asked;
+            c.in-Err-hold.fault c.in-Some.want (sym c.in-Some.ensures) c.grow.ensures.same c.in-Ok.ensures.grows.asked c.in-Err-hold.ensures.holds.asked;
       };
       compares = more g (goal.at.returns-in-Some g c).In-Ok c.hold.new.steps c.hold.ensures.compares;
     }
@@ -103,17 +97,16 @@ returns-in-None g c =
 pub returns-in-Some-want_of : goal.returns-in-Some-want_of
 returns-in-Some-want_of g c =
     let old = dictionary_in c.args.dict.now c.args.best.now in
-    let grows = c.in-Err.ensures.grows in
     record {
       inserts = record {
         ok =
             inserted-no_table (g.D.DictDisc.rules c.args.kind.now) _ (rest_in c.args.best.now) old c.args.append c.args.object.now (rest_in c.grow.new.best) (dictionary_in c.grow.new.dict c.grow.new.best)
-            c.in-Err.fault c.in-Some-want_of.want grows.err.0 (sym c.in-Some-want_of.ensures) grows.err.1.region grows.err.1.dict;
+            c.in-Err.fault c.in-Some-want_of.want c.in-Err.ensures.grows.err.0 (sym c.in-Some-want_of.ensures) c.in-Err.ensures.grows.err.1.region c.in-Err.ensures.grows.err.1.dict;
         err = tt;
         leaves = c.grow.ensures.leaves;
         asked =
             asked-no_table (slots_wanted old) c.args.object.now (disc_in (meaning g) c.args.best.now) (disc_in (meaning g) c.grow.new.best)
-            c.in-Err.fault c.in-Some-want_of.want (sym c.in-Some-want_of.ensures) grows.asked;
+            c.in-Err.fault c.in-Some-want_of.want (sym c.in-Some-want_of.ensures) c.in-Err.ensures.grows.asked;
       };
       compares = omega arith;
     }

@@ -71,9 +71,6 @@ returns-in-Ok g c =
 pub returns-in-Err : goal.returns-in-Err
 returns-in-Err g c =
     let best = c.args.best.now in
-    let after = c.put_table.new.best in
-    let dict = c.new-dict.result in
-    let rules = g.D.DictDisc.rules c.args.rules.now in
     let is = new g (goal.at.returns-in-Err g c).After-new-dict in
     let grows = c.in-Err.ensures.grows in
     let region = grows.err.1.region in
@@ -81,10 +78,10 @@ returns-in-Err g c =
     record {
       ok = tt;
       err = (
-        opened-refused rules dict (cells_in best) c.args.method is _ (rest_in best) c.in-Some.slots c.in-Err.fault (sym c.in-Some.ensures) grows.err.0,
-        record { region = region; cells = cells; leaves = leaves-still (meaning g) best after [] [] c.put_table.ensures.leaves.disc region cells refl },
+        opened-refused (g.D.DictDisc.rules c.args.rules.now) c.new-dict.result (cells_in best) c.args.method is _ (rest_in best) c.in-Some.slots c.in-Err.fault (sym c.in-Some.ensures) grows.err.0,
+        record { region = region; cells = cells; leaves = leaves-still (meaning g) best c.put_table.new.best [] [] c.put_table.ensures.leaves.disc region cells refl },
       );
       asked =
-          subst (λ (n : ℕ). AskedTable {A = Dict} (Err c.in-Err.fault) (Some n) (disc_in (meaning g) best) (disc_in (meaning g) after))
-          (first-slots rules dict (cells_in best) c.args.method is c.in-Some.slots (sym c.in-Some.ensures)) grows.asked;
+          subst (λ (n : ℕ). AskedTable {A = Dict} (Err c.in-Err.fault) (Some n) (disc_in (meaning g) best) (disc_in (meaning g) c.put_table.new.best))
+          (first-slots (g.D.DictDisc.rules c.args.rules.now) c.new-dict.result (cells_in best) c.args.method is c.in-Some.slots (sym c.in-Some.ensures)) grows.asked;
     }

@@ -24,22 +24,16 @@ here g c =
 pub release-requires : goal.release-requires
 release-requires g c =
     let taken = here g (goal.at.release-requires g c).In-Some in
-    record {
-      holder = holder-stays (g.D.DictDisc.rules c.args.kind.now) c.args.best.now c.unlink.new.cells c.args.dict.now c.unlink.new.self c.in-Some.at.0 taken;
-      small = (object-small (g.D.DictDisc.rules c.args.kind.now) c.args.best.now c.unlink.new.cells c.args.dict.now c.unlink.new.self c.in-Some.at.0 taken).most;
-      empty = c.requires.empty;
-      room = c.requires.room;
-    }
+    record { holder = holder-stays taken; small = (object-small taken).most; empty = c.requires.empty; room = c.requires.room }
 
 pub returns-in-Some-clause-takes : goal.returns-in-Some-clause-takes
 returns-in-Some-clause-takes g c =
-    let rules = g.D.DictDisc.rules c.args.kind.now in
     let b = cells_in c.args.best.now in
     let xs = holders_of c.args.dict.now b in
-    takes-found rules c.args.best.now c.unlink.new.cells c.args.dict.now c.unlink.new.self c.in-Some.at.0 (here g (goal.at.returns-in-Some-clause-takes g c).In-Some)
+    takes-found (here g (goal.at.returns-in-Some-clause-takes g c).In-Some)
     (λ z. (goal.SegDisc-dyn g z).state z.1) c.release.new.best c.in-Some.ensures.rest c.release.ensures.freed (g.D.DictDisc.rules c.release.new.kind) c.release.ensures.rules
     (first_with bytes_of (g.D.DictDisc.rules c.args.kind.now) c.args.key.now (dictionary_in c.args.dict.now c.args.best.now).objects) c.args.tells c.release.new.out.items (g.D.DictDisc.gone c.args.kind.now) (g.D.DictDisc.gone c.release.new.kind)
-    (first_with-map (object_of b) bytes_of rules c.args.key.now xs ∙ ap (option_map (object_of b)) (sym ((c.in-Some.ensures.found xs c.requires.whole.stands).first))) c.release.ensures.out c.release.ensures.gone
+    (first_with-map (object_of b) bytes_of (g.D.DictDisc.rules c.args.kind.now) c.args.key.now xs ∙ ap (option_map (object_of b)) (sym ((c.in-Some.ensures.found xs c.requires.whole.stands).first))) c.release.ensures.out c.release.ensures.gone
 
 pub returns-in-None-clause-takes : goal.returns-in-None-clause-takes
 returns-in-None-clause-takes g c =

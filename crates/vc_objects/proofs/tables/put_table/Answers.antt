@@ -31,14 +31,13 @@ adopt_table-old-requires g c =
 
 pub free_table-requires : goal.free_table-requires
 free_table-requires g c =
-    let dict = c.args.dict.now in
     let b0 = cells_in c.args.best.now in
     let b1 = cells_in c.alloc_cell.new.best in
     let cell = c.in-Ok.ensures.puts.made in
-    let adopted = c.adopt_table-old.ensures.dict (holders_of dict b0) (stands-placed _ dict b0 b1 c.in-Ok.table.0 c.args.slots c.requires.grows cell) in
+    let adopted = c.adopt_table-old.ensures.dict (holders_of c.args.dict.now b0) (stands-placed _ c.args.dict.now b0 b1 c.in-Ok.table.0 c.args.slots c.requires.grows cell) in
     record {
       there = λ some.
-          old-there _ dict b0 b1 c.in-Ok.table.0 c.args.slots c.requires.grows cell c.adopt_table-old.new.self (cells_in c.adopt_table-old.new.cells) adopted
+          old-there _ c.args.dict.now b0 b1 c.in-Ok.table.0 c.args.slots c.requires.grows cell c.adopt_table-old.new.self (cells_in c.adopt_table-old.new.cells) adopted
           c.adopt_table-old.result.0 (ap (λ (t : Addr). t.0) c.adopt_table-old.ensures.old) some;
     }
 

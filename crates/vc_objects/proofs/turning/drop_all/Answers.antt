@@ -15,11 +15,10 @@ loop-dropped-init g c =
 
 pub loop-dropped-preserved : goal.loop-dropped-preserved
 loop-dropped-preserved g c =
-    let r = c.args.best.now in
     let l = c.loop-dropped in
     let one = c.drop_one-at in (
       λ holders d distinct count.
-          dropping-next holders (cells_in r) (rest_in r) (g.D.DictDisc.gone c.args.kind.now) l._dropped l.at.0 (cells_in l.best) (rest_in l.best) (g.D.DictDisc.gone l.kind)
+          dropping-next holders (cells_in c.args.best.now) (rest_in c.args.best.now) (g.D.DictDisc.gone c.args.kind.now) l._dropped l.at.0 (cells_in l.best) (rest_in l.best) (g.D.DictDisc.gone l.kind)
           one.result.0 (cells_in one.new.best) (rest_in one.new.best) (g.D.DictDisc.gone one.new.kind)
           (l.invariant.0 holders d distinct count) (omega (arith, c.loop-dropped-test.true, count))
           one.ensures.behind one.ensures.frees.cells one.ensures.frees.rest one.ensures.gone,
@@ -42,7 +41,6 @@ drop_one-at-requires g c =
 
 pub returns-clause-frees : goal.returns-clause-frees
 returns-clause-frees g c = λ holders d distinct count.
-    let r = c.args.best.now in
     let l = c.loop-dropped in
-    dropping-end holders (cells_in r) (rest_in r) (g.D.DictDisc.gone c.args.kind.now) l._dropped l.at.0 (cells_in l.best) (rest_in l.best) (g.D.DictDisc.gone l.kind)
+    dropping-end holders (cells_in c.args.best.now) (rest_in c.args.best.now) (g.D.DictDisc.gone c.args.kind.now) l._dropped l.at.0 (cells_in l.best) (rest_in l.best) (g.D.DictDisc.gone l.kind)
     (l.invariant.0 holders d distinct count) (omega (arith, c.loop-dropped-test.false, count))

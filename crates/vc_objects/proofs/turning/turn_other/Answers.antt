@@ -46,22 +46,21 @@ pub returns-in-Err : goal.returns-in-Err
 returns-in-Err g c =
     let rules = g.D.DictDisc.rules c.args.kind.now in
     let d = c.args.dict.now in
-    let r = c.args.best.now in
-    let old = disc_in (λ z. (goal.SegDisc-dyn g z).state z.1) r in
+    let old = disc_in (λ z. (goal.SegDisc-dyn g z).state z.1) c.args.best.now in
     let new = disc_in (λ z. (goal.SegDisc-dyn g z).state z.1) c.bring.new.best in
-    let counts = counts-objects rules d (cells_in r) c.requires.ask.whole in
+    let counts = counts-objects rules d (cells_in c.args.best.now) c.requires.ask.whole in
     let brought = c.in-Err.ensures.brings in
     record {
       turns =
           record {
             kind = refl;
             answer = (
-              refuses-turned rules old.terms c.args.method (rest_in r) (dictionary_in d r) d.count c.requires.other counts c.in-Err.why brought.answer.0,
+              refuses-turned rules old.terms c.args.method (rest_in c.args.best.now) (dictionary_in d c.args.best.now) d.count c.requires.other counts c.in-Err.why brought.answer.0,
               record { region = brought.answer.1; dict = ap (λ b. dictionary_of d b) brought.answer.2 },
               refl,
             );
             leaves =
-                leaves-refused (λ z. (goal.SegDisc-dyn g z).state z.1) rules d r c.bring.new.best c.requires.ask.whole
+                leaves-refused (λ z. (goal.SegDisc-dyn g z).state z.1) rules d c.args.best.now c.bring.new.best c.requires.ask.whole
                 brought.disc brought.answer.1 brought.answer.2;
             asked =
                 subst (λ n. RefusedBy c.in-Err.why (LacksTable (slots_between d.method c.args.method n) old new) old new)
