@@ -1,7 +1,6 @@
 -- What stands behind the replies of a run, and the run with it.
-use Rattle.vc_base.proofs.Common.{◌≡◌, ℕ, zero, suc, ◌+◌, ◌^◌, ◌<◌, ◌≤◌, Bool, true, false, List, [], ◌∷◌, ◌++◌, map, length, take, IfSome, slice_get, Some, None, Ok, codes, decimal, Option, zip, sym, refl, ap, ◌∙◌, subst, append_assoc, append-nil, add-one, arith, take_all, and_parts, false≢true, map-append, AllByRecursion, list_all, Discipline}
+use Rattle.vc_base.proofs.Common.{◌≡◌, ℕ, zero, suc, ◌+◌, ◌^◌, ◌<◌, ◌≤◌, Bool, true, false, List, [], ◌∷◌, ◌++◌, map, length, take, IfSome, slice_get, Some, None, Ok, codes, decimal, Option, sym, refl, ap, ◌∙◌, subst, append_assoc, append-nil, add-one, arith, take_all, false≢true, map-append, AllByRecursion, Discipline}
 use Rattle.std.proofs.lemmas.Grind.{flat_map-append}
-use Rattle.std.proofs.lemmas.List.Folds.{list_all-append}
 use Rattle.vc_commands.specs.Held.{home_of}
 use Rattle.vc_commands.specs.Home.{Home}
 use Rattle.vc_commands.specs.declared.region.home.HomeEntry.{HomeEntry}
@@ -16,13 +15,13 @@ use Rattle.vc_region.proofs.Relabel.{stat-relabelled}
 use Rattle.vc_region.proofs.Rest.{rest-stat}
 use Rattle.vc_script.specs.declared.command.Command.{Command}
 use Rattle.vc_script.specs.declared.line_fault.LineFault.{LineFault}
-use Rattle.vc_script.specs.declared.reply.Reply.TheVariants.{Number, ShutDown, Stats}
+use Rattle.vc_script.specs.declared.reply.Reply.TheVariants.{Stats}
 use Rattle.vc_script.specs.declared.tool.Tool.{Tool}
 use Rattle.vc_script.specs.Judged.{judged_lines}
 use Rattle.vc_script.specs.Lines.{ended_lines}
 use Rattle.vc_script.specs.Print.{line_of, printed}
 use Rattle.vc_script.specs.Proper.{IsName}
-use Rattle.vc_script.proofs.Newlines.{OneLine, line-printed, stays, line-both, line-decimal, line-name}
+use Rattle.vc_script.proofs.Newlines.{OneLine, line-printed, line-both, line-decimal, line-name}
 use Rattle.vc_seg.specs.declared.stat.Stat.{Stat}
 use Rattle.vc_steps.specs.Homes.{held_all}
 use Rattle.vc_steps.specs.Moment.{Moment, moment_at_end, over_sink}

@@ -1,5 +1,5 @@
 -- What is written of a reply.
-use Rattle.vc_base.proofs.Common.{◌≡◌, ℕ, Bool, true, false, List, [], ◌++◌, codes, decimal, sym, refl, ap, ◌∙◌, false≢true}
+use Rattle.vc_base.proofs.Common.{◌≡◌, ℕ, Bool, true, false, [], ◌++◌, codes, decimal, sym, refl, false≢true}
 use Rattle.vc_script.specs.declared.reply.Reply.{Reply}
 use Rattle.vc_script.specs.Needs.{Need, NoNeed, need_shown}
 use Rattle.vc_script.specs.Print.{line_of}

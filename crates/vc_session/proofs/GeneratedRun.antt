@@ -1,5 +1,5 @@
 -- A run of generated commands, and what each adds to it.
-use Rattle.vc_base.proofs.Common.{◌≡◌, ℕ, ◌+◌, ◌^◌, ◌<◌, ◌≤◌, Bool, true, false, ◌||◌, List, [], ◌∷◌, ◌++◌, length, is_some, IfSome, OnOk, IsTrue, nat_le, Some, None, Ok, Err, Option, Result, sym, refl, ap, ◌∙◌, subst, append_assoc, append-nil, add-zero, arith, length-append, leb-true, or-true, and_parts, same_Some, AllByRecursion}
+use Rattle.vc_base.proofs.Common.{◌≡◌, ℕ, ◌+◌, ◌^◌, ◌<◌, ◌≤◌, true, ◌||◌, List, [], ◌∷◌, ◌++◌, length, is_some, IfSome, OnOk, IsTrue, nat_le, Some, None, Ok, Err, Option, Result, sym, refl, ap, ◌∙◌, subst, append_assoc, append-nil, add-zero, arith, length-append, leb-true, or-true, and_parts, same_Some, AllByRecursion}
 use Rattle.vc_base.proofs.Quantifiers.{all-middle}
 use Rattle.vc_counts.specs.declared.counts.Counts.{Counts}
 use Rattle.vc_generate.specs.Generated.{commands_of_seed}

@@ -1,5 +1,5 @@
 -- A run in its middle, and what each command adds to it.
-use Rattle.vc_base.proofs.Common.{◌≡◌, ℕ, ◌+◌, ◌^◌, ◌<◌, ◌≤◌, max, Bool, true, false, cond, not, List, [], ◌∷◌, ◌++◌, map, length, IsTrue, Some, None, sum, count_by, Option, sym, refl, ap, ◌∙◌, subst, append_assoc, append-nil, arith, sum_by-append, map-append, AllByRecursion, Grant}
+use Rattle.vc_base.proofs.Common.{◌≡◌, ℕ, ◌+◌, ◌^◌, ◌<◌, ◌≤◌, max, Bool, true, false, cond, not, List, [], ◌∷◌, ◌++◌, map, IsTrue, Some, None, sum, count_by, Option, sym, refl, ap, ◌∙◌, subst, append_assoc, append-nil, arith, sum_by-append, map-append, AllByRecursion, Grant}
 use Rattle.std.proofs.lemmas.Grind.{flat_map-append}
 use Rattle.std.proofs.lemmas.List.Sums.{sum_by_push}
 use Rattle.vc_base.proofs.Quantifiers.{all-push, all-weaken}

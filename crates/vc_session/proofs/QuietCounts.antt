@@ -1,5 +1,5 @@
 -- A quiet run can count on.
-use Rattle.vc_base.proofs.Common.{◌≡◌, ℕ, ◌<◌, ◌≤◌, Bool, List, [], map, IfOk, OnOk, IsTrue, Ok, Err, sum, Result, sym, ap, arith, Discipline}
+use Rattle.vc_base.proofs.Common.{◌≡◌, ℕ, ◌<◌, Bool, List, [], map, IfOk, OnOk, IsTrue, Ok, Err, sum, Result, sym, ap, arith, Discipline}
 use Rattle.vc_counts.specs.CanCount.{CanCount}
 use Rattle.vc_counts.specs.Counts.{live_bytes, nothing_counted}
 use Rattle.vc_counts.specs.declared.counts.Counts.{Counts}

@@ -1,5 +1,5 @@
 -- The range of what words ask for.
-use Rattle.vc_base.proofs.Common.{◌≡◌, ℕ, ◌≤◌, List, [], ◌∷◌, map, IfSome, IsTrue, nat_le, Some, None, Option, sym, refl, ap, ◌∙◌, subst, le-leb, and_from}
+use Rattle.vc_base.proofs.Common.{◌≡◌, ℕ, ◌≤◌, List, IfSome, IsTrue, nat_le, Some, None, Option, sym, refl, subst, le-leb, and_from}
 use Rattle.vc_words.specs.Words.{words_of}
 use Rattle.vc_words.specs.declared.words.Words.{Words}
 use Rattle.vc_words.proofs.Ranges.{counts_in_range}

@@ -1,17 +1,17 @@
 -- The needs that a text shows, whatever is behind it; of a quiet one, whatever lines without a number in front.
-use Rattle.vc_base.proofs.Common.{◌≡◌, ℕ, ◌^◌, ◌<◌, Bool, true, false, cond, not, ◌||◌, eqb, ◌≢◌, List, [], ◌∷◌, ◌++◌, map, length, codes, decimal, flat_map, bytes_eq, sym, refl, ap, ◌∙◌, subst, append_assoc, append-nil, arith, and_parts, cases_Bool, false_from_ne_true, false≢true, not-true, list_any-append, bytes_eq-Decides, AllByRecursion, list_all, list_any}
+use Rattle.vc_base.proofs.Common.{◌≡◌, ℕ, ◌^◌, ◌<◌, Bool, true, false, cond, ◌||◌, eqb, ◌≢◌, List, [], ◌∷◌, ◌++◌, map, length, codes, decimal, flat_map, bytes_eq, sym, refl, ap, ◌∙◌, subst, append_assoc, arith, and_parts, false_from_ne_true, false≢true, list_any-append, bytes_eq-Decides, AllByRecursion, list_all}
 use Rattle.std.proofs.lemmas.Fmt.{decimal_injective, decimal_nonempty}
 use Rattle.vc_script.specs.declared.refusal.Refusal.TheVariants.{NoSegment, NoSegmentForTable, NoSegmentForObject}
 use Rattle.vc_script.specs.declared.reply.Reply.{Reply}
 use Rattle.vc_script.specs.declared.reply.Reply.TheVariants.{Number, Refused}
-use Rattle.vc_script.specs.Lines.{ended_after, ended_lines}
+use Rattle.vc_script.specs.Lines.{ended_lines}
 use Rattle.vc_script.specs.Needs as needs
 use Rattle.vc_script.specs.Needs.{AreAscending, Need, NoNeed, ForBlock, ForTable, ForObject, ShowsNeeds, need_shown}
 use Rattle.vc_script.specs.Print.{line_of, printed}
 use Rattle.vc_script.specs.ProperReply.{IsProperReply}
 use Rattle.vc_script.specs.Words.{is_digit}
 use Rattle.vc_script.proofs.Heads.{need_of-printed}
-use Rattle.vc_script.proofs.Newlines.{OneLine, list_all-decimal, line-printed, stays, line-both}
+use Rattle.vc_script.proofs.Newlines.{OneLine, list_all-decimal, line-printed, line-both}
 use Rattle.vc_script.proofs.Texts.{needs_shown, shows-needs_shown, ended_after-whole}
 use Rattle.vc_session.specs.QuietText.{body_by, has_line, line_by, needs_by_text, numbered_line, quiet_need}
 

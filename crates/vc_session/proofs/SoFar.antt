@@ -1,5 +1,5 @@
 -- A run of lines that come in pieces: what was run so far, and what is left.
-use Rattle.vc_base.proofs.Common.{◌≡◌, ℕ, ◌+◌, ◌<◌, ◌≤◌, Bool, ◌≢◌, List, [], ◌∷◌, ◌++◌, length, take, drop, IfSome, IfErr, IsOk, IsTrue, Some, None, Ok, Err, Option, Result, sym, refl, ap, ◌∙◌, subst, inl, inr, append_assoc, append-nil, arith, take-append-drop, length-take-le, eqb_tells, drop_all, length_push, none-some, same_Some, AllByRecursion}
+use Rattle.vc_base.proofs.Common.{◌≡◌, ℕ, ◌+◌, ◌<◌, ◌≤◌, Bool, ◌≢◌, List, [], ◌∷◌, ◌++◌, length, take, drop, IfSome, IfErr, IsOk, IsTrue, Some, None, Ok, Err, Option, Result, sym, refl, ap, ◌∙◌, subst, inl, inr, append_assoc, append-nil, arith, take-append-drop, length-take-le, eqb_tells, drop_all, none-some, same_Some, AllByRecursion}
 use Rattle.vc_counts.specs.declared.counts.Counts.{Counts}
 use Rattle.vc_model.specs.Stream.{Reads, Takes}
 use Rattle.vc_base.proofs.Quantifiers.{all-append}
@@ -11,7 +11,7 @@ use Rattle.vc_script.specs.Answer.{answer}
 use Rattle.vc_script.specs.Cutter.{result_of_feed, end_cut, after_end}
 use Rattle.vc_script.specs.Cutting.{Cutting, IsCutting, new_cutting}
 use Rattle.vc_script.specs.Judged.{judged_lines, judged_from, judged_then, last_number, line_limit}
-use Rattle.vc_script.specs.Lines.{ended_lines, piece}
+use Rattle.vc_script.specs.Lines.{piece}
 use Rattle.vc_script.specs.Pieces.{found_then}
 use Rattle.vc_script.proofs.Pieces.{Tells, end-tells, fed-tells, judge-ok}
 use Rattle.vc_session.specs.Engine.{IsIdle, LineRan}

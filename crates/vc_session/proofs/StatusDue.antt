@@ -1,6 +1,5 @@
 -- How a tool ends where no stream failed, by what it promises of each status.
-use Rattle.vc_base.proofs.Common.{◌≡◌, ℕ, ◌<◌, ◌⊎◌, List, IfSome, Some, None, Option, sym, refl, ap, inl, inr, arith, none-some, Rose}
-use Rattle.vc_model.specs.Count.{last_count}
+use Rattle.vc_base.proofs.Common.{◌≡◌, ℕ, List, IfSome, Some, None, Option, sym, refl, ap, inl, inr, arith, none-some, Rose}
 use Rattle.vc_script.specs.declared.line_fault.LineFault.{LineFault}
 use Rattle.vc_script.specs.declared.tool.Tool.{Tool}
 use Rattle.vc_steps.specs.Moment.{Moment}

@@ -1,5 +1,5 @@
 -- What a tool promises, by whether its words are taken.
-use Rattle.vc_base.proofs.Common.{◌≡◌, ℕ, ◌≤◌, ◌⊎◌, IfSome, IsSome, Some, None, Option, codes, sym, refl, subst, none-some, Rose}
+use Rattle.vc_base.proofs.Common.{◌≡◌, ℕ, ◌≤◌, ◌⊎◌, IfSome, IsSome, Some, None, Option, codes, sym, subst, none-some, Rose}
 use Rattle.vc_script.specs.declared.line_fault.LineFault.{LineFault}
 use Rattle.vc_script.specs.declared.tool.Tool.{Tool}
 use Rattle.vc_steps.specs.Moment.{Keeps, Moment, over_sink}

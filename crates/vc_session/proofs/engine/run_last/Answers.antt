@@ -1,4 +1,4 @@
-use Rattle.vc_base.proofs.Common.{refl, ◌∙◌, arith}
+use Rattle.vc_base.proofs.Common.{refl, arith}
 use Rattle.vc_session.proofs.SessionLasts.{lasts-same}
 use Rattle.vc_session.proofs.SoFar.{end-count, end-none, end-same, end-whole, so_far-end_bad, so_far-end_good, so_far-end_none, so_far-none}
 use Rattle.vc_session.proofs.engine.run_last.Goals as goal

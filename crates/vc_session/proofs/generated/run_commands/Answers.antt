@@ -1,5 +1,5 @@
 use Rattle.vc_base.proofs.Common.{◌+◌, refl, arith}
-use Rattle.vc_session.proofs.GeneratedRun.{generating-end, generating-few, generating-start, generating-step, generating-write, next-none}
+use Rattle.vc_session.proofs.GeneratedRun.{generating-end, generating-start, generating-step, generating-write, next-none}
 use Rattle.vc_session.proofs.SessionLasts.{lasts-same, lasts-trans}
 use Rattle.vc_session.proofs.generated.run_commands.Goals as goal
 

@@ -1,5 +1,4 @@
-use Rattle.vc_base.proofs.Common.{sym, arith}
-use Rattle.vc_session.proofs.RunAsked.{asked-failed, asked-generated, asked-script}
+use Rattle.vc_session.proofs.RunAsked.{asked-script}
 use Rattle.vc_session.proofs.tool.run_asked.Goals as goal
 
 pub returns-in-None-clause-runs : goal.returns-in-None-clause-runs
