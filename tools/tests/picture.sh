@@ -197,3 +197,35 @@ check "of twelve segments there is no overview" same "$(grep -c 'class="row"' dr
 said -n 34 "$here/../examples/trace.vm"
 check "the shares in the legend come to all" same \
     "$(sed -n 's/.*>[a-z].*bytes (\([0-9.]*\) %).*/\1/p' drawn.svg | awk '{ n += $1 } END { printf "%.0f\n", n }')" 100
+
+# What is seen in the rendered picture of each method, without its texts and its legend: as many pixels as the bytes of blocks,
+# heads and guards take at 900 pixels for 4,096 bytes, in rows of 16 pixels; at both ends of a piece a column may be mixed. Of
+# what blocks leave a quarter is of their colour.
+seen() {
+    sed '/^<text/d; /^<rect class/d' "$1" > bare.svg
+    rsvg-convert -o bare.png bare.svg
+    "$here/tests/colours" bare.png 4a90d9 5a1a00 c2185b
+}
+if has rsvg-convert && has python3; then
+    for method in best pool last debug profile; do
+        "$here/tests/layout" "$method" 9 > layout.replies
+        "$picture" -m "$method" layout.replies > drawn.svg
+        seen drawn.svg > seen.counts
+        sed 's/,//g' drawn.svg | awk -v counts="$(cat seen.counts)" -v method="$method" '
+            function bytes(text) { sub(/.*(with|: ) */, "", text); return text + 0 }
+            />blocks: / { block = bytes($0) }
+            />(rounding|what)/ { block += bytes($0) / 4 }
+            />heads/ { head = bytes($0) }
+            />guards/ { guard = bytes($0) }
+            function near(pixels, bytes, pieces,    due) { due = bytes * 900 / 4096 * 16; return pixels >= due - pieces * 32 && pixels <= due + 16 }
+            END {
+                split(counts, seen, " ")
+                if (near(seen[1], block, 9) && near(seen[2], head, 9) && near(seen[3], guard, 18)) exit 0
+                print counts, block, head, guard
+                exit 1
+            }' > seen.said
+        check "rendered picture of $method: blocks, heads and guards take the pixels that are due" same "$? $(cat seen.said)" "0 "
+    done
+else
+    skipped "what is seen in rendered pictures: there is no rsvg-convert or no python3"
+fi
