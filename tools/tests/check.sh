@@ -53,7 +53,7 @@ finds "CR alone at lines' ends" 'open r best 1\rfree r a\r' 'checked.vm:1:20: wr
 finds "a long line" "# $(printf '%5000s' x)\n" 'checked.vm:1:4097: line too long' "    ...$(printf '%76s' '')..." \
     '                                               ^' \
     "hint: the file has CR alone at its lines' ends, or a long comment: tr '\\r' '\\n' < script; more lines"
-if [ "$programs/dtrun" -ef "$here/../bin/dtrun" ]; then
+if [ -x "$here/../bin/dtrun" ]; then
     finds "a command on a dictionary" 'dict d set r 1\n' 'checked.vm:1:1: unknown command' '    dict d set r 1' '    ^~~~' \
         'hint: a command on a dictionary, with vmreplay: dtrun'
 fi

@@ -87,3 +87,32 @@ check "curve of sites: between two points the peak has the same parts" \
 said -s "$here/../examples/trace.vm"
 check "curve of sites without any: it is told" \
     same "$status $(cat drawn.said)" "1 curve: no block of region heap has a site: an alloc names one by @ and a name"
+
+# Texts stand in strips of their own: from above the legend, the word of the axis and the peak, the drawing, and beneath it the
+# first refusal, the numbers of lines and the word of that axis.
+strips() {
+    sed -n 's/.*<text[^>]* y="\([0-9.]*\)">\(.*\)<\/text>/\1 \2/p' "$1" | awk -v drawn="$(sed -n 's/.* d="M110 \([0-9]*\)L.*/\1/p' "$1" | head -n 1)" '
+        function bad(text) { print "  " text; failed = 1 }
+        / at the end$/ { legend = $1 }
+        $2 == "bytes" && NF == 2 { word = $1 }
+        $2 == "peak:" && NF == 4 { peak = $1 }
+        $2 == "first" { first = $1 }
+        $2 == "0" && NF == 2 { line = $1 }
+        / line of the script$/ { axis = $1 }
+        END {
+            # The drawing is 320 high, and a text at most 14.
+            top = drawn - 320
+            if (!(drawn && legend && word && peak && line && axis)) bad("a text is missing")
+            if (word - 14 < legend || peak - 14 < legend) bad("the word of the axis or the peak crosses the legend")
+            if (word > top - 4 || peak > top - 4) bad("the word of the axis or the peak crosses the drawing")
+            if (first && (first - 10 < drawn || line - 12 < first)) bad("the first refusal crosses the drawing or the numbers")
+            if (line - 12 < drawn || axis - 12 < line) bad("numbers of lines cross the drawing or the word beneath")
+            exit failed
+        }'
+}
+for script in "$here/../examples/trace.vm" refusals.vm curve.vm; do
+    said "$script"
+    check "curve of $(basename "$script"): no text crosses what is drawn" strips drawn.svg
+done
+said -s stack.vm
+check "curve of sites: no text crosses what is drawn" strips drawn.svg

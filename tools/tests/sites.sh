@@ -42,7 +42,7 @@ awk 'BEGIN {
         else print "resize r b" x " " 1 + seed % 900 " move"
     }
 }' > counted.vm
-{ cat counted.vm; echo 'profile r'; } | "$program" | tail -n 1 | tr ' ' '\n' | grep = | sort > counted.rows
+{ cat counted.vm; echo 'profile r'; } | "$program" | tail -n 1 | tr ' ' '\n' | grep '=' | sort > counted.rows
 table counted.vm
 rows_of_table table > table.rows
 check "sites: blocks, bytes and peaks are those that the program counts" diff counted.rows table.rows
