@@ -25,6 +25,10 @@ cell-shows bs a b c = ap cell_bytes c.found ∙ ap (λ v. cond v (Some b.bytes) 
 pub cell-bytes : (bs : List (Block ℕ)) (a : ℕ) (b : Block ℕ) → IsCell bs a b → bytes_at (cells_of bs) a ≡ b.bytes
 cell-bytes bs a b c = ap (λ o. unwrap_or o []) (cell-shows bs a b c)
 
+-- a block at an address is at no other one
+pub at-one : (x a : ℕ) → x ≢ a → (c : Block ℕ) → is_at (place_of a) c ≡ true → is_at (place_of x) c ≡ false
+at-one x a ne c t = ⊎_elim (λ u. absurd (ne (sym (at-address x c u) ∙ at-address a c t))) (λ u. u) (cases_Bool (is_at (place_of x) c))
+
 -- writing into the block at an address
 module _ (off : ℕ) (src : List ℕ) (a : ℕ) where
   written : List (Block ℕ) → List (Block ℕ)
@@ -45,11 +49,7 @@ module _ (off : ℕ) (src : List ℕ) (a : ℕ) where
   find-written-other x ne [] = refl
   find-written-other x ne (c ∷ cs) =
       ⊎_elim
-      (λ (t : is_at (place_of a) c ≡ true).
-      ⊎_elim
-      (λ (u : is_at (place_of x) c ≡ true). absurd (ne (sym (at-address x c u) ∙ at-address a c t)))
-      (λ (u : is_at (place_of x) c ≡ false). rw t (rw u refl))
-      (cases_Bool (is_at (place_of x) c)))
+      (λ (t : is_at (place_of a) c ≡ true). rw t (rw (at-one x a ne c t) refl))
       (λ (t : is_at (place_of a) c ≡ false). rw t (ap (cond (is_at (place_of x) c) (Some c)) (find-written-other x ne cs)))
       (cases_Bool (is_at (place_of a) c))
 

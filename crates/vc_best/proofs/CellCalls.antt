@@ -3,10 +3,10 @@ use Rattle.vc_base.proofs.Common.{◌≡◌, ℕ, true, false, cond, ◌≢◌, 
 use Rattle.vc_best.proofs.Common.{StaysButCells, cell_bytes, cells_of, disc_in, is_unlabelled, segments_in, without_cell}
 use Rattle.vc_base.specs.Cells.{put}
 use Rattle.vc_base.proofs.CellsLemmas.{put_other, put_same}
-use Rattle.vc_model.proofs.Owned.{at-address, left-elsewhere, not-there}
+use Rattle.vc_model.proofs.Owned.{left-elsewhere, not-there}
 use Rattle.vc_seg.specs.Boxed.{disc_in_box}
 use Rattle.vc_best.specs.declared.best.Best.{Best}
-use Rattle.vc_best.proofs.CellBytes.{cell-shows, find-written-other, same-cells}
+use Rattle.vc_best.proofs.CellBytes.{at-one, cell-shows, find-written-other, same-cells}
 
 -- a labelled block is no cell
 pub no-cell : (bs : List (Block ℕ)) (a label : ℕ) → option_map (λ b. b.label) (find_block (place_of a) bs) ≡ Some label → label ≢ 0 → cells_of bs a ≡ None
@@ -31,11 +31,7 @@ find-gone-other : (x a : ℕ) → x ≢ a → (bs : List (Block ℕ)) → find_b
 find-gone-other x a ne [] = refl
 find-gone-other x a ne (c ∷ cs) =
     ⊎_elim
-    (λ (t : is_at (place_of a) c ≡ true).
-    ⊎_elim
-    (λ (u : is_at (place_of x) c ≡ true). absurd (ne (sym (at-address x c u) ∙ at-address a c t)))
-    (λ (u : is_at (place_of x) c ≡ false). rw t (rw u refl))
-    (cases_Bool (is_at (place_of x) c)))
+    (λ (t : is_at (place_of a) c ≡ true). rw t (rw (at-one x a ne c t) refl))
     (λ (t : is_at (place_of a) c ≡ false). rw t (ap (cond (is_at (place_of x) c) (Some c)) (find-gone-other x a ne cs)))
     (cases_Bool (is_at (place_of a) c))
 

@@ -99,9 +99,7 @@ first-with b (c ∷ cs) h = rw (All-head (λ d. lies_before b d ≡ true) c cs h
 in-order : (n stop at : ℕ) (es : List Extent) → (at + 16) % 32 ≡ 0 → Lies stop at es → in_order (busy_in (n, es)) ≡ busy_in (n, es)
 in-order n stop at [] m h = refl
 in-order n stop at (e ∷ es) m h =
-    let multiple = h.0.legal.multiple in
-    let wide = h.0.legal.least in
-    let rest = in-order n stop (at + e.span) es (omega (arith, m, multiple)) h.1 in
+    let rest = in-order n stop (at + e.span) es (omega (arith, m, h.0.legal.multiple)) h.1 in
     ⊎_elim
     (λ (t : ltb 0 e.size ≡ true).
     rw t
@@ -109,7 +107,7 @@ in-order n stop at (e ∷ es) m h =
     ∙ first-with (block_of n e) (busy_in (n, es))
     (All-busy_in (λ c. lies_before (block_of n e) c ≡ true) n es
     (All-weaker (Ends e) (λ x. 0 < x.size → lies_before (block_of n e) (block_of n x) ≡ true)
-    (λ x ends some. or_right (ltb n n) (eqb n n && ltb e.off x.off) (and_from (eqb n n) (ltb e.off x.off) (eq-eqb n n refl) (lt-ltb e.off x.off (omega (arith, ends, wide))))) es (lies-behind stop at e es m h)))))
+    (λ x ends some. or_right (ltb n n) (eqb n n && ltb e.off x.off) (and_from (eqb n n) (ltb e.off x.off) (eq-eqb n n refl) (lt-ltb e.off x.off (omega (arith, ends, h.0.legal.least))))) es (lies-behind stop at e es m h)))))
     (λ (t : ltb 0 e.size ≡ false). rw t rest)
     (cases_Bool (ltb 0 e.size))
 
@@ -132,11 +130,9 @@ after-busy n stop at e h busy fs gs rest =
 gaps-busy : (n stop at : ℕ) (es : List Extent) → Lies stop at es → is_merged false es ≡ true → gaps_between n at stop (footprints (busy_in (n, es))) ≡ free_in (n, es)
 gaps-busy n stop at [] h merged = runs-nothing n at stop h
 gaps-busy n stop at (e ∷ []) h merged =
-    let own = h.0.off in
-    let wide = h.0.legal.least in
     ⊎_elim
-    (λ (t : ltb 0 e.size ≡ true). rw t (ap (λ r. r ++ run_of n (e.off - 16 + span e.size) stop) (runs-nothing n at (e.off - 16) (omega (arith, own))) ∙ after-busy n stop at e h.0 (ltb-true 0 e.size t) [] [] (runs-nothing n (at + e.span) stop h.1)))
-    (λ (t : ltb 0 e.size ≡ false). rw t (whole-run n at stop e (omega (arith, h.1, wide)) own h.1))
+    (λ (t : ltb 0 e.size ≡ true). rw t (ap (λ r. r ++ run_of n (e.off - 16 + span e.size) stop) (runs-nothing n at (e.off - 16) (omega (arith, h.0.off))) ∙ after-busy n stop at e h.0 (ltb-true 0 e.size t) [] [] (runs-nothing n (at + e.span) stop h.1)))
+    (λ (t : ltb 0 e.size ≡ false). rw t (whole-run n at stop e (omega (arith, h.1, h.0.legal.least)) h.0.off h.1))
     (cases_Bool (ltb 0 e.size))
 gaps-busy n stop at (e ∷ x ∷ xs) h merged =
     let own = h.0.off in
