@@ -15,6 +15,5 @@ returns-clause-agree c =
 
 pub returns-clause-kept : goal.returns-clause-kept
 returns-clause-kept c =
-    let e = c.insert_reserved.ensures in
-    let new : Labels = record { by_tag = c.insert_reserved.new.self; tags = c.insert.new.self } in
-    kept-put c.args.self.now new c.insert_reserved.result (record { name = c.args.name; at = c.args.at }) c.requires.agree c.requires.new e.was_vacant e.updates (from_ok c.insert.result (c.insert.ensures.succeeds c.requires.room_by_name) c.insert.ensures.updates)
+    kept-put c.args.self.now (record { by_tag = c.insert_reserved.new.self; tags = c.insert.new.self }) c.insert_reserved.result (record { name = c.args.name; at = c.args.at }) c.requires.agree c.requires.new
+    c.insert_reserved.ensures.was_vacant c.insert_reserved.ensures.updates (from_ok c.insert.result (c.insert.ensures.succeeds c.requires.room_by_name) c.insert.ensures.updates)

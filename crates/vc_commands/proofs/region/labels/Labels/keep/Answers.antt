@@ -23,8 +23,5 @@ returns-in-Some-clause-agree c =
 
 pub returns-in-Some-clause-kept : goal.returns-in-Some-clause-kept
 returns-in-Some-clause-kept c =
-    let old = c.args.self.now in
-    let x = c.args.name.now in
-    let named : tag_of old x ≡ Some c.in-Some.tag = sym c.tag.ensures ∙ c.in-Some.is in
-    let succeeds = there-ok c.insert.result (known_of old x) c.in-Some.tag c.insert.ensures.absent named in
-    kept-freed old.tags.entries c.insert.new.self.entries x c.args.line (from_ok c.insert.result succeeds c.insert.ensures.updates).0
+    kept-freed c.args.self.now.tags.entries c.insert.new.self.entries c.args.name.now c.args.line
+    (from_ok c.insert.result (there-ok c.insert.result (known_of c.args.self.now c.args.name.now) c.in-Some.tag c.insert.ensures.absent (sym c.tag.ensures ∙ c.in-Some.is)) c.insert.ensures.updates).0

@@ -16,7 +16,4 @@ returns-in-Some-clause-agree c =
 
 pub returns-in-Some-clause-kept : goal.returns-in-Some-clause-kept
 returns-in-Some-clause-kept c =
-    let old = c.args.self.now in
-    let new : Labels = record { by_tag = c.remove-in-Some.new.self; tags = c.remove.new.self } in
-    let named : tag_of old c.args.name.now ≡ Some c.in-Some.tag = sym c.tag.ensures ∙ c.in-Some.is in
-    kept-forgotten old new c.args.name.now c.in-Some.tag named c.remove.ensures.updates.0
+    kept-forgotten c.args.self.now (record { by_tag = c.remove-in-Some.new.self; tags = c.remove.new.self }) c.args.name.now c.in-Some.tag (sym c.tag.ensures ∙ c.in-Some.is) c.remove.ensures.updates.0
