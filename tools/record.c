@@ -239,13 +239,18 @@ static int write_on(const char *line, size_t n)
     return 1;
 }
 
-/* Writes a line to where the file is mapped. */
+/* Eight bytes that are written at once, at any address. */
+typedef uint64_t eight __attribute__((aligned(1), may_alias));
+
+/* Writes a line to where the file is mapped, its bytes from the first to the last, so that what is there is a comment at each
+   moment before the first byte is its own. */
 static void store(const char *line, size_t n)
 {
     volatile char *to = mapped + (written - mapped_from);
-    size_t i;
+    size_t i = 1;
     to[0] = '#';
-    for (i = 1; i < n; i++) to[i] = line[i];
+    for (; i + sizeof(eight) <= n; i += sizeof(eight)) *(volatile eight *)(to + i) = *(const eight *)(line + i);
+    for (; i < n; i++) to[i] = line[i];
     to[0] = line[0];
     written += n;
 }
@@ -391,21 +396,25 @@ static void give_label(uint32_t label)
     region->freed_labels[region->freed++] = label & ((1 << LABEL_BITS) - 1);
 }
 
-/* Counts a block of this size in place of one of the size before, each 0 where there is none. Tells once that the region's
-   blocks take as much as 256 of the least segments, of which a region has at most 1,023: from there on the blocks and the gaps
-   between them may meet that limit. */
-static void count_block(uint32_t label, size_t before, size_t size)
+/* Tells that the region's blocks take as much as 256 of the least segments, of which a region has at most 1,023: from there on
+   the blocks and the gaps between them may meet that limit. */
+static void tell_much(struct region *region)
 {
-    struct region *region = region_of(label);
     struct line line = { .used = 0 };
-    if (before) region->taken -= span_of(before);
-    if (size) region->taken += span_of(size);
-    if (region->is_told || region->taken < 256 * least_segment) return;
     region->is_told = 1;
     word(&line, "# here the blocks of ");
     word(&line, region->name);
     word(&line, " take a quarter of the segments that a region can have");
     end_line(&line);
+}
+
+/* Counts a block of this size in place of one of the size before, each 0 where there is none. */
+static void count_block(uint32_t label, size_t before, size_t size)
+{
+    struct region *region = region_of(label);
+    if (before) region->taken -= span_of(before);
+    if (size) region->taken += span_of(size);
+    if (!region->is_told && region->taken >= 256 * least_segment) tell_much(region);
 }
 
 /* The live blocks: a table by address with open addressing, at most half full. Label 0 is a block that isn't in the script. */
@@ -866,16 +875,13 @@ static void tell_whole(const char *name)
     put(line, strlen(line));
 }
 
-/* The site of a call that returns to this address, and null where there is no memory for one. The lock is held, and is given
-   up for a while where a function is looked for that makes names readable. */
-static struct site *site_at(uintptr_t address)
+/* Names the site of a call that returns to this address, and answers null where there is no memory for one. The lock is held,
+   and is given up for a while where a function is looked for that makes names readable. */
+static struct site *new_site(uintptr_t address)
 {
     static int tries = 50;
     struct site fresh = { .at = address }, *site;
     int before;
-    if (!has_site_room()) return NULL;
-    site = look_up_site(address);
-    if (site->at) return site;
     pthread_setcancelstate(PTHREAD_CANCEL_DISABLE, &before);
     name_site(&fresh, address);
     if (is_mangled && !demangle && tries > 0) {
@@ -895,6 +901,14 @@ static struct site *site_at(uintptr_t address)
     *site = fresh;
     if (fresh.role == IS_SITE && *whole) tell_whole(fresh.name);
     return site;
+}
+
+static struct site *site_at(uintptr_t address)
+{
+    struct site *site;
+    if (!has_site_room()) return NULL;
+    site = look_up_site(address);
+    return site->at ? site : new_site(address);
 }
 
 /* Return addresses of the calls that led here, from one that is known on. */
@@ -923,15 +937,14 @@ static void tell_through(int role)
     end_line(&line);
 }
 
-/* The name of who called: of the function, or where that is looked through, of the first that isn't among those that called
-   it. The lock is held, and is given up while these are looked for, since the unwinder may wait for the loader. */
-static const char *site_of(uintptr_t caller)
+/* The name of the first function that isn't looked through, among those that led to this call. The lock is held, and is given
+   up while they are looked for, since the unwinder may wait for the loader. */
+static const char *site_above(uintptr_t caller)
 {
-    struct site *site = site_at(caller);
     struct frames frames = { .from = caller };
+    struct site *site = NULL;
     size_t i;
     int before, role;
-    if (!site || site->role == IS_SITE) return site ? site->name : "unknown";
     pthread_setcancelstate(PTHREAD_CANCEL_DISABLE, &before);
     pthread_mutex_unlock(&lock);
     _Unwind_Backtrace(note_frame, &frames);
@@ -947,6 +960,14 @@ static const char *site_of(uintptr_t caller)
     }
     if (frames.count < 2) site = site_at(caller);
     return site ? site->name : "unknown";
+}
+
+/* The name of who called: of the function, or where that is looked through, of the first that isn't. */
+static const char *site_of(uintptr_t caller)
+{
+    struct site *site = site_at(caller);
+    if (!site) return "unknown";
+    return site->role == IS_SITE ? site->name : site_above(caller);
 }
 
 /* What is still mapped as it was. */
