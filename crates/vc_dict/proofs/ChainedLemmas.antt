@@ -1,7 +1,7 @@
 -- One step of the pass of a set, which drops what matches a holder of its chain and links all others into its table.
-use Rattle.vc_base.proofs.Common.{◌≡◌, ℕ, ◌+◌, ◌*◌, ◌%◌, ◌<◌, ◌≤◌, Bool, true, false, cond, ◌&&◌, ◌≢◌, List, [], ◌∷◌, ◌++◌, length, is_some, if◌then◌else◌, nat_lt, ◌==◌, Some, None, Option, option_map, sym, refl, ap, ◌∙◌, subst, inl, inr, true≢false, arith, ltb-true, le-ltb, ne_eqb, eqb_tells, All-nil, Blocks, contains}
+use Rattle.vc_base.proofs.Common.{◌≡◌, ℕ, ◌+◌, ◌*◌, ◌%◌, ◌<◌, ◌≤◌, Bool, true, false, ◌&&◌, ◌≢◌, List, [], ◌∷◌, ◌++◌, length, is_some, if◌then◌else◌, nat_lt, Some, None, Option, option_map, sym, refl, ap, ◌∙◌, subst, inl, inr, true≢false, arith, ltb-true, le-ltb, ne_eqb, eqb_tells, All-nil, Blocks, contains}
 use Rattle.vc_base.specs.declared.addr.Addr.{Addr}
-use Rattle.vc_base.proofs.Members.{apart-head, apart-tail, apart-cons, within-head, within-tail}
+use Rattle.vc_base.proofs.Members.{apart-head, apart-tail, apart-cons, within-tail}
 use Rattle.vc_dthash.proofs.ChainLemmas.{chain-same}
 use Rattle.vc_dtdisc.specs.Finds.{find_key, object_at}
 use Rattle.vc_dtdisc.specs.Rules.{Rules}

@@ -9,7 +9,7 @@ use Rattle.vc_dtlist.specs.Linked.{CanAdd, Chain, IsIn as InList, LinksFor}
 use Rattle.vc_dtlist.proofs.AddressLemmas.{AreHolders, LinksFor-holders}
 use Rattle.vc_dtlist.proofs.KeptLemmas.{StandsFor-same}
 use Rattle.vc_dthash.specs.declared.dt_hash.DtHash.{DtHash}
-use Rattle.vc_dthash.specs.Hashed.{CanLink as HashLink, HasTable, HashFor, list_of}
+use Rattle.vc_dthash.specs.Hashed.{CanLink as HashLink, HasTable, list_of}
 use Rattle.vc_dthash.specs.Slots.{wanted_slots}
 use Rattle.vc_dthash.proofs.HashLemmas.{HashFor-holders, HashFor-same}
 use Rattle.vc_dtord.specs.declared.dt_ord.DtOrd.{DtOrd}

@@ -1,5 +1,5 @@
 -- The first address of a list that passes a test.
-use Rattle.vc_base.proofs.Common.{◌≡◌, ℕ, Bool, true, false, List, [], ◌∷◌, Some, find, unwrap_or, refl, ap, subst, contains}
+use Rattle.vc_base.proofs.Common.{◌≡◌, ℕ, Bool, true, false, List, [], ◌∷◌, Some, find, refl, subst, contains}
 use Rattle.vc_base.proofs.Members.{within-head, within-tail}
 use Rattle.vc_base.proofs.Options.{some_same}
 

@@ -1,5 +1,5 @@
 -- Trees of holders: over blocks in which their holders stay, and beside another holder.
-use Rattle.vc_base.proofs.Common.{◌≡◌, ℕ, zero, suc, ◌≤◌, true, false, cond, List, [], ◌∷◌, ◌++◌, length, is_some, Some, None, All, Option, unwrap_or, sym, refl, ap, ◌∙◌, subst, inl, inr, true≢false, arith, length-append, ne_eqb, eqb_tells, and_from, All-cons, All-head, All-nil, All-tail, Blocks, body_of, word, word_at, AreDistinct, contains}
+use Rattle.vc_base.proofs.Common.{◌≡◌, ℕ, zero, suc, ◌≤◌, true, false, cond, List, [], ◌∷◌, ◌++◌, length, is_some, Some, None, All, Option, unwrap_or, sym, refl, ap, ◌∙◌, subst, true≢false, arith, length-append, ne_eqb, and_from, All-cons, All-head, All-nil, All-tail, Blocks, body_of, word, word_at, AreDistinct, contains}
 use Rattle.vc_base.proofs.Members.{within-head, within-tail, within-front, within-rest}
 use Rattle.vc_dtdisc.specs.Rules.{Rules}
 use Rattle.vc_dtlist.proofs.AddressLemmas.{AreHolders}
