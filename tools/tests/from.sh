@@ -137,13 +137,17 @@ head -n 6 from.in > from.some
 "$from" -n -m pool ltrace < from.some > from.vm 2> from.said
 check "ltrace: from standard input, all lines are taken" same "$? $(cat from.said)" "0 "
 check "ltrace: without sites, for a pool" same "$(sed -n '1p;3p' from.vm | tr '\n' ';')" "open r pool 9;alloc r b1 5;"
+printf '= Start\n= End\n' > from.in
+from_of mtrace
+check "mtrace: that there is no call is told" same "$from_status $(cat from.said from.got)" "1 from: no line is of a call
+open r best 9"
 for words in '' frob 'mtrace a b' '-m bset mtrace' '-r 9 mtrace' '-d x mtrace' 'mtrace missing.calls' 'mtrace .'; do
     # shellcheck disable=SC2086
     "$from" $words < /dev/null > from.vm 2> from.said
     check "vmfrom $words: the words are wrong" same "$? $(wc -c < from.vm | tr -d ' ')" "2 0"
 done
 if [ -c /dev/full ]; then
-    "$from" ltrace from.in > /dev/full 2> from.said
+    "$from" ltrace from.some > /dev/full 2> from.said
     check "a script that can't be written" same "$?" 2
 fi
 
