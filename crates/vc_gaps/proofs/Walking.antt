@@ -143,9 +143,7 @@ pub record Walked (p : ℕ → Bool) (xs : List ℕ) (first at start now : ℕ) 
 pub walk-on : (p : ℕ → Bool) (xs : List ℕ) (first at b start now : ℕ) → IsNext xs at b → p at ≡ false → Walked p xs first at start now → Walked p xs first b start (now + 1)
 walk-on p xs first at b start now n fails w =
     let behind : find p (from_on at xs) ≡ find p (from_on b xs) = ap (find p) n.rest ∙ ap (λ z. cond z (Some at) (find p (from_on b xs))) fails in
-    let len = ap length n.rest in
-    let k = w.steps in
-    record { same = w.same ∙ behind; within = n.within; steps = omega arith }
+    record { same = w.same ∙ behind; within = n.within; steps = omega (arith, w.steps, ap length n.rest) }
 
 from_on-head : (a : ℕ) (xs : List ℕ) → contains xs a ≡ true → (ys : List ℕ) × (from_on a xs ≡ a ∷ ys)
 from_on-head a [] h = absurd (true≢false (sym h))
@@ -162,14 +160,10 @@ walk-found p xs first at start now some passes w =
 
 pub walk-steps : (p : ℕ → Bool) (xs : List ℕ) (first at start now : ℕ) → at ≢ 0 → Walked p xs first at start now → now + 1 ≤ start + length xs
 walk-steps p xs first at start now some w =
-    let head = from_on-head at xs (w.within some) in
-    let len = ap length head.1 in
-    let k = w.steps in
-    let most = from_on-length first xs in
-    omega arith
+    omega (arith, w.steps, from_on-length first xs, ap length (from_on-head at xs (w.within some)).1)
 
 pub walk-end : (p : ℕ → Bool) (xs : List ℕ) (first at start now : ℕ) → Walked p xs first at start now → now ≤ start + length xs
-walk-end p xs first at start now w = let k = w.steps in let most = from_on-length first xs in omega arith
+walk-end p xs first at start now w = omega (arith, w.steps, from_on-length first xs)
 
 pub walk-none : (p : ℕ → Bool) (xs : List ℕ) (first at start now : ℕ) → contains xs 0 ≡ false → at ≡ 0 → Walked p xs first at start now → None ≡ find p (from_on first xs)
 walk-none p xs first at start now none zero w =

@@ -19,9 +19,6 @@ loop-number-init g c =
       back = TookBack-none _ (map pair_of c.args.extents.now.segs.items);
     }
 
-pub give_back_unless-count-requires-clause-kept : goal.give_back_unless-count-requires-clause-kept
-give_back_unless-count-requires-clause-kept g c = c.loop-number.invariant.kept
-
 pub give_back_unless-count-requires-clause-out : goal.give_back_unless-count-requires-clause-out
 give_back_unless-count-requires-clause-out g c = HasOut-left _ _ (map pair_of c.args.extents.now.segs.items) (map pair_of c.loop-number.extents.segs.items) c.loop-number.invariant.back c.requires.out
 
@@ -78,6 +75,3 @@ returns-clause-count g c =
     let now = ap length (kept g (goal.at.returns-clause-count g c).After-loop-number) in
     let all = ap length (segments-by c.args.extents.now.segs.items) in
     omega (arith, c.loop-number.invariant.count)
-
-pub returns-clause-kept : goal.returns-clause-kept
-returns-clause-kept g c = c.loop-number.invariant.kept
