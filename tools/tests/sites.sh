@@ -67,11 +67,24 @@ printf '%s\n' 'open r pool 1' 'alloc r a 10 @one' 'alloc r b 11 @two' 'alloc r c
 table refused.vm
 check "sites: what was refused is told, and counts for no site" \
     same "$status $(cat table.said) $(sed -n '2,3p' table | tr -s ' ' | tr '\n' ' ')" \
-    "3 sites: 1 of 4 commands on region r was refused, the first at line 3: pool size one 1 10 10 66.7 % two 1 5 5 33.3 % "
-check "sites: it is told beneath the table too" same "$(tail -n 1 table)" "1 of 4 commands on region r was refused, the first at line 3: pool size"
+    "3 sites: 1 of 4 commands was refused, the first at line 3: pool size one 1 10 10 66.7 % two 1 5 5 33.3 % "
+check "sites: it is told beneath the table too" same "$(tail -n 1 table)" "1 of 4 commands was refused, the first at line 3: pool size"
 printf '%s\n' 'open r best 1' '# site Zvery_long_7 is very::long(name<int, char>)' 'alloc r a 10 @Zvery_long_7' 'alloc r b 9 @short' > whole.vm
 table whole.vm
 check "sites: the whole name that a recording tells stands behind the row" \
     same "$(sed -n '1,3s/.*\(share\|%\)//p' table | tr '\n' '|')" "  whole name|  very::long(name<int, char>)||"
 "$here/curve" -s -p "$program" whole.vm > drawn.svg
 check "sites: it stands in the curve of sites" grep -q '>very::long(name&lt;int, char&gt;): at most 10 bytes' drawn.svg
+
+# Several regions: together, and each for itself.
+printf '%s\n' 'open r best 1' 'open s pool 2' 'alloc r a 100 @one' 'alloc s a 50 @one' 'alloc s b 40 @two' 'clear r' 'alloc r a 30 @two' \
+    'close s' 'alloc s a 1 @one' > regions.vm
+rows() {
+    table "$@"
+    tr -d , < table | awk '/^$/ { exit } NR > 1 { print $1, $2, $3, $4, $5 }' | tr '\n' '|'
+}
+check "sites: of all regions" same "$(rows regions.vm)" "one 0 0 150 78.9|two 1 30 70 21.1|all 1 30 190 100.0|"
+check "sites: of all regions, what was refused" same "$(cat table.said)" "sites: 1 of 9 commands was refused, the first at line 9: no region"
+check "sites: of one region" same "$(rows -r r regions.vm)" "one 0 0 100 100.0|two 1 30 30 0.0|all 1 30 100 100.0|"
+check "sites: of the other" same "$(rows -r s regions.vm)" "one 0 0 50 55.6|two 0 0 40 44.4|all 0 0 90 100.0|"
+check "sites: of the other, what was refused" same "$(cat table.said)" "sites: 1 of 5 commands on region s was refused, the first at line 9: no region"
