@@ -1,11 +1,11 @@
 -- The user's blocks of a debug region stand at places of their own, in segments with numbers of their own.
-use Rattle.vc_base.proofs.Common.{◌≡◌, ℕ, ◌+◌, ◌<◌, ◌≤◌, List, map, length, get_or, sym, ap, ◌∙◌, arith, le_prop, ∥∥₁_elim, get_or-map, length-map, place_of, Block, address_of, HaveOwnNumbers, HaveOwnPlaces}
+use Rattle.vc_base.proofs.Common.{◌≡◌, ℕ, ◌+◌, ◌<◌, ◌≤◌, List, map, length, get_or, sym, ap, ◌∙◌, arith, get_or-map, length-map, place_of, Block, address_of, HaveOwnNumbers, HaveOwnPlaces}
 use Rattle.vc_best.specs.Parts.{layout_of}
 use Rattle.vc_audit.specs.declared.debug.Debug.{Debug}
 use Rattle.vc_audit.specs.DebugParts.{blocks_in, segments_in}
 use Rattle.vc_audit.specs.Debug.{user_block, user_place}
 use Rattle.vc_audit.proofs.DebugBlocks.{address-user, below-end, none, user_place-next}
-use Rattle.vc_audit.proofs.DebugWalks.{own-best}
+use Rattle.vc_audit.proofs.Sound.{own-best, own-numbers}
 
 pub own_places : {I : Type 0} {V : I → Type 0} (d : Debug I V) → HaveOwnPlaces (blocks_in d)
 own_places d =
@@ -42,8 +42,4 @@ own_places d =
     it i e lt = get_or-map user_block (layout_of d.best).blocks i none e lt
 
 pub own_numbers : {I : Type 0} {V : I → Type 0} (d : Debug I V) → HaveOwnNumbers (segments_in d)
-own_numbers d =
-    record {
-      first = λ i e within. ∥∥₁_elim d.best.sound (le_prop) (λ s. s.numbered.first i e within);
-      distinct = λ i j e lt within same. ∥∥₁_elim d.best.sound (hlevel) (λ s. s.numbered.distinct i j e lt within same);
-    }
+own_numbers d = own-numbers (layout_of d.best) d.best.sound

@@ -1,21 +1,13 @@
 -- The user's blocks in order, and the one that holds a byte.
-use Rattle.vc_base.proofs.Common.{◌≡◌, ℕ, ◌+◌, ◌-◌, ◌<◌, ◌≤◌, Bool, true, false, cond, ◌&&◌, eqb, ltb, ◌⊎◌, List, [], ◌∷◌, map, get_or, nat_lt, nat_le, Some, None, fold, filter, Option, option_map, AllPairs, find, sym, refl, ap, ◌∙◌, subst, inl, inr, ⊎_elim, arith, eq-eqb, eqb-true, le_prop, ∥∥₁_elim, ℕ_set, nat_tests, and_from, and_parts, cases_Bool, none-some, same_Some, AllByRecursion, place_of, Block, Layout, address_of, footprint, lesser_by, span, EndsBefore, HaveOwnPlaces, IsSound, HasBlock, find_block, block_at, holds_byte, next_block}
+use Rattle.vc_base.proofs.Common.{◌≡◌, ℕ, ◌+◌, ◌-◌, ◌<◌, ◌≤◌, Bool, true, false, cond, ◌&&◌, eqb, ltb, ◌⊎◌, List, [], ◌∷◌, map, get_or, nat_lt, nat_le, Some, None, fold, filter, Option, option_map, AllPairs, find, sym, refl, ap, ◌∙◌, subst, inl, inr, ⊎_elim, arith, eq-eqb, eqb-true, ∥∥₁_elim, nat_tests, and_from, and_parts, cases_Bool, none-some, same_Some, AllByRecursion, place_of, Block, Layout, address_of, footprint, lesser_by, span, EndsBefore, HaveOwnPlaces, IsSound, HasBlock, find_block, block_at, holds_byte, next_block}
 use Rattle.vc_model.proofs.Pairs.{AllPairs-head, AllPairs-tail, all-recursion}
-use Rattle.vc_model.proofs.Places.{among-find, found-there, own-places}
+use Rattle.vc_model.proofs.Places.{among-find, found-there}
 use Rattle.vc_base.proofs.Places.{span-least}
 use Rattle.vc_audit.specs.Debug.{user_block}
 use Rattle.vc_audit.specs.DebugGuard.{HasGuards}
+pub use Rattle.vc_audit.proofs.Sound.{own-best}
 use Rattle.vc_audit.proofs.DebugBlocks.{address-user, live-down}
 use Rattle.vc_audit.proofs.DebugFills.{guards-size}
-
--- the blocks with guards have places of their own
-pub own-best : (r : Layout ℕ) → ∥ IsSound r ∥₁ → HaveOwnPlaces r.blocks
-own-best r sound =
-    record {
-      distinct = λ i j d lt within e. ∥∥₁_elim sound (hlevel) (λ s. (own-places r s).distinct i j d lt within e);
-      first = λ i d within. ∥∥₁_elim sound (le_prop) (λ s. (own-places r s).first i d within);
-      exact = λ i d within. ∥∥₁_elim sound (hlevel (ℕ_set)) (λ s. s.exact i d within);
-    }
 
 some-address : (b : Block ℕ) → 1 ≤ b.seg → 1 ≤ address_of b
 some-address b first = omega (arith, first)

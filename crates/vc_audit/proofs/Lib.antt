@@ -1,3 +1,4 @@
+pub mod Sound
 pub mod DebugMarks
 pub mod DebugBlocks
 pub mod DebugFills

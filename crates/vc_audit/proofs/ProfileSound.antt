@@ -1,20 +1,15 @@
 -- A profile region has blocks at places of their own, in segments with numbers of their own.
-use Rattle.vc_base.proofs.Common.{ℕ, ◌≤◌, length, le_prop, ∥∥₁_elim, ℕ_set, HaveOwnNumbers, HaveOwnPlaces}
-use Rattle.vc_model.proofs.Places.{own-places}
+use Rattle.vc_base.proofs.Common.{◌≤◌, length, HaveOwnNumbers, HaveOwnPlaces}
 use Rattle.vc_best.specs.Parts.{layout_of}
 use Rattle.vc_best.specs.declared.best.Best.{Best}
 use Rattle.vc_best.proofs.Counting.{blocks-few}
 use Rattle.vc_audit.specs.declared.profile.Profile.{Profile}
 use Rattle.vc_audit.specs.ProfileParts.{blocks_in, segments_in}
+use Rattle.vc_audit.proofs.Sound.{own-best, own-numbers}
 use Rattle.vc_audit.proofs.ProfileBare.{from-best}
 
 pub best_places : {I : Type 0} {V : I → Type 0} (b : Best I V) → HaveOwnPlaces (layout_of b).blocks
-best_places b =
-    record {
-      distinct = λ i j d lt within e. ∥∥₁_elim b.sound (hlevel) (λ s. (own-places (layout_of b) s).distinct i j d lt within e);
-      first = λ i d within. ∥∥₁_elim b.sound (le_prop) (λ s. (own-places (layout_of b) s).first i d within);
-      exact = λ i d within. ∥∥₁_elim b.sound (hlevel (ℕ_set)) (λ s. s.exact i d within);
-    }
+best_places b = own-best (layout_of b) b.sound
 
 -- a best region has few blocks, since each takes 32 bytes at least
 pub best-few : {I : Type 0} {V : I → Type 0} (b : Best I V) → length (layout_of b).blocks ≤ 1072693248
@@ -24,8 +19,4 @@ pub own_places : {I : Type 0} {V : I → Type 0} (p : Profile I V) → HaveOwnPl
 own_places p = from-best HaveOwnPlaces p.sites.items.items (layout_of p.best).blocks (best_places p.best)
 
 pub own_numbers : {I : Type 0} {V : I → Type 0} (p : Profile I V) → HaveOwnNumbers (segments_in p)
-own_numbers p =
-    record {
-      first = λ i d within. ∥∥₁_elim p.best.sound (le_prop) (λ s. s.numbered.first i d within);
-      distinct = λ i j d lt within e. ∥∥₁_elim p.best.sound (hlevel) (λ s. s.numbered.distinct i j d lt within e);
-    }
+own_numbers p = own-numbers (layout_of p.best) p.best.sound

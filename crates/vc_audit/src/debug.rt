@@ -16,9 +16,6 @@ mod watch;
 pub use rows::{debug_damage, debug_marks, debug_places, debug_resizing};
 use vc_best::Best;
 
-// Marks a counter of steps that no one reads.
-struct Uncounted;
-
 /// A region by exact best fit that finds damage around its blocks, after Vmalloc's `Vmdebug`. In front of the user's
 /// bytes of each block stand 32 bytes of guard, and 16 bytes behind them. Addresses, sizes and bytes are the user's.
 #[derive(Drop)]

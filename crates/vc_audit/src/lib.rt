@@ -2,6 +2,7 @@
 #![tactic(auto)]
 
 mod debug;
+mod plain;
 mod profile;
 mod profile_example;
 

@@ -7,12 +7,12 @@ mod rows;
 mod sites;
 mod walk;
 
-ghost use Rattle.std.specs.Prelude.{◌≡◌, ◌≤◌, IfErr, IfOk};
+ghost use Rattle.std.specs.Prelude.{◌≡◌, IfErr, IfOk};
 ghost use Rattle.std.proofs.Props.{props};
-ghost use Rattle.vc_base.specs.Prelude.{empty_layout};
 ghost use Rattle.vc_best.specs.Parts.{layout_of};
 ghost use Rattle.vc_audit.specs.ProfileSums.{IsCounted};
 
+use crate::plain::open_best;
 use indexmap::IndexMap;
 use rows::Row;
 use sites::Sites;
@@ -20,9 +20,6 @@ use std::alloc::Global;
 use vc_base::{Name, OutOfMemory};
 use vc_best::Best;
 use vc_seg::{BoxedDisc, SegDisc};
-
-// Marks a counter of steps that no one reads.
-pub(crate) struct Uncounted;
 
 /// A region by exact best fit in which each block has a site, after Vmalloc's `Vmprofile`. For each site it counts the
 /// blocks, their bytes, and the greatest number of bytes after a call.
@@ -35,16 +32,6 @@ pub struct Profile {
     // The site of each block.
     pub(crate) sites: Sites,
     ghost counted: { IsCounted (layout_of best) sites.items.items rows.entries } by { Prim.hlevel props },
-}
-
-// A best region with no segment. The check asks for a condition on a call that could drop a box;
-// this one always holds.
-fn open_best(alloc: Global, disc: Box<dyn SegDisc>) -> Result<Best, (OutOfMemory, Box<dyn SegDisc>)>
-    requires { 0 ≤ 0 }
-    ensures ok { IfOk result (λ b. (layout_of b ≡ empty_layout) × (state b.disc ≡ state disc)) }
-    ensures err { IfErr result (λ e. state e.1 ≡ state disc) }
-{
-    Best::open(alloc, disc)
 }
 
 impl Profile {

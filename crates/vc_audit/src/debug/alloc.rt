@@ -5,8 +5,9 @@ ghost use Rattle.vc_seg.specs.OneBlock.{IsBlockPut, IsSize};
 ghost use Rattle.vc_audit.specs.Debug.{DebugAsks, debug_alloc, debug_need};
 ghost use Rattle.vc_audit.specs.DebugParts.{blocks_in, debug_of, disc_in, segments_in};
 
+use crate::debug::Debug;
 use crate::debug::guard::{user_addr, write_guards};
-use crate::debug::{Debug, Uncounted};
+use crate::plain::Uncounted;
 use vc_base::{Addr, Steps};
 use vc_seg::{BoxedDisc, RegionFault, SegDisc};
 

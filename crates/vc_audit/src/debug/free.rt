@@ -1,28 +1,15 @@
-ghost use Rattle.std.specs.Prelude.{◌≡◌, ◌≤◌};
-ghost use Rattle.vc_base.specs.Prelude.{place_of, cleared_layout, HasOut, TookBack, HasBlock};
-ghost use Rattle.vc_best.specs.Parts.{layout_of};
+ghost use Rattle.std.specs.Prelude.{◌≡◌};
+ghost use Rattle.vc_base.specs.Prelude.{place_of, HasOut, TookBack, HasBlock};
 ghost use Rattle.vc_audit.specs.Debug.{debug_clear, debug_compact, debug_compact_count, debug_free};
-ghost use Rattle.vc_seg.specs.Boxed.{disc_in_box};
 ghost use Rattle.vc_seg.specs.OneBlock.{IsBlockFreed};
 ghost use Rattle.vc_audit.specs.DebugParts.{blocks_in, debug_of, disc_in, segments_in};
 
+use crate::debug::Debug;
 use crate::debug::guard::guarded_addr;
 use crate::debug::mark::drop_mark;
-use crate::debug::{Debug, Uncounted};
+use crate::plain::{Uncounted, clear_best};
 use vc_base::{Addr, Steps};
-use vc_best::Best;
 use vc_seg::{BoxedDisc, SegDisc};
-
-// Frees all blocks of a best region. The check asks for a condition on a call that could drop a box;
-// this one always holds.
-fn clear_best(best: &mut Best)
-    requires { 0 ≤ 0 }
-    ensures layout { layout_of best.new ≡ cleared_layout (layout_of best.old) }
-    ensures disc { disc_in_box state best.new.disc ≡ disc_in_box state best.old.disc }
-{
-    let mut steps = Steps::<Uncounted>::new(best.alloc);
-    best.clear(&mut steps);
-}
 
 /// The calls that make room. They can't fail, and take no memory.
 impl Debug {

@@ -5,9 +5,10 @@ ghost use Rattle.vc_seg.specs.OneBlock.{IsBlockKept, IsSize};
 ghost use Rattle.vc_audit.specs.Debug.{DebugAsksToMove, debug_need, debug_resize};
 ghost use Rattle.vc_audit.specs.DebugParts.{blocks_in, debug_of, disc_in, segments_in};
 
+use crate::debug::Debug;
 use crate::debug::guard::{guarded_addr, user_addr, write_zeros};
 use crate::debug::mark::move_mark;
-use crate::debug::{Debug, Uncounted};
+use crate::plain::Uncounted;
 use vc_base::{Addr, Steps};
 use vc_seg::{BoxedDisc, RegionFault, SegDisc};
 

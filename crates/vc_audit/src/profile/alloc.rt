@@ -5,8 +5,9 @@ ghost use Rattle.vc_seg.specs.OneBlock.{IsBlockPut, IsSize};
 ghost use Rattle.vc_audit.specs.Profile.{profile_alloc};
 ghost use Rattle.vc_audit.specs.ProfileParts.{blocks_in, disc_in, profile_of, segments_in};
 
+use crate::plain::Uncounted;
+use crate::profile::Profile;
 use crate::profile::rows::{put_row, row_for};
-use crate::profile::{Profile, Uncounted};
 use vc_base::{Addr, Name, Steps};
 use vc_seg::{BoxedDisc, RegionFault, SegDisc};
 

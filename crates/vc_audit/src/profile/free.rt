@@ -1,27 +1,14 @@
-ghost use Rattle.std.specs.Prelude.{◌≡◌, ◌≤◌};
-ghost use Rattle.vc_base.specs.Prelude.{place_of, cleared_layout, compact_count, HasOut, TookBack, HasBlock};
-ghost use Rattle.vc_best.specs.Parts.{layout_of};
+ghost use Rattle.std.specs.Prelude.{◌≡◌};
+ghost use Rattle.vc_base.specs.Prelude.{place_of, compact_count, HasOut, TookBack, HasBlock};
 ghost use Rattle.vc_audit.specs.Profile.{profile_clear, profile_compact, profile_free};
-ghost use Rattle.vc_seg.specs.Boxed.{disc_in_box};
 ghost use Rattle.vc_seg.specs.OneBlock.{IsBlockFreed};
 ghost use Rattle.vc_audit.specs.ProfileParts.{blocks_in, disc_in, layout_in, profile_of, segments_in};
 
+use crate::plain::{Uncounted, clear_best};
+use crate::profile::Profile;
 use crate::profile::rows::{clear_rows, put_row, row_for};
-use crate::profile::{Profile, Uncounted};
 use vc_base::{Addr, Steps};
-use vc_best::Best;
 use vc_seg::{BoxedDisc, SegDisc};
-
-// Frees all blocks of a best region. The check asks for a condition on a call that could drop a box;
-// this one always holds.
-fn clear_best(best: &mut Best)
-    requires { 0 ≤ 0 }
-    ensures layout { layout_of best.new ≡ cleared_layout (layout_of best.old) }
-    ensures disc { disc_in_box state best.new.disc ≡ disc_in_box state best.old.disc }
-{
-    let mut steps = Steps::<Uncounted>::new(best.alloc);
-    best.clear(&mut steps);
-}
 
 /// The calls that make room. None takes memory.
 impl Profile {

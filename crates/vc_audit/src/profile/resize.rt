@@ -6,8 +6,9 @@ ghost use Rattle.vc_best.specs.Ask.{AsksToMove};
 ghost use Rattle.vc_audit.specs.Profile.{profile_resize};
 ghost use Rattle.vc_audit.specs.ProfileParts.{blocks_in, disc_in, layout_in, profile_of, segments_in};
 
+use crate::plain::Uncounted;
+use crate::profile::Profile;
 use crate::profile::rows::{put_row, row_for};
-use crate::profile::{Profile, Uncounted};
 use vc_base::{Addr, Steps};
 use vc_seg::{BoxedDisc, RegionFault, SegDisc};
 

@@ -4,7 +4,8 @@ use Rattle.vc_best.specs.Parts.{layout_of}
 use Rattle.vc_audit.specs.DebugParts.{debug_of}
 use Rattle.vc_audit.proofs.DebugBlocks.{below-end, live-up}
 use Rattle.vc_audit.proofs.DebugChecks.{check-begins, check-over, check-passes, check-smaller, check-told, next-is}
-use Rattle.vc_audit.proofs.DebugWalks.{from-before, own-best}
+use Rattle.vc_audit.proofs.DebugWalks.{from-before}
+use Rattle.vc_audit.proofs.Sound.{own-best}
 use Rattle.vc_audit.proofs.debug.Debug.check.Goals as goal
 
 pub loop-next-init : goal.loop-next-init

@@ -1,7 +1,8 @@
 use Rattle.vc_base.proofs.Common.{◌+◌, Some, option_map, sym, ap, ◌∙◌, subst, address_of, HasBlock, next_block}
 use Rattle.vc_best.specs.Parts.{layout_of}
 use Rattle.vc_audit.proofs.DebugBlocks.{below-end, live-up}
-use Rattle.vc_audit.proofs.DebugWalks.{address-told, from-before, next-user, own-best}
+use Rattle.vc_audit.proofs.DebugWalks.{address-told, from-before, next-user}
+use Rattle.vc_audit.proofs.Sound.{own-best}
 use Rattle.vc_audit.proofs.debug.Debug.next_block.Goals as goal
 
 pub next_block-requires : goal.next_block-requires
