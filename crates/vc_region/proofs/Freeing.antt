@@ -23,11 +23,8 @@ latest-freed l at (Some b) =
     [ true ↦ inl refl | false ↦ inr refl ]
 
 freed-or-not : {L : Type 0} (r : Region L) (at : ℕ × ℕ) → FreedOrNot (region_free r at) (without_block_in r at)
-freed-or-not (OfBest l) at = inl refl
-freed-or-not (OfPool p) at = inl refl
 freed-or-not (OfLast l) at = latest-freed l at (latest l)
-freed-or-not (OfDebug d) at = inl refl
-freed-or-not (OfProfile p) at = inl refl
+freed-or-not r at = inl refl
 
 -- freeing asks for no segment
 pub free-granted : {L : Type 0} (r : Region L) (at : ℕ × ℕ) → region_free r at ≡ Refused NoSegment → ⊥
@@ -51,17 +48,11 @@ freed-region {L = L} r at r' e = by (freed-or-not r at)
 
 without-segments : {L : Type 0} (r : Region L) (at : ℕ × ℕ) → segments_of (without_block_in r at) ≡ segments_of r
 without-segments (OfBest l) at = refl
-without-segments (OfPool p) at = refl
-without-segments (OfLast l) at = refl
-without-segments (OfDebug d) at = refl
-without-segments (OfProfile p) at = refl
+without-segments r at = refl
 
 without-keeps : {L : Type 0} (r : Region L) (at : ℕ × ℕ) → keeps_freed (without_block_in r at) ≡ keeps_freed r
 without-keeps (OfBest l) at = refl
-without-keeps (OfPool p) at = refl
-without-keeps (OfLast l) at = refl
-without-keeps (OfDebug d) at = refl
-without-keeps (OfProfile p) at = refl
+without-keeps r at = refl
 
 -- the segments stay
 pub free-segments : {L : Type 0} (r r' : Region L) (at : ℕ × ℕ) → region_free r at ≡ Done r' → segments_of r' ≡ segments_of r

@@ -22,10 +22,8 @@ alloc-method terms (OfProfile p) tag site size refused a r' is = put-method OfPr
 
 pub align-method : (terms : Terms) (r : Region ℕ) (tag : ℕ) (site : List ℕ) (size align : ℕ) (refused : Bool) (a : ℕ) (r' : Region ℕ) → IsPut (region_align terms r tag site size align refused) a r' → method_of r' ≡ method_of r
 align-method terms (OfBest l) tag site size align refused a r' is = put-method OfBest VmBest (λ q. refl) (best_alloc terms l tag size align refused) a r' is
-align-method terms (OfPool p) tag site size align refused a r' is = absurd is
-align-method terms (OfLast l) tag site size align refused a r' is = absurd is
-align-method terms (OfDebug d) tag site size align refused a r' is = absurd is
 align-method terms (OfProfile p) tag site size align refused a r' is = put-method OfProfile VmProfile (λ q. refl) (profile_alloc terms p tag site size align refused) a r' is
+align-method terms r tag site size align refused a r' is = absurd is
 
 pub resize-method : (terms : Terms) (r : Region ℕ) (at : ℕ × ℕ) (size : ℕ) (may_move refused : Bool) (a : ℕ) (r' : Region ℕ) → IsPut (region_resize terms r at size may_move refused) a r' → method_of r' ≡ method_of r
 resize-method terms (OfBest l) at size may_move refused a r' is = put-method OfBest VmBest (λ q. refl) (best_resize terms l at size may_move refused) a r' is
@@ -36,45 +34,27 @@ resize-method terms (OfProfile p) at size may_move refused a r' is = put-method 
 
 without-method : (r : Region ℕ) (at : ℕ × ℕ) → method_of (without_block_in r at) ≡ method_of r
 without-method (OfBest l) at = refl
-without-method (OfPool p) at = refl
-without-method (OfLast l) at = refl
-without-method (OfDebug d) at = refl
-without-method (OfProfile p) at = refl
+without-method r at = refl
 
 pub free-method : (r r' : Region ℕ) (at : ℕ × ℕ) → region_free r at ≡ Done r' → method_of r' ≡ method_of r
 free-method r r' at e = ap method_of (freed-region r at r' e) ∙ without-method r at
 
 pub write-method : (r : Region ℕ) (at : ℕ × ℕ) (off : ℕ) (src : List ℕ) → method_of (region_write r at off src) ≡ method_of r
 write-method (OfBest l) at off src = refl
-write-method (OfPool p) at off src = refl
-write-method (OfLast l) at off src = refl
-write-method (OfDebug d) at off src = refl
-write-method (OfProfile p) at off src = refl
+write-method r at off src = refl
 
 pub clear-method : (r : Region ℕ) → method_of (region_clear r) ≡ method_of r
 clear-method (OfBest l) = refl
-clear-method (OfPool p) = refl
-clear-method (OfLast l) = refl
-clear-method (OfDebug d) = refl
-clear-method (OfProfile p) = refl
+clear-method r = refl
 
 pub compact-method : (r : Region ℕ) → method_of (region_compact r) ≡ method_of r
 compact-method (OfBest l) = refl
-compact-method (OfPool p) = refl
-compact-method (OfLast l) = refl
-compact-method (OfDebug d) = refl
-compact-method (OfProfile p) = refl
+compact-method r = refl
 
 pub poke-method : (r : Region ℕ) (at : ℕ × ℕ) (off : ℤ) (byte : ℕ) → method_of (region_poke r at off byte) ≡ method_of r
 poke-method (OfBest l) at off byte = refl
-poke-method (OfPool p) at off byte = refl
-poke-method (OfLast l) at off byte = refl
-poke-method (OfDebug d) at off byte = refl
-poke-method (OfProfile p) at off byte = refl
+poke-method r at off byte = refl
 
 pub watch-method : (r : Region ℕ) (at : ℕ × ℕ) (line : ℕ) → method_of (region_watch r at line) ≡ method_of r
 watch-method (OfBest l) at line = refl
-watch-method (OfPool p) at line = refl
-watch-method (OfLast l) at line = refl
-watch-method (OfDebug d) at line = refl
-watch-method (OfProfile p) at line = refl
+watch-method r at line = refl

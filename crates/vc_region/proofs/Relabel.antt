@@ -37,18 +37,13 @@ module _ {L M : Type 0} (f : L → M) where
   as_profile (Refused why) = refl
 
   pub segments-relabelled : (r : Region L) → segments_of (region_with_labels f r) ≡ segments_of r
-  segments-relabelled (OfBest l) = refl
-  segments-relabelled (OfPool p) = refl
-  segments-relabelled (OfLast l) = refl
-  segments-relabelled (OfDebug d) = refl
   segments-relabelled (OfProfile p) = ap (λ (l : Layout M). l.segments) (bare_layout-relabel f p)
+  segments-relabelled r = refl
 
   pub blocks-relabelled : (r : Region L) → blocks_of (region_with_labels f r) ≡ map (relabel_block f) (blocks_of r)
-  blocks-relabelled (OfBest l) = refl
-  blocks-relabelled (OfPool p) = refl
-  blocks-relabelled (OfLast l) = refl
   blocks-relabelled (OfDebug d) = debug.blocks-relabelled f d
   blocks-relabelled (OfProfile p) = ap (λ (l : Layout M). l.blocks) (bare_layout-relabel f p)
+  blocks-relabelled r = refl
 
   pub layout-relabelled : (r : Region L) → layout_in (region_with_labels f r) ≡ relabel_layout f (layout_in r)
   layout-relabelled r =
@@ -68,10 +63,7 @@ module _ {L M : Type 0} (f : L → M) where
 
   pub aligns-relabelled : (r : Region L) → aligns (region_with_labels f r) ≡ aligns r
   aligns-relabelled (OfBest l) = refl
-  aligns-relabelled (OfPool p) = refl
-  aligns-relabelled (OfLast l) = refl
-  aligns-relabelled (OfDebug d) = refl
-  aligns-relabelled (OfProfile p) = refl
+  aligns-relabelled r = refl
 
   pub align-relabelled : (terms : Terms) (r : Region L) (label : L) (site : List ℕ) (size align : ℕ) (refused : Bool) → region_align terms (region_with_labels f r) (f label) site size align refused ≡ outcome_as (region_with_labels f) (region_align terms r label site size align refused)
   align-relabelled terms (OfBest l) label site size align refused =
@@ -118,11 +110,9 @@ module _ {L M : Type 0} (f : L → M) where
   write-relabelled (OfProfile p) at off src = ap (λ q. OfProfile q) (profile_write-relabel f p at off src)
 
   pub clear-relabelled : (r : Region L) → region_clear (region_with_labels f r) ≡ region_with_labels f (region_clear r)
-  clear-relabelled (OfBest l) = refl
-  clear-relabelled (OfPool p) = refl
-  clear-relabelled (OfLast l) = refl
   clear-relabelled (OfDebug d) = ap (λ q. OfDebug q) (debug.clear-relabelled f d)
   clear-relabelled (OfProfile p) = ap (λ q. OfProfile q) (profile_clear-relabel f p)
+  clear-relabelled r = refl
 
   pub compact-relabelled : (r : Region L) → region_compact (region_with_labels f r) ≡ region_with_labels f (region_compact r)
   compact-relabelled (OfBest l) = ap (λ q. OfBest q) (compacted-relabel f l)
@@ -133,55 +123,34 @@ module _ {L M : Type 0} (f : L → M) where
 
   pub debug-relabelled : (r : Region L) → is_debug (region_with_labels f r) ≡ is_debug r
   debug-relabelled (OfBest l) = refl
-  debug-relabelled (OfPool p) = refl
-  debug-relabelled (OfLast l) = refl
-  debug-relabelled (OfDebug d) = refl
-  debug-relabelled (OfProfile p) = refl
+  debug-relabelled r = refl
 
   pub keeps-relabelled : (r : Region L) → keeps_freed (region_with_labels f r) ≡ keeps_freed r
   keeps-relabelled r = debug-relabelled r
 
   pub profile-relabelled : (r : Region L) → is_profile (region_with_labels f r) ≡ is_profile r
   profile-relabelled (OfBest l) = refl
-  profile-relabelled (OfPool p) = refl
-  profile-relabelled (OfLast l) = refl
-  profile-relabelled (OfDebug d) = refl
-  profile-relabelled (OfProfile p) = refl
+  profile-relabelled r = refl
 
   pub watch-relabelled : (r : Region L) (at : ℕ × ℕ) → watch_at (region_with_labels f r) at ≡ watch_at r at
-  watch-relabelled (OfBest l) at = refl
-  watch-relabelled (OfPool p) at = refl
-  watch-relabelled (OfLast l) at = refl
   watch-relabelled (OfDebug d) at = debug.watched-relabelled f d at
-  watch-relabelled (OfProfile p) at = refl
+  watch-relabelled r at = refl
 
   pub marks-relabelled : (r : Region L) (at : ℕ × ℕ) (line : ℕ) → region_watch (region_with_labels f r) at line ≡ region_with_labels f (region_watch r at line)
-  marks-relabelled (OfBest l) at line = refl
-  marks-relabelled (OfPool p) at line = refl
-  marks-relabelled (OfLast l) at line = refl
   marks-relabelled (OfDebug d) at line = ap (λ q. OfDebug q) (debug.watch-relabelled f d at line)
-  marks-relabelled (OfProfile p) at line = refl
+  marks-relabelled r at line = refl
 
   pub poke-relabelled : (r : Region L) (at : ℕ × ℕ) (off : ℤ) (byte : ℕ) → region_poke (region_with_labels f r) at off byte ≡ region_with_labels f (region_poke r at off byte)
-  poke-relabelled (OfBest l) at off byte = refl
-  poke-relabelled (OfPool p) at off byte = refl
-  poke-relabelled (OfLast l) at off byte = refl
   poke-relabelled (OfDebug d) at off byte = ap (λ q. OfDebug q) (debug.poke-relabelled f d at off byte)
-  poke-relabelled (OfProfile p) at off byte = refl
+  poke-relabelled r at off byte = refl
 
   pub damaged-relabelled : (r : Region L) → damaged_in (region_with_labels f r) ≡ map (debug.relabel_found f) (damaged_in r)
-  damaged-relabelled (OfBest l) = refl
-  damaged-relabelled (OfPool p) = refl
-  damaged-relabelled (OfLast l) = refl
   damaged-relabelled (OfDebug d) = debug.damaged-relabelled f d
-  damaged-relabelled (OfProfile p) = refl
+  damaged-relabelled r = refl
 
   pub rows-relabelled : (r : Region L) → rows_in (region_with_labels f r) ≡ rows_in r
-  rows-relabelled (OfBest l) = refl
-  rows-relabelled (OfPool p) = refl
-  rows-relabelled (OfLast l) = refl
-  rows-relabelled (OfDebug d) = refl
   rows-relabelled (OfProfile p) = profile_rows-relabel f p
+  rows-relabelled r = refl
 
   pub compact_count-relabelled : (r : Region L) → region_compact_count (region_with_labels f r) ≡ region_compact_count r
   compact_count-relabelled (OfBest l) = compact_count-relabel f l

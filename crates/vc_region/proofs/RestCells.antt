@@ -5,7 +5,7 @@ use Rattle.vc_seg.specs.declared.method.Method.{Method}
 use Rattle.vc_seg.specs.declared.method.Method.TheVariants.{VmBest}
 use Rattle.vc_best.specs.Cells.{cells_of, without_cell}
 use Rattle.vc_region.specs.Cells.{no_cells_at_all, region_cells}
-use Rattle.vc_region.specs.Region.{OfBest, OfPool, OfLast, OfDebug, OfProfile, Region, blocks_of, region_clear, region_compact, region_free, region_poke, region_watch, region_write}
+use Rattle.vc_region.specs.Region.{OfBest, Region, blocks_of, region_clear, region_compact, region_free, region_poke, region_watch, region_write}
 use Rattle.vc_region.specs.Stat.{method_of}
 use Rattle.vc_best.proofs.CellBytes.{same-cells}
 use Rattle.vc_best.proofs.CellCalls.{cells-freed, cells-freed-labelled, cells-more, cells-more-labelled, cells-resized-labelled, cells-written-labelled, no-cell}
@@ -18,10 +18,7 @@ cells_by v bs = cond v (cells_of bs) no_cells_at_all
 
 pub cells-by : (r : Region ℕ) → region_cells r ≡ cells_by (has_cells (method_of r)) (blocks_of r)
 cells-by (OfBest l) = refl
-cells-by (OfPool p) = refl
-cells-by (OfLast l) = refl
-cells-by (OfDebug d) = refl
-cells-by (OfProfile p) = refl
+cells-by r = refl
 
 -- where the lists of the blocks show the same cells, two regions of the same method do
 module _ (r r' : Region ℕ) (method : method_of r' ≡ method_of r) where
@@ -51,18 +48,12 @@ module _ (r r' : Region ℕ) (method : method_of r' ≡ method_of r) where
 -- a labelled block is written
 pub write-cells_kept : (r : Region ℕ) (a off : ℕ) (src : List ℕ) (label : ℕ) → label ≢ 0 → option_map (λ b. b.label) (find_block (place_of a) (blocks_of r)) ≡ Some label → region_cells (region_write r (place_of a) off src) ≡ region_cells r
 write-cells_kept (OfBest l) a off src label labelled is = cells-written-labelled l a off src (no-cell l.blocks a label is labelled)
-write-cells_kept (OfPool p) a off src label labelled is = refl
-write-cells_kept (OfLast l) a off src label labelled is = refl
-write-cells_kept (OfDebug d) a off src label labelled is = refl
-write-cells_kept (OfProfile p) a off src label labelled is = refl
+write-cells_kept r a off src label labelled is = refl
 
 -- a labelled block goes, or any one
 without-cells_kept : (r : Region ℕ) (a label : ℕ) → label ≢ 0 → HaveOwnPlaces (blocks_of r) → option_map (λ b. b.label) (find_block (place_of a) (blocks_of r)) ≡ Some label → region_cells (without_block_in r (place_of a)) ≡ region_cells r
 without-cells_kept (OfBest l) a label labelled own is = cells-freed-labelled l a own (no-cell l.blocks a label is labelled)
-without-cells_kept (OfPool p) a label labelled own is = refl
-without-cells_kept (OfLast l) a label labelled own is = refl
-without-cells_kept (OfDebug d) a label labelled own is = refl
-without-cells_kept (OfProfile p) a label labelled own is = refl
+without-cells_kept r a label labelled own is = refl
 
 none-less : (a : ℕ) → no_cells_at_all ≡ without_cell a no_cells_at_all
 none-less a =
@@ -71,10 +62,7 @@ none-less a =
 
 without-cell : (r : Region ℕ) (a : ℕ) → HaveOwnPlaces (blocks_of r) → region_cells (without_block_in r (place_of a)) ≡ without_cell a (region_cells r)
 without-cell (OfBest l) a own = cells-freed l a own
-without-cell (OfPool p) a own = none-less a
-without-cell (OfLast l) a own = none-less a
-without-cell (OfDebug d) a own = none-less a
-without-cell (OfProfile p) a own = none-less a
+without-cell r a own = none-less a
 
 pub free-cells_kept : (r r' : Region ℕ) (a label : ℕ) → label ≢ 0 → HaveOwnPlaces (blocks_of r) → option_map (λ b. b.label) (find_block (place_of a) (blocks_of r)) ≡ Some label → region_free r (place_of a) ≡ Done r' → region_cells r' ≡ region_cells r
 free-cells_kept r r' a label labelled own is done = ap region_cells (freed-region r (place_of a) r' done) ∙ without-cells_kept r a label labelled own is
@@ -85,29 +73,17 @@ free-cell r r' a own done = ap region_cells (freed-region r (place_of a) r' done
 -- all blocks go
 pub clear-cells : (r : Region ℕ) → region_cells (region_clear r) ≡ no_cells_at_all
 clear-cells (OfBest l) = refl
-clear-cells (OfPool p) = refl
-clear-cells (OfLast l) = refl
-clear-cells (OfDebug d) = refl
-clear-cells (OfProfile p) = refl
+clear-cells r = refl
 
 -- no block changes that shows as a cell
 pub compact-cells : (r : Region ℕ) → region_cells (region_compact r) ≡ region_cells r
 compact-cells (OfBest l) = refl
-compact-cells (OfPool p) = refl
-compact-cells (OfLast l) = refl
-compact-cells (OfDebug d) = refl
-compact-cells (OfProfile p) = refl
+compact-cells r = refl
 
 pub poke-cells : (r : Region ℕ) (at : ℕ × ℕ) (off : ℤ) (byte : ℕ) → region_cells (region_poke r at off byte) ≡ region_cells r
 poke-cells (OfBest l) at off byte = refl
-poke-cells (OfPool p) at off byte = refl
-poke-cells (OfLast l) at off byte = refl
-poke-cells (OfDebug d) at off byte = refl
-poke-cells (OfProfile p) at off byte = refl
+poke-cells r at off byte = refl
 
 pub watch-cells : (r : Region ℕ) (at : ℕ × ℕ) (line : ℕ) → region_cells (region_watch r at line) ≡ region_cells r
 watch-cells (OfBest l) at line = refl
-watch-cells (OfPool p) at line = refl
-watch-cells (OfLast l) at line = refl
-watch-cells (OfDebug d) at line = refl
-watch-cells (OfProfile p) at line = refl
+watch-cells r at line = refl

@@ -23,10 +23,7 @@ blocks_by v bs = cond v (map block_shown bs) bs
 
 pub rest-blocks : (r : Region ℕ) → blocks_of (rest_of r) ≡ blocks_by (has_cells (method_of r)) (blocks_of r)
 rest-blocks (OfBest l) = refl
-rest-blocks (OfPool p) = refl
-rest-blocks (OfLast l) = refl
-rest-blocks (OfDebug d) = refl
-rest-blocks (OfProfile p) = refl
+rest-blocks r = refl
 
 -- what holds of blocks that show zeros and of blocks as they are holds of those of the rest
 pub by-blocks : (P : List (Block ℕ) → List (Block ℕ) → Type 0) (r : Region ℕ) → ((bs : List (Block ℕ)) → P (map block_shown bs) bs) → ((bs : List (Block ℕ)) → P bs bs) → P (blocks_of (rest_of r)) (blocks_of r)

@@ -44,16 +44,10 @@ write-labels (OfDebug d) at to off src = label-seen user_block (32 + off) src (g
 write-labels (OfProfile p) at to off src = label-seen (relabel_block (λ l. l.0)) off src at to (λ b. refl) (λ b. refl) p.layout.blocks
 
 pub poke-labels : (r : Region ℕ) (at to : ℕ × ℕ) (off : ℤ) (byte : ℕ) → label_at to (blocks_of (region_poke r at off byte)) ≡ label_at to (blocks_of r)
-poke-labels (OfBest l) at to off byte = refl
-poke-labels (OfPool p) at to off byte = refl
-poke-labels (OfLast l) at to off byte = refl
 poke-labels (OfDebug d) at to off byte = label-seen user_block (guarded_offset off) (byte ∷ []) (guarded_place at) to (λ b. refl) (λ b. refl) d.best.blocks
-poke-labels (OfProfile p) at to off byte = refl
+poke-labels r at to off byte = refl
 
 -- a watch changes no block
 pub watch-blocks : (r : Region ℕ) (at : ℕ × ℕ) (line : ℕ) → blocks_of (region_watch r at line) ≡ blocks_of r
 watch-blocks (OfBest l) at line = refl
-watch-blocks (OfPool p) at line = refl
-watch-blocks (OfLast l) at line = refl
-watch-blocks (OfDebug d) at line = refl
-watch-blocks (OfProfile p) at line = refl
+watch-blocks r at line = refl

@@ -1,9 +1,12 @@
 -- The parts of a region of one of the methods.
-use Rattle.std.specs.Prelude.{ℕ, List}
+use Rattle.std.specs.Prelude.{ℕ, List, Result}
 use Rattle.std.specs.declared.dyn_box.DynBox.{DynBox}
 use Rattle.std.specs.declared.alloc.Global.{Global}
 use Rattle.vc_model.specs.Discipline.{Discipline}
 use Rattle.vc_model.specs.Layout.{Block}
+use Rattle.vc_base.specs.declared.addr.Addr.{Addr}
+use Rattle.vc_seg.specs.declared.fault.RegionFault.{RegionFault}
+use Rattle.vc_seg.specs.Answer.{Asks}
 use Rattle.vc_seg.specs.Boxed.{disc_in_box}
 use Rattle.vc_best.specs.Parts.{layout_of}
 use Rattle.vc_last.specs.Parts.{layout_of as last_of}
@@ -41,3 +44,8 @@ segments_in r = model.segments_of (region_of r)
 -- its blocks
 abbrev pub blocks_in : {I : Type 0} {V : I → Type 0} → Region I V → List (Block ℕ)
 blocks_in r = model.blocks_of (region_of r)
+
+-- what a call that puts or keeps a block leaves of the discipline, where a segment may be asked for, for a block of that size and alignment
+abbrev pub AsksOfDisc : {I : Type 0} {V : I → Type 0} → ((x : I) × V x → Discipline) → Result Addr RegionFault → Region I V → Region I V → ℕ → ℕ → Type 0
+AsksOfDisc meaning result old new size align =
+    Asks result (disc_in meaning old) (disc_in meaning new) (segments_in old) (segments_in new) (model.region_need (disc_in meaning old).terms (region_of old) size align)

@@ -1,9 +1,9 @@
 ghost use Rattle.std.specs.Prelude.{◌≤◌, IfOk, IsErrOf, IsTrue, length};
 ghost use Rattle.vc_base.specs.Prelude.{HasOut, IsAlign};
-ghost use Rattle.vc_region.specs.Region.{AsksForMemory, aligns, region_align, region_alloc, region_need};
-ghost use Rattle.vc_seg.specs.Answer.{Answers, Asks};
+ghost use Rattle.vc_region.specs.Region.{AsksForMemory, aligns, region_align, region_alloc};
+ghost use Rattle.vc_seg.specs.Answer.{Answers};
 ghost use Rattle.vc_seg.specs.OneBlock.{IsBlockPut, IsSize};
-ghost use Rattle.vc_region.specs.Parts.{blocks_in, disc_in, region_of, segments_in};
+ghost use Rattle.vc_region.specs.Parts.{AsksOfDisc, blocks_in, disc_in, region_of, segments_in};
 
 use crate::region::{Region, Uncounted};
 use vc_base::{Addr, Steps};
@@ -23,9 +23,7 @@ impl Region {
         ensures answer { Answers (region_alloc (disc_in state self.old).terms
             (region_of self.old) tag site.now size)
             result (region_of self.old) (region_of self.new) }
-        ensures disc { Asks result (disc_in state self.old) (disc_in state self.new)
-            (segments_in self.old) (segments_in self.new)
-            (region_need (disc_in state self.old).terms (region_of self.old) size 32) }
+        ensures disc { AsksOfDisc state result self.old self.new size 32 }
         ensures no_memory { IsErrOf result RegionFault.OutOfMemory
             → AsksForMemory (disc_in state self.old).terms (region_of self.old) size 32 }
 
@@ -63,9 +61,7 @@ impl Region {
         ensures answer { Answers (region_align (disc_in state self.old).terms
             (region_of self.old) tag site.now size align)
             result (region_of self.old) (region_of self.new) }
-        ensures disc { Asks result (disc_in state self.old) (disc_in state self.new)
-            (segments_in self.old) (segments_in self.new)
-            (region_need (disc_in state self.old).terms (region_of self.old) size align) }
+        ensures disc { AsksOfDisc state result self.old self.new size align }
         ensures no_memory { IsErrOf result RegionFault.OutOfMemory
             → IsTrue (aligns (region_of self.old)) }
         ensures no_place { IsErrOf result RegionFault.OutOfMemory

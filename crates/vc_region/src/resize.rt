@@ -2,11 +2,11 @@ ghost use Rattle.std.specs.Prelude.{◌≡◌, IfOk, IsErrOf};
 ghost use Rattle.vc_base.specs.Prelude.{place_of, HasOut, HasBlock};
 ghost use Rattle.vc_model.specs.Pool.{pool_resize};
 ghost use Rattle.vc_region.specs.Region.{RegionAsksToMove, region_need, region_resize};
-ghost use Rattle.vc_seg.specs.Answer.{Answers, Asks};
+ghost use Rattle.vc_seg.specs.Answer.{Answers};
 ghost use Rattle.vc_seg.specs.OneBlock.{IsBlockKept, IsSize};
 ghost use Rattle.vc_pool.specs.Parts.{pool_of};
 ghost use Rattle.vc_seg.specs.Boxed.{disc_in_box};
-ghost use Rattle.vc_region.specs.Parts.{blocks_in, disc_in, region_of, segments_in};
+ghost use Rattle.vc_region.specs.Parts.{AsksOfDisc, blocks_in, disc_in, region_of, segments_in};
 
 use crate::region::{Region, Uncounted};
 use vc_base::{Addr, Steps};
@@ -46,9 +46,7 @@ impl Region {
             (region_resize (disc_in state self.old).terms
             (region_of self.old) (place_of a.0) size may_move)
             result (region_of self.old) (region_of self.new) }
-        ensures disc { Asks result (disc_in state self.old) (disc_in state self.new)
-            (segments_in self.old) (segments_in self.new)
-            (region_need (disc_in state self.old).terms (region_of self.old) size 32) }
+        ensures disc { AsksOfDisc state result self.old self.new size 32 }
         ensures no_memory { IsErrOf result RegionFault.OutOfMemory
             → RegionAsksToMove (disc_in state self.old).terms
             (region_of self.old) a.0 size may_move }
