@@ -1,8 +1,7 @@
 -- A set or bag gets another table: a block that is put, and the one before it goes.
-use Rattle.vc_base.proofs.Common.{◌≡◌, ℕ, ◌*◌, true, false, ◌≢◌, List, [], ◌∷◌, map, length, replicate, is_some, if◌then◌else◌, IsSome, Some, None, Option, unwrap_or, sym, refl, ap, ◌∙◌, subst, inl, inr, ⊎_elim, true≢false, arith, ne_eqb, eqb_tells, cases_Bool, length-replicate, AllByRecursion, Blocks, body_of, contains, some_address}
+use Rattle.vc_base.proofs.Common.{◌≡◌, ℕ, ◌*◌, true, false, ◌≢◌, List, [], ◌∷◌, map, length, is_some, if◌then◌else◌, IsSome, Some, None, Option, unwrap_or, sym, refl, ap, ◌∙◌, subst, inl, inr, true≢false, arith, ne_eqb, eqb_tells, length-replicate, AllByRecursion, Blocks, body_of, contains, some_address}
 use Rattle.vc_base.specs.declared.dict_method.DictMethod.{DictMethod}
 use Rattle.vc_base.specs.declared.addr.Addr.{Addr}
-use Rattle.vc_base.proofs.CellsLemmas.{put_other, put_same}
 use Rattle.vc_base.proofs.Members.{apart-cons}
 use Rattle.vc_dtdisc.specs.Finds.{object_at}
 use Rattle.vc_dtdisc.specs.Objects.{Object}
@@ -10,7 +9,7 @@ use Rattle.vc_dtdisc.specs.Rules.{IsObject, Rules}
 use Rattle.vc_dict.specs.Listed.{holders_of}
 use Rattle.vc_dict.specs.Stands.{Adopted, CanAdopt, Stands, slots_in, table_in}
 use Rattle.vc_dict.specs.declared.dict.Dict.{Dict}
-use Rattle.vc_dict.proofs.OwnLemmas.{Stands-own, Stands-table, holder-there, holders-told, table-apart}
+use Rattle.vc_dict.proofs.OwnLemmas.{Stands-own, Stands-table, holders-told, table-apart}
 use Rattle.vc_objects.specs.Objects.{Dictionary, Table, own_blocks}
 use Rattle.vc_objects.specs.Unlabelled.{MakesCell}
 use Rattle.vc_objects.specs.Parts.{CanGrow, IsWhole, dictionary_of, object_of, table_of}

@@ -1,5 +1,5 @@
 -- A holder is put, and joins a dictionary.
-use Rattle.vc_base.proofs.Common.{◌≡◌, ℕ, ◌+◌, Bool, true, false, ◌≢◌, List, [], ◌∷◌, map, length, drop, replicate, is_some, IsSome, Some, None, unwrap_or, sym, refl, ap, ◌∙◌, subst, inl, inr, ⊎_elim, true≢false, arith, length-drop, take_all, eqb_tells, cases_Bool, length-replicate, AllByRecursion, Blocks, HasBytes, IsHolder, body_of, bytes_at, contains, some_address, has_table, is_list, is_set, with_bytes}
+use Rattle.vc_base.proofs.Common.{◌≡◌, ℕ, ◌+◌, Bool, true, false, ◌≢◌, List, [], ◌∷◌, map, length, drop, replicate, is_some, Some, None, unwrap_or, sym, refl, ap, ◌∙◌, subst, inl, inr, ⊎_elim, true≢false, arith, length-drop, take_all, eqb_tells, cases_Bool, length-replicate, AllByRecursion, Blocks, HasBytes, IsHolder, body_of, bytes_at, contains, some_address, has_table, is_list, is_set, with_bytes}
 use Rattle.vc_base.specs.declared.addr.Addr.{Addr}
 use Rattle.vc_base.specs.Cells.{with_body}
 use Rattle.vc_base.proofs.CellsLemmas.{put_other, put_same, window_same}
@@ -14,7 +14,7 @@ use Rattle.vc_base.proofs.Members.{apart-cons, within-tail}
 use Rattle.vc_dict.specs.Stands.{Became, CanLink, Stands, slots_in, table_in}
 use Rattle.vc_dict.specs.declared.dict.Dict.{Dict}
 use Rattle.vc_dict.proofs.CurrentLemmas.{apart-linked, within-linked}
-use Rattle.vc_dict.proofs.OwnLemmas.{Stands-own, Stands-table, holder-there, holders-told, table-apart}
+use Rattle.vc_dict.proofs.OwnLemmas.{Stands-own, holders-told, table-apart}
 use Rattle.vc_objects.specs.Insert.{slots_wanted, with_object}
 use Rattle.vc_objects.specs.Objects.{own_blocks}
 use Rattle.vc_objects.specs.Unlabelled.{MakesCell}

@@ -1,4 +1,4 @@
-use Rattle.vc_base.proofs.Common.{◌≡◌, ℕ, Some, None, Option, option_map, sym, refl, ap, ◌∙◌, arith, Discipline}
+use Rattle.vc_base.proofs.Common.{◌≡◌, ℕ, Some, None, Option, sym, refl, ap, ◌∙◌, arith, Discipline}
 use Rattle.vc_dtdisc.specs.Objects.{Object}
 use Rattle.vc_dtdisc.specs.Finding.{first_of}
 use Rattle.vc_dtdisc.specs.Rules.{gone_after}
@@ -10,7 +10,6 @@ use Rattle.vc_objects.specs.Objects.{option_list}
 use Rattle.vc_objects.specs.Parts.{dictionary_in, object_of}
 use Rattle.vc_objects.specs.Remove.{Removed, remove_found}
 use Rattle.vc_objects.proofs.Looking.{Looks-became}
-use Rattle.vc_objects.proofs.Mapped.{first-mapped}
 use Rattle.vc_objects.proofs.Taken.{IsTaken, dict-after, first-object, holder-stays, leaves-taken, object-stays, region-taken, taken-first}
 use Rattle.vc_objects.proofs.emptying.take_one.Given.{Over}
 use Rattle.vc_objects.proofs.emptying.take_one.Goals as goal

@@ -1,10 +1,9 @@
-use Rattle.vc_base.proofs.Common.{true, option_map, sym, ap, ◌∙◌}
+use Rattle.vc_base.proofs.Common.{true}
 use Rattle.vc_dtdisc.specs.Finding.{first_of}
 use Rattle.vc_dict.specs.Listed.{holders_of}
 use Rattle.vc_best.specs.Cells.{cells_in}
-use Rattle.vc_objects.specs.Parts.{dictionary_in, object_of}
+use Rattle.vc_objects.specs.Parts.{dictionary_in}
 use Rattle.vc_objects.proofs.Looking.{Looks-became}
-use Rattle.vc_objects.proofs.Mapped.{first-mapped}
 use Rattle.vc_objects.proofs.Taken.{IsTaken, first-object, holder-stays, object-small, taken-first, takes-found, takes-none}
 use Rattle.vc_objects.proofs.removing.remove_first.Given.{Over}
 use Rattle.vc_objects.proofs.removing.remove_first.Goals as goal
