@@ -31,7 +31,7 @@ say() {
 
 took() {
     seconds=$(($(date +%s) - $1))
-    if [ "$seconds" -ge 120 ]; then echo "$((seconds / 60)) minutes"; elif [ "$seconds" -eq 1 ]; then echo "1 second"; else echo "$seconds seconds"; fi
+    if [ "$seconds" -eq 1 ]; then echo "1 second"; else echo "$seconds seconds"; fi
 }
 
 ended() {

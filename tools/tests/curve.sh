@@ -116,3 +116,21 @@ for script in "$here/../examples/trace.vm" refusals.vm curve.vm; do
 done
 said -s stack.vm
 check "curve of sites: no text crosses what is drawn" strips drawn.svg
+
+# All regions together.
+printf '%s\n' 'open r best 1' 'open s pool 2' 'alloc r a 100 @one' 'alloc s a 50 @one' 'alloc s b 40 @two' 'clear r' 'alloc r a 30 @two' \
+    'close s' 'alloc s a 1 @one' > regions.vm
+said -a regions.vm
+check "curve of all regions: the peak is that of the sum" grep -q '>peak: 190 bytes live behind line 5; 9 lines, 9 points<' drawn.svg
+check "curve of all regions: each point is the sum of their numbers" \
+    grep -q '<title>behind line 7: 120 bytes live, extent 8,192, waste 8,072<' drawn.svg
+check "curve of all regions: what was refused" \
+    same "$status $(cat drawn.said)" "3 curve: 1 of 9 commands was refused, the first at line 9: no region"
+said -as regions.vm
+check "curve of all regions by sites" \
+    grep -q '>one: at most 150 bytes, 150 at the peak (78.9 %), 0 at the end<' drawn.svg
+said regions.vm
+check "curve of the first region alone" grep -q '>peak: 100 bytes live behind line 3; 9 lines, 9 points<' drawn.svg
+{ cat regions.vm; echo frob; } > bad.vm
+said -a -n 4 bad.vm
+check "curve of all regions: a bad line is told by its own number" same "$status $(cat drawn.said)" "1 curve: vmreplay: line 10: unknown command"
