@@ -489,8 +489,15 @@ static void forget(struct block *block)
 
 static int has_sites;
 
-/* What of a file is mapped, and the file itself, so that its symbols can be read. The mapping is known by its line in the list
-   of mappings. */
+/* A function of a file, with its place among the symbols there. */
+struct function {
+    uintptr_t from, size;
+    const char *name;
+    size_t order;
+};
+
+/* What of a file is mapped, and the file itself with its functions by their places, which are read when the first is looked for.
+   The mapping is known by its line in the list of mappings. */
 struct module {
     uintptr_t from, to;
     size_t offset;
@@ -498,7 +505,9 @@ struct module {
     char name[64];
     const char *bytes;
     size_t size, mapped;
-    int is_seen;
+    struct function *functions;
+    size_t function_count;
+    int is_read, is_seen;
 };
 
 static struct module modules[512];
@@ -653,16 +662,15 @@ static int role_of(const char *name)
     return IS_SITE;
 }
 
-/* The name of the function at this place by the file's symbols, of which a table for linking holds more than the other; and
-   its role, which any of its names may tell. */
-static const char *function_at(const struct module *module, uintptr_t place, int *role)
+/* Hands the functions of a file on, from a table for linking, which holds more than the other, and then from that. Answers how
+   many there are. */
+static size_t each_function(const struct module *module, struct function *to)
 {
     static const uint32_t kinds[] = { SHT_SYMTAB, SHT_DYNSYM };
     const ElfW(Ehdr) *head = (const void *)module->bytes;
-    const char *found = NULL;
-    size_t kind, i, k;
-    if (!is_in(module, 0, sizeof *head) || head->e_shentsize != sizeof(ElfW(Shdr))) return NULL;
-    if (!is_in(module, head->e_shoff, head->e_shnum * sizeof(ElfW(Shdr)))) return NULL;
+    size_t count = 0, kind, i, k;
+    if (!is_in(module, 0, sizeof *head) || head->e_shentsize != sizeof(ElfW(Shdr))) return 0;
+    if (!is_in(module, head->e_shoff, head->e_shnum * sizeof(ElfW(Shdr)))) return 0;
     for (kind = 0; kind < 2; kind++) {
         const ElfW(Shdr) *parts = (const void *)(module->bytes + head->e_shoff);
         for (i = 0; i < head->e_shnum; i++) {
@@ -674,17 +682,63 @@ static const char *function_at(const struct module *module, uintptr_t place, int
             for (k = 0; k < parts[i].sh_size / sizeof *symbols; k++) {
                 const ElfW(Sym) *symbol = &symbols[k];
                 int type = ELF64_ST_TYPE(symbol->st_info);
-                const char *name = module->bytes + names->sh_offset + symbol->st_name;
-                if (place < symbol->st_value || place - symbol->st_value >= symbol->st_size) continue;
-                if ((type != STT_FUNC && type != STT_GNU_IFUNC) || symbol->st_shndx == SHN_UNDEF) continue;
-                if (symbol->st_name >= names->sh_size || !memchr(name, 0, names->sh_size - symbol->st_name)) continue;
-                if (!found) found = name;
-                if (!*role) *role = role_of(name);
-                if (*role || !wrapper_count) return found;
+                if ((type != STT_FUNC && type != STT_GNU_IFUNC) || symbol->st_shndx == SHN_UNDEF || !symbol->st_size) continue;
+                if (symbol->st_name >= names->sh_size) continue;
+                if (to) {
+                    const char *name = module->bytes + names->sh_offset + symbol->st_name;
+                    if (!memchr(name, 0, names->sh_size - symbol->st_name)) name = "";
+                    to[count] = (struct function){ symbol->st_value, symbol->st_size, name, count };
+                }
+                count++;
             }
         }
     }
-    return found;
+    return count;
+}
+
+static int compare_functions(const void *a, const void *b)
+{
+    const struct function *left = a, *right = b;
+    if (left->from != right->from) return left->from < right->from ? -1 : 1;
+    return left->order < right->order ? -1 : left->order > right->order;
+}
+
+static void read_functions(struct module *module)
+{
+    size_t count = each_function(module, NULL);
+    module->is_read = 1;
+    if (count) module->functions = pages(count * sizeof *module->functions);
+    if (!module->functions) return;
+    module->function_count = each_function(module, module->functions);
+    qsort(module->functions, count, sizeof *module->functions, compare_functions);
+}
+
+/* The name of the function at this place, the first of those that it has, and its role, which any of them may tell. */
+static const char *function_at(struct module *module, uintptr_t place, int *role)
+{
+    enum { NESTED = 100 };
+    const struct function *all, *found;
+    const char *name;
+    size_t low = 0, high, i;
+    if (!module->is_read) read_functions(module);
+    all = module->functions;
+    high = module->function_count;
+    while (low < high) {
+        size_t middle = low + (high - low) / 2;
+        if (all[middle].from <= place) low = middle + 1;
+        else high = middle;
+    }
+    /* The last that begins at the place or before it, where it goes so far; else one that it lies in. */
+    for (i = 0; i < low && i < NESTED && place - all[low - 1 - i].from >= all[low - 1 - i].size; i++) continue;
+    if (i == low || i == NESTED) return NULL;
+    found = &all[low - 1 - i];
+    while (found > all && found[-1].from == found->from && place - found->from < found[-1].size) found--;
+    name = found->name;
+    for (; found < all + module->function_count && found->from <= place && !*role; found++) {
+        if (found->from != all[low - 1 - i].from) break;
+        *role = role_of(found->name);
+    }
+    return *name ? name : NULL;
 }
 
 /* The role of a function of C++ by its readable name, which may have a type in front and has parameters behind it. */
@@ -1001,7 +1055,10 @@ static void forget_unmapped(void)
     each_mapping(see_mapping, 0);
     for (i = 0; i < module_count; i++) {
         if (modules[i].is_seen) modules[kept++] = modules[i];
-        else if (modules[i].bytes) munmap((void *)modules[i].bytes, modules[i].mapped);
+        else {
+            if (modules[i].bytes) munmap((void *)modules[i].bytes, modules[i].mapped);
+            if (modules[i].functions) munmap(modules[i].functions, modules[i].function_count * sizeof *modules[i].functions);
+        }
     }
     if (kept < module_count) {
         module_count = kept;
