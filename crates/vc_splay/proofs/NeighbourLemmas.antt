@@ -172,43 +172,52 @@ before_by c (Node a n b) h k =
     rw (ne_eqb n 0 (λ e. true≢false (sym m ∙ ap (contains (names (Node a n b))) e ∙ k)))
     (last_name (Node a n b) n k refl ∙ last_both (names a) (names b) n ∙ sym (ap last_in (sym (append_assoc (before c) (names a) (n ∷ names b))) ∙ last_both (before c ++ names a) (names b) n))
 
-pub next_by : (s : Store) (root at : ℕ) (t : Tree) (result : ℕ) → s.has 0 ≡ false → IsTree s root t → contains (names t) at ≡ true
-    → ((c : Context) (l r : Tree) → IsPart s c (Node l at r) → result ≡ neighbour false c l r) → some_address result ≡ next_in at (names t)
-next_by s root at t result none h within k =
+-- a tree and its list at one of its names
+record IsCutAt (s : Store) (at : ℕ) (t : Tree) : Type 0 where
+  pub context : Context
+  pub left : Tree
+  pub right : Tree
+  pub part : IsPart s context (Node left at right)
+  pub list : names t ≡ (before context ++ names left) ++ at ∷ (names right ++ behind context)
+  pub free : contains ((before context ++ names left) ++ at ∷ (names right ++ behind context)) 0 ≡ false
+  pub once : contains (before context ++ names left) at ≡ false
+
+cut_at : (s : Store) (root at : ℕ) (t : Tree) → s.has 0 ≡ false → IsTree s root t → contains (names t) at ≡ true → IsCutAt s at t
+cut_at s root at t none h within =
     let p = place t at (tally-within at t within) in
     let back : t ≡ plug p.context (Node p.left at p.right) = sym p.whole in
-    let part : IsPart s p.context (Node p.left at p.right) = record {
-      stands = subst (λ z. Stands s 0 z) back h.stands;
-      distinct = subst (λ z. AreDistinct (names z)) back h.distinct;
-    } in
     let xs = before p.context ++ names p.left in
     let ys = names p.right ++ behind p.context in
     let list : names t ≡ xs ++ at ∷ ys = ap names back ∙ names_round p.context p.left at p.right in
-    let free : contains (xs ++ at ∷ ys) 0 ≡ false = subst (λ z. contains z 0 ≡ false) list (no_zero s 0 t none h.stands) in
-    let rest : contains ys 0 ≡ false = apart-tail at ys 0 (apart_rest xs (at ∷ ys) free) in
-    let once : contains xs at ≡ false = first-apart xs at ys (subst AreDistinct list h.distinct) in
-    ap some_address (k p.context p.left p.right part)
+    record {
+      context = p.context;
+      left = p.left;
+      right = p.right;
+      part = record { stands = subst (λ z. Stands s 0 z) back h.stands; distinct = subst (λ z. AreDistinct (names z)) back h.distinct };
+      list = list;
+      free = subst (λ z. contains z 0 ≡ false) list (no_zero s 0 t none h.stands);
+      once = first-apart xs at ys (subst AreDistinct list h.distinct);
+    }
+
+pub next_by : (s : Store) (root at : ℕ) (t : Tree) (result : ℕ) → s.has 0 ≡ false → IsTree s root t → contains (names t) at ≡ true
+    → ((c : Context) (l r : Tree) → IsPart s c (Node l at r) → result ≡ neighbour false c l r) → some_address result ≡ next_in at (names t)
+next_by s root at t result none h within k =
+    let p = cut_at s root at t none h within in
+    let ys = names p.right ++ behind p.context in
+    let rest : contains ys 0 ≡ false = apart-tail at ys 0 (apart_rest (before p.context ++ names p.left) (at ∷ ys) p.free) in
+    ap some_address (k p.context p.left p.right p.part)
     ∙ behind_by p.context p.right rest (apart_first (names p.right) (behind p.context) rest)
-    ∙ sym (ap (next_in at) list ∙ next_in-split xs at ys once)
+    ∙ sym (ap (next_in at) p.list ∙ next_in-split (before p.context ++ names p.left) at ys p.once)
 
 pub previous_by : (s : Store) (root at : ℕ) (t : Tree) (result : ℕ) → s.has 0 ≡ false → IsTree s root t → contains (names t) at ≡ true
     → ((c : Context) (l r : Tree) → IsPart s c (Node l at r) → result ≡ neighbour true c l r) → some_address result ≡ previous_in None at (names t)
 previous_by s root at t result none h within k =
-    let p = place t at (tally-within at t within) in
-    let back : t ≡ plug p.context (Node p.left at p.right) = sym p.whole in
-    let part : IsPart s p.context (Node p.left at p.right) = record {
-      stands = subst (λ z. Stands s 0 z) back h.stands;
-      distinct = subst (λ z. AreDistinct (names z)) back h.distinct;
-    } in
+    let p = cut_at s root at t none h within in
     let xs = before p.context ++ names p.left in
-    let ys = names p.right ++ behind p.context in
-    let list : names t ≡ xs ++ at ∷ ys = ap names back ∙ names_round p.context p.left at p.right in
-    let free : contains (xs ++ at ∷ ys) 0 ≡ false = subst (λ z. contains z 0 ≡ false) list (no_zero s 0 t none h.stands) in
-    let front : contains xs 0 ≡ false = apart_first xs (at ∷ ys) free in
-    let once : contains xs at ≡ false = first-apart xs at ys (subst AreDistinct list h.distinct) in
-    ap some_address (k p.context p.left p.right part)
+    let front : contains xs 0 ≡ false = apart_first xs (at ∷ (names p.right ++ behind p.context)) p.free in
+    ap some_address (k p.context p.left p.right p.part)
     ∙ before_by p.context p.left front (apart_rest (before p.context) (names p.left) front)
-    ∙ sym (ap (previous_in None at) list ∙ previous_in-split xs at ys once)
+    ∙ sym (ap (previous_in None at) p.list ∙ previous_in-split xs at (names p.right ++ behind p.context) p.once)
 
 -- what a step to a neighbour knows of the place
 at_place : (s : Store) (c : Context) (l : Tree) (at : ℕ) (r : Tree) → IsPart s c (Node l at r) → Stands s (name_at c) (Node l at r)

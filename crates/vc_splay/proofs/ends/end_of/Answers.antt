@@ -8,8 +8,7 @@ loop-next-init g c = λ context tree p e. descent_start (g.N.Links.store c.args.
 pub kid-next-requires : goal.kid-next-requires
 kid-next-requires g c =
     let s = g.N.Links.store c.args.nodes.now in
-    let r = c.requires in
-    (descent_next s c.args.side c.args.top c.loop-next.at c.loop-next.next r.tree (g.met.N.Links.none c.args.nodes.now) (c.loop-next.invariant r.context r.tree r.part r.top) c.loop-next-test.true).held
+    (descent_next s c.args.side c.args.top c.loop-next.at c.loop-next.next c.requires.tree (g.met.N.Links.none c.args.nodes.now) (c.loop-next.invariant c.requires.context c.requires.tree c.requires.part c.requires.top) c.loop-next-test.true).held
 
 pub loop-next-preserved : goal.loop-next-preserved
 loop-next-preserved g c = λ context tree p e.
@@ -20,10 +19,9 @@ loop-next-preserved g c = λ context tree p e.
 pub loop-next-smaller : goal.loop-next-smaller
 loop-next-smaller g c =
     let s = g.N.Links.store c.args.nodes.now in
-    let r = c.requires in
     rw c.kid-next.ensures
-    ((descent_next s c.args.side c.args.top c.loop-next.at c.loop-next.next r.tree (g.met.N.Links.none c.args.nodes.now) (c.loop-next.invariant r.context r.tree r.part r.top) c.loop-next-test.true).less
-    (part_fits s r.context r.tree (g.met.N.Links.fits c.args.nodes.now) r.part))
+    ((descent_next s c.args.side c.args.top c.loop-next.at c.loop-next.next c.requires.tree (g.met.N.Links.none c.args.nodes.now) (c.loop-next.invariant c.requires.context c.requires.tree c.requires.part c.requires.top) c.loop-next-test.true).less
+    (part_fits s c.requires.context c.requires.tree (g.met.N.Links.fits c.args.nodes.now) c.requires.part))
 
 pub returns : goal.returns
 returns g c = λ context tree p e.

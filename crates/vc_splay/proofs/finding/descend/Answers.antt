@@ -13,13 +13,11 @@ loop-at-init g c = (
 
 pub side-answer-requires : goal.side-answer-requires
 side-answer-requires g c =
-    let r = c.requires.tree in
-    (search_next (g.N.Nodes.store c.args.nodes.now) (g.G.Guide.side_of c.args.guide.now c.args.nodes.now) r.tree c.loop-at.deepest c.loop-at.least c.loop-at.at c.args.steps.now c.loop-at.steps (g.met.N.Nodes.none c.args.nodes.now) (c.loop-at.invariant.1 r.tree r.is_tree) c.loop-at-test.true).held
+    (search_next (g.N.Nodes.store c.args.nodes.now) (g.G.Guide.side_of c.args.guide.now c.args.nodes.now) c.requires.tree.tree c.loop-at.deepest c.loop-at.least c.loop-at.at c.args.steps.now c.loop-at.steps (g.met.N.Nodes.none c.args.nodes.now) (c.loop-at.invariant.1 c.requires.tree.tree c.requires.tree.is_tree) c.loop-at-test.true).held
 
 pub kid-at-requires : goal.kid-at-requires
 kid-at-requires g c =
-    let r = c.requires.tree in
-    (search_next (g.N.Nodes.store c.args.nodes.now) (g.G.Guide.side_of c.args.guide.now c.args.nodes.now) r.tree c.loop-at.deepest c.loop-at.least c.loop-at.at c.args.steps.now c.loop-at.steps (g.met.N.Nodes.none c.args.nodes.now) (c.loop-at.invariant.1 r.tree r.is_tree) c.loop-at-test.true).held
+    (search_next (g.N.Nodes.store c.args.nodes.now) (g.G.Guide.side_of c.args.guide.now c.args.nodes.now) c.requires.tree.tree c.loop-at.deepest c.loop-at.least c.loop-at.at c.args.steps.now c.loop-at.steps (g.met.N.Nodes.none c.args.nodes.now) (c.loop-at.invariant.1 c.requires.tree.tree c.requires.tree.is_tree) c.loop-at-test.true).held
 
 pub loop-at-preserved : goal.loop-at-preserved
 loop-at-preserved g c =
@@ -42,12 +40,11 @@ pub loop-at-smaller : goal.loop-at-smaller
 loop-at-smaller g c =
     let s = g.N.Nodes.store c.args.nodes.now in
     let side = g.G.Guide.side_of c.args.guide.now c.args.nodes.now in
-    let r = c.requires.tree in
     let left : c.is_ge-left.result ≡ is_ge (side c.loop-at.at) = c.is_ge-left.ensures ∙ ap is_ge c.side-answer.ensures.side in
     let kid : c.kid-at.result ≡ s.kid (is_ge (side c.loop-at.at)) c.loop-at.at = c.kid-at.ensures ∙ ap (λ z. s.kid z c.loop-at.at) left in
     rw kid
-    ((search_next s side r.tree c.loop-at.deepest c.loop-at.least c.loop-at.at c.args.steps.now c.loop-at.steps (g.met.N.Nodes.none c.args.nodes.now) (c.loop-at.invariant.1 r.tree r.is_tree) c.loop-at-test.true).less
-    (names_fit s 0 r.tree (g.met.N.Nodes.fits c.args.nodes.now) r.is_tree.stands r.is_tree.distinct))
+    ((search_next s side c.requires.tree.tree c.loop-at.deepest c.loop-at.least c.loop-at.at c.args.steps.now c.loop-at.steps (g.met.N.Nodes.none c.args.nodes.now) (c.loop-at.invariant.1 c.requires.tree.tree c.requires.tree.is_tree) c.loop-at-test.true).less
+    (names_fit s 0 c.requires.tree.tree (g.met.N.Nodes.fits c.args.nodes.now) c.requires.tree.is_tree.stands c.requires.tree.is_tree.distinct))
 
 pub returns-clause-search : goal.returns-clause-search
 returns-clause-search g c = λ t k.

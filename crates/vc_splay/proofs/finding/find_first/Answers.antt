@@ -12,28 +12,22 @@ returns-then-root-eq0-clause-answer g c = λ t k.
 
 pub reach-requires : goal.reach-requires
 reach-requires g c =
-    let r = c.requires in
     let side = g.G.Guide.side_of c.args.guide.now c.args.nodes.now in
-    let d = c.descend-deepest in
-    let is : c.chosen-found.result ≡ cond (is_found side d.result.1) d.result.1 0 = c.chosen-found.ensures ∙ ap (λ t. cond t d.result.1 0) d.ensures.equal in
-    can_reach (g.N.Nodes.store c.args.nodes.now) side c.args.root d.result.0 c.chosen-found.result d.result.1 c.args.steps.now d.new.steps r.tree r.is_tree (d.ensures.search r.tree r.is_tree)
-    (found_is side d.result.1 c.chosen-found.result is)
+    let is : c.chosen-found.result ≡ cond (is_found side c.descend-deepest.result.1) c.descend-deepest.result.1 0 = c.chosen-found.ensures ∙ ap (λ t. cond t c.descend-deepest.result.1 0) c.descend-deepest.ensures.equal in
+    can_reach (g.N.Nodes.store c.args.nodes.now) side c.args.root c.descend-deepest.result.0 c.chosen-found.result c.descend-deepest.result.1 c.args.steps.now c.descend-deepest.new.steps c.requires.tree c.requires.is_tree (c.descend-deepest.ensures.search c.requires.tree c.requires.is_tree)
+    (found_is side c.descend-deepest.result.1 c.chosen-found.result is)
 
 pub returns-clause-answer : goal.returns-clause-answer
 returns-clause-answer g c = λ t k.
     let side = g.G.Guide.side_of c.args.guide.now c.args.nodes.now in
-    let d = c.descend-deepest in
-    let is : c.chosen-found.result ≡ cond (is_found side d.result.1) d.result.1 0 = c.chosen-found.ensures ∙ ap (λ t. cond t d.result.1 0) d.ensures.equal in
-    first_found (g.N.Nodes.store c.args.nodes.now) side c.args.root d.result.0 d.result.1 c.chosen-found.result c.args.steps.now d.new.steps t
-    (g.met.N.Nodes.none c.args.nodes.now) c.requires k (d.ensures.search t k) is
+    let is : c.chosen-found.result ≡ cond (is_found side c.descend-deepest.result.1) c.descend-deepest.result.1 0 = c.chosen-found.ensures ∙ ap (λ t. cond t c.descend-deepest.result.1 0) c.descend-deepest.ensures.equal in
+    first_found (g.N.Nodes.store c.args.nodes.now) side c.args.root c.descend-deepest.result.0 c.descend-deepest.result.1 c.chosen-found.result c.args.steps.now c.descend-deepest.new.steps t
+    (g.met.N.Nodes.none c.args.nodes.now) c.requires k (c.descend-deepest.ensures.search t k) is
 
 pub returns-clause-least_steps : goal.returns-clause-least_steps
 returns-clause-least_steps g c = λ some.
-    let r = c.requires in
-    let d = c.descend-deepest in
-    least_steps (g.N.Nodes.store c.args.nodes.now) (g.G.Guide.side_of c.args.guide.now c.args.nodes.now) c.args.root d.result.0 d.result.1 c.args.steps.now d.new.steps r.tree r.is_tree some (d.ensures.search r.tree r.is_tree)
+    least_steps (g.N.Nodes.store c.args.nodes.now) (g.G.Guide.side_of c.args.guide.now c.args.nodes.now) c.args.root c.descend-deepest.result.0 c.descend-deepest.result.1 c.args.steps.now c.descend-deepest.new.steps c.requires.tree c.requires.is_tree some (c.descend-deepest.ensures.search c.requires.tree c.requires.is_tree)
 
 pub returns-clause-most_steps : goal.returns-clause-most_steps
 returns-clause-most_steps g c = λ t k.
-    let d = c.descend-deepest in
-    most_steps (g.G.Guide.side_of c.args.guide.now c.args.nodes.now) d.result.0 d.result.1 c.args.steps.now d.new.steps t (d.ensures.search t k)
+    most_steps (g.G.Guide.side_of c.args.guide.now c.args.nodes.now) c.descend-deepest.result.0 c.descend-deepest.result.1 c.args.steps.now c.descend-deepest.new.steps t (c.descend-deepest.ensures.search t k)

@@ -11,16 +11,14 @@ returns-then-root-eq0-clause-answer g c = λ t k.
 
 pub reach-requires : goal.reach-requires
 reach-requires g c =
-    let r = c.requires in
-    can_reach (g.N.Nodes.store c.args.nodes.now) (g.G.Guide.side_of c.args.guide.now c.args.nodes.now) c.args.root c.descend-deepest.result.0 c.descend-deepest.result.1 c.descend-deepest.result.1 c.args.steps.now c.descend-deepest.new.steps r.tree r.is_tree (c.descend-deepest.ensures.search r.tree r.is_tree) (λ some. refl)
+    can_reach (g.N.Nodes.store c.args.nodes.now) (g.G.Guide.side_of c.args.guide.now c.args.nodes.now) c.args.root c.descend-deepest.result.0 c.descend-deepest.result.1 c.descend-deepest.result.1 c.args.steps.now c.descend-deepest.new.steps c.requires.tree c.requires.is_tree (c.descend-deepest.ensures.search c.requires.tree c.requires.is_tree) (λ some. refl)
 
 pub returns-clause-answer : goal.returns-clause-answer
 returns-clause-answer g c = λ t k. (c.descend-deepest.ensures.search t k).first
 
 pub returns-clause-least_steps : goal.returns-clause-least_steps
 returns-clause-least_steps g c = λ some.
-    let r = c.requires in
-    least_steps (g.N.Nodes.store c.args.nodes.now) (g.G.Guide.side_of c.args.guide.now c.args.nodes.now) c.args.root c.descend-deepest.result.0 c.descend-deepest.result.1 c.args.steps.now c.descend-deepest.new.steps r.tree r.is_tree some (c.descend-deepest.ensures.search r.tree r.is_tree)
+    least_steps (g.N.Nodes.store c.args.nodes.now) (g.G.Guide.side_of c.args.guide.now c.args.nodes.now) c.args.root c.descend-deepest.result.0 c.descend-deepest.result.1 c.args.steps.now c.descend-deepest.new.steps c.requires.tree c.requires.is_tree some (c.descend-deepest.ensures.search c.requires.tree c.requires.is_tree)
 
 pub returns-clause-most_steps : goal.returns-clause-most_steps
 returns-clause-most_steps g c = λ t k.

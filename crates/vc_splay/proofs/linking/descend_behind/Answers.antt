@@ -9,13 +9,11 @@ loop-at-init g c = λ t k.
 
 pub side-requires : goal.side-requires
 side-requires g c =
-    let r = c.requires in
-    (seek_next (g.N.Nodes.store c.args.nodes.now) (g.G.Guide.side_of c.args.guide.now c.args.nodes.now) r.tree c.loop-at.above c.loop-at.left c.loop-at.at c.args.steps.now c.loop-at.steps (g.met.N.Nodes.none c.args.nodes.now) (c.loop-at.invariant r.tree r.is_tree) c.loop-at-test.true).held
+    (seek_next (g.N.Nodes.store c.args.nodes.now) (g.G.Guide.side_of c.args.guide.now c.args.nodes.now) c.requires.tree c.loop-at.above c.loop-at.left c.loop-at.at c.args.steps.now c.loop-at.steps (g.met.N.Nodes.none c.args.nodes.now) (c.loop-at.invariant c.requires.tree c.requires.is_tree) c.loop-at-test.true).held
 
 pub kid-at-requires : goal.kid-at-requires
 kid-at-requires g c =
-    let r = c.requires in
-    (seek_next (g.N.Nodes.store c.args.nodes.now) (g.G.Guide.side_of c.args.guide.now c.args.nodes.now) r.tree c.loop-at.above c.loop-at.left c.loop-at.at c.args.steps.now c.loop-at.steps (g.met.N.Nodes.none c.args.nodes.now) (c.loop-at.invariant r.tree r.is_tree) c.loop-at-test.true).held
+    (seek_next (g.N.Nodes.store c.args.nodes.now) (g.G.Guide.side_of c.args.guide.now c.args.nodes.now) c.requires.tree c.loop-at.above c.loop-at.left c.loop-at.at c.args.steps.now c.loop-at.steps (g.met.N.Nodes.none c.args.nodes.now) (c.loop-at.invariant c.requires.tree c.requires.is_tree) c.loop-at-test.true).held
 
 pub loop-at-preserved : goal.loop-at-preserved
 loop-at-preserved g c = λ t k.
@@ -33,12 +31,11 @@ pub loop-at-smaller : goal.loop-at-smaller
 loop-at-smaller g c =
     let s = g.N.Nodes.store c.args.nodes.now in
     let side = g.G.Guide.side_of c.args.guide.now c.args.nodes.now in
-    let r = c.requires in
     let left : c.is_gt-left.result ≡ is_gt (side c.loop-at.at) = c.is_gt-left.ensures ∙ ap is_gt c.side.ensures.side in
     let kid : c.kid-at.result ≡ s.kid (is_gt (side c.loop-at.at)) c.loop-at.at = c.kid-at.ensures ∙ ap (λ z. s.kid z c.loop-at.at) left in
     rw kid
-    ((seek_next s side r.tree c.loop-at.above c.loop-at.left c.loop-at.at c.args.steps.now c.loop-at.steps (g.met.N.Nodes.none c.args.nodes.now) (c.loop-at.invariant r.tree r.is_tree) c.loop-at-test.true).less
-    (names_fit s 0 r.tree (g.met.N.Nodes.fits c.args.nodes.now) r.is_tree.stands r.is_tree.distinct))
+    ((seek_next s side c.requires.tree c.loop-at.above c.loop-at.left c.loop-at.at c.args.steps.now c.loop-at.steps (g.met.N.Nodes.none c.args.nodes.now) (c.loop-at.invariant c.requires.tree c.requires.is_tree) c.loop-at-test.true).less
+    (names_fit s 0 c.requires.tree (g.met.N.Nodes.fits c.args.nodes.now) c.requires.is_tree.stands c.requires.is_tree.distinct))
 
 pub returns : goal.returns
 returns g c = λ t k.

@@ -11,8 +11,7 @@ loop-above-init g c = λ context tree p e.
 
 pub kid-requires : goal.kid-requires
 kid-requires g c =
-    let r = c.requires.part in
-    (ascent_next (g.N.Links.store c.args.nodes.now) c.args.side r.context c.loop-above.below c.loop-above.above (g.met.N.Links.none c.args.nodes.now) (g.met.N.Links.fits c.args.nodes.now) (c.loop-above.invariant r.context r.tree r.part r.top) c.loop-above-test.true).held
+    (ascent_next (g.N.Links.store c.args.nodes.now) c.args.side c.requires.part.context c.loop-above.below c.loop-above.above (g.met.N.Links.none c.args.nodes.now) (g.met.N.Links.fits c.args.nodes.now) (c.loop-above.invariant c.requires.part.context c.requires.part.tree c.requires.part.part c.requires.part.top) c.loop-above-test.true).held
 
 pub returns-then-kid-below : goal.returns-then-kid-below
 returns-then-kid-below g c = λ context tree p e.
@@ -21,8 +20,7 @@ returns-then-kid-below g c = λ context tree p e.
 
 pub up-above-requires-in-loop-above : goal.up-above-requires-in-loop-above
 up-above-requires-in-loop-above g c =
-    let r = c.requires.part in
-    (ascent_next (g.N.Links.store c.args.nodes.now) c.args.side r.context c.loop-above.below c.loop-above.above (g.met.N.Links.none c.args.nodes.now) (g.met.N.Links.fits c.args.nodes.now) (c.loop-above.invariant r.context r.tree r.part r.top) c.loop-above-test.true).held
+    (ascent_next (g.N.Links.store c.args.nodes.now) c.args.side c.requires.part.context c.loop-above.below c.loop-above.above (g.met.N.Links.none c.args.nodes.now) (g.met.N.Links.fits c.args.nodes.now) (c.loop-above.invariant c.requires.part.context c.requires.part.tree c.requires.part.part c.requires.part.top) c.loop-above-test.true).held
 
 pub loop-above-preserved : goal.loop-above-preserved
 loop-above-preserved g c = λ context tree p e.
@@ -34,9 +32,8 @@ loop-above-preserved g c = λ context tree p e.
 pub loop-above-smaller : goal.loop-above-smaller
 loop-above-smaller g c =
     let s = g.N.Links.store c.args.nodes.now in
-    let r = c.requires.part in
     rw c.up-above-in-loop-above.ensures
-    (ascent_next s c.args.side r.context c.loop-above.below c.loop-above.above (g.met.N.Links.none c.args.nodes.now) (g.met.N.Links.fits c.args.nodes.now) (c.loop-above.invariant r.context r.tree r.part r.top) c.loop-above-test.true).less
+    (ascent_next s c.args.side c.requires.part.context c.loop-above.below c.loop-above.above (g.met.N.Links.none c.args.nodes.now) (g.met.N.Links.fits c.args.nodes.now) (c.loop-above.invariant c.requires.part.context c.requires.part.tree c.requires.part.part c.requires.part.top) c.loop-above-test.true).less
 
 pub returns : goal.returns
 returns g c = λ context tree p e.

@@ -13,14 +13,12 @@ in_hand-hand-requires g c = IsIn-held (g.N.Nodes.store c.args.nodes.now) c.args.
 pub rise-requires : goal.rise-requires
 rise-requires g c =
     let k = c.requires in
-    let h = c.in_hand-hand.result in
-    let b = start (g.N.Nodes.store c.args.nodes.now) c.args.root c.args.at h.below h.above h.left h.right k.tree k.is_tree k.within c.in_hand-hand.ensures in
+    let b = start (g.N.Nodes.store c.args.nodes.now) c.args.root c.args.at c.in_hand-hand.result.below c.in_hand-hand.result.above c.in_hand-hand.result.left c.in_hand-hand.result.right k.tree k.is_tree k.within c.in_hand-hand.ensures in
     record { context = b.context; tree = b.part; rising = b.rising }
 
 pub returns-clause-tree : goal.returns-clause-tree
 returns-clause-tree g c = λ t k.
     let s = g.N.Nodes.store c.args.nodes.now in
-    let h = c.in_hand-hand.result in
     let within : contains (names t) c.args.at ≡ true = IsIn-each s c.args.root c.args.at (g.met.N.Nodes.none c.args.nodes.now) c.requires t k in
-    let b = start s c.args.root c.args.at h.below h.above h.left h.right t k within c.in_hand-hand.ensures in
+    let b = start s c.args.root c.args.at c.in_hand-hand.result.below c.in_hand-hand.result.above c.in_hand-hand.result.left c.in_hand-hand.result.right t k within c.in_hand-hand.ensures in
     subst (λ z. TreeAfter s (g.N.Nodes.store c.rise.new.nodes) (names z) c.args.at (names z)) b.whole (c.rise.ensures.tree b.context b.part b.rising)

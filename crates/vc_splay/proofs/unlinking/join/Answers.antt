@@ -16,20 +16,18 @@ returns-then-right-eq0-clause-tree g c = λ front back p.
 
 pub splay-top-requires : goal.splay-top-requires
 splay-top-requires g c =
-    let r = c.requires in
     record {
-      tree = r.front;
-      is_tree = r.pair.front_is;
-      within = last_in_tree r.front c.last-end.result (λ z. c.if-left-eq0.false (r.pair.front_is.top ∙ z)) (c.last-end.ensures r.front r.pair.front_is);
+      tree = c.requires.front;
+      is_tree = c.requires.pair.front_is;
+      within = last_in_tree c.requires.front c.last-end.result (λ z. c.if-left-eq0.false (c.requires.pair.front_is.top ∙ z)) (c.last-end.ensures c.requires.front c.requires.pair.front_is);
     }
 
 pub set_up-requires : goal.set_up-requires
 set_up-requires g c =
-    let r = c.requires in
     let s = g.N.Nodes.store c.splay-top.new.nodes in
     ap (λ (z : Store). z.has c.args.right) c.set_right.ensures.store
     ∙ ap (λ f. f c.args.right) (has_kid false c.splay-top.result c.args.right s ∙ g.met.N.Nodes.names c.args.nodes.now c.splay-top.new.nodes c.splay-top.ensures.rest)
-    ∙ back_held (g.N.Nodes.store c.args.nodes.now) c.args.left c.args.right r.front r.back r.pair c.if-right-eq0.false
+    ∙ back_held (g.N.Nodes.store c.args.nodes.now) c.args.left c.args.right c.requires.front c.requires.back c.requires.pair c.if-right-eq0.false
 
 pub returns-clause-tree : goal.returns-clause-tree
 returns-clause-tree g c = λ front back p.

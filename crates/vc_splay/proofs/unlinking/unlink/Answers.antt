@@ -11,16 +11,12 @@ in_hand-hand-requires g c = IsIn-held (g.N.Nodes.store c.args.nodes.now) c.args.
 
 pub climb-left-requires : goal.climb-left-requires
 climb-left-requires g c =
-    let k = c.requires in
-    let h = c.in_hand-hand.result in
-    let b = start (g.N.Nodes.store c.args.nodes.now) c.args.root c.args.at h.below h.above h.left h.right k.tree k.is_tree k.within c.in_hand-hand.ensures in
+    let b = start (g.N.Nodes.store c.args.nodes.now) c.args.root c.args.at c.in_hand-hand.result.below c.in_hand-hand.result.above c.in_hand-hand.result.left c.in_hand-hand.result.right c.requires.tree c.requires.is_tree c.requires.within c.in_hand-hand.ensures in
     record { context = b.context; tree = b.part; rising = b.rising }
 
 pub set_up_of-requires : goal.set_up_of-requires
 set_up_of-requires g c =
-    let k = c.requires in
-    let h = c.in_hand-hand.result in
-    let b = start (g.N.Nodes.store c.args.nodes.now) c.args.root c.args.at h.below h.above h.left h.right k.tree k.is_tree k.within c.in_hand-hand.ensures in
+    let b = start (g.N.Nodes.store c.args.nodes.now) c.args.root c.args.at c.in_hand-hand.result.below c.in_hand-hand.result.above c.in_hand-hand.result.left c.in_hand-hand.result.right c.requires.tree c.requires.is_tree c.requires.within c.in_hand-hand.ensures in
     let top = (c.climb-left.ensures.top b.context b.part b.rising).hand in
     IsCut-held (g.N.Nodes.store c.climb-left.new.nodes) c.climb-left.result.0 top.left_tree top.left_cut
 
@@ -28,12 +24,10 @@ pub join-requires : goal.join-requires
 join-requires g c =
     let old = g.N.Nodes.store c.args.nodes.now in
     let s = g.N.Nodes.store c.climb-left.new.nodes in
-    let k = c.requires in
-    let h = c.in_hand-hand.result in
-    let b = start old c.args.root c.args.at h.below h.above h.left h.right k.tree k.is_tree k.within c.in_hand-hand.ensures in
-    let top : Topped old s c.args.at (names k.tree) c.climb-left.result.0 c.climb-left.result.1 =
+    let b = start old c.args.root c.args.at c.in_hand-hand.result.below c.in_hand-hand.result.above c.in_hand-hand.result.left c.in_hand-hand.result.right c.requires.tree c.requires.is_tree c.requires.within c.in_hand-hand.ensures in
+    let top : Topped old s c.args.at (names c.requires.tree) c.climb-left.result.0 c.climb-left.result.1 =
     subst (λ z. Topped old s c.args.at (names z) c.climb-left.result.0 c.climb-left.result.1) b.whole (c.climb-left.ensures.top b.context b.part b.rising) in
-    let p = split_at old s c.args.at c.climb-left.result.0 c.climb-left.result.1 k.tree (g.met.N.Nodes.none c.climb-left.new.nodes) k.is_tree.distinct top in
+    let p = split_at old s c.args.at c.climb-left.result.0 c.climb-left.result.1 c.requires.tree (g.met.N.Nodes.none c.climb-left.new.nodes) c.requires.is_tree.distinct top in
     rw c.set_up_of.ensures.store (record { front = p.front; back = p.back; pair = p.pair })
 
 pub returns-clause-tree : goal.returns-clause-tree
@@ -43,9 +37,8 @@ returns-clause-tree g c = λ t k.
     let mid = g.N.Nodes.store c.set_up_of.new.nodes in
     let left = c.climb-left.result.0 in
     let right = c.climb-left.result.1 in
-    let h = c.in_hand-hand.result in
     let within : contains (names t) c.args.at ≡ true = IsIn-each old c.args.root c.args.at (g.met.N.Nodes.none c.args.nodes.now) c.requires t k in
-    let b = start old c.args.root c.args.at h.below h.above h.left h.right t k within c.in_hand-hand.ensures in
+    let b = start old c.args.root c.args.at c.in_hand-hand.result.below c.in_hand-hand.result.above c.in_hand-hand.result.left c.in_hand-hand.result.right t k within c.in_hand-hand.ensures in
     let top : Topped old s c.args.at (names t) left right = subst (λ z. Topped old s c.args.at (names z) left right) b.whole (c.climb-left.ensures.top b.context b.part b.rising) in
     let p : Split old s mid c.args.at left right t = subst (λ z. Split old s z c.args.at left right t) (sym c.set_up_of.ensures.store)
     (split_at old s c.args.at left right t (g.met.N.Nodes.none c.climb-left.new.nodes) k.distinct top) in
