@@ -10,6 +10,8 @@ char *quiet() { return static_cast<char *>(operator new(4322, std::nothrow)); }
 
 char *quiets() { return new (std::nothrow) char[1235]; }
 
+void *wide() { return operator new(512, std::align_val_t(64)); }
+
 namespace shop {
 struct part { char bytes[50]; };
 
@@ -25,6 +27,7 @@ int main()
     delete[] owners();
     operator delete(quiet(), std::nothrow);
     delete[] quiets();
+    operator delete(wide(), std::align_val_t(64));
     delete shop::make_a_part_of_the_whole(static_cast<shop::part *>(nullptr), 1, 2L);
     delete shop::make_a_part_of_the_whole(static_cast<shop::part *>(nullptr), 1, 'c');
 }

@@ -210,7 +210,7 @@ sites() {
     grep -q same same || skipped "dlclose: no library came to stand in another's place"
 
     # C++.
-    if ! has c++ || ! c++ -O0 -o new "$here/tests/new.cc" 2> /dev/null; then
+    if ! has c++ || ! c++ -std=c++17 -O0 -o new "$here/tests/new.cc" 2> /dev/null; then
         skipped "the sites of C++: there is no c++"
         return
     fi
@@ -229,6 +229,9 @@ sites() {
     check "C++: long names that begin alike are two sites, each told whole" diff parts parts.got
     check "C++: these two names" same "$(sed -n 's/^alloc r b[0-9]* 50 @//p' new.vm | sort -u | awk 'length == 32' | wc -l)" 2
     check "C++: the script runs to its end" runs new.vm
+    "$record" -q -m last last.vm -- ./new
+    check "C++: the site of operator new with an alignment, in a region without align" \
+        same "$(sed -n 's/^alloc r b[0-9]* 512 @//p' last.vm)" Z4widev
     "$record" -w shop::make_a_part_of_the_whole new.vm -- ./new
     check "C++: a function is looked through by its readable name" same "$(sites_of new.vm | grep -o '[0-9] main')" "2 main"
     c++ -O0 -o own "$here/tests/own.cc"
@@ -256,6 +259,9 @@ options() {
     check "options: a method that is none" same "$("$record" -m bset options.vm -- true 2> /dev/null; echo $?)" 2
     check "options: a region's name that is none" same "$("$record" -r 9 options.vm -- true 2> /dev/null; echo $?)" 2
     check "options: a discipline that is none" same "$("$record" -d x options.vm -- true 2> /dev/null; echo $?)" 2
+    words=$(awk 'BEGIN { for (i = 1; i <= 65; i++) printf " -w f%d", i }')
+    # shellcheck disable=SC2086
+    check "options: 65 functions to look through" same "$("$record" $words options.vm -- echo run 2> /dev/null; echo $?)" 2
     for words in '-s 0' '-s 13' '-s x' '-s 2 -d 12' '-s 2 -d 0' '-w' '-s'; do
         # shellcheck disable=SC2086
         check "options: $words" same "$("$record" $words options.vm -- echo run 2> /dev/null; echo $?)" 2
