@@ -30,6 +30,9 @@ END
         check "installed: vmcurve finds vmreplay" grep -q '8,076' installed.svg
         drawn "$here/../examples/tie.vm" > drawn.replies
         check "installed: vmpicture draws" test -n "$("$at/bin/vmpicture" drawn.replies)"
+        "$at/bin/vmpicture" -n 34 "$at/share/doc/kolbista/examples/trace.vm" > installed.svg
+        check "installed: vmpicture finds vmreplay" grep -q '>blocks: 9, ' installed.svg
+        check "installed: vmcheck finds dtrun" same "$("$at/bin/vmcheck" "$at/share/doc/kolbista/examples/set.dt" | sed 's/.*: no/no/; s/:.*//')" "no line is bad"
         check "installed: vmsites finds vmreplay" test -n "$("$at/bin/vmsites" "$at/share/doc/kolbista/examples/profile.vm" | grep '^main ')"
         make -s -C "$here/.." uninstall DESTDIR="$dir/root" PREFIX=/usr
         check "uninstalled: no file is left" same "$(find "$dir/root" -type f)" ""
