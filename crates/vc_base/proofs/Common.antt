@@ -1,5 +1,5 @@
 -- The names that most proofs cite, passed on from one place. Declares nothing.
-pub use Rattle.std.proofs.Common.{◌≡◌, ℕ, zero, suc, ◌+◌, ◌-◌, ◌*◌, ◌/◌, ◌%◌, ◌^◌, ◌<◌, ◌≤◌, min, max, Bool, true, false, cond, not, ◌&&◌, ◌||◌, T, eqb, ltb, leb, ◌≢◌, ◌⊎◌, ◌↔◌, List, [], ◌∷◌, ◌++◌, map, length, get_or, take, drop, set, replicate, ℤ, pos, negsuc, neg_ℤ, nat_abs, ◌<ℤ◌, is_some, IsSomeAnd, IfSome, IfNone, IfOk, IfErr, if◌then◌else◌, OnSome, OnOk, OnErr, IsSome, IsOk, IsTrue, nat_lt, nat_le, ◌==◌, slice_get, slice_index, slice_index_or, slice_set, slice_range, Some, None, Ok, Err, vec_len, vec_capacity, string_bytes, codes, decimal, fold, All, Contains, sum, count_by, filter, Option, Result, Vec, option_map, HoldsAt, chars, insert, remove, Any, AllPairs, position, find, zip, flat_map, filter_map, option_and_then, option_copied, IsErrOf, encode_utf8, bytes_eq, nat_cmp, is_eq, is_gt, is_ge, Ordering, Less, Equal, Greater, Global, unwrap_or, sym, refl, ap, ◌∙◌, subst, ap₂, inl, inr, ⊎_elim, true≢false, append_assoc, append-nil, le_trans, add-zero, mul-le-mul_right, mul-le-mul_left, pow-suc, div-add-mod', zero-add, div-mul-le_self, add-one, arith, lit<, length-append, length-drop, length-set, take-append-drop, drop_of_length-le, length-take, length-take-le, get_or-drop, take_all, drop-cons, get_or-set_other, get_or-take, get_or-set_same, take-take, drop-drop, take_at, drop-set-lt, take-add, drop_at, set-set, pow_pos, pow_mono, to_z-of_z, w32, w64, SFits, Bor, rules, below_more, ltb-false, ltb-true, le-ltb, lt-ltb, eq-eqb, ne_eqb, eqb-true, le-leb, leb-false, leb-true}
+pub use Rattle.std.proofs.Common.{◌≡◌, ℕ, zero, suc, ◌+◌, ◌-◌, ◌*◌, ◌/◌, ◌%◌, ◌^◌, ◌<◌, ◌≤◌, min, max, Bool, true, false, cond, not, ◌&&◌, ◌||◌, T, eqb, ltb, leb, ◌≢◌, ◌⊎◌, ◌↔◌, List, [], ◌∷◌, ◌++◌, map, length, get_or, take, drop, set, replicate, ℤ, pos, negsuc, neg_ℤ, nat_abs, ◌<ℤ◌, is_some, IsSomeAnd, IfSome, IfNone, IfOk, IfErr, if◌then◌else◌, OnSome, OnOk, OnErr, IsSome, IsOk, IsTrue, nat_lt, nat_le, ◌==◌, slice_get, slice_index, slice_index_or, slice_set, slice_range, Some, None, Ok, Err, vec_len, vec_capacity, string_bytes, codes, decimal, fold, All, Contains, sum, count_by, filter, Option, Result, Vec, option_map, HoldsAt, chars, insert, remove, Any, AllPairs, position, find, zip, flat_map, filter_map, option_and_then, option_copied, IsErrOf, encode_utf8, bytes_eq, nat_cmp, is_eq, is_gt, is_ge, Ordering, Less, Equal, Greater, Global, unwrap_or, sym, refl, ap, ◌∙◌, subst, ap₂, inl, inr, ⊎_elim, true≢false, append_assoc, append-nil, le_trans, add-zero, mul-le-mul_right, mul-le-mul_left, pow-suc, div-add-mod', zero-add, div-mul-le_self, add-one, arith, lit<, length-append, length-drop, length-set, take-append-drop, drop_of_length-le, length-take, length-take-le, get_or-drop, take_all, drop-cons, get_or-set_other, get_or-take, get_or-set_same, take-take, drop-drop, take_at, drop-set-lt, take-add, drop_at, set-set, pow_pos, pow_mono, w32, w64, SFits, Bor, rules, below_more, ltb-false, ltb-true, le-ltb, lt-ltb, eq-eqb, ne_eqb, eqb-true, le-leb, leb-false, leb-true}
 pub use Rattle.std.proofs.Math.Bool.{and-false, or-false, or-true}
 pub use Rattle.std.proofs.Math.Bridge.{le_prop}
 pub use Rattle.std.proofs.Math.Logic.{∥∥₁_elim, ∥∥₁_map}
