@@ -965,10 +965,12 @@ static struct site *site_at(uintptr_t address)
     return site->at ? site : new_site(address);
 }
 
-/* Return addresses of the calls that led here, from one that is known on. */
+/* Return addresses of the calls that led here, from one that is known on, and how many are wanted. */
+enum { FEW_FRAMES = 3, MOST_FRAMES = 32 };
+
 struct frames {
-    uintptr_t from, at[32];
-    size_t count, skipped;
+    uintptr_t from, at[MOST_FRAMES];
+    size_t count, wanted, skipped;
 };
 
 static _Unwind_Reason_Code note_frame(struct _Unwind_Context *context, void *to)
@@ -976,8 +978,8 @@ static _Unwind_Reason_Code note_frame(struct _Unwind_Context *context, void *to)
     struct frames *frames = to;
     uintptr_t at = _Unwind_GetIP(context);
     if (frames->count || at == frames->from) frames->at[frames->count++] = at;
-    else if (++frames->skipped > 32) return _URC_END_OF_STACK;
-    return frames->count < sizeof frames->at / sizeof *frames->at ? _URC_NO_REASON : _URC_END_OF_STACK;
+    else if (++frames->skipped > MOST_FRAMES) return _URC_END_OF_STACK;
+    return frames->count < frames->wanted ? _URC_NO_REASON : _URC_END_OF_STACK;
 }
 
 /* Tells once that a wrapper is looked through. */
@@ -991,11 +993,12 @@ static void tell_through(int role)
     end_line(&line);
 }
 
-/* The name of the first function that isn't looked through, among those that led to this call. The lock is held, and is given
-   up while they are looked for, since the unwinder may wait for the loader. */
-static const char *site_above(uintptr_t caller)
+/* The name of the first function that isn't looked through, among those that led to this call: among so many of them, and null
+   where all of these are. The lock is held, and is given up while they are looked for, since the unwinder may wait for the
+   loader. */
+static const char *site_among(uintptr_t caller, size_t wanted)
 {
-    struct frames frames = { .from = caller };
+    struct frames frames = { .from = caller, .wanted = wanted };
     struct site *site = NULL;
     size_t i;
     int before, role;
@@ -1012,8 +1015,15 @@ static const char *site_above(uintptr_t caller)
         tell_through(role);
         if (site->role == IS_SITE) break;
     }
+    if (i + 1 == wanted && wanted < MOST_FRAMES) return NULL;
     if (frames.count < 2) site = site_at(caller);
     return site ? site->name : "unknown";
+}
+
+static const char *site_above(uintptr_t caller)
+{
+    const char *site = site_among(caller, FEW_FRAMES);
+    return site ? site : site_among(caller, MOST_FRAMES);
 }
 
 /* The name of who called: of the function, or where that is looked through, of the first that isn't. */

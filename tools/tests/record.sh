@@ -188,6 +188,9 @@ sites() {
     "$record" -w copy wraps.vm -- ./wraps 2> fault
     check "-w: a function that calls the allocator by another one alone isn't looked through" \
         same "$? $(sites_of wraps.vm); $(cat fault)" "0 1 make_plain 10 xmalloc 1 xrealloc; record: no call came from copy"
+    "$record" -w xmalloc -w deep -w copy -w make_word wraps.vm -- ./wraps
+    check "-w: one that calls itself, and four that call one another" \
+        same "$(sites_of wraps.vm)" "8 main 2 make_line 1 make_plain 1 xrealloc"
     cc -O2 -fno-builtin -fomit-frame-pointer -o wraps2 "$here/tests/wraps.c"
     "$record" -w xmalloc -w xrealloc -w copy wraps.vm -- ./wraps2
     check "-w: without frame pointers too" same "$(sites_of wraps.vm)" "5 deep 1 make_less 2 make_line 1 make_plain 3 make_word"
