@@ -2,8 +2,8 @@
 # Tries the built programs on the runs of tools/tests/runs, and the tools beside this, and says what it checked:
 #   tools/test.sh [FOLDER [NAME..]]
 # The programs are those of bin/ where no folder is named. What is tried stands in tools/tests/NAME.sh, a file for each tool;
-# all of them are read where none is named. It needs awk, and cc for what is recorded; c++, xmllint, mandoc and Chromium are
-# used where they are there. What is left out is said, and the last line is 'N passed, M failed'.
+# all of them are read where none is named. It needs awk, and cc for what is recorded; c++, xmllint, mandoc, rsvg-convert,
+# python3 and Chromium are used where they are there. What is left out is said, and the last line is 'N passed, M failed'.
 set -u
 here=$(cd "$(dirname "$0")" && pwd) || exit 1
 programs=${1:-$here/../bin}
