@@ -2,14 +2,13 @@ ghost use Rattle.std.specs.Prelude.{◌≡◌, ◌≤◌, Some, IfOk, OnErr};
 ghost use Rattle.vc_base.specs.Prelude.{Rose};
 ghost use Rattle.vc_model.specs.Stream.{Reads, Writes};
 
-use crate::given::put;
+use crate::given::heap;
 use std::alloc::{AllocError, Global};
 use std::cell::Cell;
 use std::process::Abort;
 use std::rc::Rc;
 use std::test::Fail;
 use vc_base::{MemSink, MemSource, ReadFailed, Sink, Source, WriteFailed};
-use vc_seg::{HeapDisc, Shelf};
 use vc_session::{Status, replay};
 
 // Notes a call, by a digit behind those of earlier ones.
@@ -80,112 +79,22 @@ fn sink(
 
 // A script that comes in pieces of 14 bytes, each a line; the reads and writes that fail; and how it ends: the calls in
 // order, where 1 is a read, 2 a write of replies and 3 one of the line of what is wrong, and what is left to be read.
-struct Row {
-    script: &'static [u8],
-    reads: &'static [u64],
-    writes: &'static [u64],
-    status: Status,
-    notes: u64,
-    left: &'static [u8],
-}
+type Row<'a> = (&'a [u8], &'a [u64], &'a [u64], Status, u64, &'a [u8]);
 
-const ROW: &[u8] = b"open r best 1\nalloc r a 100\n";
-
-const SECOND: &[u8] = b"alloc r a 100\n";
-
-const ROWS: &[Row] = &[
-    Row {
-        script: ROW,
-        reads: &[],
-        writes: &[],
-        status: Status::Ok,
-        notes: 12_121,
-        left: b"",
-    },
-    // A read behind the end would fail.
-    Row {
-        script: ROW,
-        reads: &[4],
-        writes: &[],
-        status: Status::Ok,
-        notes: 12_121,
-        left: b"",
-    },
-    Row {
-        script: ROW,
-        reads: &[3],
-        writes: &[],
-        status: Status::Read,
-        notes: 121_213,
-        left: b"",
-    },
-    Row {
-        script: ROW,
-        reads: &[2],
-        writes: &[],
-        status: Status::Read,
-        notes: 1_213,
-        left: SECOND,
-    },
-    // A write fails.
-    Row {
-        script: ROW,
-        reads: &[],
-        writes: &[1],
-        status: Status::Write,
-        notes: 123,
-        left: SECOND,
-    },
-    Row {
-        script: ROW,
-        reads: &[],
-        writes: &[2],
-        status: Status::Write,
-        notes: 12_123,
-        left: b"",
-    },
-    // The second line is bad.
-    Row {
-        script: b"open r best 1\nfrobnicate it\nalloc r a 100\n",
-        reads: &[],
-        writes: &[],
-        status: Status::Script,
-        notes: 1_213,
-        left: SECOND,
-    },
-    // The first has no reply.
-    Row {
-        script: b"# no reply it\nopen r best 1\nalloc r a 100\n",
-        reads: &[],
-        writes: &[],
-        status: Status::Ok,
-        notes: 112_121,
-        left: b"",
-    },
-];
-
-fn is_run(rt: &impl Abort, alloc: Global, row: &Row) -> Result<(), AllocError> {
+fn is_run(rt: &impl Abort, alloc: Global, row: Row) -> Result<(), AllocError> {
+    let (script, reads, writes, end, calls, left) = row;
     let notes = Rc::new(alloc, Cell::new(0))?;
-    let mut shelf = Shelf::new(alloc);
-    put(rt, &mut shelf, Box::new(alloc, HeapDisc::new(4096))?);
+    let mut shelf = heap(rt, alloc)?;
     let mut source = NotingSource {
-        inner: MemSource::new(row.script.to_vec(alloc)?, 14, row.reads.to_vec(alloc)?),
+        inner: MemSource::new(script.to_vec(alloc)?, 14, reads.to_vec(alloc)?),
         notes: notes.clone()?,
     };
-    let mut out = sink(alloc, row.writes, 2, &notes)?;
+    let mut out = sink(alloc, writes, 2, &notes)?;
     let mut err = sink(alloc, &[], 3, &notes)?;
-    let words = Vec::new(alloc);
-    let status = replay(
-        alloc,
-        words.as_slice(),
-        &mut shelf,
-        &mut source,
-        &mut out,
-        &mut err,
-    );
-    assert!(rt; status == row.status);
-    assert!(rt; notes.get() == row.notes);
-    is_left(rt, &mut source, row.left);
+    let status = replay(alloc, &[], &mut shelf, &mut source, &mut out, &mut err);
+    assert!(rt; status == end);
+    assert!(rt; notes.get() == calls);
+    is_left(rt, &mut source, left);
     Ok(())
 }
 
@@ -196,10 +105,31 @@ fn is_left(rt: &impl Abort, source: &mut NotingSource, left: &[u8]) {
     assert!(rt; buf.starts_with(left));
 }
 
+const ROW: &[u8] = b"open r best 1\nalloc r a 100\n";
+
+const SECOND: &[u8] = b"alloc r a 100\n";
+
+const BAD_SECOND: &[u8] = b"open r best 1\nfrobnicate it\nalloc r a 100\n";
+
+const SILENT_FIRST: &[u8] = b"# no reply it\nopen r best 1\nalloc r a 100\n";
+
+const ROWS: &[Row<'static>] = &[
+    (ROW, &[], &[], Status::Ok, 12_121, b""),
+    // A read behind the end would fail.
+    (ROW, &[4], &[], Status::Ok, 12_121, b""),
+    (ROW, &[3], &[], Status::Read, 121_213, b""),
+    (ROW, &[2], &[], Status::Read, 1_213, SECOND),
+    // A write fails.
+    (ROW, &[], &[1], Status::Write, 123, SECOND),
+    (ROW, &[], &[2], Status::Write, 12_123, b""),
+    (BAD_SECOND, &[], &[], Status::Script, 1_213, SECOND),
+    (SILENT_FIRST, &[], &[], Status::Ok, 112_121, b""),
+];
+
 #[test]
 fn ahead(rt: HostRuntime) -> Result<(), Fail> {
     for row in ROWS {
-        is_run(&rt, rt.alloc(), row)?;
+        is_run(&rt, rt.alloc(), *row)?;
     }
     Ok(())
 }

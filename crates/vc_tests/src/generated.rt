@@ -1,10 +1,9 @@
-use crate::given::{Expected, Given, ample, put, put_number, run};
+use crate::given::{ample, budgets, ends, front, put_number, run};
 use crate::words::words_of;
 use std::alloc::{AllocError, Global};
 use std::process::Abort;
 use std::test::Fail;
 use vc_script::{Command, Tool};
-use vc_seg::{BudgetDisc, Shelf};
 use vc_session::{Status, generate};
 
 // What is written of the first thousand commands of seed 42 where no segment is lent: a line for each block that is
@@ -28,12 +27,6 @@ fn refused_blocks(rt: &impl Abort, alloc: Global) -> Result<Vec<u8>, AllocError>
     Ok(text)
 }
 
-// So many bytes of the beginning.
-fn front<'a>(rt: &impl Abort, bytes: &'a [u8], len: usize) -> &'a [u8] {
-    assert!(rt; len <= bytes.len());
-    &bytes[..len]
-}
-
 // The lines are three writes, the first two of which are the first to come to 4,096 bytes, and the counts a fourth one.
 #[test]
 fn generated(rt: HostRuntime) -> Result<(), Fail> {
@@ -47,14 +40,10 @@ fn generated(rt: HostRuntime) -> Result<(), Fail> {
         (4, Status::Write, 12_075, b"vmreplay: write failed\n"),
         (5, Status::Ok, 12_122, b""),
     ] {
-        let mut shelf = Shelf::new(alloc);
-        put(&rt, &mut shelf, Box::new(alloc, BudgetDisc::new(4096, 0))?);
-        let given = Given {
-            writes: &[fails],
-            ..ample(b"", 20_000)
-        };
-        let out = front(&rt, text.as_slice(), len);
-        let expected = Expected { status, out, err };
+        let mut shelf = budgets(&rt, alloc, 1, 0)?;
+        let fails = [fails];
+        let given = ample(b"", 20_000).failing_writes(&fails);
+        let expected = ends(status, front(&rt, text.as_slice(), len), err);
         run(&rt, alloc, words.as_slice(), &mut shelf, given, expected)?;
     }
     assert!(rt; text.len() == 12_122);

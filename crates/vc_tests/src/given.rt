@@ -3,7 +3,7 @@ use std::alloc::{AllocError, Global};
 use std::process::Abort;
 use vc_base::{MemSink, MemSource, Sink, Source};
 use vc_dtdisc::{BuiltIn, DictDisc, Shape};
-use vc_seg::{FuseDisc, SegDisc, Shelf};
+use vc_seg::{BudgetDisc, FuseDisc, HeapDisc, SegDisc, Shelf};
 use vc_session::{Status, dtrun, replay};
 
 // What a script is given: it comes in pieces, some reads and writes fail, by their numbers from 1 on, and there's room
@@ -30,6 +30,28 @@ pub(crate) fn ample(script: &[u8], piece: usize) -> Given {
     }
 }
 
+impl<'a> Given<'a> {
+    // The same where these reads fail.
+    pub fn failing_reads(self, reads: &'a [u64]) -> Given<'a> {
+        Given { reads, ..self }
+    }
+
+    // The same where these writes of replies fail.
+    pub fn failing_writes(self, writes: &'a [u64]) -> Given<'a> {
+        Given { writes, ..self }
+    }
+
+    // The same where these writes of the line of what is wrong fail.
+    pub fn failing_err_writes(self, err_writes: &'a [u64]) -> Given<'a> {
+        Given { err_writes, ..self }
+    }
+
+    // The same with room for so many bytes of replies.
+    pub fn with_room(self, room: usize) -> Given<'a> {
+        Given { room, ..self }
+    }
+}
+
 // What comes out.
 #[derive(Clone, Copy)]
 pub(crate) struct Expected<'a> {
@@ -38,13 +60,19 @@ pub(crate) struct Expected<'a> {
     pub err: &'a [u8],
 }
 
+pub(crate) fn ends<'a>(status: Status, out: &'a [u8], err: &'a [u8]) -> Expected<'a> {
+    Expected { status, out, err }
+}
+
 // All replies, and no line of what is wrong.
 pub(crate) fn fine(out: &[u8]) -> Expected {
-    Expected {
-        status: Status::Ok,
-        out,
-        err: b"",
-    }
+    ends(Status::Ok, out, b"")
+}
+
+// So many bytes of the beginning.
+pub(crate) fn front<'a>(rt: &impl Abort, bytes: &'a [u8], len: usize) -> &'a [u8] {
+    assert!(rt; len <= bytes.len());
+    &bytes[..len]
 }
 
 // Where a script is read from, and where its replies and the line of what is wrong go.
@@ -181,11 +209,7 @@ pub(crate) fn run_dicts(
     lends: &[u64],
     script: &[u8],
 ) -> Result<Vec<u8>, AllocError> {
-    let mut shelf = Shelf::new(alloc);
-    for _ in 0..2 {
-        let disc = FuseDisc::new(4096, lends.to_vec(alloc)?);
-        put(rt, &mut shelf, Box::new(alloc, disc)?);
-    }
+    let mut shelf = fuses(rt, alloc, lends)?;
     let mut kinds = kinds(alloc)?;
     run_kinds(rt, alloc, &mut shelf, &mut kinds, script)
 }
@@ -193,6 +217,38 @@ pub(crate) fn run_dicts(
 pub(crate) fn put(rt: &impl Abort, shelf: &mut Shelf, disc: Box<dyn SegDisc>) {
     assert!(rt; shelf.len() < u32::MAX);
     assert!(rt; shelf.put(disc).is_ok());
+}
+
+// One discipline that refuses nothing.
+pub(crate) fn heap(rt: &impl Abort, alloc: Global) -> Result<Shelf, AllocError> {
+    let mut shelf = Shelf::new(alloc);
+    put(rt, &mut shelf, Box::new(alloc, HeapDisc::new(4096))?);
+    Ok(shelf)
+}
+
+// So many disciplines of one budget.
+pub(crate) fn budgets(
+    rt: &impl Abort,
+    alloc: Global,
+    count: u32,
+    budget: u64,
+) -> Result<Shelf, AllocError> {
+    let mut shelf = Shelf::new(alloc);
+    for _ in 0..count {
+        let disc = Box::new(alloc, BudgetDisc::new(4096, budget))?;
+        put(rt, &mut shelf, disc);
+    }
+    Ok(shelf)
+}
+
+// Two disciplines that round to 4,096 bytes and refuse these lends.
+fn fuses(rt: &impl Abort, alloc: Global, lends: &[u64]) -> Result<Shelf, AllocError> {
+    let mut shelf = Shelf::new(alloc);
+    for _ in 0..2 {
+        let disc = FuseDisc::new(4096, lends.to_vec(alloc)?);
+        put(rt, &mut shelf, Box::new(alloc, disc)?);
+    }
+    Ok(shelf)
 }
 
 // A script with no failing call, over two disciplines that round to 4,096 bytes and refuse these lends, in pieces of
@@ -205,11 +261,7 @@ pub(crate) fn replies(
     expected: Expected,
 ) -> Result<(), AllocError> {
     for piece in [7, 4096] {
-        let mut shelf = Shelf::new(alloc);
-        for _ in 0..2 {
-            let disc = FuseDisc::new(4096, lends.to_vec(alloc)?);
-            put(rt, &mut shelf, Box::new(alloc, disc)?);
-        }
+        let mut shelf = fuses(rt, alloc, lends)?;
         run(rt, alloc, &[], &mut shelf, ample(script, piece), expected)?;
     }
     Ok(())

@@ -39,15 +39,7 @@ fn runs(rt: &impl Abort, alloc: Global) -> Result<(), AllocError> {
     ) else {
         return Err(AllocError);
     };
-    let words = Vec::new(alloc);
-    let status = replay(
-        alloc,
-        words.as_slice(),
-        &mut shelf,
-        &mut source,
-        &mut out,
-        &mut err,
-    );
+    let status = replay(alloc, &[], &mut shelf, &mut source, &mut out, &mut err);
     assert!(rt; is_right(status, out.bytes(), err.bytes()));
     Ok(())
 }

@@ -36,6 +36,8 @@ mod rows;
 #[cfg(test)]
 mod same;
 #[cfg(test)]
+mod segments;
+#[cfg(test)]
 mod streams;
 #[cfg(test)]
 mod tables;
@@ -43,5 +45,7 @@ mod tables;
 mod told;
 #[cfg(test)]
 mod views;
+#[cfg(test)]
+mod watched;
 #[cfg(test)]
 mod words;

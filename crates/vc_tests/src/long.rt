@@ -1,4 +1,5 @@
 use crate::given::{Talk, fine, is_said, put_number, replies};
+use crate::segments::{filled, guarded, unguarded};
 use std::alloc::{AllocError, Global};
 use std::test::Fail;
 
@@ -94,84 +95,38 @@ fn trace(rt: HostRuntime) -> Result<(), Fail> {
     Ok(())
 }
 
-// A region of a method whose blocks of a size take a segment each, at that offset, and what it says of two further blocks.
-#[derive(Clone, Copy)]
-struct Filled {
-    method: &'static [u8],
-    size: u32,
-    off: u32,
-    script: &'static [u8],
-    out: &'static [u8],
-}
-
-const FILLED: &[Filled] = &[
-    Filled {
-        method: b"best",
-        size: 4000,
-        off: 32,
-        script: b"alloc r z 4000\nresize r a9 5000 move\nalloc r z 16\n",
-        out: b"refused: too many segments\nrefused: too many segments\nz 1:4064\n",
-    },
-    Filled {
-        method: b"pool",
-        size: 4000,
-        off: 32,
-        script: b"alloc r z 4000\nalloc r z 16\n",
-        out: b"refused: too many segments\nrefused: too many segments\n",
-    },
-    Filled {
-        method: b"last",
-        size: 4000,
-        off: 32,
-        script: b"alloc r z 4000\nresize r a1023 5000 move\nalloc r z 16\n",
-        out: b"refused: too many segments\nrefused: too many segments\nz 1023:4064\n",
-    },
-    Filled {
-        method: b"debug",
-        size: 3900,
-        off: 64,
-        script: b"alloc r z 3900\nresize r a9 5000 move\n",
-        out: b"refused: too many segments\nrefused: too many segments\n",
-    },
-    Filled {
-        method: b"profile",
-        size: 4000,
-        off: 32,
-        script: b"alloc r z 4000\nalign r z 100 64\nresize r a9 5000 move\nalloc r z 16\n",
-        out: b"refused: too many segments\nrefused: too many segments\nrefused: too many segments\nz 1:4064\n",
-    },
-];
-
-// A block that takes a segment of its own, of the same number.
-fn takes_segment(talk: &mut Talk, filled: Filled, i: u32) -> Result<(), AllocError> {
-    talk.say(b"alloc r a", b"a")?;
-    put_number(&mut talk.script, i)?;
-    put_number(&mut talk.out, i)?;
-    talk.say(b" ", b" ")?;
-    put_number(&mut talk.script, filled.size)?;
-    put_number(&mut talk.out, i)?;
-    talk.say(b"\n", b":")?;
-    put_number(&mut talk.out, filled.off)?;
-    talk.say(b"", b"\n")
-}
-
-fn all_segments(alloc: Global, filled: Filled) -> Result<Talk, AllocError> {
-    let mut talk = Talk::new(alloc);
-    talk.say(b"open r ", b"r open\n")?;
-    talk.say(filled.method, b"")?;
-    talk.say(b" 1\n", b"")?;
-    for i in 1..1024 {
-        takes_segment(&mut talk, filled, i)?;
-    }
-    talk.say(filled.script, filled.out)?;
-    Ok(talk)
-}
-
 // Each block takes a segment, up to 1,023 of them. Another is refused, and a small one goes into a gap.
 #[test]
 fn too_many_segments(rt: HostRuntime) -> Result<(), Fail> {
-    for filled in FILLED {
-        let talk = all_segments(rt.alloc(), *filled)?;
+    for (filling, script, out) in [
+        (
+            unguarded(b"best"),
+            b"alloc r z 4000\nresize r a9 5000 move\nalloc r z 16\n".as_slice(),
+            b"refused: too many segments\nrefused: too many segments\nz 1:4064\n".as_slice(),
+        ),
+        (
+            unguarded(b"pool"),
+            b"alloc r z 4000\nalloc r z 16\n",
+            b"refused: too many segments\nrefused: too many segments\n",
+        ),
+        (
+            unguarded(b"last"),
+            b"alloc r z 4000\nresize r a1023 5000 move\nalloc r z 16\n",
+            b"refused: too many segments\nrefused: too many segments\nz 1023:4064\n",
+        ),
+        (
+            guarded(b"debug"),
+            b"alloc r z 3900\nresize r a9 5000 move\n",
+            b"refused: too many segments\nrefused: too many segments\n",
+        ),
+        (
+            unguarded(b"profile"),
+            b"alloc r z 4000\nalign r z 100 64\nresize r a9 5000 move\nalloc r z 16\n",
+            b"refused: too many segments\nrefused: too many segments\nrefused: too many segments\nz 1:4064\n",
+        ),
+    ] {
+        let mut talk = filled(rt.alloc(), filling, 1024)?;
+        talk.say(script, out)?;
         is_said(&rt, rt.alloc(), &talk)?;
     }
     Ok(())

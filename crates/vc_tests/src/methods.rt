@@ -1,8 +1,7 @@
-use crate::given::{Talk, ample, fine, put, put_number, run};
+use crate::given::{Talk, ample, budgets, fine, put_number, run};
 use std::alloc::{AllocError, Global};
 use std::process::Abort;
 use std::test::Fail;
-use vc_seg::{BudgetDisc, Shelf};
 
 // A script and its replies.
 struct Row {
@@ -83,16 +82,6 @@ const ROWS: &[Row] = &[
         out: b"r open\ns open\na 1:32\na 1:32\nb 1:64\nrefused: block exists\nrefused: wrong method\nrefused: wrong method\nrefused: size\nrefused: size\nrefused: not last\nrefused: no block\nrefused: not last\na 1\nrefused: range\nrefused: no such discipline\n",
     },
 ];
-
-// A shelf of so many disciplines of one budget.
-fn budgets(rt: &impl Abort, alloc: Global, count: u32, budget: u64) -> Result<Shelf, AllocError> {
-    let mut shelf = Shelf::new(alloc);
-    for _ in 0..count {
-        let disc = Box::new(alloc, BudgetDisc::new(4096, budget))?;
-        put(rt, &mut shelf, disc);
-    }
-    Ok(shelf)
-}
 
 fn is_run(rt: &impl Abort, alloc: Global, row: &Row, piece: usize) -> Result<(), AllocError> {
     let mut shelf = budgets(rt, alloc, 2, 1_048_576)?;

@@ -1,61 +1,14 @@
-ghost use Rattle.std.specs.Prelude.{◌≡◌, ◌%◌, Contains, IfOk, OnOk, IsErrOf};
-ghost use Rattle.vc_base.specs.Prelude.{IsRound, IsSegmentSize, Lent, Unserved};
-ghost use Rattle.vc_seg.specs.Budget.{discipline_of};
-ghost use Rattle.vc_seg.specs.Returned.{Returned};
-ghost use Rattle.vc_seg.specs.Segment.{pair_of, zero_segment};
-
 use crate::given::{Talk, put, put_number, run_to};
 use crate::same::same_bytes;
+use crate::watched::{WatchedDisc, no_lends};
 use std::alloc::{AllocError, Global};
-use std::cell::Cell;
 use std::process::Abort;
-use std::rc::Rc;
 use std::test::Fail;
 use vc_dtdisc::{BuiltIn, Shape};
-use vc_seg::{BudgetDisc, LendFault, SegDisc, Segment, Shelf};
+use vc_seg::Shelf;
 use vc_session::Status;
 
-// A discipline that tells its room, counts its lends and notes its faults. The lend of one number finds no memory.
-#[derive(Drop)]
-struct Counting {
-    inner: BudgetDisc,
-    lends: Rc<Cell<u32>>,
-    faults: Rc<Cell<u64>>,
-    without_memory: u32,
-}
-
-impl SegDisc for Counting {
-    ghost state = { λ d. discipline_of d.inner };
-
-    fn round(&self) -> u32 {
-        self.inner.round()
-    }
-
-    fn faults(&self) -> u64 {
-        self.inner.faults()
-    }
-
-    fn room(&self) -> Option<u64> {
-        self.inner.room()
-    }
-
-    fn lend(&mut self, alloc: Global, number: u32, size: u32) -> Result<Segment, LendFault> {
-        let count = self.lends.get().wrapping_add(1);
-        self.lends.set(count);
-        if count == self.without_memory {
-            return Err(LendFault::OutOfMemory);
-        }
-        let lent = self.inner.lend(alloc, number, size);
-        self.faults.set(self.inner.faults());
-        lent
-    }
-
-    fn take_back(&mut self, seg: Segment) {
-        self.inner.take_back(seg);
-    }
-}
-
-// What is run over such a discipline, and how it ends.
+// What is run over a discipline that is watched, whose lend of one number finds no memory, and how it ends.
 #[derive(Clone, Copy)]
 struct Ends {
     without_memory: u32,
@@ -90,14 +43,8 @@ fn unserved(lends: u32) -> Ends {
 // Runs a script over one discipline with a budget of 4,096 bytes, looks at its end and at the numbers of lends and of
 // faults, and gives what was written.
 fn ran(rt: &impl Abort, alloc: Global, script: &[u8], ends: Ends) -> Result<Vec<u8>, AllocError> {
-    let lends = Rc::new(alloc, Cell::new(0))?;
-    let faults = Rc::new(alloc, Cell::new(0))?;
-    let disc = Counting {
-        inner: BudgetDisc::new(4096, 4096),
-        lends: lends.clone()?,
-        faults: faults.clone()?,
-        without_memory: ends.without_memory,
-    };
+    let lends = no_lends(alloc)?;
+    let disc = WatchedDisc::new(4096, 0, ends.without_memory, &lends)?;
     let mut shelf = Shelf::new(alloc);
     put(rt, &mut shelf, Box::new(alloc, disc)?);
     let mut kinds = Vec::new(alloc);
@@ -111,8 +58,8 @@ fn ran(rt: &impl Abort, alloc: Global, script: &[u8], ends: Ends) -> Result<Vec<
         ends.status,
         ends.err,
     )?;
-    assert!(rt; lends.get() == ends.lends);
-    assert!(rt; faults.get() == ends.faults);
+    assert!(rt; lends.count.get() == ends.lends);
+    assert!(rt; lends.faults.get() == ends.faults);
     Ok(out)
 }
 

@@ -1,8 +1,7 @@
-use crate::given::{Expected, Given, Talk, ample, fine, put, run};
+use crate::given::{Expected, Given, Talk, ample, ends, fine, front, heap, run};
 use std::alloc::{AllocError, Global};
 use std::process::Abort;
 use std::test::Fail;
-use vc_seg::{HeapDisc, Shelf};
 use vc_session::Status;
 
 const ROW: &[u8] = b"open r best 1\nalloc r a 100\n";
@@ -17,206 +16,92 @@ const WRITE_FAILED: &[u8] = b"vmreplay: write failed\n";
 
 const READ_FAILED: &[u8] = b"vmreplay: read failed\n";
 
-struct Row {
-    script: &'static [u8],
-    piece: usize,
-    reads: &'static [u64],
-    writes: &'static [u64],
-    err_writes: &'static [u64],
-    room: usize,
-    status: Status,
-    out: &'static [u8],
-    err: &'static [u8],
+// A script with this end, over a discipline to which every segment is given back: the next script is lent the first
+// again.
+fn is_run(
+    rt: &impl Abort,
+    alloc: Global,
+    given: Given,
+    expected: Expected,
+) -> Result<(), AllocError> {
+    let mut shelf = heap(rt, alloc)?;
+    run(rt, alloc, &[], &mut shelf, given, expected)?;
+    run(rt, alloc, &[], &mut shelf, ample(ROW, 4096), fine(REPLIES))
 }
 
-// No failed call is tried again, and no write is empty.
-const ROWS: &[Row] = &[
-    // The first write fails, and every later one would not.
-    Row {
-        script: ROW,
-        piece: 4096,
-        reads: &[],
-        writes: &[1],
-        err_writes: &[],
-        room: 100,
-        status: Status::Write,
-        out: b"",
-        err: WRITE_FAILED,
-    },
-    // The second one.
-    Row {
-        script: ROW,
-        piece: 5,
-        reads: &[],
-        writes: &[2],
-        err_writes: &[],
-        room: 100,
-        status: Status::Write,
-        out: b"r ope",
-        err: WRITE_FAILED,
-    },
-    // That of the line of a bad line.
-    Row {
-        script: BAD,
-        piece: 4096,
-        reads: &[],
-        writes: &[],
-        err_writes: &[1],
-        room: 100,
-        status: Status::Write,
-        out: b"r open\n",
-        err: b"",
-    },
-    Row {
-        script: BAD,
-        piece: 5,
-        reads: &[],
-        writes: &[],
-        err_writes: &[2],
-        room: 100,
-        status: Status::Write,
-        out: b"r open\n",
-        err: b"vmrep",
-    },
-    // That line is one write, behind which a second would fail.
-    Row {
-        script: BAD,
-        piece: 4096,
-        reads: &[],
-        writes: &[],
-        err_writes: &[2],
-        room: 100,
-        status: Status::Script,
-        out: b"r open\n",
-        err: BAD_LINE,
-    },
-    // That of the line of another fault.
-    Row {
-        script: ROW,
-        piece: 4096,
-        reads: &[1],
-        writes: &[],
-        err_writes: &[1],
-        room: 100,
-        status: Status::Read,
-        out: b"",
-        err: b"",
-    },
-    Row {
-        script: ROW,
-        piece: 4096,
-        reads: &[],
-        writes: &[1],
-        err_writes: &[1],
-        room: 100,
-        status: Status::Write,
-        out: b"",
-        err: b"",
-    },
-    // The first read fails, and every later one would not.
-    Row {
-        script: ROW,
-        piece: 4096,
-        reads: &[1],
-        writes: &[],
-        err_writes: &[],
-        room: 100,
-        status: Status::Read,
-        out: b"",
-        err: READ_FAILED,
-    },
-    // The last line isn't whole.
-    Row {
-        script: b"open r best 1\nalloc r a",
-        piece: 4096,
-        reads: &[2],
-        writes: &[],
-        err_writes: &[],
-        room: 100,
-        status: Status::Read,
-        out: b"r open\n",
-        err: READ_FAILED,
-    },
-    // There is room for the text, and for no byte more.
-    Row {
-        script: ROW,
-        piece: 4096,
-        reads: &[],
-        writes: &[],
-        err_writes: &[],
-        room: 14,
-        status: Status::Ok,
-        out: REPLIES,
-        err: b"",
-    },
-    // Nothing is written for lines that ask for nothing.
-    Row {
-        script: b"# no reply\n\n",
-        piece: 4,
-        reads: &[],
-        writes: &[],
-        err_writes: &[],
-        room: 0,
-        status: Status::Ok,
-        out: b"",
-        err: b"",
-    },
-    // What was gathered is written before the line of a bad line.
-    Row {
-        script: BAD,
-        piece: 4096,
-        reads: &[],
-        writes: &[1],
-        err_writes: &[],
-        room: 100,
-        status: Status::Write,
-        out: b"",
-        err: WRITE_FAILED,
-    },
-    Row {
-        script: BAD,
-        piece: 4096,
-        reads: &[],
-        writes: &[],
-        err_writes: &[],
-        room: 7,
-        status: Status::Script,
-        out: b"r open\n",
-        err: BAD_LINE,
-    },
-];
-
+// No failed call is tried again, and no write is empty. The first write fails, and every later one would not; the
+// second one fails; and what was gathered is written before the line of a bad line.
 #[test]
-fn faults(rt: HostRuntime) -> Result<(), Fail> {
-    let alloc = rt.alloc();
-    for row in ROWS {
-        let mut shelf = Shelf::new(alloc);
-        put(&rt, &mut shelf, Box::new(alloc, HeapDisc::new(4096))?);
-        let given = Given {
-            script: row.script,
-            piece: row.piece,
-            reads: row.reads,
-            writes: row.writes,
-            err_writes: row.err_writes,
-            room: row.room,
-        };
-        let expected = Expected {
-            status: row.status,
-            out: row.out,
-            err: row.err,
-        };
-        run(&rt, alloc, &[], &mut shelf, given, expected)?;
-
-        // Every segment is back: the next script is lent the first again.
-        run(&rt, alloc, &[], &mut shelf, ample(ROW, 4096), fine(REPLIES))?;
+fn writes(rt: HostRuntime) -> Result<(), Fail> {
+    for (script, piece, fails, out) in [
+        (ROW, 4096, 1, b"".as_slice()),
+        (ROW, 5, 2, b"r ope"),
+        (BAD, 4096, 1, b""),
+    ] {
+        let fails = [fails];
+        let given = ample(script, piece).failing_writes(&fails);
+        let expected = ends(Status::Write, out, WRITE_FAILED);
+        is_run(&rt, rt.alloc(), given, expected)?;
     }
     Ok(())
 }
 
-// So many bytes of the beginning.
-fn front<'a>(rt: &impl Abort, bytes: &'a [u8], len: usize) -> &'a [u8] {
-    assert!(rt; len <= bytes.len());
-    &bytes[..len]
+// That of the line of a bad line fails; it is one write, behind which a second would fail.
+#[test]
+fn writes_of_a_bad_line(rt: HostRuntime) -> Result<(), Fail> {
+    for (piece, fails, status, err) in [
+        (4096, 1, Status::Write, b"".as_slice()),
+        (5, 2, Status::Write, b"vmrep"),
+        (4096, 2, Status::Script, BAD_LINE),
+    ] {
+        let fails = [fails];
+        let given = ample(BAD, piece).failing_err_writes(&fails);
+        let expected = ends(status, b"r open\n", err);
+        is_run(&rt, rt.alloc(), given, expected)?;
+    }
+    Ok(())
+}
+
+// That of the line of another fault.
+#[test]
+fn writes_of_a_fault(rt: HostRuntime) -> Result<(), Fail> {
+    let given = ample(ROW, 4096).failing_err_writes(&[1]);
+    for (given, status) in [
+        (given.failing_reads(&[1]), Status::Read),
+        (given.failing_writes(&[1]), Status::Write),
+    ] {
+        is_run(&rt, rt.alloc(), given, ends(status, b"", b""))?;
+    }
+    Ok(())
+}
+
+// The first read fails, and every later one would not; and the last line isn't whole.
+#[test]
+fn reads(rt: HostRuntime) -> Result<(), Fail> {
+    for (script, fails, out) in [
+        (ROW, 1, b"".as_slice()),
+        (b"open r best 1\nalloc r a", 2, b"r open\n"),
+    ] {
+        let fails = [fails];
+        let given = ample(script, 4096).failing_reads(&fails);
+        let expected = ends(Status::Read, out, READ_FAILED);
+        is_run(&rt, rt.alloc(), given, expected)?;
+    }
+    Ok(())
+}
+
+// There is room for the text, and for no byte more; and nothing is written for lines that ask for nothing.
+#[test]
+fn just_room(rt: HostRuntime) -> Result<(), Fail> {
+    for (script, piece, room, expected) in [
+        (ROW, 4096, 14, fine(REPLIES)),
+        (b"# no reply\n\n", 4, 0, fine(b"")),
+        (BAD, 4096, 7, ends(Status::Script, b"r open\n", BAD_LINE)),
+    ] {
+        let given = ample(script, piece).with_room(room);
+        is_run(&rt, rt.alloc(), given, expected)?;
+    }
+    Ok(())
 }
 
 // The script comes in 28 pieces of one byte, 14 a line, and its end is the read behind them. A read that fails leaves
@@ -224,23 +109,16 @@ fn front<'a>(rt: &impl Abort, bytes: &'a [u8], len: usize) -> &'a [u8] {
 #[test]
 fn each_read(rt: HostRuntime) -> Result<(), Fail> {
     let alloc = rt.alloc();
-    let mut shelf = Shelf::new(alloc);
-    put(&rt, &mut shelf, Box::new(alloc, HeapDisc::new(4096))?);
+    let mut shelf = heap(&rt, alloc)?;
     for (first, behind, out) in [
         (1, 15, b"".as_slice()),
         (15, 29, b"r open\n".as_slice()),
         (29, 30, REPLIES),
     ] {
         for call in first..behind {
-            let given = Given {
-                reads: &[call],
-                ..ample(ROW, 1)
-            };
-            let expected = Expected {
-                status: Status::Read,
-                out,
-                err: READ_FAILED,
-            };
+            let fails = [call];
+            let given = ample(ROW, 1).failing_reads(&fails);
+            let expected = ends(Status::Read, out, READ_FAILED);
             run(&rt, alloc, &[], &mut shelf, given, expected)?;
         }
     }
@@ -251,19 +129,11 @@ fn each_read(rt: HostRuntime) -> Result<(), Fail> {
 #[test]
 fn each_room(rt: HostRuntime) -> Result<(), Fail> {
     let alloc = rt.alloc();
-    let mut shelf = Shelf::new(alloc);
-    put(&rt, &mut shelf, Box::new(alloc, HeapDisc::new(4096))?);
+    let mut shelf = heap(&rt, alloc)?;
     for room in 0..14 {
         for piece in [1, 6, 7, 8, 4096] {
-            let given = Given {
-                room,
-                ..ample(ROW, piece)
-            };
-            let expected = Expected {
-                status: Status::Write,
-                out: front(&rt, REPLIES, room),
-                err: WRITE_FAILED,
-            };
+            let given = ample(ROW, piece).with_room(room);
+            let expected = ends(Status::Write, front(&rt, REPLIES, room), WRITE_FAILED);
             run(&rt, alloc, &[], &mut shelf, given, expected)?;
         }
     }
@@ -290,8 +160,7 @@ fn gathered(rt: HostRuntime) -> Result<(), Fail> {
     let blank = Vec::from_elem(alloc, b'\n', 1739)?;
     let mut talk = Talk::new(alloc);
     many_lines(&mut talk, blank.as_slice())?;
-    let mut shelf = Shelf::new(alloc);
-    put(&rt, &mut shelf, Box::new(alloc, HeapDisc::new(4096))?);
+    let mut shelf = heap(&rt, alloc)?;
     for (writes, room, status, len, err) in [
         ([1].as_slice(), 10_000, Status::Write, 0, WRITE_FAILED),
         (&[2], 10_000, Status::Write, 1050, WRITE_FAILED),
@@ -302,13 +171,10 @@ fn gathered(rt: HostRuntime) -> Result<(), Fail> {
         (&[], 1226, Status::Ok, 1226, b""),
         (&[3], 1227, Status::Ok, 1226, b""),
     ] {
-        let given = Given {
-            writes,
-            room,
-            ..ample(talk.script.as_slice(), 4096)
-        };
-        let out = front(&rt, talk.out.as_slice(), len);
-        let expected = Expected { status, out, err };
+        let given = ample(talk.script.as_slice(), 4096)
+            .failing_writes(writes)
+            .with_room(room);
+        let expected = ends(status, front(&rt, talk.out.as_slice(), len), err);
         run(&rt, alloc, &[], &mut shelf, given, expected)?;
     }
     Ok(())
@@ -332,12 +198,8 @@ fn long_replies(alloc: Global) -> Result<Talk, AllocError> {
 fn one_write(rt: HostRuntime) -> Result<(), Fail> {
     let alloc = rt.alloc();
     let talk = long_replies(alloc)?;
-    let mut shelf = Shelf::new(alloc);
-    put(&rt, &mut shelf, Box::new(alloc, HeapDisc::new(4096))?);
-    let given = Given {
-        writes: &[2],
-        ..ample(talk.script.as_slice(), 10_000)
-    };
+    let mut shelf = heap(&rt, alloc)?;
+    let given = ample(talk.script.as_slice(), 10_000).failing_writes(&[2]);
     let expected = fine(talk.out.as_slice());
     run(&rt, alloc, &[], &mut shelf, given, expected)?;
     Ok(())
@@ -352,8 +214,7 @@ const UNKNOWN: &[u8] = b"vmreplay: line 1: unknown command\n";
 #[test]
 fn long_lines(rt: HostRuntime) -> Result<(), Fail> {
     let alloc = rt.alloc();
-    let mut shelf = Shelf::new(alloc);
-    put(&rt, &mut shelf, Box::new(alloc, HeapDisc::new(4096))?);
+    let mut shelf = heap(&rt, alloc)?;
     for (byte, len, reads, status, err) in [
         (b'#', 4096, [].as_slice(), Status::Ok, b"".as_slice()),
         (b'#', 4097, &[], Status::Script, TOO_LONG),
@@ -364,16 +225,10 @@ fn long_lines(rt: HostRuntime) -> Result<(), Fail> {
         (b'a', 5000, &[1026], Status::Script, TOO_LONG),
     ] {
         let script = Vec::from_elem(alloc, byte, len)?;
-        let given = Given {
-            reads,
-            room: 0,
-            ..ample(script.as_slice(), 4)
-        };
-        let expected = Expected {
-            status,
-            out: b"",
-            err,
-        };
+        let given = ample(script.as_slice(), 4)
+            .failing_reads(reads)
+            .with_room(0);
+        let expected = ends(status, b"", err);
         run(&rt, alloc, &[], &mut shelf, given, expected)?;
     }
     Ok(())
@@ -390,8 +245,7 @@ fn one_word(alloc: Global) -> Result<Vec<String>, AllocError> {
 fn words(rt: HostRuntime) -> Result<(), Fail> {
     let alloc = rt.alloc();
     let words = one_word(alloc)?;
-    let mut shelf = Shelf::new(alloc);
-    put(&rt, &mut shelf, Box::new(alloc, HeapDisc::new(4096))?);
+    let mut shelf = heap(&rt, alloc)?;
     for (err_writes, status, number, err) in [
         (
             [].as_slice(),
@@ -403,15 +257,8 @@ fn words(rt: HostRuntime) -> Result<(), Fail> {
         (&[1], Status::Write, 4, b""),
     ] {
         assert_eq!(rt; status.number(), number);
-        let given = Given {
-            err_writes,
-            ..ample(ROW, 4096)
-        };
-        let expected = Expected {
-            status,
-            out: b"",
-            err,
-        };
+        let given = ample(ROW, 4096).failing_err_writes(err_writes);
+        let expected = ends(status, b"", err);
         run(&rt, alloc, words.as_slice(), &mut shelf, given, expected)?;
     }
     Ok(())

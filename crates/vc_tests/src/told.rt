@@ -1,81 +1,21 @@
-ghost use Rattle.vc_dtdisc.specs.ShapeLaws.{rules-lawful};
-ghost use Rattle.vc_dtdisc.specs.Shapes.{rules_of};
-
-use crate::given::{put, run_kinds};
+use crate::given::{budgets, run_kinds};
 use crate::same::same_bytes;
+use crate::watched::{Calls, WatchedKind, no_calls};
 use std::alloc::{AllocError, Global};
-use std::cell::RefCell;
-use std::cmp::Ordering;
 use std::process::Abort;
 use std::rc::Rc;
 use std::test::Fail;
-use vc_base::{OutOfMemory, Steps};
-use vc_dtdisc::{BuiltIn, DictDisc, Shape};
-use vc_seg::{HeapDisc, Shelf};
-
-// Notes behind earlier ones, with ample memory.
-fn note(notes: &Rc<RefCell<Vec<u8>>>, digit: u8, sign: u8, obj: &[u8]) {
-    if let Ok(mut notes) = notes.try_borrow_mut() {
-        let text = &mut *notes;
-        let _ = text.push(digit);
-        let _ = text.push(sign);
-        let _ = text.extend_from_slice(obj);
-        let _ = text.push(b' ');
-    }
-}
-
-// A kind that notes, behind its digit, each prototype that it makes an object of by a plus, and each object that it is
-// told of by a minus.
-#[derive(Drop)]
-struct Noting {
-    inner: BuiltIn,
-    digit: u8,
-    notes: Rc<RefCell<Vec<u8>>>,
-}
-
-impl DictDisc for Noting {
-    ghost rules = { λ d. rules_of d.inner.shape };
-
-    ghost gone = { λ d. d.inner.gone };
-
-    ghost lawful = { λ d. rules-lawful d.inner };
-
-    fn key<'a>(&self, obj: &'a [u8]) -> &'a [u8] {
-        self.inner.key(obj)
-    }
-
-    fn compare<L>(&self, a: &[u8], b: &[u8], steps: &mut Steps<L>) -> Ordering {
-        self.inner.compare(a, b, steps)
-    }
-
-    fn hash(&self, key: &[u8]) -> u64 {
-        self.inner.hash(key)
-    }
-
-    fn make(&self, obj: &[u8], out: &mut Vec<u8>) -> Result<(), OutOfMemory> {
-        note(&self.notes, self.digit, b'+', obj);
-        self.inner.make(obj, out)
-    }
-
-    fn freed(&mut self, obj: &[u8]) {
-        note(&self.notes, self.digit, b'-', obj);
-        self.inner.freed(obj);
-    }
-}
+use vc_dtdisc::{BuiltIn, Shape};
 
 // Two kinds whose keys are an object's first byte, and one that makes objects of two bytes.
-fn kinds(alloc: Global, notes: &Rc<RefCell<Vec<u8>>>) -> Result<Vec<Noting>, AllocError> {
+fn kinds(alloc: Global, calls: &Rc<Calls>) -> Result<Vec<WatchedKind>, AllocError> {
     let mut kinds = Vec::new(alloc);
     for (digit, shape) in [
         (b'1', Shape::Field { off: 0, size: 1 }),
         (b'2', Shape::Field { off: 0, size: 1 }),
         (b'3', Shape::Clip { n: 2 }),
     ] {
-        kinds.push(Noting {
-            inner: BuiltIn::new(shape),
-            digit,
-            notes: notes.clone()?,
-        })?;
+        kinds.push(WatchedKind::new(BuiltIn::new(shape), digit, calls)?)?;
     }
     Ok(kinds)
 }
@@ -87,14 +27,11 @@ fn is_noted(
     script: &[u8],
     expected: &[u8],
 ) -> Result<(), AllocError> {
-    let notes = Rc::new(alloc, RefCell::new(Vec::new(alloc)))?;
-    let mut shelf = Shelf::new(alloc);
-    for _ in 0..2 {
-        put(rt, &mut shelf, Box::new(alloc, HeapDisc::new(4096))?);
-    }
-    let mut kinds = kinds(alloc, &notes)?;
+    let calls = no_calls(alloc)?;
+    let mut shelf = budgets(rt, alloc, 2, 1_048_576)?;
+    let mut kinds = kinds(alloc, &calls)?;
     run_kinds(rt, alloc, &mut shelf, &mut kinds, script)?;
-    match notes.try_borrow() {
+    match calls.notes.try_borrow() {
         Ok(found) => same_bytes(rt, found.as_slice(), expected),
         Err(_) => assert!(rt; false),
     }

@@ -1,16 +1,9 @@
-ghost use Rattle.vc_dtdisc.specs.ShapeLaws.{rules-lawful};
-ghost use Rattle.vc_dtdisc.specs.Shapes.{rules_of};
-
-use crate::given::{put, run_dicts, run_kinds};
+use crate::given::{heap, run_dicts, run_kinds};
+use crate::watched::{WatchedKind, no_calls};
 use std::alloc::{AllocError, Global};
-use std::cell::Cell;
-use std::cmp::Ordering;
 use std::process::Abort;
-use std::rc::Rc;
 use std::test::Fail;
-use vc_base::{OutOfMemory, Steps};
-use vc_dtdisc::{BuiltIn, DictDisc, Shape};
-use vc_seg::{HeapDisc, Shelf};
+use vc_dtdisc::{BuiltIn, Shape};
 
 // A script and its replies.
 struct Row {
@@ -87,54 +80,14 @@ fn rows(rt: HostRuntime) -> Result<(), Fail> {
     Ok(())
 }
 
-// A kind by all bytes that counts its compares.
-#[derive(Drop)]
-struct Counting {
-    inner: BuiltIn,
-    count: Rc<Cell<u32>>,
-}
-
-impl DictDisc for Counting {
-    ghost rules = { λ d. rules_of d.inner.shape };
-
-    ghost gone = { λ d. d.inner.gone };
-
-    ghost lawful = { λ d. rules-lawful d.inner };
-
-    fn key<'a>(&self, obj: &'a [u8]) -> &'a [u8] {
-        self.inner.key(obj)
-    }
-
-    fn compare<L>(&self, a: &[u8], b: &[u8], steps: &mut Steps<L>) -> Ordering {
-        self.count.set(self.count.get().wrapping_add(1));
-        self.inner.compare(a, b, steps)
-    }
-
-    fn hash(&self, key: &[u8]) -> u64 {
-        self.inner.hash(key)
-    }
-
-    fn make(&self, obj: &[u8], out: &mut Vec<u8>) -> Result<(), OutOfMemory> {
-        self.inner.make(obj, out)
-    }
-
-    fn freed(&mut self, obj: &[u8]) {
-        self.inner.freed(obj);
-    }
-}
-
-// How many compares a script makes.
+// How many compares of all bytes a script makes.
 fn compares(rt: &impl Abort, alloc: Global, script: &[u8]) -> Result<u32, AllocError> {
-    let count = Rc::new(alloc, Cell::new(0))?;
-    let mut shelf = Shelf::new(alloc);
-    put(rt, &mut shelf, Box::new(alloc, HeapDisc::new(4096))?);
+    let calls = no_calls(alloc)?;
+    let mut shelf = heap(rt, alloc)?;
     let mut kinds = Vec::new(alloc);
-    kinds.push(Counting {
-        inner: BuiltIn::new(Shape::Whole),
-        count: count.clone()?,
-    })?;
+    kinds.push(WatchedKind::new(BuiltIn::new(Shape::Whole), b'1', &calls)?)?;
     run_kinds(rt, alloc, &mut shelf, &mut kinds, script)?;
-    Ok(count.get())
+    Ok(calls.compares.get())
 }
 
 // A dictionary of that method with a hundred objects.
