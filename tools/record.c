@@ -11,8 +11,10 @@
    recording stops where the file gets no more room.
 
    VMREPLAY_RECORD is the path of the script, VMREPLAY_RECORD_PID the process that writes it, VMREPLAY_RECORD_OPEN the words
-   of its command open, and VMREPLAY_RECORD_SITES is "no" where the sites of calls are left out. A program that another
-   process starts with this library writes a script of its own, whose path has a dot and the process's number behind it. */
+   of its command open, VMREPLAY_RECORD_REGIONS the number of regions, VMREPLAY_RECORD_SITES is "no" where the sites of calls
+   are left out, and VMREPLAY_RECORD_THROUGH has the functions that are looked through, each with a newline. A program that
+   another process starts with this library writes a script of its own, whose path has a dot and the process's number behind
+   it. */
 #define _GNU_SOURCE
 #include <dlfcn.h>
 #include <elf.h>
@@ -1034,8 +1036,7 @@ static const char *site_of(uintptr_t caller)
     return site->role == IS_SITE ? site->name : site_above(caller);
 }
 
-/* What is still mapped as it was. */
-
+/* Notes which of the modules are still mapped as they were. */
 static int see_mapping(const char *line, uintptr_t unused)
 {
     uint64_t hash = hash_of(line);
