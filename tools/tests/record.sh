@@ -295,7 +295,7 @@ refusals() {
     # Blocks of 60,000 bytes take a segment each, of which a region has 1,023.
     "$record" -p "$program" refused.vm -- ./live 1100 60000 2> fault
     check "1,100 blocks of 60,000 bytes: the refused are told without a word" same "$? $(sed 's/first in.*:/first:/' fault)" \
-        "0 record: $dir/refused.vm: 77 of 1,101 commands are refused when it is run, the first: too many segments"
+        "0 record: $dir/refused.vm: 77 of 1,101 commands are refused when it is run, the first: too many segments (-s spreads the blocks over more regions)"
     check "1,100 blocks of 60,000 bytes: a line tells when they take much" \
         same "$(grep -c '^# here the blocks of r take a quarter of the segments that a region can have$' refused.vm)" 1
     check "the manual page of record says so" grep -q 'too many segments' "$here/../man/vmrecord.1"
