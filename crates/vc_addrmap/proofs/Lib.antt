@@ -1,0 +1,5 @@
+pub mod Ascending
+pub mod Maps
+pub mod Written
+pub mod Found
+pub mod Added

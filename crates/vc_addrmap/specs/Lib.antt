@@ -1,0 +1,5 @@
+pub mod Entries
+pub mod EntryLaws
+pub mod Map
+pub mod MapUnique
+pub mod Parts

@@ -1,0 +1,9 @@
+//! A map from addresses to numbers, in a splay tree by address. To put one in may need memory; to take one out, or to
+//! move it to another address, doesn't.
+#![tactic(auto)]
+
+mod addr_map;
+mod by_addr;
+mod entries;
+
+pub use addr_map::AddrMap;
