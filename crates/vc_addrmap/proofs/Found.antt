@@ -1,5 +1,5 @@
 -- What a call does to the entry that is found at an address.
-use Rattle.vc_base.proofs.Common.{◌≡◌, ◌≢◌, ℕ, ◌+◌, Bool, true, false, if◌then◌else◌, List, ◌==◌, Option, Some, None, find, is_some, option_map, unwrap_or, inl, inr, sym, refl, ap, ◌∙◌, subst, arith, eqb_tells, eq-eqb, ne_eqb, eqb-true, contains, without}
+use Rattle.vc_base.proofs.Common.{not, ◌&&◌, ◌≡◌, ◌≢◌, ℕ, ◌+◌, Bool, true, false, if◌then◌else◌, List, ◌==◌, Option, Some, None, find, is_some, option_map, unwrap_or, inl, inr, sym, refl, ap, ◌∙◌, subst, arith, eqb_tells, eq-eqb, ne_eqb, eqb-true, contains, without}
 use Rattle.vc_base.proofs.Lists.{find-passes}
 use Rattle.vc_base.proofs.Members.{differs}
 use Rattle.slab.specs.Slab.{Slab}
@@ -8,7 +8,7 @@ use Rattle.vc_splay.specs.Stands.{IsIn, IsTree, TreeAfter}
 use Rattle.vc_splay.specs.Tree.{names}
 use Rattle.vc_addrmap.specs.declared.entries.Entry.{Entry}
 use Rattle.vc_addrmap.specs.Entries.{EntryTakenOut, EntryWritten, StaysButLinks, address_at, entry_at, entry_store, has_entry, value_at}
-use Rattle.vc_addrmap.specs.Map.{IsMap, Numbers, moved_number, name_of_address, numbers_in, with_number}
+use Rattle.vc_addrmap.specs.Map.{IsMap, Numbers, lost_by_move, moved_number, name_of_address, numbers_in, with_number}
 use Rattle.vc_addrmap.proofs.Ascending.{ascend-without, at-without, found-in, length-without, without-gone}
 use Rattle.vc_addrmap.proofs.Maps.{address-on, ascend-same, map-made, numbers-are, numbers-same, tree-on, value-on}
 use Rattle.vc_addrmap.proofs.Written.{part-kept, part-written, store-kept}
@@ -26,6 +26,24 @@ with-none numbers a none = λ i q. point q i
 -- nor does it move to another
 pub moved-none : (numbers : Numbers) (from to : ℕ) → numbers from ≡ None → moved_number from to numbers ≡ numbers
 moved-none numbers from to none = ap (λ z. if is_some z then with_number to z (with_number from None numbers) else numbers) none
+
+pub none-lost : (numbers : Numbers) (from to m k : ℕ) → numbers from ≡ None → k ≡ m → k + lost_by_move from to numbers ≡ m
+none-lost numbers from to m k none e = ap (λ z. k + (if is_some z && not (from == to) && is_some (numbers to) then 1 else 0)) none ∙ omega (arith, e)
+
+-- how many are lost by a move: the number is taken out, and put at the other address
+pub some-lost : (numbers mid : Numbers) (from to v m k j : ℕ) → numbers from ≡ Some v → mid ≡ with_number from None numbers → k + 1 ≡ m → j ≡ (if is_some (mid to) then k else k + 1)
+    → j + lost_by_move from to numbers ≡ m
+some-lost numbers mid from to v m k j some without less e =
+    ap (λ z. j + (if is_some z && not (from == to) && is_some (numbers to) then 1 else 0)) some ∙ counted (from == to) (is_some (numbers to)) (e ∙ ap (λ z. if is_some z then k else k + 1) (ap (λ g. g to) without) ∙ ap (λ z. if z then k else k + 1) (asked (from == to) (numbers to)))
+  where
+    asked : (b : Bool) (other : Option ℕ) → is_some (if b then None else other) ≡ not b && is_some other
+    asked true other = refl
+    asked false other = refl
+
+    counted : (same other : Bool) → j ≡ (if not same && other then k else k + 1) → j + (if not same && other then 1 else 0) ≡ m
+    counted true other h = omega (arith, h, less)
+    counted false true h = omega (arith, h, less)
+    counted false false h = omega (arith, h, less)
 
 -- the number of an entry
 pub value-is : (s : Slab Entry) (n : ℕ) (entry : Entry) → entry_at s n ≡ Some entry → value_at s n ≡ entry.value

@@ -1,5 +1,5 @@
 -- A map from addresses to numbers as a function, and which entries stand for one.
-use Rattle.std.specs.Prelude.{◌≡◌, ℕ, ◌+◌, ◌≤◌, List, [], ◌∷◌, Option, None, find, is_some, length, option_map, ◌==◌, if◌then◌else◌}
+use Rattle.std.specs.Prelude.{◌≡◌, ℕ, not, ◌&&◌, ◌+◌, ◌≤◌, List, [], ◌∷◌, Option, None, find, is_some, length, option_map, ◌==◌, if◌then◌else◌}
 use Rattle.slab.specs.Slab.{Slab, slab_len}
 use Rattle.vc_splay.specs.Stands.{IsTree}
 use Rattle.vc_splay.specs.Tree.{Tree, names}
@@ -22,6 +22,11 @@ with_number at number numbers a = if at == a then number else numbers a
 abbrev pub moved_number : ℕ → ℕ → Numbers → Numbers
 moved_number from to numbers =
     if is_some (numbers from) then with_number to (numbers from) (with_number from None numbers) else numbers
+
+-- how many fewer addresses have a number then: one where that other one had a number too
+abbrev pub lost_by_move : ℕ → ℕ → Numbers → ℕ
+lost_by_move from to numbers =
+    if is_some (numbers from) && not (from == to) && is_some (numbers to) then 1 else 0
 
 -- addresses rise along names, and none is below this one
 abbrev pub AscendFrom : (ℕ → ℕ) → ℕ → List ℕ → Type 0

@@ -1,6 +1,6 @@
 ghost use Rattle.std.specs.Prelude.{◌≡◌, ◌+◌, None, IfNone, OnOk, OnSome, Some, is_some, if◌then◌else◌};
 ghost use Rattle.vc_base.specs.Prelude.{some_address};
-ghost use Rattle.vc_addrmap.specs.Map.{IsMap, moved_number, name_of_address, no_numbers, with_number};
+ghost use Rattle.vc_addrmap.specs.Map.{IsMap, lost_by_move, moved_number, name_of_address, no_numbers, with_number};
 ghost use Rattle.vc_addrmap.specs.MapUnique.{IsMap-prop};
 
 use crate::by_addr::ByAddr;
@@ -150,6 +150,8 @@ impl AddrMap {
     /// no memory.
     pub fn moved(&mut self, from: Addr, to: Addr)
         ensures numbers { numbers_of self.new ≡ moved_number from.0 to.0 (numbers_of self.old) }
+        ensures count { count_of self.new + lost_by_move from.0 to.0 (numbers_of self.old)
+            ≡ count_of self.old }
     {
         match self.take(from) {
             Some(value) => self.put(to, value),
