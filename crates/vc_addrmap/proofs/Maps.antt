@@ -7,7 +7,9 @@ use Rattle.vc_splay.specs.Stands.{IsTree, Stands, TreeAfter}
 use Rattle.vc_splay.specs.Tree.{Tree, Leaf, Node, names}
 use Rattle.vc_addrmap.specs.declared.entries.Entry.{Entry}
 use Rattle.vc_addrmap.specs.Entries.{StaysButLinks, address_at, entry_at, entry_side, entry_store, value_at}
-use Rattle.vc_addrmap.specs.Map.{AscendFrom, IsMap, name_of_address, numbers_in}
+use Rattle.vc_addrmap.specs.declared.addr_map.AddrMap.{AddrMap}
+use Rattle.vc_addrmap.specs.Parts.{count_of, names_of, numbers_of}
+use Rattle.vc_addrmap.specs.Map.{AscendFrom, IsMap, name_of_address, numbers_in, with_number}
 use Rattle.vc_addrmap.specs.MapUnique.{IsMap-names}
 use Rattle.vc_addrmap.proofs.Ascending.{ascend-rises, is_eq-cmp}
 
@@ -104,3 +106,21 @@ module _ (s : Slab Entry) (root : ℕ) (h : IsMap s root) where
 
     pub numbers-kept : (k : IsMap new root) → numbers_in new (names k.tree) ≡ numbers_in s (names h.tree)
     numbers-kept k = numbers-are new root k h.tree (names h.tree) (tree-on s new root h.tree (λ m w. same m) h.is_tree) refl ∙ (λ i q. numbers-same s new (names h.tree) q (λ m w. address-on s new m (same m)) (λ m w. value-on s new m (same m)) i)
+
+-- what a map means, whatever it keeps of its entries
+pub means-same : (m old : AddrMap) → ((k : IsMap m.entries.slab m.root) → numbers_in m.entries.slab (names k.tree) ≡ numbers_in old.entries.slab (names old.kept.tree)) → numbers_of m ≡ numbers_of old
+unfolding names_of numbers_of
+means-same m old all = all m.kept
+
+pub means-with : (m old : AddrMap) (a : ℕ) (number : Option ℕ) → ((k : IsMap m.entries.slab m.root) → numbers_in m.entries.slab (names k.tree) ≡ with_number a number (numbers_in old.entries.slab (names old.kept.tree))) → numbers_of m ≡ with_number a number (numbers_of old)
+unfolding names_of numbers_of
+means-with m old a number all = all m.kept
+
+pub names-mean : (m : AddrMap) (ns : List ℕ) → ((k : IsMap m.entries.slab m.root) → names k.tree ≡ ns) → names_of m ≡ ns
+unfolding names_of
+names-mean m ns all = all m.kept
+
+-- it has as many entries as addresses
+pub count-is : (m : AddrMap) → slab_len m.entries.slab ≡ count_of m
+unfolding names_of count_of
+count-is m = m.kept.count

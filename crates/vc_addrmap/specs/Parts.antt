@@ -6,15 +6,17 @@ use Rattle.vc_addrmap.specs.Entries.{HasRoom}
 use Rattle.vc_addrmap.specs.Map.{Numbers, numbers_in}
 
 -- the names of its entries, in ascending order of address
-abbrev pub names_of : AddrMap → List ℕ
+unfoldable pub names_of : AddrMap → List ℕ
 names_of m = names m.kept.tree
 
 -- the number of each address, where it has one
-abbrev pub numbers_of : AddrMap → Numbers
+unfoldable pub numbers_of : AddrMap → Numbers
+unfolding names_of
 numbers_of m = numbers_in m.entries.slab (names_of m)
 
 -- how many addresses have one
-abbrev pub count_of : AddrMap → ℕ
+unfoldable pub count_of : AddrMap → ℕ
+unfolding names_of
 count_of m = length (names_of m)
 
 -- there is room for one more

@@ -1,7 +1,7 @@
 use Rattle.vc_base.proofs.Common.{ap}
 use Rattle.slab.specs.Slab.{slab_len}
 use Rattle.vc_addrmap.specs.Entries.{entry_at}
-use Rattle.vc_addrmap.proofs.Maps.{map-same, numbers-kept}
+use Rattle.vc_addrmap.proofs.Maps.{map-same, means-same, numbers-kept}
 use Rattle.vc_addrmap.proofs.addr_map.AddrMap.reserve.Goals as goal
 
 pub invariant_of-self : goal.invariant_of-self
@@ -10,7 +10,7 @@ invariant_of-self c =
     record { kept = map-same _ _ c.args.self.now.kept c.reserve.new.self (λ m. ap (λ s. entry_at s m) e) (ap slab_len e) }
 
 pub returns-in_err-reserve-clause-same : goal.returns-in_err-reserve-clause-same
-returns-in_err-reserve-clause-same c = numbers-kept _ _ c.args.self.now.kept c.reserve.new.self (λ m. ap (λ s. entry_at s m) c.reserve.ensures.rest_kept) c.self-1.given.0
+returns-in_err-reserve-clause-same c = means-same _ c.args.self.now (numbers-kept _ _ c.args.self.now.kept c.reserve.new.self (λ m. ap (λ s. entry_at s m) c.reserve.ensures.rest_kept))
 
 pub returns-clause-same : goal.returns-clause-same
-returns-clause-same c = numbers-kept _ _ c.args.self.now.kept c.reserve.new.self (λ m. ap (λ s. entry_at s m) c.reserve.ensures.rest_kept) c.self-1.given.0
+returns-clause-same c = means-same _ c.args.self.now (numbers-kept _ _ c.args.self.now.kept c.reserve.new.self (λ m. ap (λ s. entry_at s m) c.reserve.ensures.rest_kept))
