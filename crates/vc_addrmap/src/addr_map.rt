@@ -1,4 +1,4 @@
-ghost use Rattle.std.specs.Prelude.{◌≡◌, ◌+◌, None, IfNone, OnOk, OnSome, Some, is_some, if◌then◌else◌};
+ghost use Rattle.std.specs.Prelude.{◌≡◌, ◌+◌, None, IfNone, IsOk, OnOk, OnSome, Some, is_some, if◌then◌else◌};
 ghost use Rattle.vc_base.specs.Prelude.{some_address};
 ghost use Rattle.vc_addrmap.specs.Map.{IsMap, lost_by_move, moved_number, name_of_address, no_numbers, with_number};
 ghost use Rattle.vc_addrmap.specs.MapUnique.{IsMap-prop};
@@ -51,9 +51,11 @@ impl AddrMap {
         self.entries.slab.len()
     }
 
-    /// Makes room for one address more. It fails where there is no memory, and where there are 4,294,967,295 addresses.
+    /// Makes room for one address more. Where there is room it succeeds; else it fails where there is no memory, and where
+    /// there are 4,294,967,295 addresses.
     pub fn reserve(&mut self) -> Result<(), OutOfMemory>
         ensures room { OnOk result (HasRoomForOne self.new) }
+        ensures succeeds { HasRoomForOne self.old → IsOk result }
         ensures same { numbers_of self.new ≡ numbers_of self.old }
         ensures count { count_of self.new ≡ count_of self.old }
     {
