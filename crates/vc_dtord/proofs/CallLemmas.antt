@@ -1,5 +1,6 @@
 -- What the calls ask of the tree of holders, and what they answer.
 use Rattle.vc_base.proofs.Common.{◌≡◌, ℕ, ◌+◌, ◌≤◌, Bool, true, false, cond, List, [], ◌∷◌, length, All, sym, ap, ◌∙◌, subst, true≢false, and_from, All-cons, All-head, All-tail, IsTotalOrder, Blocks, contains, without}
+use Rattle.vc_base.specs.declared.addr.Addr.{Addr}
 use Rattle.vc_base.proofs.Members.{apart-head}
 use Rattle.vc_dtdisc.specs.Finding.{put_before}
 use Rattle.vc_dtdisc.specs.Finds.{object_at}
@@ -92,6 +93,9 @@ module _ (ord : DtOrd) (b : Blocks) (at : ℕ) (c : IsLinked ord b at) where
     within = ap (λ ys. contains ys at) c.stands.list ∙ c.within;
   }
 
+  pub beside_there : (t : Tree) → IsTree (node_store b) ord.root.0 t → IsTree (beside at (node_store b)) ord.root.0 t
+  beside_there t h = tree-beside b at ord.root.0 t mark-there h
+
   pub unlinked : (b' : Blocks) (mark' : ℕ) (new : DtOrd) → StaysButLinks b b'
       → ((t : Tree) → IsTree (beside at (node_store b)) ord.root.0 t → TreeAfter (beside at (node_store b)) (beside mark' (node_store b')) (names t) new.root.0 (without at (names t)))
       → (rules : Rules) (xs : List ℕ) → OrdFor rules ord b xs → OrdTurned rules xs b new b' (without at xs)
@@ -114,10 +118,14 @@ module _ (ord : DtOrd) (b : Blocks) (at : ℕ) (c : IsLinked ord b at) where
 pub has_tree : (ord : DtOrd) (b : Blocks) → IsOrdered ord b → HasTree (node_store b) ord.root.0
 has_tree ord b c = record { tree = c.is.stands.tree; is_tree = c.is.stands.is_tree }
 
--- a find: beside the root
-module _ (rules : Rules) (ord : DtOrd) (b : Blocks) (mark : ℕ) (e : mark ≡ ord.root.0) where
+-- a tree stands beside its root too
+pub beside_root : (ord : DtOrd) (b : Blocks) (mark : Addr) → mark ≡ ord.root → (t : Tree) → IsTree (node_store b) ord.root.0 t → IsTree (beside mark.0 (node_store b)) ord.root.0 t
+beside_root ord b mark e t h = tree-beside_root b mark.0 ord.root.0 t (ap (λ a. a.0) e) h
+
+-- a find: beside a holder where the tree stands
+module _ (rules : Rules) (ord : DtOrd) (b : Blocks) (mark : ℕ) (here : (t : Tree) → IsTree (node_store b) ord.root.0 t → IsTree (beside mark (node_store b)) ord.root.0 t) where
   pub tree-found : (xs : List ℕ) (s : OrdFor rules ord b xs) → IsTree (beside mark (node_store b)) ord.root.0 s.tree
-  tree-found xs s = tree-beside_root b mark ord.root.0 s.tree e s.is_tree
+  tree-found xs s = here s.tree s.is_tree
 
   pub can_find : IsTotalOrder rules.compare → (key : List ℕ) → IsOrd rules ord b → CanFind (beside mark (node_store b)) (stands_to rules b key) ord.root.0
   can_find order key c =

@@ -5,3 +5,5 @@ pub mod WrittenLemmas
 pub mod TreeLemmas
 pub mod TurnLemmas
 pub mod CallLemmas
+pub mod SeekLemmas
+pub mod BeforeLemmas

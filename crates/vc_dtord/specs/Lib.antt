@@ -2,3 +2,4 @@ pub mod Nodes
 pub mod NodeLaws
 pub mod WordWrites
 pub mod Ordered
+pub mod Seeking

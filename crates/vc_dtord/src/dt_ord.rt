@@ -1,4 +1,4 @@
-ghost use Rattle.std.specs.Prelude.{◌≡◌, ℕ, ◌+◌, ◌≤◌, List, [], ◌∷◌, None, length};
+ghost use Rattle.std.specs.Prelude.{◌≡◌, ℕ, ◌+◌, ◌≤◌, List, [], ◌∷◌, None, Some, length};
 ghost use Rattle.std.specs.Option.{option_map};
 ghost use Rattle.vc_base.specs.Prelude.{Blocks, first_in, last_in, next_in, previous_in, without};
 ghost use Rattle.vc_dtdisc.specs.Rules.{Rules};
@@ -6,9 +6,11 @@ ghost use Rattle.vc_dtlist.specs.Linked.{Finds, number_of};
 ghost use Rattle.vc_dtlist.specs.TableWrites.{ChangesIn};
 ghost use Rattle.vc_dtlist.specs.Sought.{Seeks, stands_so};
 ghost use Rattle.vc_dtord.specs.Ordered.{CanLink, IsLinked, IsOrd, IsOrdered, OrdFor, OrdTurned, order_with};
+ghost use Rattle.vc_dtord.specs.Seeking.{SeeksLast, is_below, matches};
 
 use crate::calls::{at_least_in, find_in, link_in, unlink_in};
 use crate::holders::Holders;
+use crate::seeking::{before_in, behind_in, last_like_in};
 use crate::seen::Seen;
 use vc_base::{Addr, Cells, Steps};
 use vc_dtdisc::DictDisc;
@@ -110,6 +112,78 @@ impl DtOrd {
         let (ord, at) = at_least_in(&mut Holders { cells, mark }, *self, kind, key, steps);
         *self = ord;
         at
+    }
+
+    /// The first holder whose object's key is greater than that one, by at most as many compares as there are holders;
+    /// none where no key is greater.
+    pub fn behind<C: Cells, D: DictDisc, L>(
+        &mut self,
+        cells: &mut C,
+        kind: &D,
+        key: &[u8],
+        steps: &mut Steps<L>,
+    ) -> Option<Addr>
+        requires { IsOrd (D.rules kind.now) self.old (C.blocks cells.old) }
+        ensures found { (holders : List ℕ)
+            → OrdFor (D.rules kind.now) self.old (C.blocks cells.old) holders
+            → Seeks (stands_so Sought.Greater (D.rules kind.now) (C.blocks cells.old) key.now)
+            holders result steps.old steps.new }
+        ensures list { ChangesIn C.blocks C.RestStays cells.old cells.new
+            (λ old new. (holders : List ℕ) → OrdFor (D.rules kind.now) self.old old holders
+            → OrdTurned (D.rules kind.now) holders old self.new new holders) }
+    {
+        let mark = self.root;
+        let (ord, at) = behind_in(&mut Holders { cells, mark }, *self, kind, key, steps);
+        *self = ord;
+        at
+    }
+
+    /// The last holder whose object's key is less than that one, by at most as many compares as there are holders; none
+    /// where no key is less.
+    pub fn before<C: Cells, D: DictDisc, L>(
+        &mut self,
+        cells: &mut C,
+        kind: &D,
+        key: &[u8],
+        steps: &mut Steps<L>,
+    ) -> Option<Addr>
+        requires { IsOrd (D.rules kind.now) self.old (C.blocks cells.old) }
+        ensures found { (holders : List ℕ)
+            → OrdFor (D.rules kind.now) self.old (C.blocks cells.old) holders
+            → SeeksLast (is_below (D.rules kind.now) (C.blocks cells.old) key.now)
+            holders result steps.old steps.new }
+        ensures list { ChangesIn C.blocks C.RestStays cells.old cells.new
+            (λ old new. (holders : List ℕ) → OrdFor (D.rules kind.now) self.old old holders
+            → OrdTurned (D.rules kind.now) holders old self.new new holders) }
+    {
+        let mark = self.root;
+        let (ord, at) = before_in(&mut Holders { cells, mark }, *self, kind, key, steps);
+        *self = ord;
+        at
+    }
+
+    /// The last holder whose object matches that of a holder of the list, by at most as many compares as there are
+    /// holders: that one itself, where no other behind it does.
+    pub fn last_like<C: Cells, D: DictDisc, L>(
+        &mut self,
+        cells: &mut C,
+        kind: &D,
+        at: Addr,
+        steps: &mut Steps<L>,
+    ) -> Addr
+        requires ord { IsOrd (D.rules kind.now) self.old (C.blocks cells.old) }
+        requires within { IsLinked self.old (C.blocks cells.old) at.0 }
+        ensures found { (holders : List ℕ)
+            → OrdFor (D.rules kind.now) self.old (C.blocks cells.old) holders
+            → SeeksLast (matches (D.rules kind.now) (C.blocks cells.old) at.0)
+            holders (Some result) steps.old steps.new }
+        ensures list { ChangesIn C.blocks C.RestStays cells.old cells.new
+            (λ old new. (holders : List ℕ) → OrdFor (D.rules kind.now) self.old old holders
+            → OrdTurned (D.rules kind.now) holders old self.new new holders) }
+    {
+        let (ord, last) = last_like_in(&mut Holders { cells, mark: at }, *self, kind, steps);
+        *self = ord;
+        last
     }
 
     /// The first holder, or none where there are none.

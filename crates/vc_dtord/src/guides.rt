@@ -2,7 +2,7 @@ use crate::holders::Holders;
 use std::cmp::Ordering;
 use vc_base::{Addr, Cells, Steps};
 use vc_dtdisc::DictDisc;
-use vc_splay::Guide;
+use vc_splay::{Guide, Nodes};
 
 // Seeks the holders whose objects have this key.
 #[derive(Drop)]
@@ -52,4 +52,28 @@ impl<'a, 'k, C: Cells, D: DictDisc> Guide<Holders<'a, C>> for ByMark<'k, D> {
 
     ghost no_links = { λ g a b n h.
         stands_to_holder-stays (D.rules g.kind.now) (C.blocks a.cells.now) (C.blocks b.cells.now) a.mark b.mark n h.1 h.3 };
+}
+
+// Seeks what is behind all that another guide seeks.
+#[derive(Drop)]
+pub(crate) struct Past<'g, G> {
+    // That guide.
+    pub(crate) guide: &'g G,
+}
+
+impl<'g, N: Nodes, G: Guide<N>> Guide<N> for Past<'g, G> {
+    ghost use Rattle.vc_dtord.specs.Seeking.{past, past-same};
+
+    ghost side_of = { λ p s n. past (G.side_of p.guide.now s n) };
+
+    #[inline(always)]
+    fn side<L>(&self, nodes: &N, n: u32, steps: &mut Steps<L>) -> Ordering {
+        match self.guide.side(nodes, n, steps) {
+            Ordering::Less => Ordering::Less,
+            Ordering::Equal => Ordering::Less,
+            Ordering::Greater => Ordering::Greater,
+        }
+    }
+
+    ghost no_links = { λ p a b n h. past-same (G.no_links p.guide.now a b n h) };
 }

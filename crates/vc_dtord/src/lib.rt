@@ -7,6 +7,7 @@ mod dt_ord;
 mod guides;
 mod holders;
 mod rows;
+mod seeking;
 mod seen;
 mod words;
 

@@ -1,13 +1,13 @@
 use Rattle.vc_base.proofs.Common.{ap, ◌∙◌}
 use Rattle.vc_splay.specs.Guide.{first_at}
 use Rattle.vc_dtord.specs.Nodes.{stands_to}
-use Rattle.vc_dtord.proofs.CallLemmas.{can_find, kept-found, steps-found, tree-found}
+use Rattle.vc_dtord.proofs.CallLemmas.{beside_root, can_find, kept-found, steps-found, tree-found}
 use Rattle.vc_dtord.proofs.calls.find_in.Goals as goal
 
 pub find_first-root-requires : goal.find_first-root-requires
 find_first-root-requires g c =
     let h = c.args.nodes.now in
-    can_find (g.D.DictDisc.rules c.args.kind.now) c.args.ord (g.C.Cells.blocks h.cells.now) h.mark.0 (ap (λ a. a.0) c.requires.mark) (g.met.D.DictDisc.lawful c.args.kind.now).order c.args.key.now c.requires.ord
+    can_find (g.D.DictDisc.rules c.args.kind.now) c.args.ord (g.C.Cells.blocks h.cells.now) h.mark.0 (beside_root c.args.ord (g.C.Cells.blocks h.cells.now) h.mark c.requires.mark) (g.met.D.DictDisc.lawful c.args.kind.now).order c.args.key.now c.requires.ord
 
 pub returns-clause-found : goal.returns-clause-found
 returns-clause-found g c = record {
@@ -15,12 +15,12 @@ returns-clause-found g c = record {
       let rules = g.D.DictDisc.rules c.args.kind.now in
       let b = g.C.Cells.blocks c.args.nodes.now.cells.now in
       let f = c.find_first-root in
-      let mark = ap (λ a. a.0) c.requires.mark in (
+      let here = beside_root c.args.ord b c.args.nodes.now.mark c.requires.mark in (
         record {
-          first = c.found.ensures ∙ f.ensures.answer s.tree (tree-found rules c.args.ord b c.args.nodes.now.mark.0 mark xs s) ∙ ap (λ ys. first_at (stands_to rules b c.args.key.now) ys) s.list;
-          steps = steps-found rules c.args.ord b c.args.nodes.now.mark.0 mark c.args.steps.now f.new.steps f.ensures.most_steps xs s;
+          first = c.found.ensures ∙ f.ensures.answer s.tree (tree-found rules c.args.ord b c.args.nodes.now.mark.0 here xs s) ∙ ap (λ ys. first_at (stands_to rules b c.args.key.now) ys) s.list;
+          steps = steps-found rules c.args.ord b c.args.nodes.now.mark.0 here c.args.steps.now f.new.steps f.ensures.most_steps xs s;
         },
-        kept-found rules c.args.ord b c.args.nodes.now.mark.0 mark (g.C.Cells.blocks f.new.nodes.cells.now) f.new.nodes.mark.0 _ f.ensures.rest.3 f.ensures.tree xs s,
+        kept-found rules c.args.ord b c.args.nodes.now.mark.0 here (g.C.Cells.blocks f.new.nodes.cells.now) f.new.nodes.mark.0 _ f.ensures.rest.3 f.ensures.tree xs s,
       );
   rest = c.find_first-root.ensures.rest.2;
 }
