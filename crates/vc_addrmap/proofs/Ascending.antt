@@ -1,5 +1,5 @@
 -- Lists of names along which addresses ascend: what is found in one, and how one changes.
-use Rattle.vc_base.proofs.Common.{◌≡◌, ℕ, ◌+◌, ◌<◌, ◌≤◌, Bool, true, false, if◌then◌else◌, ◌≢◌, ⊎_elim, List, [], ◌∷◌, length, ◌==◌, Option, Some, None, find, nat_cmp, is_eq, is_gt, Ordering, subst, cases_Bool, eq-eqb, ne_eqb, eqb-true, AreDistinct, inl, inr, sym, ap, refl, ◌∙◌, arith, nat_tests, eqb_tells, ordering_index, contains, without, true≢false}
+use Rattle.vc_base.proofs.Common.{◌≡◌, ℕ, ◌+◌, ◌<◌, ◌≤◌, Bool, true, false, if◌then◌else◌, ◌≢◌, ⊎_elim, List, [], ◌∷◌, ◌++◌, length, ◌==◌, Option, Some, None, find, nat_cmp, is_eq, is_gt, Ordering, subst, cases_Bool, eq-eqb, ne_eqb, eqb-true, AreDistinct, inl, inr, sym, ap, refl, ◌∙◌, arith, nat_tests, eqb_tells, ordering_index, contains, without, true≢false}
 use Rattle.vc_base.proofs.Lists.{find-passes}
 use Rattle.vc_base.proofs.Members.{within-cases, within-head, within-tail}
 use Rattle.vc_splay.specs.Guide.{RisesFrom, order_with_name}
@@ -118,3 +118,33 @@ module _ (key : ℕ → ℕ) where
         let is : key n ≡ a = eqb-true (key n) a (find-passes (λ m. key m == a) ns n g) in
         rw (ne_eqb x n (λ e. apart.1 (ap key e ∙ is))) (grind (arith, nat_tests, apart.1, at-without (key x + 1) n a q ns h.1 g))
   ]
+
+  -- lists on both sides of a name: its address lies between theirs
+  ascend-least : (low n : ℕ) (ns ms : List ℕ) → AscendFrom key low (ns ++ n ∷ ms) → low ≤ key n
+  ascend-least low n [] ms h = h.0
+  ascend-least low n (x ∷ ns) ms h = omega (arith, h.0, ascend-least (key x + 1) n ns ms h.1)
+
+  pub ascend-front : (low n : ℕ) (ns ms : List ℕ) → AscendFrom key low (ns ++ n ∷ ms) → AscendFrom key low ns
+  ascend-front low n [] ms h = tt
+  ascend-front low n (x ∷ ns) ms h = (h.0, ascend-front (key x + 1) n ns ms h.1)
+
+  pub ascend-behind : (low n : ℕ) (ns ms : List ℕ) → AscendFrom key low (ns ++ n ∷ ms) → AscendFrom key (key n + 1) ms
+  ascend-behind low n [] ms h = h.1
+  ascend-behind low n (x ∷ ns) ms h = ascend-behind (key x + 1) n ns ms h.1
+
+  -- an address is found before the name, at it, or behind it, as it is less, the same, or greater
+  pub at-before : (low n a : ℕ) (ns ms : List ℕ) → AscendFrom key low (ns ++ n ∷ ms) → a < key n → at (ns ++ n ∷ ms) a ≡ at ns a
+  at-before low n a [] ms h lt = grind (arith, nat_tests, none-below (key n + 1) a ms h.1 (omega arith))
+  at-before low n a (x ∷ ns) ms h lt = ap (λ z. if key x == a then Some x else z) (at-before (key x + 1) n a ns ms h.1 lt)
+
+  pub at-here : (low n a : ℕ) (ns ms : List ℕ) → AscendFrom key low (ns ++ n ∷ ms) → key n ≡ a → at (ns ++ n ∷ ms) a ≡ Some n
+  at-here low n a [] ms h e = rw (eq-eqb (key n) a e) refl
+  at-here low n a (x ∷ ns) ms h e =
+      let least = ascend-least (key x + 1) n ns ms h.1 in
+      rw (ne_eqb (key x) a (λ same. omega (arith, least, e, same))) (at-here (key x + 1) n a ns ms h.1 e)
+
+  pub at-behind : (low n a : ℕ) (ns ms : List ℕ) → AscendFrom key low (ns ++ n ∷ ms) → key n < a → at (ns ++ n ∷ ms) a ≡ at ms a
+  at-behind low n a [] ms h lt = rw (ne_eqb (key n) a (λ same. omega (arith, lt, same))) refl
+  at-behind low n a (x ∷ ns) ms h lt =
+      let least = ascend-least (key x + 1) n ns ms h.1 in
+      rw (ne_eqb (key x) a (λ same. omega (arith, least, lt, same))) (at-behind (key x + 1) n a ns ms h.1 lt)

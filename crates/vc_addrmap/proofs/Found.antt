@@ -23,6 +23,29 @@ with-none numbers a none = λ i q. point q i
       | inr apart ↦ rw apart.0 refl
     ]
 
+-- a number that moves to its own address stays
+pub moved-same : (numbers : Numbers) (from to : ℕ) → from ≡ to → moved_number from to numbers ≡ numbers
+moved-same numbers from to e = ap (λ z. moved_number from z numbers) (sym e) ∙ by (numbers from) refl
+  where
+    by : (o : Option ℕ) → numbers from ≡ o → (if is_some o then with_number from o (with_number from None numbers) else numbers) ≡ numbers
+    by None is = refl
+    by (Some v) is = λ i q. point q i
+      where
+        point : (q : ℕ) → (if from == q then Some v else (if from == q then None else numbers q)) ≡ numbers q
+        point q = elim (eqb_tells from q) as (λ _. (if from == q then Some v else (if from == q then None else numbers q)) ≡ numbers q) [
+          | inl same ↦ rw same.0 (sym is ∙ ap numbers same.1)
+          | inr apart ↦ rw apart.0 refl
+        ]
+
+-- and no number is lost
+pub same-lost : (numbers : Numbers) (from to m k : ℕ) → from ≡ to → k ≡ m → k + lost_by_move from to numbers ≡ m
+same-lost numbers from to m k same e =
+    ap (λ b. k + (if is_some (numbers from) && not b && is_some (numbers to) then 1 else 0)) (eq-eqb from to same) ∙ none (is_some (numbers from))
+  where
+    none : (b : Bool) → k + (if b && false && is_some (numbers to) then 1 else 0) ≡ m
+    none true = omega (arith, e)
+    none false = omega (arith, e)
+
 -- nor does it move to another
 pub moved-none : (numbers : Numbers) (from to : ℕ) → numbers from ≡ None → moved_number from to numbers ≡ numbers
 moved-none numbers from to none = ap (λ z. if is_some z then with_number to z (with_number from None numbers) else numbers) none
@@ -45,7 +68,10 @@ some-lost numbers mid from to v m k j some without less e =
     counted false true h = omega (arith, h, less)
     counted false false h = omega (arith, h, less)
 
--- the number of an entry
+-- the address of an entry, and its number
+pub address-is : (s : Slab Entry) (n : ℕ) (entry : Entry) → entry_at s n ≡ Some entry → address_at s n ≡ entry.at
+address-is s n entry is = ap (λ z. unwrap_or (option_map (λ x. x.at) z) 0) is
+
 pub value-is : (s : Slab Entry) (n : ℕ) (entry : Entry) → entry_at s n ≡ Some entry → value_at s n ≡ entry.value
 value-is s n entry is = ap (λ z. unwrap_or (option_map (λ x. x.value) z) 0) is
 

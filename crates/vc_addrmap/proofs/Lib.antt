@@ -3,3 +3,4 @@ pub mod Maps
 pub mod Written
 pub mod Found
 pub mod Added
+pub mod Descending

@@ -3,7 +3,7 @@ use Rattle.vc_base.proofs.Common.{◌≡◌, ℕ, Bool, true, false, ◌&&◌, i
 use Rattle.slab.specs.Slab.{Slab}
 use Rattle.vc_splay.specs.Store.{is_same, with_kid, with_parent}
 use Rattle.vc_addrmap.specs.declared.entries.Entry.{Entry}
-use Rattle.vc_addrmap.specs.Entries.{EntryWritten, entry_at, entry_store, has_entry, part_at}
+use Rattle.vc_addrmap.specs.Entries.{EntryWritten, child_of, entry_at, entry_store, has_entry, part_at}
 
 module _ (old new : Slab Entry) (n : ℕ) (entry other : Entry) (is : entry_at old n ≡ Some entry) (w : EntryWritten old new n other) where
   pub has-written : (m : ℕ) → has_entry new m ≡ has_entry old m
@@ -25,59 +25,51 @@ module _ (old new : Slab Entry) (n : ℕ) (entry other : Entry) (is : entry_at o
     | inr apart ↦ rw apart.0 refl
   ]
 
-and-true : (a : Bool) (v w : ℕ) → (if a then v else w) ≡ (if a && true then v else w)
-and-true true v w = refl
-and-true false v w = refl
-
-and-false : (a : Bool) (v w : ℕ) → w ≡ (if a && false then v else w)
-and-false true v w = refl
-and-false false v w = refl
-
 module _ (old new : Slab Entry) (n v : ℕ) (entry other : Entry) (is : entry_at old n ≡ Some entry) (w : EntryWritten old new n other) where
-  pub left-written : other ≡ record entry { left = v } → entry_store new ≡ with_kid true n v (entry_store old)
-  unfolding with_kid
-  left-written e = λ i. record {
-    has = λ m. has-written old new n entry other is w m i;
-    kid = λ d m. kid d m i;
-    parent = λ m. part-kept old new n entry other is w (λ x. x.up) (ap (λ x. x.up) e) m i;
-  }
+  -- a child that is written on a side where it is asked for, and one that is not
+  kid-at : (d e : Bool) → child_of e other ≡ (if d then v else child_of e entry) → (m : ℕ) → part_at (child_of e) new m ≡ (if (m == n) && d then v else part_at (child_of e) old m)
+  kid-at true e h m = part-written old new n entry other is w (child_of e) m ∙ ap (λ z. if m == n then z else part_at (child_of e) old m) h ∙ and-true (m == n)
     where
-      kid : (d : Bool) (m : ℕ) → (entry_store new).kid d m ≡ (if (m == n) && is_same true d then v else (entry_store old).kid d m)
-      kid true m = part-written old new n entry other is w (λ x. x.left) m ∙ ap (λ z. if m == n then z else part_at (λ x. x.left) old m) (ap (λ x. x.left) e) ∙ and-true (m == n) v (part_at (λ x. x.left) old m)
-      kid false m = part-kept old new n entry other is w (λ x. x.right) (ap (λ x. x.right) e) m ∙ and-false (m == n) v (part_at (λ x. x.right) old m)
+      and-true : (b : Bool) → (if b then v else part_at (child_of e) old m) ≡ (if b && true then v else part_at (child_of e) old m)
+      and-true true = refl
+      and-true false = refl
+  kid-at false e h m = part-kept old new n entry other is w (child_of e) h m ∙ and-false (m == n)
+    where
+      and-false : (b : Bool) → part_at (child_of e) old m ≡ (if b && false then v else part_at (child_of e) old m)
+      and-false true = refl
+      and-false false = refl
 
-  pub right-written : other ≡ record entry { right = v } → entry_store new ≡ with_kid false n v (entry_store old)
+  -- an entry that has another child on one side, and all else as it was
+  pub kid-written : (d : Bool) → (child_of true other ≡ (if is_same d true then v else child_of true entry)) × (child_of false other ≡ (if is_same d false then v else child_of false entry)) → other.up ≡ entry.up
+      → entry_store new ≡ with_kid d n v (entry_store old)
   unfolding with_kid
-  right-written e = λ i. record {
+  kid-written d kids up = λ i. record {
     has = λ m. has-written old new n entry other is w m i;
-    kid = λ d m. kid d m i;
-    parent = λ m. part-kept old new n entry other is w (λ x. x.up) (ap (λ x. x.up) e) m i;
+    kid = λ e m. kid e m i;
+    parent = λ m. part-kept old new n entry other is w (λ x. x.up) up m i;
   }
     where
-      kid : (d : Bool) (m : ℕ) → (entry_store new).kid d m ≡ (if (m == n) && is_same false d then v else (entry_store old).kid d m)
-      kid false m = part-written old new n entry other is w (λ x. x.right) m ∙ ap (λ z. if m == n then z else part_at (λ x. x.right) old m) (ap (λ x. x.right) e) ∙ and-true (m == n) v (part_at (λ x. x.right) old m)
-      kid true m = part-kept old new n entry other is w (λ x. x.left) (ap (λ x. x.left) e) m ∙ and-false (m == n) v (part_at (λ x. x.left) old m)
+      kid : (e : Bool) (m : ℕ) → (entry_store new).kid e m ≡ (if (m == n) && is_same d e then v else (entry_store old).kid e m)
+      kid true m = kid-at (is_same d true) true kids.0 m
+      kid false m = kid-at (is_same d false) false kids.1 m
+
+  -- an entry that has both children as before
+  kid-kept : other.left ≡ entry.left → other.right ≡ entry.right → (e : Bool) (m : ℕ) → (entry_store new).kid e m ≡ (entry_store old).kid e m
+  kid-kept l r true m = part-kept old new n entry other is w (λ x. x.left) l m
+  kid-kept l r false m = part-kept old new n entry other is w (λ x. x.right) r m
 
   pub up-written : other ≡ record entry { up = v } → entry_store new ≡ with_parent n v (entry_store old)
   unfolding with_parent
   up-written e = λ i. record {
     has = λ m. has-written old new n entry other is w m i;
-    kid = λ d m. kid d m i;
+    kid = λ d m. kid-kept (ap (λ x. x.left) e) (ap (λ x. x.right) e) d m i;
     parent = λ m. (part-written old new n entry other is w (λ x. x.up) m ∙ ap (λ z. if m == n then z else part_at (λ x. x.up) old m) (ap (λ x. x.up) e)) i;
   }
-    where
-      kid : (d : Bool) (m : ℕ) → (entry_store new).kid d m ≡ (entry_store old).kid d m
-      kid true m = part-kept old new n entry other is w (λ x. x.left) (ap (λ x. x.left) e) m
-      kid false m = part-kept old new n entry other is w (λ x. x.right) (ap (λ x. x.right) e) m
 
   -- another number leaves the nodes as they are
   pub store-kept : other ≡ record entry { value = v } → entry_store new ≡ entry_store old
   store-kept e = λ i. record {
     has = λ m. has-written old new n entry other is w m i;
-    kid = λ d m. kid d m i;
+    kid = λ d m. kid-kept (ap (λ x. x.left) e) (ap (λ x. x.right) e) d m i;
     parent = λ m. part-kept old new n entry other is w (λ x. x.up) (ap (λ x. x.up) e) m i;
   }
-    where
-      kid : (d : Bool) (m : ℕ) → (entry_store new).kid d m ≡ (entry_store old).kid d m
-      kid true m = part-kept old new n entry other is w (λ x. x.left) (ap (λ x. x.left) e) m
-      kid false m = part-kept old new n entry other is w (λ x. x.right) (ap (λ x. x.right) e) m

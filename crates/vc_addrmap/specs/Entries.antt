@@ -24,11 +24,15 @@ address_at s n = part_at (λ e. e.at) s n
 abbrev pub value_at : Slab Entry → ℕ → ℕ
 value_at s n = part_at (λ e. e.value) s n
 
+-- the name of an entry's left or right child
+abbrev pub child_of : Bool → Entry → ℕ
+child_of left e = if left then e.left else e.right
+
 -- the nodes and their links
 abbrev pub entry_store : Slab Entry → Store
 entry_store s = record {
   has = has_entry s;
-  kid = λ left n. part_at (λ e. if left then e.left else e.right) s n;
+  kid = λ left n. part_at (child_of left) s n;
   parent = λ n. part_at (λ e. e.up) s n;
 }
 

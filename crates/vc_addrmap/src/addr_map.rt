@@ -99,6 +99,24 @@ impl AddrMap {
         Some(self.entries.entry(n).value)
     }
 
+    /// The number of an address, by a look-up that changes nothing. None where it has none. It takes a step for each entry
+    /// on the way down, and leaves the tree as deep as it is: alone it may take as many steps as there are addresses,
+    /// each time. With a call of `get`, `put`, `take` or `moved` for the same address after it, the two together take a
+    /// time that is logarithmic, amortised over all such calls.
+    pub fn peek(&self, a: Addr) -> Option<u32>
+        ensures { result ≡ numbers_of self.now a.0 }
+    {
+        let mut at = self.root;
+        while at != 0 {
+            let entry = self.entries.entry(at);
+            if entry.at == a.0 {
+                return Some(entry.value);
+            }
+            at = entry.child(a.0 < entry.at);
+        }
+        None
+    }
+
     /// Gives an address a number, in place of the one that it has. Condition: there is room for one address more.
     pub fn put(&mut self, a: Addr, value: u32)
         requires { HasRoomForOne self.old }
@@ -148,13 +166,17 @@ impl AddrMap {
         Some(self.entries.remove(n).value)
     }
 
-    /// Gives the number of an address, where it has one, to another address, in place of the one that this has. It needs
-    /// no memory.
+    /// Gives the number of an address, where it has one, to another address, in place of the one that this has. Where both
+    /// are one address it is a look-up. It needs no memory.
     pub fn moved(&mut self, from: Addr, to: Addr)
         ensures numbers { numbers_of self.new ≡ moved_number from.0 to.0 (numbers_of self.old) }
         ensures count { count_of self.new + lost_by_move from.0 to.0 (numbers_of self.old)
             ≡ count_of self.old }
     {
+        if from.0 == to.0 {
+            let _ = self.get(from);
+            return;
+        }
         match self.take(from) {
             Some(value) => self.put(to, value),
             None => {}

@@ -1,6 +1,6 @@
 ghost use Rattle.std.specs.Prelude.{◌≡◌, ◌<◌, Some, refl, true};
 ghost use Rattle.slab.specs.Slab.{HasRoomFor, slab_len};
-ghost use Rattle.vc_addrmap.specs.Entries.{EntryAdded, EntryTakenOut, EntryWritten, entry_at, has_entry};
+ghost use Rattle.vc_addrmap.specs.Entries.{child_of, EntryAdded, EntryTakenOut, EntryWritten, entry_at, has_entry};
 
 use slab::Slab;
 use vc_splay::Nodes;
@@ -13,6 +13,16 @@ pub struct Entry {
     pub left: u32,
     pub right: u32,
     pub up: u32,
+}
+
+impl Entry {
+    /// The name of its left or right child, 0 where it has none.
+    #[inline(always)]
+    pub fn child(self, left: bool) -> u32
+        ensures { result ≡ child_of left self }
+    {
+        if left { self.left } else { self.right }
+    }
 }
 
 /// Entries as a store of nodes: an entry's name is the number of its place, from 1 on.

@@ -1,7 +1,13 @@
 use Rattle.vc_base.proofs.Common.{sym, ◌∙◌}
 use Rattle.vc_addrmap.specs.Parts.{numbers_of}
-use Rattle.vc_addrmap.proofs.Found.{moved-none, none-lost, some-lost, with-none}
+use Rattle.vc_addrmap.proofs.Found.{moved-none, moved-same, none-lost, same-lost, some-lost, with-none}
 use Rattle.vc_addrmap.proofs.addr_map.AddrMap.moved.Goals as goal
+
+pub returns-then-from-to : goal.returns-then-from-to
+returns-then-from-to c = record {
+  numbers = c.get.ensures.same ∙ sym (moved-same _ c.args.from.0 c.args.to.0 c.if-from-to.true);
+  count = same-lost (numbers_of c.args.self.now) c.args.from.0 c.args.to.0 _ _ c.if-from-to.true c.get.ensures.count;
+}
 
 pub returns-in-Some-clause-count : goal.returns-in-Some-clause-count
 returns-in-Some-clause-count c =
