@@ -13,6 +13,7 @@ mod pass;
 mod places;
 mod remethod;
 mod rows;
+mod seeking;
 mod weeded;
 
 pub use dict::{Dict, Dropped, after_dropped};
