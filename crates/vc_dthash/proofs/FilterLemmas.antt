@@ -1,5 +1,6 @@
 -- Those of a list that pass a test.
 use Rattle.vc_base.proofs.Common.{◌≡◌, ℕ, ◌+◌, ◌≤◌, Bool, true, false, cond, ◌≢◌, List, [], ◌∷◌, ◌++◌, length, if◌then◌else◌, ◌==◌, Some, filter, find, sym, refl, ap, ◌∙◌, subst, inl, inr, true≢false, arith, eqb_tells, count_by-le-length, length-filter, AreDistinct, contains, without}
+use Rattle.vc_base.specs.Holders.{last_of}
 use Rattle.vc_base.proofs.Members.{apart-head, apart-tail, apart-cons, apart-rest, within-tail}
 
 -- each of them is in the list, and passes
@@ -145,3 +146,12 @@ more_by false y ys now after most h e k = let s = e refl in omega (arith, s, k)
 
 pub filter-step : (p : ℕ → Bool) (y : ℕ) (ys : List ℕ) (now after most : ℕ) → after ≤ now + 1 → (p y ≡ false → after ≡ now) → now + length (filter p (y ∷ ys)) ≤ most → after + length (filter p ys) ≤ most
 filter-step p y ys now after most h e k = more_by (p y) y (filter p ys) now after most h e k
+
+-- the last of a list that passes is the last of those that do
+last_by : (p : ℕ → Bool) (t : Bool) (x other : ℕ) (ys : List ℕ) (last : ℕ) → ((z : ℕ) → last_of z ys ≡ last) → last_of other (cond t (x ∷ ys) ys) ≡ last
+last_by p true x other ys last f = f x
+last_by p false x other ys last f = f other
+
+pub filter-last : (p : ℕ → Bool) (x : ℕ) (xs : List ℕ) (other : ℕ) → p (last_of x xs) ≡ true → last_of other (filter p (x ∷ xs)) ≡ last_of x xs
+filter-last p x [] other h = rw h refl
+filter-last p x (y ∷ ys) other h = last_by p (p x) x other (filter p (y ∷ ys)) (last_of y ys) (λ z. filter-last p y ys z h)

@@ -19,7 +19,7 @@ use Rattle.vc_dthash.specs.Hashed.{ChainedUp, HasTable, HashFor, HashTurned, IsT
 use Rattle.vc_dthash.specs.Slots.{IsSlots, most_slots, slots_for, wanted_slots}
 use Rattle.vc_dthash.specs.ChainWrites.{CanPoint, Cleared, Filled, Marked, Pointed}
 use Rattle.vc_dthash.proofs.ChainLemmas.{Leads-fits, Leads-split, Redirects, chains-hash, chains-joined, chains-parted, chains-same}
-use Rattle.vc_dthash.proofs.FilterLemmas.{filter-less, filter-passes, filter-shorter, filter-within}
+use Rattle.vc_dthash.proofs.FilterLemmas.{filter-last, filter-less, filter-passes, filter-shorter, filter-within}
 use Rattle.vc_dthash.proofs.WriteLemmas.{word-same}
 
 -- a table of a list that changed in size
@@ -197,6 +197,19 @@ last-points rules hash b xs front k before s small within e =
       ];
     }
 
+-- its last holder is one of them, and the last of its own chain
+pub last-holder : (rules : Rules) (hash : DtHash) (b : Blocks) (xs : List ℕ) → HashFor rules hash b xs → hash.last.0 ≢ 0 → contains xs hash.last.0 ≡ true
+last-holder rules hash b xs s some = last_within xs xs hash.last.0 s.links.last some (λ a h. h)
+
+ends_chain : (hash : ℕ → ℕ) (slots k last : ℕ) (xs : List ℕ) → last ≡ last_of 0 xs → last ≢ 0 → hash last % slots ≡ k → last ≡ last_of 0 (chain_of hash slots k xs)
+ends_chain hash slots k last [] e some h = absurd (some e)
+ends_chain hash slots k last (x ∷ xs) e some h =
+    e ∙ sym (filter-last (λ a. hash a % slots == k) x xs 0 (eq-eqb (hash (last_of x xs) % slots) k (ap (λ z. hash z % slots) (sym e) ∙ h)))
+
+pub last-in_chain : (rules : Rules) (hash : DtHash) (b : Blocks) (xs : List ℕ) (k : ℕ) → HashFor rules hash b xs → hash.last.0 ≢ 0 → word_at b hash.last.0 3 % hash.slots ≡ k → hash.last.0 ≡ last_of 0 (chain_of (hash_at rules b) hash.slots k xs)
+last-in_chain rules hash b xs k s some e =
+    ends_chain (hash_at rules b) hash.slots k hash.last.0 xs s.links.last some (ap (λ z. z % hash.slots) (sym (s.hashes hash.last.0 (last-holder rules hash b xs s some))) ∙ e)
+
 -- one joins at the end: its words 2 and 3 are written, then the end of its chain leads to it
 pub record Joining (rules : Rules) (old : DtHash) (b0 b1 b2 : Blocks) (at hash s before : ℕ) (xs : List ℕ) : Type 0 where
   pub stands : HashFor rules old b0 xs
@@ -212,8 +225,8 @@ pub record Joining (rules : Rules) (old : DtHash) (b0 b1 b2 : Blocks) (at hash s
 
 pub joins : {rules : Rules} {old : DtHash} {b0 b1 b2 : Blocks} {at hash s before : ℕ} {object key xs : List ℕ} → HashFor rules old b0 xs → contains (old.table.0 ∷ xs) at ≡ false → IsHolder b0 at → IsAddress at
     → s ≡ hash % old.slots → s < old.slots → hash ≡ rules.hash key → key ≡ rules.key object → object ≡ object_at b0 at
-    → ((front rest : List ℕ) → IsChainPlace b0 old.table.0 s old.count 0 front rest → before ≡ last_of 0 front) → WordWritten b0 b1 at 2 0 → WordWritten b1 b2 at 3 hash → Joining rules old b0 b1 b2 at hash s before xs
-joins {rules = rules} {old = old} {b0 = b0} {s = s} {xs = xs} stands apart holder address slot_is small hash_is key_is object_is seek ended hashed = record {
+    → before ≡ last_of 0 (chain_of (hash_at rules b0) old.slots s xs) → WordWritten b0 b1 at 2 0 → WordWritten b1 b2 at 3 hash → Joining rules old b0 b1 b2 at hash s before xs
+joins {rules = rules} stands apart holder address slot_is small hash_is key_is object_is last ended hashed = record {
   stands = stands;
   apart = apart;
   holder = holder;
@@ -221,7 +234,7 @@ joins {rules = rules} {old = old} {b0 = b0} {s = s} {xs = xs} stands apart holde
   small = small;
   hash_is = hash_is ∙ ap rules.hash (key_is ∙ ap rules.key object_is);
   slot_is = slot_is;
-  last = seek (chain_of (hash_at rules b0) old.slots s xs) [] (end-place rules old b0 xs s stands small);
+  last = last;
   ended = ended;
   hashed = hashed;
 }

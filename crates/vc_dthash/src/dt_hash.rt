@@ -1,10 +1,11 @@
-ghost use Rattle.std.specs.Prelude.{◌≡◌, ℕ, List, [], ◌∷◌, ◌++◌, None};
+ghost use Rattle.std.specs.Prelude.{◌≡◌, ℕ, ◌<◌, List, [], ◌∷◌, ◌++◌, None};
 ghost use Rattle.std.specs.Option.{option_map};
+ghost use Rattle.vc_base.specs.Holders.{last_of};
 ghost use Rattle.vc_base.specs.Prelude.{Blocks, first_in, last_in, next_in, previous_in, without};
 ghost use Rattle.vc_dtdisc.specs.Rules.{Rules};
 ghost use Rattle.vc_dtlist.specs.Linked.{StandsFor, number_of};
 ghost use Rattle.vc_dtlist.specs.TableWrites.{ChangesIn};
-ghost use Rattle.vc_dthash.specs.Chained.{FindsInSlot};
+ghost use Rattle.vc_dthash.specs.Chained.{FindsInSlot, chain_of, hash_at};
 ghost use Rattle.vc_dthash.specs.Hashed.{Adopts, CanAdopt, CanChain, CanLink, ChainedUp, HashFor, HashTurns, IsHash, IsKept, IsLinked, Listed, list_of};
 ghost use Rattle.vc_dthash.specs.Slots.{most_slots, slots_for, wanted_slots};
 
@@ -154,6 +155,22 @@ impl DtHash {
         fill(self.list(), self.count, cells, self.table, self.slots);
     }
 
+    // The last holder of a slot's chain, or none where it is empty. The list's last one is also that of its own chain, so
+    // that no walk is made where it belongs to the slot.
+    fn chain_end<C: Cells>(&self, cells: &C, k: u32) -> Addr
+        requires kept { IsKept self.now (C.blocks cells.now) }
+        requires slot { k < self.now.slots }
+        ensures { (rules : Rules) (holders : List ℕ)
+            → HashFor rules self.now (C.blocks cells.now) holders
+            → result.0
+            ≡ last_of 0 (chain_of (hash_at rules (C.blocks cells.now)) self.now.slots k holders) }
+    {
+        if self.last != Addr::NONE && slot_of(cells.load(self.last, 3), self.slots) == k {
+            return self.last;
+        }
+        seek_before(cells, self.table, k, self.count, Addr::NONE)
+    }
+
     /// Puts a holder at the end. It has at least 33 bytes and is neither in the list nor the table, and `wants_table(1)`
     /// is none.
     pub fn link<C: Cells, D: DictDisc>(&mut self, cells: &mut C, kind: &D, at: Addr)
@@ -164,7 +181,7 @@ impl DtHash {
     {
         let hash = kind.hash(kind.key(cells.body(at)));
         let k = slot_of(hash, self.slots);
-        let before = seek_before(cells, self.table, k, self.count, Addr::NONE);
+        let before = self.chain_end(cells, k);
         set_word(cells, at, 2, 0);
         set_word(cells, at, 3, hash);
         point(cells, self.table, k, before, at);

@@ -1,9 +1,8 @@
-use Rattle.vc_base.proofs.Common.{◌≡◌, false, [], ◌∷◌, refl, arith, contains}
+use Rattle.vc_base.proofs.Common.{◌≡◌, false, ◌∷◌, refl, arith, contains}
 use Rattle.vc_base.proofs.Members.{apart-tail}
 use Rattle.vc_dtlist.proofs.TurnLemmas.{fewer}
 use Rattle.vc_dtlist.proofs.WordLemmas.{HasBytes-written}
-use Rattle.vc_dthash.specs.Chained.{chain_of, hash_at}
-use Rattle.vc_dthash.proofs.HashLemmas.{HashFor-unique, HashTurned-joined, end-place, few, joined-holder, joined-links, joined-point, joins, room, slots-wanted}
+use Rattle.vc_dthash.proofs.HashLemmas.{HashFor-unique, HashTurned-joined, few, joined-holder, joined-links, joined-point, joins, room, slots-wanted}
 use Rattle.vc_dthash.proofs.dt_hash.DtHash.link.Goals as goal
 
 pub body-requires : goal.body-requires
@@ -12,14 +11,8 @@ body-requires g c = fewer (g.C.Cells.blocks c.args.cells.now) c.args.at.0 c.requ
 pub slot_of-k-requires : goal.slot_of-k-requires
 slot_of-k-requires g c = slots-wanted c.args.self.now.slots c.args.self.now.count c.requires.room
 
-pub seek_before-before-requires : goal.seek_before-before-requires
-seek_before-before-requires g c =
-    let k = c.slot_of-k.result in
-    record {
-      front = chain_of (hash_at (g.D.DictDisc.rules c.args.kind.now) (g.C.Cells.blocks c.args.cells.now)) c.args.self.now.slots k c.requires.holders;
-      rest = [];
-      place = end-place (g.D.DictDisc.rules c.args.kind.now) c.args.self.now (g.C.Cells.blocks c.args.cells.now) c.requires.holders k c.requires.stands c.slot_of-k.ensures.below;
-    }
+pub chain_end-before-requires-clause-kept : goal.chain_end-before-requires-clause-kept
+chain_end-before-requires-clause-kept g c = record { rules = g.D.DictDisc.rules c.args.kind.now; is = record { holders = c.requires.holders; stands = c.requires.stands } }
 
 pub set_word-requires-clause-holder : goal.set_word-requires-clause-holder
 set_word-requires-clause-holder g c = fewer (g.C.Cells.blocks c.args.cells.now) c.args.at.0 c.requires.holder
@@ -32,12 +25,12 @@ set_word-requires-2-clause-holder g c =
 pub point-requires : goal.point-requires
 point-requires g c =
     joined-point (joins c.requires.stands c.requires.apart c.requires.holder (g.met.C.Cells.addresses c.args.cells.now c.args.at.0 c.requires.holder.there) c.slot_of-k.ensures.value c.slot_of-k.ensures.below
-    c.hash-hash.ensures c.key.ensures c.body.ensures c.seek_before-before.ensures c.set_word.ensures.change c.set_word-2.ensures.change)
+    c.hash-hash.ensures c.key.ensures c.body.ensures (c.chain_end-before.ensures (g.D.DictDisc.rules c.args.kind.now) c.requires.holders c.requires.stands) c.set_word.ensures.change c.set_word-2.ensures.change)
 
 pub join_back-requires : goal.join_back-requires
 join_back-requires g c =
     let j = joins c.requires.stands c.requires.apart c.requires.holder (g.met.C.Cells.addresses c.args.cells.now c.args.at.0 c.requires.holder.there) c.slot_of-k.ensures.value c.slot_of-k.ensures.below
-    c.hash-hash.ensures c.key.ensures c.body.ensures c.seek_before-before.ensures c.set_word.ensures.change c.set_word-2.ensures.change in
+    c.hash-hash.ensures c.key.ensures c.body.ensures (c.chain_end-before.ensures (g.D.DictDisc.rules c.args.kind.now) c.requires.holders c.requires.stands) c.set_word.ensures.change c.set_word-2.ensures.change in
     record {
       holders = c.requires.holders;
       links = rw c.list-list.ensures (joined-links j (g.C.Cells.blocks c.point.new.cells) c.point.ensures.change);
@@ -58,7 +51,7 @@ returns g c = record {
       let b = g.C.Cells.blocks c.point.new.cells in
       let apart : contains (self.table.0 ∷ holders) c.args.at.0 ≡ false = rw (HashFor-unique rules rules self (g.C.Cells.blocks c.args.cells.now) holders c.requires.holders s c.requires.stands) c.requires.apart in
       let j = joins s apart c.requires.holder (g.met.C.Cells.addresses c.args.cells.now c.args.at.0 c.requires.holder.there) c.slot_of-k.ensures.value c.slot_of-k.ensures.below
-      c.hash-hash.ensures c.key.ensures c.body.ensures c.seek_before-before.ensures c.set_word.ensures.change c.set_word-2.ensures.change in
+      c.hash-hash.ensures c.key.ensures c.body.ensures (c.chain_end-before.ensures rules holders s) c.set_word.ensures.change c.set_word-2.ensures.change in
       HashTurned-joined j b c.point.ensures.change
       _ (g.C.Cells.blocks c.join_back.new.cells) (room self.slots self.count c.requires.room) (c.join_back.ensures.change holders (rw c.list-list.ensures (joined-links j b c.point.ensures.change))) refl refl refl;
   rest = g.met.C.Cells.transitive _ _ _ (g.met.C.Cells.transitive _ _ _ (g.met.C.Cells.transitive _ _ _ c.set_word.ensures.rest c.set_word-2.ensures.rest) c.point.ensures.rest) c.join_back.ensures.rest;
