@@ -155,3 +155,12 @@ last_by p false x other ys last f = f other
 pub filter-last : (p : ℕ → Bool) (x : ℕ) (xs : List ℕ) (other : ℕ) → p (last_of x xs) ≡ true → last_of other (filter p (x ∷ xs)) ≡ last_of x xs
 filter-last p x [] other h = rw h refl
 filter-last p x (y ∷ ys) other h = last_by p (p x) x other (filter p (y ∷ ys)) (last_of y ys) (λ z. filter-last p y ys z h)
+
+-- those of a list that pass a test are those of the ones that pass another, where whatever passes that one passes this
+twice_by : (p test : ℕ → Bool) (t : Bool) (x : ℕ) (xs ys : List ℕ) → p x ≡ t → (test x ≡ true → p x ≡ true) → filter test ys ≡ filter test xs → filter test (cond t (x ∷ ys) ys) ≡ cond (test x) (x ∷ filter test xs) (filter test xs)
+twice_by p test true x xs ys e f h = ap (λ z. cond (test x) (x ∷ z) z) h
+twice_by p test false x xs ys e f h = h ∙ sym (ap (λ t. cond t (x ∷ filter test xs) (filter test xs)) (fails_by p test x (test x) refl f e))
+
+pub filter-twice : (p test : ℕ → Bool) (xs : List ℕ) → ((a : ℕ) → test a ≡ true → p a ≡ true) → filter test (filter p xs) ≡ filter test xs
+filter-twice p test [] f = refl
+filter-twice p test (x ∷ xs) f = twice_by p test (p x) x xs (filter p xs) refl (f x) (filter-twice p test xs f)

@@ -6,3 +6,4 @@ pub mod WalkLemmas
 pub mod FillLemmas
 pub mod MarkLemmas
 pub mod HashLemmas
+pub mod TrailLemmas

@@ -1,11 +1,12 @@
 -- The chains of a table: holders whose keys' hashes belong to one slot.
-use Rattle.std.specs.Prelude.{◌≡◌, ℕ, ◌+◌, ◌*◌, ◌%◌, ◌≤◌, ◌<◌, List, [], ◌∷◌, ◌++◌, Option, false, true, ◌==◌, length}
+use Rattle.std.specs.Prelude.{◌≡◌, ℕ, ◌+◌, ◌*◌, ◌%◌, ◌≤◌, ◌<◌, List, [], ◌∷◌, ◌++◌, Option, Some, false, true, ◌==◌, length}
 use Rattle.std.specs.List.{filter}
 use Rattle.std.specs.Option.{option_map}
 use Rattle.vc_base.specs.declared.addr.Addr.{Addr}
 use Rattle.vc_base.specs.Cells.{Blocks, HasBytes, IsAddress, IsHolder, word_at}
 use Rattle.vc_base.specs.Holders.{contains, first_of}
-use Rattle.vc_dtdisc.specs.Finds.{find_key, object_at}
+use Rattle.vc_dtdisc.specs.Finding.{last_of}
+use Rattle.vc_dtdisc.specs.Finds.{find_key, has_key, object_at}
 use Rattle.vc_dtdisc.specs.Rules.{Rules}
 use Rattle.vc_dtlist.specs.Linked.{number_of}
 
@@ -60,3 +61,11 @@ pub record FindsInSlot (rules : Rules) (slots : ℕ) (blocks : Blocks) (key hold
   pub first : option_map number_of result ≡ find_key rules blocks key holders
   pub steps : after ≤ before + length (chain_of (hash_at rules blocks) slots (rules.hash key % slots) holders)
   pub alike : after ≤ before + length (with_hash (hash_at rules blocks) (rules.hash key) holders)
+
+-- the last of these holders that has the key of one of them was found, by at most one step for each that belongs to its
+-- slot, and at most one for each behind it that has its hash
+pub record FindsLast (rules : Rules) (slots : ℕ) (blocks : Blocks) (at : ℕ) (holders : List ℕ) (result before after : ℕ) : Type 0 where
+  pub last : Some result ≡ last_of (filter (has_key rules blocks (rules.key (object_at blocks at))) holders)
+  pub steps : after ≤ before + length (chain_of (hash_at rules blocks) slots (hash_at rules blocks at % slots) holders)
+  pub behind : (front rest : List ℕ) → holders ≡ front ++ at ∷ rest
+      → after ≤ before + length (with_hash (hash_at rules blocks) (hash_at rules blocks at) rest)

@@ -1,4 +1,4 @@
-ghost use Rattle.std.specs.Prelude.{◌≡◌, ◌≢◌, ℕ, ◌+◌, ◌*◌, ◌%◌, ◌<◌, ◌≤◌, ◌^◌, List};
+ghost use Rattle.std.specs.Prelude.{◌≡◌, ◌≢◌, ℕ, ◌+◌, ◌*◌, ◌%◌, ◌<◌, ◌≤◌, ◌^◌, List, if◌then◌else◌};
 ghost use Rattle.vc_base.specs.Prelude.{HasBytes, word_at};
 ghost use Rattle.vc_base.specs.Holders.{last_of};
 ghost use Rattle.vc_dtdisc.specs.Finds.{has_key};
@@ -58,6 +58,33 @@ pub(crate) fn is_found<C: Cells, D: DictDisc, L>(
         return false;
     }
     kind.compare(kind.key(cells.body(at)), key, steps).is_eq()
+}
+
+// The second of two holders where its object has that key, and else the first, by at most one compare: by none where the
+// second has another hash.
+pub(crate) fn if_found<C: Cells, D: DictDisc, L>(
+    cells: &C,
+    kind: &D,
+    last: Addr,
+    at: Addr,
+    hash: u64,
+    key: &[u8],
+    steps: &mut Steps<L>,
+) -> Addr
+    requires holder { HasBytes (C.blocks cells.now) at.0 32 }
+    requires hashed { IsHashed (D.rules kind.now) (C.blocks cells.now) at.0 }
+    requires hash { hash ≡ (D.rules kind.now).hash key.now }
+    ensures value { result.0
+        ≡ (if has_key (D.rules kind.now) (C.blocks cells.now) key.now at.0 then at.0
+        else last.0) }
+    ensures steps { steps.new ≤ steps.old + 1 }
+    ensures none { word_at (C.blocks cells.now) at.0 3 ≢ hash → steps.new ≡ steps.old }
+{
+    if is_found(cells, kind, at, hash, key, steps) {
+        at
+    } else {
+        last
+    }
 }
 
 // The holder of a chain that stands before one of it, or before its end where none is named; none where that is first.

@@ -5,11 +5,13 @@ ghost use Rattle.vc_base.specs.Prelude.{Blocks, first_in, last_in, next_in, prev
 ghost use Rattle.vc_dtdisc.specs.Rules.{Rules};
 ghost use Rattle.vc_dtlist.specs.Linked.{StandsFor, number_of};
 ghost use Rattle.vc_dtlist.specs.TableWrites.{ChangesIn};
-ghost use Rattle.vc_dthash.specs.Chained.{FindsInSlot, chain_of, hash_at};
+ghost use Rattle.vc_dthash.specs.Chained.{FindsInSlot, FindsLast, chain_of, hash_at};
 ghost use Rattle.vc_dthash.specs.Hashed.{Adopts, CanAdopt, CanChain, CanLink, ChainedUp, HashFor, HashTurns, IsHash, IsKept, IsLinked, Listed, list_of};
 ghost use Rattle.vc_dthash.specs.Slots.{most_slots, slots_for, wanted_slots};
 
-use crate::chains::{clear, fill, free_all, hash_all, head, is_found, point, seek_before, slot_of};
+use crate::chains::{
+    clear, fill, free_all, hash_all, head, if_found, is_found, point, seek_before, slot_of,
+};
 use vc_base::{Addr, Cells, Steps};
 use vc_dtdisc::DictDisc;
 use vc_dtlist::{DtList, found, neighbour, set_word};
@@ -239,6 +241,37 @@ impl DtHash {
             at = neighbour(cells, at, 2);
         }
         None
+    }
+
+    /// The last holder whose object matches that of one of the list, `at`: that one, or one behind it in its chain. It makes
+    /// at most as many compares as there are holders whose hash belongs to its slot, and at most one for each holder behind
+    /// it that has its hash.
+    pub fn last_like<C: Cells, D: DictDisc, L>(
+        &self,
+        cells: &C,
+        kind: &D,
+        at: Addr,
+        steps: &mut Steps<L>,
+    ) -> Addr
+        requires hash { IsHash (D.rules kind.now) self.now (C.blocks cells.now) }
+        requires within { IsLinked self.now (C.blocks cells.now) at.0 }
+        ensures { (holders : List ℕ)
+            → HashFor (D.rules kind.now) self.now (C.blocks cells.now) holders
+            → FindsLast (D.rules kind.now) self.now.slots (C.blocks cells.now) at.0 holders
+            result.0 steps.old steps.new }
+    {
+        let hash = cells.load(at, 3);
+        let key = kind.key(cells.body(at));
+        let mut last = at;
+        let mut next = neighbour(cells, at, 2);
+        for _passed in 0..self.count {
+            if next == Addr::NONE {
+                return last;
+            }
+            last = if_found(cells, kind, last, next, hash, key, steps);
+            next = neighbour(cells, next, 2);
+        }
+        last
     }
 
     /// The first holder, or none where there are none.
