@@ -14,3 +14,5 @@ pub mod GuideLemmas
 pub mod SearchLemmas
 pub mod LeafLemmas
 pub mod UnlinkLemmas
+pub mod DigitLemmas
+pub mod RankLemmas

@@ -2,6 +2,7 @@ pub mod Tree
 pub mod Store
 pub mod Stands
 pub mod Writes
+pub mod Rank
 pub mod Moves
 pub mod Unique
 pub mod Walks

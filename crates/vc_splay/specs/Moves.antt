@@ -1,9 +1,10 @@
 -- Parts of a tree on the way up from a node, and what a step of a splay does to them.
-use Rattle.std.specs.Prelude.{◌≡◌, ◌≢◌, ℕ, ◌+◌, ◌≤◌, Bool, true, false, not, List, [], ◌∷◌, ◌==◌, if◌then◌else◌}
+use Rattle.std.specs.Prelude.{◌≡◌, ◌≢◌, ℕ, ◌+◌, ◌*◌, ◌/◌, ◌≤◌, Bool, true, false, not, List, [], ◌∷◌, ◌==◌, if◌then◌else◌}
 use Rattle.vc_base.specs.Holders.{contains}
 use Rattle.vc_splay.specs.Store.{Store, SameLinks}
 use Rattle.vc_splay.specs.Stands.{Stands}
 use Rattle.vc_splay.specs.Tree.{Tree, Node, names, name_of}
+use Rattle.vc_splay.specs.Rank.{level, rank, size}
 
 -- a node's tree with one subtree on this side and the other one on the other side
 abbrev pub joined_tree : Bool → Tree → ℕ → Tree → Tree
@@ -118,6 +119,11 @@ pub record Topped (old new : Store) (at : ℕ) (in_order : List ℕ) (left right
 pub record CanStep (s : Store) (at below above left right : ℕ) : Type 0 where
   pub can_rise : CanRise s at below above left right
   pub some : above ≢ 0
+
+-- what a step of a node costs that has this tree and context, and then those: a twofold step falls away, and twice the
+-- rank with it, but for six levels of what the node gains
+pub record Law (c : Context) (t : Tree) (context : Context) (tree : Tree) : Type 0 where
+  pub law : 2 * (depth c / 2) + 2 * rank (plug context tree) + 6 * level (size t) ≤ 2 * (depth context / 2) + 2 * rank (plug c t) + 6 * level (size tree)
 
 -- one step up: fewer nodes are above it, the names stand in the same order, and all others keep their links
 pub record Step (old new : Store) (at : ℕ) (c : Context) (t : Tree) (below above left right : ℕ) : Type 0 where
