@@ -1,5 +1,5 @@
 -- A final CR, and the steps of the cutter of words.
-use Rattle.vc_base.proofs.Common.{◌≡◌, ℕ, ◌+◌, ◌<◌, ◌≤◌, true, false, cond, eqb, List, [], ◌∷◌, ◌++◌, length, get_or, drop, slice_range, sym, refl, ap, ◌∙◌, append_assoc, append-nil, arith, at_drop_more, map_push}
+use Rattle.vc_base.proofs.Common.{◌≡◌, ℕ, ◌+◌, ◌<◌, ◌≤◌, true, false, cond, eqb, List, [], ◌∷◌, ◌++◌, length, get_or, take, drop, slice_range, sym, refl, ap, ◌∙◌, append_assoc, append-nil, arith, at_drop_more, map_push, take_all, take-append-le}
 use Rattle.std.proofs.lemmas.List.{at_drop_all}
 use Rattle.std.proofs.lemmas.List.Edits.{between_none, between_more, length-between}
 use Rattle.vc_script.specs.Lines.{piece, without_cr}
@@ -73,6 +73,11 @@ words_from-none done xs start i here end =
     ∙ ap (λ k. done ++ piece (slice_range xs k i)) here
     ∙ ap (λ bs. done ++ piece bs) (between_none xs i)
     ∙ append-nil done
+
+-- so many words that are done are the line's first
+pub words_from-full : (done : List (List ℕ)) (xs : List ℕ) (start i n : ℕ) → length done ≡ n → take n (words_from done xs start i) ≡ done
+words_from-full done xs start i n all =
+    take-append-le n done (words_after (slice_range xs start i) (drop i xs)) (omega arith) ∙ take_all n done (omega arith)
 
 pub ruleset cr_steps = (without_cr-cr, without_cr-other)
 

@@ -3,6 +3,8 @@ pub mod LineSteps
 pub mod Feeding
 pub mod Pieces
 pub mod NameBounds
+pub mod FirstRows
+pub mod Slots
 pub mod WordSteps
 pub mod PrintSteps
 pub mod ProperWords

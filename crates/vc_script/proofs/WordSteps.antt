@@ -1,7 +1,9 @@
 -- Steps of the readers of escapes and of addresses.
-use Rattle.vc_base.proofs.Common.{◌≡◌, ℕ, ◌+◌, ◌<◌, ◌≤◌, true, false, cond, ◌&&◌, eqb, List, [], length, get_or, take, drop, Ok, Err, ap, ◌∙◌, arith, and-false, at_drop_more}
+use Rattle.vc_base.proofs.Common.{◌≡◌, ℕ, suc, Some, ◌∷◌, ◌+◌, ◌<◌, ◌≤◌, true, false, cond, ◌&&◌, eqb, List, [], length, get_or, take, drop, Ok, Err, ap, ◌∙◌, arith, and-false, at_drop_more}
 use Rattle.std.proofs.lemmas.List.{at_drop_all}
 use Rattle.std.proofs.lemmas.List.Sums.{position_or_len_is}
+use Rattle.percent_encoding.specs.Percent.{percent_decode}
+use Rattle.percent_encoding.proofs.PercentLemmas.{percent_decode-nil, percent_decode_not_percent}
 use Rattle.vc_script.specs.declared.line_fault.LineFault.TheVariants.{BadAddress}
 use Rattle.vc_script.specs.Words.{begins_with_byte, digits_value, is_between, is_escaped, is_number}
 use Rattle.vc_script.specs.Forms.{address_of, address_of_parts, is_colon}
@@ -34,6 +36,15 @@ pub is_escaped-end : (xs : List ℕ) (i : ℕ) → length xs ≤ i → is_escape
 is_escaped-end xs i end = at_drop_all is_escaped xs i end
 
 pub ruleset escape_steps = (is_escaped-other, is_escaped-escape, is_escaped-bare, is_escaped-end)
+
+-- a word without `%` spells itself
+decoded-plain : (xs : List ℕ) → ((k : ℕ) → k < length xs → get_or xs k 0 ≡ 37 → ⊥) → percent_decode xs ≡ xs
+decoded-plain [] plain = percent_decode-nil
+decoded-plain (b ∷ bs) plain =
+    percent_decode_not_percent b bs (plain 0 (omega arith)) ∙ ap (λ rest. b ∷ rest) (decoded-plain bs (λ k less. plain (suc k) (omega arith)))
+
+pub plain-word : (xs : List ℕ) (n : ℕ) → (n ≡ 0 → (k : ℕ) → k < length xs → get_or xs k 0 ≡ 37 → ⊥) → Some n ≡ Some 0 → percent_decode xs ≡ xs
+plain-word xs n plain none = decoded-plain xs (plain (cc))
 
 -- an address is cut at its first colon
 pub address_of-colon : (xs : List ℕ) (i : ℕ) → i < length xs → ((k : ℕ) → k < i → is_colon (get_or xs k 0) ≡ false) → get_or xs i 0 ≡ 58 → address_of xs ≡ address_of_parts (take i xs) (drop (i + 1) xs)

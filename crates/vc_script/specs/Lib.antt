@@ -10,6 +10,8 @@ pub mod Pieces
 pub mod Words
 pub mod Forms
 pub mod Table
+pub mod FirstWords
+pub mod Spelled
 pub mod Answer
 pub mod Proper
 pub mod Needs

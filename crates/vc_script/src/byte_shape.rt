@@ -1,22 +1,23 @@
 ghost use Rattle.std.specs.Prelude.{◌≡◌, [], ◌∷◌, Some, None, map, option_map, IfOk};
 ghost use Rattle.std.specs.Result.{result_map_both};
-ghost use Rattle.percent_encoding.specs.Percent.{percent_decode};
 ghost use Rattle.vc_script.specs.Forms as form;
+ghost use Rattle.vc_script.specs.Spelled.{spelled_bytes};
 ghost use Rattle.vc_script.specs.Table.{read_words};
 
-use crate::form::{decoded, escaped_of, name_of, number_of};
+use crate::form::{decoded, name_of, number_of, spelled_of};
 use crate::in_turn::two;
+use crate::spelled::Spelled;
 use crate::{Bytes, LineFault};
 use std::alloc::Global;
 use vc_base::{Name, OutOfMemory};
 
 // `D OBJ`, with the word that spells the object.
-fn object_word_in<'a>(others: &[&'a [u8]]) -> Result<(Name, &'a [u8]), LineFault>
-    ensures { result_map_both (λ t. (t.0, (percent_decode t.1.now, tt))) (λ e. e) result
+fn object_word_in<'a>(others: &[&'a [u8]]) -> Result<(Name, Spelled<'a>), LineFault>
+    ensures { result_map_both (λ t. (t.0, (spelled_bytes t.1, tt))) (λ e. e) result
         ≡ read_words (form.Name ∷ form.Bytes ∷ []) None (map (λ w. w.now) others.now) }
 {
     match others {
-        [dict, object] => two(name_of(dict), escaped_of(object)),
+        [dict, object] => two(name_of(dict), spelled_of(object)),
         _ => Err(LineFault::WordCount),
     }
 }
@@ -54,8 +55,8 @@ pub(crate) fn delete_in(
 }
 
 // `R X OFF BYTES`, with the word that spells the bytes.
-fn write_word_in<'a>(others: &[&'a [u8]]) -> Result<(Name, Name, u32, &'a [u8]), LineFault>
-    ensures { result_map_both (λ t. (t.0, (t.1, (t.2, (percent_decode t.3.now, tt))))) (λ e. e)
+fn write_word_in<'a>(others: &[&'a [u8]]) -> Result<(Name, Name, u32, Spelled<'a>), LineFault>
+    ensures { result_map_both (λ t. (t.0, (t.1, (t.2, (spelled_bytes t.3, tt))))) (λ e. e)
         result
         ≡ read_words (form.Name ∷ form.Name ∷ form.Number ∷ form.Bytes ∷ []) None
         (map (λ w. w.now) others.now) }
@@ -65,7 +66,7 @@ fn write_word_in<'a>(others: &[&'a [u8]]) -> Result<(Name, Name, u32, &'a [u8]),
             let region = name_of(region)?;
             let block = name_of(block)?;
             let off = number_of(off)?;
-            let bytes = escaped_of(bytes)?;
+            let bytes = spelled_of(bytes)?;
             Ok((region, block, off, bytes))
         }
         _ => Err(LineFault::WordCount),

@@ -5,6 +5,7 @@ ghost use Rattle.vc_script.specs.Cutting.{new_cutting};
 ghost use Rattle.vc_script.specs.Cutter.{after_end, end_cut, result_of_feed};
 
 use crate::LineFault;
+use memchr::memchr;
 use std::alloc::Global;
 use std::marker::Model;
 use std::mem;
@@ -144,12 +145,11 @@ fn plain_count(bytes: &[u8], most: usize) -> usize
     ensures plain { (k : ℕ) → k < result → slice_index bytes.now k ≢ 10 }
     ensures stop { result < most → result < length bytes.now → slice_index bytes.now result ≡ 10 }
 {
-    for (i, b) in bytes.iter().enumerate() {
-        if i == most || *b == b'\n' {
-            return i;
-        }
+    let end = bytes.len().min(most);
+    match memchr(b'\n', &bytes[..end]) {
+        Some(n) => n,
+        None => end,
     }
-    bytes.len()
 }
 
 // Makes the bytes that are kept the last whole line. The two buffers change places.

@@ -1,9 +1,10 @@
 ghost use Rattle.std.specs.Prelude.{◌≡◌, IfOk};
 ghost use Rattle.std.specs.Result.{result_map_both};
-ghost use Rattle.percent_encoding.specs.Percent.{percent_decode};
 ghost use Rattle.vc_script.specs.Forms.{address_of, address_of_parts, bytes_of, dict_method_of, region_method_of, mode_of, name_of, name_or_dash_of, number_of, signed_of, site_of, some_site_of};
+ghost use Rattle.vc_script.specs.Spelled.{spelled_bytes};
 
-use crate::word::{is_escaped, is_name, is_number, value_of};
+use crate::spelled::Spelled;
+use crate::word::{digits_of, escapes_in, is_name};
 use crate::{Bytes, LineFault, Place};
 use percent_encoding::percent_decode;
 use std::alloc::{AllocError, Global};
@@ -42,10 +43,12 @@ pub(crate) fn some_site_of(word: &[u8]) -> Result<Option<Name>, LineFault>
 pub fn number_of(word: &[u8]) -> Result<u32, LineFault>
     ensures { result ≡ number_of word.now }
 {
-    if is_number(word) {
-        Ok(value_of(word))
-    } else {
-        Err(LineFault::BadNumber)
+    if word.is_empty() || 10 < word.len() {
+        return Err(LineFault::BadNumber);
+    }
+    match digits_of(word) {
+        Some(value) if value <= 4_294_967_295 => Ok(value as u32),
+        _ => Err(LineFault::BadNumber),
     }
 }
 
@@ -73,36 +76,38 @@ pub(crate) fn address_of(word: &[u8]) -> Result<Place, LineFault>
 fn address_of_parts(seg: &[u8], off: &[u8]) -> Result<Place, LineFault>
     ensures { result ≡ address_of_parts seg.now off.now }
 {
-    if !is_number(seg) || !is_number(off) {
-        return Err(LineFault::BadAddress);
-    }
-    let seg = value_of(seg);
-    let off = value_of(off);
-    if 1 <= seg && seg <= 1_023 && off <= 33_554_431 {
-        Ok(Place { seg, off })
-    } else {
-        Err(LineFault::BadAddress)
+    match (number_of(seg), number_of(off)) {
+        (Ok(seg), Ok(off)) if 1 <= seg && seg <= 1_023 && off <= 33_554_431 => {
+            Ok(Place { seg, off })
+        }
+        _ => Err(LineFault::BadAddress),
     }
 }
 
-// The word itself, where it spells bytes.
-pub(crate) fn escaped_of(word: &[u8]) -> Result<&[u8], LineFault>
-    ensures { result_map_both (λ w. percent_decode w.now) (λ e. e) result ≡ bytes_of word.now }
+// The word, where it spells bytes.
+pub(crate) fn spelled_of(word: &[u8]) -> Result<Spelled<'_>, LineFault>
+    ensures { result_map_both spelled_bytes (λ e. e) result ≡ bytes_of word.now }
 {
-    if is_escaped(word) {
-        Ok(word)
-    } else {
-        Err(LineFault::BadBytes)
+    match escapes_in(word) {
+        None => Err(LineFault::BadBytes),
+        Some(0) => Ok(Spelled::Plain(word)),
+        Some(escapes) => Ok(Spelled::Escaped(word, escapes)),
     }
 }
 
-// The bytes that a word spells.
-pub(crate) fn decoded(alloc: Global, word: &[u8]) -> Result<Bytes, AllocError>
-    ensures { IfOk result (λ bytes. bytes ≡ percent_decode word.now) }
+// The bytes that a word spells, in one piece of their number.
+pub(crate) fn decoded(alloc: Global, spelled: Spelled<'_>) -> Result<Bytes, AllocError>
+    ensures { IfOk result (λ bytes. bytes ≡ spelled_bytes spelled.entry) }
 {
-    let mut bytes = Vec::new(alloc);
-    percent_decode(word).append_to(&mut bytes)?;
-    Ok(Bytes::from_vec(bytes))
+    match spelled {
+        Spelled::Plain(word) => Ok(Bytes::from_vec(Vec::from_slice(alloc, word)?)),
+        Spelled::Escaped(word, escapes) => {
+            let len = word.len().saturating_sub(escapes).saturating_sub(escapes);
+            let mut bytes = Vec::with_capacity(alloc, len)?;
+            percent_decode(word).append_to(&mut bytes)?;
+            Ok(Bytes::from_vec(bytes))
+        }
+    }
 }
 
 pub(crate) fn method_of(word: &[u8]) -> Result<Method, LineFault>

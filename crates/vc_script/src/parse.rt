@@ -9,14 +9,14 @@ use std::alloc::Global;
 use vc_base::OutOfMemory;
 
 /// What a line of a script asks for. The line stands without its newline and without a final CR; any other CR is a byte
-/// of a word. Needs memory in proportion to the line, and fails for want of it alone.
+/// of a word. Only the bytes of an object need memory, in one piece, and it fails for want of it alone.
 pub fn read_line(alloc: Global, tool: Tool, line: &[u8]) -> Result<LineAnswer, OutOfMemory>
     ensures value { IfOk result (λ a. a ≡ answer tool line.now) }
     ensures proper { IfOk result IsProperAnswer }
     ensures not_too_long { result ≢ Ok (LineAnswer.Bad LineFault.LineTooLong) }
     ensures not_too_many { result ≢ Ok (LineAnswer.Bad LineFault.TooManyLines) }
 {
-    let words = words_of(alloc, line)?;
+    let words = words_of(line);
     match words.as_slice().split_first() {
         None => Ok(LineAnswer::Blank),
         Some((first, others)) => answer_to(alloc, tool, first, others),

@@ -1,9 +1,11 @@
-ghost use Rattle.std.specs.Prelude.{◌≡◌, map, drop, IfOk};
+ghost use Rattle.std.specs.Prelude.{◌≡◌, map, IfOk};
 ghost use Rattle.vc_script.specs.Answer.{command_in};
-ghost use Rattle.vc_script.specs.Table.{own_rows, table};
+ghost use Rattle.vc_script.specs.FirstWords.{dictionary_spelling, region_spelling};
+ghost use Rattle.vc_script.specs.Table.{own_rows, region_rows, table};
 
 use crate::byte_shape::write_in;
 use crate::dict_table::dictionary_command;
+use crate::first_word::{DictionaryWord, FirstWord, RegionWord, first_word};
 use crate::shape::{
     address_in, alloc_in, block_in, name_in, numbers_in, open_in, poke_in, resize_in,
 };
@@ -21,137 +23,10 @@ pub(crate) fn command_in(
     ensures { IfOk result (λ read.
         read ≡ command_in (table tool) first.now (map (λ w. w.now) others.now)) }
 {
-    if first == b"open".as_slice() {
-        Ok(open_in(others).map(|(region, method, place)| Command::OpenRegion(
-            region, method, place,
-        )))
-    } else if first == b"close".as_slice() {
-        Ok(name_in(others).map(Command::CloseRegion))
-    } else if first == b"clear".as_slice() {
-        Ok(name_in(others).map(Command::ClearRegion))
-    } else if first == b"compact".as_slice() {
-        Ok(name_in(others).map(Command::Compact))
-    } else {
-        placing_command(alloc, tool, first, others)
-    }
-}
-
-// From `alloc` on.
-fn placing_command(
-    alloc: Global,
-    tool: Tool,
-    first: &[u8],
-    others: &[&[u8]],
-) -> Result<Result<Command, LineFault>, OutOfMemory>
-    ensures { IfOk result (λ read.
-        read ≡ command_in (drop 4 (table tool)) first.now (map (λ w. w.now) others.now)) }
-{
-    if first == b"alloc".as_slice() {
-        Ok(alloc_in(others).map(|(region, block, size, site)| Command::Alloc(
-            region, block, size, site,
-        )))
-    } else if first == b"align".as_slice() {
-        Ok(numbers_in(others).map(|(region, block, size, align)| Command::Align(
-            region, block, size, align,
-        )))
-    } else if first == b"resize".as_slice() {
-        Ok(resize_in(others).map(|(region, block, size, moves)| Command::Resize(
-            region, block, size, moves,
-        )))
-    } else {
-        block_command(alloc, tool, first, others)
-    }
-}
-
-// From `free` on.
-fn block_command(
-    alloc: Global,
-    tool: Tool,
-    first: &[u8],
-    others: &[&[u8]],
-) -> Result<Result<Command, LineFault>, OutOfMemory>
-    ensures { IfOk result (λ read.
-        read ≡ command_in (drop 7 (table tool)) first.now (map (λ w. w.now) others.now)) }
-{
-    if first == b"free".as_slice() {
-        Ok(block_in(others).map(|(region, block)| Command::Free(region, block)))
-    } else if first == b"write".as_slice() {
-        Ok(write_in(alloc, others)?.map(|(region, block, off, bytes)| Command::WriteBlock(
-            region, block, off, bytes,
-        )))
-    } else if first == b"read".as_slice() {
-        Ok(numbers_in(others).map(|(region, block, off, len)| Command::ReadBlock(
-            region, block, off, len,
-        )))
-    } else {
-        place_command(alloc, tool, first, others)
-    }
-}
-
-// From `size` on.
-fn place_command(
-    alloc: Global,
-    tool: Tool,
-    first: &[u8],
-    others: &[&[u8]],
-) -> Result<Result<Command, LineFault>, OutOfMemory>
-    ensures { IfOk result (λ read.
-        read ≡ command_in (drop 10 (table tool)) first.now (map (λ w. w.now) others.now)) }
-{
-    if first == b"size".as_slice() {
-        Ok(block_in(others).map(|(region, block)| Command::SizeOf(region, block)))
-    } else if first == b"addr".as_slice() {
-        Ok(address_in(others).map(|(region, place)| Command::AddrOf(region, place)))
-    } else if first == b"segment".as_slice() {
-        Ok(address_in(others).map(|(region, place)| Command::SegmentOf(region, place)))
-    } else {
-        report_command(alloc, tool, first, others)
-    }
-}
-
-// From `stat` on.
-fn report_command(
-    alloc: Global,
-    tool: Tool,
-    first: &[u8],
-    others: &[&[u8]],
-) -> Result<Result<Command, LineFault>, OutOfMemory>
-    ensures { IfOk result (λ read.
-        read ≡ command_in (drop 13 (table tool)) first.now (map (λ w. w.now) others.now)) }
-{
-    if first == b"stat".as_slice() {
-        Ok(name_in(others).map(Command::StatOf))
-    } else if first == b"segments".as_slice() {
-        Ok(name_in(others).map(Command::Segments))
-    } else if first == b"blocks".as_slice() {
-        Ok(name_in(others).map(Command::Blocks))
-    } else if first == b"poke".as_slice() {
-        Ok(poke_in(others).map(|(region, block, off, byte)| Command::Poke(
-            region, block, off, byte,
-        )))
-    } else {
-        watch_command(alloc, tool, first, others)
-    }
-}
-
-// From `check` on.
-fn watch_command(
-    alloc: Global,
-    tool: Tool,
-    first: &[u8],
-    others: &[&[u8]],
-) -> Result<Result<Command, LineFault>, OutOfMemory>
-    ensures { IfOk result (λ read.
-        read ≡ command_in (drop 17 (table tool)) first.now (map (λ w. w.now) others.now)) }
-{
-    if first == b"check".as_slice() {
-        Ok(name_in(others).map(Command::Check))
-    } else if first == b"watch".as_slice() {
-        Ok(block_in(others).map(|(region, block)| Command::Watch(region, block)))
-    } else if first == b"profile".as_slice() {
-        Ok(name_in(others).map(Command::ProfileOf))
-    } else {
-        own_command(alloc, tool, first, others)
+    match first_word(first) {
+        Some(FirstWord::Region(word)) => region_command(alloc, word, others),
+        Some(FirstWord::Dictionary(word)) => own_command(alloc, tool, word, others),
+        None => Ok(Err(LineFault::UnknownCommand)),
     }
 }
 
@@ -159,14 +34,61 @@ fn watch_command(
 fn own_command(
     alloc: Global,
     tool: Tool,
-    first: &[u8],
+    first: DictionaryWord,
     others: &[&[u8]],
 ) -> Result<Result<Command, LineFault>, OutOfMemory>
     ensures { IfOk result (λ read.
-        read ≡ command_in (own_rows tool) first.now (map (λ w. w.now) others.now)) }
+        read ≡ command_in (own_rows tool) (dictionary_spelling first) (map (λ w. w.now) others.now)) }
 {
     match tool {
         Tool::Vmreplay => Ok(Err(LineFault::UnknownCommand)),
         Tool::Dtrun => dictionary_command(alloc, first, others),
+    }
+}
+
+// The commands that both tools have. R is a region and X a block of it.
+fn region_command(
+    alloc: Global,
+    first: RegionWord,
+    others: &[&[u8]],
+) -> Result<Result<Command, LineFault>, OutOfMemory>
+    ensures { IfOk result (λ read.
+        read ≡ command_in region_rows (region_spelling first) (map (λ w. w.now) others.now)) }
+{
+    match first {
+        RegionWord::Open => Ok(open_in(others).map(|(r, method, n)| Command::OpenRegion(
+            r, method, n,
+        ))),
+        RegionWord::Close => Ok(name_in(others).map(Command::CloseRegion)),
+        RegionWord::Clear => Ok(name_in(others).map(Command::ClearRegion)),
+        RegionWord::Compact => Ok(name_in(others).map(Command::Compact)),
+        RegionWord::Alloc => Ok(alloc_in(others).map(|(r, x, size, site)| Command::Alloc(
+            r, x, size, site,
+        ))),
+        RegionWord::Align => Ok(numbers_in(others).map(|(r, x, size, align)| Command::Align(
+            r, x, size, align,
+        ))),
+        RegionWord::Resize => Ok(resize_in(others).map(|(r, x, size, moves)| Command::Resize(
+            r, x, size, moves,
+        ))),
+        RegionWord::Free => Ok(block_in(others).map(|(r, x)| Command::Free(r, x))),
+        RegionWord::Write => Ok(write_in(alloc, others)?.map(|(r, x, off, b)| Command::WriteBlock(
+            r, x, off, b,
+        ))),
+        RegionWord::Read => Ok(numbers_in(others).map(|(r, x, off, len)| Command::ReadBlock(
+            r, x, off, len,
+        ))),
+        RegionWord::Size => Ok(block_in(others).map(|(r, x)| Command::SizeOf(r, x))),
+        RegionWord::Addr => Ok(address_in(others).map(|(r, place)| Command::AddrOf(r, place))),
+        RegionWord::Segment => Ok(address_in(others).map(|(r, place)| Command::SegmentOf(
+            r, place,
+        ))),
+        RegionWord::Stat => Ok(name_in(others).map(Command::StatOf)),
+        RegionWord::Segments => Ok(name_in(others).map(Command::Segments)),
+        RegionWord::Blocks => Ok(name_in(others).map(Command::Blocks)),
+        RegionWord::Poke => Ok(poke_in(others).map(|(r, x, off, b)| Command::Poke(r, x, off, b))),
+        RegionWord::Check => Ok(name_in(others).map(Command::Check)),
+        RegionWord::Watch => Ok(block_in(others).map(|(r, x)| Command::Watch(r, x))),
+        RegionWord::Profile => Ok(name_in(others).map(Command::ProfileOf)),
     }
 }

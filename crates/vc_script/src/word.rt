@@ -1,8 +1,9 @@
-ghost use Rattle.std.specs.Prelude.{◌≡◌, ◌≤◌, length, map, true, IfOk};
+ghost use Rattle.std.specs.Prelude.{◌≡◌, ◌≤◌, if◌then◌else◌, length, map, take, is_some, Some, None};
 ghost use Rattle.std.specs.List.{list_all};
-ghost use Rattle.vc_script.specs.Words.{begins_with_byte, digits_value, is_blank, is_digit, is_escaped, is_letter, is_name, is_name_byte, is_number, words};
+ghost use Rattle.percent_encoding.specs.Percent.{percent_decode};
+ghost use Rattle.vc_script.specs.Words.{begins_with_byte, digits_value, is_blank, is_digit, is_escaped, is_letter, is_name, is_name_byte, words};
 
-use std::alloc::{AllocError, Global};
+use arrayvec::ArrayVec;
 
 fn is_blank(b: u8) -> bool
     ensures { result ≡ is_blank b }
@@ -28,37 +29,34 @@ fn is_name_byte(b: u8) -> bool
     is_letter(b) || is_digit(b) || b == b'_' || b == b'.'
 }
 
-// The words of a line, in order.
+// The words of a line, in order, up to the sixth: no command has more than five.
 #[tactic(auto, using(crate::proofs::Cuts::word_steps))]
-pub(crate) fn words_of(alloc: Global, line: &[u8]) -> Result<Vec<&[u8]>, AllocError>
-    ensures { IfOk result (λ found. map (λ w. w.now) found.items ≡ words line.now) }
+pub(crate) fn words_of(line: &[u8]) -> ArrayVec<&[u8], 6>
+    ensures { map (λ w. w.now) result.items ≡ take 6 (words line.now) }
 {
-    let mut words = Vec::new(alloc);
+    let mut words = ArrayVec::new();
     let mut start = 0;
     for (i, b) in line.iter().enumerate() {
         if is_blank(*b) {
             if start < i {
-                words.push(&line[start..i])?;
+                words.push(&line[start..i]);
+                if words.is_full() {
+                    return words;
+                }
             }
             start = i + 1;
         }
     }
     if start < line.len() {
-        words.push(&line[start..])?;
+        words.push(&line[start..]);
     }
-    Ok(words)
+    words
 }
 
 fn all_name_bytes(bytes: &[u8]) -> bool
     ensures { result ≡ list_all is_name_byte bytes.now }
 {
     bytes.iter().all(|b| is_name_byte(*b))
-}
-
-fn all_digits(bytes: &[u8]) -> bool
-    ensures { result ≡ list_all is_digit bytes.now }
-{
-    bytes.iter().all(|b| is_digit(*b))
 }
 
 pub(crate) fn is_name(word: &[u8]) -> bool
@@ -70,30 +68,19 @@ pub(crate) fn is_name(word: &[u8]) -> bool
     }
 }
 
-pub(crate) fn is_number(word: &[u8]) -> bool
-    ensures { result ≡ is_number word.now }
-{
-    all_digits(word) && 1 <= word.len() && word.len() <= 10 && digits_value(word) <= 4_294_967_295
-}
-
-fn digits_value(digits: &[u8]) -> u64
-    requires digits { list_all is_digit digits.now ≡ true }
-    requires few { length digits.now ≤ 10 }
-    ensures { result ≡ digits_value digits.now }
+// What the digits spell, where each byte is one.
+pub(crate) fn digits_of(word: &[u8]) -> Option<u64>
+    requires { length word.now ≤ 10 }
+    ensures { result ≡ (if list_all is_digit word.now then Some (digits_value word.now) else None) }
 {
     let mut value = 0u64;
-    for d in digits {
+    for d in word {
+        if !is_digit(*d) {
+            return None;
+        }
         value = 10 * value + u64::from(*d - b'0');
     }
-    value
-}
-
-// The number that a word spells.
-pub(crate) fn value_of(word: &[u8]) -> u32
-    requires { is_number word.now ≡ true }
-    ensures { result ≡ digits_value word.now }
-{
-    digits_value(word) as u32
+    Some(value)
 }
 
 fn begins_with_byte(word: &[u8]) -> bool
@@ -105,15 +92,20 @@ fn begins_with_byte(word: &[u8]) -> bool
     }
 }
 
-// Each `%` is followed by two hexadecimal digits.
+// How many bytes a word spells by `%` and two hexadecimal digits; none where other bytes follow a `%`.
 #[tactic(auto, using(crate::proofs::WordSteps::escape_steps))]
-pub(crate) fn is_escaped(word: &[u8]) -> bool
-    ensures { result ≡ is_escaped word.now }
+pub(crate) fn escapes_in(word: &[u8]) -> Option<usize>
+    ensures escaped { is_some result ≡ is_escaped word.now }
+    ensures plain { result ≡ Some 0 → percent_decode word.now ≡ word.now }
 {
+    let mut escapes = 0;
     for (i, b) in word.iter().enumerate() {
-        if *b == b'%' && !begins_with_byte(&word[i + 1..]) {
-            return false;
+        if *b == b'%' {
+            if !begins_with_byte(&word[i + 1..]) {
+                return None;
+            }
+            escapes += 1;
         }
     }
-    true
+    Some(escapes)
 }
