@@ -12,7 +12,6 @@ pub mod MatchLemmas
 pub mod NeighbourLemmas
 pub mod OrderLemmas
 pub mod OrderedLemmas
-pub mod PastLemmas
 pub mod PathLemmas
 pub mod PlaceLemmas
 pub mod RenamedLayers
@@ -26,4 +25,5 @@ pub mod SpotLemmas
 pub mod StackedLemmas
 pub mod StartLemmas
 pub mod StayLemmas
+pub mod TogetherLemmas
 pub mod WalkLemmas
