@@ -13,3 +13,4 @@ pub mod RemethodLemmas
 pub mod ApartLemmas
 pub mod OwnLemmas
 pub mod CurrentLemmas
+pub mod MatchLemmas

@@ -8,6 +8,7 @@ mod dropping;
 mod flat;
 mod forming;
 mod heads;
+mod matching;
 mod neighbours;
 mod pass;
 mod places;

@@ -128,7 +128,7 @@ pub record TrailNext (rules : Rules) (b : Blocks) (at : ℕ) (chain : List ℕ) 
   pub step : (on name after : ℕ) → on ≡ word_at b next 2 → name ≡ (if alike rules b at next then next else last) → after ≤ now + 1 → (hashed_alike rules b at next ≡ false → after ≡ now)
       → Trail rules b at chain (passed + 1) on name start after
 
-named_by : (t : Bool) (y last : ℕ) (ys : List ℕ) → last_of last (cond t (y ∷ ys) ys) ≡ last_of (if t then y else last) ys
+pub named_by : (t : Bool) (y last : ℕ) (ys : List ℕ) → last_of last (cond t (y ∷ ys) ys) ≡ last_of (if t then y else last) ys
 named_by true y last ys = refl
 named_by false y last ys = refl
 
@@ -167,10 +167,19 @@ module _ {rules : Rules} {b : Blocks} {at : ℕ} {chain : List ℕ} {passed next
   pub Trail-over : length chain ≤ passed → Passed rules b at chain last start now
   Trail-over h = all-passed rules b at chain last start now w.left (nil_from_length w.left (omega (arith, h, w.count))) w.named w.few
 
--- the last of a list that holds one of these
+-- an object matches itself
+pub alike-itself : (rules : Rules) (b : Blocks) (at : ℕ) → AreLawful rules → alike rules b at at ≡ true
+alike-itself rules b at law = ap is_eq (tied_itself law.order (key_at rules b at))
+
+-- the last of a list is one of these, or one behind it, and so is the last that passes a test that this one passes
 last-behind : (front : List ℕ) (at : ℕ) (rest : List ℕ) → finding.last_of (front ++ at ∷ rest) ≡ Some (last_of at rest)
 last-behind [] at rest = last_of-last_in (at ∷ rest)
 last-behind (x ∷ xs) at rest = last_of-last_in (x ∷ xs ++ at ∷ rest) ∙ ap (λ z. Some z) (last_of-append x xs (at ∷ rest))
+
+pub last-passing : (test : ℕ → Bool) (front : List ℕ) (at : ℕ) (rest : List ℕ) → test at ≡ true → finding.last_of (filter test (front ++ at ∷ rest)) ≡ Some (last_of at (filter test rest))
+last-passing test front at rest e =
+    ap finding.last_of (filter-append test front (at ∷ rest) ∙ ap (λ t. filter test front ++ cond t (at ∷ filter test rest) (filter test rest)) e)
+    ∙ last-behind (filter test front) at (filter test rest)
 
 module _ {rules : Rules} {hash : DtHash} {b : Blocks} {at last start now : ℕ} (law : AreLawful rules)
     (all : (p : Standing rules hash b at) → Passed rules b at (tail_of rules hash.slots b at p.rest) last start now) where
@@ -180,17 +189,12 @@ module _ {rules : Rules} {hash : DtHash} {b : Blocks} {at last start now : ℕ} 
   abbrev in_slot : ℕ → Bool
   in_slot a = hash_at rules b a % hash.slots == hash_at rules b at % hash.slots
 
-  itself : test at ≡ true
-  itself = ap is_eq (tied_itself law.order (key_at rules b at))
-
   last-named : (p : Standing rules hash b at) → Some last ≡ finding.last_of (filter test (p.front ++ at ∷ p.rest))
   last-named p =
-      let whole : filter test (p.front ++ at ∷ p.rest) ≡ filter test p.front ++ at ∷ filter test p.rest =
-      filter-append test p.front (at ∷ p.rest) ∙ ap (λ t. filter test p.front ++ cond t (at ∷ filter test p.rest) (filter test p.rest)) itself in
       let same : filter test (tail_of rules hash.slots b at p.rest) ≡ filter test p.rest =
       filter-twice in_slot test p.rest
       (λ a h. eq-eqb (hash_at rules b a % hash.slots) (hash_at rules b at % hash.slots) (ap (λ z. z % hash.slots) (hash-found rules b (key_at rules b at) a law h))) in
-      ap (λ z. Some z) ((all p).named ∙ ap (last_of at) same) ∙ sym (ap finding.last_of whole ∙ last-behind (filter test p.front) at (filter test p.rest))
+      ap (λ z. Some z) ((all p).named ∙ ap (last_of at) same) ∙ sym (last-passing test p.front at p.rest (alike-itself rules b at law))
 
   few-alike : (p : Standing rules hash b at) → now ≤ start + length (filter (hashed_alike rules b at) p.rest)
   few-alike p =
