@@ -17,4 +17,5 @@ pub mod Proper
 pub mod Needs
 pub mod ProperReply
 pub mod Shown
+pub mod Target
 pub mod Print

@@ -33,6 +33,7 @@ mod segment_items;
 mod shape;
 mod spelled;
 mod table;
+mod target;
 mod tool;
 mod word;
 
@@ -52,4 +53,5 @@ pub use refusal::Refusal;
 pub use reply::Reply;
 pub use row_items::RowItems;
 pub use segment_items::SegmentItems;
+pub use target::{Target, Work};
 pub use tool::Tool;
