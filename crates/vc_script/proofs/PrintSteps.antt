@@ -1,7 +1,9 @@
 -- Steps of the printers of replies.
-use Rattle.vc_base.proofs.Common.{◌≡◌, ℕ, ◌+◌, ◌<◌, ◌≤◌, Bool, true, false, cond, not, ◌||◌, List, [], ◌∷◌, ◌++◌, length, get_or, take, flat_map, sym, refl, ap, ◌∙◌, ⊎_elim, arith, nat_tests, cases_lt}
+use Rattle.vc_base.proofs.Common.{◌≡◌, ℕ, ◌+◌, ◌<◌, ◌≤◌, Bool, true, false, cond, not, ◌||◌, List, [], ◌∷◌, ◌++◌, length, get_or, take, drop, flat_map, sym, refl, ap, ◌∙◌, subst, append_assoc, ⊎_elim, arith, nat_tests, cases_lt}
 use Rattle.std.specs.Char.{is_ascii}
-use Rattle.std.proofs.lemmas.List.{flat_map_more, take_more}
+use Rattle.std.specs.Io.{StartsWith}
+use Rattle.std.proofs.lemmas.List.{flat_map_more, take-append-drop, take_more}
+use Rattle.std.proofs.Math.Seq.{take-append_seam}
 use Rattle.std.proofs.lemmas.Bool.{agree_below, agree_below_at}
 use Rattle.percent_encoding.specs.AsciiSet.{contains, should_percent_encode}
 use Rattle.percent_encoding.specs.Percent.{encode_byte, percent_encode, percent_encode_byte}
@@ -40,7 +42,22 @@ unfolding percent_encode
 percent_encode-shown [] = refl
 percent_encode-shown (b ∷ bs) = ap (λ e. e ++ percent_encode ESCAPED bs) (encode_byte-shown b) ∙ ap (λ rest. shown_byte b ++ rest) (percent_encode-shown bs)
 
-pub ruleset shown_steps = (percent_encode-shown)
+-- what begins with a text and another behind it begins with the one
+pub front-of : (old more new : List ℕ) → take (length (old ++ more)) new ≡ old ++ more → (take (length (old ++ more)) new ≡ old ++ more) × (take (length old) new ≡ old)
+front-of old more new same =
+    let rest = drop (length (old ++ more)) new in
+    let whole : (old ++ more) ++ rest ≡ new = ap (λ f. f ++ rest) (sym same) ∙ take-append-drop (length (old ++ more)) new in
+    (same, ap (take (length old)) (sym whole ∙ append_assoc old more rest) ∙ take-append_seam old (more ++ rest))
+
+pub ruleset front_steps = (front-of, take-append_seam)
+
+pub ruleset shown_steps = (percent_encode-shown, front-of, take-append_seam)
+
+pub front-behind : (old mid new : List ℕ) → StartsWith mid old → StartsWith new mid → StartsWith new old
+front-behind old mid new first then =
+    let whole = take-append-drop (length old) mid in
+    let split : old ++ drop (length old) mid ≡ mid = ap (λ f. f ++ drop (length old) mid) (sym first) ∙ whole in
+    (front-of old (drop (length old) mid) new (subst (StartsWith new) (sym split) then)).1
 
 -- one item more behind those that stand in a line
 pub one-more : {X : Type 0} (text : X → List ℕ) (begun : List ℕ) (items told : List X) (i : ℕ) (d : X) {line next : List ℕ}

@@ -48,7 +48,7 @@ pub use line_fault::LineFault;
 pub use object_items::ObjectItems;
 pub use parse::read_line;
 pub use place::Place;
-pub use print::print_reply;
+pub use print::{print_reply, put_reply};
 pub use refusal::Refusal;
 pub use reply::Reply;
 pub use row_items::RowItems;

@@ -1,6 +1,6 @@
 use Rattle.vc_base.proofs.Common.{◌≡◌, ◌++◌, take, flat_map}
 use Rattle.vc_script.specs.Print.{object_text}
-use Rattle.vc_script.proofs.print_lists.put_objects.Given as goal
+use Rattle.vc_script.proofs.print_lists.put_each_object.Given as goal
 
 abbrev pub invariant-loop-item : goal.invariant-loop-item
 invariant-loop-item l = l.line.items ≡ l.fn.line.items ++ flat_map object_text (take l.item-index l.items)
