@@ -4,60 +4,66 @@ use Rattle.vc_script.specs.declared.line_fault.LineFault.TheVariants.{UnknownCom
 use Rattle.vc_script.specs.declared.line_answer.LineAnswer.TheVariants.{Blank}
 use Rattle.vc_script.specs.declared.tool.Tool.{Tool}
 use Rattle.vc_script.specs.declared.tool.Tool.TheVariants.{Vmreplay, Dtrun}
+use Rattle.vc_script.specs.Forms.{Form}
+use Rattle.vc_script.specs.declared.first_word.OneRegion.TheVariants.{Close, Clear, Compact, Stat, Segments, Blocks, Check, Profile}
+use Rattle.vc_script.specs.declared.first_word.BlockWord.TheVariants.{Free, Size, Watch}
+use Rattle.vc_script.specs.declared.first_word.PlaceWord.TheVariants.{Addr, Segment}
+use Rattle.vc_script.specs.declared.first_word.NumbersWord.TheVariants.{Align, Read}
+use Rattle.vc_script.specs.declared.first_word.OneDictionary.TheVariants.{First, Last, Walk, Count, Empty, Shut}
+use Rattle.vc_script.specs.declared.first_word.ObjectWord.TheVariants.{Insert, Append, Attach, Detach, Search, MatchKey, Next, Prev}
 use Rattle.vc_script.specs.declared.first_word.RegionWord.{RegionWord}
-use Rattle.vc_script.specs.declared.first_word.RegionWord.TheVariants.{Open, Close, Clear, Compact, Alloc, Align, Resize, Free, Write, Read, Size, Addr, Segment, Stat, Segments, Blocks, Poke, Check, Watch, Profile}
+use Rattle.vc_script.specs.declared.first_word.RegionWord.TheVariants.{Open, Alloc, Resize, Write, Poke, One, Block, Place, Numbers}
 use Rattle.vc_script.specs.declared.first_word.DictionaryWord.{DictionaryWord}
-use Rattle.vc_script.specs.declared.first_word.DictionaryWord.TheVariants.{Dict, Insert, Append, Attach, Delete, Detach, Search, MatchKey, First, Last, Next, Prev, Walk, Count, View, Method, Empty, Shut}
+use Rattle.vc_script.specs.declared.first_word.DictionaryWord.TheVariants.{Dict, Delete, View, Method, Alone, Object}
 use Rattle.vc_script.specs.declared.first_word.FirstWord.{FirstWord}
 use Rattle.vc_script.specs.declared.first_word.FirstWord.TheVariants.{Region, Dictionary}
-use Rattle.vc_script.specs.Forms.{Form}
 use Rattle.vc_script.specs.Table.{Row, table, region_rows, own_rows, takes, command_of}
 use Rattle.vc_script.specs.Answer.{answer_of, answer_to, command_in, is_comment}
-use Rattle.vc_script.specs.FirstWords.{spelling, region_spelling, dictionary_spelling}
+use Rattle.vc_script.specs.FirstWords.{dictionary_spelling, region_spelling, spelling}
 
 -- a word of both tools is found among the rows of regions
 command_in-region : (tool : Tool) (w : RegionWord) (others : List (List ℕ)) → command_in (table tool) (region_spelling w) others ≡ command_in region_rows (region_spelling w) others
 command_in-region tool Open others = refl
-command_in-region tool Close others = refl
-command_in-region tool Clear others = refl
-command_in-region tool Compact others = refl
+command_in-region tool (One (Close)) others = refl
+command_in-region tool (One (Clear)) others = refl
+command_in-region tool (One (Compact)) others = refl
 command_in-region tool Alloc others = refl
-command_in-region tool Align others = refl
+command_in-region tool (Numbers (Align)) others = refl
 command_in-region tool Resize others = refl
-command_in-region tool Free others = refl
+command_in-region tool (Block (Free)) others = refl
 command_in-region tool Write others = refl
-command_in-region tool Read others = refl
-command_in-region tool Size others = refl
-command_in-region tool Addr others = refl
-command_in-region tool Segment others = refl
-command_in-region tool Stat others = refl
-command_in-region tool Segments others = refl
-command_in-region tool Blocks others = refl
+command_in-region tool (Numbers (Read)) others = refl
+command_in-region tool (Block (Size)) others = refl
+command_in-region tool (Place (Addr)) others = refl
+command_in-region tool (Place (Segment)) others = refl
+command_in-region tool (One (Stat)) others = refl
+command_in-region tool (One (Segments)) others = refl
+command_in-region tool (One (Blocks)) others = refl
 command_in-region tool Poke others = refl
-command_in-region tool Check others = refl
-command_in-region tool Watch others = refl
-command_in-region tool Profile others = refl
+command_in-region tool (One (Check)) others = refl
+command_in-region tool (Block (Watch)) others = refl
+command_in-region tool (One (Profile)) others = refl
 
 -- a word of dictionaries is none of these
 command_in-own : (tool : Tool) (w : DictionaryWord) (others : List (List ℕ)) → command_in (table tool) (dictionary_spelling w) others ≡ command_in (own_rows tool) (dictionary_spelling w) others
 command_in-own tool Dict others = refl
-command_in-own tool Insert others = refl
-command_in-own tool Append others = refl
-command_in-own tool Attach others = refl
+command_in-own tool (Object (Insert)) others = refl
+command_in-own tool (Object (Append)) others = refl
+command_in-own tool (Object (Attach)) others = refl
 command_in-own tool Delete others = refl
-command_in-own tool Detach others = refl
-command_in-own tool Search others = refl
-command_in-own tool MatchKey others = refl
-command_in-own tool First others = refl
-command_in-own tool Last others = refl
-command_in-own tool Next others = refl
-command_in-own tool Prev others = refl
-command_in-own tool Walk others = refl
-command_in-own tool Count others = refl
+command_in-own tool (Object (Detach)) others = refl
+command_in-own tool (Object (Search)) others = refl
+command_in-own tool (Object (MatchKey)) others = refl
+command_in-own tool (Alone (First)) others = refl
+command_in-own tool (Alone (Last)) others = refl
+command_in-own tool (Object (Next)) others = refl
+command_in-own tool (Object (Prev)) others = refl
+command_in-own tool (Alone (Walk)) others = refl
+command_in-own tool (Alone (Count)) others = refl
 command_in-own tool View others = refl
 command_in-own tool Method others = refl
-command_in-own tool Empty others = refl
-command_in-own tool Shut others = refl
+command_in-own tool (Alone (Empty)) others = refl
+command_in-own tool (Alone (Shut)) others = refl
 
 module _ (tool : Tool) (first : List ℕ) (others : List (List ℕ)) where
   pub found-region : (w : RegionWord) → first ≡ region_spelling w → command_in region_rows (region_spelling w) others ≡ command_in (table tool) first others
@@ -81,11 +87,11 @@ other-rows first (r ∷ rows) more none others = (none.0, other-rows first rows 
 pub found-none : (tool : Tool) (first : List ℕ) (others : List (List ℕ)) → ((w : FirstWord) → first ≢ spelling w) → command_in (table tool) first others ≡ Err UnknownCommand
 found-none tool first others none = command_in-other (table tool) first others (other-rows first region_rows (own_rows tool) regions (own tool)) where
   regions : AllByRecursion (λ r. first ≢ r.word) region_rows
-  regions = (none (Region Open), (none (Region Close), (none (Region Clear), (none (Region Compact), (none (Region Alloc), (none (Region Align), (none (Region Resize), (none (Region Free), (none (Region Write), (none (Region Read), (none (Region Size), (none (Region Addr), (none (Region Segment), (none (Region Stat), (none (Region Segments), (none (Region Blocks), (none (Region Poke), (none (Region Check), (none (Region Watch), (none (Region Profile), tt))))))))))))))))))))
+  regions = (none (Region (Open)), (none (Region (One (Close))), (none (Region (One (Clear))), (none (Region (One (Compact))), (none (Region (Alloc)), (none (Region (Numbers (Align))), (none (Region (Resize)), (none (Region (Block (Free))), (none (Region (Write)), (none (Region (Numbers (Read))), (none (Region (Block (Size))), (none (Region (Place (Addr))), (none (Region (Place (Segment))), (none (Region (One (Stat))), (none (Region (One (Segments))), (none (Region (One (Blocks))), (none (Region (Poke)), (none (Region (One (Check))), (none (Region (Block (Watch))), (none (Region (One (Profile))), tt))))))))))))))))))))
 
   own : (tool : Tool) → AllByRecursion (λ r. first ≢ r.word) (own_rows tool)
   own Vmreplay = tt
-  own Dtrun = (none (Dictionary Dict), (none (Dictionary Insert), (none (Dictionary Append), (none (Dictionary Attach), (none (Dictionary Delete), (none (Dictionary Detach), (none (Dictionary Search), (none (Dictionary MatchKey), (none (Dictionary First), (none (Dictionary Last), (none (Dictionary Next), (none (Dictionary Prev), (none (Dictionary Walk), (none (Dictionary Count), (none (Dictionary View), (none (Dictionary Method), (none (Dictionary Empty), (none (Dictionary Shut), tt))))))))))))))))))
+  own Dtrun = (none (Dictionary (Dict)), (none (Dictionary (Object (Insert))), (none (Dictionary (Object (Append))), (none (Dictionary (Object (Attach))), (none (Dictionary (Delete)), (none (Dictionary (Object (Detach))), (none (Dictionary (Object (Search))), (none (Dictionary (Object (MatchKey))), (none (Dictionary (Alone (First))), (none (Dictionary (Alone (Last))), (none (Dictionary (Object (Next))), (none (Dictionary (Object (Prev))), (none (Dictionary (Alone (Walk))), (none (Dictionary (Alone (Count))), (none (Dictionary (View)), (none (Dictionary (Method)), (none (Dictionary (Alone (Empty))), (none (Dictionary (Alone (Shut))), tt))))))))))))))))))
 
 -- the greatest number of words behind the first of a row
 most : List Form → Option Form → ℕ

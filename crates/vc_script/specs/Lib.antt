@@ -10,9 +10,9 @@ pub mod Pieces
 pub mod Words
 pub mod Forms
 pub mod Table
-pub mod FirstWords
 pub mod Spelled
 pub mod Answer
+pub mod FirstWords
 pub mod Proper
 pub mod Needs
 pub mod ProperReply

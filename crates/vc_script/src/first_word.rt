@@ -1,60 +1,102 @@
-ghost use Rattle.std.specs.Prelude.{◌≡◌, ◌↔◌, ◌<◌, Some};
-ghost use Rattle.vc_script.specs.FirstWords.{spelling, region_spelling, dictionary_spelling};
+ghost use Rattle.std.specs.Prelude.{◌≡◌, ◌↔◌, Some};
+ghost use Rattle.vc_script.specs.FirstWords.{block_spelling, dictionary_spelling, numbers_spelling, object_spelling, one_dictionary_spelling, one_region_spelling, place_spelling, region_spelling, spelling};
 ghost use Rattle.vc_script.specs.declared.first_word.FirstWord.{FirstWord};
 
+use BlockWord::*;
 use DictionaryWord::*;
 use FirstWord::{Dictionary, Region};
+use NumbersWord::*;
+use ObjectWord::*;
+use OneDictionary::*;
+use OneRegion::*;
+use PlaceWord::*;
 use RegionWord::*;
 
-/// The first words of the commands that both tools have.
+/// A first word behind which `R` stands.
 #[derive(Clone, Copy, Debug, PartialEq, Eq)]
-pub(crate) enum RegionWord {
-    Open,
+pub(crate) enum OneRegion {
     Close,
     Clear,
     Compact,
-    Alloc,
-    Align,
-    Resize,
-    Free,
-    Write,
-    Read,
-    Size,
-    Addr,
-    Segment,
     Stat,
     Segments,
     Blocks,
-    Poke,
     Check,
-    Watch,
     Profile,
 }
 
-/// The first words of the commands that dtrun has besides.
+/// A first word behind which `R X` stands.
 #[derive(Clone, Copy, Debug, PartialEq, Eq)]
-pub(crate) enum DictionaryWord {
-    Dict,
-    Insert,
-    Append,
-    Attach,
-    Delete,
-    Detach,
-    Search,
-    MatchKey,
+pub(crate) enum BlockWord {
+    Free,
+    Size,
+    Watch,
+}
+
+/// A first word behind which `R S:O` stands.
+#[derive(Clone, Copy, Debug, PartialEq, Eq)]
+pub(crate) enum PlaceWord {
+    Addr,
+    Segment,
+}
+
+/// A first word behind which `R X`, and two numbers stands.
+#[derive(Clone, Copy, Debug, PartialEq, Eq)]
+pub(crate) enum NumbersWord {
+    Align,
+    Read,
+}
+
+/// A first word behind which `D` stands.
+#[derive(Clone, Copy, Debug, PartialEq, Eq)]
+pub(crate) enum OneDictionary {
     First,
     Last,
-    Next,
-    Prev,
     Walk,
     Count,
-    View,
-    Method,
     Empty,
     Shut,
 }
 
-/// The first word of a command.
+/// A first word behind which `D OBJ` stands.
+#[derive(Clone, Copy, Debug, PartialEq, Eq)]
+pub(crate) enum ObjectWord {
+    Insert,
+    Append,
+    Attach,
+    Detach,
+    Search,
+    MatchKey,
+    Next,
+    Prev,
+}
+
+/// A first word of both tools.
+#[derive(Clone, Copy, Debug, PartialEq, Eq)]
+pub(crate) enum RegionWord {
+    Open,
+    Alloc,
+    Resize,
+    Write,
+    Poke,
+    One(OneRegion),
+    Block(BlockWord),
+    Place(PlaceWord),
+    Numbers(NumbersWord),
+}
+
+/// A first word that dtrun has besides.
+#[derive(Clone, Copy, Debug, PartialEq, Eq)]
+pub(crate) enum DictionaryWord {
+    Dict,
+    Delete,
+    View,
+    Method,
+    Alone(OneDictionary),
+    Object(ObjectWord),
+}
+
+/// The first word of a command, by the words that stand behind it.
 #[derive(Clone, Copy, Debug, PartialEq, Eq)]
 pub(crate) enum FirstWord {
     Region(RegionWord),
@@ -63,24 +105,24 @@ pub(crate) enum FirstWord {
 
 // The first words, each in the slot of its spelling. No two have the same.
 static SLOTS: [Option<FirstWord>; 64] = [
-    Some(Region(Segments)),
+    Some(Region(One(Segments))),
     None,
-    Some(Dictionary(Shut)),
+    Some(Dictionary(Alone(Shut))),
     Some(Dictionary(View)),
-    Some(Region(Check)),
-    Some(Dictionary(Prev)),
+    Some(Region(One(Check))),
+    Some(Dictionary(Object(Prev))),
     None,
     Some(Dictionary(Dict)),
-    Some(Dictionary(Detach)),
+    Some(Dictionary(Object(Detach))),
     Some(Region(Resize)),
-    Some(Region(Align)),
-    Some(Region(Addr)),
+    Some(Region(Numbers(Align))),
+    Some(Region(Place(Addr))),
     None,
     None,
-    Some(Region(Close)),
-    Some(Dictionary(Last)),
+    Some(Region(One(Close))),
+    Some(Dictionary(Alone(Last))),
     Some(Dictionary(Delete)),
-    Some(Region(Profile)),
+    Some(Region(One(Profile))),
     None,
     Some(Dictionary(Method)),
     None,
@@ -88,45 +130,45 @@ static SLOTS: [Option<FirstWord>; 64] = [
     None,
     None,
     None,
-    Some(Dictionary(MatchKey)),
+    Some(Dictionary(Object(MatchKey))),
     None,
-    Some(Region(Size)),
-    Some(Region(Clear)),
-    Some(Region(Blocks)),
+    Some(Region(Block(Size))),
+    Some(Region(One(Clear))),
+    Some(Region(One(Blocks))),
     Some(Region(Open)),
-    Some(Region(Watch)),
+    Some(Region(Block(Watch))),
     None,
-    Some(Dictionary(Walk)),
-    Some(Dictionary(Next)),
+    Some(Dictionary(Alone(Walk))),
+    Some(Dictionary(Object(Next))),
     None,
     None,
     None,
-    Some(Dictionary(First)),
-    Some(Region(Read)),
+    Some(Dictionary(Alone(First))),
+    Some(Region(Numbers(Read))),
     Some(Region(Write)),
     None,
-    Some(Region(Segment)),
-    Some(Region(Free)),
+    Some(Region(Place(Segment))),
+    Some(Region(Block(Free))),
     None,
     Some(Region(Alloc)),
-    Some(Region(Stat)),
+    Some(Region(One(Stat))),
     None,
-    Some(Dictionary(Count)),
-    Some(Dictionary(Empty)),
-    Some(Dictionary(Search)),
-    Some(Dictionary(Attach)),
+    Some(Dictionary(Alone(Count))),
+    Some(Dictionary(Alone(Empty))),
+    Some(Dictionary(Object(Search))),
+    Some(Dictionary(Object(Attach))),
     None,
     None,
     None,
     Some(Region(Poke)),
     None,
     None,
-    Some(Dictionary(Insert)),
+    Some(Dictionary(Object(Insert))),
     None,
-    Some(Region(Compact)),
+    Some(Region(One(Compact))),
     None,
     None,
-    Some(Dictionary(Append)),
+    Some(Dictionary(Object(Append))),
 ];
 
 // The only first word that may be spelled so, by the length and by the first, third and fourth byte.
@@ -144,30 +186,90 @@ fn likely(word: &[u8]) -> Option<FirstWord>
     SLOTS[slot % 64]
 }
 
+fn one_region_spelling(word: OneRegion) -> &'static [u8]
+    ensures { result.now ≡ one_region_spelling word }
+{
+    match word {
+        OneRegion::Close => b"close",
+        OneRegion::Clear => b"clear",
+        OneRegion::Compact => b"compact",
+        OneRegion::Stat => b"stat",
+        OneRegion::Segments => b"segments",
+        OneRegion::Blocks => b"blocks",
+        OneRegion::Check => b"check",
+        OneRegion::Profile => b"profile",
+    }
+}
+
+fn block_spelling(word: BlockWord) -> &'static [u8]
+    ensures { result.now ≡ block_spelling word }
+{
+    match word {
+        BlockWord::Free => b"free",
+        BlockWord::Size => b"size",
+        BlockWord::Watch => b"watch",
+    }
+}
+
+fn place_spelling(word: PlaceWord) -> &'static [u8]
+    ensures { result.now ≡ place_spelling word }
+{
+    match word {
+        PlaceWord::Addr => b"addr",
+        PlaceWord::Segment => b"segment",
+    }
+}
+
+fn numbers_spelling(word: NumbersWord) -> &'static [u8]
+    ensures { result.now ≡ numbers_spelling word }
+{
+    match word {
+        NumbersWord::Align => b"align",
+        NumbersWord::Read => b"read",
+    }
+}
+
+fn one_dictionary_spelling(word: OneDictionary) -> &'static [u8]
+    ensures { result.now ≡ one_dictionary_spelling word }
+{
+    match word {
+        OneDictionary::First => b"first",
+        OneDictionary::Last => b"last",
+        OneDictionary::Walk => b"walk",
+        OneDictionary::Count => b"count",
+        OneDictionary::Empty => b"empty",
+        OneDictionary::Shut => b"shut",
+    }
+}
+
+fn object_spelling(word: ObjectWord) -> &'static [u8]
+    ensures { result.now ≡ object_spelling word }
+{
+    match word {
+        ObjectWord::Insert => b"insert",
+        ObjectWord::Append => b"append",
+        ObjectWord::Attach => b"attach",
+        ObjectWord::Detach => b"detach",
+        ObjectWord::Search => b"search",
+        ObjectWord::MatchKey => b"match",
+        ObjectWord::Next => b"next",
+        ObjectWord::Prev => b"prev",
+    }
+}
+
 fn region_spelling(word: RegionWord) -> &'static [u8]
     ensures { result.now ≡ region_spelling word }
 {
     match word {
         RegionWord::Open => b"open",
-        RegionWord::Close => b"close",
-        RegionWord::Clear => b"clear",
-        RegionWord::Compact => b"compact",
         RegionWord::Alloc => b"alloc",
-        RegionWord::Align => b"align",
         RegionWord::Resize => b"resize",
-        RegionWord::Free => b"free",
         RegionWord::Write => b"write",
-        RegionWord::Read => b"read",
-        RegionWord::Size => b"size",
-        RegionWord::Addr => b"addr",
-        RegionWord::Segment => b"segment",
-        RegionWord::Stat => b"stat",
-        RegionWord::Segments => b"segments",
-        RegionWord::Blocks => b"blocks",
         RegionWord::Poke => b"poke",
-        RegionWord::Check => b"check",
-        RegionWord::Watch => b"watch",
-        RegionWord::Profile => b"profile",
+        RegionWord::One(word) => one_region_spelling(word),
+        RegionWord::Block(word) => block_spelling(word),
+        RegionWord::Place(word) => place_spelling(word),
+        RegionWord::Numbers(word) => numbers_spelling(word),
     }
 }
 
@@ -176,23 +278,11 @@ fn dictionary_spelling(word: DictionaryWord) -> &'static [u8]
 {
     match word {
         DictionaryWord::Dict => b"dict",
-        DictionaryWord::Insert => b"insert",
-        DictionaryWord::Append => b"append",
-        DictionaryWord::Attach => b"attach",
         DictionaryWord::Delete => b"delete",
-        DictionaryWord::Detach => b"detach",
-        DictionaryWord::Search => b"search",
-        DictionaryWord::MatchKey => b"match",
-        DictionaryWord::First => b"first",
-        DictionaryWord::Last => b"last",
-        DictionaryWord::Next => b"next",
-        DictionaryWord::Prev => b"prev",
-        DictionaryWord::Walk => b"walk",
-        DictionaryWord::Count => b"count",
         DictionaryWord::View => b"view",
         DictionaryWord::Method => b"method",
-        DictionaryWord::Empty => b"empty",
-        DictionaryWord::Shut => b"shut",
+        DictionaryWord::Alone(word) => one_dictionary_spelling(word),
+        DictionaryWord::Object(word) => object_spelling(word),
     }
 }
 

@@ -1,10 +1,11 @@
 ghost use Rattle.std.specs.Prelude.{◌≡◌, ◌≢◌, ◌∷◌, map, IfOk};
-ghost use Rattle.vc_script.specs.Answer.{answer, answer_of, answer_to, is_comment};
+ghost use Rattle.vc_script.specs.Answer.{answer, answer_to, is_comment};
 ghost use Rattle.vc_script.specs.Proper.{IsProperAnswer};
 
-use crate::table::command_in;
-use crate::word::words_of;
-use crate::{Command, LineAnswer, LineFault, Tool};
+use crate::table::answer_in;
+use crate::word::put_words;
+use crate::{LineAnswer, LineFault, Tool};
+use arrayvec::ArrayVec;
 use std::alloc::Global;
 use vc_base::OutOfMemory;
 
@@ -16,7 +17,8 @@ pub fn read_line(alloc: Global, tool: Tool, line: &[u8]) -> Result<LineAnswer, O
     ensures not_too_long { result ≢ Ok (LineAnswer.Bad LineFault.LineTooLong) }
     ensures not_too_many { result ≢ Ok (LineAnswer.Bad LineFault.TooManyLines) }
 {
-    let words = words_of(line);
+    let mut words = ArrayVec::new();
+    put_words(line, &mut words);
     match words.as_slice().split_first() {
         None => Ok(LineAnswer::Blank),
         Some((first, others)) => answer_to(alloc, tool, first, others),
@@ -34,7 +36,7 @@ fn answer_to(
     if is_comment(first) {
         return Ok(LineAnswer::Blank);
     }
-    Ok(answer_of(command_in(alloc, tool, first, others)?))
+    answer_in(alloc, tool, first, others)
 }
 
 fn is_comment(word: &[u8]) -> bool
@@ -43,14 +45,5 @@ fn is_comment(word: &[u8]) -> bool
     match word.split_first() {
         None => false,
         Some((first, _)) => *first == b'#',
-    }
-}
-
-fn answer_of(read: Result<Command, LineFault>) -> LineAnswer
-    ensures { result ≡ answer_of read }
-{
-    match read {
-        Ok(command) => LineAnswer::Is(command),
-        Err(fault) => LineAnswer::Bad(fault),
     }
 }

@@ -1,4 +1,4 @@
-ghost use Rattle.std.specs.Prelude.{◌≡◌, ◌≤◌, if◌then◌else◌, length, map, take, is_some, Some, None};
+ghost use Rattle.std.specs.Prelude.{◌≡◌, ◌≤◌, [], if◌then◌else◌, length, map, take, is_some, Some, None};
 ghost use Rattle.std.specs.List.{list_all};
 ghost use Rattle.percent_encoding.specs.Percent.{percent_decode};
 ghost use Rattle.vc_script.specs.Words.{begins_with_byte, digits_value, is_blank, is_digit, is_escaped, is_letter, is_name, is_name_byte, words};
@@ -29,28 +29,27 @@ fn is_name_byte(b: u8) -> bool
     is_letter(b) || is_digit(b) || b == b'_' || b == b'.'
 }
 
-// The words of a line, in order, up to the sixth: no command has more than five.
+// Puts the words of a line, in order, into the empty vector, up to the sixth: no command has more than five.
 #[tactic(auto, using(crate::proofs::Cuts::word_steps))]
-pub(crate) fn words_of(line: &[u8]) -> ArrayVec<&[u8], 6>
-    ensures { map (λ w. w.now) result.items ≡ take 6 (words line.now) }
+pub(crate) fn put_words<'a>(line: &'a [u8], found: &mut ArrayVec<&'a [u8], 6>)
+    requires { found.old.items ≡ [] }
+    ensures { map (λ w. w.now) found.new.items ≡ take 6 (words line.now) }
 {
-    let mut words = ArrayVec::new();
     let mut start = 0;
     for (i, b) in line.iter().enumerate() {
         if is_blank(*b) {
             if start < i {
-                words.push(&line[start..i]);
-                if words.is_full() {
-                    return words;
+                found.push(&line[start..i]);
+                if found.is_full() {
+                    return;
                 }
             }
             start = i + 1;
         }
     }
     if start < line.len() {
-        words.push(&line[start..]);
+        found.push(&line[start..]);
     }
-    words
 }
 
 fn all_name_bytes(bytes: &[u8]) -> bool
