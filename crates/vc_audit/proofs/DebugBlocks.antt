@@ -1,5 +1,5 @@
 -- The user's blocks of a debug region, by their addresses.
-use Rattle.vc_base.proofs.Common.{◌≡◌, ℕ, ◌+◌, ◌-◌, ◌*◌, ◌/◌, ◌%◌, ◌<◌, ◌≤◌, true, false, ◌&&◌, eqb, List, [], ◌∷◌, map, length, get_or, Contains, option_map, sym, refl, ap, ◌∙◌, subst, ⊎_elim, arith, le_prop, ∥∥₁_elim, nat_tests, cases_Bool, get_or-map, length-map, address, place_of, Block, Layout, address_of, is_at, without_block, span, IsSound, HasBlock, find_block}
+use Rattle.vc_base.proofs.Common.{◌≡◌, ℕ, ◌+◌, ◌-◌, ◌*◌, ◌/◌, ◌%◌, ◌<◌, ◌≤◌, true, false, ◌&&◌, eqb, List, [], ◌∷◌, map, length, get_or, Contains, option_map, sym, refl, ap, ◌∙◌, subst, ⊎_elim, arith, le_prop, ∥∥₁_elim, nat_tests, cases_Bool, get_or-map, length-map, place_of, Block, Layout, address_of, is_at, without_block, span, IsSound, HasBlock, find_block}
 use Rattle.vc_audit.specs.Debug.{guarded_place, user_block, user_place}
 use Rattle.vc_audit.specs.DebugGuard.{HasGuards}
 

@@ -1,5 +1,5 @@
 -- A walk by the next damaged block behind an address passes the damaged blocks in order.
-use Rattle.vc_base.proofs.Common.{◌≡◌, ℕ, ◌+◌, Bool, true, false, ltb, List, [], ◌∷◌, ℤ, IfSome, nat_lt, Some, None, filter, Option, option_map, filter_map, ap, ◌∙◌, arith, lt-ltb, nat_tests, AllByRecursion, cons_option, Block, address_of, HaveOwnPlaces, by_address}
+use Rattle.vc_base.proofs.Common.{◌≡◌, ℕ, ◌+◌, Bool, true, ltb, List, [], ◌∷◌, ℤ, IfSome, nat_lt, Some, None, filter, Option, option_map, filter_map, ap, ◌∙◌, arith, lt-ltb, nat_tests, AllByRecursion, cons_option, Block, address_of, HaveOwnPlaces, by_address}
 use Rattle.vc_model.proofs.Sorting as sorting
 use Rattle.vc_model.proofs.Walking.{IsRow, filter-all, filter-next, filter-none}
 use Rattle.vc_audit.specs.Debug.{Debug, damage, damage_of, damaged_blocks, next_damaged, user_block}

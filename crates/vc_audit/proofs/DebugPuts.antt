@@ -7,7 +7,7 @@ use Rattle.vc_seg.specs.Answer.{IsPut, IsRefusal}
 use Rattle.vc_seg.specs.declared.fault.RegionFault.{RegionFault}
 use Rattle.vc_seg.specs.declared.fault.RegionFault.TheVariants as code
 use Rattle.vc_audit.specs.Debug.{Debug, debug_resize, guarded_place, outcome_by, put_with_mark, stays_debug, user_block, user_place, user_size, with_guards, with_zeros}
-use Rattle.vc_audit.specs.DebugMark.{moved_marks}
+use Rattle.vc_addrmap.specs.Map.{Numbers, moved_number}
 use Rattle.vc_audit.specs.DebugGuard.{HasGuards}
 use Rattle.vc_audit.proofs.DebugBlocks.{UserAt, at_user, guarded-at, below-end, found-at, live-down, without-at}
 use Rattle.vc_audit.proofs.DebugFills.{found-written, guards-with, guards-without, guards-written, label-user, live-written}
@@ -213,20 +213,20 @@ module _ {r mid new : Layout ℕ} {size kept x y : ℕ} (h : IsResized r mid new
     pub others-resized : without_block (place_of y) new.blocks ≡ without_block (place_of y) mid.blocks → without_block (place_of to) (map user_block new.blocks) ≡ without_block (place_of a) (map user_block r.blocks)
     others-resized same = without-at new to y user-resized new.blocks ∙ (ap (map user_block) (same ∙ h.others) ∙ sym (without-at r a x old r.blocks))
 
-    pub answer-resized : (terms : Terms) (marks moved : List (ℕ × ℕ)) (may_move : Bool) → min (user_size (let d : Debug ℕ = record { best = r; marks = marks } in d) (place_of a)) size ≡ kept → moved ≡ moved_marks a to marks →
+    pub answer-resized : (terms : Terms) (marks moved : Numbers) (may_move : Bool) → min (user_size (let d : Debug ℕ = record { best = r; marks = marks } in d) (place_of a)) size ≡ kept → moved ≡ moved_number a to marks →
         IsPut (best_resize terms r (place_of x) (size + 48) may_move false) y mid → IsPut (debug_resize terms (record { best = r; marks = marks }) (place_of a) size may_move false) to (record { best = new; marks = moved })
     answer-resized terms marks moved may_move same along placed =
-        let F : ℕ × ℕ → Layout ℕ → Debug ℕ = λ at l. record { best = with_zeros l at kept size; marks = moved_marks (address (place_of a)) (address (user_place at)) marks } in
-        let D : Layout ℕ → List (ℕ × ℕ) → Debug ℕ = λ l ms. record { best = l; marks = ms } in
+        let F : ℕ × ℕ → Layout ℕ → Debug ℕ = λ at l. record { best = with_zeros l at kept size; marks = moved_number (address (place_of a)) (address (user_place at)) marks } in
+        let D : Layout ℕ → Numbers → Debug ℕ = λ l ms. record { best = l; marks = ms } in
         let goes : address (user_place (place_of y)) ≡ to = address-next (place_of y) ∙ (ap (λ n. n + 1) (address-place_of y) ∙ sym next) in
-        let marked : (F (place_of y) mid).marks ≡ moved = ap (λ n. moved_marks n (address (user_place (place_of y))) marks) (address-place_of a) ∙ (ap (λ n. moved_marks a n marks) goes ∙ sym along) in
+        let marked : (F (place_of y) mid).marks ≡ moved = ap (λ n. moved_number n (address (user_place (place_of y))) marks) (address-place_of a) ∙ (ap (λ n. moved_number a n marks) goes ∙ sym along) in
         let left : F (place_of y) mid ≡ D new moved = ap (λ l. D l (F (place_of y) mid).marks) (sym h.written) ∙ ap (D new) marked in
         let R : ℕ × ℕ → ℕ → Debug ℕ → Type 0 = λ q k d. IsPut (outcome_by (put_with_mark marks (place_of a) k size) (best_resize terms r q (size + 48) may_move false)) to d in
         let base : R (place_of x) kept (F (place_of y) mid) = put-by F (best_resize terms r (place_of x) (size + 48) may_move false) y to mid next user-resized.place placed in
         subst (λ q. R q (min (user_size (D r marks) (place_of a)) size) (D new moved)) (sym (guarded-at r a x old))
         (subst (λ k. R (place_of x) k (D new moved)) (sym same) (subst (R (place_of x) kept) left base))
 
-pub refused-resized : (r : Layout ℕ) (marks : List (ℕ × ℕ)) (terms : Terms) (a x size : ℕ) (may_move : Bool) (why : RegionFault) → UserAt r a x → IsRefusal (best_resize terms r (place_of x) (size + 48) may_move) why →
+pub refused-resized : (r : Layout ℕ) (marks : Numbers) (terms : Terms) (a x size : ℕ) (may_move : Bool) (why : RegionFault) → UserAt r a x → IsRefusal (best_resize terms r (place_of x) (size + 48) may_move) why →
     IsRefusal (debug_resize terms (record { best = r; marks = marks }) (place_of a) size may_move) why
 refused-resized r marks terms a x size may_move why old h =
     let d : Debug ℕ = record { best = r; marks = marks } in

@@ -4,11 +4,12 @@ use Rattle.vc_model.proofs.Relabel.{best_alloc-relabel, best_resize-relabel, by_
 use Rattle.vc_seg.proofs.Stats.{layout_stat-relabel}
 use Rattle.vc_seg.specs.Stat.{layout_stat}
 use Rattle.vc_seg.specs.declared.stat.Stat.{Stat}
+use Rattle.vc_addrmap.specs.Map.{Numbers}
 use Rattle.vc_audit.specs.Debug.{Debug, damage, damage_of, damaged_blocks, debug_alloc, debug_clear, debug_compact, debug_compact_count, debug_free, debug_resize, debug_write, put_with_guards, guarded_offset, guarded_place, next_damaged, outcome_by, with_poke, relabel_debug, put_with_mark, stays_debug, user_block, user_blocks, user_size, with_back_guard, with_watch, watched_at}
 use Rattle.vc_audit.specs.DebugStat.{debug_stat}
 
 module _ {L M : Type 0} (f : L → M) where
-  abbrev debug : List (ℕ × ℕ) → Layout M → Debug M
+  abbrev debug : Numbers → Layout M → Debug M
   debug marks r = record { best = r; marks = marks }
 
   users-relabelled : (bs : List (Block L)) → map user_block (map (relabel_block f) bs) ≡ map (relabel_block f) (map user_block bs)
@@ -26,7 +27,7 @@ module _ {L M : Type 0} (f : L → M) where
   back-relabelled r at size off src =
       ap (λ q. with_back_guard q at size) (bytes-relabelled r at off src) ∙ bytes-relabelled (with_bytes_at r at off src) at (32 + size) (replicate 16 165)
 
-  guarded-relabelled : (marks : List (ℕ × ℕ)) (size : ℕ) (o : Outcome (Put (Layout L))) → outcome_by (put_with_guards marks size) (relabel_outcome f o) ≡ outcome_as (relabel_debug f) (outcome_by (put_with_guards marks size) o)
+  guarded-relabelled : (marks : Numbers) (size : ℕ) (o : Outcome (Put (Layout L))) → outcome_by (put_with_guards marks size) (relabel_outcome f o) ≡ outcome_as (relabel_debug f) (outcome_by (put_with_guards marks size) o)
   guarded-relabelled marks size (Done p) =
       ap (λ r. Done (record { at = (p.at.0, p.at.1 + 32); region = debug marks r; granted = p.granted })) (back-relabelled p.region p.at size 0 (replicate 32 165))
   guarded-relabelled marks size (Refused why) = refl
@@ -35,7 +36,7 @@ module _ {L M : Type 0} (f : L → M) where
   alloc-relabelled terms d label size refused =
       ap (outcome_by (put_with_guards d.marks size)) (best_alloc-relabel f terms d.best label (size + 48) 32 refused) ∙ guarded-relabelled d.marks size (best_alloc terms d.best label (size + 48) 32 refused)
 
-  resized-relabelled : (marks : List (ℕ × ℕ)) (at : ℕ × ℕ) (kept size : ℕ) (o : Outcome (Put (Layout L))) → outcome_by (put_with_mark marks at kept size) (relabel_outcome f o) ≡ outcome_as (relabel_debug f) (outcome_by (put_with_mark marks at kept size) o)
+  resized-relabelled : (marks : Numbers) (at : ℕ × ℕ) (kept size : ℕ) (o : Outcome (Put (Layout L))) → outcome_by (put_with_mark marks at kept size) (relabel_outcome f o) ≡ outcome_as (relabel_debug f) (outcome_by (put_with_mark marks at kept size) o)
   resized-relabelled marks at kept size (Done p) =
       ap (λ r. Done (record { at = (p.at.0, p.at.1 + 32); region = debug (put_with_mark marks at kept size p).region.marks r; granted = p.granted })) (back-relabelled p.region p.at size (32 + kept) (replicate (size - kept) 0))
   resized-relabelled marks at kept size (Refused why) = refl

@@ -1,5 +1,5 @@
 -- The user's blocks in order, and the one that holds a byte.
-use Rattle.vc_base.proofs.Common.{◌≡◌, ℕ, ◌+◌, ◌-◌, ◌<◌, ◌≤◌, Bool, true, false, cond, ◌&&◌, eqb, ltb, ◌⊎◌, List, [], ◌∷◌, map, get_or, nat_lt, nat_le, Some, None, fold, filter, Option, option_map, AllPairs, find, sym, refl, ap, ◌∙◌, subst, inl, inr, ⊎_elim, arith, eq-eqb, eqb-true, ∥∥₁_elim, nat_tests, and_from, and_parts, cases_Bool, none-some, same_Some, AllByRecursion, place_of, Block, Layout, address_of, footprint, lesser_by, span, EndsBefore, HaveOwnPlaces, IsSound, HasBlock, find_block, block_at, holds_byte, next_block}
+use Rattle.vc_base.proofs.Common.{◌≡◌, ℕ, ◌+◌, ◌-◌, ◌<◌, ◌≤◌, Bool, true, false, cond, ◌&&◌, eqb, ltb, ◌⊎◌, List, [], ◌∷◌, map, get_or, nat_lt, nat_le, Some, None, fold, filter, Option, option_map, AllPairs, find, sym, refl, ap, ◌∙◌, subst, inl, inr, ⊎_elim, arith, eq-eqb, eqb-true, ∥∥₁_elim, nat_tests, and_from, and_parts, cases_Bool, none-some, same_Some, AllByRecursion, place_of, Block, Layout, address_of, footprint, lesser_by, EndsBefore, HaveOwnPlaces, IsSound, HasBlock, find_block, block_at, holds_byte, next_block}
 use Rattle.vc_model.proofs.Pairs.{AllPairs-head, AllPairs-tail, all-recursion}
 use Rattle.vc_model.proofs.Places.{among-find, found-there}
 use Rattle.vc_base.proofs.Places.{span-least}

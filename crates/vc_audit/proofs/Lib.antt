@@ -1,5 +1,4 @@
 pub mod Sound
-pub mod DebugMarks
 pub mod DebugBlocks
 pub mod DebugFills
 pub mod DebugPuts

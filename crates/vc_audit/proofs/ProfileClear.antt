@@ -1,10 +1,9 @@
 -- A profile region whose blocks all go, and its rows.
-use Rattle.vc_base.proofs.Common.{◌≡◌, ℕ, zero, suc, ◌+◌, ◌≤◌, List, [], ◌∷◌, map, length, slice_get, Some, Option, option_map, sym, refl, ap, ◌∙◌, arith, same_Some, slice_get-map, AllByRecursion, cleared_layout, Block, Layout}
+use Rattle.vc_base.proofs.Common.{◌≡◌, ℕ, zero, suc, ◌+◌, ◌≤◌, List, [], ◌∷◌, map, length, slice_get, Some, Option, option_map, bytes_eq, sym, refl, ap, ◌∙◌, subst, arith, same_Some, slice_get-map, AllByRecursion, IsDistinct, keys_of, cleared_layout, Block, Layout}
 use Rattle.vc_seg.specs.declared.profile_row.ProfileRow.{ProfileRow}
 use Rattle.vc_audit.specs.Profile.{Profile, rows_with_peaks, profile_clear, row_of, site_blocks}
-use Rattle.vc_audit.specs.ProfileSums.{IsCounted, IsRow, Rows, clear_at, cleared_rows, row_without_blocks, peaks_of}
+use Rattle.vc_audit.specs.ProfileSums.{IsCounted, IsRow, Rows, Sites, clear_at, cleared_rows, peaks_of, row_without_blocks}
 use Rattle.vc_audit.specs.declared.profile.rows.Row.{Row}
-use Rattle.vc_audit.specs.declared.profile.sites.Sited.{Sited}
 use Rattle.vc_audit.proofs.ProfileBare.{layout}
 use Rattle.vc_audit.proofs.ProfileFree.{profile}
 use Rattle.vc_audit.proofs.ProfileRows.{peaks-stay}
@@ -51,15 +50,19 @@ rows-none : (es : Rows) → AllByRecursion (IsRow []) (cleared_rows es)
 rows-none [] = tt
 rows-none (e ∷ es) = (record { blocks_are = refl; bytes_are = refl; few = omega arith; peak = omega arith }, rows-none es)
 
-pub counted-cleared : (r : Layout ℕ) (es : Rows) → IsCounted (cleared_layout r) [] (cleared_rows es)
-counted-cleared r es = record { held = tt; counted = rows-none es }
+keys-none : (es : Rows) → keys_of (cleared_rows es) ≡ keys_of es
+keys-none [] = refl
+keys-none (e ∷ es) = ap (λ ks. e.0 ∷ ks) (keys-none es)
+
+pub counted-cleared : (r : Layout ℕ) (t : Sites) (es : Rows) → IsDistinct bytes_eq (keys_of es) → IsCounted (cleared_layout r) t (cleared_rows es)
+counted-cleared r t es distinct = record { held = tt; counted = rows-none es; distinct = subst (IsDistinct bytes_eq) (sym (keys-none es)) distinct }
 
 peaks-none : (es : Rows) → peaks_of (cleared_rows es) ≡ peaks_of es
 peaks-none [] = refl
 peaks-none (e ∷ es) = ap (λ ps. (e.0, e.1.peak) ∷ ps) (peaks-none es)
 
-pub profile-cleared : (r : Layout ℕ) (t : List Sited) (es : Rows) → profile [] (cleared_layout r) (cleared_rows es) ≡ profile_clear (profile t r es)
-profile-cleared r t es =
+pub profile-cleared : (r : Layout ℕ) (t t' : Sites) (es : Rows) → profile t' (cleared_layout r) (cleared_rows es) ≡ profile_clear (profile t r es)
+profile-cleared r t t' es =
     let with : List (List ℕ × ℕ) → Profile ℕ = λ ps. record { layout = layout r.segments []; peaks = ps } in
     let none : List (Block (ℕ × List ℕ)) = [] in
     ap with (sym (peaks-stay [] (cleared_rows es) (rows-none es)) ∙ ap (rows_with_peaks none) (peaks-none es))

@@ -1,46 +1,55 @@
 -- What a profile region counts when a block goes.
-use Rattle.vc_base.proofs.Common.{◌≡◌, ℕ, ◌+◌, ◌-◌, ◌≤◌, false, cond, ◌≢◌, List, [], map, IsSome, Some, option_map, bytes_eq, unwrap_or, sym, refl, ap, ◌∙◌, subst, arith, AllByRecursion, IsDistinct, keys_of, lookup, place_of, without_block_at, Block, Layout, address_of, without_block, HaveOwnPlaces, find_block}
-use Rattle.indexmap.specs.IndexMap.{insert_entry}
+use Rattle.vc_base.proofs.Common.{◌≡◌, ℕ, ◌+◌, ◌-◌, ◌≤◌, false, cond, ◌≢◌, List, [], map, IsSome, None, Some, option_map, bytes_eq, unwrap_or, sym, refl, ap, ◌∙◌, subst, arith, AllByRecursion, lookup, place_of, without_block_at, Block, Layout, address_of, without_block, HaveOwnPlaces, find_block}
+use Rattle.indexmap.specs.IndexMap.{insert_entry, set_value_at}
 use Rattle.vc_base.proofs.Quantifiers.{all-weaken, all-both}
 use Rattle.vc_base.proofs.Texts.{own_bytes}
+use Rattle.vc_addrmap.specs.Map.{Numbers, with_number}
 use Rattle.vc_audit.specs.Profile.{Profile, rows_with_peaks, profile_free, site_blocks, site_bytes}
-use Rattle.vc_audit.specs.ProfileSites.{site_at}
-use Rattle.vc_audit.specs.ProfileSums.{IsCounted, IsHeld, IsRow, Rows, peaks_of, row_for, site_of, with_sites, with_its_site}
+use Rattle.vc_audit.specs.ProfileSums.{IsCounted, IsHeld, IsRow, Rows, Sites, peaks_of, row_for, site_at, site_of, sites_by, with_its_site, with_sites}
 use Rattle.vc_audit.specs.declared.profile.rows.Row.{Row}
-use Rattle.vc_audit.specs.declared.profile.sites.Sited.{Sited}
 use Rattle.vc_audit.proofs.ProfileBare.{layout, sited-alike, sited-find, sited-without}
 use Rattle.vc_audit.proofs.ProfileCounts.{blocks-total, bytes-total, one, size_at, total-without}
 use Rattle.vc_audit.proofs.ProfileHeld.{TheBlock, held-put, other-site, row-any, told-block, told-is}
 use Rattle.vc_audit.proofs.ProfileLists.{all-found, all-without, others-apart}
-use Rattle.vc_audit.proofs.ProfileRows.{IsRowWith, peak-with, peaks-put, rows-put, site-there}
+use Rattle.vc_audit.proofs.ProfileSites.{IsRowOf, site_of_row, taken-site}
+use Rattle.vc_audit.proofs.ProfileRows.{IsRowWith, distinct-put, peak-with, peaks-put, rows-put, site-there}
 
 -- a profile by its parts
-abbrev pub profile : List Sited → Layout ℕ → Rows → Profile ℕ
+abbrev pub profile : Sites → Layout ℕ → Rows → Profile ℕ
 profile t r es = record { layout = with_sites t r; peaks = peaks_of es }
 
+-- rows of which one is set at its index are those in which it is put
+pub counted-set : (r : Layout ℕ) (numbers : Numbers) (es es' : Rows) (site : List ℕ) (i : ℕ) (w : Row) → set_value_at es i w ≡ insert_entry bytes_eq es site w → es' ≡ set_value_at es i w
+    → IsCounted r (sites_by numbers (set_value_at es i w)) (insert_entry bytes_eq es site w) → IsCounted r (sites_by numbers es') es'
+counted-set r numbers es es' site i w is set counted =
+    subst (λ (rows : Rows). IsCounted r (sites_by numbers rows) rows) (sym set) (subst (IsCounted r (sites_by numbers (set_value_at es i w))) (sym is) counted)
+
+pub profile-set : (r : Layout ℕ) (numbers : Numbers) (es es' : Rows) (site : List ℕ) (i : ℕ) (w : Row) → set_value_at es i w ≡ insert_entry bytes_eq es site w → es' ≡ set_value_at es i w
+    → profile (sites_by numbers es') r es' ≡ profile (sites_by numbers (set_value_at es i w)) r (insert_entry bytes_eq es site w)
+profile-set r numbers es es' site i w is set = ap (λ (rows : Rows). profile (sites_by numbers rows) r rows) set ∙ ap (profile (sites_by numbers (set_value_at es i w)) r) is
+
 -- every block has a site
-pub has-site : {r : Layout ℕ} {t : List Sited} {es : Rows} → IsCounted r t es → (a size : ℕ) → option_map (λ (x : Block ℕ). x.size) (find_block (place_of a) r.blocks) ≡ Some size → IsSome (site_at a t)
+pub has-site : {r : Layout ℕ} {t : Sites} {es : Rows} → IsCounted r t es → (a size : ℕ) → option_map (λ (x : Block ℕ). x.size) (find_block (place_of a) r.blocks) ≡ Some size → IsSome (site_at a t)
 has-site {r} {t} {es} counted a size told =
     let b = told-block (λ (x : Block ℕ). x.size) r.blocks a size told in
     subst (λ n. IsSome (site_at n t)) b.address (all-found (place_of a) b.block (IsHeld t es) r.blocks b.found counted.held).kept
 
 -- a block of a profile by what is told of it: its size, its site, and the row of the site
-pub record IsAtSite (r : Layout ℕ) (t : List Sited) (es : Rows) (a size : ℕ) (site : List ℕ) (v : Row) : Type 0 where
+pub record IsAtSite (r : Layout ℕ) (t : Sites) (es : Rows) (a size : ℕ) (site : List ℕ) (v : Row) : Type 0 where
   pub counted : IsCounted r t es
   pub places : HaveOwnPlaces r.blocks
   pub the : TheBlock r.blocks a
   pub sized : the.block.size ≡ size
   pub kept : site_at a t ≡ Some site
   pub row : v ≡ row_for site es
-  pub distinct : IsDistinct bytes_eq (keys_of es)
 
-pub at-site : {r : Layout ℕ} {t : List Sited} {es : Rows} {a size : ℕ} {site : List ℕ} {v : Row} → IsCounted r t es → HaveOwnPlaces r.blocks → option_map (λ (x : Block ℕ). x.size) (find_block (place_of a) r.blocks) ≡ Some size
-    → site_at a t ≡ Some site → v ≡ row_for site es → IsDistinct bytes_eq (keys_of es) → IsAtSite r t es a size site v
-at-site {r} {t} {es} {a} {size} counted places told kept row distinct =
+pub at-site : {r : Layout ℕ} {t : Sites} {es : Rows} {a size : ℕ} {site : List ℕ} {v : Row} → IsCounted r t es → HaveOwnPlaces r.blocks → option_map (λ (x : Block ℕ). x.size) (find_block (place_of a) r.blocks) ≡ Some size
+    → site_at a t ≡ Some site → v ≡ row_for site es → IsAtSite r t es a size site v
+at-site {r} {t} {es} {a} {size} counted places told kept row =
     let b = told-block (λ (x : Block ℕ). x.size) r.blocks a size told in
-    record { counted = counted; places = places; the = b; sized = told-is (λ (x : Block ℕ). x.size) r.blocks a size b told; kept = kept; row = row; distinct = distinct }
+    record { counted = counted; places = places; the = b; sized = told-is (λ (x : Block ℕ). x.size) r.blocks a size b told; kept = kept; row = row }
 
-module _ {r : Layout ℕ} {t : List Sited} {es : Rows} {a size : ℕ} {site : List ℕ} {v : Row} (at : IsAtSite r t es a size site v) where
+module _ {r : Layout ℕ} {t : Sites} {es : Rows} {a size : ℕ} {site : List ℕ} {v : Row} (at : IsAtSite r t es a size site v) where
   abbrev b : Block ℕ
   b = at.the.block
 
@@ -103,7 +112,7 @@ module _ {r : Layout ℕ} {t : List Sited} {es : Rows} {a size : ℕ} {site : Li
       (others-apart p b r.blocks at.the.found at.places)
 
   -- the block goes
-  module _ (t' : List Sited) (others : (q : ℕ) → q ≢ a → site_at q t' ≡ site_at q t) (w : Row) (with : IsRowWith v (v.blocks - 1) (v.bytes - size) w) where
+  module _ (t' : Sites) (others : (q : ℕ) → q ≢ a → site_at q t' ≡ site_at q t) (w : Row) (with : IsRowWith v (v.blocks - 1) (v.bytes - size) w) where
     abbrev left : List (Block ℕ)
     left = without_block p r.blocks
 
@@ -129,11 +138,21 @@ module _ {r : Layout ℕ} {t : List Sited} {es : Rows} {a size : ℕ} {site : Li
     pub counted-freed : IsCounted (without_block_at r p) t' es'
     counted-freed = record {
       held = all-both (IsHeld t es) (λ c. address_of c ≢ a) (IsHeld t' es') left (λ c h differs. held-put t t' es site w c h (others (address_of c) differs)) (all-without (IsHeld t es) p r.blocks at.counted.held) away;
-      counted = subst (λ bs. AllByRecursion (IsRow bs) es') (sym left-is) (rows-put S rest site w w-is same es at.distinct at.counted.counted);
+      counted = subst (λ bs. AllByRecursion (IsRow bs) es') (sym left-is) (rows-put S rest site w w-is same es at.counted.distinct at.counted.counted);
+      distinct = distinct-put site w es at.counted.distinct;
     }
 
     pub profile-freed : profile t' (without_block_at r p) es' ≡ profile_free (profile t r es) p
     profile-freed =
         let made : Layout (ℕ × List ℕ) → List (List ℕ × ℕ) → Profile ℕ = λ l ps. record { layout = l; peaks = ps } in
         ap (λ bs. made (layout r.segments bs) (peaks_of es')) left-is
-        ∙ ap (made (layout r.segments rest)) (peaks-put S rest site w w-is same es at.distinct at.counted.counted (peak-with v (row_for site es) _ _ w at.row with) ∙ ap (rows_with_peaks rest) (site-there site es has-row))
+        ∙ ap (made (layout r.segments rest)) (peaks-put S rest site w w-is same es at.counted.distinct at.counted.counted (peak-with v (row_for site es) _ _ w at.row with) ∙ ap (rows_with_peaks rest) (site-there site es has-row))
+
+-- the block goes, and its row changes at its index
+module _ {r : Layout ℕ} {old new : Numbers} {es es' : Rows} {a size i : ℕ} {v w : Row} (of : IsRowOf old es a i v) (at : IsAtSite r (sites_by old es) es a size (site_of_row es i) v)
+    (taken : new ≡ with_number a None old) (set : es' ≡ set_value_at es i w) (with : IsRowWith v (v.blocks - 1) (v.bytes - size) w) where
+  pub counted-gone : IsCounted (without_block_at r (place_of a)) (sites_by new es') es'
+  counted-gone = counted-set (without_block_at r (place_of a)) new es es' (site_of_row es i) i w (of.set w) set (counted-freed at (sites_by new (set_value_at es i w)) (taken-site old new es i w a taken) w with)
+
+  pub profile-gone : profile (sites_by new es') (without_block_at r (place_of a)) es' ≡ profile_free (profile (sites_by old es) r es) (place_of a)
+  profile-gone = profile-set (without_block_at r (place_of a)) new es es' (site_of_row es i) i w (of.set w) set ∙ profile-freed at (sites_by new (set_value_at es i w)) (taken-site old new es i w a taken) w with

@@ -4,10 +4,8 @@ use Rattle.indexmap.specs.IndexMap.{insert_entry}
 use Rattle.vc_model.proofs.Owned.{address-place_of}
 use Rattle.vc_base.proofs.Texts.{same_bytes, own_bytes}
 use Rattle.vc_audit.specs.Profile.{has_site}
-use Rattle.vc_audit.specs.ProfileSites.{site_at}
-use Rattle.vc_audit.specs.ProfileSums.{IsHeld, IsRow, Rows, new_row, row_for, site_of, with_its_site}
+use Rattle.vc_audit.specs.ProfileSums.{IsHeld, IsRow, Rows, Sites, new_row, row_for, site_at, site_of, with_its_site}
 use Rattle.vc_audit.specs.declared.profile.rows.Row.{Row}
-use Rattle.vc_audit.specs.declared.profile.sites.Sited.{Sited}
 use Rattle.vc_audit.proofs.ProfileCounts.{blocks-total, bytes-total, one, size_at, total}
 use Rattle.vc_audit.proofs.ProfileRows.{put-keeps}
 
@@ -45,7 +43,7 @@ pub told-is : {L A : Type 0} (f : Block L → A) (bs : List (Block L)) (a : ℕ)
 told-is f bs a x b e = same_Some (f b.block) x (sym (ap (option_map f) b.found) ∙ e)
 
 -- a held block whose site is kept as before, as the row of some site is put
-pub held-put : (t t' : List Sited) (es : Rows) (site : List ℕ) (w : Row) (b : Block ℕ) → IsHeld t es b → site_at (address_of b) t' ≡ site_at (address_of b) t → IsHeld t' (insert_entry bytes_eq es site w) b
+pub held-put : (t t' : Sites) (es : Rows) (site : List ℕ) (w : Row) (b : Block ℕ) → IsHeld t es b → site_at (address_of b) t' ≡ site_at (address_of b) t → IsHeld t' (insert_entry bytes_eq es site w) b
 held-put t t' es site w b h same =
     record {
       kept = subst IsSome (sym same) h.kept;
@@ -62,7 +60,7 @@ other-site site x e =
     (cases_Bool (bytes_eq x site))
 
 -- where a site has no row, no block has it
-module _ (t : List Sited) (es : Rows) (site : List ℕ) (none : lookup (bytes_eq site) es ≡ None) where
+module _ (t : Sites) (es : Rows) (site : List ℕ) (none : lookup (bytes_eq site) es ≡ None) where
   unlike : (b : Block ℕ) → IsHeld t es b → has_site site (with_its_site t b) ≡ false
   unlike b h =
       ⊎_elim
@@ -89,7 +87,7 @@ row-found bs site w (k ∷ es) all e =
     (cases_Bool (bytes_eq site k.0))
 
 -- the row of any site has its sums
-pub row-any : (t : List Sited) (es : Rows) (site : List ℕ) (bs : List (Block ℕ)) → AllByRecursion (IsHeld t es) bs → AllByRecursion (IsRow (map (with_its_site t) bs)) es → IsRow (map (with_its_site t) bs) (site, row_for site es)
+pub row-any : (t : Sites) (es : Rows) (site : List ℕ) (bs : List (Block ℕ)) → AllByRecursion (IsHeld t es) bs → AllByRecursion (IsRow (map (with_its_site t) bs)) es → IsRow (map (with_its_site t) bs) (site, row_for site es)
 row-any t es site bs held all = go (lookup (bytes_eq site) es) refl
   where
     go : (o : Option Row) → lookup (bytes_eq site) es ≡ o → IsRow (map (with_its_site t) bs) (site, unwrap_or o new_row)

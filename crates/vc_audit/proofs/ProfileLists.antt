@@ -1,5 +1,5 @@
 -- Lists of blocks with any labels, and the one at a place.
-use Rattle.vc_base.proofs.Common.{◌≡◌, ℕ, true, false, cond, ◌≢◌, List, [], ◌∷◌, map, Some, AllPairs, sym, ap, ◌∙◌, subst, ⊎_elim, cases_Bool, none-some, same_Some, AllByRecursion, Block, address_of, is_at, lies_before, with_block, without_block, HaveOwnPlaces, change_block, find_block}
+use Rattle.vc_base.proofs.Common.{◌≡◌, ℕ, true, false, cond, ◌≢◌, List, [], ◌∷◌, Some, AllPairs, sym, ap, ◌∙◌, subst, ⊎_elim, cases_Bool, none-some, same_Some, AllByRecursion, Block, address_of, is_at, lies_before, with_block, without_block, HaveOwnPlaces, change_block, find_block}
 use Rattle.vc_model.proofs.Pairs.{AllPairs-head, AllPairs-tail, all-recursion}
 use Rattle.vc_base.proofs.Quantifiers.{all-weaken}
 

@@ -8,11 +8,9 @@ use Rattle.vc_seg.specs.Answer.{IsPut, IsRefusal}
 use Rattle.vc_seg.specs.declared.fault.RegionFault.{RegionFault}
 use Rattle.vc_best.specs.Ask.{AsksToMove}
 use Rattle.vc_audit.specs.Profile.{Profile, rows_with_peaks, profile_after, profile_resize, site_blocks, site_bytes}
-use Rattle.vc_audit.specs.ProfileSites.{site_at}
-use Rattle.vc_audit.specs.ProfileSums.{IsCounted, IsHeld, IsRow, Rows, peaks_of, row_for, site_of, with_sites, with_its_site}
+use Rattle.vc_audit.specs.ProfileSums.{IsCounted, IsHeld, IsRow, Rows, Sites, peaks_of, row_for, site_at, site_of, with_its_site, with_sites}
 use Rattle.vc_audit.specs.declared.profile.rows.Row.{Row}
-use Rattle.vc_audit.specs.declared.profile.sites.Sited.{Sited}
-use Rattle.vc_audit.proofs.ProfileAlloc.{some-of}
+use Rattle.vc_audit.proofs.ProfileSites.{some-of}
 use Rattle.vc_audit.proofs.ProfileBare.{IsKept, bare, bare-layout, kept-layout, sited-alike, sited-find, sited-without}
 use Rattle.vc_audit.proofs.ProfileCounts.{blocks-total, bytes-total, one, size_at, total-without}
 use Rattle.vc_audit.proofs.ProfileFree as free
@@ -20,7 +18,7 @@ use Rattle.vc_audit.proofs.ProfileFree.{IsAtSite, profile}
 use Rattle.vc_audit.proofs.ProfileHeld.{TheBlock, held-put, other-site}
 use Rattle.vc_audit.proofs.ProfileLists.{all-found, all-join, all-without, others-apart, first_at, later_at}
 use Rattle.vc_audit.proofs.ProfilePuts.{Keeps, WithSites, put-profile, refusal-with, resize-all, with-sites}
-use Rattle.vc_audit.proofs.ProfileRows.{IsRowWith, peak-with, peaks-put, put-own, rows-put, site-there}
+use Rattle.vc_audit.proofs.ProfileRows.{IsRowWith, distinct-put, peak-with, peaks-put, put-own, rows-put, site-there}
 
 -- the block that is found stands there
 has-found : (p : ℕ × ℕ) (a : ℕ) (b : Block ℕ) (bs : List (Block ℕ)) → find_block p bs ≡ Some b → address_of b ≡ a → HasBlock bs a
@@ -34,20 +32,20 @@ has-found p a b (c ∷ cs) e at =
 pub has-block : (bs : List (Block ℕ)) (a : ℕ) → TheBlock bs a → HasBlock bs a
 has-block bs a b = has-found (place_of a) a b.block bs b.found b.address
 
-pub resize-bare : (t : List Sited) (r : Layout ℕ) (terms : Terms) (at : ℕ × ℕ) (size : ℕ) (may_move u : Bool) → best_resize terms r at size may_move u ≡ relabel_outcome bare (best_resize terms (with_sites t r) at size may_move u)
+pub resize-bare : (t : Sites) (r : Layout ℕ) (terms : Terms) (at : ℕ × ℕ) (size : ℕ) (may_move u : Bool) → best_resize terms r at size may_move u ≡ relabel_outcome bare (best_resize terms (with_sites t r) at size may_move u)
 resize-bare t r terms at size may_move u =
     ap (λ l. best_resize terms l at size may_move u) (sym (bare-layout t r)) ∙ best_resize-relabel bare terms (with_sites t r) at size may_move u
 
-pub resize-refused : (t : List Sited) (r : Layout ℕ) (es : Rows) (terms : Terms) (at : ℕ × ℕ) (size : ℕ) (may_move : Bool) (e : RegionFault) → IsRefusal (best_resize terms r at size may_move) e → IsRefusal (profile_resize terms (profile t r es) at size may_move) e
+pub resize-refused : (t : Sites) (r : Layout ℕ) (es : Rows) (terms : Terms) (at : ℕ × ℕ) (size : ℕ) (may_move : Bool) (e : RegionFault) → IsRefusal (best_resize terms r at size may_move) e → IsRefusal (profile_resize terms (profile t r es) at size may_move) e
 resize-refused t r es terms at size may_move e h =
     refusal-with (profile_after (peaks_of es)) (best_resize terms r at size may_move) (best_resize terms (with_sites t r) at size may_move) (resize-bare t r terms at size may_move) e h
 
 -- the region without the sites asks as the best region does
-pub asks-bare : {terms : Terms} (t : List Sited) (r : Layout ℕ) {a size : ℕ} {may_move : Bool} → AsksToMove terms r a size may_move → AsksToMove terms (relabel_layout bare (with_sites t r)) a size may_move
+pub asks-bare : {terms : Terms} (t : Sites) (r : Layout ℕ) {a size : ℕ} {may_move : Bool} → AsksToMove terms r a size may_move → AsksToMove terms (relabel_layout bare (with_sites t r)) a size may_move
 asks-bare {terms} t r {a} {size} {may_move} h = subst (λ (l : Layout ℕ). AsksToMove terms l a size may_move) (sym (bare-layout t r)) h
 
 -- the block of an address with its site is at another one, of another size, and the others stay
-pub record IsMovedTo (r r' : Layout ℕ) (t t' : List Sited) (a to size : ℕ) (site : List ℕ) : Type 0 where
+pub record IsMovedTo (r r' : Layout ℕ) (t t' : Sites) (a to size : ℕ) (site : List ℕ) : Type 0 where
   pub places : HaveOwnPlaces r'.blocks
   pub the : TheBlock r'.blocks to
   pub sized : the.block.size ≡ size
@@ -55,7 +53,7 @@ pub record IsMovedTo (r r' : Layout ℕ) (t t' : List Sited) (a to size : ℕ) (
   pub kept : site_at to t' ≡ Some site
   pub others_kept : (q : ℕ) → q ≢ a → q ≢ to → site_at q t' ≡ site_at q t
 
-module _ {r : Layout ℕ} {t : List Sited} {es : Rows} {a was : ℕ} {site : List ℕ} {v : Row} {r' : Layout ℕ} {t' : List Sited} {to now : ℕ} (at : IsAtSite r t es a was site v) (moved : IsMovedTo r r' t t' a to now site)
+module _ {r : Layout ℕ} {t : Sites} {es : Rows} {a was : ℕ} {site : List ℕ} {v : Row} {r' : Layout ℕ} {t' : Sites} {to now : ℕ} (at : IsAtSite r t es a was site v) (moved : IsMovedTo r r' t t' a to now site)
     (terms : Terms) (size : ℕ) (may_move : Bool) (most : size ≤ 16777216) (placed : IsPut (best_resize terms r (place_of a) size may_move false) to r') where
   abbrev b : Block ℕ
   b = moved.the.block
@@ -214,14 +212,15 @@ module _ {r : Layout ℕ} {t : List Sited} {es : Rows} {a was : ℕ} {site : Lis
           (subst (AllByRecursion (IsHeld t' es')) (sym moved.others)
           (all-both (IsHeld t es) (λ c. site_at (address_of c) t' ≡ site_at (address_of c) t) (IsHeld t' es') (without_block p r.blocks) (λ c h alike. held-put t t' es site w c h alike)
           (all-without (IsHeld t es) p r.blocks at.counted.held) rest_alike));
-      counted = rows-put S S' site w w-is same es at.distinct at.counted.counted;
+      counted = rows-put S S' site w w-is same es at.counted.distinct at.counted.counted;
+      distinct = distinct-put site w es at.counted.distinct;
     }
 
     put-is : IsPut (profile_resize terms (profile t r es) p size may_move false) to (profile t' r' es')
     put-is =
         let made : Layout (ℕ × List ℕ) → List (List ℕ × ℕ) → Profile ℕ = λ l ps. record { layout = l; peaks = ps } in
         put-profile (peaks_of es) outcome to r' (Keeps P (λ src c h. h) size (λ c h. (h.0, most)) terms (with_sites t r) p old-kept) put (profile t' r' es')
-        (ap (made (with_sites t' r')) (peaks-put S S' site w w-is same es at.distinct at.counted.counted (peak-with v (row_for site es) _ _ w at.row with) ∙ ap (rows_with_peaks S') (site-there site es (free.has-row at)))
+        (ap (made (with_sites t' r')) (peaks-put S S' site w w-is same es at.counted.distinct at.counted.counted (peak-with v (row_for site es) _ _ w at.row with) ∙ ap (rows_with_peaks S') (site-there site es (free.has-row at)))
         ∙ ap (profile_after (peaks_of es)) layout-is)
 
     pub profile-resized : (rows : Rows) → rows ≡ es' → IsPut (profile_resize terms (profile t r es) p size may_move false) to (profile t' r' rows)

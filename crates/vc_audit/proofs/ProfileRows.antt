@@ -1,7 +1,8 @@
 -- The rows as the row of one site changes.
-use Rattle.vc_base.proofs.Common.{◌≡◌, ℕ, ◌≤◌, max, Bool, true, false, cond, List, [], ◌∷◌, is_some, IsSome, Some, None, bytes_eq, unwrap_or, sym, refl, ap, ◌∙◌, subst, ⊎_elim, arith, cases_Bool, IsDistinct-head, IsDistinct-tail, bytes_eq-Decides, AllByRecursion, IsDistinct, keys_of, lookup, Block}
+use Rattle.vc_base.proofs.Common.{◌≡◌, ℕ, ◌≤◌, max, Bool, true, false, cond, List, [], ◌∷◌, is_some, IsSome, Some, None, bytes_eq, unwrap_or, sym, refl, ap, ◌∙◌, subst, ⊎_elim, arith, cases_Bool, IsDistinct-head, IsDistinct-tail, AllByRecursion, IsDistinct, keys_of, lookup, Block}
+use Rattle.std.proofs.lemmas.Map.Keys.{IsDistinct-cons}
 use Rattle.indexmap.specs.IndexMap.{insert_entry}
-use Rattle.vc_base.proofs.Texts.{same_bytes, own_bytes}
+use Rattle.vc_base.proofs.Texts.{bytes_eq-swapped, same_bytes, own_bytes}
 use Rattle.vc_audit.specs.Profile.{rows_with_peaks, site_blocks, site_bytes, with_site}
 use Rattle.vc_audit.specs.ProfileSums.{IsRow, Rows, new_row, peaks_of, row_for}
 use Rattle.vc_audit.specs.declared.profile.rows.Row.{Row}
@@ -55,6 +56,23 @@ put-keeps x site w (e ∷ es) there =
     head : (v : Bool) → IsSome (cond v (Some e.1) (lookup (bytes_eq x) es)) → IsSome (cond v (Some w) (lookup (bytes_eq x) es))
     head true h = refl
     head false h = h
+
+-- each site still has one row
+pub distinct-put : (site : List ℕ) (w : Row) (es : Rows) → IsDistinct bytes_eq (keys_of es) → IsDistinct bytes_eq (keys_of (insert_entry bytes_eq es site w))
+distinct-put site w [] distinct = IsDistinct-cons bytes_eq site [] tt distinct
+distinct-put site w (e ∷ es) distinct =
+    ⊎_elim
+    (λ t. rw t distinct)
+    (λ t. rw t (IsDistinct-cons bytes_eq e.0 (keys_of (insert_entry bytes_eq es site w)) (apart es (bytes_eq-swapped e.0 site ∙ t) (IsDistinct-head bytes_eq e.0 (keys_of es) distinct)) (distinct-put site w es (IsDistinct-tail bytes_eq e.0 (keys_of es) distinct))))
+    (cases_Bool (bytes_eq site e.0))
+  where
+    apart : (ds : Rows) → bytes_eq e.0 site ≡ false → AllByRecursion (λ k. bytes_eq e.0 k ≡ false) (keys_of ds) → AllByRecursion (λ k. bytes_eq e.0 k ≡ false) (keys_of (insert_entry bytes_eq ds site w))
+    apart [] other all = (other, tt)
+    apart (d ∷ ds) other all =
+        elim (bytes_eq site d.0) as (λ v. AllByRecursion (λ k. bytes_eq e.0 k ≡ false) (keys_of (cond v ((d.0, w) ∷ ds) (d ∷ insert_entry bytes_eq ds site w)))) [
+          | true ↦ all
+          | false ↦ (all.0, apart ds other all.1)
+        ]
 
 -- a row with so many blocks and bytes, of which the peak takes note
 pub record IsRowWith (v : Row) (n m : ℕ) (w : Row) : Type 0 where

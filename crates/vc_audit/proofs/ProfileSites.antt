@@ -1,95 +1,139 @@
--- What is found among sites by address, and what an edit of them does.
-use Rattle.vc_base.proofs.Common.{◌≡◌, ℕ, zero, suc, ◌+◌, ◌-◌, ◌<◌, cond, eqb, ◌≢◌, List, [], ◌∷◌, length, get_or, set, IfOk, IfErr, Some, None, Ok, Err, Result, insert, remove, nat_cmp, sym, refl, ap, ◌∙◌, subst, arith, nat_tests, common_steps, ordering_index}
-use Rattle.std.specs.List.Sorted.{IsBinarySearchResult, IsNonDecreasingBy, IsSearchInRange}
-use Rattle.std.proofs.lemmas.Cmp.{ranked}
-use Rattle.std.proofs.lemmas.List.Edits.{length-insert, get_or-insert_below, get_or-insert_at, get_or-insert_above}
-use Rattle.std.proofs.lemmas.List.Quantifiers.{all_pairs_remove}
-use Rattle.vc_audit.specs.ProfileSites.{IsAscending, IsAt, IsGap, site_at}
-use Rattle.vc_audit.specs.declared.profile.sites.Sited.{Sited}
+-- The sites of blocks by the indices of their rows, and what a call on rows and indices makes of them.
+use Rattle.vc_base.proofs.Common.{◌≡◌, ◌≢◌, ℕ, zero, suc, ◌<◌, cond, List, [], ◌∷◌, true, false, if◌then◌else◌, length, IsSome, is_some, Some, None, Option, bytes_eq, unwrap_or, option_and_then, slice_get, sym, refl, ap, ◌∙◌, subst, same_Some, none-some, eq-eqb, ne_eqb, IsDistinct, keys_of, false≢true}
+use Rattle.std.specs.Cmp.{IsEquivalence}
+use Rattle.std.proofs.lemmas.Map.Entries.{length-keys_of, lookup_from_place}
+use Rattle.std.proofs.lemmas.Option.{slice_get_within}
+use Rattle.indexmap.specs.IndexMap.{insert_entry, set_value_at}
+use Rattle.indexmap.proofs.MapLemmas.{insert_entry-first}
+use Rattle.indexmap.proofs.RemoveLemmas.{own_first}
+use Rattle.indexmap.proofs.SetLemmas.{inserted_at}
+use Rattle.vc_base.proofs.Texts.{bytes_eq-swapped, own_bytes, same_bytes}
+use Rattle.vc_addrmap.specs.Map.{Numbers, moved_number, with_number}
+use Rattle.vc_audit.specs.ProfileSums.{IsRowAt, Rows, index_for, new_row, row_for, site_at, sites_by}
+use Rattle.vc_audit.specs.declared.profile.rows.Row.{Row}
 
--- the address does not stand before a place
-abbrev pub NoneBefore : List Sited → ℕ → ℕ → Type 0
-NoneBefore l a i = (k : ℕ) (d : Sited) → k < i → (get_or l k d).at.0 ≢ a
+pub some-of : {A : Type 0} (o : Option A) (d : A) → IsSome o → o ≡ Some (unwrap_or o d)
+some-of None d h = absurd (cc)
+some-of (Some x) d h = refl
 
-none-tail : (s : Sited) (l : List Sited) (a i : ℕ) → NoneBefore (s ∷ l) a (suc i) → NoneBefore l a i
-none-tail s l a i none k d lt = none (suc k) d (omega (arith, lt))
+by_bytes : IsEquivalence bytes_eq
+by_bytes = record { refl = own_bytes; symm = bytes_eq-swapped; congr = λ x y z e. ap (λ k. bytes_eq k z) (same_bytes x y e) }
 
-at-tail : (s : Sited) (l : List Sited) (a i : ℕ) → IsAt (s ∷ l) a (suc i) → IsAt l a i
-at-tail s l a i at = record { within = omega (arith, at.within); is = at.is }
+keys-set : (es : Rows) (i : ℕ) (w : Row) → keys_of (set_value_at es i w) ≡ keys_of es
+keys-set [] i w = refl
+keys-set (e ∷ es) zero w = refl
+keys-set (e ∷ es) (suc i) w = ap (λ ks. e.0 ∷ ks) (keys-set es i w)
 
-absent : (l : List Sited) (a : ℕ) → NoneBefore l a (length l) → site_at a l ≡ None
-absent [] a none = refl
-absent (s ∷ l) a none = grind (arith, nat_tests, none 0 s (omega arith), absent l a (none-tail s l a (length l) none))
+-- a row that is put has its site at the index for it, and leaves every other site at its own
+pub site-put : (site : List ℕ) (w : Row) (es : Rows) → slice_get (keys_of (insert_entry bytes_eq es site w)) (index_for site es) ≡ Some site
+site-put site w es = let at = inserted_at bytes_eq own_bytes es site w in at.1 ∙ ap Some (sym (same_bytes site at.0 at.2))
 
-present : (l : List Sited) (a i : ℕ) (d : Sited) → IsAt l a i → NoneBefore l a i → site_at a l ≡ Some (get_or l i d).site
-present [] a i d at none = absurd (omega (arith, at.within))
-present (s ∷ l) a zero d at none = grind (arith, nat_tests, at.is s)
-present (s ∷ l) a (suc i) d at none = grind (arith, nat_tests, none 0 s (omega arith), present l a i d (at-tail s l a i at) (none-tail s l a i none))
+site-stays : (site : List ℕ) (w : Row) (es : Rows) (i : ℕ) → IsSome (slice_get (keys_of es) i) → slice_get (keys_of (insert_entry bytes_eq es site w)) i ≡ slice_get (keys_of es) i
+site-stays site w [] i there = absurd (cc)
+site-stays site w (e ∷ es) i there =
+    elim (bytes_eq site e.0) as (λ v. slice_get (keys_of (cond v ((e.0, w) ∷ es) (e ∷ insert_entry bytes_eq es site w))) i ≡ slice_get (keys_of (e ∷ es)) i) [
+      | true ↦ refl
+      | false ↦ behind (site-stays site w es) i there
+    ]
+  where
+    behind : ((k : ℕ) → IsSome (slice_get (keys_of es) k) → slice_get (keys_of (insert_entry bytes_eq es site w)) k ≡ slice_get (keys_of es) k) → (k : ℕ) → IsSome (slice_get (keys_of (e ∷ es)) k) → slice_get (keys_of (e ∷ insert_entry bytes_eq es site w)) k ≡ slice_get (keys_of (e ∷ es)) k
+    behind rest zero h = refl
+    behind rest (suc k) h = rest k h
 
-found-set : (l : List Sited) (x : Sited) (i q : ℕ) → IsAt l x.at.0 i → NoneBefore l x.at.0 i → site_at q (set l i x) ≡ cond (eqb x.at.0 q) (Some x.site) (site_at q l)
-found-set [] x i q at none = absurd (omega (arith, at.within))
-found-set (s ∷ l) x zero q at none = grind (arith, nat_tests, at.is s)
-found-set (s ∷ l) x (suc i) q at none = grind (arith, nat_tests, none 0 s (omega arith), found-set l x i q (at-tail s l x.at.0 i at) (none-tail s l x.at.0 i none))
+-- an address with a number, and any other one
+number-own : (a : ℕ) (n : Option ℕ) (numbers : Numbers) → with_number a n numbers a ≡ n
+number-own a n numbers = ap (λ b. if b then n else numbers a) (eq-eqb a a refl)
 
-found-insert : (l : List Sited) (x : Sited) (i q : ℕ) → NoneBefore l x.at.0 i → site_at q (insert l i x) ≡ cond (eqb x.at.0 q) (Some x.site) (site_at q l)
-found-insert l x zero q none = refl
-found-insert [] x (suc i) q none = refl
-found-insert (s ∷ l) x (suc i) q none = grind (arith, nat_tests, none 0 s (omega arith), found-insert l x i q (none-tail s l x.at.0 i none))
+number-other : (a q : ℕ) (n : Option ℕ) (numbers : Numbers) → q ≢ a → with_number a n numbers q ≡ numbers q
+number-other a q n numbers other = ap (λ b. if b then n else numbers q) (ne_eqb a q (λ e. other (sym e)))
 
-pub found-remove : (l : List Sited) (a i q : ℕ) → IsAt l a i → q ≢ a → site_at q (remove l i) ≡ site_at q l
-found-remove [] a i q at other = absurd (omega (arith, at.within))
-found-remove (s ∷ l) a zero q at other = grind (arith, nat_tests, at.is s, other)
-found-remove (s ∷ l) a (suc i) q at other = ap (λ v. cond (eqb s.at.0 q) (Some s.site) v) (found-remove l a i q (at-tail s l a i at) other)
+site-same : (old new : Numbers) (es es' : Rows) (q : ℕ) → new q ≡ old q → keys_of es' ≡ keys_of es → site_at q (sites_by new es') ≡ site_at q (sites_by old es)
+site-same old new es es' q n k = ap (λ o. option_and_then (slice_get (keys_of es')) o) n ∙ ap (λ ks. option_and_then (slice_get ks) (old q)) k
 
-module _ (l : List Sited) (rises : IsAscending l) (a : ℕ) where
-  comparisons : IsNonDecreasingBy (λ (s : Sited). ordering_index (nat_cmp s.at.0 a)) l
-  comparisons i j d le within =
-      let up : i < j → (get_or l i d).at.0 < (get_or l j d).at.0 = λ lt. rises i j d lt within in
-      grind (arith, nat_tests, up, λ (same : i ≡ j). ap (λ k. (get_or l k d).at.0) same)
+-- the site of a block that is put
+module _ (old new : Numbers) (es es' : Rows) (a : ℕ) (site : List ℕ) (w : Row) (put : new ≡ with_number a (Some (index_for site es)) old) (is : es' ≡ insert_entry bytes_eq es site w) where
+  pub put-own-site : site_at a (sites_by new es') ≡ Some site
+  put-own-site =
+      ap (λ o. option_and_then (slice_get (keys_of es')) o) (ap (λ g. g a) put ∙ number-own a (Some (index_for site es)) old)
+      ∙ ap (λ (rows : Rows). slice_get (keys_of rows) (index_for site es)) is
+      ∙ site-put site w es
 
-  -- a search ends at the address, or where it would go
-  pub searched : (r : Result ℕ ℕ) → IsSearchInRange r (length l) → IsBinarySearchResult (λ (s : Sited). nat_cmp s.at.0 a) l r → record { found : IfOk r (IsAt l a); absent : IfErr r (IsGap l a) }
-  searched (Ok i) within equal = record { found = record { within = within; is = λ d. ranked _ a _ (sym (equal d)) }; absent = tt }
-  searched (Err i) within parted = record {
-    found = tt;
-    absent = record {
-      within = within;
-      before = λ k d lt. ranked _ a _ (sym ((parted comparisons).0 k d (omega arith) lt));
-      behind = λ k d le lt. ranked _ a _ (sym ((parted comparisons).1 k d le lt));
-    };
-  }
+  pub put-other-site : (q : ℕ) → q ≢ a → IsSome (site_at q (sites_by old es)) → site_at q (sites_by new es') ≡ site_at q (sites_by old es)
+  put-other-site q other there =
+      ap (λ o. option_and_then (slice_get (keys_of es')) o) (ap (λ g. g q) put ∙ number-other a q (Some (index_for site es)) old other)
+      ∙ ap (λ (rows : Rows). option_and_then (slice_get (keys_of rows)) (old q)) is
+      ∙ go (old q) there
+    where
+      go : (o : Option ℕ) → IsSome (option_and_then (slice_get (keys_of es)) o) → option_and_then (slice_get (keys_of (insert_entry bytes_eq es site w))) o ≡ option_and_then (slice_get (keys_of es)) o
+      go None h = refl
+      go (Some i) h = site-stays site w es i h
 
-  module _ (i : ℕ) (at : IsAt l a i) where
-    none-at : NoneBefore l a i
-    none-at k d lt same = omega (arith, rises k i d lt at.within, at.is d)
+-- the row of an index, of which the site and the sums are known
+entry-at : (es : Rows) (i : ℕ) (site : List ℕ) (v : Row) → slice_get (keys_of es) i ≡ Some site → IsRowAt es i v → slice_get es i ≡ Some (site, v)
+entry-at [] i site v key row = absurd (none-some site key)
+entry-at (e ∷ es) zero site v key row =
+    let k : e.0 ≡ site = same_Some e.0 site key in
+    let r : e.1 ≡ v = same_Some e.1 v row in
+    λ j. Some (k j, r j)
+entry-at (e ∷ es) (suc i) site v key row = entry-at es i site v key row
 
-    pub found-at : (d : Sited) → site_at a l ≡ Some (get_or l i d).site
-    found-at d = present l a i d at none-at
+-- the site of the row of an index
+abbrev pub site_of_row : Rows → ℕ → List ℕ
+site_of_row es i = unwrap_or (slice_get (keys_of es) i) []
 
-    pub changed-at : (x : Sited) → x.at.0 ≡ a → (q : ℕ) → site_at q (set l i x) ≡ cond (eqb x.at.0 q) (Some x.site) (site_at q l)
-    changed-at x is q = found-set l x i q (subst (λ b. IsAt l b i) (sym is) at) (subst (λ b. NoneBefore l b i) (sym is) none-at)
+-- it is the row of the site of the block at an address
+pub record IsRowOf (numbers : Numbers) (es : Rows) (a i : ℕ) (v : Row) : Type 0 where
+  pub kept : site_at a (sites_by numbers es) ≡ Some (site_of_row es i)
+  pub row : v ≡ row_for (site_of_row es i) es
+  pub set : (w : Row) → set_value_at es i w ≡ insert_entry bytes_eq es (site_of_row es i) w
 
-    pub rises-at : (x : Sited) → x.at.0 ≡ a → IsAscending (set l i x)
-    rises-at x is j k d lt within =
-        grind (arith, common_steps, rises j k d, rises j i d, rises i k d, at.within, at.is d, is)
+pub site-kept : (numbers : Numbers) (es : Rows) (a i : ℕ) → numbers a ≡ Some i → IsSome (site_at a (sites_by numbers es)) → site_at a (sites_by numbers es) ≡ Some (site_of_row es i)
+site-kept numbers es a i number there =
+    let at : site_at a (sites_by numbers es) ≡ slice_get (keys_of es) i = ap (λ o. option_and_then (slice_get (keys_of es)) o) number in
+    at ∙ some-of (slice_get (keys_of es) i) [] (subst IsSome at there)
 
-  module _ (i : ℕ) (gap : IsGap l a i) where
-    pub found-gap : site_at a l ≡ None
-    found-gap = absent l a (λ k d lt same. grind (arith, gap.before k d, gap.behind k d))
+-- an address with a site has an index, which is that of a row
+pub none-there : (numbers : Numbers) (es : Rows) (a : ℕ) → numbers a ≡ None → IsSome (site_at a (sites_by numbers es)) → ⊥
+none-there numbers es a none there = false≢true (ap (λ o. is_some (option_and_then (slice_get (keys_of es)) o)) (sym none) ∙ there)
 
-    pub changed-gap : (x : Sited) → x.at.0 ≡ a → (q : ℕ) → site_at q (insert l i x) ≡ cond (eqb x.at.0 q) (Some x.site) (site_at q l)
-    changed-gap x is q = found-insert l x i q (λ k d lt same. omega (arith, gap.before k d lt, is))
+pub index-within : (numbers : Numbers) (es : Rows) (a i : ℕ) → numbers a ≡ Some i → IsSome (site_at a (sites_by numbers es)) → i < length es
+index-within numbers es a i number there = go (slice_get (keys_of es) i) refl (subst (λ o. IsSome (option_and_then (slice_get (keys_of es)) o)) number there)
+  where
+    go : (o : Option (List ℕ)) → slice_get (keys_of es) i ≡ o → IsSome o → i < length es
+    go None e h = absurd (cc)
+    go (Some k) e h = subst (λ n. i < n) (length-keys_of es) (slice_get_within (keys_of es) i k e)
 
-    pub rises-gap : (x : Sited) → x.at.0 ≡ a → IsAscending (insert l i x)
-    rises-gap x is j k d lt within =
-        let new = insert l i x in
-        let key : ℕ → ℕ = λ m. (get_or l m d).at.0 in
-        let key_new : ℕ → ℕ = λ m. (get_or new m d).at.0 in
-        let long : length new ≡ length l + 1 = length-insert l i x gap.within in
-        let below : (m : ℕ) → m < i → key_new m ≡ key m = λ m lt. ap (λ (s : Sited). s.at.0) (get_or-insert_below l i x d m lt gap.within) in
-        let here : (m : ℕ) → m ≡ i → key_new m ≡ a = λ m e. rw e (ap (λ (s : Sited). s.at.0) (get_or-insert_at l i x d gap.within) ∙ is) in
-        let above : (m : ℕ) → i < m → key_new m ≡ key (m - 1) = λ m lt. subst (λ n. key_new n ≡ key (m - 1)) {x = m - 1 + 1} (omega (arith, lt)) (ap (λ (s : Sited). s.at.0) (get_or-insert_above l i x d (m - 1) (omega (arith, lt)) gap.within)) in
-        grind (arith, below j, here j, above j, below k, here k, above k, rises j k d, rises j (k - 1) d, rises (j - 1) (k - 1) d, gap.before j d, gap.behind (k - 1) d)
+pub row-of : (numbers : Numbers) (es : Rows) (a i : ℕ) (v : Row) → IsDistinct bytes_eq (keys_of es) → numbers a ≡ Some i → IsSome (site_at a (sites_by numbers es)) → IsRowAt es i v → IsRowOf numbers es a i v
+row-of numbers es a i v distinct number there row =
+    let key = some-of (slice_get (keys_of es) i) [] (subst (λ o. IsSome (option_and_then (slice_get (keys_of es)) o)) number there) in
+    let at = entry-at es i (site_of_row es i) v key row in
+    record {
+      kept = site-kept numbers es a i number there;
+      row = ap (λ o. unwrap_or o new_row) (sym (lookup_from_place by_bytes es i (site_of_row es i) v distinct at));
+      set = λ w. sym (insert_entry-first bytes_eq (site_of_row es i) w es i (own_first bytes_eq by_bytes es i (site_of_row es i) v distinct at));
+    }
 
-  pub rises-remove : (i : ℕ) → i < length l → IsAscending (remove l i)
-  rises-remove i lt = all_pairs_remove (λ (s t : Sited). s.at.0 < t.at.0) l i lt rises
+-- the sites as a block goes, or moves, and the sums of its row change
+module _ (old new : Numbers) (es : Rows) (i : ℕ) (w : Row) (a : ℕ) where
+  pub taken-site : new ≡ with_number a None old → (q : ℕ) → q ≢ a → site_at q (sites_by new (set_value_at es i w)) ≡ site_at q (sites_by old es)
+  taken-site taken q other = site-same old new es (set_value_at es i w) q (ap (λ g. g q) taken ∙ number-other a q None old other) (keys-set es i w)
+
+  module _ (to : ℕ) (moved : new ≡ moved_number a to old) (number : old a ≡ Some i) where
+    goes : new ≡ with_number to (Some i) (with_number a None old)
+    goes = moved ∙ go (old a) number
+      where
+        go : (o : Option ℕ) → o ≡ Some i → (if is_some o then with_number to o (with_number a None old) else old) ≡ with_number to (Some i) (with_number a None old)
+        go None e = absurd (cc)
+        go (Some k) e = ap (λ o. with_number to o (with_number a None old)) e
+
+    pub moved-site : site_at to (sites_by new (set_value_at es i w)) ≡ site_at a (sites_by old es)
+    moved-site =
+        ap (λ o. option_and_then (slice_get (keys_of (set_value_at es i w))) o) (ap (λ g. g to) goes ∙ number-own to (Some i) (with_number a None old))
+        ∙ ap (λ ks. slice_get ks i) (keys-set es i w)
+        ∙ ap (λ o. option_and_then (slice_get (keys_of es)) o) (sym number)
+
+    pub other-sites : (q : ℕ) → q ≢ a → q ≢ to → site_at q (sites_by new (set_value_at es i w)) ≡ site_at q (sites_by old es)
+    other-sites q from_a from_to =
+        site-same old new es (set_value_at es i w) q
+        (ap (λ g. g q) goes ∙ number-other to q (Some i) (with_number a None old) from_to ∙ number-other a q None old from_a)
+        (keys-set es i w)

@@ -4,7 +4,7 @@ use Rattle.vc_best.specs.Parts.{layout_of}
 use Rattle.vc_best.specs.declared.best.Best.{Best}
 use Rattle.vc_best.proofs.Counting.{blocks-few}
 use Rattle.vc_audit.specs.declared.profile.Profile.{Profile}
-use Rattle.vc_audit.specs.ProfileParts.{blocks_in, segments_in}
+use Rattle.vc_audit.specs.ProfileParts.{blocks_in, segments_in, sites_in}
 use Rattle.vc_audit.proofs.Sound.{own-best, own-numbers}
 use Rattle.vc_audit.proofs.ProfileBare.{from-best}
 
@@ -16,7 +16,7 @@ pub best-few : {I : Type 0} {V : I → Type 0} (b : Best I V) → length (layout
 best-few b = blocks-few b.extents.segs.items b.extents.index.items b.extents.kept
 
 pub own_places : {I : Type 0} {V : I → Type 0} (p : Profile I V) → HaveOwnPlaces (blocks_in p)
-own_places p = from-best HaveOwnPlaces p.sites.items.items (layout_of p.best).blocks (best_places p.best)
+own_places p = from-best HaveOwnPlaces (sites_in p) (layout_of p.best).blocks (best_places p.best)
 
 pub own_numbers : {I : Type 0} {V : I → Type 0} (p : Profile I V) → HaveOwnNumbers (segments_in p)
 own_numbers p = own-numbers (layout_of p.best) p.best.sound

@@ -3,17 +3,15 @@ use Rattle.vc_base.proofs.Common.{◌≡◌, ℕ, List, [], map, sym, refl, ap, 
 use Rattle.vc_model.proofs.Relabel.{change_block-relabel, compacted-relabel}
 use Rattle.vc_base.proofs.Quantifiers.{all-weaken, all-map}
 use Rattle.vc_audit.specs.Profile.{Profile, profile_compact, profile_write, site_blocks, site_bytes}
-use Rattle.vc_audit.specs.ProfileSites.{site_at}
-use Rattle.vc_audit.specs.ProfileSums.{IsCounted, IsHeld, IsRow, Rows, peaks_of, with_sites, with_its_site}
-use Rattle.vc_audit.specs.declared.profile.sites.Sited.{Sited}
-use Rattle.vc_audit.proofs.ProfileAlloc.{some-of}
+use Rattle.vc_audit.specs.ProfileSums.{IsCounted, IsHeld, IsRow, Rows, Sites, peaks_of, site_at, with_its_site, with_sites}
+use Rattle.vc_audit.proofs.ProfileSites.{some-of}
 use Rattle.vc_audit.proofs.ProfileBare.{IsKept, bare, bare-layout, kept-layout, layout}
 use Rattle.vc_audit.proofs.ProfileCounts.{blocks-total, bytes-total, one, size_at, total-change}
 use Rattle.vc_audit.proofs.ProfileFree.{profile}
 use Rattle.vc_audit.proofs.ProfileLists.{all-change}
 use Rattle.vc_audit.proofs.ProfileRows.{peaks-stay, rows-same}
 
-module _ (r : Layout ℕ) (t : List Sited) (es : Rows) (counted : IsCounted r t es) where
+module _ (r : Layout ℕ) (t : Sites) (es : Rows) (counted : IsCounted r t es) where
   abbrev S : List (Block (ℕ × List ℕ))
   S = map (with_its_site t) r.blocks
 
@@ -47,6 +45,7 @@ module _ (r : Layout ℕ) (t : List Sited) (es : Rows) (counted : IsCounted r t 
     counted-written = record {
       held = all-change (IsHeld t es) (rewritten_block off src) (λ b h. record { kept = h.kept; row = h.row; most = h.most }) at r.blocks counted.held;
       counted = subst (λ (l : Layout (ℕ × List ℕ)). AllByRecursion (IsRow l.blocks) es) (sym write-is) rows-are;
+      distinct = counted.distinct;
     }
 
     pub profile-written : profile t (with_bytes_at r at off src) es ≡ profile_write (profile t r es) at off src
@@ -61,7 +60,7 @@ module _ (r : Layout ℕ) (t : List Sited) (es : Rows) (counted : IsCounted r t 
       ∙ (ap (with_sites t) (compacted-relabel bare (with_sites t r)) ∙ kept-layout t (compacted_layout (with_sites t r)) kept)
 
   pub counted-compacted : IsCounted (compacted_layout r) t es
-  counted-compacted = record { held = counted.held; counted = counted.counted }
+  counted-compacted = record { held = counted.held; counted = counted.counted; distinct = counted.distinct }
 
   pub profile-compacted : profile t (compacted_layout r) es ≡ profile_compact (profile t r es)
   profile-compacted =

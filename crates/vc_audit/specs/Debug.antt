@@ -11,16 +11,17 @@ use Rattle.vc_model.specs.Touch.{find_block, with_bytes_at}
 use Rattle.vc_model.specs.Compact.{cleared_layout, compact_count, compacted_layout}
 use Rattle.vc_model.specs.Walk.{by_address}
 use Rattle.vc_best.specs.Ask.{AsksForSegment}
-use Rattle.vc_audit.specs.DebugMark.{line_at, moved_marks, with_mark, without_mark}
+use Rattle.vc_addrmap.specs.Map.{Numbers, moved_number, no_numbers, with_number}
 
--- its best region, whose blocks hold 32 bytes of front guard, the user's bytes, and 16 bytes of back guard; and its marks
+-- its best region, whose blocks hold 32 bytes of front guard, the user's bytes, and 16 bytes of back guard; and its marks:
+-- the line of each watched block, by the address of the user's bytes
 pub record Debug (L : Type 0) : Type 0 where
   pub best : Layout L
-  pub marks : List (ℕ × ℕ)
+  pub marks : Numbers
 
 -- with no segment, no block and no mark
 abbrev pub empty_debug : {L : Type 0} → Debug L
-empty_debug = record { best = empty_layout; marks = [] }
+empty_debug = record { best = empty_layout; marks = no_numbers }
 
 -- the byte that guards are made of
 abbrev pub guard_byte : ℕ
@@ -66,7 +67,7 @@ outcome_by f (Done p) = Done (f p)
 outcome_by f (Refused why) = Refused why
 
 -- a block was put: its guards are written
-abbrev pub put_with_guards : {L : Type 0} → List (ℕ × ℕ) → ℕ → Put (Layout L) → Put (Debug L)
+abbrev pub put_with_guards : {L : Type 0} → Numbers → ℕ → Put (Layout L) → Put (Debug L)
 put_with_guards marks size p =
     record { at = user_place p.at; region = record { best = with_guards p.region p.at size; marks = marks }; granted = p.granted }
 
@@ -87,11 +88,11 @@ abbrev pub user_size : {L : Type 0} → Debug L → ℕ × ℕ → ℕ
 user_size d at = unwrap_or (option_map (λ b. b.size) (find_block at (user_blocks d))) 0
 
 -- the block at a place got another size, there or elsewhere: its mark goes along
-abbrev pub put_with_mark : {L : Type 0} → List (ℕ × ℕ) → ℕ × ℕ → ℕ → ℕ → Put (Layout L) → Put (Debug L)
+abbrev pub put_with_mark : {L : Type 0} → Numbers → ℕ × ℕ → ℕ → ℕ → Put (Layout L) → Put (Debug L)
 put_with_mark marks at kept size p =
     record {
       at = user_place p.at;
-      region = record { best = with_zeros p.region p.at kept size; marks = moved_marks (address at) (address (user_place p.at)) marks };
+      region = record { best = with_zeros p.region p.at kept size; marks = moved_number (address at) (address (user_place p.at)) marks };
       granted = p.granted;
     }
 
@@ -114,7 +115,7 @@ pub record DebugAsksToMove {L : Type 0} (terms : Terms) (d : Debug L) (a size : 
 
 -- the block at a place goes, and its mark
 abbrev pub debug_free : {L : Type 0} → Debug L → ℕ × ℕ → Debug L
-debug_free d at = record { best = without_block_at d.best (guarded_place at); marks = without_mark (address at) d.marks }
+debug_free d at = record { best = without_block_at d.best (guarded_place at); marks = with_number (address at) None d.marks }
 
 -- other bytes stand among the user's bytes of the block at a place, from an offset on
 abbrev pub debug_write : {L : Type 0} → Debug L → ℕ × ℕ → ℕ → List ℕ → Debug L
@@ -122,7 +123,7 @@ debug_write d at off bytes = record { best = with_bytes_at d.best (guarded_place
 
 -- all blocks and all marks go
 abbrev pub debug_clear : {L : Type 0} → Debug L → Debug L
-debug_clear d = record { best = cleared_layout d.best; marks = [] }
+debug_clear d = record { best = cleared_layout d.best; marks = no_numbers }
 
 -- the segments without a block go
 abbrev pub debug_compact : {L : Type 0} → Debug L → Debug L
@@ -174,11 +175,11 @@ next_damaged after d = find (λ f. nat_lt after (address_of f.0)) (damaged_block
 
 -- the line of the block at a place, where it is watched
 abbrev pub watched_at : {L : Type 0} → Debug L → ℕ × ℕ → Option ℕ
-watched_at d at = line_at (address at) d.marks
+watched_at d at = d.marks (address at)
 
 -- the block at a place is watched with a line
 abbrev pub with_watch : {L : Type 0} → Debug L → ℕ × ℕ → ℕ → Debug L
-with_watch d at line = record { best = d.best; marks = with_mark (address at) line d.marks }
+with_watch d at line = record { best = d.best; marks = with_number (address at) (Some line) d.marks }
 
 -- the same with other labels
 abbrev pub relabel_debug : {L M : Type 0} → (L → M) → Debug L → Debug M

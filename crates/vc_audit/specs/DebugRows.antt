@@ -3,6 +3,7 @@ use Rattle.std.specs.Prelude.{ℕ, ℤ, List, [], Bool, false, map}
 use Rattle.vc_model.specs.Layout.{place_of_block}
 use Rattle.vc_model.specs.Outcome.{Outcome, Done, Put, Refused}
 use Rattle.vc_model.specs.Rows.{over_one_segment, rounds_to}
+use Rattle.vc_addrmap.specs.Map.{no_numbers}
 use Rattle.vc_audit.specs.Debug.{Debug, damaged_blocks, debug_alloc, debug_resize}
 
 -- the region that a call leaves
@@ -18,7 +19,7 @@ with_resize d at size may_move = after_call d (debug_resize (rounds_to 4096) d a
 
 -- one segment, and no block
 abbrev pub one_empty_segment : Debug ℕ
-one_empty_segment = record { best = over_one_segment []; marks = [] }
+one_empty_segment = record { best = over_one_segment []; marks = no_numbers }
 
 -- a block of 100 bytes, at offset 64, and one of 8, at offset 256
 abbrev pub two_put : Debug ℕ

@@ -15,10 +15,8 @@ pub use Rattle.vc_seg.specs.Boxed
 pub use Rattle.vc_seg.specs.Stat
 pub mod Profile
 pub mod ProfileExample
-pub mod ProfileSites
 pub mod ProfileSums
 pub mod ProfileParts
-pub mod DebugMark
 pub mod Debug
 pub mod DebugStat
 pub mod DebugGuard

@@ -6,7 +6,6 @@ mod block;
 mod check;
 mod free;
 mod guard;
-mod mark;
 mod open;
 mod resize;
 mod rows;
@@ -14,6 +13,7 @@ mod walk;
 mod watch;
 
 pub use rows::{debug_damage, debug_marks, debug_places, debug_resizing};
+use vc_addrmap::AddrMap;
 use vc_best::Best;
 
 /// A region by exact best fit that finds damage around its blocks, after Vmalloc's `Vmdebug`. In front of the user's
@@ -22,8 +22,8 @@ use vc_best::Best;
 pub struct Debug {
     /// The region whose blocks hold the guards and the user's bytes.
     pub best: Best,
-    // The marks of the blocks that are watched: the address of the user's bytes and the line.
-    marks: Vec<(u32, u32)>,
+    // The line of each block that is watched, by the address of the user's bytes.
+    marks: AddrMap,
     /// Each block has room for its guards.
     pub ghost guarded: { HasGuards (layout_of best).blocks },
 }

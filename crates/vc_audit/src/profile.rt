@@ -4,19 +4,19 @@ mod free;
 mod resize;
 mod row;
 mod rows;
-mod sites;
 mod walk;
 
 ghost use Rattle.std.specs.Prelude.{◌≡◌, IfErr, IfOk};
 ghost use Rattle.std.proofs.Props.{props};
 ghost use Rattle.vc_best.specs.Parts.{layout_of};
-ghost use Rattle.vc_audit.specs.ProfileSums.{IsCounted};
+ghost use Rattle.vc_addrmap.specs.Parts.{numbers_of};
+ghost use Rattle.vc_audit.specs.ProfileSums.{IsCounted, sites_by};
 
 use crate::plain::open_best;
 use indexmap::IndexMap;
 use rows::Row;
-use sites::Sites;
 use std::alloc::Global;
+use vc_addrmap::AddrMap;
 use vc_base::{Name, OutOfMemory};
 use vc_best::Best;
 use vc_seg::{BoxedDisc, SegDisc};
@@ -29,9 +29,9 @@ pub struct Profile {
     pub best: Best,
     // What is counted for each site, in order of first use.
     pub(crate) rows: IndexMap<Name, Row>,
-    // The site of each block.
-    pub(crate) sites: Sites,
-    ghost counted: { IsCounted (layout_of best) sites.items.items rows.entries } by { Prim.hlevel props },
+    // The index of the row of each block's site, by the block's address.
+    pub(crate) sites: AddrMap,
+    ghost counted: { IsCounted (layout_of best) (sites_by (numbers_of sites) rows.entries) rows.entries } by { Prim.hlevel props },
 }
 
 impl Profile {
@@ -54,7 +54,7 @@ impl Profile {
             Ok(best) => Ok(Profile {
                 best,
                 rows: IndexMap::new(alloc),
-                sites: Sites::new(alloc),
+                sites: AddrMap::new(alloc),
             }),
             Err(failed) => Err(failed),
         }

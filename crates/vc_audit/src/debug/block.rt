@@ -58,6 +58,7 @@ impl Debug {
             ≡ without_block (place_of a.0) (blocks_in self.old) }
     {
         self.best.write(guarded_addr(a), 32 + off, src);
+        self.marks.get(a);
     }
 
     /// Puts one byte at an offset from the block's bytes on, which may lie in its guards: from -32 on, and below the
@@ -74,5 +75,6 @@ impl Debug {
             ≡ without_block (place_of a.0) (blocks_in self.old) }
     {
         self.best.fill(guarded_addr(a), guarded_off(off), 1, byte);
+        self.marks.get(a);
     }
 }

@@ -6,7 +6,6 @@ ghost use Rattle.vc_audit.specs.DebugParts.{blocks_in, debug_of, disc_in, segmen
 
 use crate::debug::Debug;
 use crate::debug::guard::guarded_addr;
-use crate::debug::mark::drop_mark;
 use crate::plain::{Uncounted, clear_best};
 use vc_base::{Addr, Steps};
 use vc_seg::{BoxedDisc, SegDisc};
@@ -24,7 +23,7 @@ impl Debug {
     {
         let mut steps = Steps::<Uncounted>::new(self.best.alloc);
         self.best.free(guarded_addr(a), &mut steps);
-        drop_mark(&mut self.marks, a);
+        self.marks.take(a);
     }
 
     /// Frees all its blocks, ends all marks, and keeps its segments.

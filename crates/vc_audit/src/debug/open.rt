@@ -6,6 +6,7 @@ ghost use Rattle.vc_audit.specs.DebugParts.{debug_of, segments_in};
 use crate::debug::Debug;
 use crate::plain::open_best;
 use std::alloc::Global;
+use vc_addrmap::AddrMap;
 use vc_base::OutOfMemory;
 use vc_seg::{BoxedDisc, SegDisc};
 
@@ -22,7 +23,7 @@ impl Debug {
         match open_best(alloc, disc) {
             Ok(best) => Ok(Debug {
                 best,
-                marks: Vec::new(alloc),
+                marks: AddrMap::new(alloc),
             }),
             Err(failed) => Err(failed),
         }

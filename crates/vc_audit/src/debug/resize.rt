@@ -7,7 +7,6 @@ ghost use Rattle.vc_audit.specs.DebugParts.{blocks_in, debug_of, disc_in, segmen
 
 use crate::debug::Debug;
 use crate::debug::guard::{guarded_addr, user_addr, write_zeros};
-use crate::debug::mark::move_mark;
 use crate::plain::Uncounted;
 use vc_base::{Addr, Steps};
 use vc_seg::{BoxedDisc, RegionFault, SegDisc};
@@ -46,10 +45,13 @@ impl Debug {
             Ok(at) => {
                 write_zeros(&mut self.best, at, kept, size);
                 let to = user_addr(at);
-                move_mark(&mut self.marks, a, to);
+                self.marks.moved(a, to);
                 Ok(to)
             }
-            Err(fault) => Err(fault),
+            Err(fault) => {
+                self.marks.get(a);
+                Err(fault)
+            }
         }
     }
 }

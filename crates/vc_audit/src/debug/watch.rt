@@ -4,7 +4,6 @@ ghost use Rattle.vc_audit.specs.Debug.{watched_at, with_watch};
 ghost use Rattle.vc_audit.specs.DebugParts.{blocks_in, debug_of, disc_in};
 
 use crate::debug::Debug;
-use crate::debug::mark::{mark_line, put_mark};
 use vc_base::{Addr, OutOfMemory};
 use vc_seg::{BoxedDisc, SegDisc};
 
@@ -18,14 +17,18 @@ impl Debug {
         ensures err { OnErr result (debug_of self.new ≡ debug_of self.old) }
         ensures disc { disc_in state self.new ≡ disc_in state self.old }
     {
-        put_mark(&mut self.marks, a, line)
+        self.marks.reserve()?;
+        self.marks.put(a, line);
+        Ok(())
     }
 
-    /// The line of the block at that address. None where it is not marked.
+    /// The line of the block at that address. None where it is not marked. It changes nothing, and so a look-up alone may
+    /// take as many steps as there are marks; `resize`, `free`, `write` and `poke` of a block that was looked up pay for
+    /// it, so that a run of both takes a time that is logarithmic in the marks for each, amortised.
     pub fn watched(&self, a: Addr) -> Option<u32>
         requires { HasBlock (blocks_in self.now) a.0 }
         ensures { result ≡ watched_at (debug_of self.now) (place_of a.0) }
     {
-        mark_line(&self.marks, a)
+        self.marks.peek(a)
     }
 }

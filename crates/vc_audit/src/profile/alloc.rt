@@ -11,11 +11,14 @@ use crate::profile::rows::{put_row, row_for};
 use vc_base::{Addr, Name, Steps};
 use vc_seg::{BoxedDisc, RegionFault, SegDisc};
 
+// The index of each row is below 2^32.
+const MOST_ROWS: usize = 4_294_967_295;
+
 impl Profile {
     /// A block of zeros that has a site of 1 to 32 bytes: 1 to 16,777,216 bytes at an offset that the alignment divides,
     /// a power of two from 32 to 4,096. Where no gap holds it, a segment is asked for. The site's row and the room to
-    /// keep the block's site are made before all else, and where there is no memory for them the answer is `OutOfMemory`.
-    /// Where the block is refused, no row is left.
+    /// keep the block's site are made before all else, and where there is no memory for them the answer is `OutOfMemory`,
+    /// as it is where there are 4,294,967,295 rows. Where the block is refused, no row is left.
     pub fn alloc(
         &mut self,
         size: u32,
@@ -43,14 +46,17 @@ impl Profile {
     {
         let site = Name::new(site);
         let row = row_for(&self.rows, &site);
+        if self.rows.len() >= MOST_ROWS {
+            return Err(RegionFault::OutOfMemory);
+        }
         self.rows.reserve(1).map_err(|_| RegionFault::OutOfMemory)?;
         self.sites.reserve().map_err(|_| RegionFault::OutOfMemory)?;
         let mut steps = Steps::<Uncounted>::new(self.best.alloc);
         match self.best.alloc(size, align, tag, &mut steps) {
             Ok(a) => {
-                self.sites.put(a, site);
                 let bytes = row.bytes + size as u64;
-                put_row(&mut self.rows, site, row.with(row.blocks + 1, bytes));
+                let index = put_row(&mut self.rows, site, row.with(row.blocks + 1, bytes));
+                self.sites.put(a, index as u32);
                 Ok(a)
             }
             Err(fault) => Err(fault),

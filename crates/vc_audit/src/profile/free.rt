@@ -6,7 +6,7 @@ ghost use Rattle.vc_audit.specs.ProfileParts.{blocks_in, disc_in, layout_in, pro
 
 use crate::plain::{Uncounted, clear_best};
 use crate::profile::Profile;
-use crate::profile::rows::{clear_rows, put_row, row_for};
+use crate::profile::rows::{clear_rows, row_at, set_row};
 use vc_base::{Addr, Steps};
 use vc_seg::{BoxedDisc, SegDisc};
 
@@ -23,16 +23,15 @@ impl Profile {
         ensures freed { IsBlockFreed a.0 (blocks_in self.old) (blocks_in self.new) }
     {
         let size = self.best.size(a);
-        let site = match self.sites.find(a) {
-            Some(site) => site,
+        let index = match self.sites.take(a) {
+            Some(number) => number as usize,
             None => unreachable!(),
         };
-        let row = row_for(&self.rows, &site);
+        let row = row_at(&self.rows, index);
         let mut steps = Steps::<Uncounted>::new(self.best.alloc);
         self.best.free(a, &mut steps);
-        self.sites.take(a);
         let bytes = row.bytes - size as u64;
-        put_row(&mut self.rows, site, row.with(row.blocks - 1, bytes));
+        set_row(&mut self.rows, index, row.with(row.blocks - 1, bytes));
     }
 
     /// Frees all its blocks, and keeps its segments and the rows of its sites.

@@ -8,7 +8,7 @@ ghost use Rattle.vc_audit.specs.ProfileParts.{blocks_in, disc_in, layout_in, pro
 
 use crate::plain::Uncounted;
 use crate::profile::Profile;
-use crate::profile::rows::{put_row, row_for};
+use crate::profile::rows::{row_at, set_row};
 use vc_base::{Addr, Steps};
 use vc_seg::{BoxedDisc, RegionFault, SegDisc};
 
@@ -37,18 +37,18 @@ impl Profile {
             (λ to. IsBlockKept a.0 to.0 (blocks_in self.old) (blocks_in self.new)) }
     {
         let before = self.best.size(a);
-        let site = match self.sites.find(a) {
-            Some(site) => site,
+        let index = match self.sites.get(a) {
+            Some(number) => number as usize,
             None => unreachable!(),
         };
-        let row = row_for(&self.rows, &site);
+        let row = row_at(&self.rows, index);
         let mut steps = Steps::<Uncounted>::new(self.best.alloc);
         match self.best.resize(a, size, may_move, &mut steps) {
             Ok(to) => {
                 let after = self.best.size(to);
-                self.sites.move_to(a, to, site);
+                self.sites.moved(a, to);
                 let bytes = row.bytes - before as u64 + after as u64;
-                put_row(&mut self.rows, site, row.with(row.blocks, bytes));
+                set_row(&mut self.rows, index, row.with(row.blocks, bytes));
                 Ok(to)
             }
             Err(fault) => Err(fault),

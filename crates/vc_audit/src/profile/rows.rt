@@ -1,7 +1,7 @@
-ghost use Rattle.std.specs.Prelude.{◌≡◌, ◌+◌, ◌-◌, ◌<◌, ◌≤◌, ◌⊎◌, IsSome, length, max};
+ghost use Rattle.std.specs.Prelude.{◌≡◌, ◌+◌, ◌-◌, ◌<◌, ◌≤◌, length, max};
 ghost use Rattle.std.specs.Str.{bytes_eq};
-ghost use Rattle.indexmap.specs.IndexMap.{IsUnique, get, insert_entry, spare};
-ghost use Rattle.vc_audit.specs.ProfileSums.{clear_at, cleared_rows, row_for};
+ghost use Rattle.indexmap.specs.IndexMap.{insert_entry, set_value_at, spare};
+ghost use Rattle.vc_audit.specs.ProfileSums.{IsRowAt, clear_at, cleared_rows, index_for, row_for};
 
 use indexmap::IndexMap;
 use vc_base::Name;
@@ -31,8 +31,7 @@ impl Row {
 
 // The row of a site, which is a new one where it has none.
 pub(crate) fn row_for(rows: &IndexMap<Name, Row>, site: &Name) -> Row
-    ensures row { result ≡ row_for site.now rows.now.entries }
-    ensures distinct { IsUnique bytes_eq rows.now }
+    ensures { result ≡ row_for site.now rows.now.entries }
 {
     match rows.get_index_of(site) {
         Some(i) => rows[i],
@@ -44,13 +43,33 @@ pub(crate) fn row_for(rows: &IndexMap<Name, Row>, site: &Name) -> Row
     }
 }
 
-// Puts the row of a site, where it has one or there is room.
-pub(crate) fn put_row(rows: &mut IndexMap<Name, Row>, site: Name, row: Row)
-    requires { (0 < spare rows.old) ⊎ IsSome (get bytes_eq rows.old site) }
-    ensures { rows.new.entries ≡ insert_entry bytes_eq rows.old.entries site row }
+// Puts the row of a site, for which there is room, and answers its index.
+pub(crate) fn put_row(rows: &mut IndexMap<Name, Row>, site: Name, row: Row) -> usize
+    requires { 0 < spare rows.old }
+    ensures entries { rows.new.entries ≡ insert_entry bytes_eq rows.old.entries site row }
+    ensures index { result ≡ index_for site rows.old.entries }
+    ensures within { result ≤ length rows.old.entries }
 {
-    // It takes no memory and cannot fail.
-    let _ = rows.insert(site, row);
+    match rows.insert_full(site, row) {
+        Ok((i, _)) => i,
+        Err(_) => unreachable!(),
+    }
+}
+
+// The row of that index.
+pub(crate) fn row_at(rows: &IndexMap<Name, Row>, i: usize) -> Row
+    requires { i < length rows.now.entries }
+    ensures { IsRowAt rows.now.entries i result }
+{
+    rows[i]
+}
+
+// Puts the row of that index.
+pub(crate) fn set_row(rows: &mut IndexMap<Name, Row>, i: usize, row: Row)
+    requires { i < length rows.old.entries }
+    ensures { rows.new.entries ≡ set_value_at rows.old.entries i row }
+{
+    rows[i] = row;
 }
 
 // Leaves no blocks and no bytes in the row of that index.

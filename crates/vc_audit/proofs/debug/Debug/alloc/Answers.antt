@@ -1,4 +1,5 @@
 use Rattle.vc_base.proofs.Common.{ℕ, arith, Layout}
+use Rattle.vc_addrmap.specs.Parts.{numbers_of}
 use Rattle.vc_best.specs.Parts.{layout_of}
 use Rattle.vc_audit.specs.Debug.{Debug, with_guards}
 use Rattle.vc_audit.proofs.DebugPuts.{IsGuarded, below-guarded, fresh-guarded, guards-guarded, live-found, others-guarded, put-by, there-guarded, user-guarded}
@@ -35,8 +36,8 @@ user_addr-requires g c = let low = below-guarded (guarded g (goal.at.user_addr-r
 pub returns-clause-answer : goal.returns-clause-answer
 returns-clause-answer g c =
     let u = user-guarded (guarded g (goal.at.returns-clause-answer g c).After-write_guards) c.user_addr.ensures in
-    let F : ℕ × ℕ → Layout ℕ → Debug ℕ = λ at r. record { best = with_guards r at c.args.size; marks = c.args.self.now.marks.items } in
-    let D : Layout ℕ → Debug ℕ = λ r. record { best = r; marks = c.args.self.now.marks.items } in
+    let F : ℕ × ℕ → Layout ℕ → Debug ℕ = λ at r. record { best = with_guards r at c.args.size; marks = numbers_of c.args.self.now.marks } in
+    let D : Layout ℕ → Debug ℕ = λ r. record { best = r; marks = numbers_of c.args.self.now.marks } in
     let placed = put-by F _ c.in_ok-at.at.0 c.user_addr.result.0 (layout_of c.alloc.new.self) c.user_addr.ensures u.place c.in_ok-at.ensures.answer in
     rw c.write_guards.ensures.layout placed
 

@@ -1,7 +1,8 @@
-use Rattle.vc_base.proofs.Common.{ℕ, List, sym, ap, ◌∙◌, subst, arith, length-map, place_of, without_block_at, Layout, HasBlock}
+use Rattle.vc_base.proofs.Common.{ℕ, None, sym, ap, ◌∙◌, subst, arith, length-map, place_of, without_block_at, Layout, HasBlock}
 use Rattle.vc_model.proofs.Owned.{address-place_of}
+use Rattle.vc_addrmap.specs.Map.{Numbers, with_number}
+use Rattle.vc_addrmap.specs.Parts.{numbers_of}
 use Rattle.vc_best.specs.Parts.{layout_of}
-use Rattle.vc_audit.specs.DebugMark.{without_mark}
 use Rattle.vc_audit.specs.Debug.{Debug, guarded_place, user_block}
 use Rattle.vc_audit.proofs.DebugBlocks.{UserAt, guarded-at, live-down}
 use Rattle.vc_audit.proofs.DebugFills.{guards-without}
@@ -28,10 +29,10 @@ pub returns-clause-debug : goal.returns-clause-debug
 returns-clause-debug g c =
     let r = layout_of c.args.self.now.best in
     let a = c.args.a.0 in
-    let marks = c.args.self.now.marks.items in
-    let D : Layout ℕ → List (ℕ × ℕ) → Debug ℕ = λ l ms. record { best = l; marks = ms } in
-    ap (λ l. D l c.drop_mark.new.marks.items) (c.free.ensures.layout ∙ ap (without_block_at r) (sym (guarded-at r a c.guarded_addr.result.0 (user g (goal.at.returns-clause-debug g c).After-guarded_addr))))
-    ∙ ap (D (without_block_at r (guarded_place (place_of a)))) (c.drop_mark.ensures.items ∙ ap (λ n. without_mark n marks) (sym (address-place_of a)))
+    let marks = numbers_of c.args.self.now.marks in
+    let D : Layout ℕ → Numbers → Debug ℕ = λ l ms. record { best = l; marks = ms } in
+    ap (λ l. D l (numbers_of c.take.new.self)) (c.free.ensures.layout ∙ ap (without_block_at r) (sym (guarded-at r a c.guarded_addr.result.0 (user g (goal.at.returns-clause-debug g c).After-guarded_addr))))
+    ∙ ap (D (without_block_at r (guarded_place (place_of a)))) (c.take.ensures.numbers ∙ ap (λ n. with_number n None marks) (sym (address-place_of a)))
 
 pub returns-clause-freed : goal.returns-clause-freed
 returns-clause-freed g c =

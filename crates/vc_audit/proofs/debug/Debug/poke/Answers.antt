@@ -1,5 +1,7 @@
 use Rattle.vc_base.proofs.Common.{◌≡◌, ℕ, [], ◌∷◌, replicate, ℤ, pos, ◌<ℤ◌, sym, ap, ◌∙◌, subst, w64, place_of, Layout, HasRange, with_bytes_at}
 use Rattle.std.proofs.lemmas.Int.{to_z-of_z}
+use Rattle.vc_addrmap.specs.Map.{Numbers}
+use Rattle.vc_addrmap.specs.Parts.{numbers_of}
 use Rattle.vc_best.specs.Parts.{layout_of}
 use Rattle.vc_audit.specs.Debug.{Debug, guarded_offset}
 use Rattle.vc_audit.proofs.DebugBlocks.{UserAt, guarded-at, live-down, others-at}
@@ -40,8 +42,9 @@ returns-clause-debug g c =
     let r = layout_of c.args.self.now.best in
     let x = c.guarded_addr.result.0 in
     let h = goal.at.returns-clause-debug g c in
-    let D : Layout ℕ → Debug ℕ = λ l. record { best = l; marks = c.args.self.now.marks.items } in
-    ap D (c.fill.ensures.written.layout ∙ (ap (λ n. with_bytes_at r (place_of x) n (c.args.byte ∷ [])) (place g h.After-guarded_off) ∙ ap (λ p. with_bytes_at r p (guarded_offset c.args.off) (c.args.byte ∷ [])) (sym (guarded-at r c.args.a.0 x (user g h.After-guarded_addr)))))
+    let D : Layout ℕ → Debug ℕ = λ l. record { best = l; marks = numbers_of c.args.self.now.marks } in
+    let M : Numbers → Debug ℕ = λ ms. record { best = layout_of c.fill.new.self; marks = ms } in
+    ap M c.get.ensures.same ∙ ap D (c.fill.ensures.written.layout ∙ (ap (λ n. with_bytes_at r (place_of x) n (c.args.byte ∷ [])) (place g h.After-guarded_off) ∙ ap (λ p. with_bytes_at r p (guarded_offset c.args.off) (c.args.byte ∷ [])) (sym (guarded-at r c.args.a.0 x (user g h.After-guarded_addr)))))
 
 pub returns-clause-others : goal.returns-clause-others
 returns-clause-others g c =

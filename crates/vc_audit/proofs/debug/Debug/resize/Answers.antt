@@ -1,4 +1,6 @@
 use Rattle.vc_base.proofs.Common.{◌≡◌, ℕ, ◌+◌, min, false, IfSome, Option, unwrap_or, sym, refl, ap, ◌∙◌, subst, arith, place_of, Block, Layout, find_block}
+use Rattle.vc_addrmap.specs.Map.{Numbers}
+use Rattle.vc_addrmap.specs.Parts.{numbers_of}
 use Rattle.vc_best.specs.Parts.{layout_of}
 use Rattle.vc_audit.specs.Debug.{Debug, stays_debug}
 use Rattle.vc_audit.proofs.DebugBlocks.{UserAt, found-at, live-down}
@@ -46,13 +48,14 @@ user_addr-to-requires g c = let low = below-resized (resized g (goal.at.user_add
 
 pub returns-clause-answer : goal.returns-clause-answer
 returns-clause-answer g c =
-    let D : Layout ℕ → Debug ℕ = λ l. record { best = l; marks = c.args.self.now.marks.items } in
-    (refused-resized (layout_of c.args.self.now.best) c.args.self.now.marks.items _ c.args.a.0 c.guarded_addr.result.0 c.args.size c.args.may_move c.in-Err.fault (user g (goal.at.returns-clause-answer g c).After-guarded_addr) c.in-Err.ensures.answer.0, ap D c.in-Err.ensures.answer.1)
+    let D : Layout ℕ → Debug ℕ = λ l. record { best = l; marks = numbers_of c.args.self.now.marks } in
+    let M : Numbers → Debug ℕ = λ ms. record { best = layout_of c.resize.new.self; marks = ms } in
+    (refused-resized (layout_of c.args.self.now.best) (numbers_of c.args.self.now.marks) _ c.args.a.0 c.guarded_addr.result.0 c.args.size c.args.may_move c.in-Err.fault (user g (goal.at.returns-clause-answer g c).After-guarded_addr) c.in-Err.ensures.answer.0, ap M c.get.ensures.same ∙ ap D c.in-Err.ensures.answer.1)
 
 pub returns-clause-no_memory : goal.returns-clause-no_memory
 returns-clause-no_memory g c = λ e.
     let r = layout_of c.args.self.now.best in
-    let d : Debug ℕ = record { best = r; marks = c.args.self.now.marks.items } in
+    let d : Debug ℕ = record { best = r; marks = numbers_of c.args.self.now.marks } in
     let x = c.guarded_addr.result.0 in
     let h = c.in-Err.ensures.no_memory e in
     record {
@@ -63,7 +66,7 @@ returns-clause-no_memory g c = λ e.
 
 pub returns-in-Ok-clause-answer : goal.returns-in-Ok-clause-answer
 returns-in-Ok-clause-answer g c =
-    answer-resized (resized g (goal.at.returns-in-Ok-clause-answer g c).After-write_zeros) (user g (goal.at.returns-in-Ok-clause-answer g c).After-guarded_addr) c.user_addr-to.ensures _ c.args.self.now.marks.items c.move_mark.new.marks.items c.args.may_move (ap (λ o. min (unwrap_or o 0) c.args.size) c.size.ensures ∙ sym c.min-kept.ensures) c.move_mark.ensures c.in-Ok.ensures.answer
+    answer-resized (resized g (goal.at.returns-in-Ok-clause-answer g c).After-write_zeros) (user g (goal.at.returns-in-Ok-clause-answer g c).After-guarded_addr) c.user_addr-to.ensures _ (numbers_of c.args.self.now.marks) (numbers_of c.moved.new.self) c.args.may_move (ap (λ o. min (unwrap_or o 0) c.args.size) c.size.ensures ∙ sym c.min-kept.ensures) c.moved.ensures.numbers c.in-Ok.ensures.answer
 
 pub returns-in-Ok-clause-kept : goal.returns-in-Ok-clause-kept
 returns-in-Ok-clause-kept g c =

@@ -1,4 +1,6 @@
 use Rattle.vc_base.proofs.Common.{ℕ, ◌+◌, length, sym, ap, ◌∙◌, arith, place_of, Layout, with_bytes_at}
+use Rattle.vc_addrmap.specs.Map.{Numbers}
+use Rattle.vc_addrmap.specs.Parts.{numbers_of}
 use Rattle.vc_best.specs.Parts.{layout_of}
 use Rattle.vc_audit.specs.Debug.{Debug}
 use Rattle.vc_audit.proofs.DebugBlocks.{UserAt, guarded-at, live-down, others-at}
@@ -23,8 +25,9 @@ invariant_of-self g c = record {
 pub returns-clause-debug : goal.returns-clause-debug
 returns-clause-debug g c =
     let r = layout_of c.args.self.now.best in
-    let D : Layout ℕ → Debug ℕ = λ l. record { best = l; marks = c.args.self.now.marks.items } in
-    ap D (c.write.ensures.written.layout ∙ ap (λ p. with_bytes_at r p (32 + c.args.off) c.args.src.now) (sym (guarded-at r c.args.a.0 c.guarded_addr.result.0 (user g (goal.at.returns-clause-debug g c).After-guarded_addr))))
+    let D : Layout ℕ → Debug ℕ = λ l. record { best = l; marks = numbers_of c.args.self.now.marks } in
+    let M : Numbers → Debug ℕ = λ ms. record { best = layout_of c.write.new.self; marks = ms } in
+    ap M c.get.ensures.same ∙ ap D (c.write.ensures.written.layout ∙ ap (λ p. with_bytes_at r p (32 + c.args.off) c.args.src.now) (sym (guarded-at r c.args.a.0 c.guarded_addr.result.0 (user g (goal.at.returns-clause-debug g c).After-guarded_addr))))
 
 pub returns-clause-others : goal.returns-clause-others
 returns-clause-others g c =

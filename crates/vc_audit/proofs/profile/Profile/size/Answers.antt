@@ -1,10 +1,11 @@
 use Rattle.vc_base.proofs.Common.{◌≡◌, ℕ, Some, option_map, place_of, Block, HasBlock, find_block}
 use Rattle.vc_best.specs.Parts.{layout_of}
+use Rattle.vc_audit.specs.ProfileParts.{sites_in}
 use Rattle.vc_audit.proofs.ProfileBare.{from-best, to-best}
 use Rattle.vc_audit.proofs.profile.Profile.size.Goals as goal
 
 pub size-requires : goal.size-requires
-size-requires g c = to-best (λ bs. HasBlock bs c.args.a.0) c.args.self.now.sites.items.items (layout_of c.args.self.now.best).blocks c.requires
+size-requires g c = to-best (λ bs. HasBlock bs c.args.a.0) (sites_in c.args.self.now) (layout_of c.args.self.now.best).blocks c.requires
 
 pub returns : goal.returns
-returns g c = from-best (λ bs. option_map (λ (b : Block ℕ). b.size) (find_block (place_of c.args.a.0) bs) ≡ Some c.size.result) c.args.self.now.sites.items.items (layout_of c.args.self.now.best).blocks c.size.ensures
+returns g c = from-best (λ bs. option_map (λ (b : Block ℕ). b.size) (find_block (place_of c.args.a.0) bs) ≡ Some c.size.result) (sites_in c.args.self.now) (layout_of c.args.self.now.best).blocks c.size.ensures
