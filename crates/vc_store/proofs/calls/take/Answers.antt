@@ -1,0 +1,23 @@
+use Rattle.vc_base.proofs.Common.{sym, ap, ◌∙◌}
+use Rattle.vc_best.specs.Cells.{cells_in, rest_in}
+use Rattle.vc_objects.specs.Objects.{Dictionary}
+use Rattle.vc_objects.specs.Parts.{dictionary_in}
+use Rattle.vc_objects.specs.Remove.{bytes_of}
+use Rattle.vc_store.proofs.Shown.{distinct-objects, removed-gone, removed-method, removed-shown}
+use Rattle.vc_store.proofs.calls.take.Goals as goal
+
+pub returns-clause-found : goal.returns-clause-found
+returns-clause-found g c =
+    sym c.remove.ensures.takes.given.gone
+    ∙ removed-gone (g.D.DictDisc.rules c.args.kind.now) c.args.key.now (rest_in c.args.best.now) (dictionary_in c.args.dict.now c.args.best.now)
+
+pub returns-clause-objects : goal.returns-clause-objects
+returns-clause-objects g c =
+    ap (λ (d : Dictionary). bytes_of d.objects) (sym c.remove.ensures.takes.given.dict)
+    ∙ removed-shown (g.D.DictDisc.rules c.args.kind.now) c.args.key.now (rest_in c.args.best.now) (dictionary_in c.args.dict.now c.args.best.now)
+    (distinct-objects (g.D.DictDisc.rules c.args.kind.now) c.args.dict.now (cells_in c.args.best.now) c.requires.whole)
+
+pub returns-clause-method : goal.returns-clause-method
+returns-clause-method g c =
+    ap (λ (d : Dictionary). d.method) (sym c.remove.ensures.takes.given.dict)
+    ∙ removed-method (g.D.DictDisc.rules c.args.kind.now) c.args.key.now (rest_in c.args.best.now) (dictionary_in c.args.dict.now c.args.best.now)

@@ -1,0 +1,19 @@
+use Rattle.vc_base.proofs.Common.{sym, subst}
+use Rattle.vc_best.specs.Cells.{cells_in}
+use Rattle.vc_objects.specs.Parts.{IsWhole}
+use Rattle.vc_objects.proofs.Leaving.{keeps-out}
+use Rattle.vc_store.proofs.Shown.{contents-still}
+use Rattle.vc_store.proofs.collection.Collection.remove.Goals as goal
+
+pub take-requires : goal.take-requires
+take-requires g c = record { whole = c.requires.open.whole }
+
+pub returns-clause-open : goal.returns-clause-open
+returns-clause-open g c = record {
+  whole = subst (λ r. IsWhole r c.take.new.dict (cells_in c.take.new.best)) (sym c.take.ensures.rules) c.take.ensures.leaves.whole;
+  lent = keeps-out _ _ _ _ c.take.ensures.leaves.rest.disc c.requires.open.lent;
+}
+
+pub returns-clause-err : goal.returns-clause-err
+returns-clause-err g c =
+    contents-still c.take.result c.args.self.now.best c.take.new.best c.args.self.now.dict c.take.new.dict _ c.take.ensures.err

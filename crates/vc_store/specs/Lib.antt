@@ -1,0 +1,4 @@
+pub mod Reading
+pub mod Contents
+pub mod Tries
+pub mod Collections

@@ -1,0 +1,70 @@
+-- What a reader of the contracts needs first: what a dictionary shows, and how its objects change.
+use Rattle.std.specs.Prelude.{◌≡◌, ℕ, Bool, true, false, List, [], ◌∷◌, ◌++◌, Option, Some, None, is_some, length, take, drop, nat_le, slice_get, ◌&&◌}
+use Rattle.vc_base.specs.declared.dict_method.DictMethod.{DictMethod}
+use Rattle.vc_base.specs.declared.dict_method.DictMethod.TheVariants.{DtSet, DtBag, DtOset, DtObag, DtList, DtStack, DtQueue}
+use Rattle.vc_base.specs.Methods.{is_set}
+use Rattle.vc_dtdisc.specs.Finding.{without_first}
+use Rattle.vc_dtdisc.specs.Objects.{first_with, has_key, placed_among}
+use Rattle.vc_dtdisc.specs.Rules.{Rules}
+use Rattle.vc_store.specs.declared.put.Put.{Put}
+use Rattle.vc_store.specs.declared.put.Put.TheVariants as put
+
+-- its method, its objects in walk order, and the place of the current one among them, counted from 0, or none
+pub record Contents : Type 0 where
+  pub method : DictMethod
+  pub objects : List (List ℕ)
+  pub place : Option ℕ
+
+-- the object at a place, and the current one
+abbrev pub object_at : Option ℕ → List (List ℕ) → Option (List ℕ)
+object_at None objects = None
+object_at (Some place) objects = slice_get objects place
+
+abbrev pub current : Contents → Option (List ℕ)
+current d = object_at d.place d.objects
+
+-- with another one current
+abbrev pub with_place : Option ℕ → Contents → Contents
+with_place place d = record { method = d.method; objects = d.objects; place = place }
+
+-- an object has 1 to 1,024 bytes
+abbrev pub is_object : List ℕ → Bool
+is_object object = nat_le 1 (length object) && nat_le (length object) 1024
+
+-- the first object that has a key
+abbrev pub found : Rules → List ℕ → List (List ℕ) → Option (List ℕ)
+found rules key objects = first_with (λ object. object) rules key objects
+
+-- objects without the first that has a key
+abbrev pub without_key : Rules → List ℕ → List (List ℕ) → List (List ℕ)
+without_key rules key objects = without_first (has_key rules key) objects
+
+-- objects with one more directly before a place, or first where there is none
+abbrev pub put_at : Option ℕ → List ℕ → List (List ℕ) → List (List ℕ)
+put_at None object objects = object ∷ objects
+put_at (Some place) object objects = take place objects ++ object ∷ drop place objects
+
+-- objects with one more where a method puts it: before the first that is greater, in a list before the current one, in a stack first, and else last
+abbrev pub put_by : DictMethod → Rules → Option ℕ → List ℕ → List (List ℕ) → List (List ℕ)
+put_by DtSet rules place object objects = objects ++ object ∷ []
+put_by DtBag rules place object objects = objects ++ object ∷ []
+put_by DtOset rules place object objects = placed_among (λ o. o) rules object objects
+put_by DtObag rules place object objects = placed_among (λ o. o) rules object objects
+put_by DtList rules place object objects = put_at place object objects
+put_by DtStack rules place object objects = object ∷ objects
+put_by DtQueue rules place object objects = objects ++ object ∷ []
+
+-- whether one of a set's objects has the key of another one
+abbrev pub has_match : Rules → List ℕ → Contents → Bool
+has_match rules object d = is_set d.method && is_some (found rules (rules.key object) d.objects)
+
+-- an object is put where it is one and none of a set's matches it, or it isn't for want of room; else nothing changes
+abbrev pub AfterPut : Put → Rules → List ℕ → Contents → List (List ℕ) → Type 0
+AfterPut put.WrongSize rules object d objects = (is_object object ≡ false) × (objects ≡ d.objects)
+AfterPut put.Old rules object d objects =
+    (is_object object ≡ true) × (has_match rules object d ≡ true) × (objects ≡ d.objects)
+AfterPut put.New rules object d objects =
+    (is_object object ≡ true) × (has_match rules object d ≡ false)
+    × (objects ≡ put_by d.method rules d.place object d.objects)
+AfterPut no_room rules object d objects =
+    (is_object object ≡ true) × (has_match rules object d ≡ false) × (objects ≡ d.objects)

@@ -1,0 +1,151 @@
+use crate::calls::{put, seek, take};
+use crate::put::Put;
+use vc_base::{Addr, Cells, DictMethod, OutOfMemory};
+use vc_best::Best;
+use vc_dict::Dict;
+use vc_dtdisc::DictDisc;
+use vc_objects::{open, shut};
+use vc_seg::{BoxedDisc, RegionFault, SegDisc};
+
+/// A dictionary by one of seven methods in a region of its own, over the segments of a discipline. Its objects are byte
+/// strings of 1 to 1,024 bytes, of which one may be current. Every call keeps it open (`IsOpen`), as the others ask: nothing
+/// else is for the caller to see to.
+#[derive(Drop)]
+pub struct Collection<D: DictDisc + Drop> {
+    best: Best,
+    dict: Dict,
+    kind: D,
+}
+
+impl<D: DictDisc + Drop> Collection<D> {
+    ghost use Rattle.std.specs.Prelude.{◌≡◌, [], Some, None, true, false, is_some, IfOk, IfErr, OnErr, OnOk, length, option_map, if◌then◌else◌};
+    ghost use Rattle.vc_model.specs.Discipline.{TookBack};
+    ghost use Rattle.vc_seg.specs.Answer.{IsRefusal};
+    ghost use Rattle.vc_base.specs.Prelude.{HasOut};
+    ghost use Rattle.vc_best.specs.Parts.{disc_in, segments_in};
+    ghost use Rattle.vc_objects.specs.Leaves.{told_each, told_if};
+    ghost use Rattle.vc_objects.specs.Promises.{StaysAll, opening_in};
+    ghost use Rattle.vc_store.specs.Reading.{AfterPut, current, found, with_place, without_key};
+    ghost use Rattle.vc_store.specs.Tries.{IsTried, Tries};
+    ghost use Rattle.vc_store.specs.Collections.{IsOpen, best_of, contents, dict_of, disc_of, kind_of, lender, lent_to};
+
+    /// A collection of no objects by a method, of a kind, in a best region, which is the collection's from then on. The
+    /// region's segments are the last that its discipline lent, as they are where it has none yet. A set or bag takes a
+    /// table of 16 slots at once; where that wants a segment or memory, the region comes back.
+    pub fn open(
+        best: Best,
+        method: DictMethod,
+        kind: D,
+    ) -> Result<Collection<D>, (RegionFault, Best)>
+        requires lent { HasOut (disc_in state best) (segments_in best) }
+        ensures empty { IfOk result (λ c. contents c
+            ≡ record { method = method; objects = []; place = None }) }
+        ensures kind { IfOk result (λ c. kind_of c ≡ kind) }
+        ensures open { IfOk result (λ c. IsOpen (D.rules (kind_of c)) c (disc_of c state)) }
+        ensures refused { IfErr result (λ e. IsRefusal (opening_in state best method) e.0) }
+        ensures back { IfErr result (λ e. StaysAll state best e.1) }
+    {
+        let mut best = best;
+        match open(&mut best, method, 0, &kind) {
+            Ok(dict) => Ok(Collection { best, dict, kind }),
+            Err(why) => Err((why, best)),
+        }
+    }
+
+    /// Puts an object where the method puts it, and makes it current. A set keeps the object that it has of the same key.
+    pub fn insert(&mut self, object: &[u8]) -> Put
+        requires open { IsOpen (D.rules (kind_of self.old)) self.old (disc_of self.old state) }
+        ensures objects { AfterPut result (D.rules (kind_of self.old)) object.now
+            (contents self.old) (contents self.new).objects }
+        ensures method { (contents self.new).method ≡ (contents self.old).method }
+        ensures kind { kind_of self.new ≡ kind_of self.old }
+        ensures open { IsOpen (D.rules (kind_of self.new)) self.new (disc_of self.new state) }
+
+        // The region's rules say when an object is refused for want of room.
+        ensures tried { IsTried result (Tries state result (D.rules (kind_of self.old)) object.now
+            (best_of self.old) (dict_of self.old) (best_of self.new) (dict_of self.new)) }
+    {
+        put(&mut self.best, &mut self.dict, &self.kind, object)
+    }
+
+    /// Makes the first object current that has a key, and answers whether there is one. Where there is none, nothing changes.
+    pub fn find(&mut self, key: &[u8]) -> bool
+        requires open { IsOpen (D.rules (kind_of self.old)) self.old (disc_of self.old state) }
+        ensures found { result
+            ≡ is_some (found (D.rules (kind_of self.old)) key.now (contents self.old).objects) }
+        ensures current { result ≡ true → current (contents self.new)
+            ≡ found (D.rules (kind_of self.old)) key.now (contents self.old).objects }
+        ensures same { contents self.new
+            ≡ with_place (contents self.new).place (contents self.old) }
+        ensures missed { result ≡ false → contents self.new ≡ contents self.old }
+        ensures kind { kind_of self.new ≡ kind_of self.old }
+        ensures open { IsOpen (D.rules (kind_of self.new)) self.new (disc_of self.new state) }
+    {
+        seek(&mut self.best, &mut self.dict, &self.kind, key)
+    }
+
+    /// The current object, or none.
+    pub fn current(&self) -> Option<&[u8]>
+        requires open { IsOpen (D.rules (kind_of self.now)) self.now (disc_of self.now state) }
+        ensures { option_map (λ object. object.now) result ≡ current (contents self.now) }
+    {
+        let at = self.dict.current;
+        if at == Addr::NONE {
+            None
+        } else {
+            Some(self.best.body(at))
+        }
+    }
+
+    /// Takes the first object out that has a key, and answers whether there is one. Its bytes come into `out` in place of
+    /// what that holds, and the kind is told of it. With no memory for them nothing changes but `out`, which is empty then.
+    pub fn remove(&mut self, key: &[u8], out: &mut Vec<u8>) -> Result<bool, OutOfMemory>
+        requires open { IsOpen (D.rules (kind_of self.old)) self.old (disc_of self.old state) }
+        ensures found { IfOk result (λ gone. (if gone then Some out.new.items else None)
+            ≡ found (D.rules (kind_of self.old)) key.now (contents self.old).objects) }
+        ensures objects { OnOk result ((contents self.new).objects
+            ≡ without_key (D.rules (kind_of self.old)) key.now (contents self.old).objects) }
+        ensures told { IfOk result (λ gone. D.gone (kind_of self.new)
+            ≡ told_if gone (Some out.new.items) (D.gone (kind_of self.old))) }
+        ensures err { OnErr result ((contents self.new ≡ contents self.old)
+            × (D.gone (kind_of self.new) ≡ D.gone (kind_of self.old))) }
+        ensures method { (contents self.new).method ≡ (contents self.old).method }
+        ensures rules { D.rules (kind_of self.new) ≡ D.rules (kind_of self.old) }
+        ensures open { IsOpen (D.rules (kind_of self.new)) self.new (disc_of self.new state) }
+    {
+        take(&mut self.best, &mut self.dict, &mut self.kind, key, out)
+    }
+
+    /// How many objects there are.
+    pub fn count(&self) -> u64
+        requires open { IsOpen (D.rules (kind_of self.now)) self.now (disc_of self.now state) }
+        ensures { result ≡ length (contents self.now).objects }
+    {
+        self.dict.count
+    }
+
+    /// The method.
+    pub fn method(&self) -> DictMethod
+        ensures { result ≡ (contents self.now).method }
+    {
+        self.dict.method
+    }
+
+    /// Ends it: tells the kind of each object in walk order, and gives all segments back. The discipline and the kind come
+    /// back.
+    pub fn close(self) -> (Box<dyn SegDisc>, D)
+        requires open { IsOpen (D.rules (kind_of self)) self (state (lender self)) }
+        ensures disc { TookBack (state (lender self)) (state result.0) (lent_to self) [] }
+        ensures rules { D.rules result.1 ≡ D.rules (kind_of self) }
+        ensures told { D.gone result.1
+            ≡ told_each (contents self).objects (D.gone (kind_of self)) }
+    {
+        let Collection {
+            mut best,
+            dict,
+            mut kind,
+        } = self;
+        shut(&mut best, dict, &mut kind);
+        (best.close().0, kind)
+    }
+}

@@ -1,0 +1,9 @@
+//! A dictionary with a region of its own, to be used by a program.
+#![tactic(auto)]
+
+mod calls;
+mod collection;
+mod put;
+
+pub use collection::Collection;
+pub use put::Put;

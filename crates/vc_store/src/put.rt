@@ -1,0 +1,15 @@
+/// What becomes of an object that is to be put into a dictionary.
+#[derive(Clone, Copy, Debug, PartialEq, Eq)]
+pub enum Put {
+    /// It is one of the objects now.
+    New,
+    /// One of a set's objects has its key, and nothing changed.
+    Old,
+    /// The region has no room for it, and gets no further segment: its discipline refused one, or it has as many as it can
+    /// have. No object changed.
+    NoSegment,
+    /// No memory for a further segment. No object changed.
+    OutOfMemory,
+    /// It has no byte, or more than 1,024. Nothing changed.
+    WrongSize,
+}
