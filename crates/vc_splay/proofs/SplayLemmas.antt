@@ -1,11 +1,12 @@
 -- A splay, from its first step to the end.
-use Rattle.vc_base.proofs.Common.{◌≡◌, ℕ, ◌+◌, ◌^◌, ◌<◌, ◌≤◌, Bool, true, false, ◌≢◌, List, sym, refl, ap, ◌∙◌, subst, arith, AreDistinct, contains}
-use Rattle.vc_splay.specs.Tree.{Tree, Node, names, name_of}
+use Rattle.vc_base.proofs.Common.{◌≡◌, ℕ, ◌+◌, ◌^◌, ◌<◌, ◌≤◌, Bool, true, false, ◌≢◌, List, sym, refl, ap, ◌∙◌, subst, arith, length, AreDistinct, contains}
+use Rattle.vc_splay.specs.Tree.{Tree, Leaf, Node, names, name_of}
 use Rattle.vc_splay.specs.Store.{Store, SameLinks, with_parent}
 use Rattle.vc_splay.specs.Stands.{IsIn, IsTree, Stands, TreeAfter}
 use Rattle.vc_splay.specs.Walks.{run}
 use Rattle.vc_splay.specs.Writes.{CanSettleNode, store_with_root, with_child}
-use Rattle.vc_splay.specs.Moves.{Context, Top, Under, HasKid, IsInHand, IsRising, IsTaken, Step, Topped, one, plug, tally}
+use Rattle.vc_splay.specs.Moves.{Climbed, Context, Top, Under, HasKid, IsInHand, IsRising, IsRound, IsTaken, Law, Paid, Risen, Step, name_at, one, plug, tally}
+use Rattle.vc_splay.specs.Rank.{level, rank, size}
 use Rattle.vc_splay.specs.Unique.{IsTree-one}
 use Rattle.vc_splay.proofs.FewLemmas.{rising_run}
 use Rattle.vc_splay.proofs.HangLemmas.{Hanging, IsCut-held, SameLinks-on, SameLinks-same, hang-cut, hang-far, hang-near, hang-same, has-child}
@@ -35,7 +36,7 @@ pub record Start (s : Store) (at below above left right : ℕ) (tree : Tree) : T
   pub rising : IsRising s at below above left right context part
   pub whole : plug context part ≡ tree
 
-start_at : (s : Store) (at : ℕ) (c : Context) (l r : Tree) (above left right : ℕ) → Stands s 0 (plug c (Node l at r)) → AreDistinct (names (plug c (Node l at r)))
+pub start_at : (s : Store) (at : ℕ) (c : Context) (l r : Tree) (above left right : ℕ) → Stands s 0 (plug c (Node l at r)) → AreDistinct (names (plug c (Node l at r)))
     → above ≡ s.parent at → left ≡ s.kid true at → right ≡ s.kid false at → IsRising s at at above left right c (Node l at r)
 start_at s at c l r above left right stands distinct up e f =
     let q = IsRound-open s c (Node l at r) stands in
@@ -75,33 +76,39 @@ root_stays s root at t k e = record {
   others = λ n h. SameLinks-same s n;
 }
 
--- since a node began to rise that tree became this one with the node on its way up
-pub record Climb (old now : Store) (at : ℕ) (tree : Tree) (below above left right : ℕ) : Type 0 where
+-- since a node began to rise there its tree became this one with the node on its way up
+pub record Climb (old now : Store) (at : ℕ) (c : Context) (t : Tree) (below above left right : ℕ) : Type 0 where
   pub context : Context
   pub part : Tree
   pub rising : IsRising now at below above left right context part
-  pub list : names (plug context part) ≡ names tree
-  pub others : (n : ℕ) → tally n tree ≡ 0 → SameLinks old now n
+  pub list : names (plug context part) ≡ names (plug c t)
+  pub others : (n : ℕ) → tally n (plug c t) ≡ 0 → SameLinks old now n
+  pub law : Law c t context part
 
 -- at the start
-pub climb_start : (s : Store) (at below above left right : ℕ) (c : Context) (t : Tree) → IsRising s at below above left right c t → Climb s s at (plug c t) below above left right
+pub climb_start : (s : Store) (at below above left right : ℕ) (c : Context) (t : Tree) → IsRising s at below above left right c t → Climb s s at c t below above left right
 climb_start s at below above left right c t r = record {
   context = c;
   part = t;
   rising = r;
   list = refl;
   others = λ n h. SameLinks-same s n;
+  law = record { law = omega arith };
 }
 
+law_on : (a b c : Context) (t u v : Tree) → Law a t b u → Law b u c v → Law a t c v
+law_on a b c t u v h k = record { law = let i = h.law in let j = k.law in omega arith }
+
 -- after a step
-pub climb_on : (old now new : Store) (at : ℕ) (t : Tree) (below above left right under over left2 right2 : ℕ) (k : Climb old now at t below above left right)
-    → Step now new at k.context k.part under over left2 right2 → Climb old new at t under over left2 right2
-climb_on old now new at t below above left right under over left2 right2 k s = record {
+pub climb_on : (old now new : Store) (at : ℕ) (c : Context) (t : Tree) (below above left right under over left2 right2 : ℕ) (k : Climb old now at c t below above left right)
+    → Step now new at k.context k.part under over left2 right2 → Climb old new at c t under over left2 right2
+climb_on old now new at c t below above left right under over left2 right2 k s = record {
   context = s.context;
   part = s.tree;
   rising = s.rising;
   list = s.list ∙ k.list;
-  others = λ n h. SameLinks-on old now new n (k.others n h) (s.others n (sym (tally-plug n k.context k.part) ∙ tally-list n (plug k.context k.part) t k.list ∙ h));
+  others = λ n h. SameLinks-on old now new n (k.others n h) (s.others n (sym (tally-plug n k.context k.part) ∙ tally-list n (plug k.context k.part) (plug c t) k.list ∙ h));
+  law = law_on c k.context s.context t k.part s.tree k.law s.law;
 }
 
 -- at the end
@@ -109,24 +116,35 @@ at_top : (s : Store) (at below above left right : ℕ) (c : Context) (t : Tree) 
 at_top s at below above left right Top t none r e = refl
 at_top s at below above left right (Under d n sibling c) t none r e = absurd (some_held s n none r.round.0.other_kid.held (sym r.parent ∙ e))
 
-pub climb_end : (old now : Store) (at below above left right : ℕ) (t : Tree) → now.has 0 ≡ false → above ≡ 0 → Climb old now at t below above left right → Topped old now at (names t) left right
-climb_end old now at below above left right t none e k =
+size_same : (t u : Tree) → names t ≡ names u → size t ≡ size u
+unfolding size
+size_same t u e = ap (λ xs. length xs) e
+
+paid_top : (c : Context) (t part : Tree) → names part ≡ names (plug c t) → Law c t Top part → Paid c t part
+paid_top c t part e h = record { paid = let i = h.law in let j = ap level (size_same part (plug c t) e) in omega arith }
+
+pub climb_end : (old now : Store) (at below above left right : ℕ) (c : Context) (t : Tree) → now.has 0 ≡ false → above ≡ 0 → Climb old now at c t below above left right → Climbed old now at c t left right
+climb_end old now at below above left right c t none e k =
     let top = at_top now at below above left right k.context k.part none k.rising e in
+    let list : names k.part ≡ names (plug c t) = ap (λ z. names (plug z k.part)) (sym top) ∙ k.list in
     record {
-      tree = k.part;
-      hand = k.rising.hand;
-      once = λ n. let a = k.rising.once n in omega arith;
-      list = ap (λ z. names (plug z k.part)) (sym top) ∙ k.list;
-      others = λ n i. k.others n (tally-apart n t i);
+      topped = record {
+        tree = k.part;
+        hand = k.rising.hand;
+        once = λ n. let a = k.rising.once n in omega arith;
+        list = list;
+        others = λ n i. k.others n (tally-apart n (plug c t) i);
+      };
+      paid = paid_top c t k.part list (subst (λ z. Law c t z k.part) top k.law);
     }
 
 -- each step makes the walk up shorter
-pub climb_less : (old now new : Store) (at : ℕ) (t : Tree) (below above left right under over left2 right2 : ℕ) (k : Climb old now at t below above left right) → now.has 0 ≡ false → ((n : ℕ) → now.has n ≡ true → n < 2 ^ 32)
+pub climb_less : (old now new : Store) (at : ℕ) (c : Context) (t : Tree) (below above left right under over left2 right2 : ℕ) (k : Climb old now at c t below above left right) → now.has 0 ≡ false → ((n : ℕ) → now.has n ≡ true → n < 2 ^ 32)
     → new.has ≡ now.has → Step now new at k.context k.part under over left2 right2 → run (2 ^ 32) new.parent over < run (2 ^ 32) now.parent above
-climb_less old now new at t below above left right under over left2 right2 k none fits has s =
+climb_less old now new at c t below above left right under over left2 right2 k none fits has s =
     let a = rising_run now at below above left right k.context k.part none fits k.rising in
     let b = rising_run new at under over left2 right2 s.context s.tree (ap (λ f. f 0) has ∙ none) (λ n h. fits n (sym (ap (λ f. f n) has) ∙ h)) s.rising in
-    let c = s.shorter in
+    let shorter = s.shorter in
     omega arith
 
 -- a node at the top, once it is settled
@@ -186,14 +204,19 @@ distinct_once t once = count-distinct (names t) once
 apart_from : (n : ℕ) (t : Tree) (xs : List ℕ) → names t ≡ xs → contains xs n ≡ false → tally n t ≡ 0
 apart_from n t xs e i = tally-apart n t (ap (λ z. contains z n) e ∙ i)
 
-pub settled_tree : (old now : Store) (at left right : ℕ) (xs : List ℕ) → now.has 0 ≡ false → Topped old now at xs left right → TreeAfter old (store_with_root at left right now) xs at xs
-settled_tree old now at left right xs none k =
+pub settled_tree : (old now : Store) (at left right : ℕ) (c : Context) (t : Tree) → now.has 0 ≡ false → Climbed old now at c t left right → Risen old (store_with_root at left right now) at c t
+settled_tree old now at left right c t none climbed =
+    let k = climbed.topped in
+    let xs = names (plug c t) in
     let q = settle now at left right k.tree none k.hand k.once in
     record {
-      tree = k.tree;
-      is_tree = record { top = q.top; stands = q.stands; distinct = distinct_once k.tree k.once };
-      list = k.list;
-      others = λ n i. SameLinks-on old now (store_with_root at left right now) n (k.others n i) (q.others n (apart_from n k.tree xs k.list i));
+      after = record {
+        tree = k.tree;
+        is_tree = record { top = q.top; stands = q.stands; distinct = distinct_once k.tree k.once };
+        list = k.list;
+        others = λ n i. SameLinks-on old now (store_with_root at left right now) n (k.others n i) (q.others n (apart_from n k.tree xs k.list i));
+      };
+      paid = climbed.paid;
     }
 
 pub has-settled : (at left right : ℕ) (s : Store) → (store_with_root at left right s).has ≡ s.has
@@ -206,3 +229,25 @@ IsIn-each s root at none h t k = subst (λ z. contains (names z) at ≡ true) (I
 
 pub IsIn-held : (s : Store) (root at : ℕ) → IsIn s root at → s.has at ≡ true
 IsIn-held s root at h = Stands-held s 0 h.tree at h.is_tree.stands (tally-within at h.tree h.within)
+
+-- the root costs nothing
+root_parent : (s : Store) (t : Tree) → Stands s 0 t → name_of t ≢ 0 → s.parent (name_of t) ≡ 0
+root_parent s Leaf h some = absurd (some refl)
+root_parent s (Node l n r) h some = h.0.parent
+
+top_by : (s : Store) (c : Context) (below : ℕ) → s.has 0 ≡ false → IsRound s c below → name_at c ≡ 0 → c ≡ Top
+top_by s Top below none r e = refl
+top_by s (Under d n sibling c) below none r e = absurd (some_held s n none r.0.other_kid.held e)
+
+paid_here : (t after : Tree) → after ≡ t → Paid Top t after
+paid_here t after e = record { paid = let i = ap rank e in omega arith }
+
+pub paid_root : (s : Store) (root at : ℕ) (c : Context) (l r after : Tree) → s.has 0 ≡ false → IsTree s root (plug c (Node l at r)) → IsTree s at after → at ≡ root → Paid c (Node l at r) after
+paid_root s root at c l r after none k j e =
+    let q = IsRound-open s c (Node l at r) k.stands in
+    let here : at ≡ name_of (plug c (Node l at r)) = e ∙ k.top in
+    let some : name_of (plug c (Node l at r)) ≢ 0 = λ z. some_held s at none q.1.0.held (here ∙ z) in
+    let up : name_at c ≡ 0 = sym q.1.0.parent ∙ ap s.parent here ∙ root_parent s (plug c (Node l at r)) k.stands some in
+    let top = top_by s c at none q.0 up in
+    let same : after ≡ plug c (Node l at r) = IsTree-one s at after (plug c (Node l at r)) none j (record { top = here; stands = k.stands; distinct = k.distinct }) in
+    subst (λ z. Paid z (Node l at r) after) (sym top) (paid_here (Node l at r) after (same ∙ ap (λ z. plug z (Node l at r)) top))

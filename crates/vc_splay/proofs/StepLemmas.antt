@@ -4,8 +4,9 @@ use Rattle.vc_splay.specs.Tree.{Tree, Leaf, Node, names, name_of}
 use Rattle.vc_splay.specs.Store.{Store}
 use Rattle.vc_splay.specs.Stands.{Stands}
 use Rattle.vc_splay.specs.Writes.{AreTurned, CanHang, CanTurnNodes, with_child, zig_zag, zig_zig}
-use Rattle.vc_splay.specs.Moves.{Context, Top, Under, HasKid, IsCut, IsFrame, IsInHand, IsRising, IsRound, Step, joined_tree, name_at, one, plug, tally, tally_round}
+use Rattle.vc_splay.specs.Moves.{Context, Top, Under, HasKid, IsCut, IsFrame, IsInHand, IsRising, IsRound, Law, Step, joined_tree, name_at, one, plug, tally, tally_round}
 use Rattle.vc_splay.proofs.TallyLemmas.{one-same, one-other, tally-joined, tally-leaf, tally-node, tally-root}
+use Rattle.vc_splay.proofs.RankLemmas.{zig-law, zig_zag-law, zig_zig-law}
 use Rattle.vc_splay.proofs.RotationLemmas.{plug-names, plug-tally, rotate, rotate_across, rotate_twice}
 use Rattle.vc_splay.proofs.HangLemmas.{Hanging, IsCut-held, IsCut-joined, IsCut-kid, IsCut-named, SameLinks-on, can_hang, hang-cut, hang-far, hang-kid, hang-near, hang-round, hang-same, has-child}
 
@@ -120,6 +121,7 @@ zig-step s d x below p left right near inner left2 right2 sibling t none before 
         list = list;
         shorter = omega arith;
         others = λ n zero. hang-same s d p inner v.inner_tree h n (let j = w n in omega arith);
+        law = subst (λ z. Law (Under d p sibling Top) z Top tree) (sym v.whole) (zig-law d v.near_tree x v.inner_tree p sibling);
       };
     }
 
@@ -202,6 +204,7 @@ zig_zig-step s d x below p left right near inner left2 right2 sibling g uncle c 
             SameLinks-on s s2 new n
             (SameLinks-on s s1 s2 n (hang-same s d g middle sibling h n (omega arith)) (hang-same s1 (not d) p g low h1 n (omega arith)))
             (hang-same s2 d p inner v.inner_tree h2 n (omega arith));
+        law = subst (λ z. Law (Under d p sibling (Under d g uncle c)) z c tree) (sym v.whole) (zig_zig-law d v.near_tree x v.inner_tree p sibling g uncle c);
       };
     }
 
@@ -260,5 +263,6 @@ zig_zag-step s d x below p left right near inner left2 right2 sibling g uncle c 
         shorter = omega arith;
         others = λ n zero. let q = ap (tally n) v.whole ∙ tally-joined n x d v.near_tree v.inner_tree in
             SameLinks-on s s1 new n (hang-same s d p inner v.inner_tree h n (omega arith)) (hang-same s1 (not d) g near v.near_tree h1 n (omega arith));
+        law = subst (λ z. Law (Under d p sibling (Under (not d) g uncle c)) z c tree) (sym v.whole) (zig_zag-law d v.near_tree x v.inner_tree p sibling g uncle c);
       };
     }

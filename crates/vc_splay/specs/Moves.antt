@@ -2,7 +2,7 @@
 use Rattle.std.specs.Prelude.{◌≡◌, ◌≢◌, ℕ, ◌+◌, ◌*◌, ◌/◌, ◌≤◌, Bool, true, false, not, List, [], ◌∷◌, ◌==◌, if◌then◌else◌}
 use Rattle.vc_base.specs.Holders.{contains}
 use Rattle.vc_splay.specs.Store.{Store, SameLinks}
-use Rattle.vc_splay.specs.Stands.{Stands}
+use Rattle.vc_splay.specs.Stands.{Stands, TreeAfter}
 use Rattle.vc_splay.specs.Tree.{Tree, Node, names, name_of}
 use Rattle.vc_splay.specs.Rank.{level, rank, size}
 
@@ -115,6 +115,20 @@ pub record Topped (old new : Store) (at : ℕ) (in_order : List ℕ) (left right
   pub list : names tree ≡ in_order
   pub others : (n : ℕ) → contains in_order n ≡ false → SameLinks old new n
 
+-- what it cost that a node with this tree and context became the root of another tree: a twofold step of two nodes above
+-- it each, and twice the rank
+pub record Paid (c : Context) (t after : Tree) : Type 0 where
+  pub paid : 2 * (depth c / 2) + 2 * rank after + 6 * level (size t) ≤ 2 * rank (plug c t) + 6 * level (size (plug c t))
+
+-- it is at the top, and then the root of a tree: that tree and what it cost
+pub record Climbed (old new : Store) (at : ℕ) (c : Context) (t : Tree) (left right : ℕ) : Type 0 where
+  pub topped : Topped old new at (names (plug c t)) left right
+  pub paid : Paid c t topped.tree
+
+pub record Risen (old new : Store) (at : ℕ) (c : Context) (t : Tree) : Type 0 where
+  pub after : TreeAfter old new (names (plug c t)) at (names (plug c t))
+  pub paid : Paid c t after.tree
+
 -- what a step asks: there is a node above the one on its way up
 pub record CanStep (s : Store) (at below above left right : ℕ) : Type 0 where
   pub can_rise : CanRise s at below above left right
@@ -133,3 +147,4 @@ pub record Step (old new : Store) (at : ℕ) (c : Context) (t : Tree) (below abo
   pub list : names (plug context tree) ≡ names (plug c t)
   pub shorter : depth context + 1 ≤ depth c
   pub others : (n : ℕ) → tally n t + tally_round n c ≡ 0 → SameLinks old new n
+  pub law : Law c t context tree

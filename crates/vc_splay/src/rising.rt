@@ -1,7 +1,6 @@
 ghost use Rattle.std.specs.Prelude.{◌≡◌, not, true};
-ghost use Rattle.vc_splay.specs.Moves.{CanRise, CanStep, Context, IsRising, IsTaken, Step, Topped, plug};
-ghost use Rattle.vc_splay.specs.Stands.{TreeAfter};
-ghost use Rattle.vc_splay.specs.Tree.{Tree, names};
+ghost use Rattle.vc_splay.specs.Moves.{CanRise, CanStep, Climbed, Context, IsRising, IsTaken, Risen, Step};
+ghost use Rattle.vc_splay.specs.Tree.{Tree};
 ghost use Rattle.vc_splay.specs.Writes.{AreTurned, Becomes, CanSettleNode, CanTurnNodes, store_with_root, zig_zag, zig_zig};
 
 use crate::Nodes;
@@ -40,8 +39,7 @@ pub(crate) fn rise<N: Nodes>(nodes: &mut N, at: u32, from: Rising)
     requires { CanRise (N.store nodes.old) at from.below from.above from.left from.right }
     ensures tree { (context : Context) (tree : Tree)
         → IsRising (N.store nodes.old) at from.below from.above from.left from.right context tree
-        → TreeAfter (N.store nodes.old) (N.store nodes.new) (names (plug context tree)) at
-        (names (plug context tree)) }
+        → Risen (N.store nodes.old) (N.store nodes.new) at context tree }
     ensures rest { N.stays nodes.old nodes.new }
 {
     let (left, right) = climb(nodes, at, from);
@@ -53,8 +51,7 @@ pub(crate) fn climb<N: Nodes>(nodes: &mut N, at: u32, from: Rising) -> (u32, u32
     requires { CanRise (N.store nodes.old) at from.below from.above from.left from.right }
     ensures top { (context : Context) (tree : Tree)
         → IsRising (N.store nodes.old) at from.below from.above from.left from.right context tree
-        → Topped (N.store nodes.old) (N.store nodes.new) at (names (plug context tree))
-        result.0 result.1 }
+        → Climbed (N.store nodes.old) (N.store nodes.new) at context tree result.0 result.1 }
     ensures rest { N.stays nodes.old nodes.new }
 {
     let mut hand = from;

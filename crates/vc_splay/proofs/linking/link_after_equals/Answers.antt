@@ -29,7 +29,7 @@ returns-clause-tree g c = λ tree k.
     let w = c.descend_behind-above.ensures tree k in
     let h : Hung s mid c.args.at above w.context = subst (λ z. Hung s z c.args.at above w.context) (sym c.set_kid_of.ensures.store)
     (hung s side c.args.root c.args.at tree above left c.args.steps.now c.descend_behind-above.new.steps none c.requires.held (apart_each s side c.args.root c.args.at tree none c.requires k) k w) in
-    link_end s mid (g.N.Nodes.store c.rise.new.nodes) side c.args.at tree above left c.args.steps.now c.descend_behind-above.new.steps w h (c.rise.ensures.tree w.context (Node Leaf c.args.at Leaf) h.rising)
+    link_end s mid (g.N.Nodes.store c.rise.new.nodes) side c.args.at tree above left c.args.steps.now c.descend_behind-above.new.steps w h (c.rise.ensures.tree w.context (Node Leaf c.args.at Leaf) h.rising).after
 
 pub returns-clause-least_steps : goal.returns-clause-least_steps
 returns-clause-least_steps g c = λ some.

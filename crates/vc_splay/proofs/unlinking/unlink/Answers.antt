@@ -17,7 +17,7 @@ climb-left-requires g c =
 pub set_up_of-requires : goal.set_up_of-requires
 set_up_of-requires g c =
     let b = start (g.N.Nodes.store c.args.nodes.now) c.args.root c.args.at c.in_hand-hand.result.below c.in_hand-hand.result.above c.in_hand-hand.result.left c.in_hand-hand.result.right c.requires.tree c.requires.is_tree c.requires.within c.in_hand-hand.ensures in
-    let top = (c.climb-left.ensures.top b.context b.part b.rising).hand in
+    let top = (c.climb-left.ensures.top b.context b.part b.rising).topped.hand in
     IsCut-held (g.N.Nodes.store c.climb-left.new.nodes) c.climb-left.result.0 top.left_tree top.left_cut
 
 pub join-requires : goal.join-requires
@@ -26,7 +26,7 @@ join-requires g c =
     let s = g.N.Nodes.store c.climb-left.new.nodes in
     let b = start old c.args.root c.args.at c.in_hand-hand.result.below c.in_hand-hand.result.above c.in_hand-hand.result.left c.in_hand-hand.result.right c.requires.tree c.requires.is_tree c.requires.within c.in_hand-hand.ensures in
     let top : Topped old s c.args.at (names c.requires.tree) c.climb-left.result.0 c.climb-left.result.1 =
-    subst (λ z. Topped old s c.args.at (names z) c.climb-left.result.0 c.climb-left.result.1) b.whole (c.climb-left.ensures.top b.context b.part b.rising) in
+    subst (λ z. Topped old s c.args.at (names z) c.climb-left.result.0 c.climb-left.result.1) b.whole (c.climb-left.ensures.top b.context b.part b.rising).topped in
     let p = split_at old s c.args.at c.climb-left.result.0 c.climb-left.result.1 c.requires.tree (g.met.N.Nodes.none c.climb-left.new.nodes) c.requires.is_tree.distinct top in
     rw c.set_up_of.ensures.store (record { front = p.front; back = p.back; pair = p.pair })
 
@@ -39,7 +39,7 @@ returns-clause-tree g c = λ t k.
     let right = c.climb-left.result.1 in
     let within : contains (names t) c.args.at ≡ true = IsIn-each old c.args.root c.args.at (g.met.N.Nodes.none c.args.nodes.now) c.requires t k in
     let b = start old c.args.root c.args.at c.in_hand-hand.result.below c.in_hand-hand.result.above c.in_hand-hand.result.left c.in_hand-hand.result.right t k within c.in_hand-hand.ensures in
-    let top : Topped old s c.args.at (names t) left right = subst (λ z. Topped old s c.args.at (names z) left right) b.whole (c.climb-left.ensures.top b.context b.part b.rising) in
+    let top : Topped old s c.args.at (names t) left right = subst (λ z. Topped old s c.args.at (names z) left right) b.whole (c.climb-left.ensures.top b.context b.part b.rising).topped in
     let p : Split old s mid c.args.at left right t = subst (λ z. Split old s z c.args.at left right t) (sym c.set_up_of.ensures.store)
     (split_at old s c.args.at left right t (g.met.N.Nodes.none c.climb-left.new.nodes) k.distinct top) in
     unlink_end old s mid (g.N.Nodes.store c.join.new.nodes) c.args.at left right t c.join.result p (c.join.ensures.tree p.front p.back p.pair)
