@@ -5,7 +5,7 @@ use Rattle.vc_splay.specs.Store.{Store, SameLinks, with_kid}
 use Rattle.vc_splay.specs.Stands.{IsTree, Stands, TreeAfter}
 use Rattle.vc_splay.specs.Writes.{with_kid_of}
 use Rattle.vc_splay.specs.Guide.{CanFind, CanLink, RisesFrom, reads_of_walk, order_with_name}
-use Rattle.vc_splay.specs.Moves.{Context, Top, Under, IsCut, IsInHand, IsRising, name_at, one, plug, side_in, tally, tally_round}
+use Rattle.vc_splay.specs.Moves.{Context, Top, Under, IsCut, IsInHand, IsRising, depth, name_at, one, plug, side_in, tally, tally_round}
 use Rattle.vc_splay.specs.Searches.{Gap}
 use Rattle.vc_splay.specs.Unique.{IsTree-one}
 use Rattle.vc_splay.specs.Walks.{run}
@@ -33,6 +33,7 @@ pub record Seeking (s : Store) (side : ℕ → Ordering) (tree : Tree) (above : 
   pub list : (x : ℕ) → order_with_name side x (names tree) ≡ before context ++ (order_with_name side x (names part) ++ behind context)
   pub long : length (names part) ≤ length (names tree)
   pub steps : now + reads_of_walk (λ n. is_gt (side n)) part ≡ start + reads_of_walk (λ n. is_gt (side n)) tree
+  pub deep : now ≡ start + depth context
 
 empty_behind : (xs : List ℕ) → xs ≡ xs ++ []
 empty_behind [] = refl
@@ -53,6 +54,7 @@ seek_start s side root t start none h k = record {
   list = λ x. empty_behind (order_with_name side x (names t));
   long = omega arith;
   steps = refl;
+  deep = omega arith;
 }
 
 pub record SeekNext (s : Store) (side : ℕ → Ordering) (tree : Tree) (at start now : ℕ) : Type 0 where
@@ -60,12 +62,12 @@ pub record SeekNext (s : Store) (side : ℕ → Ordering) (tree : Tree) (at star
   pub on : Seeking s side tree at (is_gt (side at)) (s.kid (is_gt (side at)) at) start (now + 1)
   pub less : length (names tree) ≤ 2 ^ 32 → run (2 ^ 32) (λ n. s.kid (is_gt (side n)) n) (s.kid (is_gt (side at)) at) < run (2 ^ 32) (λ n. s.kid (is_gt (side n)) n) at
 
-seek_turn : (s : Store) (side : ℕ → Ordering) (tree : Tree) (start now low : ℕ) (c : Context) (l : Tree) (n : ℕ) (r : Tree) (left : Bool) → left ≡ is_gt (side n) → plug c (Node l n r) ≡ tree → Stands s (name_at c) (Node l n r)
+seek_turn : (s : Store) (side : ℕ → Ordering) (tree : Tree) (start now low : ℕ) (c : Context) (l : Tree) (n : ℕ) (r : Tree) (left : Bool) → now ≡ start + depth c → left ≡ is_gt (side n) → plug c (Node l n r) ≡ tree → Stands s (name_at c) (Node l n r)
     → RisesFrom low side (names (Node l n r)) → ((x : ℕ) → order_with_name side x (names tree) ≡ before c ++ (order_with_name side x (names (Node l n r)) ++ behind c))
     → length (names (Node l n r)) ≤ length (names tree) → now + reads_of_walk (λ m. is_gt (side m)) (Node l n r) ≡ start + reads_of_walk (λ m. is_gt (side m)) tree
     → Seeking s side tree n left (s.kid left n) start (now + 1)
 unfolding before behind
-seek_turn s side tree start now low c l n r true e whole h rises list long steps =
+seek_turn s side tree start now low c l n r true deep e whole h rises list long steps =
     let a = length-append (names l) (n ∷ names r) in
     let count : reads_of_walk (λ m. is_gt (side m)) (Node l n r) ≡ reads_of_walk (λ m. is_gt (side m)) l + 1 = ap (λ z. cond z (reads_of_walk (λ m. is_gt (side m)) l) (reads_of_walk (λ m. is_gt (side m)) r) + 1) (sym e) in
     record {
@@ -81,8 +83,9 @@ seek_turn s side tree start now low c l n r true e whole h rises list long steps
       list = λ x. list x ∙ ap (λ z. before c ++ (z ++ behind c)) (linked-before side x (names l) n (names r) (sym e)) ∙ ap (λ z. before c ++ z) (append_assoc (order_with_name side x (names l)) (n ∷ names r) (behind c));
       long = omega arith;
       steps = omega arith;
+      deep = omega arith;
     }
-seek_turn s side tree start now low c l n r false e whole h rises list long steps =
+seek_turn s side tree start now low c l n r false deep e whole h rises list long steps =
     let a = length-append (names l) (n ∷ names r) in
     let count : reads_of_walk (λ m. is_gt (side m)) (Node l n r) ≡ reads_of_walk (λ m. is_gt (side m)) r + 1 = ap (λ z. cond z (reads_of_walk (λ m. is_gt (side m)) l) (reads_of_walk (λ m. is_gt (side m)) r) + 1) (sym e) in
     record {
@@ -100,6 +103,7 @@ seek_turn s side tree start now low c l n r false e whole h rises list long step
           ∙ sym (append_assoc (before c) (names l ++ n ∷ []) (order_with_name side x (names r) ++ behind c));
       long = omega arith;
       steps = omega arith;
+      deep = omega arith;
     }
 
 seek_at : (s : Store) (side : ℕ → Ordering) (tree : Tree) (above : ℕ) (left : Bool) (at start now : ℕ) (w : Seeking s side tree above left at start now) (part : Tree) → w.part ≡ part → s.has 0 ≡ false → at ≢ 0 → SeekNext s side tree at start now
@@ -110,7 +114,7 @@ seek_at s side tree above left at start now w (Node l n r) e none some =
     let steps : now + reads_of_walk (λ m. is_gt (side m)) (Node l n r) ≡ start + reads_of_walk (λ m. is_gt (side m)) tree = subst (λ z. now + reads_of_walk (λ m. is_gt (side m)) z ≡ start + reads_of_walk (λ m. is_gt (side m)) tree) e w.steps in
     let long : length (names (Node l n r)) ≤ length (names tree) = subst (λ z. length (names z) ≤ length (names tree)) e w.long in
     let on : Seeking s side tree n (is_gt (side n)) (s.kid (is_gt (side n)) n) start (now + 1) =
-    seek_turn s side tree start now w.low w.context l n r (is_gt (side n)) refl
+    seek_turn s side tree start now w.low w.context l n r (is_gt (side n)) w.deep refl
     (ap (plug w.context) (sym e) ∙ w.whole) stands
     (subst (λ z. RisesFrom w.low side (names z)) e w.rises)
     (subst (λ z. (x : ℕ) → order_with_name side x (names tree) ≡ before w.context ++ (order_with_name side x (names z) ++ behind w.context)) e w.list)
@@ -141,6 +145,7 @@ seek_end s side tree above left at start now none w e =
       side_is = w.side_is;
       list = λ x. names-plug w.context (Node Leaf x Leaf) ∙ sym (w.list x ∙ ap (λ z. before w.context ++ (order_with_name side x (names z) ++ behind w.context)) leaf);
       steps = omega arith;
+      deep = w.deep;
     }
 
 -- the other links where a child is written

@@ -16,3 +16,4 @@ pub mod LeafLemmas
 pub mod UnlinkLemmas
 pub mod DigitLemmas
 pub mod RankLemmas
+pub mod CostLemmas

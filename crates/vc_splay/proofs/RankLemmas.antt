@@ -9,7 +9,7 @@ pub size-leaf : size Leaf ≡ 0
 unfolding size
 size-leaf = refl
 
-size-node : (l : Tree) (n : ℕ) (r : Tree) → size (Node l n r) ≡ size l + size r + 1
+pub size-node : (l : Tree) (n : ℕ) (r : Tree) → size (Node l n r) ≡ size l + size r + 1
 unfolding size
 size-node l n r = let e = length-append (names l) (n ∷ names r) in omega arith
 
@@ -32,6 +32,13 @@ size-plug (Under d n sibling c) t u e =
     let a = size-joined d t n sibling in
     let b = size-joined d u n sibling in
     size-plug c (joined_tree d t n sibling) (joined_tree d u n sibling) (omega arith)
+
+pub size-grown : (c : Context) (t u : Tree) → size u ≡ size t + 1 → size (plug c u) ≡ size (plug c t) + 1
+size-grown Top t u e = e
+size-grown (Under d n sibling c) t u e =
+    let a = size-joined d t n sibling in
+    let b = size-joined d u n sibling in
+    size-grown c (joined_tree d t n sibling) (joined_tree d u n sibling) (omega arith)
 
 pub rank-plug : (c : Context) (t u : Tree) → size t ≡ size u → rank (plug c u) + rank t ≡ rank (plug c t) + rank u
 rank-plug Top t u e = omega arith

@@ -4,14 +4,14 @@ use Rattle.vc_splay.specs.Tree.{Tree, Leaf, Node, names, name_of}
 use Rattle.vc_splay.specs.Store.{Store}
 use Rattle.vc_splay.specs.Stands.{IsTree, Stands, TreeAfter}
 use Rattle.vc_splay.specs.Guide.{CanFind, Rises, RisesFrom, reads_of_walk, first_at, least_at}
-use Rattle.vc_splay.specs.Moves.{one, tally}
+use Rattle.vc_splay.specs.Moves.{Context, Top, Under, depth, name_at, one, plug, tally}
 use Rattle.vc_splay.specs.Searches.{CanReach, Search, is_found}
 use Rattle.vc_splay.specs.Unique.{IsTree-one}
 use Rattle.vc_splay.specs.Walks.{run}
 use Rattle.vc_splay.proofs.GuideLemmas.{first_by_least, least-here, least-skip, only_equal, rises-behind, rises-front}
 use Rattle.vc_splay.proofs.HangLemmas.{SameLinks-same}
 use Rattle.vc_splay.proofs.StandsLemmas.{some_held}
-use Rattle.vc_splay.proofs.TallyLemmas.{one-same, tally-node, tally-root, within-count}
+use Rattle.vc_splay.proofs.TallyLemmas.{one-same, tally-leaf, tally-node, tally-root, within-count}
 
 pub asked_few : (left : ℕ → Bool) (t : Tree) → reads_of_walk left t ≤ length (names t)
 asked_few left Leaf = omega arith
@@ -61,6 +61,10 @@ pub record Searching (s : Store) (side : ℕ → Ordering) (tree : Tree) (deepes
   pub below : (n : ℕ) → tally n part ≤ tally n tree
   pub long : length (names part) ≤ length (names tree)
   pub steps : now + reads_of_walk (λ n. is_ge (side n)) part ≡ before + reads_of_walk (λ n. is_ge (side n)) tree
+  pub context : Context
+  pub whole : plug context part ≡ tree
+  pub deepest_is : 1 ≤ depth context → deepest ≡ name_at context
+  pub deep : now ≡ before + depth context
 
 or_none : (o : Option ℕ) → option_or o None ≡ o
 or_none None = refl
@@ -88,6 +92,10 @@ search_start s side root t before none h some k = record {
   below = λ n. omega arith;
   long = omega arith;
   steps = refl;
+  context = Top;
+  whole = refl;
+  deepest_is = λ some. absurd (omega (arith, some));
+  deep = omega arith;
 }
 
 pub record SearchNext (s : Store) (side : ℕ → Ordering) (tree : Tree) (least at before now : ℕ) : Type 0 where
@@ -95,11 +103,11 @@ pub record SearchNext (s : Store) (side : ℕ → Ordering) (tree : Tree) (least
   pub on : Searching s side tree at (cond (is_ge (side at)) at least) (s.kid (is_ge (side at)) at) before (now + 1)
   pub less : length (names tree) ≤ 2 ^ 32 → run (2 ^ 32) (λ n. s.kid (is_ge (side n)) n) (s.kid (is_ge (side at)) at) < run (2 ^ 32) (λ n. s.kid (is_ge (side n)) n) at
 
-search_turn : (s : Store) (side : ℕ → Ordering) (tree : Tree) (least before now up low : ℕ) (l : Tree) (n : ℕ) (r : Tree) (left : Bool) → left ≡ is_ge (side n) → s.has 0 ≡ false → Stands s up (Node l n r)
+search_turn : (s : Store) (side : ℕ → Ordering) (tree : Tree) (least before now up low : ℕ) (c : Context) (l : Tree) (n : ℕ) (r : Tree) (left : Bool) → plug c (Node l n r) ≡ tree → now ≡ before + depth c → left ≡ is_ge (side n) → s.has 0 ≡ false → Stands s up (Node l n r)
     → RisesFrom low side (names (Node l n r)) → least_at side (names tree) ≡ option_or (least_at side (names (Node l n r))) (some_address least) → (least ≢ 0 → 1 ≤ tally least tree)
     → ((m : ℕ) → tally m (Node l n r) ≤ tally m tree) → length (names (Node l n r)) ≤ length (names tree) → now + reads_of_walk (λ m. is_ge (side m)) (Node l n r) ≡ before + reads_of_walk (λ m. is_ge (side m)) tree
     → Searching s side tree n (cond left n least) (s.kid left n) before (now + 1)
-search_turn s side tree least before now up low l n r true e none h rises first least_in below long steps =
+search_turn s side tree least before now up low c l n r true whole deep e none h rises first least_in below long steps =
     let w : (m : ℕ) → tally m (Node l n r) ≡ tally m l + (one m n + tally m r) = λ m. tally-node m n l r in
     let here : 1 ≤ tally n tree = let k = below n in let j = w n in let i = one-same n n refl in omega arith in
     let a = length-append (names l) (n ∷ names r) in
@@ -118,8 +126,12 @@ search_turn s side tree least before now up low l n r true e none h rises first 
       below = λ m. let k = below m in let j = w m in omega arith;
       long = omega arith;
       steps = omega arith;
+      context = Under true n r c;
+      whole = whole;
+      deepest_is = λ _. refl;
+      deep = omega arith;
     }
-search_turn s side tree least before now up low l n r false e none h rises first least_in below long steps =
+search_turn s side tree least before now up low c l n r false whole deep e none h rises first least_in below long steps =
     let w : (m : ℕ) → tally m (Node l n r) ≡ tally m l + (one m n + tally m r) = λ m. tally-node m n l r in
     let here : 1 ≤ tally n tree = let k = below n in let j = w n in let i = one-same n n refl in omega arith in
     let a = length-append (names l) (n ∷ names r) in
@@ -137,6 +149,10 @@ search_turn s side tree least before now up low l n r false e none h rises first
       below = λ m. let k = below m in let j = w m in omega arith;
       long = omega arith;
       steps = omega arith;
+      context = Under false n l c;
+      whole = whole;
+      deepest_is = λ _. refl;
+      deep = omega arith;
     }
 
 search_at : (s : Store) (side : ℕ → Ordering) (tree : Tree) (deepest least at before now : ℕ) (w : Searching s side tree deepest least at before now) (part : Tree) → w.part ≡ part → s.has 0 ≡ false → at ≢ 0 → SearchNext s side tree least at before now
@@ -147,7 +163,7 @@ search_at s side tree deepest least at before now w (Node l n r) e none some =
     let steps : now + reads_of_walk (λ m. is_ge (side m)) (Node l n r) ≡ before + reads_of_walk (λ m. is_ge (side m)) tree = subst (λ z. now + reads_of_walk (λ m. is_ge (side m)) z ≡ before + reads_of_walk (λ m. is_ge (side m)) tree) e w.steps in
     let long : length (names (Node l n r)) ≤ length (names tree) = subst (λ z. length (names z) ≤ length (names tree)) e w.long in
     let on : Searching s side tree n (cond (is_ge (side n)) n least) (s.kid (is_ge (side n)) n) before (now + 1) =
-    search_turn s side tree least before now w.up w.low l n r (is_ge (side n)) refl none stands
+    search_turn s side tree least before now w.up w.low w.context l n r (is_ge (side n)) (ap (plug w.context) (sym e) ∙ w.whole) w.deep refl none stands
     (subst (λ z. RisesFrom w.low side (names z)) e w.rises)
     (subst (λ z. least_at side (names tree) ≡ option_or (least_at side (names z)) (some_address least)) e w.first)
     w.least_in
@@ -176,15 +192,49 @@ pub within_tally : (n : ℕ) (t : Tree) → 1 ≤ tally n t → contains (names 
 unfolding tally
 within_tally n t h = within-count n (names t) h
 
+-- the deepest node that was read, where a walk ended
+record Deepest (tree : Tree) (deepest before now : ℕ) : Type 0 where
+  context : Context
+  left : Tree
+  right : Tree
+  whole : plug context (Node left deepest right) ≡ tree
+  deep : now ≡ before + (depth context + 1)
+
+deepest_at : (tree : Tree) (deepest before now : ℕ) (c : Context) → plug c Leaf ≡ tree → 1 ≤ tally deepest tree → (1 ≤ depth c → deepest ≡ name_at c) → now ≡ before + depth c → Deepest tree deepest before now
+deepest_at tree deepest before now Top e within is deep =
+    let a = ap (tally deepest) e in
+    let b = tally-leaf deepest in
+    absurd (omega arith)
+deepest_at tree deepest before now (Under true n sibling c) e within is deep = record {
+  context = c;
+  left = Leaf;
+  right = sibling;
+  whole = ap (λ z. plug c (Node Leaf z sibling)) (is (omega arith)) ∙ e;
+  deep = deep;
+}
+deepest_at tree deepest before now (Under false n sibling c) e within is deep = record {
+  context = c;
+  left = sibling;
+  right = Leaf;
+  whole = ap (λ z. plug c (Node sibling z Leaf)) (is (omega arith)) ∙ e;
+  deep = deep;
+}
+
 pub search_end : (s : Store) (side : ℕ → Ordering) (tree : Tree) (deepest least at before now : ℕ) → s.has 0 ≡ false → Searching s side tree deepest least at before now → at ≡ 0 → Search side tree deepest least before now
 search_end s side tree deepest least at before now none w e =
     let leaf = search_leaf s w.up w.part none w.stands (sym e ∙ w.at_is) in
     let steps : now + 0 ≡ before + reads_of_walk (λ n. is_ge (side n)) tree = subst (λ z. now + reads_of_walk (λ n. is_ge (side n)) z ≡ before + reads_of_walk (λ n. is_ge (side n)) tree) leaf w.steps in
+    let d = deepest_at tree deepest before now w.context (ap (plug w.context) (sym leaf) ∙ w.whole) w.deepest_in w.deepest_is w.deep in
     record {
       first = sym (w.first ∙ ap (λ z. option_or (least_at side (names z)) (some_address least)) leaf);
       found_in = λ some. within_tally least tree (w.least_in some);
       deepest_in = within_tally deepest tree w.deepest_in;
       steps = omega arith;
+      context = d.context;
+      left = d.left;
+      right = d.right;
+      whole = d.whole;
+      deep = d.deep;
     }
 
 -- where the root is none, there is no name

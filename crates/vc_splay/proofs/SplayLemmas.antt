@@ -116,7 +116,7 @@ at_top : (s : Store) (at below above left right : ℕ) (c : Context) (t : Tree) 
 at_top s at below above left right Top t none r e = refl
 at_top s at below above left right (Under d n sibling c) t none r e = absurd (some_held s n none r.round.0.other_kid.held (sym r.parent ∙ e))
 
-size_same : (t u : Tree) → names t ≡ names u → size t ≡ size u
+pub size_same : (t u : Tree) → names t ≡ names u → size t ≡ size u
 unfolding size
 size_same t u e = ap (λ xs. length xs) e
 

@@ -1,5 +1,5 @@
 -- How unbalanced a tree is, in the numbers of binary digits of the sizes of its subtrees.
-use Rattle.std.specs.Prelude.{ℕ, ◌+◌, ◌-◌, length}
+use Rattle.std.specs.Prelude.{ℕ, ◌+◌, ◌-◌, ◌*◌, ◌≤◌, length}
 use Rattle.std.specs.Int.Digits.{digits_of}
 use Rattle.vc_splay.specs.Tree.{Tree, Leaf, Node, names}
 
@@ -19,3 +19,7 @@ size t = length (names t)
 abbrev pub rank : Tree → ℕ
 rank Leaf = 0
 rank (Node l n r) = rank l + rank r + level (size (Node l n r))
+
+-- from one tree to another the steps and twice the rank rise by at most so much
+pub record Costs (tree after : Tree) (before now most : ℕ) : Type 0 where
+  pub cost : now + 2 * rank after ≤ before + 2 * rank tree + most

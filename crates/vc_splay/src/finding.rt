@@ -1,10 +1,12 @@
-ghost use Rattle.std.specs.Prelude.{◌≡◌, ◌≢◌, ℕ, ◌+◌, ◌≤◌, length, if◌then◌else◌};
+ghost use Rattle.std.specs.Prelude.{◌≡◌, ◌≢◌, ℕ, ◌+◌, ◌*◌, ◌≤◌, length, if◌then◌else◌};
 ghost use Rattle.std.specs.Ordering.{is_eq, is_ge};
 ghost use Rattle.vc_base.specs.Prelude.{some_address};
 ghost use Rattle.vc_splay.specs.Guide.{CanFind, first_at, least_at};
-ghost use Rattle.vc_splay.specs.Searches.{CanReach, Search, is_found};
+ghost use Rattle.vc_splay.specs.Moves.{Context, plug};
+ghost use Rattle.vc_splay.specs.Rank.{Costs, binary_digits, size};
+ghost use Rattle.vc_splay.specs.Searches.{CanReach, Reached, Search, is_found};
 ghost use Rattle.vc_splay.specs.Stands.{IsTree, TreeAfter};
-ghost use Rattle.vc_splay.specs.Tree.{Tree, names};
+ghost use Rattle.vc_splay.specs.Tree.{Tree, Node, names};
 
 use crate::sides::kid;
 use crate::splaying::splay;
@@ -29,6 +31,9 @@ pub fn find_first<N: Nodes, G: Guide<N>, L>(
     ensures least_steps { root ≢ 0 → steps.old + 1 ≤ steps.new }
     ensures most_steps { (tree : Tree) → IsTree (N.store nodes.old) root tree
         → steps.new ≤ steps.old + length (names tree) }
+    ensures law { (tree after : Tree) → IsTree (N.store nodes.old) root tree
+        → IsTree (N.store nodes.new) result.0 after
+        → Costs tree after steps.old steps.new (12 * binary_digits (size tree)) }
     ensures rest { N.stays nodes.old nodes.new }
 {
     if root == 0 {
@@ -56,6 +61,9 @@ pub fn find_least_at<N: Nodes, G: Guide<N>, L>(
     ensures least_steps { root ≢ 0 → steps.old + 1 ≤ steps.new }
     ensures most_steps { (tree : Tree) → IsTree (N.store nodes.old) root tree
         → steps.new ≤ steps.old + length (names tree) }
+    ensures law { (tree after : Tree) → IsTree (N.store nodes.old) root tree
+        → IsTree (N.store nodes.new) result.0 after
+        → Costs tree after steps.old steps.new (12 * binary_digits (size tree)) }
     ensures rest { N.stays nodes.old nodes.new }
 {
     if root == 0 {
@@ -121,6 +129,10 @@ fn reach<N: Nodes>(nodes: &mut N, root: u32, deepest: u32, found: u32) -> u32
     requires { CanReach (N.store nodes.old) root deepest found }
     ensures tree { (tree : Tree) → IsTree (N.store nodes.old) root tree
         → TreeAfter (N.store nodes.old) (N.store nodes.new) (names tree) result (names tree) }
+    ensures law { (context : Context) (left right after : Tree)
+        → IsTree (N.store nodes.old) root (plug context (Node left deepest right))
+        → IsTree (N.store nodes.new) result after
+        → Reached context (Node left deepest right) after }
     ensures rest { N.stays nodes.old nodes.new }
 {
     let top = splay(nodes, root, deepest);

@@ -1,5 +1,6 @@
-ghost use Rattle.std.specs.Prelude.{◌≡◌, ◌≢◌, ◌+◌, ◌≤◌, ◌∷◌, length};
+ghost use Rattle.std.specs.Prelude.{◌≡◌, ◌≢◌, ◌+◌, ◌*◌, ◌≤◌, ◌∷◌, length};
 ghost use Rattle.vc_splay.specs.Guide.{CanFind, CanLink, order_with_name};
+ghost use Rattle.vc_splay.specs.Rank.{Costs, binary_digits, size};
 ghost use Rattle.vc_splay.specs.Searches.{Gap};
 ghost use Rattle.vc_splay.specs.Stands.{IsTree, TreeAfter};
 ghost use Rattle.vc_splay.specs.Tree.{Tree, names};
@@ -28,6 +29,9 @@ pub fn link_after_equals<N: Nodes, G: Guide<N>, L>(
     ensures least_steps { root ≢ 0 → steps.old + 1 ≤ steps.new }
     ensures most_steps { (tree : Tree) → IsTree (N.store nodes.old) root tree
         → steps.new ≤ steps.old + length (names tree) }
+    ensures law { (tree after : Tree) → IsTree (N.store nodes.old) root tree
+        → IsTree (N.store nodes.new) result after
+        → Costs tree after steps.old steps.new (8 * binary_digits (size tree + 1)) }
     ensures rest { N.stays nodes.old nodes.new }
 {
     let (above, left) = descend_behind(nodes, root, guide, steps);

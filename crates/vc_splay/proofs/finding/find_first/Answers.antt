@@ -1,5 +1,9 @@
-use Rattle.vc_base.proofs.Common.{◌≡◌, cond, ap, ◌∙◌}
+use Rattle.vc_base.proofs.Common.{◌≡◌, cond, sym, ap, ◌∙◌, subst}
 use Rattle.vc_splay.specs.Searches.{is_found}
+use Rattle.vc_splay.specs.Moves.{plug}
+use Rattle.vc_splay.specs.Stands.{IsTree}
+use Rattle.vc_splay.specs.Tree.{Node}
+use Rattle.vc_splay.proofs.CostLemmas.{none_cost, searched}
 use Rattle.vc_splay.proofs.SearchLemmas.{can_reach, first_found, first_none, found_is, least_steps, most_steps, same_tree}
 use Rattle.vc_splay.proofs.finding.find_first.Goals as goal
 
@@ -31,3 +35,15 @@ returns-clause-least_steps g c = λ some.
 pub returns-clause-most_steps : goal.returns-clause-most_steps
 returns-clause-most_steps g c = λ t k.
     most_steps (g.G.Guide.side_of c.args.guide.now c.args.nodes.now) c.descend-deepest.result.0 c.descend-deepest.result.1 c.args.steps.now c.descend-deepest.new.steps t (c.descend-deepest.ensures.search t k)
+
+pub returns-then-root-eq0-clause-law : goal.returns-then-root-eq0-clause-law
+returns-then-root-eq0-clause-law g c = λ t after k j.
+    none_cost (g.N.Nodes.store c.args.nodes.now) c.args.root t after c.args.steps.now _ (g.met.N.Nodes.none c.args.nodes.now) k c.if-root-eq0.true j
+
+pub returns-clause-law : goal.returns-clause-law
+returns-clause-law g c = λ t after k j.
+    let s = g.N.Nodes.store c.args.nodes.now in
+    let deepest = c.descend-deepest.result.0 in
+    let w = c.descend-deepest.ensures.search t k in
+    let stands : IsTree s c.args.root (plug w.context (Node w.left deepest w.right)) = subst (λ z. IsTree s c.args.root z) (sym w.whole) k in
+    searched w.context w.left deepest w.right t after c.args.steps.now c.descend-deepest.new.steps w.whole w.deep (c.reach.ensures.law w.context w.left w.right after stands j)

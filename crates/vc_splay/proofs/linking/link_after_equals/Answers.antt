@@ -1,5 +1,8 @@
 use Rattle.vc_base.proofs.Common.{sym, subst}
+use Rattle.vc_splay.specs.Moves.{Paid}
 use Rattle.vc_splay.specs.Tree.{Leaf, Node}
+use Rattle.vc_splay.specs.Unique.{IsTree-one}
+use Rattle.vc_splay.proofs.CostLemmas.{linked_cost}
 use Rattle.vc_splay.proofs.LeafLemmas.{Hung, above_held, apart_each, find_of_link, gap_least, gap_most, hung, link_end}
 use Rattle.vc_splay.proofs.linking.link_after_equals.Goals as goal
 
@@ -39,3 +42,20 @@ returns-clause-least_steps g c = λ some.
 pub returns-clause-most_steps : goal.returns-clause-most_steps
 returns-clause-most_steps g c = λ tree k.
     gap_most (g.G.Guide.side_of c.args.guide.now c.args.nodes.now) tree c.descend_behind-above.result.0 c.descend_behind-above.result.1 c.args.steps.now c.descend_behind-above.new.steps (c.descend_behind-above.ensures tree k)
+
+pub returns-clause-law : goal.returns-clause-law
+returns-clause-law g c = λ tree after k j.
+    let s = g.N.Nodes.store c.args.nodes.now in
+    let side = g.G.Guide.side_of c.args.guide.now c.args.nodes.now in
+    let none = g.met.N.Nodes.none c.args.nodes.now in
+    let at = c.args.at in
+    let above = c.descend_behind-above.result.0 in
+    let left = c.descend_behind-above.result.1 in
+    let mid = g.N.Nodes.store c.set_kid_of.new.nodes in
+    let w = c.descend_behind-above.ensures tree k in
+    let h : Hung s mid at above w.context = subst (λ z. Hung s z at above w.context) (sym c.set_kid_of.ensures.store)
+    (hung s side c.args.root at tree above left c.args.steps.now c.descend_behind-above.new.steps none c.requires.held (apart_each s side c.args.root at tree none c.requires k) k w) in
+    let risen = c.rise.ensures.tree w.context (Node Leaf at Leaf) h.rising in
+    let one = IsTree-one (g.N.Nodes.store c.rise.new.nodes) at risen.after.tree after (g.met.N.Nodes.none c.rise.new.nodes) risen.after.is_tree j in
+    linked_cost w.context at tree after c.args.steps.now c.descend_behind-above.new.steps w.whole w.deep
+    (subst (λ z. Paid w.context (Node Leaf at Leaf) z) one risen.paid)

@@ -1,0 +1,68 @@
+-- What a search of a tree costs, and a link.
+use Rattle.vc_base.proofs.Common.{◌≡◌, ℕ, ◌+◌, ◌*◌, ◌≤◌, false, length, refl, sym, ap, ◌∙◌, arith}
+use Rattle.vc_splay.specs.Tree.{Tree, Leaf, Node, names}
+use Rattle.vc_splay.specs.Moves.{Context, Paid, depth, plug}
+use Rattle.vc_splay.specs.Rank.{Costs, binary_digits, level, rank, size}
+use Rattle.vc_splay.specs.Searches.{Reached}
+use Rattle.vc_splay.specs.Stands.{IsTree}
+use Rattle.vc_splay.specs.Store.{Store}
+use Rattle.vc_splay.proofs.DigitLemmas.{level-digits}
+use Rattle.vc_splay.proofs.FewLemmas.{deep}
+use Rattle.vc_splay.proofs.RankLemmas.{rank-leaf, size-leaf, size-node, size-grown}
+use Rattle.vc_splay.proofs.SearchLemmas.{no_tree}
+
+-- a tree of a node and what is round it has a node
+size-some : (c : Context) (l : Tree) (n : ℕ) (r : Tree) → 1 ≤ size (plug c (Node l n r))
+unfolding size
+size-some c l n r =
+    let e = size-node l n r in
+    let d = deep c (Node l n r) in
+    omega arith
+
+-- the deepest node was splayed, and then another one or none
+pub reached_once : (c : Context) (t after : Tree) → Paid c t after → Reached c t after
+reached_once c t after h = record { paid = let i = h.paid in omega arith }
+
+pub reached_twice : (c : Context) (t mid : Tree) (d : Context) (u after : Tree) → Paid c t mid → plug d u ≡ mid → size mid ≡ size (plug c t) → Paid d u after → Reached c t after
+reached_twice c t mid d u after h e same k = record {
+  paid =
+      let i = h.paid in
+      let j = k.paid in
+      let r = ap rank e in
+      let s = ap level (ap size e ∙ same) in
+      omega arith;
+}
+
+pub searched : (c : Context) (l : Tree) (n : ℕ) (r tree after : Tree) (before now : ℕ) → plug c (Node l n r) ≡ tree → now ≡ before + (depth c + 1) → Reached c (Node l n r) after → Costs tree after before now (12 * binary_digits (size tree))
+searched c l n r tree after before now e deep h = record {
+  cost =
+      let whole = plug c (Node l n r) in
+      let i = h.paid in
+      let a = level-digits (size whole) (size-some c l n r) in
+      let b = ap rank e in
+      let s = ap (λ z. binary_digits (size z)) e in
+      omega arith;
+}
+
+-- no node was read
+pub none_cost : (s : Store) (root : ℕ) (t after : Tree) (now most : ℕ) → s.has 0 ≡ false → IsTree s root t → root ≡ 0 → IsTree s 0 after → Costs t after now now most
+none_cost s root t after now most none k e j =
+    let a = ap rank (no_tree s root t none k e) in
+    let b = ap rank (no_tree s 0 after none j refl) in
+    record { cost = omega arith }
+
+-- a new leaf rose
+pub linked_cost : (c : Context) (at : ℕ) (tree after : Tree) (start now : ℕ) → plug c Leaf ≡ tree → now ≡ start + depth c → Paid c (Node Leaf at Leaf) after → Costs tree after start now (8 * binary_digits (size tree + 1))
+linked_cost c at tree after start now e deep h = record {
+  cost =
+      let whole = plug c (Node Leaf at Leaf) in
+      let i = h.paid in
+      let k = rank-leaf c at in
+      let one = size-node Leaf at Leaf in
+      let zero = size-leaf in
+      let grown : size whole ≡ size tree + 1 = size-grown c Leaf (Node Leaf at Leaf) (omega arith) ∙ ap (λ z. size z + 1) e in
+      let a = level-digits (size whole) (omega arith) in
+      let b = ap rank e in
+      let s = ap binary_digits grown in
+      omega arith;
+}
