@@ -1,12 +1,12 @@
--- What a search of a tree costs, and a link.
-use Rattle.vc_base.proofs.Common.{◌≡◌, ℕ, ◌+◌, ◌*◌, ◌≤◌, false, length, refl, sym, ap, ◌∙◌, arith}
-use Rattle.vc_splay.specs.Tree.{Tree, Leaf, Node, names}
+-- What a search of a tree costs, a link, and an unlink.
+use Rattle.vc_base.proofs.Common.{◌≡◌, ℕ, ◌+◌, ◌*◌, ◌≤◌, false, refl, ap, ◌∙◌, arith}
+use Rattle.vc_splay.specs.Tree.{Tree, Leaf, Node}
 use Rattle.vc_splay.specs.Moves.{Context, Paid, depth, plug}
 use Rattle.vc_splay.specs.Rank.{Costs, binary_digits, level, rank, size}
-use Rattle.vc_splay.specs.Searches.{Reached}
+use Rattle.vc_splay.specs.Searches.{Joined, Reached}
 use Rattle.vc_splay.specs.Stands.{IsTree}
 use Rattle.vc_splay.specs.Store.{Store}
-use Rattle.vc_splay.proofs.DigitLemmas.{level-digits}
+use Rattle.vc_splay.proofs.DigitLemmas.{level-digits, level-few, level-rises}
 use Rattle.vc_splay.proofs.FewLemmas.{deep}
 use Rattle.vc_splay.proofs.RankLemmas.{rank-leaf, size-leaf, size-node, size-grown}
 use Rattle.vc_splay.proofs.SearchLemmas.{no_tree}
@@ -64,5 +64,49 @@ linked_cost c at tree after start now e deep h = record {
       let a = level-digits (size whole) (omega arith) in
       let b = ap rank e in
       let s = ap binary_digits grown in
+      omega arith;
+}
+
+-- two trees were joined, of which one was empty or the first one's last name was splayed
+pub joined_front : (a b after : Tree) → after ≡ a → Joined a b after
+joined_front a b after e = record { paid = let i = ap rank e in omega arith }
+
+pub joined_back : (a b after : Tree) → after ≡ b → Joined a b after
+joined_back a b after e = record { paid = let i = ap rank e in omega arith }
+
+pub joined_both : (c : Context) (l : Tree) (end : ℕ) (r a b mid rest after : Tree) (top : ℕ) → plug c (Node l end r) ≡ a → Paid c (Node l end r) mid → mid ≡ Node rest top Leaf → size mid ≡ size a → after ≡ Node rest top b → Joined a b after
+joined_both c l end r a b mid rest after top e h front same is = record {
+  paid =
+      let i = h.paid in
+      let zero = size-leaf in
+      let first = size-node rest top Leaf in
+      let second = size-node rest top b in
+      let sizes = ap size front in
+      let x = ap rank front in
+      let y = ap rank is in
+      let z = ap rank e in
+      let w = ap level (ap size e) in
+      let long : size (Node rest top b) ≡ size a + size b = omega arith in
+      let u = ap level long in
+      let v = level-rises (size a) (size a + size b) (omega arith) in
+      omega arith;
+}
+
+-- a node came to the top, and its subtrees were joined
+pub unlinked_cost : (c : Context) (t top tree front back after : Tree) (at : ℕ) → plug c t ≡ tree → Paid c t top → top ≡ Node front at back → size top ≡ size (plug c t) → Joined front back after → Costs tree after 0 0 (12 * binary_digits (size tree))
+unlinked_cost c t top tree front back after at e h whole same k = record {
+  cost =
+      let i = h.paid in
+      let j = k.paid in
+      let parts = size-node front at back in
+      let sizes = ap size whole in
+      let x = ap rank whole in
+      let y = ap rank e in
+      let z = ap size e in
+      let all : size (Node front at back) ≡ size tree = omega arith in
+      let u = ap level all in
+      let w = ap level z in
+      let v = level-rises (size front + size back) (size tree) (omega arith) in
+      let few = level-few (size tree) in
       omega arith;
 }

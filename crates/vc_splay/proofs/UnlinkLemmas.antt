@@ -8,6 +8,7 @@ use Rattle.vc_splay.specs.Store.{Store, SameLinks, with_kid, with_parent}
 use Rattle.vc_splay.specs.Stands.{IsNode, IsTree, Stands, TreeAfter}
 use Rattle.vc_splay.specs.Moves.{Topped, count, one, tally}
 use Rattle.vc_splay.specs.Searches.{IsPair}
+use Rattle.vc_splay.specs.Unique.{one_tree}
 use Rattle.vc_splay.specs.Writes.{with_parent_of}
 use Rattle.vc_splay.proofs.HangLemmas.{SameLinks-on, SameLinks-same}
 use Rattle.vc_splay.proofs.LeafLemmas.{apart_tally, parents_kid}
@@ -168,8 +169,15 @@ kids_joined s top right = refl
 pub joined_has : (s : Store) (top right : ℕ) → (with_parent right top (with_kid false top right s)).has ≡ s.has
 joined_has s top right = has_joined s top right
 
-pub join_both : (old s : Store) (left right top end : ℕ) (a b : Tree) → s.has 0 ≡ false → s.has ≡ old.has → IsPair old left right a b → left ≢ 0 → right ≢ 0 → some_address end ≡ last_in (names a) → top ≡ end → TreeAfter old s (names a) top (names a)
-    → TreeAfter old (with_parent right top (with_kid false top right s)) (names a ++ names b) top (names a ++ names b)
+-- the first tree's last name became its root, and then got the second tree
+pub record JoinedBoth (old new : Store) (top : ℕ) (a b mid : Tree) : Type 0 where
+  pub after : TreeAfter old new (names a ++ names b) top (names a ++ names b)
+  pub rest : Tree
+  pub front_is : mid ≡ Node rest top Leaf
+  pub is : after.tree ≡ Node rest top b
+
+pub join_both : (old s : Store) (left right top end : ℕ) (a b : Tree) → s.has 0 ≡ false → s.has ≡ old.has → IsPair old left right a b → left ≢ 0 → right ≢ 0 → some_address end ≡ last_in (names a) → top ≡ end → (after : TreeAfter old s (names a) top (names a))
+    → JoinedBoth old (with_parent right top (with_kid false top right s)) top a b after.tree
 join_both old s left right top end a b none has p left_some right_some e same after =
     let new = with_parent right top (with_kid false top right s) in
     let name_a : name_of a ≢ 0 = λ z. left_some (p.front_is.top ∙ z) in
@@ -208,25 +216,31 @@ join_both old s left right top end a b none has p left_some right_some e same af
     let list : names (Node r.rest top b) ≡ names a ++ names b =
     sym (append_assoc (names r.rest) (top ∷ []) (names b)) ∙ ap (λ z. z ++ names b) (ap names (sym r.whole) ∙ after.list) in
     record {
-      tree = Node r.rest top b;
-      is_tree = record { top = refl; stands = (node, rest, moved); distinct = subst AreDistinct (sym list) p.distinct };
-      list = list;
-      others = λ n h.
-          let zero = pair_apart a b n h in
-          SameLinks-on old s new n (after.others n (apart_tally n a (omega arith)))
-          (kept n (λ z. let f : 1 ≤ tally n a = subst (λ y. 1 ≤ tally y a) (sym z) top_in in absurd (omega arith)) (λ z. let f : 1 ≤ tally n b = subst (λ y. 1 ≤ tally y b) (sym z) right_in in absurd (omega arith)));
+      after = record {
+        tree = Node r.rest top b;
+        is_tree = record { top = refl; stands = (node, rest, moved); distinct = subst AreDistinct (sym list) p.distinct };
+        list = list;
+        others = λ n h.
+            let zero = pair_apart a b n h in
+            SameLinks-on old s new n (after.others n (apart_tally n a (omega arith)))
+            (kept n (λ z. let f : 1 ≤ tally n a = subst (λ y. 1 ≤ tally y a) (sym z) top_in in absurd (omega arith)) (λ z. let f : 1 ≤ tally n b = subst (λ y. 1 ≤ tally y b) (sym z) right_in in absurd (omega arith)));
+      };
+      rest = r.rest;
+      front_is = r.whole;
+      is = refl;
     }
 
 -- once the root is out, its subtrees are two trees
-pub record Split (old s new : Store) (at left right : ℕ) (t : Tree) : Type 0 where
+pub record Split (old s new : Store) (at left right : ℕ) (t top : Tree) : Type 0 where
   pub front : Tree
   pub back : Tree
+  pub whole : top ≡ Node front at back
   pub pair : IsPair new left right front back
   pub list : without at (names t) ≡ names front ++ names back
   pub others : (n : ℕ) → contains (names t) n ≡ false → SameLinks old new n
   pub apart : (n : ℕ) → contains (names t) n ≡ false → contains (names front ++ names back) n ≡ false
 
-pub split_at : (old s : Store) (at left right : ℕ) (t : Tree) → s.has 0 ≡ false → AreDistinct (names t) → Topped old s at (names t) left right → Split old s (with_parent_of left 0 s) at left right t
+pub split_at : (old s : Store) (at left right : ℕ) (t : Tree) → s.has 0 ≡ false → AreDistinct (names t) → (k : Topped old s at (names t) left right) → Split old s (with_parent_of left 0 s) at left right t k.tree
 split_at old s at left right t none distinct k =
     let front = k.hand.left_tree in
     let back = k.hand.right_tree in
@@ -239,6 +253,7 @@ split_at old s at left right t none distinct k =
     record {
       front = front;
       back = back;
+      whole = k.hand.whole;
       pair = record {
         up = k.hand.right_cut.up;
         front_is = record {
@@ -260,8 +275,8 @@ split_at old s at left right t none distinct k =
     }
 
 -- the two are joined
-pub unlink_end : (old s mid new : Store) (at left right : ℕ) (t : Tree) (result : ℕ) (h : Split old s mid at left right t) → TreeAfter mid new (names h.front ++ names h.back) result (names h.front ++ names h.back) → TreeAfter old new (names t) result (without at (names t))
-unlink_end old s mid new at left right t result h a = record {
+pub unlink_end : (old s mid new : Store) (at left right : ℕ) (t top : Tree) (result : ℕ) (h : Split old s mid at left right t top) → TreeAfter mid new (names h.front ++ names h.back) result (names h.front ++ names h.back) → TreeAfter old new (names t) result (without at (names t))
+unlink_end old s mid new at left right t top result h a = record {
   tree = a.tree;
   is_tree = a.is_tree;
   list = a.list ∙ sym h.list;
@@ -270,3 +285,9 @@ unlink_end old s mid new at left right t result h a = record {
 
 pub back_held : (s : Store) (left right : ℕ) (a b : Tree) → IsPair s left right a b → right ≢ 0 → s.has right ≡ true
 back_held s left right a b p some = Stands-held s p.up b right p.back_stands (subst (λ z. 1 ≤ tally z b) (sym p.back_top) (tally-root b (λ z. some (p.back_top ∙ z))))
+
+-- where one of two trees is empty, the other one is left
+pub back_alone : (s : Store) (left right : ℕ) (a b after : Tree) → s.has 0 ≡ false → IsPair s left right a b → IsTree (with_parent_of right 0 s) right after → after ≡ b
+back_alone s left right a b after none p k =
+    let once : (n : ℕ) → tally n b ≤ 1 = λ n. let i = pair_once s left right a b p n in omega arith in
+    one_tree (with_parent_of right 0 s) 0 0 after b (ap (λ f. f 0) (has_parent_of right 0 s) ∙ none) k.stands (raised s p.up 0 right b none p.back_stands p.back_top once) (sym k.top ∙ p.back_top)

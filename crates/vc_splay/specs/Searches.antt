@@ -61,3 +61,7 @@ pub record CanJoinTrees (s : Store) (left right : ℕ) : Type 0 where
   pub front : Tree
   pub back : Tree
   pub pair : IsPair s left right front back
+
+-- what it cost that they were joined into one: twice the rank
+pub record Joined (front back after : Tree) : Type 0 where
+  pub paid : 2 * rank after ≤ 2 * rank front + 2 * rank back + 8 * level (size front + size back)

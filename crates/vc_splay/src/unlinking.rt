@@ -1,6 +1,7 @@
-ghost use Rattle.std.specs.Prelude.{◌≡◌, ◌++◌};
+ghost use Rattle.std.specs.Prelude.{◌≡◌, ◌*◌, ◌++◌};
 ghost use Rattle.vc_base.specs.Prelude.{without};
-ghost use Rattle.vc_splay.specs.Searches.{CanJoinTrees, IsPair};
+ghost use Rattle.vc_splay.specs.Rank.{Costs, binary_digits, size};
+ghost use Rattle.vc_splay.specs.Searches.{CanJoinTrees, IsPair, Joined};
 ghost use Rattle.vc_splay.specs.Stands.{IsIn, IsTree, TreeAfter};
 ghost use Rattle.vc_splay.specs.Tree.{Tree, names};
 
@@ -18,6 +19,9 @@ pub fn unlink<N: Nodes>(nodes: &mut N, root: u32, at: u32) -> u32
     ensures tree { (tree : Tree) → IsTree (N.store nodes.old) root tree
         → TreeAfter (N.store nodes.old) (N.store nodes.new) (names tree) result
         (without at (names tree)) }
+    ensures law { (tree after : Tree) → IsTree (N.store nodes.old) root tree
+        → IsTree (N.store nodes.new) result after
+        → Costs tree after 0 0 (12 * binary_digits (size tree)) }
     ensures rest { N.stays nodes.old nodes.new }
 {
     let hand = in_hand(nodes, at);
@@ -34,6 +38,8 @@ fn join<N: Nodes>(nodes: &mut N, left: u32, right: u32) -> u32
     ensures tree { (front back : Tree) → IsPair (N.store nodes.old) left right front back
         → TreeAfter (N.store nodes.old) (N.store nodes.new) (names front ++ names back) result
         (names front ++ names back) }
+    ensures law { (front back after : Tree) → IsPair (N.store nodes.old) left right front back
+        → IsTree (N.store nodes.new) result after → Joined front back after }
     ensures rest { N.stays nodes.old nodes.new }
 {
     if left == 0 {

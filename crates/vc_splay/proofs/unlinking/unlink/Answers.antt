@@ -1,8 +1,9 @@
-use Rattle.vc_base.proofs.Common.{◌≡◌, true, sym, subst, contains}
-use Rattle.vc_splay.specs.Moves.{Topped}
+use Rattle.vc_base.proofs.Common.{◌≡◌, true, sym, subst, AreDistinct, contains}
+use Rattle.vc_splay.specs.Moves.{Topped, plug}
 use Rattle.vc_splay.specs.Tree.{names}
+use Rattle.vc_splay.proofs.CostLemmas.{unlinked_cost}
 use Rattle.vc_splay.proofs.HangLemmas.{IsCut-held}
-use Rattle.vc_splay.proofs.SplayLemmas.{IsIn-each, IsIn-held, start}
+use Rattle.vc_splay.proofs.SplayLemmas.{IsIn-each, IsIn-held, size_same, start}
 use Rattle.vc_splay.proofs.UnlinkLemmas.{Split, split_at, unlink_end}
 use Rattle.vc_splay.proofs.unlinking.unlink.Goals as goal
 
@@ -40,6 +41,24 @@ returns-clause-tree g c = λ t k.
     let within : contains (names t) c.args.at ≡ true = IsIn-each old c.args.root c.args.at (g.met.N.Nodes.none c.args.nodes.now) c.requires t k in
     let b = start old c.args.root c.args.at c.in_hand-hand.result.below c.in_hand-hand.result.above c.in_hand-hand.result.left c.in_hand-hand.result.right t k within c.in_hand-hand.ensures in
     let top : Topped old s c.args.at (names t) left right = subst (λ z. Topped old s c.args.at (names z) left right) b.whole (c.climb-left.ensures.top b.context b.part b.rising).topped in
-    let p : Split old s mid c.args.at left right t = subst (λ z. Split old s z c.args.at left right t) (sym c.set_up_of.ensures.store)
+    let p : Split old s mid c.args.at left right t top.tree = subst (λ z. Split old s z c.args.at left right t top.tree) (sym c.set_up_of.ensures.store)
     (split_at old s c.args.at left right t (g.met.N.Nodes.none c.climb-left.new.nodes) k.distinct top) in
-    unlink_end old s mid (g.N.Nodes.store c.join.new.nodes) c.args.at left right t c.join.result p (c.join.ensures.tree p.front p.back p.pair)
+    unlink_end old s mid (g.N.Nodes.store c.join.new.nodes) c.args.at left right t top.tree c.join.result p (c.join.ensures.tree p.front p.back p.pair)
+
+pub returns-clause-law : goal.returns-clause-law
+returns-clause-law g c = λ t after k j.
+    let old = g.N.Nodes.store c.args.nodes.now in
+    let s = g.N.Nodes.store c.climb-left.new.nodes in
+    let mid = g.N.Nodes.store c.set_up_of.new.nodes in
+    let left = c.climb-left.result.0 in
+    let right = c.climb-left.result.1 in
+    let within : contains (names t) c.args.at ≡ true = IsIn-each old c.args.root c.args.at (g.met.N.Nodes.none c.args.nodes.now) c.requires t k in
+    let b = start old c.args.root c.args.at c.in_hand-hand.result.below c.in_hand-hand.result.above c.in_hand-hand.result.left c.in_hand-hand.result.right t k within c.in_hand-hand.ensures in
+    let climbed = c.climb-left.ensures.top b.context b.part b.rising in
+    let top = climbed.topped in
+    let whole = plug b.context b.part in
+    let distinct : AreDistinct (names whole) = subst (λ z. AreDistinct (names z)) (sym b.whole) k.distinct in
+    let p : Split old s mid c.args.at left right whole top.tree = subst (λ z. Split old s z c.args.at left right whole top.tree) (sym c.set_up_of.ensures.store)
+    (split_at old s c.args.at left right whole (g.met.N.Nodes.none c.climb-left.new.nodes) distinct top) in
+    unlinked_cost b.context b.part top.tree t p.front p.back after c.args.at b.whole climbed.paid p.whole (size_same top.tree whole top.list)
+    (c.join.ensures.law p.front p.back after p.pair j)
