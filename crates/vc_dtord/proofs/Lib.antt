@@ -7,3 +7,4 @@ pub mod TurnLemmas
 pub mod CallLemmas
 pub mod SeekLemmas
 pub mod BeforeLemmas
+pub mod CostLemmas

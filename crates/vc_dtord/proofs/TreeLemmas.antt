@@ -76,19 +76,24 @@ pub OrdFor-one : (rules others : Rules) (ord : DtOrd) (b : Blocks) (xs ys : List
 OrdFor-one rules others ord b xs ys s t =
     sym s.list ∙ ap names (IsTree-one (node_store b) ord.root.0 s.tree t.tree (node-none b) s.is_tree t.is_tree) ∙ t.list
 
+-- a tree stands over blocks in which its holders stay
+pub tree-over : (b b' : Blocks) (root : ℕ) (t : Tree) → ((n : ℕ) → contains (names t) n ≡ true → b' n ≡ b n) → IsTree (node_store b) root t → IsTree (node_store b') root t
+tree-over b b' root t at h =
+    IsTree-same (node_store b) (node_store b') root t
+    (λ n w k. ap (λ o. is_node_of n (unwrap_or o [])) (at n w) ∙ k)
+    (λ n w. record {
+      kid = λ d. ap (λ o. word (cond d 0 1) (unwrap_or o [])) (at n w);
+      parent = ap (λ o. word 2 (unwrap_or o [])) (at n w);
+    })
+    h
+
 -- and over blocks in which they stay they are the same
 pub OrdFor-same : (rules : Rules) (ord : DtOrd) (b b' : Blocks) (xs : List ℕ) → ((a : ℕ) → contains xs a ≡ true → b' a ≡ b a) → OrdFor rules ord b xs → OrdFor rules ord b' xs
 OrdFor-same rules ord b b' xs e s =
     let at : (n : ℕ) → contains (names s.tree) n ≡ true → b' n ≡ b n = λ n w. e n (ap (λ ys. contains ys n) (sym s.list) ∙ w) in
     record {
       tree = s.tree;
-      is_tree = IsTree-same (node_store b) (node_store b') ord.root.0 s.tree
-          (λ n w h. ap (λ o. is_node_of n (unwrap_or o [])) (at n w) ∙ h)
-          (λ n w. record {
-            kid = λ d. ap (λ o. word (cond d 0 1) (unwrap_or o [])) (at n w);
-            parent = ap (λ o. word 2 (unwrap_or o [])) (at n w);
-          })
-          s.is_tree;
+      is_tree = tree-over b b' ord.root.0 s.tree at s.is_tree;
       list = s.list;
       plain = All-within (IsPlain b) (IsPlain b') xs (λ a w p. ap (λ o. word 3 (unwrap_or o [])) (e a w) ∙ p) s.plain;
       sorted = IsSorted-same rules b b' xs (λ a w. ap (λ o. body_of (unwrap_or o [])) (e a w)) s.sorted;

@@ -3,3 +3,4 @@ pub mod NodeLaws
 pub mod WordWrites
 pub mod Ordered
 pub mod Seeking
+pub mod Cost

@@ -4,6 +4,7 @@ ghost use Rattle.vc_dtdisc.specs.Rules.{Rules};
 ghost use Rattle.vc_dtlist.specs.Linked.{Finds};
 ghost use Rattle.vc_dtlist.specs.TableWrites.{ChangesIn};
 ghost use Rattle.vc_dtlist.specs.Sought.{Seeks, stands_so};
+ghost use Rattle.vc_dtord.specs.Cost.{CallCosts};
 ghost use Rattle.vc_dtord.specs.Ordered.{CanLink, IsLinked, IsOrd, OrdFor, OrdTurned, order_with};
 
 use crate::DtOrd;
@@ -30,6 +31,8 @@ pub(crate) fn link_in<'a, C: Cells, D: DictDisc, L>(
         → OrdTurned (D.rules kind.now) (nodes.old.mark.0 ∷ xs) old result new
         (order_with (D.rules kind.now) old nodes.old.mark.0 xs)
         × (steps.new ≤ steps.old + length xs)) }
+    ensures cost { CallCosts ord (C.blocks nodes.old.cells.now) result
+        (C.blocks nodes.new.cells.now) 1 steps.old steps.new }
     ensures same { nodes.new.cells.ghost_name ≡ nodes.old.cells.ghost_name }
 {
     let at = nodes.mark;
@@ -45,6 +48,8 @@ pub(crate) fn unlink_in<'a, C: Cells>(nodes: &mut Holders<'a, C>, ord: DtOrd) ->
     ensures list { ChangesIn C.blocks C.RestStays nodes.old.cells.now nodes.new.cells.now
         (λ old new. (rules : Rules) (xs : List ℕ) → OrdFor rules ord old xs
         → OrdTurned rules xs old result new (without nodes.old.mark.0 xs)) }
+    ensures cost { CallCosts ord (C.blocks nodes.old.cells.now) result
+        (C.blocks nodes.new.cells.now) 0 0 0 }
     ensures same { nodes.new.cells.ghost_name ≡ nodes.old.cells.ghost_name }
 {
     let at = nodes.mark;
@@ -67,6 +72,8 @@ pub(crate) fn find_in<'a, C: Cells, D: DictDisc, L>(
         (λ old new. (xs : List ℕ) → OrdFor (D.rules kind.now) ord old xs
         → Finds (D.rules kind.now) old key.now xs result.1 steps.old steps.new
         × OrdTurned (D.rules kind.now) xs old result.0 new xs) }
+    ensures cost { CallCosts ord (C.blocks nodes.old.cells.now) result.0
+        (C.blocks nodes.new.cells.now) 0 steps.old steps.new }
     ensures same { nodes.new.cells.ghost_name ≡ nodes.old.cells.ghost_name }
 {
     let (root, at) = find_first(nodes, ord.root.0, &ByKey { kind, key }, steps);
@@ -88,6 +95,8 @@ pub(crate) fn at_least_in<'a, C: Cells, D: DictDisc, L>(
         (λ old new. (xs : List ℕ) → OrdFor (D.rules kind.now) ord old xs
         → Seeks (stands_so Sought.NotLess (D.rules kind.now) old key.now) xs result.1 steps.old
         steps.new × OrdTurned (D.rules kind.now) xs old result.0 new xs) }
+    ensures cost { CallCosts ord (C.blocks nodes.old.cells.now) result.0
+        (C.blocks nodes.new.cells.now) 0 steps.old steps.new }
     ensures same { nodes.new.cells.ghost_name ≡ nodes.old.cells.ghost_name }
 {
     let (root, at) = find_least_at(nodes, ord.root.0, &ByKey { kind, key }, steps);

@@ -5,6 +5,7 @@ ghost use Rattle.vc_dtdisc.specs.Rules.{Rules};
 ghost use Rattle.vc_dtlist.specs.Linked.{Finds, number_of};
 ghost use Rattle.vc_dtlist.specs.TableWrites.{ChangesIn};
 ghost use Rattle.vc_dtlist.specs.Sought.{Seeks, stands_so};
+ghost use Rattle.vc_dtord.specs.Cost.{CallCosts};
 ghost use Rattle.vc_dtord.specs.Ordered.{CanLink, IsLinked, IsOrd, IsOrdered, OrdFor, OrdTurned, order_with};
 ghost use Rattle.vc_dtord.specs.Seeking.{SeeksLast, is_below, matches};
 
@@ -52,6 +53,8 @@ impl DtOrd {
         ensures steps { (holders : List ℕ)
             → OrdFor (D.rules kind.now) self.old (C.blocks cells.old) holders
             → steps.new ≤ steps.old + length holders }
+        ensures cost { CallCosts self.old (C.blocks cells.old) self.new (C.blocks cells.new) 1 steps.old
+            steps.new }
     {
         *self = link_in(&mut Holders { cells, mark: at }, *self, kind, steps);
     }
@@ -59,9 +62,10 @@ impl DtOrd {
     /// Takes a holder of the list out. It keeps its bytes behind the words.
     pub fn unlink<C: Cells>(&mut self, cells: &mut C, at: Addr)
         requires { IsLinked self.old (C.blocks cells.old) at.0 }
-        ensures { ChangesIn C.blocks C.RestStays cells.old cells.new
+        ensures list { ChangesIn C.blocks C.RestStays cells.old cells.new
             (λ old new. (rules : Rules) (holders : List ℕ) → OrdFor rules self.old old holders
             → OrdTurned rules holders old self.new new (without at.0 holders)) }
+        ensures cost { CallCosts self.old (C.blocks cells.old) self.new (C.blocks cells.new) 0 0 0 }
     {
         *self = unlink_in(&mut Holders { cells, mark: at }, *self);
     }
@@ -83,6 +87,8 @@ impl DtOrd {
         ensures list { ChangesIn C.blocks C.RestStays cells.old cells.new
             (λ old new. (holders : List ℕ) → OrdFor (D.rules kind.now) self.old old holders
             → OrdTurned (D.rules kind.now) holders old self.new new holders) }
+        ensures cost { CallCosts self.old (C.blocks cells.old) self.new (C.blocks cells.new) 0 steps.old
+            steps.new }
     {
         let mark = self.root;
         let (ord, at) = find_in(&mut Holders { cells, mark }, *self, kind, key, steps);
@@ -107,6 +113,8 @@ impl DtOrd {
         ensures list { ChangesIn C.blocks C.RestStays cells.old cells.new
             (λ old new. (holders : List ℕ) → OrdFor (D.rules kind.now) self.old old holders
             → OrdTurned (D.rules kind.now) holders old self.new new holders) }
+        ensures cost { CallCosts self.old (C.blocks cells.old) self.new (C.blocks cells.new) 0 steps.old
+            steps.new }
     {
         let mark = self.root;
         let (ord, at) = at_least_in(&mut Holders { cells, mark }, *self, kind, key, steps);
@@ -131,6 +139,8 @@ impl DtOrd {
         ensures list { ChangesIn C.blocks C.RestStays cells.old cells.new
             (λ old new. (holders : List ℕ) → OrdFor (D.rules kind.now) self.old old holders
             → OrdTurned (D.rules kind.now) holders old self.new new holders) }
+        ensures cost { CallCosts self.old (C.blocks cells.old) self.new (C.blocks cells.new) 0 steps.old
+            steps.new }
     {
         let mark = self.root;
         let (ord, at) = behind_in(&mut Holders { cells, mark }, *self, kind, key, steps);
@@ -155,6 +165,8 @@ impl DtOrd {
         ensures list { ChangesIn C.blocks C.RestStays cells.old cells.new
             (λ old new. (holders : List ℕ) → OrdFor (D.rules kind.now) self.old old holders
             → OrdTurned (D.rules kind.now) holders old self.new new holders) }
+        ensures cost { CallCosts self.old (C.blocks cells.old) self.new (C.blocks cells.new) 0 steps.old
+            steps.new }
     {
         let mark = self.root;
         let (ord, at) = before_in(&mut Holders { cells, mark }, *self, kind, key, steps);
@@ -180,6 +192,8 @@ impl DtOrd {
         ensures list { ChangesIn C.blocks C.RestStays cells.old cells.new
             (λ old new. (holders : List ℕ) → OrdFor (D.rules kind.now) self.old old holders
             → OrdTurned (D.rules kind.now) holders old self.new new holders) }
+        ensures cost { CallCosts self.old (C.blocks cells.old) self.new (C.blocks cells.new) 0 steps.old
+            steps.new }
     {
         let (ord, last) = last_like_in(&mut Holders { cells, mark: at }, *self, kind, steps);
         *self = ord;

@@ -1,10 +1,12 @@
-ghost use Rattle.std.specs.Prelude.{◌≡◌, ◌≢◌, ℕ, ◌+◌, ◌≤◌, List, Some, length};
+ghost use Rattle.std.specs.Prelude.{◌≡◌, ◌≢◌, ℕ, ◌+◌, ◌*◌, ◌≤◌, List, Some, length};
 ghost use Rattle.vc_base.specs.Prelude.{some_address};
 ghost use Rattle.vc_dtlist.specs.TableWrites.{ChangesIn};
 ghost use Rattle.vc_dtlist.specs.Sought.{Seeks, stands_so};
 ghost use Rattle.vc_splay.specs.Guide.{CanFind};
+ghost use Rattle.vc_splay.specs.Rank.{Costs, binary_digits, size};
 ghost use Rattle.vc_splay.specs.Stands.{IsTree, TreeAfter};
 ghost use Rattle.vc_splay.specs.Tree.{Tree, names};
+ghost use Rattle.vc_dtord.specs.Cost.{CallCosts};
 ghost use Rattle.vc_dtord.specs.Ordered.{IsLinked, IsOrd, OrdFor, OrdTurned};
 ghost use Rattle.vc_dtord.specs.Seeking.{IsInOrNone, SeeksLast, is_below, last_before, matches, name_before};
 
@@ -36,6 +38,9 @@ fn raised<N: Nodes>(nodes: &mut N, root: u32, at: u32) -> u32
     requires { IsInOrNone (N.store nodes.old) root at }
     ensures tree { (tree : Tree) → IsTree (N.store nodes.old) root tree
         → TreeAfter (N.store nodes.old) (N.store nodes.new) (names tree) result (names tree) }
+    ensures law { (tree after : Tree) → IsTree (N.store nodes.old) root tree
+        → IsTree (N.store nodes.new) result after
+        → Costs tree after 0 0 (6 * binary_digits (size tree)) }
     ensures rest { N.stays nodes.old nodes.new }
 {
     if at == 0 {
@@ -60,6 +65,9 @@ fn find_last_before<N: Nodes, G: Guide<N>, L>(
         → some_address result.1 ≡ last_before (G.side_of guide.now nodes.old) (names tree) }
     ensures most_steps { (tree : Tree) → IsTree (N.store nodes.old) root tree
         → steps.new ≤ steps.old + length (names tree) }
+    ensures law { (tree after : Tree) → IsTree (N.store nodes.old) root tree
+        → IsTree (N.store nodes.new) result.0 after
+        → Costs tree after steps.old steps.new (18 * binary_digits (size tree)) }
     ensures rest { N.stays nodes.old nodes.new }
 {
     let (top, least) = find_least_at(nodes, root, guide, steps);
@@ -82,6 +90,8 @@ pub(crate) fn behind_in<'a, C: Cells, D: DictDisc, L>(
         (λ old new. (xs : List ℕ) → OrdFor (D.rules kind.now) ord old xs
         → Seeks (stands_so Sought.Greater (D.rules kind.now) old key.now) xs result.1 steps.old
         steps.new × OrdTurned (D.rules kind.now) xs old result.0 new xs) }
+    ensures cost { CallCosts ord (C.blocks nodes.old.cells.now) result.0
+        (C.blocks nodes.new.cells.now) 0 steps.old steps.new }
     ensures same { nodes.new.cells.ghost_name ≡ nodes.old.cells.ghost_name }
 {
     let by_key = ByKey { kind, key };
@@ -104,6 +114,8 @@ pub(crate) fn before_in<'a, C: Cells, D: DictDisc, L>(
         (λ old new. (xs : List ℕ) → OrdFor (D.rules kind.now) ord old xs
         → SeeksLast (is_below (D.rules kind.now) old key.now) xs result.1 steps.old steps.new
         × OrdTurned (D.rules kind.now) xs old result.0 new xs) }
+    ensures cost { CallCosts ord (C.blocks nodes.old.cells.now) result.0
+        (C.blocks nodes.new.cells.now) 0 steps.old steps.new }
     ensures same { nodes.new.cells.ghost_name ≡ nodes.old.cells.ghost_name }
 {
     let (root, at) = find_last_before(nodes, ord.root.0, &ByKey { kind, key }, steps);
@@ -124,6 +136,8 @@ pub(crate) fn last_like_in<'a, C: Cells, D: DictDisc, L>(
         (λ old new. (xs : List ℕ) → OrdFor (D.rules kind.now) ord old xs
         → SeeksLast (matches (D.rules kind.now) old nodes.old.mark.0) xs (Some result.1)
         steps.old steps.new × OrdTurned (D.rules kind.now) xs old result.0 new xs) }
+    ensures cost { CallCosts ord (C.blocks nodes.old.cells.now) result.0
+        (C.blocks nodes.new.cells.now) 0 steps.old steps.new }
     ensures same { nodes.new.cells.ghost_name ≡ nodes.old.cells.ghost_name }
 {
     let by_mark = ByMark { kind };

@@ -1,7 +1,9 @@
-use Rattle.vc_base.proofs.Common.{ap, ◌∙◌}
+use Rattle.vc_base.proofs.Common.{ap, ◌∙◌, add-zero, ◌*◌, arith}
 use Rattle.vc_splay.specs.Guide.{first_at}
-use Rattle.vc_dtord.specs.Nodes.{stands_to}
+use Rattle.vc_dtord.specs.Nodes.{beside, node_store, stands_to}
 use Rattle.vc_dtord.proofs.CallLemmas.{beside_root, can_find, kept-found, steps-found, tree-found}
+use Rattle.vc_splay.specs.Rank.{binary_digits}
+use Rattle.vc_dtord.proofs.CostLemmas.{call_costs, tree-of}
 use Rattle.vc_dtord.proofs.calls.find_in.Goals as goal
 
 pub find_first-root-requires : goal.find_first-root-requires
@@ -27,3 +29,12 @@ returns-clause-found g c = record {
 
 pub returns-clause-same : goal.returns-clause-same
 returns-clause-same g c = c.find_first-root.ensures.rest.0
+
+pub returns-clause-cost : goal.returns-clause-cost
+returns-clause-cost g c =
+    let h = c.args.nodes.now in
+    let b = g.C.Cells.blocks h.cells.now in
+    let f = c.find_first-root in
+    let here = beside_root c.args.ord b h.mark c.requires.mark in
+    call_costs c.args.ord (record { root = record { 0 = f.result.0 } }) b (g.C.Cells.blocks f.new.nodes.cells.now) (beside h.mark.0 (node_store b)) f.new.nodes.mark.0 0 c.args.steps.now f.new.steps here
+    (λ t s. tree-of _ _ _ _ _ (f.ensures.tree t s)) (λ n. 12 * binary_digits n) (λ n. let e = ap binary_digits (add-zero n) in omega arith) f.ensures.law

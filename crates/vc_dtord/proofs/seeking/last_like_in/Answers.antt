@@ -1,4 +1,4 @@
-use Rattle.vc_base.proofs.Common.{None, filter, is_eq, ap, ◌∙◌}
+use Rattle.vc_base.proofs.Common.{None, filter, is_eq, ap, ◌∙◌, add-zero, ◌*◌, arith}
 use Rattle.std.proofs.lemmas.Cmp.{tied_itself}
 use Rattle.vc_dtdisc.specs.Finding.{last_of}
 use Rattle.vc_dtdisc.specs.Finds.{object_at}
@@ -8,6 +8,8 @@ use Rattle.vc_dtord.proofs.BeforeLemmas.{CanFind-past}
 use Rattle.vc_dtord.proofs.CallLemmas.{beside_there, can_find, kept-found, steps-found, tree-found, within-each}
 use Rattle.vc_dtord.proofs.SeekLemmas.{equal-last, last-is, past-lt, some_address-is}
 use Rattle.vc_dtord.proofs.SortedLemmas.{IsSorted-rises}
+use Rattle.vc_splay.specs.Rank.{binary_digits}
+use Rattle.vc_dtord.proofs.CostLemmas.{call_costs, tree-of}
 use Rattle.vc_dtord.proofs.seeking.last_like_in.Goals as goal
 
 pub find_last_before-root-requires : goal.find_last_before-root-requires
@@ -44,3 +46,12 @@ returns-clause-found g c = record {
       );
   rest = c.find_last_before-root.ensures.rest.2;
 }
+
+pub returns-clause-cost : goal.returns-clause-cost
+returns-clause-cost g c =
+    let h = c.args.nodes.now in
+    let b = g.C.Cells.blocks h.cells.now in
+    let f = c.find_last_before-root in
+    let here = beside_there c.args.ord b h.mark.0 c.requires.within in
+    call_costs c.args.ord (record { root = record { 0 = f.result.0 } }) b (g.C.Cells.blocks f.new.nodes.cells.now) (beside h.mark.0 (node_store b)) f.new.nodes.mark.0 0 c.args.steps.now f.new.steps here
+    (λ t s. tree-of _ _ _ _ _ (f.ensures.tree t s)) (λ n. 18 * binary_digits n) (λ n. let e = ap binary_digits (add-zero n) in omega arith) f.ensures.law
