@@ -5,6 +5,9 @@
 #   bench/script.sh segments         1,026 lines: of 1,025 allocations, 1,023 take a segment each
 #   bench/script.sh one [LINES]      2,000,000 lines or so many: one block is allocated and freed again and again
 #   bench/script.sh live BLOCKS      so many blocks of one byte are allocated in one region
+#   bench/script.sh mixed METHOD BLOCKS   so many blocks of forty sites are allocated in a region of that method; every second
+#                                    one is freed in mixed order and allocated anew, and then each is freed in mixed order
+#   bench/script.sh watches BLOCKS   so many blocks of a debug region are watched, and then each is resized
 #   bench/script.sh puts OBJECTS     so many objects are put into one queue and taken out again
 #   bench/script.sh objects METHOD LINES   so many lines: of a thousand objects, each line inserts, deletes or looks for one
 #                                    in a dictionary of that method, half of them insert
@@ -67,6 +70,31 @@ live() {
     }'
 }
 
+mixed() {
+    awk -v method="$1" -v blocks="$2" '
+    function random(n) { seed = (seed * 1103515245 + 12345) % 2147483648; return int(seed / 65536) % n }
+    function put(i) { print "alloc r b" i " " random(199) + 1 " @s" random(40) }
+    BEGIN {
+        seed = 1
+        print "open r " method " 16"
+        for (i = 0; i < blocks; i++) put(i)
+        for (i = 0; i < blocks; i++) if ((i * 7919) % blocks % 2) print "free r b" (i * 7919) % blocks
+        for (i = 1; i < blocks; i += 2) put(i)
+        for (i = 0; i < blocks; i++) print "free r b" (i * 7919) % blocks
+        print "close r"
+    }'
+}
+
+watches() {
+    awk -v blocks="$1" 'BEGIN {
+        print "open r debug 16"
+        for (i = 0; i < blocks; i++) print "alloc r b" i " 24"
+        for (i = 0; i < blocks; i++) print "watch r b" i
+        for (i = 0; i < blocks; i++) print "resize r b" i " 20 move"
+        print "close r"
+    }'
+}
+
 puts() {
     awk -v objects="$1" 'BEGIN {
         print "open r best 9"
@@ -107,6 +135,6 @@ turns() {
 }
 
 case "${1-} $#" in
-    "objects 3" | "turns 4" | "frees 1" | "segments 1" | "resizes 1" | "resizes 2" | "one 1" | "one 2" | "live 2" | "puts 2") "$@" ;;
-    *) echo "usage: bench/script.sh frees | segments | resizes [LINES] | one [LINES] | live BLOCKS | puts OBJECTS | objects METHOD LINES | turns OBJECTS OLD NEW" >&2; exit 2 ;;
+    "objects 3" | "turns 4" | "frees 1" | "segments 1" | "resizes 1" | "resizes 2" | "one 1" | "one 2" | "live 2" | "puts 2" | "mixed 3" | "watches 2") "$@" ;;
+    *) echo "usage: bench/script.sh frees | segments | resizes [LINES] | one [LINES] | live BLOCKS | mixed METHOD BLOCKS | watches BLOCKS | puts OBJECTS | objects METHOD LINES | turns OBJECTS OLD NEW" >&2; exit 2 ;;
 esac

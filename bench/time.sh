@@ -6,6 +6,8 @@
 #   bench/time.sh one       2,000,000 lines
 #   bench/time.sh live      4,000, 8,000 and 20,000 blocks of one byte in one region, each in a run of its own
 #   bench/time.sh quiet     the same with --quiet
+#   bench/time.sh mixed     10,000 and 40,000 blocks of forty sites in a best, a debug and a profile region
+#   bench/time.sh watches   3,000, 12,000 and 48,000 watched blocks, each of which is resized
 #   bench/time.sh turns     dtrun: 100,000 objects in a dictionary, which is turned to one method and then to another: the
 #                           longest run and the mean of those of all 42 pairs, and a run that turns it to none
 #   bench/time.sh puts      dtrun --quiet: 2,000, 4,000, 8,000 and 16,000 objects are put into a queue and taken out
@@ -39,8 +41,8 @@ turns() {
 
 case "${1-}" in
     turns) ;;
-    frees | resizes | segments | one | live | quiet | puts) ;;
-    *) echo "usage: bench/time.sh frees|resizes|segments|one|live|quiet|puts|turns" >&2; exit 2 ;;
+    frees | resizes | segments | one | live | quiet | mixed | watches | puts) ;;
+    *) echo "usage: bench/time.sh frees|resizes|segments|one|live|quiet|mixed|watches|puts|turns" >&2; exit 2 ;;
 esac
 make all > /dev/null
 script=$(mktemp)
@@ -55,6 +57,8 @@ case "$1" in
     turns) turns ;;
     segments) run 50 segments ;;
     puts) for objects in 2000 4000 8000 16000; do run 1 puts "$objects"; done ;;
+    mixed) for method in best debug profile; do for blocks in 10000 40000; do run 1 mixed "$method" "$blocks"; done; done ;;
+    watches) for blocks in 3000 12000 48000; do run 1 watches "$blocks"; done ;;
     live | quiet) for blocks in 4000 8000 20000; do run 1 live "$blocks"; done ;;
     *) run 1 "$1" ;;
 esac
