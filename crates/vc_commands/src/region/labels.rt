@@ -128,6 +128,7 @@ impl Labels {
     // Takes out the block of this name, and returns its address.
     fn remove(&mut self, name: &Name) -> Option<Addr>
         requires agree { AreLabels self.old }
+        requires there { IsSome (tag_of self.old name.now) }
 
         ensures agree { AreLabels self.new }
         ensures some { IfSome result (λ at. (tag : ℕ)
@@ -136,12 +137,9 @@ impl Labels {
             × SameLabels self.old self.new) }
         ensures kept { OnSome result (kept_of self.new ≡ kept_of self.old) }
     {
-        match self.tag(name) {
-            Some(tag) => {
-                let _ = self.tags.remove(name);
-                Some(self.by_tag.remove(tag as usize - 1).at)
-            }
-            None => None,
+        match self.tags.remove(name) {
+            Some(Known::Live(tag)) => Some(self.by_tag.remove(tag as usize - 1).at),
+            _ => unreachable!(),
         }
     }
 
@@ -171,6 +169,7 @@ impl Labels {
     // Takes out the block of this name, and returns its address. Where names are kept, this one is, as freed at the line.
     pub(crate) fn free(&mut self, name: &Name, keeps: bool, line: u32) -> Option<Addr>
         requires agree { AreLabels self.old }
+        requires there { IsSome (tag_of self.old name.now) }
 
         ensures agree { AreLabels self.new }
         ensures some { IfSome result (λ at. (tag : ℕ)

@@ -1,4 +1,4 @@
-use Rattle.vc_base.proofs.Common.{◌≡◌, ℕ, List, None, sym, refl, ap, ◌∙◌, subst, place_of, Discipline, address_of}
+use Rattle.vc_base.proofs.Common.{◌≡◌, ℕ, List, None, IsSome, sym, refl, ap, ◌∙◌, subst, place_of, Discipline, address_of}
 use Rattle.vc_model.proofs.Keeping.{NoneRefused-equal, NoneRefused-same}
 use Rattle.vc_region.specs.Region.{blocks_of, region_with_labels, segments_of}
 use Rattle.vc_commands.specs.Labels.{kept_of, name_of}
@@ -32,6 +32,9 @@ returns-in_default g c =
           tt (NoneRefused-same _);
       change = λ r. change-same (held_of (meaning g) r c.args.self.now c.args.labels.now) c.args.labels.now c.requires.lent c.requires.names;
     }
+
+pub free-requires-in-Ok-clause-there : goal.free-requires-in-Ok-clause-there
+free-requires-in-Ok-clause-there g c = subst IsSome (sym c.in-Some.ensures.some.named) refl
 
 pub returns-in-Ok : goal.returns-in-Ok
 returns-in-Ok g c =
