@@ -21,7 +21,7 @@ pub record Shows (all : Layered) (e : ℕ) (next : Option Addr) (o : Option Obje
   pub object : object_at all (place_in_dict e next) ≡ option_map (seen_in e) o
 
 -- the place of an object that is the one at its address
-shows : (all : Layered) (e : ℕ) (next : Option Addr) (o : Option Object) → all.Has e → option_map number_of next ≡ place_in o → ((x : Object) → o ≡ Some x → bytes_there x.at (all.layer e).objects ≡ Some x.bytes) → Shows all e next o
+pub shows : (all : Layered) (e : ℕ) (next : Option Addr) (o : Option Object) → all.Has e → option_map number_of next ≡ place_in o → ((x : Object) → o ≡ Some x → bytes_there x.at (all.layer e).objects ≡ Some x.bytes) → Shows all e next o
 shows all e None None h n found = record { stands = tt; object = refl }
 shows all e None (Some x) h n found = cc
 shows all e (Some at) None h n found = cc

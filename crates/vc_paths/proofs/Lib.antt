@@ -12,6 +12,7 @@ pub mod MatchLemmas
 pub mod NeighbourLemmas
 pub mod OrderLemmas
 pub mod OrderedLemmas
+pub mod PastLemmas
 pub mod PathLemmas
 pub mod PlaceLemmas
 pub mod RenamedLayers
@@ -25,5 +26,4 @@ pub mod SpotLemmas
 pub mod StackedLemmas
 pub mod StartLemmas
 pub mod StayLemmas
-pub mod TogetherLemmas
 pub mod WalkLemmas

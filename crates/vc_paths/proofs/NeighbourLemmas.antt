@@ -227,7 +227,7 @@ if_level_or rules x None (Some b) f g = rw (g b refl) refl
 if_level_or rules x (Some a) b f g = rw (f a refl) refl
 
 -- what holds of each holds of the end, and of a neighbour
-all_end : (back : Bool) (P : Seen ℕ → Type 0) (xs : List (Seen ℕ)) (b : Seen ℕ) → AllByRecursion P xs → end_of back xs ≡ Some b → P b
+pub all_end : (back : Bool) (P : Seen ℕ → Type 0) (xs : List (Seen ℕ)) (b : Seen ℕ) → AllByRecursion P xs → end_of back xs ≡ Some b → P b
 all_end false P xs b h e = all_first P xs b h e
 all_end true P xs b h e = all-last P xs b h e
 

@@ -5,7 +5,7 @@ use Rattle.vc_base.proofs.Quantifiers.{all-map}
 use Rattle.vc_dtdisc.specs.Objects.{IsSorted, Object, bytes_of, is_greater, is_match, placed_each}
 use Rattle.vc_dtdisc.specs.Rules.{Rules}
 use Rattle.vc_paths.specs.Direction.{end_of}
-use Rattle.vc_paths.specs.Layers.{AreLayers, Layered, bytes_there}
+use Rattle.vc_paths.specs.Layers.{AreLayers, Layered, Same, bytes_there}
 use Rattle.vc_paths.specs.Links.{ArePaths, Links, below, path}
 use Rattle.vc_paths.specs.Ordered.{IsStanding, is_past, nearer, object_at}
 use Rattle.vc_paths.specs.Path.{Answers, IsAlike, IsPath, objects_of, place_of, seen_in, visible_of}
@@ -17,6 +17,7 @@ use Rattle.vc_paths.proofs.LeastLemmas.{nearest_of}
 use Rattle.vc_paths.proofs.OrderLemmas.{AreOrdered, all_none, down as less, ordered, up}
 use Rattle.vc_paths.proofs.SeekLemmas.{alike-rules, path-first}
 use Rattle.vc_paths.proofs.SortedLemmas.{AreSorted, IsUpto}
+use Rattle.vc_paths.proofs.StayLemmas.{object-kept, objects-kept, on-kept, rules-kept, standing-kept, visible-kept}
 
 pub objects_sorted : (rules : Rules) (e : ℕ) (xs : List Object) → IsSorted bytes_of rules xs → AreSorted rules (map (seen_in e) xs)
 objects_sorted rules e [] s = tt
@@ -110,3 +111,26 @@ unfolding down
 nearest_end {back} {all} {links} {d} {other} {best} is s =
     let done = subst (λ z. Nearest back all links d other best z) is s in
     subst (λ z. Answers best z) done.same (answers_at all d best done.stands)
+
+-- it stays so where each layer is as it was, and what it says then holds of what was before
+pub nearest_kept : {back : Bool} {old new : Layered} {links : Links} {d : ℕ} (other : Option (ℕ × Addr)) {best : Option (ℕ × Addr)} {next : Option ℕ} → Same old new → Nearest back old links d (object_at old other) best next → Nearest back new links d (object_at new other) best next
+nearest_kept {back} {old} {new} {links} {d} other {best} {next} s n = record {
+  on = on-kept s n.on;
+  stands = standing-kept d best s n.stands;
+  same =
+      ap (λ z. nearest_of back z (object_at new best) (map (filter (is_past back z (object_at new other))) (map (objects_of new) (down links next)))) (rules-kept d s)
+      ∙ ap (λ (z : Option (Seen ℕ)). nearest_of back (old.layer d).rules z (map (filter (is_past back (old.layer d).rules (object_at new other))) (map (objects_of new) (down links next)))) (object-kept best s)
+      ∙ ap (λ (z : Option (Seen ℕ)). nearest_of back (old.layer d).rules (object_at old best) (map (filter (is_past back (old.layer d).rules z)) (map (objects_of new) (down links next)))) (object-kept other s)
+      ∙ ap (λ z. nearest_of back (old.layer d).rules (object_at old best) (map (filter (is_past back (old.layer d).rules (object_at old other))) (map z (down links next)))) (objects-kept s)
+      ∙ n.same
+      ∙ ap (λ z. end_of back (filter (is_past back (old.layer d).rules (object_at old other)) z)) (sym (visible-kept links d s))
+      ∙ ap (λ (z : Option (Seen ℕ)). end_of back (filter (is_past back (old.layer d).rules z) (visible_of new links d))) (sym (object-kept other s))
+      ∙ ap (λ z. end_of back (filter (is_past back z (object_at new other)) (visible_of new links d))) (sym (rules-kept d s));
+}
+
+pub nearest_before : (back : Bool) {old new : Layered} (links : Links) (d : ℕ) (other best : Option (ℕ × Addr)) → Same old new
+    → Answers best (end_of back (filter (is_past back (new.layer d).rules (object_at new other)) (visible_of new links d))) → Answers best (end_of back (filter (is_past back (old.layer d).rules (object_at old other)) (visible_of old links d)))
+nearest_before back {old} {new} links d other best s h =
+    subst (λ z. Answers best (end_of back (filter (is_past back z (object_at old other)) (visible_of old links d)))) (rules-kept d s)
+    (subst (λ (z : Option (Seen ℕ)). Answers best (end_of back (filter (is_past back (new.layer d).rules z) (visible_of old links d)))) (object-kept other s)
+    (subst (λ z. Answers best (end_of back (filter (is_past back (new.layer d).rules (object_at new other)) z))) (visible-kept links d s) h))

@@ -1,20 +1,20 @@
 -- Where a search along an ordered layer may begin: at its end, or beside the object that it compares with.
-use Rattle.vc_base.proofs.Common.{◌≡◌, ℕ, Bool, true, false, List, [], ◌∷◌, ◌++◌, map, if◌then◌else◌, ◌==◌, Some, None, filter, Option, option_map, sym, refl, ap, ◌∙◌, subst, inl, inr, eqb-true, cases_Bool, AllByRecursion, number_of, is_ordered}
+use Rattle.vc_base.proofs.Common.{◌≡◌, ℕ, Bool, true, false, List, [], ◌∷◌, ◌++◌, map, if◌then◌else◌, Some, filter, Option, option_map, sym, refl, ap, ◌∙◌, subst, AllByRecursion, number_of, is_ordered}
 use Rattle.vc_base.specs.declared.addr.Addr.{Addr}
 use Rattle.vc_dtdisc.specs.Objects.{Object, is_greater}
 use Rattle.vc_dtdisc.specs.Rules.{Rules}
 use Rattle.vc_paths.specs.Direction.{end_of, place_beside}
 use Rattle.vc_paths.specs.Layers.{AreLayers, Layered}
-use Rattle.vc_paths.specs.Ordered.{IsStanding, StandsInLike, is_before, is_behind, is_past, object_at, object_there, start_past}
+use Rattle.vc_paths.specs.Ordered.{StandsInLike, is_before, is_behind, is_past, object_there}
 use Rattle.vc_paths.specs.Path.{seen_in}
 use Rattle.vc_paths.specs.Visible.{Seen}
-use Rattle.vc_paths.proofs.LayerLemmas.{Along, along_start, beside_shown, object_one}
+use Rattle.vc_paths.proofs.LayerLemmas.{Along, beside_shown, object_one}
 use Rattle.vc_paths.proofs.OrderLemmas.{AreOrdered, filter_none, ordered}
 use Rattle.vc_paths.proofs.OrderedLemmas.{objects_sorted}
 use Rattle.vc_paths.proofs.PlaceLemmas.{Standing, left-beside, rest_of, standing}
 use Rattle.vc_paths.proofs.SortedLemmas.{AreSorted, IsUpto, itself}
 
-all_middle : (P : Seen ℕ → Type 0) (e : ℕ) (front : List Object) (x : Object) (rest : List Object) → AllByRecursion P (map (seen_in e) (front ++ x ∷ rest)) → P (seen_in e x)
+pub all_middle : (P : Seen ℕ → Type 0) (e : ℕ) (front : List Object) (x : Object) (rest : List Object) → AllByRecursion P (map (seen_in e) (front ++ x ∷ rest)) → P (seen_in e x)
 all_middle P e [] x rest h = h.0
 all_middle P e (y ∷ ys) x rest h = all_middle P e ys x rest h.1
 
@@ -39,7 +39,7 @@ past_dropped true rules laws e s sorted =
     ap (λ z. filter (is_before rules (Some (seen_in e s.one))) (map (seen_in e) z)) s.whole
     ∙ rest_dropped rules laws e s.before s.one s.behind (subst (λ z. AreSorted rules (map (seen_in e) z)) s.whole sorted)
 
-along_own : (back : Bool) (all : Layered) (e : ℕ) (at : Addr) (next : Option Addr) → AreLayers all → all.Has e → is_ordered (all.layer e).method ≡ true → StandsInLike all e (e, at) → option_map number_of next ≡ place_beside back at.0 (all.layer e).objects → Along back all e (is_past back (all.layer e).rules (object_there all (e, at))) next
+pub along_own : (back : Bool) (all : Layered) (e : ℕ) (at : Addr) (next : Option Addr) → AreLayers all → all.Has e → is_ordered (all.layer e).method ≡ true → StandsInLike all e (e, at) → option_map number_of next ≡ place_beside back at.0 (all.layer e).objects → Along back all e (is_past back (all.layer e).rules (object_there all (e, at))) next
 along_own back all e at next laws h method stands n =
     let rules = (all.layer e).rules in
     let objects = (all.layer e).objects in
@@ -51,14 +51,3 @@ along_own back all e at next laws h method stands n =
       same = ap (λ z. end_of back (filter test (map (seen_in e) z))) (left-beside apart s back n)
           ∙ ap (end_of back) (sym (past_dropped back rules (ordered rules (laws.lawful e h).order) e s (objects_sorted rules e objects (laws.sorted e h method))));
     })
-
--- where a search begins, what is left has all that passes
-pub along_from : {back : Bool} {all : Layered} {e : ℕ} (other : Option (ℕ × Addr)) {next : Option Addr} → AreLayers all → all.Has e → is_ordered (all.layer e).method ≡ true → IsStanding all e other → option_map number_of next ≡ start_past back all e other → Along back all e (is_past back (all.layer e).rules (object_at all other)) next
-along_from {back} {all} {e} None {next} laws h method s n = along_start back all e (is_past back (all.layer e).rules None) next laws h n
-along_from {back} {all} {e} (Some p) {next} laws h method s n = elim (cases_Bool (p.0 == e)) as (λ _. Along back all e (is_past back (all.layer e).rules (object_there all p)) next) [
-  | inl t ↦
-      let same = eqb-true p.0 e t in
-      let own = along_own back all e p.1 next laws h method (subst (λ z. StandsInLike all e (z, p.1)) same s) (rw t at n) in
-      subst (λ z. Along back all e (is_past back (all.layer e).rules (object_there all (z, p.1))) next) (sym same) own
-  | inr t ↦ along_start back all e (is_past back (all.layer e).rules (object_there all p)) next laws h (rw t at n)
-]

@@ -1,8 +1,10 @@
 -- What calls keep: each dictionary still is one, and is as it was.
-use Rattle.vc_base.proofs.Common.{◌≡◌, ℕ, true, List, [], ◌∷◌, Option, sym, refl, ap, ◌∙◌, subst, AllByRecursion, list_any}
-use Rattle.vc_paths.specs.Layers.{Layer, Layered, Same}
+use Rattle.vc_base.proofs.Common.{◌≡◌, ℕ, Bool, true, List, [], ◌∷◌, IsSome, Some, None, Option, sym, refl, ap, ◌∙◌, subst, AllByRecursion, list_any, is_ordered}
+use Rattle.vc_base.specs.declared.addr.Addr.{Addr}
+use Rattle.vc_paths.specs.Layers.{Layer, Layered, Same, bytes_there}
 use Rattle.vc_paths.specs.Links.{Links, path}
-use Rattle.vc_paths.specs.Path.{IsAlike, IsPath, IsVisible, is_at, visible_of}
+use Rattle.vc_paths.specs.Ordered.{CanSeek, IsApart, IsStanding, object_at, object_there}
+use Rattle.vc_paths.specs.Path.{IsAlike, IsPath, IsVisible, is_at, objects_of, visible_of}
 use Rattle.vc_paths.specs.Shown.{IsOnPath, down, is_covered, shown_in}
 
 pub same-itself : (all : Layered) → Same all all
@@ -56,3 +58,33 @@ visible-kept links d s = ap (λ (z : ℕ → Layer). visible_of (bare z) links d
 
 pub seen-kept : {old new : Layered} (links : Links) (d : ℕ) (p : ℕ × ℕ) → Same old new → IsVisible old links d p → IsVisible new links d p
 seen-kept links d p s h = subst (λ z. list_any (is_at p) z ≡ true) (sym (visible-kept links d s)) h
+
+-- what stands at a place, and what it is compared with
+pub object-kept : {old new : Layered} (p : Option (ℕ × Addr)) → Same old new → object_at new p ≡ object_at old p
+object-kept None s = refl
+object-kept (Some p) s = ap (λ (z : ℕ → Layer). object_there (bare z) p) s.layers
+
+pub rules-kept : {old new : Layered} (d : ℕ) → Same old new → (new.layer d).rules ≡ (old.layer d).rules
+rules-kept d s = ap (λ (z : ℕ → Layer). (z d).rules) s.layers
+
+pub objects-kept : {old new : Layered} → Same old new → objects_of new ≡ objects_of old
+objects-kept s = ap (λ (z : ℕ → Layer). objects_of (bare z)) s.layers
+
+pub standing-kept : {old new : Layered} (d : ℕ) (p : Option (ℕ × Addr)) → Same old new → IsStanding old d p → IsStanding new d p
+standing-kept d None s h = tt
+standing-kept {old} {new} d (Some p) s h = record {
+  there = s.has p.0 h.there;
+  kind = ap (λ (z : ℕ → Layer). (z p.0).kind) s.layers ∙ h.kind ∙ sym (ap (λ (z : ℕ → Layer). (z d).kind) s.layers);
+  object = subst (λ (z : ℕ → Layer). IsSome (bytes_there p.1.0 (z p.0).objects)) (sym s.layers) h.object;
+}
+
+pub can-kept : {old new : Layered} (e : ℕ) (other : Option (ℕ × Addr)) → Same old new → CanSeek old e other → CanSeek new e other
+can-kept e other s can = record {
+  dict = s.has e can.dict;
+  method = subst (λ (z : ℕ → Layer). is_ordered (z e).method ≡ true) (sym s.layers) can.method;
+  compared = standing-kept e other s can.compared;
+}
+
+pub apart-kept : {old new : Layered} (back : Bool) (p : Option (ℕ × Addr)) → Same old new → IsApart back old p → IsApart back new p
+apart-kept back None s h = tt
+apart-kept back (Some p) s h = subst (λ (z : ℕ → Layer). IsApart back (bare z) (Some p)) (sym s.layers) h

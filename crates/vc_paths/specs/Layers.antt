@@ -1,12 +1,12 @@
 -- What a dictionary is on a view path: a layer of objects.
-use Rattle.std.specs.Prelude.{◌≡◌, ℕ, Bool, true, List, Option, IsSome, map, ◌==◌}
-use Rattle.std.specs.List.{find}
+use Rattle.std.specs.Prelude.{◌≡◌, ℕ, Bool, true, List, Option, map, ◌==◌}
+use Rattle.std.specs.List.{filter, find}
 use Rattle.std.specs.Option.{option_map}
 use Rattle.vc_base.specs.declared.dict_method.DictMethod.{DictMethod}
 use Rattle.vc_base.specs.Holders.{AreDistinct}
 use Rattle.vc_base.specs.Methods.{is_ordered}
-use Rattle.vc_dtdisc.specs.Finding.{behind_last, before_first}
-use Rattle.vc_dtdisc.specs.Objects.{IsSorted, Object, bytes_of, first_with}
+use Rattle.vc_dtdisc.specs.Finding.{behind_last, before_first, first_of, last_of}
+use Rattle.vc_dtdisc.specs.Objects.{IsSorted, Object, bytes_of, first_with, is_greater, is_match}
 use Rattle.vc_dtdisc.specs.Rules.{AreLawful, Rules}
 
 -- a dictionary: its method, the number of its kind, the kind's rules, and its objects in walk order
@@ -38,11 +38,6 @@ stands_at at o = o.at == at
 abbrev pub bytes_there : ℕ → List Object → Option (List ℕ)
 bytes_there at objects = option_map (λ o. o.bytes) (find (stands_at at) objects)
 
--- a dictionary, and the place of an object in it
-pub record HasPlace (all : Layered) (d at : ℕ) : Type 0 where
-  pub dict : all.Has d
-  pub place : IsSome (bytes_there at (all.layer d).objects)
-
 -- the place of an object, where there is one
 abbrev pub place_in : Option Object → Option ℕ
 place_in o = option_map (λ o. o.at) o
@@ -56,6 +51,16 @@ place_behind at objects = place_in (behind_last (stands_at at) objects)
 
 abbrev pub place_before : ℕ → List Object → Option ℕ
 place_before at objects = place_in (before_first (stands_at at) objects)
+
+-- the places of the last object that matches one, of the first that is greater, and of the last that is less
+abbrev pub place_last_like : Rules → List ℕ → List Object → Option ℕ
+place_last_like rules bytes objects = place_in (last_of (filter (λ o. is_match rules bytes o.bytes) objects))
+
+abbrev pub place_greater : Rules → List ℕ → List Object → Option ℕ
+place_greater rules bytes objects = place_in (first_of (filter (λ o. is_greater rules o.bytes bytes) objects))
+
+abbrev pub place_less : Rules → List ℕ → List Object → Option ℕ
+place_less rules bytes objects = place_in (last_of (filter (λ o. is_greater rules bytes o.bytes) objects))
 
 -- the places of one dictionary are distinct, an ordered one stands in order of its keys, and the kinds of one number have the same rules, which are lawful
 pub record AreLayers (all : Layered) : Type 0 where

@@ -1,12 +1,14 @@
 -- What a search through ordered layers compares: objects at places, past another one where there is one.
-use Rattle.std.specs.Prelude.{◌≡◌, ℕ, Bool, true, false, not, Option, Some, None, IsSome, ◌==◌, if◌then◌else◌}
+use Rattle.std.specs.Prelude.{◌≡◌, ℕ, Bool, true, false, not, Option, Some, None, IsSome, if◌then◌else◌}
+use Rattle.std.specs.List.{filter}
 use Rattle.std.specs.Option.{option_map}
 use Rattle.vc_base.specs.declared.addr.Addr.{Addr}
 use Rattle.vc_base.specs.Methods.{is_ordered}
 use Rattle.vc_dtdisc.specs.Objects.{is_greater, is_match}
 use Rattle.vc_dtdisc.specs.Rules.{Rules}
-use Rattle.vc_paths.specs.Direction.{end_of, place_beside}
-use Rattle.vc_paths.specs.Layers.{Layered, bytes_there, place_in}
+use Rattle.vc_paths.specs.Direction.{end_of, neighbour}
+use Rattle.vc_paths.specs.Layers.{Layered, bytes_there, stands_at}
+use Rattle.vc_paths.specs.Path.{objects_of, seen_in}
 use Rattle.vc_paths.specs.Visible.{Seen}
 
 -- the object at a place
@@ -41,12 +43,6 @@ pub record CanSeek (all : Layered) (e : ℕ) (other : Option (ℕ × Addr)) : Ty
   pub method : is_ordered (all.layer e).method ≡ true
   pub compared : IsStanding all e other
 
--- where a search of a dictionary for what lies past the object at a place begins: beside it in its own, else at the end
-abbrev pub start_past : Bool → Layered → ℕ → Option (ℕ × Addr) → Option ℕ
-start_past back all e None = place_in (end_of back (all.layer e).objects)
-start_past back all e (Some p) =
-    if p.0 == e then place_beside back p.1.0 (all.layer e).objects else place_in (end_of back (all.layer e).objects)
-
 -- whether an object matches another one
 abbrev pub is_level : Rules → Seen ℕ → Seen ℕ → Bool
 is_level rules x y = is_match rules x.bytes y.bytes
@@ -73,3 +69,14 @@ abbrev pub if_level : Rules → Option (Seen ℕ) → Option (Seen ℕ) → Opti
 if_level rules None y = None
 if_level rules (Some x) None = None
 if_level rules (Some x) (Some y) = if is_level rules x y then Some y else None
+
+-- of the objects of a dictionary that pass a test, the place holds the one to which a walk comes first
+pub record IsEnd (back : Bool) (all : Layered) (e : ℕ) (test : Seen ℕ → Bool) (at : Option Addr) : Type 0 where
+  pub stands : IsStanding all e (place_in_dict e at)
+  pub object : object_at all (place_in_dict e at) ≡ end_of back (filter test (objects_of all e))
+
+-- where an object is compared with, its neighbour in its own layer doesn't match it
+abbrev pub IsApart : Bool → Layered → Option (ℕ × Addr) → Type 0
+IsApart back all None = Unit {0}
+IsApart back all (Some p) =
+    if_level (all.layer p.0).rules (object_there all p) (option_map (seen_in p.0) (neighbour back (stands_at p.1.0) (all.layer p.0).objects)) ≡ None

@@ -2,7 +2,8 @@ ghost use Rattle.std.specs.Prelude.{◌≡◌, ℕ, Some, IsSome, List};
 ghost use Rattle.std.specs.Option.{option_map};
 ghost use Rattle.vc_base.specs.Prelude.{number_of};
 ghost use Rattle.vc_dtdisc.specs.Finding.{first_of, last_of};
-ghost use Rattle.vc_paths.specs.Layers.{AreLayers, Layered, Same, bytes_there, place_before, place_behind, place_in, place_with};
+ghost use Rattle.vc_paths.specs.Layers.{AreLayers, Layered, Same, bytes_there, place_before, place_behind, place_greater, place_in, place_last_like, place_less, place_with};
+ghost use Rattle.vc_paths.specs.Ordered.{CanSeek};
 
 use std::cmp::Ordering;
 use vc_base::{Addr, DictMethod, Steps};
@@ -10,8 +11,9 @@ use vc_base::{Addr, DictMethod, Steps};
 /// Dictionaries by number, from 0 to 255, each a layer that a view path may have: its objects stand at places, which are
 /// the addresses of their holders, in bytes. Each number that a call is handed (`d`, `e`, `of`) is that of a dictionary,
 /// and each place (`at`, `a`, `b`) one of the dictionary named with it. None of the calls can be refused or needs memory,
-/// and none changes an object, an order, a method or a kind. `steps` counts the compares that a call makes, of which
-/// nothing here says how many. This project's own.
+/// and none changes an object, an order, a method or a kind. `steps` counts the compares that a call makes; how many they
+/// are is up to the layers. The last three calls have bodies here, which go from object to object and compare at most each
+/// of a dictionary once; layers that can search do better by bodies of their own. This project's own.
 pub trait Layers {
     /// Which numbers are dictionaries, and what each of these is.
     ghost layered: { Self → Layered };
@@ -95,6 +97,70 @@ pub trait Layers {
         requires place { IsSome (bytes_there at.0 ((layered self.now).layer d).objects) }
         ensures { option_map number_of result
             ≡ place_before at.0 ((layered self.now).layer d).objects };
+
+    /// The place of the last object of `d` that matches the object at the place `at` of `d`: that one, or one behind it.
+    fn last_like<L>(&mut self, d: u32, at: Addr, steps: &mut Steps<L>) -> Addr
+        requires dict { (layered self.old).Has d }
+        requires place { IsSome (bytes_there at.0 ((layered self.old).layer d).objects) }
+        ensures found { (bytes : List ℕ)
+            → bytes_there at.0 ((layered self.old).layer d).objects ≡ Some bytes
+            → Some result.0 ≡ place_last_like ((layered self.old).layer d).rules
+            bytes ((layered self.old).layer d).objects }
+        ensures layers { Same (layered self.old) (layered self.new) }
+        ensures stays { Stays self.old self.new }
+    {
+        let mut last = at;
+        let mut next = self.next(d, at);
+        while let Some(other) = next {
+            if self.compare_at(d, other, d, at, steps).is_eq() {
+                last = other;
+            }
+            next = self.next(d, other);
+        }
+        last
+    }
+
+    /// The place of the first object of `d`, an ordered dictionary, that is greater than the object at the place `at` of
+    /// `of`, a dictionary of the same kind; none where none is.
+    fn behind_like<L>(&mut self, d: u32, of: u32, at: Addr, steps: &mut Steps<L>) -> Option<Addr>
+        requires { CanSeek (layered self.old) d (Some (of, at)) }
+        ensures found { (bytes : List ℕ)
+            → bytes_there at.0 ((layered self.old).layer of).objects ≡ Some bytes
+            → option_map number_of result ≡ place_greater ((layered self.old).layer d).rules
+            bytes ((layered self.old).layer d).objects }
+        ensures layers { Same (layered self.old) (layered self.new) }
+        ensures stays { Stays self.old self.new }
+    {
+        let mut next = self.first(d);
+        while let Some(other) = next {
+            if self.compare_at(d, other, of, at, steps).is_gt() {
+                return next;
+            }
+            next = self.next(d, other);
+        }
+        None
+    }
+
+    /// The place of the last object of `d`, an ordered dictionary, that is less than the object at the place `at` of `of`,
+    /// a dictionary of the same kind; none where none is.
+    fn before_like<L>(&mut self, d: u32, of: u32, at: Addr, steps: &mut Steps<L>) -> Option<Addr>
+        requires { CanSeek (layered self.old) d (Some (of, at)) }
+        ensures found { (bytes : List ℕ)
+            → bytes_there at.0 ((layered self.old).layer of).objects ≡ Some bytes
+            → option_map number_of result ≡ place_less ((layered self.old).layer d).rules
+            bytes ((layered self.old).layer d).objects }
+        ensures layers { Same (layered self.old) (layered self.new) }
+        ensures stays { Stays self.old self.new }
+    {
+        let mut next = self.last(d);
+        while let Some(other) = next {
+            if self.compare_at(of, at, d, other, steps).is_gt() {
+                return next;
+            }
+            next = self.prev(d, other);
+        }
+        None
+    }
 
     /// The places of a dictionary are distinct, an ordered one stands in order of its keys, and kinds of one number have
     /// the same lawful rules.

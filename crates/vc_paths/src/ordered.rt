@@ -1,13 +1,12 @@
 ghost use Rattle.std.specs.Prelude.{◌≡◌, ℕ, true, not, Some};
 ghost use Rattle.std.specs.List.{filter};
-ghost use Rattle.std.specs.Option.{option_map};
-ghost use Rattle.vc_base.specs.Prelude.{number_of};
 ghost use Rattle.vc_paths.specs.Direction.{end_of, neighbour};
-ghost use Rattle.vc_paths.specs.Ordered.{CanSeek, IsStanding, StandsInLike, if_level, is_past, nearer, place_in_dict, object_at, object_there, start_past};
+ghost use Rattle.vc_paths.specs.Layers.{Unchanged};
+ghost use Rattle.vc_paths.specs.Ordered.{CanSeek, IsApart, IsEnd, IsStanding, StandsInLike, if_level, is_past, nearer, place_in_dict, object_at, object_there};
 ghost use Rattle.vc_paths.specs.Path.{Answers, IsPathBy, IsVisible, is_at, numbers_of, objects_of, visible_of};
 ghost use Rattle.vc_paths.specs.Visible.{Seen};
 
-use crate::direction::{beside, end_of};
+use crate::direction::{beside, end_of, past_like};
 use crate::{Layers, Paths};
 use vc_base::{Addr, Steps};
 
@@ -38,71 +37,57 @@ fn is_past<Y: Layers, L>(
     }
 }
 
-// Where a search of a dictionary for what lies past the object at another place begins: in that one's own layer nothing up
-// to it does.
-fn start_past<Y: Layers>(layers: &Y, back: bool, e: u32, other: Option<(u32, Addr)>) -> Option<Addr>
-    requires dict { (Y.layered layers.now).Has e }
-    requires other { IsStanding (Y.layered layers.now) e other }
-    ensures { option_map number_of result ≡ start_past back (Y.layered layers.now) e other }
+// The first place in a dictionary, or back the last, whose object lies past the one at another place, where there is one.
+// In that one's own layer this is its neighbour, which doesn't match it.
+fn first_past<Y: Layers, L>(
+    layers: &mut Y,
+    back: bool,
+    e: u32,
+    other: Option<(u32, Addr)>,
+    steps: &mut Steps<L>,
+) -> Option<Addr>
+    requires seek { CanSeek (Y.layered layers.old) e other }
+    requires apart { IsApart back (Y.layered layers.old) other }
+    ensures found { IsEnd back (Y.layered layers.old) e (is_past back ((Y.layered layers.old).layer e).rules
+        (object_at (Y.layered layers.old) other)) result }
+    ensures unchanged { Unchanged Y.layered Y.Stays layers.old layers.new }
 {
     match other {
         Some((f, mark)) => {
             if f == e {
-                beside(layers, back, f, mark)
+                beside(layers, back, e, mark)
             } else {
-                end_of(layers, back, e)
+                past_like(layers, back, e, f, mark, steps)
             }
         }
         None => end_of(layers, back, e),
     }
 }
 
-// The first place in a dictionary, or back the last, whose object lies past the one at another place, where there is one.
-fn first_past<Y: Layers, L>(
-    layers: &Y,
-    back: bool,
-    e: u32,
-    other: Option<(u32, Addr)>,
-    steps: &mut Steps<L>,
-) -> Option<(u32, Addr)>
-    requires { CanSeek (Y.layered layers.now) e other }
-    ensures object { object_at (Y.layered layers.now) result ≡ end_of back (filter
-        (is_past back ((Y.layered layers.now).layer e).rules (object_at (Y.layered layers.now) other))
-        (objects_of (Y.layered layers.now) e)) }
-    ensures stands { IsStanding (Y.layered layers.now) e result }
-{
-    let mut next = start_past(layers, back, e, other);
-    while let Some(at) = next {
-        if is_past(layers, back, (e, at), other, steps) {
-            return Some((e, at));
-        }
-        next = beside(layers, back, e, at);
-    }
-    None
-}
-
 // The nearer of the best place so far and the first in a dictionary past another place; the best where they match.
 fn nearer_with<Y: Layers, L>(
-    layers: &Y,
+    layers: &mut Y,
     back: bool,
     best: Option<(u32, Addr)>,
     e: u32,
     other: Option<(u32, Addr)>,
     steps: &mut Steps<L>,
 ) -> Option<(u32, Addr)>
-    requires seek { CanSeek (Y.layered layers.now) e other }
-    requires best { IsStanding (Y.layered layers.now) e best }
-    ensures object { object_at (Y.layered layers.now) result
-        ≡ nearer back ((Y.layered layers.now).layer e).rules (object_at (Y.layered layers.now) best)
+    requires seek { CanSeek (Y.layered layers.old) e other }
+    requires apart { IsApart back (Y.layered layers.old) other }
+    requires best { IsStanding (Y.layered layers.old) e best }
+    ensures object { object_at (Y.layered layers.old) result
+        ≡ nearer back ((Y.layered layers.old).layer e).rules (object_at (Y.layered layers.old) best)
         (end_of back (filter
-        (is_past back ((Y.layered layers.now).layer e).rules (object_at (Y.layered layers.now) other))
-        (objects_of (Y.layered layers.now) e))) }
-    ensures stands { IsStanding (Y.layered layers.now) e result }
+        (is_past back ((Y.layered layers.old).layer e).rules (object_at (Y.layered layers.old) other))
+        (objects_of (Y.layered layers.old) e))) }
+    ensures stands { IsStanding (Y.layered layers.old) e result }
+    ensures unchanged { Unchanged Y.layered Y.Stays layers.old layers.new }
 {
     match first_past(layers, back, e, other, steps) {
-        Some(place) => {
-            if is_past(layers, !back, place, best, steps) {
-                Some(place)
+        Some(at) => {
+            if is_past(layers, !back, (e, at), best, steps) {
+                Some((e, at))
             } else {
                 best
             }
@@ -111,20 +96,23 @@ fn nearer_with<Y: Layers, L>(
     }
 }
 
-// The place of the first visible object, or back of the last, that lies past the one at another place, where there is one.
+// The place of the first visible object, or back of the last, that lies past the one at another place, where there is one:
+// each layer is asked once.
 fn nearest_past<Y: Layers, L>(
     paths: &Paths,
-    layers: &Y,
+    layers: &mut Y,
     back: bool,
     d: u32,
     other: Option<(u32, Addr)>,
     steps: &mut Steps<L>,
 ) -> Option<(u32, Addr)>
-    requires path { IsPathBy true (Y.layered layers.now) paths.now d }
-    requires other { IsStanding (Y.layered layers.now) d other }
-    ensures { Answers result (end_of back (filter
-        (is_past back ((Y.layered layers.now).layer d).rules (object_at (Y.layered layers.now) other))
-        (visible_of (Y.layered layers.now) paths.now d))) }
+    requires path { IsPathBy true (Y.layered layers.old) paths.now d }
+    requires other { IsStanding (Y.layered layers.old) d other }
+    requires apart { IsApart back (Y.layered layers.old) other }
+    ensures found { Answers result (end_of back (filter
+        (is_past back ((Y.layered layers.old).layer d).rules (object_at (Y.layered layers.old) other))
+        (visible_of (Y.layered layers.old) paths.now d))) }
+    ensures unchanged { Unchanged Y.layered Y.Stays layers.old layers.new }
 {
     paths.show_invariant();
     let mut best = None;
@@ -166,13 +154,14 @@ fn matching<Y: Layers, L>(
 // The place of the first visible object of an ordered dictionary, or back of the last; none where there is none.
 pub(crate) fn end<Y: Layers, L>(
     paths: &Paths,
-    layers: &Y,
+    layers: &mut Y,
     back: bool,
     d: u32,
     steps: &mut Steps<L>,
 ) -> Option<(u32, Addr)>
-    requires { IsPathBy true (Y.layered layers.now) paths.now d }
-    ensures { Answers result (end_of back (visible_of (Y.layered layers.now) paths.now d)) }
+    requires { IsPathBy true (Y.layered layers.old) paths.now d }
+    ensures found { Answers result (end_of back (visible_of (Y.layered layers.old) paths.now d)) }
+    ensures unchanged { Unchanged Y.layered Y.Stays layers.old layers.new }
 {
     nearest_past(paths, layers, back, d, None, steps)
 }
@@ -180,18 +169,20 @@ pub(crate) fn end<Y: Layers, L>(
 // The place behind that of a visible object of an ordered dictionary, or back the one before it; none at the end.
 pub(crate) fn walk<Y: Layers, L>(
     paths: &Paths,
-    layers: &Y,
+    layers: &mut Y,
     back: bool,
     d: u32,
     from: (u32, Addr),
     steps: &mut Steps<L>,
 ) -> Option<(u32, Addr)>
-    requires path { IsPathBy true (Y.layered layers.now) paths.now d }
-    requires from { IsVisible (Y.layered layers.now) paths.now d (numbers_of from) }
-    ensures { Answers result (neighbour back (is_at (numbers_of from))
-        (visible_of (Y.layered layers.now) paths.now d)) }
+    requires path { IsPathBy true (Y.layered layers.old) paths.now d }
+    requires from { IsVisible (Y.layered layers.old) paths.now d (numbers_of from) }
+    ensures found { Answers result (neighbour back (is_at (numbers_of from))
+        (visible_of (Y.layered layers.old) paths.now d)) }
+    ensures unchanged { Unchanged Y.layered Y.Stays layers.old layers.new }
 {
-    match matching(layers, from, beside(layers, back, from.0, from.1), steps) {
+    let next = beside(layers, back, from.0, from.1);
+    match matching(layers, from, next, steps) {
         Some(place) => Some(place),
         None => nearest_past(paths, layers, back, d, Some(from), steps),
     }

@@ -1,10 +1,8 @@
-ghost use Rattle.std.specs.Prelude.{◌≡◌, ℕ, List, Some, None, IsSome, true, if◌then◌else◌};
-ghost use Rattle.std.specs.List.{filter, find};
-ghost use Rattle.vc_base.specs.Prelude.{is_ordered};
+ghost use Rattle.std.specs.Prelude.{◌≡◌, None};
+ghost use Rattle.std.specs.List.{find};
 ghost use Rattle.vc_dtdisc.specs.Finding.{before_first, behind_last, first_of, last_of};
-ghost use Rattle.vc_dtdisc.specs.Objects.{is_match};
 ghost use Rattle.vc_paths.specs.Direction.{end_of, neighbour};
-ghost use Rattle.vc_paths.specs.Layers.{HasPlace, Unchanged, bytes_there, place_in};
+ghost use Rattle.vc_paths.specs.Layers.{Unchanged};
 ghost use Rattle.vc_paths.specs.Links.{below};
 ghost use Rattle.vc_paths.specs.Path.{Answers, IsPath, IsVisible, is_at, numbers_of, visible_of};
 ghost use Rattle.vc_paths.specs.Seek.{has_key_in};
@@ -38,85 +36,6 @@ pub fn search<Y: Layers, L>(
         at = paths.below(e);
     }
     None
-}
-
-// The second of two places where its object matches the one at a third place, and else the first.
-fn if_match<Y: Layers, L>(
-    layers: &Y,
-    e: u32,
-    at: Addr,
-    last: Addr,
-    other: Addr,
-    steps: &mut Steps<L>,
-) -> Addr
-    requires place { HasPlace (Y.layered layers.now) e at.0 }
-    requires other { IsSome (bytes_there other.0 ((Y.layered layers.now).layer e).objects) }
-    ensures { (x y : List ℕ) → bytes_there at.0 ((Y.layered layers.now).layer e).objects ≡ Some x
-        → bytes_there other.0 ((Y.layered layers.now).layer e).objects ≡ Some y
-        → result.0
-        ≡ (if is_match ((Y.layered layers.now).layer e).rules x y then other.0 else last.0) }
-{
-    if layers.compare_at(e, other, e, at, steps).is_eq() {
-        other
-    } else {
-        last
-    }
-}
-
-// The last place in a dictionary whose object matches the one at a place: that one, or one behind it.
-fn last_of_all<Y: Layers, L>(layers: &Y, e: u32, at: Addr, steps: &mut Steps<L>) -> Addr
-    requires { HasPlace (Y.layered layers.now) e at.0 }
-    ensures { (bytes : List ℕ)
-        → bytes_there at.0 ((Y.layered layers.now).layer e).objects ≡ Some bytes
-        → Some result.0 ≡ place_in (last_of (filter
-        (λ o. is_match ((Y.layered layers.now).layer e).rules bytes o.bytes)
-        ((Y.layered layers.now).layer e).objects)) }
-{
-    let mut last = at;
-    let mut next = layers.next(e, at);
-    while let Some(other) = next {
-        last = if_match(layers, e, at, last, other, steps);
-        next = layers.next(e, other);
-    }
-    last
-}
-
-// The same in an ordered dictionary, where matches stand together: one object behind the last of them is compared at most.
-fn last_together<Y: Layers, L>(layers: &Y, e: u32, at: Addr, steps: &mut Steps<L>) -> Addr
-    requires place { HasPlace (Y.layered layers.now) e at.0 }
-    requires ordered { is_ordered ((Y.layered layers.now).layer e).method ≡ true }
-    ensures { (bytes : List ℕ)
-        → bytes_there at.0 ((Y.layered layers.now).layer e).objects ≡ Some bytes
-        → Some result.0 ≡ place_in (last_of (filter
-        (λ o. is_match ((Y.layered layers.now).layer e).rules bytes o.bytes)
-        ((Y.layered layers.now).layer e).objects)) }
-{
-    let mut last = at;
-    let mut next = layers.next(e, at);
-    while let Some(other) = next {
-        if !layers.compare_at(e, other, e, at, steps).is_eq() {
-            return last;
-        }
-        last = other;
-        next = layers.next(e, other);
-    }
-    last
-}
-
-// The last place in a dictionary whose object matches the one at a place, by its method.
-fn last_match<Y: Layers, L>(layers: &Y, e: u32, at: Addr, steps: &mut Steps<L>) -> Addr
-    requires { HasPlace (Y.layered layers.now) e at.0 }
-    ensures { (bytes : List ℕ)
-        → bytes_there at.0 ((Y.layered layers.now).layer e).objects ≡ Some bytes
-        → Some result.0 ≡ place_in (last_of (filter
-        (λ o. is_match ((Y.layered layers.now).layer e).rules bytes o.bytes)
-        ((Y.layered layers.now).layer e).objects)) }
-{
-    if layers.method(e).is_ordered() {
-        last_together(layers, e, at, steps)
-    } else {
-        last_of_all(layers, e, at, steps)
-    }
 }
 
 // The first object that is seen through a dictionary, or back the last.
@@ -230,7 +149,7 @@ pub fn next<Y: Layers, L>(
 {
     match search(paths, layers, d, key, steps) {
         Some(from) => {
-            let last = last_match(layers, from.0, from.1, steps);
+            let last = layers.last_like(from.0, from.1, steps);
             walk(paths, layers, false, d, (from.0, last), steps)
         }
         None => None,

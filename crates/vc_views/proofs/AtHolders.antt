@@ -1,16 +1,19 @@
 -- The places of a layer's objects against the holders of its dictionary.
-use Rattle.vc_base.proofs.Common.{◌≡◌, ℕ, true, false, List, [], ◌∷◌, map, IsSome, ◌==◌, Some, None, refl, ap, ◌∙◌, subst, inl, inr, eqb_tells, list_any, Blocks, AreDistinct, contains, first_in, last_in, next_in, previous_in}
+use Rattle.vc_base.proofs.Common.{◌≡◌, ℕ, Bool, true, false, List, [], ◌∷◌, map, filter, is_gt, is_some, IsSome, ◌==◌, Some, None, Ordering, Less, Equal, Greater, sym, refl, ap, ◌∙◌, subst, same_Some, inl, inr, eqb_tells, list_any, Blocks, AreDistinct, contains, first_in, last_in, next_in, previous_in}
+use Rattle.std.specs.Ordering.{is_lt}
+use Rattle.vc_base.proofs.Lists.{filter-map}
 use Rattle.vc_base.proofs.Quantifiers.{any-map}
 use Rattle.vc_dtdisc.specs.Finding.{before_first, first_of, last_of}
 use Rattle.vc_dtdisc.specs.Finds.{find_key, object_at}
-use Rattle.vc_dtdisc.specs.Objects.{bytes_of}
-use Rattle.vc_dtdisc.specs.Rules.{Rules}
+use Rattle.vc_dtdisc.specs.Objects.{Object, bytes_of, is_match}
 use Rattle.vc_dtdisc.proofs.AddressLemmas.{before_first-previous_in, last_of-last_in}
-use Rattle.vc_dtdisc.proofs.FindingLemmas.{before_first-map, last_of-map}
+use Rattle.vc_dtdisc.proofs.FindingLemmas.{before_first-map, first_of-map, last_of-map}
 use Rattle.vc_dtdisc.proofs.ObjectsLemmas.{first_with-map}
 use Rattle.vc_objects.specs.Parts.{object_of}
 use Rattle.vc_objects.proofs.Mapped.{address-mapped, first-mapped}
-use Rattle.vc_paths.specs.Layers.{bytes_there, place_before, place_behind, place_in, place_with, stands_at}
+use Rattle.vc_paths.proofs.StackedLemmas.{find-filter}
+use Rattle.vc_paths.specs.Layers.{Layer, bytes_there, place_before, place_behind, place_in, place_with, stands_at}
+use Rattle.vc_views.specs.Sides.{holder_like, holder_to, last_place, place_to}
 
 module _ (b : Blocks) where
   pub first-place : (xs : List ℕ) → place_in (first_of (map (object_of b) xs)) ≡ first_in xs
@@ -34,9 +37,24 @@ module _ (b : Blocks) where
       ap place_in (before_first-map (object_of b) (stands_at at) xs)
       ∙ address-mapped b (before_first (λ x. x == at) xs) ∙ before_first-previous_in None at xs
 
-  pub place-found : (rules : Rules) (key xs : List ℕ) → place_with rules key (map (object_of b) xs) ≡ find_key rules b key xs
-  place-found rules key xs =
-      ap place_in (first_with-map (object_of b) bytes_of rules key xs) ∙ address-mapped b (find_key rules b key xs)
+  -- what stands so to a key
+  pub place-stands : (side : Ordering) (l : Layer) (key xs : List ℕ) → l.objects ≡ map (object_of b) xs → place_to side l key ≡ holder_to side l.rules b key xs
+  place-stands Less l key xs objects =
+      let test : Object → Bool = λ o. is_lt (l.rules.compare (l.rules.key o.bytes) key) in
+      ap (λ os. place_in (last_of (filter test os))) objects
+      ∙ ap (λ os. place_in (last_of os)) (filter-map (object_of b) test xs)
+      ∙ ap place_in (last_of-map (object_of b) (filter (λ x. test (object_of b x)) xs))
+      ∙ address-mapped b (last_of (filter (λ x. test (object_of b x)) xs))
+  place-stands Equal l key xs objects =
+      ap (place_with l.rules key) objects
+      ∙ ap place_in (first_with-map (object_of b) bytes_of l.rules key xs) ∙ address-mapped b (find_key l.rules b key xs)
+  place-stands Greater l key xs objects =
+      let test : Object → Bool = λ o. is_gt (l.rules.compare (l.rules.key o.bytes) key) in
+      ap (λ os. place_in (first_of (filter test os))) objects
+      ∙ ap (λ os. place_in (first_of os)) (filter-map (object_of b) test xs)
+      ∙ ap place_in (first_of-map (object_of b) (filter (λ x. test (object_of b x)) xs))
+      ∙ address-mapped b (first_of (filter (λ x. test (object_of b x)) xs))
+      ∙ sym (find-filter (λ x. test (object_of b x)) xs)
 
   -- the object at a holder's address
   pub bytes-here : (at : ℕ) (xs : List ℕ) → contains xs at ≡ true → bytes_there at (map (object_of b) xs) ≡ Some (object_at b at)
@@ -53,3 +71,16 @@ module _ (b : Blocks) where
     | inl same ↦ rw same.0 refl
     | inr apart ↦ rw apart.0 (holder-here at xs (rw apart.0 at h))
   ]
+
+  -- the last that matches one
+  pub last-stands : (at : ℕ) (l : Layer) (bytes xs : List ℕ) → l.objects ≡ map (object_of b) xs → bytes_there at l.objects ≡ Some bytes → last_place l bytes ≡ holder_like l.rules b at xs
+  last-stands at l bytes xs objects there =
+      let test : List ℕ → Object → Bool = λ x o. is_match l.rules x o.bytes in
+      let here : bytes_there at (map (object_of b) xs) ≡ Some bytes = subst (λ os. bytes_there at os ≡ Some bytes) objects there in
+      let within = holder-here at xs (ap is_some here) in
+      let same : object_at b at ≡ bytes = same_Some (object_at b at) bytes (sym (bytes-here at xs within) ∙ here) in
+      ap (λ os. place_in (last_of (filter (test bytes) os))) objects
+      ∙ ap (λ os. place_in (last_of os)) (filter-map (object_of b) (test bytes) xs)
+      ∙ ap place_in (last_of-map (object_of b) (filter (λ x. test bytes (object_of b x)) xs))
+      ∙ address-mapped b (last_of (filter (λ x. test bytes (object_of b x)) xs))
+      ∙ ap (λ z. last_of (filter (λ x. test z (object_of b x)) xs)) (sym same)

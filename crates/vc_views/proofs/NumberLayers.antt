@@ -1,19 +1,24 @@
 -- The dictionary of a number over the cells of its region, as the layer of that number.
-use Rattle.vc_base.proofs.Common.{◌≡◌, ℕ, ◌≤◌, true, List, [], map, length, is_some, IsSome, Some, None, Option, option_map, find, sym, refl, ap, ◌∙◌, subst, arith, none-some, same_Some, Blocks, HasBytes, contains, first_in, last_in, next_in, previous_in, at_number}
+use Rattle.vc_base.proofs.Common.{◌≡◌, ℕ, ◌≤◌, true, List, [], map, length, is_some, IsSome, Some, None, Option, option_map, find, sym, refl, ap, ◌∙◌, subst, arith, none-some, same_Some, Blocks, HasBytes, contains, first_in, last_in, next_in, previous_in, at_number, is_gt, Ordering, Less, Equal, Greater, ordering_reverse}
+use Rattle.std.specs.Ordering.{is_lt}
 use Rattle.vc_base.proofs.Options.{is_some-map}
 use Rattle.vc_dtdisc.specs.Finding.{first_of, last_of}
 use Rattle.vc_dtdisc.specs.Finds.{object_at}
-use Rattle.vc_dtdisc.specs.Rules.{IsObject, Rules}
+use Rattle.vc_dtdisc.specs.Rules.{AreLawful, IsObject, Rules}
 use Rattle.vc_dict.specs.Listed.{holders_of}
 use Rattle.vc_dict.specs.Stands.{IsIn, IsKept, Stands}
 use Rattle.vc_dict.proofs.OwnLemmas.{holder-there, holders-distinct}
 use Rattle.vc_objects.specs.Parts.{IsWhole, object_of}
 use Rattle.vc_objects.proofs.Owning.{each-object}
-use Rattle.vc_paths.specs.Layers.{Layer, bytes_there, place_before, place_behind, place_in}
+use Rattle.vc_paths.specs.Layers.{Layer, Same, bytes_there, place_before, place_behind, place_in, place_less}
+use Rattle.vc_paths.proofs.EndLemmas.{filter-same}
 use Rattle.vc_commands.specs.declared.dict.entry.DictEntry.{DictEntry}
-use Rattle.vc_views.specs.Dicts.{DictRegion, HasLayer, IsDictOver, cells_held, dict_seen, entry_numbered, has_number, layered_by, region_named}
+use Rattle.vc_commands.specs.declared.region.home.HomeEntry.{HomeEntry}
+use Rattle.vc_views.specs.Dicts.{DictRegion, HasLayer, IsDictOver, cells_held, dict_seen, entry_numbered, has_number, layer_seen, layered_by, region_named, region_seen}
 use Rattle.vc_views.specs.LayerLaws.{Entry, dict-found, found-there, layer-found, layer-is, layer_over, seen-found}
 use Rattle.vc_views.specs.Leaves.{IsBestNamed}
+use Rattle.vc_views.specs.Promises.{LeavesDicts, layered_over}
+use Rattle.vc_views.specs.Sides.{place_like}
 use Rattle.vc_views.proofs.AtHolders.{before-place, behind-place, bytes-here, first-place, holder-here, last-place}
 
 -- the dictionary of a number, by its name
@@ -123,3 +128,23 @@ still-there old new es es' d same there =
     sym (is_some-map (dict_seen new) (entry_numbered d es'))
     ∙ ap is_some (sym (seen-found [] new d es') ∙ ap (find (has_number d)) same ∙ seen-found [] old d es)
     ∙ is_some-map (dict_seen old) (entry_numbered d es) ∙ there
+
+-- what a look leaves are the same layers
+pub same-left : {I : Type 0} {V : I → Type 0} {kinds : List Rules} {homes homes' : List (List ℕ × HomeEntry I V)} {es es' : List Entry} → LeavesDicts kinds homes homes' es es' → Same (layered_over kinds homes es) (layered_over kinds homes' es')
+same-left {kinds = kinds} {homes = homes} {homes' = homes'} {es = es} {es' = es'} leaves = record {
+  has = λ d has. record { dicts = leaves.dicts; there = still-there (map region_seen homes) (map region_seen homes') es es' d leaves.keeps.seen has.there };
+  layers = ap (λ ss. λ d. layer_seen kinds (find (has_number d) ss)) leaves.keeps.seen;
+}
+
+-- what is less than an object, by either side of it
+lt-gt : (o : Ordering) → is_gt (ordering_reverse o) ≡ is_lt o
+lt-gt Less = refl
+lt-gt Equal = refl
+lt-gt Greater = refl
+
+pub place-less : (layer : Layer) (bytes : List ℕ) → AreLawful layer.rules → place_like Less layer bytes ≡ place_less layer.rules bytes layer.objects
+place-less layer bytes lawful =
+    let key = layer.rules.key in
+    let compare = layer.rules.compare in
+    ap (λ os. place_in (last_of os)) (filter-same (λ o. is_lt (compare (key o.bytes) (key bytes))) (λ o. is_gt (compare (key bytes) (key o.bytes))) layer.objects
+    (λ o. sym (ap is_gt (lawful.order.antisymm (key bytes) (key o.bytes)) ∙ lt-gt (compare (key o.bytes) (key bytes)))))

@@ -4,4 +4,5 @@ pub mod Leaves
 pub mod Looks
 pub mod Numbers
 pub mod Promises
+pub mod Sides
 pub mod Views

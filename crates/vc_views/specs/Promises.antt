@@ -23,14 +23,6 @@ use Rattle.vc_views.specs.Looks.{place_through, reply_through}
 abbrev pub cells_under : List DictRegion → List ℕ → Blocks
 cells_under regions r = cells_held (region_named regions r)
 
--- the holder of the first object of a dictionary that has a key
-abbrev pub holder_with : Rules → Dict → Blocks → List ℕ → Option ℕ
-holder_with rules dict b key = find_key rules b key (holders_of dict b)
-
--- the place of the first object of a layer that has a key
-abbrev pub place_keyed : Layer → List ℕ → Option ℕ
-place_keyed layer key = place_with layer.rules key layer.objects
-
 -- the layers of a session over its open regions
 abbrev pub layered_over : {I : Type 0} {V : I → Type 0} → List Rules → List (List ℕ × HomeEntry I V) → List (List ℕ × DictEntry) → Layered
 layered_over kinds homes dicts = layered_by kinds (map region_seen homes) dicts

@@ -1,11 +1,11 @@
-ghost use Rattle.std.specs.Prelude.{◌≡◌, ◌≤◌, length, map, take};
+ghost use Rattle.std.specs.Prelude.{◌≡◌, map};
 ghost use Rattle.std.proofs.Common.{refl, ◌∙◌};
 ghost use Rattle.vc_dtdisc.specs.Rules.{Rules};
 ghost use Rattle.vc_views.specs.Dicts.{layered_by, region_seen};
 ghost use Rattle.vc_views.specs.Leaves.{KeepsDicts};
 ghost use Rattle.vc_views.specs.LayerLaws.{are-layers, keeps-after, keeps-same};
 
-use crate::finding::find_at;
+use crate::finding::{last_at, sought_at, sought_like};
 use crate::places::{best_of, entry_of, index_of, kind_of};
 use indexmap::IndexMap;
 use std::cmp::Ordering;
@@ -13,16 +13,6 @@ use vc_base::{Addr, Cells, DictMethod, Name, Steps};
 use vc_commands::{DictEntry, HomeEntry};
 use vc_dtdisc::DictDisc;
 use vc_paths::Layers;
-
-// Copies an object, and answers how many bytes it has.
-fn copied(object: &[u8], out: &mut [u8; 1024]) -> usize
-    requires { length object.now ≤ 1024 }
-    ensures copy { take result out.new ≡ object.now }
-    ensures within { result ≤ 1024 }
-{
-    out[..object.len()].copy_from_slice(object);
-    object.len()
-}
 
 /// The open dictionaries of a session as layers: borrows of its regions, its dictionaries and its kinds. A number is that
 /// of the dictionary's entry.
@@ -60,15 +50,27 @@ impl<'a, D: DictDisc> Layers for DictLayers<'a, D> {
 
     fn find<L>(&mut self, d: u32, key: &[u8], steps: &mut Steps<L>) -> Option<Addr> {
         let i = index_of(self.dicts, d);
-        find_at(self.homes, self.dicts, self.kinds, i, key, steps)
+        sought_at(
+            self.homes,
+            self.dicts,
+            self.kinds,
+            i,
+            Ordering::Equal,
+            key,
+            steps,
+        )
     }
 
     fn find_like<L>(&mut self, d: u32, of: u32, at: Addr, steps: &mut Steps<L>) -> Option<Addr> {
-        let mut object = [0u8; 1024];
-        let length = copied(self.object(of, at), &mut object);
-        let kinds = self.kinds;
-        let kind = kind_of(kinds, self.kind_number(d));
-        self.find(d, kind.key(&object[..length]), steps)
+        sought_like(
+            self.homes,
+            self.dicts,
+            self.kinds,
+            d,
+            Ordering::Equal,
+            (of, at),
+            steps,
+        )
     }
 
     fn compare_at<L>(&self, d: u32, a: Addr, e: u32, b: Addr, steps: &mut Steps<L>) -> Ordering {
@@ -96,6 +98,35 @@ impl<'a, D: DictDisc> Layers for DictLayers<'a, D> {
     fn prev(&self, d: u32, at: Addr) -> Option<Addr> {
         let entry = entry_of(self.dicts, d);
         entry.dict.prev(best_of(self.homes, &entry.home), at)
+    }
+
+    fn last_like<L>(&mut self, d: u32, at: Addr, steps: &mut Steps<L>) -> Addr {
+        let i = index_of(self.dicts, d);
+        last_at(self.homes, self.dicts, self.kinds, i, at, steps)
+    }
+
+    fn behind_like<L>(&mut self, d: u32, of: u32, at: Addr, steps: &mut Steps<L>) -> Option<Addr> {
+        sought_like(
+            self.homes,
+            self.dicts,
+            self.kinds,
+            d,
+            Ordering::Greater,
+            (of, at),
+            steps,
+        )
+    }
+
+    fn before_like<L>(&mut self, d: u32, of: u32, at: Addr, steps: &mut Steps<L>) -> Option<Addr> {
+        sought_like(
+            self.homes,
+            self.dicts,
+            self.kinds,
+            d,
+            Ordering::Less,
+            (of, at),
+            steps,
+        )
     }
 
     ghost lawful = { λ s. are-layers D.rules D.lawful s.kinds.now.items

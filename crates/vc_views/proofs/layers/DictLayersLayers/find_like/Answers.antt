@@ -1,10 +1,12 @@
-use Rattle.vc_base.proofs.Common.{map}
-use Rattle.vc_views.specs.Dicts.{region_seen}
-use Rattle.vc_views.proofs.NumberLayers.{kind-known, object-within}
+use Rattle.vc_base.proofs.Common.{refl}
+use Rattle.vc_views.proofs.NumberLayers.{same-left}
 use Rattle.vc_views.proofs.layers.DictLayersLayers.find_like.Goals as goal
 
-pub copied-length-requires : goal.copied-length-requires
-copied-length-requires g c = object-within (map g.D.DictDisc.rules c.args.self.now.kinds.now.items) (map region_seen c.args.self.now.homes.now.entries) c.args.self.now.dicts.now.entries c.args.of c.requires.other c.args.at.0 c.object.result.now c.object.ensures
+pub sought_like-requires : goal.sought_like-requires
+sought_like-requires g c = record { dict = c.requires.dict; there = c.requires.other; asked = tt; place = c.requires.place }
 
-pub kind_of-kind-requires : goal.kind_of-kind-requires
-kind_of-kind-requires g c = kind-known (map g.D.DictDisc.rules c.args.self.now.kinds.now.items) (map region_seen c.args.self.now.homes.now.entries) c.args.self.now.dicts.now.entries c.args.d c.requires.dict c.kind_number.result c.kind_number.ensures
+pub returns-clause-layers : goal.returns-clause-layers
+returns-clause-layers g c = same-left c.sought_like.ensures.leaves
+
+pub returns-clause-stays : goal.returns-clause-stays
+returns-clause-stays g c = (refl, refl, c.sought_like.ensures.leaves.keeps)

@@ -1,11 +1,11 @@
-use Rattle.vc_base.proofs.Common.{sym, ap, ◌∙◌, subst}
+use Rattle.vc_base.proofs.Common.{◌≡◌, true, sym, ap, ◌∙◌, subst, contains}
 use Rattle.vc_dict.specs.Listed.{holders_of}
-use Rattle.vc_dtdisc.specs.Finds.{find_key}
 use Rattle.vc_best.specs.Cells.{cells_in}
 use Rattle.vc_objects.specs.Parts.{IsWhole}
+use Rattle.vc_views.specs.Sides.{holder_like}
 use Rattle.vc_views.proofs.Firsts.{no-other, no-region, region-looked}
 use Rattle.vc_views.proofs.LookLeaves.{held-is, looked, rest-kept}
-use Rattle.vc_views.proofs.finding.find_in.Goals as goal
+use Rattle.vc_views.proofs.finding.last_in.Goals as goal
 
 pub unreachable-requires : goal.unreachable-requires
 unreachable-requires g c = no-region c.args.homes.now.entries c.args.name.now c.requires.region.home c.requires.region.found c.in_default.ensures.found
@@ -15,19 +15,23 @@ unreachable-requires-in_default-region g c =
     let same = region-looked c.args.homes.now.entries c.args.name.now c.requires.region.home c.index_mut.result.now c.requires.region.found (sym c.in-Some.ensures.value ∙ c.index_mut.ensures.value) in
     no-other c.index_mut.result.now.region (sym (ap (λ p. p.0) same) ∙ c.requires.region.best) c.in_default-region.not-Best
 
-pub find-requires : goal.find-requires
-find-requires g c =
+pub last_like-requires : goal.last_like-requires
+last_like-requires g c =
     let held = held-is c.args.homes.now.entries c.args.name.now c.in-Some.j c.index_mut.result.now c.in-Best.best (sym c.in-Some.ensures.index) c.index_mut.ensures.value c.in-Best.is in
     let whole = subst (IsWhole (g.D.DictDisc.rules c.args.kind.now) c.args.dict.now) held c.requires.whole in
-    record { holders = holders_of c.args.dict.now (cells_in c.in-Best.best); stands = whole.stands }
+    record {
+      holders = holders_of c.args.dict.now (cells_in c.in-Best.best);
+      stands = whole.stands;
+      within = subst (λ b. contains (holders_of c.args.dict.now b) c.args.at.0 ≡ true) held c.requires.within;
+    }
 
 pub returns-clause-found : goal.returns-clause-found
 returns-clause-found g c =
     let rules = g.D.DictDisc.rules c.args.kind.now in
     let held = held-is c.args.homes.now.entries c.args.name.now c.in-Some.j c.index_mut.result.now c.in-Best.best (sym c.in-Some.ensures.index) c.index_mut.ensures.value c.in-Best.is in
     let whole = subst (IsWhole rules c.args.dict.now) held c.requires.whole in
-    (c.find.ensures.found (holders_of c.args.dict.now (cells_in c.in-Best.best)) whole.stands).first
-    ∙ ap (λ b. find_key rules b c.args.key.now (holders_of c.args.dict.now b)) (sym held)
+    (c.last_like.ensures.found (holders_of c.args.dict.now (cells_in c.in-Best.best)) whole.stands).last
+    ∙ ap (λ b. holder_like rules b c.args.at.0 (holders_of c.args.dict.now b)) (sym held)
 
 pub returns-clause-looks : goal.returns-clause-looks
 returns-clause-looks g c =
@@ -35,10 +39,10 @@ returns-clause-looks g c =
     let held = held-is c.args.homes.now.entries c.args.name.now c.in-Some.j c.index_mut.result.now c.in-Best.best (sym c.in-Some.ensures.index) c.index_mut.ensures.value c.in-Best.is in
     let whole = subst (IsWhole rules c.args.dict.now) held c.requires.whole in
     looked c.args.homes.now.entries c.args.name.now c.in-Some.j c.index_mut.result.now c.in-Best.best (sym c.in-Some.ensures.index) c.index_mut.ensures.value c.in-Best.is
-    c.find.new.cells c.find.ensures.rest rules c.args.dict.now c.find.new.self whole
-    (c.find.ensures.dict (holders_of c.args.dict.now (cells_in c.in-Best.best)) whole.stands)
+    c.last_like.new.cells c.last_like.ensures.rest rules c.args.dict.now c.last_like.new.self whole
+    (c.last_like.ensures.dict (holders_of c.args.dict.now (cells_in c.in-Best.best)) whole.stands)
 
 pub returns-clause-rest : goal.returns-clause-rest
 returns-clause-rest g c =
     rest-kept c.args.homes.now.entries c.args.name.now c.in-Some.j c.index_mut.result.now c.in-Best.best (sym c.in-Some.ensures.index) c.index_mut.ensures.value c.in-Best.is
-    c.find.new.cells c.find.ensures.rest
+    c.last_like.new.cells c.last_like.ensures.rest
