@@ -1,0 +1,3 @@
+pub mod Algebra
+pub mod Rows
+pub mod ToCome
