@@ -36,7 +36,7 @@ pub within-first : (xs : List ℕ) (at : ℕ) → first_in xs ≡ Some at → co
 within-first [] at e = absurd (none-some at e)
 within-first (x ∷ xs) at e = subst (λ a. contains (x ∷ xs) a ≡ true) (same_Some x at e) (within-head x xs)
 
-none-first : (xs : List ℕ) → first_in xs ≡ None → length xs ≡ 0
+pub none-first : (xs : List ℕ) → first_in xs ≡ None → length xs ≡ 0
 none-first [] e = refl
 none-first (x ∷ xs) e = absurd (none-some x (sym e))
 

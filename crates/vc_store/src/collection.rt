@@ -25,7 +25,7 @@ impl<D: DictDisc + Drop> Collection<D> {
     ghost use Rattle.vc_best.specs.Parts.{disc_in, segments_in};
     ghost use Rattle.vc_objects.specs.Leaves.{told_each, told_if};
     ghost use Rattle.vc_objects.specs.Promises.{StaysAll, opening_in};
-    ghost use Rattle.vc_store.specs.Reading.{AfterPut, current, found, with_place, without_key};
+    ghost use Rattle.vc_store.specs.Reading.{AfterPut, current, first_place, found, next_place, with_place, without_key};
     ghost use Rattle.vc_store.specs.Tries.{IsTried, Tries};
     ghost use Rattle.vc_store.specs.Collections.{IsOpen, best_of, contents, dict_of, disc_of, kind_of, lender, lent_to};
 
@@ -82,6 +82,53 @@ impl<D: DictDisc + Drop> Collection<D> {
         ensures open { IsOpen (D.rules (kind_of self.new)) self.new (disc_of self.new state) }
     {
         seek(&mut self.best, &mut self.dict, &self.kind, key)
+    }
+
+    /// Makes the first object current, and answers whether there is one.
+    pub fn first(&mut self) -> bool
+        requires open { IsOpen (D.rules (kind_of self.old)) self.old (disc_of self.old state) }
+        ensures moved { contents self.new ≡ with_place
+            (first_place (length (contents self.old).objects)) (contents self.old) }
+        ensures there { result ≡ is_some (contents self.new).place }
+        ensures kind { kind_of self.new ≡ kind_of self.old }
+        ensures open { IsOpen (D.rules (kind_of self.new)) self.new (disc_of self.new state) }
+    {
+        match self.dict.first(&self.best) {
+            Some(at) => {
+                self.dict.current = at;
+                true
+            }
+            None => {
+                self.dict.current = Addr::NONE;
+                false
+            }
+        }
+    }
+
+    /// Makes the object behind the current one current, and answers whether there is one: none behind the last, nor where none
+    /// is current.
+    pub fn next(&mut self) -> bool
+        requires open { IsOpen (D.rules (kind_of self.old)) self.old (disc_of self.old state) }
+        ensures moved { contents self.new ≡ with_place
+            (next_place (length (contents self.old).objects) (contents self.old).place)
+            (contents self.old) }
+        ensures there { result ≡ is_some (contents self.new).place }
+        ensures kind { kind_of self.new ≡ kind_of self.old }
+        ensures open { IsOpen (D.rules (kind_of self.new)) self.new (disc_of self.new state) }
+    {
+        if self.dict.current == Addr::NONE {
+            return false;
+        }
+        match self.dict.next(&self.best, self.dict.current) {
+            Some(at) => {
+                self.dict.current = at;
+                true
+            }
+            None => {
+                self.dict.current = Addr::NONE;
+                false
+            }
+        }
     }
 
     /// The current object, or none.

@@ -1,0 +1,74 @@
+-- What a dictionary shows when its first object, the next one, or none is current.
+use Rattle.vc_base.proofs.Common.{◌≡◌, ℕ, suc, ◌+◌, ◌<◌, true, List, length, if◌then◌else◌, Some, None, sym, ap, ◌∙◌, arith, length-map, ne_eqb, lt-ltb, le-ltb, Blocks, contains, first_in, next_in, some_address}
+use Rattle.vc_base.specs.declared.addr.Addr.{Addr}
+use Rattle.vc_base.proofs.Members.{within-head}
+use Rattle.vc_dtdisc.specs.Objects as objects
+use Rattle.vc_dtdisc.specs.Objects.{Object}
+use Rattle.vc_dtdisc.specs.Rules.{Rules}
+use Rattle.vc_dict.specs.Listed.{holders_of}
+use Rattle.vc_dict.specs.declared.dict.Dict.{Dict}
+use Rattle.vc_dict.proofs.OwnLemmas.{holders-distinct}
+use Rattle.vc_objects.specs.Parts.{IsWhole, dictionary_of, object_of}
+use Rattle.vc_objects.specs.Remove.{bytes_of}
+use Rattle.vc_store.specs.Contents.{place_of}
+use Rattle.vc_store.specs.Reading.{first_place, next_place}
+use Rattle.vc_store.proofs.Places.{none-first, place, place-first, place-last, place-next, place-within, within-first, within-next}
+use Rattle.vc_store.proofs.Shown.{pointed-place}
+
+some-first : (n : ℕ) → 0 < n → Some 0 ≡ first_place n
+some-first n more = sym (ap (λ t. if t then None else Some 0) (ne_eqb n 0 (λ e. absurd (omega (arith, more, e)))))
+
+next-within : (n p q : ℕ) → q ≡ suc p → q < n → Some q ≡ next_place n (Some p)
+next-within n p q e less =
+    let same : q ≡ p + 1 = omega (arith, e) in
+    ap Some same ∙ sym (ap (λ t. if t then Some (p + 1) else None) (lt-ltb (p + 1) n (omega (arith, e, less))))
+
+next-over : (n p : ℕ) → suc p ≡ n → None ≡ next_place n (Some p)
+next-over n p e = sym (ap (λ t. if t then Some (p + 1) else None) (le-ltb (p + 1) n (omega (arith, e))))
+
+module _ (rules : Rules) (d : Dict) (b : Blocks) (whole : IsWhole rules d b) where
+  abbrev hs : List ℕ
+  hs = holders_of d b
+
+  abbrev os : List Object
+  os = (dictionary_of d b).objects
+
+  counted : length (bytes_of os) ≡ length hs
+  counted = length-map os objects.bytes_of ∙ length-map hs (object_of b)
+
+  -- with none current
+  pub none-whole : IsWhole rules (record { method = d.method; kind = d.kind; count = d.count; current = record { 0 = 0 }; heads = d.heads }) b
+  none-whole = record {
+    stands = record { form = whole.stands.form; heads = whole.stands.heads; count = whole.stands.count };
+    current = within-head 0 hs;
+    table = whole.table;
+    objects = whole.objects;
+  }
+
+  pub first-some : (at : Addr) → Some at.0 ≡ first_in hs → place_of (some_address at.0) os ≡ first_place (length (bytes_of os))
+  first-some at e =
+      let w = within-first hs at.0 (sym e) in
+      let in_list = place-within hs at.0 w in
+      let same = counted in
+      pointed-place rules d b at whole w ∙ (ap Some (place-first hs at.0 (sym e)) ∙ some-first (length (bytes_of os)) (omega (arith, in_list, same)))
+
+  pub first-none : None ≡ first_in hs → None ≡ first_place (length (bytes_of os))
+  first-none e = sym (ap first_place (counted ∙ none-first hs (sym e)))
+
+  module _ (w : contains hs d.current.0 ≡ true) where
+    here : place_of (some_address d.current.0) os ≡ Some (place d.current.0 hs)
+    here = pointed-place rules d b d.current whole w
+
+    pub next-some : (at : Addr) → Some at.0 ≡ next_in d.current.0 hs → place_of (some_address at.0) os ≡ next_place (length (bytes_of os)) (place_of (some_address d.current.0) os)
+    next-some at e =
+        let v = within-next hs d.current.0 at.0 (sym e) in
+        let in_list = place-within hs at.0 v in
+        let same = counted in
+        pointed-place rules d b at whole v
+        ∙ (next-within (length (bytes_of os)) (place d.current.0 hs) (place at.0 hs) (place-next hs d.current.0 at.0 (holders-distinct rules d b hs whole.stands) (sym e)) (omega (arith, in_list, same))
+        ∙ ap (next_place (length (bytes_of os))) (sym here))
+
+    pub next-none : None ≡ next_in d.current.0 hs → None ≡ next_place (length (bytes_of os)) (place_of (some_address d.current.0) os)
+    next-none e =
+        next-over (length (bytes_of os)) (place d.current.0 hs) (place-last hs d.current.0 w (sym e) ∙ sym counted)
+        ∙ ap (next_place (length (bytes_of os))) (sym here)
