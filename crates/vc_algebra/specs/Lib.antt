@@ -1,3 +1,4 @@
 pub mod Algebra
+pub mod Faults
 pub mod Rows
 pub mod ToCome
