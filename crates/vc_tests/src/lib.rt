@@ -14,6 +14,8 @@ mod commands;
 #[cfg(test)]
 mod dicts;
 #[cfg(test)]
+mod first_words;
+#[cfg(test)]
 mod forms;
 #[cfg(test)]
 mod generated;
