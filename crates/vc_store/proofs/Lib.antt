@@ -1,3 +1,4 @@
 pub mod Cursor
 pub mod Places
+pub mod Putting
 pub mod Shown

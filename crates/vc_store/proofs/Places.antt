@@ -48,7 +48,7 @@ within-next (x ∷ xs) at b e = elim (eqb_tells x at) as (λ _. contains (x ∷ 
   | inr apart ↦ within-tail x xs b (within-next xs at b (rw apart.0 at e))
 ]
 
-other-than : (x b : ℕ) (xs : List ℕ) → contains xs x ≡ false → contains xs b ≡ true → x ≢ b
+pub other-than : (x b : ℕ) (xs : List ℕ) → contains xs x ≡ false → contains xs b ≡ true → x ≢ b
 other-than x b xs not_x is e = true≢false (sym is ∙ subst (λ z. contains xs z ≡ false) e not_x)
 
 pub place-next : (xs : List ℕ) (at b : ℕ) → AreDistinct xs → next_in at xs ≡ Some b → place b xs ≡ suc (place at xs)

@@ -1,10 +1,10 @@
 -- What a reader of the contracts needs first: what a dictionary shows, and how its objects change.
-use Rattle.std.specs.Prelude.{◌≡◌, ℕ, ◌+◌, Bool, true, false, List, [], ◌∷◌, ◌++◌, Option, Some, None, is_some, length, take, drop, nat_le, nat_lt, slice_get, ◌==◌, ◌&&◌, if◌then◌else◌}
+use Rattle.std.specs.Prelude.{◌≡◌, ℕ, suc, ◌+◌, Bool, true, false, List, [], ◌∷◌, ◌++◌, Option, Some, None, is_some, unwrap_or, length, take, drop, nat_le, nat_lt, slice_get, ◌==◌, ◌&&◌, if◌then◌else◌}
 use Rattle.vc_base.specs.declared.dict_method.DictMethod.{DictMethod}
 use Rattle.vc_base.specs.declared.dict_method.DictMethod.TheVariants.{DtSet, DtBag, DtOset, DtObag, DtList, DtStack, DtQueue}
 use Rattle.vc_base.specs.Methods.{is_set}
 use Rattle.vc_dtdisc.specs.Finding.{without_first}
-use Rattle.vc_dtdisc.specs.Objects.{first_with, has_key, placed_among}
+use Rattle.vc_dtdisc.specs.Objects.{first_with, has_key, is_greater, placed_among}
 use Rattle.vc_dtdisc.specs.Rules.{Rules}
 use Rattle.vc_store.specs.declared.put.Put.{Put}
 use Rattle.vc_store.specs.declared.put.Put.TheVariants as put
@@ -62,6 +62,21 @@ put_by DtList rules place object objects = put_at place object objects
 put_by DtStack rules place object objects = object ∷ objects
 put_by DtQueue rules place object objects = objects ++ object ∷ []
 
+-- how many stand before the first that passes a test
+abbrev pub count_before : {A : Type 0} → (A → Bool) → List A → ℕ
+count_before test [] = 0
+count_before test (x ∷ xs) = if test x then 0 else suc (count_before test xs)
+
+-- the place where that one stands then
+abbrev pub put_place : DictMethod → Rules → Option ℕ → List ℕ → List (List ℕ) → ℕ
+put_place DtSet rules place object objects = length objects
+put_place DtBag rules place object objects = length objects
+put_place DtOset rules place object objects = count_before (λ o. is_greater rules o object) objects
+put_place DtObag rules place object objects = count_before (λ o. is_greater rules o object) objects
+put_place DtList rules place object objects = unwrap_or place 0
+put_place DtStack rules place object objects = 0
+put_place DtQueue rules place object objects = length objects
+
 -- whether one of a set's objects has the key of another one
 abbrev pub has_match : Rules → List ℕ → Contents → Bool
 has_match rules object d = is_set d.method && is_some (found rules (rules.key object) d.objects)
@@ -76,3 +91,8 @@ AfterPut put.New rules object d objects =
     × (objects ≡ put_by d.method rules d.place object d.objects)
 AfterPut no_room rules object d objects =
     (is_object object ≡ true) × (has_match rules object d ≡ false) × (objects ≡ d.objects)
+
+-- the current place once an object was to be put: its own where it is new, and else the one before
+abbrev pub place_after : Put → Rules → List ℕ → Contents → Option ℕ
+place_after put.New rules object d = Some (put_place d.method rules d.place object d.objects)
+place_after other rules object d = d.place

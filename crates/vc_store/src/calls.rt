@@ -5,7 +5,7 @@ ghost use Rattle.vc_objects.specs.Leaves.{Looks, LeavesRest, told_if};
 ghost use Rattle.vc_objects.specs.Parts.{IsWhole};
 ghost use Rattle.vc_objects.specs.Promises.{CanAsk, CanPut};
 ghost use Rattle.vc_store.specs.Contents.{contents_in};
-ghost use Rattle.vc_store.specs.Reading.{AfterPut, current, found, has_match, is_object, with_place, without_key};
+ghost use Rattle.vc_store.specs.Reading.{AfterPut, current, found, has_match, is_object, place_after, with_place, without_key};
 ghost use Rattle.vc_store.specs.Tries.{IsTried, Tries, told_as};
 
 use crate::put::Put;
@@ -71,6 +71,8 @@ pub(crate) fn put<D: DictDisc>(best: &mut Best, dict: &mut Dict, kind: &D, objec
 
     ensures objects { AfterPut result (D.rules kind.now) object.now (contents_in dict.old best.old)
         (contents_in dict.new best.new).objects }
+    ensures place { (contents_in dict.new best.new).place ≡ place_after result
+        (D.rules kind.now) object.now (contents_in dict.old best.old) }
     ensures method { dict.new.method ≡ dict.old.method }
     ensures tried { IsTried result (Tries state result (D.rules kind.now) object.now
         best.old dict.old best.new dict.new) }

@@ -25,7 +25,7 @@ impl<D: DictDisc + Drop> Collection<D> {
     ghost use Rattle.vc_best.specs.Parts.{disc_in, segments_in};
     ghost use Rattle.vc_objects.specs.Leaves.{told_each, told_if};
     ghost use Rattle.vc_objects.specs.Promises.{StaysAll, opening_in};
-    ghost use Rattle.vc_store.specs.Reading.{AfterPut, current, first_place, found, next_place, with_place, without_key};
+    ghost use Rattle.vc_store.specs.Reading.{AfterPut, current, first_place, found, next_place, place_after, with_place, without_key};
     ghost use Rattle.vc_store.specs.Tries.{IsTried, Tries};
     ghost use Rattle.vc_store.specs.Collections.{IsOpen, best_of, contents, dict_of, disc_of, kind_of, lender, lent_to};
 
@@ -52,11 +52,14 @@ impl<D: DictDisc + Drop> Collection<D> {
         }
     }
 
-    /// Puts an object where the method puts it, and makes it current. A set keeps the object that it has of the same key.
+    /// Puts an object where the method puts it, and makes it current. A set keeps the object that it has of the same key. Where
+    /// the object is not new, no object changes, and the current one stays.
     pub fn insert(&mut self, object: &[u8]) -> Put
         requires open { IsOpen (D.rules (kind_of self.old)) self.old (disc_of self.old state) }
         ensures objects { AfterPut result (D.rules (kind_of self.old)) object.now
             (contents self.old) (contents self.new).objects }
+        ensures place { (contents self.new).place ≡ place_after result
+            (D.rules (kind_of self.old)) object.now (contents self.old) }
         ensures method { (contents self.new).method ≡ (contents self.old).method }
         ensures kind { kind_of self.new ≡ kind_of self.old }
         ensures open { IsOpen (D.rules (kind_of self.new)) self.new (disc_of self.new state) }

@@ -1,9 +1,10 @@
 use Rattle.vc_base.proofs.Common.{sym, false≢true, Discipline}
-use Rattle.vc_best.specs.Cells.{rest_in}
+use Rattle.vc_best.specs.Cells.{cells_in, rest_in}
 use Rattle.vc_best.specs.Parts.{disc_in}
 use Rattle.vc_objects.specs.Parts.{dictionary_in}
 use Rattle.vc_objects.proofs.Leaving.{keeps-out}
-use Rattle.vc_store.proofs.Shown.{lone-put, object-is, tries-looked, tried-shown}
+use Rattle.vc_store.proofs.Putting.{tried-placed}
+use Rattle.vc_store.proofs.Shown.{distinct-objects, lone-put, object-is, tries-looked, tried-shown}
 use Rattle.vc_store.proofs.calls.put.Given.{Over}
 use Rattle.vc_store.proofs.calls.put.Goals as goal
 
@@ -36,3 +37,11 @@ returns-clause-method g c =
     let tries = tries-looked (meaning g) rules c.args.best.now c.has_match.new.best c.put_new.new.best c.args.dict.now c.has_match.new.dict c.put_new.new.dict c.has_match.ensures.looks c.put_new.result c.args.object.now c.put_new.ensures.tries in
     (tried-shown rules c.args.object.now (disc_in (meaning g) c.args.best.now) (disc_in (meaning g) c.put_new.new.best) (rest_in c.args.best.now) (rest_in c.put_new.new.best)
     (dictionary_in c.args.dict.now c.args.best.now) (dictionary_in c.put_new.new.dict c.put_new.new.best) (sym c.if-not-is_object.ensures) (sym c.if-has_match.ensures.found) c.put_new.result tries).1
+
+pub returns-clause-place : goal.returns-clause-place
+returns-clause-place g c =
+    let rules = g.D.DictDisc.rules c.args.kind.now in
+    let tries = tries-looked (meaning g) rules c.args.best.now c.has_match.new.best c.put_new.new.best c.args.dict.now c.has_match.new.dict c.put_new.new.dict c.has_match.ensures.looks c.put_new.result c.args.object.now c.put_new.ensures.tries in
+    tried-placed rules c.args.object.now (disc_in (meaning g) c.args.best.now) (disc_in (meaning g) c.put_new.new.best) (rest_in c.args.best.now) (rest_in c.put_new.new.best)
+    (dictionary_in c.args.dict.now c.args.best.now) (dictionary_in c.put_new.new.dict c.put_new.new.best)
+    (distinct-objects rules c.put_new.new.dict (cells_in c.put_new.new.best) c.put_new.ensures.leaves.whole) c.put_new.result tries
