@@ -136,11 +136,11 @@ module _ {L : Type 0} where
   in-last segments (Done p) h = h
   in-last segments (Refused why) h = tt
 
-  pub in-guards : (segments marks : List (ℕ × ℕ)) (size : ℕ) (o : Outcome (Put (Layout L))) → Puts segments o → PutsIn segments (outcome_as OfDebug (outcome_by (put_with_guards marks size) o))
+  pub in-guards : (segments : List (ℕ × ℕ)) (marks : ℕ → Option ℕ) (size : ℕ) (o : Outcome (Put (Layout L))) → Puts segments o → PutsIn segments (outcome_as OfDebug (outcome_by (put_with_guards marks size) o))
   in-guards segments marks size (Done p) h = h
   in-guards segments marks size (Refused why) h = tt
 
-  pub in-resized : (segments marks : List (ℕ × ℕ)) (at : ℕ × ℕ) (kept size : ℕ) (o : Outcome (Put (Layout L))) → Puts segments o → PutsIn segments (outcome_as OfDebug (outcome_by (put_with_mark marks at kept size) o))
+  pub in-resized : (segments : List (ℕ × ℕ)) (marks : ℕ → Option ℕ) (at : ℕ × ℕ) (kept size : ℕ) (o : Outcome (Put (Layout L))) → Puts segments o → PutsIn segments (outcome_as OfDebug (outcome_by (put_with_mark marks at kept size) o))
   in-resized segments marks at kept size (Done p) h = h
   in-resized segments marks at kept size (Refused why) h = tt
 

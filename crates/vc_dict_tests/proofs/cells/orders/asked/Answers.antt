@@ -25,4 +25,4 @@ pub first-left-requires : goal.first-left-requires
 first-left-requires g c =
     let rules = g.D.DictDisc.rules c.args.kind.now in
     let r = c.requires in
-    record { rules = rules; is = record { holders = without 2 r.holders; stands = (c.unlink.ensures.change rules r.holders r.stands).stands } }
+    record { rules = rules; is = record { holders = without 2 r.holders; stands = (c.unlink.ensures.list.change rules r.holders r.stands).stands } }
