@@ -1,1 +1,3 @@
 mod DigitsLemmas
+pub mod TakeLemmas
+pub mod MadeLemmas

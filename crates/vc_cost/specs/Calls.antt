@@ -1,9 +1,12 @@
 -- What lists of calls make of an ordered set or bag, by its holders over some blocks.
-use Rattle.std.specs.Prelude.{◌≡◌, ℕ, ◌+◌, false, List, [], ◌∷◌, length, max, Option, Some, None}
+use Rattle.std.specs.Prelude.{◌≡◌, ℕ, ◌+◌, false, List, [], ◌∷◌, length, max, Bool, Option, Some, None, is_some}
+use Rattle.std.specs.List.{find}
 use Rattle.vc_base.specs.Cells.{Blocks, IsHolder}
 use Rattle.vc_base.specs.Holders.{contains, without}
 use Rattle.vc_dtdisc.specs.Finds.{find_key}
 use Rattle.vc_dtdisc.specs.Rules.{Rules}
+use Rattle.vc_dtlist.specs.Sought.{stands_so}
+use Rattle.vc_dtlist.specs.declared.sought.Sought.TheVariants.{NotLess}
 use Rattle.vc_dtord.specs.Ordered.{order_with}
 use Rattle.vc_cost.specs.declared.ord_call.OrdCall.{OrdCall}
 use Rattle.vc_cost.specs.declared.ord_call.OrdCall.TheVariants.{Link, Take, Find, AtLeast}
@@ -30,6 +33,13 @@ abbrev pub greatest_count : Rules → Blocks → List OrdCall → List ℕ → �
 greatest_count rules blocks [] holders = 0
 greatest_count rules blocks (call ∷ calls) holders =
     max (length (after_call rules blocks call holders)) (greatest_count rules blocks calls (after_call rules blocks call holders))
+
+-- whether it is a search that finds an object
+abbrev pub finds : Rules → Blocks → OrdCall → List ℕ → Bool
+finds rules blocks (Link at) holders = false
+finds rules blocks (Take key) holders = false
+finds rules blocks (Find key) holders = is_some (find_key rules blocks key holders)
+finds rules blocks (AtLeast key) holders = is_some (find (stands_so NotLess rules blocks key) holders)
 
 -- how many calls one counts as: to take is to find and to unlink
 abbrev pub weight : OrdCall → ℕ

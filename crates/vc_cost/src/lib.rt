@@ -3,12 +3,14 @@
 
 mod bounds;
 mod key;
+mod making;
 mod ord_call;
 mod ord_calls;
 mod rows;
 
 pub use bounds::bound;
 pub use key::Key;
+pub use making::make_call;
 pub use ord_call::OrdCall;
 pub use ord_calls::OrdCalls;
 pub use rows::{bound_rows, call_rows, list_rows};
