@@ -1,1 +1,4 @@
+pub mod ComeLemmas
+pub mod MergeLemmas
+pub mod OwnLemmas
 pub mod RangeLemmas

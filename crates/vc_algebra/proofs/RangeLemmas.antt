@@ -166,7 +166,7 @@ visible_sorted all links d laws path' method =
     let order = (laws.lawful d (path-first all links d path').there).order in
     subst (AreSorted rules) (sym (visible_ordered all links d method)) (onto_sorted rules (ordered rules order) [] (stacked_objects rules [] (map (objects_of all) (path links d))) tt)
 
-none-place : (p : ℕ × ℕ) → None ≡ Some p → ⊥
+pub none-place : (p : ℕ × ℕ) → None ≡ Some p → ⊥
 none-place p e = cc
 
 -- an answer is the place of an object that stands
@@ -210,7 +210,7 @@ up-to {old} {new} {d} high (Some p) result (Some x) same laws has there a some n
     ]
 
 -- what is behind a place, and the first that passes a test, are objects that stand
-behind-in : (P : Seen ℕ → Type 0) (test : Seen ℕ → Bool) (xs : List (Seen ℕ)) (b : Seen ℕ) → AllByRecursion P xs → behind_last test xs ≡ Some b → P b
+pub behind-in : (P : Seen ℕ → Type 0) (test : Seen ℕ → Bool) (xs : List (Seen ℕ)) (b : Seen ℕ) → AllByRecursion P xs → behind_last test xs ≡ Some b → P b
 behind-in P test [] b h e = cc
 behind-in P test (x ∷ xs) b h e = elim (cases_Bool (test x && not (list_any test xs))) as (λ _. P b) [
   | inl t ↦ all_end false P xs b h.1 (rw t at e)

@@ -7,6 +7,7 @@ mod op;
 mod ordered;
 mod ranges;
 mod rows;
+mod turn;
 
 pub use fault::AlgebraFault;
 pub use merge::Merge;
