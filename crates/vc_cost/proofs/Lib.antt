@@ -1,3 +1,4 @@
 mod DigitsLemmas
 pub mod TakeLemmas
 pub mod MadeLemmas
+pub mod SumLemmas

@@ -9,7 +9,7 @@ use Rattle.vc_dtord.specs.declared.dt_ord.DtOrd.{DtOrd}
 use Rattle.vc_dtord.specs.Nodes.{node_store}
 use Rattle.vc_dtord.specs.Ordered.{OrdFor}
 use Rattle.vc_cost.specs.declared.ord_call.OrdCall.{OrdCall}
-use Rattle.vc_cost.specs.Calls.{CanCall, after_call, finds, weight}
+use Rattle.vc_cost.specs.Calls.{CanCall, after_call, after_calls, calls_made, finds, greatest_count, weight}
 
 -- to take one out costs at most twice what a search does
 pub record TakeCosts (old : DtOrd) (before : Blocks) (new : DtOrd) (after : Blocks) (start now : ℕ) : Type 0 where
@@ -36,3 +36,12 @@ pub record IsMade (rules : Rules) (call : OrdCall) (holders : List ℕ) (old : D
   pub told : found ≡ finds rules before call holders
   pub cost : (t u : Tree) (most : ℕ) → IsTree (node_store before) old.root.0 t → IsTree (node_store after) new.root.0 u
       → size t ≤ most → size u ≤ most → Costs t u start now (weight call * (30 * binary_digits most + 30))
+
+-- these calls were made in turn: it stands for the holders after them, and the rises add up, by any number that no count
+-- is above
+pub record AreMade (rules : Rules) (calls : List OrdCall) (holders : List ℕ) (old : DtOrd) (before : Blocks) (new : DtOrd) (after : Blocks) (start now : ℕ) : Type 0 where
+  pub stands : OrdFor rules new after (after_calls rules before calls holders)
+  pub kept : AreKept before after
+  pub cost : (t u : Tree) (most : ℕ) → IsTree (node_store before) old.root.0 t → IsTree (node_store after) new.root.0 u
+      → size t ≤ most → greatest_count rules before calls holders ≤ most
+      → Costs t u start now (calls_made calls * (30 * binary_digits most + 30))

@@ -13,4 +13,4 @@ pub use key::Key;
 pub use making::make_call;
 pub use ord_call::OrdCall;
 pub use ord_calls::OrdCalls;
-pub use rows::{bound_rows, call_rows, list_rows};
+pub use rows::{bound_rows, call_rows, list_rows, sum_laws};
