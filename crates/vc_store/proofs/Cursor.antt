@@ -1,5 +1,5 @@
 -- What a dictionary shows when its first object, the next one, or none is current.
-use Rattle.vc_base.proofs.Common.{◌≡◌, ℕ, suc, ◌+◌, ◌<◌, true, List, length, if◌then◌else◌, Some, None, sym, ap, ◌∙◌, arith, length-map, ne_eqb, lt-ltb, le-ltb, Blocks, contains, first_in, next_in, some_address}
+use Rattle.vc_base.proofs.Common.{◌≡◌, ℕ, suc, ◌+◌, ◌-◌, ◌<◌, true, List, length, if◌then◌else◌, Some, None, sym, ap, ◌∙◌, arith, length-map, ne_eqb, lt-ltb, le-ltb, Blocks, contains, first_in, last_in, next_in, previous_in, some_address}
 use Rattle.vc_base.specs.declared.addr.Addr.{Addr}
 use Rattle.vc_base.proofs.Members.{within-head}
 use Rattle.vc_dtdisc.specs.Objects as objects
@@ -11,8 +11,8 @@ use Rattle.vc_dict.proofs.OwnLemmas.{holders-distinct}
 use Rattle.vc_objects.specs.Parts.{IsWhole, dictionary_of, object_of}
 use Rattle.vc_objects.specs.Remove.{bytes_of}
 use Rattle.vc_store.specs.Contents.{place_of}
-use Rattle.vc_store.specs.Reading.{first_place, next_place}
-use Rattle.vc_store.proofs.Places.{none-first, place, place-first, place-last, place-next, place-within, within-first, within-next}
+use Rattle.vc_store.specs.Reading.{first_place, last_place, next_place, previous_place}
+use Rattle.vc_store.proofs.Places.{last-placed, none-first, none-last, none-previous, place, place-first, place-last, place-next, place-within, previous-placed, within-first, within-next}
 use Rattle.vc_store.proofs.Shown.{pointed-place}
 
 some-first : (n : ℕ) → 0 < n → Some 0 ≡ first_place n
@@ -25,6 +25,16 @@ next-within n p q e less =
 
 next-over : (n p : ℕ) → suc p ≡ n → None ≡ next_place n (Some p)
 next-over n p e = sym (ap (λ t. if t then Some (p + 1) else None) (le-ltb (p + 1) n (omega (arith, e))))
+
+last-some : (n p : ℕ) → suc p ≡ n → Some p ≡ last_place n
+last-some n p e =
+    let same : p ≡ n - 1 = omega (arith, e) in
+    ap Some same ∙ sym (ap (λ t. if t then None else Some (n - 1)) (ne_eqb n 0 (λ z. absurd (omega (arith, e, z)))))
+
+previous-some : (p q : ℕ) → p ≡ suc q → Some q ≡ previous_place (Some p)
+previous-some p q e =
+    let same : q ≡ p - 1 = omega (arith, e) in
+    ap Some same ∙ sym (ap (λ t. if t then None else Some (p - 1)) (ne_eqb p 0 (λ z. absurd (omega (arith, e, z)))))
 
 module _ (rules : Rules) (d : Dict) (b : Blocks) (whole : IsWhole rules d b) where
   abbrev hs : List ℕ
@@ -55,6 +65,17 @@ module _ (rules : Rules) (d : Dict) (b : Blocks) (whole : IsWhole rules d b) whe
   pub first-none : None ≡ first_in hs → None ≡ first_place (length (bytes_of os))
   first-none e = sym (ap first_place (counted ∙ none-first hs (sym e)))
 
+  pub last-there : (at : Addr) → Some at.0 ≡ last_in hs → contains hs at.0 ≡ true
+  last-there at e = (last-placed hs at.0 (holders-distinct rules d b hs whole.stands) (sym e)).0
+
+  pub last-moved : (at : Addr) → Some at.0 ≡ last_in hs → place_of (some_address at.0) os ≡ last_place (length (bytes_of os))
+  last-moved at e =
+      let h = last-placed hs at.0 (holders-distinct rules d b hs whole.stands) (sym e) in
+      pointed-place rules d b at whole h.0 ∙ last-some (length (bytes_of os)) (place at.0 hs) (h.1 ∙ sym counted)
+
+  pub last-none : None ≡ last_in hs → None ≡ last_place (length (bytes_of os))
+  last-none e = sym (ap last_place (counted ∙ none-last hs (sym e)))
+
   module _ (w : contains hs d.current.0 ≡ true) where
     here : place_of (some_address d.current.0) os ≡ Some (place d.current.0 hs)
     here = pointed-place rules d b d.current whole w
@@ -72,3 +93,17 @@ module _ (rules : Rules) (d : Dict) (b : Blocks) (whole : IsWhole rules d b) whe
     next-none e =
         next-over (length (bytes_of os)) (place d.current.0 hs) (place-last hs d.current.0 w (sym e) ∙ sym counted)
         ∙ ap (next_place (length (bytes_of os))) (sym here)
+
+    pub previous-there : (at : Addr) → Some at.0 ≡ previous_in None d.current.0 hs → contains hs at.0 ≡ true
+    previous-there at e = (previous-placed hs d.current.0 at.0 (holders-distinct rules d b hs whole.stands) (sym e)).0
+
+    pub previous-moved : (at : Addr) → Some at.0 ≡ previous_in None d.current.0 hs → place_of (some_address at.0) os ≡ previous_place (place_of (some_address d.current.0) os)
+    previous-moved at e =
+        let h = previous-placed hs d.current.0 at.0 (holders-distinct rules d b hs whole.stands) (sym e) in
+        pointed-place rules d b at whole h.0
+        ∙ (previous-some (place d.current.0 hs) (place at.0 hs) h.1 ∙ ap previous_place (sym here))
+
+    pub previous-none : None ≡ previous_in None d.current.0 hs → None ≡ previous_place (place_of (some_address d.current.0) os)
+    previous-none e =
+        sym (ap (λ p. previous_place (Some p)) (none-previous hs d.current.0 w (sym e)))
+        ∙ ap previous_place (sym here)

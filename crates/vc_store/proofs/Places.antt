@@ -1,6 +1,7 @@
 -- At which place an address stands in a list of addresses, and where the ones beside it do.
-use Rattle.vc_base.proofs.Common.{◌≡◌, ℕ, suc, ◌<◌, true, false, ◌≢◌, List, [], ◌∷◌, map, length, if◌then◌else◌, ◌==◌, slice_get, Some, None, sym, refl, ap, ◌∙◌, subst, inl, inr, true≢false, none-some, same_Some, arith, eqb_tells, Blocks, AreDistinct, contains, first_in, next_in}
-use Rattle.vc_base.proofs.Members.{within-head, within-tail}
+use Rattle.vc_base.proofs.Common.{◌≡◌, ℕ, suc, ◌<◌, true, false, ◌≢◌, List, [], ◌∷◌, map, length, if◌then◌else◌, ◌==◌, slice_get, Some, None, sym, refl, ap, ◌∙◌, subst, inl, inr, true≢false, none-some, same_Some, arith, eqb_tells, Blocks, AreDistinct, contains, first_in, last_in, next_in, previous_in}
+use Rattle.vc_base.specs.Holders.{last_of}
+use Rattle.vc_base.proofs.Members.{within-head, within-last, within-tail}
 use Rattle.vc_dtdisc.specs.Finds.{object_at}
 use Rattle.vc_objects.specs.Parts.{object_of}
 use Rattle.vc_objects.specs.Remove.{bytes_of}
@@ -75,6 +76,66 @@ place-last (x ∷ xs) at w e = elim (eqb_tells x at) as (λ _. suc (place at (x 
       let last = place-last xs at (rw apart.0 at w) (rw apart.0 at e) in
       let here : place at (x ∷ xs) ≡ suc (place at xs) = rw apart.0 refl in
       ap (λ n. suc n) (here ∙ last)
+]
+
+-- the last one stands at the last place
+place-final : (x : ℕ) (xs : List ℕ) → AreDistinct (x ∷ xs) → suc (place (last_of x xs) (x ∷ xs)) ≡ length (x ∷ xs)
+place-final x [] d = ap (λ n. suc n) (place-here x [])
+place-final x (y ∷ ys) d =
+    ap (λ n. suc n)
+    (place-behind x (last_of y ys) (y ∷ ys) (other-than x (last_of y ys) (y ∷ ys) d.0 (within-last y ys)) ∙ place-final y ys d.1)
+
+pub last-placed : (xs : List ℕ) (at : ℕ) → AreDistinct xs → last_in xs ≡ Some at → (contains xs at ≡ true) × (suc (place at xs) ≡ length xs)
+last-placed [] at d e = absurd (none-some at e)
+last-placed (x ∷ xs) at d e =
+    let same = same_Some (last_of x xs) at e in (
+      subst (λ a. contains (x ∷ xs) a ≡ true) same (within-last x xs),
+      subst (λ a. suc (place a (x ∷ xs)) ≡ length (x ∷ xs)) same (place-final x xs d),
+    )
+
+pub none-last : (xs : List ℕ) → last_in xs ≡ None → length xs ≡ 0
+none-last [] e = refl
+none-last (x ∷ xs) e = absurd (none-some (last_of x xs) (sym e))
+
+-- the one before another stands at the place before it
+previous-from : (x : ℕ) (xs : List ℕ) (at b : ℕ) → x ≢ at → AreDistinct (x ∷ xs) → previous_in (Some x) at xs ≡ Some b
+    → (contains (x ∷ xs) b ≡ true) × (place at (x ∷ xs) ≡ suc (place b (x ∷ xs)))
+previous-from x [] at b ne d e = absurd (none-some b e)
+previous-from x (y ∷ ys) at b ne d e = elim (eqb_tells y at) as (λ _. (contains (x ∷ y ∷ ys) b ≡ true) × (place at (x ∷ y ∷ ys) ≡ suc (place b (x ∷ y ∷ ys)))) [
+  | inl same ↦
+      let before : x ≡ b = same_Some x b (rw same.0 at e) in
+      let here : place at (y ∷ ys) ≡ 0 = rw same.0 refl in (
+        subst (λ a. contains (x ∷ y ∷ ys) a ≡ true) before (within-head x (y ∷ ys)),
+        place-behind x at (y ∷ ys) ne
+            ∙ ap (λ n. suc n) (here ∙ sym (subst (λ a. place a (x ∷ y ∷ ys) ≡ 0) before (place-here x (y ∷ ys)))),
+      )
+  | inr apart ↦
+      let rest = previous-from y ys at b apart.1 d.1 (rw apart.0 at e) in (
+        within-tail x (y ∷ ys) b rest.0,
+        place-behind x at (y ∷ ys) ne
+            ∙ ap (λ n. suc n) (rest.1 ∙ sym (place-behind x b (y ∷ ys) (other-than x b (y ∷ ys) d.0 rest.0))),
+      )
+]
+
+pub previous-placed : (xs : List ℕ) (at b : ℕ) → AreDistinct xs → previous_in None at xs ≡ Some b → (contains xs b ≡ true) × (place at xs ≡ suc (place b xs))
+previous-placed [] at b d e = absurd (none-some b e)
+previous-placed (x ∷ xs) at b d e = elim (eqb_tells x at) as (λ _. (contains (x ∷ xs) b ≡ true) × (place at (x ∷ xs) ≡ suc (place b (x ∷ xs)))) [
+  | inl same ↦ absurd (none-some b (rw same.0 at e))
+  | inr apart ↦ previous-from x xs at b apart.1 d (rw apart.0 at e)
+]
+
+previous-some : (x : ℕ) (xs : List ℕ) (at : ℕ) → contains xs at ≡ true → previous_in (Some x) at xs ≢ None
+previous-some x [] at w e = true≢false (sym w)
+previous-some x (y ∷ ys) at w e = elim (eqb_tells y at) as (λ _. ⊥) [
+  | inl same ↦ none-some x (sym (rw same.0 at e))
+  | inr apart ↦ previous-some y ys at (rw apart.0 at w) (rw apart.0 at e)
+]
+
+pub none-previous : (xs : List ℕ) (at : ℕ) → contains xs at ≡ true → previous_in None at xs ≡ None → place at xs ≡ 0
+none-previous [] at w e = absurd (true≢false (sym w))
+none-previous (x ∷ xs) at w e = elim (eqb_tells x at) as (λ _. place at (x ∷ xs) ≡ 0) [
+  | inl same ↦ rw same.0 refl
+  | inr apart ↦ absurd (previous-some x xs at (rw apart.0 at w) (rw apart.0 at e))
 ]
 
 -- it is within the list

@@ -1,5 +1,5 @@
 -- What a reader of the contracts needs first: what a dictionary shows, and how its objects change.
-use Rattle.std.specs.Prelude.{◌≡◌, ℕ, suc, ◌+◌, Bool, true, false, List, [], ◌∷◌, ◌++◌, Option, Some, None, is_some, unwrap_or, length, take, drop, nat_le, nat_lt, slice_get, ◌==◌, ◌&&◌, if◌then◌else◌}
+use Rattle.std.specs.Prelude.{◌≡◌, ℕ, suc, ◌+◌, ◌-◌, Bool, true, false, List, [], ◌∷◌, ◌++◌, Option, Some, None, is_some, unwrap_or, length, take, drop, nat_le, nat_lt, slice_get, ◌==◌, ◌&&◌, if◌then◌else◌}
 use Rattle.vc_base.specs.declared.dict_method.DictMethod.{DictMethod}
 use Rattle.vc_base.specs.declared.dict_method.DictMethod.TheVariants.{DtSet, DtBag, DtOset, DtObag, DtList, DtStack, DtQueue}
 use Rattle.vc_base.specs.Methods.{is_set}
@@ -23,13 +23,20 @@ object_at (Some place) objects = slice_get objects place
 abbrev pub current : Contents → Option (List ℕ)
 current d = object_at d.place d.objects
 
--- the first place among so many objects, and the one behind another
+-- the first place among so many objects, the last, the one behind another, and the one before it
 abbrev pub first_place : ℕ → Option ℕ
 first_place count = if count == 0 then None else Some 0
+
+abbrev pub last_place : ℕ → Option ℕ
+last_place count = if count == 0 then None else Some (count - 1)
 
 abbrev pub next_place : ℕ → Option ℕ → Option ℕ
 next_place count None = None
 next_place count (Some place) = if nat_lt (place + 1) count then Some (place + 1) else None
+
+abbrev pub previous_place : Option ℕ → Option ℕ
+previous_place None = None
+previous_place (Some place) = if place == 0 then None else Some (place - 1)
 
 -- with another one current
 abbrev pub with_place : Option ℕ → Contents → Contents

@@ -4,7 +4,7 @@ use vc_base::{Addr, Cells, DictMethod, OutOfMemory};
 use vc_best::Best;
 use vc_dict::Dict;
 use vc_dtdisc::DictDisc;
-use vc_objects::{open, shut};
+use vc_objects::{empty, open, shut};
 use vc_seg::{BoxedDisc, RegionFault, SegDisc};
 
 /// A dictionary by one of seven methods in a region of its own, over the segments of a discipline. Its objects are byte
@@ -25,7 +25,7 @@ impl<D: DictDisc + Drop> Collection<D> {
     ghost use Rattle.vc_best.specs.Parts.{disc_in, segments_in};
     ghost use Rattle.vc_objects.specs.Leaves.{told_each, told_if};
     ghost use Rattle.vc_objects.specs.Promises.{StaysAll, opening_in};
-    ghost use Rattle.vc_store.specs.Reading.{AfterPut, current, first_place, found, next_place, place_after, with_place, without_key};
+    ghost use Rattle.vc_store.specs.Reading.{AfterPut, current, first_place, found, last_place, next_place, place_after, previous_place, with_place, without_key};
     ghost use Rattle.vc_store.specs.Tries.{IsTried, Tries};
     ghost use Rattle.vc_store.specs.Collections.{IsOpen, best_of, contents, dict_of, disc_of, kind_of, lender, lent_to};
 
@@ -108,6 +108,27 @@ impl<D: DictDisc + Drop> Collection<D> {
         }
     }
 
+    /// Makes the last object current, and answers whether there is one.
+    pub fn last(&mut self) -> bool
+        requires open { IsOpen (D.rules (kind_of self.old)) self.old (disc_of self.old state) }
+        ensures moved { contents self.new ≡ with_place
+            (last_place (length (contents self.old).objects)) (contents self.old) }
+        ensures there { result ≡ is_some (contents self.new).place }
+        ensures kind { kind_of self.new ≡ kind_of self.old }
+        ensures open { IsOpen (D.rules (kind_of self.new)) self.new (disc_of self.new state) }
+    {
+        match self.dict.last(&self.best) {
+            Some(at) => {
+                self.dict.current = at;
+                true
+            }
+            None => {
+                self.dict.current = Addr::NONE;
+                false
+            }
+        }
+    }
+
     /// Makes the object behind the current one current, and answers whether there is one: none behind the last, nor where none
     /// is current.
     pub fn next(&mut self) -> bool
@@ -123,6 +144,32 @@ impl<D: DictDisc + Drop> Collection<D> {
             return false;
         }
         match self.dict.next(&self.best, self.dict.current) {
+            Some(at) => {
+                self.dict.current = at;
+                true
+            }
+            None => {
+                self.dict.current = Addr::NONE;
+                false
+            }
+        }
+    }
+
+    /// Makes the object before the current one current, and answers whether there is one: none before the first, nor where none
+    /// is current.
+    pub fn prev(&mut self) -> bool
+        requires open { IsOpen (D.rules (kind_of self.old)) self.old (disc_of self.old state) }
+        ensures moved { contents self.new
+            ≡ with_place (previous_place (contents self.old).place) (contents self.old) }
+        ensures there { result ≡ is_some (contents self.new).place }
+        ensures kind { kind_of self.new ≡ kind_of self.old }
+        ensures open { IsOpen (D.rules (kind_of self.new)) self.new (disc_of self.new state) }
+    {
+        let here = self.dict.current;
+        if here == Addr::NONE {
+            return false;
+        }
+        match self.dict.prev(&self.best, here) {
             Some(at) => {
                 self.dict.current = at;
                 true
@@ -164,6 +211,20 @@ impl<D: DictDisc + Drop> Collection<D> {
         ensures open { IsOpen (D.rules (kind_of self.new)) self.new (disc_of self.new state) }
     {
         take(&mut self.best, &mut self.dict, &mut self.kind, key, out)
+    }
+
+    /// Takes all objects out in walk order, tells the kind of each, and answers how many they were.
+    pub fn empty(&mut self) -> u32
+        requires open { IsOpen (D.rules (kind_of self.old)) self.old (disc_of self.old state) }
+        ensures count { result ≡ length (contents self.old).objects }
+        ensures empty { contents self.new
+            ≡ record { method = (contents self.old).method; objects = []; place = None } }
+        ensures told { D.gone (kind_of self.new)
+            ≡ told_each (contents self.old).objects (D.gone (kind_of self.old)) }
+        ensures rules { D.rules (kind_of self.new) ≡ D.rules (kind_of self.old) }
+        ensures open { IsOpen (D.rules (kind_of self.new)) self.new (disc_of self.new state) }
+    {
+        empty(&mut self.best, &mut self.dict, &mut self.kind)
     }
 
     /// How many objects there are.
