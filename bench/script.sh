@@ -13,6 +13,15 @@
 #                                    in a dictionary of that method, half of them insert
 #   bench/script.sh turns OBJECTS OLD NEW   so many objects are put into a dictionary, which is turned to one method and
 #                                    then to another
+#   bench/script.sh keys METHOD LINES KEYS   so many lines on so many keys in a dictionary of that method: a third insert, a
+#                                    sixth delete, half search
+#   bench/script.sh line LINES       so many lines on a queue: of three, two insert and one takes the first object out
+#   bench/script.sh nexts METHOD OBJECTS   so many objects are put into a dictionary of that method, and 'first' and 'next'
+#                                    go through all
+#   bench/script.sh equals OBJECTS   so many objects of one key are put into a bag, and what is beside them is looked for
+#   bench/script.sh layers OBJECTS [walk]   two ordered sets have the same objects, so many, and the lower one as many more
+#                                    behind them; the upper one views the lower one, and is walked where 'walk' is told
+#   bench/script.sh halves METHOD BLOCKS   so many blocks in a region of that method, of which every second one is freed
 # It needs awk.
 set -eu
 
@@ -134,7 +143,86 @@ turns() {
     }'
 }
 
+keys() {
+    awk -v method="$1" -v lines="$2" -v keys="$3" '
+    function random(n) { seed = (seed * 1103515245 + 12345) % 2147483648; return int(seed / 65536) % n }
+    BEGIN {
+        seed = 1
+        print "open r best 9"
+        print "dict d " method " r 1"
+        for (i = 0; i < lines - 4; i++) {
+            what = random(6)
+            print (what < 2 ? "insert" : what == 2 ? "delete" : "search") " d k" random(keys)
+        }
+        print "shut d"
+        print "close r"
+    }'
+}
+
+line() {
+    awk -v lines="$1" 'BEGIN {
+        print "open r best 9"
+        print "dict d queue r 1"
+        for (i = 0; i < lines - 4; i++) print i % 3 < 2 ? "insert d k" i % 5000 : "delete d"
+        print "shut d"
+        print "close r"
+    }'
+}
+
+nexts() {
+    awk -v method="$1" -v objects="$2" 'BEGIN {
+        print "open r best 9"
+        print "dict d " method " r 1"
+        for (i = 1; i <= objects; i++) print "insert d o" (i * 7919) % 1000003
+        print "first d"
+        for (i = 1; i <= objects; i++) print "next d o" (i * 7919) % 1000003
+        print "shut d"
+        print "close r"
+    }'
+}
+
+equals() {
+    awk -v objects="$1" 'BEGIN {
+        print "open r best 9"
+        print "dict d bag r 1"
+        for (i = 1; i <= objects; i++) print "insert d one"
+        print "next d one"
+        print "prev d one"
+        print "shut d"
+        print "close r"
+    }'
+}
+
+layers() {
+    awk -v objects="$1" -v walk="${2-}" 'BEGIN {
+        print "open r best 9"
+        print "dict d oset r 1"
+        print "dict e oset r 1"
+        for (i = 0; i < objects; i++) {
+            print "insert d o" 1000000 + (i * 7919) % objects
+            print "insert e o" 1000000 + (i * 7919) % objects
+        }
+        for (i = 0; i < objects; i++) print "insert e o" 2000000 + (i * 7919) % objects
+        print "view d e"
+        if (walk != "") print "walk d"
+        print "view d -"
+        print "shut d"
+        print "shut e"
+        print "close r"
+    }'
+}
+
+halves() {
+    awk -v method="$1" -v blocks="$2" 'BEGIN {
+        print "open r " method " 9"
+        for (i = 1; i <= blocks; i++) print "alloc r b" i " " i % 100 + 1
+        for (i = 1; i <= blocks; i += 2) print "free r b" i
+        print "close r"
+    }'
+}
+
 case "${1-} $#" in
-    "objects 3" | "turns 4" | "frees 1" | "segments 1" | "resizes 1" | "resizes 2" | "one 1" | "one 2" | "live 2" | "puts 2" | "mixed 3" | "watches 2") "$@" ;;
-    *) echo "usage: bench/script.sh frees | segments | resizes [LINES] | one [LINES] | live BLOCKS | mixed METHOD BLOCKS | watches BLOCKS | puts OBJECTS | objects METHOD LINES | turns OBJECTS OLD NEW" >&2; exit 2 ;;
+    "frees 1" | "segments 1" | "resizes 1" | "resizes 2" | "one 1" | "one 2" | "live 2" | "mixed 3" | "watches 2" | "puts 2" | \
+    "objects 3" | "turns 4" | "keys 4" | "line 2" | "nexts 3" | "equals 2" | "layers 2" | "layers 3" | "halves 3") "$@" ;;
+    *) sed -n '/^#   bench/,/^# It needs/s/^#   //p' "$0" >&2; exit 2 ;;
 esac
