@@ -1,5 +1,6 @@
 use crate::paths::Toy;
 use crate::paths::views::number;
+use std::alloc::Global;
 use std::cmp::Ordering;
 use std::process::Abort;
 use std::test::Fail;
@@ -120,6 +121,98 @@ fn matches(rt: HostRuntime) {
         assert!(rt; bags.has(of, at));
         assert_eq!(rt; bags.kind_number(of), bags.kind_number(d));
         assert_eq!(rt; bags.find_like(d, of, at, &mut steps), want, "{d} {of}");
+    }
+}
+
+// The last object that matches each one, which is found by a compare with each behind it at most.
+fn lasts(rt: &impl Abort, toy: &mut Toy, rows: &[(u8, u32, u32)], alloc: Global) {
+    let mut steps: Steps<Asks> = Steps::new(alloc);
+    for (d, at, want) in rows {
+        let d = number(*d);
+        let at = Addr(*at);
+        let before = toy.compares.get();
+        assert!(rt; toy.has(d, at), "{d} {at:?}");
+        assert_eq!(rt; toy.last_like(d, at, &mut steps), Addr(*want), "{d} {at:?}");
+        assert!(rt; toy.compares.get().wrapping_sub(before) <= 3, "{d} {at:?}");
+    }
+}
+
+#[test]
+fn last_matches(rt: HostRuntime) {
+    for method in [
+        DictMethod::DtSet,
+        DictMethod::DtBag,
+        DictMethod::DtList,
+        DictMethod::DtStack,
+        DictMethod::DtQueue,
+    ] {
+        let rows = [
+            (0, 1, 3),
+            (0, 2, 2),
+            (0, 3, 3),
+            (1, 2, 2),
+            (2, 1, 1),
+            (2, 2, 3),
+        ];
+        lasts(&rt, &mut Toy::new(method), &rows, rt.alloc());
+    }
+    for method in [DictMethod::DtOset, DictMethod::DtObag] {
+        let rows = [(0, 1, 1), (1, 3, 3), (2, 1, 1), (2, 3, 4), (2, 4, 4)];
+        lasts(&rt, &mut Toy::new(method), &rows, rt.alloc());
+    }
+}
+
+// Of an ordered dictionary the first object that is greater than one of another dictionary, or back the last that is less.
+fn beside(
+    rt: &impl Abort,
+    toy: &mut Toy,
+    back: bool,
+    rows: &[(u8, u8, u32, Option<Addr>)],
+    alloc: Global,
+) {
+    let mut steps: Steps<Asks> = Steps::new(alloc);
+    for (d, of, at, want) in rows {
+        let d = number(*d);
+        let of = number(*of);
+        let at = Addr(*at);
+        assert!(rt; toy.has(of, at), "{of} {at:?}");
+        assert!(rt; toy.method(d).is_ordered(), "{d}");
+        assert_eq!(rt; toy.kind_number(of), toy.kind_number(d));
+        let found = if back {
+            toy.before_like(d, of, at, &mut steps)
+        } else {
+            toy.behind_like(d, of, at, &mut steps)
+        };
+        assert_eq!(rt; found, *want, "{d} {of} {at:?}");
+    }
+}
+
+#[test]
+fn neighbours_of_others(rt: HostRuntime) {
+    for method in [DictMethod::DtOset, DictMethod::DtObag] {
+        let mut toy = Toy::new(method);
+        let behind = [
+            (1, 0, 1, Some(Addr(2))),
+            (2, 0, 2, Some(Addr(3))),
+            (1, 0, 2, None),
+            (0, 2, 1, Some(Addr(1))),
+            (1, 2, 2, Some(Addr(2))),
+            (2, 2, 3, None),
+            (2, 2, 1, Some(Addr(2))),
+            (9, 2, 1, None),
+        ];
+        beside(&rt, &mut toy, false, &behind, rt.alloc());
+        let before = [
+            (1, 0, 1, Some(Addr(1))),
+            (2, 0, 2, Some(Addr(2))),
+            (1, 0, 2, Some(Addr(2))),
+            (0, 2, 1, None),
+            (1, 2, 2, Some(Addr(1))),
+            (2, 2, 4, Some(Addr(2))),
+            (0, 0, 2, Some(Addr(1))),
+            (9, 2, 1, None),
+        ];
+        beside(&rt, &mut toy, true, &before, rt.alloc());
     }
 }
 
