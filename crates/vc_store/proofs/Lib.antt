@@ -1,4 +1,5 @@
 pub mod Cursor
 pub mod Places
 pub mod Putting
+pub mod Removing
 pub mod Shown

@@ -238,7 +238,7 @@ abbrev gone_from : Option Object → List Object → List Object
 gone_from None xs = xs
 gone_from (Some o) xs = objects.without_object address_of o.at xs
 
-found-there : (test : Object → Bool) (xs : List Object) (o : Object) → find test xs ≡ Some o → contains (map address_of xs) o.at ≡ true
+pub found-there : (test : Object → Bool) (xs : List Object) (o : Object) → find test xs ≡ Some o → contains (map address_of xs) o.at ≡ true
 found-there test [] o e = absurd (none-some o e)
 found-there test (x ∷ xs) o e = by (test x) (found-there test xs o) e
   where

@@ -103,3 +103,13 @@ AfterPut no_room rules object d objects =
 abbrev pub place_after : Put → Rules → List ℕ → Contents → Option ℕ
 place_after put.New rules object d = Some (put_place d.method rules d.place object d.objects)
 place_after other rules object d = d.place
+
+-- the place of the first object that has a key; so many as there are where none has
+abbrev pub found_place : Rules → List ℕ → List (List ℕ) → ℕ
+found_place rules key objects = count_before (has_key rules key) objects
+
+-- the current place when the object at another place went and so many are left: of the same object, or of the one behind it where it was that one
+abbrev pub place_without : ℕ → ℕ → Option ℕ → Option ℕ
+place_without gone left None = None
+place_without gone left (Some place) =
+    if nat_lt gone place then Some (place - 1) else if nat_lt place left then Some place else None

@@ -25,7 +25,7 @@ impl<D: DictDisc + Drop> Collection<D> {
     ghost use Rattle.vc_best.specs.Parts.{disc_in, segments_in};
     ghost use Rattle.vc_objects.specs.Leaves.{told_each, told_if};
     ghost use Rattle.vc_objects.specs.Promises.{StaysAll, opening_in};
-    ghost use Rattle.vc_store.specs.Reading.{AfterPut, current, first_place, found, last_place, next_place, place_after, previous_place, with_place, without_key};
+    ghost use Rattle.vc_store.specs.Reading.{AfterPut, current, first_place, found, found_place, last_place, next_place, place_after, place_without, previous_place, with_place, without_key};
     ghost use Rattle.vc_store.specs.Tries.{IsTried, Tries};
     ghost use Rattle.vc_store.specs.Collections.{IsOpen, best_of, contents, dict_of, disc_of, kind_of, lender, lent_to};
 
@@ -195,13 +195,17 @@ impl<D: DictDisc + Drop> Collection<D> {
     }
 
     /// Takes the first object out that has a key, and answers whether there is one. Its bytes come into `out` in place of
-    /// what that holds, and the kind is told of it. With no memory for them nothing changes but `out`, which is empty then.
+    /// what that holds, and the kind is told of it. Where it was current, the one behind it is then, or none; else the current
+    /// one stays. With no memory for them nothing changes but `out`, which is empty then.
     pub fn remove(&mut self, key: &[u8], out: &mut Vec<u8>) -> Result<bool, OutOfMemory>
         requires open { IsOpen (D.rules (kind_of self.old)) self.old (disc_of self.old state) }
         ensures found { IfOk result (λ gone. (if gone then Some out.new.items else None)
             ≡ found (D.rules (kind_of self.old)) key.now (contents self.old).objects) }
         ensures objects { OnOk result ((contents self.new).objects
             ≡ without_key (D.rules (kind_of self.old)) key.now (contents self.old).objects) }
+        ensures place { OnOk result ((contents self.new).place ≡ place_without
+            (found_place (D.rules (kind_of self.old)) key.now (contents self.old).objects)
+            (length (contents self.new).objects) (contents self.old).place) }
         ensures told { IfOk result (λ gone. D.gone (kind_of self.new)
             ≡ told_if gone (Some out.new.items) (D.gone (kind_of self.old))) }
         ensures err { OnErr result ((contents self.new ≡ contents self.old)
