@@ -3,7 +3,6 @@ pub mod Behind
 pub mod StatusDue
 pub mod QuietCounts
 pub mod Feeds
-pub mod GatheredReply
 pub mod GeneratedRun
 pub mod SessionLasts
 pub mod ProperDicts

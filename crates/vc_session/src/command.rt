@@ -9,7 +9,6 @@ ghost use Rattle.vc_steps.specs.Steps.{RunsOver};
 ghost use Rattle.vc_steps.specs.Told.{rules_in};
 
 use crate::gather::gather;
-use std::alloc::Global;
 use vc_base::OutOfMemory;
 use vc_counts::{Counts, counted_step};
 use vc_dtdisc::DictDisc;
@@ -42,7 +41,6 @@ fn run_command<D: DictDisc>(
 
 // Runs the command of the line of that number, and gathers what is written of its reply. A quiet run counts it.
 pub(crate) fn run_answer<D: DictDisc>(
-    alloc: Global,
     quiet: bool,
     session: &mut Session<D>,
     shelf: &mut Shelf,
@@ -62,5 +60,5 @@ pub(crate) fn run_answer<D: DictDisc>(
         counts.old counts.new n command.now)) }
 {
     let reply = run_command(quiet, session, shelf, kinds, n, command, counts)?;
-    gather(alloc, quiet, n, &reply, replies)
+    gather(quiet, n, &reply, replies)
 }

@@ -86,9 +86,7 @@ fn run_line<D: DictDisc>(
         LineAnswer::Blank => Ok(None),
         LineAnswer::Bad(fault) => Ok(Some(fault)),
         LineAnswer::Is(command) => {
-            run_answer(
-                alloc, quiet, session, shelf, kinds, n, &command, counts, replies,
-            )?;
+            run_answer(quiet, session, shelf, kinds, n, &command, counts, replies)?;
             Ok(None)
         }
     }

@@ -1,13 +1,13 @@
-ghost use Rattle.std.specs.Prelude.{◌≡◌, Some, OnOk};
+ghost use Rattle.std.specs.Prelude.{◌≡◌, ◌++◌, Some, codes, decimal, OnErr, OnOk};
+ghost use Rattle.std.specs.Io.{StartsWith};
 ghost use Rattle.vc_script.specs.Needs.{need_for, need_shown};
 ghost use Rattle.vc_script.specs.Print.{line_of};
 ghost use Rattle.vc_session.specs.QuietText.{is_need, line_by};
 ghost use Rattle.vc_session.specs.Replay.{Told};
 
 use itoa::Buffer;
-use std::alloc::Global;
 use vc_base::OutOfMemory;
-use vc_script::{Refusal, Reply, print_reply};
+use vc_script::{Refusal, Reply, put_reply};
 
 // Whether a segment was refused.
 fn is_segment(why: Refusal) -> bool
@@ -29,36 +29,52 @@ fn refuses_segment(reply: &Reply) -> bool
     }
 }
 
-// Gathers the line of a reply behind those of the others.
-fn gather_line(alloc: Global, reply: &Reply, replies: &mut Vec<u8>) -> Result<(), OutOfMemory>
-    ensures { OnOk result (Told (Some replies.old.items) (Some replies.new.items)
-        (line_of reply.now)) }
+// Puts the line of a reply behind its number. Where memory is wanting, the number may stand there alone.
+#[tactic(auto, using(vc_script::proofs::PrintSteps::front_steps))]
+fn put_numbered(replies: &mut Vec<u8>, n: u32, reply: &Reply) -> Result<(), OutOfMemory>
+    ensures put { OnOk result (replies.new.items
+        ≡ replies.old.items ++ decimal n ++ codes " " ++ line_of reply.now) }
+    ensures front { StartsWith replies.new.items replies.old.items }
 {
-    let printed = print_reply(alloc, reply)?;
-    replies.extend_from_slice(printed.as_slice())?;
-    Ok(())
+    let mut number = Buffer::new();
+    replies.extend_from_slice(number.format(n).as_bytes())?;
+    replies.push(b' ')?;
+    put_reply(replies, reply)
 }
 
-// Gathers what is written of the reply to the command of a line: its line, or quietly only a refused segment, behind
-// the number.
+// The same, whole or not at all.
+fn gather_numbered(replies: &mut Vec<u8>, n: u32, reply: &Reply) -> Result<(), OutOfMemory>
+    ensures put { OnOk result (replies.new.items
+        ≡ replies.old.items ++ decimal n ++ codes " " ++ line_of reply.now) }
+    ensures same { OnErr result (replies.new.items ≡ replies.old.items) }
+{
+    let gathered = replies.len();
+    match put_numbered(replies, n, reply) {
+        Ok(()) => Ok(()),
+        Err(want) => {
+            replies.truncate(gathered);
+            Err(want)
+        }
+    }
+}
+
+// Gathers what is written of the reply to the command of a line, whole or not at all: its line, or quietly only a
+// refused segment, behind the number.
 pub(crate) fn gather(
-    alloc: Global,
     quiet: bool,
     n: u32,
     reply: &Reply,
     replies: &mut Vec<u8>,
 ) -> Result<(), OutOfMemory>
-    ensures { OnOk result (Told (Some replies.old.items) (Some replies.new.items)
+    ensures told { OnOk result (Told (Some replies.old.items) (Some replies.new.items)
         (line_by quiet (n, reply.now))) }
+    ensures same { OnErr result (replies.new.items ≡ replies.old.items) }
 {
     if !quiet {
-        return gather_line(alloc, reply, replies);
+        return put_reply(replies, reply);
     }
     if !refuses_segment(reply) {
         return Ok(());
     }
-    let mut number = Buffer::new();
-    replies.extend_from_slice(number.format(n).as_bytes())?;
-    replies.push(b' ')?;
-    gather_line(alloc, reply, replies)
+    gather_numbered(replies, n, reply)
 }

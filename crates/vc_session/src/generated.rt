@@ -70,7 +70,6 @@ fn write_full<O: Sink>(out: &mut O, gathered: &mut Vec<u8>) -> Result<(), WriteF
 
 // Runs a command quietly on the line of that number, gathers what is written of its reply, and lets the command go.
 fn run_made<D: DictDisc>(
-    alloc: Global,
     session: &mut Session<D>,
     shelf: &mut Shelf,
     kinds: &mut Vec<D>,
@@ -89,7 +88,7 @@ fn run_made<D: DictDisc>(
         counts.old counts.new line command)) }
 {
     run_answer(
-        alloc, true, session, shelf, kinds, line, &command, counts, gathered,
+        true, session, shelf, kinds, line, &command, counts, gathered,
     )
 }
 
@@ -118,9 +117,7 @@ fn run_commands<D: DictDisc, O: Sink>(
     let mut line = 0;
     while let Some(command) = generator.next(alloc)? {
         line += 1;
-        run_made(
-            alloc, session, shelf, kinds, line, command, counts, gathered,
-        )?;
+        run_made(session, shelf, kinds, line, command, counts, gathered)?;
         write_full(out, gathered)?;
     }
     write_all(out, gathered.as_slice())?;

@@ -10,7 +10,7 @@ returns g c =
         ran =
             if_ok-map c.gather.result
             (λ told. record { reply = c.in_ok-reply.reply; steps = let s = ran.steps in record { gives = s.gives; settles = s.settles; lacks = s.lacks }; told = told; counted = ran.counts_on.ran })
-            c.gather.ensures;
+            c.gather.ensures.told;
         can = on_ok-of c.gather.result ran.counts_on.can;
       };
     }
