@@ -95,8 +95,9 @@ mixed() {
 watches() { both 'watches' 3000 vmreplay watches N; }
 
 trace() {
-    tools/record -q "$dir/trace" -- "$(cc -print-prog-name=cc1)" -quiet -O1 -o "$dir/calls.s" bench/calls.c > "$dir/log" 2>&1 ||
-        { cat "$dir/log"; exit 1; }
+    cc -E -o "$dir/calls.i" bench/calls.c
+    tools/record -q "$dir/trace" -- "$(cc -print-prog-name=cc1)" -fpreprocessed -quiet -O1 -o "$dir/calls.s" "$dir/calls.i" \
+        > "$dir/log" 2>&1 || { cat "$dir/log"; exit 1; }
     lines=$(grep -cv '^#' "$dir/trace")
     for method in best debug profile; do
         sed "s/^open \\([^ ]*\\) [a-z]* /open \\1 $method /" "$dir/trace" > "$dir/script"

@@ -6,6 +6,7 @@ use Rattle.vc_dtdisc.specs.Rules.{Rules}
 use Rattle.vc_paths.specs.Visible.{Seen, seen_bytes}
 use Rattle.vc_script.specs.declared.command.Command.{Command}
 use Rattle.vc_script.specs.declared.command.Command.TheVariants.{Search, MatchKey, First, Last, Next, Prev, Walk}
+use Rattle.vc_script.specs.Target.{looks, target_of}
 use Rattle.vc_script.specs.declared.refusal.Refusal.TheVariants as why
 use Rattle.vc_script.specs.declared.reply.Reply.{Reply}
 use Rattle.vc_script.specs.declared.reply.Reply.TheVariants.{Found, Nothing, Objects, Refused}
@@ -13,14 +14,7 @@ use Rattle.vc_commands.specs.DictCommands.{is_object}
 
 -- whether a command looks through a view path
 abbrev pub is_look : Command → Bool
-is_look (Search d bytes) = true
-is_look (MatchKey d key) = true
-is_look (First d) = true
-is_look (Last d) = true
-is_look (Next d bytes) = true
-is_look (Prev d bytes) = true
-is_look (Walk d) = true
-is_look command = false
+is_look command = looks (target_of command)
 
 -- whether the object or key that a command looks for has 1 to 1,024 bytes, where it has one
 abbrev pub is_askable : Command → Bool

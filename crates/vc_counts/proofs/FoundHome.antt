@@ -18,6 +18,11 @@ use Rattle.vc_region.specs.Parts.{region_of}
 use Rattle.vc_region.specs.Region.{segments_of}
 use Rattle.vc_region.specs.Stat.{stat_of}
 use Rattle.vc_script.specs.declared.command.Command.{Command}
+use Rattle.vc_script.specs.declared.command.Command.TheVariants.{CloseRegion, OpenDict}
+use Rattle.vc_script.specs.Target as target
+use Rattle.vc_script.specs.Target.{target_of}
+use Rattle.vc_script.specs.declared.target.Target.TheVariants.{Region, Shelf}
+use Rattle.vc_base.specs.declared.dict_method.DictMethod.{DictMethod}
 use Rattle.vc_seg.specs.declared.stat.Stat.{Stat}
 use Rattle.vc_steps.proofs.Helds.{any-named}
 use Rattle.vc_steps.proofs.RegionAt.{RegionAt, region-named, region_at, stored_at}
@@ -67,6 +72,17 @@ module _ (hs : List Held) (views : ℕ → Option (List ℕ)) {A : Type 0} (told
   dict-told : (es : List (List ℕ × DictEntry)) → option_map told (dict_named d (dicts_in hs views es)) ≡ option_map by_entry (lookup (bytes_eq d) es)
   dict-told [] = refl
   dict-told (e ∷ es) = told-if (bytes_eq e.0 d) (bytes_eq d e.0) e (dict_named d (dicts_in hs views es)) (lookup (bytes_eq d) es) (bytes_eq-swapped e.0 d) (dict-told es)
+
+-- the region of a command in a region is the one that it names, and one on the shelf may name none
+pub region-worked : (command : Command) (r : List ℕ) → target_of command ≡ Region r → worked_in command ≡ Some r
+region-worked (CloseRegion q) r e = absurd cc
+region-worked (OpenDict d method q kind) r e = absurd cc
+region-worked command r e = ap target.region_at e
+
+pub shelf-worked : (command : Command) → target_of command ≡ Shelf → ((d : List ℕ) (method : DictMethod) (r : List ℕ) (kind : ℕ) → command ≡ OpenDict d method r kind → ⊥) → ((r : List ℕ) → command ≡ CloseRegion r → ⊥) → worked_in command ≡ None
+shelf-worked (OpenDict d method r kind) e opens closes = absurd (opens d method r kind refl)
+shelf-worked (CloseRegion r) e opens closes = absurd (closes r refl)
+shelf-worked command e opens closes = ap target.region_at e
 
 -- the region of a command on a dictionary is that of its entry, where the session has one
 pub dict-worked : {I : Type 0} {V : I → Type 0} {D : Type 0} (meaning : (x : I) × V x → Discipline) (session : Session D I V) (command : Command) (d : List ℕ) (o : Option DictEntry) → dict_of command ≡ Some d → o ≡ lookup (bytes_eq d) session.dicts.entries → option_map (λ (e : DictEntry). e.home) o ≡ region_worked (open_state meaning session) command

@@ -10,6 +10,7 @@ ghost use Rattle.vc_dict.specs.Stands.{slots_in, table_in};
 ghost use Rattle.vc_objects.specs.Objects.{slots_of, table_size};
 ghost use Rattle.vc_objects.specs.Parts.{table_of};
 ghost use Rattle.vc_script.specs.Needs.{is_refusal};
+ghost use Rattle.vc_script.specs.Target.{target_of};
 ghost use Rattle.vc_steps.specs.Homes.{IsSessionOver, held_in_session, state_over};
 ghost use Rattle.vc_steps.specs.Sizes.{AreNamed};
 ghost use Rattle.vc_steps.specs.State.{home_named};
@@ -25,9 +26,9 @@ use vc_base::{Name, OutOfMemory};
 use vc_dict::Dict;
 use vc_dtdisc::DictDisc;
 use vc_layouts::Tally;
-use vc_script::{Command, Reply};
+use vc_script::{Command, Reply, Target};
 use vc_seg::{BoxedDisc, SegDisc, Shelf};
-use vc_steps::{DictEntry, HomeEntry, Session, dict_of, region_of};
+use vc_steps::{DictEntry, HomeEntry, Session};
 
 // What is always true of the names of regions, and of those of dictionaries: no two are alike.
 fn show_names(homes: &IndexMap<Name, HomeEntry>, dicts: &IndexMap<Name, DictEntry>)
@@ -38,13 +39,14 @@ fn show_names(homes: &IndexMap<Name, HomeEntry>, dicts: &IndexMap<Name, DictEntr
     let _dictionaries = dicts.len();
 }
 
-// The region that a command names: the one in which it asks for segments, or that it closes.
-fn worked_in(command: &Command) -> Option<Name>
+// The region that a command on the shelf names: the one in which it opens a dictionary, or that it closes.
+fn worked_on_shelf(command: &Command) -> Option<Name>
+    requires { target_of command.now ≡ Target.Shelf }
     ensures { result ≡ worked_in command.now }
 {
     match command {
         Command::OpenDict(_, _, region, _) | Command::CloseRegion(region) => Some(*region),
-        _ => region_of(command),
+        _ => None,
     }
 }
 
@@ -52,10 +54,11 @@ fn worked_in(command: &Command) -> Option<Name>
 fn region_worked<D>(session: &Session<D>, command: &Command) -> Option<Name>
     ensures { result ≡ region_worked (open_state state session.now) command.now }
 {
-    match dict_of(command) {
-        None => worked_in(command),
-        Some(name) => match session.dicts.get(&name) {
-            Some(entry) => Some(entry.home),
+    match command.target() {
+        Target::Shelf => worked_on_shelf(command),
+        Target::Region(name) => Some(name),
+        Target::Dict(name, _) => match session.dict_index(&name) {
+            Some(i) => Some(session.dicts[i].home),
             None => None,
         },
     }
@@ -66,7 +69,7 @@ fn busy_named<D>(session: &Session<D>, name: &Name) -> u64
     requires { length session.now.labels.items ≡ length session.now.homes.entries }
     ensures { result ≡ busy_in_home (home_named name.now (open_state state session.now).homes) }
 {
-    match session.homes.get_index_of(name) {
+    match session.region_index(name) {
         Some(i) => session.homes[i].region.stat().sbusy,
         None => 0,
     }
@@ -88,8 +91,8 @@ fn table_bytes(dict: &Dict) -> u64
 fn table_named<D>(session: &Session<D>, name: &Name) -> u64
     ensures { result ≡ table_at_home (dict_named name.now (open_state state session.now).dicts) }
 {
-    match session.dicts.get(name) {
-        Some(entry) => table_bytes(&entry.dict),
+    match session.dict_index(name) {
+        Some(i) => table_bytes(&session.dicts[i].dict),
         None => 0,
     }
 }
@@ -137,7 +140,7 @@ fn segment_count_at<D>(session: &Session<D>, region: &Option<Name>) -> usize
     let Some(name) = region else {
         return 0;
     };
-    match session.homes.get_index_of(name) {
+    match session.region_index(name) {
         Some(i) => session.homes[i].region.segment_count(),
         None => 0,
     }
@@ -153,7 +156,7 @@ fn tally_behind_at<D>(session: &Session<D>, region: &Option<Name>, first: usize)
     let Some(name) = region else {
         return Tally::new();
     };
-    match session.homes.get_index_of(name) {
+    match session.region_index(name) {
         Some(i) => session.homes[i].region.tally_behind(first),
         None => Tally::new(),
     }

@@ -51,3 +51,4 @@ pub mod SessionHere
 pub mod SameLists
 pub mod OpensHere
 pub mod RefusedAt
+pub mod NearIndex

@@ -14,7 +14,8 @@ use Rattle.vc_commands.specs.DictCommands.{in_dict, is_for_table, table_refusal}
 use Rattle.vc_commands.specs.Seat.{DictChanged, Seat}
 use Rattle.vc_script.specs.Needs.{Need}
 use Rattle.vc_script.specs.declared.command.Command.{Command}
-use Rattle.vc_script.specs.declared.command.Command.TheVariants.{Insert, Append, Attach, Delete, Detach, Search, MatchKey, First, Last, Next, Prev, Walk, Count, View, Remethod, Empty, Shut}
+use Rattle.vc_script.specs.declared.command.Command.TheVariants.{View, Remethod, Shut}
+use Rattle.vc_script.specs.Target.{dict_at, target_of, works_alone}
 use Rattle.vc_script.specs.declared.refusal.Refusal.{Refusal}
 use Rattle.vc_script.specs.declared.refusal.Refusal.TheVariants as why
 use Rattle.vc_script.specs.declared.reply.Reply.TheVariants.{Opened, ShutDown, Views}
@@ -27,24 +28,7 @@ use Rattle.vc_commands.specs.Home.{Home, Label}
 
 -- the dictionary that a command works on
 abbrev pub dict_of : Command → Option (List ℕ)
-dict_of (Insert d bytes) = Some d
-dict_of (Append d bytes) = Some d
-dict_of (Attach d bytes) = Some d
-dict_of (Delete d bytes) = Some d
-dict_of (Detach d bytes) = Some d
-dict_of (Search d bytes) = Some d
-dict_of (MatchKey d key) = Some d
-dict_of (First d) = Some d
-dict_of (Last d) = Some d
-dict_of (Next d bytes) = Some d
-dict_of (Prev d bytes) = Some d
-dict_of (Walk d) = Some d
-dict_of (Count d) = Some d
-dict_of (View d viewed) = Some d
-dict_of (Remethod d method) = Some d
-dict_of (Empty d) = Some d
-dict_of (Shut d) = Some d
-dict_of command = None
+dict_of command = dict_at (target_of command)
 
 -- the dictionaries with another one of that name, and those without it
 abbrev pub with_dict : List ℕ → Dictionary → List DictHome → List DictHome
@@ -134,9 +118,7 @@ look_step s rules command d = looked_at s rules command d (seen_through rules s.
 
 -- whether a command runs on a dictionary alone: it neither ends it, nor lets it view another one, nor looks through its path
 abbrev pub runs_alone : Command → Bool
-runs_alone (Shut d) = false
-runs_alone (View d viewed) = false
-runs_alone command = not (is_look command)
+runs_alone command = works_alone (target_of command)
 
 -- whether a command gives a dictionary another method
 abbrev pub is_turn : Command → Bool

@@ -1,7 +1,8 @@
 -- One step of a session.
 use Rattle.std.specs.Prelude.{◌≡◌, ℕ, List, Option, Some, None, Bool, true, false}
 use Rattle.vc_script.specs.declared.command.Command.{Command}
-use Rattle.vc_script.specs.declared.command.Command.TheVariants.{OpenRegion, CloseRegion, OpenDict, ClearRegion, Compact, Alloc, Align, Resize, Free, WriteBlock, ReadBlock, SizeOf, AddrOf, SegmentOf, StatOf, Segments, Blocks, Poke, Check, Watch, ProfileOf}
+use Rattle.vc_script.specs.declared.command.Command.TheVariants.{OpenRegion, CloseRegion, OpenDict, ClearRegion}
+use Rattle.vc_script.specs.Target.{region_at, target_of}
 use Rattle.vc_script.specs.declared.refusal.Refusal.TheVariants as why
 use Rattle.vc_script.specs.Needs.{Need}
 use Rattle.vc_script.specs.declared.reply.Reply.{Reply}
@@ -14,25 +15,7 @@ use Rattle.vc_commands.specs.RegionCommands.{in_region}
 
 -- the region that a command works in
 abbrev pub region_of_command : Command → Option (List ℕ)
-region_of_command (ClearRegion r) = Some r
-region_of_command (Compact r) = Some r
-region_of_command (Alloc r x size site) = Some r
-region_of_command (Align r x size align) = Some r
-region_of_command (Resize r x size may_move) = Some r
-region_of_command (Free r x) = Some r
-region_of_command (WriteBlock r x off bytes) = Some r
-region_of_command (ReadBlock r x off len) = Some r
-region_of_command (SizeOf r x) = Some r
-region_of_command (AddrOf r at) = Some r
-region_of_command (SegmentOf r at) = Some r
-region_of_command (StatOf r) = Some r
-region_of_command (Segments r) = Some r
-region_of_command (Blocks r) = Some r
-region_of_command (Poke r x off byte) = Some r
-region_of_command (Check r) = Some r
-region_of_command (Watch r x) = Some r
-region_of_command (ProfileOf r) = Some r
-region_of_command command = None
+region_of_command command = region_at (target_of command)
 
 -- whether a command clears a region
 abbrev pub is_clear : Command → Bool

@@ -1,4 +1,6 @@
 ghost use Rattle.std.specs.Prelude.{◌≡◌, Some, IfSome, true, false, slice_get};
+ghost use Rattle.vc_script.specs.Target.{target_of};
+ghost use Rattle.vc_script.specs.declared.target.Target.TheVariants.{Dict};
 ghost use Rattle.vc_steps.specs.DictHomes.{dict_index};
 ghost use Rattle.vc_steps.specs.DictRuns.{RunsOn};
 ghost use Rattle.vc_steps.specs.Dicts.{dict_of, dict_step, runs_alone};
@@ -7,13 +9,14 @@ ghost use Rattle.vc_steps.specs.Homes.{IsSessionOver};
 ghost use Rattle.vc_steps.specs.Moment.{moment};
 ghost use Rattle.vc_steps.specs.Steps.{Stays, StepsBy};
 
+use crate::near::index_near;
 use crate::session::Session;
 use vc_base::{Name, OutOfMemory};
 use vc_dtdisc::DictDisc;
 use vc_region::Region;
-use vc_script::{Command, Refusal, Reply};
+use vc_script::{Command, Refusal, Reply, Work};
 use vc_seg::{BoxedDisc, SegDisc, Shelf};
-use vc_views::{is_barred, is_look, show_names};
+use vc_views::{is_barred, show_names};
 
 impl<D: DictDisc> Session<D> {
     // Runs a command on the dictionary of that name. With no memory its table may have grown.
@@ -22,10 +25,11 @@ impl<D: DictDisc> Session<D> {
         shelf: &Shelf,
         kinds: &mut Vec<D>,
         name: &Name,
+        work: Work,
         command: &Command,
     ) -> Result<Reply, OutOfMemory>
         requires session { IsSessionOver state D.rules shelf.now self.old kinds.old.items }
-        requires command { dict_of command.now ≡ Some name.now }
+        requires command { target_of command.now ≡ Dict name.now work }
         ensures steps { StepsBy result
             (moment state D.rules D.gone shelf.now self.old kinds.old.items)
             (moment state D.rules D.gone shelf.now self.new kinds.new.items)
@@ -33,26 +37,21 @@ impl<D: DictDisc> Session<D> {
         ensures stays { Stays state D.rules shelf.now self.old kinds.old.items
             shelf.now self.new kinds.new.items }
     {
-        let Some(i) = self.dicts.get_index_of(name) else {
+        let Some(i) = self.dict_index(name) else {
             return Ok(Reply::Refused(Refusal::NoDictionary));
         };
         show_names(&self.dicts);
-        if is_barred(&self.paths, self.dicts[i].number, command) {
+        if is_barred(&self.paths, self.dicts[i].number, work) {
             return Ok(Reply::Refused(Refusal::Viewed));
         }
-        match command {
-            Command::Shut(_) => {
+        match work {
+            Work::Look => self.look_at(shelf, kinds, name, i, command),
+            Work::View => Ok(self.view_by(shelf, kinds, name, i, command)),
+            Work::End => {
                 self.shut_at(shelf, kinds, i);
                 Ok(Reply::ShutDown(*name))
             }
-            Command::View(_, viewed) => Ok(self.view_named(shelf, kinds, name, i, viewed)),
-            _ => {
-                if is_look(command) {
-                    self.look_at(shelf, kinds, name, i, command)
-                } else {
-                    self.run_at(shelf, kinds, name, i, command)
-                }
-            }
+            _ => self.run_at(shelf, kinds, name, i, command),
         }
     }
 
@@ -77,10 +76,12 @@ impl<D: DictDisc> Session<D> {
     {
         show_names(&self.dicts);
         let entry = &self.dicts[i];
-        let Some(j) = self.homes.get_index_of(&entry.home) else {
+        let Some(j) = index_near(&self.homes, &entry.home, self.last_region) else {
             unreachable!()
         };
         let k = entry.dict.kind as usize - 1;
+        self.last_region = j;
+        self.last_dict = i;
         let Region::Best(best) = &mut self.homes[j].region else {
             unreachable!()
         };

@@ -1,7 +1,9 @@
 ghost use Rattle.std.specs.Prelude.{◌≡◌, Some, true};
 ghost use Rattle.vc_commands.specs.Looking.{is_look};
 ghost use Rattle.vc_script.specs.Needs.{need_shown};
+ghost use Rattle.vc_script.specs.Target.{target_of};
 ghost use Rattle.vc_script.specs.declared.command.Command.TheVariants.{View};
+ghost use Rattle.vc_script.specs.declared.target.Target.TheVariants.{Dict};
 ghost use Rattle.vc_steps.specs.DictHomes.{dict_index};
 ghost use Rattle.vc_steps.specs.DictRuns.{RunsOn};
 ghost use Rattle.vc_steps.specs.Dicts.{dict_of, dict_step};
@@ -13,7 +15,7 @@ ghost use Rattle.vc_steps.specs.Told.{rules_in};
 use crate::session::Session;
 use vc_base::{Name, OutOfMemory};
 use vc_dtdisc::DictDisc;
-use vc_script::{Command, Refusal, Reply};
+use vc_script::{Command, Refusal, Reply, Work};
 use vc_seg::{BoxedDisc, SegDisc, Shelf};
 use vc_views::{refusal_of, show_names, view_at};
 
@@ -62,6 +64,33 @@ impl<D: DictDisc> Session<D> {
         }
     }
 
+    // The same by a command that sets what the dictionary views.
+    pub(crate) fn view_by(
+        &mut self,
+        shelf: &Shelf,
+        kinds: &Vec<D>,
+        name: &Name,
+        i: usize,
+        command: &Command,
+    ) -> Reply
+        requires session { IsSessionOver state D.rules shelf.now self.old kinds.now.items }
+        requires command { target_of command.now ≡ Dict name.now Work.View }
+        requires index { dict_index name.now self.old.dicts.entries ≡ Some i }
+        ensures steps { Steps
+            (moment state D.rules D.gone shelf.now self.old kinds.now.items)
+            (moment state D.rules D.gone shelf.now self.new kinds.now.items)
+            command.now
+            (dict_step (state_over state (rules_in D.rules kinds.now.items) shelf.now self.old) name.now
+            command.now (need_shown result)) result }
+        ensures stays { Stays state D.rules shelf.now self.old kinds.now.items
+            shelf.now self.new kinds.now.items }
+    {
+        match command {
+            Command::View(_, viewed) => self.view_named(shelf, kinds, name, i, viewed),
+            _ => unreachable!(),
+        }
+    }
+
     // Runs a command that looks through the path of the dictionary of that name and index, from 0 on.
     pub(crate) fn look_at(
         &mut self,
@@ -79,6 +108,7 @@ impl<D: DictDisc> Session<D> {
             self.new kinds.now.items name.now command.now result }
     {
         show_names(&self.dicts);
+        self.last_dict = i;
         vc_views::look_at(
             self.alloc,
             &mut self.homes,

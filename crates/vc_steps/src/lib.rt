@@ -7,9 +7,10 @@ mod dict_run;
 mod dict_shut;
 mod dict_view;
 mod dicts;
+mod near;
 mod open;
 mod session;
 mod sizes;
 
-pub use session::{Session, dict_of, region_of};
+pub use session::Session;
 pub use vc_commands::{DictEntry, HomeEntry};

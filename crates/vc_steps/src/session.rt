@@ -16,62 +16,9 @@ use vc_base::{Name, OutOfMemory};
 use vc_commands::{DictEntry, HomeEntry, Labels};
 use vc_dict::Paths;
 use vc_dtdisc::DictDisc;
-use vc_script::{Command, Refusal, Reply, Tool};
+use vc_script::{Command, Refusal, Reply, Target, Tool};
 use vc_seg::{BoxedDisc, SegDisc, Shelf};
 use vc_views::end_views;
-
-/// The region that a command works in, None where it names none.
-pub fn region_of(command: &Command) -> Option<Name>
-    ensures { result ≡ region_of_command command.now }
-{
-    match command {
-        Command::ClearRegion(name)
-        | Command::Compact(name)
-        | Command::Alloc(name, _, _, _)
-        | Command::Align(name, _, _, _)
-        | Command::Resize(name, _, _, _)
-        | Command::Free(name, _)
-        | Command::WriteBlock(name, _, _, _)
-        | Command::ReadBlock(name, _, _, _)
-        | Command::SizeOf(name, _)
-        | Command::AddrOf(name, _)
-        | Command::SegmentOf(name, _)
-        | Command::StatOf(name)
-        | Command::Segments(name)
-        | Command::Blocks(name)
-        | Command::Poke(name, _, _, _)
-        | Command::Check(name)
-        | Command::Watch(name, _)
-        | Command::ProfileOf(name) => Some(*name),
-        _ => None,
-    }
-}
-
-/// The dictionary that a command works on, None where it names none.
-pub fn dict_of(command: &Command) -> Option<Name>
-    ensures { result ≡ dict_of command.now }
-{
-    match command {
-        Command::Insert(name, _)
-        | Command::Append(name, _)
-        | Command::Attach(name, _)
-        | Command::Delete(name, _)
-        | Command::Detach(name, _)
-        | Command::Search(name, _)
-        | Command::MatchKey(name, _)
-        | Command::First(name)
-        | Command::Last(name)
-        | Command::Next(name, _)
-        | Command::Prev(name, _)
-        | Command::Walk(name)
-        | Command::Count(name)
-        | Command::View(name, _)
-        | Command::Remethod(name, _)
-        | Command::Empty(name)
-        | Command::Shut(name) => Some(*name),
-        _ => None,
-    }
-}
 
 /// The regions and dictionaries that a script has open, over a shelf and kinds. A step runs one command; at the end every
 /// dictionary is shut and every region closed.
@@ -86,6 +33,10 @@ pub struct Session<D> {
     pub(crate) labels: Vec<Labels>,
     pub(crate) alloc: Global,
     pub(crate) is_spent: bool,
+    // The indices of the region and of the dictionary that a command worked on last: each may hold another one by now, or
+    // none.
+    pub(crate) last_region: usize,
+    pub(crate) last_dict: usize,
     kind: PhantomData<D>,
 }
 
@@ -98,6 +49,8 @@ impl<D> Drop for Session<D> {
             labels: _,
             alloc: _,
             is_spent: _,
+            last_region: _,
+            last_dict: _,
             kind: _,
         } = self;
     }
@@ -135,6 +88,8 @@ impl<D: DictDisc> Session<D> {
             labels: Vec::new(alloc),
             alloc,
             is_spent: false,
+            last_region: 0,
+            last_dict: 0,
             kind: PhantomData,
         })
     }
@@ -191,9 +146,10 @@ impl<D: DictDisc> Session<D> {
             command.now (λ s need. step_of s line command.now need (Some name.now)) }
         ensures regions { KeepsRegions state self.old shelf.now self.new }
     {
-        let Some(i) = self.homes.get_index_of(name) else {
+        let Some(i) = self.region_index(name) else {
             return Ok(Reply::Refused(Refusal::NoRegion));
         };
+        self.last_region = i;
         if self.clears_busy(name, command) {
             return Ok(Reply::Refused(Refusal::Busy));
         }
@@ -216,12 +172,10 @@ impl<D: DictDisc> Session<D> {
         ensures stays { Stays state D.rules shelf.old self.old kinds.old.items
             shelf.new self.new kinds.new.items }
     {
-        if let Some(name) = dict_of(command) {
-            return self.run_on_dict(shelf, kinds, &name, command);
-        }
-        match region_of(command) {
-            None => self.run_on_shelf(shelf, kinds, command),
-            Some(name) => self.run_in_region(shelf, &name, line, command),
+        match command.target() {
+            Target::Shelf => self.run_on_shelf(shelf, kinds, command),
+            Target::Region(name) => self.run_in_region(shelf, &name, line, command),
+            Target::Dict(name, work) => self.run_on_dict(shelf, kinds, &name, work, command),
         }
     }
 

@@ -17,7 +17,7 @@ impl<D> Session<D> {
         ensures { result ≡ size_in_home block.now
             (home_named region.now (map home_of (held_in_session state self.now))) }
     {
-        match self.homes.get_index_of(region) {
+        match self.region_index(region) {
             Some(i) => self.homes[i].size_named(&self.labels[i], block),
             None => 0,
         }

@@ -6,7 +6,11 @@ use Rattle.vc_paths.specs.Links.{Links, below, is_viewed}
 use Rattle.vc_commands.specs.declared.dict.entry.DictEntry.{DictEntry}
 use Rattle.vc_views.specs.Dicts.{HaveViewNumbers, entry_numbered}
 use Rattle.vc_script.specs.declared.command.Command.{Command}
-use Rattle.vc_script.specs.declared.command.Command.TheVariants.{Remethod, Shut}
+use Rattle.vc_script.specs.Target.{target_of}
+use Rattle.vc_script.specs.declared.target.Target.{Target}
+use Rattle.vc_script.specs.declared.target.Target.TheVariants.{Dict}
+use Rattle.vc_script.specs.declared.target.Work.{Work}
+use Rattle.vc_script.specs.declared.target.Work.TheVariants.{End, Turn}
 use Rattle.vc_views.specs.Views.{DictHome}
 
 -- the name of the dictionary of a number, where there is one
@@ -36,8 +40,16 @@ pub record AreLinked (links : Links) (entries : List (List ℕ × DictEntry)) : 
   pub numbered : HaveViewNumbers entries
   pub linked : (n m : ℕ) → below links n ≡ Some m → IsViewLink entries n m
 
--- whether a view stands against a command on the dictionary of a number: it ends one that another one views, or turns one that is viewed or views another one
+-- whether a view stands against what is done with the dictionary of a number: none is ended that another one views, and none turned that is viewed or views another one
+abbrev pub bars : Links → ℕ → Work → Bool
+bars links n End = is_viewed links n
+bars links n Turn = is_viewed links n || is_some (below links n)
+bars links n work = false
+
+abbrev pub bars_at : Links → ℕ → Target → Bool
+bars_at links n (Dict d work) = bars links n work
+bars_at links n target = false
+
+-- whether one stands against a command on it
 abbrev pub is_barred : Links → ℕ → Command → Bool
-is_barred links n (Shut d) = is_viewed links n
-is_barred links n (Remethod d method) = is_viewed links n || is_some (below links n)
-is_barred links n command = false
+is_barred links n command = bars_at links n (target_of command)

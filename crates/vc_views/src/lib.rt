@@ -10,6 +10,6 @@ mod viewing;
 
 pub use layers::DictLayers;
 pub use looking::look_at;
-pub use numbers::{end_views, free_number, is_barred, is_look, refusal_of, show_names};
+pub use numbers::{end_views, free_number, is_barred, refusal_of, show_names};
 pub use places::best_of;
 pub use viewing::view_at;

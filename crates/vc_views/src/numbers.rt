@@ -4,16 +4,15 @@ ghost use Rattle.std.specs.Map.{keys_of};
 ghost use Rattle.std.specs.Str.{bytes_eq};
 ghost use Rattle.vc_base.specs.Prelude.{contains};
 ghost use Rattle.vc_paths.specs.Links.{below, numbers};
-ghost use Rattle.vc_commands.specs.Looking.{is_look};
 ghost use Rattle.vc_views.specs.Dicts.{entry_numbered, number_in};
-ghost use Rattle.vc_views.specs.Numbers.{is_barred};
+ghost use Rattle.vc_views.specs.Numbers.{bars};
 ghost use Rattle.vc_views.specs.Views.{refusal_of_view};
 
 use indexmap::IndexMap;
 use vc_base::Name;
 use vc_commands::DictEntry;
 use vc_dict::{Paths, ViewFault};
-use vc_script::{Command, Refusal};
+use vc_script::{Refusal, Work};
 
 // There are so many numbers of dictionaries.
 const NUMBERS: u32 = 256;
@@ -45,33 +44,17 @@ pub fn free_number(dicts: &IndexMap<Name, DictEntry>) -> u32
     number
 }
 
-/// Whether a view stands against a command on the dictionary of that number, from 0 to 255: it ends one that another one
-/// views, or gives another method to one that is viewed or views another one. This project's own.
-pub fn is_barred(paths: &Paths, number: u32, command: &Command) -> bool
+/// Whether a view stands against what a command does with the dictionary of that number, from 0 to 255: it ends one that
+/// another one views, or gives another method to one that is viewed or views another one. This project's own.
+pub fn is_barred(paths: &Paths, number: u32, work: Work) -> bool
     requires { number < numbers }
-    ensures { result ≡ is_barred paths.now number command.now }
+    ensures { result ≡ bars paths.now number work }
 {
-    match command {
-        Command::Shut(_) => paths.is_viewed(number),
-        Command::Remethod(_, _) => paths.is_viewed(number) || paths.below(number).is_some(),
+    match work {
+        Work::End => paths.is_viewed(number),
+        Work::Turn => paths.is_viewed(number) || paths.below(number).is_some(),
         _ => false,
     }
-}
-
-/// Whether a command looks through a view path: `search`, `match`, `first`, `last`, `next`, `prev` and `walk` do.
-pub fn is_look(command: &Command) -> bool
-    ensures { result ≡ is_look command.now }
-{
-    matches!(
-        command,
-        Command::Search(_, _)
-            | Command::MatchKey(_, _)
-            | Command::First(_)
-            | Command::Last(_)
-            | Command::Next(_, _)
-            | Command::Prev(_, _)
-            | Command::Walk(_)
-    )
 }
 
 /// The refusal of a script for a view that can't be.

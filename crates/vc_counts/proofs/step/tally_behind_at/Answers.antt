@@ -12,13 +12,13 @@ none-behind : (first : ℕ) → tally_of [] ≡ tally_behind first []
 none-behind zero = refl
 none-behind (suc first) = refl
 
-pub returns-in-Some-get_index_of-clause-value : goal.returns-in-Some-get_index_of-clause-value
-returns-in-Some-get_index_of-clause-value g c =
+pub returns-in-Some-region_index-clause-value : goal.returns-in-Some-region_index-clause-value
+returns-in-Some-region_index-clause-value g c =
     let M = meaning g in
     let session = c.args.session.now in
     c.tally_behind.ensures.value
     ∙ ap (tally_behind c.args.first)
-    (segments-found M session.homes.entries session.labels.items c.in-Some.name c.requires c.in-Some-get_index_of.i c.index.result.now (sym c.in-Some-get_index_of.ensures.index) c.index.ensures
+    (segments-found M session.homes.entries session.labels.items c.in-Some.name c.requires c.in-Some-region_index.i c.index.result.now (sym c.in-Some-region_index.ensures.index) c.index.ensures
     ∙ ap (λ o. segments_at o (open_state M session).homes) (sym c.in-Some.is))
 
 pub returns-in-None-clause-value : goal.returns-in-None-clause-value

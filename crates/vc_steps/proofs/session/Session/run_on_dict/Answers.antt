@@ -1,18 +1,17 @@
-use Rattle.vc_base.proofs.Common.{◌≡◌, ◌<◌, false, slice_get, sym, ap, ◌∙◌, subst, same_Some, Discipline}
-use Rattle.vc_script.specs.Needs.{NoNeed, need_shown}
-use Rattle.vc_script.specs.declared.command.Command.TheVariants.{View}
+use Rattle.vc_base.proofs.Common.{◌≡◌, ◌<◌, false, slice_get, Some, sym, ap, ◌∙◌, Discipline}
+use Rattle.vc_script.specs.Needs.{NoNeed}
+use Rattle.vc_script.specs.Target.{dict_at, looks, works_alone}
+use Rattle.vc_script.specs.declared.target.Target.TheVariants.{Dict}
 use Rattle.vc_script.specs.declared.refusal.Refusal.TheVariants.{NoDictionary, Viewed}
 use Rattle.vc_script.specs.declared.reply.Reply.TheVariants.{Refused}
 use Rattle.vc_commands.specs.Held.{home_of}
 use Rattle.vc_paths.specs.Links.{is_viewed, numbers}
-use Rattle.vc_views.specs.Numbers.{is_barred, views_by}
+use Rattle.vc_views.specs.Numbers.{bars, bars_at, is_barred, views_by}
 use Rattle.vc_views.proofs.NumbersToNames.{all-at}
 use Rattle.vc_steps.specs.Dicts.{dict_command, dict_of, dict_step, on_found}
 use Rattle.vc_steps.specs.Homes.{held_in_session, state_over}
-use Rattle.vc_steps.specs.Moment.{moment}
-use Rattle.vc_steps.specs.Steps.{Steps}
 use Rattle.vc_steps.specs.Told.{gone_in, rules_in}
-use Rattle.vc_steps.proofs.BarredCommands.{barred-refused, runs-alone, viewed-here}
+use Rattle.vc_steps.proofs.BarredCommands.{barred-refused, ends-is, viewed-here, works-alone}
 use Rattle.vc_steps.proofs.RegionChange.{gives-same}
 use Rattle.vc_steps.proofs.DictEnd.{step-dict, step-shut}
 use Rattle.vc_steps.proofs.DictByName.{dict-none}
@@ -26,6 +25,10 @@ use Rattle.vc_steps.proofs.session.Session.run_on_dict.Goals.{After-index}
 
 abbrev meaning : (g : given.Over) → (x : g.dyn-1.0.I) × (g.dyn-1.0.entry x).0.Denot → Discipline
 meaning g p = (g.dyn-1.0.entry p.0).1.state p.1
+
+-- the command is on the dictionary of the name
+abbrev named : (g : given.Over) (c : After-index g) → dict_of c.args.command.now ≡ Some c.args.name.now
+named g c = ap dict_at c.requires.command
 
 -- the session, and the dictionary of the name
 abbrev here : (g : given.Over) (c : After-index g) → SessionHere (meaning g)
@@ -69,7 +72,8 @@ returns-then-is_barred-clause-steps g c =
       gives =
           gives-same (dict_step s d.name command NoNeed) all.gone (Refused Viewed) s
           (step-dict all.kinds all.slots (helds all) all.es (views all) d.i (entry_at d) there (first-at all d) all.dicts command NoNeed
-          ∙ barred-refused all.kinds all.slots (helds all) all.links all.es c.show_names.ensures all.are d.i (entry_at d) there command NoNeed (home_of is.home) is.rules (sym c.if-is_barred.ensures));
+          ∙ barred-refused all.kinds all.slots (helds all) all.links all.es c.show_names.ensures all.are d.i (entry_at d) there command NoNeed (home_of is.home) is.rules
+          (ap (bars_at all.links d.v.number) c.requires.command ∙ sym c.if-is_barred.ensures));
       settles = settles-same _;
       lacks = tt;
     }
@@ -80,46 +84,46 @@ shut_at-requires-clause-unviewed g c =
     let links = c.args.self.now.paths in
     let es = c.args.self.now.dicts.entries in
     if_some-to (λ (e : Entry). is_viewed links e.1.number ≡ false) (slice_get es d.i) (entry_at d) (stands-at es d)
-    (ap (is_barred links d.v.number) (sym c.in-Shut.is) ∙ sym c.if-is_barred.ensures)
+    (ap (bars links d.v.number) (sym c.in-End.is) ∙ sym c.if-is_barred.ensures)
 
-pub returns-in-Shut-clause-steps : goal.returns-in-Shut-clause-steps
-returns-in-Shut-clause-steps g c =
-    let a = (goal.at.returns-in-Shut-clause-steps g c).After-index in
+pub returns-in-End-clause-steps : goal.returns-in-End-clause-steps
+returns-in-End-clause-steps g c =
+    let a = (goal.at.returns-in-End-clause-steps g c).After-index in
     let all = here g a in
     let d = own g a in
     let there = stands-at all.es d in
     let shuts = if_some-at _ (slice_get all.es d.i) (entry_at d) there c.shut_at.ensures.shuts.shuts in
     let unviewed = viewed-here all.kinds all.slots (helds all) all.links all.es c.show_names.ensures all.are d.i (entry_at d) there
-    ∙ (ap (is_barred all.links d.v.number) (sym c.in-Shut.is) ∙ sym c.if-is_barred.ensures) in
+    ∙ (ap (bars all.links d.v.number) (sym c.in-End.is) ∙ sym c.if-is_barred.ensures) in
+    let ends = ends-is c.args.command.now d.name (c.requires.command ∙ ap (λ w. Dict d.name w) c.in-End.is) in
     record {
       gives =
-          step-shut all.kinds all.slots (helds all) all.es (views all) d.i (entry_at d) there (first-at all d) all.dicts c.args.command.now c.in-Shut.field-0 _
-          all.gone _ c.in-Shut.is unviewed shuts.state shuts.gone;
+          step-shut all.kinds all.slots (helds all) all.es (views all) d.i (entry_at d) there (first-at all d) all.dicts c.args.command.now d.name _
+          all.gone _ ends unviewed shuts.state shuts.gone;
       settles = settles-equal _ _ shuts.accounts;
       lacks = tt;
     }
 
+pub run_at-requires-clause-name : goal.run_at-requires-clause-name
+run_at-requires-clause-name g c = named g (goal.at.run_at-requires-clause-name g c).After-index
+
 pub run_at-requires-clause-alone : goal.run_at-requires-clause-alone
 run_at-requires-clause-alone g c =
-    runs-alone c.args.command.now c.in_default-command.not-Shut c.in_default-command.not-View (sym c.if-is_look.ensures)
+    ap works_alone c.requires.command ∙ works-alone c.args.name.now c.args.work c.in_default-work.not-Look c.in_default-work.not-View c.in_default-work.not-End
 
 pub run_at-requires-clause-free : goal.run_at-requires-clause-free
 run_at-requires-clause-free g c =
     let d = own g (goal.at.run_at-requires-clause-free g c).After-index in
     let es = c.args.self.now.dicts.entries in
-    if_some-to (λ (e : Entry). is_barred c.args.self.now.paths e.1.number c.args.command.now ≡ false) (slice_get es d.i) (entry_at d) (stands-at es d) (sym c.if-is_barred.ensures)
+    let links = c.args.self.now.paths in
+    if_some-to (λ (e : Entry). is_barred links e.1.number c.args.command.now ≡ false) (slice_get es d.i) (entry_at d) (stands-at es d)
+    (ap (bars_at links d.v.number) c.requires.command ∙ sym c.if-is_barred.ensures)
 
-pub returns-in-View-clause-steps : goal.returns-in-View-clause-steps
-returns-in-View-clause-steps g c =
-    let M = meaning g in
-    let rules = g.D.DictDisc.rules in
-    let gone = g.D.DictDisc.gone in
-    let items = c.args.kinds.now.items in
-    let shelf = c.args.shelf.now in
-    let old = c.args.self.now in
-    let new = c.view_named.new.self in
-    let name = c.args.name.now in
-    let viewed = c.in-View.viewed in
-    subst (λ x. Steps (moment M rules gone shelf old items) (moment M rules gone shelf new items) x (dict_step (state_over M (rules_in rules items) shelf old) name x (need_shown c.view_named.result)) c.view_named.result)
-    (sym (c.in-View.is ∙ ap (λ n. View n viewed) (same_Some c.in-View.field-0 name (sym (ap dict_of c.in-View.is) ∙ c.requires.command))))
-    c.view_named.ensures.steps
+pub look_at-requires-clause-name : goal.look_at-requires-clause-name
+look_at-requires-clause-name g c = named g (goal.at.look_at-requires-clause-name g c).After-index
+
+pub look_at-requires-clause-look : goal.look_at-requires-clause-look
+look_at-requires-clause-look g c = ap looks (c.requires.command ∙ ap (λ w. Dict c.args.name.now w) c.in-Look.is)
+
+pub view_by-requires-clause-command : goal.view_by-requires-clause-command
+view_by-requires-clause-command g c = c.requires.command ∙ ap (λ w. Dict c.args.name.now w) c.in-View.is

@@ -1,0 +1,11 @@
+use Rattle.vc_base.proofs.Common.{sym}
+use Rattle.vc_steps.proofs.NearIndex.{near-index, near-value}
+use Rattle.vc_steps.proofs.near.index_near.Goals as goal
+
+pub returns-then-eq-clause-index : goal.returns-then-eq-clause-index
+returns-then-eq-clause-index g c =
+    sym (near-index c.args.map.now.entries c.args.near c.in-Some.key.now c.in-Some.field-0-1.now c.len-count.ensures.unique c.in-Some.ensures.entry c.args.name.now (sym c.if-eq.ensures))
+
+pub returns-then-eq-clause-value : goal.returns-then-eq-clause-value
+returns-then-eq-clause-value g c =
+    sym (near-value c.args.map.now.entries c.args.near c.in-Some.key.now c.in-Some.field-0-1.now c.len-count.ensures.unique c.in-Some.ensures.entry c.args.name.now (sym c.if-eq.ensures))
