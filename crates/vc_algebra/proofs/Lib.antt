@@ -2,3 +2,4 @@ pub mod ComeLemmas
 pub mod MergeLemmas
 pub mod OwnLemmas
 pub mod RangeLemmas
+pub mod ToyLemmas

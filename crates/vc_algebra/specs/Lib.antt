@@ -2,3 +2,5 @@ pub mod Algebra
 pub mod Faults
 pub mod Rows
 pub mod ToCome
+pub mod Toy
+pub mod ToyLaws

@@ -7,6 +7,8 @@ mod op;
 mod ordered;
 mod ranges;
 mod rows;
+#[cfg(test)]
+mod tests;
 mod turn;
 
 pub use fault::AlgebraFault;
