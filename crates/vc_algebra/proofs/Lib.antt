@@ -3,3 +3,4 @@ pub mod MergeLemmas
 pub mod OwnLemmas
 pub mod RangeLemmas
 pub mod ToyLemmas
+pub mod SeenLemmas

@@ -1,11 +1,12 @@
-ghost use Rattle.std.specs.Prelude.{◌<◌, IfOk};
+ghost use Rattle.std.specs.Prelude.{◌<◌, IfOk, IfSome, true};
 ghost use Rattle.vc_paths.specs.Links.{numbers};
-ghost use Rattle.vc_algebra.specs.Toy.{HavePaths};
+ghost use Rattle.vc_paths.specs.Path.{IsPathBy, IsVisible, numbers_of};
+ghost use Rattle.vc_algebra.specs.Toy.{HavePaths, toy_layers};
 
 mod toy;
 
 use crate::tests::toy::Toy;
-use crate::{AlgebraFault, Merge, Op, range_first};
+use crate::{AlgebraFault, Merge, Op, range_first, range_next};
 use std::alloc::Global;
 use std::process::Abort;
 use std::test::Fail;
@@ -13,6 +14,8 @@ use vc_base::{Addr, OutOfMemory, Steps};
 use vc_paths::Paths;
 
 struct Asks;
+
+type Place = Option<(u32, Addr)>;
 
 // The number of a dictionary.
 fn number(d: u8) -> u32
@@ -107,5 +110,77 @@ fn refusals_in_order(rt: HostRuntime) -> Result<(), Fail> {
     let mut steps: Steps<Asks> = Steps::new(rt.alloc());
     let answer = range_first(&paths, &mut Toy, number(6), None, None, &mut steps);
     assert_eq!(rt; answer, Err(AlgebraFault::NotOrdered));
+    Ok(())
+}
+
+// The first place of a range.
+fn first_in(
+    paths: &Paths,
+    d: u32,
+    low: Option<&[u8]>,
+    high: Option<&[u8]>,
+    steps: &mut Steps<Asks>,
+) -> Result<Place, AlgebraFault>
+    requires { IsPathBy true toy_layers paths.now d }
+    ensures { IfOk result (λ at. IfSome at (λ p. IsVisible toy_layers paths.now d (numbers_of p))) }
+{
+    range_first(paths, &mut Toy, d, low, high, steps)
+}
+
+// The place behind one of a range.
+fn next_in(paths: &Paths, d: u32, at: Place, high: Option<&[u8]>, steps: &mut Steps<Asks>) -> Place
+    requires path { IsPathBy true toy_layers paths.now d }
+    requires seen { IfSome at (λ p. IsVisible toy_layers paths.now d (numbers_of p)) }
+    ensures { IfSome result (λ p. IsVisible toy_layers paths.now d (numbers_of p)) }
+{
+    match at {
+        Some(from) => range_next(paths, &mut Toy, d, from, high, steps),
+        None => None,
+    }
+}
+
+// All of a range.
+fn ranged(
+    rt: &impl Abort,
+    paths: &Paths,
+    d: u32,
+    low: Option<&[u8]>,
+    high: Option<&[u8]>,
+    want: &[(u32, u32)],
+    alloc: Global,
+) -> Result<(), Fail>
+    requires { IsPathBy true toy_layers paths.now d }
+{
+    let mut steps: Steps<Asks> = Steps::new(alloc);
+    let mut next = first_in(paths, d, low, high, &mut steps)?;
+    for (own, place) in want {
+        let place = Some((*own, Addr(*place)));
+        assert_eq!(rt; next, place, "{low:?} {high:?}");
+        next = next_in(paths, d, next, high, &mut steps);
+    }
+    assert_eq!(rt; next, None, "{low:?} {high:?}");
+    Ok(())
+}
+
+#[test]
+fn ranges(rt: HostRuntime) -> Result<(), Fail> {
+    let rows: [(
+        Option<&'static [u8]>,
+        Option<&'static [u8]>,
+        &'static [(u32, u32)],
+    ); 8] = [
+        (None, None, &[(0, 1), (0, 2), (0, 3)]),
+        (Some(b"q"), Some(b"b"), &[]),
+        (Some(b"f"), Some(b"b"), &[]),
+        (Some(b"f"), None, &[(0, 2), (0, 3)]),
+        (None, Some(b"f"), &[(0, 1), (0, 2)]),
+        (Some(b"b"), Some(b"y"), &[(0, 2), (0, 3)]),
+        (Some(b"F"), Some(b"f"), &[(0, 2)]),
+        (Some(b"q"), None, &[]),
+    ];
+    let paths = alone(rt.alloc())?;
+    for (low, high, want) in rows {
+        ranged(&rt, &paths, 0, low, high, want, rt.alloc())?;
+    }
     Ok(())
 }

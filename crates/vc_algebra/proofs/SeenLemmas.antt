@@ -1,0 +1,38 @@
+-- What is seen of what a range answers.
+use Rattle.vc_base.proofs.Common.{◌≡◌, ℕ, Bool, true, false, cond, List, filter, Some, None, Option, IfOk, IfSome, Result, Ok, Err, sym, ◌∙◌, inl, inr, true≢false, cases_Bool, list_any}
+use Rattle.vc_base.specs.declared.addr.Addr.{Addr}
+use Rattle.vc_dtdisc.specs.Finding.{behind_last, first_of}
+use Rattle.vc_dtdisc.specs.Rules.{Rules}
+use Rattle.vc_paths.specs.Path.{Answers, is_at, numbers_of}
+use Rattle.vc_paths.specs.Visible.{Seen}
+use Rattle.vc_paths.proofs.EndLemmas.{any-filter}
+use Rattle.vc_algebra.specs.Algebra.{if_upto, is_over}
+use Rattle.vc_algebra.proofs.ComeLemmas.{seen-behind, seen-first}
+use Rattle.vc_algebra.proofs.RangeLemmas.{none-place}
+
+-- what a range answers is seen
+seen-filter : {A : Type 0} (t p : A → Bool) (xs : List A) → list_any t (filter p xs) ≡ true → list_any t xs ≡ true
+seen-filter t p xs h = elim (cases_Bool (list_any t xs)) as (λ _. list_any t xs ≡ true) [
+  | inl any ↦ any
+  | inr none ↦ absurd (true≢false (sym h ∙ any-filter t p xs none))
+]
+
+pub first-seen : (r : Option (ℕ × Addr)) (p : Seen ℕ → Bool) (xs : List (Seen ℕ)) → Answers r (first_of (filter p xs)) → IfSome r (λ q. list_any (is_at (numbers_of q)) xs ≡ true)
+first-seen None p xs a = tt
+first-seen (Some q) p xs a = seen-filter (is_at (numbers_of q)) p xs (seen-first (Some q) (filter p xs) a)
+
+cut : (q : ℕ × Addr) (x : Seen ℕ) (t : Bool) → Answers (Some q) (cond t None (Some x)) → Answers (Some q) (Some x)
+cut q x true a = absurd (none-place (numbers_of q) (sym a))
+cut q x false a = a
+
+whole : (q : ℕ × Addr) (rules : Rules) (high : Option (List ℕ)) (o : Option (Seen ℕ)) → Answers (Some q) (if_upto rules high o) → Answers (Some q) o
+whole q rules high None a = a
+whole q rules high (Some x) a = cut q x (is_over rules high x) a
+
+pub next-seen : (r : Option (ℕ × Addr)) (p : ℕ × ℕ) (rules : Rules) (high : Option (List ℕ)) (xs : List (Seen ℕ)) → Answers r (if_upto rules high (behind_last (is_at p) xs)) → IfSome r (λ q. list_any (is_at (numbers_of q)) xs ≡ true)
+next-seen None p rules high xs a = tt
+next-seen (Some q) p rules high xs a = seen-behind p (Some q) xs (whole q rules high (behind_last (is_at p) xs) a)
+
+pub if-first : {E : Type 0} (r : Result (Option (ℕ × Addr)) E) (p : Seen ℕ → Bool) (xs : List (Seen ℕ)) → IfOk r (λ o. Answers o (first_of (filter p xs))) → IfOk r (λ o. IfSome o (λ q. list_any (is_at (numbers_of q)) xs ≡ true))
+if-first (Ok o) p xs a = first-seen o p xs a
+if-first (Err e) p xs a = a
