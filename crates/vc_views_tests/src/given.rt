@@ -64,3 +64,68 @@ pub(crate) fn session<D: DictDisc>(
     }
     Ok(session)
 }
+
+// The line that inserts a number, by its last five digits.
+fn line_of(dict: u8, n: u32) -> [u8; 14] {
+    let mut line = *b"insert a 00000";
+    line[7] = dict;
+    line[9] = digit(n / 10_000);
+    line[10] = digit(n / 1_000);
+    line[11] = digit(n / 100);
+    line[12] = digit(n / 10);
+    line[13] = digit(n);
+    line
+}
+
+// The last digit of a number.
+fn digit(n: u32) -> u8 {
+    ((n % 10) as u8).wrapping_add(b'0')
+}
+
+// So, and then `n` numbers were put into each of three dictionaries: every second one from 0 on, every second one from 1 on,
+// and every fourth one, in an order that jumps.
+pub(crate) fn filled<D: DictDisc>(
+    rt: &impl Abort,
+    alloc: Global,
+    shelf: &mut Shelf,
+    kinds: &mut Vec<D>,
+    lines: &[&'static [u8]],
+    n: u32,
+) -> Result<Session<D>, Fail>
+    ensures { IfOk result (λ session.
+        IsSessionOver state D.rules shelf.new session kinds.new.items) }
+{
+    let mut session = session(rt, alloc, shelf, kinds, lines)?;
+    let mut i: u32 = 0;
+    for _put in 0..n {
+        run_line(
+            rt,
+            alloc,
+            &mut session,
+            shelf,
+            kinds,
+            &line_of(b'a', i.wrapping_mul(2)),
+        )?;
+        run_line(
+            rt,
+            alloc,
+            &mut session,
+            shelf,
+            kinds,
+            &line_of(b'b', i.wrapping_mul(2).wrapping_add(1)),
+        )?;
+        run_line(
+            rt,
+            alloc,
+            &mut session,
+            shelf,
+            kinds,
+            &line_of(b'c', i.wrapping_mul(4)),
+        )?;
+        i = i.wrapping_add(389);
+        if i >= n {
+            i = i.wrapping_sub(n);
+        }
+    }
+    Ok(session)
+}

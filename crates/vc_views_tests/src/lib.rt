@@ -4,6 +4,10 @@
 #[cfg(test)]
 mod calls;
 #[cfg(test)]
+mod costs;
+#[cfg(test)]
+mod counted;
+#[cfg(test)]
 mod given;
 #[cfg(test)]
 mod looks;

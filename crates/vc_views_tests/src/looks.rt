@@ -92,3 +92,24 @@ pub(crate) fn are_walked<Y: Layers>(
     assert_eq!(rt; at, None, "{d}");
     assert_eq!(rt; last(paths, layers, e, &mut steps), end, "{d}");
 }
+
+// So many objects are seen through a dictionary.
+pub(crate) fn walk_all<Y: Layers>(
+    rt: &impl Abort,
+    alloc: Global,
+    paths: &Paths,
+    layers: &mut Y,
+    d: u32,
+    count: u32,
+)
+    requires { AreFourPaths (Y.layered layers.old) paths.now }
+{
+    let e = number(rt, d);
+    let mut steps: Steps<Asks> = Steps::new(alloc);
+    let mut at = first(paths, layers, e, &mut steps);
+    for _step in 0..count {
+        let here = at.expect(rt, "an object");
+        at = walk_next(paths, layers, e, here, &mut steps);
+    }
+    assert_eq!(rt; at, None, "{d}");
+}

@@ -5,7 +5,9 @@ ghost use Rattle.vc_paths.specs.Layers.{Same};
 ghost use Rattle.vc_views.specs.Numbers.{AreLinked};
 ghost use Rattle.vc_views_tests.specs.Four.{AreFour, AreFourPaths, AreInOrder};
 
-use crate::calls::{are_found, are_kinds, are_matched, are_objects, are_ordered};
+use crate::calls::{
+    are_beside, are_found, are_kinds, are_lasts, are_matched, are_objects, are_ordered,
+};
 use crate::given::{kinds, put, session};
 use crate::looks::{are_seen, are_walked};
 use indexmap::IndexMap;
@@ -31,12 +33,14 @@ struct Case {
     found: &'static [(u32, &'static [u8], Option<u32>)],
     matched: &'static [(u32, u32, u32, Option<u32>)],
     ordered: &'static [(u32, u32, u32, u32, Ordering)],
+    lasts: &'static [(u32, &'static [u32])],
+    beside: &'static [(u32, u32, u32, Option<u32>, Option<u32>)],
     seen: &'static [(u32, &'static [u8], [Option<Spot>; 3])],
     walked: [(u32, &'static [Spot]); 4],
 }
 
 // The dictionaries have the numbers from 0 to 3, in order of opening.
-fn are_four(rt: &impl Abort, dicts: &IndexMap<Name, DictEntry>)
+pub(crate) fn are_four(rt: &impl Abort, dicts: &IndexMap<Name, DictEntry>)
     ensures { AreInOrder 4 dicts.now.entries }
 {
     assert!(rt; dicts.len() == 4);
@@ -60,6 +64,8 @@ fn are_layers<Y: Layers>(rt: &impl Abort, alloc: Global, layers: &mut Y, case: &
     are_ordered(rt, alloc, layers, case.ordered);
     are_found(rt, alloc, layers, case.found);
     are_matched(rt, alloc, layers, case.matched);
+    are_lasts(rt, alloc, layers, case.lasts);
+    are_beside(rt, alloc, layers, case.beside);
 }
 
 // So does each call that looks along a path.
@@ -187,6 +193,8 @@ const IN_NO_ORDER: Case = Case {
         (1, 2, 2, 1, Ordering::Less),
         (3, 0, 3, 1, Ordering::Greater),
     ],
+    lasts: &[(0, &[2, 1, 2]), (1, &[0, 1, 2]), (2, &[0, 1]), (3, &[0, 1])],
+    beside: &[],
     seen: &[
         (0, b"PEAR", [Some((0, 0)), Some((1, 0)), None]),
         (0, b"fig", [Some((0, 1)), Some((0, 2)), Some((0, 0))]),
@@ -221,7 +229,7 @@ const IN_ORDER: Case = Case {
         b"dict a obag r 1",
         b"dict b obag s 1",
         b"dict c obag r 1",
-        b"dict d stack s 2",
+        b"dict d oset s 1",
         b"insert a Pear",
         b"insert a fig",
         b"insert a PEAR",
@@ -232,6 +240,9 @@ const IN_ORDER: Case = Case {
         b"insert c LIME",
         b"insert c Apple",
         b"insert c kiwi",
+        b"insert d Nut",
+        b"insert d fig",
+        b"insert d LIME",
         b"view a b",
         b"view b c",
     ],
@@ -239,13 +250,13 @@ const IN_ORDER: Case = Case {
         (0, DictMethod::DtObag, 1),
         (1, DictMethod::DtObag, 1),
         (2, DictMethod::DtObag, 1),
-        (3, DictMethod::DtStack, 2),
+        (3, DictMethod::DtOset, 1),
     ],
     objects: [
         (0, &[b"fig", b"Pear", b"PEAR"]),
         (1, &[b"apple", b"Fig", b"lime"]),
         (2, &[b"Apple", b"kiwi", b"LIME", b"plum"]),
-        (3, &[]),
+        (3, &[b"fig", b"LIME", b"Nut"]),
     ],
     found: &[
         (0, b"FIG", Some(0)),
@@ -269,6 +280,66 @@ const IN_ORDER: Case = Case {
         (0, 0, 1, 2, Ordering::Less),
         (2, 3, 0, 2, Ordering::Greater),
     ],
+    lasts: &[
+        (0, &[0, 2, 2]),
+        (1, &[0, 1, 2]),
+        (2, &[0, 1, 2, 3]),
+        (3, &[0, 1, 2]),
+    ],
+    beside: &[
+        (0, 0, 0, Some(1), None),
+        (0, 0, 1, Some(2), Some(0)),
+        (0, 0, 2, Some(1), Some(0)),
+        (0, 0, 3, Some(1), None),
+        (0, 1, 0, None, Some(0)),
+        (0, 1, 1, None, Some(2)),
+        (0, 1, 2, Some(3), Some(2)),
+        (0, 1, 3, None, Some(2)),
+        (0, 2, 0, None, Some(0)),
+        (0, 2, 1, None, Some(2)),
+        (0, 2, 2, Some(3), Some(2)),
+        (0, 2, 3, None, Some(2)),
+        (1, 0, 0, Some(0), None),
+        (1, 0, 1, Some(1), None),
+        (1, 0, 2, Some(1), None),
+        (1, 0, 3, Some(0), None),
+        (1, 1, 0, Some(1), None),
+        (1, 1, 1, Some(2), Some(0)),
+        (1, 1, 2, Some(1), Some(0)),
+        (1, 1, 3, Some(1), None),
+        (1, 2, 0, Some(1), Some(0)),
+        (1, 2, 1, None, Some(1)),
+        (1, 2, 2, Some(3), Some(1)),
+        (1, 2, 3, Some(2), Some(0)),
+        (2, 0, 0, Some(0), None),
+        (2, 0, 1, Some(1), None),
+        (2, 0, 2, Some(1), None),
+        (2, 0, 3, Some(0), None),
+        (2, 1, 0, Some(1), Some(0)),
+        (2, 1, 1, Some(2), Some(1)),
+        (2, 1, 2, Some(2), Some(0)),
+        (2, 1, 3, Some(1), Some(0)),
+        (2, 2, 0, Some(1), Some(0)),
+        (2, 2, 1, None, Some(1)),
+        (2, 2, 2, Some(3), Some(1)),
+        (2, 2, 3, Some(2), Some(0)),
+        (2, 3, 0, None, Some(2)),
+        (2, 3, 1, None, Some(2)),
+        (2, 3, 2, None, Some(2)),
+        (2, 3, 3, None, Some(2)),
+        (3, 0, 0, Some(1), None),
+        (3, 0, 1, Some(2), Some(0)),
+        (3, 0, 2, Some(1), Some(0)),
+        (3, 0, 3, Some(1), None),
+        (3, 1, 0, Some(1), Some(0)),
+        (3, 1, 1, None, Some(1)),
+        (3, 1, 2, Some(3), Some(1)),
+        (3, 1, 3, Some(2), Some(0)),
+        (3, 2, 0, Some(1), Some(0)),
+        (3, 2, 1, None, Some(2)),
+        (3, 2, 2, Some(3), Some(2)),
+        (3, 2, 3, None, Some(1)),
+    ],
     seen: &[
         (0, b"apple", [Some((1, 0)), Some((0, 0)), None]),
         (0, b"FIG", [Some((0, 0)), Some((2, 1)), Some((1, 0))]),
@@ -287,11 +358,80 @@ const IN_ORDER: Case = Case {
         (0, &[(1, 0), (0, 0), (2, 1), (1, 2), (0, 1), (0, 2), (2, 3)]),
         (1, &[(1, 0), (1, 1), (2, 1), (1, 2), (2, 3)]),
         (2, &[(2, 0), (2, 1), (2, 2), (2, 3)]),
-        (3, &[]),
+        (3, &[(3, 0), (3, 1), (3, 2)]),
     ],
 };
 
 #[test]
 fn in_order(rt: HostRuntime) -> Result<(), Fail> {
     is_opened(&rt, rt.alloc(), &IN_ORDER)
+}
+
+// The other methods, with keys that match but for the set.
+const IN_CHAINS: Case = Case {
+    lines: &[
+        b"open r best 1",
+        b"open s best 2",
+        b"dict a set r 1",
+        b"dict b bag s 1",
+        b"dict c queue r 1",
+        b"dict d stack s 1",
+        b"insert a pear",
+        b"insert b fig",
+        b"insert b pear",
+        b"insert b FIG",
+        b"insert b Fig",
+        b"insert c fig",
+        b"insert c pear",
+        b"insert c Fig",
+        b"insert c PEAR",
+        b"insert d lime",
+        b"insert d fig",
+        b"insert d Lime",
+        b"insert d LIME",
+    ],
+    kinds: [
+        (0, DictMethod::DtSet, 1),
+        (1, DictMethod::DtBag, 1),
+        (2, DictMethod::DtQueue, 1),
+        (3, DictMethod::DtStack, 1),
+    ],
+    objects: [
+        (0, &[b"pear"]),
+        (1, &[b"fig", b"pear", b"FIG", b"Fig"]),
+        (2, &[b"fig", b"pear", b"Fig", b"PEAR"]),
+        (3, &[b"LIME", b"Lime", b"fig", b"lime"]),
+    ],
+    found: &[
+        (0, b"PEAR", Some(0)),
+        (1, b"fig", Some(0)),
+        (2, b"Pear", Some(1)),
+        (3, b"lime", Some(0)),
+    ],
+    matched: &[
+        (0, 2, 3, Some(0)),
+        (1, 3, 2, Some(0)),
+        (2, 1, 2, Some(0)),
+        (3, 3, 3, Some(0)),
+    ],
+    ordered: &[],
+    lasts: &[
+        (0, &[0]),
+        (1, &[3, 1, 3, 3]),
+        (2, &[2, 3, 2, 3]),
+        (3, &[3, 3, 2, 3]),
+    ],
+    beside: &[],
+    seen: &[],
+    walked: [
+        (0, &[(0, 0)]),
+        (1, &[(1, 0), (1, 1), (1, 2), (1, 3)]),
+        (2, &[(2, 0), (2, 1), (2, 2), (2, 3)]),
+        (3, &[(3, 0), (3, 1), (3, 2), (3, 3)]),
+    ],
+};
+
+#[test]
+fn in_chains(rt: HostRuntime) -> Result<(), Fail> {
+    is_opened(&rt, rt.alloc(), &IN_CHAINS)
 }
