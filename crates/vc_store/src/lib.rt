@@ -4,6 +4,8 @@
 mod calls;
 mod collection;
 mod put;
+#[cfg(test)]
+mod tests;
 
 pub use collection::Collection;
 pub use put::Put;
