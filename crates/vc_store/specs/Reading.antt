@@ -113,3 +113,8 @@ abbrev pub place_without : ℕ → ℕ → Option ℕ → Option ℕ
 place_without gone left None = None
 place_without gone left (Some place) =
     if nat_lt gone place then Some (place - 1) else if nat_lt place left then Some place else None
+
+-- an object went: the first that has a key, where one has it
+pub record LacksKey (rules : Rules) (key : List ℕ) (old new : Contents) : Type 0 where
+  pub objects : new.objects ≡ without_key rules key old.objects
+  pub place : new.place ≡ place_without (found_place rules key old.objects) (length new.objects) old.place

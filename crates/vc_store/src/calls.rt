@@ -1,11 +1,11 @@
-ghost use Rattle.std.specs.Prelude.{◌≡◌, Some, None, true, false, is_some, length, IfOk, OnErr, OnOk, if◌then◌else◌};
+ghost use Rattle.std.specs.Prelude.{◌≡◌, Some, None, true, false, is_some, IfOk, OnErr, OnOk, if◌then◌else◌};
 ghost use Rattle.vc_best.specs.Cells.{cells_in};
 ghost use Rattle.vc_best.specs.Parts.{disc_in};
 ghost use Rattle.vc_objects.specs.Leaves.{Looks, LeavesRest, told_if};
 ghost use Rattle.vc_objects.specs.Parts.{IsWhole};
 ghost use Rattle.vc_objects.specs.Promises.{CanAsk, CanPut};
 ghost use Rattle.vc_store.specs.Contents.{contents_in};
-ghost use Rattle.vc_store.specs.Reading.{AfterPut, current, found, found_place, has_match, is_object, place_after, place_without, with_place, without_key};
+ghost use Rattle.vc_store.specs.Reading.{AfterPut, LacksKey, current, found, has_match, is_object, place_after, with_place};
 ghost use Rattle.vc_store.specs.Tries.{IsTried, Tries, told_as};
 
 use crate::put::Put;
@@ -125,11 +125,8 @@ pub(crate) fn take<D: DictDisc>(
 
     ensures found { IfOk result (λ gone. (if gone then Some out.new.items else None)
         ≡ found (D.rules kind.old) key.now (contents_in dict.old best.old).objects) }
-    ensures objects { OnOk result ((contents_in dict.new best.new).objects
-        ≡ without_key (D.rules kind.old) key.now (contents_in dict.old best.old).objects) }
-    ensures place { OnOk result ((contents_in dict.new best.new).place ≡ place_without
-        (found_place (D.rules kind.old) key.now (contents_in dict.old best.old).objects)
-        (length (contents_in dict.new best.new).objects) (contents_in dict.old best.old).place) }
+    ensures lacks { OnOk result (LacksKey (D.rules kind.old) key.now (contents_in dict.old best.old)
+        (contents_in dict.new best.new)) }
     ensures gone { IfOk result (λ gone. D.gone kind.new
         ≡ told_if gone (Some out.new.items) (D.gone kind.old)) }
     ensures method { dict.new.method ≡ dict.old.method }

@@ -25,7 +25,7 @@ impl<D: DictDisc + Drop> Collection<D> {
     ghost use Rattle.vc_best.specs.Parts.{disc_in, segments_in};
     ghost use Rattle.vc_objects.specs.Leaves.{told_each, told_if};
     ghost use Rattle.vc_objects.specs.Promises.{StaysAll, opening_in};
-    ghost use Rattle.vc_store.specs.Reading.{AfterPut, current, first_place, found, found_place, last_place, next_place, place_after, place_without, previous_place, with_place, without_key};
+    ghost use Rattle.vc_store.specs.Reading.{AfterPut, LacksKey, current, first_place, found, last_place, next_place, place_after, previous_place, with_place};
     ghost use Rattle.vc_store.specs.Tries.{IsTried, Tries};
     ghost use Rattle.vc_store.specs.Collections.{IsOpen, best_of, contents, dict_of, disc_of, kind_of, lender, lent_to};
 
@@ -201,11 +201,8 @@ impl<D: DictDisc + Drop> Collection<D> {
         requires open { IsOpen (D.rules (kind_of self.old)) self.old (disc_of self.old state) }
         ensures found { IfOk result (λ gone. (if gone then Some out.new.items else None)
             ≡ found (D.rules (kind_of self.old)) key.now (contents self.old).objects) }
-        ensures objects { OnOk result ((contents self.new).objects
-            ≡ without_key (D.rules (kind_of self.old)) key.now (contents self.old).objects) }
-        ensures place { OnOk result ((contents self.new).place ≡ place_without
-            (found_place (D.rules (kind_of self.old)) key.now (contents self.old).objects)
-            (length (contents self.new).objects) (contents self.old).place) }
+        ensures lacks { OnOk result (LacksKey (D.rules (kind_of self.old)) key.now
+            (contents self.old) (contents self.new)) }
         ensures told { IfOk result (λ gone. D.gone (kind_of self.new)
             ≡ told_if gone (Some out.new.items) (D.gone (kind_of self.old))) }
         ensures err { OnErr result ((contents self.new ≡ contents self.old)

@@ -14,23 +14,23 @@ returns-clause-found g c =
     sym c.remove.ensures.takes.given.gone
     ∙ removed-gone (g.D.DictDisc.rules c.args.kind.now) c.args.key.now (rest_in c.args.best.now) (dictionary_in c.args.dict.now c.args.best.now)
 
-pub returns-clause-objects : goal.returns-clause-objects
-returns-clause-objects g c =
-    ap (λ (d : Dictionary). bytes_of d.objects) (sym c.remove.ensures.takes.given.dict)
-    ∙ removed-shown (g.D.DictDisc.rules c.args.kind.now) c.args.key.now (rest_in c.args.best.now) (dictionary_in c.args.dict.now c.args.best.now)
-    (distinct-objects (g.D.DictDisc.rules c.args.kind.now) c.args.dict.now (cells_in c.args.best.now) c.requires.whole)
-
 pub returns-clause-method : goal.returns-clause-method
 returns-clause-method g c =
     ap (λ (d : Dictionary). d.method) (sym c.remove.ensures.takes.given.dict)
     ∙ removed-method (g.D.DictDisc.rules c.args.kind.now) c.args.key.now (rest_in c.args.best.now) (dictionary_in c.args.dict.now c.args.best.now)
 
-pub returns-clause-place : goal.returns-clause-place
-returns-clause-place g c =
-    let rules = g.D.DictDisc.rules c.args.kind.now in
-    let key = c.args.key.now in
-    let d = dictionary_in c.args.dict.now c.args.best.now in
-    ap (λ (e : Dictionary). place_of e.current e.objects) (sym c.remove.ensures.takes.given.dict)
-    ∙ (removed-placed rules key (rest_in c.args.best.now) d (distinct-objects rules c.args.dict.now (cells_in c.args.best.now) c.requires.whole)
-    (among-whole rules c.args.dict.now (cells_in c.args.best.now) c.requires.whole)
-    ∙ ap (λ (e : Dictionary). place_without (found_place rules key (bytes_of d.objects)) (length (bytes_of e.objects)) (place_of d.current d.objects)) c.remove.ensures.takes.given.dict)
+pub returns-clause-lacks : goal.returns-clause-lacks
+returns-clause-lacks g c = record {
+  objects =
+      ap (λ (d : Dictionary). bytes_of d.objects) (sym c.remove.ensures.takes.given.dict)
+      ∙ removed-shown (g.D.DictDisc.rules c.args.kind.now) c.args.key.now (rest_in c.args.best.now) (dictionary_in c.args.dict.now c.args.best.now)
+      (distinct-objects (g.D.DictDisc.rules c.args.kind.now) c.args.dict.now (cells_in c.args.best.now) c.requires.whole);
+  place =
+      let rules = g.D.DictDisc.rules c.args.kind.now in
+      let key = c.args.key.now in
+      let d = dictionary_in c.args.dict.now c.args.best.now in
+      ap (λ (e : Dictionary). place_of e.current e.objects) (sym c.remove.ensures.takes.given.dict)
+      ∙ (removed-placed rules key (rest_in c.args.best.now) d (distinct-objects rules c.args.dict.now (cells_in c.args.best.now) c.requires.whole)
+      (among-whole rules c.args.dict.now (cells_in c.args.best.now) c.requires.whole)
+      ∙ ap (λ (e : Dictionary). place_without (found_place rules key (bytes_of d.objects)) (length (bytes_of e.objects)) (place_of d.current d.objects)) c.remove.ensures.takes.given.dict);
+}
