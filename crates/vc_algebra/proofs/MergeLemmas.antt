@@ -40,7 +40,7 @@ below-seen rules laws x ys h =
 below-hides : (rules : Rules) → AreOrdered rules → (x : Seen ℕ) (xs ys : List (Seen ℕ)) → IsBelow rules x ys → AllByRecursion (λ o. is_hidden rules (x ∷ xs) o ≡ is_hidden rules xs o) ys
 below-hides rules laws x xs ys h = all-weaken (λ y. is_greater rules y.bytes x.bytes ≡ true) (λ o. is_hidden rules (x ∷ xs) o ≡ is_hidden rules xs o) ys (λ o g. ap (λ t. t || is_hidden rules xs o) (apart-above rules laws x o g)) h
 
-filter-by : (p q : Seen ℕ → Bool) (xs : List (Seen ℕ)) → AllByRecursion (λ o. p o ≡ q o) xs → filter p xs ≡ filter q xs
+pub filter-by : (p q : Seen ℕ → Bool) (xs : List (Seen ℕ)) → AllByRecursion (λ o. p o ≡ q o) xs → filter p xs ≡ filter q xs
 filter-by p q [] h = refl
 filter-by p q (x ∷ xs) h = elim (cases_Bool (q x)) as (λ _. filter p (x ∷ xs) ≡ filter q (x ∷ xs)) [
   | inl t ↦ let u : p x ≡ true = h.0 ∙ t in rw (u, t) (ap (λ z. x ∷ z) (filter-by p q xs h.1))

@@ -129,7 +129,7 @@ from-first (Some q) (x ∷ xs) a =
     rw at refl
 
 -- past one that stands elsewhere
-from-past : (r : Option (ℕ × Addr)) (o : Option (Seen ℕ)) (x : Seen ℕ) (xs : List (Seen ℕ)) → Answers r o → ((y : Seen ℕ) → o ≡ Some y → IsElsewhere x y) → from_place r (x ∷ xs) ≡ from_place r xs
+pub from-past : (r : Option (ℕ × Addr)) (o : Option (Seen ℕ)) (x : Seen ℕ) (xs : List (Seen ℕ)) → Answers r o → ((y : Seen ℕ) → o ≡ Some y → IsElsewhere x y) → from_place r (x ∷ xs) ≡ from_place r xs
 from-past None o x xs a apart = refl
 from-past (Some q) None x xs a apart = absurd (none-place (numbers_of q) (sym a))
 from-past (Some q) (Some y) x xs a apart =

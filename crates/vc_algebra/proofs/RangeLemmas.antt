@@ -57,13 +57,17 @@ less-not Less e = absurd (true≢false e)
 less-not Equal e = refl
 less-not Greater e = refl
 
+-- and one that isn't less than an object which isn't less than a bound isn't either
+pub from_up : (rules : Rules) → IsTotalOrder rules.compare → (low : Option (List ℕ)) (x y : Seen ℕ) → IsUpto rules x y → is_from rules low x ≡ true → is_from rules low y ≡ true
+from_up rules order None x y u h = refl
+from_up rules order (Some low) x y u h =
+    let key = λ (z : Seen ℕ). rules.key z.bytes in
+    let low_x : is_gt (rules.compare low (key x)) ≡ false = ap is_gt (order.antisymm low (key x)) ∙ not-less (rules.compare (key x) low) h in
+    let low_y = upto order low (key x) (key y) low_x u in
+    less-not (rules.compare (key y) low) (ap is_gt (sym (order.antisymm low (key y))) ∙ low_y)
+
 pub from_shared : (rules : Rules) → IsTotalOrder rules.compare → (low : Option (List ℕ)) (o u : Seen ℕ) → is_match rules o.bytes u.bytes ≡ true → is_from rules low o ≡ true → is_from rules low u ≡ true
-from_shared rules order None o u m h = refl
-from_shared rules order (Some low) o u m h =
-    let key = λ (x : Seen ℕ). rules.key x.bytes in
-    let low_o : is_gt (rules.compare low (key o)) ≡ false = ap is_gt (order.antisymm low (key o)) ∙ not-less (rules.compare (key o) low) h in
-    let low_u = upto order low (key o) (key u) low_o ((ordered rules order).right u.bytes o.bytes m) in
-    less-not (rules.compare (key u) low) (ap is_gt (sym (order.antisymm low (key u))) ∙ low_u)
+from_shared rules order low o u m h = from_up rules order low o u ((ordered rules order).right u.bytes o.bytes m) h
 
 -- the nearest so far
 pub record NearestFrom (all : Layered) (links : Links) (d : ℕ) (low : Option (List ℕ)) (best : Option (ℕ × Addr)) (next : Option ℕ) : Type 0 where
@@ -133,14 +137,14 @@ pub from_before : {old new : Layered} (links : Links) (d : ℕ) (low : Option (L
 from_before links d low best s h = subst (λ (z : ℕ → Layer). Answers best (first_of (filter (is_from (z d).rules low) (visible_of (bare z) links d)))) s.layers h
 
 -- behind one that is above a bound all are
-over_up : (rules : Rules) → IsTotalOrder rules.compare → (high : Option (List ℕ)) (x y : Seen ℕ) → is_over rules high x ≡ true → IsUpto rules x y → is_over rules high y ≡ true
+pub over_up : (rules : Rules) → IsTotalOrder rules.compare → (high : Option (List ℕ)) (x y : Seen ℕ) → is_over rules high x ≡ true → IsUpto rules x y → is_over rules high y ≡ true
 over_up rules order None x y h u = absurd (true≢false (sym h))
 over_up rules order (Some high) x y h u = elim (cases_Bool (is_over rules (Some high) y)) as (λ _. is_over rules (Some high) y ≡ true) [
   | inl t ↦ t
   | inr t ↦ absurd (true≢false (sym h ∙ upto order (rules.key x.bytes) (rules.key y.bytes) high u t))
 ]
 
-no-range : (rules : Rules) (low high : Option (List ℕ)) (xs : List (Seen ℕ)) → AllByRecursion (λ y. is_over rules high y ≡ true) xs → range rules low high xs ≡ []
+pub no-range : (rules : Rules) (low high : Option (List ℕ)) (xs : List (Seen ℕ)) → AllByRecursion (λ y. is_over rules high y ≡ true) xs → range rules low high xs ≡ []
 no-range rules low high [] h = refl
 no-range rules low high (x ∷ xs) h = elim (cases_Bool (is_from rules low x)) as (λ _. range rules low high (x ∷ xs) ≡ []) [
   | inl t ↦ rw (t, h.0) (no-range rules low high xs h.1)

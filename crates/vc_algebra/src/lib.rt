@@ -2,6 +2,7 @@
 #![tactic(auto)]
 
 mod fault;
+mod laws;
 mod merge;
 mod op;
 mod ordered;
@@ -12,6 +13,7 @@ mod tests;
 mod turn;
 
 pub use fault::AlgebraFault;
+pub use laws::{operation_is_answered, range_is_answered};
 pub use merge::Merge;
 pub use op::Op;
 pub use ordered::Ordered;

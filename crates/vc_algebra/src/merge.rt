@@ -1,12 +1,12 @@
 ghost use Rattle.std.specs.Prelude.{◌≡◌, ◌==◌, ◌&&◌, IfOk, IfSome, drop, true};
 ghost use Rattle.vc_base.specs.Prelude.{is_ordered};
 ghost use Rattle.std.specs.Result.{result_err};
-ghost use Rattle.vc_dtdisc.specs.Finding.{first_of};
 ghost use Rattle.vc_paths.specs.Layers.{Unchanged};
 ghost use Rattle.vc_paths.specs.Ordered.{IsStanding, object_at};
-ghost use Rattle.vc_paths.specs.Path.{Answers, IsPath, IsPathBy, IsVisible, numbers_of, visible_of};
+ghost use Rattle.vc_paths.specs.Path.{IsPath, IsPathBy, IsVisible, numbers_of, visible_of};
 ghost use Rattle.vc_algebra.specs.Faults.{merge_fault};
-ghost use Rattle.vc_algebra.specs.ToCome.{Begins, IsMerge, IsOfSame, Passes, from_place, to_come, turn_of};
+ghost use Rattle.vc_algebra.specs.Runs.{IsMergeNext};
+ghost use Rattle.vc_algebra.specs.ToCome.{Begins, IsMerge, IsOfSame, Passes, from_place, turn_of};
 
 use crate::turn::Turn;
 use crate::{AlgebraFault, Op, Ordered};
@@ -160,9 +160,8 @@ impl Merge {
         steps: &mut Steps<L>,
     ) -> Option<(u32, Addr)>
         requires { IsMerge (Y.layered layers.old) paths.now self.old }
-        ensures place { Answers result (first_of (to_come (Y.layered layers.old) paths.now self.old)) }
-        ensures rest { to_come (Y.layered layers.new) paths.now self.new
-            ≡ drop 1 (to_come (Y.layered layers.old) paths.now self.old) }
+        ensures next { IsMergeNext paths.now (Y.layered layers.old) (Y.layered layers.new) self.old
+            self.new result }
         ensures merge { IsMerge (Y.layered layers.new) paths.now self.new }
         ensures same { IsOfSame self.old self.new }
         ensures unchanged { Unchanged Y.layered Y.Stays layers.old layers.new }

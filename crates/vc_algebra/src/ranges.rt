@@ -2,13 +2,14 @@ ghost use Rattle.std.specs.Prelude.{◌≡◌, ℕ, IfNone, IfOk, IfSome, None, 
 ghost use Rattle.std.specs.Result.{result_err};
 ghost use Rattle.std.specs.List.{filter};
 ghost use Rattle.vc_base.specs.Prelude.{is_ordered};
-ghost use Rattle.vc_dtdisc.specs.Finding.{behind_last, first_of};
+ghost use Rattle.vc_dtdisc.specs.Finding.{first_of};
 ghost use Rattle.vc_paths.specs.Layers.{Unchanged};
 ghost use Rattle.vc_paths.specs.Ordered.{IsEnd, IsStanding, StandsInLike, is_past, nearer, object_at, object_there};
-ghost use Rattle.vc_paths.specs.Path.{Answers, IsPath, IsPathBy, IsVisible, is_at, numbers_of, objects_of, visible_of};
+ghost use Rattle.vc_paths.specs.Path.{Answers, IsPath, IsPathBy, IsVisible, numbers_of, objects_of, visible_of};
 ghost use Rattle.vc_paths.specs.Visible.{Seen};
-ghost use Rattle.vc_algebra.specs.Algebra.{if_upto, is_from, is_over, range};
+ghost use Rattle.vc_algebra.specs.Algebra.{is_from, is_over};
 ghost use Rattle.vc_algebra.specs.Faults.{range_fault};
+ghost use Rattle.vc_algebra.specs.Runs.{IsRangeFirst, IsRangeNext};
 
 use crate::{AlgebraFault, Ordered};
 use vc_base::{Addr, Steps};
@@ -147,9 +148,8 @@ pub fn range_first<Y: Ordered, L>(
 ) -> Result<Option<(u32, Addr)>, AlgebraFault>
     requires { IsPath (Y.layered layers.old) paths.now d }
     ensures fault { result_err result ≡ range_fault (Y.layered layers.old) d }
-    ensures found { IfOk result (λ o. Answers o (first_of (range
-        ((Y.layered layers.old).layer d).rules (option_copied low.entry) (option_copied high.entry)
-        (visible_of (Y.layered layers.old) paths.now d)))) }
+    ensures found { IfOk result (λ o. IsRangeFirst (Y.layered layers.old) paths.now d
+        (option_copied low.entry) (option_copied high.entry) o) }
     ensures unchanged { Unchanged Y.layered Y.Stays layers.old layers.new }
 {
     if !layers.method(d).is_ordered() {
@@ -172,9 +172,8 @@ pub fn range_next<Y: Ordered, L>(
 ) -> Option<(u32, Addr)>
     requires path { IsPathBy true (Y.layered layers.old) paths.now d }
     requires place { IsVisible (Y.layered layers.old) paths.now d (numbers_of from) }
-    ensures found { Answers result (if_upto ((Y.layered layers.old).layer d).rules
-        (option_copied high.entry) (behind_last (is_at (numbers_of from))
-        (visible_of (Y.layered layers.old) paths.now d))) }
+    ensures found { IsRangeNext (Y.layered layers.old) paths.now d from (option_copied high.entry)
+        result }
     ensures unchanged { Unchanged Y.layered Y.Stays layers.old layers.new }
 {
     let next = walk_next(paths, layers, d, from, steps);

@@ -12,17 +12,14 @@ turn-requires-clause-left g c = (left-head c.loop-turn.self (g.met.Y.Layers.lawf
 pub turn-requires-clause-right : goal.turn-requires-clause-right
 turn-requires-clause-right g c = (right-head c.loop-turn.self (g.met.Y.Layers.lawful c.loop-turn.layers) c.loop-turn.invariant.merge).stands
 
-pub returns-then-comes-clause-place : goal.returns-then-comes-clause-place
-returns-then-comes-clause-place g c =
+pub returns-then-comes-clause-next : goal.returns-then-comes-clause-next
+returns-then-comes-clause-next g c =
     let s = step c.loop-turn.self c.pass-place.new.self c.in-Some.turn c.turn.result c.takes_left.result c.comes.result c.pass-place.result (g.met.Y.Layers.lawful c.loop-turn.layers) c.loop-turn.invariant.merge
     c.turn.ensures c.in-Some.is c.takes_left.ensures (c.comes.ensures ∙ ap (λ z. comes z c.in-Some.turn) c.pass-place.ensures.passes.same.op) c.pass-place.ensures.passes in
-    subst (λ z. Answers c.pass-place.result (first_of z)) c.loop-turn.invariant.rest (s.comes c.if-comes.true).0
-
-pub returns-then-comes-clause-rest : goal.returns-then-comes-clause-rest
-returns-then-comes-clause-rest g c =
-    let s = step c.loop-turn.self c.pass-place.new.self c.in-Some.turn c.turn.result c.takes_left.result c.comes.result c.pass-place.result (g.met.Y.Layers.lawful c.loop-turn.layers) c.loop-turn.invariant.merge
-    c.turn.ensures c.in-Some.is c.takes_left.ensures (c.comes.ensures ∙ ap (λ z. comes z c.in-Some.turn) c.pass-place.ensures.passes.same.op) c.pass-place.ensures.passes in
-    come-kept c.args.paths.now c.pass-place.new.self c.pass-place.ensures.unchanged.layers ∙ (s.comes c.if-comes.true).1 ∙ ap (drop 1) c.loop-turn.invariant.rest
+    record {
+      place = subst (λ z. Answers c.pass-place.result (first_of z)) c.loop-turn.invariant.rest (s.comes c.if-comes.true).0;
+      rest = come-kept c.args.paths.now c.pass-place.new.self c.pass-place.ensures.unchanged.layers ∙ (s.comes c.if-comes.true).1 ∙ ap (drop 1) c.loop-turn.invariant.rest;
+    }
 
 pub returns-then-comes-clause-merge : goal.returns-then-comes-clause-merge
 returns-then-comes-clause-merge g c = merge-kept c.args.paths.now c.pass-place.new.self c.pass-place.ensures.unchanged.layers c.pass-place.ensures.passes.merge
@@ -46,12 +43,10 @@ loop-turn-preserved g c =
       rest = come-kept c.args.paths.now c.pass-place.new.self unchanged.layers ∙ s.goes c.if-comes.false ∙ c.loop-turn.invariant.rest;
     }
 
-pub returns-clause-place : goal.returns-clause-place
-returns-clause-place g c =
+pub returns-clause-next : goal.returns-clause-next
+returns-clause-next g c =
     let end = finished c.loop-turn.self c.turn.result (g.met.Y.Layers.lawful c.loop-turn.layers) c.loop-turn.invariant.merge c.turn.ensures c.in_default.is in
-    sym (ap (λ z. option_map place_of (first_of z)) (sym c.loop-turn.invariant.rest ∙ end))
-
-pub returns-clause-rest : goal.returns-clause-rest
-returns-clause-rest g c =
-    let end = finished c.loop-turn.self c.turn.result (g.met.Y.Layers.lawful c.loop-turn.layers) c.loop-turn.invariant.merge c.turn.ensures c.in_default.is in
-    end ∙ sym (ap (drop 1) (sym c.loop-turn.invariant.rest ∙ end))
+    record {
+      place = sym (ap (λ z. option_map place_of (first_of z)) (sym c.loop-turn.invariant.rest ∙ end));
+      rest = end ∙ sym (ap (drop 1) (sym c.loop-turn.invariant.rest ∙ end));
+    }
