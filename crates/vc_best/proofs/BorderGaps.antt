@@ -1,6 +1,6 @@
 -- The tree of gaps where the border behind a block moves.
 use Rattle.vc_base.proofs.Common.{◌≡◌, ℕ, ◌+◌, ◌-◌, ◌%◌, ◌<◌, ◌≤◌, Bool, true, false, cond, not, ◌&&◌, eqb, ◌≢◌, List, [], ◌∷◌, ◌++◌, map, Some, None, Option, sym, refl, ap, ◌∙◌, subst, ⊎_elim, arith, eq-eqb, ne_eqb, ∥∥₁_elim, ℕ_set, and_parts, cases_Bool, cases_eq, address, place_of, span}
-use Rattle.vc_best.proofs.Common.{AreExtents, Bytes, Extent, GapsChange, HasGaps, IsBorderMoved, IsBusy, IsMerged, Tiling, absorb, behind, behind_of, busy_extent, change_extent, extent_of, extents_of, first_of, free_bytes, free_extent, free_name, free_next, is_busy, is_free, is_merged, next_of, no_links, pair_of, room_of, set_size, shrink, stretch, tiling}
+use Rattle.vc_best.proofs.Common.{AreExtents, Bytes, Extent, GapsChange, HasGapsBy, IsBorderMoved, IsBusy, IsMerged, Tiling, absorb, behind, behind_of, busy_extent, change_extent, extent_of, extents_of, first_of, free_bytes, free_extent, free_name, free_next, is_busy, is_free, is_merged, next_of, no_links, pair_of, room_of, set_size, shrink, stretch, tiling}
 use Rattle.vc_base.proofs.Sets.{bytes-set}
 use Rattle.vc_gaps.specs.GapStore.{is_free as names_free}
 use Rattle.vc_gaps.proofs.Bordered.{gaps-filled, gaps-shrunk, gaps-stretched}
@@ -56,13 +56,13 @@ module _ (old new : List Bytes) (i j : List ℕ) (k : ∥ AreExtents old i ∥�
     sized = busy_extent (extent_of (tiling old) a).off (extent_of (tiling old) a).span size (extent_of (tiling old) a).tag body
 
     pub gaps-sized : GapsChange (tiling old) (tiling new) [] []
-    gaps-sized root out h = gaps-stay (tiling old) (tiling new) root a out (set_size size body) sized is refl own some busy h
+    gaps-sized u root out h = gaps-stay (tiling old) (tiling new) root a out (set_size size body) sized is refl own some busy h
 
     next-sized : free_next (tiling new) a ≡ free_next (tiling old) a
     next-sized = next-kept old i k (tiling new) a (set_size size body) sized busy.named is refl own
 
     pub gaps-sized_next : GapsChange (tiling old) (tiling new) (free_next (tiling old) a) (free_next (tiling new) a)
-    gaps-sized_next root out h = subst (λ ns. HasGaps (tiling new) root (ns ++ out)) (sym next-sized) (gaps-sized root (free_next (tiling old) a ++ out) h)
+    gaps-sized_next u root out h = subst (λ ns. HasGapsBy u (tiling new) root (ns ++ out)) (sym next-sized) (gaps-sized u root (free_next (tiling old) a ++ out) h)
 
   -- it takes of the free extent behind it
   module _ (body : List ℕ) (more : (extent_of (tiling old) a).span < span size) (enough : span size ≤ room_of (tiling old) a) (m : IsMerged (tiling old)) (is : tiling new ≡ change_extent a (stretch size body) (tiling old)) where
@@ -124,7 +124,7 @@ module _ (old new : List Bytes) (i j : List ℕ) (k : ∥ AreExtents old i ∥�
 
     -- all of it
     filled : (extent_of (tiling old) a).span + second.0.span ≡ span size → GapsChange (tiling old) (tiling new) (b ∷ []) (free_next (tiling new) a)
-    filled whole root out h =
+    filled whole u root out h =
         let none : free_name (place_of a).0 (first_of tail.0) ≡ [] =
         ∥∥₁_elim k (hlevel (bytes-set))
         (λ h.
@@ -137,12 +137,12 @@ module _ (old new : List Bytes) (i j : List ℕ) (k : ∥ AreExtents old i ∥�
         next-left
         ∙ ap (λ z. free_name (place_of a).0 (first_of (cond z tail.0 (free_extent ((extent_of (tiling old) a).off + span size) ((extent_of (tiling old) a).span + second.0.span - span size) no_links ∷ tail.0)))) (eq-eqb ((extent_of (tiling old) a).span + second.0.span) (span size) whole)
         ∙ none in
-        subst (λ ns. HasGaps (tiling new) root (ns ++ out)) (sym name)
+        subst (λ ns. HasGapsBy u (tiling new) root (ns ++ out)) (sym name)
         (gaps-filled (tiling old) (tiling new) root a size out busy some b body second.0 is second.1 refl gone whole h)
 
     -- a part of it
     stretched : (extent_of (tiling old) a).span + second.0.span ≢ span size → GapsChange (tiling old) (tiling new) (b ∷ []) (free_next (tiling new) a)
-    stretched part root out h =
+    stretched part u root out h =
         let c : ℕ = address ((place_of a).0, (place_of a).1 + span size) in
         let name : free_next (tiling new) a ≡ c ∷ [] =
         next-left
@@ -154,16 +154,16 @@ module _ (old new : List Bytes) (i j : List ℕ) (k : ∥ AreExtents old i ∥�
         let none : names_free (tiling old) c ≡ false =
         inside-not old i k b (omega (arith, spans, room, more, enough, part)) c ((place_of a).1 + span size) (ap (λ n. address (n, (place_of a).1 + span size)) (sym place0)) (omega arith)
         (omega (arith, place1, next-at, more)) (omega (arith, place1, next-at, spans, room, enough, part)) in
-        subst (λ ns. HasGaps (tiling new) root (ns ++ out)) (sym name)
+        subst (λ ns. HasGapsBy u (tiling new) root (ns ++ out)) (sym name)
         (gaps-stretched (tiling old) (tiling new) root a size out busy some b body second.0 is second.1 refl gone c part refl none h)
 
     pub gaps-grown : GapsChange (tiling old) (tiling new) (free_next (tiling old) a) (free_next (tiling new) a)
-    gaps-grown root out h =
+    gaps-grown u root out h =
         let name : free_next (tiling old) a ≡ b ∷ [] = ap (free_name (place_of a).0) second.1 ∙ rw (busy-free second.0 second.2) refl in
-        let h' : HasGaps (tiling old) root (b ∷ out) = subst (λ ns. HasGaps (tiling old) root (ns ++ out)) name h in
+        let h' : HasGapsBy u (tiling old) root (b ∷ out) = subst (λ ns. HasGapsBy u (tiling old) root (ns ++ out)) name h in
         ⊎_elim
-        (λ (t : (extent_of (tiling old) a).span + second.0.span ≡ span size). filled t root out h')
-        (λ (t : (extent_of (tiling old) a).span + second.0.span ≡ span size → ⊥). stretched t root out h')
+        (λ (t : (extent_of (tiling old) a).span + second.0.span ≡ span size). filled t u root out h')
+        (λ (t : (extent_of (tiling old) a).span + second.0.span ≡ span size → ⊥). stretched t u root out h')
         (cases_eq ((extent_of (tiling old) a).span + second.0.span) (span size))
 
 -- its tail becomes free, and one with the free extent behind it
@@ -181,11 +181,11 @@ module _ (old mid : List Bytes) (i : List ℕ) (k : ∥ AreExtents old i ∥₁)
       }
 
   pub gaps-cut : new ≡ change_extent rest absorb (tiling mid) → GapsChange (tiling mid) new (rest ∷ free_next (tiling mid) rest) (rest ∷ []) → GapsChange (tiling old) new (free_next (tiling old) a) (free_next new a)
-  gaps-cut is2 g2 root out h =
+  gaps-cut is2 g2 u root out h =
       let same : free_next (tiling mid) rest ≡ free_next (tiling old) a =
       ∥∥₁_elim k (hlevel (bytes-set)) (λ q. rest-next (tiling old) a size (cut-of old i a q busy.named) (tiling mid) rest busy some less is value) in
       let name : free_next new a ≡ rest ∷ [] =
       ∥∥₁_elim k (hlevel (bytes-set)) (λ q. next-shrunk (tiling old) a size (cut-of old i a q busy.named) (tiling mid) rest busy some less is value new is2) in
       let none = inside-not old i k a busy.named rest ((place_of a).1 + span size) value (omega arith) (omega arith) (omega arith) in
-      let out1 : HasGaps (tiling mid) root (rest ∷ (free_next (tiling old) a ++ out)) = gaps-shrunk (tiling old) (tiling mid) root a size (free_next (tiling old) a ++ out) busy some rest is value none h in
-      subst (λ ns. HasGaps new root (ns ++ out)) (sym name) (g2 root out (subst (λ ns. HasGaps (tiling mid) root (rest ∷ (ns ++ out))) (sym same) out1))
+      let out1 : HasGapsBy u (tiling mid) root (rest ∷ (free_next (tiling old) a ++ out)) = gaps-shrunk (tiling old) (tiling mid) root a size (free_next (tiling old) a ++ out) busy some rest is value none h in
+      subst (λ ns. HasGapsBy u new root (ns ++ out)) (sym name) (g2 u root out (subst (λ ns. HasGapsBy u (tiling mid) root (rest ∷ (ns ++ out))) (sym same) out1))

@@ -9,7 +9,7 @@ pub use Rattle.vc_extent.specs.Tiling.{AreExtents, IsBusy, IsFree, IsNamed, IsTh
 pub use Rattle.vc_extent.specs.Change.{IsOneFree, behind, change_at, extent_in, first_of, join, last_before, mark_busy, mark_free, one_free, set_size, shrink, spans, split, stretch, write}
 pub use Rattle.vc_gaps.specs.ButLinks.{StaysButLinks, Tiling, plain, without_links}
 pub use Rattle.vc_gaps.specs.Fits.{run_at, run_of_extent}
-pub use Rattle.vc_gaps.specs.GapTree.{CanLinkGap, GapLinked, HasGapTree, HasGaps, IsInGaps}
+pub use Rattle.vc_gaps.specs.GapTree.{CanLinkGap, GapLinked, HasGapTree, HasGaps, HasGapsBy, IsInGaps}
 pub use Rattle.vc_best.specs.Blocks.{all_busy, block_of, busy_in, is_busy}
 unfoldable pub use Rattle.vc_best.specs.Blocks.{layout_by}
 pub use Rattle.vc_best.specs.Free.{IsMerged, free_bytes, free_in, free_runs, is_free, is_merged, room_of}

@@ -1,7 +1,8 @@
 -- The free extents beside one that are taken out of the tree of gaps and put into it.
 use Rattle.vc_base.proofs.Common.{◌≡◌, ℕ, ◌<◌, true, false, ◌||◌, List, [], ◌∷◌, ◌++◌, Some, None, Option, option_map, sym, refl, ap, ◌∙◌, ⊎_elim, arith, lt-ltb, ne_eqb, or-false, le_prop, ∥∥₁_elim, ℕ_set, cases_Bool, contains, address, place_of}
-use Rattle.vc_best.proofs.Common.{AreExtents, Bytes, Extent, HasGaps, IsInGaps, IsNamed, Tiling, absorb, change_extent, extent_of, free_before, free_name, free_next, is_busy, mark_free, next_of, previous_of, tiling}
-use Rattle.vc_gaps.proofs.GapTrees.{free-bool, gaps-same, in_gaps-of}
+use Rattle.vc_best.proofs.Common.{AreExtents, Bytes, Extent, GapsChange, HasGaps, HasGapsBy, IsInGaps, IsNamed, Tiling, absorb, change_extent, extent_of, free_before, free_name, free_next, is_busy, mark_free, next_of, previous_of, tiling}
+use Rattle.vc_splay.specs.Tree.{Tree}
+use Rattle.vc_gaps.proofs.GapTrees.{free-bool, gaps-own, gaps-same, in_gaps-of}
 use Rattle.vc_best.proofs.Known.{cut-of}
 use Rattle.vc_best.proofs.Nexts.{next-extent, next-off, some-address}
 use Rattle.vc_best.proofs.Outs.{contains-append}
@@ -84,8 +85,15 @@ module _ (segs : List Bytes) (index : List ℕ) (k : ∥ AreExtents segs index �
 pub in-tree : (t : Tiling) (root : ℕ) (out : List ℕ) (b : ℕ) → HasGaps t root out → IsNamed t b → (extent_of t b).size ≡ 0 → contains out b ≡ false → IsInGaps t root b
 in-tree t root out b h named free apart = in_gaps-of t root out b h (free-bool t b (record { named = named; free = free })) apart
 
-pub gaps-whole : (t : Tiling) (root : ℕ) (xs : List ℕ) → HasGaps t root (xs ++ []) → HasGaps t root xs
+pub gaps-whole : {u : Tree} (t : Tiling) (root : ℕ) (xs : List ℕ) → HasGapsBy u t root (xs ++ []) → HasGapsBy u t root xs
 gaps-whole t root xs h = gaps-same t root (xs ++ []) xs (λ a. sym (contains-append xs [] a ∙ or-false (contains xs a))) h
 
-pub gaps-none_more : (t : Tiling) (root : ℕ) (xs : List ℕ) → HasGaps t root xs → HasGaps t root (xs ++ [])
+pub gaps-none_more : {u : Tree} (t : Tiling) (root : ℕ) (xs : List ℕ) → HasGapsBy u t root xs → HasGapsBy u t root (xs ++ [])
 gaps-none_more t root xs h = gaps-same t root xs (xs ++ []) (λ a. contains-append xs [] a ∙ or-false (contains xs a)) h
+
+-- a whole list that is out, through a change
+pub gaps-changed : (old new : Tiling) (root : ℕ) (gone come : List ℕ) → GapsChange old new gone come → HasGaps old root gone → HasGaps new root come
+gaps-changed old new root gone come g h = (gaps-whole new root come (g h.tree.tree root [] (gaps-none_more old root gone (gaps-own old root gone h)))).gaps
+
+pub gaps-more : (t : Tiling) (root : ℕ) (xs : List ℕ) → HasGaps t root xs → HasGaps t root (xs ++ [])
+gaps-more t root xs h = (gaps-none_more t root xs (gaps-own t root xs h)).gaps

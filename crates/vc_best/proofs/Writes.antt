@@ -6,6 +6,7 @@ use Rattle.vc_best.proofs.BlockCounts.{written-count}
 use Rattle.vc_best.proofs.Found.{busy-of}
 use Rattle.vc_best.proofs.Held.{AreHeld, held, layout-written, merged-of, most-of, most-written, tree-of}
 use Rattle.vc_best.proofs.Known.{cut-of}
+use Rattle.vc_best.proofs.Linking.{gaps-changed}
 use Rattle.vc_best.proofs.Merges.{merged-one}
 use Rattle.vc_layouts.proofs.Resizes.{others-written}
 use Rattle.vc_best.proofs.Outs.{gaps-written}
@@ -27,7 +28,7 @@ module _ (old new : List Bytes) (i j : List ℕ) (k : ∥ AreExtents old i ∥�
       (subst IsMerged (sym is) (∥∥₁_elim k (merged-prop _) (λ h. merged-one (tiling old) a (write off src) (busy_extent e.off e.span e.size e.tag (with_bytes off src e.body)) (cut-of old i a h busy.named) refl refl (merged-of (tiling old) m))))
 
   pub written-gaps : (root : ℕ) → ∥ HasGaps (tiling old) root [] ∥₁ → ∥ HasGaps (tiling new) root [] ∥₁
-  written-gaps root h = ∣ gaps-written (tiling old) (tiling new) a off src is busy root [] (tree-of old i root k h) ∣₁
+  written-gaps root h = ∣ gaps-changed (tiling old) (tiling new) root [] [] (gaps-written (tiling old) (tiling new) a off src is busy) (tree-of old i root k h) ∣₁
 
   pub written-counted : (n : ℕ) → n ≡ length (layout_by old).blocks → n ≡ length (layout_by new).blocks
   written-counted n all = all ∙ sym (written-count (layout_by old) (layout_by new) (place_of a) off src written.layout)

@@ -4,15 +4,16 @@ use Rattle.vc_base.specs.Holders.{contains}
 use Rattle.vc_model.specs.Addr.{place_of}
 use Rattle.vc_model.specs.Segments.{span}
 use Rattle.vc_extent.specs.Tiling.{extent_of}
+use Rattle.vc_splay.specs.Tree.{Tree}
 use Rattle.vc_gaps.specs.ButLinks.{Tiling}
 use Rattle.vc_gaps.specs.GapStore.{is_free as names_free}
-use Rattle.vc_gaps.specs.GapTree.{HasGapTree, HasGaps}
+use Rattle.vc_gaps.specs.GapTree.{HasGapTree, HasGapsBy}
 use Rattle.vc_best.specs.Beside.{free_next}
 
--- a tree without these gaps, and maybe without others, is one without those after a change
+-- a tree without these gaps, and maybe without others, stays that tree through a change, without those then
 abbrev pub GapsChange : Tiling → Tiling → List ℕ → List ℕ → Type 0
 GapsChange old new gone come =
-    (root : ℕ) (out : List ℕ) → HasGaps old root (gone ++ out) → HasGaps new root (come ++ out)
+    (u : Tree) (root : ℕ) (out : List ℕ) → HasGapsBy u old root (gone ++ out) → HasGapsBy u new root (come ++ out)
 
 -- a busy extent gets a size: a tree without the gap behind it is one still, and where its span stays so is a whole tree
 pub record GapBehindChanges (old new : Tiling) (a size : ℕ) : Type 0 where

@@ -1,8 +1,10 @@
 -- A tree of gaps where a segment is added or taken out.
 use Rattle.vc_base.proofs.Common.{◌≡◌, ℕ, ◌+◌, ◌*◌, ◌/◌, ◌%◌, ◌<◌, true, false, cond, not, ◌&&◌, eqb, ltb, ◌≢◌, List, [], ◌∷◌, ◌++◌, filter, sym, refl, ap, ◌∙◌, subst, ⊎_elim, true≢false, arith, eq-eqb, ne_eqb, eqb-true, cases_Bool, cases_eq, contains, address, place_of}
-use Rattle.vc_gaps.proofs.Common.{Bytes, Extent, HasGaps, IsFree, IsThere, Tiling, extent_in, extent_of, extents_of, free_extent, is_free, no_links, tiling}
+use Rattle.vc_gaps.proofs.Common.{Bytes, Extent, HasGaps, HasGapsBy, IsFree, IsThere, Tiling, extent_in, extent_of, extents_of, free_extent, is_free, no_links, tiling}
 use Rattle.vc_base.proofs.Members.{apart-head, within-head, within-cases}
+use Rattle.vc_splay.specs.Tree.{Tree}
 use Rattle.vc_gaps.proofs.Carried.{gaps-touched}
+use Rattle.vc_gaps.proofs.GapTrees.{gaps-own}
 use Rattle.vc_gaps.proofs.Marked.{contains-there, none-of, out-of}
 
 -- the extents of a number that isn't there, and of one that is put behind
@@ -61,9 +63,9 @@ module _ (old new : Tiling) (n : ℕ) (same : (m : ℕ) → m ≢ n → extents_
       (λ (q : b / 1048576 ≡ n → ⊥). ap (extent_in (place_of b).1) (same (b / 1048576) q))
       (cases_eq (b / 1048576) n)
 
-  gaps-one : (root : ℕ) (out after : List ℕ) → ((b : ℕ) → b ≢ address (n, 32) → contains after b ≡ contains out b)
+  gaps-one : {u : Tree} (root : ℕ) (out after : List ℕ) → ((b : ℕ) → b ≢ address (n, 32) → contains after b ≡ contains out b)
       → (is_free old (address (n, 32)) && not (contains out (address (n, 32)))) ≡ false → (is_free new (address (n, 32)) && not (contains after (address (n, 32)))) ≡ false
-      → HasGaps old root out → HasGaps new root after
+      → HasGapsBy u old root out → HasGapsBy u new root after
   gaps-one root out after named before then h =
       gaps-touched old new root (address (n, 32) ∷ []) out after
       (λ b apart. let ne : b ≢ address (n, 32) = λ q. apart-head (address (n, 32)) [] b apart (sym q) in (other-extent b ne, named b ne))
@@ -81,9 +83,9 @@ not-free t n e =
     ap (λ (x : Extent). ltb 0 x.span && eqb x.size 0) none
 
 -- an added segment's extent is out
-pub gaps-added : (segs : List Bytes) (new : Tiling) (root n span : ℕ) (out : List ℕ) → (IsThere n segs → ⊥) → new ≡ tiling segs ++ (n, free_extent 32 span no_links ∷ []) ∷ []
-    → HasGaps (tiling segs) root out → HasGaps new root (address (n, 32) ∷ out)
-gaps-added segs new root n span out none e h =
+pub gaps-added_by : {u : Tree} (segs : List Bytes) (new : Tiling) (root n span : ℕ) (out : List ℕ) → (IsThere n segs → ⊥) → new ≡ tiling segs ++ (n, free_extent 32 span no_links ∷ []) ∷ []
+    → HasGapsBy u (tiling segs) root out → HasGapsBy u new root (address (n, 32) ∷ out)
+gaps-added_by segs new root n span out none e h =
     let es : List Extent = free_extent 32 span no_links ∷ [] in
     let own : extents_of n new ≡ es = ap (extents_of n) e ∙ extents-new n es segs none in
     gaps-one (tiling segs) new n
@@ -95,6 +97,10 @@ gaps-added segs new root n span out none e h =
     (out-of new (address (n, 32)) (address (n, 32) ∷ out) (within-head (address (n, 32)) out))
     h
 
+pub gaps-added : (segs : List Bytes) (new : Tiling) (root n span : ℕ) (out : List ℕ) → (IsThere n segs → ⊥) → new ≡ tiling segs ++ (n, free_extent 32 span no_links ∷ []) ∷ []
+    → HasGaps (tiling segs) root out → HasGaps new root (address (n, 32) ∷ out)
+gaps-added segs new root n span out none e h = (gaps-added_by segs new root n span out none e (gaps-own (tiling segs) root out h)).gaps
+
 -- it is free
 pub free-added : (segs : List Bytes) (new : Tiling) (n span : ℕ) → (IsThere n segs → ⊥) → new ≡ tiling segs ++ (n, free_extent 32 span no_links ∷ []) ∷ [] → 0 < span → IsFree new (address (n, 32))
 free-added segs new n span none e some =
@@ -105,8 +111,8 @@ free-added segs new n span none e some =
     record { named = subst (λ (x : Extent). 0 < x.span) (sym now) some; free = ap (λ (x : Extent). x.size) now }
 
 -- a segment of one extent, which is out, is taken out
-pub gaps-removed : (old new : Tiling) (root n : ℕ) (x : Extent) (out : List ℕ) → extents_of n old ≡ x ∷ [] → x.off ≡ 32 → new ≡ filter (λ s. not (eqb s.0 n)) old
-    → HasGaps old root (address (n, 32) ∷ out) → HasGaps new root out
+pub gaps-removed : {u : Tree} (old new : Tiling) (root n : ℕ) (x : Extent) (out : List ℕ) → extents_of n old ≡ x ∷ [] → x.off ≡ 32 → new ≡ filter (λ s. not (eqb s.0 n)) old
+    → HasGapsBy u old root (address (n, 32) ∷ out) → HasGapsBy u new root out
 gaps-removed old new root n x out only off e h =
     let own : extents_of n new ≡ [] = ap (extents_of n) e ∙ extents-taken n old in
     gaps-one old new n

@@ -1,7 +1,8 @@
 -- A tree of gaps where the border between a busy extent and a gap that is out moves.
 use Rattle.vc_base.proofs.Common.{◌≡◌, ℕ, ◌+◌, ◌-◌, ◌/◌, ◌<◌, ◌≤◌, Bool, true, false, cond, not, ◌&&◌, eqb, ◌≢◌, List, [], ◌∷◌, take, Some, sym, refl, ap, ◌∙◌, subst, ⊎_elim, true≢false, arith, eq-eqb, ne_eqb, contains, address, place_of, span}
-use Rattle.vc_gaps.proofs.Common.{Extent, HasGaps, IsBusy, Tiling, busy_extent, change_extent, extent_in, extent_of, extents_of, free_extent, is_free, next_of, no_links, shrink, stretch}
+use Rattle.vc_gaps.proofs.Common.{Extent, HasGapsBy, IsBusy, Tiling, busy_extent, change_extent, extent_in, extent_of, extents_of, free_extent, is_free, next_of, no_links, shrink, stretch}
 use Rattle.vc_base.proofs.Members.{apart-head, apart-tail, within-head, within-cases}
+use Rattle.vc_splay.specs.Tree.{Tree}
 use Rattle.vc_gaps.proofs.Carried.{gaps-touched}
 use Rattle.vc_gaps.proofs.Joined.{first-cons}
 use Rattle.vc_gaps.proofs.Marked.{busy-none, contains-there, none-of, out-of}
@@ -16,7 +17,7 @@ module _ (old new : Tiling) (root a size : ℕ) (out : List ℕ) (busy : IsBusy 
   own = extent_in-off (place_of a).1 (extents_of (place_of a).0 old)
 
   -- the busy extent's tail becomes a gap, which is out
-  pub gaps-shrunk : (c : ℕ) → new ≡ change_extent a (shrink size) old → c ≡ address ((place_of a).0, (place_of a).1 + span size) → is_free old c ≡ false → HasGaps old root out → HasGaps new root (c ∷ out)
+  pub gaps-shrunk : {u : Tree} (c : ℕ) → new ≡ change_extent a (shrink size) old → c ≡ address ((place_of a).0, (place_of a).1 + span size) → is_free old c ≡ false → HasGapsBy u old root out → HasGapsBy u new root (c ∷ out)
   gaps-shrunk c e is none h =
       let x : Extent = extent_of old a in
       let front : Extent = busy_extent x.off (span size) size x.tag (take size x.body) in
@@ -83,7 +84,7 @@ module _ (old new : Tiling) (root a size : ℕ) (out : List ℕ) (busy : IsBusy 
         ∙ past (extent_of old a) (y ∷ ys) (place_of d).1 (λ z. differs (sym z ∙ own))
         ∙ past y ys (place_of d).1 (λ z. nb (omega arith))))
 
-    pub gaps-stretched : (c : ℕ) → (extent_of old a).span + y.span ≢ span size → c ≡ address ((place_of a).0, (place_of a).1 + span size) → is_free old c ≡ false → HasGaps old root (b ∷ out) → HasGaps new root (c ∷ out)
+    pub gaps-stretched : {u : Tree} (c : ℕ) → (extent_of old a).span + y.span ≢ span size → c ≡ address ((place_of a).0, (place_of a).1 + span size) → is_free old c ≡ false → HasGapsBy u old root (b ∷ out) → HasGapsBy u new root (c ∷ out)
     gaps-stretched c more at none h =
         let P : ℕ → Type 0 = λ z. ((is_free old z && not (contains (b ∷ out) z)) ≡ false) × ((is_free new z && not (contains (c ∷ out) z)) ≡ false) in
         gaps-touched old new root (a ∷ b ∷ c ∷ []) (b ∷ out) (c ∷ out)
@@ -111,7 +112,7 @@ module _ (old new : Tiling) (root a size : ℕ) (out : List ℕ) (busy : IsBusy 
         (within-cases a (b ∷ c ∷ []) d touched))
         h
 
-    pub gaps-filled : (extent_of old a).span + y.span ≡ span size → HasGaps old root (b ∷ out) → HasGaps new root out
+    pub gaps-filled : {u : Tree} → (extent_of old a).span + y.span ≡ span size → HasGapsBy u old root (b ∷ out) → HasGapsBy u new root out
     gaps-filled whole h =
         let P : ℕ → Type 0 = λ z. ((is_free old z && not (contains (b ∷ out) z)) ≡ false) × ((is_free new z && not (contains out z)) ≡ false) in
         gaps-touched old new root (a ∷ b ∷ []) (b ∷ out) out

@@ -1,6 +1,6 @@
 -- A tree of gaps in a tiling that changes elsewhere: no link, span or state of a gap that is in it changes.
 use Rattle.vc_base.proofs.Common.{◌≡◌, ℕ, Bool, true, false, not, ◌&&◌, eqb, ltb, List, [], ◌∷◌, sym, refl, ap, ◌∙◌, subst, ⊎_elim, true≢false, cases_Bool, contains}
-use Rattle.vc_gaps.proofs.Common.{Extent, HasGapTree, HasGaps, Tiling, extent_of, gap_key, gap_store, is_free, key_of}
+use Rattle.vc_gaps.proofs.Common.{Extent, HasGapTree, HasGaps, HasGapsBy, Tiling, extent_of, gap_key, gap_store, is_free, key_of}
 use Rattle.vc_base.proofs.Members.{within-head, within-tail, within-front, within-rest}
 use Rattle.vc_splay.specs.Stands.{IsNode, Stands}
 use Rattle.vc_splay.specs.Tree.{Tree, Leaf, Node, name_of, names}
@@ -36,10 +36,9 @@ module _ (old new : Tiling) where
     ascending = ascend-same (key_of old) (key_of new) 0 xs (λ a w. ap (λ (x : Extent). gap_key x.span a) (same a w)) h.ascending;
   }
 
-  -- no gap of the tree changes, and each free extent that is out before and isn't then, or the other way round, is none
-  pub gaps-carried : (root : ℕ) (out after : List ℕ) → ((a : ℕ) → is_free old a ≡ true → contains out a ≡ false → extent_of new a ≡ extent_of old a)
+  carried : (root : ℕ) (out after : List ℕ) → ((a : ℕ) → is_free old a ≡ true → contains out a ≡ false → extent_of new a ≡ extent_of old a)
       → ((a : ℕ) → (is_free new a && not (contains after a)) ≡ (is_free old a && not (contains out a))) → HasGaps old root out → HasGaps new root after
-  gaps-carried root out after same exact h = record {
+  carried root out after same exact h = record {
     names = h.names;
     tree = tree-carried root h.names
         (λ a w.
@@ -54,11 +53,17 @@ module _ (old new : Tiling) where
       apart true true e = sym e
       apart false true e = sym (absurd (true≢false (sym e)))
 
+  -- no gap of the tree changes, and each free extent that is out before and isn't then, or the other way round, is none
+  pub gaps-carried : {u : Tree} (root : ℕ) (out after : List ℕ) → ((a : ℕ) → is_free old a ≡ true → contains out a ≡ false → extent_of new a ≡ extent_of old a)
+      → ((a : ℕ) → (is_free new a && not (contains after a)) ≡ (is_free old a && not (contains out a))) → HasGapsBy u old root out → HasGapsBy u new root after
+  unfolding carried tree-carried
+  gaps-carried root out after same exact h = record { gaps = carried root out after same exact h.gaps; is = h.is }
+
 -- touched addresses are in no tree, before and then; all others name what they named, and are out where they were
-pub gaps-touched : (old new : Tiling) (root : ℕ) (touched out after : List ℕ)
+pub gaps-touched : {u : Tree} (old new : Tiling) (root : ℕ) (touched out after : List ℕ)
     → ((a : ℕ) → contains touched a ≡ false → (extent_of new a ≡ extent_of old a) × (contains after a ≡ contains out a))
     → ((a : ℕ) → contains touched a ≡ true → ((is_free old a && not (contains out a)) ≡ false) × ((is_free new a && not (contains after a)) ≡ false))
-    → HasGaps old root out → HasGaps new root after
+    → HasGapsBy u old root out → HasGapsBy u new root after
 gaps-touched old new root touched out after same gone h =
     gaps-carried old new root out after
     (λ a f o.

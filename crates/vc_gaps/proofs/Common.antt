@@ -8,4 +8,4 @@ pub use Rattle.vc_gaps.specs.ButLinks.{StaysButLinks, Tiling, plain, without_lin
 pub use Rattle.vc_gaps.specs.Fits.{free_runs, from_on, holds_at, run_at, run_of_extent}
 pub use Rattle.vc_gaps.specs.GapStore.{gap_key, gap_side, gap_store, is_free, key_of}
 pub use Rattle.vc_gaps.specs.GapLaws.{extents_of-plain, gap_fits, gap_none, is_free-named, is_free-size, is_free-stays, key-stays, span-stays, without-off}
-pub use Rattle.vc_gaps.specs.GapTree.{AscendFrom, CanLinkGap, GapFitted, GapLinked, GapTreeAfter, GapUnlinked, HasGapTree, HasGaps, IsAmongGaps, IsGapTree, IsInGaps}
+pub use Rattle.vc_gaps.specs.GapTree.{AscendFrom, CanLinkGap, GapFitted, GapLinked, GapTreeAfter, GapUnlinked, HasGapTree, HasGaps, HasGapsBy, IsAmongGaps, IsGapTree, IsInGaps}

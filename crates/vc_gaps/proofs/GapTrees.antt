@@ -1,6 +1,6 @@
 -- Trees of gaps before and after a call on them.
 use Rattle.vc_base.proofs.Common.{◌≡◌, ℕ, ◌^◌, ◌<◌, Bool, true, false, not, ◌&&◌, ◌||◌, eqb, List, ◌∷◌, ◌==◌, sym, refl, ap, ◌∙◌, subst, ⊎_elim, true≢false, arith, lt-ltb, eq-eqb, eqb-true, cases_Bool, AreDistinct, contains, without, put_by}
-use Rattle.vc_gaps.proofs.Common.{AreExtents, AscendFrom, Bytes, CanLinkGap, GapLinked, GapTreeAfter, GapUnlinked, HasGapTree, HasGaps, IsFree, IsGapTree, IsInGaps, StaysButLinks, Tiling, extent_of, gap_fits, gap_key, gap_none, gap_side, gap_store, is_free, is_free-stays, key-stays, key_of, plain, tiling}
+use Rattle.vc_gaps.proofs.Common.{AreExtents, AscendFrom, Bytes, CanLinkGap, GapLinked, GapTreeAfter, GapUnlinked, HasGapTree, HasGaps, HasGapsBy, IsFree, IsGapTree, IsInGaps, StaysButLinks, Tiling, extent_of, gap_fits, gap_key, gap_none, gap_side, gap_store, is_free, is_free-stays, key-stays, key_of, plain, tiling}
 use Rattle.vc_splay.proofs.StandsLemmas.{Stands-there}
 use Rattle.vc_splay.specs.Guide.{CanFind, CanLink, Rises, order_with_name}
 use Rattle.vc_splay.specs.Stands.{IsIn, IsTree, TreeAfter}
@@ -167,5 +167,13 @@ module _ (t : Tiling) (root : ℕ) (out : List ℕ) where
   in_gaps-of a h f o = record { names = h.names; tree = h.tree; within = h.exact a ∙ ap (λ z. z && not (contains out a)) f ∙ ap not o }
 
   -- it is told apart from others by what is out, and not by the order in which that is told
-  pub gaps-same : (after : List ℕ) → ((a : ℕ) → contains after a ≡ contains out a) → HasGaps t root out → HasGaps t root after
-  gaps-same after same h = record { names = h.names; tree = h.tree; exact = λ a. h.exact a ∙ ap (λ z. is_free t a && not z) (sym (same a)) }
+  out-same : (after : List ℕ) → ((a : ℕ) → contains after a ≡ contains out a) → HasGaps t root out → HasGaps t root after
+  out-same after same h = record { names = h.names; tree = h.tree; exact = λ a. h.exact a ∙ ap (λ z. is_free t a && not z) (sym (same a)) }
+
+  pub gaps-same : {u : Tree} (after : List ℕ) → ((a : ℕ) → contains after a ≡ contains out a) → HasGapsBy u t root out → HasGapsBy u t root after
+  unfolding out-same
+  gaps-same after same h = record { gaps = out-same after same h.gaps; is = h.is }
+
+  -- it is its own tree
+  pub gaps-own : (h : HasGaps t root out) → HasGapsBy h.tree.tree t root out
+  gaps-own h = record { gaps = h; is = refl }

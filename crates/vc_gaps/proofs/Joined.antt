@@ -1,7 +1,8 @@
 -- A tree of gaps where two gaps that are out are joined; and what lies inside an extent, which no address names.
 use Rattle.vc_base.proofs.Common.{◌≡◌, ℕ, ◌+◌, ◌-◌, ◌/◌, ◌<◌, true, false, cond, not, ◌&&◌, eqb, ltb, ◌≢◌, List, [], ◌∷◌, length, get_or, Some, sym, refl, ap, ◌∙◌, subst, ⊎_elim, true≢false, arith, ne_eqb, eqb-true, ∥∥₁_elim, ℕ_set, cases_Bool, eqb-false, contains, address, place_of}
-use Rattle.vc_gaps.proofs.Common.{AreExtents, Bytes, Extent, HasGaps, IsThere, Tiling, change_extent, extent_in, extent_of, extents, extents_of, first_of, free_extent, is_free, join, next_of, no_links, tiling}
+use Rattle.vc_gaps.proofs.Common.{AreExtents, Bytes, Extent, HasGapsBy, IsThere, Tiling, change_extent, extent_in, extent_of, extents, extents_of, first_of, free_extent, is_free, join, next_of, no_links, tiling}
 use Rattle.vc_base.proofs.Members.{apart-head, apart-tail, within-head, within-tail, within-cases}
+use Rattle.vc_splay.specs.Tree.{Tree}
 use Rattle.vc_extent.specs.Tiles.{Tiles}
 use Rattle.vc_extent.proofs.Places.{found, named-there}
 use Rattle.vc_extent.proofs.Tiled.{named-above, off-at}
@@ -67,8 +68,8 @@ joined-other x y es to e nx ny =
     ∙ sym (ap (λ z. extent_in to (x ∷ z)) c.1 ∙ ap (λ z. cond z x (cond (eqb y.off to) y (extent_in to ys))) (ne_eqb x.off to nx) ∙ ap (λ z. cond z y (extent_in to ys)) (ne_eqb y.off to ny))
 
 -- a gap and the one behind it, which are both out, become one, which is
-pub gaps-joined : (old new : Tiling) (root a b : ℕ) (y : Extent) (out : List ℕ) → new ≡ change_extent a join old → next_of old a ≡ Some y → b ≡ address ((place_of a).0, y.off) → is_free new b ≡ false
-    → HasGaps old root (a ∷ b ∷ out) → HasGaps new root (a ∷ out)
+pub gaps-joined : {u : Tree} (old new : Tiling) (root a b : ℕ) (y : Extent) (out : List ℕ) → new ≡ change_extent a join old → next_of old a ≡ Some y → b ≡ address ((place_of a).0, y.off) → is_free new b ≡ false
+    → HasGapsBy u old root (a ∷ b ∷ out) → HasGapsBy u new root (a ∷ out)
 gaps-joined old new root a b y out e next is none h =
     let own : (extent_of old a).off ≡ (place_of a).1 = extent_in-off (place_of a).1 (extents_of (place_of a).0 old) in
     let P : ℕ → Type 0 = λ z. ((is_free old z && not (contains (a ∷ b ∷ out) z)) ≡ false) × ((is_free new z && not (contains (a ∷ out) z)) ≡ false) in

@@ -1,7 +1,8 @@
 -- A tree of gaps where an extent that isn't in it changes, or a segment is added.
 use Rattle.vc_base.proofs.Common.{◌≡◌, ℕ, ◌+◌, ◌-◌, ◌<◌, ◌≤◌, true, false, cond, not, ◌&&◌, ◌||◌, eqb, ltb, ◌≢◌, List, [], ◌∷◌, sym, refl, ap, ◌∙◌, subst, ⊎_elim, true≢false, arith, ne_eqb, and-false, contains, address, place_of}
-use Rattle.vc_gaps.proofs.Common.{Extent, HasGaps, IsBusy, Tiling, change_extent, extent_in, extent_of, extents_of, free_extent, is_free, mark_busy, mark_free, no_links, split}
+use Rattle.vc_gaps.proofs.Common.{Extent, HasGapsBy, IsBusy, Tiling, change_extent, extent_in, extent_of, extents_of, free_extent, is_free, mark_busy, mark_free, no_links, split}
 use Rattle.vc_base.proofs.Members.{apart-head, apart-tail, within-head, within-cases}
+use Rattle.vc_splay.specs.Tree.{Tree}
 use Rattle.vc_gaps.proofs.Carried.{gaps-touched}
 use Rattle.vc_gaps.proofs.Named.{behind_of, extent_in-off, extent_of-here, extent_of-other, extent_of-single, off-differs}
 
@@ -21,7 +22,7 @@ contains-there a b out ne = ap (λ z. z || contains out b) (ne_eqb a b (λ z. ne
 module _ (old new : Tiling) (a : ℕ) (change : Extent → List Extent → List Extent) (e : new ≡ change_extent a change old) where
   module _ (x : Extent) (off : x.off ≡ (place_of a).1) (made : change (extent_of old a) (behind_of old a) ≡ x ∷ behind_of old a) where
     -- it isn't in the tree, before and then
-    pub gaps-single : (root : ℕ) (out after : List ℕ) → ((b : ℕ) → b ≢ a → contains after b ≡ contains out b) → (is_free old a && not (contains out a)) ≡ false → (is_free new a && not (contains after a)) ≡ false → HasGaps old root out → HasGaps new root after
+    pub gaps-single : {u : Tree} (root : ℕ) (out after : List ℕ) → ((b : ℕ) → b ≢ a → contains after b ≡ contains out b) → (is_free old a && not (contains out a)) ≡ false → (is_free new a && not (contains after a)) ≡ false → HasGapsBy u old root out → HasGapsBy u new root after
     gaps-single root out after same before then h =
         gaps-touched old new root (a ∷ []) out after
         (λ b apart. let ne : b ≢ a = λ q. apart-head a [] b apart (sym q) in (extent_of-single old new a change e x off made b ne, same b ne))
@@ -34,7 +35,7 @@ module _ (old new : Tiling) (a : ℕ) (change : Extent → List Extent → List 
 
 module _ (old new : Tiling) (root a : ℕ) (out : List ℕ) where
   -- a gap that is out becomes busy
-  pub gaps-busy : (size tag : ℕ) (body : List ℕ) → new ≡ change_extent a (mark_busy size tag body) old → 1 ≤ size → 0 < (extent_of old a).span → HasGaps old root (a ∷ out) → HasGaps new root out
+  pub gaps-busy : {u : Tree} (size tag : ℕ) (body : List ℕ) → new ≡ change_extent a (mark_busy size tag body) old → 1 ≤ size → 0 < (extent_of old a).span → HasGapsBy u old root (a ∷ out) → HasGapsBy u new root out
   gaps-busy size tag body e some named h =
       let x : Extent = record { off = (extent_of old a).off; span = (extent_of old a).span; size = size; tag = tag; links = no_links; body = body } in
       let off : x.off ≡ (place_of a).1 = extent_in-off (place_of a).1 (extents_of (place_of a).0 old) in
@@ -46,7 +47,7 @@ module _ (old new : Tiling) (root a : ℕ) (out : List ℕ) where
       h
 
   -- a busy extent becomes a gap, which is out
-  pub gaps-freed : new ≡ change_extent a mark_free old → IsBusy old a → HasGaps old root out → HasGaps new root (a ∷ out)
+  pub gaps-freed : {u : Tree} → new ≡ change_extent a mark_free old → IsBusy old a → HasGapsBy u old root out → HasGapsBy u new root (a ∷ out)
   gaps-freed e busy h =
       let x : Extent = free_extent (extent_of old a).off (extent_of old a).span no_links in
       gaps-single old new a mark_free e x (extent_in-off (place_of a).1 (extents_of (place_of a).0 old)) refl root out (a ∷ out)
@@ -56,8 +57,8 @@ module _ (old new : Tiling) (root a : ℕ) (out : List ℕ) where
       h
 
   -- a busy extent stays busy, with its place
-  pub gaps-stay : (change : Extent → List Extent → List Extent) (x : Extent) → new ≡ change_extent a change old → change (extent_of old a) (behind_of old a) ≡ x ∷ behind_of old a → x.off ≡ (place_of a).1 → 0 < x.size → IsBusy old a
-      → HasGaps old root out → HasGaps new root out
+  pub gaps-stay : {u : Tree} (change : Extent → List Extent → List Extent) (x : Extent) → new ≡ change_extent a change old → change (extent_of old a) (behind_of old a) ≡ x ∷ behind_of old a → x.off ≡ (place_of a).1 → 0 < x.size → IsBusy old a
+      → HasGapsBy u old root out → HasGapsBy u new root out
   gaps-stay change x e made off some busy h =
       let now : extent_of new a ≡ x = extent_of-here old new a change e x (behind_of old a) busy.named off made in
       gaps-single old new a change e x off made root out out
@@ -67,7 +68,7 @@ module _ (old new : Tiling) (root a : ℕ) (out : List ℕ) where
       h
 
   -- a gap that is out becomes two, of which both are
-  pub gaps-split : (span b : ℕ) → new ≡ change_extent a (split span) old → b ≡ address ((place_of a).0, (place_of a).1 + span) → is_free old b ≡ false → HasGaps old root (a ∷ out) → HasGaps new root (a ∷ b ∷ out)
+  pub gaps-split : {u : Tree} (span b : ℕ) → new ≡ change_extent a (split span) old → b ≡ address ((place_of a).0, (place_of a).1 + span) → is_free old b ≡ false → HasGapsBy u old root (a ∷ out) → HasGapsBy u new root (a ∷ b ∷ out)
   gaps-split span b e is none h =
       let own : (extent_of old a).off ≡ (place_of a).1 = extent_in-off (place_of a).1 (extents_of (place_of a).0 old) in
       gaps-touched old new root (a ∷ b ∷ []) (a ∷ out) (a ∷ b ∷ out)

@@ -29,6 +29,11 @@ pub record HasGaps (t : Tiling) (root : ℕ) (out : List ℕ) : Type 0 where
   pub tree : HasGapTree t root names
   pub exact : (a : ℕ) → contains names a ≡ (is_free t a && not (contains out a))
 
+-- the tree is this one
+pub record HasGapsBy (u : Tree) (t : Tiling) (root : ℕ) (out : List ℕ) : Type 0 where
+  pub gaps : HasGaps t root out
+  pub is : gaps.tree.tree ≡ u
+
 -- it stands for some tree, and this is one of its names
 pub record IsInGaps (t : Tiling) (root a : ℕ) : Type 0 where
   pub names : List ℕ

@@ -4,6 +4,7 @@ use Rattle.vc_base.proofs.Options.{none_where}
 use Rattle.vc_seg.specs.Back.{is_marked, stays_from}
 use Rattle.vc_seg.proofs.Backs.{Contains-ends, Contains-own, is_kept-marked, is_kept-unmarked}
 use Rattle.vc_gaps.proofs.Added.{gaps-removed}
+use Rattle.vc_gaps.proofs.GapTrees.{gaps-own}
 use Rattle.vc_best.proofs.Backs.{kept-none, one-gone, out-gone, some-of}
 use Rattle.vc_best.proofs.EmptyGaps.{first-off, one-first, start-address}
 use Rattle.vc_best.proofs.Linking.{in-tree}
@@ -104,8 +105,8 @@ returns-clause-kept g c =
           (All-filter (λ (s : ℕ × List Extent). not (eqb s.0 n)) (λ (s : ℕ × List Extent). is_merged false s.1 ≡ true) t1
           (merged-stays (tiling c.args.extents.now.segs.items) t1 c.unlink_gap.ensures.rest.extents c.requires.kept.merged));
       gaps =
-          gaps-removed t1 (tiling c.remove-segment.new.self.segs.items) c.unlink_gap.result.0 n o.0 [] o.1 off c.remove-segment.ensures.tiling
-          (subst (λ (z : ℕ). HasGaps t1 c.unlink_gap.result.0 (z ∷ [])) first (c.unlink_gap.ensures.unlinked.gaps [] c.requires.kept.gaps));
+          (gaps-removed t1 (tiling c.remove-segment.new.self.segs.items) c.unlink_gap.result.0 n o.0 [] o.1 off c.remove-segment.ensures.tiling
+          (gaps-own t1 c.unlink_gap.result.0 _ (subst (λ (z : ℕ). HasGaps t1 c.unlink_gap.result.0 (z ∷ [])) first (c.unlink_gap.ensures.unlinked.gaps [] c.requires.kept.gaps)))).gaps;
     }
 
 pub returns-clause-disc : goal.returns-clause-disc

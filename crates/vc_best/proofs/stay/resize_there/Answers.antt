@@ -1,5 +1,5 @@
 use Rattle.vc_base.proofs.Common.{◌≡◌, ℕ, ◌-◌, ◌<◌, ◌≤◌, List, ◌++◌, replicate, sym, refl, ap, ◌∙◌, subst, arith, ∥∥₁_elim, with_bytes}
-use Rattle.vc_best.proofs.Common.{Extent, HasGaps, IsBusy, IsMerged, busy_extent, change_extent, extent_of, free_next, layout_by, tiling, write}
+use Rattle.vc_best.proofs.Common.{Extent, HasGapsBy, IsBusy, IsMerged, busy_extent, change_extent, extent_of, free_next, layout_by, tiling, write}
 use Rattle.vc_best.proofs.Held.{layout-written}
 use Rattle.vc_best.proofs.Known.{cut-of}
 use Rattle.vc_best.proofs.Merges.{merged-one}
@@ -69,10 +69,10 @@ returns-then-old-size-clause-gaps g c =
     let off = c.size_at-old.result in
     let src = replicate (c.args.size - off) 0 in
     record {
-      gaps = λ root out h.
-          subst (λ (ns : List ℕ). HasGaps t2 root (ns ++ out)) (sym (next-written _ _ c.move_border.new.extents.kept t2 a off src busy.named c.fill.ensures.tiling))
-          (gaps-written t1 t2 a off src c.fill.ensures.tiling busy root (free_next t1 a ++ out) (c.move_border.ensures.gaps.gaps root out h));
-      same_span = λ same root out h. gaps-written t1 t2 a off src c.fill.ensures.tiling busy root out (c.move_border.ensures.gaps.same_span same root out h);
+      gaps = λ u root out h.
+          subst (λ (ns : List ℕ). HasGapsBy u t2 root (ns ++ out)) (sym (next-written _ _ c.move_border.new.extents.kept t2 a off src busy.named c.fill.ensures.tiling))
+          (gaps-written t1 t2 a off src c.fill.ensures.tiling busy u root (free_next t1 a ++ out) (c.move_border.ensures.gaps.gaps u root out h));
+      same_span = λ same u root out h. gaps-written t1 t2 a off src c.fill.ensures.tiling busy u root out (c.move_border.ensures.gaps.same_span same u root out h);
     }
 
 pub returns-else-old-size-clause-named : goal.returns-else-old-size-clause-named

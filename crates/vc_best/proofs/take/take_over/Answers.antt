@@ -4,6 +4,7 @@ use Rattle.vc_best.proofs.Moves.{body-long, copied-busy, copied-layout, copied-m
 use Rattle.vc_best.proofs.BlockCounts.{freed-count, written-count}
 use Rattle.vc_best.proofs.Found.{has-of}
 use Rattle.vc_best.proofs.Held.{most-written}
+use Rattle.vc_best.proofs.Linking.{gaps-changed}
 use Rattle.vc_best.proofs.Outs.{gaps-written}
 use Rattle.vc_best.proofs.take.take_over.Goals as goal
 use Rattle.vc_best.proofs.take.take_over.Goals.{then-own-size, else-own-size}
@@ -17,7 +18,7 @@ free_block-requires-clause-kept g c =
     let src = take c.if-own-size.len (extent_of t c.args.a.0).body in
     record {
       merged = copied-merged _ _ _ _ c.args.a.0 c.args.to.0 src c.args.extents.now.kept c.copy.new.self.kept c.requires.busy c.requires.to c.copy.ensures.tiling c.copy.ensures.pairs c.requires.whole.kept.merged;
-      gaps = gaps-written t (tiling c.copy.new.self.segs.items) c.args.to.0 0 src c.copy.ensures.tiling c.requires.to c.args.root.now.0 [] c.requires.whole.kept.gaps;
+      gaps = gaps-changed t (tiling c.copy.new.self.segs.items) c.args.root.now.0 [] [] (gaps-written t (tiling c.copy.new.self.segs.items) c.args.to.0 0 src c.copy.ensures.tiling c.requires.to) c.requires.whole.kept.gaps;
     }
 
 pub returns-clause-moved : goal.returns-clause-moved

@@ -3,7 +3,7 @@ use Rattle.vc_best.proofs.Common.{HasGaps, StaysButLinks, free_before, free_next
 use Rattle.vc_base.proofs.Members.{within-head}
 use Rattle.vc_gaps.specs.GapLaws.{but_links_twice}
 use Rattle.vc_gaps.proofs.GapTrees.{can_link-out}
-use Rattle.vc_best.proofs.Linking.{gaps-none_more}
+use Rattle.vc_best.proofs.Linking.{gaps-changed}
 use Rattle.vc_best.proofs.Plain.{before_name-stays, busy-still, layout-stays, merged-stays, named-stays, next_name-stays}
 use Rattle.vc_best.proofs.tree.free_block.Given.{Over}
 use Rattle.vc_best.proofs.tree.free_block.Goals as goal
@@ -39,10 +39,9 @@ freed g c =
     let same = c.unlink_before.ensures.rest.extents in
     let before = before_name-stays t1 t2 same a in
     let next = next_name-stays t1 t2 same a in
-    c.release-freed.ensures.gaps root []
-    (gaps-none_more t2 root (free_before t2 a ++ free_next t2 a)
+    gaps-changed t2 (tiling c.release-freed.new.extents.segs.items) root (free_before t2 a ++ free_next t2 a) (c.release-freed.result.0 ∷ []) c.release-freed.ensures.gaps
     (subst (λ (ps : List ℕ). HasGaps t2 root (ps ++ free_next t2 a)) (sym before)
-    (subst (λ (ns : List ℕ). HasGaps t2 root (free_before t1 a ++ ns)) (sym next) c.unlink_before.ensures.gaps)))
+    (subst (λ (ns : List ℕ). HasGaps t2 root (free_before t1 a ++ ns)) (sym next) c.unlink_before.ensures.gaps))
 
 pub link_gap-requires : goal.link_gap-requires
 link_gap-requires g c =

@@ -1,7 +1,7 @@
-use Rattle.vc_base.proofs.Common.{◌≡◌, ◌+◌, ◌<◌, false, [], ◌++◌, IfSome, Some, None, Option, refl, ◌∙◌, contains, address, place_of, span}
-use Rattle.vc_best.proofs.Common.{Addr, HasGaps, carve, change_extent, cut_back, extent_of, some_name, tiling}
+use Rattle.vc_base.proofs.Common.{◌≡◌, ◌+◌, ◌<◌, false, [], ◌∷◌, ◌++◌, IfSome, Some, None, Option, refl, ◌∙◌, contains, address, place_of, span}
+use Rattle.vc_best.proofs.Common.{Addr, GapsChange, HasGaps, carve, change_extent, cut_back, extent_of, some_name, tiling}
 use Rattle.vc_best.proofs.Carves.{back-free, back-span, carved-whole, front-apart, front-can, front-free, rest-can}
-use Rattle.vc_best.proofs.Linking.{gaps-none_more, gaps-whole}
+use Rattle.vc_best.proofs.Linking.{gaps-changed, gaps-more}
 use Rattle.vc_best.proofs.Outs.{gaps-put}
 use Rattle.vc_best.proofs.Plain.{layout-stays, merged-stays}
 use Rattle.vc_best.proofs.Puts.{carved-layout, carved-merged}
@@ -31,12 +31,15 @@ lay_zeros-requires-clause-span g c =
     back-span _ _ c.args.extents.now.kept _ c.args.a.0 _ c.args.off c.args.size c.args.tag c.requires.room c.cut_front-front.ensures.rest c.cut_front-front.ensures.changed.tiling _
     (cut g (goal.at.lay_zeros-requires-clause-span g c).After-cut_back-rest)
 
--- what was cut off is out of the tree
+-- what was cut off is out of the tree, which stays
+change : (g : Over) (c : After-lay_zeros g) → GapsChange (tiling c.args.extents.now.segs.items) (tiling c.lay_zeros.new.extents.segs.items) (c.args.a.0 ∷ []) (some_name c.cut_front-front.result.0 ++ some_name c.cut_back-rest.result)
+change g c =
+    gaps-put (tiling c.args.extents.now.segs.items) (tiling c.cut_front-front.new.extents.segs.items) (tiling c.cut_back-rest.new.extents.segs.items) (tiling c.lay_zeros.new.extents.segs.items) c.args.a.0 c.cut_front-front.result.1.0 _ _
+    c.cut_front-front.ensures.gaps c.cut_back-rest.ensures.gaps c.lay_zeros.ensures.gaps
+
 out : (g : Over) (c : After-lay_zeros g) → HasGaps (tiling c.lay_zeros.new.extents.segs.items) c.args.root.now.0 (some_name c.cut_front-front.result.0 ++ some_name c.cut_back-rest.result)
 out g c =
-    gaps-whole _ _ _
-    (gaps-put (tiling c.args.extents.now.segs.items) (tiling c.cut_front-front.new.extents.segs.items) (tiling c.cut_back-rest.new.extents.segs.items) (tiling c.lay_zeros.new.extents.segs.items) c.args.a.0 c.cut_front-front.result.1.0 _ _
-    c.cut_front-front.ensures.gaps c.cut_back-rest.ensures.gaps c.lay_zeros.ensures.gaps c.args.root.now.0 [] c.requires.gaps)
+    gaps-changed _ _ _ _ _ (change g c) c.requires.gaps
 
 pub link_some-requires : goal.link_some-requires
 link_some-requires g c =
@@ -80,7 +83,7 @@ returns-clause-kept g c =
           merged-stays t2 (tiling c.link_some-2.new.extents.segs.items) c.link_some-2.ensures.rest.extents
           (merged-stays (tiling c.lay_zeros.new.extents.segs.items) t2 c.link_some.ensures.rest.extents
           (carved-merged _ _ _ _ c.args.extents.now.kept c.lay_zeros.new.extents.kept c.args.a.0 c.args.off c.args.size c.args.tag c.requires.room.free c.requires.room.sized.some (carved g at.After-lay_zeros) c.requires.merged));
-      gaps = c.link_some-2.ensures.gaps [] (none c.cut_back-rest.result) (gaps-none_more t2 c.link_some.new.root.0 (some_name c.cut_back-rest.result) (left g at.After-link_some));
+      gaps = c.link_some-2.ensures.gaps [] (none c.cut_back-rest.result) (gaps-more t2 c.link_some.new.root.0 (some_name c.cut_back-rest.result) (left g at.After-link_some));
     }
   where
     none : (o : Option Addr) → IfSome o (λ b. contains [] b.0 ≡ false)
