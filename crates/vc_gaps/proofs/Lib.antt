@@ -3,6 +3,7 @@ pub mod Named
 pub mod LinkWritten
 pub mod Ascending
 pub mod GapTrees
+pub mod Costs
 pub mod Holding
 pub mod Walking
 pub mod Searching

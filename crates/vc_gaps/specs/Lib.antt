@@ -4,3 +4,4 @@ pub mod GapLaws
 pub mod Fits
 pub mod GapTree
 pub mod GapUnique
+pub mod Cost

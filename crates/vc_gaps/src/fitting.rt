@@ -2,6 +2,7 @@ ghost use Rattle.std.specs.Prelude.{◌≡◌, ◌≢◌, ℕ, ◌+◌, ◌*◌,
 ghost use Rattle.vc_base.specs.Prelude.{contains, some_address};
 ghost use Rattle.vc_extent.specs.Tiling.{extent_of, tiling};
 ghost use Rattle.vc_gaps.specs.ButLinks.{StaysButLinks};
+ghost use Rattle.vc_gaps.specs.Cost.{GapsCost};
 ghost use Rattle.vc_gaps.specs.Fits.{from_on, holds_at};
 ghost use Rattle.vc_gaps.specs.GapStore.{is_free};
 ghost use Rattle.vc_gaps.specs.GapTree.{GapFitted, HasGapTree, IsAmongGaps, IsGapTree};
@@ -35,6 +36,8 @@ pub fn fit<L>(
     ensures most_steps_by_32 { (xs : List ℕ)
         → HasGapTree (tiling extents.old.segs.items) root.0 xs
         → align ≡ 32 → steps.new ≤ steps.old + length xs }
+    ensures cost { align ≡ 32 → GapsCost (tiling extents.old.segs.items) (tiling extents.new.segs.items)
+        root.0 result.0.0 steps.old steps.new 12 0 0 }
     ensures rest { StaysButLinks extents.old.segs.items extents.new.segs.items }
 {
     let (top, found) = fit_in(&mut Gaps { extents }, root.0, span, align, steps);
@@ -72,6 +75,8 @@ fn fit_in<'a, L>(
     ensures most_steps_by_32 { (xs : List ℕ)
         → HasGapTree (tiling gaps.old.extents.now.segs.items) root xs
         → align ≡ 32 → steps.new ≤ steps.old + length xs }
+    ensures cost { align ≡ 32 → GapsCost (tiling gaps.old.extents.now.segs.items)
+        (tiling gaps.new.extents.now.segs.items) root result.0 steps.old steps.new 12 0 0 }
     ensures same { gaps.new.extents.ghost_name ≡ gaps.old.extents.ghost_name }
     ensures rest { StaysButLinks gaps.old.extents.now.segs.items
         gaps.new.extents.now.segs.items }

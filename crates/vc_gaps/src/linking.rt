@@ -1,6 +1,7 @@
 ghost use Rattle.std.specs.Prelude.{◌≡◌, ◌≢◌, ℕ, ◌+◌, ◌≤◌, List, length};
 ghost use Rattle.vc_extent.specs.Tiling.{tiling};
 ghost use Rattle.vc_gaps.specs.ButLinks.{StaysButLinks};
+ghost use Rattle.vc_gaps.specs.Cost.{GapsCost};
 ghost use Rattle.vc_gaps.specs.GapTree.{CanLinkGap, GapLinked, GapUnlinked, HasGapTree, IsInGaps};
 
 use crate::{BySpan, Gaps};
@@ -18,6 +19,8 @@ pub fn link_gap<L>(extents: &mut Extents, root: Addr, a: Addr, steps: &mut Steps
     ensures least_steps { root.0 ≢ 0 → steps.old + 2 ≤ steps.new }
     ensures most_steps { (xs : List ℕ) → HasGapTree (tiling extents.old.segs.items) root.0 xs
         → steps.new ≤ steps.old + 1 + length xs }
+    ensures cost { GapsCost (tiling extents.old.segs.items) (tiling extents.new.segs.items)
+        root.0 result.0 steps.old steps.new 8 1 1 }
     ensures rest { StaysButLinks extents.old.segs.items extents.new.segs.items }
 {
     Addr(link_in(&mut Gaps { extents }, root.0, a.0, steps))
@@ -34,6 +37,8 @@ fn link_in<'a, L>(gaps: &mut Gaps<'a>, root: u32, a: u32, steps: &mut Steps<L>) 
     ensures most_steps { (xs : List ℕ)
         → HasGapTree (tiling gaps.old.extents.now.segs.items) root xs
         → steps.new ≤ steps.old + 1 + length xs }
+    ensures cost { GapsCost (tiling gaps.old.extents.now.segs.items)
+        (tiling gaps.new.extents.now.segs.items) root result steps.old steps.new 8 1 1 }
     ensures same { gaps.new.extents.ghost_name ≡ gaps.old.extents.ghost_name }
     ensures rest { StaysButLinks gaps.old.extents.now.segs.items
         gaps.new.extents.now.segs.items }
@@ -48,6 +53,8 @@ pub fn unlink_gap(extents: &mut Extents, root: Addr, a: Addr) -> Addr
     requires { IsInGaps (tiling extents.old.segs.items) root.0 a.0 }
     ensures unlinked { GapUnlinked (tiling extents.old.segs.items)
         (tiling extents.new.segs.items) root.0 a.0 result.0 }
+    ensures cost { GapsCost (tiling extents.old.segs.items) (tiling extents.new.segs.items)
+        root.0 result.0 0 0 12 0 0 }
     ensures rest { StaysButLinks extents.old.segs.items extents.new.segs.items }
 {
     Addr(unlink_in(&mut Gaps { extents }, root.0, a.0))
@@ -59,6 +66,8 @@ fn unlink_in<'a>(gaps: &mut Gaps<'a>, root: u32, a: u32) -> u32
     requires { IsInGaps (tiling gaps.old.extents.now.segs.items) root a }
     ensures unlinked { GapUnlinked (tiling gaps.old.extents.now.segs.items)
         (tiling gaps.new.extents.now.segs.items) root a result }
+    ensures cost { GapsCost (tiling gaps.old.extents.now.segs.items)
+        (tiling gaps.new.extents.now.segs.items) root result 0 0 12 0 0 }
     ensures same { gaps.new.extents.ghost_name ≡ gaps.old.extents.ghost_name }
     ensures rest { StaysButLinks gaps.old.extents.now.segs.items
         gaps.new.extents.now.segs.items }

@@ -1,5 +1,6 @@
 use Rattle.vc_base.proofs.Common.{length, ap, arith}
 use Rattle.vc_gaps.proofs.Common.{tiling}
+use Rattle.vc_gaps.proofs.Costs.{found-cost}
 use Rattle.vc_gaps.proofs.Found.{among-first, first-within, fitted-by_32, fitted-on}
 use Rattle.vc_gaps.proofs.GapTrees.{can_find, gap-found}
 use Rattle.vc_gaps.proofs.fitting.fit_in.Goals as goal
@@ -35,3 +36,11 @@ returns-clause-most_steps g c = λ xs h.
     let along = c.first_that_holds.ensures.most_steps f.result.0 xs after.tree within in
     let len = ap length h.list in
     omega arith
+
+pub returns-then-align-eq32-clause-cost : goal.returns-then-align-eq32-clause-cost
+returns-then-align-eq32-clause-cost g c = λ _.
+    let f = c.find_least_at-top in
+    found-cost _ f.new.nodes.extents.now.segs.items _ c.args.gaps.now.extents.now.kept f.ensures.rest.1 c.args.root f.result.0 c.args.steps.now f.new.steps f.ensures.law f.ensures.tree
+
+pub returns-clause-cost : goal.returns-clause-cost
+returns-clause-cost g c = λ unit. absurd (c.if-align-eq32.false unit)

@@ -1,4 +1,5 @@
 use Rattle.vc_gaps.proofs.Common.{tiling}
+use Rattle.vc_gaps.proofs.Costs.{linked-cost}
 use Rattle.vc_gaps.proofs.GapTrees.{can_link, free-bool, linked-gap}
 use Rattle.vc_gaps.proofs.linking.link_in.Goals as goal
 
@@ -13,3 +14,9 @@ returns-clause-linked g c =
     let e = c.args.gaps.now.extents.now in
     let l = c.link_after_equals in
     linked-gap e.segs.items l.new.nodes.extents.now.segs.items e.index.items e.kept l.ensures.rest.1 c.args.root l.result c.args.a c.span_at-span.result c.span_at-span.ensures.value c.requires l.ensures.tree
+
+pub returns-clause-cost : goal.returns-clause-cost
+returns-clause-cost g c =
+    let e = c.args.gaps.now.extents.now in
+    let l = c.link_after_equals in
+    linked-cost e.segs.items l.new.nodes.extents.now.segs.items e.index.items e.kept l.ensures.rest.1 c.args.root l.result c.args.a c.span_at-span.result c.args.steps.now c.span_at-span.new.steps l.new.steps c.span_at-span.ensures.counter l.ensures.law l.ensures.tree
