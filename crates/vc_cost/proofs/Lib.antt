@@ -2,3 +2,4 @@ mod DigitsLemmas
 pub mod TakeLemmas
 pub mod MadeLemmas
 pub mod SumLemmas
+pub mod RunLemmas

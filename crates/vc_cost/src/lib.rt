@@ -7,10 +7,12 @@ mod making;
 mod ord_call;
 mod ord_calls;
 mod rows;
+mod running;
+mod tally;
 
 pub use bounds::bound;
 pub use key::Key;
-pub use making::make_call;
 pub use ord_call::OrdCall;
 pub use ord_calls::OrdCalls;
-pub use rows::{bound_rows, call_rows, list_rows, sum_laws};
+pub use rows::{bound_rows, call_rows, list_rows};
+pub use running::run_ord;

@@ -1,25 +1,30 @@
-ghost use Rattle.std.specs.Prelude.{◌≡◌, ℕ, ◌+◌, ◌*◌, List};
+ghost use Rattle.std.specs.Prelude.{◌≡◌, ℕ, ◌+◌, ◌*◌, List, is_some, if◌then◌else◌};
 ghost use Rattle.vc_dtdisc.specs.Finds.{find_key};
 ghost use Rattle.vc_dtdisc.specs.Rules.{Rules};
 ghost use Rattle.vc_dtlist.specs.TableWrites.{ChangesIn};
 ghost use Rattle.vc_dtord.specs.Ordered.{IsOrd, OrdFor, OrdTurned};
 ghost use Rattle.vc_cost.specs.Calls.{without_found};
 ghost use Rattle.vc_cost.specs.Costs.{CanMake, IsMade, TakeCosts};
+ghost use Rattle.vc_cost.specs.Made.{came, found_by, went};
 
 use crate::OrdCall;
+use crate::tally::Made;
 use vc_base::{Cells, Steps};
 use vc_dtdisc::DictDisc;
 use vc_dtord::DtOrd;
 
-// Takes the first holder out whose object has the key, where there is one.
+// Takes the first holder out whose object has the key, and tells whether there is one.
 fn take_out<C: Cells, D: DictDisc, L>(
     cells: &mut C,
     kind: &D,
     ord: &mut DtOrd,
     key: &[u8],
     steps: &mut Steps<L>,
-)
+) -> bool
     requires { IsOrd (D.rules kind.now) ord.old (C.blocks cells.old) }
+    ensures told { (holders : List ℕ)
+        → OrdFor (D.rules kind.now) ord.old (C.blocks cells.old) holders
+        → result ≡ is_some (find_key (D.rules kind.now) (C.blocks cells.old) key.now holders) }
     ensures list { ChangesIn C.blocks C.RestStays cells.old cells.new
         (λ old new. (holders : List ℕ) → OrdFor (D.rules kind.now) ord.old old holders
         → OrdTurned (D.rules kind.now) holders old ord.new new
@@ -29,19 +34,39 @@ fn take_out<C: Cells, D: DictDisc, L>(
 {
     if let Some(at) = ord.find(cells, kind, key, steps) {
         ord.unlink(cells, at);
+        return true;
     }
+    false
 }
 
-/// Makes one call on an ordered set or bag, and tells whether it is a search that found an object. It takes at most thirty
-/// steps for each binary digit of the greater number of holders, and thirty, and to take one out twice that, where the
-/// rank of the tree pays for the rest. Condition: what is linked is a holder that isn't in the list.
-pub fn make_call<C: Cells, D: DictDisc, L>(
+// What it did where it tried to take a holder out.
+fn taking(taken: bool) -> Made
+    ensures came { came result ≡ 0 }
+    ensures went { went result ≡ (if taken then 1 else 0) }
+    ensures found { found_by result ≡ 0 }
+{
+    if taken { Made::Taken } else { Made::Missed }
+}
+
+// What it did where it searched.
+fn searching(found: bool) -> Made
+    ensures came { came result ≡ 0 }
+    ensures went { went result ≡ 0 }
+    ensures found { found_by result ≡ (if found then 1 else 0) }
+{
+    if found { Made::Found } else { Made::Missed }
+}
+
+// Makes one call on an ordered set or bag, and tells what it did. It takes at most thirty steps for each binary digit of
+// the greater number of holders, and thirty, and to take one out twice that, where the rank of the tree pays for the
+// rest. What is linked is a holder that isn't in the list.
+pub(crate) fn make_call<C: Cells, D: DictDisc, L>(
     cells: &mut C,
     kind: &D,
     ord: &mut DtOrd,
     call: &OrdCall,
     steps: &mut Steps<L>,
-) -> bool
+) -> Made
     requires { CanMake (D.rules kind.now) ord.old (C.blocks cells.old) call.now }
     ensures { ChangesIn C.blocks C.RestStays cells.old cells.new
         (λ old new. (holders : List ℕ) → OrdFor (D.rules kind.now) ord.old old holders
@@ -50,13 +75,12 @@ pub fn make_call<C: Cells, D: DictDisc, L>(
     match call {
         OrdCall::Link(at) => {
             ord.link(cells, kind, *at, steps);
-            false
+            Made::Linked
         }
-        OrdCall::Take(key) => {
-            take_out(cells, kind, ord, key.as_slice(), steps);
-            false
+        OrdCall::Take(key) => taking(take_out(cells, kind, ord, key.as_slice(), steps)),
+        OrdCall::Find(key) => searching(ord.find(cells, kind, key.as_slice(), steps).is_some()),
+        OrdCall::AtLeast(key) => {
+            searching(ord.at_least(cells, kind, key.as_slice(), steps).is_some())
         }
-        OrdCall::Find(key) => ord.find(cells, kind, key.as_slice(), steps).is_some(),
-        OrdCall::AtLeast(key) => ord.at_least(cells, kind, key.as_slice(), steps).is_some(),
     }
 }

@@ -1,13 +1,9 @@
-ghost use Rattle.std.specs.Prelude.{◌≡◌, ℕ, ◌+◌, ◌*◌, ◌≤◌, Bool, List, [], ◌∷◌, Some, None};
+ghost use Rattle.std.specs.Prelude.{◌≡◌, ℕ, ◌+◌, ◌*◌, [], ◌∷◌, Some, None};
 ghost use Rattle.vc_base.specs.declared.addr.Addr.{Addr};
 ghost use Rattle.vc_base.specs.Cells.{Blocks};
 ghost use Rattle.vc_dtdisc.specs.Rules.{Rules};
 ghost use Rattle.vc_splay.specs.Rank.{binary_digits};
-ghost use Rattle.vc_cost.specs.Calls.{after_call, after_calls, calls_made, greatest_count, weight, without_found};
-ghost use Rattle.vc_dtord.specs.declared.dt_ord.DtOrd.{DtOrd};
-ghost use Rattle.vc_dtord.specs.Ordered.{OrdFor};
-ghost use Rattle.vc_cost.specs.Costs.{AreMade, IsMade};
-ghost use Rattle.vc_cost.specs.declared.ord_call.OrdCall.{OrdCall};
+ghost use Rattle.vc_cost.specs.Calls.{after_calls, calls_made, found_count, greatest_count, linked, weight, without_found};
 ghost use Rattle.vc_cost.specs.declared.ord_call.OrdCall.TheVariants.{Link, Take, Find, AtLeast};
 
 /// 200,000 calls over at most 100,000 nodes take at most 108,000,000 steps, by thirty a digit and thirty a call; one over
@@ -27,20 +23,9 @@ pub fn list_rows()
         → greatest_count rules blocks (Link at ∷ Find [] ∷ []) [] ≡ 1 }
     ensures sought { (rules : Rules) (blocks : Blocks)
         → greatest_count rules blocks (AtLeast [] ∷ []) (3 ∷ 5 ∷ []) ≡ 2 }
-{}
-
-/// Calls that are made in turn, each as `make_call` does it, cost no more than the sum of what each may cost.
-pub fn sum_laws()
-    ensures one { (rules : Rules) (call : OrdCall) (calls : List OrdCall) (xs : List ℕ)
-        (old mid new : DtOrd) (b b' b'' : Blocks) (start now last : ℕ) (found : Bool)
-        → IsMade rules call xs old b mid b' start now found
-        → AreMade rules calls (after_call rules b call xs) mid b' new b'' now last
-        → AreMade rules (call ∷ calls) xs old b new b'' start last }
-    ensures none { (rules : Rules) (xs : List ℕ) (ord : DtOrd) (b : Blocks) (now : ℕ)
-        → OrdFor rules ord b xs → AreMade rules [] xs ord b ord b now now }
-    ensures sum { (rules : Rules) (calls : List OrdCall) (old new : DtOrd) (b b' : Blocks) (start now : ℕ)
-        → OrdFor rules old b [] → AreMade rules calls [] old b new b' start now
-        → now ≤ start + calls_made calls * (30 * binary_digits (greatest_count rules b calls []) + 30) }
+    ensures missed { (rules : Rules) (blocks : Blocks)
+        → found_count rules blocks (Find [] ∷ AtLeast [] ∷ Take [] ∷ []) [] ≡ 0 }
+    ensures each { (at other : Addr) → linked (Link at ∷ Find [] ∷ Link other ∷ []) ≡ at.0 ∷ other.0 ∷ [] }
 {}
 
 /// To take counts as two calls, and each other as one; what isn't found takes nothing out.
