@@ -1,11 +1,11 @@
 -- A segment that was lent, for a block that no gap holds.
 use Rattle.vc_base.proofs.Common.{◌≡◌, ℕ, ◌+◌, ◌-◌, ◌≤◌, true, false, eqb, ◌≢◌, List, [], ◌∷◌, ◌++◌, map, Some, None, All, filter, sym, refl, ap, ◌∙◌, subst, arith, eq-eqb, ne_eqb, le-leb, All-head, All-map, All-push, All-tail, filter-append, address, place_of, place_in, IsSegmentSize, Terms, Run, Layout, with_grant, holds, least, lowest_offset, new_segment, span}
-use Rattle.vc_best.proofs.Common.{AreAllowed, AreExtents, AreWhole, Bytes, Extent, HasGaps, IsLeastHolding, IsLeastOut, IsLentFree, IsMerged, extent_in, extent_of, extents, extents_of, free_extent, is_merged, layout_by, no_links, pair_of, run_at, run_of_extent, tiling}
+use Rattle.vc_best.proofs.Common.{AreAllowed, AreExtents, AreWhole, Bytes, Extent, GapsChange, HasGaps, HasGapsBy, IsLeastHolding, IsLeastOut, IsLentFree, IsMerged, extent_in, extent_of, extents, extents_of, free_extent, is_merged, layout_by, no_links, pair_of, run_at, run_of_extent, tiling}
 use Rattle.std.proofs.lemmas.Grind.{flat_map-append}
 use Rattle.vc_base.proofs.Options.{option_map-None}
 use Rattle.vc_extent.proofs.Pushes.{apart-there}
 use Rattle.vc_gaps.specs.Fits as gaps
-use Rattle.vc_gaps.proofs.Added.{gaps-added}
+use Rattle.vc_gaps.proofs.Added.{gaps-added, gaps-added_by}
 use Rattle.vc_best.proofs.Gaps.{least-None}
 use Rattle.vc_best.proofs.Plain.{runs-by}
 use Rattle.vc_best.proofs.Puts.{place-runs, place_at}
@@ -57,6 +57,9 @@ module _ (old lent : List Bytes) (i : List ℕ) (k : ∥ AreExtents old i ∥₁
 
   pub lent-layout : layout_by lent ≡ with_grant (layout_by old) (new_segment n bytes)
   lent-layout = layout-added old lent n bytes (bytes - 32) l.extents l.pairs
+
+  pub lent-change : GapsChange (tiling old) (tiling lent) [] (a ∷ [])
+  lent-change u root out h = subst (λ (z : ℕ). HasGapsBy u (tiling lent) root (z ∷ out)) (sym value) (gaps-added_by old (tiling lent) root n (bytes - 32) out l.fresh l.extents h)
 
   pub lent-out : IsLeastOut lent root size align a
   lent-out = record {

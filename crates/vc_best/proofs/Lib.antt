@@ -59,6 +59,7 @@ pub mod Outs
 pub mod FreeGaps
 pub mod BorderGaps
 pub mod Linking
+pub mod Costs
 pub mod EmptyGaps
 pub mod Bests
 pub mod BlockCounts

@@ -44,6 +44,7 @@ pub(crate) fn cut_back<L>(
         × (bytes < (extent_of (tiling extents.old.segs.items) a.0).span)) }
     ensures gaps { GapsChange (tiling extents.old.segs.items) (tiling extents.new.segs.items)
         (a.0 ∷ []) (a.0 ∷ some_name result) }
+    ensures counter { steps.new ≡ steps.old + 1 }
 {
     if bytes < extents.span_at(a, steps) {
         Some(extents.split(a, bytes))

@@ -4,6 +4,8 @@ ghost use Rattle.vc_model.specs.Best.{place_in};
 ghost use Rattle.vc_seg.specs.Answer.{Asks};
 ghost use Rattle.vc_seg.specs.Segment.{pair_of};
 ghost use Rattle.vc_seg.specs.Lend.{IsAsked, IsNoGrant};
+ghost use Rattle.vc_extent.specs.Tiling.{tiling};
+ghost use Rattle.vc_gaps.specs.Cost.{GapsCost};
 ghost use Rattle.vc_best.specs.Blocks.{layout_by};
 ghost use Rattle.vc_best.specs.Standing.{AreAllowed, AreWhole, IsLentFree, IsPutByAsking};
 
@@ -61,6 +63,8 @@ pub(crate) fn put_in_new<L>(
         (layout_by extents.old.segs.items).segments (layout_by extents.new.segs.items).segments
         (best_need (state disc.old).terms size align) }
     ensures whole { AreWhole extents.new.segs.items root.new.0 }
+    ensures cost { GapsCost (tiling extents.old.segs.items) (tiling extents.new.segs.items)
+        root.old.0 root.new.0 steps.old steps.new 16 3 2 }
 {
     let bytes = rounded_up(span_of(size) + align, round_of(disc));
     match lend_next(extents, disc, alloc, bytes) {

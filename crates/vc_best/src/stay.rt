@@ -1,4 +1,4 @@
-ghost use Rattle.std.specs.Prelude.{◌≡◌, ◌≤◌, ◌↔◌, IsTrue};
+ghost use Rattle.std.specs.Prelude.{◌≡◌, ◌+◌, ◌≤◌, ◌↔◌, IsTrue};
 ghost use Rattle.vc_base.specs.Prelude.{place_of, resize_there, span};
 ghost use Rattle.vc_extent.specs.Tiling.{IsBusy, IsNamed, tiling};
 ghost use Rattle.vc_best.specs.GapsChange.{GapBehindChanges};
@@ -14,7 +14,9 @@ use vc_seg::span_of;
 // The bytes from a busy extent's start on up to the next busy one, or to the end of what its segment has for extents.
 fn room<L>(extents: &Extents, a: Addr, steps: &mut Steps<L>) -> u32
     requires { IsBusy (tiling extents.now.segs.items) a.0 }
-    ensures { result ≡ room_of (tiling extents.now.segs.items) a.0 }
+    ensures value { result ≡ room_of (tiling extents.now.segs.items) a.0 }
+    ensures least_steps { steps.old + 1 ≤ steps.new }
+    ensures most_steps { steps.new ≤ steps.old + 2 }
 {
     let own = extents.span_at(a, steps);
     match extents.after(a) {
@@ -33,7 +35,9 @@ fn room<L>(extents: &Extents, a: Addr, steps: &mut Steps<L>) -> u32
 pub(crate) fn has_room<L>(extents: &Extents, a: Addr, size: u32, steps: &mut Steps<L>) -> bool
     requires busy { IsBusy (tiling extents.now.segs.items) a.0 }
     requires most { size ≤ 16777264 }
-    ensures { IsTrue result ↔ (span size ≤ room_of (tiling extents.now.segs.items) a.0) }
+    ensures fits { IsTrue result ↔ (span size ≤ room_of (tiling extents.now.segs.items) a.0) }
+    ensures least_steps { steps.old + 1 ≤ steps.new }
+    ensures most_steps { steps.new ≤ steps.old + 2 }
 {
     span_of(size) <= room(extents, a, steps)
 }
@@ -44,6 +48,7 @@ fn move_border<L>(extents: &mut Extents, a: Addr, size: u32, steps: &mut Steps<L
     ensures moved { IsBorderMoved extents.old.segs.items extents.new.segs.items a.0 size }
     ensures gaps { GapBehindChanges (tiling extents.old.segs.items) (tiling extents.new.segs.items)
         a.0 size }
+    ensures counter { steps.new ≡ steps.old + 1 }
 {
     let own = extents.span_at(a, steps);
     let wanted = span_of(size);
@@ -66,6 +71,7 @@ pub(crate) fn resize_there<L>(extents: &mut Extents, a: Addr, size: u32, steps: 
     ensures named { IsNamed (tiling extents.new.segs.items) a.0 }
     ensures gaps { GapBehindChanges (tiling extents.old.segs.items) (tiling extents.new.segs.items)
         a.0 size }
+    ensures counter { steps.new ≡ steps.old + 1 }
 {
     let old = extents.size_at(a);
     move_border(extents, a, size, steps);

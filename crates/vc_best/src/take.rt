@@ -1,5 +1,6 @@
 ghost use Rattle.std.specs.Prelude.{◌≤◌};
 ghost use Rattle.vc_extent.specs.Tiling.{IsBusy, extent_of, tiling};
+ghost use Rattle.vc_gaps.specs.Cost.{GapsCost};
 ghost use Rattle.vc_best.specs.Blocks.{layout_by};
 ghost use Rattle.vc_best.specs.Standing.{AreKept, AreWhole, IsMovedInto};
 
@@ -23,6 +24,8 @@ pub(crate) fn take_over<L>(
     ensures moved { IsMovedInto (layout_by extents.old.segs.items) (layout_by extents.new.segs.items)
         a.0 to.0 size }
     ensures kept { AreKept extents.new.segs.items root.new.0 }
+    ensures cost { GapsCost (tiling extents.old.segs.items) (tiling extents.new.segs.items)
+        root.old.0 root.new.0 steps.old steps.new 32 1 1 }
 {
     let own = extents.size_at(a);
     let len = if own < size { own } else { size };

@@ -4,6 +4,7 @@ ghost use Rattle.vc_seg.specs.OneBlock.{IsGuardedSize};
 ghost use Rattle.vc_layouts.specs.Put.{with_zeros};
 ghost use Rattle.vc_extent.specs.Tiling.{IsBusy, IsNamed, tiling};
 ghost use Rattle.vc_gaps.specs.ButLinks.{StaysButLinks};
+ghost use Rattle.vc_gaps.specs.Cost.{GapsCost};
 ghost use Rattle.vc_gaps.specs.GapTree.{CanLinkGap, HasGaps};
 ghost use Rattle.vc_best.specs.Beside.{free_before, free_next, some_name};
 ghost use Rattle.vc_best.specs.Blocks.{layout_by};
@@ -26,6 +27,8 @@ fn unlink_next(extents: &mut Extents, root: &mut Addr, a: Addr)
     requires gaps { HasGaps (tiling extents.old.segs.items) root.old.0 [] }
     ensures gaps { HasGaps (tiling extents.new.segs.items) root.new.0
         (free_next (tiling extents.old.segs.items) a.0) }
+    ensures cost { GapsCost (tiling extents.old.segs.items) (tiling extents.new.segs.items)
+        root.old.0 root.new.0 0 0 12 0 0 }
     ensures rest { StaysButLinks extents.old.segs.items extents.new.segs.items }
 {
     let Some(next) = extents.after(a) else {
@@ -44,6 +47,8 @@ fn unlink_before(extents: &mut Extents, root: &mut Addr, a: Addr)
     ensures gaps { HasGaps (tiling extents.new.segs.items) root.new.0
         (free_before (tiling extents.old.segs.items) a.0
         ++ free_next (tiling extents.old.segs.items) a.0) }
+    ensures cost { GapsCost (tiling extents.old.segs.items) (tiling extents.new.segs.items)
+        root.old.0 root.new.0 0 0 12 0 0 }
     ensures rest { StaysButLinks extents.old.segs.items extents.new.segs.items }
 {
     let Some(before) = extents.before(a) else {
@@ -60,6 +65,8 @@ fn link_next<L>(extents: &mut Extents, root: &mut Addr, a: Addr, steps: &mut Ste
     requires gaps { HasGaps (tiling extents.old.segs.items) root.old.0
         (free_next (tiling extents.old.segs.items) a.0) }
     ensures gaps { HasGaps (tiling extents.new.segs.items) root.new.0 [] }
+    ensures cost { GapsCost (tiling extents.old.segs.items) (tiling extents.new.segs.items)
+        root.old.0 root.new.0 steps.old steps.new 8 1 1 }
     ensures rest { StaysButLinks extents.old.segs.items extents.new.segs.items }
 {
     let Some(next) = extents.after(a) else {
@@ -76,6 +83,8 @@ fn link_some<L>(extents: &mut Extents, root: &mut Addr, some: Option<Addr>, step
     ensures gaps { (out : List ℕ) → IfSome some (λ a. contains out a.0 ≡ false)
         → HasGaps (tiling extents.old.segs.items) root.old.0 (some_name some ++ out)
         → HasGaps (tiling extents.new.segs.items) root.new.0 out }
+    ensures cost { GapsCost (tiling extents.old.segs.items) (tiling extents.new.segs.items)
+        root.old.0 root.new.0 steps.old steps.new 8 1 1 }
     ensures rest { StaysButLinks extents.old.segs.items extents.new.segs.items }
 {
     if let Some(a) = some {
@@ -101,6 +110,8 @@ fn put_block<L>(
         ≡ with_zeros (layout_by extents.old.segs.items) tag size ((place_of a.0).0, off) }
     ensures value { result.0 ≡ address ((place_of a.0).0, off) }
     ensures kept { AreKept extents.new.segs.items root.new.0 }
+    ensures cost { GapsCost (tiling extents.old.segs.items) (tiling extents.new.segs.items)
+        root.old.0 root.new.0 steps.old steps.new 16 3 2 }
 {
     let (front, to) = cut_front(extents, a, off);
     let rest = cut_back(extents, to, span_of(size), steps);
@@ -125,6 +136,8 @@ pub(crate) fn put_in_out<L>(
     ensures put { IsPutInGap (layout_by extents.old.segs.items) (layout_by extents.new.segs.items)
         tag size align result.0 }
     ensures whole { AreWhole extents.new.segs.items root.new.0 }
+    ensures cost { GapsCost (tiling extents.old.segs.items) (tiling extents.new.segs.items)
+        root.old.0 root.new.0 steps.old steps.new 16 3 2 }
 {
     let off = rounded_up(a.off(), align);
     put_block(extents, root, a, off, size, tag, steps)
@@ -146,6 +159,8 @@ pub(crate) fn put_in_gap<L>(
     ensures put { IsPutInGap (layout_by extents.old.segs.items) (layout_by extents.new.segs.items)
         tag size align result.0 }
     ensures whole { AreWhole extents.new.segs.items root.new.0 }
+    ensures cost { GapsCost (tiling extents.old.segs.items) (tiling extents.new.segs.items)
+        root.old.0 root.new.0 steps.old steps.new 28 3 2 }
 {
     *root = unlink_gap(extents, *root, a);
     put_in_out(extents, root, a, size, align, tag, steps)
@@ -158,6 +173,8 @@ pub(crate) fn free_block<L>(extents: &mut Extents, root: &mut Addr, a: Addr, ste
     ensures layout { layout_by extents.new.segs.items
         ≡ without_block_at (layout_by extents.old.segs.items) (place_of a.0) }
     ensures kept { AreKept extents.new.segs.items root.new.0 }
+    ensures cost { GapsCost (tiling extents.old.segs.items) (tiling extents.new.segs.items)
+        root.old.0 root.new.0 steps.old steps.new 32 1 1 }
 {
     unlink_next(extents, root, a);
     unlink_before(extents, root, a);
@@ -180,6 +197,8 @@ pub(crate) fn resize_block<L>(
     ensures layout { layout_by extents.new.segs.items
         ≡ resize_there (layout_by extents.old.segs.items) (place_of a.0) size }
     ensures kept { AreKept extents.new.segs.items root.new.0 }
+    ensures cost { GapsCost (tiling extents.old.segs.items) (tiling extents.new.segs.items)
+        root.old.0 root.new.0 steps.old steps.new 20 3 1 }
 {
     if span_of(size) == extents.span_at(a, steps) {
         resize_there(extents, a, size, steps);

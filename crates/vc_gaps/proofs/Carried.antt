@@ -36,6 +36,10 @@ module _ (old new : Tiling) where
     ascending = ascend-same (key_of old) (key_of new) 0 xs (λ a w. ap (λ (x : Extent). gap_key x.span a) (same a w)) h.ascending;
   }
 
+  pub tree-still : (root : ℕ) (xs : List ℕ) (same : (a : ℕ) → contains xs a ≡ true → extent_of new a ≡ extent_of old a) (h : HasGapTree old root xs) → (tree-carried root xs same h).tree ≡ h.tree
+  unfolding tree-carried
+  tree-still root xs same h = refl
+
   carried : (root : ℕ) (out after : List ℕ) → ((a : ℕ) → is_free old a ≡ true → contains out a ≡ false → extent_of new a ≡ extent_of old a)
       → ((a : ℕ) → (is_free new a && not (contains after a)) ≡ (is_free old a && not (contains out a))) → HasGaps old root out → HasGaps new root after
   carried root out after same exact h = record {

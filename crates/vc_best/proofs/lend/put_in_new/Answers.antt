@@ -1,18 +1,20 @@
-use Rattle.vc_base.proofs.Common.{◌≡◌, ℕ, ◌+◌, ◌-◌, ◌≤◌, false, ◌≢◌, List, Err, Result, IsErrOf, sym, ap, ◌∙◌, subst, arith, place_of, best_need, IsSegmentSize, Terms, Layout, with_grant, Granted, TooMany, ask, new_segment, round_up, span}
-use Rattle.vc_best.proofs.Common.{Addr, AreWhole, IsPutInGap, layout_by}
+use Rattle.vc_base.proofs.Common.{◌≡◌, ℕ, ◌+◌, ◌-◌, ◌≤◌, false, ◌≢◌, List, [], ◌∷◌, Err, Result, IsErrOf, sym, ap, ◌∙◌, subst, arith, place_of, best_need, IsSegmentSize, Terms, Layout, with_grant, Granted, TooMany, ask, new_segment, round_up, span}
+use Rattle.vc_best.proofs.Common.{Addr, AreWhole, IsLeastOut, IsPutInGap, layout_by, tiling}
 use Rattle.vc_seg.specs.declared.fault.RegionFault.{RegionFault}
 use Rattle.vc_seg.proofs.Rounding.{round_up-least}
 use Rattle.vc_seg.specs.declared.fault.RegionFault.TheVariants as code
 use Rattle.vc_seg.specs.Lend.{IsNoGrant}
+use Rattle.vc_gaps.specs.Cost.{GapsCost}
 use Rattle.vc_extent.specs.declared.extents.Extents.{Extents}
 use Rattle.vc_layouts.proofs.Segments.{Served-granted}
 use Rattle.vc_best.proofs.Asking.{Answers-fault, Answers-granted}
 use Rattle.vc_best.proofs.BlockCounts.{put-count}
-use Rattle.vc_best.proofs.Lends.{lent-out, segments-by}
+use Rattle.vc_best.proofs.Costs.{changed_cost, still_cost, then_cost}
+use Rattle.vc_best.proofs.Lends.{lent-change, lent-out, segments-by}
 use Rattle.vc_best.proofs.Rounding.{IsAligned-from_IsAlign, IsSegmentSize-need}
 use Rattle.vc_best.proofs.Segments.{layout-added}
 use Rattle.vc_best.proofs.lend.put_in_new.Goals as goal
-use Rattle.vc_best.proofs.lend.put_in_new.Goals.{After-rounded_up-bytes}
+use Rattle.vc_best.proofs.lend.put_in_new.Goals.{After-new-a, After-rounded_up-bytes}
 use Rattle.vc_best.proofs.lend.put_in_new.Given.{Over}
 
 same_fault : (a b : RegionFault) → IsErrOf {T = Addr} (Err a) b → IsErrOf {T = ℕ} (Err a) b
@@ -37,11 +39,14 @@ need g c = is g c ∙ ap (round_up (span c.args.size + c.args.align)) c.round_of
 pub lend_next-requires-clause-bytes : goal.lend_next-requires-clause-bytes
 lend_next-requires-clause-bytes g c = legal g (goal.at.lend_next-requires-clause-bytes g c).After-rounded_up-bytes
 
-pub put_in_out-requires : goal.put_in_out-requires
-put_in_out-requires g c =
-    let b = (goal.at.put_in_out-requires g c).After-rounded_up-bytes in
+out : (g : Over) (c : After-new-a g) → IsLeastOut c.lend_next.new.extents.segs.items c.args.root.now.0 c.args.size c.args.align c.new-a.result.0
+out g c =
+    let b = (goal.at.After-new-a g c).After-rounded_up-bytes in
     lent-out _ c.lend_next.new.extents.segs.items _ c.args.extents.now.kept c.args.root.now.0 c.in-Ok.number c.rounded_up-bytes.result c.args.size c.args.align c.new-a.result.0 c.new-a.ensures.place c.new-a.ensures.value
     (terms g b) c.in-Ok.ensures.lent c.requires.allowed c.requires.whole c.requires.none (legal g b) (fits g b)
+
+pub put_in_out-requires : goal.put_in_out-requires
+put_in_out-requires g c = out g (goal.at.put_in_out-requires g c).After-new-a
 
 pub returns-in-Ok-clause-put : goal.returns-in-Ok-clause-put
 returns-in-Ok-clause-put g c =
@@ -92,3 +97,23 @@ pub returns-in-Ok-clause-disc : goal.returns-in-Ok-clause-disc
 returns-in-Ok-clause-disc g c =
     Served-granted _ _ _ _ c.in-Ok.number c.rounded_up-bytes.result _ (need g (goal.at.returns-in-Ok-clause-disc g c).After-rounded_up-bytes)
     (ap (λ (r : Layout ℕ). r.segments) c.put_in_out.ensures.put.layout ∙ ap (λ (r : Layout ℕ). r.segments) (layout-added c.args.extents.now.segs.items c.lend_next.new.extents.segs.items c.in-Ok.number c.rounded_up-bytes.result (c.rounded_up-bytes.result - 32) c.in-Ok.ensures.lent.extents c.in-Ok.ensures.lent.pairs)) c.in-Ok.ensures.disc
+
+pub returns-in-Ok-clause-cost : goal.returns-in-Ok-clause-cost
+returns-in-Ok-clause-cost g c =
+    let at = goal.at.returns-in-Ok-clause-cost g c in
+    let b = at.After-rounded_up-bytes in
+    let root = c.args.root.now.0 in
+    let n = c.args.steps.now in
+    then_cost (out g at.After-new-a).gaps
+    (changed_cost _ _ _ _ c.args.extents.now.kept c.lend_next.new.extents.kept root n n 0 [] (c.new-a.result.0 ∷ [])
+    (lent-change _ c.lend_next.new.extents.segs.items _ c.args.extents.now.kept root c.in-Ok.number c.rounded_up-bytes.result c.args.size c.args.align c.new-a.result.0 c.new-a.ensures.place c.new-a.ensures.value
+    (terms g b) c.in-Ok.ensures.lent c.requires.allowed c.requires.whole c.requires.none (legal g b) (fits g b))
+    c.requires.whole.kept.gaps (omega arith))
+    c.put_in_out.ensures.cost
+
+pub returns-in-Err-clause-cost : goal.returns-in-Err-clause-cost
+returns-in-Err-clause-cost g c =
+    let t = tiling c.args.extents.now.segs.items in
+    let root = c.args.root.now.0 in
+    let n = c.args.steps.now in
+    subst (λ (e : Extents). GapsCost t (tiling e.segs.items) root root n n 16 3 2) (sym c.in-Err.ensures.same) (still_cost _ _ c.args.extents.now.kept root n n 16 3 2 (omega arith))

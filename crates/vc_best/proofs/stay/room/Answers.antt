@@ -38,17 +38,17 @@ overflow_add-result g c =
     omega arith) in
     omega (arith, end, c.span_at-own.ensures.value, c.span_at.ensures.value)
 
-pub returns-then-is_busy : goal.returns-then-is_busy
-returns-then-is_busy g c =
-    let n = (goal.at.returns-then-is_busy g c).After-is_busy in
+pub returns-then-is_busy-clause-value : goal.returns-then-is_busy-clause-value
+returns-then-is_busy-clause-value g c =
+    let n = (goal.at.returns-then-is_busy-clause-value g c).After-is_busy in
     let none : free_bytes (next_of (tiling c.args.extents.now.segs.items) c.args.a.0) ≡ 0 =
     free-busy (next_of (tiling c.args.extents.now.segs.items) c.args.a.0) (behind g n).0 (behind g n).1 (omega (arith, c.is_busy.ensures.0 c.if-is_busy.true, size g n)) in
     omega (arith, none, c.span_at-own.ensures.value)
 
-pub returns-else-is_busy : goal.returns-else-is_busy
-returns-else-is_busy g c =
+pub returns-else-is_busy-clause-value : goal.returns-else-is_busy-clause-value
+returns-else-is_busy-clause-value g c =
     let t = tiling c.args.extents.now.segs.items in
-    let n = (goal.at.returns-else-is_busy g c).After-is_busy in
+    let n = (goal.at.returns-else-is_busy-clause-value g c).After-is_busy in
     let f = behind g n in
     let free = not-busy c.is_busy.result (extent_of t c.in-Some.next.0).size c.is_busy.ensures.1 c.if-is_busy.false in
     let more : free_bytes (next_of t c.args.a.0) ≡ (extent_of t c.in-Some.next.0).span = free-free (next_of t c.args.a.0) f.0 f.1 (sym (size g n) ∙ free) ∙ sym (span g n) in

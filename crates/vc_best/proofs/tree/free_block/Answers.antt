@@ -1,8 +1,9 @@
-use Rattle.vc_base.proofs.Common.{ℕ, List, [], ◌∷◌, ◌++◌, sym, refl, ap, ◌∙◌, subst, place_of, without_block_at, Layout}
+use Rattle.vc_base.proofs.Common.{ℕ, List, [], ◌∷◌, ◌++◌, sym, refl, ap, ◌∙◌, subst, arith, place_of, without_block_at, Layout}
 use Rattle.vc_best.proofs.Common.{HasGaps, StaysButLinks, free_before, free_next, tiling}
 use Rattle.vc_base.proofs.Members.{within-head}
 use Rattle.vc_gaps.specs.GapLaws.{but_links_twice}
 use Rattle.vc_gaps.proofs.GapTrees.{can_link-out}
+use Rattle.vc_best.proofs.Costs.{changed_cost, cost_from, then_cost}
 use Rattle.vc_best.proofs.Linking.{gaps-changed}
 use Rattle.vc_best.proofs.Plain.{before_name-stays, busy-still, layout-stays, merged-stays, named-stays, next_name-stays}
 use Rattle.vc_best.proofs.tree.free_block.Given.{Over}
@@ -29,19 +30,21 @@ pub release-freed-requires-clause-merged : goal.release-freed-requires-clause-me
 release-freed-requires-clause-merged g c =
     merged-stays (tiling c.args.extents.now.segs.items) (tiling c.unlink_before.new.extents.segs.items) (rest g (goal.at.release-freed-requires-clause-merged g c).After-unlink_before).extents c.requires.kept.merged
 
--- the freed one alone is out
-freed : (g : Over) (c : After-release-freed g) → HasGaps (tiling c.release-freed.new.extents.segs.items) c.unlink_before.new.root.0 (c.release-freed.result.0 ∷ [])
-freed g c =
+-- those beside it are out, and then the freed one alone
+beside : (g : Over) (c : After-release-freed g) → HasGaps (tiling c.unlink_before.new.extents.segs.items) c.unlink_before.new.root.0
+    (free_before (tiling c.unlink_before.new.extents.segs.items) c.args.a.0 ++ free_next (tiling c.unlink_before.new.extents.segs.items) c.args.a.0)
+beside g c =
     let a = c.args.a.0 in
     let t1 = tiling c.unlink_next.new.extents.segs.items in
     let t2 = tiling c.unlink_before.new.extents.segs.items in
     let root = c.unlink_before.new.root.0 in
     let same = c.unlink_before.ensures.rest.extents in
-    let before = before_name-stays t1 t2 same a in
-    let next = next_name-stays t1 t2 same a in
-    gaps-changed t2 (tiling c.release-freed.new.extents.segs.items) root (free_before t2 a ++ free_next t2 a) (c.release-freed.result.0 ∷ []) c.release-freed.ensures.gaps
-    (subst (λ (ps : List ℕ). HasGaps t2 root (ps ++ free_next t2 a)) (sym before)
-    (subst (λ (ns : List ℕ). HasGaps t2 root (free_before t1 a ++ ns)) (sym next) c.unlink_before.ensures.gaps))
+    subst (λ (ps : List ℕ). HasGaps t2 root (ps ++ free_next t2 a)) (sym (before_name-stays t1 t2 same a))
+    (subst (λ (ns : List ℕ). HasGaps t2 root (free_before t1 a ++ ns)) (sym (next_name-stays t1 t2 same a)) c.unlink_before.ensures.gaps)
+
+freed : (g : Over) (c : After-release-freed g) → HasGaps (tiling c.release-freed.new.extents.segs.items) c.unlink_before.new.root.0 (c.release-freed.result.0 ∷ [])
+freed g c =
+    gaps-changed (tiling c.unlink_before.new.extents.segs.items) (tiling c.release-freed.new.extents.segs.items) c.unlink_before.new.root.0 _ (c.release-freed.result.0 ∷ []) c.release-freed.ensures.gaps (beside g c)
 
 pub link_gap-requires : goal.link_gap-requires
 link_gap-requires g c =
@@ -60,3 +63,14 @@ returns-clause-kept g c =
       merged = merged-stays (tiling c.release-freed.new.extents.segs.items) (tiling c.link_gap.new.extents.segs.items) c.link_gap.ensures.rest.extents c.release-freed.ensures.merged;
       gaps = c.link_gap.ensures.linked.gaps [] (freed g (goal.at.returns-clause-kept g c).After-release-freed) refl;
     }
+
+pub returns-clause-cost : goal.returns-clause-cost
+returns-clause-cost g c =
+    let at = goal.at.returns-clause-cost g c in
+    let n = c.args.steps.now in
+    then_cost c.unlink_next.ensures.gaps (cost_from n c.unlink_next.ensures.cost)
+    (then_cost (beside g at.After-release-freed) (cost_from n c.unlink_before.ensures.cost)
+    (then_cost (freed g at.After-release-freed)
+    (changed_cost _ _ _ _ c.unlink_before.new.extents.kept c.release-freed.new.extents.kept c.unlink_before.new.root.0 n n 0
+    (free_before (tiling c.unlink_before.new.extents.segs.items) c.args.a.0 ++ free_next (tiling c.unlink_before.new.extents.segs.items) c.args.a.0) (c.release-freed.result.0 ∷ []) c.release-freed.ensures.gaps (beside g at.After-release-freed) (omega arith))
+    c.link_gap.ensures.cost))

@@ -1,7 +1,8 @@
-use Rattle.vc_base.proofs.Common.{◌≡◌, ℕ, true, List, [], ◌∷◌, sym, refl, subst, contains}
+use Rattle.vc_base.proofs.Common.{◌≡◌, ℕ, true, List, [], ◌∷◌, sym, refl, subst, arith, contains}
 use Rattle.vc_best.proofs.Common.{HasGaps, extent_of, free_next, tiling}
 use Rattle.vc_base.proofs.Members.{within-head}
 use Rattle.vc_gaps.proofs.GapTrees.{can_link-out}
+use Rattle.vc_best.proofs.Costs.{still_cost}
 use Rattle.vc_best.proofs.Linking.{next-not, next-one}
 use Rattle.vc_best.proofs.Nexts.{not-busy}
 use Rattle.vc_best.proofs.tree.link_next.Given.{Over}
@@ -31,3 +32,9 @@ pub returns-else-not-is_busy-clause-gaps : goal.returns-else-not-is_busy-clause-
 returns-else-not-is_busy-clause-gaps g c =
     subst (HasGaps (tiling c.args.extents.now.segs.items) c.args.root.now.0)
     (next-not _ _ c.args.extents.now.kept c.args.a.0 c.requires.named c.in-Some.next.0 c.in-Some.ensures.value (c.is_busy.ensures.0 c.if-not-is_busy.false)) c.requires.gaps
+
+pub returns-else-not-is_busy-clause-cost : goal.returns-else-not-is_busy-clause-cost
+returns-else-not-is_busy-clause-cost g c = still_cost _ _ c.args.extents.now.kept c.args.root.now.0 c.args.steps.now c.args.steps.now 8 1 1 (omega arith)
+
+pub returns-in_default-clause-cost : goal.returns-in_default-clause-cost
+returns-in_default-clause-cost g c = still_cost _ _ c.args.extents.now.kept c.args.root.now.0 c.args.steps.now c.args.steps.now 8 1 1 (omega arith)

@@ -1,6 +1,7 @@
-use Rattle.vc_base.proofs.Common.{◌≡◌, ◌+◌, ◌<◌, false, [], ◌∷◌, ◌++◌, IfSome, Some, None, Option, refl, ◌∙◌, contains, address, place_of, span}
+use Rattle.vc_base.proofs.Common.{◌≡◌, ◌+◌, ◌<◌, false, [], ◌∷◌, ◌++◌, IfSome, Some, None, Option, refl, ◌∙◌, arith, contains, address, place_of, span}
 use Rattle.vc_best.proofs.Common.{Addr, GapsChange, HasGaps, carve, change_extent, cut_back, extent_of, some_name, tiling}
 use Rattle.vc_best.proofs.Carves.{back-free, back-span, carved-whole, front-apart, front-can, front-free, rest-can}
+use Rattle.vc_best.proofs.Costs.{changed_cost, then_cost}
 use Rattle.vc_best.proofs.Linking.{gaps-changed, gaps-more}
 use Rattle.vc_best.proofs.Outs.{gaps-put}
 use Rattle.vc_best.proofs.Plain.{layout-stays, merged-stays}
@@ -89,3 +90,10 @@ returns-clause-kept g c =
     none : (o : Option Addr) → IfSome o (λ b. contains [] b.0 ≡ false)
     none None = tt
     none (Some b) = refl
+
+pub returns-clause-cost : goal.returns-clause-cost
+returns-clause-cost g c =
+    let at = goal.at.returns-clause-cost g c in
+    then_cost (out g at.After-lay_zeros)
+    (changed_cost _ _ _ _ c.args.extents.now.kept c.lay_zeros.new.extents.kept c.args.root.now.0 c.args.steps.now c.cut_back-rest.new.steps 1 _ _ (change g at.After-lay_zeros) c.requires.gaps (let one = c.cut_back-rest.ensures.counter in omega arith))
+    (then_cost (left g at.After-link_some) c.link_some.ensures.cost c.link_some-2.ensures.cost)

@@ -1,6 +1,7 @@
 use Rattle.vc_base.proofs.Common.{ℕ, [], sym, refl, subst, Layout, span}
 use Rattle.vc_best.proofs.Common.{IsPutInGap, layout_by, tiling}
 use Rattle.vc_best.proofs.Bests.{best-free, least-stays}
+use Rattle.vc_best.proofs.Costs.{cost_from, then_cost}
 use Rattle.vc_best.proofs.Held.{AreMost}
 use Rattle.vc_best.proofs.Linking.{in-tree}
 use Rattle.vc_best.proofs.Plain.{layout-stays, merged-stays}
@@ -28,3 +29,6 @@ pub returns-clause-put : goal.returns-clause-put
 returns-clause-put g c =
     subst (λ (r : Layout ℕ). IsPutInGap r (layout_by c.put_in_out.new.extents.segs.items) c.args.tag c.args.size c.args.align c.put_in_out.result.0)
     (layout-stays c.args.extents.now.segs.items c.unlink_gap.new.extents.segs.items c.unlink_gap.ensures.rest) c.put_in_out.ensures.put
+
+pub returns-clause-cost : goal.returns-clause-cost
+returns-clause-cost g c = then_cost (c.unlink_gap.ensures.unlinked.gaps [] c.requires.whole.kept.gaps) (cost_from c.args.steps.now c.unlink_gap.ensures.cost) c.put_in_out.ensures.cost

@@ -1,5 +1,6 @@
-use Rattle.vc_base.proofs.Common.{ℕ, List, ◌++◌, sym, subst, place_of}
+use Rattle.vc_base.proofs.Common.{ℕ, List, ◌++◌, sym, subst, arith, place_of}
 use Rattle.vc_best.proofs.Common.{HasGaps, extent_of, free_next, previous_of, tiling}
+use Rattle.vc_best.proofs.Costs.{still_cost}
 use Rattle.vc_best.proofs.Linking.{before-apart, before-not, before-one, in-tree}
 use Rattle.vc_best.proofs.Nexts.{not-busy, some-address}
 use Rattle.vc_best.proofs.tree.unlink_before.Goals as goal
@@ -26,3 +27,9 @@ returns-else-not-is_busy-clause-gaps c =
     let t = tiling c.args.extents.now.segs.items in
     subst (λ (ps : List ℕ). HasGaps t c.args.root.now.0 (ps ++ free_next t c.args.a.0))
     (sym (before-not _ _ c.args.extents.now.kept c.args.a.0 c.requires.named c.in-Some.before.0 c.in-Some.ensures.named c.in-Some.ensures.value (c.is_busy.ensures.0 c.if-not-is_busy.false))) c.requires.gaps
+
+pub returns-else-not-is_busy-clause-cost : goal.returns-else-not-is_busy-clause-cost
+returns-else-not-is_busy-clause-cost c = still_cost _ _ c.args.extents.now.kept c.args.root.now.0 0 0 12 0 0 (omega arith)
+
+pub returns-in_default-clause-cost : goal.returns-in_default-clause-cost
+returns-in_default-clause-cost c = still_cost _ _ c.args.extents.now.kept c.args.root.now.0 0 0 12 0 0 (omega arith)

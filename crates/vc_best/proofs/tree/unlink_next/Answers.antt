@@ -1,5 +1,6 @@
-use Rattle.vc_base.proofs.Common.{[], sym, subst}
+use Rattle.vc_base.proofs.Common.{[], sym, subst, arith}
 use Rattle.vc_best.proofs.Common.{HasGaps, extent_of, tiling}
+use Rattle.vc_best.proofs.Costs.{still_cost}
 use Rattle.vc_best.proofs.Linking.{next-not, next-one}
 use Rattle.vc_best.proofs.Nexts.{not-busy}
 use Rattle.vc_best.proofs.tree.unlink_next.Goals as goal
@@ -15,3 +16,9 @@ pub returns-else-not-is_busy-clause-gaps : goal.returns-else-not-is_busy-clause-
 returns-else-not-is_busy-clause-gaps c =
     subst (HasGaps (tiling c.args.extents.now.segs.items) c.args.root.now.0)
     (sym (next-not _ _ c.args.extents.now.kept c.args.a.0 c.requires.named c.in-Some.next.0 c.in-Some.ensures.value (c.is_busy.ensures.0 c.if-not-is_busy.false))) c.requires.gaps
+
+pub returns-else-not-is_busy-clause-cost : goal.returns-else-not-is_busy-clause-cost
+returns-else-not-is_busy-clause-cost c = still_cost _ _ c.args.extents.now.kept c.args.root.now.0 0 0 12 0 0 (omega arith)
+
+pub returns-in_default-clause-cost : goal.returns-in_default-clause-cost
+returns-in_default-clause-cost c = still_cost _ _ c.args.extents.now.kept c.args.root.now.0 0 0 12 0 0 (omega arith)

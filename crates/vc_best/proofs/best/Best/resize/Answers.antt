@@ -17,7 +17,7 @@ use Rattle.vc_best.proofs.best.Best.resize.Goals.{After-has_room, After-tag_at-t
 stays : (g : Over) (c : After-has_room g) → option_map (can_stay (layout_by c.args.self.now.extents.segs.items) c.args.size) (find_block (place_of c.args.a.0) (layout_by c.args.self.now.extents.segs.items).blocks) ≡ Some c.has_room.result
 stays g c =
     let b = c.args.self.now in
-    stays-by b.extents.segs.items b.extents.index.items c.args.a.0 b.extents.kept c.requires.block c.args.size c.has_room.result (merged-of (tiling b.extents.segs.items) b.merged) c.requires.size.some c.has_room.ensures.0 c.has_room.ensures.1
+    stays-by b.extents.segs.items b.extents.index.items c.args.a.0 b.extents.kept c.requires.block c.args.size c.has_room.result (merged-of (tiling b.extents.segs.items) b.merged) c.requires.size.some c.has_room.ensures.fits.0 c.has_room.ensures.fits.1
 
 tag : (g : Over) (c : After-tag_at-tag g) → option_map (λ b. b.label) (find_block (place_of c.args.a.0) (layout_by c.args.self.now.extents.segs.items).blocks) ≡ Some c.tag_at-tag.result
 tag g c =
@@ -46,7 +46,7 @@ pub resize_block-requires-clause-busy : goal.resize_block-requires-clause-busy
 resize_block-requires-clause-busy g c = busy-of c.args.self.now.extents.segs.items c.args.self.now.extents.index.items c.args.a.0 c.args.self.now.extents.kept c.requires.block
 
 pub resize_block-requires-clause-room : goal.resize_block-requires-clause-room
-resize_block-requires-clause-room g c = c.has_room.ensures.0 c.if-has_room.true
+resize_block-requires-clause-room g c = c.has_room.ensures.fits.0 c.if-has_room.true
 
 pub resize_block-requires-clause-kept : goal.resize_block-requires-clause-kept
 resize_block-requires-clause-kept g c = kept-of c.args.self.now.extents.segs.items c.args.self.now.extents.index.items c.args.self.now.root.0 c.args.self.now.extents.kept c.args.self.now.merged c.args.self.now.gaps
