@@ -9,3 +9,4 @@ pub mod Weeding
 pub mod Turned
 pub mod Rows
 pub mod Listed
+pub mod Dicts

@@ -4,6 +4,7 @@
 
 mod chained;
 mod dict;
+mod dicts;
 mod dropping;
 mod flat;
 mod forming;
@@ -18,6 +19,7 @@ mod seeking;
 mod weeded;
 
 pub use dict::{Dict, Dropped, after_dropped};
+pub use dicts::Dicts;
 pub use rows::{insert_rows, list_rows, order_rows, remove_rows, table_rows};
 pub use vc_base::DictMethod;
 pub use vc_paths::{Layers, Paths, ViewFault, first, last, next, prev, search, walk_next};
