@@ -1,14 +1,23 @@
 -- The tree of gaps where each segment becomes one free extent, by ascending number; and the first extent of a segment.
-use Rattle.vc_base.proofs.Common.{◌≡◌, ℕ, ◌+◌, ◌-◌, ◌<◌, ◌≤◌, Bool, true, false, cond, ◌&&◌, ◌||◌, eqb, ltb, ◌≢◌, List, [], ◌∷◌, map, Some, All, option_map, sym, refl, ap, ◌∙◌, subst, ⊎_elim, arith, ltb-false, ltb-true, le-ltb, lt-ltb, eq-eqb, ne_eqb, and-false, le_prop, ∥∥₁_elim, ℕ_set, cases_Bool, cases_eq, All-cons, All-head, All-tail, contains, address, place_of, put_by}
+use Rattle.vc_base.proofs.Common.{◌≡◌, ℕ, ◌+◌, ◌-◌, ◌*◌, ◌<◌, ◌≤◌, Bool, true, false, cond, ◌&&◌, ◌||◌, eqb, ltb, ◌≢◌, List, [], ◌∷◌, map, Some, All, option_map, sym, refl, ap, ◌∙◌, subst, ⊎_elim, arith, ltb-false, ltb-true, le-ltb, lt-ltb, eq-eqb, ne_eqb, and-false, le_prop, ∥∥₁_elim, ℕ_set, cases_Bool, cases_eq, All-cons, All-head, All-tail, contains, address, place_of, put_by}
 use Rattle.vc_best.proofs.Common.{AreExtents, Bytes, CanLinkGap, Extent, GapLinked, HasGapTree, HasGaps, HasGapsBelow, IsFree, IsOneFree, IsThere, Tiling, change_in, extent_in, extent_of, extents_of, first_of, free_extent, no_links, one_free, plain, spans, tiling, without_links}
 use Rattle.vc_gaps.proofs.Added.{first-place}
 use Rattle.vc_model.proofs.Owned.{address-place_of}
 use Rattle.vc_gaps.specs.GapLaws.{is_free-named, is_free-stays}
-use Rattle.vc_gaps.specs.GapStore.{is_free, key_of}
+use Rattle.vc_gaps.specs.GapStore.{gap_store, is_free, key_of}
 use Rattle.vc_gaps.proofs.Ascending.{contains-put}
-use Rattle.vc_gaps.proofs.Carried.{tree-carried, tree-none}
+use Rattle.vc_gaps.proofs.Carried.{tree-carried, tree-none, tree-still}
+use Rattle.vc_gaps.specs.Cost.{GapsCost}
+use Rattle.vc_gaps.proofs.Costs.{size-list}
 use Rattle.vc_gaps.proofs.GapTrees.{free-bool}
 use Rattle.vc_gaps.proofs.Named.{extents_of-other}
+use Rattle.std.proofs.lemmas.Nat.{mul-le}
+use Rattle.vc_splay.proofs.DigitLemmas.{digits-rise}
+use Rattle.vc_splay.specs.Rank.{Costs, binary_digits, rank, size}
+use Rattle.vc_splay.specs.Stands.{IsTree}
+use Rattle.vc_splay.specs.Tree.{Tree}
+use Rattle.vc_best.specs.Made.{MadeCost}
+use Rattle.vc_best.proofs.Made.{length-put}
 use Rattle.vc_best.proofs.EmptySegments.{AreFree}
 use Rattle.vc_best.proofs.Known.{cut-of, segment-of}
 use Rattle.vc_best.proofs.Lies.{Lies}
@@ -122,6 +131,10 @@ module _ (segs : List Bytes) (index : List ℕ) (n root : ℕ) (k : ∥ AreExten
   tree : HasGapTree mid root h.names
   tree = tree-carried (tiling segs) mid root h.names (λ b w. let lt = below b w in other b (λ q. omega arith)) h.tree
 
+  tree-same : tree.tree ≡ h.tree.tree
+  unfolding tree
+  tree-same = tree-still (tiling segs) mid root h.names (λ b w. let lt = below b w in other b (λ q. omega arith)) h.tree
+
   apart : contains h.names a ≡ false
   apart = h.exact a ∙ ap (λ z. is_free (tiling segs) a && z) (le-ltb (place_of a).0 n (let s = seg in omega arith)) ∙ and-false (is_free (tiling segs) a)
 
@@ -160,6 +173,34 @@ module _ (segs : List Bytes) (index : List ℕ) (n root : ℕ) (k : ∥ AreExten
     tree = (l.tree h.names tree).tree;
     exact = λ b. contains-put (key_of mid) a h.names b ∙ exact b ∙ ap (λ z. z && ltb (place_of b).0 (n + 1)) (sym (is_free-stays mid new same b));
   }
+
+  pub made-linked : (new : Tiling) (result start before now most : ℕ) → is_free mid 0 ≡ false → plain new ≡ plain mid → GapLinked mid new root a result → GapsCost mid new root result before now 8 1 1
+      → MadeCost (tiling segs) root start before most → MadeCost new result start now (most + 1)
+  made-linked new result start before now most none same l g m =
+      let v : Tree = h.tree.tree in
+      let still : size tree.tree ≡ size v = ap (λ z. size z) tree-same in
+      let grown : (u : Tree) → IsTree (gap_store new) result u → size u ≡ size v + 1 =
+      λ u k.
+      let after = size-list new result (put_by (key_of mid) a h.names) (is_free-stays mid new same 0 ∙ none) (l.tree h.names tree).tree u k in
+      let long = length-put (key_of mid) a h.names in
+      let own = size-list mid root h.names none tree tree.tree tree.is_tree in
+      omega arith in
+      record {
+        law = λ u k. record {
+          cost =
+              let i = (m.law v h.tree.is_tree).cost in
+              let j = (g.law tree.tree u tree.is_tree k).cost in
+              let r = ap rank tree-same in
+              let e = grown u k in
+              let last : size tree.tree + 1 ≡ size u = omega arith in
+              let s = ap binary_digits last in
+              let d = digits-rise (size v) (size u) (omega arith) in
+              let x = mul-le (size v) (8 * binary_digits (size v) + 1) (size v) (8 * binary_digits (size u) + 1) (omega arith) (omega arith) in
+              let y = ap (λ z. z * (8 * binary_digits (size u) + 1)) e in
+              omega arith;
+        };
+        few = λ u k. let f = m.few v h.tree.is_tree in let e = grown u k in omega arith;
+      }
 
 module _ (segs : List Bytes) (index : List ℕ) (k : ∥ AreExtents segs index ∥₁) where
   -- below the first number there are none, and below 1,024 are all

@@ -60,6 +60,9 @@ pub mod FreeGaps
 pub mod BorderGaps
 pub mod Linking
 pub mod Costs
+pub mod Made
+pub mod NodesFew
+pub mod Calls
 pub mod EmptyGaps
 pub mod Bests
 pub mod BlockCounts

@@ -30,3 +30,5 @@ pub mod Parts
 pub mod Cells
 pub mod CellLaws
 pub mod CellRows
+pub mod Made
+pub mod Cost

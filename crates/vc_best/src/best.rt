@@ -1,9 +1,10 @@
-ghost use Rattle.std.specs.Prelude.{◌≡◌, ◌⊎◌, IfOk, IfErr, IsErrOf, [], length};
+ghost use Rattle.std.specs.Prelude.{◌≡◌, ◌⊎◌, IfOk, IfErr, IsErrOf, [], length, max};
 ghost use Rattle.vc_base.specs.Prelude.{place_of, best_need, without_block_at, cleared_layout, compact_count, compacted_layout, HasOut, TookBack, empty_layout, IsAlign, HasBlock, next_segment, segment_at};
 ghost use Rattle.vc_model.specs.Best.{best_alloc};
 ghost use Rattle.vc_model.specs.Sound.{HasWholeBlocks, IsSound};
 ghost use Rattle.vc_extent.specs.Tiling.{tiling};
 ghost use Rattle.vc_best.specs.Ask.{AsksForSegment};
+ghost use Rattle.vc_gaps.specs.Cost.{GapsCost};
 ghost use Rattle.vc_gaps.specs.GapTree.{HasGaps};
 ghost use Rattle.vc_best.specs.Blocks.{layout_by};
 ghost use Rattle.vc_best.specs.Free.{IsMerged};
@@ -53,6 +54,7 @@ pub struct Best {
 }
 
 impl Best {
+    ghost use Rattle.vc_best.specs.Cost.{CallCosts};
     ghost use Rattle.vc_best.specs.Parts.{blocks_in, layout_of, segments_in};
 
     /// A region with no segment. It takes none before the first block, but memory for the places of 1,023. Where that is
@@ -103,6 +105,12 @@ impl Best {
         // The block stands there, at an address of its own, and the others stay.
         ensures put { IfOk result
             (λ a. IsBlockPut tag size a.0 (blocks_in self.old) (blocks_in self.new)) }
+
+        // At an alignment of 32 it costs one call, and no more of its tree.
+        ensures call { align ≡ 32 → CallCosts self.old self.new 1 steps.old steps.new }
+        ensures cost { align ≡ 32 → GapsCost (tiling self.old.extents.segs.items)
+            (tiling self.new.extents.segs.items) self.old.root.0 self.new.root.0
+            steps.old steps.new 40 3 2 }
     {
         let extents = &mut self.extents;
         let root = &mut self.root;
@@ -136,6 +144,7 @@ impl Best {
 
         // It is the one block at that address that goes.
         ensures freed { IsBlockFreed a.0 (blocks_in self.old) (blocks_in self.new) }
+        ensures call { CallCosts self.old self.new 1 steps.old steps.new }
     {
         free_block(&mut self.extents, &mut self.root, a, steps);
         self.busy -= 1;
@@ -145,6 +154,8 @@ impl Best {
     pub fn clear<L>(&mut self, steps: &mut Steps<L>)
         ensures layout { layout_of self.new ≡ cleared_layout (layout_of self.old) }
         ensures disc { state self.new.disc ≡ state self.old.disc }
+        ensures call { CallCosts self.old self.new (max 1 (length (segments_in self.old)))
+            steps.old steps.new }
     {
         clear(&mut self.extents, &mut self.root, steps);
         self.busy = 0;
@@ -157,6 +168,8 @@ impl Best {
         ensures count { result ≡ compact_count (layout_of self.old) }
         ensures disc { TookBack (state self.old.disc) (state self.new.disc)
             (segments_in self.old) (segments_in self.new) }
+        ensures call { CallCosts self.old self.new (max 1 (length (segments_in self.old)))
+            steps.old steps.new }
     {
         compact(&mut self.extents, &mut self.root, &mut self.disc, steps)
     }

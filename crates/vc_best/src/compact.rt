@@ -1,4 +1,4 @@
-ghost use Rattle.std.specs.Prelude.{◌≡◌, ℕ, ◌+◌, ◌<◌, ◌↔◌, [], All, IsTrue, Some, length, map, true};
+ghost use Rattle.std.specs.Prelude.{◌≡◌, ℕ, ◌+◌, ◌*◌, ◌<◌, ◌≤◌, ◌↔◌, [], All, IsTrue, Some, length, map, true};
 ghost use Rattle.vc_base.specs.Prelude.{cleared_layout, compact_count, compacted_layout, HasOut, TookBack};
 ghost use Rattle.vc_model.specs.Compact.{is_occupied};
 ghost use Rattle.vc_seg.specs.Back.{is_marked, stays_from};
@@ -6,9 +6,11 @@ ghost use Rattle.vc_seg.specs.Segment.{pair_of};
 ghost use Rattle.vc_extent.specs.Change.{IsOneFree, one_free};
 ghost use Rattle.vc_extent.specs.Tiling.{IsThere, change_in, extents_of, size_of, tiling};
 ghost use Rattle.vc_gaps.specs.ButLinks.{plain};
+ghost use Rattle.vc_gaps.specs.Cost.{GapsCost};
 ghost use Rattle.vc_best.specs.Blocks.{layout_by};
 ghost use Rattle.vc_best.specs.Free.{IsMerged};
 ghost use Rattle.vc_best.specs.GapsChange.{HasGapsBelow};
+ghost use Rattle.vc_best.specs.Made.{MadeCost, count_below};
 ghost use Rattle.vc_best.specs.Standing.{AreKept, AreMarked, IsGivenBack};
 
 use vc_base::{Addr, Steps};
@@ -19,7 +21,8 @@ use vc_seg::{SegDisc, give_back_all, give_back_one};
 // Whether a segment of that many bytes is one free extent.
 fn is_one_free<L>(extents: &Extents, seg: u32, size: u32, steps: &mut Steps<L>) -> bool
     requires { size_of seg (map pair_of extents.now.segs.items) ≡ Some size }
-    ensures { IsTrue result ↔ IsOneFree (extents_of seg (tiling extents.now.segs.items)) }
+    ensures value { IsTrue result ↔ IsOneFree (extents_of seg (tiling extents.now.segs.items)) }
+    ensures most_steps { steps.new ≤ steps.old + 1 }
 {
     let first = extents.first(seg);
     !extents.is_busy(first) && extents.span_at(first, steps) + 32 == size
@@ -28,8 +31,10 @@ fn is_one_free<L>(extents: &Extents, seg: u32, size: u32, steps: &mut Steps<L>) 
 // Whether the segment of a number, where there is one, has a block.
 fn has_block<L>(extents: &Extents, number: u32, steps: &mut Steps<L>) -> bool
     requires { IsMerged (tiling extents.now.segs.items) }
-    ensures { IsThere number extents.now.segs.items
+    ensures value { IsThere number extents.now.segs.items
         → result ≡ is_occupied (layout_by extents.now.segs.items).blocks number }
+    ensures most_steps { steps.new + count_below number (map pair_of extents.now.segs.items)
+        ≤ steps.old + count_below (number + 1) (map pair_of extents.now.segs.items) }
 {
     match extents.has(number) {
         Some(size) => !is_one_free(extents, number, size, steps),
@@ -43,6 +48,7 @@ fn mark_occupied<L>(extents: &Extents, marks: &mut [bool], steps: &mut Steps<L>)
     requires merged { IsMerged (tiling extents.now.segs.items) }
     ensures long { length marks.new ≡ 1024 }
     ensures marks { AreMarked marks.new extents.now.segs.items }
+    ensures most_steps { steps.new ≤ steps.old + length (map pair_of extents.now.segs.items) }
 {
     for number in 1..1024 {
         marks[number as usize] = has_block(extents, number, steps);
@@ -69,6 +75,8 @@ fn give_back_unless(
     ensures kept { AreKept extents.new.segs.items root.new.0 }
     ensures disc { TookBack (state disc.old) (state disc.new)
         (map pair_of extents.old.segs.items) (map pair_of extents.new.segs.items) }
+    ensures cost { GapsCost (tiling extents.old.segs.items) (tiling extents.new.segs.items)
+        root.old.0 root.new.0 0 0 (12 * result) 0 0 }
 {
     if marks[number as usize] {
         return 0;
@@ -100,6 +108,9 @@ fn give_back_unmarked(
     ensures count { result ≡ compact_count (layout_by extents.old.segs.items) }
     ensures disc { TookBack (state disc.old) (state disc.new)
         (map pair_of extents.old.segs.items) (map pair_of extents.new.segs.items) }
+    ensures few { result ≤ length (map pair_of extents.old.segs.items) }
+    ensures cost { GapsCost (tiling extents.old.segs.items) (tiling extents.new.segs.items)
+        root.old.0 root.new.0 0 0 (12 * result) 0 0 }
 {
     let mut count = 0;
     for number in 1..1024 {
@@ -123,6 +134,10 @@ pub(crate) fn compact<L>(
     ensures count { result ≡ compact_count (layout_by extents.old.segs.items) }
     ensures disc { TookBack (state disc.old) (state disc.new)
         (map pair_of extents.old.segs.items) (map pair_of extents.new.segs.items) }
+    ensures few { result ≤ length (map pair_of extents.old.segs.items) }
+    ensures cost { GapsCost (tiling extents.old.segs.items) (tiling extents.new.segs.items)
+        root.old.0 root.new.0 steps.old steps.new
+        (12 * result) (length (map pair_of extents.old.segs.items)) 0 }
 {
     let mut marks = [false; 1024];
     mark_occupied(extents, &mut marks, steps);
@@ -137,6 +152,10 @@ fn clear_one<L>(extents: &mut Extents, root: &mut Addr, number: u32, steps: &mut
         ≡ plain (change_in number one_free (tiling extents.old.segs.items)) }
     ensures pairs { map pair_of extents.new.segs.items ≡ map pair_of extents.old.segs.items }
     ensures gaps { HasGapsBelow (number + 1) (tiling extents.new.segs.items) root.new.0 }
+    ensures cost { (start : ℕ) → MadeCost (tiling extents.old.segs.items) root.old.0
+        start steps.old (count_below number (map pair_of extents.old.segs.items))
+        → MadeCost (tiling extents.new.segs.items) root.new.0
+        start steps.new (count_below (number + 1) (map pair_of extents.old.segs.items)) }
 {
     if extents.has(number).is_some() {
         let a = extents.reset(number);
@@ -148,6 +167,8 @@ fn clear_one<L>(extents: &mut Extents, root: &mut Addr, number: u32, steps: &mut
 pub(crate) fn clear<L>(extents: &mut Extents, root: &mut Addr, steps: &mut Steps<L>)
     ensures layout { layout_by extents.new.segs.items ≡ cleared_layout (layout_by extents.old.segs.items) }
     ensures kept { AreKept extents.new.segs.items root.new.0 }
+    ensures cost { MadeCost (tiling extents.new.segs.items) root.new.0
+        steps.old steps.new (length (map pair_of extents.old.segs.items)) }
 {
     *root = Addr::NONE;
     for number in 1..1024 {

@@ -13,6 +13,7 @@ use vc_base::{Addr, Steps};
 use vc_seg::RegionFault;
 
 impl Best {
+    ghost use Rattle.vc_best.specs.Cost.{CallCosts};
     ghost use Rattle.vc_best.specs.Parts.{blocks_in, layout_of, segments_in};
 
     /// Gives a block another size, from 1 to 16,777,264 bytes, and answers its address. It stays where it is if it can,
@@ -44,6 +45,7 @@ impl Best {
             (find_block (place_of to.0) (blocks_in self.new)) ≡ Some size) }
         ensures kept { IfOk result
             (λ to. IsBlockKept a.0 to.0 (blocks_in self.old) (blocks_in self.new)) }
+        ensures call { CallCosts self.old self.new 1 steps.old steps.new }
     {
         if has_room(&self.extents, a, size, steps) {
             resize_block(&mut self.extents, &mut self.root, a, size, steps);

@@ -1,8 +1,10 @@
-use Rattle.vc_base.proofs.Common.{ℕ, not, ◌≢◌, List, IsSome, All, Option, sym, ap, ◌∙◌, subst}
-use Rattle.vc_best.proofs.Common.{CanLinkGap, Extent, GapLinked, IsThere, one_free, plain, tiling}
+use Rattle.vc_base.proofs.Common.{ℕ, ◌+◌, map, not, ◌≢◌, List, IsSome, All, Option, sym, ap, ◌∙◌, subst}
+use Rattle.vc_best.proofs.Common.{CanLinkGap, Extent, GapLinked, IsThere, one_free, pair_of, plain, tiling}
 use Rattle.std.proofs.Math.Bool.{not-not}
+use Rattle.vc_gaps.specs.GapLaws.{gap_none}
 use Rattle.vc_best.proofs.Backs.{some-of}
-use Rattle.vc_best.proofs.EmptyGaps.{below-linked, below-none, can-clear}
+use Rattle.vc_best.proofs.EmptyGaps.{below-linked, below-none, can-clear, made-linked}
+use Rattle.vc_best.proofs.Made.{count-more, count-one, made-most}
 use Rattle.vc_best.proofs.EmptySegments.{change-none, no-value, none-there}
 use Rattle.vc_best.proofs.compact.clear_one.Given.{Over}
 use Rattle.vc_best.proofs.compact.clear_one.Goals as goal
@@ -35,3 +37,19 @@ returns-then-is_some-clause-gaps g c =
     let t2 = tiling c.link_gap.new.extents.segs.items in
     below-linked _ _ c.args.number c.args.root.now.0 c.args.extents.now.kept (there g (goal.at.returns-then-is_some-clause-gaps g c).Then-is_some) t1 c.reset-a.ensures.tiling c.requires.gaps t2 c.link_gap.result.0 c.link_gap.ensures.rest.extents
     (subst (λ (z : ℕ). GapLinked t1 t2 c.args.root.now.0 z c.link_gap.result.0) c.reset-a.ensures.value c.link_gap.ensures.linked)
+
+pub returns-else-is_some-clause-cost : goal.returns-else-is_some-clause-cost
+returns-else-is_some-clause-cost g c = λ start m. made-most _ _ _ _ _ _ (count-more c.args.number (map pair_of c.args.extents.now.segs.items)) m
+
+pub returns-then-is_some-clause-cost : goal.returns-then-is_some-clause-cost
+returns-then-is_some-clause-cost g c = λ start m.
+    let n = c.args.number in
+    let e = c.args.extents.now in
+    let here = there g (goal.at.returns-then-is_some-clause-cost g c).Then-is_some in
+    let r = c.reset-a.new.self in
+    let t1 = tiling r.segs.items in
+    let t2 = tiling c.link_gap.new.extents.segs.items in
+    made-most t2 c.link_gap.result.0 start c.link_gap.new.steps _ _ (count-one n (map pair_of e.segs.items) here)
+    (made-linked _ _ n c.args.root.now.0 e.kept here t1 c.reset-a.ensures.tiling c.requires.gaps t2 c.link_gap.result.0 start c.args.steps.now c.link_gap.new.steps _
+    (gap_none r.segs.items r.index.items r.kept) c.link_gap.ensures.rest.extents
+    (subst (λ (z : ℕ). GapLinked t1 t2 c.args.root.now.0 z c.link_gap.result.0) c.reset-a.ensures.value c.link_gap.ensures.linked) c.link_gap.ensures.cost m)

@@ -1,20 +1,20 @@
 use Rattle.vc_base.proofs.Common.{◌≡◌, ℕ, true, false, not, eqb, List, [], ◌∷◌, ◌++◌, map, length, IsSome, All, filter, sym, refl, ap, ◌∙◌, subst, arith, ∥∥₁_elim, ℕ_set, All-filter, address, HasOut, without_last, Layout}
-use Rattle.vc_best.proofs.Common.{Extent, HasGaps, IsMerged, IsNamed, IsOneFree, IsThere, behind_of, extent_of, extents_of, is_merged, pair_of, size_of, tiling}
+use Rattle.vc_best.proofs.Common.{Extent, GapsChange, HasGaps, IsMerged, IsNamed, IsOneFree, IsThere, behind_of, extent_of, extents_of, is_merged, pair_of, size_of, tiling}
 use Rattle.vc_base.proofs.Options.{none_where}
 use Rattle.vc_seg.specs.Back.{is_marked, stays_from}
 use Rattle.vc_seg.proofs.Backs.{Contains-ends, Contains-own, is_kept-marked, is_kept-unmarked}
 use Rattle.vc_gaps.proofs.Added.{gaps-removed}
-use Rattle.vc_gaps.proofs.GapTrees.{gaps-own}
 use Rattle.vc_best.proofs.Backs.{kept-none, one-gone, out-gone, some-of}
+use Rattle.vc_best.proofs.Costs.{changed_cost, still_cost, then_cost}
 use Rattle.vc_best.proofs.EmptyGaps.{first-off, one-first, start-address}
-use Rattle.vc_best.proofs.Linking.{in-tree}
+use Rattle.vc_best.proofs.Linking.{gaps-changed, in-tree}
 use Rattle.vc_best.proofs.Plain.{layout-stays, merged-stays, one_free-stays}
 use Rattle.vc_best.proofs.Segments.{free-by, layout-removed}
 use Rattle.vc_best.proofs.Sets.{pairs-set}
 use Rattle.vc_best.proofs.Walks.{start-named, start-whole}
 use Rattle.vc_best.proofs.compact.give_back_unless.Given.{Over}
 use Rattle.vc_best.proofs.compact.give_back_unless.Goals as goal
-use Rattle.vc_best.proofs.compact.give_back_unless.Goals.{After-first-first, After-unlink_gap}
+use Rattle.vc_best.proofs.compact.give_back_unless.Goals.{After-first-first, After-remove-segment, After-unlink_gap}
 
 pub returns-then-marks-number-clause-given : goal.returns-then-marks-number-clause-given
 returns-then-marks-number-clause-given g c =
@@ -90,24 +90,46 @@ returns-clause-given g c =
           ∙ ap length c.unlink_gap.ensures.rest.pairs;
     }
 
+-- its one extent is out of the tree, which stays without it
+out : (g : Over) (c : After-unlink_gap g) → HasGaps (tiling c.unlink_gap.new.extents.segs.items) c.unlink_gap.result.0 (address (c.args.number, 32) ∷ [])
+out g c =
+    let e = c.args.extents.now in
+    let first : c.first-first.result.0 ≡ address (c.args.number, 32) = start-address _ _ c.args.number e.kept (there g (goal.at.After-unlink_gap g c).After-first-first) c.first-first.result.0 c.first-first.ensures in
+    subst (λ (z : ℕ). HasGaps (tiling c.unlink_gap.new.extents.segs.items) c.unlink_gap.result.0 (z ∷ [])) first (c.unlink_gap.ensures.unlinked.gaps [] c.requires.kept.gaps)
+
+change : (g : Over) (c : After-remove-segment g) → GapsChange (tiling c.unlink_gap.new.extents.segs.items) (tiling c.remove-segment.new.self.segs.items) (address (c.args.number, 32) ∷ []) []
+change g c u root out h =
+    let n = c.args.number in
+    let t1 = tiling c.unlink_gap.new.extents.segs.items in
+    let at = goal.at.After-remove-segment g c in
+    let o = one-first (extents_of n t1) (still g at.After-unlink_gap) in
+    let off : o.0.off ≡ 32 = first-off _ _ n c.unlink_gap.new.extents.kept (subst (λ (ss : List (ℕ × ℕ)). IsSome (size_of n ss)) (sym c.unlink_gap.ensures.rest.pairs) (there g at.After-first-first)) o.0 [] o.1 in
+    gaps-removed t1 (tiling c.remove-segment.new.self.segs.items) root n o.0 out o.1 off c.remove-segment.ensures.tiling h
+
 pub returns-clause-kept : goal.returns-clause-kept
 returns-clause-kept g c =
     let n = c.args.number in
     let t1 = tiling c.unlink_gap.new.extents.segs.items in
     let at = goal.at.returns-clause-kept g c in
-    let o = one-first (extents_of n t1) (still g at.After-unlink_gap) in
-    let here = there g at.After-first-first in
-    let off : o.0.off ≡ 32 = first-off _ _ n c.unlink_gap.new.extents.kept (subst (λ (ss : List (ℕ × ℕ)). IsSome (size_of n ss)) (sym c.unlink_gap.ensures.rest.pairs) here) o.0 [] o.1 in
-    let first : c.first-first.result.0 ≡ address (n, 32) = start-address _ _ n c.args.extents.now.kept here c.first-first.result.0 c.first-first.ensures in
     record {
       merged =
           subst IsMerged (sym c.remove-segment.ensures.tiling)
           (All-filter (λ (s : ℕ × List Extent). not (eqb s.0 n)) (λ (s : ℕ × List Extent). is_merged false s.1 ≡ true) t1
           (merged-stays (tiling c.args.extents.now.segs.items) t1 c.unlink_gap.ensures.rest.extents c.requires.kept.merged));
-      gaps =
-          (gaps-removed t1 (tiling c.remove-segment.new.self.segs.items) c.unlink_gap.result.0 n o.0 [] o.1 off c.remove-segment.ensures.tiling
-          (gaps-own t1 c.unlink_gap.result.0 _ (subst (λ (z : ℕ). HasGaps t1 c.unlink_gap.result.0 (z ∷ [])) first (c.unlink_gap.ensures.unlinked.gaps [] c.requires.kept.gaps)))).gaps;
+      gaps = gaps-changed t1 (tiling c.remove-segment.new.self.segs.items) c.unlink_gap.result.0 (address (n, 32) ∷ []) [] (change g at.After-remove-segment) (out g at.After-unlink_gap);
     }
+
+pub returns-clause-cost : goal.returns-clause-cost
+returns-clause-cost g c =
+    let at = goal.at.returns-clause-cost g c in
+    then_cost (out g at.After-unlink_gap) c.unlink_gap.ensures.cost
+    (changed_cost _ _ _ _ c.unlink_gap.new.extents.kept c.remove-segment.new.self.kept c.unlink_gap.result.0 0 0 0 (address (c.args.number, 32) ∷ []) [] (change g at.After-remove-segment) (out g at.After-unlink_gap) (omega arith))
+
+pub returns-then-marks-number-clause-cost : goal.returns-then-marks-number-clause-cost
+returns-then-marks-number-clause-cost g c = still_cost _ _ c.args.extents.now.kept c.args.root.now.0 0 0 _ 0 0 (omega arith)
+
+pub returns-then-is_none-clause-cost : goal.returns-then-is_none-clause-cost
+returns-then-is_none-clause-cost g c = still_cost _ _ c.args.extents.now.kept c.args.root.now.0 0 0 _ 0 0 (omega arith)
 
 pub returns-clause-disc : goal.returns-clause-disc
 returns-clause-disc g c =

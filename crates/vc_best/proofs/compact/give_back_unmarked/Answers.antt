@@ -1,9 +1,10 @@
-use Rattle.vc_base.proofs.Common.{◌≡◌, ℕ, true, List, map, length, IsSome, All, filter, sym, refl, ap, ◌∙◌, subst, arith, le_prop, ∥∥₁_elim, All-weaker, filter_passes, is_occupied, Block}
+use Rattle.vc_base.proofs.Common.{◌≡◌, ℕ, ◌+◌, ◌*◌, true, List, map, length, IsSome, All, filter, sym, refl, ap, ◌∙◌, subst, arith, le_prop, ∥∥₁_elim, All-weaker, filter_passes, is_occupied, Block}
 use Rattle.vc_best.proofs.Common.{layout_by, pair_of, size_of}
 use Rattle.vc_seg.specs.Back.{is_kept, is_marked, stays_from}
 use Rattle.vc_seg.proofs.Backs.{HasOut-left, TookBack-more, TookBack-none, stays_from-first, stays_from-last, stays_from-more}
 use Rattle.vc_seg.proofs.Filters.{filter-agree_on}
 use Rattle.vc_best.proofs.Backs.{all-there, left-there, pairs-first, pairs-last}
+use Rattle.vc_best.proofs.Costs.{cost_within, still_cost, then_cost}
 use Rattle.vc_best.proofs.Lends.{segments-by}
 use Rattle.vc_best.proofs.compact.give_back_unmarked.Given.{Over}
 use Rattle.vc_best.proofs.compact.give_back_unmarked.Goals as goal
@@ -16,6 +17,7 @@ loop-number-init g c =
       blocks = refl;
       kept = c.requires.kept;
       count = omega arith;
+      cost = still_cost _ _ c.args.extents.now.kept c.args.root.now.0 0 0 0 0 0 (omega arith);
       back = TookBack-none _ (map pair_of c.args.extents.now.segs.items);
     }
 
@@ -47,6 +49,7 @@ loop-number-preserved g c =
       blocks = given.blocks ∙ i.blocks;
       kept = c.give_back_unless-count.ensures.kept;
       count = omega arith;
+      cost = cost_within (then_cost i.kept.gaps i.cost c.give_back_unless-count.ensures.cost) (12 * (c.loop-number.count + c.give_back_unless-count.result)) 0 0 (omega arith) (omega arith) (omega arith);
       back = TookBack-more _ _ _ (map pair_of c.args.extents.now.segs.items) (map pair_of c.loop-number.extents.segs.items) (map pair_of c.give_back_unless-count.new.extents.segs.items) i.back c.give_back_unless-count.ensures.disc;
     }
 
@@ -75,3 +78,6 @@ returns-clause-count g c =
     let now = ap length (kept g (goal.at.returns-clause-count g c).After-loop-number) in
     let all = ap length (segments-by c.args.extents.now.segs.items) in
     omega (arith, c.loop-number.invariant.count)
+
+pub returns-clause-few : goal.returns-clause-few
+returns-clause-few g c = let all = c.loop-number.invariant.count in omega arith

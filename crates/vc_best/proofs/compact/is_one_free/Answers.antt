@@ -27,22 +27,22 @@ overflow_add-result g c =
     let end = named-end _ _ c.first-first.result.0 c.args.extents.now.kept (named g (goal.at.overflow_add-result g c).After-first-first) in
     omega arith
 
-pub returns-then-not-is_busy : goal.returns-then-not-is_busy
-returns-then-not-is_busy g c =
+pub returns-then-not-is_busy-clause-value : goal.returns-then-not-is_busy-clause-value
+returns-then-not-is_busy-clause-value g c =
     let t = tiling c.args.extents.now.segs.items in
     let a = c.first-first.result.0 in
-    let w = whole g (goal.at.returns-then-not-is_busy g c).After-first-first in
+    let w = whole g (goal.at.returns-then-not-is_busy-clause-value g c).After-first-first in
     let free = not-busy c.is_busy.result (extent_of t a).size c.is_busy.ensures.1 c.if-not-is_busy.true in
     let span = c.span_at.ensures.value in (
       λ q. one-by_span _ _ c.args.seg c.args.size (extent_of t a) (behind_of t a) c.args.extents.now.kept c.requires w free (let is = eqb-true (c.span_at.result + 32) c.args.size q in omega arith),
       λ h. eq-eqb (c.span_at.result + 32) c.args.size (let is = (one-not _ _ c.args.seg c.args.size (extent_of t a) (behind_of t a) c.args.extents.now.kept c.requires w h).1 in omega arith),
     )
 
-pub returns-else-not-is_busy : goal.returns-else-not-is_busy
-returns-else-not-is_busy g c =
+pub returns-else-not-is_busy-clause-value : goal.returns-else-not-is_busy-clause-value
+returns-else-not-is_busy-clause-value g c =
     let t = tiling c.args.extents.now.segs.items in
     let a = c.first-first.result.0 in
-    let w = whole g (goal.at.returns-else-not-is_busy g c).After-first-first in
+    let w = whole g (goal.at.returns-else-not-is_busy-clause-value g c).After-first-first in
     let yes : c.is_busy.result ≡ true = c.if-not-is_busy.false in
     let busy : 0 < (extent_of t a).size = c.is_busy.ensures.0 yes in (
       λ q. absurd (let no : false ≡ true = rw yes at q in cc),

@@ -1,9 +1,12 @@
 use Rattle.vc_base.proofs.Common.{◌≡◌, ℕ, ◌+◌, ◌≤◌, [], length, Ok, Err, option_map, sym, ap, ◌∙◌, subst, arith, place_of, place_in, Layout, span}
 use Rattle.vc_best.proofs.Common.{AreAllowed, AreWhole, HasGaps, IsPutInGap, layout_by, tiling}
+use Rattle.vc_gaps.specs.Cost.{GapsCost}
 use Rattle.vc_gaps.proofs.GapTrees.{gap_tree-of}
 use Rattle.vc_best.proofs.Asking.{Answers-in_gap, Asks-in_gap, IsPutByAsking-same}
 use Rattle.vc_best.proofs.Bests.{least-found, least-none}
 use Rattle.vc_best.proofs.BlockCounts.{put-count}
+use Rattle.vc_best.proofs.Calls.{call_costs}
+use Rattle.vc_best.proofs.Costs.{cost_within, then_cost}
 use Rattle.vc_best.proofs.Counting.{blocks-few}
 use Rattle.vc_best.proofs.Held.{AreHeld, AreMost, held, merged-of, most-of, tree-of}
 use Rattle.vc_best.proofs.Others.{others-asked, others-in_gap}
@@ -138,3 +141,28 @@ returns-in-Err-clause-answer g c = (IsPutByAsking-same _ _ _ _ _ _ _ (Err c.in-E
 
 pub returns-in-Err-clause-no_memory : goal.returns-in-Err-clause-no_memory
 returns-in-Err-clause-no_memory g c = (IsPutByAsking-same _ _ _ _ _ _ _ (Err c.in-Err.fault) (same g (goal.at.returns-in-Err-clause-no_memory g c).After-fit-least) c.in-Err.ensures.put).no_memory
+
+-- what the search costs, and then the block in its gap or in a segment that is asked for
+found : (g : Over) (c : After-put_in_gap-to g) → c.args.align ≡ 32 → GapsCost (tiling c.args.self.now.extents.segs.items) (tiling c.put_in_gap-to.new.extents.segs.items) c.args.self.now.root.0 c.put_in_gap-to.new.root.0 c.args.steps.now c.put_in_gap-to.new.steps 40 3 2
+found g c unit = then_cost (whole g (goal.at.After-put_in_gap-to g c).After-fit-least).kept.gaps (c.fit-least.ensures.cost unit) c.put_in_gap-to.ensures.cost
+
+asked : (g : Over) (c : After-put_in_new g) → c.args.align ≡ 32 → GapsCost (tiling c.args.self.now.extents.segs.items) (tiling c.put_in_new.new.extents.segs.items) c.args.self.now.root.0 c.put_in_new.new.root.0 c.args.steps.now c.put_in_new.new.steps 40 3 2
+asked g c unit = cost_within (then_cost (whole g (goal.at.After-put_in_new g c).After-fit-least).kept.gaps (c.fit-least.ensures.cost unit) c.put_in_new.ensures.cost) 40 3 2 (omega arith) (omega arith) (omega arith)
+
+pub returns-in-Some-clause-cost : goal.returns-in-Some-clause-cost
+returns-in-Some-clause-cost g c = found g (goal.at.returns-in-Some-clause-cost g c).After-put_in_gap-to
+
+pub returns-in-Some-clause-call : goal.returns-in-Some-clause-call
+returns-in-Some-clause-call g c = λ unit. call_costs c.args.self.now _ 1 c.args.steps.now _ 40 3 2 (omega arith) (omega arith) (found g (goal.at.returns-in-Some-clause-call g c).After-put_in_gap-to unit)
+
+pub returns-in-Ok-clause-cost : goal.returns-in-Ok-clause-cost
+returns-in-Ok-clause-cost g c = asked g (goal.at.returns-in-Ok-clause-cost g c).After-put_in_new
+
+pub returns-in-Ok-clause-call : goal.returns-in-Ok-clause-call
+returns-in-Ok-clause-call g c = λ unit. call_costs c.args.self.now _ 1 c.args.steps.now _ 40 3 2 (omega arith) (omega arith) (asked g (goal.at.returns-in-Ok-clause-call g c).After-put_in_new unit)
+
+pub returns-in-Err-clause-cost : goal.returns-in-Err-clause-cost
+returns-in-Err-clause-cost g c = asked g (goal.at.returns-in-Err-clause-cost g c).After-put_in_new
+
+pub returns-in-Err-clause-call : goal.returns-in-Err-clause-call
+returns-in-Err-clause-call g c = λ unit. call_costs c.args.self.now _ 1 c.args.steps.now _ 40 3 2 (omega arith) (omega arith) (asked g (goal.at.returns-in-Err-clause-call g c).After-put_in_new unit)

@@ -2,6 +2,7 @@ use Rattle.vc_base.proofs.Common.{◌≡◌, ℕ, ◌+◌, length, sym, subst, a
 use Rattle.vc_best.proofs.Common.{layout_by}
 use Rattle.vc_seg.specs.OneBlock.{IsBlockFreed}
 use Rattle.vc_best.proofs.BlockCounts.{freed-count}
+use Rattle.vc_best.proofs.Calls.{call_costs}
 use Rattle.vc_best.proofs.Found.{busy-of}
 use Rattle.vc_best.proofs.Held.{held, kept-of, most-of, most-without}
 use Rattle.vc_best.proofs.HeldHeads.{held-heads}
@@ -34,3 +35,6 @@ returns-clause-freed g c =
     let heads = held-heads _ _ c.args.self.now.extents.kept (most-of r c.args.self.now.whole) in
     subst (λ (l : Layout ℕ). IsBlockFreed c.args.a.0 r.blocks l.blocks) (sym c.free_block.ensures.layout)
     (record { one_less = one-less r c.args.a.0 heads c.requires.block; freed = stands-removed r c.args.a.0 heads; none_left = none-there r c.args.a.0 heads })
+
+pub returns-clause-call : goal.returns-clause-call
+returns-clause-call g c = call_costs c.args.self.now _ 1 c.args.steps.now _ 32 1 1 (omega arith) (omega arith) c.free_block.ensures.cost

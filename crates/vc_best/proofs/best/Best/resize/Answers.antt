@@ -1,12 +1,15 @@
-use Rattle.vc_base.proofs.Common.{◌≡◌, ℕ, false, Some, option_map, sym, refl, ap, ◌∙◌, arith, place_of, Layout, without_block, can_stay, HasBlock, find_block}
-use Rattle.vc_best.proofs.Common.{layout_by, tiling}
+use Rattle.vc_base.proofs.Common.{◌≡◌, ℕ, false, [], Some, option_map, sym, refl, ap, ◌∙◌, arith, place_of, Layout, without_block, can_stay, HasBlock, find_block}
+use Rattle.vc_best.proofs.Common.{HasGaps, layout_by, tiling}
+use Rattle.vc_gaps.specs.Cost.{GapsCost}
 use Rattle.vc_layouts.proofs.Resizes.{others-sized}
 use Rattle.vc_layouts.proofs.Segments.{Served-later, Served-unasked}
 use Rattle.vc_best.proofs.Others.{others-moved}
 use Rattle.vc_best.proofs.ResizeAnswers.{resize-stays, resize-fixed, resize-moves, resize-refused, new-among, new-room, old-among, old-found, none-stays}
 use Rattle.vc_best.proofs.BlockCounts.{sized-count}
+use Rattle.vc_best.proofs.Calls.{call_costs}
+use Rattle.vc_best.proofs.Costs.{still_cost, then_cost}
 use Rattle.vc_best.proofs.Found.{busy-of}
-use Rattle.vc_best.proofs.Held.{held, kept-of, merged-of, most-of}
+use Rattle.vc_best.proofs.Held.{held, kept-of, merged-of, most-of, tree-of}
 use Rattle.vc_best.proofs.Stays.{label-by, most-sized, moved-most, moved-segments, size-by, stays-by}
 use Rattle.vc_best.proofs.There.{size-moved, size-sized, there-moved, there-sized}
 use Rattle.vc_best.proofs.best.Best.resize.Given.{Over}
@@ -141,3 +144,31 @@ pub returns-in-Ok-clause-sized : goal.returns-in-Ok-clause-sized
 returns-in-Ok-clause-sized g c =
     let same = was g (goal.at.returns-in-Ok-clause-sized g c).After-take_over in
     size-moved (layout_by c.alloc.new.self.extents.segs.items) (layout_by c.take_over.new.extents.segs.items) (layout_by c.args.self.now.extents.segs.items) c.args.a.0 c.in-Ok.to.0 c.args.size c.tag_at-tag.result c.requires.block c.in-Ok.ensures.put.fresh same (tag g (goal.at.returns-in-Ok-clause-sized g c).After-tag_at-tag) c.take_over.ensures.moved.moved c.in-Ok.ensures.put.there
+
+-- what is read costs at most two steps
+before : (g : Over) (c : After-has_room g) → HasGaps (tiling c.args.self.now.extents.segs.items) c.args.self.now.root.0 []
+before g c = let b = c.args.self.now in tree-of b.extents.segs.items b.extents.index.items b.root.0 b.extents.kept b.gaps
+
+read : (g : Over) (c : After-has_room g) → GapsCost (tiling c.args.self.now.extents.segs.items) (tiling c.args.self.now.extents.segs.items) c.args.self.now.root.0 c.args.self.now.root.0 c.args.steps.now c.has_room.new.steps 0 2 0
+read g c = let b = c.args.self.now in still_cost _ _ b.extents.kept b.root.0 c.args.steps.now c.has_room.new.steps 0 2 0 c.has_room.ensures.most_steps
+
+pub returns-then-has_room-clause-call : goal.returns-then-has_room-clause-call
+returns-then-has_room-clause-call g c =
+    let h = (goal.at.returns-then-has_room-clause-call g c).After-has_room in
+    call_costs c.args.self.now _ 1 c.args.steps.now _ 20 5 1 (omega arith) (omega arith) (then_cost (before g h) (read g h) c.resize_block.ensures.cost)
+
+pub returns-then-not-may_move-clause-call : goal.returns-then-not-may_move-clause-call
+returns-then-not-may_move-clause-call g c =
+    call_costs c.args.self.now _ 1 c.args.steps.now _ 0 2 0 (omega arith) (omega arith) (read g (goal.at.returns-then-not-may_move-clause-call g c).After-has_room)
+
+pub returns-in-Ok-clause-call : goal.returns-in-Ok-clause-call
+returns-in-Ok-clause-call g c =
+    let h = (goal.at.returns-in-Ok-clause-call g c).After-has_room in
+    let b = c.alloc.new.self in
+    call_costs c.args.self.now _ 1 c.args.steps.now _ 72 6 3 (omega arith) (omega arith)
+    (then_cost (before g h) (read g h) (then_cost (tree-of b.extents.segs.items b.extents.index.items b.root.0 b.extents.kept b.gaps) (c.alloc.ensures.cost refl) c.take_over.ensures.cost))
+
+pub returns-in-Err-clause-call : goal.returns-in-Err-clause-call
+returns-in-Err-clause-call g c =
+    let h = (goal.at.returns-in-Err-clause-call g c).After-has_room in
+    call_costs c.args.self.now _ 1 c.args.steps.now _ 40 5 2 (omega arith) (omega arith) (then_cost (before g h) (read g h) (c.alloc.ensures.cost refl))
