@@ -1,5 +1,6 @@
 -- A trace from its first line to its end.
-use Rattle.std.specs.Prelude.{ℕ, List, [], ◌∷◌, Result, Ok, Err}
+use Rattle.std.specs.Prelude.{ℕ, List, [], ◌∷◌, None, Result, Ok, Err}
+use Rattle.vc_model.specs.Outcome.{Fault}
 use Rattle.vc_script.specs.declared.line_answer.LineAnswer.{LineAnswer}
 use Rattle.vc_script.specs.declared.line_answer.LineAnswer.TheVariants.{Blank, Is, Bad}
 use Rattle.vc_script.specs.declared.line_fault.LineFault.{LineFault}
@@ -7,33 +8,33 @@ use Rattle.vc_script.specs.declared.tool.Tool.TheVariants.{Vmreplay}
 use Rattle.vc_script.specs.Answer.{answer}
 use Rattle.vc_script.specs.Judged.{judged_lines}
 use Rattle.vc_ways.specs.declared.way.Way.{Way}
-use Rattle.vc_ways.specs.Ways.{WayTerms}
-use Rattle.vc_ways.specs.Tally.{Tally}
-use Rattle.vc_ways.specs.Step.{End, Goes, Outside, TooMany, State, start, step}
+use Rattle.vc_ways.specs.Regions.{WayTerms}
+use Rattle.vc_ways.specs.declared.tally.Tally.{Tally}
+use Rattle.vc_ways.specs.Step.{End, Goes, Outside, State, Stops, start, step}
 
--- how a trace ends: with all its lines run; or at a line that is no command, that is outside of a trace, or at which a way would need too many segments
+-- how a trace ends: with all its lines run; or at a line that is no command, that is outside of a trace, or at which a way refuses the command
 pub data Compared : Type 0 where
   Finished : (tally : Tally) → Compared
   BadLine : (line : ℕ) (fault : LineFault) → Compared
   OutsideAt : (line : ℕ) → Compared
-  TooManyAt : (line : ℕ) (way : Way) → Compared
+  StoppedAt : (line : ℕ) (way : Way) (why : Fault) → Compared
 
 -- the trace goes on behind a line, or ends with it
 abbrev pub after_command : ℕ → End → (State → Compared) → Compared
 after_command n (Goes after) behind = behind after
 after_command n Outside behind = OutsideAt n
-after_command n (TooMany way) behind = TooManyAt n way
+after_command n (Stops way why) behind = StoppedAt n way why
 
 abbrev pub after_answer : WayTerms → ℕ → State → LineAnswer → (State → Compared) → Compared
 after_answer terms n s Blank behind = behind s
-after_answer terms n s (Is command) behind = after_command n (step terms s command) behind
+after_answer terms n s (Is command) behind = after_command n (step terms s command None) behind
 after_answer terms n s (Bad fault) behind = BadLine n fault
 
 abbrev pub after_line : WayTerms → ℕ → State → Result (List ℕ) LineFault → (State → Compared) → Compared
 after_line terms n s (Ok line) behind = after_answer terms n s (answer Vmreplay line) behind
 after_line terms n s (Err fault) behind = BadLine n fault
 
--- lines are run in turn from a state on, up to the first that can't be
+-- lines are run in turn from a state on, up to the first that can't be; no way asks in vain for a segment
 abbrev pub compare_lines : WayTerms → State → List (ℕ × Result (List ℕ) LineFault) → Compared
 compare_lines terms s [] = Finished s.tally
 compare_lines terms s (line ∷ rest) = after_line terms line.0 s line.1 (λ after. compare_lines terms after rest)

@@ -14,10 +14,10 @@ pub record LastWay : Type 0 where
 abbrev pub new_last : LastWay
 new_last = record { region = empty_layout; dead = [] }
 
--- a block is put behind the others, alive; it is known by how many stand before it
-abbrev pub last_put : Terms → LastWay → ℕ → Outcome (ℕ × LastWay)
-last_put terms w size =
-    done_as {B = ℕ × LastWay} (λ p. (length w.dead, record { region = p.region; dead = w.dead ++ false ∷ [] })) (last_alloc terms w.region 0 size false)
+-- a block is put behind the others, alive; it is known by how many stand before it. Whether a segment is refused is the one free choice
+abbrev pub last_put : Terms → LastWay → ℕ → Bool → Outcome (ℕ × LastWay)
+last_put terms w size refused =
+    done_as {B = ℕ × LastWay} (λ p. (length w.dead, record { region = p.region; dead = w.dead ++ false ∷ [] })) (last_alloc terms w.region 0 size refused)
 
 -- the block behind so many is dead
 abbrev pub last_dead : LastWay → ℕ → LastWay
@@ -28,26 +28,26 @@ abbrev pub latest_place : Layout ℕ → ℕ × ℕ
 latest_place r = unwrap_or (option_map place_of_block (latest r)) (0, 0)
 
 -- the latest block gets another size, and may move
-abbrev pub latest_sized : Terms → LastWay → ℕ → ℕ → Outcome (ℕ × LastWay)
-latest_sized terms w i size =
-    done_as {B = ℕ × LastWay} (λ p. (i, record { region = p.region; dead = w.dead })) (last_resize terms w.region (latest_place w.region) size true false)
+abbrev pub latest_sized : Terms → LastWay → ℕ → ℕ → Bool → Outcome (ℕ × LastWay)
+latest_sized terms w i size refused =
+    done_as {B = ℕ × LastWay} (λ p. (i, record { region = p.region; dead = w.dead })) (last_resize terms w.region (latest_place w.region) size true refused)
 
 -- the block behind so many gets another size: if it isn't the latest, one of that size is put, and it is dead. Nothing writes into blocks, so the bytes that it takes along are the zeros that are there
-abbrev pub last_sized : Terms → LastWay → ℕ → ℕ → Outcome (ℕ × LastWay)
-last_sized terms w i size =
-    if i + 1 == length w.dead then latest_sized terms w i size else last_put terms (last_dead w i) size
+abbrev pub last_sized : Terms → LastWay → ℕ → ℕ → Bool → Outcome (ℕ × LastWay)
+last_sized terms w i size refused =
+    if i + 1 == length w.dead then latest_sized terms w i size refused else last_put terms (last_dead w i) size refused
 
 -- the region without its latest block
 abbrev pub done_or : {A : Type 0} → A → Outcome A → A
 done_or before (Done after) = after
 done_or before (Refused why) = before
 
-abbrev pub free_block : Layout ℕ → Option (Block ℕ) → Layout ℕ
-free_block r None = r
-free_block r (Some b) = done_or r (last_free r (place_of_block b))
+abbrev pub free_latest_of : Layout ℕ → Option (Block ℕ) → Layout ℕ
+free_latest_of r None = r
+free_latest_of r (Some b) = done_or r (last_free r (place_of_block b))
 
 abbrev pub free_latest : Layout ℕ → Layout ℕ
-free_latest r = free_block r (latest r)
+free_latest r = free_latest_of r (latest r)
 
 abbrev pub without_latest : LastWay → LastWay
 without_latest w = record { region = free_latest w.region; dead = take (length w.dead - 1) w.dead }

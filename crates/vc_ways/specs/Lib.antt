@@ -1,7 +1,8 @@
+pub mod Live
 pub mod Table
 pub mod LastWay
 pub mod PoolWay
-pub mod Ways
+pub mod Regions
 pub mod Tally
 pub mod Step
 pub mod Compare

@@ -1,5 +1,5 @@
 -- The way of pools by size class.
-use Rattle.std.specs.Prelude.{ℕ, List, [], ◌∷◌, count_by, false, nat_lt, replicate, slice_index, slice_index_or, slice_set, ◌==◌, if◌then◌else◌}
+use Rattle.std.specs.Prelude.{ℕ, List, [], ◌∷◌, Bool, count_by, nat_lt, replicate, slice_index, slice_index_or, slice_set, ◌==◌, if◌then◌else◌}
 use Rattle.vc_model.specs.Discipline.{Terms}
 use Rattle.vc_model.specs.Outcome.{Outcome, Done, done_as}
 use Rattle.vc_model.specs.Pool.{Pool, empty_pool, pool_alloc, pool_free}
@@ -28,18 +28,18 @@ abbrev pub terms_at : List Terms → ℕ → Terms
 terms_at terms class = slice_index_or terms class (record { round = 32 })
 
 -- a block is put into a cell of its class
-abbrev pub cell_put : List Terms → List (Pool ℕ) → ℕ → Outcome ((ℕ × ℕ) × List (Pool ℕ))
-cell_put terms pools size =
+abbrev pub cell_put : List Terms → List (Pool ℕ) → ℕ → Bool → Outcome ((ℕ × ℕ) × List (Pool ℕ))
+cell_put terms pools size refused =
     let class : ℕ = class_of size in
     done_as {B = (ℕ × ℕ) × List (Pool ℕ)} (λ p. (p.at, slice_set pools class p.region))
-    (pool_alloc (terms_at terms class) (pool_at pools class) 0 (class_bytes class) false)
+    (pool_alloc (terms_at terms class) (pool_at pools class) 0 (class_bytes class) refused)
 
 -- the block of a size at a place goes
 abbrev pub cell_free : List (Pool ℕ) → ℕ → ℕ × ℕ → List (Pool ℕ)
 cell_free pools size at = slice_set pools (class_of size) (pool_free (pool_at pools (class_of size)) at)
 
 -- a block of a size at a place gets another size: within its class no pool changes; into another class it is put first, and then its old cell is free
-abbrev pub cell_sized : List Terms → List (Pool ℕ) → ℕ → ℕ × ℕ → ℕ → Outcome ((ℕ × ℕ) × List (Pool ℕ))
-cell_sized terms pools old at size =
+abbrev pub cell_sized : List Terms → List (Pool ℕ) → ℕ → ℕ × ℕ → ℕ → Bool → Outcome ((ℕ × ℕ) × List (Pool ℕ))
+cell_sized terms pools old at size refused =
     if class_of size == class_of old then Done (at, pools)
-    else done_as {B = (ℕ × ℕ) × List (Pool ℕ)} (λ p. (p.0, cell_free p.1 old at)) (cell_put terms pools size)
+    else done_as {B = (ℕ × ℕ) × List (Pool ℕ)} (λ p. (p.0, cell_free p.1 old at)) (cell_put terms pools size refused)

@@ -4,11 +4,12 @@ use Rattle.vc_model.specs.Discipline.{Terms}
 use Rattle.vc_model.specs.Layout.{place_of_block}
 use Rattle.vc_script.specs.declared.command.Command.{Command}
 use Rattle.vc_script.specs.declared.command.Command.TheVariants.{Alloc, Free, Resize}
-use Rattle.vc_ways.specs.Ways.{WayTerms}
-use Rattle.vc_ways.specs.Table.{Live, find_live}
+use Rattle.vc_ways.specs.Regions.{WayTerms}
+use Rattle.vc_ways.specs.Live.{Live}
+use Rattle.vc_ways.specs.Table.{find_live}
 use Rattle.vc_ways.specs.Tally.{report}
-use Rattle.vc_ways.specs.Step.{End, Goes, Outside, State, TooMany, start, step}
-use Rattle.vc_ways.specs.Compare.{Compared, BadLine, Finished, OutsideAt, TooManyAt, compare_input}
+use Rattle.vc_ways.specs.Step.{End, Goes, Outside, State, Stops, start, step}
+use Rattle.vc_ways.specs.Compare.{Compared, BadLine, Finished, OutsideAt, StoppedAt, compare_input}
 
 abbrev pub terms : Terms
 terms = record { round = 4096 }
@@ -21,7 +22,7 @@ abbrev pub told : Compared → List ℕ
 told (Finished tally) = report tally
 told (BadLine n fault) = codes "bad line " ++ decimal n
 told (OutsideAt n) = codes "outside at " ++ decimal n
-told (TooManyAt n way) = codes "too many at " ++ decimal n
+told (StoppedAt n way why) = codes "stopped at " ++ decimal n
 
 abbrev pub told_of : List ℕ → List ℕ
 told_of input = told (compare_input same_terms input)
@@ -40,15 +41,15 @@ free x = Free (codes "t") x
 abbrev pub state_after : State → End → State
 state_after before (Goes after) = after
 state_after before Outside = before
-state_after before (TooMany way) = before
+state_after before (Stops way why) = before
 
 abbrev pub after : List Command → State
-after commands = fold (λ s command. state_after s (step same_terms s command)) start commands
+after commands = fold (λ s command. state_after s (step same_terms s command None)) start commands
 
 -- the live block of a name behind commands
 abbrev pub live_after : List Command → List ℕ → Option Live
-live_after commands x = find_live x (after commands).ways.table
+live_after commands x = find_live x (after commands).table
 
 -- where the blocks of the last region are, dead ones too
 abbrev pub last_places : State → List (ℕ × ℕ)
-last_places s = map place_of_block s.ways.last.region.blocks
+last_places s = map place_of_block s.regions.last.region.blocks

@@ -1,75 +1,49 @@
--- A command of a trace, run in the three ways.
-use Rattle.std.specs.Prelude.{ℕ, List, Option, Some, None, Bool, false, true, bytes_eq, is_none, length, nat_le, nat_lt, ◌&&◌, if◌then◌else◌}
-use Rattle.vc_model.specs.Best.{best_alloc, without_block_at}
-use Rattle.vc_model.specs.Layout.{Layout}
-use Rattle.vc_model.specs.Outcome.{Outcome, Done, Put, Refused}
-use Rattle.vc_model.specs.Pool.{Pool}
-use Rattle.vc_model.specs.Resize.{best_resize}
+-- A command of a trace.
+use Rattle.std.specs.Prelude.{ℕ, List, [], Option, Some, None, Bool, true, bytes_eq, is_none, length, nat_le, nat_lt, ◌&&◌, if◌then◌else◌}
+use Rattle.vc_model.specs.Outcome.{Fault}
 use Rattle.vc_script.specs.declared.command.Command.{Command}
 use Rattle.vc_script.specs.declared.command.Command.TheVariants.{Alloc, Free, Resize}
+use Rattle.vc_ways.specs.declared.tally.Tally.{Tally}
 use Rattle.vc_ways.specs.declared.way.Way.{Way}
-use Rattle.vc_ways.specs.declared.way.Way.TheVariants as way
-use Rattle.vc_ways.specs.Table.{Live, Table, find_live, put_live, without_live}
-use Rattle.vc_ways.specs.LastWay.{LastWay, drop_dead, last_dead, last_put, last_sized}
-use Rattle.vc_ways.specs.PoolWay.{cell_free, cell_put, cell_sized}
-use Rattle.vc_ways.specs.Ways.{Ways, WayTerms, new_ways}
-use Rattle.vc_ways.specs.Tally.{Tally, new_tally, tallied}
+use Rattle.vc_ways.specs.Live.{Live}
+use Rattle.vc_ways.specs.Regions.{Regions, Stopped, Took, Tried, WayTerms, extents, free_block, new_regions, put_block, size_block}
+use Rattle.vc_ways.specs.Table.{Table, find_live, live_bytes, put_live, without_live}
+use Rattle.vc_ways.specs.Tally.{new_tally, tallied}
 
--- the name of the region in the first command, once there was one; the three ways; what is reported of the commands so far
+-- the name of the region in the first command, once there was one; the live blocks; what each way has; what is reported of the commands so far
 pub record State : Type 0 where
   pub region : Option (List ℕ)
-  pub ways : Ways
+  pub table : Table
+  pub regions : Regions
   pub tally : Tally
 
 -- before the first command
 abbrev pub start : State
-start = record { region = None; ways = new_ways; tally = new_tally }
+start = record { region = None; table = []; regions = new_regions; tally = new_tally }
 
--- how a command ends: the trace goes on from a state; the command is outside of the trace; or a way would need too many segments
+-- how a command ends: the trace goes on from a state; the command is outside of the trace; or a way refuses it
 pub data End : Type 0 where
   Goes : (after : State) → End
   Outside : End
-  TooMany : (way : Way) → End
+  Stops : (way : Way) (why : Fault) → End
 
--- the ways run one after another, and the first that refuses ends the trace. None asks in vain for a segment that it may have, so it refuses where it has as many as it may
-abbrev pub in_way : {A : Type 0} → Way → Outcome A → (A → End) → End
-in_way way (Done answer) rest = rest answer
-in_way way (Refused why) rest = TooMany way
+-- with these live blocks and ways
+abbrev pub goes : State → List ℕ → Table → Regions → End
+goes s r table regions =
+    Goes (record { region = Some r; table = table; regions = regions; tally = tallied s.tally (live_bytes table) (extents regions) })
 
--- with these ways, in which dead blocks are freed
-abbrev pub goes : State → List ℕ → Table → Layout ℕ → LastWay → List (Pool ℕ) → End
-goes s r table best last pools =
-    let after : Ways = record { table = table; best = best; last = drop_dead last; pools = pools } in
-    Goes (record { region = Some r; ways = after; tally = tallied s.tally after })
+-- a block of a name is where each way has it
+abbrev pub goes_with : State → List ℕ → List ℕ → Tried (Live × Regions) → End
+goes_with s r x (Took p) = goes s r (put_live x p.0 s.table) p.1
+goes_with s r x (Stopped way why) = Stops way why
 
--- a block of a name has a size and these places
-abbrev pub goes_with : State → List ℕ → List ℕ → ℕ → Put (Layout ℕ) → ℕ × LastWay → (ℕ × ℕ) × List (Pool ℕ) → End
-goes_with s r x size best last pool =
-    goes s r (put_live x (record { size = size; best = best.at; last = last.0; cell = pool.0 }) s.ways.table) best.region last.1 pool.1
+abbrev pub size_found : WayTerms → State → List ℕ → List ℕ → ℕ → Option Way → Option Live → End
+size_found terms s r x size refused None = Outside
+size_found terms s r x size refused (Some live) = goes_with s r x (size_block terms s.regions live size refused)
 
--- a block is put
-abbrev pub put_all : WayTerms → State → List ℕ → List ℕ → ℕ → End
-put_all terms s r x size =
-    in_way way.Best (best_alloc terms.best s.ways.best 0 size 32 false) (λ best.
-    in_way way.Last (last_put terms.last s.ways.last size) (λ last.
-    in_way way.Pool (cell_put terms.pools s.ways.pools size) (λ pool.
-    goes_with s r x size best last pool)))
-
--- a block gets another size, and may move
-abbrev pub size_all : WayTerms → State → List ℕ → List ℕ → ℕ → Option Live → End
-size_all terms s r x size None = Outside
-size_all terms s r x size (Some live) =
-    in_way way.Best (best_resize terms.best s.ways.best live.best size true false) (λ best.
-    in_way way.Last (last_sized terms.last s.ways.last live.last size) (λ last.
-    in_way way.Pool (cell_sized terms.pools s.ways.pools live.size live.cell size) (λ pool.
-    goes_with s r x size best last pool)))
-
--- a block is freed
-abbrev pub free_all : State → List ℕ → List ℕ → Option Live → End
-free_all s r x None = Outside
-free_all s r x (Some live) =
-    goes s r (without_live x s.ways.table) (without_block_at s.ways.best live.best) (last_dead s.ways.last live.last)
-    (cell_free s.ways.pools live.size live.cell)
+abbrev pub free_found : State → List ℕ → List ℕ → Option Live → End
+free_found s r x None = Outside
+free_found s r x (Some live) = goes s r (without_live x s.table) (free_block s.regions live)
 
 -- a trace names one region, that of its first command
 abbrev pub is_region : Option (List ℕ) → List ℕ → Bool
@@ -89,10 +63,10 @@ abbrev pub is_new : Table → List ℕ → Bool
 is_new table x = is_none (find_live x table) && nat_lt (length table) live_limit
 
 -- a command is alloc, resize with moving, or free; every other one is outside of a trace
-abbrev pub step : WayTerms → State → Command → End
-step terms s (Alloc r x size site) =
-    if is_region s.region r && (is_size size && is_new s.ways.table x) then put_all terms s r x size else Outside
-step terms s (Resize r x size may_move) =
-    if is_region s.region r && (is_size size && may_move) then size_all terms s r x size (find_live x s.ways.table) else Outside
-step terms s (Free r x) = if is_region s.region r then free_all s r x (find_live x s.ways.table) else Outside
-step terms s command = Outside
+abbrev pub step : WayTerms → State → Command → Option Way → End
+step terms s (Alloc r x size site) refused =
+    if is_region s.region r && (is_size size && is_new s.table x) then goes_with s r x (put_block terms s.regions size refused) else Outside
+step terms s (Resize r x size may_move) refused =
+    if is_region s.region r && (is_size size && may_move) then size_found terms s r x size refused (find_live x s.table) else Outside
+step terms s (Free r x) refused = if is_region s.region r then free_found s r x (find_live x s.table) else Outside
+step terms s command refused = Outside

@@ -4,13 +4,7 @@ use Rattle.std.specs.declared.cmp.Ordering.{Ordering}
 use Rattle.std.specs.Ordering.{eq_by_cmp, nat_cmp}
 use Rattle.std.specs.Cmp.Lexicographic.{slice_cmp}
 use Rattle.std.specs.FinMap.Entries.{find, put, where_key}
-
--- a live block: its size in bytes, its place in the best region, how many blocks of the last region were allocated before it, and the place of its cell in the pool of its class
-pub record Live : Type 0 where
-  pub size : ℕ
-  pub best : ℕ × ℕ
-  pub last : ℕ
-  pub cell : ℕ × ℕ
+use Rattle.vc_ways.specs.Live.{Live}
 
 -- in the order of names
 abbrev pub Table : Type 0

@@ -1,13 +1,7 @@
 -- What is reported of a trace, so far.
 use Rattle.std.specs.Prelude.{ℕ, ◌-◌, List, ◌∷◌, ◌++◌, [], codes, decimal, max, nat_lt, if◌then◌else◌}
-use Rattle.vc_ways.specs.Table.{live_bytes}
-use Rattle.vc_ways.specs.Ways.{Each, Ways, extents}
-
--- the greatest sum of live sizes after a command; of each way the greatest extent after a command, and its extent less the live bytes after the first command at which these were the greatest
-pub record Tally : Type 0 where
-  pub most : ℕ
-  pub peak : Each
-  pub waste : Each
+use Rattle.vc_ways.specs.declared.each.Each.{Each}
+use Rattle.vc_ways.specs.declared.tally.Tally.{Tally}
 
 abbrev pub none : Each
 none = record { best = 0; last = 0; pool = 0 }
@@ -24,14 +18,13 @@ greater a b = record { best = max a.best b.best; last = max a.last b.last; pool 
 abbrev pub beyond : Each → ℕ → Each
 beyond a live = record { best = a.best - live; last = a.last - live; pool = a.pool - live }
 
--- after one more command, which left these ways
-abbrev pub tallied : Tally → Ways → Tally
-tallied t w =
-    let live : ℕ = live_bytes w.table in
+-- after one more command, which left so many live bytes and these extents
+abbrev pub tallied : Tally → ℕ → Each → Tally
+tallied t live extents =
     record {
       most = max t.most live;
-      peak = greater t.peak (extents w);
-      waste = if nat_lt t.most live then beyond (extents w) live else t.waste;
+      peak = greater t.peak extents;
+      waste = if nat_lt t.most live then beyond extents live else t.waste;
     }
 
 -- the line of a way: its word, its peak and its waste

@@ -1,8 +1,12 @@
 //! One trace of allocations run three ways: in a best region, in a last region, and in pools by size class.
 #![tactic(auto)]
 
+mod each;
 mod rows;
+mod tally;
 mod way;
 
+pub use each::Each;
 pub use rows::{classes_of_sizes, dead_blocks, outside, reports, resizing};
+pub use tally::Tally;
 pub use way::Way;

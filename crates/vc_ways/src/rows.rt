@@ -49,15 +49,15 @@ pub fn classes_of_sizes()
 /// both go.
 pub fn dead_blocks()
     ensures middle { (after (alloc (codes "a") 10 ∷ alloc (codes "b") 20 ∷ alloc (codes "c") 30
-        ∷ free (codes "b") ∷ [])).ways.last.dead ≡ false ∷ true ∷ false ∷ [] }
+        ∷ free (codes "b") ∷ [])).regions.last.dead ≡ false ∷ true ∷ false ∷ [] }
     ensures middle_places { last_places (after (alloc (codes "a") 10 ∷ alloc (codes "b") 20
         ∷ alloc (codes "c") 30 ∷ free (codes "b") ∷ [])) ≡ (1, 32) ∷ (1, 64) ∷ (1, 128) ∷ [] }
     ensures end { (after (alloc (codes "a") 10 ∷ alloc (codes "b") 20 ∷ alloc (codes "c") 30
-        ∷ free (codes "b") ∷ free (codes "c") ∷ [])).ways.last.dead ≡ false ∷ [] }
+        ∷ free (codes "b") ∷ free (codes "c") ∷ [])).regions.last.dead ≡ false ∷ [] }
     ensures end_places { last_places (after (alloc (codes "a") 10 ∷ alloc (codes "b") 20
         ∷ alloc (codes "c") 30 ∷ free (codes "b") ∷ free (codes "c") ∷ [])) ≡ (1, 32) ∷ [] }
     ensures all { (after (alloc (codes "a") 10 ∷ alloc (codes "b") 20 ∷ free (codes "a")
-        ∷ free (codes "b") ∷ [])).ways.last.dead ≡ [] }
+        ∷ free (codes "b") ∷ [])).regions.last.dead ≡ [] }
 {}
 
 /// A block of 10 bytes and one of 20 that get other sizes.
@@ -74,7 +74,7 @@ pub fn resizing()
         (codes "a")
         ≡ Some (record { size = 5; best = (1, 32); last = 2; cell = (1, 32) }) }
     ensures other_dead { (after
-        (alloc (codes "a") 10 ∷ alloc (codes "b") 20 ∷ resize (codes "a") 5 ∷ [])).ways.last.dead
+        (alloc (codes "a") 10 ∷ alloc (codes "b") 20 ∷ resize (codes "a") 5 ∷ [])).regions.last.dead
         ≡ true ∷ false ∷ false ∷ [] }
     // A block that gets another class has the first cell there, and its old cell is the next one that is taken.
     ensures class { live_after (alloc (codes "a") 10 ∷ alloc (codes "b") 20 ∷ resize (codes "a") 33
