@@ -3,3 +3,4 @@ pub mod TakeLemmas
 pub mod MadeLemmas
 pub mod SumLemmas
 pub mod RunLemmas
+pub mod ManyLemmas

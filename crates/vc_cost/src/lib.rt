@@ -9,6 +9,8 @@ mod ord_calls;
 mod rows;
 mod running;
 mod tally;
+#[cfg(test)]
+mod tests;
 
 pub use bounds::bound;
 pub use key::Key;
