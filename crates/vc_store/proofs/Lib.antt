@@ -3,3 +3,4 @@ pub mod Places
 pub mod Putting
 pub mod Removing
 pub mod Shown
+pub mod Staying

@@ -1,5 +1,5 @@
 -- What a collection shows, and what holds of it from its opening to its close.
-use Rattle.std.specs.Prelude.{ℕ, List}
+use Rattle.std.specs.Prelude.{◌≡◌, ℕ, List}
 use Rattle.vc_model.specs.Discipline.{Discipline, HasOut}
 use Rattle.vc_dtdisc.specs.Rules.{Rules}
 use Rattle.vc_dict.specs.declared.dict.Dict.{Dict}
@@ -8,6 +8,7 @@ use Rattle.std.specs.declared.dyn_box.DynBox.{DynBox}
 use Rattle.vc_best.specs.Cells.{cells_in}
 use Rattle.vc_best.specs.Parts.{disc_in, segments_in}
 use Rattle.vc_best.specs.declared.best.Best.{Best}
+use Rattle.vc_objects.specs.Leaves.{KeepsDisc}
 use Rattle.vc_objects.specs.Parts.{IsWhole}
 use Rattle.vc_store.specs.declared.collection.Collection.{Collection}
 use Rattle.vc_store.specs.Contents.{contents_in}
@@ -42,3 +43,10 @@ module _ {D : Type 0} {I : Type 0} {V : I → Type 0} where
   pub record IsOpen (rules : Rules) (c : Collection D I V) (disc : Discipline) : Type 0 where
     pub whole : IsWhole rules c.dict (cells_in c.best)
     pub lent : HasOut disc (segments_in c.best)
+
+  -- a call, or several, leave it open, by the same rules and the same method; and all that its discipline had out besides its segments is out, by the same terms
+  pub record StaysOpen (meaning : (x : I) × V x → Discipline) (rules_by : D → Rules) (old new : Collection D I V) : Type 0 where
+    pub is_open : IsOpen (rules_by (kind_of new)) new (disc_of new meaning)
+    pub rules : rules_by (kind_of new) ≡ rules_by (kind_of old)
+    pub method : (contents new).method ≡ (contents old).method
+    pub lends : KeepsDisc (disc_of old meaning) (disc_of new meaning) (lent_to old) (lent_to new)

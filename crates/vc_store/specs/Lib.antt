@@ -1,4 +1,5 @@
 pub mod Reading
 pub mod Contents
+pub mod Answers
 pub mod Tries
 pub mod Collections

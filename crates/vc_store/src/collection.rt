@@ -23,11 +23,11 @@ impl<D: DictDisc + Drop> Collection<D> {
     ghost use Rattle.vc_seg.specs.Answer.{IsRefusal};
     ghost use Rattle.vc_base.specs.Prelude.{HasOut};
     ghost use Rattle.vc_best.specs.Parts.{disc_in, segments_in};
-    ghost use Rattle.vc_objects.specs.Leaves.{told_each, told_if};
+    ghost use Rattle.vc_objects.specs.Leaves.{KeepsDisc, told_each, told_if};
     ghost use Rattle.vc_objects.specs.Promises.{StaysAll, opening_in};
     ghost use Rattle.vc_store.specs.Reading.{AfterPut, LacksKey, current, first_place, found, last_place, next_place, place_after, previous_place, with_place};
     ghost use Rattle.vc_store.specs.Tries.{IsTried, Tries};
-    ghost use Rattle.vc_store.specs.Collections.{IsOpen, best_of, contents, dict_of, disc_of, kind_of, lender, lent_to};
+    ghost use Rattle.vc_store.specs.Collections.{IsOpen, StaysOpen, best_of, contents, dict_of, disc_of, kind_of, lender, lent_to};
 
     /// A collection of no objects by a method, of a kind, in a best region, which is the collection's from then on. The
     /// region's segments are the last that its discipline lent, as they are where it has none yet. A set or bag takes a
@@ -42,6 +42,8 @@ impl<D: DictDisc + Drop> Collection<D> {
             ≡ record { method = method; objects = []; place = None }) }
         ensures kind { IfOk result (λ c. kind_of c ≡ kind) }
         ensures open { IfOk result (λ c. IsOpen (D.rules (kind_of c)) c (disc_of c state)) }
+        ensures lends { IfOk result (λ c. KeepsDisc (disc_in state best) (disc_of c state)
+            (segments_in best) (lent_to c)) }
         ensures refused { IfErr result (λ e. IsRefusal (opening_in state best method) e.0) }
         ensures back { IfErr result (λ e. StaysAll state best e.1) }
     {
@@ -60,9 +62,8 @@ impl<D: DictDisc + Drop> Collection<D> {
             (contents self.old) (contents self.new).objects }
         ensures place { (contents self.new).place ≡ place_after result
             (D.rules (kind_of self.old)) object.now (contents self.old) }
-        ensures method { (contents self.new).method ≡ (contents self.old).method }
         ensures kind { kind_of self.new ≡ kind_of self.old }
-        ensures open { IsOpen (D.rules (kind_of self.new)) self.new (disc_of self.new state) }
+        ensures stays { StaysOpen state D.rules self.old self.new }
 
         // The region's rules say when an object is refused for want of room.
         ensures tried { IsTried result (Tries state result (D.rules (kind_of self.old)) object.now
@@ -82,7 +83,7 @@ impl<D: DictDisc + Drop> Collection<D> {
             ≡ with_place (contents self.new).place (contents self.old) }
         ensures missed { result ≡ false → contents self.new ≡ contents self.old }
         ensures kind { kind_of self.new ≡ kind_of self.old }
-        ensures open { IsOpen (D.rules (kind_of self.new)) self.new (disc_of self.new state) }
+        ensures stays { StaysOpen state D.rules self.old self.new }
     {
         seek(&mut self.best, &mut self.dict, &self.kind, key)
     }
@@ -94,7 +95,7 @@ impl<D: DictDisc + Drop> Collection<D> {
             (first_place (length (contents self.old).objects)) (contents self.old) }
         ensures there { result ≡ is_some (contents self.new).place }
         ensures kind { kind_of self.new ≡ kind_of self.old }
-        ensures open { IsOpen (D.rules (kind_of self.new)) self.new (disc_of self.new state) }
+        ensures stays { StaysOpen state D.rules self.old self.new }
     {
         match self.dict.first(&self.best) {
             Some(at) => {
@@ -115,7 +116,7 @@ impl<D: DictDisc + Drop> Collection<D> {
             (last_place (length (contents self.old).objects)) (contents self.old) }
         ensures there { result ≡ is_some (contents self.new).place }
         ensures kind { kind_of self.new ≡ kind_of self.old }
-        ensures open { IsOpen (D.rules (kind_of self.new)) self.new (disc_of self.new state) }
+        ensures stays { StaysOpen state D.rules self.old self.new }
     {
         match self.dict.last(&self.best) {
             Some(at) => {
@@ -138,7 +139,7 @@ impl<D: DictDisc + Drop> Collection<D> {
             (contents self.old) }
         ensures there { result ≡ is_some (contents self.new).place }
         ensures kind { kind_of self.new ≡ kind_of self.old }
-        ensures open { IsOpen (D.rules (kind_of self.new)) self.new (disc_of self.new state) }
+        ensures stays { StaysOpen state D.rules self.old self.new }
     {
         if self.dict.current == Addr::NONE {
             return false;
@@ -163,7 +164,7 @@ impl<D: DictDisc + Drop> Collection<D> {
             ≡ with_place (previous_place (contents self.old).place) (contents self.old) }
         ensures there { result ≡ is_some (contents self.new).place }
         ensures kind { kind_of self.new ≡ kind_of self.old }
-        ensures open { IsOpen (D.rules (kind_of self.new)) self.new (disc_of self.new state) }
+        ensures stays { StaysOpen state D.rules self.old self.new }
     {
         let here = self.dict.current;
         if here == Addr::NONE {
@@ -207,9 +208,7 @@ impl<D: DictDisc + Drop> Collection<D> {
             ≡ told_if gone (Some out.new.items) (D.gone (kind_of self.old))) }
         ensures err { OnErr result ((contents self.new ≡ contents self.old)
             × (D.gone (kind_of self.new) ≡ D.gone (kind_of self.old))) }
-        ensures method { (contents self.new).method ≡ (contents self.old).method }
-        ensures rules { D.rules (kind_of self.new) ≡ D.rules (kind_of self.old) }
-        ensures open { IsOpen (D.rules (kind_of self.new)) self.new (disc_of self.new state) }
+        ensures stays { StaysOpen state D.rules self.old self.new }
     {
         take(&mut self.best, &mut self.dict, &mut self.kind, key, out)
     }
@@ -222,8 +221,7 @@ impl<D: DictDisc + Drop> Collection<D> {
             ≡ record { method = (contents self.old).method; objects = []; place = None } }
         ensures told { D.gone (kind_of self.new)
             ≡ told_each (contents self.old).objects (D.gone (kind_of self.old)) }
-        ensures rules { D.rules (kind_of self.new) ≡ D.rules (kind_of self.old) }
-        ensures open { IsOpen (D.rules (kind_of self.new)) self.new (disc_of self.new state) }
+        ensures stays { StaysOpen state D.rules self.old self.new }
     {
         empty(&mut self.best, &mut self.dict, &mut self.kind)
     }

@@ -13,3 +13,18 @@ pub enum Put {
     /// It has no byte, or more than 1,024. Nothing changed.
     WrongSize,
 }
+
+impl Put {
+    ghost use Rattle.std.specs.Prelude.{◌≡◌};
+    ghost use Rattle.vc_store.specs.Answers.{is_there};
+
+    /// Whether an object of its key is there now: it, or the one that a set had.
+    pub fn is_there(self) -> bool
+        ensures { result ≡ is_there self }
+    {
+        match self {
+            Put::New | Put::Old => true,
+            Put::NoSegment | Put::OutOfMemory | Put::WrongSize => false,
+        }
+    }
+}

@@ -1,11 +1,18 @@
+use Rattle.vc_base.proofs.Common.{refl, ap}
 use Rattle.vc_objects.proofs.Leaving.{keeps-out}
+use Rattle.vc_store.specs.Reading.{Contents}
 use Rattle.vc_store.proofs.collection.Collection.find.Goals as goal
 
 pub seek-requires : goal.seek-requires
 seek-requires g c = record { whole = c.requires.open.whole }
 
-pub returns-clause-open : goal.returns-clause-open
-returns-clause-open g c = record {
-  whole = c.seek.ensures.leaves.whole;
-  lent = keeps-out _ _ _ _ c.seek.ensures.leaves.rest.disc c.requires.open.lent;
+pub returns-clause-stays : goal.returns-clause-stays
+returns-clause-stays g c = record {
+  is_open = record {
+    whole = c.seek.ensures.leaves.whole;
+    lent = keeps-out _ _ _ _ c.seek.ensures.leaves.rest.disc c.requires.open.lent;
+  };
+  rules = refl;
+  method = ap (λ (d : Contents). d.method) c.seek.ensures.same;
+  lends = c.seek.ensures.leaves.rest.disc;
 }

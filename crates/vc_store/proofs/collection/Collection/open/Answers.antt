@@ -25,3 +25,6 @@ returns-in-Ok-clause-open g c = record {
   lent =
       keeps-out (disc_in (meaning g) c.args.best) (disc_in (meaning g) c.open.new.best) (segments_in c.args.best) (segments_in c.open.new.best) c.in-Ok.ensures.ok.leaves.disc c.requires.lent;
 }
+
+pub returns-in-Ok-clause-lends : goal.returns-in-Ok-clause-lends
+returns-in-Ok-clause-lends g c = c.in-Ok.ensures.ok.leaves.disc
