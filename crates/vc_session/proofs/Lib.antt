@@ -17,3 +17,8 @@ pub mod Rest
 pub mod Runs
 pub mod SoFar
 pub mod Written
+pub mod Fronts
+pub mod FrontNeeds
+pub mod FirstRuns
+pub mod Cuts
+pub mod ScriptLines

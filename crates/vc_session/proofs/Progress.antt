@@ -226,7 +226,7 @@ module _ {quiet : Bool} {start now : Moment} {counts : Counts} {text : List ℕ}
       (all-weaken (λ n. n ≤ count) (λ n. n < 2 ^ 64) (lines_of done) (λ n le. omega (arith, le, few)) p.within)
 
   -- the text shows the needs of its replies
-  shows : (tail : List ℕ) → count < 2 ^ 64 → (quiet ≡ true → (n : ℕ) → n < 2 ^ 64 → NoLine n (ended_lines tail)) → ShowsNeeds (needs_by_text quiet (lines_of done) (text ++ tail)) p.ran.replies
+  pub shows : (tail : List ℕ) → count < 2 ^ 64 → (quiet ≡ true → (n : ℕ) → n < 2 ^ 64 → NoLine n (ended_lines tail)) → ShowsNeeds (needs_by_text quiet (lines_of done) (text ++ tail)) p.ran.replies
   shows tail few none =
       subst (λ t. ShowsNeeds (needs_by_text quiet (lines_of done) (t ++ tail)) p.ran.replies) (sym p.told)
       (subst (λ ns. ShowsNeeds (needs_by_text quiet ns (replies_text quiet p.ran ++ tail)) p.ran.replies) (sym p.lines)

@@ -16,7 +16,7 @@ use Rattle.vc_script.proofs.Texts.{needs_shown, shows-needs_shown, ended_after-w
 use Rattle.vc_session.specs.QuietText.{body_by, has_line, line_by, needs_by_text, numbered_line, quiet_need}
 
 -- a line is cut where the newline behind it stands
-ended-line : (xs rest : List ℕ) → OneLine xs → ended_lines ((xs ++ 10 ∷ []) ++ rest) ≡ xs ∷ ended_lines rest
+pub ended-line : (xs rest : List ℕ) → OneLine xs → ended_lines ((xs ++ 10 ∷ []) ++ rest) ≡ xs ∷ ended_lines rest
 ended-line xs rest each = ap ended_lines (append_assoc xs (10 ∷ []) rest) ∙ ended_after-whole [] xs rest each
 
 -- what stands before a space, where no space is in it
@@ -75,7 +75,7 @@ told-by n lines block table object e0 e1 e2 =
     ∙ (ap (λ t. need_told block t (has_line n (codes " refused: no segment for object") lines)) e1
     ∙ ap (λ t. need_told block table t) e2)
 
-quiet-behind : (n : ℕ) (front lines : List (List ℕ)) → NoLine n front → quiet_need (front ++ lines) n ≡ quiet_need lines n
+pub quiet-behind : (n : ℕ) (front lines : List (List ℕ)) → NoLine n front → quiet_need (front ++ lines) n ≡ quiet_need lines n
 quiet-behind n front lines none =
     told-by n (front ++ lines) (has_line n (codes " refused: no segment") lines) (has_line n (codes " refused: no segment for table") lines) (has_line n (codes " refused: no segment for object") lines)
     (behind-none n front none (codes "refused: no segment") lines)
@@ -103,17 +103,17 @@ has-one n xs ys rest none =
     ∙ eq-front (decimal n) (32 ∷ ys) (32 ∷ xs)
 
 -- the line that a reply shows, without its newline, where it shows one
-abbrev shown_by : ℕ → Reply → Need → List (List ℕ)
+abbrev pub shown_by : ℕ → Reply → Need → List (List ℕ)
 shown_by n reply NoNeed = []
 shown_by n reply need = (decimal n ++ 32 ∷ printed reply) ∷ []
 
-abbrev shown : ℕ × Reply → List (List ℕ)
+abbrev pub shown : ℕ × Reply → List (List ℕ)
 shown r = shown_by r.0 r.1 (need_shown r.1)
 
-line-numbered : (n : ℕ) (r : Reply) → IsProperReply r → OneLine (decimal n ++ 32 ∷ printed r)
+pub line-numbered : (n : ℕ) (r : Reply) → IsProperReply r → OneLine (decimal n ++ 32 ∷ printed r)
 line-numbered n r proper = line-both (decimal n) (32 ∷ printed r) (line-printed (Number n) tt) (line-printed r proper)
 
-regroup : (ds ps : List ℕ) → (ds ++ 32 ∷ []) ++ (ps ++ 10 ∷ []) ≡ (ds ++ 32 ∷ ps) ++ 10 ∷ []
+pub regroup : (ds ps : List ℕ) → (ds ++ 32 ∷ []) ++ (ps ++ 10 ∷ []) ≡ (ds ++ 32 ∷ ps) ++ 10 ∷ []
 regroup ds ps = simp append_assoc
 
 ended-numbered : (n : ℕ) (r : Reply) (need : Need) (rest : List ℕ) → IsProperReply r → ended_lines (numbered_line n r need ++ rest) ≡ shown_by n r need ++ ended_lines rest
@@ -122,7 +122,7 @@ ended-numbered n r need rest proper =
     ap (λ xs. ended_lines (xs ++ rest)) (regroup (decimal n) (printed r)) ∙ ended-line (decimal n ++ 32 ∷ printed r) rest (line-numbered n r proper)
 
 -- the lines of a quiet text, and those behind it
-ended-body : (rs : List (ℕ × Reply)) (tail : List ℕ) → AllByRecursion (λ r. IsProperReply r.1) rs → ended_lines (body_by true rs ++ tail) ≡ flat_map shown rs ++ ended_lines tail
+pub ended-body : (rs : List (ℕ × Reply)) (tail : List ℕ) → AllByRecursion (λ r. IsProperReply r.1) rs → ended_lines (body_by true rs ++ tail) ≡ flat_map shown rs ++ ended_lines tail
 ended-body [] tail proper = refl
 ended-body (r ∷ rs) tail proper =
     ap ended_lines (append_assoc (line_by true r) (body_by true rs) tail)
@@ -130,7 +130,7 @@ ended-body (r ∷ rs) tail proper =
     ∙ (ap (λ ls. shown r ++ ls) (ended-body rs tail proper.1)
     ∙ sym (append_assoc (shown r) (flat_map shown rs) (ended_lines tail))))
 
-quiet-one : (n : ℕ) (reply : Reply) (rest : List (List ℕ)) → NoLine n rest → quiet_need (shown (n, reply) ++ rest) n ≡ need_shown reply
+pub quiet-one : (n : ℕ) (reply : Reply) (rest : List (List ℕ)) → NoLine n rest → quiet_need (shown (n, reply) ++ rest) n ≡ need_shown reply
 quiet-one n (Refused NoSegment) rest none =
     let at = λ (xs : List ℕ). has-one n xs (codes "refused: no segment") rest none in
     told-by n (shown (n, Refused NoSegment) ++ rest) true false false (at (codes "refused: no segment")) (at (codes "refused: no segment for table")) (at (codes "refused: no segment for object"))
@@ -143,18 +143,18 @@ quiet-one n (Refused NoSegmentForObject) rest none =
 quiet-one n (Refused why) rest none = quiet-none n rest none
 quiet-one n reply rest none = quiet-none n rest none
 
-other-shown : (m n : ℕ) (r : Reply) (need : Need) → m < 2 ^ 64 → n < 2 ^ 64 → m ≢ n → NoLine n (shown_by m r need)
+pub other-shown : (m n : ℕ) (r : Reply) (need : Need) → m < 2 ^ 64 → n < 2 ^ 64 → m ≢ n → NoLine n (shown_by m r need)
 other-shown m n r NoNeed below_m below_n other xs = refl
 other-shown m n r need below_m below_n other xs = other-number m n (printed r) below_m below_n other xs
 
-abbrev numbers_of : List (ℕ × Reply) → List ℕ
+abbrev pub numbers_of : List (ℕ × Reply) → List ℕ
 numbers_of rs = map (λ r. r.0) rs
 
-abbrev Below : List (ℕ × Reply) → Type 0
+abbrev pub Below : List (ℕ × Reply) → Type 0
 Below rs = AllByRecursion (λ n. n < 2 ^ 64) (numbers_of rs)
 
 -- no line of later numbers has this one
-none-later : (n : ℕ) (rs : List (ℕ × Reply)) → n < 2 ^ 64 → Below rs → AllByRecursion (λ m. n < m) (numbers_of rs) → NoLine n (flat_map shown rs)
+pub none-later : (n : ℕ) (rs : List (ℕ × Reply)) → n < 2 ^ 64 → Below rs → AllByRecursion (λ m. n < m) (numbers_of rs) → NoLine n (flat_map shown rs)
 none-later n [] below_n below later = λ xs. refl
 none-later n (r ∷ rs) below_n below later =
     both-none n (shown r) (flat_map shown rs) (other-shown r.0 n r.1 (need_shown r.1) below.0 below_n (λ same. omega (arith, later.0, same))) (none-later n rs below_n below.1 later.1)

@@ -25,6 +25,8 @@ pub use Rattle.vc_script.specs.Judged
 pub use Rattle.vc_script.specs.Needs
 pub use Rattle.vc_script.specs.Print
 pub mod Replay
+pub mod Cut
+pub mod Far
 pub mod Streams
 pub mod Headline
 pub mod Completes

@@ -4,6 +4,7 @@
 mod asked;
 pub mod audit_rows;
 mod command;
+pub mod cut_rows;
 pub mod dict_rows;
 mod engine;
 mod gather;
