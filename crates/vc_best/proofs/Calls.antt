@@ -3,12 +3,12 @@ use Rattle.vc_base.proofs.Common.{◌≡◌, ℕ, zero, suc, ◌+◌, ◌*◌, �
 use Rattle.std.proofs.lemmas.Nat.{mul-le}
 use Rattle.vc_model.specs.Numbers.{gap_count}
 use Rattle.vc_splay.proofs.DigitLemmas.{digits-next, digits-rise}
-use Rattle.vc_splay.specs.Rank.{Costs, binary_digits, size}
+use Rattle.vc_splay.specs.Rank.{binary_digits, size}
 use Rattle.vc_gaps.specs.Cost.{GapsCost}
 use Rattle.vc_best.specs.Cost.{CallCosts}
 use Rattle.vc_best.specs.Made.{MadeCost}
 use Rattle.vc_best.specs.declared.best.Best.{Best}
-use Rattle.vc_best.proofs.Common.{AreExtents, IsMerged, layout_by, layout_of, tiling}
+use Rattle.vc_best.proofs.Common.{AreExtents, IsMerged, layout_of, tiling}
 use Rattle.vc_best.proofs.Held.{merged-of}
 use Rattle.vc_best.proofs.NodesFew.{nodes-few}
 

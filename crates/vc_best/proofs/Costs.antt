@@ -1,7 +1,7 @@
 -- What one call after another costs the tree of gaps.
-use Rattle.vc_base.proofs.Common.{◌≡◌, ℕ, ◌+◌, ◌*◌, ◌≤◌, List, [], ◌++◌, sym, ap, ◌∙◌, arith}
+use Rattle.vc_base.proofs.Common.{◌≡◌, ℕ, ◌+◌, ◌≤◌, List, [], ◌++◌, sym, ap, ◌∙◌, arith}
 use Rattle.std.proofs.lemmas.Nat.{mul-le}
-use Rattle.vc_splay.specs.Rank.{Costs, binary_digits, rank, size}
+use Rattle.vc_splay.specs.Rank.{binary_digits, rank, size}
 use Rattle.vc_splay.specs.Stands.{IsTree}
 use Rattle.vc_splay.specs.Tree.{Tree}
 use Rattle.vc_splay.specs.Unique.{IsTree-one}

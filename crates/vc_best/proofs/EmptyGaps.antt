@@ -13,7 +13,7 @@ use Rattle.vc_gaps.proofs.GapTrees.{free-bool}
 use Rattle.vc_gaps.proofs.Named.{extents_of-other}
 use Rattle.std.proofs.lemmas.Nat.{mul-le}
 use Rattle.vc_splay.proofs.DigitLemmas.{digits-rise}
-use Rattle.vc_splay.specs.Rank.{Costs, binary_digits, rank, size}
+use Rattle.vc_splay.specs.Rank.{binary_digits, rank, size}
 use Rattle.vc_splay.specs.Stands.{IsTree}
 use Rattle.vc_splay.specs.Tree.{Tree}
 use Rattle.vc_best.specs.Made.{MadeCost}

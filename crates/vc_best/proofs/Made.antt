@@ -1,10 +1,8 @@
 -- How many segments have lesser numbers, and what a tree of gaps costs that is made anew.
-use Rattle.vc_base.proofs.Common.{◌≡◌, ℕ, ◌+◌, ◌*◌, ◌≤◌, true, false, cond, eqb, ltb, List, [], ◌∷◌, length, IsSome, filter, refl, ap, ◌∙◌, ⊎_elim, arith, ltb-false, ltb-true, le-ltb, lt-ltb, eqb-true, eqb-false, cases_Bool, put_by}
+use Rattle.vc_base.proofs.Common.{◌≡◌, ℕ, ◌+◌, ◌≤◌, true, false, cond, eqb, ltb, List, [], ◌∷◌, length, IsSome, refl, ap, ⊎_elim, arith, ltb-false, ltb-true, le-ltb, lt-ltb, eqb-true, eqb-false, cases_Bool, put_by}
 use Rattle.vc_splay.proofs.RankLemmas.{size-leaf}
 use Rattle.vc_splay.proofs.SearchLemmas.{no_tree}
-use Rattle.vc_splay.specs.Rank.{Costs, binary_digits, rank, size}
-use Rattle.vc_splay.specs.Stands.{IsTree}
-use Rattle.vc_splay.specs.Tree.{Tree, Leaf}
+use Rattle.vc_splay.specs.Rank.{rank, size}
 use Rattle.vc_gaps.specs.GapStore.{gap_store, is_free}
 use Rattle.vc_best.specs.Made.{MadeCost, count_below}
 use Rattle.vc_best.proofs.Common.{Tiling, size_of}

@@ -1,5 +1,5 @@
 -- A tree has at most as many gaps as there are.
-use Rattle.vc_base.proofs.Common.{◌≡◌, ℕ, ◌+◌, ◌-◌, ◌≤◌, true, false, ◌||◌, eqb, List, [], ◌∷◌, map, length, sym, refl, ap, ◌∙◌, subst, ⊎_elim, arith, length-map, eq-eqb, ne_eqb, eqb-true, eqb-false, cases_Bool, AllByRecursion, IsDistinct, list_any, ∥∥₁_elim, AreDistinct, contains, address, place_of, Run, le_prop}
+use Rattle.vc_base.proofs.Common.{◌≡◌, ℕ, ◌+◌, ◌-◌, ◌≤◌, true, false, eqb, List, [], ◌∷◌, map, length, sym, refl, ap, ◌∙◌, subst, ⊎_elim, arith, length-map, eq-eqb, ne_eqb, eqb-true, eqb-false, cases_Bool, AllByRecursion, IsDistinct, list_any, AreDistinct, contains, address, place_of, Run}
 use Rattle.std.proofs.lemmas.Cmp.{nat_eq_equiv}
 use Rattle.std.proofs.lemmas.Map.Made.{length-le_from_is_member}
 use Rattle.vc_base.proofs.Members.{within-head, within-tail}

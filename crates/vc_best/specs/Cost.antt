@@ -1,11 +1,10 @@
 -- What a call on a best region costs.
-use Rattle.std.specs.Prelude.{ℕ, ◌+◌, ◌*◌, ◌≤◌, List, filter, length, max, nat_lt}
+use Rattle.std.specs.Prelude.{ℕ, ◌+◌, ◌*◌, max}
 use Rattle.vc_model.specs.Numbers.{gap_count}
-use Rattle.vc_splay.specs.Rank.{Costs, binary_digits, size}
+use Rattle.vc_splay.specs.Rank.{Costs, binary_digits}
 use Rattle.vc_splay.specs.Stands.{IsTree}
-use Rattle.vc_splay.specs.Tree.{Tree, Leaf}
+use Rattle.vc_splay.specs.Tree.{Tree}
 use Rattle.vc_extent.specs.Tiling.{tiling}
-use Rattle.vc_gaps.specs.ButLinks.{Tiling}
 use Rattle.vc_gaps.specs.GapStore.{gap_store}
 use Rattle.vc_best.specs.Parts.{layout_of}
 use Rattle.vc_best.specs.declared.best.Best.{Best}

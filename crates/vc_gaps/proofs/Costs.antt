@@ -1,9 +1,9 @@
 -- What calls on a tree of gaps cost.
-use Rattle.vc_base.proofs.Common.{◌≡◌, ℕ, suc, ◌+◌, ◌*◌, ◌≤◌, true, false, cond, eqb, List, [], ◌∷◌, length, refl, ap, ◌∙◌, arith, without}
+use Rattle.vc_base.proofs.Common.{◌≡◌, ℕ, ◌+◌, ◌*◌, ◌≤◌, true, false, cond, eqb, List, [], ◌∷◌, length, refl, ap, ◌∙◌, arith, without}
 use Rattle.std.specs.Ordering.{is_gt}
 use Rattle.std.specs.declared.cmp.Ordering.{Ordering}
 use Rattle.vc_splay.specs.Guide.{order_with_name}
-use Rattle.vc_splay.specs.Rank.{Costs, binary_digits, rank, size}
+use Rattle.vc_splay.specs.Rank.{Costs, binary_digits, size}
 use Rattle.vc_splay.specs.Stands.{IsTree, TreeAfter}
 use Rattle.vc_splay.specs.Store.{Store}
 use Rattle.vc_splay.specs.Tree.{Tree, names}

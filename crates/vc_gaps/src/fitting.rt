@@ -2,7 +2,7 @@ ghost use Rattle.std.specs.Prelude.{◌≡◌, ◌≢◌, ℕ, ◌+◌, ◌*◌,
 ghost use Rattle.vc_base.specs.Prelude.{contains, some_address};
 ghost use Rattle.vc_extent.specs.Tiling.{extent_of, tiling};
 ghost use Rattle.vc_gaps.specs.ButLinks.{StaysButLinks};
-ghost use Rattle.vc_gaps.specs.Cost.{GapsCost};
+ghost use Rattle.vc_gaps.specs.Cost.{FitSteps, GapsCost};
 ghost use Rattle.vc_gaps.specs.Fits.{from_on, holds_at};
 ghost use Rattle.vc_gaps.specs.GapStore.{is_free};
 ghost use Rattle.vc_gaps.specs.GapTree.{GapFitted, HasGapTree, IsAmongGaps, IsGapTree};
@@ -68,13 +68,7 @@ fn fit_in<'a, L>(
     ensures fitted { GapFitted (tiling gaps.old.extents.now.segs.items)
         (tiling gaps.new.extents.now.segs.items)
         root span align result.0 (some_address result.1) }
-    ensures least_steps { root ≢ 0 → steps.old + 1 ≤ steps.new }
-    ensures most_steps { (xs : List ℕ)
-        → HasGapTree (tiling gaps.old.extents.now.segs.items) root xs
-        → steps.new ≤ steps.old + 2 * length xs }
-    ensures most_steps_by_32 { (xs : List ℕ)
-        → HasGapTree (tiling gaps.old.extents.now.segs.items) root xs
-        → align ≡ 32 → steps.new ≤ steps.old + length xs }
+    ensures steps { FitSteps (tiling gaps.old.extents.now.segs.items) root align steps.old steps.new }
     ensures cost { align ≡ 32 → GapsCost (tiling gaps.old.extents.now.segs.items)
         (tiling gaps.new.extents.now.segs.items) root result.0 steps.old steps.new 12 0 0 }
     ensures same { gaps.new.extents.ghost_name ≡ gaps.old.extents.ghost_name }

@@ -1,4 +1,4 @@
-use Rattle.vc_base.proofs.Common.{ℕ, ◌+◌, map, not, ◌≢◌, List, IsSome, All, Option, sym, ap, ◌∙◌, subst}
+use Rattle.vc_base.proofs.Common.{ℕ, map, not, ◌≢◌, List, IsSome, All, Option, sym, ap, ◌∙◌, subst}
 use Rattle.vc_best.proofs.Common.{CanLinkGap, Extent, GapLinked, IsThere, one_free, pair_of, plain, tiling}
 use Rattle.std.proofs.Math.Bool.{not-not}
 use Rattle.vc_gaps.specs.GapLaws.{gap_none}

@@ -1,4 +1,4 @@
-use Rattle.vc_base.proofs.Common.{ℕ, map, IsSome, sym, refl, ◌∙◌, subst, arith}
+use Rattle.vc_base.proofs.Common.{map, IsSome, sym, refl, ◌∙◌, subst, arith}
 use Rattle.vc_best.proofs.Common.{pair_of}
 use Rattle.vc_best.proofs.Made.{count-more, count-one}
 use Rattle.vc_best.proofs.Segments.{occupied-by}

@@ -26,16 +26,31 @@ returns-clause-fitted g c =
     let f = c.find_least_at-top in
     fitted-on _ f.new.nodes.extents.now.segs.items _ c.args.gaps.now.extents.now.kept f.ensures.rest.1 c.args.root f.result.0 c.args.span c.args.align f.result.1 c.first_that_holds.result c.requires.least f.ensures.tree f.ensures.answer c.first_that_holds.ensures.found
 
-pub returns-clause-most_steps : goal.returns-clause-most_steps
-returns-clause-most_steps g c = λ xs h.
+pub returns-clause-steps : goal.returns-clause-steps
+returns-clause-steps g c =
     let f = c.find_least_at-top in
     let news = f.new.nodes.extents.now.segs.items in
-    let after = gap-found _ news _ c.args.gaps.now.extents.now.kept f.ensures.rest.1 c.args.root f.result.0 0 xs h (f.ensures.tree h.tree h.is_tree) in
-    let within = first-within _ news _ c.args.gaps.now.extents.now.kept f.ensures.rest.1 c.args.root f.result.0 c.args.span c.args.align f.result.1 xs h f.ensures.answer in
-    let down = f.ensures.most_steps h.tree h.is_tree in
-    let along = c.first_that_holds.ensures.most_steps f.result.0 xs after.tree within in
-    let len = ap length h.list in
-    omega arith
+    let on = c.first_that_holds.ensures.least_steps in
+    record {
+      least = λ some. let k = f.ensures.least_steps some in omega arith;
+      most = λ xs h.
+          let after = gap-found _ news _ c.args.gaps.now.extents.now.kept f.ensures.rest.1 c.args.root f.result.0 0 xs h (f.ensures.tree h.tree h.is_tree) in
+          let within = first-within _ news _ c.args.gaps.now.extents.now.kept f.ensures.rest.1 c.args.root f.result.0 c.args.span c.args.align f.result.1 xs h f.ensures.answer in
+          let down = f.ensures.most_steps h.tree h.is_tree in
+          let along = c.first_that_holds.ensures.most_steps f.result.0 xs after.tree within in
+          let len = ap length h.list in
+          omega arith;
+      most_by_32 = λ xs h unit. absurd (c.if-align-eq32.false unit);
+    }
+
+pub returns-then-align-eq32-clause-steps : goal.returns-then-align-eq32-clause-steps
+returns-then-align-eq32-clause-steps g c =
+    let f = c.find_least_at-top in
+    record {
+      least = f.ensures.least_steps;
+      most = λ xs h. let down = f.ensures.most_steps h.tree h.is_tree in let len = ap length h.list in omega arith;
+      most_by_32 = λ xs h unit. let down = f.ensures.most_steps h.tree h.is_tree in let len = ap length h.list in omega arith;
+    }
 
 pub returns-then-align-eq32-clause-cost : goal.returns-then-align-eq32-clause-cost
 returns-then-align-eq32-clause-cost g c = λ _.

@@ -1,4 +1,4 @@
-use Rattle.vc_base.proofs.Common.{ℕ, ◌≤◌, max, List, length, arith, sym, ap, subst, All-nil, Block, Layout}
+use Rattle.vc_base.proofs.Common.{ℕ, ◌≤◌, List, length, arith, sym, ap, subst, All-nil, Block, Layout}
 use Rattle.vc_best.proofs.Calls.{made_costs}
 use Rattle.vc_best.proofs.Held.{AreMost, held}
 use Rattle.vc_best.proofs.Lends.{segments-by}

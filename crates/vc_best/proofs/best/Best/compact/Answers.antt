@@ -1,4 +1,4 @@
-use Rattle.vc_base.proofs.Common.{ℕ, ◌*◌, max, List, map, length, arith, sym, ap, ◌∙◌, subst, Layout}
+use Rattle.vc_base.proofs.Common.{ℕ, ◌*◌, List, map, length, arith, sym, ap, ◌∙◌, subst, Layout}
 use Rattle.vc_best.proofs.Common.{layout_by, pair_of}
 use Rattle.vc_best.proofs.Calls.{call_costs}
 use Rattle.vc_best.proofs.Held.{AreMost, held, kept-of, most-of}
