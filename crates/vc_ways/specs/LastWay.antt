@@ -1,7 +1,7 @@
 -- The way of a last region, whose blocks are alive or dead.
-use Rattle.std.specs.Prelude.{ℕ, ◌+◌, ◌-◌, zero, suc, List, [], ◌∷◌, ◌++◌, Option, Some, None, Bool, true, false, length, option_map, slice_set, take, unwrap_or, ◌==◌, if◌then◌else◌}
+use Rattle.std.specs.Prelude.{ℕ, ◌+◌, ◌-◌, zero, suc, List, [], ◌∷◌, ◌++◌, Option, Some, None, Bool, true, false, length, option_map, slice_index_or, slice_set, take, unwrap_or, ◌==◌, if◌then◌else◌}
 use Rattle.vc_model.specs.Discipline.{Terms}
-use Rattle.vc_model.specs.Last.{last_alloc, last_free, last_of, last_resize, latest}
+use Rattle.vc_model.specs.Last.{last_alloc, last_free, last_resize, latest}
 use Rattle.vc_model.specs.Layout.{Block, Layout, empty_layout, place_of_block}
 use Rattle.vc_model.specs.Outcome.{Outcome, Done, Refused, done_as}
 
@@ -52,10 +52,14 @@ free_latest r = free_latest_of r (latest r)
 abbrev pub without_latest : LastWay → LastWay
 without_latest w = record { region = free_latest w.region; dead = take (length w.dead - 1) w.dead }
 
+-- whether the latest block is dead
+abbrev pub ends_dead : List Bool → Bool
+ends_dead dead = slice_index_or dead (length dead - 1) false
+
 -- while the latest block is dead, it is freed; so many times at most
 abbrev pub drop_dead_in : ℕ → LastWay → LastWay
 drop_dead_in zero w = w
-drop_dead_in (suc more) w = if unwrap_or (last_of w.dead) false then drop_dead_in more (without_latest w) else w
+drop_dead_in (suc more) w = if ends_dead w.dead then drop_dead_in more (without_latest w) else w
 
 abbrev pub drop_dead : LastWay → LastWay
 drop_dead w = drop_dead_in (length w.dead) w

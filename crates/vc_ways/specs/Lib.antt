@@ -1,6 +1,8 @@
+pub mod Answer
 pub mod Live
 pub mod Table
 pub mod LastWay
+pub mod LastParts
 pub mod PoolWay
 pub mod Regions
 pub mod Tally

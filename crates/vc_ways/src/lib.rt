@@ -2,11 +2,13 @@
 #![tactic(auto)]
 
 mod each;
+mod last_way;
 mod rows;
 mod tally;
 mod way;
 
 pub use each::Each;
+pub use last_way::LastWay;
 pub use rows::{classes_of_sizes, dead_blocks, outside, reports, resizing};
 pub use tally::Tally;
 pub use way::Way;

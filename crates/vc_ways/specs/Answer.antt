@@ -1,0 +1,35 @@
+-- What a call of a way answers, and what it leaves of the disciplines.
+use Rattle.std.specs.Prelude.{◌≡◌, ℕ, List, [], ◌∷◌, ◌++◌, ◌⊎◌, Bool, false, Result, Ok, Err}
+use Rattle.vc_model.specs.Discipline.{Discipline, HasOut, Kept}
+use Rattle.vc_model.specs.Outcome.{Outcome, Done}
+use Rattle.vc_seg.specs.Answer.{IsRefusal}
+use Rattle.vc_seg.specs.declared.fault.RegionFault.{RegionFault}
+
+-- the answer, seen in the words of the definitions, and the way after the call. Whether a segment is refused is the one free choice
+abbrev pub Gives : {A B W : Type 0} → (Bool → Outcome (A × W)) → (B → A) → Result B RegionFault → W → Type 0
+Gives call view (Ok a) new = call false ≡ Done (view a, new)
+Gives call view (Err why) new = IsRefusal call why
+
+-- a discipline, and the segments that a region has of it
+pub record Holding : Type 0 where
+  pub disc : Discipline
+  pub segments : List (ℕ × ℕ)
+
+-- the segments are the last that it lent
+abbrev pub IsLent : Holding → Type 0
+IsLent h = HasOut h.disc h.segments
+
+-- its terms are the same, its faults have not fallen, and what is out besides the region's segments is out
+pub record Keeps (old new : Holding) : Type 0 where
+  pub kept : Kept old.disc new.disc
+  pub out : (rest : List (ℕ × ℕ)) → old.disc.out ≡ rest ++ old.segments → new.disc.out ≡ rest ++ new.segments
+
+-- of each of these
+abbrev pub AreKept : List Holding → List Holding → Type 0
+AreKept [] [] = Unit {0}
+AreKept (a ∷ rest) (b ∷ others) = Keeps a b × AreKept rest others
+AreKept olds news = ⊥
+
+-- there is at most one segment more, behind the others
+abbrev pub IsGrown : List (ℕ × ℕ) → List (ℕ × ℕ) → Type 0
+IsGrown old new = (new ≡ old) ⊎ ((s : ℕ × ℕ) × (new ≡ old ++ s ∷ []))
