@@ -1,0 +1,4 @@
+pub mod Text
+pub mod Counting
+pub mod Report
+pub mod Sets
