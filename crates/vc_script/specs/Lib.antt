@@ -19,3 +19,4 @@ pub mod ProperReply
 pub mod Shown
 pub mod Target
 pub mod Print
+pub mod Puts

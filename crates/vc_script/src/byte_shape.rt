@@ -4,15 +4,16 @@ ghost use Rattle.vc_script.specs.Forms as form;
 ghost use Rattle.vc_script.specs.Spelled.{spelled_bytes};
 ghost use Rattle.vc_script.specs.Table.{read_words};
 
-use crate::form::{decoded, name_of, number_of, spelled_of};
+use crate::form::{decoded, number_of, spelled_of};
 use crate::in_turn::two;
+use crate::name_word::{NameWord, name_of};
 use crate::spelled::Spelled;
 use crate::{Bytes, LineFault};
 use std::alloc::Global;
-use vc_base::{Name, OutOfMemory};
+use vc_base::OutOfMemory;
 
 // `D OBJ`, with the word that spells the object.
-fn object_word_in<'a>(others: &[&'a [u8]]) -> Result<(Name, Spelled<'a>), LineFault>
+fn object_word_in<'a>(others: &[&'a [u8]]) -> Result<(NameWord<'a>, Spelled<'a>), LineFault>
     ensures { result_map_both (λ t. (t.0, (spelled_bytes t.1, tt))) (λ e. e) result
         ≡ read_words (form.Name ∷ form.Bytes ∷ []) None (map (λ w. w.now) others.now) }
 {
@@ -23,10 +24,10 @@ fn object_word_in<'a>(others: &[&'a [u8]]) -> Result<(Name, Spelled<'a>), LineFa
 }
 
 // `D OBJ`.
-pub(crate) fn object_in(
+pub(crate) fn object_in<'a>(
     alloc: Global,
-    others: &[&[u8]],
-) -> Result<Result<(Name, Bytes), LineFault>, OutOfMemory>
+    others: &[&'a [u8]],
+) -> Result<Result<(NameWord<'a>, Bytes), LineFault>, OutOfMemory>
     ensures { IfOk result (λ read. result_map_both (λ t. (t.0, (t.1, tt))) (λ e. e) read
         ≡ read_words (form.Name ∷ form.Bytes ∷ []) None (map (λ w. w.now) others.now)) }
 {
@@ -37,10 +38,10 @@ pub(crate) fn object_in(
 }
 
 // `D [OBJ]`.
-pub(crate) fn delete_in(
+pub(crate) fn delete_in<'a>(
     alloc: Global,
-    others: &[&[u8]],
-) -> Result<Result<(Name, Option<Bytes>), LineFault>, OutOfMemory>
+    others: &[&'a [u8]],
+) -> Result<Result<(NameWord<'a>, Option<Bytes>), LineFault>, OutOfMemory>
     ensures { IfOk result (λ read. result_map_both (λ t. (t.0, t.1)) (λ e. e) read
         ≡ read_words (form.Name ∷ []) (Some form.Bytes) (map (λ w. w.now) others.now)) }
 {
@@ -55,7 +56,9 @@ pub(crate) fn delete_in(
 }
 
 // `R X OFF BYTES`, with the word that spells the bytes.
-fn write_word_in<'a>(others: &[&'a [u8]]) -> Result<(Name, Name, u32, Spelled<'a>), LineFault>
+fn write_word_in<'a>(
+    others: &[&'a [u8]],
+) -> Result<(NameWord<'a>, NameWord<'a>, u32, Spelled<'a>), LineFault>
     ensures { result_map_both (λ t. (t.0, (t.1, (t.2, (spelled_bytes t.3, tt))))) (λ e. e)
         result
         ≡ read_words (form.Name ∷ form.Name ∷ form.Number ∷ form.Bytes ∷ []) None
@@ -74,10 +77,10 @@ fn write_word_in<'a>(others: &[&'a [u8]]) -> Result<(Name, Name, u32, Spelled<'a
 }
 
 // `R X OFF BYTES`.
-pub(crate) fn write_in(
+pub(crate) fn write_in<'a>(
     alloc: Global,
-    others: &[&[u8]],
-) -> Result<Result<(Name, Name, u32, Bytes), LineFault>, OutOfMemory>
+    others: &[&'a [u8]],
+) -> Result<Result<(NameWord<'a>, NameWord<'a>, u32, Bytes), LineFault>, OutOfMemory>
     ensures { IfOk result (λ read.
         result_map_both (λ t. (t.0, (t.1, (t.2, (t.3, tt))))) (λ e. e) read
         ≡ read_words (form.Name ∷ form.Name ∷ form.Number ∷ form.Bytes ∷ []) None

@@ -4,6 +4,7 @@ ghost use Rattle.vc_script.specs.Table.{dictionary_rows};
 
 use crate::byte_shape::{delete_in, object_in};
 use crate::first_word::{DictionaryWord, ObjectWord, OneDictionary};
+use crate::name_word::some_name;
 use crate::shape::{dict_in, method_in, name_in, view_in};
 use crate::{Command, LineAnswer};
 use std::alloc::Global;
@@ -35,7 +36,10 @@ fn dict_answer(others: &[&[u8]]) -> Result<LineAnswer, OutOfMemory>
 {
     match dict_in(others) {
         Ok((dict, method, region, kind)) => Ok(LineAnswer::Is(Command::OpenDict(
-            dict, method, region, kind,
+            dict.name(),
+            method,
+            region.name(),
+            kind,
         ))),
         Err(fault) => Ok(LineAnswer::Bad(fault)),
     }
@@ -47,7 +51,7 @@ fn delete_answer(alloc: Global, others: &[&[u8]]) -> Result<LineAnswer, OutOfMem
         a ≡ answer_in dictionary_rows (codes "delete") (map (λ w. w.now) others.now)) }
 {
     match delete_in(alloc, others)? {
-        Ok((dict, object)) => Ok(LineAnswer::Is(Command::Delete(dict, object))),
+        Ok((dict, object)) => Ok(LineAnswer::Is(Command::Delete(dict.name(), object))),
         Err(fault) => Ok(LineAnswer::Bad(fault)),
     }
 }
@@ -58,7 +62,7 @@ fn view_answer(others: &[&[u8]]) -> Result<LineAnswer, OutOfMemory>
         a ≡ answer_in dictionary_rows (codes "view") (map (λ w. w.now) others.now)) }
 {
     match view_in(others) {
-        Ok((dict, viewed)) => Ok(LineAnswer::Is(Command::View(dict, viewed))),
+        Ok((dict, viewed)) => Ok(LineAnswer::Is(Command::View(dict.name(), some_name(viewed)))),
         Err(fault) => Ok(LineAnswer::Bad(fault)),
     }
 }
@@ -69,7 +73,7 @@ fn method_answer(others: &[&[u8]]) -> Result<LineAnswer, OutOfMemory>
         a ≡ answer_in dictionary_rows (codes "method") (map (λ w. w.now) others.now)) }
 {
     match method_in(others) {
-        Ok((dict, method)) => Ok(LineAnswer::Is(Command::Remethod(dict, method))),
+        Ok((dict, method)) => Ok(LineAnswer::Is(Command::Remethod(dict.name(), method))),
         Err(fault) => Ok(LineAnswer::Bad(fault)),
     }
 }
@@ -82,12 +86,12 @@ fn one_dictionary_answer(first: OneDictionary, others: &[&[u8]]) -> Result<LineA
 {
     match name_in(others) {
         Ok(dict) => match first {
-            OneDictionary::First => Ok(LineAnswer::Is(Command::First(dict))),
-            OneDictionary::Last => Ok(LineAnswer::Is(Command::Last(dict))),
-            OneDictionary::Walk => Ok(LineAnswer::Is(Command::Walk(dict))),
-            OneDictionary::Count => Ok(LineAnswer::Is(Command::Count(dict))),
-            OneDictionary::Empty => Ok(LineAnswer::Is(Command::Empty(dict))),
-            OneDictionary::Shut => Ok(LineAnswer::Is(Command::Shut(dict))),
+            OneDictionary::First => Ok(LineAnswer::Is(Command::First(dict.name()))),
+            OneDictionary::Last => Ok(LineAnswer::Is(Command::Last(dict.name()))),
+            OneDictionary::Walk => Ok(LineAnswer::Is(Command::Walk(dict.name()))),
+            OneDictionary::Count => Ok(LineAnswer::Is(Command::Count(dict.name()))),
+            OneDictionary::Empty => Ok(LineAnswer::Is(Command::Empty(dict.name()))),
+            OneDictionary::Shut => Ok(LineAnswer::Is(Command::Shut(dict.name()))),
         },
         Err(fault) => Ok(LineAnswer::Bad(fault)),
     }
@@ -105,14 +109,14 @@ fn object_answer(
 {
     match object_in(alloc, others)? {
         Ok((dict, object)) => match first {
-            ObjectWord::Insert => Ok(LineAnswer::Is(Command::Insert(dict, object))),
-            ObjectWord::Append => Ok(LineAnswer::Is(Command::Append(dict, object))),
-            ObjectWord::Attach => Ok(LineAnswer::Is(Command::Attach(dict, object))),
-            ObjectWord::Detach => Ok(LineAnswer::Is(Command::Detach(dict, object))),
-            ObjectWord::Search => Ok(LineAnswer::Is(Command::Search(dict, object))),
-            ObjectWord::MatchKey => Ok(LineAnswer::Is(Command::MatchKey(dict, object))),
-            ObjectWord::Next => Ok(LineAnswer::Is(Command::Next(dict, object))),
-            ObjectWord::Prev => Ok(LineAnswer::Is(Command::Prev(dict, object))),
+            ObjectWord::Insert => Ok(LineAnswer::Is(Command::Insert(dict.name(), object))),
+            ObjectWord::Append => Ok(LineAnswer::Is(Command::Append(dict.name(), object))),
+            ObjectWord::Attach => Ok(LineAnswer::Is(Command::Attach(dict.name(), object))),
+            ObjectWord::Detach => Ok(LineAnswer::Is(Command::Detach(dict.name(), object))),
+            ObjectWord::Search => Ok(LineAnswer::Is(Command::Search(dict.name(), object))),
+            ObjectWord::MatchKey => Ok(LineAnswer::Is(Command::MatchKey(dict.name(), object))),
+            ObjectWord::Next => Ok(LineAnswer::Is(Command::Next(dict.name(), object))),
+            ObjectWord::Prev => Ok(LineAnswer::Is(Command::Prev(dict.name(), object))),
         },
         Err(fault) => Ok(LineAnswer::Bad(fault)),
     }

@@ -1,28 +1,18 @@
 ghost use Rattle.std.specs.Prelude.{◌≡◌, IfOk};
 ghost use Rattle.std.specs.Result.{result_map_both};
-ghost use Rattle.vc_script.specs.Forms.{address_of, address_of_parts, bytes_of, dict_method_of, region_method_of, mode_of, name_of, name_or_dash_of, number_of, signed_of, site_of, some_site_of};
+ghost use Rattle.vc_script.specs.Forms.{address_of, address_of_parts, bytes_of, dict_method_of, region_method_of, mode_of, name_or_dash_of, number_of, signed_of, site_of, some_site_of};
 ghost use Rattle.vc_script.specs.Spelled.{spelled_bytes};
 
+use crate::name_word::{NameWord, name_of};
 use crate::spelled::Spelled;
-use crate::word::{digits_of, escapes_in, is_name};
+use crate::word::{digits_of, escapes_in};
 use crate::{Bytes, LineFault, Place};
 use percent_encoding::percent_decode;
 use std::alloc::{AllocError, Global};
-use vc_base::{DictMethod, Name};
+use vc_base::DictMethod;
 use vc_seg::Method;
 
-#[tactic(auto, using(crate::proofs::NameBounds::name_bounds))]
-pub(crate) fn name_of(word: &[u8]) -> Result<Name, LineFault>
-    ensures { result ≡ name_of word.now }
-{
-    if is_name(word) {
-        Ok(Name::new(word))
-    } else {
-        Err(LineFault::BadName)
-    }
-}
-
-pub(crate) fn site_of(word: &[u8]) -> Result<Name, LineFault>
+pub(crate) fn site_of(word: &[u8]) -> Result<NameWord<'_>, LineFault>
     ensures { result ≡ site_of word.now }
 {
     match word.split_first() {
@@ -32,7 +22,7 @@ pub(crate) fn site_of(word: &[u8]) -> Result<Name, LineFault>
 }
 
 // A site that stands there.
-pub(crate) fn some_site_of(word: &[u8]) -> Result<Option<Name>, LineFault>
+pub(crate) fn some_site_of(word: &[u8]) -> Result<Option<NameWord<'_>>, LineFault>
     ensures { result ≡ some_site_of word.now }
 {
     Ok(Some(site_of(word)?))
@@ -164,7 +154,7 @@ pub(crate) fn mode_of(word: &[u8]) -> Result<bool, LineFault>
 }
 
 // A name, or `-` for none.
-pub(crate) fn name_or_dash_of(word: &[u8]) -> Result<Option<Name>, LineFault>
+pub(crate) fn name_or_dash_of(word: &[u8]) -> Result<Option<NameWord<'_>>, LineFault>
     ensures { result ≡ name_or_dash_of word.now }
 {
     if word == b"-".as_slice() {

@@ -4,7 +4,7 @@ ghost use Rattle.vc_script.specs.Table.{before, no_more};
 
 use crate::LineFault;
 
-pub(crate) fn two<A: Copy, B: Copy>(
+pub(crate) fn two<A: Drop, B: Drop>(
     a: Result<A, LineFault>,
     b: Result<B, LineFault>,
 ) -> Result<(A, B), LineFault>
@@ -14,7 +14,7 @@ pub(crate) fn two<A: Copy, B: Copy>(
     Ok((a?, b?))
 }
 
-pub(crate) fn three<A: Copy, B: Copy, C: Copy>(
+pub(crate) fn three<A: Drop, B: Drop, C: Drop>(
     a: Result<A, LineFault>,
     b: Result<B, LineFault>,
     c: Result<C, LineFault>,
@@ -26,7 +26,7 @@ pub(crate) fn three<A: Copy, B: Copy, C: Copy>(
 }
 
 // The last value may be one that is missing.
-pub(crate) fn four<A: Copy, B: Copy, C: Copy, D: Copy>(
+pub(crate) fn four<A: Drop, B: Drop, C: Drop, D: Drop>(
     a: Result<A, LineFault>,
     b: Result<B, LineFault>,
     c: Result<C, LineFault>,

@@ -1,17 +1,16 @@
 #![tactic(auto, using(crate::proofs::PrintSteps::front_steps))]
 
 ghost use Rattle.std.specs.Prelude.{◌≡◌, ◌++◌, IfOk, OnErr, OnOk};
-ghost use Rattle.std.specs.Io.{StartsWith};
-ghost use Rattle.vc_script.specs.Print.{line_of, printed};
+ghost use Rattle.vc_script.specs.Print.{line_of};
+ghost use Rattle.vc_script.specs.Puts.{Puts};
 
 use crate::Reply;
 use crate::print_lines::{
     put_address, put_block_at, put_blocks, put_counted, put_damage, put_hex_line, put_named,
-    put_object_line, put_objects, put_rows, put_segment, put_segments, put_stats, put_three,
-    put_watched, put_written,
+    put_number, put_object_line, put_objects, put_refused, put_rows, put_segment, put_segments,
+    put_stats, put_three, put_watched, put_written,
 };
-use crate::print_parts::{put, put_number};
-use crate::print_refusals::put_refused;
+use crate::print_parts::put;
 use crate::print_texts::{method_word, viewed_text};
 use std::alloc::{AllocError, Global};
 use vc_base::OutOfMemory;
@@ -42,16 +41,7 @@ pub fn put_reply(text: &mut Vec<u8>, reply: &Reply) -> Result<(), OutOfMemory>
 }
 
 fn put_line(line: &mut Vec<u8>, reply: &Reply) -> Result<(), AllocError>
-    ensures put { OnOk result (line.new.items ≡ line.old.items ++ line_of reply.now) }
-    ensures front { StartsWith line.new.items line.old.items }
-{
-    put_printed(line, reply)?;
-    put(line, b"\n")
-}
-
-fn put_printed(line: &mut Vec<u8>, reply: &Reply) -> Result<(), AllocError>
-    ensures put { OnOk result (line.new.items ≡ line.old.items ++ printed reply.now) }
-    ensures front { StartsWith line.new.items line.old.items }
+    ensures { Puts line.old.items line.new.items result (line_of reply.now) }
 {
     match reply {
         Reply::Opened(name) => put_named(line, name, b" open"),
@@ -64,9 +54,9 @@ fn put_printed(line: &mut Vec<u8>, reply: &Reply) -> Result<(), AllocError>
         Reply::Hex(block, bytes) => put_hex_line(line, block, bytes),
         Reply::Size(block, size) => put_counted(line, block, b" ", *size),
         Reply::AddrIn(block, off) => put_address(line, block, *off),
-        Reply::AddrNone => put(line, b"addr -1"),
+        Reply::AddrNone => put(line, b"addr -1\n"),
         Reply::SegmentIs(number, size) => put_segment(line, *number, *size),
-        Reply::SegmentNone => put(line, b"segment -1"),
+        Reply::SegmentNone => put(line, b"segment -1\n"),
         Reply::Stats(stat) => put_stats(line, stat),
         Reply::SegmentList(items) => put_segments(line, items),
         Reply::BlockList(items) => put_blocks(line, items),
@@ -79,7 +69,7 @@ fn put_printed(line: &mut Vec<u8>, reply: &Reply) -> Result<(), AllocError>
         Reply::Gone(bytes) => put_object_line(line, b"gone ", bytes),
         Reply::Out(bytes) => put_object_line(line, b"out ", bytes),
         Reply::Found(bytes) => put_object_line(line, b"found ", bytes),
-        Reply::Nothing => put(line, b"none"),
+        Reply::Nothing => put(line, b"none\n"),
         Reply::Objects(items) => put_objects(line, items),
         Reply::Number(count) => put_number(line, *count),
         Reply::Views(dict, viewed) => put_three(line, dict, b" views ", viewed_text(viewed)),

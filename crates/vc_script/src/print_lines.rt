@@ -1,29 +1,39 @@
 #![tactic(auto, using(crate::proofs::PrintSteps::front_steps))]
 
-ghost use Rattle.std.specs.Prelude.{◌≡◌, ◌++◌, codes, decimal, length, OnOk};
-ghost use Rattle.std.specs.Io.{StartsWith};
-ghost use Rattle.std.specs.List.{flat_map};
-ghost use Rattle.hex.specs.Hex.{encode_lower};
-ghost use Rattle.vc_script.specs.Print.{block_text, damage_text, label_text, object_text, row_text, segment_text, stat_numbers, watch_text};
+ghost use Rattle.std.specs.Prelude.{◌≤◌, ◌∷◌, ◌++◌, [], decimal, length};
+ghost use Rattle.vc_script.specs.Print.{line_of, watch_text};
+ghost use Rattle.vc_script.specs.Puts.{Puts};
 ghost use Rattle.vc_script.specs.Shown.{shown_bytes};
+ghost use Rattle.vc_script.specs.declared.reply.Reply.TheVariants as reply;
 
+use crate::line_end::{number_before, text_before, watch_before};
 use crate::print_lists::{
     put_each_block, put_each_damage, put_each_object, put_each_row, put_each_segment,
 };
-use crate::print_parts::{put, put_hex, put_labelled, put_number, put_object, put_watch};
+use crate::print_parts::{put, put_hex, put_labelled, put_object};
+use crate::print_refusals::refused_words;
 use crate::print_texts::label_text;
-use crate::{BlockItems, Bytes, DamageItems, ObjectItems, Place, RowItems, SegmentItems};
+use crate::{BlockItems, Bytes, DamageItems, ObjectItems, Place, Refusal, RowItems, SegmentItems};
 use std::alloc::AllocError;
 use vc_base::Name;
 use vc_seg::Stat;
 
+// A name, two numbers of at most 20 digits and a watch take at most 104 bytes with the texts between them and the newline.
+const LINE_BYTES: usize = 112;
+
+// Eight such numbers take at most 214 bytes with their labels and the newline.
+const STAT_BYTES: usize = 224;
+
 // A name and a text.
 pub(crate) fn put_named(line: &mut Vec<u8>, name: &Name, text: &[u8]) -> Result<(), AllocError>
-    ensures put { OnOk result (line.new.items ≡ line.old.items ++ name.now ++ text.now) }
-    ensures front { StartsWith line.new.items line.old.items }
+    requires { length text.now ≤ 32 }
+    ensures { Puts line.old.items line.new.items result (name.now ++ text.now ++ 10 ∷ []) }
 {
-    put(line, name.bytes())?;
-    put(line, text)
+    let mut buf = [0u8; LINE_BYTES];
+    let at = text_before(&mut buf, LINE_BYTES, b"\n");
+    let at = text_before(&mut buf, at, text);
+    let at = text_before(&mut buf, at, name.bytes());
+    put(line, &buf[at..])
 }
 
 // A name and two texts.
@@ -33,12 +43,17 @@ pub(crate) fn put_three(
     second: &[u8],
     third: &[u8],
 ) -> Result<(), AllocError>
-    ensures put { OnOk result (line.new.items
-        ≡ line.old.items ++ name.now ++ second.now ++ third.now) }
-    ensures front { StartsWith line.new.items line.old.items }
+    requires second { length second.now ≤ 32 }
+    requires third { length third.now ≤ 32 }
+    ensures { Puts line.old.items line.new.items result
+        (name.now ++ second.now ++ third.now ++ 10 ∷ []) }
 {
-    put_named(line, name, second)?;
-    put(line, third)
+    let mut buf = [0u8; LINE_BYTES];
+    let at = text_before(&mut buf, LINE_BYTES, b"\n");
+    let at = text_before(&mut buf, at, third);
+    let at = text_before(&mut buf, at, second);
+    let at = text_before(&mut buf, at, name.bytes());
+    put(line, &buf[at..])
 }
 
 // A name, a text and a number.
@@ -48,12 +63,16 @@ pub(crate) fn put_counted(
     text: &[u8],
     n: u32,
 ) -> Result<(), AllocError>
-    ensures put { OnOk result (line.new.items
-        ≡ line.old.items ++ name.now ++ text.now ++ decimal n) }
-    ensures front { StartsWith line.new.items line.old.items }
+    requires { length text.now ≤ 32 }
+    ensures { Puts line.old.items line.new.items result
+        (name.now ++ text.now ++ decimal n ++ 10 ∷ []) }
 {
-    put_named(line, name, text)?;
-    put_number(line, u64::from(n))
+    let mut buf = [0u8; LINE_BYTES];
+    let at = text_before(&mut buf, LINE_BYTES, b"\n");
+    let at = number_before(&mut buf, at, u64::from(n));
+    let at = text_before(&mut buf, at, text);
+    let at = text_before(&mut buf, at, name.bytes());
+    put(line, &buf[at..])
 }
 
 // A name, a text and a watch.
@@ -63,12 +82,16 @@ pub(crate) fn put_watched(
     text: &[u8],
     watch: Option<u32>,
 ) -> Result<(), AllocError>
-    ensures put { OnOk result (line.new.items
-        ≡ line.old.items ++ block.now ++ text.now ++ watch_text watch) }
-    ensures front { StartsWith line.new.items line.old.items }
+    requires { length text.now ≤ 32 }
+    ensures { Puts line.old.items line.new.items result
+        (block.now ++ text.now ++ watch_text watch ++ 10 ∷ []) }
 {
-    put_named(line, block, text)?;
-    put_watch(line, watch)
+    let mut buf = [0u8; LINE_BYTES];
+    let at = text_before(&mut buf, LINE_BYTES, b"\n");
+    let at = watch_before(&mut buf, at, watch);
+    let at = text_before(&mut buf, at, text);
+    let at = text_before(&mut buf, at, block.bytes());
+    put(line, &buf[at..])
 }
 
 pub(crate) fn put_block_at(
@@ -77,14 +100,17 @@ pub(crate) fn put_block_at(
     place: Place,
     watch: Option<u32>,
 ) -> Result<(), AllocError>
-    ensures put { OnOk result (line.new.items
-        ≡ line.old.items ++ block.now ++ codes " " ++ decimal place.seg ++ codes ":"
-        ++ decimal place.off ++ watch_text watch) }
-    ensures front { StartsWith line.new.items line.old.items }
+    ensures { Puts line.old.items line.new.items result (line_of (reply.At block.now place watch)) }
 {
-    put_counted(line, block, b" ", place.seg)?;
-    put_labelled(line, b":", u64::from(place.off))?;
-    put_watch(line, watch)
+    let mut buf = [0u8; LINE_BYTES];
+    let at = text_before(&mut buf, LINE_BYTES, b"\n");
+    let at = watch_before(&mut buf, at, watch);
+    let at = number_before(&mut buf, at, u64::from(place.off));
+    let at = text_before(&mut buf, at, b":");
+    let at = number_before(&mut buf, at, u64::from(place.seg));
+    let at = text_before(&mut buf, at, b" ");
+    let at = text_before(&mut buf, at, block.bytes());
+    put(line, &buf[at..])
 }
 
 pub(crate) fn put_written(
@@ -93,25 +119,16 @@ pub(crate) fn put_written(
     count: u32,
     watch: Option<u32>,
 ) -> Result<(), AllocError>
-    ensures put { OnOk result (line.new.items
-        ≡ line.old.items ++ block.now ++ codes " written " ++ decimal count ++ watch_text watch) }
-    ensures front { StartsWith line.new.items line.old.items }
+    ensures { Puts line.old.items line.new.items result
+        (line_of (reply.Written block.now count watch)) }
 {
-    put_counted(line, block, b" written ", count)?;
-    put_watch(line, watch)
-}
-
-pub(crate) fn put_hex_line(
-    line: &mut Vec<u8>,
-    block: &Name,
-    bytes: &Bytes,
-) -> Result<(), AllocError>
-    ensures put { OnOk result (line.new.items
-        ≡ line.old.items ++ block.now ++ codes " " ++ encode_lower bytes.now) }
-    ensures front { StartsWith line.new.items line.old.items }
-{
-    put_named(line, block, b" ")?;
-    put_hex(line, bytes.as_slice())
+    let mut buf = [0u8; LINE_BYTES];
+    let at = text_before(&mut buf, LINE_BYTES, b"\n");
+    let at = watch_before(&mut buf, at, watch);
+    let at = number_before(&mut buf, at, u64::from(count));
+    let at = text_before(&mut buf, at, b" written ");
+    let at = text_before(&mut buf, at, block.bytes());
+    put(line, &buf[at..])
 }
 
 pub(crate) fn put_address(
@@ -119,96 +136,139 @@ pub(crate) fn put_address(
     block: &Option<Name>,
     off: u32,
 ) -> Result<(), AllocError>
-    ensures put { OnOk result (line.new.items
-        ≡ line.old.items ++ codes "addr " ++ label_text block.now ++ codes " " ++ decimal off) }
-    ensures front { StartsWith line.new.items line.old.items }
+    ensures { Puts line.old.items line.new.items result (line_of (reply.AddrIn block.now off)) }
 {
-    put(line, b"addr ")?;
-    put(line, label_text(block))?;
-    put_labelled(line, b" ", u64::from(off))
+    let mut buf = [0u8; LINE_BYTES];
+    let at = text_before(&mut buf, LINE_BYTES, b"\n");
+    let at = number_before(&mut buf, at, u64::from(off));
+    let at = text_before(&mut buf, at, b" ");
+    let at = text_before(&mut buf, at, label_text(block));
+    let at = text_before(&mut buf, at, b"addr ");
+    put(line, &buf[at..])
 }
 
 pub(crate) fn put_segment(line: &mut Vec<u8>, number: u32, size: u32) -> Result<(), AllocError>
-    ensures put { OnOk result (line.new.items
-        ≡ line.old.items ++ codes "segment " ++ decimal number ++ codes " " ++ decimal size) }
-    ensures front { StartsWith line.new.items line.old.items }
+    ensures { Puts line.old.items line.new.items result (line_of (reply.SegmentIs number size)) }
 {
-    put_labelled(line, b"segment ", u64::from(number))?;
-    put_labelled(line, b" ", u64::from(size))
+    let mut buf = [0u8; LINE_BYTES];
+    let at = text_before(&mut buf, LINE_BYTES, b"\n");
+    let at = number_before(&mut buf, at, u64::from(size));
+    let at = text_before(&mut buf, at, b" ");
+    let at = number_before(&mut buf, at, u64::from(number));
+    let at = text_before(&mut buf, at, b"segment ");
+    put(line, &buf[at..])
+}
+
+pub(crate) fn put_number(line: &mut Vec<u8>, count: u64) -> Result<(), AllocError>
+    ensures { Puts line.old.items line.new.items result (line_of (reply.Number count)) }
+{
+    let mut buf = [0u8; LINE_BYTES];
+    let at = text_before(&mut buf, LINE_BYTES, b"\n");
+    let at = number_before(&mut buf, at, count);
+    put(line, &buf[at..])
+}
+
+pub(crate) fn put_refused(line: &mut Vec<u8>, why: Refusal) -> Result<(), AllocError>
+    ensures { Puts line.old.items line.new.items result (line_of (reply.Refused why)) }
+{
+    let (words, number) = refused_words(why);
+    let mut buf = [0u8; LINE_BYTES];
+    let at = text_before(&mut buf, LINE_BYTES, b"\n");
+    let at = match number {
+        None => at,
+        Some(number) => number_before(&mut buf, at, u64::from(number)),
+    };
+    let at = text_before(&mut buf, at, words);
+    put(line, &buf[at..])
 }
 
 pub(crate) fn put_stats(line: &mut Vec<u8>, stat: &Stat) -> Result<(), AllocError>
-    ensures put { OnOk result (line.new.items ≡ line.old.items ++ stat_numbers stat.now) }
-    ensures front { StartsWith line.new.items line.old.items }
+    ensures { Puts line.old.items line.new.items result (line_of (reply.Stats stat.now)) }
 {
-    put_labelled(line, b"busy ", stat.busy)?;
-    put_labelled(line, b" free ", stat.free)?;
-    put_labelled(line, b" sbusy ", stat.sbusy)?;
-    put_labelled(line, b" sfree ", stat.sfree)?;
-    put_labelled(line, b" mbusy ", stat.mbusy)?;
-    put_labelled(line, b" mfree ", stat.mfree)?;
-    put_labelled(line, b" segs ", u64::from(stat.segs))?;
-    put_labelled(line, b" extent ", stat.extent)
+    let mut buf = [0u8; STAT_BYTES];
+    let at = text_before(&mut buf, STAT_BYTES, b"\n");
+    let at = number_before(&mut buf, at, stat.extent);
+    let at = text_before(&mut buf, at, b" extent ");
+    let at = number_before(&mut buf, at, u64::from(stat.segs));
+    let at = text_before(&mut buf, at, b" segs ");
+    let at = number_before(&mut buf, at, stat.mfree);
+    let at = text_before(&mut buf, at, b" mfree ");
+    let at = number_before(&mut buf, at, stat.mbusy);
+    let at = text_before(&mut buf, at, b" mbusy ");
+    let at = number_before(&mut buf, at, stat.sfree);
+    let at = text_before(&mut buf, at, b" sfree ");
+    let at = number_before(&mut buf, at, stat.sbusy);
+    let at = text_before(&mut buf, at, b" sbusy ");
+    let at = number_before(&mut buf, at, stat.free);
+    let at = text_before(&mut buf, at, b" free ");
+    let at = number_before(&mut buf, at, stat.busy);
+    let at = text_before(&mut buf, at, b"busy ");
+    put(line, &buf[at..])
 }
 
-pub(crate) fn put_segments(line: &mut Vec<u8>, items: &SegmentItems) -> Result<(), AllocError>
-    ensures put { OnOk result (line.new.items
-        ≡ line.old.items ++ codes "segments " ++ decimal (length items.now)
-        ++ flat_map segment_text items.now) }
-    ensures front { StartsWith line.new.items line.old.items }
+pub(crate) fn put_hex_line(
+    line: &mut Vec<u8>,
+    block: &Name,
+    bytes: &Bytes,
+) -> Result<(), AllocError>
+    ensures { Puts line.old.items line.new.items result (line_of (reply.Hex block.now bytes.now)) }
 {
-    put_labelled(line, b"segments ", items.as_slice().len() as u64)?;
-    put_each_segment(line, items)
+    put(line, block.bytes())?;
+    put(line, b" ")?;
+    put_hex(line, bytes.as_slice())?;
+    put(line, b"\n")
 }
 
-pub(crate) fn put_blocks(line: &mut Vec<u8>, items: &BlockItems) -> Result<(), AllocError>
-    ensures put { OnOk result (line.new.items
-        ≡ line.old.items ++ codes "blocks " ++ decimal (length items.now)
-        ++ flat_map block_text items.now) }
-    ensures front { StartsWith line.new.items line.old.items }
-{
-    put_labelled(line, b"blocks ", items.as_slice().len() as u64)?;
-    put_each_block(line, items)
-}
-
-pub(crate) fn put_damage(line: &mut Vec<u8>, items: &DamageItems) -> Result<(), AllocError>
-    ensures put { OnOk result (line.new.items
-        ≡ line.old.items ++ codes "check " ++ decimal (length items.now)
-        ++ flat_map damage_text items.now) }
-    ensures front { StartsWith line.new.items line.old.items }
-{
-    put_labelled(line, b"check ", items.as_slice().len() as u64)?;
-    put_each_damage(line, items)
-}
-
-pub(crate) fn put_rows(line: &mut Vec<u8>, items: &RowItems) -> Result<(), AllocError>
-    ensures put { OnOk result (line.new.items
-        ≡ line.old.items ++ codes "profile " ++ decimal (length items.now)
-        ++ flat_map row_text items.now) }
-    ensures front { StartsWith line.new.items line.old.items }
-{
-    put_labelled(line, b"profile ", items.as_slice().len() as u64)?;
-    put_each_row(line, items)
-}
-
+// A short text and an object.
 pub(crate) fn put_object_line(
     line: &mut Vec<u8>,
     text: &[u8],
     bytes: &Bytes,
 ) -> Result<(), AllocError>
-    ensures put { OnOk result (line.new.items
-        ≡ line.old.items ++ text.now ++ shown_bytes bytes.now) }
-    ensures front { StartsWith line.new.items line.old.items }
+    ensures { Puts line.old.items line.new.items result
+        (text.now ++ shown_bytes bytes.now ++ 10 ∷ []) }
 {
     put(line, text)?;
-    put_object(line, bytes.as_slice())
+    put_object(line, bytes.as_slice())?;
+    put(line, b"\n")
+}
+
+pub(crate) fn put_segments(line: &mut Vec<u8>, items: &SegmentItems) -> Result<(), AllocError>
+    ensures { Puts line.old.items line.new.items result (line_of (reply.SegmentList items.now)) }
+{
+    put_labelled(line, b"segments ", items.as_slice().len() as u64)?;
+    put_each_segment(line, items)?;
+    put(line, b"\n")
+}
+
+pub(crate) fn put_blocks(line: &mut Vec<u8>, items: &BlockItems) -> Result<(), AllocError>
+    ensures { Puts line.old.items line.new.items result (line_of (reply.BlockList items.now)) }
+{
+    put_labelled(line, b"blocks ", items.as_slice().len() as u64)?;
+    put_each_block(line, items)?;
+    put(line, b"\n")
+}
+
+pub(crate) fn put_damage(line: &mut Vec<u8>, items: &DamageItems) -> Result<(), AllocError>
+    ensures { Puts line.old.items line.new.items result (line_of (reply.Damaged items.now)) }
+{
+    put_labelled(line, b"check ", items.as_slice().len() as u64)?;
+    put_each_damage(line, items)?;
+    put(line, b"\n")
+}
+
+pub(crate) fn put_rows(line: &mut Vec<u8>, items: &RowItems) -> Result<(), AllocError>
+    ensures { Puts line.old.items line.new.items result (line_of (reply.Rows items.now)) }
+{
+    put_labelled(line, b"profile ", items.as_slice().len() as u64)?;
+    put_each_row(line, items)?;
+    put(line, b"\n")
 }
 
 pub(crate) fn put_objects(line: &mut Vec<u8>, items: &ObjectItems) -> Result<(), AllocError>
-    ensures put { OnOk result (line.new.items
-        ≡ line.old.items ++ decimal (length items.now) ++ flat_map object_text items.now) }
-    ensures front { StartsWith line.new.items line.old.items }
+    ensures { Puts line.old.items line.new.items result (line_of (reply.Objects items.now)) }
 {
-    put_number(line, items.as_slice().len() as u64)?;
-    put_each_object(line, items)
+    put_labelled(line, b"", items.as_slice().len() as u64)?;
+    put_each_object(line, items)?;
+    put(line, b"\n")
 }

@@ -1,15 +1,13 @@
-ghost use Rattle.std.specs.Prelude.{◌≡◌, [], ◌++◌, codes, decimal, option_map, unwrap_or, OnOk};
-ghost use Rattle.std.specs.Io.{StartsWith};
+ghost use Rattle.std.specs.Prelude.{◌≡◌, ◌≤◌, [], ◌++◌, codes, decimal, length, option_map, unwrap_or};
 ghost use Rattle.vc_script.specs.Print.{refusal_text};
 
 use crate::Refusal;
-use crate::print_parts::{put, put_number};
-use std::alloc::AllocError;
 
 // The words of the reply of a refusal, and the number behind them, where there is one.
-fn refused_words(why: Refusal) -> (&'static [u8], Option<u32>)
-    ensures { result.0.now ++ unwrap_or (option_map decimal result.1) []
+pub(crate) fn refused_words(why: Refusal) -> (&'static [u8], Option<u32>)
+    ensures words { result.0.now ++ unwrap_or (option_map decimal result.1) []
         ≡ codes "refused: " ++ refusal_text why }
+    ensures short { length result.0.now ≤ 32 }
 {
     match why {
         Refusal::NoRegion => (b"refused: no region", None),
@@ -39,19 +37,5 @@ fn refused_words(why: Refusal) -> (&'static [u8], Option<u32>)
         Refusal::NoSegment => (b"refused: no segment", None),
         Refusal::NoSegmentForTable => (b"refused: no segment for table", None),
         Refusal::NoSegmentForObject => (b"refused: no segment for object", None),
-    }
-}
-
-#[tactic(auto, using(crate::proofs::PrintSteps::front_steps))]
-pub(crate) fn put_refused(line: &mut Vec<u8>, why: Refusal) -> Result<(), AllocError>
-    ensures put { OnOk result (line.new.items
-        ≡ line.old.items ++ codes "refused: " ++ refusal_text why) }
-    ensures front { StartsWith line.new.items line.old.items }
-{
-    let (words, number) = refused_words(why);
-    put(line, words)?;
-    match number {
-        None => Ok(()),
-        Some(number) => put_number(line, u64::from(number)),
     }
 }

@@ -1,10 +1,11 @@
-ghost use Rattle.std.specs.Prelude.{◌≡◌};
+ghost use Rattle.std.specs.Prelude.{◌≡◌, ◌≤◌, length};
 ghost use Rattle.vc_script.specs.Print.{label_text, method_word, viewed_text};
 
 use vc_base::{DictMethod, Name};
 
 pub(crate) fn method_word(method: DictMethod) -> &'static [u8]
-    ensures { result.now ≡ method_word method }
+    ensures text { result.now ≡ method_word method }
+    ensures short { length result.now ≤ 32 }
 {
     match method {
         DictMethod::DtSet => b"set",
@@ -18,7 +19,8 @@ pub(crate) fn method_word(method: DictMethod) -> &'static [u8]
 }
 
 pub(crate) fn label_text(label: &Option<Name>) -> &[u8]
-    ensures { result.now ≡ label_text label.now }
+    ensures text { result.now ≡ label_text label.now }
+    ensures short { length result.now ≤ 32 }
 {
     match label {
         None => b"*",
@@ -27,7 +29,8 @@ pub(crate) fn label_text(label: &Option<Name>) -> &[u8]
 }
 
 pub(crate) fn viewed_text(viewed: &Option<Name>) -> &[u8]
-    ensures { result.now ≡ viewed_text viewed.now }
+    ensures text { result.now ≡ viewed_text viewed.now }
+    ensures short { length result.now ≤ 32 }
 {
     match viewed {
         None => b"-",

@@ -4,16 +4,17 @@ ghost use Rattle.vc_script.specs.Forms as form;
 ghost use Rattle.vc_script.specs.Table.{read_words};
 
 use crate::form::{
-    address_of, dict_method_of, method_of, mode_of, name_of, name_or_dash_of, number_of, signed_of,
+    address_of, dict_method_of, method_of, mode_of, name_or_dash_of, number_of, signed_of,
     some_site_of,
 };
 use crate::in_turn::{four, three, two};
+use crate::name_word::{NameWord, name_of};
 use crate::{LineFault, Place};
-use vc_base::{DictMethod, Name};
+use vc_base::DictMethod;
 use vc_seg::Method;
 
 // `R`, or `D`.
-pub(crate) fn name_in(others: &[&[u8]]) -> Result<Name, LineFault>
+pub(crate) fn name_in<'a>(others: &[&'a [u8]]) -> Result<NameWord<'a>, LineFault>
     ensures { result_map_both (λ a. (a, tt)) (λ e. e) result
         ≡ read_words (form.Name ∷ []) None (map (λ w. w.now) others.now) }
 {
@@ -24,7 +25,7 @@ pub(crate) fn name_in(others: &[&[u8]]) -> Result<Name, LineFault>
 }
 
 // `R X`.
-pub(crate) fn block_in(others: &[&[u8]]) -> Result<(Name, Name), LineFault>
+pub(crate) fn block_in<'a>(others: &[&'a [u8]]) -> Result<(NameWord<'a>, NameWord<'a>), LineFault>
     ensures { result_map_both (λ t. (t.0, (t.1, tt))) (λ e. e) result
         ≡ read_words (form.Name ∷ form.Name ∷ []) None (map (λ w. w.now) others.now) }
 {
@@ -35,7 +36,7 @@ pub(crate) fn block_in(others: &[&[u8]]) -> Result<(Name, Name), LineFault>
 }
 
 // `R S:O`.
-pub(crate) fn address_in(others: &[&[u8]]) -> Result<(Name, Place), LineFault>
+pub(crate) fn address_in<'a>(others: &[&'a [u8]]) -> Result<(NameWord<'a>, Place), LineFault>
     ensures { result_map_both (λ t. (t.0, (t.1, tt))) (λ e. e) result
         ≡ read_words (form.Name ∷ form.Address ∷ []) None (map (λ w. w.now) others.now) }
 {
@@ -46,7 +47,7 @@ pub(crate) fn address_in(others: &[&[u8]]) -> Result<(Name, Place), LineFault>
 }
 
 // `R METHOD N`.
-pub(crate) fn open_in(others: &[&[u8]]) -> Result<(Name, Method, u32), LineFault>
+pub(crate) fn open_in<'a>(others: &[&'a [u8]]) -> Result<(NameWord<'a>, Method, u32), LineFault>
     ensures { result_map_both (λ t. (t.0, (t.1, (t.2, tt)))) (λ e. e) result
         ≡ read_words (form.Name ∷ form.RegionMethod ∷ form.Number ∷ []) None
         (map (λ w. w.now) others.now) }
@@ -58,7 +59,9 @@ pub(crate) fn open_in(others: &[&[u8]]) -> Result<(Name, Method, u32), LineFault
 }
 
 // `R X SIZE [@SITE]`.
-pub(crate) fn alloc_in(others: &[&[u8]]) -> Result<(Name, Name, u32, Option<Name>), LineFault>
+pub(crate) fn alloc_in<'a>(
+    others: &[&'a [u8]],
+) -> Result<(NameWord<'a>, NameWord<'a>, u32, Option<NameWord<'a>>), LineFault>
     ensures { result_map_both (λ t. (t.0, (t.1, (t.2, t.3)))) (λ e. e) result
         ≡ read_words (form.Name ∷ form.Name ∷ form.Number ∷ []) (Some form.Site)
         (map (λ w. w.now) others.now) }
@@ -76,7 +79,9 @@ pub(crate) fn alloc_in(others: &[&[u8]]) -> Result<(Name, Name, u32, Option<Name
 }
 
 // `R X`, and two numbers.
-pub(crate) fn numbers_in(others: &[&[u8]]) -> Result<(Name, Name, u32, u32), LineFault>
+pub(crate) fn numbers_in<'a>(
+    others: &[&'a [u8]],
+) -> Result<(NameWord<'a>, NameWord<'a>, u32, u32), LineFault>
     ensures { result_map_both (λ t. (t.0, (t.1, (t.2, (t.3, tt))))) (λ e. e) result
         ≡ read_words (form.Name ∷ form.Name ∷ form.Number ∷ form.Number ∷ []) None
         (map (λ w. w.now) others.now) }
@@ -88,7 +93,9 @@ pub(crate) fn numbers_in(others: &[&[u8]]) -> Result<(Name, Name, u32, u32), Lin
 }
 
 // `R X SIZE MODE`.
-pub(crate) fn resize_in(others: &[&[u8]]) -> Result<(Name, Name, u32, bool), LineFault>
+pub(crate) fn resize_in<'a>(
+    others: &[&'a [u8]],
+) -> Result<(NameWord<'a>, NameWord<'a>, u32, bool), LineFault>
     ensures { result_map_both (λ t. (t.0, (t.1, (t.2, (t.3, tt))))) (λ e. e) result
         ≡ read_words (form.Name ∷ form.Name ∷ form.Number ∷ form.Mode ∷ []) None
         (map (λ w. w.now) others.now) }
@@ -105,7 +112,9 @@ pub(crate) fn resize_in(others: &[&[u8]]) -> Result<(Name, Name, u32, bool), Lin
 }
 
 // `R X OFF BYTE`.
-pub(crate) fn poke_in(others: &[&[u8]]) -> Result<(Name, Name, i64, u32), LineFault>
+pub(crate) fn poke_in<'a>(
+    others: &[&'a [u8]],
+) -> Result<(NameWord<'a>, NameWord<'a>, i64, u32), LineFault>
     ensures { result_map_both (λ t. (t.0, (t.1, (t.2, (t.3, tt))))) (λ e. e) result
         ≡ read_words (form.Name ∷ form.Name ∷ form.SignedNumber ∷ form.Number ∷ []) None
         (map (λ w. w.now) others.now) }
@@ -122,7 +131,9 @@ pub(crate) fn poke_in(others: &[&[u8]]) -> Result<(Name, Name, i64, u32), LineFa
 }
 
 // `D METHOD R K`.
-pub(crate) fn dict_in(others: &[&[u8]]) -> Result<(Name, DictMethod, Name, u32), LineFault>
+pub(crate) fn dict_in<'a>(
+    others: &[&'a [u8]],
+) -> Result<(NameWord<'a>, DictMethod, NameWord<'a>, u32), LineFault>
     ensures { result_map_both (λ t. (t.0, (t.1, (t.2, (t.3, tt))))) (λ e. e) result
         ≡ read_words (form.Name ∷ form.DictionaryMethod ∷ form.Name ∷ form.Number ∷ []) None
         (map (λ w. w.now) others.now) }
@@ -139,7 +150,9 @@ pub(crate) fn dict_in(others: &[&[u8]]) -> Result<(Name, DictMethod, Name, u32),
 }
 
 // `D E`, or `D -`.
-pub(crate) fn view_in(others: &[&[u8]]) -> Result<(Name, Option<Name>), LineFault>
+pub(crate) fn view_in<'a>(
+    others: &[&'a [u8]],
+) -> Result<(NameWord<'a>, Option<NameWord<'a>>), LineFault>
     ensures { result_map_both (λ t. (t.0, (t.1, tt))) (λ e. e) result
         ≡ read_words (form.Name ∷ form.NameOrDash ∷ []) None (map (λ w. w.now) others.now) }
 {
@@ -150,7 +163,7 @@ pub(crate) fn view_in(others: &[&[u8]]) -> Result<(Name, Option<Name>), LineFaul
 }
 
 // `D METHOD`.
-pub(crate) fn method_in(others: &[&[u8]]) -> Result<(Name, DictMethod), LineFault>
+pub(crate) fn method_in<'a>(others: &[&'a [u8]]) -> Result<(NameWord<'a>, DictMethod), LineFault>
     ensures { result_map_both (λ t. (t.0, (t.1, tt))) (λ e. e) result
         ≡ read_words (form.Name ∷ form.DictionaryMethod ∷ []) None (map (λ w. w.now) others.now) }
 {

@@ -7,6 +7,7 @@ use crate::dict_table::dictionary_answer;
 use crate::first_word::{
     BlockWord, DictionaryWord, FirstWord, NumbersWord, OneRegion, PlaceWord, RegionWord, first_word,
 };
+use crate::name_word::some_name;
 use crate::shape::{
     address_in, alloc_in, block_in, name_in, numbers_in, open_in, poke_in, resize_in,
 };
@@ -76,7 +77,9 @@ fn open_answer(others: &[&[u8]]) -> Result<LineAnswer, OutOfMemory>
 {
     match open_in(others) {
         Ok((region, method, place)) => Ok(LineAnswer::Is(Command::OpenRegion(
-            region, method, place,
+            region.name(),
+            method,
+            place,
         ))),
         Err(fault) => Ok(LineAnswer::Bad(fault)),
     }
@@ -89,7 +92,10 @@ fn alloc_answer(others: &[&[u8]]) -> Result<LineAnswer, OutOfMemory>
 {
     match alloc_in(others) {
         Ok((region, block, size, site)) => Ok(LineAnswer::Is(Command::Alloc(
-            region, block, size, site,
+            region.name(),
+            block.name(),
+            size,
+            some_name(site),
         ))),
         Err(fault) => Ok(LineAnswer::Bad(fault)),
     }
@@ -102,7 +108,10 @@ fn resize_answer(others: &[&[u8]]) -> Result<LineAnswer, OutOfMemory>
 {
     match resize_in(others) {
         Ok((region, block, size, moves)) => Ok(LineAnswer::Is(Command::Resize(
-            region, block, size, moves,
+            region.name(),
+            block.name(),
+            size,
+            moves,
         ))),
         Err(fault) => Ok(LineAnswer::Bad(fault)),
     }
@@ -115,7 +124,10 @@ fn write_answer(alloc: Global, others: &[&[u8]]) -> Result<LineAnswer, OutOfMemo
 {
     match write_in(alloc, others)? {
         Ok((region, block, off, bytes)) => Ok(LineAnswer::Is(Command::WriteBlock(
-            region, block, off, bytes,
+            region.name(),
+            block.name(),
+            off,
+            bytes,
         ))),
         Err(fault) => Ok(LineAnswer::Bad(fault)),
     }
@@ -128,7 +140,10 @@ fn poke_answer(others: &[&[u8]]) -> Result<LineAnswer, OutOfMemory>
 {
     match poke_in(others) {
         Ok((region, block, off, byte)) => Ok(LineAnswer::Is(Command::Poke(
-            region, block, off, byte,
+            region.name(),
+            block.name(),
+            off,
+            byte,
         ))),
         Err(fault) => Ok(LineAnswer::Bad(fault)),
     }
@@ -142,14 +157,14 @@ fn one_region_answer(first: OneRegion, others: &[&[u8]]) -> Result<LineAnswer, O
 {
     match name_in(others) {
         Ok(region) => match first {
-            OneRegion::Close => Ok(LineAnswer::Is(Command::CloseRegion(region))),
-            OneRegion::Clear => Ok(LineAnswer::Is(Command::ClearRegion(region))),
-            OneRegion::Compact => Ok(LineAnswer::Is(Command::Compact(region))),
-            OneRegion::Stat => Ok(LineAnswer::Is(Command::StatOf(region))),
-            OneRegion::Segments => Ok(LineAnswer::Is(Command::Segments(region))),
-            OneRegion::Blocks => Ok(LineAnswer::Is(Command::Blocks(region))),
-            OneRegion::Check => Ok(LineAnswer::Is(Command::Check(region))),
-            OneRegion::Profile => Ok(LineAnswer::Is(Command::ProfileOf(region))),
+            OneRegion::Close => Ok(LineAnswer::Is(Command::CloseRegion(region.name()))),
+            OneRegion::Clear => Ok(LineAnswer::Is(Command::ClearRegion(region.name()))),
+            OneRegion::Compact => Ok(LineAnswer::Is(Command::Compact(region.name()))),
+            OneRegion::Stat => Ok(LineAnswer::Is(Command::StatOf(region.name()))),
+            OneRegion::Segments => Ok(LineAnswer::Is(Command::Segments(region.name()))),
+            OneRegion::Blocks => Ok(LineAnswer::Is(Command::Blocks(region.name()))),
+            OneRegion::Check => Ok(LineAnswer::Is(Command::Check(region.name()))),
+            OneRegion::Profile => Ok(LineAnswer::Is(Command::ProfileOf(region.name()))),
         },
         Err(fault) => Ok(LineAnswer::Bad(fault)),
     }
@@ -163,9 +178,9 @@ fn block_answer(first: BlockWord, others: &[&[u8]]) -> Result<LineAnswer, OutOfM
 {
     match block_in(others) {
         Ok((region, block)) => match first {
-            BlockWord::Free => Ok(LineAnswer::Is(Command::Free(region, block))),
-            BlockWord::Size => Ok(LineAnswer::Is(Command::SizeOf(region, block))),
-            BlockWord::Watch => Ok(LineAnswer::Is(Command::Watch(region, block))),
+            BlockWord::Free => Ok(LineAnswer::Is(Command::Free(region.name(), block.name()))),
+            BlockWord::Size => Ok(LineAnswer::Is(Command::SizeOf(region.name(), block.name()))),
+            BlockWord::Watch => Ok(LineAnswer::Is(Command::Watch(region.name(), block.name()))),
         },
         Err(fault) => Ok(LineAnswer::Bad(fault)),
     }
@@ -179,8 +194,8 @@ fn place_answer(first: PlaceWord, others: &[&[u8]]) -> Result<LineAnswer, OutOfM
 {
     match address_in(others) {
         Ok((region, place)) => match first {
-            PlaceWord::Addr => Ok(LineAnswer::Is(Command::AddrOf(region, place))),
-            PlaceWord::Segment => Ok(LineAnswer::Is(Command::SegmentOf(region, place))),
+            PlaceWord::Addr => Ok(LineAnswer::Is(Command::AddrOf(region.name(), place))),
+            PlaceWord::Segment => Ok(LineAnswer::Is(Command::SegmentOf(region.name(), place))),
         },
         Err(fault) => Ok(LineAnswer::Bad(fault)),
     }
@@ -194,8 +209,18 @@ fn numbers_answer(first: NumbersWord, others: &[&[u8]]) -> Result<LineAnswer, Ou
 {
     match numbers_in(others) {
         Ok((region, block, n, m)) => match first {
-            NumbersWord::Align => Ok(LineAnswer::Is(Command::Align(region, block, n, m))),
-            NumbersWord::Read => Ok(LineAnswer::Is(Command::ReadBlock(region, block, n, m))),
+            NumbersWord::Align => Ok(LineAnswer::Is(Command::Align(
+                region.name(),
+                block.name(),
+                n,
+                m,
+            ))),
+            NumbersWord::Read => Ok(LineAnswer::Is(Command::ReadBlock(
+                region.name(),
+                block.name(),
+                n,
+                m,
+            ))),
         },
         Err(fault) => Ok(LineAnswer::Bad(fault)),
     }

@@ -1,31 +1,54 @@
-use Rattle.vc_base.proofs.Common.{◌≡◌, ℕ, List, ◌++◌, append_assoc, codes, decimal}
-use Rattle.std.proofs.lemmas.Result.{on_ok_weaker}
+use Rattle.vc_base.proofs.Common.{◌≡◌, ℕ, ◌-◌, List, [], ◌∷◌, ◌++◌, drop, take, ◌∙◌, append_assoc, arith, codes, decimal, length-drop, subst, take_all}
 use Rattle.vc_seg.specs.declared.stat.Stat.{Stat}
 use Rattle.vc_script.specs.Print.{stat_numbers}
+use Rattle.vc_script.specs.Puts.{Puts}
 use Rattle.vc_script.proofs.print_lines.put_stats.Goals as goal
 
--- eight labels with their numbers, one behind the other
-module _ (old m1 m2 m3 m4 m5 m6 m7 m8 : List ℕ) (s : Stat) where
-  all-put : m1 ≡ old ++ codes "busy " ++ decimal s.busy
-      → m2 ≡ m1 ++ codes " free " ++ decimal s.free
-      → m3 ≡ m2 ++ codes " sbusy " ++ decimal s.sbusy
-      → m4 ≡ m3 ++ codes " sfree " ++ decimal s.sfree
-      → m5 ≡ m4 ++ codes " mbusy " ++ decimal s.mbusy
-      → m6 ≡ m5 ++ codes " mfree " ++ decimal s.mfree
-      → m7 ≡ m6 ++ codes " segs " ++ decimal s.segs
-      → m8 ≡ m7 ++ codes " extent " ++ decimal s.extent
-      → m8 ≡ old ++ stat_numbers s
-  all-put e1 e2 e3 e4 e5 e6 e7 e8 = rw (e8, e7, e6, e5, e4, e3, e2, e1) (simp append_assoc)
+-- eight numbers with their labels, each before those behind it
+module _ (end n1 n2 n3 n4 n5 n6 n7 n8 t1 t2 t3 t4 t5 t6 t7 t8 : List ℕ) (s : Stat) where
+  all-before : end ≡ 10 ∷ []
+      → n1 ≡ decimal s.extent ++ end
+      → t1 ≡ codes " extent " ++ n1
+      → n2 ≡ decimal s.segs ++ t1
+      → t2 ≡ codes " segs " ++ n2
+      → n3 ≡ decimal s.mfree ++ t2
+      → t3 ≡ codes " mfree " ++ n3
+      → n4 ≡ decimal s.mbusy ++ t3
+      → t4 ≡ codes " mbusy " ++ n4
+      → n5 ≡ decimal s.sfree ++ t4
+      → t5 ≡ codes " sfree " ++ n5
+      → n6 ≡ decimal s.sbusy ++ t5
+      → t6 ≡ codes " sbusy " ++ n6
+      → n7 ≡ decimal s.free ++ t6
+      → t7 ≡ codes " free " ++ n7
+      → n8 ≡ decimal s.busy ++ t7
+      → t8 ≡ codes "busy " ++ n8
+      → t8 ≡ stat_numbers s ++ 10 ∷ []
+  all-before e d1 l1 d2 l2 d3 l3 d4 l4 d5 l5 d6 l6 d7 l7 d8 l8 =
+      rw (l8, d8, l7, d7, l6, d6, l5, d5, l4, d4, l3, d3, l2, d2, l1, d1, e) (simp append_assoc)
 
-pub returns-clause-put : goal.returns-clause-put
-returns-clause-put c =
-    on_ok_weaker c.put_labelled-8.result
-    (all-put c.args.line.now.items _ _ _ _ _ _ _ c.put_labelled-8.new.line.items c.args.stat.now
-    c.in_ok-put_labelled.ensures.put
-    c.in_ok-put_labelled-2.ensures.put
-    c.in_ok-put_labelled-3.ensures.put
-    c.in_ok-put_labelled-4.ensures.put
-    c.in_ok-put_labelled-5.ensures.put
-    c.in_ok-put_labelled-6.ensures.put
-    (rw c.from.ensures at c.in_ok-put_labelled-7.ensures.put))
-    c.put_labelled-8.ensures.put
+pub returns : goal.returns
+returns c =
+    let at = c.text_before-at-9.result in
+    let buf = c.text_before-at-9.new.buf in
+    let rest : take (224 - at) (drop at buf) ≡ drop at buf = take_all (224 - at) (drop at buf) (omega (arith, length-drop at buf)) in
+    subst (Puts c.args.line.now.items c.put.new.line.items c.put.result)
+    (rest ∙ all-before _ _ _ _ _ _ _ _ _ _ _ _ _ _ _ _ _ c.args.stat.now
+    c.text_before-at.ensures.written
+    c.number_before-at.ensures.written
+    c.text_before-at-2.ensures.written
+    (rw c.from.ensures at c.number_before-at-2.ensures.written)
+    c.text_before-at-3.ensures.written
+    c.number_before-at-3.ensures.written
+    c.text_before-at-4.ensures.written
+    c.number_before-at-4.ensures.written
+    c.text_before-at-5.ensures.written
+    c.number_before-at-5.ensures.written
+    c.text_before-at-6.ensures.written
+    c.number_before-at-6.ensures.written
+    c.text_before-at-7.ensures.written
+    c.number_before-at-7.ensures.written
+    c.text_before-at-8.ensures.written
+    c.number_before-at-8.ensures.written
+    c.text_before-at-9.ensures.written)
+    c.put.ensures

@@ -1,4 +1,4 @@
-use Rattle.vc_base.proofs.Common.{◌++◌, ◌∙◌, ap, arith, take_all}
+use Rattle.vc_base.proofs.Common.{◌++◌, ◌∙◌, ap, arith, rules, take_all}
 use Rattle.percent_encoding.specs.Iter.{encoded_text}
 use Rattle.vc_script.proofs.PrintSteps.{front-behind, percent_encode-shown}
 use Rattle.vc_script.proofs.print_parts.put_object.Goals as goal
@@ -12,5 +12,5 @@ loop-piece-init c =
       front = take_all _ _ (omega arith);
     }
 
-pub returns-in_err-put-clause-front : goal.returns-in_err-put-clause-front
-returns-in_err-put-clause-front c = front-behind _ _ _ c.loop-piece.invariant.front c.put.ensures.front
+pub returns-in_err-put : goal.returns-in_err-put
+returns-in_err-put c = record { put = search rules; front = front-behind _ _ _ c.loop-piece.invariant.front c.put.ensures.front }
