@@ -1,5 +1,5 @@
 -- Steps of the printers of replies.
-use Rattle.vc_base.proofs.Common.{◌≡◌, ℕ, ◌+◌, ◌<◌, ◌≤◌, Bool, true, false, cond, not, ◌||◌, List, [], ◌∷◌, ◌++◌, length, get_or, take, drop, flat_map, sym, refl, ap, ◌∙◌, subst, append_assoc, ⊎_elim, arith, nat_tests, cases_lt}
+use Rattle.vc_base.proofs.Common.{◌≡◌, ℕ, ◌+◌, ◌<◌, ◌≤◌, Bool, true, false, cond, not, ◌||◌, List, [], ◌∷◌, ◌++◌, length, get_or, take, drop, flat_map, sym, refl, ap, ◌∙◌, subst, append_assoc, ⊎_elim, arith, nat_tests, cases_lt, IsTrue, and_parts, list_all}
 use Rattle.std.specs.Char.{is_ascii}
 use Rattle.std.specs.Io.{StartsWith}
 use Rattle.std.proofs.lemmas.List.{flat_map_more, take-append-drop, take_more}
@@ -41,6 +41,13 @@ pub percent_encode-shown : (bytes : List ℕ) → percent_encode ESCAPED bytes �
 unfolding percent_encode
 percent_encode-shown [] = refl
 percent_encode-shown (b ∷ bs) = ap (λ e. e ++ percent_encode ESCAPED bs) (encode_byte-shown b) ∙ ap (λ rest. shown_byte b ++ rest) (percent_encode-shown bs)
+
+-- bytes that stand for themselves are shown as they are
+pub shown_bytes-plain : (bytes : List ℕ) → IsTrue (list_all is_plain bytes) → shown_bytes bytes ≡ bytes
+shown_bytes-plain [] each = refl
+shown_bytes-plain (b ∷ bs) each =
+    let parts = and_parts (is_plain b) (list_all is_plain bs) each in
+    ap (λ t. cond t (b ∷ []) (percent_encode_byte b) ++ shown_bytes bs) parts.0 ∙ ap (λ rest. b ∷ rest) (shown_bytes-plain bs parts.1)
 
 -- what begins with a text and another behind it begins with the one
 pub front-of : (old more new : List ℕ) → take (length (old ++ more)) new ≡ old ++ more → (take (length (old ++ more)) new ≡ old ++ more) × (take (length old) new ≡ old)

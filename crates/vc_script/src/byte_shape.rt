@@ -24,6 +24,7 @@ fn object_word_in<'a>(others: &[&'a [u8]]) -> Result<(NameWord<'a>, Spelled<'a>)
 }
 
 // `D OBJ`.
+#[inline(always)]
 pub(crate) fn object_in<'a>(
     alloc: Global,
     others: &[&'a [u8]],

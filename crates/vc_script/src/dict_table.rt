@@ -85,14 +85,17 @@ fn one_dictionary_answer(first: OneDictionary, others: &[&[u8]]) -> Result<LineA
         a ≡ answer_in dictionary_rows (one_dictionary_spelling first) (map (λ w. w.now) others.now)) }
 {
     match name_in(others) {
-        Ok(dict) => match first {
-            OneDictionary::First => Ok(LineAnswer::Is(Command::First(dict.name()))),
-            OneDictionary::Last => Ok(LineAnswer::Is(Command::Last(dict.name()))),
-            OneDictionary::Walk => Ok(LineAnswer::Is(Command::Walk(dict.name()))),
-            OneDictionary::Count => Ok(LineAnswer::Is(Command::Count(dict.name()))),
-            OneDictionary::Empty => Ok(LineAnswer::Is(Command::Empty(dict.name()))),
-            OneDictionary::Shut => Ok(LineAnswer::Is(Command::Shut(dict.name()))),
-        },
+        Ok(dict) => {
+            let dict = dict.name();
+            match first {
+                OneDictionary::First => Ok(LineAnswer::Is(Command::First(dict))),
+                OneDictionary::Last => Ok(LineAnswer::Is(Command::Last(dict))),
+                OneDictionary::Walk => Ok(LineAnswer::Is(Command::Walk(dict))),
+                OneDictionary::Count => Ok(LineAnswer::Is(Command::Count(dict))),
+                OneDictionary::Empty => Ok(LineAnswer::Is(Command::Empty(dict))),
+                OneDictionary::Shut => Ok(LineAnswer::Is(Command::Shut(dict))),
+            }
+        }
         Err(fault) => Ok(LineAnswer::Bad(fault)),
     }
 }
@@ -108,16 +111,19 @@ fn object_answer(
         a ≡ answer_in dictionary_rows (object_spelling first) (map (λ w. w.now) others.now)) }
 {
     match object_in(alloc, others)? {
-        Ok((dict, object)) => match first {
-            ObjectWord::Insert => Ok(LineAnswer::Is(Command::Insert(dict.name(), object))),
-            ObjectWord::Append => Ok(LineAnswer::Is(Command::Append(dict.name(), object))),
-            ObjectWord::Attach => Ok(LineAnswer::Is(Command::Attach(dict.name(), object))),
-            ObjectWord::Detach => Ok(LineAnswer::Is(Command::Detach(dict.name(), object))),
-            ObjectWord::Search => Ok(LineAnswer::Is(Command::Search(dict.name(), object))),
-            ObjectWord::MatchKey => Ok(LineAnswer::Is(Command::MatchKey(dict.name(), object))),
-            ObjectWord::Next => Ok(LineAnswer::Is(Command::Next(dict.name(), object))),
-            ObjectWord::Prev => Ok(LineAnswer::Is(Command::Prev(dict.name(), object))),
-        },
+        Ok((dict, object)) => {
+            let dict = dict.name();
+            match first {
+                ObjectWord::Insert => Ok(LineAnswer::Is(Command::Insert(dict, object))),
+                ObjectWord::Append => Ok(LineAnswer::Is(Command::Append(dict, object))),
+                ObjectWord::Attach => Ok(LineAnswer::Is(Command::Attach(dict, object))),
+                ObjectWord::Detach => Ok(LineAnswer::Is(Command::Detach(dict, object))),
+                ObjectWord::Search => Ok(LineAnswer::Is(Command::Search(dict, object))),
+                ObjectWord::MatchKey => Ok(LineAnswer::Is(Command::MatchKey(dict, object))),
+                ObjectWord::Next => Ok(LineAnswer::Is(Command::Next(dict, object))),
+                ObjectWord::Prev => Ok(LineAnswer::Is(Command::Prev(dict, object))),
+            }
+        }
         Err(fault) => Ok(LineAnswer::Bad(fault)),
     }
 }

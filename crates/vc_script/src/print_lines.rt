@@ -10,7 +10,7 @@ use crate::line_end::{number_before, text_before, watch_before};
 use crate::print_lists::{
     put_each_block, put_each_damage, put_each_object, put_each_row, put_each_segment,
 };
-use crate::print_parts::{put, put_hex, put_labelled, put_object};
+use crate::print_parts::{put, put_hex, put_labelled, put_object_between};
 use crate::print_refusals::refused_words;
 use crate::print_texts::label_text;
 use crate::{BlockItems, Bytes, DamageItems, ObjectItems, Place, Refusal, RowItems, SegmentItems};
@@ -225,12 +225,11 @@ pub(crate) fn put_object_line(
     text: &[u8],
     bytes: &Bytes,
 ) -> Result<(), AllocError>
+    requires { length text.now ≤ 8 }
     ensures { Puts line.old.items line.new.items result
         (text.now ++ shown_bytes bytes.now ++ 10 ∷ []) }
 {
-    put(line, text)?;
-    put_object(line, bytes.as_slice())?;
-    put(line, b"\n")
+    put_object_between(line, text, bytes.as_slice(), b"\n")
 }
 
 pub(crate) fn put_segments(line: &mut Vec<u8>, items: &SegmentItems) -> Result<(), AllocError>

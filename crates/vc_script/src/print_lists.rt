@@ -5,7 +5,7 @@ ghost use Rattle.vc_script.specs.Print.{block_text, damage_text, object_text, ro
 ghost use Rattle.vc_script.specs.Puts.{Puts};
 
 use crate::line_end::{number_before, text_before};
-use crate::print_parts::{put, put_object};
+use crate::print_parts::{put, put_object_between};
 use crate::print_texts::label_text;
 use crate::{BlockItems, Bytes, DamageItems, ObjectItems, Place, RowItems, SegmentItems};
 use itoa::Buffer;
@@ -117,6 +117,5 @@ pub(crate) fn put_each_object(line: &mut Vec<u8>, items: &ObjectItems) -> Result
 fn put_spaced_object(line: &mut Vec<u8>, item: &Bytes) -> Result<(), AllocError>
     ensures { Puts line.old.items line.new.items result (object_text item.now) }
 {
-    put(line, b" ")?;
-    put_object(line, item.as_slice())
+    put_object_between(line, b" ", item.as_slice(), b"")
 }

@@ -1,11 +1,13 @@
 #![tactic(auto, using(crate::proofs::PrintSteps::front_steps))]
 
-ghost use Rattle.std.specs.Prelude.{◌≤◌, ◌++◌, decimal, length};
+ghost use Rattle.std.specs.Prelude.{◌≡◌, ◌≤◌, ◌++◌, decimal, length};
+ghost use Rattle.std.specs.List.{list_all};
 ghost use Rattle.hex.specs.Hex.{encode_lower};
 ghost use Rattle.vc_script.specs.Puts.{Puts};
-ghost use Rattle.vc_script.specs.Shown.{shown_bytes};
+ghost use Rattle.vc_script.specs.Shown.{is_plain, shown_bytes};
 
 use crate::line_end::{number_before, text_before};
+use crate::word::{is_digit, is_letter};
 use percent_encoding::{AsciiSet, NON_ALPHANUMERIC, ascii_set, percent_encode};
 use std::alloc::AllocError;
 
@@ -55,11 +57,57 @@ pub(crate) fn put_hex(line: &mut Vec<u8>, bytes: &[u8]) -> Result<(), AllocError
 }
 
 #[tactic(auto, using(crate::proofs::PrintSteps::shown_steps))]
-pub(crate) fn put_object(line: &mut Vec<u8>, object: &[u8]) -> Result<(), AllocError>
+fn put_object(line: &mut Vec<u8>, object: &[u8]) -> Result<(), AllocError>
     ensures { Puts line.old.items line.new.items result (shown_bytes object.now) }
 {
     for piece in percent_encode(object, ESCAPED) {
         put(line, piece.as_bytes())?;
     }
     Ok(())
+}
+
+fn is_plain(b: u8) -> bool
+    ensures { result ≡ is_plain b }
+{
+    is_letter(b) || is_digit(b) || b == b'-' || b == b'.' || b == b'_' || b == b'~'
+}
+
+fn are_plain(bytes: &[u8]) -> bool
+    ensures { result ≡ list_all is_plain bytes.now }
+{
+    bytes.iter().all(|b| is_plain(*b))
+}
+
+// Three short texts.
+fn put_texts(line: &mut Vec<u8>, front: &[u8], middle: &[u8], back: &[u8]) -> Result<(), AllocError>
+    requires front { length front.now ≤ 8 }
+    requires middle { length middle.now ≤ 64 }
+    requires back { length back.now ≤ 8 }
+    ensures { Puts line.old.items line.new.items result (front.now ++ middle.now ++ back.now) }
+{
+    let mut buf = [0u8; 80];
+    let at = text_before(&mut buf, 80, back);
+    let at = text_before(&mut buf, at, middle);
+    let at = text_before(&mut buf, at, front);
+    put(line, &buf[at..])
+}
+
+// An object between two short texts.
+pub(crate) fn put_object_between(
+    line: &mut Vec<u8>,
+    front: &[u8],
+    object: &[u8],
+    back: &[u8],
+) -> Result<(), AllocError>
+    requires front { length front.now ≤ 8 }
+    requires back { length back.now ≤ 8 }
+    ensures { Puts line.old.items line.new.items result
+        (front.now ++ shown_bytes object.now ++ back.now) }
+{
+    if object.len() <= 64 && are_plain(object) {
+        return put_texts(line, front, object, back);
+    }
+    put(line, front)?;
+    put_object(line, object)?;
+    put(line, back)
 }

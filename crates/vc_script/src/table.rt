@@ -156,16 +156,19 @@ fn one_region_answer(first: OneRegion, others: &[&[u8]]) -> Result<LineAnswer, O
         a ≡ answer_in region_rows (one_region_spelling first) (map (λ w. w.now) others.now)) }
 {
     match name_in(others) {
-        Ok(region) => match first {
-            OneRegion::Close => Ok(LineAnswer::Is(Command::CloseRegion(region.name()))),
-            OneRegion::Clear => Ok(LineAnswer::Is(Command::ClearRegion(region.name()))),
-            OneRegion::Compact => Ok(LineAnswer::Is(Command::Compact(region.name()))),
-            OneRegion::Stat => Ok(LineAnswer::Is(Command::StatOf(region.name()))),
-            OneRegion::Segments => Ok(LineAnswer::Is(Command::Segments(region.name()))),
-            OneRegion::Blocks => Ok(LineAnswer::Is(Command::Blocks(region.name()))),
-            OneRegion::Check => Ok(LineAnswer::Is(Command::Check(region.name()))),
-            OneRegion::Profile => Ok(LineAnswer::Is(Command::ProfileOf(region.name()))),
-        },
+        Ok(region) => {
+            let region = region.name();
+            match first {
+                OneRegion::Close => Ok(LineAnswer::Is(Command::CloseRegion(region))),
+                OneRegion::Clear => Ok(LineAnswer::Is(Command::ClearRegion(region))),
+                OneRegion::Compact => Ok(LineAnswer::Is(Command::Compact(region))),
+                OneRegion::Stat => Ok(LineAnswer::Is(Command::StatOf(region))),
+                OneRegion::Segments => Ok(LineAnswer::Is(Command::Segments(region))),
+                OneRegion::Blocks => Ok(LineAnswer::Is(Command::Blocks(region))),
+                OneRegion::Check => Ok(LineAnswer::Is(Command::Check(region))),
+                OneRegion::Profile => Ok(LineAnswer::Is(Command::ProfileOf(region))),
+            }
+        }
         Err(fault) => Ok(LineAnswer::Bad(fault)),
     }
 }
@@ -177,11 +180,15 @@ fn block_answer(first: BlockWord, others: &[&[u8]]) -> Result<LineAnswer, OutOfM
         a ≡ answer_in region_rows (block_spelling first) (map (λ w. w.now) others.now)) }
 {
     match block_in(others) {
-        Ok((region, block)) => match first {
-            BlockWord::Free => Ok(LineAnswer::Is(Command::Free(region.name(), block.name()))),
-            BlockWord::Size => Ok(LineAnswer::Is(Command::SizeOf(region.name(), block.name()))),
-            BlockWord::Watch => Ok(LineAnswer::Is(Command::Watch(region.name(), block.name()))),
-        },
+        Ok((region, block)) => {
+            let region = region.name();
+            let block = block.name();
+            match first {
+                BlockWord::Free => Ok(LineAnswer::Is(Command::Free(region, block))),
+                BlockWord::Size => Ok(LineAnswer::Is(Command::SizeOf(region, block))),
+                BlockWord::Watch => Ok(LineAnswer::Is(Command::Watch(region, block))),
+            }
+        }
         Err(fault) => Ok(LineAnswer::Bad(fault)),
     }
 }
@@ -193,10 +200,13 @@ fn place_answer(first: PlaceWord, others: &[&[u8]]) -> Result<LineAnswer, OutOfM
         a ≡ answer_in region_rows (place_spelling first) (map (λ w. w.now) others.now)) }
 {
     match address_in(others) {
-        Ok((region, place)) => match first {
-            PlaceWord::Addr => Ok(LineAnswer::Is(Command::AddrOf(region.name(), place))),
-            PlaceWord::Segment => Ok(LineAnswer::Is(Command::SegmentOf(region.name(), place))),
-        },
+        Ok((region, place)) => {
+            let region = region.name();
+            match first {
+                PlaceWord::Addr => Ok(LineAnswer::Is(Command::AddrOf(region, place))),
+                PlaceWord::Segment => Ok(LineAnswer::Is(Command::SegmentOf(region, place))),
+            }
+        }
         Err(fault) => Ok(LineAnswer::Bad(fault)),
     }
 }
@@ -208,20 +218,14 @@ fn numbers_answer(first: NumbersWord, others: &[&[u8]]) -> Result<LineAnswer, Ou
         a ≡ answer_in region_rows (numbers_spelling first) (map (λ w. w.now) others.now)) }
 {
     match numbers_in(others) {
-        Ok((region, block, n, m)) => match first {
-            NumbersWord::Align => Ok(LineAnswer::Is(Command::Align(
-                region.name(),
-                block.name(),
-                n,
-                m,
-            ))),
-            NumbersWord::Read => Ok(LineAnswer::Is(Command::ReadBlock(
-                region.name(),
-                block.name(),
-                n,
-                m,
-            ))),
-        },
+        Ok((region, block, n, m)) => {
+            let region = region.name();
+            let block = block.name();
+            match first {
+                NumbersWord::Align => Ok(LineAnswer::Is(Command::Align(region, block, n, m))),
+                NumbersWord::Read => Ok(LineAnswer::Is(Command::ReadBlock(region, block, n, m))),
+            }
+        }
         Err(fault) => Ok(LineAnswer::Bad(fault)),
     }
 }
