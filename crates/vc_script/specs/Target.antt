@@ -4,7 +4,6 @@ use Rattle.vc_script.specs.declared.command.Command.{Command}
 use Rattle.vc_script.specs.declared.command.Command.TheVariants as command
 use Rattle.vc_script.specs.declared.target.Target.{Target}
 use Rattle.vc_script.specs.declared.target.Target.TheVariants.{Shelf, Region, Dict}
-use Rattle.vc_script.specs.declared.target.Work.{Work}
 use Rattle.vc_script.specs.declared.target.Work.TheVariants.{Own, Look, View, Turn, End}
 
 -- what opens or closes a region, or opens a dictionary, works on the shelf; any other command in a region or on a dictionary

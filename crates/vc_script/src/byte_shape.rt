@@ -10,7 +10,7 @@ use crate::name_word::{NameWord, name_of};
 use crate::spelled::Spelled;
 use crate::{Bytes, LineFault};
 use std::alloc::Global;
-use vc_base::OutOfMemory;
+use vc_base::{Name, OutOfMemory};
 
 // `D OBJ`, with the word that spells the object.
 fn object_word_in<'a>(others: &[&'a [u8]]) -> Result<(NameWord<'a>, Spelled<'a>), LineFault>
@@ -24,16 +24,15 @@ fn object_word_in<'a>(others: &[&'a [u8]]) -> Result<(NameWord<'a>, Spelled<'a>)
 }
 
 // `D OBJ`.
-#[inline(always)]
-pub(crate) fn object_in<'a>(
+pub(crate) fn object_in(
     alloc: Global,
-    others: &[&'a [u8]],
-) -> Result<Result<(NameWord<'a>, Bytes), LineFault>, OutOfMemory>
+    others: &[&[u8]],
+) -> Result<Result<(Name, Bytes), LineFault>, OutOfMemory>
     ensures { IfOk result (λ read. result_map_both (λ t. (t.0, (t.1, tt))) (λ e. e) read
         ≡ read_words (form.Name ∷ form.Bytes ∷ []) None (map (λ w. w.now) others.now)) }
 {
     match object_word_in(others) {
-        Ok((dict, object)) => Ok(Ok((dict, decoded(alloc, object)?))),
+        Ok((dict, object)) => Ok(Ok((dict.name(), decoded(alloc, object)?))),
         Err(fault) => Ok(Err(fault)),
     }
 }
@@ -48,8 +47,8 @@ pub(crate) fn delete_in<'a>(
 {
     match others {
         [dict] => Ok(name_of(dict).map(|dict| (dict, None))),
-        [_, _] => match object_in(alloc, others)? {
-            Ok((dict, object)) => Ok(Ok((dict, Some(object)))),
+        [_, _] => match object_word_in(others) {
+            Ok((dict, object)) => Ok(Ok((dict, Some(decoded(alloc, object)?)))),
             Err(fault) => Ok(Err(fault)),
         },
         _ => Ok(Err(LineFault::WordCount)),

@@ -111,19 +111,16 @@ fn object_answer(
         a ≡ answer_in dictionary_rows (object_spelling first) (map (λ w. w.now) others.now)) }
 {
     match object_in(alloc, others)? {
-        Ok((dict, object)) => {
-            let dict = dict.name();
-            match first {
-                ObjectWord::Insert => Ok(LineAnswer::Is(Command::Insert(dict, object))),
-                ObjectWord::Append => Ok(LineAnswer::Is(Command::Append(dict, object))),
-                ObjectWord::Attach => Ok(LineAnswer::Is(Command::Attach(dict, object))),
-                ObjectWord::Detach => Ok(LineAnswer::Is(Command::Detach(dict, object))),
-                ObjectWord::Search => Ok(LineAnswer::Is(Command::Search(dict, object))),
-                ObjectWord::MatchKey => Ok(LineAnswer::Is(Command::MatchKey(dict, object))),
-                ObjectWord::Next => Ok(LineAnswer::Is(Command::Next(dict, object))),
-                ObjectWord::Prev => Ok(LineAnswer::Is(Command::Prev(dict, object))),
-            }
-        }
+        Ok((dict, object)) => match first {
+            ObjectWord::Insert => Ok(LineAnswer::Is(Command::Insert(dict, object))),
+            ObjectWord::Append => Ok(LineAnswer::Is(Command::Append(dict, object))),
+            ObjectWord::Attach => Ok(LineAnswer::Is(Command::Attach(dict, object))),
+            ObjectWord::Detach => Ok(LineAnswer::Is(Command::Detach(dict, object))),
+            ObjectWord::Search => Ok(LineAnswer::Is(Command::Search(dict, object))),
+            ObjectWord::MatchKey => Ok(LineAnswer::Is(Command::MatchKey(dict, object))),
+            ObjectWord::Next => Ok(LineAnswer::Is(Command::Next(dict, object))),
+            ObjectWord::Prev => Ok(LineAnswer::Is(Command::Prev(dict, object))),
+        },
         Err(fault) => Ok(LineAnswer::Bad(fault)),
     }
 }

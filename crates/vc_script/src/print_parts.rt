@@ -7,7 +7,6 @@ ghost use Rattle.vc_script.specs.Puts.{Puts};
 ghost use Rattle.vc_script.specs.Shown.{is_plain, shown_bytes};
 
 use crate::line_end::{number_before, text_before};
-use crate::word::{is_digit, is_letter};
 use percent_encoding::{AsciiSet, NON_ALPHANUMERIC, ascii_set, percent_encode};
 use std::alloc::AllocError;
 
@@ -69,7 +68,7 @@ fn put_object(line: &mut Vec<u8>, object: &[u8]) -> Result<(), AllocError>
 fn is_plain(b: u8) -> bool
     ensures { result ≡ is_plain b }
 {
-    is_letter(b) || is_digit(b) || b == b'-' || b == b'.' || b == b'_' || b == b'~'
+    !ESCAPED.should_percent_encode(b)
 }
 
 fn are_plain(bytes: &[u8]) -> bool
@@ -79,6 +78,7 @@ fn are_plain(bytes: &[u8]) -> bool
 }
 
 // Three short texts.
+#[inline(always)]
 fn put_texts(line: &mut Vec<u8>, front: &[u8], middle: &[u8], back: &[u8]) -> Result<(), AllocError>
     requires front { length front.now ≤ 8 }
     requires middle { length middle.now ≤ 64 }
@@ -93,6 +93,7 @@ fn put_texts(line: &mut Vec<u8>, front: &[u8], middle: &[u8], back: &[u8]) -> Re
 }
 
 // An object between two short texts.
+#[inline(always)]
 pub(crate) fn put_object_between(
     line: &mut Vec<u8>,
     front: &[u8],

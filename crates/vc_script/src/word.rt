@@ -11,13 +11,13 @@ fn is_blank(b: u8) -> bool
     b == b' ' || b == b'\t'
 }
 
-pub(crate) fn is_digit(b: u8) -> bool
+fn is_digit(b: u8) -> bool
     ensures { result ≡ is_digit b }
 {
     48 <= b && b <= 57
 }
 
-pub(crate) fn is_letter(b: u8) -> bool
+fn is_letter(b: u8) -> bool
     ensures { result ≡ is_letter b }
 {
     65 <= b && b <= 90 || 97 <= b && b <= 122
