@@ -1,3 +1,5 @@
 pub mod Kept
 pub mod Blocks
 pub mod LatestBlock
+pub mod PoolSteps
+pub mod PoolLists

@@ -4,6 +4,7 @@ pub mod Table
 pub mod LastWay
 pub mod LastParts
 pub mod PoolWay
+pub mod PoolParts
 pub mod Regions
 pub mod Tally
 pub mod Step

@@ -3,6 +3,7 @@
 
 mod each;
 mod last_way;
+mod pool_way;
 mod rows;
 mod tally;
 mod way;

@@ -1,0 +1,96 @@
+ghost use Rattle.std.specs.Prelude.{◌≡◌, ◌≢◌, ℕ, OnOk, ◌<◌, ◌≤◌, All, length};
+ghost use Rattle.vc_base.specs.Prelude.{place_of, HasBlock};
+ghost use Rattle.vc_seg.specs.OneBlock.{IsSize};
+ghost use Rattle.vc_ways.specs.Answer.{AreKept, Gives, IsLent};
+ghost use Rattle.vc_ways.specs.PoolParts.{cells_at, holdings, pools_of, terms_in};
+ghost use Rattle.vc_ways.specs.PoolWay.{cell_free, cell_put, cell_sized, class_of};
+
+use vc_base::Addr;
+use vc_pool::Pool;
+use vc_seg::RegionFault;
+
+// The bytes of each class.
+const CLASSES: [u32; 20] = [
+    32, 64, 128, 256, 512, 1024, 2048, 4096, 8192, 16384, 32768, 65536, 131072, 262144, 524288,
+    1048576, 2097152, 4194304, 8388608, 16777216,
+];
+
+// How many classes are smaller than a block.
+fn smaller_classes(size: u32) -> usize
+    ensures { result ≡ class_of size }
+{
+    CLASSES.iter().filter(|bytes| **bytes < size).count()
+}
+
+// The least class that holds a block.
+pub(crate) fn class_of(size: u32) -> usize
+    requires { size ≤ 16777216 }
+    ensures value { result ≡ class_of size }
+    ensures few { result < 20 }
+{
+    smaller_classes(size)
+}
+
+// Puts a block into a cell of its class. The faults are those of the pool's `alloc`.
+pub(crate) fn put_cell(pools: &mut Vec<Pool>, size: u32) -> Result<Addr, RegionFault>
+    requires size { IsSize size }
+    requires classes { length pools.old.items ≡ 20 }
+    requires lent { All IsLent (holdings state pools.old.items) }
+    ensures answer { Gives
+        (cell_put (terms_in (holdings state pools.old.items)) (pools_of pools.old.items) size)
+        (λ a. place_of a.0) result (pools_of pools.new.items) }
+    ensures keeps { AreKept (holdings state pools.old.items) (holdings state pools.new.items) }
+    ensures classes { length pools.new.items ≡ 20 }
+    ensures others { (class : ℕ) → class ≢ class_of size
+        → cells_at (pools_of pools.new.items) class ≡ cells_at (pools_of pools.old.items) class }
+{
+    let class = class_of(size);
+    let bytes = CLASSES[class];
+    pools[class].alloc(bytes, 0)
+}
+
+// Frees the cell at an address of the class of a size.
+pub(crate) fn free_cell(pools: &mut Vec<Pool>, size: u32, at: Addr)
+    requires size { IsSize size }
+    requires classes { length pools.old.items ≡ 20 }
+    requires block { HasBlock (cells_at (pools_of pools.old.items) (class_of size)) at.0 }
+    ensures pools { pools_of pools.new.items
+        ≡ cell_free (pools_of pools.old.items) size (place_of at.0) }
+    ensures keeps { AreKept (holdings state pools.old.items) (holdings state pools.new.items) }
+    ensures classes { length pools.new.items ≡ 20 }
+{
+    let class = class_of(size);
+    pools[class].free(at);
+}
+
+// Gives the block of a size at an address another size, and answers where it is then. Within its class nothing changes;
+// into another class it is put first, and then its old cell is free.
+pub(crate) fn resize_cell(
+    pools: &mut Vec<Pool>,
+    old: u32,
+    at: Addr,
+    size: u32,
+) -> Result<Addr, RegionFault>
+    requires old { IsSize old }
+    requires size { IsSize size }
+    requires classes { length pools.old.items ≡ 20 }
+    requires lent { All IsLent (holdings state pools.old.items) }
+    requires block { HasBlock (cells_at (pools_of pools.old.items) (class_of old)) at.0 }
+    ensures answer { Gives
+        (cell_sized (terms_in (holdings state pools.old.items)) (pools_of pools.old.items) old
+        (place_of at.0) size)
+        (λ a. place_of a.0) result (pools_of pools.new.items) }
+    ensures keeps { AreKept (holdings state pools.old.items) (holdings state pools.new.items) }
+    ensures classes { length pools.new.items ≡ 20 }
+{
+    if class_of(size) == class_of(old) {
+        return Ok(at);
+    }
+    match put_cell(pools, size) {
+        Ok(to) => {
+            free_cell(pools, old, at);
+            Ok(to)
+        }
+        Err(fault) => Err(fault),
+    }
+}
