@@ -4,7 +4,6 @@ ghost use Rattle.vc_model.specs.Best.{best_alloc};
 ghost use Rattle.vc_model.specs.Sound.{HasWholeBlocks, IsSound};
 ghost use Rattle.vc_extent.specs.Tiling.{tiling};
 ghost use Rattle.vc_best.specs.Ask.{AsksForSegment};
-ghost use Rattle.vc_gaps.specs.Cost.{GapsCost};
 ghost use Rattle.vc_gaps.specs.GapTree.{HasGaps};
 ghost use Rattle.vc_best.specs.Blocks.{layout_by};
 ghost use Rattle.vc_best.specs.Free.{IsMerged};
@@ -54,7 +53,7 @@ pub struct Best {
 }
 
 impl Best {
-    ghost use Rattle.vc_best.specs.Cost.{CallCosts};
+    ghost use Rattle.vc_best.specs.Cost.{CallCosts, TreeCosts};
     ghost use Rattle.vc_best.specs.Parts.{blocks_in, layout_of, segments_in};
 
     /// A region with no segment. It takes none before the first block, but memory for the places of 1,023. Where that is
@@ -108,9 +107,7 @@ impl Best {
 
         // At an alignment of 32 it costs one call, and no more of its tree.
         ensures call { align ≡ 32 → CallCosts self.old self.new 1 steps.old steps.new }
-        ensures cost { align ≡ 32 → GapsCost (tiling self.old.extents.segs.items)
-            (tiling self.new.extents.segs.items) self.old.root.0 self.new.root.0
-            steps.old steps.new 40 3 2 }
+        ensures cost { align ≡ 32 → TreeCosts self.old self.new steps.old steps.new 40 3 2 }
     {
         let extents = &mut self.extents;
         let root = &mut self.root;
