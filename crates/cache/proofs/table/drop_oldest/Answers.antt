@@ -1,0 +1,28 @@
+use Rattle.vc_base.proofs.Common.{◌≡◌, ℕ, List, [], ◌∷◌, ◌++◌, Some, None, length, codes, sym, refl, ap, ◌∙◌, subst}
+use Rattle.vc_dtdisc.specs.Shapes.{rules_of}
+use Rattle.vc_store.specs.Collections.{contents}
+use Rattle.vc_store.specs.Reading.{Contents, current, first_place, object_at, without_key}
+use Rattle.cache.specs.Asking.{key_rules, line}
+use Rattle.cache.proofs.Keys.{first-gone, first-is}
+use Rattle.cache.proofs.table.drop_oldest.Goals as goal
+
+pub returns-clause-drops : goal.returns-clause-drops
+returns-clause-drops g c =
+    let old = (contents c.args.queue.now).objects in
+    let new = (contents c.remove.new.self).objects in
+    let bytes : c.extend_from_slice.new.self.items ≡ c.in-Some.key.now =
+    c.in_ok-extend_from_slice.ensures.items ∙ ap (λ xs. xs ++ c.in-Some.key.now) c.new-oldest.ensures.items in
+    let key : c.as_slice.result.now ≡ c.in-Some.key.now = c.as_slice.ensures.value ∙ bytes in
+    let told : c.as_slice-3.result.now ≡ c.in-Some.key.now = c.as_slice-3.ensures.value ∙ bytes in
+    let firsts : (contents c.first.new.self).objects ≡ old = ap (λ (d : Contents). d.objects) c.first.ensures.moved in
+    let shown : Some c.in-Some.key.now ≡ object_at (first_place (length old)) old =
+    c.in-Some.ensures ∙ ap current c.first.ensures.moved in
+    let gone : new ≡ without_key key_rules c.in-Some.key.now old =
+    c.in_ok-remove.ensures.lacks.objects
+    ∙ (ap (λ r. without_key r c.as_slice.result.now (contents c.first.new.self).objects) (c.first.ensures.stays.rules ∙ c.requires.queue.rules)
+    ∙ (ap (λ k. without_key key_rules k (contents c.first.new.self).objects) key
+    ∙ ap (without_key key_rules c.in-Some.key.now) firsts)) in (
+      c.in-Some.key.now,
+      first-is c.in-Some.key.now old new shown gone,
+      c.in_ok-put_line.ensures ∙ ap (λ k. c.args.lines.now.items ++ line (codes "gone ") k) told,
+    )
