@@ -3,3 +3,4 @@ pub mod Blocks
 pub mod LatestBlock
 pub mod PoolSteps
 pub mod PoolLists
+pub mod ThreeWays

@@ -4,7 +4,7 @@ use Rattle.vc_model.specs.Best.{best_alloc, without_block_at}
 use Rattle.vc_model.specs.Discipline.{Terms}
 use Rattle.vc_model.specs.Layout.{Layout, empty_layout}
 use Rattle.vc_model.specs.Numbers.{segment_bytes}
-use Rattle.vc_model.specs.Outcome.{Outcome, Done, Fault, Refused}
+use Rattle.vc_model.specs.Outcome.{Outcome, Done, Fault, Put, Refused}
 use Rattle.vc_model.specs.Pool.{Pool}
 use Rattle.vc_model.specs.Resize.{best_resize}
 use Rattle.vc_ways.specs.declared.each.Each.{Each}
@@ -56,21 +56,31 @@ is_refused (Some way.Last) way.Last = true
 is_refused (Some way.Pool) way.Pool = true
 is_refused refused way = false
 
+-- a block of a size has these places; dead blocks at the end of the last region are freed
+abbrev pub took : ℕ → Put (Layout ℕ) → ℕ × LastWay → (ℕ × ℕ) × List (Pool ℕ) → Tried (Live × Regions)
+took size best last pool =
+    Took (record { size = size; best = best.at; last = last.0; cell = pool.0 }, record { best = best.region; last = drop_dead last.1; pools = pool.1 })
+
+-- the calls in the three ways, for a block of a size
+abbrev pub three_ways : ℕ → Outcome (Put (Layout ℕ)) → Outcome (ℕ × LastWay) → Outcome ((ℕ × ℕ) × List (Pool ℕ)) → Tried (Live × Regions)
+three_ways size best last pool =
+    in_way way.Best best (λ b. in_way way.Last last (λ l. in_way way.Pool pool (took size b l)))
+
 -- a block of a size is put; in which way a segment is refused, if in any, is the one free choice
 abbrev pub put_block : WayTerms → Regions → ℕ → Option Way → Tried (Live × Regions)
 put_block terms r size refused =
-    in_way way.Best (best_alloc terms.best r.best 0 size 32 (is_refused refused way.Best)) (λ best.
-    in_way way.Last (last_put terms.last r.last size (is_refused refused way.Last)) (λ last.
-    in_way way.Pool (cell_put terms.pools r.pools size (is_refused refused way.Pool)) (λ pool.
-    Took (record { size = size; best = best.at; last = last.0; cell = pool.0 }, record { best = best.region; last = drop_dead last.1; pools = pool.1 }))))
+    three_ways size
+    (best_alloc terms.best r.best 0 size 32 (is_refused refused way.Best))
+    (last_put terms.last r.last size (is_refused refused way.Last))
+    (cell_put terms.pools r.pools size (is_refused refused way.Pool))
 
--- a block gets another size, and may move; dead blocks at the end of the last region are freed
+-- a block gets another size, and may move
 abbrev pub size_block : WayTerms → Regions → Live → ℕ → Option Way → Tried (Live × Regions)
 size_block terms r live size refused =
-    in_way way.Best (best_resize terms.best r.best live.best size true (is_refused refused way.Best)) (λ best.
-    in_way way.Last (last_sized terms.last r.last live.last size (is_refused refused way.Last)) (λ last.
-    in_way way.Pool (cell_sized terms.pools r.pools live.size live.cell size (is_refused refused way.Pool)) (λ pool.
-    Took (record { size = size; best = best.at; last = last.0; cell = pool.0 }, record { best = best.region; last = drop_dead last.1; pools = pool.1 }))))
+    three_ways size
+    (best_resize terms.best r.best live.best size true (is_refused refused way.Best))
+    (last_sized terms.last r.last live.last size (is_refused refused way.Last))
+    (cell_sized terms.pools r.pools live.size live.cell size (is_refused refused way.Pool))
 
 -- a block is freed; in the last region it is dead
 abbrev pub free_block : Regions → Live → Regions

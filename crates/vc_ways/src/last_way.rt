@@ -1,7 +1,7 @@
 ghost use Rattle.std.specs.Prelude.{◌≡◌, ◌<◌, ◌+◌, [], length, OnOk, IfOk, IfErr};
 ghost use Rattle.vc_seg.specs.OneBlock.{IsSize};
 ghost use Rattle.vc_ways.specs.Answer.{Gives, IsGrown, IsLent, Keeps};
-ghost use Rattle.vc_ways.specs.LastWay.{drop_dead, ends_dead, last_put, last_sized, latest_sized, new_last, without_latest};
+ghost use Rattle.vc_ways.specs.LastWay.{drop_dead, ends_dead, last_dead, last_put, last_sized, latest_sized, new_last, without_latest};
 
 use std::alloc::Global;
 use vc_base::OutOfMemory;
@@ -98,6 +98,17 @@ impl LastWay {
         }
         self.dead[i] = true;
         self.put(size)
+    }
+
+    /// The block behind so many is dead.
+    pub fn mark_dead(&mut self, i: usize)
+        requires block { i < length self.old.dead.items }
+        requires paired { IsPaired self.old }
+        ensures way { way_of self.new ≡ last_dead (way_of self.old) i }
+        ensures paired { IsPaired self.new }
+        ensures keeps { Keeps (holding_of state self.old) (holding_of state self.new) }
+    {
+        self.dead[i] = true;
     }
 
     // Whether the latest block is dead.

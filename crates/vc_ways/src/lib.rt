@@ -3,13 +3,17 @@
 
 mod each;
 mod last_way;
+mod live;
 mod pool_way;
+mod regions;
 mod rows;
 mod tally;
 mod way;
 
 pub use each::Each;
 pub use last_way::LastWay;
+pub use live::Live;
+pub use regions::{Regions, Stop};
 pub use rows::{classes_of_sizes, dead_blocks, outside, reports, resizing};
 pub use tally::Tally;
 pub use way::Way;

@@ -1,0 +1,74 @@
+-- What the regions of the three ways stand for, and what their calls answer.
+use Rattle.std.specs.Prelude.{◌≡◌, ℕ, ◌<◌, List, ◌∷◌, Option, Some, None, Result, Ok, Err, length}
+use Rattle.vc_model.specs.Addr.{place_of}
+use Rattle.vc_model.specs.Discipline.{Discipline}
+use Rattle.vc_model.specs.Outcome as outcome
+use Rattle.vc_model.specs.Touch.{HasBlock}
+use Rattle.vc_best.specs.Parts.{disc_in, layout_of, segments_in}
+use Rattle.vc_best.specs.declared.best.Best.{Best}
+use Rattle.vc_seg.specs.OneBlock.{IsSize}
+use Rattle.vc_seg.specs.declared.fault.RegionFault.{RegionFault}
+use Rattle.vc_seg.specs.declared.fault.RegionFault.TheVariants as code
+use Rattle.vc_ways.specs.Answer.{Holding}
+use Rattle.vc_ways.specs.LastParts.{IsPaired, holding_of, way_of}
+use Rattle.vc_ways.specs.Live as model
+use Rattle.vc_ways.specs.PoolParts.{cells_at, holdings, pools_of, terms_in}
+use Rattle.vc_ways.specs.PoolWay.{class_of}
+use Rattle.vc_ways.specs.Regions as ways
+use Rattle.vc_ways.specs.Regions.{Stopped, Took, Tried, WayTerms}
+use Rattle.vc_ways.specs.declared.live.Live.{Live}
+use Rattle.vc_ways.specs.declared.regions.Regions.{Regions}
+use Rattle.vc_ways.specs.declared.regions.Stop.{Stop}
+use Rattle.vc_ways.specs.declared.way.Way.{Way}
+
+-- what each way has
+abbrev pub regions_of : {I : Type 0} {V : I → Type 0} → Regions I V → ways.Regions
+regions_of r = record { best = layout_of r.best; last = way_of r.last; pools = pools_of r.pools.items }
+
+-- the discipline of the best region and its segments
+abbrev pub best_holding : {I : Type 0} {V : I → Type 0} → ((x : I) × V x → Discipline) → Best I V → Holding
+best_holding meaning b = record { disc = disc_in meaning b; segments = segments_in b }
+
+-- all disciplines, each with the segments that a way has of it: of the best region, of the last region, and of each class
+abbrev pub all_holdings : {I : Type 0} {V : I → Type 0} → ((x : I) × V x → Discipline) → Regions I V → List Holding
+all_holdings meaning r = best_holding meaning r.best ∷ holding_of meaning r.last ∷ holdings meaning r.pools.items
+
+-- their terms
+abbrev pub terms_of : {I : Type 0} {V : I → Type 0} → ((x : I) × V x → Discipline) → Regions I V → WayTerms
+terms_of meaning r =
+    record {
+      best = (disc_in meaning r.best).terms;
+      last = (holding_of meaning r.last).disc.terms;
+      pools = terms_in (holdings meaning r.pools.items);
+    }
+
+-- each block of the last region has a flag, and each class a pool
+pub record AreWhole {I : Type 0} {V : I → Type 0} (r : Regions I V) : Type 0 where
+  pub paired : IsPaired r.last
+  pub classes : length r.pools.items ≡ 20
+
+-- a live block, in the words of the definitions
+abbrev pub live_of : Live → model.Live
+live_of l = record { size = l.size; best = place_of l.best.0; last = l.last; cell = place_of l.cell.0 }
+
+-- a live block is in each way
+pub record IsLiveIn (r : ways.Regions) (l : Live) : Type 0 where
+  pub size : IsSize l.size
+  pub best : HasBlock r.best.blocks l.best.0
+  pub last : l.last < length r.last.dead
+  pub cell : HasBlock (cells_at r.pools (class_of l.size)) l.cell.0
+
+-- a way stops a command, by its fault; want of memory may come at any time
+abbrev pub IsStop : (Option Way → Tried (model.Live × ways.Regions)) → Way → RegionFault → Type 0
+IsStop call way code.TooManySegments = call None ≡ Stopped way outcome.TooManySegments
+IsStop call way code.NoSegment = call (Some way) ≡ Stopped way outcome.NoSegment
+IsStop call way code.OutOfMemory = Unit {0}
+IsStop call way code.Fixed = call None ≡ Stopped way outcome.Fixed
+IsStop call way code.PoolSize = call None ≡ Stopped way outcome.PoolSize
+IsStop call way code.NotLast = call None ≡ Stopped way outcome.NotLast
+IsStop call way code.WrongMethod = call None ≡ Stopped way outcome.WrongMethod
+
+-- the answer of a call in all ways, and what they have after it
+abbrev pub Tries : (Option Way → Tried (model.Live × ways.Regions)) → Result Live Stop → ways.Regions → Type 0
+Tries call (Ok l) new = call None ≡ Took (live_of l, new)
+Tries call (Err stop) new = IsStop call stop.way stop.fault
