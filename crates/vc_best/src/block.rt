@@ -7,13 +7,12 @@ use vc_base::Addr;
 
 /// The calls on one block. They can't fail, and take no memory.
 impl Best {
-    ghost use Rattle.vc_best.specs.Parts.{blocks_in, layout_of};
+    ghost use Rattle.vc_best.specs.Parts.{blocks_in, layout_of, size_in};
 
     /// The size in bytes of the block at that address, from 1 to 16,777,264.
     pub fn size(&self, a: Addr) -> u32
         requires { HasBlock (blocks_in self.now) a.0 }
-        ensures { option_map (λ b. b.size) (find_block (place_of a.0) (blocks_in self.now))
-            ≡ Some result }
+        ensures { size_in self.now a.0 ≡ Some result }
     {
         self.extents.size_at(a)
     }

@@ -1,5 +1,5 @@
-ghost use Rattle.std.specs.Prelude.{◌≡◌, Some, IfOk, IsErrOf, option_map};
-ghost use Rattle.vc_base.specs.Prelude.{place_of, best_need, HasOut, HasBlock, find_block};
+ghost use Rattle.std.specs.Prelude.{◌≡◌, Some, IfOk, IsErrOf};
+ghost use Rattle.vc_base.specs.Prelude.{place_of, best_need, HasOut, HasBlock};
 ghost use Rattle.vc_model.specs.Resize.{best_resize};
 ghost use Rattle.vc_best.specs.Ask.{AsksToMove};
 ghost use Rattle.vc_seg.specs.Answer.{Answers, Asks};
@@ -14,7 +14,7 @@ use vc_seg::RegionFault;
 
 impl Best {
     ghost use Rattle.vc_best.specs.Cost.{CallCosts};
-    ghost use Rattle.vc_best.specs.Parts.{blocks_in, layout_of, segments_in};
+    ghost use Rattle.vc_best.specs.Parts.{blocks_in, layout_of, segments_in, size_in};
 
     /// Gives a block another size, from 1 to 16,777,264 bytes, and answers its address. It stays where it is if it can,
     /// and else moves if it may. The first bytes of both sizes are kept, and the others are zero. `Fixed` comes where it
@@ -41,8 +41,7 @@ impl Best {
             → AsksToMove (state self.old.disc).terms (layout_of self.old) a.0 size may_move }
 
         // The block has that size and keeps its tag, and the others stay.
-        ensures sized { IfOk result (λ to. option_map (λ b. b.size)
-            (find_block (place_of to.0) (blocks_in self.new)) ≡ Some size) }
+        ensures sized { IfOk result (λ to. size_in self.new to.0 ≡ Some size) }
         ensures kept { IfOk result
             (λ to. IsBlockKept a.0 to.0 (blocks_in self.old) (blocks_in self.new)) }
         ensures call { CallCosts self.old self.new 1 steps.old steps.new }
