@@ -22,3 +22,4 @@ pub mod FrontNeeds
 pub mod FirstRuns
 pub mod Cuts
 pub mod ScriptLines
+pub mod HowFar

@@ -1,5 +1,5 @@
 -- A run of lines that come in pieces: what was run so far, and what is left.
-use Rattle.vc_base.proofs.Common.{◌≡◌, ℕ, ◌+◌, ◌<◌, ◌≤◌, Bool, ◌≢◌, List, [], ◌∷◌, ◌++◌, length, take, drop, IfSome, IfErr, IsOk, IsTrue, Some, None, Ok, Err, Option, Result, sym, refl, ap, ◌∙◌, subst, inl, inr, append_assoc, append-nil, arith, take-append-drop, length-take-le, eqb_tells, drop_all, none-some, same_Some, AllByRecursion}
+use Rattle.vc_base.proofs.Common.{◌≡◌, ℕ, ◌+◌, ◌<◌, ◌≤◌, Bool, ◌≢◌, List, [], ◌∷◌, ◌++◌, length, take, drop, IfSome, IfErr, OnErr, IsOk, IsTrue, Some, None, Ok, Err, Option, Result, sym, refl, ap, ◌∙◌, subst, inl, inr, append_assoc, append-nil, arith, take-append-drop, length-take-le, eqb_tells, drop_all, none-some, same_Some, AllByRecursion}
 use Rattle.vc_counts.specs.declared.counts.Counts.{Counts}
 use Rattle.vc_model.specs.Stream.{Reads, Takes}
 use Rattle.vc_base.proofs.Quantifiers.{all-append}
@@ -26,11 +26,11 @@ use Rattle.vc_session.proofs.Feeds.{Feeds, fed-feeds}
 use Rattle.vc_session.proofs.Progress.{progress-end, progress-over}
 use Rattle.vc_session.proofs.RunMiddle.{bad-line, running-line, running-over, running-same, running-start}
 
-if_some : (o : Option (List ℕ)) (P Q : List ℕ → Type 0) → ((x : List ℕ) → P x → Q x) → IfSome o P → IfSome o Q
+pub if_some : (o : Option (List ℕ)) (P Q : List ℕ → Type 0) → ((x : List ℕ) → P x → Q x) → IfSome o P → IfSome o Q
 if_some None P Q f p = tt
 if_some (Some x) P Q f p = f x p
 
-if_both : (o : Option (List ℕ)) (P Q R : List ℕ → Type 0) → ((x : List ℕ) → P x → Q x → R x) → IfSome o P → IfSome o Q → IfSome o R
+pub if_both : (o : Option (List ℕ)) (P Q R : List ℕ → Type 0) → ((x : List ℕ) → P x → Q x → R x) → IfSome o P → IfSome o Q → IfSome o R
 if_both None P Q R f p q = tt
 if_both (Some x) P Q R f p q = f x p q
 
@@ -235,7 +235,7 @@ so_far-bad_line {tool} {quiet} {start} next_moment counts {told} {left} {s} {res
     at-end-of input left after lines ((next.count, Ok next.line) ∷ behind) (Some bad) is.few (running-same r.running line.idle) (judged-input reading ∙ ap (λ ls. r.whole ++ ls) (fed-tells-all s rest next Whole used is e reading.behind).0) (line.none behind) (line.first behind) (some-bad bad lines (judged_lines input)) (stops-at reading) (idle-told front old new start.written after held holds line.idle written)) r.reading
 
 -- nothing is behind the bytes of a source that is at its end
-none-behind : {tool : Tool} {input : List ℕ} {left : Option (List ℕ)} {s : Cutting} {whole : FoundSoFar} (r : Reading tool input left s [] whole) → left ≡ Some [] → judged_lines input ≡ whole ++ judged_rest s []
+pub none-behind : {tool : Tool} {input : List ℕ} {left : Option (List ℕ)} {s : Cutting} {whole : FoundSoFar} (r : Reading tool input left s [] whole) → left ≡ Some [] → judged_lines input ≡ whole ++ judged_rest s []
 none-behind {s = s} {whole = whole} r at_end = judged-input r ∙ ap (λ xs. whole ++ judged_rest s xs) (same_Some r.behind [] (sym r.unread ∙ at_end))
 
 module _ {tool : Tool} {quiet : Bool} {start now : Moment} {before : Counts} {told left : Option (List ℕ)} {s : Cutting} (is : IsCutting s) where
@@ -338,6 +338,10 @@ end-same s next cut state e other = ap (λ (a : Cutting). a.count) state ∙ end
 
 pub new-is : IsCutting new_cutting
 new-is = record { short = omega arith; few = omega arith; no_more = λ e. refl }
+
+pub on_err : {T E : Type 0} (r : Result T E) (P : Type 0) → P → OnErr r P
+on_err (Ok x) P p = tt
+on_err (Err e) P p = p
 
 pub if_err : {T E : Type 0} (r : Result T E) (Q : E → Type 0) (P : Type 0) → P → IfErr r (λ e. Q e → P)
 if_err (Ok x) Q P p = tt

@@ -1,5 +1,5 @@
 -- What running one line does, and what running a script promises.
-use Rattle.std.specs.Prelude.{◌≡◌, ◌≢◌, ℕ, ◌≤◌, List, [], Option, Some, None, Bool, Result, IfErr, IfOk, IfSome, IsTrue, OnOk}
+use Rattle.std.specs.Prelude.{◌≡◌, ◌≢◌, ℕ, ◌≤◌, List, [], Option, Some, None, Bool, Result, IfErr, IfOk, IfSome, IsTrue, OnErr, OnOk}
 use Rattle.vc_counts.specs.Counts.{counts_with_step}
 use Rattle.vc_counts.specs.declared.counts.Counts.{Counts}
 use Rattle.vc_model.specs.Count.{Rose}
@@ -10,9 +10,12 @@ use Rattle.vc_script.specs.declared.line_answer.LineAnswer.TheVariants.{Blank, I
 use Rattle.vc_script.specs.declared.line_fault.LineFault.{LineFault}
 use Rattle.vc_script.specs.declared.reply.Reply.{Reply}
 use Rattle.vc_script.specs.declared.tool.Tool.{Tool}
+use Rattle.vc_session.specs.Cut.{NotAhead}
+use Rattle.vc_session.specs.Far.{WrotePart}
 use Rattle.vc_session.specs.Progress.{CountsOn}
 use Rattle.vc_session.specs.QuietText.{line_by}
 use Rattle.vc_session.specs.Replay.{IsCutShort, IsGenerated, IsReplay, ReplaysBy, Told}
+use Rattle.vc_session.specs.Run.{script}
 use Rattle.vc_session.specs.SoFar.{AtEnd}
 use Rattle.vc_session.specs.Streams.{Flows}
 use Rattle.vc_session.specs.Text.{is_quiet}
@@ -54,6 +57,10 @@ LineRan quiet now next before counts n (Is command) fault = (fault ≡ None) × 
 pub record RunsLines (tool : Tool) (quiet : Bool) (answer : Result (Option (ℕ × LineFault)) Stop) (start last : Moment) (counts : Counts) (lines : ℕ) (old new : Flows) : Type 0 where
   pub at_end : IfOk answer (λ bad. IfSome old.left (λ input. AtEnd tool quiet (over_sink start old.written) (over_sink last new.written) counts lines input bad new.left))
   pub cut_short : IfErr answer (λ stop. stop ≡ Read → IfSome old.left (λ input. IsCutShort tool quiet (over_sink start old.written) (moment_at_end (over_sink last new.written)) input new.left))
+  -- wherever it was broken off, a front of what is written of the replies was written
+  pub far : OnErr answer (IfSome old.left (λ input. WrotePart quiet (over_sink start old.written) (over_sink last new.written) (script tool input)))
+  -- and no more was read than what the next replies are of
+  pub not_ahead : IfErr answer (λ stop. stop ≡ Write → NotAhead tool quiet old.left new.left old.written new.written)
   pub read : IfErr answer (λ stop. stop ≡ Read → Rose old.reads new.reads)
   pub write : IfErr answer (λ stop. stop ≡ Write → Rose old.writes new.writes)
   pub reads : old.reads ≤ new.reads

@@ -1,5 +1,5 @@
 -- A run in its middle, of lines that come in pieces.
-use Rattle.std.specs.Prelude.{◌≡◌, ℕ, ◌+◌, ◌-◌, ◌*◌, ◌≤◌, List, [], ◌++◌, Option, Some, None, Bool, Result, Ok, IfSome, IsOk, IsTrue, length}
+use Rattle.std.specs.Prelude.{◌≡◌, ℕ, ◌+◌, ◌-◌, ◌*◌, ◌≤◌, List, [], ◌++◌, Option, Some, None, Bool, Result, Ok, IfOk, IfSome, IsOk, IsTrue, OnErr, length}
 use Rattle.std.specs.List.{AllByRecursion}
 use Rattle.vc_base.specs.declared.fault.OutOfMemory.{OutOfMemory}
 use Rattle.vc_counts.specs.declared.counts.Counts.{Counts}
@@ -11,6 +11,7 @@ use Rattle.vc_script.specs.Judged.{judged_lines, judged_from, last_number, line_
 use Rattle.vc_script.specs.Lines.{ended_after, lines_after}
 use Rattle.vc_steps.specs.Moment.{Moment, over_sink}
 use Rattle.vc_steps.specs.State.{State}
+use Rattle.vc_session.specs.Far.{RanPart}
 use Rattle.vc_session.specs.Progress.{CanCountOn, Progress}
 use Rattle.vc_session.specs.Replay.{ShowsNoFault, Stops, Told}
 use Rattle.vc_session.specs.Run.{commands_in, fault_in, first_bad, script, wholly_read}
@@ -77,6 +78,14 @@ pub record Ends (tool : Tool) (quiet : Bool) (first now : Moment) (before counts
 pub record EndsAll (tool : Tool) (quiet : Bool) (first now : Moment) (before counts : Counts) (gathered : List ℕ) (s : Cutting) (lines : ℕ) (bad : Option (ℕ × LineFault)) : Type 0 where
   pub end : {start : Moment} {text : List ℕ} {told left : Option (List ℕ)} (after : Option (List ℕ)) → SoFar tool quiet start first before text told left s [] → IfSome told (λ input. left ≡ Some []) → Told start.written after (text ++ gathered) → IfSome told (λ input. AtEnd tool quiet start (over_sink now after) counts lines input bad left)
 
+-- each run so far is run on, whatever comes of it: what is gathered is a front of what is written of the replies
+pub record GoesFar (tool : Tool) (quiet : Bool) (first now : Moment) (before : Counts) (gathered : List ℕ) (s : Cutting) (rest : List ℕ) : Type 0 where
+  pub far : {start : Moment} {text : List ℕ} {told left : Option (List ℕ)} → SoFar tool quiet start first before text told left s rest → IfSome told (λ input. RanPart quiet start now (text ++ gathered) (script tool input))
+
+-- and so with the input's end
+pub record EndsFar (tool : Tool) (quiet : Bool) (first now : Moment) (before : Counts) (gathered : List ℕ) (s : Cutting) : Type 0 where
+  pub far : {start : Moment} {text : List ℕ} {told left : Option (List ℕ)} → SoFar tool quiet start first before text told left s [] → IfSome told (λ input. left ≡ Some []) → IfSome told (λ input. RanPart quiet start now (text ++ gathered) (script tool input))
+
 -- more may be fed to a cutter
 pub record CanFeed (s : Cutting) : Type 0 where
   pub is_open : IsTrue s.is_open
@@ -101,3 +110,11 @@ pub record RunsPiece (tool : Tool) (quiet : Bool) (answer : Result (Option (ℕ 
   pub less : answer ≡ Ok None → fuel next + length piece ≤ fuel s
   -- and counted
   pub counted : answer ≡ Ok None → CanCountOn quiet counts now.state next.count
+  -- and then, or where memory was wanting, what was gathered is of the replies to what was run
+  pub far_bad : (found : ℕ × LineFault) → answer ≡ Ok (Some found) → GoesFar tool quiet first now before gathered s piece
+  pub far_wanting : OnErr answer (GoesFar tool quiet first now before gathered s piece)
+
+-- what running the line that the input's end ends promises by its answer
+pub record RunsLast (tool : Tool) (quiet : Bool) (answer : Result (Option (ℕ × LineFault)) OutOfMemory) (first now : Moment) (before counts : Counts) (gathered : List ℕ) (s : Cutting) (lines : ℕ) : Type 0 where
+  pub ended : IfOk answer (EndsAll tool quiet first now before counts gathered s lines)
+  pub far : EndsFar tool quiet first now before gathered s

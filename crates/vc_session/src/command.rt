@@ -1,4 +1,4 @@
-ghost use Rattle.std.specs.Prelude.{Some, IsTrue};
+ghost use Rattle.std.specs.Prelude.{◌≡◌, Some, IsTrue, OnErr};
 ghost use Rattle.vc_counts.specs.CanCount.{CanCount};
 ghost use Rattle.vc_counts.specs.Counts.{live_bytes};
 ghost use Rattle.vc_session.specs.Engine.{IsStep, RunsLine};
@@ -53,11 +53,12 @@ pub(crate) fn run_answer<D: DictDisc>(
     requires session { IsSessionOver state D.rules shelf.old session.old kinds.old.items }
     requires counts { IsTrue quiet → CanCount counts.old (live_bytes
         (state_over state (rules_in D.rules kinds.old.items) shelf.old session.old)) n }
-    ensures { RunsOver state D.rules D.gone shelf.old session.old kinds.old.items
+    ensures runs { RunsOver state D.rules D.gone shelf.old session.old kinds.old.items
         shelf.new session.new kinds.new.items
         (λ now next. CountsOn quiet result counts.new next n (λ _. IsStep quiet
         (over_sink now (Some replies.old.items)) (over_sink next (Some replies.new.items))
         counts.old counts.new n command.now)) }
+    ensures same { OnErr result (replies.new.items ≡ replies.old.items) }
 {
     let reply = run_command(quiet, session, shelf, kinds, n, command, counts)?;
     gather(quiet, n, &reply, replies)

@@ -1,11 +1,11 @@
-ghost use Rattle.std.specs.Prelude.{◌≡◌, [], Some, IfOk, IsTrue};
+ghost use Rattle.std.specs.Prelude.{◌≡◌, [], Some, IsTrue, OnErr};
 ghost use Rattle.vc_counts.specs.CanCount.{CanCount};
 ghost use Rattle.vc_counts.specs.Counts.{live_bytes};
 ghost use Rattle.vc_script.specs.Answer.{answer};
 ghost use Rattle.vc_script.specs.Cutting.{new_cutting};
 ghost use Rattle.vc_session.specs.Engine.{LineRan, RunsLines};
 ghost use Rattle.vc_session.specs.Progress.{CanBegin, CountsOn};
-ghost use Rattle.vc_session.specs.SoFar.{CanGoOn, EndsAll, RunsPiece};
+ghost use Rattle.vc_session.specs.SoFar.{CanGoOn, RunsLast, RunsPiece};
 ghost use Rattle.vc_session.specs.Streams.{flows};
 ghost use Rattle.vc_steps.specs.Homes.{IsSessionOver, state_over};
 ghost use Rattle.vc_steps.specs.Moment.{over_sink};
@@ -76,11 +76,12 @@ fn run_line<D: DictDisc>(
     requires session { IsSessionOver state D.rules shelf.old session.old kinds.old.items }
     requires counts { IsTrue quiet → CanCount counts.old (live_bytes
         (state_over state (rules_in D.rules kinds.old.items) shelf.old session.old)) n }
-    ensures { RunsOver state D.rules D.gone shelf.old session.old kinds.old.items
+    ensures runs { RunsOver state D.rules D.gone shelf.old session.old kinds.old.items
         shelf.new session.new kinds.new.items
         (λ now next. CountsOn quiet result counts.new next n (LineRan quiet
         (over_sink now (Some replies.old.items)) (over_sink next (Some replies.new.items))
         counts.old counts.new n (answer tool line.now))) }
+    ensures same { OnErr result (replies.new.items ≡ replies.old.items) }
 {
     match read_line(alloc, tool, line)? {
         LineAnswer::Blank => Ok(None),
@@ -163,9 +164,9 @@ fn run_last<D: DictDisc>(
     requires none { replies.old.items ≡ [] }
     ensures { RunsOver state D.rules D.gone shelf.old session.old kinds.old.items
         shelf.new session.new kinds.new.items
-        (λ now next. IfOk result (EndsAll tool quiet
+        (λ now next. RunsLast tool quiet result
         (over_sink now (Some replies.old.items)) (over_sink next (Some replies.new.items))
-        counts.old counts.new replies.new.items cutter.old cutter.new.count)) }
+        counts.old counts.new replies.new.items cutter.old cutter.new.count) }
 {
     match cutter.end() {
         Cut::Whole => match run_line(

@@ -5,12 +5,15 @@ pub returns : goal.returns
 returns g c =
     let ran = c.in_ok-reply.ensures.runs in
     record {
-      lasts = c.run_command.ensures.lasts;
       runs = record {
-        ran =
-            if_ok-map c.gather.result
-            (λ told. record { reply = c.in_ok-reply.reply; steps = let s = ran.steps in record { gives = s.gives; settles = s.settles; lacks = s.lacks }; told = told; counted = ran.counts_on.ran })
-            c.gather.ensures.told;
-        can = on_ok-of c.gather.result ran.counts_on.can;
+        lasts = c.run_command.ensures.lasts;
+        runs = record {
+          ran =
+              if_ok-map c.gather.result
+              (λ told. record { reply = c.in_ok-reply.reply; steps = let s = ran.steps in record { gives = s.gives; settles = s.settles; lacks = s.lacks }; told = told; counted = ran.counts_on.ran })
+              c.gather.ensures.told;
+          can = on_ok-of c.gather.result ran.counts_on.can;
+        };
       };
+      same = c.gather.ensures.same;
     }

@@ -2,7 +2,9 @@ use Rattle.vc_base.proofs.Common.{[], ◌++◌, Ok, refl, ap, ◌∙◌, subst, 
 use Rattle.vc_model.specs.Stream.{Reads}
 use Rattle.vc_session.proofs.SessionLasts.{lasts-same, lasts-trans}
 use Rattle.vc_session.proofs.Progress.{told-more, told-none}
-use Rattle.vc_session.proofs.SoFar.{at-end, if_err, new-is, so_far-cut_short, so_far-over, so_far-read, so_far-start}
+use Rattle.vc_steps.proofs.SettledShelf.{keeps-same}
+use Rattle.vc_session.proofs.HowFar.{piece-far, so_far-here, so_far-not_ahead, wrote-front, wrote-part}
+use Rattle.vc_session.proofs.SoFar.{at-end, if_err, new-is, on_err, so_far-cut_short, so_far-over, so_far-read, so_far-start}
 use Rattle.vc_session.proofs.engine.run_lines.Goals as goal
 
 pub loop-n-init : goal.loop-n-init
@@ -29,6 +31,8 @@ returns-in_err-n g c =
       runs = record {
         at_end = search rules;
         cut_short = if_err _ _ _ (so_far-cut_short _ _ inv.so_far inv.feeds.cutting c.in_err-n.ensures.err inv.told);
+        far = on_err _ _ (wrote-part _ _ _ _ _ _ inv.text (so_far-here inv.so_far) (keeps-same _) inv.told);
+        not_ahead = search rules;
         read = search rules;
         write = search rules;
         reads = omega (arith, inv.reads, c.read.ensures.never_falls);
@@ -42,11 +46,16 @@ run_piece-ran-requires-clause-session g c = c.loop-n.invariant.lasts.stands
 pub returns-in_err-write_all : goal.returns-in_err-write_all
 returns-in_err-write_all g c =
     let inv = c.loop-n.invariant in
+    let so_far = so_far-read _ _ c.in_ok-n.n inv.so_far inv.feeds.cutting (c.read.auto.buf ∙ inv.room) c.in_ok-n.ensures.ok in
+    let part = (piece-far c.run_piece-ran.ensures.runs).far (so_far-over _ so_far) in
+    let front = rw c.as_slice.ensures.value at c.write_all.ensures.front in
     record {
       lasts = lasts-trans inv.lasts c.run_piece-ran.ensures.lasts;
       runs = record {
         at_end = search rules;
         cut_short = search rules;
+        far = on_err _ _ (wrote-front _ _ _ _ _ _ inv.text _ _ part (keeps-same _) inv.told front);
+        not_ahead = if_err _ _ _ (so_far-not_ahead _ c.read.new.buf c.in_ok-n.n _ _ _ inv.so_far (c.read.auto.buf ∙ inv.room) c.in_ok-n.ensures.ok inv.told front);
         read = search rules;
         write = search rules;
         reads = omega (arith, inv.reads, c.read.ensures.never_falls);
@@ -57,11 +66,16 @@ returns-in_err-write_all g c =
 pub returns-in_err-bad : goal.returns-in_err-bad
 returns-in_err-bad g c =
     let inv = c.loop-n.invariant in
+    let so_far = so_far-read _ _ c.in_ok-n.n inv.so_far inv.feeds.cutting (c.read.auto.buf ∙ inv.room) c.in_ok-n.ensures.ok in
+    let part = (piece-far c.run_piece-ran.ensures.runs).far (so_far-over _ so_far) in
+    let written = rw c.as_slice.ensures.value at c.in_ok-write_all.ensures.ok in
     record {
       lasts = lasts-trans inv.lasts c.run_piece-ran.ensures.lasts;
       runs = record {
         at_end = search rules;
         cut_short = search rules;
+        far = on_err _ _ (wrote-part _ _ _ _ _ _ _ part (keeps-same _) (told-more _ _ _ inv.text _ inv.told written));
+        not_ahead = search rules;
         read = search rules;
         write = search rules;
         reads = omega (arith, inv.reads, c.read.ensures.never_falls);
@@ -79,6 +93,8 @@ returns-in-Some g c =
       runs = record {
         at_end = (c.run_piece-ran.ensures.runs.bad c.in-Some.bad (c.in_ok-bad.was ∙ ap (λ o. Ok o) c.in-Some.is)).end _ (so_far-over _ so_far) (told-more _ _ _ inv.text _ inv.told written);
         cut_short = tt;
+        far = tt;
+        not_ahead = tt;
         read = tt;
         write = tt;
         reads = omega (arith, inv.reads, c.read.ensures.never_falls);
@@ -111,11 +127,19 @@ run_last-ran-requires-clause-session g c = c.loop-n.invariant.lasts.stands
 pub returns-in_err-write_all-2 : goal.returns-in_err-write_all-2
 returns-in_err-write_all-2 g c =
     let inv = c.loop-n.invariant in
+    let room = c.read.auto.buf ∙ inv.room in
+    let reads = subst (Reads _ _ c.read.new.buf) c.if-n-eq0.true c.in_ok-n.ensures.ok in
+    let so_far = so_far-read _ c.read.new.buf 0 inv.so_far inv.feeds.cutting room reads in
+    let end = at-end _ c.read.new.buf inv.so_far room reads in
+    let part = c.run_last-ran.ensures.runs.far.far (so_far-over _ so_far) end in
+    let front = rw c.as_slice-2.ensures.value at c.write_all-2.ensures.front in
     record {
       lasts = lasts-trans inv.lasts c.run_last-ran.ensures.lasts;
       runs = record {
         at_end = search rules;
         cut_short = search rules;
+        far = on_err _ _ (wrote-front _ _ _ _ _ _ inv.text _ _ part (keeps-same _) inv.told front);
+        not_ahead = if_err _ _ _ (so_far-not_ahead _ c.read.new.buf 0 _ _ _ inv.so_far room reads inv.told front);
         read = search rules;
         write = search rules;
         reads = omega (arith, inv.reads, c.read.ensures.never_falls);
@@ -126,11 +150,19 @@ returns-in_err-write_all-2 g c =
 pub returns-in_err-ran : goal.returns-in_err-ran
 returns-in_err-ran g c =
     let inv = c.loop-n.invariant in
+    let room = c.read.auto.buf ∙ inv.room in
+    let reads = subst (Reads _ _ c.read.new.buf) c.if-n-eq0.true c.in_ok-n.ensures.ok in
+    let so_far = so_far-read _ c.read.new.buf 0 inv.so_far inv.feeds.cutting room reads in
+    let end = at-end _ c.read.new.buf inv.so_far room reads in
+    let part = c.run_last-ran.ensures.runs.far.far (so_far-over _ so_far) end in
+    let written = rw c.as_slice-2.ensures.value at c.in_ok-write_all-2.ensures.ok in
     record {
       lasts = lasts-trans inv.lasts c.run_last-ran.ensures.lasts;
       runs = record {
         at_end = search rules;
         cut_short = search rules;
+        far = on_err _ _ (wrote-part _ _ _ _ _ _ _ part (keeps-same _) (told-more _ _ _ inv.text _ inv.told written));
+        not_ahead = search rules;
         read = search rules;
         write = search rules;
         reads = omega (arith, inv.reads, c.read.ensures.never_falls);
@@ -146,12 +178,14 @@ returns g c =
     let so_far = so_far-read _ c.read.new.buf 0 inv.so_far inv.feeds.cutting room reads in
     let end = at-end _ c.read.new.buf inv.so_far room reads in
     let written = rw c.as_slice-2.ensures.value at c.in_ok-write_all-2.ensures.ok in
-    let ends = rw c.in_ok-ran.was at c.run_last-ran.ensures.runs in
+    let ends = rw c.in_ok-ran.was at c.run_last-ran.ensures.runs.ended in
     record {
       lasts = lasts-trans inv.lasts c.run_last-ran.ensures.lasts;
       runs = record {
         at_end = ends.end _ (so_far-over _ so_far) end (told-more _ _ _ inv.text _ inv.told written);
         cut_short = tt;
+        far = tt;
+        not_ahead = tt;
         read = tt;
         write = tt;
         reads = omega (arith, inv.reads, c.read.ensures.never_falls);

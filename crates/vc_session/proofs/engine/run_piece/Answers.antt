@@ -1,8 +1,10 @@
-use Rattle.vc_base.proofs.Common.{◌+◌, IsTrue, sym, refl, ap, ◌∙◌, subst, arith, length-drop, take_rest}
+use Rattle.vc_base.proofs.Common.{◌+◌, IsTrue, sym, refl, ap, ◌∙◌, subst, arith, length-drop, same_Some, take_rest, rules}
 use Rattle.vc_session.proofs.QuietCounts.{can-same}
 use Rattle.vc_session.specs.SoFar.{Ends}
 use Rattle.vc_session.proofs.SessionLasts.{lasts-same, lasts-trans}
-use Rattle.vc_session.proofs.SoFar.{fed-is, more-count, more-kept, ok-some, so_far-bad_cut, so_far-bad_line, so_far-line, so_far-more, so_far-none, whole-count, whole-kept}
+use Rattle.vc_session.proofs.HowFar.{goes-far, goes-far-on}
+use Rattle.vc_session.proofs.RunMiddle.{bad-line}
+use Rattle.vc_session.proofs.SoFar.{fed-is, more-count, more-kept, ok-some, on_err, so_far-bad_cut, so_far-bad_line, so_far-line, so_far-more, so_far-none, whole-count, whole-kept}
 use Rattle.vc_session.proofs.engine.run_piece.Goals as goal
 
 pub loop-rest-init : goal.loop-rest-init
@@ -44,6 +46,8 @@ returns-in-Bad g c =
         open_is = λ is. absurd (cc is);
         less = λ is. absurd (cc is);
         counted = λ is. absurd (cc is);
+        far_bad = λ bad same. goes-far inv.goes_on;
+        far_wanting = tt;
       };
     }
 
@@ -52,9 +56,9 @@ returns-in-Some g c =
     let inv = c.loop-rest.invariant in
     let next = c.feed-cut.new.self in
     let e = fed-is c.loop-rest.cutter c.loop-rest.rest.now next _ _ c.feed-cut.result.1 c.feed-cut.ensures.fed c.in-Whole.is in
-    let ran = rw (c.line.ensures, c.number-in-Whole.ensures.value, c.in-Some.is) at c.in_ok-fault-in-Whole.ensures.runs.ran in
+    let ran = rw (c.line.ensures, c.number-in-Whole.ensures.value, c.in-Some.is) at c.in_ok-fault-in-Whole.ensures.runs.runs.ran in
     record {
-      lasts = lasts-trans inv.lasts c.run_line.ensures.lasts;
+      lasts = lasts-trans inv.lasts c.run_line.ensures.runs.lasts;
       runs = record {
         good = λ is. absurd (cc is);
         bad = λ bad same.
@@ -63,6 +67,10 @@ returns-in-Some g c =
         open_is = λ is. absurd (cc is);
         less = λ is. absurd (cc is);
         counted = λ is. absurd (cc is);
+        far_bad = λ bad same.
+            let line = bad-line c.args.quiet c.args.tool next.count next.line c.in-Some.fault ran in
+            goes-far-on _ _ _ inv.goes_on (same_Some _ _ line.idle.told) c.run_line.ensures.runs.lasts.accounts;
+        far_wanting = tt;
       };
     }
 
@@ -72,12 +80,12 @@ loop-rest-preserved g c =
     let next = c.feed-cut.new.self in
     let e = fed-is c.loop-rest.cutter c.loop-rest.rest.now next _ _ c.feed-cut.result.1 c.feed-cut.ensures.fed c.in-Whole.is in
     let kept = whole-kept c.loop-rest.cutter c.loop-rest.rest.now next c.feed-cut.result.1 inv.feeds.cutting e in
-    let ran = rw (c.line.ensures, c.number-in-Whole.ensures.value, c.in-None.is) at c.in_ok-fault-in-Whole.ensures.runs.ran in
+    let ran = rw (c.line.ensures, c.number-in-Whole.ensures.value, c.in-None.is) at c.in_ok-fault-in-Whole.ensures.runs.runs.ran in
     rw take_rest
     (record {
       feeds = record { is_open = subst IsTrue (sym kept.fed) inv.feeds.is_open; cutting = kept.cutting };
-      lasts = lasts-trans inv.lasts c.run_line.ensures.lasts;
-      counts = rw c.number-in-Whole.ensures.value at c.in_ok-fault-in-Whole.ensures.runs.can;
+      lasts = lasts-trans inv.lasts c.run_line.ensures.runs.lasts;
+      counts = rw c.number-in-Whole.ensures.value at c.in_ok-fault-in-Whole.ensures.runs.runs.can;
       goes_on = record { on = λ r. so_far-line _ _ _ _ next c.feed-cut.result.1 refl refl inv.feeds.cutting (inv.goes_on.on r) e ran };
       less = omega (arith, inv.less, kept.less, c.feed-cut.ensures.within, length-drop c.feed-cut.result.1 c.loop-rest.rest.now);
     })
@@ -88,3 +96,19 @@ run_line-requires-clause-counts g c =
     let next = c.feed-cut.new.self in
     let e = fed-is c.loop-rest.cutter c.loop-rest.rest.now next _ _ c.feed-cut.result.1 c.feed-cut.ensures.fed c.in-Whole.is in
     λ is_quiet. inv.counts is_quiet c.number-in-Whole.result (omega (arith, c.number-in-Whole.ensures.value, whole-count c.loop-rest.cutter c.loop-rest.rest.now next c.feed-cut.result.1 inv.feeds.cutting e))
+
+pub returns-in_err-fault-in-Whole : goal.returns-in_err-fault-in-Whole
+returns-in_err-fault-in-Whole g c =
+    let inv = c.loop-rest.invariant in
+    record {
+      lasts = lasts-trans inv.lasts c.run_line.ensures.runs.lasts;
+      runs = record {
+        good = search rules;
+        bad = search rules;
+        open_is = search rules;
+        less = search rules;
+        counted = search rules;
+        far_bad = search rules;
+        far_wanting = on_err _ _ (goes-far-on _ _ _ inv.goes_on c.in_err-fault-in-Whole.ensures.same c.run_line.ensures.runs.lasts.accounts);
+      };
+    }
