@@ -66,7 +66,7 @@ pub record IsHead (all : Layered) (d : ℕ) (r : Option (ℕ × Addr)) (xs : Lis
   pub object : object_at all r ≡ first_of (from_place r xs)
   pub answer : Answers r (first_of (from_place r xs))
 
-is-head : (all : Layered) (d e : ℕ) (r : Option (ℕ × Addr)) (xs : List (Seen ℕ)) → AllByRecursion (IsThere all e) xs → (all.layer e).kind ≡ (all.layer d).kind → IfSome r (λ p. list_any (is_at (numbers_of p)) xs ≡ true) → IsHead all d r xs
+pub is-head : (all : Layered) (d e : ℕ) (r : Option (ℕ × Addr)) (xs : List (Seen ℕ)) → AllByRecursion (IsThere all e) xs → (all.layer e).kind ≡ (all.layer d).kind → IfSome r (λ p. list_any (is_at (numbers_of p)) xs ≡ true) → IsHead all d r xs
 is-head all d e None xs h kinds seen = record { stands = tt; object = refl; answer = refl }
 is-head all d e (Some p) xs h kinds seen =
     let f = found-at all e (numbers_of p) xs h seen in
@@ -95,6 +95,7 @@ pass-left m r laws s rest seen = record {
   place = (left-head m laws s).answer;
   first = rest;
   second = refl;
+  stands = (left-head m laws s).stands;
   merge = record { first = s.first; second = s.second; kinds = s.kinds; left = seen; right = s.right };
   same = record { first = refl; second = refl; op = refl };
 }
@@ -105,15 +106,16 @@ pass-right m r laws s rest seen = record {
   place = (right-head m laws s).answer;
   first = refl;
   second = rest;
+  stands = (right-head m laws s).stands;
   merge = record { first = s.first; second = s.second; kinds = s.kinds; left = s.left; right = seen };
   same = record { first = refl; second = refl; op = refl };
 }
 
 -- it stays so where each layer is as it was
-by-kept : {old new : Layered} {links : Links} (d : ℕ) → Same old new → IsPathBy true old links d → IsPathBy true new links d
+pub by-kept : {old new : Layered} {links : Links} (d : ℕ) → Same old new → IsPathBy true old links d → IsPathBy true new links d
 by-kept {old} {new} {links} d s p = record { path = path-kept links d s p.path; method = subst (λ (z : ℕ → Layer). is_ordered (z d).method ≡ true) (sym s.layers) p.method }
 
-seen-on : {old new : Layered} (links : Links) (d : ℕ) (r : Option (ℕ × Addr)) → Same old new → IfSome r (λ p. IsVisible old links d (numbers_of p)) → IfSome r (λ p. IsVisible new links d (numbers_of p))
+pub seen-on : {old new : Layered} (links : Links) (d : ℕ) (r : Option (ℕ × Addr)) → Same old new → IfSome r (λ p. IsVisible old links d (numbers_of p)) → IfSome r (λ p. IsVisible new links d (numbers_of p))
 seen-on links d None s h = tt
 seen-on links d (Some p) s h = seen-kept links d (numbers_of p) s h
 

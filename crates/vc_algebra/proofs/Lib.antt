@@ -1,7 +1,10 @@
+pub mod AtHolders
 pub mod ComeLemmas
+pub mod LookLemmas
 pub mod MergeLemmas
 pub mod OwnLemmas
 pub mod RangeLemmas
 pub mod RunLemmas
 pub mod ToyLemmas
 pub mod SeenLemmas
+pub mod ToldLemmas

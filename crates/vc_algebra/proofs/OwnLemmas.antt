@@ -5,28 +5,23 @@ use Rattle.vc_base.proofs.Quantifiers.{all-append, all-both, all-weaken}
 use Rattle.vc_dtdisc.specs.Finding.{behind_last, first_of}
 use Rattle.vc_dtdisc.specs.Objects.{Object, is_greater, is_match, placed_among, placed_each}
 use Rattle.vc_dtdisc.specs.Rules.{AreLawful, Rules}
-use Rattle.vc_paths.specs.Layers.{AreLayers, Layered}
+use Rattle.vc_paths.specs.Layers.{AreLayers, Layered, bytes_there}
 use Rattle.vc_paths.specs.Links.{Links, path}
-use Rattle.vc_paths.specs.Path.{Answers, IsAlike, IsPath, is_at, numbers_of, objects_of, place_of, seen_in, visible_of}
+use Rattle.vc_paths.specs.Path.{Answers, IsAlike, IsPath, IsPathBy, is_at, numbers_of, objects_of, place_of, seen_in, visible_of}
 use Rattle.vc_paths.specs.Visible.{Seen, is_hidden, seen_bytes, stacked_objects}
 use Rattle.vc_paths.proofs.BesideLemmas.{fails}
 use Rattle.vc_paths.proofs.MatchLemmas.{match-itself}
 use Rattle.vc_paths.proofs.OrderLemmas.{all_filter, all_none, any_none, filter_kept}
 use Rattle.vc_paths.proofs.OrderedLemmas.{visible_ordered}
 use Rattle.vc_paths.proofs.SeekLemmas.{path-first}
-use Rattle.vc_paths.proofs.SightLemmas.{IsThere, at-itself, layers-there, one-there}
+use Rattle.vc_paths.proofs.SightLemmas.{IsThere, at-itself, layers-there, one-there, visible-there}
 use Rattle.vc_paths.proofs.SortedLemmas.{all_placed, all_stacked}
+use Rattle.vc_algebra.specs.Algebra.{by_op, minus, range, union}
+use Rattle.vc_algebra.specs.Runs.{HaveOwn, IsElsewhere}
 use Rattle.vc_algebra.specs.ToCome.{from_place, from_there}
+use Rattle.vc_algebra.specs.declared.op.Op.{Op}
+use Rattle.vc_algebra.specs.declared.op.Op.TheVariants.{Union, Meet, Minus}
 use Rattle.vc_algebra.proofs.RangeLemmas.{behind-in, none-place}
-
--- an object stands elsewhere than another one
-abbrev pub IsElsewhere : Seen ℕ → Seen ℕ → Type 0
-IsElsewhere x y = is_at (place_of x) y ≡ false
-
--- no two stand at one place
-abbrev pub HaveOwn : List (Seen ℕ) → Type 0
-HaveOwn [] = Unit {0}
-HaveOwn (x ∷ xs) = AllByRecursion (IsElsewhere x) xs × HaveOwn xs
 
 at-swap : (x y : Seen ℕ) → is_at (place_of y) x ≡ true → is_at (place_of x) y ≡ true
 at-swap x y h =
@@ -118,6 +113,41 @@ visible-own all links d laws path' method =
     subst HaveOwn (sym (visible_ordered all links d method))
     (own-each rules [] heap (none-yet heap) tt
     (own-stacked all d rules (laws.lawful d (path-first all links d path').there) [] (map (objects_of all) (path links d)) (layers-there all d (path links d) laws path'.alike) (own-layers all d (path links d) laws path'.alike)))
+
+-- two objects at one place are one, whatever they are seen through
+bytes-one : (all : Layered) (x y : Seen ℕ) → bytes_there x.at (all.layer x.dict).objects ≡ Some x.bytes → bytes_there y.at (all.layer y.dict).objects ≡ Some y.bytes → is_at (place_of x) y ≡ true → y.bytes ≡ x.bytes
+bytes-one all x y tx ty h =
+    let parts = and_parts (y.dict == x.dict) (y.at == x.at) h in
+    let dict = eqb-true y.dict x.dict parts.0 in
+    let at = eqb-true y.at x.at parts.1 in
+    same_Some y.bytes x.bytes (sym ty ∙ ap (λ z. bytes_there z (all.layer y.dict).objects) at ∙ ap (λ z. bytes_there x.at (all.layer z).objects) dict ∙ tx)
+
+-- so what matches nothing of a list stands elsewhere than all of it
+own-union : (all : Layered) (d e : ℕ) (rules : Rules) → AreLawful rules → (xs ys : List (Seen ℕ)) → AllByRecursion (IsThere all d) xs → AllByRecursion (IsThere all e) ys → HaveOwn xs → HaveOwn ys → HaveOwn (union rules xs ys)
+own-union all d e rules laws xs ys h k s t =
+    let p : Seen ℕ → Bool = λ o. not (is_hidden rules xs o) in
+    own-each rules xs (minus rules ys xs)
+    (all-both (IsThere all e) (λ y. is_hidden rules xs y ≡ false) (λ y. AllByRecursion (IsElsewhere y) xs) (filter p ys)
+    (λ y u g.
+    all-both (IsThere all d) (λ x. is_match rules y.bytes x.bytes ≡ false) (IsElsewhere y) xs
+    (λ x v apart. fails (is_at (place_of y) x) (is_match rules y.bytes x.bytes) (λ at. match-itself rules y.bytes x.bytes laws (bytes-one all y x u.bytes v.bytes at)) apart)
+    h (all_none (λ x. is_match rules y.bytes x.bytes) xs g))
+    (all_filter (IsThere all e) p ys k)
+    (all-weaken (λ o. p o ≡ true) (λ o. is_hidden rules xs o ≡ false) (filter p ys) (λ o n. not-true (is_hidden rules xs o) n) (filter_kept p ys)))
+    s (own-filter p ys t)
+
+own-by : (all : Layered) (d e : ℕ) (op : Op) (rules : Rules) → AreLawful rules → (xs ys : List (Seen ℕ)) → AllByRecursion (IsThere all d) xs → AllByRecursion (IsThere all e) ys → HaveOwn xs → HaveOwn ys → HaveOwn (by_op op rules xs ys)
+own-by all d e Union rules laws xs ys h k s t = own-union all d e rules laws xs ys h k s t
+own-by all d e Meet rules laws xs ys h k s t = own-filter (is_hidden rules ys) xs s
+own-by all d e Minus rules laws xs ys h k s t = own-filter (λ o. not (is_hidden rules ys o)) xs s
+
+pub operation-own : (all : Layered) (links : Links) (d e : ℕ) (op : Op) → AreLayers all → IsPathBy true all links d → IsPathBy true all links e → HaveOwn (by_op op (all.layer d).rules (visible_of all links d) (visible_of all links e))
+operation-own all links d e op laws p q =
+    own-by all d e op (all.layer d).rules (laws.lawful d (path-first all links d p.path).there) (visible_of all links d) (visible_of all links e) (visible-there all links d laws p.path) (visible-there all links e laws q.path)
+    (visible-own all links d laws p.path p.method) (visible-own all links e laws q.path q.method)
+
+pub range-own : (all : Layered) (links : Links) (d : ℕ) (low high : Option (List ℕ)) → AreLayers all → IsPathBy true all links d → HaveOwn (range (all.layer d).rules low high (visible_of all links d))
+range-own all links d low high laws p = own-filter _ (visible_of all links d) (visible-own all links d laws p.path p.method)
 
 -- from the first place on all is left
 pub from-first : (r : Option (ℕ × Addr)) (xs : List (Seen ℕ)) → Answers r (first_of xs) → from_place r xs ≡ xs

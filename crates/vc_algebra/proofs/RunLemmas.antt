@@ -12,13 +12,13 @@ use Rattle.vc_paths.proofs.OrderLemmas.{all_filter, any_none}
 use Rattle.vc_paths.proofs.SeekLemmas.{path-first}
 use Rattle.vc_paths.proofs.SortedLemmas.{AreSorted, IsUpto}
 use Rattle.vc_algebra.specs.Algebra.{by_op, if_upto, is_from, is_over, range}
-use Rattle.vc_algebra.specs.Runs.{AreListed, AreMergeNexts, AreRangeNexts, IsRangeFirst, has_none, until_none}
+use Rattle.vc_algebra.specs.Runs.{AreListed, AreMergeNexts, AreRangeNexts, HaveOwn, IsElsewhere, IsRangeFirst, has_none, until_none}
 use Rattle.vc_algebra.specs.ToCome.{Begins, from_place, from_there, to_come}
 use Rattle.vc_algebra.specs.declared.merge.Merge.{Merge}
 use Rattle.vc_algebra.specs.declared.op.Op.{Op}
 use Rattle.vc_algebra.proofs.ComeLemmas.{seen-first}
 use Rattle.vc_algebra.proofs.MergeLemmas.{filter-by}
-use Rattle.vc_algebra.proofs.OwnLemmas.{HaveOwn, IsElsewhere, at-place, first-in, from-behind, from-first, from-past, visible-own}
+use Rattle.vc_algebra.proofs.OwnLemmas.{at-place, first-in, from-behind, from-first, from-past, visible-own}
 use Rattle.vc_algebra.proofs.RangeLemmas.{from_up, no-range, none-place, over_up, visible_sorted}
 use Rattle.vc_algebra.proofs.SeenLemmas.{first-seen, next-seen}
 

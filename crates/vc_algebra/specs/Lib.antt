@@ -1,7 +1,10 @@
 pub mod Algebra
 pub mod Faults
+pub mod InRegion
+pub mod RegionLaws
 pub mod Rows
 pub mod Runs
+pub mod Sides
 pub mod ToCome
 pub mod Toy
 pub mod ToyLaws

@@ -1,11 +1,12 @@
 -- Calls one after another, and what their answers list.
-use Rattle.std.specs.Prelude.{◌≡◌, ℕ, ◌<◌, Bool, true, List, [], ◌∷◌, map, length, take, drop, Option, Some, None, is_none}
+use Rattle.std.specs.Prelude.{◌≡◌, ℕ, ◌<◌, Bool, true, false, List, [], ◌∷◌, map, length, take, drop, Option, Some, None, IfSome, is_none}
 use Rattle.std.specs.List.{AllByRecursion, list_any}
 use Rattle.vc_base.specs.declared.addr.Addr.{Addr}
 use Rattle.vc_dtdisc.specs.Finding.{behind_last, first_of}
 use Rattle.vc_paths.specs.Layers.{Layered, Same}
 use Rattle.vc_paths.specs.Links.{Links}
-use Rattle.vc_paths.specs.Path.{Answers, is_at, numbers_of, place_of, visible_of}
+use Rattle.vc_paths.specs.Ordered.{IsStanding}
+use Rattle.vc_paths.specs.Path.{Answers, IsPathBy, IsVisible, is_at, numbers_of, place_of, visible_of}
 use Rattle.vc_paths.specs.Visible.{Seen}
 use Rattle.vc_algebra.specs.Algebra.{if_upto, range}
 use Rattle.vc_algebra.specs.ToCome.{to_come}
@@ -18,6 +19,12 @@ IsRangeFirst all links d low high answer = Answers answer (first_of (range (all.
 -- the object behind a place is answered where it isn't above the high bound
 abbrev pub IsRangeNext : Layered → Links → ℕ → ℕ × Addr → Option (List ℕ) → Option (ℕ × Addr) → Type 0
 IsRangeNext all links d from high answer = Answers answer (if_upto (all.layer d).rules high (behind_last (is_at (numbers_of from)) (visible_of all links d)))
+
+-- how far a range has come: the path is there, and a place is that of an object which stands there and is seen through it
+pub record IsRangeAt (all : Layered) (links : Links) (d : ℕ) (place : Option (ℕ × Addr)) : Type 0 where
+  pub path : IsPathBy true all links d
+  pub seen : IfSome place (λ p. IsVisible all links d (numbers_of p))
+  pub stands : IsStanding all d place
 
 -- the first that is still to come of an operation is answered, and the rest is left
 pub record IsMergeNext (links : Links) (old new : Layered) (m n : Merge) (answer : Option (ℕ × Addr)) : Type 0 where
@@ -55,3 +62,12 @@ pub record AreListed (xs : List (Seen ℕ)) (answers : List (Option (ℕ × Addr
   pub whole : has_none answers ≡ true → map numbers_of (until_none answers) ≡ map place_of xs
   pub ends : length xs < length answers → has_none answers ≡ true
   pub behind : AllByRecursion (λ answer. answer ≡ None) (drop (length (until_none answers)) answers)
+
+-- an object stands elsewhere than another one
+abbrev pub IsElsewhere : Seen ℕ → Seen ℕ → Type 0
+IsElsewhere x y = is_at (place_of x) y ≡ false
+
+-- no two stand at one place
+abbrev pub HaveOwn : List (Seen ℕ) → Type 0
+HaveOwn [] = Unit {0}
+HaveOwn (x ∷ xs) = AllByRecursion (IsElsewhere x) xs × HaveOwn xs

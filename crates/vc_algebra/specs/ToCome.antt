@@ -7,6 +7,7 @@ use Rattle.vc_dtdisc.specs.Finding.{first_of}
 use Rattle.vc_dtdisc.specs.Rules.{Rules}
 use Rattle.vc_paths.specs.Layers.{Layered}
 use Rattle.vc_paths.specs.Links.{Links}
+use Rattle.vc_paths.specs.Ordered.{IsStanding}
 use Rattle.vc_paths.specs.Path.{Answers, IsPathBy, IsVisible, is_at, numbers_of, visible_of}
 use Rattle.vc_paths.specs.Visible.{Seen}
 use Rattle.vc_algebra.specs.Algebra.{by_op}
@@ -96,5 +97,6 @@ pub record Passes (all : Layered) (links : Links) (left : Bool) (old new : Merge
   pub place : Answers result (first_of (if left then left_of all links old else right_of all links old))
   pub first : left_of all links new ≡ (if left then drop 1 (left_of all links old) else left_of all links old)
   pub second : right_of all links new ≡ (if left then right_of all links old else drop 1 (right_of all links old))
+  pub stands : IsStanding all new.d result
   pub merge : IsMerge all links new
   pub same : IsOfSame old new

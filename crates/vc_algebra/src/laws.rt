@@ -3,7 +3,7 @@ ghost use Rattle.vc_base.specs.declared.addr.Addr.{Addr};
 ghost use Rattle.vc_paths.specs.Links.{Links};
 ghost use Rattle.vc_paths.specs.Path.{IsPathBy, visible_of};
 ghost use Rattle.vc_algebra.specs.Algebra.{by_op, range};
-ghost use Rattle.vc_algebra.specs.Runs.{AreListed, AreMergeNexts, AreRangeNexts, IsRangeFirst};
+ghost use Rattle.vc_algebra.specs.Runs.{AreListed, AreMergeNexts, AreRangeNexts, HaveOwn, IsRangeFirst};
 ghost use Rattle.vc_algebra.specs.ToCome.{Begins};
 ghost use Rattle.vc_algebra.specs.declared.merge.Merge.{Merge};
 ghost use Rattle.vc_algebra.specs.declared.op.Op.{Op};
@@ -30,4 +30,16 @@ pub fn operation_is_answered<Y: Ordered>()
         → Begins (Y.layered layers) links d e op m → AreMergeNexts Y.layered links layers m answers
         → AreListed (by_op op ((Y.layered layers).layer d).rules (visible_of (Y.layered layers) links d)
         (visible_of (Y.layered layers) links e)) answers }
+{}
+
+/// No place is answered twice, by a range or by an operation: not where the two dictionaries share layers either.
+pub fn places_come_once<Y: Ordered>()
+    ensures range { (links : Links) (d : ℕ) (low high : Option (List ℕ)) (layers : Y)
+        → IsPathBy true (Y.layered layers) links d
+        → HaveOwn (range ((Y.layered layers).layer d).rules low high
+        (visible_of (Y.layered layers) links d)) }
+    ensures operation { (links : Links) (d e : ℕ) (op : Op) (layers : Y)
+        → IsPathBy true (Y.layered layers) links d → IsPathBy true (Y.layered layers) links e
+        → HaveOwn (by_op op ((Y.layered layers).layer d).rules (visible_of (Y.layered layers) links d)
+        (visible_of (Y.layered layers) links e)) }
 {}

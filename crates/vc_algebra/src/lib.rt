@@ -6,15 +6,20 @@ mod laws;
 mod merge;
 mod op;
 mod ordered;
+mod places;
 mod ranges;
+mod region_layers;
 mod rows;
+mod seeking;
+mod side;
 #[cfg(test)]
 mod tests;
 mod turn;
 
 pub use fault::AlgebraFault;
-pub use laws::{operation_is_answered, range_is_answered};
+pub use laws::{operation_is_answered, places_come_once, range_is_answered};
 pub use merge::Merge;
 pub use op::Op;
 pub use ordered::Ordered;
 pub use ranges::{range_first, range_next};
+pub use region_layers::RegionLayers;

@@ -162,6 +162,7 @@ impl Merge {
         requires { IsMerge (Y.layered layers.old) paths.now self.old }
         ensures next { IsMergeNext paths.now (Y.layered layers.old) (Y.layered layers.new) self.old
             self.new result }
+        ensures stands { IsStanding (Y.layered layers.new) self.new.d result }
         ensures merge { IsMerge (Y.layered layers.new) paths.now self.new }
         ensures same { IsOfSame self.old self.new }
         ensures unchanged { Unchanged Y.layered Y.Stays layers.old layers.new }

@@ -9,7 +9,7 @@ ghost use Rattle.vc_paths.specs.Path.{Answers, IsPath, IsPathBy, IsVisible, numb
 ghost use Rattle.vc_paths.specs.Visible.{Seen};
 ghost use Rattle.vc_algebra.specs.Algebra.{is_from, is_over};
 ghost use Rattle.vc_algebra.specs.Faults.{range_fault};
-ghost use Rattle.vc_algebra.specs.Runs.{IsRangeFirst, IsRangeNext};
+ghost use Rattle.vc_algebra.specs.Runs.{IsRangeAt, IsRangeFirst, IsRangeNext};
 
 use crate::{AlgebraFault, Ordered};
 use vc_base::{Addr, Steps};
@@ -150,6 +150,7 @@ pub fn range_first<Y: Ordered, L>(
     ensures fault { result_err result ≡ range_fault (Y.layered layers.old) d }
     ensures found { IfOk result (λ o. IsRangeFirst (Y.layered layers.old) paths.now d
         (option_copied low.entry) (option_copied high.entry) o) }
+    ensures goes_on { IfOk result (λ o. IsRangeAt (Y.layered layers.new) paths.now d o) }
     ensures unchanged { Unchanged Y.layered Y.Stays layers.old layers.new }
 {
     if !layers.method(d).is_ordered() {
@@ -174,6 +175,7 @@ pub fn range_next<Y: Ordered, L>(
     requires place { IsVisible (Y.layered layers.old) paths.now d (numbers_of from) }
     ensures found { IsRangeNext (Y.layered layers.old) paths.now d from (option_copied high.entry)
         result }
+    ensures goes_on { IsRangeAt (Y.layered layers.new) paths.now d result }
     ensures unchanged { Unchanged Y.layered Y.Stays layers.old layers.new }
 {
     let next = walk_next(paths, layers, d, from, steps);

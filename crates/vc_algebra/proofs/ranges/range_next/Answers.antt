@@ -5,6 +5,7 @@ use Rattle.vc_paths.specs.Visible.{Seen}
 use Rattle.vc_paths.proofs.SeekLemmas.{path-first}
 use Rattle.vc_paths.proofs.SightLemmas.{IsThere}
 use Rattle.vc_algebra.proofs.RangeLemmas.{behind-there, kept_stands, stands_as, up-to}
+use Rattle.vc_algebra.proofs.SeenLemmas.{next-seen, range-at}
 use Rattle.vc_algebra.proofs.ranges.range_next.Given.{Over}
 use Rattle.vc_algebra.proofs.ranges.range_next.Goals as goal
 use Rattle.vc_algebra.proofs.ranges.range_next.Goals.{Start}
@@ -23,3 +24,13 @@ returns-clause-found g c =
     let all = g.Y.Layers.layered c.args.layers.now in
     up-to (option_copied c.args.high) c.walk_next-next.result c.up_to.result _ c.walk_next-next.ensures.unchanged.layers (g.met.Y.Layers.lawful c.args.layers.now) (path-first all c.args.paths.now c.args.d c.requires.path.path).there
     (there g (goal.at.returns-clause-found g c).Start) c.walk_next-next.ensures.found c.up_to.ensures.object c.up_to.ensures.none
+
+pub returns-clause-goes_on : goal.returns-clause-goes_on
+returns-clause-goes_on g c =
+    let all = g.Y.Layers.layered c.args.layers.now in
+    let laws = g.met.Y.Layers.lawful c.args.layers.now in
+    let same = c.walk_next-next.ensures.unchanged.layers in
+    let found = up-to (option_copied c.args.high) c.walk_next-next.result c.up_to.result _ same laws (path-first all c.args.paths.now c.args.d c.requires.path.path).there
+    (there g (goal.at.returns-clause-goes_on g c).Start) c.walk_next-next.ensures.found c.up_to.ensures.object c.up_to.ensures.none in
+    range-at c.args.paths.now c.args.d c.up_to.result laws same c.requires.path
+    (next-seen c.up_to.result (numbers_of c.args.from) (all.layer c.args.d).rules (option_copied c.args.high) (visible_of all c.args.paths.now c.args.d) found)

@@ -1,7 +1,7 @@
 use Rattle.vc_base.proofs.Common.{drop, option_map, sym, ap, ◌∙◌, subst}
 use Rattle.vc_dtdisc.specs.Finding.{first_of}
 use Rattle.vc_paths.specs.Path.{Answers, place_of}
-use Rattle.vc_paths.proofs.StayLemmas.{same-over}
+use Rattle.vc_paths.proofs.StayLemmas.{same-over, standing-kept}
 use Rattle.vc_algebra.specs.ToCome.{comes}
 use Rattle.vc_algebra.proofs.ComeLemmas.{come-kept, fewer-kept, finished, left-head, merge-kept, right-head, same-merge, step}
 use Rattle.vc_algebra.proofs.merge.Merge.next.Goals as goal
@@ -20,6 +20,9 @@ returns-then-comes-clause-next g c =
       place = subst (λ z. Answers c.pass-place.result (first_of z)) c.loop-turn.invariant.rest (s.comes c.if-comes.true).0;
       rest = come-kept c.args.paths.now c.pass-place.new.self c.pass-place.ensures.unchanged.layers ∙ (s.comes c.if-comes.true).1 ∙ ap (drop 1) c.loop-turn.invariant.rest;
     }
+
+pub returns-then-comes-clause-stands : goal.returns-then-comes-clause-stands
+returns-then-comes-clause-stands g c = standing-kept c.pass-place.new.self.d c.pass-place.result c.pass-place.ensures.unchanged.layers c.pass-place.ensures.passes.stands
 
 pub returns-then-comes-clause-merge : goal.returns-then-comes-clause-merge
 returns-then-comes-clause-merge g c = merge-kept c.args.paths.now c.pass-place.new.self c.pass-place.ensures.unchanged.layers c.pass-place.ensures.passes.merge
