@@ -105,7 +105,7 @@ impl Best {
         ensures put { IfOk result
             (λ a. IsBlockPut tag size a.0 (blocks_in self.old) (blocks_in self.new)) }
 
-        // At an alignment of 32 it costs one call, and no more of its tree.
+        // What it costs at an alignment of 32: as one call, and by how many gaps the tree has before it.
         ensures call { align ≡ 32 → CallCosts self.old self.new 1 steps.old steps.new }
         ensures cost { align ≡ 32 → TreeCosts self.old self.new steps.old steps.new 40 3 2 }
     {
