@@ -1,6 +1,8 @@
-use Rattle.vc_base.proofs.Common.{◌≡◌, ℕ, suc, ◌<◌, Discipline, Layout, arith}
+use Rattle.vc_base.proofs.Common.{◌≡◌, ℕ, suc, ◌∷◌, ◌<◌, Discipline, Layout, arith}
 use Rattle.vc_model.specs.Best.{best_alloc}
 use Rattle.vc_best.specs.Parts.{disc_in, layout_of}
+use Rattle.vc_ways.specs.LastParts.{holding_of}
+use Rattle.vc_ways.specs.PoolParts.{holdings}
 use Rattle.vc_ways.specs.RegionsParts.{best_holding}
 use Rattle.vc_ways.proofs.Kept.{asked-keeps}
 use Rattle.vc_ways.proofs.PoolSteps.{kept-same}
@@ -22,7 +24,7 @@ put_cell-requires-clause-lent g c = λ i d lt. c.requires.lent (suc (suc i)) d (
 pub returns-in-Err-clause-keeps : goal.returns-in-Err-clause-keeps
 returns-in-Err-clause-keeps g c =
     let b = c.args.self.now.best in
-    (asked-keeps {R = Layout ℕ} (λ r. r.segments) (best_alloc (disc_in (meaning g) b).terms (layout_of b) 0 c.args.size 32) c.alloc.result (layout_of b) (layout_of c.alloc.new.self) _ _ _ c.alloc.ensures.answer c.alloc.ensures.disc, kept-same _)
+    (asked-keeps {R = Layout ℕ} (λ r. r.segments) (best_alloc (disc_in (meaning g) b).terms (layout_of b) 0 c.args.size 32) c.alloc.result (layout_of b) (layout_of c.alloc.new.self) _ _ _ c.alloc.ensures.answer c.alloc.ensures.disc, kept-same (holding_of (meaning g) c.args.self.now.last ∷ holdings (meaning g) c.args.self.now.pools.items))
 
 pub returns-in-Err-put-clause-keeps : goal.returns-in-Err-put-clause-keeps
 returns-in-Err-put-clause-keeps g c =

@@ -1,6 +1,8 @@
-use Rattle.vc_base.proofs.Common.{◌≡◌, ℕ, suc, true, ◌<◌, Discipline, Layout, arith, place_of}
+use Rattle.vc_base.proofs.Common.{◌≡◌, ℕ, suc, ◌∷◌, true, ◌<◌, Discipline, Layout, arith, place_of}
 use Rattle.vc_model.specs.Resize.{best_resize}
 use Rattle.vc_best.specs.Parts.{disc_in, layout_of}
+use Rattle.vc_ways.specs.LastParts.{holding_of}
+use Rattle.vc_ways.specs.PoolParts.{holdings}
 use Rattle.vc_ways.specs.RegionsParts.{best_holding}
 use Rattle.vc_ways.proofs.Kept.{asked-keeps}
 use Rattle.vc_ways.proofs.PoolSteps.{keeps-then, kept-same}
@@ -22,7 +24,7 @@ resize_cell-requires-clause-lent g c = λ i d lt. c.requires.lent (suc (suc i)) 
 pub returns-in-Err-clause-keeps : goal.returns-in-Err-clause-keeps
 returns-in-Err-clause-keeps g c =
     let b = c.args.self.now.best in
-    (asked-keeps {R = Layout ℕ} (λ r. r.segments) (best_resize (disc_in (meaning g) b).terms (layout_of b) (place_of c.args.live.now.best.0) c.args.size true) c.resize.result (layout_of b) (layout_of c.resize.new.self) _ _ _ c.resize.ensures.answer c.resize.ensures.disc, kept-same _)
+    (asked-keeps {R = Layout ℕ} (λ r. r.segments) (best_resize (disc_in (meaning g) b).terms (layout_of b) (place_of c.args.live.now.best.0) c.args.size true) c.resize.result (layout_of b) (layout_of c.resize.new.self) _ _ _ c.resize.ensures.answer c.resize.ensures.disc, kept-same (holding_of (meaning g) c.args.self.now.last ∷ holdings (meaning g) c.args.self.now.pools.items))
 
 pub returns-in-Err-resize-clause-keeps : goal.returns-in-Err-resize-clause-keeps
 returns-in-Err-resize-clause-keeps g c =
