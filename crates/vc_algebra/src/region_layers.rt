@@ -92,14 +92,7 @@ impl<D: DictDisc> Layers for RegionLayers<D> {
     }
 
     fn last_like<L>(&mut self, d: u32, at: Addr, steps: &mut Steps<L>) -> Addr {
-        last_at(
-            &mut self.region,
-            &mut self.dicts,
-            &self.kinds,
-            d,
-            at,
-            steps,
-        )
+        last_at(&mut self.region, &mut self.dicts, &self.kinds, d, at, steps)
     }
 
     fn behind_like<L>(&mut self, d: u32, of: u32, at: Addr, steps: &mut Steps<L>) -> Option<Addr> {
