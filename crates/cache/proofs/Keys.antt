@@ -1,11 +1,10 @@
 -- Keys that are put among others and go.
-use Rattle.vc_base.proofs.Common.{◌≡◌, ℕ, ◌+◌, ◌<◌, ◌==◌, zero, suc, Bool, true, false, cond, List, [], ◌∷◌, ◌++◌, Option, Some, None, is_some, length, map, take, drop, get_or, fold, flat_map, codes, ◌&&◌, if◌then◌else◌, find, is_eq, sym, refl, ap, ap₂, ◌∙◌, subst, none-some, same_Some, true≢false, ne_eqb, add-one, arith, and_right, append_assoc, append-nil, map-append, is_set}
+use Rattle.vc_base.proofs.Common.{◌≡◌, ℕ, ◌+◌, ◌<◌, ◌==◌, zero, suc, Bool, true, false, cond, List, [], ◌∷◌, ◌++◌, Option, Some, None, is_some, length, map, take, drop, get_or, flat_map, codes, if◌then◌else◌, is_eq, sym, refl, ap, ap₂, ◌∙◌, subst, none-some, same_Some, true≢false, ne_eqb, add-one, arith, and_right, append_assoc, append-nil, map-append, is_set}
 use Rattle.std.specs.Cmp.{tied_itself}
 use Rattle.std.proofs.Math.Seq.{take-suc}
 use Rattle.std.proofs.lemmas.Grind.{flat_map-append}
 use Rattle.std.proofs.lemmas.List.Sums.{fold-append}
 use Rattle.vc_base.specs.declared.dict_method.DictMethod.{DictMethod}
-use Rattle.vc_base.specs.declared.dict_method.DictMethod.TheVariants.{DtSet, DtQueue}
 use Rattle.vc_dtdisc.specs.Objects.{has_key}
 use Rattle.vc_dtdisc.specs.Rules.{Rules}
 use Rattle.vc_dtdisc.specs.ShapeLaws.{order-total}
@@ -14,7 +13,7 @@ use Rattle.vc_store.specs.Answers.{is_there}
 use Rattle.vc_store.specs.Reading.{AfterPut, Contents, first_place, found, has_match, object_at, put_by, without_key}
 use Rattle.vc_store.specs.declared.put.Put.{Put}
 use Rattle.vc_store.specs.declared.put.Put.TheVariants as put
-use Rattle.cache.specs.Asking.{Admits, Asks, Drops, Puts, Replies, Table, asked, asked_each, key_rules, line, new_table, without_oldest}
+use Rattle.cache.specs.Asking.{Admits, Asks, Drops, Puts, Replies, Table, asked, asked_each, key_rules, line, new_table}
 
 -- a key has itself
 pub own-key : (key : List ℕ) → has_key key_rules key key ≡ true

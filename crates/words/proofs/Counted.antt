@@ -7,7 +7,6 @@ use Rattle.std.proofs.lemmas.List.Elements.{All-push}
 use Rattle.std.proofs.lemmas.List.Folds.{drop_split}
 use Rattle.std.proofs.lemmas.List.Splits.{slice_split_at, slice_split_none}
 use Rattle.vc_base.specs.declared.fault.OutOfMemory.{OutOfMemory}
-use Rattle.vc_base.specs.declared.dict_method.DictMethod.{DictMethod}
 use Rattle.vc_base.specs.declared.dict_method.DictMethod.TheVariants.{DtOset}
 use Rattle.vc_model.specs.Count.{next_count}
 use Rattle.vc_dtdisc.specs.Rules.{Rules}

@@ -1,5 +1,5 @@
 -- A walk over the objects of a set, one after another, which puts the line of each.
-use Rattle.vc_base.proofs.Common.{◌≡◌, ℕ, ◌+◌, ◌-◌, ◌<◌, ◌==◌, suc, Bool, true, false, List, [], ◌∷◌, ◌++◌, Option, Some, None, length, take, flat_map, get_or, nat_lt, slice_get, if◌then◌else◌, sym, refl, ap, ◌∙◌, none-some, ⊎_elim, true≢false, ne_eqb, arith, add-one, ltb-false, take_all, append-nil}
+use Rattle.vc_base.proofs.Common.{◌≡◌, ℕ, ◌+◌, ◌-◌, ◌<◌, ◌==◌, Bool, true, false, List, [], ◌∷◌, ◌++◌, Option, Some, None, length, take, flat_map, get_or, nat_lt, slice_get, if◌then◌else◌, sym, refl, ap, ◌∙◌, none-some, ⊎_elim, true≢false, ne_eqb, arith, add-one, ltb-false, take_all, append-nil}
 use Rattle.std.proofs.Math.Seq.{take-suc}
 use Rattle.std.proofs.lemmas.Grind.{flat_map-append}
 use Rattle.std.proofs.lemmas.Option.{get_or_from_slice_get, slice_get_cases, slice_get_within}

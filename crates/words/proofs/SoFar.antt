@@ -1,5 +1,5 @@
 -- How far the words of a text are counted.
-use Rattle.vc_base.proofs.Common.{◌≡◌, ℕ, ◌+◌, ◌<◌, ◌≤◌, true, false, List, [], ◌∷◌, Result, Ok, length, drop, get_or, slice_range, All, refl, ap, ◌∙◌, subst, arith, le-leb, lt-leb}
+use Rattle.vc_base.proofs.Common.{◌≡◌, ℕ, ◌+◌, ◌<◌, ◌≤◌, true, false, List, [], ◌∷◌, Result, Ok, length, drop, get_or, slice_range, All, ap, ◌∙◌, subst, arith, le-leb, lt-leb}
 use Rattle.std.specs.List.{slice_split}
 use Rattle.vc_base.specs.declared.fault.OutOfMemory.{OutOfMemory}
 use Rattle.vc_model.specs.Discipline.{Discipline}

@@ -1,4 +1,4 @@
-use Rattle.vc_base.proofs.Common.{◌≡◌, map, string_bytes, take, sym, subst}
+use Rattle.vc_base.proofs.Common.{map, string_bytes, take, sym, subst}
 use Rattle.vc_model.specs.Discipline.{Discipline}
 use Rattle.vc_store.specs.Collections.{contents}
 use Rattle.cache.proofs.Keys.{AskedSo, asked-more, map-more}

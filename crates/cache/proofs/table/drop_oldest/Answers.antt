@@ -1,9 +1,8 @@
-use Rattle.vc_base.proofs.Common.{◌≡◌, ℕ, List, [], ◌∷◌, ◌++◌, Some, None, length, codes, sym, refl, ap, ◌∙◌, subst}
-use Rattle.vc_dtdisc.specs.Shapes.{rules_of}
+use Rattle.vc_base.proofs.Common.{◌≡◌, ◌++◌, Some, length, codes, ap, ◌∙◌}
 use Rattle.vc_store.specs.Collections.{contents}
 use Rattle.vc_store.specs.Reading.{Contents, current, first_place, object_at, without_key}
 use Rattle.cache.specs.Asking.{key_rules, line}
-use Rattle.cache.proofs.Keys.{first-gone, first-is}
+use Rattle.cache.proofs.Keys.{first-is}
 use Rattle.cache.proofs.table.drop_oldest.Goals as goal
 
 pub returns-clause-drops : goal.returns-clause-drops

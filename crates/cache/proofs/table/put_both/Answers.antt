@@ -1,9 +1,8 @@
-use Rattle.vc_base.proofs.Common.{◌≡◌, ℕ, List, [], ◌∷◌, ◌++◌, None, true, false, sym, refl, ap, ◌∙◌}
+use Rattle.vc_base.proofs.Common.{[], ◌∷◌, ◌++◌, sym, refl, ap, ◌∙◌}
 use Rattle.vc_base.specs.declared.dict_method.DictMethod.TheVariants.{DtSet, DtQueue}
-use Rattle.vc_store.specs.Answers.{is_there}
 use Rattle.vc_store.specs.Collections.{contents}
 use Rattle.vc_store.specs.Reading.{found, without_key}
-use Rattle.cache.specs.Asking.{Puts, key_rules}
+use Rattle.cache.specs.Asking.{key_rules}
 use Rattle.cache.proofs.Keys.{are-not, are-there, last-gone, puts-in, puts-not, puts-there}
 use Rattle.cache.proofs.table.put_both.Goals as goal
 

@@ -1,4 +1,4 @@
-use Rattle.vc_base.proofs.Common.{◌≡◌, ℕ, ◌<◌, ◌++◌, length, ap, ◌∙◌, sym, arith}
+use Rattle.vc_base.proofs.Common.{◌≡◌, ◌++◌, ap, ◌∙◌, sym}
 use Rattle.std.specs.Int.{w64, to_be_bytes}
 use Rattle.vc_model.specs.Count.{next_count}
 use Rattle.vc_dtdisc.specs.Shapes.{rules_of}

@@ -1,7 +1,7 @@
-use Rattle.vc_base.proofs.Common.{◌≡◌, ◌++◌, ◌<◌, List, ℕ, Option, Some, None, length, refl, sym, ap, ap₂, ◌∙◌, subst, append-nil, append_assoc}
+use Rattle.vc_base.proofs.Common.{◌≡◌, ◌++◌, ◌<◌, List, ℕ, Some, length, sym, ap, ◌∙◌, subst, append-nil, append_assoc}
 use Rattle.vc_model.specs.Discipline.{Discipline}
 use Rattle.vc_store.specs.Collections.{contents}
-use Rattle.vc_store.specs.Reading.{Contents, current, first_place, next_place, object_at, with_place}
+use Rattle.vc_store.specs.Reading.{Contents, next_place, object_at}
 use Rattle.words.specs.Counting.{line}
 use Rattle.words.proofs.Kept.{set-on, set-stays}
 use Rattle.words.proofs.Lines.{left-next, left_of, lines-first, lines-last, lines-next, lines_before}
