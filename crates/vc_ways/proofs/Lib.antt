@@ -4,3 +4,4 @@ pub mod LatestBlock
 pub mod PoolSteps
 pub mod PoolLists
 pub mod ThreeWays
+pub mod Slots

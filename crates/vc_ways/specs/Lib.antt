@@ -7,6 +7,7 @@ pub mod PoolWay
 pub mod PoolParts
 pub mod Regions
 pub mod RegionsParts
+pub mod Settled
 pub mod Tally
 pub mod Step
 pub mod Compare

@@ -1,6 +1,7 @@
 //! One trace of allocations run three ways: in a best region, in a last region, and in pools by size class.
 #![tactic(auto)]
 
+mod close;
 mod each;
 mod last_way;
 mod live;
