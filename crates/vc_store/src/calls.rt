@@ -1,4 +1,4 @@
-ghost use Rattle.std.specs.Prelude.{◌≡◌, Some, None, true, false, is_some, IfOk, OnErr, OnOk, if◌then◌else◌};
+ghost use Rattle.std.specs.Prelude.{◌≡◌, [], Some, None, true, false, is_some, IfOk, OnErr, OnOk, if◌then◌else◌};
 ghost use Rattle.vc_best.specs.Cells.{cells_in};
 ghost use Rattle.vc_best.specs.Parts.{disc_in};
 ghost use Rattle.vc_objects.specs.Leaves.{Looks, LeavesRest, told_if};
@@ -132,8 +132,8 @@ pub(crate) fn take<D: DictDisc>(
     ensures method { dict.new.method ≡ dict.old.method }
     ensures err { OnErr result ((dict.new ≡ dict.old) × (D.gone kind.new ≡ D.gone kind.old)
         × (cells_in best.new ≡ cells_in best.old)) }
+    ensures emptied { OnErr result (out.new.items ≡ []) }
     ensures rules { D.rules kind.new ≡ D.rules kind.old }
-    ensures disc { disc_in state best.new ≡ disc_in state best.old }
     ensures leaves { LeavesRest state (D.rules kind.old) best.old dict.old best.new dict.new }
 {
     out.clear();

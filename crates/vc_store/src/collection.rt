@@ -5,7 +5,7 @@ use vc_best::Best;
 use vc_dict::Dict;
 use vc_dtdisc::DictDisc;
 use vc_objects::{empty, open, shut};
-use vc_seg::{BoxedDisc, RegionFault, SegDisc};
+use vc_seg::{BoxedDisc, RegionFault, SegDisc, Stat};
 
 /// A dictionary by one of seven methods in a region of its own, over the segments of a discipline. Its objects are byte
 /// strings of 1 to 1,024 bytes, of which one may be current. Every call keeps it open (`IsOpen`), as the others ask: nothing
@@ -21,8 +21,9 @@ impl<D: DictDisc + Drop> Collection<D> {
     ghost use Rattle.std.specs.Prelude.{◌≡◌, [], Some, None, true, false, is_some, IfOk, IfErr, OnErr, OnOk, length, option_map, if◌then◌else◌};
     ghost use Rattle.vc_model.specs.Discipline.{TookBack};
     ghost use Rattle.vc_seg.specs.Answer.{IsRefusal};
+    ghost use Rattle.vc_seg.specs.Stat.{layout_stat};
     ghost use Rattle.vc_base.specs.Prelude.{HasOut};
-    ghost use Rattle.vc_best.specs.Parts.{disc_in, segments_in};
+    ghost use Rattle.vc_best.specs.Parts.{disc_in, layout_of, segments_in};
     ghost use Rattle.vc_objects.specs.Leaves.{KeepsDisc, told_each, told_if};
     ghost use Rattle.vc_objects.specs.Promises.{StaysAll, opening_in};
     ghost use Rattle.vc_store.specs.Reading.{AfterPut, LacksKey, current, first_place, found, last_place, next_place, place_after, previous_place, with_place};
@@ -208,6 +209,7 @@ impl<D: DictDisc + Drop> Collection<D> {
             ≡ told_if gone (Some out.new.items) (D.gone (kind_of self.old))) }
         ensures err { OnErr result ((contents self.new ≡ contents self.old)
             × (D.gone (kind_of self.new) ≡ D.gone (kind_of self.old))) }
+        ensures emptied { OnErr result (out.new.items ≡ []) }
         ensures stays { StaysOpen state D.rules self.old self.new }
     {
         take(&mut self.best, &mut self.dict, &mut self.kind, key, out)
@@ -232,6 +234,13 @@ impl<D: DictDisc + Drop> Collection<D> {
         ensures { result ≡ length (contents self.now).objects }
     {
         self.dict.count
+    }
+
+    /// The numbers of its region: of blocks, gaps and segments, and their sizes in bytes.
+    pub fn stat(&self) -> Stat
+        ensures { result ≡ layout_stat (layout_of (best_of self.now)) }
+    {
+        self.best.stat()
     }
 
     /// The method.
