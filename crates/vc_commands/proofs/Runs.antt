@@ -1,5 +1,5 @@
 -- What the commands on a region promise together, by the reply that each gives.
-use Rattle.vc_base.proofs.Common.{◌≡◌, ℕ, Bool, List, [], ℤ, IfOk, OnOk, OnErr, Some, None, Ok, Err, Option, Result, sym, refl, subst, Discipline, NoneRefused}
+use Rattle.vc_base.proofs.Common.{◌≡◌, ℕ, Bool, List, [], ℤ, IfOk, OnOk, OnErr, false, true≢false, Some, None, Ok, Err, Option, Result, sym, refl, subst, Discipline, NoneRefused}
 use Rattle.vc_region.specs.Parts.{disc_in}
 use Rattle.vc_script.specs.declared.command.Command.{Command}
 use Rattle.vc_script.specs.declared.command.Command.TheVariants.{ClearRegion, Compact, Alloc, Align, Resize, Free, WriteBlock, ReadBlock, SizeOf, AddrOf, SegmentOf, StatOf, Segments, Blocks, Poke, Check, Watch, ProfileOf}
@@ -10,7 +10,7 @@ use Rattle.vc_script.specs.declared.reply.Reply.TheVariants.{Refused}
 use Rattle.vc_script.specs.Needs.{Need, need_shown}
 use Rattle.vc_commands.specs.Held.{home_of}
 use Rattle.vc_commands.specs.Home.{Changed, Home, refusal_alone}
-use Rattle.vc_commands.specs.RegionCommands.{in_region}
+use Rattle.vc_commands.specs.RegionCommands.{in_region, puts_block}
 use Rattle.vc_commands.specs.RegionRun.{RunsHome, RunsRegion, held_of, region_with}
 use Rattle.vc_commands.specs.declared.region.home.HomeEntry.{HomeEntry}
 use Rattle.vc_commands.specs.declared.region.labels.Labels.{Labels}
@@ -61,14 +61,23 @@ module _ {I : Type 0} {V : I → Type 0} (meaning : (x : I) × V x → Disciplin
   pub runs-any : (asked : ℕ × ℕ) → RunsHome meaning result gives None before old after new → RunsHome meaning result gives (Some asked) before old after new
   runs-any asked runs = record { step = runs.step; err = runs.err; unserved = λ e. absurd (runs.unserved e); served = runs.served }
 
--- a command that is none on a region is refused
-pub other-region : (h : Home) (line : ℕ) (command : Command) (need : Need)
-    → ((r : List ℕ) → command ≡ ClearRegion r → ⊥)
-    → ((r : List ℕ) → command ≡ Compact r → ⊥)
+-- a command that is none of the four on blocks puts no block
+pub other-block : (command : Command)
     → ((r x : List ℕ) (size : ℕ) (site : Option (List ℕ)) → command ≡ Alloc r x size site → ⊥)
     → ((r x : List ℕ) (size align : ℕ) → command ≡ Align r x size align → ⊥)
     → ((r x : List ℕ) (size : ℕ) (may_move : Bool) → command ≡ Resize r x size may_move → ⊥)
     → ((r x : List ℕ) → command ≡ Free r x → ⊥)
+    → puts_block command ≡ false
+other-block (Alloc r x size site) n0 n1 n2 n3 = absurd (n0 r x size site refl)
+other-block (Align r x size align) n0 n1 n2 n3 = absurd (n1 r x size align refl)
+other-block (Resize r x size may_move) n0 n1 n2 n3 = absurd (n2 r x size may_move refl)
+other-block (Free r x) n0 n1 n2 n3 = absurd (n3 r x refl)
+other-block command n0 n1 n2 n3 = refl
+
+-- a command that is none on a region is refused
+pub other-region : (h : Home) (line : ℕ) (command : Command) (need : Need) → puts_block command ≡ false
+    → ((r : List ℕ) → command ≡ ClearRegion r → ⊥)
+    → ((r : List ℕ) → command ≡ Compact r → ⊥)
     → ((r x : List ℕ) (off : ℕ) (bytes : List ℕ) → command ≡ WriteBlock r x off bytes → ⊥)
     → ((r x : List ℕ) (off len : ℕ) → command ≡ ReadBlock r x off len → ⊥)
     → ((r x : List ℕ) → command ≡ SizeOf r x → ⊥)
@@ -82,22 +91,22 @@ pub other-region : (h : Home) (line : ℕ) (command : Command) (need : Need)
     → ((r x : List ℕ) → command ≡ Watch r x → ⊥)
     → ((r : List ℕ) → command ≡ ProfileOf r → ⊥)
     → in_region h line command need ≡ refusal_alone h why.NoRegion
-other-region h line (ClearRegion r) need n0 n1 n2 n3 n4 n5 n6 n7 n8 n9 na nb nc nd ne nf ng nh = absurd (n0 r refl)
-other-region h line (Compact r) need n0 n1 n2 n3 n4 n5 n6 n7 n8 n9 na nb nc nd ne nf ng nh = absurd (n1 r refl)
-other-region h line (Alloc r x size site) need n0 n1 n2 n3 n4 n5 n6 n7 n8 n9 na nb nc nd ne nf ng nh = absurd (n2 r x size site refl)
-other-region h line (Align r x size align) need n0 n1 n2 n3 n4 n5 n6 n7 n8 n9 na nb nc nd ne nf ng nh = absurd (n3 r x size align refl)
-other-region h line (Resize r x size may_move) need n0 n1 n2 n3 n4 n5 n6 n7 n8 n9 na nb nc nd ne nf ng nh = absurd (n4 r x size may_move refl)
-other-region h line (Free r x) need n0 n1 n2 n3 n4 n5 n6 n7 n8 n9 na nb nc nd ne nf ng nh = absurd (n5 r x refl)
-other-region h line (WriteBlock r x off bytes) need n0 n1 n2 n3 n4 n5 n6 n7 n8 n9 na nb nc nd ne nf ng nh = absurd (n6 r x off bytes refl)
-other-region h line (ReadBlock r x off len) need n0 n1 n2 n3 n4 n5 n6 n7 n8 n9 na nb nc nd ne nf ng nh = absurd (n7 r x off len refl)
-other-region h line (SizeOf r x) need n0 n1 n2 n3 n4 n5 n6 n7 n8 n9 na nb nc nd ne nf ng nh = absurd (n8 r x refl)
-other-region h line (AddrOf r at) need n0 n1 n2 n3 n4 n5 n6 n7 n8 n9 na nb nc nd ne nf ng nh = absurd (n9 r at refl)
-other-region h line (SegmentOf r at) need n0 n1 n2 n3 n4 n5 n6 n7 n8 n9 na nb nc nd ne nf ng nh = absurd (na r at refl)
-other-region h line (StatOf r) need n0 n1 n2 n3 n4 n5 n6 n7 n8 n9 na nb nc nd ne nf ng nh = absurd (nb r refl)
-other-region h line (Segments r) need n0 n1 n2 n3 n4 n5 n6 n7 n8 n9 na nb nc nd ne nf ng nh = absurd (nc r refl)
-other-region h line (Blocks r) need n0 n1 n2 n3 n4 n5 n6 n7 n8 n9 na nb nc nd ne nf ng nh = absurd (nd r refl)
-other-region h line (Poke r x off byte) need n0 n1 n2 n3 n4 n5 n6 n7 n8 n9 na nb nc nd ne nf ng nh = absurd (ne r x off byte refl)
-other-region h line (Check r) need n0 n1 n2 n3 n4 n5 n6 n7 n8 n9 na nb nc nd ne nf ng nh = absurd (nf r refl)
-other-region h line (Watch r x) need n0 n1 n2 n3 n4 n5 n6 n7 n8 n9 na nb nc nd ne nf ng nh = absurd (ng r x refl)
-other-region h line (ProfileOf r) need n0 n1 n2 n3 n4 n5 n6 n7 n8 n9 na nb nc nd ne nf ng nh = absurd (nh r refl)
-other-region h line command need n0 n1 n2 n3 n4 n5 n6 n7 n8 n9 na nb nc nd ne nf ng nh = refl
+other-region h line (ClearRegion r) need is n0 n1 n6 n7 n8 n9 na nb nc nd ne nf ng nh = absurd (n0 r refl)
+other-region h line (Compact r) need is n0 n1 n6 n7 n8 n9 na nb nc nd ne nf ng nh = absurd (n1 r refl)
+other-region h line (Alloc r x size site) need is n0 n1 n6 n7 n8 n9 na nb nc nd ne nf ng nh = absurd (true≢false is)
+other-region h line (Align r x size align) need is n0 n1 n6 n7 n8 n9 na nb nc nd ne nf ng nh = absurd (true≢false is)
+other-region h line (Resize r x size may_move) need is n0 n1 n6 n7 n8 n9 na nb nc nd ne nf ng nh = absurd (true≢false is)
+other-region h line (Free r x) need is n0 n1 n6 n7 n8 n9 na nb nc nd ne nf ng nh = absurd (true≢false is)
+other-region h line (WriteBlock r x off bytes) need is n0 n1 n6 n7 n8 n9 na nb nc nd ne nf ng nh = absurd (n6 r x off bytes refl)
+other-region h line (ReadBlock r x off len) need is n0 n1 n6 n7 n8 n9 na nb nc nd ne nf ng nh = absurd (n7 r x off len refl)
+other-region h line (SizeOf r x) need is n0 n1 n6 n7 n8 n9 na nb nc nd ne nf ng nh = absurd (n8 r x refl)
+other-region h line (AddrOf r at) need is n0 n1 n6 n7 n8 n9 na nb nc nd ne nf ng nh = absurd (n9 r at refl)
+other-region h line (SegmentOf r at) need is n0 n1 n6 n7 n8 n9 na nb nc nd ne nf ng nh = absurd (na r at refl)
+other-region h line (StatOf r) need is n0 n1 n6 n7 n8 n9 na nb nc nd ne nf ng nh = absurd (nb r refl)
+other-region h line (Segments r) need is n0 n1 n6 n7 n8 n9 na nb nc nd ne nf ng nh = absurd (nc r refl)
+other-region h line (Blocks r) need is n0 n1 n6 n7 n8 n9 na nb nc nd ne nf ng nh = absurd (nd r refl)
+other-region h line (Poke r x off byte) need is n0 n1 n6 n7 n8 n9 na nb nc nd ne nf ng nh = absurd (ne r x off byte refl)
+other-region h line (Check r) need is n0 n1 n6 n7 n8 n9 na nb nc nd ne nf ng nh = absurd (nf r refl)
+other-region h line (Watch r x) need is n0 n1 n6 n7 n8 n9 na nb nc nd ne nf ng nh = absurd (ng r x refl)
+other-region h line (ProfileOf r) need is n0 n1 n6 n7 n8 n9 na nb nc nd ne nf ng nh = absurd (nh r refl)
+other-region h line command need is n0 n1 n6 n7 n8 n9 na nb nc nd ne nf ng nh = refl

@@ -44,3 +44,11 @@ block_asked (Alloc r x size site) = (size, 32)
 block_asked (Align r x size align) = (size, align)
 block_asked (Resize r x size may_move) = (size, 32)
 block_asked command = (0, 32)
+
+-- whether a command puts a block, resizes it or frees it
+abbrev pub puts_block : Command → Bool
+puts_block (Alloc r x size site) = true
+puts_block (Align r x size align) = true
+puts_block (Resize r x size may_move) = true
+puts_block (Free r x) = true
+puts_block command = false

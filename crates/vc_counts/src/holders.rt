@@ -33,5 +33,5 @@ pub(crate) fn holders_bytes(homes: &IndexMap<Name, HomeEntry>, entry: &DictEntry
         (cells_held (region_named (map region_seen homes.now.entries) entry.now.home))).objects }
     ensures few { result < 2 ^ 43 }
 {
-    holders_over(best_of(homes, &entry.home), &entry.dict)
+    holders_over(best_of(homes, &entry.home, 0), &entry.dict)
 }

@@ -51,4 +51,3 @@ pub mod SessionHere
 pub mod SameLists
 pub mod OpensHere
 pub mod RefusedAt
-pub mod NearIndex

@@ -9,14 +9,13 @@ ghost use Rattle.vc_steps.specs.Homes.{IsSessionOver};
 ghost use Rattle.vc_steps.specs.Moment.{moment};
 ghost use Rattle.vc_steps.specs.Steps.{Stays, StepsBy};
 
-use crate::near::index_near;
 use crate::session::Session;
 use vc_base::{Name, OutOfMemory};
 use vc_dtdisc::DictDisc;
 use vc_region::Region;
 use vc_script::{Command, Refusal, Reply, Work};
 use vc_seg::{BoxedDisc, SegDisc, Shelf};
-use vc_views::{is_barred, show_names};
+use vc_views::{index_near, is_barred, show_names};
 
 impl<D: DictDisc> Session<D> {
     // Runs a command on the dictionary of that name. With no memory its table may have grown.

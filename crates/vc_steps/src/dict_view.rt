@@ -112,6 +112,7 @@ impl<D: DictDisc> Session<D> {
         vc_views::look_at(
             self.alloc,
             &mut self.homes,
+            self.last_region,
             &mut self.dicts,
             kinds,
             &self.paths,

@@ -4,31 +4,9 @@ ghost use Rattle.std.specs.List.{position};
 ghost use Rattle.std.specs.Map.{keys_of};
 
 use crate::session::Session;
-use indexmap::IndexMap;
 use vc_base::Name;
 use vc_seg::{BoxedDisc, SegDisc};
-
-// The index of a name in a map, as `get_index_of` answers it. An index at which the name may stand is looked at first, so
-// that one that is asked for again costs one comparison.
-pub(crate) fn index_near<V>(map: &IndexMap<Name, V>, name: &Name, near: usize) -> Option<usize>
-    ensures index { result ≡ position (bytes_eq name.now) (keys_of map.now.entries) }
-    ensures found { is_some result ≡ is_some (get bytes_eq map.now name.now) }
-    ensures within { IfSome result (λ i. i < length map.now.entries) }
-    ensures value { IfSome result (λ i. slice_get (values map.now) i
-        ≡ get bytes_eq map.now name.now) }
-{
-    // That no two names are alike.
-    let _count = map.len();
-    match map.get_index(near) {
-        Some((key, _)) => {
-            if *key == *name {
-                return Some(near);
-            }
-        }
-        None => {}
-    }
-    map.get_index_of(name)
-}
+use vc_views::index_near;
 
 impl<D> Session<D> {
     /// The index of the region of that name among those that are open, from 0 on, in order of opening.

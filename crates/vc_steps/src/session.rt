@@ -172,10 +172,11 @@ impl<D: DictDisc> Session<D> {
         ensures stays { Stays state D.rules shelf.old self.old kinds.old.items
             shelf.new self.new kinds.new.items }
     {
-        match command.target() {
+        let target = command.target();
+        match &target {
             Target::Shelf => self.run_on_shelf(shelf, kinds, command),
-            Target::Region(name) => self.run_in_region(shelf, &name, line, command),
-            Target::Dict(name, work) => self.run_on_dict(shelf, kinds, &name, work, command),
+            Target::Region(name) => self.run_in_region(shelf, name, line, command),
+            Target::Dict(name, work) => self.run_on_dict(shelf, kinds, name, *work, command),
         }
     }
 
@@ -203,13 +204,11 @@ impl<D: DictDisc> Session<D> {
         if self.is_spent {
             return Err(OutOfMemory);
         }
-        match self.run_command(shelf, kinds, line, command) {
-            Ok(reply) => Ok(reply),
-            Err(_) => {
-                self.is_spent = true;
-                Err(OutOfMemory)
-            }
+        let ran = self.run_command(shelf, kinds, line, command);
+        if ran.is_err() {
+            self.is_spent = true;
         }
+        ran
     }
 
     // Closes every region of a session in which no dictionary is left, in order of opening.

@@ -16,4 +16,5 @@ pub mod NamedSeen
 pub mod NumbersToNames
 pub mod BlockChanges
 pub mod MapValues
+pub mod NearIndex
 pub mod LookAnswers

@@ -12,6 +12,7 @@ ghost use Rattle.vc_views.specs.Promises.{LeavesDicts, cells_under, layered_over
 ghost use Rattle.vc_views.specs.Sides.{CanCompare, CanStand, holder_like, holder_to, last_place, place_like, place_to};
 ghost use Rattle.vc_commands.specs.declared.dict.entry.DictEntry.{DictEntry as Entry};
 
+use crate::near::index_near;
 use crate::places::{best_of, entry_of, index_of, kind_of};
 use indexmap::IndexMap;
 use std::cmp::Ordering;
@@ -54,6 +55,7 @@ fn sought<C: Cells, D: DictDisc, L>(
 fn sought_in<D: DictDisc, L>(
     homes: &mut IndexMap<Name, HomeEntry>,
     name: &Name,
+    near: usize,
     dict: &mut Dict,
     kind: &D,
     side: Ordering,
@@ -71,7 +73,7 @@ fn sought_in<D: DictDisc, L>(
         (map region_seen homes.new.entries) dict.new }
     ensures rest { map home_rest homes.new.entries ≡ map home_rest homes.old.entries }
 {
-    let Some(j) = homes.get_index_of(name) else {
+    let Some(j) = index_near(homes, name, near) else {
         unreachable!()
     };
     let Region::Best(best) = &mut homes[j].region else {
@@ -83,6 +85,7 @@ fn sought_in<D: DictDisc, L>(
 // The holder that stands so to a key, in the dictionary of an index, from 0 on.
 pub(crate) fn sought_at<D: DictDisc, L>(
     homes: &mut IndexMap<Name, HomeEntry>,
+    near: usize,
     dicts: &mut IndexMap<Name, DictEntry>,
     kinds: &Vec<D>,
     i: usize,
@@ -103,7 +106,16 @@ pub(crate) fn sought_at<D: DictDisc, L>(
 {
     let entry = &mut dicts[i];
     let kind = kind_of(kinds, entry.dict.kind);
-    sought_in(homes, &entry.home, &mut entry.dict, kind, side, key, steps)
+    sought_in(
+        homes,
+        &entry.home,
+        near,
+        &mut entry.dict,
+        kind,
+        side,
+        key,
+        steps,
+    )
 }
 
 // Copies an object, and answers how many bytes it has.
@@ -119,6 +131,7 @@ fn copied(object: &[u8], out: &mut [u8; 1024]) -> usize
 // The holder in the dictionary of a number that stands so to the object at a place of another one, of the same kind.
 pub(crate) fn sought_like<D: DictDisc, L>(
     homes: &mut IndexMap<Name, HomeEntry>,
+    near: usize,
     dicts: &mut IndexMap<Name, DictEntry>,
     kinds: &Vec<D>,
     d: u32,
@@ -140,9 +153,10 @@ pub(crate) fn sought_like<D: DictDisc, L>(
     let kind = kind_of(kinds, dicts[i].dict.kind);
     let from = entry_of(dicts, other.0);
     let mut object = [0u8; 1024];
-    let length = copied(best_of(homes, &from.home).body(other.1), &mut object);
+    let length = copied(best_of(homes, &from.home, near).body(other.1), &mut object);
     sought_at(
         homes,
+        near,
         dicts,
         kinds,
         i,
@@ -156,6 +170,7 @@ pub(crate) fn sought_like<D: DictDisc, L>(
 fn last_in<D: DictDisc, L>(
     homes: &mut IndexMap<Name, HomeEntry>,
     name: &Name,
+    near: usize,
     dict: &mut Dict,
     kind: &D,
     at: Addr,
@@ -173,7 +188,7 @@ fn last_in<D: DictDisc, L>(
         (map region_seen homes.new.entries) dict.new }
     ensures rest { map home_rest homes.new.entries ≡ map home_rest homes.old.entries }
 {
-    let Some(j) = homes.get_index_of(name) else {
+    let Some(j) = index_near(homes, name, near) else {
         unreachable!()
     };
     let Region::Best(best) = &mut homes[j].region else {
@@ -185,6 +200,7 @@ fn last_in<D: DictDisc, L>(
 // The last holder that matches one of the dictionary of an index, from 0 on.
 pub(crate) fn last_at<D: DictDisc, L>(
     homes: &mut IndexMap<Name, HomeEntry>,
+    near: usize,
     dicts: &mut IndexMap<Name, DictEntry>,
     kinds: &Vec<D>,
     i: usize,
@@ -207,5 +223,13 @@ pub(crate) fn last_at<D: DictDisc, L>(
 {
     let entry = &mut dicts[i];
     let kind = kind_of(kinds, entry.dict.kind);
-    last_in(homes, &entry.home, &mut entry.dict, kind, at, steps)
+    last_in(
+        homes,
+        &entry.home,
+        near,
+        &mut entry.dict,
+        kind,
+        at,
+        steps,
+    )
 }

@@ -20,6 +20,8 @@ use vc_paths::Layers;
 pub struct DictLayers<'a, D> {
     /// The open regions by name.
     pub homes: &'a mut IndexMap<Name, HomeEntry>,
+    /// An index, from 0 on, at which the region of a dictionary is looked for first. It may be any number.
+    pub near: usize,
     /// The dictionaries by name.
     pub dicts: &'a mut IndexMap<Name, DictEntry>,
     /// The kinds by number, from 1 on.
@@ -45,13 +47,14 @@ impl<'a, D: DictDisc> Layers for DictLayers<'a, D> {
 
     fn object(&self, d: u32, at: Addr) -> &[u8] {
         let entry = entry_of(self.dicts, d);
-        best_of(self.homes, &entry.home).body(at)
+        best_of(self.homes, &entry.home, self.near).body(at)
     }
 
     fn find<L>(&mut self, d: u32, key: &[u8], steps: &mut Steps<L>) -> Option<Addr> {
         let i = index_of(self.dicts, d);
         sought_at(
             self.homes,
+            self.near,
             self.dicts,
             self.kinds,
             i,
@@ -64,6 +67,7 @@ impl<'a, D: DictDisc> Layers for DictLayers<'a, D> {
     fn find_like<L>(&mut self, d: u32, of: u32, at: Addr, steps: &mut Steps<L>) -> Option<Addr> {
         sought_like(
             self.homes,
+            self.near,
             self.dicts,
             self.kinds,
             d,
@@ -82,32 +86,33 @@ impl<'a, D: DictDisc> Layers for DictLayers<'a, D> {
 
     fn first(&self, d: u32) -> Option<Addr> {
         let entry = entry_of(self.dicts, d);
-        entry.dict.first(best_of(self.homes, &entry.home))
+        entry.dict.first(best_of(self.homes, &entry.home, self.near))
     }
 
     fn last(&self, d: u32) -> Option<Addr> {
         let entry = entry_of(self.dicts, d);
-        entry.dict.last(best_of(self.homes, &entry.home))
+        entry.dict.last(best_of(self.homes, &entry.home, self.near))
     }
 
     fn next(&self, d: u32, at: Addr) -> Option<Addr> {
         let entry = entry_of(self.dicts, d);
-        entry.dict.next(best_of(self.homes, &entry.home), at)
+        entry.dict.next(best_of(self.homes, &entry.home, self.near), at)
     }
 
     fn prev(&self, d: u32, at: Addr) -> Option<Addr> {
         let entry = entry_of(self.dicts, d);
-        entry.dict.prev(best_of(self.homes, &entry.home), at)
+        entry.dict.prev(best_of(self.homes, &entry.home, self.near), at)
     }
 
     fn last_like<L>(&mut self, d: u32, at: Addr, steps: &mut Steps<L>) -> Addr {
         let i = index_of(self.dicts, d);
-        last_at(self.homes, self.dicts, self.kinds, i, at, steps)
+        last_at(self.homes, self.near, self.dicts, self.kinds, i, at, steps)
     }
 
     fn behind_like<L>(&mut self, d: u32, of: u32, at: Addr, steps: &mut Steps<L>) -> Option<Addr> {
         sought_like(
             self.homes,
+            self.near,
             self.dicts,
             self.kinds,
             d,
@@ -120,6 +125,7 @@ impl<'a, D: DictDisc> Layers for DictLayers<'a, D> {
     fn before_like<L>(&mut self, d: u32, of: u32, at: Addr, steps: &mut Steps<L>) -> Option<Addr> {
         sought_like(
             self.homes,
+            self.near,
             self.dicts,
             self.kinds,
             d,

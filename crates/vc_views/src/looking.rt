@@ -18,6 +18,7 @@ use vc_script::{Command, Reply};
 fn look_through<D: DictDisc>(
     alloc: Global,
     homes: &mut IndexMap<Name, HomeEntry>,
+    near: usize,
     dicts: &mut IndexMap<Name, DictEntry>,
     kinds: &Vec<D>,
     paths: &Paths,
@@ -35,6 +36,7 @@ fn look_through<D: DictDisc>(
     let kind = kind_of(kinds, entry_of(dicts, d).dict.kind);
     let mut layers = DictLayers {
         homes,
+        near,
         dicts,
         kinds,
     };
@@ -44,10 +46,12 @@ fn look_through<D: DictDisc>(
 /// Answers a command that looks for an object, or walks over all, through the dictionary of an index, from 0 on, and along
 /// its view path. What is found is current then where it is an object of that dictionary itself; no other dictionary's
 /// current object changes. An object or a key that is not of 1 to 1,024 bytes is refused. Want of memory is the one error,
-/// and leaves every dictionary as it was. Of a region only the links inside holders may change. This project's own.
+/// and leaves every dictionary as it was. Of a region only the links inside holders may change. An index at which a
+/// dictionary's region may stand, which may be any number, is looked at first. This project's own.
 pub fn look_at<D: DictDisc>(
     alloc: Global,
     homes: &mut IndexMap<Name, HomeEntry>,
+    near: usize,
     dicts: &mut IndexMap<Name, DictEntry>,
     kinds: &Vec<D>,
     paths: &Paths,
@@ -61,7 +65,7 @@ pub fn look_at<D: DictDisc>(
         paths.now i command.now result }
 {
     let d = dicts[i].number;
-    let (reply, place) = look_through(alloc, homes, dicts, kinds, paths, d, command)?;
+    let (reply, place) = look_through(alloc, homes, near, dicts, kinds, paths, d, command)?;
     let Some(at) = place else {
         return Ok(reply);
     };

@@ -6,6 +6,7 @@ ghost use Rattle.vc_views.specs.Dicts.{entry_numbered, region_seen};
 ghost use Rattle.vc_views.specs.Promises.{cells_under};
 ghost use Rattle.vc_views.specs.Leaves.{IsBestNamed};
 
+use crate::near::index_near;
 use indexmap::IndexMap;
 use vc_base::Name;
 use vc_best::Best;
@@ -43,13 +44,18 @@ pub(crate) fn kind_of<'a, D: DictDisc>(kinds: &'a Vec<D>, k: u32) -> &'a D
     &kinds[k as usize - 1]
 }
 
-/// The region of a name. It is open and a best one.
-pub fn best_of<'a>(homes: &'a IndexMap<Name, HomeEntry>, name: &Name) -> &'a Best
+/// The region of a name. It is open and a best one. An index at which it may stand, which may be any number, is looked at
+/// first.
+pub fn best_of<'a>(
+    homes: &'a IndexMap<Name, HomeEntry>,
+    name: &Name,
+    near: usize,
+) -> &'a Best
     requires { IsBestNamed (map region_seen homes.now.entries) name.now }
     ensures { cells_in result.now
         ≡ cells_under (map region_seen homes.now.entries) name.now }
 {
-    let Some(j) = homes.get_index_of(name) else {
+    let Some(j) = index_near(homes, name, near) else {
         unreachable!()
     };
     let Region::Best(best) = &homes[j].region else {

@@ -36,6 +36,7 @@ pub fn view_at<D: DictDisc>(
 {
     let layers = DictLayers {
         homes,
+        near: 0,
         dicts,
         kinds,
     };

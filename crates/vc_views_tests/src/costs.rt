@@ -49,6 +49,7 @@ fn looks<D: DictDisc>(
     are_four(rt, dicts);
     let mut layers = DictLayers {
         homes,
+        near: 0,
         dicts,
         kinds,
     };

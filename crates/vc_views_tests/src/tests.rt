@@ -95,6 +95,7 @@ fn is_case<D: DictDisc>(
     are_four(rt, dicts);
     let mut layers = DictLayers {
         homes,
+        near: 0,
         dicts,
         kinds,
     };

@@ -129,20 +129,20 @@ pub(crate) fn no_block(labels: &Labels, name: &Name) -> Refusal
 // Names the block that was put, and tells its place; or tells why none was put.
 fn name_put(
     labels: &mut Labels,
-    name: Name,
+    name: &Name,
     put: Result<Addr, RegionFault>,
 ) -> Result<Reply, OutOfMemory>
     requires agree { AreLabels labels.old }
-    requires new { tag_of labels.old name ≡ None }
+    requires new { tag_of labels.old name.now ≡ None }
     requires room_by_tag { HasRoomFor labels.old.by_tag 1 }
     requires room_by_name { 0 < spare labels.old.tags }
     requires tag { labels.old.by_tag.vacant_key + 1 < 2 ^ 32 }
-    ensures { NamesPut (labels.old.by_tag.vacant_key + 1) name put labels.old labels.new result }
+    ensures { NamesPut (labels.old.by_tag.vacant_key + 1) name.now put labels.old labels.new result }
 {
     match put {
         Ok(at) => {
-            labels.insert(name, at);
-            Ok(Reply::At(name, place_of(at), None))
+            labels.insert(*name, at);
+            Ok(Reply::At(*name, place_of(at), None))
         }
         Err(fault) => refused(fault),
     }
@@ -155,8 +155,8 @@ impl HomeEntry {
     pub(crate) fn allocate(
         &mut self,
         labels: &mut Labels,
-        name: Name,
-        site: Option<Name>,
+        name: &Name,
+        site: &Option<Name>,
         size: u32,
     ) -> Result<Reply, OutOfMemory>
         requires names { IsNamed (rest_in self.old.region) labels.old }
@@ -164,15 +164,15 @@ impl HomeEntry {
             (segments_of (rest_in self.old.region)) }
 
         ensures runs { RunsHome state result
-            (λ h need. alloc_in h name site size (is_for_block need))
+            (λ h need. alloc_in h name.now site.now size (is_for_block need))
             (Some (size, 32)) self.old labels.old self.new labels.new }
         ensures change { ChangesRegion state self.old labels.old self.new labels.new }
     {
-        match new_refused(labels, &name, size_refused(size)) {
+        match new_refused(labels, name, size_refused(size)) {
             Some(why) => Ok(Reply::Refused(why)),
             None => {
                 let tag = labels.reserve()?;
-                name_put(labels, name, self.region.alloc(size, tag, site_of(&site)))
+                name_put(labels, name, self.region.alloc(size, tag, site_of(site)))
             }
         }
     }
@@ -181,7 +181,7 @@ impl HomeEntry {
     pub(crate) fn align(
         &mut self,
         labels: &mut Labels,
-        name: Name,
+        name: &Name,
         size: u32,
         align: u32,
     ) -> Result<Reply, OutOfMemory>
@@ -190,12 +190,12 @@ impl HomeEntry {
             (segments_of (rest_in self.old.region)) }
 
         ensures runs { RunsHome state result
-            (λ h need. align_in h name size align (is_for_block need))
+            (λ h need. align_in h name.now size align (is_for_block need))
             (Some (size, align)) self.old labels.old self.new labels.new }
         ensures change { ChangesRegion state self.old labels.old self.new labels.new }
     {
         let words = align_refused(&self.region, size, align);
-        match new_refused(labels, &name, words) {
+        match new_refused(labels, name, words) {
             Some(why) => Ok(Reply::Refused(why)),
             None => {
                 let tag = labels.reserve()?;

@@ -1,11 +1,11 @@
-ghost use Rattle.std.specs.Prelude.{◌≡◌, Some, None, IfSome, IfNone};
+ghost use Rattle.std.specs.Prelude.{◌≡◌, Some, None, false, IfSome, IfNone};
 ghost use Rattle.vc_base.specs.Prelude.{place_of, HasBlock, HasOut};
 ghost use Rattle.vc_region.specs.Cells.{rest_in};
 ghost use Rattle.vc_region.specs.Parts.{blocks_in, disc_in};
 ghost use Rattle.vc_region.specs.Region.{segments_of};
 ghost use Rattle.vc_commands.specs.Held.{HasName, IsNamed};
 ghost use Rattle.vc_commands.specs.Labels.{tag_of};
-ghost use Rattle.vc_commands.specs.RegionCommands.{block_asked, in_region};
+ghost use Rattle.vc_commands.specs.RegionCommands.{block_asked, in_region, puts_block};
 
 use crate::region::labels::Labels;
 use std::alloc::Global;
@@ -67,14 +67,39 @@ impl HomeEntry {
             self.old labels.old self.new labels.new }
     {
         match command {
-            Command::ClearRegion(name) => Ok(self.clear(labels, *name, line)),
-            Command::Compact(name) => Ok(self.compact(*name)),
-            Command::Alloc(_, block, size, site) => self.allocate(labels, *block, *site, *size),
-            Command::Align(_, block, size, align) => self.align(labels, *block, *size, *align),
+            Command::Alloc(_, block, size, site) => self.allocate(labels, block, site, *size),
+            Command::Align(_, block, size, align) => self.align(labels, block, *size, *align),
             Command::Resize(_, block, size, may_move) => self.resize(
                 labels, block, *size, *may_move,
             ),
             Command::Free(_, block) => self.free(labels, block, line),
+            _ => self.run_other(alloc, labels, line, command),
+        }
+    }
+
+    // The same for a command that puts, resizes and frees no block. It stands apart, since a call clears room for the replies
+    // of all its arms.
+    #[inline(never)]
+    fn run_other(
+        &mut self,
+        alloc: Global,
+        labels: &mut Labels,
+        line: u32,
+        command: &Command,
+    ) -> Result<Reply, OutOfMemory>
+        requires names { IsNamed (rest_in self.old.region) labels.old }
+        requires lent { HasOut (disc_in state self.old.region)
+            (segments_of (rest_in self.old.region)) }
+        requires other { puts_block command.now ≡ false }
+
+        ensures runs { RunsHome state result (λ h. in_region h line command.now)
+            (Some (block_asked command.now)) self.old labels.old self.new labels.new }
+        ensures change { LeavesRegion state command.now
+            self.old labels.old self.new labels.new }
+    {
+        match command {
+            Command::ClearRegion(name) => Ok(self.clear(labels, *name, line)),
+            Command::Compact(name) => Ok(self.compact(*name)),
             Command::WriteBlock(_, block, off, bytes) => Ok(self.write(
                 labels,
                 block,

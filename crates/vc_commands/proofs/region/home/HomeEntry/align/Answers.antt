@@ -23,13 +23,13 @@ abbrev meaning : (g : given.Over) → (x : g.dyn-1.0.I) × (g.dyn-1.0.entry x).0
 meaning g p = (g.dyn-1.0.entry p.0).1.state p.1
 
 -- its words by the region with names, and by the one with tags
-words : (g : given.Over) (c : After-new_refused g) (r : List ℕ) → new_refused c.args.labels.now c.args.name (align_refused (home_of (held_of (meaning g) r c.args.self.now c.args.labels.now)).region c.args.size c.args.align) ≡ c.new_refused.result
-words g c r = ap (new_refused c.args.labels.now c.args.name) (align-words (held_of (meaning g) r c.args.self.now c.args.labels.now) c.args.size c.args.align ∙ sym c.align_refused-words.ensures) ∙ sym c.new_refused.ensures
+words : (g : given.Over) (c : After-new_refused g) (r : List ℕ) → new_refused c.args.labels.now c.args.name.now (align_refused (home_of (held_of (meaning g) r c.args.self.now c.args.labels.now)).region c.args.size c.args.align) ≡ c.new_refused.result
+words g c r = ap (new_refused c.args.labels.now c.args.name.now) (align-words (held_of (meaning g) r c.args.self.now c.args.labels.now) c.args.size c.args.align ∙ sym c.align_refused-words.ensures) ∙ sym c.new_refused.ensures
 
 pub returns-in-Some : goal.returns-in-Some
 returns-in-Some g c =
     record {
-      runs = refused-runs (meaning g) c.args.self.now c.args.labels.now c.args.name (λ k. align_refused k.region c.args.size c.args.align) (λ k u. region_align k.terms k.region (Some c.args.name) (45 ∷ []) c.args.size c.args.align u) _ c.in-Some.why c.requires.names
+      runs = refused-runs (meaning g) c.args.self.now c.args.labels.now c.args.name.now (λ k. align_refused k.region c.args.size c.args.align) (λ k u. region_align k.terms k.region (Some c.args.name.now) (45 ∷ []) c.args.size c.args.align u) _ c.in-Some.why c.requires.names
           (λ r. align-other (home_of (held_of (meaning g) r c.args.self.now c.args.labels.now)).region c.args.size c.args.align) (λ r. words g (goal.at.returns-in-Some g c).After-new_refused r ∙ c.in-Some.is);
       change = λ r. change-same (held_of (meaning g) r c.args.self.now c.args.labels.now) c.args.labels.now c.requires.lent c.requires.names;
     }
@@ -37,8 +37,8 @@ returns-in-Some g c =
 -- its size and its alignment are none that is refused
 legal : (g : given.Over) (c : In-None g) → (is_size c.args.size ≡ true) × (is_align c.args.align ≡ true)
 legal g c =
-    let is : new_refused c.args.labels.now c.args.name (align_refused (rest_in c.args.self.now.region) c.args.size c.args.align) ≡ None = ap (new_refused c.args.labels.now c.args.name) (sym c.align_refused-words.ensures) ∙ (sym c.new_refused.ensures ∙ c.in-None.is) in
-    and_parts (is_size c.args.size) (is_align c.args.align) (align-legal (rest_in c.args.self.now.region) c.args.size c.args.align (new-words c.args.labels.now c.args.name _ is))
+    let is : new_refused c.args.labels.now c.args.name.now (align_refused (rest_in c.args.self.now.region) c.args.size c.args.align) ≡ None = ap (new_refused c.args.labels.now c.args.name.now) (sym c.align_refused-words.ensures) ∙ (sym c.new_refused.ensures ∙ c.in-None.is) in
+    and_parts (is_size c.args.size) (is_align c.args.align) (align-legal (rest_in c.args.self.now.region) c.args.size c.args.align (new-words c.args.labels.now c.args.name.now _ is))
 
 pub align-requires-clause-size : goal.align-requires-clause-size
 align-requires-clause-size g c = let is = size-range c.args.size (legal g (goal.at.align-requires-clause-size g c).In-None).0 in record { some = is.0; most = is.1 }
@@ -48,12 +48,12 @@ align-requires-clause-align g c = align-in c.args.align (legal g (goal.at.align-
 
 pub name_put-requires-clause-new : goal.name_put-requires-clause-new
 name_put-requires-clause-new g c =
-    c.reserve.ensures.same.by_name c.args.name
-    ∙ new-name c.args.labels.now c.args.name c.align_refused-words.result (sym c.new_refused.ensures ∙ c.in-None.is)
+    c.reserve.ensures.same.by_name c.args.name.now
+    ∙ new-name c.args.labels.now c.args.name.now c.align_refused-words.result (sym c.new_refused.ensures ∙ c.in-None.is)
 
 pub returns-in_ok-tag-in-None : goal.returns-in_ok-tag-in-None
 returns-in_ok-tag-in-None g c =
-    let name = c.args.name in
+    let name = c.args.name.now in
     let size = c.args.size in
     let align = c.args.align in
     let tag = c.in_ok-tag-in-None.tag in

@@ -24,31 +24,31 @@ meaning g p = (g.dyn-1.0.entry p.0).1.state p.1
 pub returns-in-Some : goal.returns-in-Some
 returns-in-Some g c =
     record {
-      runs = refused-runs (meaning g) c.args.self.now c.args.labels.now c.args.name (λ k. size_refused c.args.size) (λ k u. region_alloc k.terms k.region (Some c.args.name) (site_of c.args.site) c.args.size u) _ c.in-Some.why c.requires.names (λ r. size-other c.args.size)
-          (λ r. ap (new_refused c.args.labels.now c.args.name) (sym c.size_refused.ensures) ∙ (sym c.new_refused.ensures ∙ c.in-Some.is));
+      runs = refused-runs (meaning g) c.args.self.now c.args.labels.now c.args.name.now (λ k. size_refused c.args.size) (λ k u. region_alloc k.terms k.region (Some c.args.name.now) (site_of c.args.site.now) c.args.size u) _ c.in-Some.why c.requires.names (λ r. size-other c.args.size)
+          (λ r. ap (new_refused c.args.labels.now c.args.name.now) (sym c.size_refused.ensures) ∙ (sym c.new_refused.ensures ∙ c.in-Some.is));
       change = λ r. change-same (held_of (meaning g) r c.args.self.now c.args.labels.now) c.args.labels.now c.requires.lent c.requires.names;
     }
 
 -- its name and its size are none that is refused
-allowed : (g : given.Over) (c : In-None g) → new_refused c.args.labels.now c.args.name (size_refused c.args.size) ≡ None
-allowed g c = ap (new_refused c.args.labels.now c.args.name) (sym c.size_refused.ensures) ∙ (sym c.new_refused.ensures ∙ c.in-None.is)
+allowed : (g : given.Over) (c : In-None g) → new_refused c.args.labels.now c.args.name.now (size_refused c.args.size) ≡ None
+allowed g c = ap (new_refused c.args.labels.now c.args.name.now) (sym c.size_refused.ensures) ∙ (sym c.new_refused.ensures ∙ c.in-None.is)
 
 sized : (g : given.Over) (c : In-None g) → (1 ≤ c.args.size) × (c.args.size ≤ 16777216)
-sized g c = size-range c.args.size (size-legal c.args.size (new-words c.args.labels.now c.args.name _ (allowed g c)))
+sized g c = size-range c.args.size (size-legal c.args.size (new-words c.args.labels.now c.args.name.now _ (allowed g c)))
 
 pub alloc-requires-clause-size : goal.alloc-requires-clause-size
 alloc-requires-clause-size g c = let is = sized g (goal.at.alloc-requires-clause-size g c).In-None in record { some = is.0; most = is.1 }
 
 pub returns-in_ok-tag-in-None : goal.returns-in_ok-tag-in-None
 returns-in_ok-tag-in-None g c =
-    let name = c.args.name in
+    let name = c.args.name.now in
     let size = c.args.size in
     let tag = c.in_ok-tag-in-None.tag in
     let ok = c.in_ok-tag-in-None.ensures.ok in
     let site = c.site_of.result.now in
     let terms = (disc_in (meaning g) c.args.self.now.region).terms in
     let old = rest_in c.args.self.now.region in
-    let done : IsPlaced (meaning g) c.args.self.now c.args.labels.now c.alloc.new.self name (λ k. size_refused size) (λ k u. region_alloc k.terms k.region (Some name) (site_of c.args.site) size u) (region_alloc terms old tag site size) tag size 32 c.reserve.new.self c.name_put.new.labels c.alloc.result c.name_put.result =
+    let done : IsPlaced (meaning g) c.args.self.now c.args.labels.now c.alloc.new.self name (λ k. size_refused size) (λ k u. region_alloc k.terms k.region (Some name) (site_of c.args.site.now) size u) (region_alloc terms old tag site size) tag size 32 c.reserve.new.self c.name_put.new.labels c.alloc.result c.name_put.result =
     record {
       names = c.requires.names;
       allowed = λ r. allowed g (goal.at.returns-in_ok-tag-in-None g c).In-None;

@@ -1,6 +1,6 @@
 use Rattle.vc_base.proofs.Common.{sym}
-use Rattle.vc_steps.proofs.NearIndex.{near-index, near-value}
-use Rattle.vc_steps.proofs.near.index_near.Goals as goal
+use Rattle.vc_views.proofs.NearIndex.{near-index, near-value}
+use Rattle.vc_views.proofs.near.index_near.Goals as goal
 
 pub returns-then-eq-clause-index : goal.returns-then-eq-clause-index
 returns-then-eq-clause-index g c =
