@@ -81,17 +81,23 @@ summary-same : (t : Bool) (lines : ℕ) (c d : Counts) → (t ≡ true → c ≡
 summary-same false lines c d same = refl
 summary-same true lines c d same = ap (summary lines) (same refl)
 
--- a run at its last command, with what is written behind its replies
-pub text-ends : {start now : Moment} {counts : Counts} {text : List ℕ} {count : ℕ} {done : List (ℕ × Command)} (w : Words) (lines : ℕ) (after : Option (List ℕ)) (tail : List ℕ) → Progress (is_quiet w) start now counts text count done → count < 2 ^ 64 → tail ≡ lines_text (tail_lines w lines counts now.state.homes) → Told start.written after (text ++ tail) → IsRunOf (is_quiet w) (text_of w lines) start (moment_at_end (over_sink now after)) done
-text-ends {now = now} {counts = counts} w lines after tail p few is told =
-    progress-end p (text_of w lines) tail after few
-    (λ quiet n below. subst (λ t. NoLine n (ended_lines t)) (sym is) (tail-none w lines counts now.state.homes p.proper_state n below))
-    (ap (λ s. replies_text (is_quiet w) p.ran ++ lines_text (tail_lines w lines (counts_of p.ran) s.homes)) p.state
-    ∙ (ap (λ ls. replies_text (is_quiet w) p.ran ++ lines_text (ls ++ stats_by w.stat now.state.homes)) (summary-same (is_quiet w) lines (counts_of p.ran) counts (λ quiet. sym (p.counted quiet)))
-    ∙ ap (λ t. replies_text (is_quiet w) p.ran ++ t) (sym is)))
-    told
+module _ {start now : Moment} {counts : Counts} {text : List ℕ} {count : ℕ} {done : List (ℕ × Command)} (w : Words) (lines : ℕ) (tail : List ℕ) (p : Progress (is_quiet w) start now counts text count done) (is : tail ≡ lines_text (tail_lines w lines counts now.state.homes)) where
+  -- what is said of a run at its last command: what is written of its replies, and this behind it
+  pub text-says : text_of w lines p.ran ≡ replies_text (is_quiet w) p.ran ++ tail
+  text-says =
+      ap (λ s. replies_text (is_quiet w) p.ran ++ lines_text (tail_lines w lines (counts_of p.ran) s.homes)) p.state
+      ∙ (ap (λ ls. replies_text (is_quiet w) p.ran ++ lines_text (ls ++ stats_by w.stat now.state.homes)) (summary-same (is_quiet w) lines (counts_of p.ran) counts (λ quiet. sym (p.counted quiet)))
+      ∙ ap (λ t. replies_text (is_quiet w) p.ran ++ t) (sym is))
 
-good-same : (bad : Option (ℕ × LineFault)) (lines total : ℕ) → (bad ≡ None → lines ≡ total) → good_lines bad lines ≡ good_lines bad total
+  -- no line of which has a number in front
+  pub tail-unnumbered : is_quiet w ≡ true → (n : ℕ) → n < 2 ^ 64 → NoLine n (ended_lines tail)
+  tail-unnumbered quiet n below = subst (λ t. NoLine n (ended_lines t)) (sym is) (tail-none w lines counts now.state.homes p.proper_state n below)
+
+  -- and the end of the run once this is written
+  pub text-ends : (after : Option (List ℕ)) → count < 2 ^ 64 → Told start.written after (text ++ tail) → IsRunOf (is_quiet w) (text_of w lines) start (moment_at_end (over_sink now after)) done
+  text-ends after few told = progress-end p (text_of w lines) tail after few tail-unnumbered text-says told
+
+pub good-same : (bad : Option (ℕ × LineFault)) (lines total : ℕ) → (bad ≡ None → lines ≡ total) → good_lines bad lines ≡ good_lines bad total
 good-same None lines total same = same refl
 good-same (Some bad) lines total same = refl
 
@@ -103,7 +109,7 @@ script-ends tool w start now counts lines bad (Some input) left after tail is wr
       first = e.first;
       stops = e.stops;
       run = subst (λ n. IsRunOf (is_quiet w) (text_of w n) start (moment_at_end (over_sink now after)) (script tool input)) (good-same bad lines (length (judged_lines input)) e.whole)
-          (text-ends w (good_lines bad lines) after tail e.progress (omega (arith, e.few)) is (told-more start.written now.written after e.text tail e.told written));
+          (text-ends w (good_lines bad lines) tail e.progress is after (omega (arith, e.few)) (told-more start.written now.written after e.text tail e.told written));
     }
 
 -- what a run of a source's lines promises once what stands behind the replies is written
@@ -119,6 +125,8 @@ script-told tool w quiet start last counts count number lines bad old mid new no
           (subst (λ l. IfSome old.left (λ input. AtEnd tool (is_quiet w) (over_sink start old.written) (over_sink last mid.written) counts count input bad l)) (sym left)
           (subst (λ q. IfSome old.left (λ input. AtEnd tool q (over_sink start old.written) (over_sink last mid.written) counts count input bad mid.left)) by_words runs.at_end));
       cut_short = tt;
+      cut = tt;
+      not_ahead = tt;
       read = tt;
       write = tt;
       reads = omega (arith, runs.reads, reads);

@@ -11,6 +11,7 @@ use Rattle.vc_script.specs.declared.command.Command.{Command}
 use Rattle.vc_script.specs.declared.tool.Tool.{Tool}
 use Rattle.vc_script.specs.declared.tool.Tool.TheVariants.{Dtrun, Vmreplay}
 use Rattle.vc_session.specs.Asked.{is_in_range}
+use Rattle.vc_session.specs.Cut.{Cuts}
 use Rattle.vc_session.specs.Engine.{IsStep, RunsGenerated}
 use Rattle.vc_session.specs.Generating.{Generating, RanAll, RunsCommands}
 use Rattle.vc_session.specs.Progress.{Progress}
@@ -24,7 +25,7 @@ use Rattle.vc_steps.specs.Moment.{Moment, moment_at_end, over_sink}
 use Rattle.vc_words.specs.declared.words.Words.{Words}
 use Rattle.vc_session.proofs.Progress.{progress-over, progress-start, progress-step, told-more, told-none}
 use Rattle.vc_session.proofs.Behind.{text-ends}
-use Rattle.vc_session.proofs.Rest.{Rests, generated-rest}
+use Rattle.vc_session.proofs.Rest.{Rests, cut-rest, generated-rest, on_err-each}
 
 -- the line of one more command
 on_lines-push : (n : ℕ) (cs : List Command) (c : Command) → on_lines n (cs ++ c ∷ []) ≡ on_lines n cs ++ (n + length cs, c) ∷ []
@@ -113,7 +114,7 @@ module _ {start now : Moment} {told told' : Option (List ℕ)} {before : Counts}
       }
 
 -- how many there are
-generated-most : (tool : Tool) (n seed : ℕ) → n ≤ 1000000 → length (commands_of_seed tool n seed) ≤ 1000004
+pub generated-most : (tool : Tool) (n seed : ℕ) → n ≤ 1000000 → length (commands_of_seed tool n seed) ≤ 1000004
 generated-most Vmreplay n seed most = omega (arith, length-generated Vmreplay n seed)
 generated-most Dtrun n seed most = omega (arith, length-generated Dtrun n seed)
 
@@ -121,7 +122,7 @@ pub generated-few : (tool : Tool) (n seed : ℕ) → n ≤ 1000000 → length (c
 generated-few tool n seed most = omega (arith, generated-most tool n seed most)
 
 -- generated commands are run quietly
-quiet-generated : (w : Words) (n : ℕ) → w.generate ≡ Some n → is_quiet w ≡ true
+pub quiet-generated : (w : Words) (n : ℕ) → w.generate ≡ Some n → is_quiet w ≡ true
 quiet-generated w n is = ap (λ g. w.quiet || is_some g) is ∙ or-true w.quiet
 
 -- they were run, and what stands behind the replies is written
@@ -133,7 +134,7 @@ generating-ends {start} {now} {told} {told'} {counts} {lines} tool w n after tai
     let progress : Progress (is_quiet w) (over_sink start told) (over_sink now told') counts r.text lines (on_lines 1 commands) =
     subst (λ q. Progress q (over_sink start told) (over_sink now told') counts r.text lines (on_lines 1 commands)) (sym quiet) r.progress in
     let run : IsRunOf (is_quiet w) (text_of w lines) (over_sink start told) (over_sink (moment_at_end now) after) (on_lines 1 commands) =
-    text-ends w lines after tail progress few ends (told-more told told' after r.text tail r.tells wrote) in
+    text-ends w lines tail progress ends after few (told-more told told' after r.text tail r.tells wrote) in
     record {
       run =
           subst (λ q. IsRunOf q (text_of w (length commands)) (over_sink start told) (over_sink (moment_at_end now) after) (on_lines 1 commands)) quiet
@@ -148,6 +149,7 @@ generating-told made tool w n start last counts lines commands told told' told''
           generating-ends tool w n told'' tail is most
           (subst (λ cs. RanAll start last told told' counts cs lines) all runs.ran)
           (behind ∙ ap (λ xs. xs ++ lines_text (tail_lines w lines counts last.state.homes)) empty) wrote;
+      cut = tt;
       read = tt;
       write = tt;
       writes = omega (arith, runs.writes, never);
@@ -164,6 +166,9 @@ generated-rests tool w n start before now after told told' failures failures' an
       run =
           on_ok-each answer
           (λ run. subst (λ m. IsGenerated tool w n (over_sink m told) (over_sink after told')) same (generated-rest (rests told') run)) r.run;
+      cut =
+          on_err-each answer
+          (λ cut. subst (λ m. Cuts (Some n) tool w (over_sink m told) (over_sink after told') None) same (cut-rest (rests told') cut)) r.cut;
       read = r.read;
       write = r.write;
       writes = r.writes;

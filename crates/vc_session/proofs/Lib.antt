@@ -23,3 +23,6 @@ pub mod FirstRuns
 pub mod Cuts
 pub mod ScriptLines
 pub mod HowFar
+pub mod Broken
+pub mod GeneratedCuts
+pub mod WholeCuts

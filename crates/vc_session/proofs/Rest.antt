@@ -1,5 +1,5 @@
 -- A run from a session in which nothing is open to the session's end.
-use Rattle.vc_base.proofs.Common.{◌≡◌, ℕ, Bool, List, [], ◌∷◌, map, IfSome, IfOk, IfErr, Some, None, Ok, Err, Option, Result, sym, refl, ap, ◌∙◌, subst, AllByRecursion, Discipline}
+use Rattle.vc_base.proofs.Common.{◌≡◌, ℕ, Bool, List, [], ◌∷◌, map, length, IfSome, IfOk, IfErr, OnErr, Some, None, Ok, Err, Option, Result, sym, refl, ap, ◌∙◌, subst, AllByRecursion, Discipline}
 use Rattle.vc_dtdisc.specs.Rules.{Gone, Rules}
 use Rattle.vc_seg.specs.declared.shelf.Shelf.{Shelf}
 use Rattle.vc_script.specs.declared.command.Command.{Command}
@@ -16,11 +16,14 @@ use Rattle.vc_steps.specs.Moment.{Moment, moment, over_sink, moment_at_rest_by, 
 use Rattle.vc_session.specs.ProperState.{IsProperHome, IsProperOver}
 use Rattle.vc_session.specs.Replay.{IsCutShort, IsGenerated, IsReplay, IsRunOf, Told, run_by}
 use Rattle.vc_session.specs.Engine.{RunsScript}
-use Rattle.vc_session.specs.Run.{Ran}
+use Rattle.vc_session.specs.Run.{Ran, first_bad, script}
+use Rattle.vc_script.specs.Judged.{judged_lines}
+use Rattle.vc_session.specs.Cut.{IsCut}
+use Rattle.vc_session.proofs.Cuts.{cut-same}
 use Rattle.vc_session.specs.Headline.{Headline}
 use Rattle.vc_session.specs.declared.status.Status.{Status}
 use Rattle.vc_session.specs.Streams.{Flows, Streams}
-use Rattle.vc_session.specs.Text.{is_quiet}
+use Rattle.vc_session.specs.Text.{good_lines, is_quiet, text_of}
 use Rattle.vc_words.specs.declared.words.Words.{Words}
 use Rattle.vc_session.specs.declared.engine.Stop.{Stop}
 use Rattle.vc_session.specs.declared.engine.Stop.TheVariants.{Read}
@@ -61,6 +64,9 @@ module _ {before now after : Moment} (rests : Rests now after) where
     run = run-rest r.run;
   }
 
+  pub cut-rest : {quiet : Bool} {said : Ran → List ℕ} {commands : List (ℕ × Command)} → IsCut quiet said before now commands → IsCut quiet said before after commands
+  cut-rest c = cut-same after rests.written rests.accounts c
+
 some-each : (o : Option (List ℕ)) (P Q : List ℕ → Type 0) → ((x : List ℕ) → P x → Q x) → IfSome o P → IfSome o Q
 some-each None P Q f p = tt
 some-each (Some x) P Q f p = f x p
@@ -72,6 +78,10 @@ err-each (Err e) A P Q f p = λ a. f (p a)
 ok-each : {T E : Type 0} (r : Result T E) (P Q : T → Type 0) → ((x : T) → P x → Q x) → IfOk r P → IfOk r Q
 ok-each (Ok x) P Q f p = f x p
 ok-each (Err e) P Q f p = tt
+
+pub on_err-each : {T E P Q : Type 0} (r : Result T E) → (P → Q) → OnErr r P → OnErr r Q
+on_err-each (Ok x) f p = tt
+on_err-each (Err e) f p = f p
 
 -- what a run of a script promises at its last line it promises behind its session's end, from the same start
 pub runs-rest : (tool : Tool) (w : Words) (start before now after : Moment) (old new : Flows) (answer : Result (Option (ℕ × LineFault)) Stop) → start ≡ before → ((written : Option (List ℕ)) → Rests (over_sink now written) (over_sink after written)) → RunsScript tool w answer start now old new → RunsScript tool w answer before after old new
@@ -85,6 +95,10 @@ runs-rest tool w start before now after old new answer same rests r =
           err-each answer (λ stop. stop ≡ Read) (IfSome old.left (λ input. IsCutShort tool (is_quiet w) (over_sink start old.written) (over_sink now new.written) input new.left)) (IfSome old.left (λ input. IsCutShort tool (is_quiet w) (over_sink before old.written) (over_sink after new.written) input new.left))
           (some-each old.left (λ input. IsCutShort tool (is_quiet w) (over_sink start old.written) (over_sink now new.written) input new.left) (λ input. IsCutShort tool (is_quiet w) (over_sink before old.written) (over_sink after new.written) input new.left)
           (λ input ran. subst (λ m. IsCutShort tool (is_quiet w) (over_sink m old.written) (over_sink after new.written) input new.left) same (cut_short-rest (rests new.written) ran))) r.cut_short;
+      cut =
+          on_err-each answer
+          (some-each old.left _ _ (λ input c. subst (λ m. IsCut (is_quiet w) (text_of w (good_lines (first_bad tool input) (length (judged_lines input)))) (over_sink m old.written) (over_sink after new.written) (script tool input)) same (cut-rest (rests new.written) c))) r.cut;
+      not_ahead = r.not_ahead;
       read = r.read;
       write = r.write;
       reads = r.reads;

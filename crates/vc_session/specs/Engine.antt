@@ -10,7 +10,7 @@ use Rattle.vc_script.specs.declared.line_answer.LineAnswer.TheVariants.{Blank, I
 use Rattle.vc_script.specs.declared.line_fault.LineFault.{LineFault}
 use Rattle.vc_script.specs.declared.reply.Reply.{Reply}
 use Rattle.vc_script.specs.declared.tool.Tool.{Tool}
-use Rattle.vc_session.specs.Cut.{NotAhead}
+use Rattle.vc_session.specs.Cut.{Cuts, NotAhead}
 use Rattle.vc_session.specs.Far.{WrotePart}
 use Rattle.vc_session.specs.Progress.{CountsOn}
 use Rattle.vc_session.specs.QuietText.{line_by}
@@ -72,6 +72,9 @@ pub record RunsScript (tool : Tool) (w : Words) (answer : Result (Option (ℕ ×
   pub replay : IfOk answer (λ bad. IfSome old.left (λ input. IsReplay tool w (over_sink start old.written) (over_sink last new.written) input bad new.left))
   -- or up to a failed read
   pub cut_short : IfErr answer (λ stop. stop ≡ Read → IfSome old.left (λ input. IsCutShort tool (is_quiet w) (over_sink start old.written) (over_sink last new.written) input new.left))
+  -- wherever it was broken off, what was written is a cut, and reading didn't run ahead of it
+  pub cut : OnErr answer (Cuts None tool w (over_sink start old.written) (over_sink last new.written) old.left)
+  pub not_ahead : IfErr answer (λ stop. stop ≡ Write → NotAhead tool (is_quiet w) old.left new.left old.written new.written)
   -- a fault comes from its stream
   pub read : IfErr answer (λ stop. stop ≡ Read → Rose old.reads new.reads)
   pub write : IfErr answer (λ stop. stop ≡ Write → Rose old.writes new.writes)
@@ -83,6 +86,8 @@ pub record RunsScript (tool : Tool) (w : Words) (answer : Result (Option (ℕ ×
 pub record RunsGenerated {U : Type 0} (tool : Tool) (w : Words) (n : ℕ) (answer : Result U Stop) (start last : Moment) (told told' : Option (List ℕ)) (failures failures' : ℕ) : Type 0 where
   -- all commands were run
   pub run : OnOk answer (IsGenerated tool w n (over_sink start told) (over_sink last told'))
+  -- wherever it was broken off, what was written is a cut
+  pub cut : OnErr answer (Cuts (Some n) tool w (over_sink start told) (over_sink last told') None)
   -- no read is tried, and a failed write comes from the sink
   pub read : IfErr answer (λ stop. stop ≢ Read)
   pub write : IfErr answer (λ stop. stop ≡ Write → Rose failures failures')
@@ -91,6 +96,9 @@ pub record RunsGenerated {U : Type 0} (tool : Tool) (w : Words) (n : ℕ) (answe
 -- what running what the words ask for promises
 pub record RunsAsked (tool : Tool) (w : Words) (answer : Result (Option (ℕ × LineFault)) Stop) (start last : Moment) (old new : Flows) : Type 0 where
   pub replay : IfOk answer (λ bad. ReplaysBy w.generate tool w (over_sink start old.written) (over_sink last new.written) old.left new.left bad)
+  -- wherever it was broken off, what was written is a cut, and reading didn't run ahead of it
+  pub cut : OnErr answer (Cuts w.generate tool w (over_sink start old.written) (over_sink last new.written) old.left)
+  pub not_ahead : IfErr answer (λ stop. stop ≡ Write → NotAhead tool (is_quiet w) old.left new.left old.written new.written)
   -- only a source is read
   pub read : IfErr answer (λ stop. stop ≡ Read → (w.generate ≡ None) × Rose old.reads new.reads × IfSome old.left (λ input. IsCutShort tool (is_quiet w) (over_sink start old.written) (over_sink last new.written) input new.left))
   pub write : IfErr answer (λ stop. stop ≡ Write → Rose old.writes new.writes)

@@ -1,8 +1,9 @@
 -- A run of generated commands, in its middle and at its end.
-use Rattle.std.specs.Prelude.{◌≡◌, ◌≢◌, ℕ, ◌≤◌, List, ◌++◌, Option, Result, IfErr, IfOk, length, true}
+use Rattle.std.specs.Prelude.{◌≡◌, ◌≢◌, ℕ, ◌≤◌, List, ◌++◌, Option, Result, IfErr, IfOk, OnErr, length, true}
 use Rattle.vc_counts.specs.declared.counts.Counts.{Counts}
 use Rattle.vc_model.specs.Count.{Rose}
 use Rattle.vc_script.specs.declared.command.Command.{Command}
+use Rattle.vc_session.specs.Far.{WrotePart}
 use Rattle.vc_session.specs.Progress.{Progress}
 use Rattle.vc_session.specs.Replay.{Told, on_lines}
 use Rattle.vc_session.specs.declared.engine.Stop.{Stop}
@@ -33,6 +34,8 @@ pub record RanAll (start now : Moment) (told told' : Option (List ℕ)) (counts 
 pub record RunsCommands (answer : Result ℕ Stop) (commands : List Command) (start now : Moment)
     (counts : Counts) (told told' : Option (List ℕ)) (failures failures' : ℕ) : Type 0 where
   pub ran : IfOk answer (RanAll start now told told' counts commands)
+  -- wherever it was broken off, a front of what is written of the replies was written
+  pub far : OnErr answer (WrotePart true (over_sink start told) (over_sink now told') (on_lines 1 commands))
   -- nothing is read, and a failed write comes from the sink
   pub read : IfErr answer (λ stop. stop ≢ Read)
   pub write : IfErr answer (λ stop. stop ≡ Write → Rose failures failures')

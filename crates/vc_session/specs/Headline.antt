@@ -5,6 +5,7 @@ use Rattle.vc_script.specs.declared.line_fault.LineFault.{LineFault}
 use Rattle.vc_script.specs.declared.tool.Tool.{Tool}
 use Rattle.vc_session.specs.declared.status.Status.{Status}
 use Rattle.vc_session.specs.declared.status.Status.TheVariants.{Ok, Script, Usage, Read, Write, Memory}
+use Rattle.vc_session.specs.Cut.{Cuts, NotAhead}
 use Rattle.vc_session.specs.Replay.{Broke, IsCutShort, ReplaysBy, Told, Tried, err_line, message}
 use Rattle.vc_session.specs.Streams.{Streams}
 use Rattle.vc_session.specs.Text.{is_quiet}
@@ -42,6 +43,10 @@ pub record Headline (tool : Tool) (asked : Option Words) (start last : Moment) (
   -- where the line of status 1 or 2 could not be written whole, a front of it was
   pub write : status ≡ Write → IfSome asked (λ w. (Rose old.writes new.writes × Tries old new (message tool (codes "write failed"))) ⊎ ((bad : ℕ × LineFault) × BreaksOff old new (err_line tool bad) × Replays tool w start last old new (Some bad)))
   pub memory : status ≡ Memory → Tries old new (message tool (codes "out of memory"))
+  -- where it was broken off, what was written is a cut of the text, and each refusal that it shows was counted
+  pub cut : (status ≡ Write) ⊎ (status ≡ Memory) → IfSome asked (λ w. Cuts w.generate tool w (over_sink start old.written) (over_sink last new.written) old.left)
+  -- and reading didn't run ahead of writing
+  pub not_ahead : status ≡ Write → IfSome asked (λ w. NotAhead tool (is_quiet w) old.left new.left old.written new.written)
   -- the counts of failures never fall
   pub reads : old.reads ≤ new.reads
   pub writes : (old.writes ≤ new.writes) × (old.errors ≤ new.errors)

@@ -1,4 +1,4 @@
-ghost use Rattle.std.specs.Prelude.{◌≡◌, ℕ, ◌<◌, ◌≤◌, ◌^◌, List, [], ◌++◌, Some, true, IfOk, IfSome, OnErr, OnOk, length};
+ghost use Rattle.std.specs.Prelude.{◌≡◌, ℕ, ◌<◌, ◌≤◌, ◌^◌, List, [], ◌++◌, Some, true, IfOk, IfSome, OnErr, OnOk, length, take};
 ghost use Rattle.std.specs.List.{AllByRecursion};
 ghost use Rattle.vc_base.specs.Prelude.{Rose};
 ghost use Rattle.vc_counts.specs.CanCount.{CanCount};
@@ -57,6 +57,8 @@ fn write_full<O: Sink>(out: &mut O, gathered: &mut Vec<u8>) -> Result<(), WriteF
     ensures told { OnOk result ((piece : List ℕ)
         × Told (O.written out.old) (O.written out.new) piece
         × (gathered.old.items ≡ piece ++ gathered.new.items)) }
+    ensures front { IfSome (O.written out.old) (λ w. (k : ℕ)
+        × (O.written out.new ≡ Some (w ++ take k gathered.old.items))) }
     ensures cause { OnErr result (Rose (O.failures out.old) (O.failures out.new)) }
     ensures never_falls { O.failures out.old ≤ O.failures out.new }
 {

@@ -1,4 +1,8 @@
+use Rattle.vc_base.proofs.Common.{ℕ, arith, refl, rules}
+use Rattle.vc_session.proofs.SoFar.{on_err}
+use Rattle.vc_session.specs.declared.engine.Stop.TheVariants.{Memory, Write}
 use Rattle.vc_generate.proofs.ProperGenerated.{proper_generated}
+use Rattle.vc_session.proofs.GeneratedCuts.{generated-broken, generated-failed, generated-wanting}
 use Rattle.vc_session.proofs.GeneratedRun.{generated-few, generating-told}
 use Rattle.vc_session.proofs.generated.run_all.Goals as goal
 
@@ -18,4 +22,46 @@ returns g c =
           generating-told _ c.args.tool c.args.words.now c.args.n _ _ c.run_commands.new.counts c.in_ok-lines.lines _ _ _ _ _ _ _ c.new-tail.result.items _
           c.requires.asked c.requires.most c.new-generator.ensures c.new-tail.ensures.items c.in_ok-gather_tail.ensures
           (rw c.in_ok-lines.was at c.run_commands.ensures.runs) (rw c.as_slice.ensures.value at c.in_ok-write_all.ensures.ok) c.write_all.ensures.never_falls;
+    }
+
+pub returns-in_err-lines : goal.returns-in_err-lines
+returns-in_err-lines g c =
+    let r = rw (c.in_err-lines.was, c.new-generator.ensures) at c.run_commands.ensures.runs in
+    record {
+      lasts = c.run_commands.ensures.lasts;
+      runs = record {
+        run = search rules;
+        cut = on_err _ _ (generated-failed c.args.tool c.args.words.now c.args.n c.requires.asked c.requires.most _ _ c.run_commands.new.counts _ _ _ _ ℕ _ r).cut;
+        read = search rules;
+        write = search rules;
+        writes = search rules;
+      };
+    }
+
+pub returns-in_err-gather_tail : goal.returns-in_err-gather_tail
+returns-in_err-gather_tail g c =
+    let r = rw (c.in_ok-lines.was, c.new-generator.ensures) at c.run_commands.ensures.runs in
+    record {
+      lasts = c.run_commands.ensures.lasts;
+      runs = record {
+        run = search rules;
+        cut = on_err _ _ (generated-wanting c.args.tool c.args.words.now c.args.n c.requires.asked c.requires.most _ _ c.run_commands.new.counts _ _ _ _ ℕ Memory c.in_ok-lines.lines refl r).cut;
+        read = search rules;
+        write = search rules;
+        writes = search rules;
+      };
+    }
+
+pub returns-in_err-write_all : goal.returns-in_err-write_all
+returns-in_err-write_all g c =
+    let r = rw (c.in_ok-lines.was, c.new-generator.ensures) at c.run_commands.ensures.runs in
+    record {
+      lasts = c.run_commands.ensures.lasts;
+      runs = record {
+        run = search rules;
+        cut = on_err _ _ (generated-broken c.args.tool c.args.words.now c.args.n c.requires.asked c.requires.most _ _ c.run_commands.new.counts _ _ _ _ ℕ Write c.in_ok-lines.lines _ _ c.new-tail.result.items _ refl c.new-tail.ensures.items c.in_ok-gather_tail.ensures r (rw c.as_slice.ensures.value at c.write_all.ensures.front) c.write_all.ensures.never_falls c.in_err-write_all.ensures.cause).cut;
+        read = search rules;
+        write = search rules;
+        writes = omega (arith, r.writes, c.write_all.ensures.never_falls);
+      };
     }

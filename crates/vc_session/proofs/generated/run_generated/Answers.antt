@@ -1,6 +1,9 @@
-use Rattle.vc_base.proofs.Common.{◌≡◌, sym, refl, ◌∙◌, subst, Discipline}
+use Rattle.vc_base.proofs.Common.{◌≡◌, sym, refl, ◌∙◌, subst, arith, Discipline, rules}
 use Rattle.vc_steps.specs.Account.{KeepsAccounts}
 use Rattle.vc_steps.specs.Moment.{Moment, moment_at_end, moment, moment_at_rest}
+use Rattle.vc_steps.proofs.SettledShelf.{keeps-same}
+use Rattle.vc_session.proofs.GeneratedCuts.{cuts-generated}
+use Rattle.vc_session.proofs.SoFar.{on_err}
 use Rattle.vc_session.proofs.GeneratedRun.{asked-most, generated-rests, if_some}
 use Rattle.vc_session.proofs.Rest.{new-moment, new-session}
 use Rattle.vc_session.proofs.generated.run_generated.Given as given
@@ -36,3 +39,14 @@ returns g c =
           (subst (λ (m : Moment). KeepsAccounts m.accounts last.accounts) same c.run_all-ended.ensures.lasts.accounts);
       rules = c.end.ensures.rules ∙ c.run_all-ended.ensures.lasts.keeps_rules;
     }
+
+pub returns-in_err-session-clause-runs : goal.returns-in_err-session-clause-runs
+returns-in_err-session-clause-runs g c =
+    if_some _ c.args.asked.now.words.generate c.in-Some.n c.in-Some.is
+    (record {
+      run = search rules;
+      cut = on_err _ _ (cuts-generated c.args.tool c.args.asked.now.words c.in-Some.n c.in-Some.is (asked-most c.args.asked.now.words.generate c.in-Some.n c.in-Some.is c.args.asked.now.in_range) _ _ (keeps-same _) refl);
+      read = search rules;
+      write = search rules;
+      writes = omega arith;
+    })

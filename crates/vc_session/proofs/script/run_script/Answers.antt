@@ -1,5 +1,8 @@
-use Rattle.vc_base.proofs.Common.{refl, arith}
+use Rattle.vc_base.proofs.Common.{refl, arith, rules}
 use Rattle.vc_session.proofs.Behind.{script-told}
+use Rattle.vc_session.proofs.Broken.{script-failed, tail-cut, tail-not_ahead, tail-wanting}
+use Rattle.vc_session.proofs.SoFar.{if_err, on_err}
+use Rattle.vc_session.specs.declared.engine.Stop.TheVariants.{Memory}
 use Rattle.vc_session.proofs.script.run_script.Goals as goal
 
 pub returns : goal.returns
@@ -10,4 +13,56 @@ returns g c =
           script-told c.args.tool c.args.words.now c.is_quiet.result _ _ c.run_lines-ran.new.counts _ c.number.result c.good_lines-lines.result c.in_ok-bad.bad _ _ _ c.new-tail.result.items _
           c.is_quiet.ensures c.number.ensures.value c.good_lines-lines.ensures c.new-tail.ensures.items c.in_ok-gather_tail.ensures
           (rw c.in_ok-bad.was at c.run_lines-ran.ensures.runs) (rw c.as_slice.ensures.value at c.in_ok-write_all.ensures.ok) refl (omega arith) c.write_all.ensures.never_falls;
+    }
+
+pub returns-in_err-bad : goal.returns-in_err-bad
+returns-in_err-bad g c =
+    let r = rw c.in_err-bad.was at c.run_lines-ran.ensures.runs in
+    record {
+      lasts = c.run_lines-ran.ensures.lasts;
+      runs = record {
+        replay = search rules;
+        cut_short = search rules;
+        cut = on_err _ _ (script-failed c.args.tool c.args.words.now c.is_quiet.result _ _ _ c.run_lines-ran.new.counts _ _ _ c.is_quiet.ensures r).cut;
+        not_ahead = search rules;
+        read = search rules;
+        write = search rules;
+        reads = search rules;
+        writes = search rules;
+      };
+    }
+
+pub returns-in_err-gather_tail : goal.returns-in_err-gather_tail
+returns-in_err-gather_tail g c =
+    let r = rw c.in_ok-bad.was at c.run_lines-ran.ensures.runs in
+    record {
+      lasts = c.run_lines-ran.ensures.lasts;
+      runs = record {
+        replay = search rules;
+        cut_short = search rules;
+        cut = on_err _ _ (tail-wanting c.args.tool c.args.words.now c.is_quiet.result Memory _ _ c.run_lines-ran.new.counts _ c.in_ok-bad.bad _ _ c.is_quiet.ensures refl r).cut;
+        not_ahead = search rules;
+        read = search rules;
+        write = search rules;
+        reads = search rules;
+        writes = search rules;
+      };
+    }
+
+pub returns-in_err-write_all : goal.returns-in_err-write_all
+returns-in_err-write_all g c =
+    let r = rw c.in_ok-bad.was at c.run_lines-ran.ensures.runs in
+    let front = rw c.as_slice.ensures.value at c.write_all.ensures.front in
+    record {
+      lasts = c.run_lines-ran.ensures.lasts;
+      runs = record {
+        replay = search rules;
+        cut_short = search rules;
+        cut = on_err _ _ (tail-cut c.args.tool c.args.words.now c.is_quiet.result _ _ c.run_lines-ran.new.counts _ c.number.result c.good_lines-lines.result c.in_ok-bad.bad _ _ _ c.new-tail.result.items _ c.is_quiet.ensures c.number.ensures.value c.good_lines-lines.ensures c.new-tail.ensures.items c.in_ok-gather_tail.ensures r front);
+        not_ahead = if_err _ _ _ (tail-not_ahead c.args.tool c.args.words.now c.is_quiet.result _ _ c.run_lines-ran.new.counts _ c.in_ok-bad.bad _ _ _ _ _ c.is_quiet.ensures r front);
+        read = search rules;
+        write = search rules;
+        reads = search rules;
+        writes = omega (arith, r.writes, c.write_all.ensures.never_falls);
+      };
     }

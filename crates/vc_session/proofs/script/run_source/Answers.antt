@@ -1,6 +1,9 @@
-use Rattle.vc_base.proofs.Common.{◌≡◌, sym, refl, ◌∙◌, subst, Discipline}
+use Rattle.vc_base.proofs.Common.{◌≡◌, sym, refl, ◌∙◌, subst, Discipline, rules}
 use Rattle.vc_steps.specs.Account.{KeepsAccounts}
 use Rattle.vc_steps.specs.Moment.{Moment, moment_at_end, moment, moment_at_rest}
+use Rattle.vc_steps.proofs.SettledShelf.{keeps-same}
+use Rattle.vc_session.proofs.Broken.{cuts-source}
+use Rattle.vc_session.proofs.SoFar.{on_err}
 use Rattle.vc_session.proofs.Rest.{new-moment, new-session, runs-rest}
 use Rattle.vc_session.proofs.script.run_source.Given as given
 use Rattle.vc_session.proofs.script.run_source.Goals as goal
@@ -30,4 +33,30 @@ returns g c =
           subst (λ a. KeepsAccounts before.accounts a) (sym c.end.ensures.shelf)
           (subst (λ (m : Moment). KeepsAccounts m.accounts last.accounts) same c.run_script-ended.ensures.lasts.accounts);
       rules = c.end.ensures.rules ∙ c.run_script-ended.ensures.lasts.keeps_rules;
+    }
+
+pub returns-in_err-cutter-clause-runs : goal.returns-in_err-cutter-clause-runs
+returns-in_err-cutter-clause-runs g c =
+    record {
+      replay = search rules;
+      cut_short = search rules;
+      cut = on_err _ _ (cuts-source c.args.tool c.args.words.now _ _ _ (keeps-same _) refl);
+      not_ahead = search rules;
+      read = search rules;
+      write = search rules;
+      reads = search rules;
+      writes = search rules;
+    }
+
+pub returns-in_err-session-clause-runs : goal.returns-in_err-session-clause-runs
+returns-in_err-session-clause-runs g c =
+    record {
+      replay = search rules;
+      cut_short = search rules;
+      cut = on_err _ _ (cuts-source c.args.tool c.args.words.now _ _ _ (keeps-same _) refl);
+      not_ahead = search rules;
+      read = search rules;
+      write = search rules;
+      reads = search rules;
+      writes = search rules;
     }

@@ -1,4 +1,5 @@
 use Rattle.vc_base.proofs.Common.{map, string_bytes, sym, refl, inl, inr, rules}
+use Rattle.vc_session.proofs.WholeCuts.{cuts-untouched}
 use Rattle.vc_session.proofs.StatusDue.{completes-memory}
 use Rattle.vc_session.proofs.ToolPromises.{promises-taken}
 use Rattle.vc_session.proofs.Ranges.{in_range}
@@ -22,6 +23,8 @@ returns-in-Err g c = record {
     cut_short = λ other. absurd (cc other);
     write = λ other. absurd (cc other);
     memory = search rules;
+    cut = λ is. cuts-untouched _ _ (λ w is. in_range (map string_bytes c.args.words.now) w (sym is)) _ _;
+    not_ahead = λ other. absurd (cc other);
     reads = search rules;
     writes = search rules;
     keeps = search rules;
