@@ -60,6 +60,9 @@ pub(crate) fn run_answer<D: DictDisc>(
         counts.old counts.new n command.now)) }
     ensures same { OnErr result (replies.new.items ≡ replies.old.items) }
 {
-    let reply = run_command(quiet, session, shelf, kinds, n, command, counts)?;
-    gather(quiet, n, &reply, replies)
+    let ran = run_command(quiet, session, shelf, kinds, n, command, counts);
+    match &ran {
+        Ok(reply) => gather(quiet, n, reply, replies),
+        Err(_) => Err(OutOfMemory),
+    }
 }

@@ -83,13 +83,17 @@ fn run_line<D: DictDisc>(
         counts.old counts.new n (answer tool line.now))) }
     ensures same { OnErr result (replies.new.items ≡ replies.old.items) }
 {
-    match read_line(alloc, tool, line)? {
-        LineAnswer::Blank => Ok(None),
-        LineAnswer::Bad(fault) => Ok(Some(fault)),
-        LineAnswer::Is(command) => {
-            run_answer(quiet, session, shelf, kinds, n, &command, counts, replies)?;
-            Ok(None)
-        }
+    let read = read_line(alloc, tool, line);
+    match &read {
+        Ok(read) => match read {
+            LineAnswer::Blank => Ok(None),
+            LineAnswer::Bad(fault) => Ok(Some(*fault)),
+            LineAnswer::Is(command) => {
+                run_answer(quiet, session, shelf, kinds, n, command, counts, replies)?;
+                Ok(None)
+            }
+        },
+        Err(_) => Err(OutOfMemory),
     }
 }
 

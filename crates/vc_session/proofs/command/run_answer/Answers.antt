@@ -1,16 +1,16 @@
 use Rattle.vc_session.proofs.QuietCounts.{if_ok-map, on_ok-of}
 use Rattle.vc_session.proofs.command.run_answer.Goals as goal
 
-pub returns : goal.returns
-returns g c =
-    let ran = c.in_ok-reply.ensures.runs in
+pub returns-in-Ok : goal.returns-in-Ok
+returns-in-Ok g c =
+    let ran = rw c.in-Ok.is at c.run_command-ran.ensures.runs in
     record {
       runs = record {
-        lasts = c.run_command.ensures.lasts;
+        lasts = c.run_command-ran.ensures.lasts;
         runs = record {
           ran =
               if_ok-map c.gather.result
-              (λ told. record { reply = c.in_ok-reply.reply; steps = let s = ran.steps in record { gives = s.gives; settles = s.settles; lacks = s.lacks }; told = told; counted = ran.counts_on.ran })
+              (λ told. record { reply = c.in-Ok.reply; steps = let s = ran.steps in record { gives = s.gives; settles = s.settles; lacks = s.lacks }; told = told; counted = ran.counts_on.ran })
               c.gather.ensures.told;
           can = on_ok-of c.gather.result ran.counts_on.can;
         };

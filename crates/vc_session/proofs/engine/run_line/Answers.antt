@@ -1,12 +1,11 @@
 use Rattle.vc_base.proofs.Common.{sym, refl, ◌∙◌, rules}
 use Rattle.vc_session.proofs.QuietCounts.{can-on}
-use Rattle.vc_session.proofs.SoFar.{on_err}
 use Rattle.vc_session.proofs.SessionLasts.{lasts-same}
 use Rattle.vc_steps.proofs.SettledShelf.{settles-same}
 use Rattle.vc_session.proofs.engine.run_line.Goals as goal
 
-pub returns-in_err-read_line : goal.returns-in_err-read_line
-returns-in_err-read_line g c = record { runs = record { lasts = lasts-same c.requires.session; runs = search rules }; same = on_err _ _ refl }
+pub returns : goal.returns
+returns g c = record { runs = record { lasts = lasts-same c.requires.session; runs = search rules }; same = refl }
 
 pub returns-in-Blank : goal.returns-in-Blank
 returns-in-Blank g c =
@@ -15,7 +14,7 @@ returns-in-Blank g c =
         lasts = lasts-same c.requires.session;
         runs = record {
           ran =
-              rw (sym c.in_ok-read_line.ensures.value ∙ c.in-Blank.is)
+              rw (sym (rw c.in-Ok.is at c.read_line-read.ensures.value) ∙ c.in-Blank.is)
               (refl, record { state = refl; told = refl; settles = settles-same _; gone = refl; same_counts = refl });
           can = can-on _ _ _ _ c.requires.counts;
         };
@@ -30,7 +29,7 @@ returns-in-Bad g c =
         lasts = lasts-same c.requires.session;
         runs = record {
           ran =
-              rw (sym c.in_ok-read_line.ensures.value ∙ c.in-Bad.is)
+              rw (sym (rw c.in-Ok.is at c.read_line-read.ensures.value) ∙ c.in-Bad.is)
               (refl, record { state = refl; told = refl; settles = settles-same _; gone = refl; same_counts = refl });
           can = can-on _ _ _ _ c.requires.counts;
         };
@@ -38,13 +37,13 @@ returns-in-Bad g c =
       same = tt;
     }
 
-pub returns-in_ok-run_answer-in-Is : goal.returns-in_ok-run_answer-in-Is
-returns-in_ok-run_answer-in-Is g c =
+pub returns-in-Ok : goal.returns-in-Ok
+returns-in-Ok g c =
     record {
       runs = record {
         lasts = c.run_answer.ensures.runs.lasts;
         runs = record {
-          ran = rw (sym c.in_ok-read_line.ensures.value ∙ c.in-Is.is) (refl, c.in_ok-run_answer-in-Is.ensures.runs.runs.ran);
+          ran = rw (sym (rw c.in-Ok.is at c.read_line-read.ensures.value) ∙ c.in-Is.is) (refl, c.in_ok-run_answer-in-Is.ensures.runs.runs.ran);
           can = c.in_ok-run_answer-in-Is.ensures.runs.runs.can;
         };
       };
