@@ -100,10 +100,10 @@ module _ {I : Type 0} {V : I → Type 0} (meaning : (x : I) × V x → Disciplin
   pub answer-here : (size : ℕ) (result : Result Addr RegionFault) → k ≡ class_of size → Answers (pool_alloc (disc_in meaning p).terms (pool_of p) 0 (class_bytes k)) result (pool_of p) (pool_of q) → Gives (cell_put (terms_in (holdings meaning xs)) (pools_of xs) size) (λ (a : Addr). place_of a.0) result (pools_of (set xs k q))
   answer-here size result e h =
       let moved : Answers (pool_alloc (terms_at (terms_in (holdings meaning xs)) k) (pool_at (pools_of xs) k) 0 (class_bytes k)) result (pool_of p) (pool_of q) =
-          subst (λ (o : model.Pool ℕ). Answers (pool_alloc (terms_at (terms_in (holdings meaning xs)) k) o 0 (class_bytes k)) result (pool_of p) (pool_of q)) (sym pool-here)
-          (subst (λ (t : Terms). Answers (pool_alloc t (pool_of p) 0 (class_bytes k)) result (pool_of p) (pool_of q)) (sym terms-here) h) in
+      subst (λ (o : model.Pool ℕ). Answers (pool_alloc (terms_at (terms_in (holdings meaning xs)) k) o 0 (class_bytes k)) result (pool_of p) (pool_of q)) (sym pool-here)
+      (subst (λ (t : Terms). Answers (pool_alloc t (pool_of p) 0 (class_bytes k)) result (pool_of p) (pool_of q)) (sym terms-here) h) in
       let there : Gives (cell_put (terms_in (holdings meaning xs)) (pools_of xs) size) (λ (a : Addr). place_of a.0) result (set (pools_of xs) (class_of size) (pool_of q)) =
-          cell-answers (terms_in (holdings meaning xs)) (pools_of xs) size result (pool_of p) (pool_of q) (subst (λ (n : ℕ). Answers (pool_alloc (terms_at (terms_in (holdings meaning xs)) n) (pool_at (pools_of xs) n) 0 (class_bytes n)) result (pool_of p) (pool_of q)) e moved) in
+      cell-answers (terms_in (holdings meaning xs)) (pools_of xs) size result (pool_of p) (pool_of q) (subst (λ (n : ℕ). Answers (pool_alloc (terms_at (terms_in (holdings meaning xs)) n) (pool_at (pools_of xs) n) 0 (class_bytes n)) result (pool_of p) (pool_of q)) e moved) in
       subst (Gives (cell_put (terms_in (holdings meaning xs)) (pools_of xs) size) (λ (a : Addr). place_of a.0) result) (ap (λ n. set (pools_of xs) n (pool_of q)) (sym e) ∙ sym pools-set) there
 
   -- the cells of another class stay

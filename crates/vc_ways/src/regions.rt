@@ -50,18 +50,32 @@ impl Regions {
         let mut steps: Steps<Uncounted> = Steps::new(self.best.alloc);
         let best = match self.best.alloc(size, 32, 0, &mut steps) {
             Ok(best) => best,
-            Err(fault) => return Err(Stop { way: Way::Best, fault }),
+            Err(fault) => return Err(Stop {
+                way: Way::Best,
+                fault,
+            }),
         };
         let last = match self.last.put(size) {
             Ok(last) => last,
-            Err(fault) => return Err(Stop { way: Way::Last, fault }),
+            Err(fault) => return Err(Stop {
+                way: Way::Last,
+                fault,
+            }),
         };
         let cell = match put_cell(&mut self.pools, size) {
             Ok(cell) => cell,
-            Err(fault) => return Err(Stop { way: Way::Pool, fault }),
+            Err(fault) => return Err(Stop {
+                way: Way::Pool,
+                fault,
+            }),
         };
         self.last.drop_dead();
-        Ok(Live { size, best, last, cell })
+        Ok(Live {
+            size,
+            best,
+            last,
+            cell,
+        })
     }
 
     /// Gives a live block another size, 1 to 16,777,216 bytes, in each way, in the order best, last, pools; it may move.
@@ -80,18 +94,32 @@ impl Regions {
         let mut steps: Steps<Uncounted> = Steps::new(self.best.alloc);
         let best = match self.best.resize(live.best, size, true, &mut steps) {
             Ok(best) => best,
-            Err(fault) => return Err(Stop { way: Way::Best, fault }),
+            Err(fault) => return Err(Stop {
+                way: Way::Best,
+                fault,
+            }),
         };
         let last = match self.last.resize(live.last, size) {
             Ok(last) => last,
-            Err(fault) => return Err(Stop { way: Way::Last, fault }),
+            Err(fault) => return Err(Stop {
+                way: Way::Last,
+                fault,
+            }),
         };
         let cell = match resize_cell(&mut self.pools, live.size, live.cell, size) {
             Ok(cell) => cell,
-            Err(fault) => return Err(Stop { way: Way::Pool, fault }),
+            Err(fault) => return Err(Stop {
+                way: Way::Pool,
+                fault,
+            }),
         };
         self.last.drop_dead();
-        Ok(Live { size, best, last, cell })
+        Ok(Live {
+            size,
+            best,
+            last,
+            cell,
+        })
     }
 
     /// Frees a live block in each way.

@@ -47,12 +47,15 @@ loop-pool-preserved g c =
     let is : n ≡ 2 + length left + 1 = omega (arith, c.len.ensures) in
     let first : 2 + length c.loop-pool.pools.items ≡ 2 + length left + 1 = omega (arith, more) in
     let d : Discipline = disc_in_box (meaning g) c.close-disc.result.0 in
-    let slots : List (Option Discipline) = slots_on (meaning g) c.args.shelf.now in
-    (pool ∷ inv.0, all, record {
-      discs = d ∷ inv.2.discs;
-      settled = (c.close-disc.ensures.disc, inv.2.settled);
-      slots =
-          c.give_back.ensures.filled
-          ∙ (ap (λ (xs : List (Option Discipline)). set xs (n - 1) (Some d)) (inv.2.slots ∙ ap (λ k. with_discs k inv.2.discs slots) first)
-          ∙ one-back slots 22 c.requires.taken n (2 + length left) is (omega (arith, is, count)) inv.2.discs d);
-    })
+    let slots : List (Option Discipline) = slots_on (meaning g) c.args.shelf.now in (
+      pool ∷ inv.0,
+      all,
+      record {
+        discs = d ∷ inv.2.discs;
+        settled = (c.close-disc.ensures.disc, inv.2.settled);
+        slots =
+            c.give_back.ensures.filled
+            ∙ (ap (λ (xs : List (Option Discipline)). set xs (n - 1) (Some d)) (inv.2.slots ∙ ap (λ k. with_discs k inv.2.discs slots) first)
+            ∙ one-back slots 22 c.requires.taken n (2 + length left) is (omega (arith, is, count)) inv.2.discs d);
+      },
+    )
