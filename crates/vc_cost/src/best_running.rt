@@ -1,0 +1,62 @@
+ghost use Rattle.std.specs.Prelude.{◌≡◌, ◌+◌, ◌*◌, ◌≤◌, [], All, IfErr, IfOk, OnOk};
+ghost use Rattle.vc_base.specs.Prelude.{TookBack};
+ghost use Rattle.vc_best.specs.Parts.{disc_in, layout_of, segments_in};
+ghost use Rattle.vc_splay.specs.Rank.{binary_digits};
+ghost use Rattle.vc_cost.specs.BestCalls.{HasSize, IsDiscLeft, IsStoppedAt, after_bests, bests_made, greatest_gaps};
+ghost use Rattle.vc_cost.specs.BestCosts.{live_in};
+
+use crate::BestCalls;
+use crate::best_making::make_best;
+use std::alloc::Global;
+use vc_base::Steps;
+use vc_best::Best;
+use vc_seg::{RegionFault, SegDisc};
+
+/// Makes the calls in order on a best region without a segment, with blocks of an alignment of 32 bytes and a tag of 0,
+/// until one is refused, and answers the greatest number of gaps after any of them, 0 with no call. Memory for the list of
+/// live blocks comes first. Where none was refused, all of them together read at most 240 extent heads for each binary digit
+/// of that greatest number, and 260, for each call; one that names no block counts as none, and `Clear` and `Compact` as one
+/// for each segment then, and as one at least. Where one is refused the answer is its place in the list, from 0, and the
+/// fault: `TooManySegments` exactly where it needs a segment and there are 1,023, `NoSegment` only where it needs one and the
+/// discipline refused, or `OutOfMemory`, which at place 0 may come before the first call. Condition: sizes are from 1 to
+/// 16,777,216 bytes.
+pub fn run_best<L>(
+    alloc: Global,
+    best: &mut Best,
+    calls: &BestCalls,
+    steps: &mut Steps<L>,
+) -> Result<u64, (u64, RegionFault)>
+    requires empty { segments_in best.old ≡ [] }
+    requires sizes { All HasSize calls.now }
+
+    ensures layout { OnOk result (layout_of best.new
+        ≡ (after_bests (disc_in state best.old).terms calls.now (live_in best.old [])).layout) }
+    ensures greatest { IfOk result (λ greatest. greatest
+        ≡ greatest_gaps (disc_in state best.old).terms calls.now (live_in best.old [])) }
+    ensures disc { OnOk result (TookBack (disc_in state best.old) (disc_in state best.new)
+        (segments_in best.old) (segments_in best.new)) }
+    ensures cost { IfOk result (λ greatest. steps.new ≤ steps.old
+        + bests_made (disc_in state best.old).terms calls.now (live_in best.old [])
+        * (240 * binary_digits greatest + 260)) }
+
+    // The calls before the refused one were made.
+    ensures stopped { IfErr result (λ e. IsStoppedAt (disc_in state best.old).terms calls.now
+        (live_in best.old []) e.0 e.1 (layout_of best.new)) }
+    ensures stopped_disc { IfErr result (λ e. IsDiscLeft e.1 (disc_in state best.old)
+        (disc_in state best.new) (segments_in best.old) (segments_in best.new)) }
+{
+    let mut live = Vec::new(alloc);
+    if live.reserve(calls.as_slice().len()).is_err() {
+        return Err((0, RegionFault::OutOfMemory));
+    }
+    let mut greatest = 0u64;
+    let mut made = 0u64;
+    for call in calls.as_slice() {
+        if let Err(fault) = make_best(best, &mut live, call, steps) {
+            return Err((made, fault));
+        }
+        greatest = greatest.max(u64::from(best.stat().free));
+        made += 1;
+    }
+    Ok(greatest)
+}
