@@ -1,5 +1,5 @@
 -- What one call makes of a best region and of the list of its live blocks.
-use Rattle.vc_base.proofs.Common.{◌≡◌, ◌≢◌, ℕ, zero, suc, ◌+◌, ◌*◌, ◌<◌, ◌≤◌, Bool, true, false, List, [], ◌∷◌, ◌++◌, map, map-append, map-set, length, length-map, max, drop, get_or, get_or-map, nat_lt, remove, set, take, if◌then◌else◌, Option, Result, Some, None, is_some, option_map, Ok, Err, IsErrOf, find_block, refl, sym, ap, ◌∙◌, subst, le-ltb, lt-ltb, none-some, arith, number_of, place_of, address, best_alloc, best_need, best_resize, without_block_at, without_block, cleared_layout, compacted_layout, Discipline, Served, TookBack, Unserved, HasBlock, Layout, Done, Outcome, Put, Refused, HaveOwnPlaces}
+use Rattle.vc_base.proofs.Common.{◌≡◌, ℕ, zero, suc, ◌<◌, ◌≤◌, true, false, List, [], ◌∷◌, ◌++◌, map, map-append, map-set, length, length-map, max, get_or, get_or-map, remove, set, if◌then◌else◌, Option, Result, Some, None, is_some, option_map, Err, find_block, refl, sym, ap, ◌∙◌, subst, le-ltb, lt-ltb, none-some, arith, number_of, place_of, address, best_alloc, best_resize, without_block_at, without_block, cleared_layout, compacted_layout, Discipline, Served, TookBack, Layout, Done, Outcome, Put, Refused}
 use Rattle.vc_base.specs.declared.addr.Addr.{Addr}
 use Rattle.vc_model.proofs.Keeping.{Kept-equal}
 use Rattle.vc_splay.specs.Rank.{rank}
@@ -7,7 +7,7 @@ use Rattle.vc_splay.specs.Unique.{IsTree-one}
 use Rattle.vc_extent.specs.Tiling.{tiling}
 use Rattle.vc_gaps.specs.GapLaws.{gap_none}
 use Rattle.vc_gaps.specs.GapStore.{gap_store}
-use Rattle.vc_best.specs.Ask.{AsksForSegment, AsksToMove}
+use Rattle.vc_best.specs.Ask.{AsksForSegment}
 use Rattle.vc_best.specs.Cost.{CallCosts}
 use Rattle.vc_best.specs.Parts.{blocks_in, disc_in, layout_of, segments_in}
 use Rattle.vc_best.specs.declared.best.Best.{Best}
@@ -18,10 +18,10 @@ use Rattle.vc_seg.specs.declared.fault.RegionFault.{RegionFault}
 use Rattle.vc_seg.specs.declared.fault.RegionFault.TheVariants as code
 use Rattle.vc_cost.specs.declared.best_call.BestCall.{BestCall}
 use Rattle.vc_cost.specs.declared.best_call.BestCall.TheVariants.{Alloc, Resize, Free, Clear, Compact}
-use Rattle.vc_cost.specs.BestCalls.{AreLive, IsDiscLeft, IsFault, IsRefusedBy, Live, after_best, best_weight, has_nth, put_last, resize_nth, with_last, with_nth, without_nth}
+use Rattle.vc_cost.specs.BestCalls.{AreLive, IsDiscLeft, IsRefusedBy, Live, after_best, best_weight, has_nth, resize_nth, with_last, with_nth, without_nth}
 use Rattle.vc_cost.specs.BestCosts.{IsBestMade, IsBestRefused, live_in}
 use Rattle.vc_cost.proofs.FaultLemmas.{alloc-asks, alloc-both, alloc-why, fault-of, resize-asks, resize-both, resize-why}
-use Rattle.vc_cost.proofs.LiveLemmas.{found-has, has-found, live-freed, live-moved, live-none, live-put, nth-there}
+use Rattle.vc_cost.proofs.LiveLemmas.{has-found, live-freed, live-moved, live-none, live-put, nth-there}
 
 map-remove : (xs : List Addr) (n : ℕ) → map number_of (remove xs n) ≡ remove (map number_of xs) n
 map-remove [] zero = refl

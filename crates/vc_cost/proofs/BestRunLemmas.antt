@@ -1,6 +1,6 @@
 -- A run of calls on a best region, some of which were made.
 use Rattle.std.proofs.lemmas.Nat.{mul-le}
-use Rattle.vc_base.proofs.Common.{◌≡◌, ◌≢◌, ℕ, ◌+◌, ◌*◌, ◌<◌, ◌≤◌, Bool, true, false, List, [], ◌∷◌, ◌++◌, length, length-append, map, max, get_or, nat_lt, take, take_all, append-nil, OnOk, Result, Ok, Err, HasOut, refl, sym, ap, ◌∙◌, subst, inl, inr, le-ltb, true≢false, arith, number_of, Discipline, Terms, TookBack, Fault, Layout}
+use Rattle.vc_base.proofs.Common.{◌≡◌, ℕ, ◌+◌, ◌*◌, ◌<◌, ◌≤◌, Bool, true, false, List, [], ◌∷◌, ◌++◌, length, length-append, map, max, get_or, nat_lt, take, take_all, append-nil, OnOk, Result, Ok, Err, HasOut, refl, sym, ap, ◌∙◌, subst, inl, inr, le-ltb, true≢false, arith, number_of, Discipline, Terms, TookBack, Fault}
 use Rattle.std.specs.Result.{is_err}
 use Rattle.std.proofs.lemmas.List.{take_more}
 use Rattle.vc_base.specs.declared.addr.Addr.{Addr}
@@ -24,7 +24,7 @@ use Rattle.vc_seg.specs.declared.fault.RegionFault.{RegionFault}
 use Rattle.vc_seg.specs.declared.fault.RegionFault.TheVariants as code
 use Rattle.vc_cost.specs.declared.best_call.BestCall.{BestCall}
 use Rattle.vc_cost.specs.declared.best_call.BestCall.TheVariants.{Alloc, Resize, Free, Clear, Compact}
-use Rattle.vc_cost.specs.BestCalls.{AreLive, IsDiscLeft, IsFault, IsRefusedAt, IsRefusedBy, IsStoppedAt, Live, after_best, after_bests, best_weight, bests_made, greatest_gaps, has_nth}
+use Rattle.vc_cost.specs.BestCalls.{AreLive, IsDiscLeft, IsRefusedAt, IsRefusedBy, IsStoppedAt, Live, after_best, after_bests, best_weight, bests_made, greatest_gaps}
 use Rattle.vc_cost.specs.BestCosts.{IsBestMade, IsBestRefused, live_in}
 use Rattle.vc_cost.proofs.FaultLemmas.{alloc-few}
 use Rattle.vc_cost.proofs.LiveLemmas.{live-none}

@@ -1,9 +1,9 @@
 -- With which faults a best region refuses a block.
-use Rattle.vc_base.proofs.Common.{◌≡◌, ◌≢◌, ℕ, ◌⊎◌, Bool, true, false, IfSome, List, length, nat_lt, if◌then◌else◌, Option, Some, None, is_some, refl, sym, ap, ◌∙◌, subst, inl, inr, ⊎_elim, cases_Bool, true≢false, best_alloc, best_need, place_in, place_of, put_in_new, put_or_ask, find_block, Terms, Block, Layout, Done, Fault, Outcome, Put, Refused, best_resize, can_stay, outcome_of_move, resize_found, stays, Asked, Grant, Granted, NotLent, TooMany, ask, lowest_unused, new_segment, numbers}
+use Rattle.vc_base.proofs.Common.{◌≡◌, ◌≢◌, ℕ, ◌⊎◌, Bool, true, false, length, nat_lt, Option, Some, None, is_some, refl, sym, ap, ◌∙◌, inl, inr, ⊎_elim, cases_Bool, true≢false, best_alloc, best_need, place_in, put_in_new, put_or_ask, find_block, Terms, Block, Layout, Done, Fault, Outcome, Put, Refused, best_resize, can_stay, outcome_of_move, resize_found, stays, Asked, Grant, Granted, NotLent, TooMany, ask, lowest_unused, new_segment, numbers}
 use Rattle.vc_model.specs.Best.{put}
 use Rattle.vc_model.specs.Outcome.{TooManySegments, NoSegment}
 use Rattle.vc_model.specs.Resize.{resize_block}
-use Rattle.vc_best.specs.Ask.{AsksForSegment, AsksToMove}
+use Rattle.vc_best.specs.Ask.{AsksForSegment}
 use Rattle.vc_seg.specs.Answer.{IsRefusal}
 use Rattle.vc_seg.specs.declared.fault.RegionFault.{RegionFault}
 use Rattle.vc_seg.specs.declared.fault.RegionFault.TheVariants as code

@@ -1,7 +1,7 @@
 -- Live blocks of a best region where one is put, freed or moved.
 use Rattle.std.proofs.lemmas.List.Elements.{Contains-append_right}
 use Rattle.std.proofs.lemmas.Map.Made.{Contains-tail}
-use Rattle.vc_base.proofs.Common.{◌≡◌, ◌≢◌, ℕ, zero, suc, ◌+◌, ◌<◌, ◌≤◌, true, false, All, All-append, All-cons, All-head, All-nil, All-tail, All-weaker, List, [], ◌∷◌, ◌++◌, append-nil, map, length, drop, get_or, remove, set, take, Option, Some, None, is_some, option_map, refl, sym, ap, ◌∙◌, subst, inl, inr, ⊎_elim, cases_Bool, eqb_tells, none-some, true≢false, arith, AreDistinct, contains, place_of, Block, HasBlock, HaveOwnPlaces, address_of, find_block, is_at, without_block}
+use Rattle.vc_base.proofs.Common.{◌≡◌, ◌≢◌, ℕ, zero, suc, ◌<◌, true, false, All, All-cons, All-head, All-nil, All-tail, All-weaker, List, [], ◌∷◌, ◌++◌, append-nil, map, length, drop, get_or, remove, set, take, is_some, refl, sym, ap, ◌∙◌, subst, inl, inr, ⊎_elim, cases_Bool, eqb_tells, true≢false, arith, AreDistinct, contains, place_of, Block, HasBlock, HaveOwnPlaces, address_of, find_block, is_at, without_block}
 use Rattle.vc_base.proofs.Members.{apart-cons, apart-head, apart-removed, apart-tail}
 use Rattle.vc_dtlist.proofs.HolderLemmas.{distinct-insert, distinct-remove}
 use Rattle.vc_model.proofs.Owned.{at-address, is-there, left-elsewhere, none-has}

@@ -1,4 +1,4 @@
-use Rattle.vc_base.proofs.Common.{◌<◌, length, subst, vec_len, arith, map, HasBlock, number_of, sym}
+use Rattle.vc_base.proofs.Common.{◌<◌, length, subst, arith, map, HasBlock, number_of, sym}
 use Rattle.vc_best.specs.Parts.{blocks_in}
 use Rattle.vc_cost.proofs.BestLemmas.{free_made, none_freed, nth-number, nth-within}
 use Rattle.vc_cost.proofs.LiveLemmas.{nth-there}

@@ -1,4 +1,4 @@
-use Rattle.vc_base.proofs.Common.{◌≡◌, ◌≤◌, ◌+◌, take, length, vec_capacity, vec_len}
+use Rattle.vc_base.proofs.Common.{◌≡◌, ◌≤◌, take, length, vec_capacity, vec_len}
 use Rattle.vc_model.specs.Discipline.{Discipline}
 use Rattle.vc_cost.proofs.BestRunLemmas.{AreBestsMade}
 use Rattle.vc_cost.proofs.best_running.run_best.Given as goal
