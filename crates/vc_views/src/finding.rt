@@ -223,13 +223,5 @@ pub(crate) fn last_at<D: DictDisc, L>(
 {
     let entry = &mut dicts[i];
     let kind = kind_of(kinds, entry.dict.kind);
-    last_in(
-        homes,
-        &entry.home,
-        near,
-        &mut entry.dict,
-        kind,
-        at,
-        steps,
-    )
+    last_in(homes, &entry.home, near, &mut entry.dict, kind, at, steps)
 }

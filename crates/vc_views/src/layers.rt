@@ -86,7 +86,9 @@ impl<'a, D: DictDisc> Layers for DictLayers<'a, D> {
 
     fn first(&self, d: u32) -> Option<Addr> {
         let entry = entry_of(self.dicts, d);
-        entry.dict.first(best_of(self.homes, &entry.home, self.near))
+        entry
+            .dict
+            .first(best_of(self.homes, &entry.home, self.near))
     }
 
     fn last(&self, d: u32) -> Option<Addr> {
@@ -96,12 +98,16 @@ impl<'a, D: DictDisc> Layers for DictLayers<'a, D> {
 
     fn next(&self, d: u32, at: Addr) -> Option<Addr> {
         let entry = entry_of(self.dicts, d);
-        entry.dict.next(best_of(self.homes, &entry.home, self.near), at)
+        entry
+            .dict
+            .next(best_of(self.homes, &entry.home, self.near), at)
     }
 
     fn prev(&self, d: u32, at: Addr) -> Option<Addr> {
         let entry = entry_of(self.dicts, d);
-        entry.dict.prev(best_of(self.homes, &entry.home, self.near), at)
+        entry
+            .dict
+            .prev(best_of(self.homes, &entry.home, self.near), at)
     }
 
     fn last_like<L>(&mut self, d: u32, at: Addr, steps: &mut Steps<L>) -> Addr {

@@ -46,11 +46,7 @@ pub(crate) fn kind_of<'a, D: DictDisc>(kinds: &'a Vec<D>, k: u32) -> &'a D
 
 /// The region of a name. It is open and a best one. An index at which it may stand, which may be any number, is looked at
 /// first.
-pub fn best_of<'a>(
-    homes: &'a IndexMap<Name, HomeEntry>,
-    name: &Name,
-    near: usize,
-) -> &'a Best
+pub fn best_of<'a>(homes: &'a IndexMap<Name, HomeEntry>, name: &Name, near: usize) -> &'a Best
     requires { IsBestNamed (map region_seen homes.now.entries) name.now }
     ensures { cells_in result.now
         ≡ cells_under (map region_seen homes.now.entries) name.now }
