@@ -1,4 +1,5 @@
-//! What lists of calls on splay trees cost at most: the sum over all of them, where one call alone may cost more.
+//! What lists of calls on ordered dictionaries and on best regions cost at most: the sum over all of them, where one call
+//! alone may cost more.
 #![tactic(auto)]
 
 mod best_call;
