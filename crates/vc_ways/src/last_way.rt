@@ -1,10 +1,8 @@
-ghost use Rattle.std.specs.Prelude.{◌≡◌, ◌<◌, ◌+◌, [], length, OnOk, IfOk, IfErr};
+ghost use Rattle.std.specs.Prelude.{◌≡◌, ◌<◌, ◌+◌, length, OnOk};
 ghost use Rattle.vc_seg.specs.OneBlock.{IsSize};
-ghost use Rattle.vc_ways.specs.Answer.{Gives, IsGrown, IsLent, Keeps};
-ghost use Rattle.vc_ways.specs.LastWay.{drop_dead, ends_dead, last_dead, last_put, last_sized, latest_sized, new_last, without_latest};
+ghost use Rattle.vc_ways.specs.Answer.{Gives, IsLent, Keeps};
+ghost use Rattle.vc_ways.specs.LastWay.{drop_dead, ends_dead, last_dead, last_put, last_sized, latest_sized, without_latest};
 
-use std::alloc::Global;
-use vc_base::OutOfMemory;
 use vc_last::Last;
 use vc_seg::{RegionFault, SegDisc};
 
@@ -20,23 +18,6 @@ pub struct LastWay {
 impl LastWay {
     ghost use Rattle.vc_last.specs.Parts.{segments_in};
     ghost use Rattle.vc_ways.specs.LastParts.{IsPaired, holding_of, way_of};
-
-    /// A way without a block. With no memory the discipline comes back.
-    pub fn open(
-        alloc: Global,
-        disc: Box<dyn SegDisc>,
-    ) -> Result<LastWay, (OutOfMemory, Box<dyn SegDisc>)>
-        ensures ok { IfOk result (λ w. (way_of w ≡ new_last) × (state w.region.disc ≡ state disc)) }
-        ensures err { IfErr result (λ e. state e.1 ≡ state disc) }
-    {
-        match Last::open(alloc, disc) {
-            Ok(region) => Ok(LastWay {
-                region,
-                dead: Vec::new(alloc),
-            }),
-            Err(failed) => Err(failed),
-        }
-    }
 
     /// Puts a block of 1 to 16,777,216 bytes, and answers how many stand before it. The faults are those of the region's
     /// `alloc`; after one of them the way can only be closed.
