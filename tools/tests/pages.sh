@@ -19,5 +19,5 @@ for tool in $tools; do
 done
 "$here/../bench/edits.sh" > edits.out 2>&1
 check "bench/edits.sh without a word tells its usage" same "$? $(head -c 6 edits.out)" "2 usage:"
-"$here/../bench/edits.sh" vmreplay > edits.out 2>&1
-check "bench/edits.sh of a crate without edits says so" same "$? $(cat edits.out)" "2 bench/edits.sh: vmreplay has no edits in bench/edits"
+"$here/../bench/edits.sh" vc_model > edits.out 2>&1
+check "bench/edits.sh of a crate without edits says so" same "$? $(cat edits.out)" "2 bench/edits.sh: vc_model has no edits in bench/edits"
