@@ -28,6 +28,7 @@ pub fn find_first<N: Nodes, G: Guide<N>, L>(
         → TreeAfter (N.store nodes.old) (N.store nodes.new) (names tree) result.0 (names tree) }
     ensures answer { (tree : Tree) → IsTree (N.store nodes.old) root tree
         → some_address result.1 ≡ first_at (G.side_of guide.now nodes.old) (names tree) }
+    ensures rises { steps.old ≤ steps.new }
     ensures least_steps { root ≢ 0 → steps.old + 1 ≤ steps.new }
     ensures most_steps { (tree : Tree) → IsTree (N.store nodes.old) root tree
         → steps.new ≤ steps.old + length (names tree) }
@@ -58,6 +59,7 @@ pub fn find_least_at<N: Nodes, G: Guide<N>, L>(
         → TreeAfter (N.store nodes.old) (N.store nodes.new) (names tree) result.0 (names tree) }
     ensures answer { (tree : Tree) → IsTree (N.store nodes.old) root tree
         → some_address result.1 ≡ least_at (G.side_of guide.now nodes.old) (names tree) }
+    ensures rises { steps.old ≤ steps.new }
     ensures least_steps { root ≢ 0 → steps.old + 1 ≤ steps.new }
     ensures most_steps { (tree : Tree) → IsTree (N.store nodes.old) root tree
         → steps.new ≤ steps.old + length (names tree) }

@@ -26,6 +26,7 @@ pub fn link_after_equals<N: Nodes, G: Guide<N>, L>(
         → TreeAfter (N.store nodes.old) (N.store nodes.new) (at ∷ names tree) result
         (order_with_name (G.side_of guide.now nodes.old) at (names tree)) }
     ensures root { result ≡ at }
+    ensures rises { steps.old ≤ steps.new }
     ensures least_steps { root ≢ 0 → steps.old + 1 ≤ steps.new }
     ensures most_steps { (tree : Tree) → IsTree (N.store nodes.old) root tree
         → steps.new ≤ steps.old + length (names tree) }

@@ -1,4 +1,4 @@
-use Rattle.vc_base.proofs.Common.{◌≡◌, cond, sym, ap, ◌∙◌, subst}
+use Rattle.vc_base.proofs.Common.{◌≡◌, cond, sym, ap, ◌∙◌, arith, subst}
 use Rattle.vc_splay.specs.Searches.{is_found}
 use Rattle.vc_splay.specs.Moves.{plug}
 use Rattle.vc_splay.specs.Stands.{IsTree}
@@ -27,6 +27,9 @@ returns-clause-answer g c = λ t k.
     let is : c.chosen-found.result ≡ cond (is_found side c.descend-deepest.result.1) c.descend-deepest.result.1 0 = c.chosen-found.ensures ∙ ap (λ t. cond t c.descend-deepest.result.1 0) c.descend-deepest.ensures.equal in
     first_found (g.N.Nodes.store c.args.nodes.now) side c.args.root c.descend-deepest.result.0 c.descend-deepest.result.1 c.chosen-found.result c.args.steps.now c.descend-deepest.new.steps t
     (g.met.N.Nodes.none c.args.nodes.now) c.requires k (c.descend-deepest.ensures.search t k) is
+
+pub returns-clause-rises : goal.returns-clause-rises
+returns-clause-rises g c = let deep = (c.descend-deepest.ensures.search c.requires.tree c.requires.is_tree).deep in omega arith
 
 pub returns-clause-least_steps : goal.returns-clause-least_steps
 returns-clause-least_steps g c = λ some.

@@ -1,4 +1,4 @@
-use Rattle.vc_base.proofs.Common.{refl, sym, subst}
+use Rattle.vc_base.proofs.Common.{refl, sym, arith, subst}
 use Rattle.vc_splay.specs.Moves.{plug}
 use Rattle.vc_splay.specs.Stands.{IsTree}
 use Rattle.vc_splay.specs.Tree.{Node}
@@ -19,6 +19,9 @@ reach-requires g c =
 
 pub returns-clause-answer : goal.returns-clause-answer
 returns-clause-answer g c = λ t k. (c.descend-deepest.ensures.search t k).first
+
+pub returns-clause-rises : goal.returns-clause-rises
+returns-clause-rises g c = let deep = (c.descend-deepest.ensures.search c.requires.tree c.requires.is_tree).deep in omega arith
 
 pub returns-clause-least_steps : goal.returns-clause-least_steps
 returns-clause-least_steps g c = λ some.

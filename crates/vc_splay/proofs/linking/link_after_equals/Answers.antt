@@ -1,4 +1,4 @@
-use Rattle.vc_base.proofs.Common.{sym, subst}
+use Rattle.vc_base.proofs.Common.{sym, arith, subst}
 use Rattle.vc_splay.specs.Moves.{Paid}
 use Rattle.vc_splay.specs.Tree.{Leaf, Node}
 use Rattle.vc_splay.specs.Unique.{IsTree-one}
@@ -33,6 +33,9 @@ returns-clause-tree g c = λ tree k.
     let h : Hung s mid c.args.at above w.context = subst (λ z. Hung s z c.args.at above w.context) (sym c.set_kid_of.ensures.store)
     (hung s side c.args.root c.args.at tree above left c.args.steps.now c.descend_behind-above.new.steps none c.requires.held (apart_each s side c.args.root c.args.at tree none c.requires k) k w) in
     link_end s mid (g.N.Nodes.store c.rise.new.nodes) side c.args.at tree above left c.args.steps.now c.descend_behind-above.new.steps w h (c.rise.ensures.tree w.context (Node Leaf c.args.at Leaf) h.rising).after
+
+pub returns-clause-rises : goal.returns-clause-rises
+returns-clause-rises g c = let deep = (c.descend_behind-above.ensures c.requires.tree c.requires.is_tree).deep in omega arith
 
 pub returns-clause-least_steps : goal.returns-clause-least_steps
 returns-clause-least_steps g c = λ some.
