@@ -1,20 +1,22 @@
--- A tree has at most as many gaps as there are.
-use Rattle.vc_base.proofs.Common.{◌≡◌, ℕ, ◌+◌, ◌-◌, ◌≤◌, true, false, eqb, List, [], ◌∷◌, map, length, sym, refl, ap, ◌∙◌, subst, ⊎_elim, arith, length-map, eq-eqb, ne_eqb, eqb-true, eqb-false, cases_Bool, AllByRecursion, IsDistinct, list_any, AreDistinct, contains, address, place_of, Run}
+-- A tree has at most as many gaps as there are, and a root where there are any.
+use Rattle.vc_base.proofs.Common.{◌≡◌, ℕ, ◌+◌, ◌-◌, ◌≤◌, ◌≢◌, min, true, false, eqb, List, [], ◌∷◌, map, length, sym, refl, ap, ◌∙◌, subst, ⊎_elim, arith, le_prop, ∥∥₁_elim, length-map, eq-eqb, ne_eqb, eqb-true, eqb-false, cases_Bool, cases_eq, ◌&&◌, AllByRecursion, IsDistinct, list_any, AreDistinct, contains, address, place_of, Run}
 use Rattle.std.proofs.lemmas.Cmp.{nat_eq_equiv}
 use Rattle.std.proofs.lemmas.Map.Made.{length-le_from_is_member}
 use Rattle.vc_base.proofs.Members.{within-head, within-tail}
 use Rattle.vc_model.proofs.Owned.{address-place_of}
 use Rattle.vc_model.specs.Numbers.{gap_count}
+use Rattle.vc_splay.proofs.SearchLemmas.{no_tree}
 use Rattle.vc_splay.proofs.StandsLemmas.{Stands-there}
 use Rattle.vc_splay.specs.Rank.{size}
 use Rattle.vc_splay.specs.Stands.{IsTree}
 use Rattle.vc_splay.specs.Tree.{Tree, names}
 use Rattle.vc_gaps.specs.Fits as gaps
+use Rattle.vc_gaps.specs.GapLaws.{gap_none}
 use Rattle.vc_gaps.specs.GapStore.{gap_store, is_free}
 use Rattle.vc_gaps.proofs.Holding.{gap_off}
 use Rattle.vc_gaps.proofs.Named.{extent_in-off}
-use Rattle.vc_gaps.proofs.Runs.{HasRun, has-gap}
-use Rattle.vc_best.proofs.Common.{AreExtents, Bytes, IsMerged, extent_of, extents_of, layout_by, run_at, tiling}
+use Rattle.vc_gaps.proofs.Runs.{AreGaps, HasRun, are_gaps, has-gap}
+use Rattle.vc_best.proofs.Common.{AreExtents, Bytes, HasGaps, IsMerged, Tiling, extent_of, extents_of, layout_by, run_at, tiling}
 use Rattle.vc_best.proofs.Frees.{gaps-of}
 use Rattle.vc_best.proofs.Plain.{runs-by}
 
@@ -81,3 +83,32 @@ module _ (segs : List Bytes) (index : List ℕ) (k : ∥ AreExtents segs index �
       let all : gap_count (layout_by segs) ≡ length (gaps.free_runs (tiling segs)) = ap (λ rs. length rs) (gaps-of segs index k merged) ∙ ap (λ rs. length rs) (runs-by (tiling segs)) in
       let few = nodes root u h in
       omega arith
+
+  -- where the tree has no root no extent is free
+  none-free : (root : ℕ) → root ≡ 0 → HasGaps (tiling segs) root [] → (a : ℕ) → is_free (tiling segs) a ≡ false
+  none-free root e h a =
+      let leaf = no_tree (gap_store (tiling segs)) root h.tree.tree (gap_none segs index k) h.tree.is_tree e in
+      let none : h.names ≡ [] = sym h.tree.list ∙ ap (λ t. names t) leaf in
+      let out : (is_free (tiling segs) a && true) ≡ false = sym (h.exact a) ∙ ap (λ xs. contains xs a) none in
+      ⊎_elim
+      (λ (t : is_free (tiling segs) a ≡ true). t ∙ sym (ap (λ z. z && true) t) ∙ out)
+      (λ (t : is_free (tiling segs) a ≡ false). t)
+      (cases_Bool (is_free (tiling segs) a))
+
+  no-runs : (t : Tiling) (rs : List Run) → ((a : ℕ) → is_free t a ≡ false) → AreGaps t rs → length rs ≤ 0
+  no-runs t [] none g = omega arith
+  no-runs t (r ∷ rs) none g = absurd (let q : true ≡ false = sym g.0.free ∙ none g.0.at in cc)
+
+  pub gaps-none : IsMerged (tiling segs) → (root : ℕ) → root ≡ 0 → HasGaps (tiling segs) root [] → gap_count (layout_by segs) ≤ 0
+  gaps-none merged root e h =
+      let all : gap_count (layout_by segs) ≡ length (gaps.free_runs (tiling segs)) = ap (λ rs. length rs) (gaps-of segs index k merged) ∙ ap (λ rs. length rs) (runs-by (tiling segs)) in
+      let few : length (gaps.free_runs (tiling segs)) ≤ 0 = ∥∥₁_elim k le_prop (λ x. no-runs (tiling segs) (gaps.free_runs (tiling segs)) (none-free root e h) (are_gaps segs index x)) in
+      omega arith
+
+  -- so a search of the tree takes a step where there is a gap
+  pub searched : IsMerged (tiling segs) → (root : ℕ) → HasGaps (tiling segs) root [] → (start now : ℕ) → start ≤ now → (root ≢ 0 → start + 1 ≤ now) → start + min 1 (gap_count (layout_by segs)) ≤ now
+  searched merged root h start now rises least =
+      ⊎_elim
+      (λ (e : root ≡ 0). let none = gaps-none merged root e h in omega arith)
+      (λ (e : root ≡ 0 → ⊥). let one = least e in omega arith)
+      (cases_eq root 0)

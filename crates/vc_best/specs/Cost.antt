@@ -1,6 +1,9 @@
 -- What a call on a best region costs.
-use Rattle.std.specs.Prelude.{ℕ, ◌+◌, ◌*◌, max}
+use Rattle.std.specs.Prelude.{ℕ, ◌+◌, ◌*◌, max, min, Result, Ok, Err, ◌==◌, if◌then◌else◌}
+use Rattle.vc_base.specs.declared.addr.Addr.{Addr}
+use Rattle.vc_model.specs.Layout.{Layout}
 use Rattle.vc_model.specs.Numbers.{gap_count}
+use Rattle.vc_seg.specs.declared.fault.RegionFault.{RegionFault}
 use Rattle.vc_splay.specs.Rank.{Costs, binary_digits}
 use Rattle.vc_splay.specs.Stands.{IsTree}
 use Rattle.vc_splay.specs.Tree.{Tree}
@@ -20,3 +23,18 @@ TreeCosts old new start now per plus more =
 pub record CallCosts {I : Type 0} {V : I → Type 0} (old new : Best I V) (calls start now : ℕ) : Type 0 where
   pub law : (t u : Tree) → IsTree (gap_store (tiling old.extents.segs.items)) old.root.0 t → IsTree (gap_store (tiling new.extents.segs.items)) new.root.0 u
       → Costs t u start now (calls * (240 * binary_digits (max (gap_count (layout_of old)) (gap_count (layout_of new))) + 260))
+
+-- a search for a gap takes a step at least where there is one
+abbrev pub least_of_search : Layout ℕ → ℕ
+least_of_search r = min 1 (gap_count r)
+
+-- a block that is put takes one more
+abbrev pub least_of_alloc : Layout ℕ → Result Addr RegionFault → ℕ
+least_of_alloc r (Ok a) = least_of_search r + 1
+least_of_alloc r (Err fault) = least_of_search r
+
+-- a block that gets another size takes three steps where it stays, and those of a put block and two where it moves; it takes one
+-- where it is refused
+abbrev pub least_of_resize : Layout ℕ → ℕ → Result Addr RegionFault → ℕ
+least_of_resize r a (Ok to) = if to.0 == a then 3 else least_of_search r + 3
+least_of_resize r a (Err fault) = 1

@@ -1,4 +1,4 @@
-ghost use Rattle.std.specs.Prelude.{◌≡◌, ◌⊎◌, IfOk, IfErr, IsErrOf, [], length, max};
+ghost use Rattle.std.specs.Prelude.{◌≡◌, ◌⊎◌, ◌+◌, ◌≤◌, IfOk, IfErr, IsErrOf, [], length, max};
 ghost use Rattle.vc_base.specs.Prelude.{place_of, best_need, without_block_at, cleared_layout, compact_count, compacted_layout, HasOut, TookBack, empty_layout, IsAlign, HasBlock, next_segment, segment_at};
 ghost use Rattle.vc_model.specs.Best.{best_alloc};
 ghost use Rattle.vc_model.specs.Sound.{HasWholeBlocks, IsSound};
@@ -53,7 +53,7 @@ pub struct Best {
 }
 
 impl Best {
-    ghost use Rattle.vc_best.specs.Cost.{CallCosts, TreeCosts};
+    ghost use Rattle.vc_best.specs.Cost.{CallCosts, TreeCosts, least_of_alloc};
     ghost use Rattle.vc_best.specs.Parts.{blocks_in, layout_of, segments_in};
 
     /// A region with no segment. It takes none before the first block, but memory for the places of 1,023. Where that is
@@ -105,7 +105,8 @@ impl Best {
         ensures put { IfOk result
             (λ a. IsBlockPut tag size a.0 (blocks_in self.old) (blocks_in self.new)) }
 
-        // What it costs at an alignment of 32: as one call, and by how many gaps the tree has before it.
+        // What it costs at least, and at most at an alignment of 32: as one call, and by how many gaps the tree has before it.
+        ensures least_steps { steps.old + least_of_alloc (layout_of self.old) result ≤ steps.new }
         ensures call { align ≡ 32 → CallCosts self.old self.new 1 steps.old steps.new }
         ensures cost { align ≡ 32 → TreeCosts self.old self.new steps.old steps.new 40 3 2 }
     {
@@ -141,6 +142,7 @@ impl Best {
 
         // It is the one block at that address that goes.
         ensures freed { IsBlockFreed a.0 (blocks_in self.old) (blocks_in self.new) }
+        ensures least_steps { steps.old + 1 ≤ steps.new }
         ensures call { CallCosts self.old self.new 1 steps.old steps.new }
     {
         free_block(&mut self.extents, &mut self.root, a, steps);

@@ -1,4 +1,4 @@
-ghost use Rattle.std.specs.Prelude.{◌≡◌, ◌≢◌, ◌%◌, IfOk, IfErr, IsErrOf, None, OnErr, false, map};
+ghost use Rattle.std.specs.Prelude.{◌≡◌, ◌≢◌, ◌+◌, ◌≤◌, ◌%◌, IfOk, IfErr, IsErrOf, None, OnErr, false, map};
 ghost use Rattle.vc_base.specs.Prelude.{best_need, HasOut, IsSegmentSize, TooMany, ask};
 ghost use Rattle.vc_model.specs.Best.{place_in};
 ghost use Rattle.vc_seg.specs.Answer.{Asks};
@@ -63,6 +63,8 @@ pub(crate) fn put_in_new<L>(
         (layout_by extents.old.segs.items).segments (layout_by extents.new.segs.items).segments
         (best_need (state disc.old).terms size align) }
     ensures whole { AreWhole extents.new.segs.items root.new.0 }
+    ensures rises { steps.old ≤ steps.new }
+    ensures least_steps { IfOk result (λ _. steps.old + 1 ≤ steps.new) }
     ensures cost { GapsCost (tiling extents.old.segs.items) (tiling extents.new.segs.items)
         root.old.0 root.new.0 steps.old steps.new 16 3 2 }
 {

@@ -1,4 +1,4 @@
-ghost use Rattle.std.specs.Prelude.{◌≡◌, Some, IfOk, IsErrOf};
+ghost use Rattle.std.specs.Prelude.{◌≡◌, ◌+◌, ◌≤◌, Some, IfOk, IsErrOf};
 ghost use Rattle.vc_base.specs.Prelude.{place_of, best_need, HasOut, HasBlock};
 ghost use Rattle.vc_model.specs.Resize.{best_resize};
 ghost use Rattle.vc_best.specs.Ask.{AsksToMove};
@@ -13,7 +13,7 @@ use vc_base::{Addr, Steps};
 use vc_seg::RegionFault;
 
 impl Best {
-    ghost use Rattle.vc_best.specs.Cost.{CallCosts};
+    ghost use Rattle.vc_best.specs.Cost.{CallCosts, least_of_resize};
     ghost use Rattle.vc_best.specs.Parts.{blocks_in, layout_of, segments_in, size_in};
 
     /// Gives a block another size, from 1 to 16,777,264 bytes, and answers its address. It stays where it is if it can,
@@ -44,6 +44,7 @@ impl Best {
         ensures sized { IfOk result (λ to. size_in self.new to.0 ≡ Some size) }
         ensures kept { IfOk result
             (λ to. IsBlockKept a.0 to.0 (blocks_in self.old) (blocks_in self.new)) }
+        ensures least_steps { steps.old + least_of_resize (layout_of self.old) a.0 result ≤ steps.new }
         ensures call { CallCosts self.old self.new 1 steps.old steps.new }
     {
         if has_room(&self.extents, a, size, steps) {

@@ -1,4 +1,4 @@
-ghost use Rattle.std.specs.Prelude.{◌≤◌};
+ghost use Rattle.std.specs.Prelude.{◌+◌, ◌≤◌};
 ghost use Rattle.vc_extent.specs.Tiling.{IsBusy, extent_of, tiling};
 ghost use Rattle.vc_gaps.specs.Cost.{GapsCost};
 ghost use Rattle.vc_best.specs.Blocks.{layout_by};
@@ -24,6 +24,7 @@ pub(crate) fn take_over<L>(
     ensures moved { IsMovedInto (layout_by extents.old.segs.items) (layout_by extents.new.segs.items)
         a.0 to.0 size }
     ensures kept { AreKept extents.new.segs.items root.new.0 }
+    ensures least_steps { steps.old + 1 ≤ steps.new }
     ensures cost { GapsCost (tiling extents.old.segs.items) (tiling extents.new.segs.items)
         root.old.0 root.new.0 steps.old steps.new 32 1 1 }
 {

@@ -1,4 +1,4 @@
-ghost use Rattle.std.specs.Prelude.{◌≡◌, ◌≢◌, ℕ, ◌≤◌, IfSome, List, [], ◌∷◌, ◌++◌, false};
+ghost use Rattle.std.specs.Prelude.{◌≡◌, ◌≢◌, ℕ, ◌+◌, ◌≤◌, IfSome, List, [], ◌∷◌, ◌++◌, false};
 ghost use Rattle.vc_base.specs.Prelude.{contains, address, place_of, without_block_at, resize_there, span};
 ghost use Rattle.vc_seg.specs.OneBlock.{IsGuardedSize};
 ghost use Rattle.vc_layouts.specs.Put.{with_zeros};
@@ -65,6 +65,7 @@ fn link_next<L>(extents: &mut Extents, root: &mut Addr, a: Addr, steps: &mut Ste
     requires gaps { HasGaps (tiling extents.old.segs.items) root.old.0
         (free_next (tiling extents.old.segs.items) a.0) }
     ensures gaps { HasGaps (tiling extents.new.segs.items) root.new.0 [] }
+    ensures rises { steps.old ≤ steps.new }
     ensures cost { GapsCost (tiling extents.old.segs.items) (tiling extents.new.segs.items)
         root.old.0 root.new.0 steps.old steps.new 8 1 1 }
     ensures rest { StaysButLinks extents.old.segs.items extents.new.segs.items }
@@ -83,6 +84,7 @@ fn link_some<L>(extents: &mut Extents, root: &mut Addr, some: Option<Addr>, step
     ensures gaps { (out : List ℕ) → IfSome some (λ a. contains out a.0 ≡ false)
         → HasGaps (tiling extents.old.segs.items) root.old.0 (some_name some ++ out)
         → HasGaps (tiling extents.new.segs.items) root.new.0 out }
+    ensures rises { steps.old ≤ steps.new }
     ensures cost { GapsCost (tiling extents.old.segs.items) (tiling extents.new.segs.items)
         root.old.0 root.new.0 steps.old steps.new 8 1 1 }
     ensures rest { StaysButLinks extents.old.segs.items extents.new.segs.items }
@@ -110,6 +112,7 @@ fn put_block<L>(
         ≡ with_zeros (layout_by extents.old.segs.items) tag size ((place_of a.0).0, off) }
     ensures value { result.0 ≡ address ((place_of a.0).0, off) }
     ensures kept { AreKept extents.new.segs.items root.new.0 }
+    ensures least_steps { steps.old + 1 ≤ steps.new }
     ensures cost { GapsCost (tiling extents.old.segs.items) (tiling extents.new.segs.items)
         root.old.0 root.new.0 steps.old steps.new 16 3 2 }
 {
@@ -136,6 +139,7 @@ pub(crate) fn put_in_out<L>(
     ensures put { IsPutInGap (layout_by extents.old.segs.items) (layout_by extents.new.segs.items)
         tag size align result.0 }
     ensures whole { AreWhole extents.new.segs.items root.new.0 }
+    ensures least_steps { steps.old + 1 ≤ steps.new }
     ensures cost { GapsCost (tiling extents.old.segs.items) (tiling extents.new.segs.items)
         root.old.0 root.new.0 steps.old steps.new 16 3 2 }
 {
@@ -159,6 +163,7 @@ pub(crate) fn put_in_gap<L>(
     ensures put { IsPutInGap (layout_by extents.old.segs.items) (layout_by extents.new.segs.items)
         tag size align result.0 }
     ensures whole { AreWhole extents.new.segs.items root.new.0 }
+    ensures least_steps { steps.old + 1 ≤ steps.new }
     ensures cost { GapsCost (tiling extents.old.segs.items) (tiling extents.new.segs.items)
         root.old.0 root.new.0 steps.old steps.new 28 3 2 }
 {
@@ -173,6 +178,7 @@ pub(crate) fn free_block<L>(extents: &mut Extents, root: &mut Addr, a: Addr, ste
     ensures layout { layout_by extents.new.segs.items
         ≡ without_block_at (layout_by extents.old.segs.items) (place_of a.0) }
     ensures kept { AreKept extents.new.segs.items root.new.0 }
+    ensures least_steps { steps.old + 1 ≤ steps.new }
     ensures cost { GapsCost (tiling extents.old.segs.items) (tiling extents.new.segs.items)
         root.old.0 root.new.0 steps.old steps.new 32 1 1 }
 {
@@ -197,6 +203,7 @@ pub(crate) fn resize_block<L>(
     ensures layout { layout_by extents.new.segs.items
         ≡ resize_there (layout_by extents.old.segs.items) (place_of a.0) size }
     ensures kept { AreKept extents.new.segs.items root.new.0 }
+    ensures least_steps { steps.old + 2 ≤ steps.new }
     ensures cost { GapsCost (tiling extents.old.segs.items) (tiling extents.new.segs.items)
         root.old.0 root.new.0 steps.old steps.new 20 3 1 }
 {

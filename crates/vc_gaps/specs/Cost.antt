@@ -15,9 +15,10 @@ pub record GapsCost (old new : Tiling) (root result before now per plus more : �
   pub few : (t u : Tree) → IsTree (gap_store old) root t → IsTree (gap_store new) result u
       → size u ≤ size t + more
 
--- a search for a gap of an alignment takes a step at least where there is a gap, and for each gap of the tree at most one at an
--- alignment of 32, and two at others
+-- a search for a gap of an alignment takes no step back, a step at least where there is a gap, and for each gap of the tree at
+-- most one at an alignment of 32, and two at others
 pub record FitSteps (t : Tiling) (root align start now : ℕ) : Type 0 where
+  pub rises : start ≤ now
   pub least : root ≢ 0 → start + 1 ≤ now
   pub most : (xs : List ℕ) → HasGapTree t root xs → now ≤ start + 2 * length xs
   pub most_by_32 : (xs : List ℕ) → HasGapTree t root xs → align ≡ 32 → now ≤ start + length xs

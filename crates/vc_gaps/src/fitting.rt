@@ -30,6 +30,7 @@ pub fn fit<L>(
     requires most { align ≤ 4096 }
     ensures fitted { GapFitted (tiling extents.old.segs.items) (tiling extents.new.segs.items)
         root.0 span align result.0.0 (option_map (λ a. a.0) result.1) }
+    ensures rises { steps.old ≤ steps.new }
     ensures least_steps { root.0 ≢ 0 → steps.old + 1 ≤ steps.new }
     ensures most_steps { (xs : List ℕ) → HasGapTree (tiling extents.old.segs.items) root.0 xs
         → steps.new ≤ steps.old + 2 * length xs }

@@ -16,6 +16,7 @@ pub fn link_gap<L>(extents: &mut Extents, root: Addr, a: Addr, steps: &mut Steps
     ensures linked { GapLinked (tiling extents.old.segs.items) (tiling extents.new.segs.items)
         root.0 a.0 result.0 }
     ensures root { result.0 ≡ a.0 }
+    ensures rises { steps.old + 1 ≤ steps.new }
     ensures least_steps { root.0 ≢ 0 → steps.old + 2 ≤ steps.new }
     ensures most_steps { (xs : List ℕ) → HasGapTree (tiling extents.old.segs.items) root.0 xs
         → steps.new ≤ steps.old + 1 + length xs }
@@ -33,6 +34,7 @@ fn link_in<'a, L>(gaps: &mut Gaps<'a>, root: u32, a: u32, steps: &mut Steps<L>) 
     ensures linked { GapLinked (tiling gaps.old.extents.now.segs.items)
         (tiling gaps.new.extents.now.segs.items) root a result }
     ensures root { result ≡ a }
+    ensures rises { steps.old + 1 ≤ steps.new }
     ensures least_steps { root ≢ 0 → steps.old + 2 ≤ steps.new }
     ensures most_steps { (xs : List ℕ)
         → HasGapTree (tiling gaps.old.extents.now.segs.items) root xs

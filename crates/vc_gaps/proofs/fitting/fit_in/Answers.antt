@@ -32,6 +32,7 @@ returns-clause-steps g c =
     let news = f.new.nodes.extents.now.segs.items in
     let on = c.first_that_holds.ensures.least_steps in
     record {
+      rises = let k = f.ensures.rises in omega arith;
       least = λ some. let k = f.ensures.least_steps some in omega arith;
       most = λ xs h.
           let after = gap-found _ news _ c.args.gaps.now.extents.now.kept f.ensures.rest.1 c.args.root f.result.0 0 xs h (f.ensures.tree h.tree h.is_tree) in
@@ -47,6 +48,7 @@ pub returns-then-align-eq32-clause-steps : goal.returns-then-align-eq32-clause-s
 returns-then-align-eq32-clause-steps g c =
     let f = c.find_least_at-top in
     record {
+      rises = f.ensures.rises;
       least = f.ensures.least_steps;
       most = λ xs h. let down = f.ensures.most_steps h.tree h.is_tree in let len = ap length h.list in omega arith;
       most_by_32 = λ xs h unit. let down = f.ensures.most_steps h.tree h.is_tree in let len = ap length h.list in omega arith;

@@ -1,5 +1,6 @@
-use Rattle.vc_base.proofs.Common.{◌≡◌, ℕ, ◌+◌, ◌≤◌, [], length, Ok, Err, option_map, sym, ap, ◌∙◌, subst, arith, place_of, place_in, Layout, span}
+use Rattle.vc_base.proofs.Common.{◌≡◌, ℕ, ◌+◌, ◌≤◌, min, [], length, Ok, Err, option_map, sym, ap, ◌∙◌, subst, arith, place_of, place_in, Layout, span}
 use Rattle.vc_best.proofs.Common.{AreAllowed, AreWhole, HasGaps, IsPutInGap, layout_by, tiling}
+use Rattle.vc_model.specs.Numbers.{gap_count}
 use Rattle.vc_gaps.specs.Cost.{GapsCost}
 use Rattle.vc_gaps.proofs.GapTrees.{gap_tree-of}
 use Rattle.vc_best.proofs.Asking.{Answers-in_gap, Asks-in_gap, IsPutByAsking-same}
@@ -9,6 +10,7 @@ use Rattle.vc_best.proofs.Calls.{call_costs}
 use Rattle.vc_best.proofs.Costs.{cost_within, then_cost}
 use Rattle.vc_best.proofs.Counting.{blocks-few}
 use Rattle.vc_best.proofs.Held.{AreHeld, AreMost, held, merged-of, most-of, tree-of}
+use Rattle.vc_best.proofs.NodesFew.{searched}
 use Rattle.vc_best.proofs.Others.{others-asked, others-in_gap}
 use Rattle.vc_best.proofs.Plain.{layout-stays, merged-stays}
 use Rattle.vc_best.proofs.Puts.{place-runs, place_at}
@@ -166,3 +168,27 @@ returns-in-Err-clause-cost g c = asked g (goal.at.returns-in-Err-clause-cost g c
 
 pub returns-in-Err-clause-call : goal.returns-in-Err-clause-call
 returns-in-Err-clause-call g c = λ unit. call_costs c.args.self.now _ 1 c.args.steps.now _ 40 3 2 (omega arith) (omega arith) (asked g (goal.at.returns-in-Err-clause-call g c).After-put_in_new unit)
+
+-- what the search takes at least, where there is a gap
+sought : (g : Over) (c : After-fit-least g) → c.args.steps.now + min 1 (gap_count (layout_by c.args.self.now.extents.segs.items)) ≤ c.fit-least.new.steps
+sought g c =
+    let b = c.args.self.now in
+    searched b.extents.segs.items b.extents.index.items b.extents.kept (merged-of (tiling b.extents.segs.items) b.merged) b.root.0 (before g c) c.args.steps.now c.fit-least.new.steps c.fit-least.ensures.rises c.fit-least.ensures.least_steps
+
+pub returns-in-Some-clause-least_steps : goal.returns-in-Some-clause-least_steps
+returns-in-Some-clause-least_steps g c =
+    let first = sought g (goal.at.returns-in-Some-clause-least_steps g c).After-fit-least in
+    let then = c.put_in_gap-to.ensures.least_steps in
+    omega arith
+
+pub returns-in-Ok-clause-least_steps : goal.returns-in-Ok-clause-least_steps
+returns-in-Ok-clause-least_steps g c =
+    let first = sought g (goal.at.returns-in-Ok-clause-least_steps g c).After-fit-least in
+    let then = c.in-Ok.ensures.least_steps in
+    omega arith
+
+pub returns-in-Err-clause-least_steps : goal.returns-in-Err-clause-least_steps
+returns-in-Err-clause-least_steps g c =
+    let first = sought g (goal.at.returns-in-Err-clause-least_steps g c).After-fit-least in
+    let then = c.put_in_new.ensures.rises in
+    omega arith

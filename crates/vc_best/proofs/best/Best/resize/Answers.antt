@@ -1,5 +1,6 @@
-use Rattle.vc_base.proofs.Common.{◌≡◌, ℕ, false, [], Some, option_map, sym, refl, ap, ◌∙◌, arith, place_of, Layout, without_block, can_stay, HasBlock, find_block}
+use Rattle.vc_base.proofs.Common.{◌≡◌, ℕ, ◌+◌, ◌≤◌, min, false, [], Some, option_map, sym, refl, ap, ◌∙◌, subst, arith, eq-eqb, ne_eqb, place_of, Layout, without_block, can_stay, HasBlock, find_block}
 use Rattle.vc_best.proofs.Common.{HasGaps, layout_by, tiling}
+use Rattle.vc_model.specs.Numbers.{gap_count}
 use Rattle.vc_gaps.specs.Cost.{GapsCost}
 use Rattle.vc_layouts.proofs.Resizes.{others-sized}
 use Rattle.vc_layouts.proofs.Segments.{Served-later, Served-unasked}
@@ -172,3 +173,21 @@ pub returns-in-Err-clause-call : goal.returns-in-Err-clause-call
 returns-in-Err-clause-call g c =
     let h = (goal.at.returns-in-Err-clause-call g c).After-has_room in
     call_costs c.args.self.now _ 1 c.args.steps.now _ 40 5 2 (omega arith) (omega arith) (then_cost (before g h) (read g h) (c.alloc.ensures.cost refl))
+
+pub returns-then-has_room-clause-least_steps : goal.returns-then-has_room-clause-least_steps
+returns-then-has_room-clause-least_steps g c =
+    let first = c.has_room.ensures.least_steps in
+    let then = c.resize_block.ensures.least_steps in
+    let most : c.args.steps.now + 3 ≤ c.resize_block.new.steps = omega arith in
+    rw (eq-eqb c.args.a.0 c.args.a.0 refl) most
+
+-- where it moves the new block is another one
+pub returns-in-Ok-clause-least_steps : goal.returns-in-Ok-clause-least_steps
+returns-in-Ok-clause-least_steps g c =
+    let blocks = (layout_by c.args.self.now.extents.segs.items).blocks in
+    let other = ne_eqb c.in-Ok.to.0 c.args.a.0 (λ e. c.in-Ok.ensures.put.fresh (subst (λ z. HasBlock blocks z) (sym e) c.requires.block)) in
+    let first = c.has_room.ensures.least_steps in
+    let then = c.in-Ok.ensures.least_steps in
+    let last = c.take_over.ensures.least_steps in
+    let most : c.args.steps.now + (min 1 (gap_count (layout_by c.args.self.now.extents.segs.items)) + 3) ≤ c.take_over.new.steps = omega arith in
+    rw other most
