@@ -68,6 +68,12 @@ impl SegDisc for BudgetDisc {
         self.unit
     }
 
+    fn grows(&self) -> bool {
+        // A look at a field shows what every value has.
+        let _ = &self.unit;
+        false
+    }
+
     fn faults(&self) -> u64 {
         self.refusals
     }
@@ -104,6 +110,12 @@ impl SegDisc for BudgetDisc {
         let segment = self.lent.lend(alloc, number, size)?;
         self.left -= bytes;
         Ok(segment)
+    }
+
+    // It doesn't grow, so nothing meets the condition.
+    fn extend(&mut self, _: Global, _: &mut Segment, _: u32) -> Result<(), LendFault> {
+        let _ = &self.unit;
+        unreachable!()
     }
 
     fn take_back(&mut self, seg: Segment)

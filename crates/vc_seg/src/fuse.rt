@@ -69,6 +69,12 @@ impl SegDisc for FuseDisc {
         self.unit
     }
 
+    fn grows(&self) -> bool {
+        // A look at a field shows what every value has.
+        let _ = &self.unit;
+        false
+    }
+
     fn faults(&self) -> u64 {
         self.refusals
     }
@@ -77,7 +83,6 @@ impl SegDisc for FuseDisc {
         ensures value { result ≡ self.now.discipline.room }
         ensures untold { result ≡ None }
     {
-        // A look at a field shows what every value has.
         let _ = &self.unit;
         None
     }
@@ -107,6 +112,12 @@ impl SegDisc for FuseDisc {
             return Err(LendFault::Refused);
         }
         Ok(self.lent.lend(alloc, number, size)?)
+    }
+
+    // It doesn't grow, so nothing meets the condition.
+    fn extend(&mut self, _: Global, _: &mut Segment, _: u32) -> Result<(), LendFault> {
+        let _ = &self.unit;
+        unreachable!()
     }
 
     fn take_back(&mut self, seg: Segment)
