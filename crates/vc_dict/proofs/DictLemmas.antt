@@ -12,8 +12,8 @@ use Rattle.vc_dthash.specs.Hashed.{HashTurned}
 use Rattle.vc_dtord.specs.declared.dt_ord.DtOrd.{DtOrd}
 use Rattle.vc_dtord.specs.Ordered.{OrdTurned}
 use Rattle.vc_dict.specs.declared.dict.Dict.{Dict}
-use Rattle.vc_dict.specs.declared.heads.Heads.{Heads}
-use Rattle.vc_dict.specs.declared.heads.Heads.TheVariants.{Hash, Links, Order}
+use Rattle.vc_dict.specs.declared.form.Form.{Form}
+use Rattle.vc_dict.specs.declared.form.Form.TheVariants.{Hash, Links, Order}
 use Rattle.vc_dict.specs.Stands.{Became, HeadsFor, HeadsTurned, IsMember, Stands, table_at, table_in}
 use Rattle.vc_dict.proofs.OwnLemmas.{count-fits, holders-told}
 
@@ -25,7 +25,7 @@ pub Stands-unique : (rules rules' : Rules) (d : Dict) (b : Blocks) (xs ys : List
 Stands-unique rules rules' d b xs ys s t = sym (holders-told rules d b xs s) ∙ holders-told rules' d b ys t
 
 -- its heads changed, how many it counts, and the current one
-pub Became-heads : (rules : Rules) (d : Dict) (heads : Heads) (n : ℕ) (current : Addr) (b b' : Blocks) (written xs ys : List ℕ) → Stands rules d b xs → HeadsTurned rules written d.heads b heads b' ys → n ≡ length ys → Became rules written d b (record d { heads = heads; count = n; current = current }) b' ys current.0
+pub Became-heads : (rules : Rules) (d : Dict) (heads : Form) (n : ℕ) (current : Addr) (b b' : Blocks) (written xs ys : List ℕ) → Stands rules d b xs → HeadsTurned rules written d.heads b heads b' ys → n ≡ length ys → Became rules written d b (record d { heads = heads; count = n; current = current }) b' ys current.0
 Became-heads rules d heads n current b b' written xs ys s t count = record {
   stands = record { form = t.form d.method s.form; heads = t.stands; count = count };
   current = refl;
@@ -47,7 +47,7 @@ pub turned-list : (rules : Rules) (list new : DtList) (at : ℕ) (b b' : Blocks)
 turned-list rules list new at b b' xs ys t = record { stands = t.stands; form = λ method f. f; table = refl; slots = refl; keeps = KeepsTables-but (0 ∷ []) (at ∷ xs) b b' t.keeps }
 
 -- nothing changed
-pub turned-none : (rules : Rules) (heads : Heads) (written : List ℕ) (b : Blocks) (ys : List ℕ) → HeadsFor rules heads b ys → HeadsTurned rules written heads b heads b ys
+pub turned-none : (rules : Rules) (heads : Form) (written : List ℕ) (b : Blocks) (ys : List ℕ) → HeadsFor rules heads b ys → HeadsTurned rules written heads b heads b ys
 turned-none rules heads written b ys s = record { stands = s; form = λ method f. f; table = refl; slots = refl; keeps = KeepsTables-but ((table_at heads).0 ∷ []) written b b (KeepsBut-none written b) }
 
 -- one of the holders needs no naming beside them

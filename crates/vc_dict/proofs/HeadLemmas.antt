@@ -16,11 +16,12 @@ use Rattle.vc_dtord.specs.declared.dt_ord.DtOrd.{DtOrd}
 use Rattle.vc_dtord.specs.Ordered.{CanLink as OrdLink, OrdFor, order_with}
 use Rattle.vc_dtord.proofs.TreeLemmas.{OrdFor-holders, OrdFor-in_order, OrdFor-same}
 use Rattle.vc_dict.specs.declared.dict.Dict.{Dict}
-use Rattle.vc_dict.specs.declared.heads.Heads.{Heads}
-use Rattle.vc_dict.specs.declared.heads.Heads.TheVariants.{Hash, Links, Order}
+use Rattle.vc_dict.specs.declared.form.Form.{Form}
+use Rattle.vc_dict.specs.declared.form.Form.TheVariants.{Hash, Links, Order}
 use Rattle.vc_dict.specs.Changes.{order_by_link}
 use Rattle.vc_dict.specs.Listed.{holders_by, holders_from}
 use Rattle.vc_dict.specs.Methods.{wanted_by}
+use Rattle.vc_dict.specs.Parts.{HasNoOtherHeads, dict_by, form_by, heads_at, heads_in}
 use Rattle.vc_dict.specs.Stands.{CanJoin, CanLink, HeadsFor, IsForm, Stands, slots_at, slots_in, table_at, table_in}
 
 -- no method has both a table and an order, by which a method that has one hasn't the other
@@ -62,7 +63,7 @@ list-unordered DtStack l = refl
 list-unordered DtQueue l = refl
 
 -- what they stand for where the method is ordered
-by_ord : (rules : Rules) (method : DictMethod) (heads : Heads) (b : Blocks) (xs : List ℕ) → is_ordered method ≡ true → IsForm method heads → HeadsFor rules heads b xs → (ord : DtOrd) × OrdFor rules ord b xs
+by_ord : (rules : Rules) (method : DictMethod) (heads : Form) (b : Blocks) (xs : List ℕ) → is_ordered method ≡ true → IsForm method heads → HeadsFor rules heads b xs → (ord : DtOrd) × OrdFor rules ord b xs
 by_ord rules method (Hash hash) b xs o f s = absurd (true≢false (sym o ∙ table_unordered method f))
 by_ord rules method (Order ord) b xs o f s = (ord, s)
 by_ord rules method (Links list) b xs o f s = absurd (true≢false (sym o ∙ f.1))
@@ -71,13 +72,13 @@ pub as_ord : (rules : Rules) (d : Dict) (b : Blocks) (xs : List ℕ) → is_orde
 as_ord rules d b xs o s = by_ord rules d.method d.heads b xs o s.form s.heads
 
 -- they have a table, or none with no slots
-pub HeadsFor-table : (rules : Rules) (heads : Heads) (b : Blocks) (xs : List ℕ) → HeadsFor rules heads b xs → HasTable b xs (table_at heads).0 (slots_at heads)
+pub HeadsFor-table : (rules : Rules) (heads : Form) (b : Blocks) (xs : List ℕ) → HeadsFor rules heads b xs → HasTable b xs (table_at heads).0 (slots_at heads)
 HeadsFor-table rules (Hash hash) b xs s = s.table
 HeadsFor-table rules (Order ord) b xs s = record { none = λ _. refl; some = λ ne. absurd (ne refl) }
 HeadsFor-table rules (Links list) b xs s = record { none = λ _. refl; some = λ ne. absurd (ne refl) }
 
 -- a dictionary of another method has none
-none-by : (method : DictMethod) (heads : Heads) → has_table method ≡ false → IsForm method heads → (table_at heads).0 ≡ 0
+none-by : (method : DictMethod) (heads : Form) → has_table method ≡ false → IsForm method heads → (table_at heads).0 ≡ 0
 none-by method (Hash hash) h f = absurd (true≢false (sym f ∙ h))
 none-by method (Order ord) h f = refl
 none-by method (Links list) h f = refl
@@ -86,13 +87,13 @@ pub no-table-in : (rules : Rules) (d : Dict) (b : Blocks) (xs : List ℕ) → ha
 no-table-in rules d b xs h s = none-by d.method d.heads h s.form
 
 -- without a table in a set or bag there is no holder
-pub empty-hash : (rules : Rules) (method : DictMethod) (heads : Heads) (b : Blocks) (xs : List ℕ) → has_table method ≡ true → IsForm method heads → HeadsFor rules heads b xs → (table_at heads).0 ≡ 0 → xs ≡ []
+pub empty-hash : (rules : Rules) (method : DictMethod) (heads : Form) (b : Blocks) (xs : List ℕ) → has_table method ≡ true → IsForm method heads → HeadsFor rules heads b xs → (table_at heads).0 ≡ 0 → xs ≡ []
 empty-hash rules method (Hash hash) b xs h f s zero = s.empty zero
 empty-hash rules method (Order ord) b xs h f s zero = absurd (true≢false (sym f ∙ table_unordered method h))
 empty-hash rules method (Links list) b xs h f s zero = absurd (true≢false (sym h ∙ f.0))
 
 -- in each form they stand for holders
-pub HeadsFor-holders : (rules : Rules) (heads : Heads) (b : Blocks) (xs : List ℕ) → HeadsFor rules heads b xs → AreHolders b xs
+pub HeadsFor-holders : (rules : Rules) (heads : Form) (b : Blocks) (xs : List ℕ) → HeadsFor rules heads b xs → AreHolders b xs
 HeadsFor-holders rules (Hash hash) b xs s = HashFor-holders rules hash b xs s
 HeadsFor-holders rules (Order ord) b xs s = OrdFor-holders rules ord b xs s
 HeadsFor-holders rules (Links list) b xs s = LinksFor-holders list b xs s.links
@@ -106,13 +107,13 @@ from-told b before (x ∷ xs) behind at c e =
 links-told : (list : DtList) (b : Blocks) (xs : List ℕ) → LinksFor list b xs → holders_from b (length xs) list.first.0 ≡ xs
 links-told list b xs l = from-told b 0 xs 0 list.first.0 l.chain l.first
 
-pub heads-told : (rules : Rules) (heads : Heads) (b : Blocks) (xs : List ℕ) → HeadsFor rules heads b xs → holders_by heads b (length xs) ≡ xs
+pub heads-told : (rules : Rules) (heads : Form) (b : Blocks) (xs : List ℕ) → HeadsFor rules heads b xs → holders_by heads b (length xs) ≡ xs
 heads-told rules (Hash hash) b xs s = links-told (list_of hash) b xs s.links
 heads-told rules (Order ord) b xs s = OrdFor-in_order rules ord b xs (length xs) s (omega arith)
 heads-told rules (Links list) b xs s = links-told list b xs s.links
 
 -- and they stand for these still where what is at their addresses stays, and at the table's
-HeadsFor-stays : (rules : Rules) (heads : Heads) (old new : Blocks) (xs : List ℕ) → ((a : ℕ) → contains xs a ≡ true → new a ≡ old a) → ((table_at heads).0 ≢ 0 → new (table_at heads).0 ≡ old (table_at heads).0) → HeadsFor rules heads old xs → HeadsFor rules heads new xs
+HeadsFor-stays : (rules : Rules) (heads : Form) (old new : Blocks) (xs : List ℕ) → ((a : ℕ) → contains xs a ≡ true → new a ≡ old a) → ((table_at heads).0 ≢ 0 → new (table_at heads).0 ≡ old (table_at heads).0) → HeadsFor rules heads old xs → HeadsFor rules heads new xs
 HeadsFor-stays rules (Hash hash) old new xs e table s = HashFor-same rules hash old new xs e table s
 HeadsFor-stays rules (Order ord) old new xs e table s = OrdFor-same rules ord old new xs e s
 HeadsFor-stays rules (Links list) old new xs e table s = StandsFor-same list old new xs e s
@@ -181,3 +182,35 @@ linked-ord false DtObag rules b current at xs o l = refl
 linked-ord false ByList rules b current at xs o l = absurd (true≢false (sym o))
 linked-ord false DtStack rules b current at xs o l = absurd (true≢false (sym o))
 linked-ord false DtQueue rules b current at xs o l = absurd (true≢false (sym o))
+
+-- a form has no numbers that its method has no use for
+other-heads : (method : DictMethod) (form : Form) → IsForm method form → HasNoOtherHeads method (heads_at form)
+other-heads method (Hash hash) f = record {
+  ends = λ o. absurd (true≢false (sym o ∙ table_unordered method f));
+  root = λ o. refl;
+  table = λ t. absurd (true≢false (sym f ∙ t));
+}
+other-heads method (Order ord) f = record {
+  ends = λ o. record { first = refl; last = refl };
+  root = λ o. absurd (true≢false (sym f ∙ o));
+  table = λ t. record { table = refl; slots = refl };
+}
+other-heads method (Links list) f = record {
+  ends = λ o. absurd (true≢false (sym o ∙ f.1));
+  root = λ o. refl;
+  table = λ t. record { table = refl; slots = refl };
+}
+
+pub no-other-heads : (rules : Rules) (d : Dict) (b : Blocks) (xs : List ℕ) → Stands rules d b xs → HasNoOtherHeads d.method (heads_in d)
+no-other-heads rules d b xs s = other-heads d.method d.heads s.form
+
+-- and its numbers make it
+form-again : (rules : Rules) (method : DictMethod) (form : Form) (b : Blocks) (xs : List ℕ) (n : ℕ) → IsForm method form → HeadsFor rules form b xs → n ≡ length xs → form_by method n (heads_at form) ≡ form
+form-again rules method (Hash hash) b xs n f s e =
+    let count : n ≡ hash.count = e ∙ sym s.count in
+    rw (f, count) refl
+form-again rules method (Order ord) b xs n f s e = rw (ordered_plain method f, f) refl
+form-again rules method (Links list) b xs n f s e = rw (f.0, f.1) refl
+
+pub dict-again : (rules : Rules) (d : Dict) (b : Blocks) (xs : List ℕ) → Stands rules d b xs → dict_by d.method d.kind d.count d.current (heads_in d) ≡ d
+dict-again rules d b xs s = ap (λ (form : Form). record d { heads = form }) (form-again rules d.method d.heads b xs d.count s.form s.heads s.count)

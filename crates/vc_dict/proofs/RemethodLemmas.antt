@@ -14,7 +14,7 @@ use Rattle.vc_dthash.proofs.HashLemmas.{HasTable-kept}
 use Rattle.vc_dtord.specs.Ordered.{IsSorted}
 use Rattle.vc_dtord.proofs.SortedLemmas.{IsSorted-same}
 use Rattle.vc_dict.specs.declared.dict.Dict.{Dict}
-use Rattle.vc_dict.specs.declared.heads.Heads.{Heads}
+use Rattle.vc_dict.specs.declared.form.Form.{Form}
 use Rattle.vc_base.proofs.Members.{apart-head, apart-tail, apart-cons}
 use Rattle.vc_dict.specs.Methods.{slots_between}
 use Rattle.vc_dict.specs.Orders.{dropped_by, kept_by, ordered_by}
@@ -196,7 +196,7 @@ module _ {rules : Rules} {method : DictMethod} {d : Dict} {b b1 : Blocks} {block
     }
 
     -- and then in the form of the method
-    module _ (b3 : Blocks) (heads : Heads) (left : Addr) (le : left.0 ≡ (if has_table method then 0 else (table_in d).0)) (form : IsForm method heads) (ht : table_at heads ≡ (if has_table method then table else record { 0 = 0 })) (hs : slots_at heads ≡ (if has_table method then slots else 0)) (f : IsInForm rules ys b2 heads b3) where
+    module _ (b3 : Blocks) (heads : Form) (left : Addr) (le : left.0 ≡ (if has_table method then 0 else (table_in d).0)) (form : IsForm method heads) (ht : table_at heads ≡ (if has_table method then table else record { 0 = 0 })) (hs : slots_at heads ≡ (if has_table method then slots else 0)) (f : IsInForm rules ys b2 heads b3) where
       abbrev new : Dict
       new = record d { method = method; heads = heads; count = n; current = record { 0 = 0 } }
 

@@ -9,7 +9,7 @@ use Rattle.vc_dtlist.specs.Linked.{StandsFor}
 use Rattle.vc_dthash.specs.declared.dt_hash.DtHash.{DtHash}
 use Rattle.vc_dthash.specs.Hashed.{HashFor, list_of}
 use Rattle.vc_dtord.specs.Ordered.{IsSorted}
-use Rattle.vc_dict.specs.declared.heads.Heads.{Heads}
+use Rattle.vc_dict.specs.declared.form.Form.{Form}
 use Rattle.vc_dict.specs.Stands.{HeadsFor}
 
 -- these are in the chains of a set or bag, or in a list, which stands in order where the method is ordered
@@ -19,6 +19,6 @@ pub record CanTakeForm (rules : Rules) (method : DictMethod) (hash : DtHash) (bl
   pub sorted : is_ordered method ≡ true → IsSorted rules blocks holders
 
 -- heads stand for these holders, and the blocks keep all but their words
-pub record IsInForm (rules : Rules) (holders : List ℕ) (before : Blocks) (heads : Heads) (after : Blocks) : Type 0 where
+pub record IsInForm (rules : Rules) (holders : List ℕ) (before : Blocks) (heads : Form) (after : Blocks) : Type 0 where
   pub stands : HeadsFor rules heads after holders
   pub keeps : KeepsBut holders before after

@@ -10,3 +10,4 @@ pub mod Turned
 pub mod Rows
 pub mod Listed
 pub mod Dicts
+pub mod Parts

@@ -12,24 +12,24 @@ use Rattle.vc_dthash.specs.Chained.{chain_of, hash_at}
 use Rattle.vc_dthash.specs.Hashed.{HashFor, IsTable}
 use Rattle.vc_dtord.specs.Ordered.{OrdFor}
 use Rattle.vc_dict.specs.declared.dict.Dict.{Dict}
-use Rattle.vc_dict.specs.declared.heads.Heads.{Heads}
-use Rattle.vc_dict.specs.declared.heads.Heads.TheVariants.{Hash, Links, Order}
+use Rattle.vc_dict.specs.declared.form.Form.{Form}
+use Rattle.vc_dict.specs.declared.form.Form.TheVariants.{Hash, Links, Order}
 use Rattle.vc_base.specs.Methods.{has_table, is_list, is_ordered, is_set}
 use Rattle.vc_dict.specs.Methods.{wanted_by}
 
 -- whether heads are of a method's form: a hash for a set or bag, an ordered one for an ordered set or bag, and else a list
-abbrev pub IsForm : DictMethod → Heads → Type 0
+abbrev pub IsForm : DictMethod → Form → Type 0
 IsForm method (Hash hash) = has_table method ≡ true
 IsForm method (Order ord) = is_ordered method ≡ true
 IsForm method (Links list) = (has_table method ≡ false) × (is_ordered method ≡ false)
 
 -- the table of a hash and its slots; other heads have none
-abbrev pub table_at : Heads → Addr
+abbrev pub table_at : Form → Addr
 table_at (Hash hash) = hash.table
 table_at (Order ord) = record { 0 = 0 }
 table_at (Links list) = record { 0 = 0 }
 
-abbrev pub slots_at : Heads → ℕ
+abbrev pub slots_at : Form → ℕ
 slots_at (Hash hash) = hash.slots
 slots_at (Order ord) = 0
 slots_at (Links list) = 0
@@ -41,32 +41,32 @@ abbrev pub slots_in : Dict → ℕ
 slots_in dict = slots_at dict.heads
 
 -- heads stand for these holders in their own form
-abbrev pub HeadsFor : Rules → Heads → Blocks → List ℕ → Type 0
+abbrev pub HeadsFor : Rules → Form → Blocks → List ℕ → Type 0
 HeadsFor rules (Hash hash) blocks holders = HashFor rules hash blocks holders
 HeadsFor rules (Order ord) blocks holders = OrdFor rules ord blocks holders
 HeadsFor rules (Links list) blocks holders = StandsFor list blocks holders
 
 -- they do so for some holders
-pub record IsHeads (rules : Rules) (heads : Heads) (blocks : Blocks) : Type 0 where
+pub record IsHeads (rules : Rules) (heads : Form) (blocks : Blocks) : Type 0 where
   pub holders : List ℕ
   pub stands : HeadsFor rules heads blocks holders
 
 -- they do so for so many holders, by some kind's rules
-pub record AreHeads (heads : Heads) (blocks : Blocks) (count : ℕ) : Type 0 where
+pub record AreHeads (heads : Form) (blocks : Blocks) (count : ℕ) : Type 0 where
   pub rules : Rules
   pub holders : List ℕ
   pub stands : HeadsFor rules heads blocks holders
   pub length : count ≡ length holders
 
 -- they do so for some holders by some kind's rules, and this is one of them
-pub record HasHolder (heads : Heads) (blocks : Blocks) (at : ℕ) : Type 0 where
+pub record HasHolder (heads : Form) (blocks : Blocks) (at : ℕ) : Type 0 where
   pub rules : Rules
   pub holders : List ℕ
   pub stands : HeadsFor rules heads blocks holders
   pub within : contains holders at ≡ true
 
 -- they are of a method's form and stand for some holders, and this one may join them behind the current one or before it
-pub record CanJoin (rules : Rules) (method : DictMethod) (heads : Heads) (blocks : Blocks) (current at : ℕ) (append : Bool) : Type 0 where
+pub record CanJoin (rules : Rules) (method : DictMethod) (heads : Form) (blocks : Blocks) (current at : ℕ) (append : Bool) : Type 0 where
   pub holders : List ℕ
   pub form : IsForm method heads
   pub stands : HeadsFor rules heads blocks holders
@@ -78,7 +78,7 @@ pub record CanJoin (rules : Rules) (method : DictMethod) (heads : Heads) (blocks
 
 -- from old to new their holders change so; their form and table stay, and the blocks keep all but the words of some holders
 -- and of the table
-pub record HeadsTurned (rules : Rules) (written : List ℕ) (old : Heads) (before : Blocks) (new : Heads) (after : Blocks) (changed : List ℕ) : Type 0 where
+pub record HeadsTurned (rules : Rules) (written : List ℕ) (old : Form) (before : Blocks) (new : Form) (after : Blocks) (changed : List ℕ) : Type 0 where
   pub stands : HeadsFor rules new after changed
   pub form : (method : DictMethod) → IsForm method old → IsForm method new
   pub table : table_at new ≡ table_at old
@@ -93,7 +93,7 @@ pub record Stands (rules : Rules) (dict : Dict) (blocks : Blocks) (holders : Lis
 
 -- so many compares does a search for a key make at most: one for each holder of the key's slot in a set or bag, and else
 -- one for each holder
-abbrev pub heads_compares : Rules → Heads → Blocks → List ℕ → List ℕ → ℕ
+abbrev pub heads_compares : Rules → Form → Blocks → List ℕ → List ℕ → ℕ
 heads_compares rules (Hash hash) blocks key holders = length (chain_of (hash_at rules blocks) hash.slots (rules.hash key % hash.slots) holders)
 heads_compares rules (Order ord) blocks key holders = length holders
 heads_compares rules (Links list) blocks key holders = length holders

@@ -10,7 +10,7 @@ ghost use Rattle.vc_dict.specs.Changes.{current_without, order_by_link, order_wi
 ghost use Rattle.vc_dict.specs.Turned.{behind_dropped};
 ghost use Rattle.vc_dict.specs.Stands.{Adopted, Became, CanAdopt, CanLink, IsDict, IsIn, IsKept, IsMember, Stands, compares_by, slots_in, table_in};
 
-use crate::heads::Heads;
+use crate::form::Form;
 use vc_base::{Addr, Cells, DictMethod, Steps};
 use vc_dtdisc::DictDisc;
 
@@ -26,7 +26,7 @@ pub struct Dict {
     pub count: u64,
     /// The current holder, or `Addr::NONE`.
     pub current: Addr,
-    pub(crate) heads: Heads,
+    pub(crate) heads: Form,
 }
 
 /// What a change of method leaves over for the caller to free. This project's own.
@@ -53,7 +53,7 @@ impl Dict {
             kind,
             count: 0,
             current: Addr::NONE,
-            heads: Heads::new(method),
+            heads: Form::new(method),
         }
     }
 
@@ -105,7 +105,7 @@ impl Dict {
         ensures rest { C.RestStays cells.old cells.new }
     {
         match &mut self.heads {
-            Heads::Hash(hash) => hash.adopt_table(cells, kind, table, slots),
+            Form::Hash(hash) => hash.adopt_table(cells, kind, table, slots),
             _ => unreachable!(),
         }
     }

@@ -5,7 +5,7 @@ ghost use Rattle.vc_dict.specs.Forming.{CanTakeForm, IsInForm};
 ghost use Rattle.vc_dict.specs.Passes.{IsCounted};
 ghost use Rattle.vc_dict.specs.Stands.{IsForm, slots_at, table_at};
 
-use crate::heads::Heads;
+use crate::form::Form;
 use crate::pass::into_tree;
 use vc_base::{Addr, Cells, DictMethod, Steps};
 use vc_dtdisc::DictDisc;
@@ -23,7 +23,7 @@ pub(crate) fn in_form<C: Cells, D: DictDisc, L>(
     cells: &mut C,
     kind: &D,
     steps: &mut Steps<L>,
-) -> Heads
+) -> Form
     requires { is_ordered method ≡ true → IsCounted list (C.blocks cells.old) count }
     ensures form { IsForm method result }
     ensures table { table_at result ≡ (if has_table method then table else record { 0 = 0 }) }
@@ -35,7 +35,7 @@ pub(crate) fn in_form<C: Cells, D: DictDisc, L>(
         old holders → IsInForm (D.rules kind.now) holders old result new) }
 {
     if method.has_table() {
-        Heads::Hash(DtHash {
+        Form::Hash(DtHash {
             first: list.first,
             last: list.last,
             table,
@@ -43,8 +43,8 @@ pub(crate) fn in_form<C: Cells, D: DictDisc, L>(
             count,
         })
     } else if method.is_ordered() {
-        Heads::Order(into_tree(list, count, cells, kind, steps))
+        Form::Order(into_tree(list, count, cells, kind, steps))
     } else {
-        Heads::Links(list)
+        Form::Links(list)
     }
 }

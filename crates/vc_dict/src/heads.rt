@@ -1,227 +1,61 @@
-ghost use Rattle.std.specs.Prelude.{◌≡◌, ℕ, ◌+◌, ◌≤◌, List, [], ◌∷◌, None, length};
-ghost use Rattle.std.specs.Option.{option_map};
-ghost use Rattle.vc_base.specs.Prelude.{Blocks, first_in, last_in, next_in, previous_in, without};
+ghost use Rattle.std.specs.Prelude.{◌≡◌, ℕ, List};
+ghost use Rattle.vc_base.specs.Prelude.{Blocks};
 ghost use Rattle.vc_dtdisc.specs.Rules.{Rules};
-ghost use Rattle.vc_dtlist.specs.Linked.{Finds, number_of};
-ghost use Rattle.vc_dtlist.specs.TableWrites.{ChangesIn};
-ghost use Rattle.vc_dthash.specs.Hashed.{Listed};
-ghost use Rattle.vc_dthash.specs.Slots.{wanted_slots};
-ghost use Rattle.vc_dict.specs.Changes.{order_by_link};
-ghost use Rattle.vc_dict.specs.Stands.{AreHeads, CanJoin, HasHolder, HeadsFor, HeadsTurned, IsForm, IsHeads, heads_compares, slots_at, table_at};
+ghost use Rattle.vc_dict.specs.Stands.{Stands};
 
-use crate::flat::flatten;
-use crate::places::put_linked;
-use vc_base::{Addr, Cells, DictMethod, Steps};
-use vc_dtdisc::DictDisc;
-use vc_dthash::DtHash;
-use vc_dtlist::DtList;
-use vc_dtord::DtOrd;
+use crate::dict::Dict;
+use crate::form::Form;
+use vc_base::{Addr, DictMethod};
 
-// The heads of a dictionary in the form that its method has.
-#[derive(Clone, Copy, Debug)]
-pub(crate) enum Heads {
-    // Of a set or bag.
-    Hash(DtHash),
-    // Of an ordered set or bag.
-    Order(DtOrd),
-    // Of a list, stack or queue.
-    Links(DtList),
+/// The numbers that lead to the holders of a dictionary. Those that its method has no use for are `Addr::NONE` and 0.
+/// This project's own.
+#[derive(Clone, Copy, Debug, PartialEq, Eq)]
+pub struct Heads {
+    /// The first holder, but in an ordered set or bag.
+    pub first: Addr,
+    /// The last holder, but in an ordered set or bag.
+    pub last: Addr,
+    /// The table of a set or bag.
+    pub table: Addr,
+    /// The holder at the root of the tree of an ordered set or bag.
+    pub root: Addr,
+    /// How many slots the table has.
+    pub slots: u32,
 }
 
-impl Heads {
-    // Those of a method and no holders.
-    pub(crate) fn new(method: DictMethod) -> Heads
-        ensures form { IsForm method result }
-        ensures stands { (rules : Rules) (blocks : Blocks) → HeadsFor rules result blocks [] }
-        ensures table { table_at result ≡ record { 0 = 0 } }
-        ensures slots { slots_at result ≡ 0 }
+impl Dict {
+    ghost use Rattle.vc_dict.specs.Parts.{HasNoOtherHeads, dict_by, heads_in};
+
+    /// The numbers that lead to its holders. This project's own.
+    pub fn heads(&self) -> Heads
+        ensures heads { result ≡ heads_in self.now }
+        ensures others { (rules : Rules) (blocks : Blocks) (holders : List ℕ)
+            → Stands rules self.now blocks holders → HasNoOtherHeads self.now.method result }
+        ensures same { (rules : Rules) (blocks : Blocks) (holders : List ℕ)
+            → Stands rules self.now blocks holders
+            → dict_by self.now.method self.now.kind self.now.count self.now.current result
+            ≡ self.now }
     {
-        if method.has_table() {
-            Heads::Hash(DtHash {
-                first: Addr::NONE,
-                last: Addr::NONE,
-                table: Addr::NONE,
-                slots: 0,
-                count: 0,
-            })
-        } else if method.is_ordered() {
-            Heads::Order(DtOrd::new())
-        } else {
-            Heads::Links(DtList::new())
-        }
+        self.heads.heads()
     }
 
-    // The table of a set or bag, or none.
-    pub(crate) fn table(&self) -> Addr
-        ensures { result ≡ table_at self.now }
-    {
-        match self {
-            Heads::Hash(hash) => hash.table(),
-            _ => Addr::NONE,
-        }
-    }
-
-    // How many slots it has.
-    pub(crate) fn slots(&self) -> u32
-        ensures { result ≡ slots_at self.now }
-    {
-        match self {
-            Heads::Hash(hash) => hash.slots(),
-            _ => 0,
-        }
-    }
-
-    // The slots that a table is to have before so many more holders come, where there are so many.
-    pub(crate) fn wants_table(&self, count: u64, more: u64) -> Option<u32>
-        ensures { result ≡ wanted_slots (slots_at self.now) count more }
-    {
-        let hash = DtHash {
-            first: Addr::NONE,
-            last: Addr::NONE,
-            table: Addr::NONE,
-            slots: self.slots(),
-            count,
-        };
-        hash.wants_table(more)
-    }
-
-    // Puts a holder where `insert` or `append` of a method does, whose form this is.
-    pub(crate) fn link<C: Cells, D: DictDisc, L>(
-        &mut self,
-        cells: &mut C,
-        kind: &D,
+    /// A dictionary of these numbers. Those of `heads` that its method has no use for aren't read. It stands for holders
+    /// where these numbers and the holders' words say so, which isn't looked at. This project's own.
+    pub fn from_parts(
         method: DictMethod,
+        kind: u32,
+        count: u64,
         current: Addr,
-        at: Addr,
-        append: bool,
-        steps: &mut Steps<L>,
-    )
-        requires { CanJoin (D.rules kind.now) method self.old (C.blocks cells.old) current.0 at.0 append }
-        ensures heads { ChangesIn C.blocks C.RestStays cells.old cells.new
-            (λ old new. (holders : List ℕ) → HeadsFor (D.rules kind.now) self.old old holders
-            → HeadsTurned (D.rules kind.now) (at.0 ∷ holders) self.old old self.new new
-            (order_by_link append method (D.rules kind.now) old current.0 at.0 holders)) }
-        ensures steps { (holders : List ℕ)
-            → HeadsFor (D.rules kind.now) self.old (C.blocks cells.old) holders
-            → steps.new ≤ steps.old + length holders }
+        heads: Heads,
+    ) -> Dict
+        ensures { result ≡ dict_by method kind count current heads }
     {
-        match self {
-            Heads::Hash(hash) => hash.link(cells, kind, at),
-            Heads::Order(ord) => ord.link(cells, kind, at, steps),
-            Heads::Links(list) => put_linked(list, cells, append, method, current, at),
-        }
-    }
-
-    // The first holder whose object has a key. A search in a tree turns it.
-    pub(crate) fn find<C: Cells, D: DictDisc, L>(
-        &mut self,
-        cells: &mut C,
-        kind: &D,
-        key: &[u8],
-        steps: &mut Steps<L>,
-    ) -> Option<Addr>
-        requires { IsHeads (D.rules kind.now) self.old (C.blocks cells.old) }
-        ensures found { (holders : List ℕ)
-            → HeadsFor (D.rules kind.now) self.old (C.blocks cells.old) holders
-            → Finds (D.rules kind.now) (C.blocks cells.old) key.now holders result
-            steps.old steps.new }
-        ensures compares { (holders : List ℕ)
-            → HeadsFor (D.rules kind.now) self.old (C.blocks cells.old) holders
-            → steps.new ≤ steps.old
-            + heads_compares (D.rules kind.now) self.old (C.blocks cells.old) key.now holders }
-        ensures heads { ChangesIn C.blocks C.RestStays cells.old cells.new
-            (λ old new. (holders : List ℕ) → HeadsFor (D.rules kind.now) self.old old holders
-            → HeadsTurned (D.rules kind.now) holders self.old old self.new new holders) }
-    {
-        match self {
-            Heads::Hash(hash) => hash.find(cells, kind, key, steps),
-            Heads::Order(ord) => ord.find(cells, kind, key, steps),
-            Heads::Links(list) => list.find(cells, kind, key, steps),
-        }
-    }
-
-    // Takes a holder out.
-    pub(crate) fn unlink<C: Cells, D: DictDisc>(&mut self, cells: &mut C, kind: &D, at: Addr)
-        requires { HasHolder self.old (C.blocks cells.old) at.0 }
-        ensures { ChangesIn C.blocks C.RestStays cells.old cells.new
-            (λ old new. (holders : List ℕ) → HeadsFor (D.rules kind.now) self.old old holders
-            → HeadsTurned (D.rules kind.now) (at.0 ∷ holders) self.old old self.new new
-            (without at.0 holders)) }
-    {
-        match self {
-            Heads::Hash(hash) => hash.unlink(cells, kind, at),
-            Heads::Order(ord) => ord.unlink(cells, at),
-            Heads::Links(list) => list.unlink(cells, at),
-        }
-    }
-
-    // The first holder, or none where there are none.
-    pub(crate) fn first<C: Cells>(&self, cells: &C) -> Option<Addr>
-        requires { (rules : Rules) × IsHeads rules self.now (C.blocks cells.now) }
-        ensures { (rules : Rules) (holders : List ℕ)
-            → HeadsFor rules self.now (C.blocks cells.now) holders
-            → option_map number_of result ≡ first_in holders }
-    {
-        match self {
-            Heads::Hash(hash) => hash.first(),
-            Heads::Order(ord) => ord.first(cells),
-            Heads::Links(list) => list.first(),
-        }
-    }
-
-    // The last holder, or none where there are none.
-    pub(crate) fn last<C: Cells>(&self, cells: &C) -> Option<Addr>
-        requires { (rules : Rules) × IsHeads rules self.now (C.blocks cells.now) }
-        ensures { (rules : Rules) (holders : List ℕ)
-            → HeadsFor rules self.now (C.blocks cells.now) holders
-            → option_map number_of result ≡ last_in holders }
-    {
-        match self {
-            Heads::Hash(hash) => hash.last(),
-            Heads::Order(ord) => ord.last(cells),
-            Heads::Links(list) => list.last(),
-        }
-    }
-
-    // The holder behind one, or none behind the last.
-    pub(crate) fn next<C: Cells>(&self, cells: &C, at: Addr) -> Option<Addr>
-        requires { HasHolder self.now (C.blocks cells.now) at.0 }
-        ensures { (rules : Rules) (holders : List ℕ)
-            → HeadsFor rules self.now (C.blocks cells.now) holders
-            → option_map number_of result ≡ next_in at.0 holders }
-    {
-        match self {
-            Heads::Hash(hash) => hash.next(cells, at),
-            Heads::Order(ord) => ord.next(cells, at),
-            Heads::Links(list) => list.next(cells, at),
-        }
-    }
-
-    // The holder before one, or none before the first.
-    pub(crate) fn prev<C: Cells>(&self, cells: &C, at: Addr) -> Option<Addr>
-        requires { HasHolder self.now (C.blocks cells.now) at.0 }
-        ensures { (rules : Rules) (holders : List ℕ)
-            → HeadsFor rules self.now (C.blocks cells.now) holders
-            → option_map number_of result ≡ previous_in None at.0 holders }
-    {
-        match self {
-            Heads::Hash(hash) => hash.prev(cells, at),
-            Heads::Order(ord) => ord.prev(cells, at),
-            Heads::Links(list) => list.prev(cells, at),
-        }
-    }
-
-    // Their holders, of which there are so many, as a list.
-    pub(crate) fn into_list<C: Cells>(self, count: u64, cells: &mut C) -> DtList
-        requires { AreHeads self (C.blocks cells.old) count }
-        ensures { ChangesIn C.blocks C.RestStays cells.old cells.new
-            (λ old new. (rules : Rules) (holders : List ℕ) → HeadsFor rules self old holders
-            → Listed holders old result new) }
-    {
-        match self {
-            Heads::Hash(hash) => hash.into_list(cells),
-            Heads::Order(ord) => flatten(ord, count, cells),
-            Heads::Links(list) => list,
+        Dict {
+            method,
+            kind,
+            count,
+            current,
+            heads: Form::of(method, count, heads),
         }
     }
 }

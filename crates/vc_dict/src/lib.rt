@@ -7,6 +7,7 @@ mod dict;
 mod dicts;
 mod dropping;
 mod flat;
+mod form;
 mod forming;
 mod heads;
 mod matching;
@@ -20,6 +21,7 @@ mod weeded;
 
 pub use dict::{Dict, Dropped, after_dropped};
 pub use dicts::Dicts;
+pub use heads::Heads;
 pub use rows::{insert_rows, list_rows, order_rows, remove_rows, table_rows};
 pub use vc_base::DictMethod;
 pub use vc_paths::{Layers, Paths, ViewFault, first, last, next, prev, search, walk_next};

@@ -6,7 +6,7 @@ ghost use Rattle.vc_dtord.specs.Seeking.{SeeksLast, matches};
 ghost use Rattle.vc_dict.specs.Stands.{Became, IsMember, Stands, compares_by};
 
 use crate::Dict;
-use crate::heads::Heads;
+use crate::form::Form;
 use vc_base::{Addr, Cells, Steps};
 use vc_dtdisc::DictDisc;
 use vc_dtlist::DtList;
@@ -92,9 +92,9 @@ impl Dict {
     {
         let count = self.count;
         match &mut self.heads {
-            Heads::Hash(hash) => hash.last_like(cells, kind, at, steps),
-            Heads::Order(ord) => ord.last_like(cells, kind, at, steps),
-            Heads::Links(list) => last_in_list(list, count, cells, kind, at, steps),
+            Form::Hash(hash) => hash.last_like(cells, kind, at, steps),
+            Form::Order(ord) => ord.last_like(cells, kind, at, steps),
+            Form::Links(list) => last_in_list(list, count, cells, kind, at, steps),
         }
     }
 }

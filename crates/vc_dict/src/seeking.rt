@@ -5,7 +5,7 @@ ghost use Rattle.vc_dtord.specs.Seeking.{SeeksLast, is_below};
 ghost use Rattle.vc_dict.specs.Stands.{Became, IsDict, Stands};
 
 use crate::Dict;
-use crate::heads::Heads;
+use crate::form::Form;
 use vc_base::{Addr, Cells, Steps};
 use vc_dtdisc::DictDisc;
 use vc_dtlist::Sought;
@@ -33,7 +33,7 @@ impl Dict {
         ensures rest { C.RestStays cells.old cells.new }
     {
         match &mut self.heads {
-            Heads::Order(ord) => ord.at_least(cells, kind, key, steps),
+            Form::Order(ord) => ord.at_least(cells, kind, key, steps),
             _ => unreachable!(),
         }
     }
@@ -60,7 +60,7 @@ impl Dict {
         ensures rest { C.RestStays cells.old cells.new }
     {
         match &mut self.heads {
-            Heads::Order(ord) => ord.behind(cells, kind, key, steps),
+            Form::Order(ord) => ord.behind(cells, kind, key, steps),
             _ => unreachable!(),
         }
     }
@@ -87,7 +87,7 @@ impl Dict {
         ensures rest { C.RestStays cells.old cells.new }
     {
         match &mut self.heads {
-            Heads::Order(ord) => ord.before(cells, kind, key, steps),
+            Form::Order(ord) => ord.before(cells, kind, key, steps),
             _ => unreachable!(),
         }
     }

@@ -1,4 +1,4 @@
-use Rattle.vc_dict.proofs.heads.Heads.next.Goals as goal
+use Rattle.vc_dict.proofs.form.Form.next.Goals as goal
 
 pub returns-in-Hash : goal.returns-in-Hash
 returns-in-Hash g c = rw c.in-Hash.is c.next.ensures

@@ -3,7 +3,7 @@ use Rattle.vc_dthash.specs.Chained.{hash_at}
 use Rattle.vc_dthash.specs.Hashed.{HashFor}
 use Rattle.vc_dthash.proofs.FilterLemmas.{filter-shorter}
 use Rattle.vc_dict.specs.Stands.{HeadsFor}
-use Rattle.vc_dict.proofs.heads.Heads.find.Goals as goal
+use Rattle.vc_dict.proofs.form.Form.find.Goals as goal
 
 pub returns-in-Hash-clause-found : goal.returns-in-Hash-clause-found
 returns-in-Hash-clause-found g c = λ holders s.

@@ -2,9 +2,9 @@ use Rattle.vc_base.proofs.Common.{◌∷◌, sym, subst}
 use Rattle.vc_dtlist.specs.Linked.{StandsFor}
 use Rattle.vc_dict.specs.Changes.{order_by_link}
 use Rattle.vc_dict.specs.Stands.{HeadsFor, HeadsTurned}
-use Rattle.vc_dict.specs.declared.heads.Heads.TheVariants.{Links}
+use Rattle.vc_dict.specs.declared.form.Form.TheVariants.{Links}
 use Rattle.vc_dict.proofs.DictLemmas.{turned-list}
-use Rattle.vc_dict.proofs.heads.Heads.link.Goals as goal
+use Rattle.vc_dict.proofs.form.Form.link.Goals as goal
 
 pub returns-in-Links-clause-heads : goal.returns-in-Links-clause-heads
 returns-in-Links-clause-heads g c = record {

@@ -1,5 +1,5 @@
 use Rattle.vc_dtlist.proofs.KeptLemmas.{KeepsBut-none}
-use Rattle.vc_dict.proofs.heads.Heads.into_list.Goals as goal
+use Rattle.vc_dict.proofs.form.Form.into_list.Goals as goal
 
 pub into_list-requires : goal.into_list-requires
 into_list-requires g c = record { rules = c.requires.rules; is = record { holders = c.requires.holders; stands = rw c.in-Hash.is at c.requires.stands } }

@@ -1,4 +1,4 @@
-use Rattle.vc_dict.proofs.heads.Heads.first.Goals as goal
+use Rattle.vc_dict.proofs.form.Form.first.Goals as goal
 
 pub returns-in-Hash : goal.returns-in-Hash
 returns-in-Hash g c = rw c.in-Hash.is (λ rules. c.first.ensures rules (g.C.Cells.blocks c.args.cells.now))
