@@ -131,8 +131,7 @@ impl Extents {
         let mut added = seg;
         format(&mut added);
         let number = added.number();
-        self.index[number as usize] = self.segs.len() as u32 + 1;
-        self.segs.push_reserved(added);
+        self.adopt(added);
         Addr::new(number, 32)
     }
 

@@ -10,6 +10,7 @@ mod copied;
 mod edit;
 mod extents;
 mod lay;
+mod lent;
 mod next;
 mod read;
 
