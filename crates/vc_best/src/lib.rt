@@ -8,6 +8,7 @@ mod cell_rows;
 mod cells;
 mod compact;
 mod lend;
+mod over;
 mod release;
 mod resize;
 mod stat;
