@@ -18,3 +18,4 @@ pub mod Stat
 pub mod Parts
 pub mod Cells
 pub mod CellLaws
+pub mod OfBest

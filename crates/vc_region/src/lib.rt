@@ -6,6 +6,7 @@ mod audit;
 mod block;
 mod cells;
 mod free;
+mod of_best;
 mod region;
 mod resize;
 mod segments;
