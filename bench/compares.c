@@ -1,6 +1,7 @@
-/* Counts the compares of calls on an ordered bag, by a simulation of its tree: bench/compares.sh says of what. Each node is
-   a number, and stands in the tree in order of it; a compare is a node that a call reads on its way down. A link splays
-   the new leaf. A search splays the deepest node that it read, and then the one that it found. */
+/* Counts the compares of calls on an ordered bag, or the heads that calls on a best region read, by a simulation of its tree:
+   bench/compares.sh says of what. Each node is a number, and stands in the tree in order of it; a compare, or a head, is a
+   node that a call reads on its way down. A link splays the new leaf. A search splays the deepest node that it read, and
+   then the one that it found. An unlink splays the node, and then the last one on the left of it. */
 #include <stdint.h>
 #include <stdio.h>
 #include <stdlib.h>
@@ -46,7 +47,6 @@ static void count(void)
 static void link_number(uint32_t number)
 {
     uint32_t above = 0;
-    compares = 0;
     for (uint32_t at = root; at; at = kid[number > at][at]) {
         above = at;
         compares++;
@@ -56,14 +56,12 @@ static void link_number(uint32_t number)
     if (above)
         kid[number > above][above] = number;
     splay(number);
-    count();
 }
 
 /* reads on to the left of what is sought, so that the first of equal ones is found */
 static void find(uint32_t number)
 {
     uint32_t deepest = root, found = 0;
-    compares = 0;
     for (uint32_t at = root; at;) {
         int left = at >= number;
         deepest = at;
@@ -75,6 +73,55 @@ static void find(uint32_t number)
     splay(deepest);
     if (found)
         splay(found);
+}
+
+static void unlink_number(uint32_t number)
+{
+    uint32_t left, right, last;
+    splay(number);
+    left = kid[0][number];
+    right = kid[1][number];
+    root = left ? left : right;
+    if (root)
+        parent[root] = 0;
+    if (!left || !right)
+        return;
+    for (last = left; kid[1][last];)
+        last = kid[1][last];
+    splay(last);
+    kid[1][last] = right;
+    parent[right] = last;
+}
+
+/* a compare for each node that is read */
+static void link_call(uint32_t number)
+{
+    compares = 0;
+    link_number(number);
+    count();
+}
+
+static void find_call(uint32_t number)
+{
+    compares = 0;
+    find(number);
+    count();
+}
+
+/* a free of a block between two others reads the head of the gap that it becomes, and those on the way down to its place */
+static void free_call(uint32_t number)
+{
+    compares = 1;
+    link_number(number);
+    count();
+}
+
+/* an alloc that fills a gap reads those on the way down to the gap, and that one when it cuts it */
+static void alloc_call(uint32_t number)
+{
+    compares = 1;
+    find(number);
+    unlink_number(number);
     count();
 }
 
@@ -116,7 +163,7 @@ static uint32_t in_turn(const char *order, const uint32_t *mixed, uint32_t n, ui
     return !strcmp(order, "descending") ? n - j : !strcmp(order, "random") ? mixed[j] : j + 1;
 }
 
-static void row(const char *order, uint32_t n)
+static void row(int heads, const char *order, uint32_t n)
 {
     uint32_t *links = calloc(n, 4), *finds = calloc(n, 4), *left = calloc(n, 4), *depths = calloc(n, 4);
     int adverse = !strcmp(order, "deepest");
@@ -131,28 +178,36 @@ static void row(const char *order, uint32_t n)
     root = 0;
     sum = greatest = 0;
     for (uint32_t j = 0; j < n; j++)
-        link_number(in_turn(order, links, n, j));
-    uint64_t linked = greatest;
-    greatest = 0;
-    for (uint32_t j = 0; j < searches; j++)
-        find(adverse ? deepest(left, depths) : in_turn(order, finds, n, j));
+        (heads ? free_call : link_call)(in_turn(order, links, n, j));
+    uint64_t linked = greatest, found = 0, calls = n + (heads ? 2ull : 1ull) * searches;
+    for (uint32_t j = 0; j < searches; j++) {
+        uint32_t number = adverse ? deepest(left, depths) : in_turn(order, finds, n, j);
+        greatest = found;
+        (heads ? alloc_call : find_call)(number);
+        found = greatest;
+        greatest = linked;
+        if (heads)
+            free_call(number);
+        linked = greatest;
+    }
     while (n >> digits)
         digits++;
     printf("| %s | %u | %u | %llu | %llu | %llu | %llu |\n", order, n, searches, (unsigned long long)linked,
-           (unsigned long long)greatest, (unsigned long long)sum, (n + (unsigned long long)searches) * (30 * digits + 30));
+           (unsigned long long)found, (unsigned long long)sum, (unsigned long long)calls * (heads ? 240 * digits + 260 : 30 * digits + 30));
     free(links), free(finds), free(left), free(depths), free(kid[0]), free(kid[1]), free(parent);
 }
 
 int main(int argc, char **argv)
 {
-    for (int i = 1; i < argc; i++) {
+    int heads = argc > 1 && !strcmp(argv[1], "heads");
+    for (int i = 1 + heads; i < argc; i++) {
         uint32_t n = strtoul(argv[i], 0, 10);
         if (!n)
             return 2;
-        row("ascending", n);
-        row("descending", n);
-        row("random", n);
-        row("deepest", n);
+        row(heads, "ascending", n);
+        row(heads, "descending", n);
+        row(heads, "random", n);
+        row(heads, "deepest", n);
     }
     return 0;
 }
