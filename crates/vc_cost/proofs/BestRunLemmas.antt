@@ -25,7 +25,7 @@ use Rattle.vc_seg.specs.declared.fault.RegionFault.TheVariants as code
 use Rattle.vc_cost.specs.declared.best_call.BestCall.{BestCall}
 use Rattle.vc_cost.specs.declared.best_call.BestCall.TheVariants.{Alloc, Resize, Free, Clear, Compact}
 use Rattle.vc_cost.specs.BestCalls.{AreLive, IsDiscLeft, IsRefusedAt, IsRefusedBy, IsStoppedAt, Live, after_best, after_bests, best_weight, bests_made, greatest_gaps}
-use Rattle.vc_cost.specs.BestCosts.{IsBestMade, IsBestRefused, live_in}
+use Rattle.vc_cost.specs.BestCosts.{IsBestMade, IsBestRefused, IsRunMade, IsRunStopped, live_in}
 use Rattle.vc_cost.proofs.FaultLemmas.{alloc-few}
 use Rattle.vc_cost.proofs.LiveLemmas.{live-none}
 use Rattle.vc_cost.proofs.MadeLemmas.{size-names}
@@ -180,17 +180,31 @@ none_stopped terms items b none = record {
 pub none_left : (d : Discipline) (segs : List (ℕ × ℕ)) → IsDiscLeft code.OutOfMemory d d segs segs
 none_left d segs = record { kept = Kept-same d; rose = λ e. absurd (cc); out = λ rest e. e }
 
+-- the run that ends so
+pub run_unstarted : {I : Type 0} {V : I → Type 0} (meaning : (x : I) × V x → Discipline) (items : List BestCall) (b : Best I V) → segments_in b ≡ [] → IsRunStopped meaning items b b 0 code.OutOfMemory
+run_unstarted meaning items b none = record { stopped = none_stopped (disc_in meaning b).terms items b none; disc = none_left (disc_in meaning b) (segments_in b) }
+
+pub run_stopped : {I : Type 0} {V : I → Type 0} (meaning : (x : I) × V x → Discipline) (items : List BestCall) (k : ℕ) (first mid new : Best I V) (live after : List Addr) (greatest start steps : ℕ) (call : BestCall) (why : RegionFault) → k < length items → call ≡ get_or items k Compact
+    → AreBestsMade meaning (take k items) first mid live greatest start steps → IsBestRefused meaning call mid new live why → IsRunStopped meaning items first new k why
+run_stopped meaning items k first mid new live after greatest start steps call why within own h stop = record {
+  stopped = bests_stopped meaning items k first mid new live greatest start steps call why within own h stop;
+  disc = bests_left meaning (take k items) first mid new live after greatest greatest start steps steps call h why stop;
+}
+
 -- where all were made
 module _ {I : Type 0} {V : I → Type 0} (meaning : (x : I) × V x → Discipline) (items calls : List BestCall) (i : ℕ) (first now : Best I V) (live : List Addr) (greatest start steps : ℕ) (same : items ≡ calls) (end : length items ≤ i)
     (h : AreBestsMade meaning (take i items) first now live greatest start steps) where
   pub bests_all : AreBestsMade meaning calls first now live greatest start steps
   bests_all = subst (λ z. AreBestsMade meaning z first now live greatest start steps) (take_all i items end ∙ same) h
 
-  pub all_cost : steps ≤ start + bests_made (disc_in meaning first).terms calls (live_in first []) * (240 * binary_digits greatest + 260)
+  all_cost : steps ≤ start + bests_made (disc_in meaning first).terms calls (live_in first []) * (240 * binary_digits greatest + 260)
   all_cost =
       let w = tree-of now.extents.segs.items now.extents.index.items now.root.0 now.extents.kept now.gaps in
       let c = bests_all.cost w.tree.tree w.tree.is_tree in
       omega (arith, c)
+
+  pub run_made : IsRunMade meaning calls first now start steps greatest
+  run_made = record { layout = ap (λ (s : Live). s.layout) bests_all.leaves; most = bests_all.most; disc = bests_all.disc; cost = all_cost }
 
 -- one more of a list of them was made
 pub bests_step : {I : Type 0} {V : I → Type 0} (meaning : (x : I) × V x → Discipline) (items : List BestCall) (i : ℕ) (first mid new : Best I V) (live after : List Addr) (greatest greatest' start steps last : ℕ) (call : BestCall)

@@ -1,9 +1,7 @@
-ghost use Rattle.std.specs.Prelude.{◌≡◌, ◌+◌, ◌*◌, ◌≤◌, [], All, IfErr, IfOk, OnOk};
-ghost use Rattle.vc_base.specs.Prelude.{TookBack};
-ghost use Rattle.vc_best.specs.Parts.{disc_in, layout_of, segments_in};
-ghost use Rattle.vc_splay.specs.Rank.{binary_digits};
-ghost use Rattle.vc_cost.specs.BestCalls.{HasSize, IsDiscLeft, IsStoppedAt, after_bests, bests_made, greatest_gaps};
-ghost use Rattle.vc_cost.specs.BestCosts.{live_in};
+ghost use Rattle.std.specs.Prelude.{◌≡◌, [], All, IfErr, IfOk};
+ghost use Rattle.vc_best.specs.Parts.{segments_in};
+ghost use Rattle.vc_cost.specs.BestCalls.{HasSize};
+ghost use Rattle.vc_cost.specs.BestCosts.{IsRunMade, IsRunStopped};
 
 use crate::BestCalls;
 use crate::best_making::make_best;
@@ -29,21 +27,9 @@ pub fn run_best<L>(
     requires empty { segments_in best.old ≡ [] }
     requires sizes { All HasSize calls.now }
 
-    ensures layout { OnOk result (layout_of best.new
-        ≡ (after_bests (disc_in state best.old).terms calls.now (live_in best.old [])).layout) }
-    ensures greatest { IfOk result (λ greatest. greatest
-        ≡ greatest_gaps (disc_in state best.old).terms calls.now (live_in best.old [])) }
-    ensures disc { OnOk result (TookBack (disc_in state best.old) (disc_in state best.new)
-        (segments_in best.old) (segments_in best.new)) }
-    ensures cost { IfOk result (λ greatest. steps.new ≤ steps.old
-        + bests_made (disc_in state best.old).terms calls.now (live_in best.old [])
-        * (240 * binary_digits greatest + 260)) }
-
-    // The calls before the refused one were made.
-    ensures stopped { IfErr result (λ e. IsStoppedAt (disc_in state best.old).terms calls.now
-        (live_in best.old []) e.0 e.1 (layout_of best.new)) }
-    ensures stopped_disc { IfErr result (λ e. IsDiscLeft e.1 (disc_in state best.old)
-        (disc_in state best.new) (segments_in best.old) (segments_in best.new)) }
+    ensures made { IfOk result (λ greatest. IsRunMade state calls.now best.old best.new steps.old
+        steps.new greatest) }
+    ensures stopped { IfErr result (λ e. IsRunStopped state calls.now best.old best.new e.0 e.1) }
 {
     let mut live = Vec::new(alloc);
     if live.reserve(calls.as_slice().len()).is_err() {

@@ -2,7 +2,7 @@ use Rattle.vc_base.proofs.Common.{◌≡◌, length, max, false, get_or_default,
 use Rattle.vc_cost.specs.declared.best_call.BestCall.TheVariants.{Alloc, Compact}
 use Rattle.std.specs.Result.{is_err}
 use Rattle.vc_seg.specs.declared.stat.Stat.{Stat}
-use Rattle.vc_cost.proofs.BestRunLemmas.{all_cost, bests_first, bests_lent, bests_step, ok-holds}
+use Rattle.vc_cost.proofs.BestRunLemmas.{bests_first, bests_lent, bests_step, ok-holds, run_made}
 use Rattle.vc_cost.proofs.best_running.run_best.Goals as goal
 
 -- src/best_running.rt:54:5
@@ -38,5 +38,5 @@ loop-call-preserved g c =
     }
 
 -- src/best_running.rt:23:1
-pub returns-clause-cost : goal.returns-clause-cost
-returns-clause-cost g c = all_cost _ _ _ _ _ _ _ _ _ _ c.as_slice-call-items.ensures c.loop-call-test.false c.loop-call.invariant.made
+pub returns-clause-made : goal.returns-clause-made
+returns-clause-made g c = run_made _ _ _ _ _ _ _ _ _ _ c.as_slice-call-items.ensures c.loop-call-test.false c.loop-call.invariant.made
