@@ -26,5 +26,5 @@ pub use key::Key;
 pub use live_rows::{best_call_rows, best_rows};
 pub use ord_call::OrdCall;
 pub use ord_calls::OrdCalls;
-pub use rows::{bound_rows, call_rows, list_rows};
+pub use rows::{bound_rows, call_rows, list_rows, tree_rows};
 pub use running::run_ord;

@@ -2,7 +2,8 @@ ghost use Rattle.std.specs.Prelude.{◌≡◌, ℕ, ◌+◌, ◌*◌, [], ◌∷
 ghost use Rattle.vc_base.specs.declared.addr.Addr.{Addr};
 ghost use Rattle.vc_base.specs.Cells.{Blocks};
 ghost use Rattle.vc_dtdisc.specs.Rules.{Rules};
-ghost use Rattle.vc_splay.specs.Rank.{binary_digits};
+ghost use Rattle.vc_splay.specs.Rank.{binary_digits, rank};
+ghost use Rattle.vc_splay.specs.Tree.{Leaf, Node};
 ghost use Rattle.vc_cost.specs.Calls.{after_calls, calls_made, found_count, greatest_count, linked, weight, without_found};
 ghost use Rattle.vc_cost.specs.declared.ord_call.OrdCall.TheVariants.{Link, Take, Find, AtLeast};
 
@@ -11,6 +12,12 @@ ghost use Rattle.vc_cost.specs.declared.ord_call.OrdCall.TheVariants.{Link, Take
 pub fn bound_rows()
     ensures many { 200000 * (30 * binary_digits 100000 + 30) ≡ 108000000 }
     ensures none { 1 * (30 * binary_digits 0 + 30) ≡ 30 }
+{}
+
+/// How unbalanced trees of seven nodes are: one below the other, and in three full rows.
+pub fn tree_rows()
+    ensures path { rank (Node (Node (Node (Node (Node (Node (Node Leaf 1 Leaf) 2 Leaf) 3 Leaf) 4 Leaf) 5 Leaf) 6 Leaf) 7 Leaf) ≡ 10 }
+    ensures full { rank (Node (Node (Node Leaf 1 Leaf) 2 (Node Leaf 3 Leaf)) 4 (Node (Node Leaf 5 Leaf) 6 (Node Leaf 7 Leaf))) ≡ 4 }
 {}
 
 /// A holder that is linked into none is the only one; a search changes nothing, but the count then is one of those of
