@@ -2,6 +2,7 @@ ghost use Rattle.std.specs.Prelude.{◌≡◌, ℕ, ◌+◌, ◌≤◌, ◌<◌,
 ghost use Rattle.vc_base.specs.Holders.{AreDistinct};
 ghost use Rattle.vc_cost.specs.Calls.{linked};
 
+mod best;
 mod many;
 
 use crate::{Key, OrdCall, OrdCalls, bound, run_ord};
