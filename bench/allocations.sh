@@ -5,7 +5,7 @@ set -eu
 (cd crates/vc_region_tests && rt test > /dev/null)
 dir=$(mktemp -d)
 trap 'rm -rf "$dir"' EXIT
-cc -shared -fPIC -O1 -o "$dir/fail.so" bench/fail_malloc.c -ldl
+cc -shared -fPIC -O1 -o "$dir/fail.so" bench/fail_calls.c -ldl
 
 count() {
     FAIL_AT=0 LD_PRELOAD="$dir/fail.so" REPORT="$dir/report" \

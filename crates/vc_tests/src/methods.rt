@@ -1,4 +1,4 @@
-use crate::given::{Talk, ample, budgets, fine, put_number, run};
+use crate::given::{ample, budgets, fine, run};
 use std::alloc::{AllocError, Global};
 use std::process::Abort;
 use std::test::Fail;
@@ -96,56 +96,6 @@ fn methods(rt: HostRuntime) -> Result<(), Fail> {
         for piece in [7, 4096] {
             is_run(&rt, rt.alloc(), row, piece)?;
         }
-    }
-    Ok(())
-}
-
-fn put_signed(text: &mut Vec<u8>, number: i32) -> Result<(), AllocError> {
-    if number < 0 {
-        text.push(b'-')?;
-    }
-    put_number(text, number.unsigned_abs())
-}
-
-// A block is put, poked at one offset, and freed. The check finds that offset or nothing.
-fn poked(talk: &mut Talk, off: i32, byte: u32, is_found: bool) -> Result<(), AllocError> {
-    talk.say(b"alloc r x 100\npoke r x ", b"x 1:64\nx poked\ncheck ")?;
-    put_signed(&mut talk.script, off)?;
-    talk.script.push(b' ')?;
-    put_number(&mut talk.script, byte)?;
-    if is_found {
-        talk.say(b"", b"1 x:")?;
-        put_signed(&mut talk.out, off)?;
-    } else {
-        talk.say(b"", b"0")?;
-    }
-    talk.say(b"\ncheck r\nfree r x\n", b"\nx freed\n")
-}
-
-// Pokes that byte at each offset of a block and of its guards.
-fn pokes(alloc: Global, byte: u32) -> Result<Talk, AllocError> {
-    let mut talk = Talk::new(alloc);
-    talk.say(b"open r debug 1\n", b"r open\n")?;
-    for off in -32i32..116 {
-        poked(&mut talk, off, byte, byte == 7 && !(0..100).contains(&off))?;
-    }
-    Ok(talk)
-}
-
-// A script and its replies, with room for one segment.
-fn is_said_within(rt: &impl Abort, alloc: Global, talk: &Talk) -> Result<(), AllocError> {
-    let mut shelf = budgets(rt, alloc, 1, 4096)?;
-    let given = ample(talk.script.as_slice(), 4096);
-    run(rt, alloc, &[], &mut shelf, given, fine(talk.out.as_slice()))
-}
-
-// Every byte of the guards and of a block of 100 bytes is poked in turn: with another byte those of the guards are
-// found, and with the byte of guards none.
-#[test]
-fn damage(rt: HostRuntime) -> Result<(), Fail> {
-    for byte in [7u32, 165] {
-        let talk = pokes(rt.alloc(), byte)?;
-        is_said_within(&rt, rt.alloc(), &talk)?;
     }
     Ok(())
 }

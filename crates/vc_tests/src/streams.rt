@@ -104,42 +104,6 @@ fn just_room(rt: HostRuntime) -> Result<(), Fail> {
     Ok(())
 }
 
-// The script comes in 28 pieces of one byte, 14 a line, and its end is the read behind them. A read that fails leaves
-// the replies of the lines that were wholly read.
-#[test]
-fn each_read(rt: HostRuntime) -> Result<(), Fail> {
-    let alloc = rt.alloc();
-    let mut shelf = heap(&rt, alloc)?;
-    for (first, behind, out) in [
-        (1, 15, b"".as_slice()),
-        (15, 29, b"r open\n".as_slice()),
-        (29, 30, REPLIES),
-    ] {
-        for call in first..behind {
-            let fails = [call];
-            let given = ample(ROW, 1).failing_reads(&fails);
-            let expected = ends(Status::Read, out, READ_FAILED);
-            run(&rt, alloc, &[], &mut shelf, given, expected)?;
-        }
-    }
-    Ok(())
-}
-
-// With less room a front of the text is left.
-#[test]
-fn each_room(rt: HostRuntime) -> Result<(), Fail> {
-    let alloc = rt.alloc();
-    let mut shelf = heap(&rt, alloc)?;
-    for room in 0..14 {
-        for piece in [1, 6, 7, 8, 4096] {
-            let given = ample(ROW, piece).with_room(room);
-            let expected = ends(Status::Write, front(&rt, REPLIES, room), WRITE_FAILED);
-            run(&rt, alloc, &[], &mut shelf, given, expected)?;
-        }
-    }
-    Ok(())
-}
-
 // 2,000 lines in 4,096 bytes, 1,739 of them empty, whose replies have 1,050 bytes, and 44 other lines, whose replies
 // have 176.
 fn many_lines(talk: &mut Talk, blank: &[u8]) -> Result<(), AllocError> {
