@@ -1,7 +1,6 @@
 -- What was written of the script of a source where a run of it was broken off.
-use Rattle.vc_base.proofs.Common.{◌≡◌, ℕ, ◌^◌, ◌<◌, ◌≤◌, Bool, List, [], ◌++◌, length, take, drop, IfSome, IfErr, OnErr, Some, None, Ok, Err, Option, Result, sym, refl, ap, ◌∙◌, subst, inl, inr, append-nil, arith, take-append-drop, Rose}
+use Rattle.vc_base.proofs.Common.{◌≡◌, ℕ, ◌≤◌, Bool, List, [], ◌++◌, length, take, drop, IfSome, Some, None, Ok, Err, Option, sym, refl, ap, ◌∙◌, subst, inl, inr, append-nil, arith, take-append-drop, Rose}
 use Rattle.vc_counts.specs.declared.counts.Counts.{Counts}
-use Rattle.vc_script.specs.declared.command.Command.{Command}
 use Rattle.vc_script.specs.declared.line_fault.LineFault.{LineFault}
 use Rattle.vc_script.specs.declared.tool.Tool.{Tool}
 use Rattle.vc_script.specs.Judged.{judged_lines}
@@ -10,8 +9,7 @@ use Rattle.vc_steps.specs.Moment.{Moment, moment_at_end, over_sink}
 use Rattle.vc_session.specs.Cut.{Cuts, IsCut, NotAhead}
 use Rattle.vc_session.specs.Engine.{RunsLines, RunsScript}
 use Rattle.vc_session.specs.Far.{WrotePart}
-use Rattle.vc_session.specs.Progress.{Progress}
-use Rattle.vc_session.specs.Replay.{IsCutShort, Told}
+use Rattle.vc_session.specs.Replay.{IsCutShort}
 use Rattle.vc_session.specs.Run.{first_bad, script}
 use Rattle.vc_session.specs.SoFar.{AtEnd}
 use Rattle.vc_session.specs.Streams.{Flows}

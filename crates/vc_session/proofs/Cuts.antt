@@ -1,7 +1,7 @@
 -- What was written of a run that was broken off is a cut.
 use Rattle.vc_base.proofs.Common.{◌≡◌, ℕ, ◌+◌, ◌^◌, ◌<◌, ◌≤◌, Bool, true, false, cond, eqb, ◌==◌, List, [], ◌∷◌, ◌++◌, Some, None, Option, count_by, sym, refl, ap, ap₂, ◌∙◌, subst, inl, inr, append_assoc, append-nil, arith, eq-eqb, nat_tests, map-append, AllByRecursion}
 use Rattle.std.proofs.lemmas.Grind.{flat_map-append}
-use Rattle.vc_base.proofs.Quantifiers.{all-push}
+use Rattle.vc_base.proofs.Quantifiers.{all-append, all-push}
 use Rattle.vc_script.specs.declared.command.Command.{Command}
 use Rattle.vc_counts.specs.declared.counts.Counts.{Counts}
 use Rattle.vc_script.specs.ProperReply.{IsProperReply}
@@ -16,13 +16,14 @@ use Rattle.vc_session.specs.Cut.{IsCut, IsFurther, RoseAsRefused, with_further}
 use Rattle.vc_session.specs.Far.{AreLines, RanFar, WrotePart}
 use Rattle.vc_session.specs.Progress.{Progress}
 use Rattle.vc_session.specs.QuietText.{body_by, line_by, needs_by_text}
-use Rattle.vc_session.specs.Replay.{IsRunOf, Told}
+use Rattle.vc_session.specs.Replay.{FaultsStayed, IsRunOf, Told}
 use Rattle.vc_session.specs.Run.{Ran, lines_of, nothing_ran, run_from}
 use Rattle.vc_session.specs.Text.{replies_text}
 use Rattle.vc_session.proofs.FirstRuns.{FirstRan, LineParts, first-ran, line-parts, replies-append}
 use Rattle.vc_session.proofs.FrontNeeds.{ShowsFront, all-split, front-shows, rising-parts}
 use Rattle.vc_session.proofs.Fronts.{EndsAmong, IsPartOf, ends-among, none-front}
-use Rattle.vc_session.proofs.Progress.{shows, told-none}
+use Rattle.vc_session.proofs.NoneRefused.{run-none, shown-none, stayed-none, stayed-same}
+use Rattle.vc_session.proofs.Progress.{none-needed, shows, told-none}
 use Rattle.vc_session.proofs.ShownNeeds.{NoLine, numbers_of}
 
 -- a text that is said of a run begins with what is written of its replies
@@ -153,6 +154,17 @@ module _ {quiet : Bool} {start now : Moment} {text : List ℕ} {done : List (ℕ
   first : FirstRan start.state parts.first needs ends.whole f.ran.refusals
   first = first-ran f rising_done parts.first parts.second ends.whole ends.others parts.split ends.split parts.lines_first needs shown_needs.shows
 
+  first_rose : RoseAsRefused (run_from start.state parts.first needs).refusals start now
+  first_rose = λ place. rose-fewer _ _ _ _ (first.refused place) (f.rose place)
+
+  -- where no fault was counted, the text shows no need
+  none-shown : FaultsStayed start now → AllByRecursion (λ n. need_at needs n ≡ NoNeed) (lines_of (done ++ rest))
+  none-shown stayed =
+      let none = stayed-none (run_from start.state parts.first needs).refusals start now first_rose stayed in
+      let replied = subst (AllByRecursion (λ r. need_shown r.1 ≡ NoNeed)) first.replies (run-none start.state parts.first needs none) in
+      subst (AllByRecursion (λ n. need_at needs n ≡ NoNeed)) (sym all_lines)
+      (all-append (λ n. need_at needs n ≡ NoNeed) (numbers_of ends.whole) behind_lines (shown-none needs ends.whole shown_needs.shows replied) shown_needs.none)
+
   -- a run that went so far was cut where the text ends
   pub cut-of : (after : Option (List ℕ)) → Told start.written after text → IsCut quiet said start (over_sink now after) (done ++ rest)
   cut-of after told = record {
@@ -167,7 +179,8 @@ module _ {quiet : Bool} {start now : Moment} {text : List ℕ} {done : List (ℕ
     split = ap (λ cs. cs ++ rest) parts.split ∙ append_assoc parts.first parts.second rest;
     none =
         subst (AllByRecursion (λ n. need_at needs n ≡ NoNeed)) (sym (map-append (λ (c : ℕ × Command). c.0) parts.second rest ∙ ap (λ ns. ns ++ lines_of rest) parts.lines_second)) shown_needs.none;
-    rose = λ place. rose-fewer _ _ _ _ (first.refused place) (f.rose place);
+    rose = first_rose;
+    no_need = none-shown;
   }
 
 -- whatever was refused, no less was counted at any place
@@ -240,13 +253,15 @@ cut-run {quiet} {said} {before} {after} {commands} r = record {
   split = sym (append-nil commands);
   none = tt;
   rose = λ place. (r.settles.faults place).rose;
+  no_need = r.no_need;
 }
 
 -- a run at its last command, with a front of what is written behind its replies
 pub cut-tail : {quiet : Bool} {start now : Moment} {counts : Counts} {text : List ℕ} {count : ℕ} {done : List (ℕ × Command)} (p : Progress quiet start now counts text count done) (said : Ran → List ℕ) (tail front behind : List ℕ) (after : Option (List ℕ)) → count < 2 ^ 64 → (quiet ≡ true → (n : ℕ) → n < 2 ^ 64 → NoLine n (ended_lines tail)) → said p.ran ≡ replies_text quiet p.ran ++ tail → tail ≡ front ++ behind → Told start.written after (text ++ front) → IsCut quiet said start (over_sink now after) done
 cut-tail {quiet} {start} {now} {text = text} {done = done} p said tail front behind after few none says is told =
     let needs : List (ℕ × Need) = needs_by_text quiet (lines_of done) (text ++ front) in
-    let ran : run_from start.state done needs ≡ p.ran = p.run needs (shows p front few (λ quiet n below. none-front n front behind (subst (λ xs. NoLine n (ended_lines xs)) is (none quiet n below)))) in
+    let at_lines : ShowsNeeds needs p.ran.replies = shows p front few (λ quiet n below. none-front n front behind (subst (λ xs. NoLine n (ended_lines xs)) is (none quiet n below))) in
+    let ran : run_from start.state done needs ≡ p.ran = p.run needs at_lines in
     record {
       written = text ++ front;
       behind = behind;
@@ -259,6 +274,7 @@ cut-tail {quiet} {start} {now} {text = text} {done = done} p said tail front beh
       split = sym (append-nil done);
       none = tt;
       rose = subst (λ r. RoseAsRefused r.refusals start now) (sym ran) (rose-settles start now p.settles);
+      no_need = none-needed p needs at_lines;
     }
 
 -- nothing was run and nothing written
@@ -286,4 +302,5 @@ cut-same {quiet} {said} {before} {now} after {commands} written accounts c = rec
   split = c.split;
   none = c.none;
   rose = λ place. subst (λ shelf. RoseBy (count_by (λ p. p == place) (run_from before.state c.shown (needs_by_text quiet (lines_of commands) c.written)).refusals) (faults_of (at_number before.accounts place)) (faults_of (at_number shelf place))) (sym accounts) (c.rose place);
+  no_need = λ stayed. c.no_need (stayed-same before now after accounts stayed);
 }

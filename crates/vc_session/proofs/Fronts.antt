@@ -1,5 +1,5 @@
 -- Where a front of what is written of replies ends, and the lines of a front.
-use Rattle.vc_base.proofs.Common.{◌≡◌, ℕ, ◌<◌, ◌≤◌, ◌⊎◌, Bool, true, false, cond, ◌||◌, eqb, List, [], ◌∷◌, ◌++◌, length, decimal, sym, refl, ap, ap₂, ◌∙◌, subst, inl, inr, append_assoc, arith, length-append, and_from, and_parts, not-true, or_parts, list_any-append, bytes_eq, AllByRecursion, list_all}
+use Rattle.vc_base.proofs.Common.{◌≡◌, ℕ, ◌<◌, ◌≤◌, ◌⊎◌, Bool, true, false, cond, eqb, List, [], ◌∷◌, ◌++◌, length, decimal, sym, refl, ap, ap₂, ◌∙◌, subst, inl, inr, append_assoc, arith, length-append, and_from, and_parts, not-true, or_parts, list_any-append, bytes_eq, AllByRecursion, list_all}
 use Rattle.vc_script.specs.declared.reply.Reply.{Reply}
 use Rattle.vc_script.specs.ProperReply.{IsProperReply}
 use Rattle.vc_script.specs.Print.{line_of, printed}

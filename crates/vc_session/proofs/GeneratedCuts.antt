@@ -1,5 +1,5 @@
 -- What was written of generated commands where a run of them was broken off.
-use Rattle.vc_base.proofs.Common.{◌≡◌, ℕ, ◌+◌, ◌^◌, ◌<◌, ◌≤◌, true, List, [], ◌∷◌, ◌++◌, length, take, drop, IfSome, Some, None, Ok, Err, Option, Result, sym, refl, ap, ◌∙◌, subst, append-nil, arith, take-append-drop, length-append, Rose}
+use Rattle.vc_base.proofs.Common.{◌≡◌, ℕ, ◌+◌, ◌≤◌, true, List, [], ◌∷◌, ◌++◌, length, take, drop, IfSome, Some, None, Ok, Err, Option, Result, sym, refl, ap, ◌∙◌, subst, append-nil, arith, take-append-drop, Rose}
 use Rattle.vc_counts.specs.declared.counts.Counts.{Counts}
 use Rattle.vc_generate.specs.Generated.{commands_of_seed}
 use Rattle.vc_script.specs.declared.command.Command.{Command}
@@ -9,11 +9,11 @@ use Rattle.vc_steps.specs.Moment.{Moment, moment_at_end, over_sink}
 use Rattle.vc_session.specs.Cut.{Cuts, IsCut}
 use Rattle.vc_session.specs.Engine.{RunsGenerated}
 use Rattle.vc_session.specs.Far.{AreLines, WrotePart}
-use Rattle.vc_session.specs.Generating.{Generating, RanAll, RunsCommands}
+use Rattle.vc_session.specs.Generating.{Generating, RunsCommands}
 use Rattle.vc_session.specs.Progress.{Progress}
-use Rattle.vc_session.specs.Replay.{Told, generated_script, on_lines}
+use Rattle.vc_session.specs.Replay.{Told, on_lines}
 use Rattle.vc_session.specs.declared.engine.Stop.{Stop}
-use Rattle.vc_session.specs.declared.engine.Stop.TheVariants.{Read, Write, Memory}
+use Rattle.vc_session.specs.declared.engine.Stop.TheVariants.{Write, Memory}
 use Rattle.vc_session.specs.Text.{is_quiet, lines_text, tail_lines, text_of}
 use Rattle.vc_words.specs.declared.words.Words.{Words}
 use Rattle.vc_session.proofs.Behind.{tail-unnumbered, text-says}

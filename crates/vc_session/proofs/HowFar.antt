@@ -3,7 +3,7 @@ use Rattle.vc_base.proofs.Common.{◌≡◌, ℕ, ◌+◌, ◌<◌, ◌≤◌, B
 use Rattle.std.proofs.lemmas.List.{append_cancel_left}
 use Rattle.vc_script.specs.declared.command.Command.{Command}
 use Rattle.vc_counts.specs.declared.counts.Counts.{Counts}
-use Rattle.vc_steps.specs.Moment.{Moment, over_sink}
+use Rattle.vc_steps.specs.Moment.{Moment}
 use Rattle.vc_script.specs.declared.reply.Reply.{Reply}
 use Rattle.vc_script.specs.declared.tool.Tool.{Tool}
 use Rattle.vc_steps.specs.Account.{KeepsAccounts}

@@ -9,6 +9,7 @@ pub mod ProperDicts
 pub mod ProperSites
 pub mod ProperSteps
 pub mod ShownNeeds
+pub mod NoneRefused
 pub mod Progress
 pub mod ToolPromises
 pub mod RunMiddle

@@ -10,7 +10,7 @@ use Rattle.vc_script.specs.declared.reply.Reply.{Reply}
 use Rattle.vc_script.specs.ProperReply.{IsProperReply}
 use Rattle.vc_script.specs.Proper.{IsProperCommand}
 use Rattle.vc_script.specs.Lines.{ended_lines}
-use Rattle.vc_script.specs.Needs.{AreAscending, Need, ShowsNeeds, is_refusal, need_at, need_shown}
+use Rattle.vc_script.specs.Needs.{AreAscending, Need, NoNeed, ShowsNeeds, is_refusal, need_at, need_shown}
 use Rattle.vc_script.proofs.Texts.{ascending-push}
 use Rattle.vc_steps.specs.Account.{Settles}
 use Rattle.vc_steps.specs.Moment.{Moment, moment_at_end, over_sink}
@@ -24,9 +24,10 @@ use Rattle.vc_session.specs.Engine.{IsIdle, IsStep}
 use Rattle.vc_session.specs.Progress.{Progress}
 use Rattle.vc_session.specs.ProperState.{IsProperState}
 use Rattle.vc_session.specs.QuietText.{body_by, line_by, needs_by_text}
-use Rattle.vc_session.specs.Replay.{IsRunOf, Told, all_told, run_by}
+use Rattle.vc_session.specs.Replay.{FaultsStayed, IsRunOf, Told, all_told, run_by}
 use Rattle.vc_session.specs.Run.{Ran, lines_of, nothing_ran, run_from}
 use Rattle.vc_session.specs.Text.{replies_text, counts_of}
+use Rattle.vc_session.proofs.NoneRefused.{run-none, shown-none, stayed-none}
 use Rattle.vc_session.proofs.ProperSteps.{proper-step}
 use Rattle.vc_session.proofs.Runs.{one_more, run-push, step_after}
 use Rattle.vc_session.proofs.ShownNeeds.{NoLine, shows-needs}
@@ -232,6 +233,24 @@ module _ {quiet : Bool} {start now : Moment} {counts : Counts} {text : List ℕ}
       (subst (λ ns. ShowsNeeds (needs_by_text quiet ns (replies_text quiet p.ran ++ tail)) p.ran.replies) (sym p.lines)
       (shows-needs quiet p.ran.replies tail (few_lines few) (subst AreAscending p.lines p.rising) p.proper none))
 
+  -- where no fault was counted no reply shows a need
+  module _ (needs : List (ℕ × Need)) (shows : ShowsNeeds needs p.ran.replies) (stayed : FaultsStayed start now) where
+    replied-none : AllByRecursion (λ r. need_shown r.1 ≡ NoNeed) p.ran.replies
+    replied-none =
+        let ran = p.run needs shows in
+        let none : (run_from start.state done needs).refusals ≡ [] = ap (λ r. r.refusals) ran ∙ stayed-none p.ran.refusals start now (λ place. (p.settles.faults place).rose) stayed in
+        subst (λ r. AllByRecursion (λ x. need_shown x.1 ≡ NoNeed) r.replies) ran (run-none start.state done needs none)
+
+    -- needs that show the replies show none at their lines
+    pub none-needed : AllByRecursion (λ n. need_at needs n ≡ NoNeed) (lines_of done)
+    none-needed =
+        subst (AllByRecursion (λ n. need_at needs n ≡ NoNeed)) (sym p.lines) (shown-none needs p.ran.replies shows replied-none)
+
+    -- and the run is the one without a need
+    none-refused : run_from start.state done [] ≡ p.ran
+    none-refused =
+        p.run [] (all-weaken (λ r. need_shown r.1 ≡ NoNeed) (λ r. need_at [] r.0 ≡ need_shown r.1) p.ran.replies (λ r none. sym none) replied-none)
+
   pub progress-end : (said : Ran → List ℕ) (tail : List ℕ) (after : Option (List ℕ)) → count < 2 ^ 64 → (quiet ≡ true → (n : ℕ) → n < 2 ^ 64 → NoLine n (ended_lines tail)) → said p.ran ≡ replies_text quiet p.ran ++ tail → Told start.written after (text ++ tail) → IsRunOf quiet said start (moment_at_end (over_sink now after)) done
   progress-end said tail after few none says told =
       let ran : run_by quiet start done (text ++ tail) ≡ p.ran = p.run (needs_by_text quiet (lines_of done) (text ++ tail)) (shows tail few none) in
@@ -240,6 +259,10 @@ module _ {quiet : Bool} {start now : Moment} {counts : Counts} {text : List ℕ}
         text = ap (λ t. t ++ tail) p.told ∙ (sym says ∙ ap said (sym ran));
         told = told;
         settles = subst (λ e. Settles start.accounts now.accounts e.refusals) (sym ran) p.settles;
+        no_need = none-needed (needs_by_text quiet (lines_of done) (text ++ tail)) (shows tail few none);
+        unrefused = λ stayed.
+            ap (λ t. t ++ tail) p.told
+            ∙ (sym says ∙ ap said (sym (none-refused (needs_by_text quiet (lines_of done) (text ++ tail)) (shows tail few none) stayed)));
         gone =
             ap (λ g. tell (ended_told now.state) g) p.gone
             ∙ (sym (tell-append p.ran.told (ended_told now.state) start.gone)

@@ -20,6 +20,7 @@ use Rattle.vc_session.specs.Run.{Ran, first_bad, script}
 use Rattle.vc_script.specs.Judged.{judged_lines}
 use Rattle.vc_session.specs.Cut.{IsCut}
 use Rattle.vc_session.proofs.Cuts.{cut-same}
+use Rattle.vc_session.proofs.NoneRefused.{stayed-same}
 use Rattle.vc_session.specs.Headline.{Headline}
 use Rattle.vc_session.specs.declared.status.Status.{Status}
 use Rattle.vc_session.specs.Streams.{Flows, Streams}
@@ -45,6 +46,8 @@ module _ {before now after : Moment} (rests : Rests now after) where
         text = r.text;
         told = subst (λ w. Told before.written w r.written) (sym rests.written) r.told;
         settles = subst (λ s. Settles before.accounts s (run_by quiet before commands r.written).refusals) (sym rests.accounts) r.settles;
+        no_need = λ stayed. r.no_need (stayed-same before now after rests.accounts stayed);
+        unrefused = λ stayed. r.unrefused (stayed-same before now after rests.accounts stayed);
         gone = rests.gone ∙ r.gone;
       }
 

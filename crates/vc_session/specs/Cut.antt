@@ -11,7 +11,7 @@ use Rattle.vc_script.specs.declared.tool.Tool.{Tool}
 use Rattle.vc_script.specs.Judged.{judged_lines}
 use Rattle.vc_script.specs.Lines.{ended_lines}
 use Rattle.vc_generate.specs.Generated.{commands_of_seed}
-use Rattle.vc_session.specs.Replay.{Told, generated_script}
+use Rattle.vc_session.specs.Replay.{FaultsStayed, ShowsNone, Told, generated_script}
 use Rattle.vc_session.specs.Run.{Ran, commands_in, first_bad, lines_of, run_from, script, wholly_read}
 use Rattle.vc_session.specs.Text.{good_lines, is_quiet, text_of}
 use Rattle.vc_words.specs.declared.words.Words.{Words}
@@ -47,6 +47,8 @@ pub record IsCut (quiet : Bool) (said : Ran → List ℕ) (before after : Moment
   pub none : AllByRecursion (λ n. need_at (needs_by_text quiet (lines_of commands) written) n ≡ NoNeed) (lines_of others)
   -- and each refusal of these was counted
   pub rose : RoseAsRefused (run_from before.state shown (needs_by_text quiet (lines_of commands) written)).refusals before after
+  -- where no fault was counted, it shows no need
+  pub no_need : FaultsStayed before after → ShowsNone quiet (lines_of commands) written
 
 -- at most 4,096 bytes were taken behind a front whose whole lines have at most so many commands
 pub record ReadsNoFurther (tool : Tool) (input : List ℕ) (left : Option (List ℕ)) (most : ℕ) : Type 0 where

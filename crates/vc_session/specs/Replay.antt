@@ -7,11 +7,14 @@ use Rattle.vc_script.specs.declared.line_fault.LineFault.{LineFault}
 use Rattle.vc_script.specs.declared.line_fault.LineFault.TheVariants.{UnknownCommand, WordCount, BadName, BadNumber, BadAddress, BadBytes, UnknownMethod, LineTooLong, TooManyLines}
 use Rattle.vc_script.specs.declared.tool.Tool.{Tool}
 use Rattle.vc_script.specs.declared.tool.Tool.TheVariants.{Vmreplay, Dtrun}
-use Rattle.vc_steps.specs.Account.{Settles}
+use Rattle.vc_model.specs.Numbered.{at_number}
+use Rattle.vc_script.specs.Needs.{NoNeed, need_at}
+use Rattle.vc_steps.specs.Account.{Settles, faults_of}
 use Rattle.vc_steps.specs.Moment.{Moment}
 use Rattle.vc_steps.specs.Told.{ended_told, tell}
 use Rattle.vc_script.specs.Judged.{judged_lines}
 use Rattle.vc_generate.specs.Generated.{commands_of_seed}
+use Rattle.vc_session.specs.Completes.{Stayed}
 use Rattle.vc_session.specs.QuietText.{needs_by_text}
 use Rattle.vc_session.specs.Run.{Ran, commands_in, fault_in, first_bad, lines_of, run_from, script, wholly_read}
 use Rattle.vc_session.specs.Text.{replies_text, good_lines, is_quiet, text_of}
@@ -62,12 +65,25 @@ run_by quiet before commands written = run_from before.state commands (needs_by_
 abbrev pub all_told : Ran → List (ℕ × List ℕ)
 all_told r = r.told ++ ended_told r.state
 
+-- the faults of each place stayed, below their last value
+abbrev pub FaultsStayed : Moment → Moment → Type 0
+FaultsStayed before after =
+    (place : ℕ) → Stayed (faults_of (at_number before.accounts place)) (faults_of (at_number after.accounts place))
+
+-- at none of these lines does a text show a need
+abbrev pub ShowsNone : Bool → List ℕ → List ℕ → Type 0
+ShowsNone quiet lines written =
+    AllByRecursion (λ n. need_at (needs_by_text quiet lines written) n ≡ NoNeed) lines
+
 -- a run of commands, quiet or not, whose text is said by a function of the run: what was written is the text of the run for the needs that it shows, the shelf settles with the run's refusals, and the kinds were told of what went in it and at its end
 pub record IsRunOf (quiet : Bool) (said : Ran → List ℕ) (before after : Moment) (commands : List (ℕ × Command)) : Type 0 where
   pub written : List ℕ
   pub text : written ≡ said (run_by quiet before commands written)
   pub told : Told before.written after.written written
   pub settles : Settles before.accounts after.accounts (run_by quiet before commands written).refusals
+  -- where no fault was counted, it shows no need, and is the text of the run in which nothing is refused
+  pub no_need : FaultsStayed before after → ShowsNone quiet (lines_of commands) written
+  pub unrefused : FaultsStayed before after → written ≡ said (run_from before.state commands [])
   pub gone : after.gone ≡ tell (all_told (run_by quiet before commands written)) before.gone
 
 -- bytes that show no fault: their whole lines are good, and no line is too long or past the last number, the one that has begun among them
