@@ -1,5 +1,5 @@
 -- Blocks with places of their own.
-use Rattle.vc_base.proofs.Common.{◌≡◌, ◌≢◌, ℕ, zero, suc, ◌+◌, ◌<◌, List, [], ◌∷◌, true, false, cond, Some, None, Option, get_or, length, option_map, refl, sym, ap, ◌∙◌, subst, ⊎_elim, cases_Bool, arith, le_prop, ∥∥₁_elim, ℕ_set, length-map, get_or-map, All-head, All-tail, AllPairs, All, HaveOwnPlaces, IsSound, Layout, Block, address_of, place_of, is_at, HasBlock, find_block, without_block}
+use Rattle.vc_base.proofs.Common.{◌≡◌, ℕ, zero, suc, ◌<◌, List, [], ◌∷◌, true, false, cond, Some, None, Option, length, option_map, refl, ap, ◌∙◌, ⊎_elim, cases_Bool, arith, le_prop, ∥∥₁_elim, ℕ_set, All-head, All-tail, All, HaveOwnPlaces, IsSound, Layout, Block, address_of, place_of, is_at, HasBlock, find_block, without_block}
 use Rattle.vc_seg.specs.OneBlock.{IsBlockKept}
 use Rattle.vc_model.proofs.Owned.{free-one_less, found-has, is-there}
 use Rattle.vc_model.proofs.Places.{own-places}

@@ -1,5 +1,5 @@
 -- What calls leave of the disciplines.
-use Rattle.vc_base.proofs.Common.{◌≡◌, ℕ, List, [], ◌∷◌, ◌++◌, Bool, Ok, Err, sym, refl, ap, ◌∙◌}
+use Rattle.vc_base.proofs.Common.{◌≡◌, ℕ, List, ◌++◌, Bool, Ok, Err, sym, ap, ◌∙◌}
 use Rattle.std.specs.declared.result.Result.{Result}
 use Rattle.vc_base.specs.declared.addr.Addr.{Addr}
 use Rattle.vc_model.specs.Discipline.{Discipline, Served, Unserved}
@@ -7,7 +7,7 @@ use Rattle.vc_model.specs.Outcome.{Outcome, Put}
 use Rattle.vc_seg.specs.Answer.{Answers, Asks}
 use Rattle.vc_seg.specs.declared.fault.RegionFault.{RegionFault}
 use Rattle.vc_seg.specs.declared.fault.RegionFault.TheVariants as code
-use Rattle.vc_ways.specs.Answer.{Holding, Keeps}
+use Rattle.vc_ways.specs.Answer.{Keeps}
 
 served-keeps : (old new : Discipline) (s t : List (ℕ × ℕ)) (size : ℕ) → Served old new s t size → Keeps (record { disc = old; segments = s }) (record { disc = new; segments = t })
 served-keeps old new s t size h = record { kept = h.kept; out = h.out }

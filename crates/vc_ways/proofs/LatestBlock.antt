@@ -1,13 +1,13 @@
 -- The latest block of a last region.
-use Rattle.vc_base.proofs.Common.{◌≡◌, ◌≢◌, ℕ, zero, suc, ◌+◌, ◌-◌, ◌<◌, cond, take, length-take-le, false≢true, IsErrOf, HaveOwnPlaces, without_block, List, [], ◌∷◌, ◌++◌, Bool, true, false, Some, None, Option, Ok, Err, length, option_map, refl, sym, ap, ◌∙◌, subst, arith, unwrap_or, Layout, Block, place_of, HasBlock}
+use Rattle.vc_base.proofs.Common.{◌≡◌, ◌≢◌, ℕ, zero, suc, ◌+◌, ◌-◌, ◌<◌, cond, take, length-take-le, false≢true, IsErrOf, HaveOwnPlaces, without_block, List, [], ◌∷◌, Bool, true, false, Option, Ok, Err, length, option_map, refl, sym, ap, ◌∙◌, subst, arith, unwrap_or, Layout, Block, place_of, HasBlock}
 use Rattle.std.specs.declared.result.Result.{Result}
-use Rattle.vc_model.specs.Last.{last_free, last_resize, latest}
+use Rattle.vc_model.specs.Last.{last_free, last_resize}
 use Rattle.vc_model.specs.Discipline.{Terms}
 use Rattle.vc_model.specs.Layout.{place_of_block}
 use Rattle.vc_model.specs.Outcome.{Outcome, Done, Fault, Put, Refused, done_as}
 use Rattle.vc_model.specs.Best.{without_block_at}
 use Rattle.vc_model.proofs.Owned.{free-one_less}
-use Rattle.vc_seg.specs.Answer.{Answers, Frees, IsPut, IsRefusal}
+use Rattle.vc_seg.specs.Answer.{Frees, IsPut, IsRefusal}
 use Rattle.vc_seg.specs.Segment.{Bytes}
 use Rattle.vc_seg.specs.declared.fault.RegionFault.{RegionFault}
 use Rattle.vc_seg.specs.declared.fault.RegionFault.TheVariants as code

@@ -5,3 +5,14 @@ pub mod PoolSteps
 pub mod PoolLists
 pub mod ThreeWays
 pub mod Slots
+pub mod Apart
+pub mod Flags
+pub mod Cells
+pub mod Tables
+pub mod Growth
+pub mod Extents
+pub mod Lives
+pub mod TraceSteps
+pub mod TraceStands
+pub mod Segments
+pub mod OtherCommands

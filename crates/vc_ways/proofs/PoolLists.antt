@@ -1,5 +1,5 @@
 -- The pools of the classes, of which one changes.
-use Rattle.vc_base.proofs.Common.{eqb, ne_eqb, All, Ok, Err, ap₂, map-set, get_or-map, length-map, get_or-set_other, get_or-set_same, HasBlock, place_of, Discipline, Layout, Block, ◌≡◌, ◌≢◌, ℕ, zero, suc, ◌+◌, ◌<◌, ◌≤◌, List, [], ◌∷◌, ◌++◌, Bool, true, false, cond, ◌&&◌, Option, map, set, length, get_or, count_by, sum_by-append, count_by-le-length, refl, sym, ap, ◌∙◌, subst, arith, nat_lt, leb, leb-true, ltb-false, le-leb, cases_Bool, ⊎_elim, and_parts, lt-ltb, ltb, false_from_ne_true, ltb-true}
+use Rattle.vc_base.proofs.Common.{IfOk, eqb, ne_eqb, All, Ok, Err, ap₂, map-set, get_or-map, length-map, get_or-set_other, HasBlock, place_of, Discipline, ◌≡◌, ◌≢◌, ℕ, ◌+◌, ◌<◌, ◌≤◌, List, [], ◌∷◌, Bool, true, false, cond, ◌&&◌, map, set, length, get_or, count_by, sum_by-append, count_by-le-length, refl, sym, ap, ◌∙◌, subst, arith, nat_lt, leb, leb-true, and_parts, false_from_ne_true, ltb-true}
 use Rattle.std.specs.List.{list_all}
 use Rattle.std.proofs.lemmas.List.Folds.{list_all_at}
 use Rattle.std.specs.declared.result.Result.{Result}
@@ -8,13 +8,14 @@ use Rattle.vc_model.specs.Discipline.{Terms}
 use Rattle.vc_model.specs.Outcome.{Outcome, Done, Put, Refused, done_as}
 use Rattle.vc_model.specs.Pool as model
 use Rattle.vc_model.specs.Pool.{pool_alloc, pool_free}
-use Rattle.vc_pool.specs.Parts.{disc_in, pool_of, segments_in}
+use Rattle.vc_pool.specs.Parts.{disc_in, pool_of}
 use Rattle.vc_pool.specs.declared.pool.Pool.{Pool}
 use Rattle.vc_seg.specs.Answer.{Answers, IsPut, IsRefusal}
-use Rattle.vc_seg.specs.OneBlock.{IsSize}
+use Rattle.vc_seg.specs.OneBlock.{IsBlockPut, IsSize}
 use Rattle.vc_seg.specs.declared.fault.RegionFault.{RegionFault}
 use Rattle.vc_ways.specs.Answer.{AreKept, Gives, Holding, IsLent, Keeps}
-use Rattle.vc_ways.specs.PoolParts.{cells_at, holding_in, holdings, pools_of, terms_in}
+use Rattle.vc_ways.specs.PoolParts.{CellComes, cells_at, holding_in, holdings, pools_of, terms_in}
+use Rattle.vc_ways.proofs.Cells.{comes}
 use Rattle.vc_ways.proofs.LatestBlock.{refused-as}
 use Rattle.vc_ways.proofs.PoolSteps.{kept-set}
 use Rattle.vc_ways.specs.PoolWay.{cell_free, cell_put, cell_sized, class_bytes, class_of, classes, pool_at, terms_at}
@@ -75,7 +76,7 @@ sized-refused terms pools old size at why other h =
 
 -- a pool of a list, and another one in its place
 module _ {I : Type 0} {V : I → Type 0} (meaning : (x : I) × V x → Discipline) (xs : List (Pool I V)) (k : ℕ) (p q : Pool I V) (lt : k < length xs) (is : p ≡ get_or xs k p) where
-  pool-here : pool_at (pools_of xs) k ≡ pool_of p
+  pub pool-here : pool_at (pools_of xs) k ≡ pool_of p
   pool-here = get_or-map pool_of xs k p model.empty_pool lt ∙ ap pool_of (sym is)
 
   pub pools-set : pools_of (set xs k q) ≡ set (pools_of xs) k (pool_of q)
@@ -120,3 +121,12 @@ module _ {I : Type 0} {V : I → Type 0} (meaning : (x : I) × V x → Disciplin
   pub has-here : (a n : ℕ) → k ≡ n → HasBlock (cells_at (pools_of xs) n) a → HasBlock (pool_of p).layout.blocks a
   has-here a n e has =
       subst (λ (o : model.Pool ℕ). HasBlock o.layout.blocks a) pool-here (subst (λ (m : ℕ). HasBlock (cells_at (pools_of xs) m) a) (sym e) has)
+
+  pub comes-here : (size : ℕ) (result : Result Addr RegionFault) → k ≡ class_of size → IfOk result (λ a. IsBlockPut 0 (class_bytes k) a.0 (pool_of p).layout.blocks (pool_of q).layout.blocks) → IfOk result (λ a. CellComes (λ _ _. Unit {0}) (pools_of xs) (class_of size) a.0 (pools_of (set xs k q)))
+  comes-here size (Ok a) e h =
+      let within : k < length (pools_of xs) = omega (arith, lt, length-map xs pool_of) in
+      let put : IsBlockPut 0 (class_bytes k) a.0 (cells_at (pools_of xs) k) (pool_of q).layout.blocks =
+      subst (λ (o : model.Pool ℕ). IsBlockPut 0 (class_bytes k) a.0 o.layout.blocks (pool_of q).layout.blocks) (sym pool-here) h in
+      subst (λ (ps : List (model.Pool ℕ)). CellComes (λ _ _. Unit {0}) (pools_of xs) (class_of size) a.0 ps) (sym pools-set)
+      (subst (λ n. CellComes (λ _ _. Unit {0}) (pools_of xs) n a.0 (set (pools_of xs) k (pool_of q))) e (comes (pools_of xs) k (pool_of q) within 0 (class_bytes k) a.0 put))
+  comes-here size (Err why) e h = tt

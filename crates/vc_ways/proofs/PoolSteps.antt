@@ -1,5 +1,5 @@
 -- One pool of a list changes.
-use Rattle.vc_base.proofs.Common.{◌≡◌, ◌≢◌, ℕ, zero, suc, ◌<◌, ◌≤◌, List, [], ◌∷◌, map, set, slice_index_or, length, get_or, refl, sym, ap, ◌∙◌, subst, arith, Discipline}
+use Rattle.vc_base.proofs.Common.{◌≡◌, ℕ, zero, suc, ◌<◌, List, [], ◌∷◌, map, set, length, get_or, refl, sym, ◌∙◌, subst, arith, Discipline}
 use Rattle.vc_ways.specs.Answer.{AreKept, Holding, Keeps}
 
 -- nothing changes

@@ -1,8 +1,7 @@
 -- Slots of a shelf that get their disciplines back, the last one first.
-use Rattle.vc_base.proofs.Common.{◌≡◌, ◌≢◌, ℕ, zero, suc, ◌+◌, ◌-◌, ◌<◌, ◌≤◌, List, [], ◌∷◌, ◌++◌, Option, Some, None, All, length, map, set, take, drop, slice_get, eqb, ne_eqb, false, cond, refl, sym, ap, ◌∙◌, subst, arith, take-append-drop, add-zero, All-head, All-tail, Bool}
+use Rattle.vc_base.proofs.Common.{◌≡◌, ◌≢◌, ℕ, zero, suc, ◌+◌, ◌-◌, ◌<◌, ◌≤◌, List, [], ◌∷◌, ◌++◌, Option, Some, None, All, length, map, set, take, drop, slice_get, ne_eqb, cond, refl, sym, ap, ◌∙◌, arith, take-append-drop, add-zero, All-head, All-tail, Bool}
 use Rattle.vc_model.specs.Discipline.{Discipline}
 use Rattle.vc_seg.specs.Shelf.{place_at, standing}
-use Rattle.vc_seg.specs.declared.shelf.ShelfPlace.{ShelfPlace}
 use Rattle.vc_seg.specs.declared.shelf.ShelfPlace.TheVariants.{Taken}
 use Rattle.vc_ways.specs.Settled.{AreTaken, with_discs}
 

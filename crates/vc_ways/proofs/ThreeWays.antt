@@ -1,5 +1,5 @@
 -- A command in the three ways.
-use Rattle.vc_base.proofs.Common.{◌≡◌, ℕ, List, Bool, false, true, Option, Some, None, refl, sym, ap, ◌∙◌, Layout, place_of}
+use Rattle.vc_base.proofs.Common.{◌≡◌, ℕ, List, Bool, false, true, Option, sym, ap, ◌∙◌, Layout, place_of}
 use Rattle.vc_model.specs.Outcome.{Outcome, Done, Fault, Put, Refused}
 use Rattle.vc_model.specs.Pool.{Pool}
 use Rattle.vc_seg.specs.Answer.{IsPut, IsRefusal}

@@ -1,5 +1,5 @@
 -- What a way of a last region stands for.
-use Rattle.std.specs.Prelude.{◌≡◌, ℕ, List, length}
+use Rattle.std.specs.Prelude.{◌≡◌, length}
 use Rattle.vc_model.specs.Discipline.{Discipline}
 use Rattle.vc_last.specs.Parts.{disc_in, layout_of, segments_in}
 use Rattle.vc_ways.specs.Answer.{Holding}

@@ -7,8 +7,10 @@ pub mod PoolWay
 pub mod PoolParts
 pub mod Regions
 pub mod RegionsParts
+pub mod Extents
 pub mod Settled
 pub mod Tally
 pub mod Step
+pub mod TraceParts
 pub mod Compare
 pub mod Rows

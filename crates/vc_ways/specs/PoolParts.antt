@@ -1,8 +1,9 @@
 -- What the pools of the classes stand for.
-use Rattle.std.specs.Prelude.{◌≡◌, ℕ, List, length, map}
+use Rattle.std.specs.Prelude.{◌≡◌, ◌≢◌, ℕ, List, map}
 use Rattle.vc_model.specs.Discipline.{Discipline, Terms}
 use Rattle.vc_model.specs.Layout.{Block}
 use Rattle.vc_model.specs.Pool as model
+use Rattle.vc_model.specs.Touch.{HasBlock}
 use Rattle.vc_pool.specs.Parts.{disc_in, pool_of, segments_in}
 use Rattle.vc_pool.specs.declared.pool.Pool.{Pool}
 use Rattle.vc_ways.specs.Answer.{Holding}
@@ -26,3 +27,8 @@ terms_in holdings = map (λ h. h.disc.terms) holdings
 -- the blocks of a class
 abbrev pub cells_at : List (model.Pool ℕ) → ℕ → List (Block ℕ)
 cells_at pools class = (pool_at pools class).layout.blocks
+
+-- a cell of a class is taken at an address, apart from each other one that stays, and those are taken still
+pub record CellComes (Stays : ℕ → ℕ → Type 0) (old : List (model.Pool ℕ)) (class a : ℕ) (new : List (model.Pool ℕ)) : Type 0 where
+  pub there : HasBlock (cells_at new class) a
+  pub others : (n b : ℕ) → HasBlock (cells_at old n) b → Stays n b → HasBlock (cells_at new n) b × (n ≡ class → b ≢ a)

@@ -1,5 +1,5 @@
 -- What the regions of the three ways stand for, and what their calls answer.
-use Rattle.std.specs.Prelude.{◌≡◌, ℕ, ◌<◌, List, ◌∷◌, Option, Some, None, Result, Ok, Err, length}
+use Rattle.std.specs.Prelude.{◌≡◌, ◌≢◌, List, ◌∷◌, Option, Some, None, Result, Ok, Err, false, length, slice_index_or, true}
 use Rattle.vc_model.specs.Addr.{place_of}
 use Rattle.vc_model.specs.Discipline.{Discipline}
 use Rattle.vc_model.specs.Outcome as outcome
@@ -51,22 +51,36 @@ pub record AreWhole {I : Type 0} {V : I → Type 0} (r : Regions I V) : Type 0 w
 abbrev pub live_of : Live → model.Live
 live_of l = record { size = l.size; best = place_of l.best.0; last = l.last; cell = place_of l.cell.0 }
 
--- a live block is in each way
+-- a live block is in each way, and isn't dead
 pub record IsLiveIn (r : ways.Regions) (l : Live) : Type 0 where
   pub size : IsSize l.size
   pub best : HasBlock r.best.blocks l.best.0
-  pub last : l.last < length r.last.dead
+  pub last : slice_index_or r.last.dead l.last true ≡ false
   pub cell : HasBlock (cells_at r.pools (class_of l.size)) l.cell.0
 
+-- no way has two live blocks at one place
+pub record AreApart (a b : Live) : Type 0 where
+  pub best : a.best.0 ≢ b.best.0
+  pub last : a.last ≢ b.last
+  pub cell : class_of a.size ≡ class_of b.size → a.cell.0 ≢ b.cell.0
+
+-- a block is live after a call, apart from each other one that stays, and those are live still
+pub record Comes (Stays : Live → Type 0) (old : ways.Regions) (l : Live) (new : ways.Regions) : Type 0 where
+  pub there : IsLiveIn new l
+  pub others : (k : Live) → IsLiveIn old k → Stays k → IsLiveIn new k × AreApart k l
+
 -- a way stops a command, by its fault; want of memory may come at any time
+abbrev pub IsStopped : {A : Type 0} → (Way → outcome.Fault → A) → (Option Way → A) → Way → RegionFault → Type 0
+IsStopped stopped call way code.TooManySegments = call None ≡ stopped way outcome.TooManySegments
+IsStopped stopped call way code.NoSegment = call (Some way) ≡ stopped way outcome.NoSegment
+IsStopped stopped call way code.OutOfMemory = Unit {0}
+IsStopped stopped call way code.Fixed = call None ≡ stopped way outcome.Fixed
+IsStopped stopped call way code.PoolSize = call None ≡ stopped way outcome.PoolSize
+IsStopped stopped call way code.NotLast = call None ≡ stopped way outcome.NotLast
+IsStopped stopped call way code.WrongMethod = call None ≡ stopped way outcome.WrongMethod
+
 abbrev pub IsStop : (Option Way → Tried (model.Live × ways.Regions)) → Way → RegionFault → Type 0
-IsStop call way code.TooManySegments = call None ≡ Stopped way outcome.TooManySegments
-IsStop call way code.NoSegment = call (Some way) ≡ Stopped way outcome.NoSegment
-IsStop call way code.OutOfMemory = Unit {0}
-IsStop call way code.Fixed = call None ≡ Stopped way outcome.Fixed
-IsStop call way code.PoolSize = call None ≡ Stopped way outcome.PoolSize
-IsStop call way code.NotLast = call None ≡ Stopped way outcome.NotLast
-IsStop call way code.WrongMethod = call None ≡ Stopped way outcome.WrongMethod
+IsStop call way why = IsStopped (λ way why. Stopped way why) call way why
 
 -- the answer of a call in all ways, and what they have after it
 abbrev pub Tries : (Option Way → Tried (model.Live × ways.Regions)) → Result Live Stop → ways.Regions → Type 0

@@ -1,8 +1,8 @@
-ghost use Rattle.std.specs.Prelude.{◌≡◌, ◌≢◌, ℕ, OnOk, ◌<◌, ◌≤◌, All, length};
+ghost use Rattle.std.specs.Prelude.{◌≡◌, ◌≢◌, ℕ, IfOk, OnOk, ◌<◌, ◌≤◌, All, length};
 ghost use Rattle.vc_base.specs.Prelude.{place_of, HasBlock};
 ghost use Rattle.vc_seg.specs.OneBlock.{IsSize};
 ghost use Rattle.vc_ways.specs.Answer.{AreKept, Gives, IsLent};
-ghost use Rattle.vc_ways.specs.PoolParts.{cells_at, holdings, pools_of, terms_in};
+ghost use Rattle.vc_ways.specs.PoolParts.{CellComes, cells_at, holdings, pools_of, terms_in};
 ghost use Rattle.vc_ways.specs.PoolWay.{cell_free, cell_put, cell_sized, class_of};
 
 use vc_base::Addr;
@@ -43,6 +43,8 @@ pub(crate) fn put_cell(pools: &mut Vec<Pool>, size: u32) -> Result<Addr, RegionF
     ensures classes { length pools.new.items ≡ 20 }
     ensures others { (class : ℕ) → class ≢ class_of size
         → cells_at (pools_of pools.new.items) class ≡ cells_at (pools_of pools.old.items) class }
+    ensures comes { IfOk result (λ a. CellComes (λ _ _. Unit {0}) (pools_of pools.old.items)
+        (class_of size) a.0 (pools_of pools.new.items)) }
 {
     let class = class_of(size);
     let bytes = CLASSES[class];
@@ -58,6 +60,9 @@ pub(crate) fn free_cell(pools: &mut Vec<Pool>, size: u32, at: Addr)
         ≡ cell_free (pools_of pools.old.items) size (place_of at.0) }
     ensures keeps { AreKept (holdings state pools.old.items) (holdings state pools.new.items) }
     ensures classes { length pools.new.items ≡ 20 }
+    ensures others { (class a : ℕ) → HasBlock (cells_at (pools_of pools.old.items) class) a
+        → (class ≡ class_of size → a ≢ at.0)
+        → HasBlock (cells_at (pools_of pools.new.items) class) a }
 {
     let class = class_of(size);
     pools[class].free(at);
@@ -82,6 +87,9 @@ pub(crate) fn resize_cell(
         (λ a. place_of a.0) result (pools_of pools.new.items) }
     ensures keeps { AreKept (holdings state pools.old.items) (holdings state pools.new.items) }
     ensures classes { length pools.new.items ≡ 20 }
+    ensures comes { IfOk result (λ to. CellComes
+        (λ class a. class ≡ class_of old → a ≢ at.0) (pools_of pools.old.items)
+        (class_of size) to.0 (pools_of pools.new.items)) }
 {
     if class_of(size) == class_of(old) {
         return Ok(at);

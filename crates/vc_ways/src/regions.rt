@@ -1,4 +1,4 @@
-ghost use Rattle.std.specs.Prelude.{◌≡◌, All, OnOk};
+ghost use Rattle.std.specs.Prelude.{◌≡◌, All, IfOk, OnOk};
 ghost use Rattle.vc_seg.specs.OneBlock.{IsSize};
 ghost use Rattle.vc_ways.specs.Answer.{AreKept, IsLent};
 ghost use Rattle.vc_ways.specs.Regions.{free_block, put_block, size_block};
@@ -34,7 +34,7 @@ pub struct Stop {
 }
 
 impl Regions {
-    ghost use Rattle.vc_ways.specs.RegionsParts.{AreWhole, IsLiveIn, Tries, all_holdings, live_of, regions_of, terms_of};
+    ghost use Rattle.vc_ways.specs.RegionsParts.{AreApart, AreWhole, Comes, IsLiveIn, Tries, all_holdings, live_of, regions_of, terms_of};
 
     /// Puts a block of 1 to 16,777,216 bytes in each way, in the order best, last, pools. After a stop the regions can
     /// only be closed.
@@ -46,6 +46,8 @@ impl Regions {
             result (regions_of self.new) }
         ensures whole { OnOk result (AreWhole self.new) }
         ensures keeps { AreKept (all_holdings state self.old) (all_holdings state self.new) }
+        ensures comes { IfOk result (λ l. Comes (λ _. Unit {0}) (regions_of self.old) l
+            (regions_of self.new)) }
     {
         let mut steps: Steps<Uncounted> = Steps::new(self.best.alloc);
         let best = match self.best.alloc(size, 32, 0, &mut steps) {
@@ -90,6 +92,8 @@ impl Regions {
             result (regions_of self.new) }
         ensures whole { OnOk result (AreWhole self.new) }
         ensures keeps { AreKept (all_holdings state self.old) (all_holdings state self.new) }
+        ensures comes { IfOk result (λ l. Comes (λ k. AreApart k live.now) (regions_of self.old) l
+            (regions_of self.new)) }
     {
         let mut steps: Steps<Uncounted> = Steps::new(self.best.alloc);
         let best = match self.best.resize(live.best, size, true, &mut steps) {
@@ -129,6 +133,8 @@ impl Regions {
         ensures regions { regions_of self.new ≡ free_block (regions_of self.old) (live_of live.now) }
         ensures whole { AreWhole self.new }
         ensures keeps { AreKept (all_holdings state self.old) (all_holdings state self.new) }
+        ensures others { (k : Live) → IsLiveIn (regions_of self.old) k → AreApart k live.now
+            → IsLiveIn (regions_of self.new) k }
     {
         let mut steps: Steps<Uncounted> = Steps::new(self.best.alloc);
         self.best.free(live.best, &mut steps);

@@ -1,5 +1,4 @@
-use Rattle.vc_base.proofs.Common.{◌≡◌, ℕ, suc, ◌+◌, ◌-◌, ◌<◌, ◌≤◌, List, [], ◌∷◌, ◌++◌, All, Option, Some, length, map, set, sym, ap, ◌∙◌, subst, arith, append-nil, append_assoc, length-append, Discipline}
-use Rattle.vc_pool.specs.declared.pool.Pool.{Pool}
+use Rattle.vc_base.proofs.Common.{◌≡◌, ℕ, suc, ◌+◌, ◌-◌, List, [], ◌∷◌, ◌++◌, All, Option, Some, length, map, set, sym, ap, ◌∙◌, subst, arith, append-nil, append_assoc, length-append, Discipline}
 use Rattle.vc_seg.specs.Boxed.{disc_in_box}
 use Rattle.vc_seg.specs.Shelf.{place_at}
 use Rattle.vc_ways.specs.Answer.{IsLent}

@@ -1,4 +1,4 @@
-use Rattle.vc_base.proofs.Common.{◌≡◌, ℕ, ◌+◌, ◌++◌, List, length, Discipline}
+use Rattle.vc_base.proofs.Common.{◌≡◌, ◌+◌, ◌++◌, List, length, Discipline}
 use Rattle.vc_pool.specs.declared.pool.Pool.{Pool}
 use Rattle.vc_ways.specs.PoolParts.{holdings}
 use Rattle.vc_ways.specs.Settled.{AreBack, slots_on}

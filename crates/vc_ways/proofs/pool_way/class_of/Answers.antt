@@ -1,4 +1,4 @@
-use Rattle.vc_base.proofs.Common.{◌≡◌, ◌<◌, ℕ, subst, sym}
+use Rattle.vc_base.proofs.Common.{◌<◌, ℕ, subst, sym}
 use Rattle.vc_ways.proofs.PoolLists.{class-few}
 use Rattle.vc_ways.proofs.pool_way.class_of.Goals as goal
 

@@ -1,9 +1,9 @@
-use Rattle.vc_base.proofs.Common.{Discipline, ◌≡◌, ◌<◌, ◌≢◌, ◌∙◌, ℕ, length, sym, subst, arith}
+use Rattle.vc_base.proofs.Common.{Discipline, ◌∙◌, ℕ, arith}
 use Rattle.vc_model.specs.Pool.{Pool, pool_alloc}
 use Rattle.vc_pool.specs.Parts.{disc_in, pool_of}
 use Rattle.vc_ways.specs.PoolWay.{class_bytes}
 use Rattle.vc_ways.proofs.Kept.{asked-keeps}
-use Rattle.vc_ways.proofs.PoolLists.{answer-here, cells-other, class-size, kept-here, lent-here}
+use Rattle.vc_ways.proofs.PoolLists.{answer-here, cells-other, comes-here, class-size, kept-here, lent-here}
 use Rattle.vc_ways.proofs.pool_way.put_cell.Given as given
 use Rattle.vc_ways.proofs.pool_way.put_cell.Goals as goal
 
@@ -30,3 +30,7 @@ pub returns-clause-others : goal.returns-clause-others
 returns-clause-others g c =
     λ n other.
     cells-other (meaning g) c.args.pools.now.items c.class_of-class.result c.index_mut.result.now c.alloc.new.self (omega (arith, c.class_of-class.ensures.few, c.requires.classes)) c.index_mut.ensures.value n (λ e. other (e ∙ c.class_of-class.ensures.value))
+
+pub returns-clause-comes : goal.returns-clause-comes
+returns-clause-comes g c =
+    comes-here (meaning g) c.args.pools.now.items c.class_of-class.result c.index_mut.result.now c.alloc.new.self (omega (arith, c.class_of-class.ensures.few, c.requires.classes)) c.index_mut.ensures.value c.args.size c.alloc.result c.class_of-class.ensures.value c.alloc.ensures.put

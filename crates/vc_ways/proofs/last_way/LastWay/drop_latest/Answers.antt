@@ -1,4 +1,4 @@
-use Rattle.vc_base.proofs.Common.{◌≡◌, ℕ, ◌+◌, ◌<◌, ◌-◌, length, take, sym, ap, ap₂, ◌∙◌, arith, length-take-le, vec_len, Layout, Bool, List}
+use Rattle.vc_base.proofs.Common.{◌≡◌, ℕ, ◌<◌, ◌-◌, length, take, ap, ap₂, ◌∙◌, arith, length-take-le, vec_len, Layout, Bool, List}
 use Rattle.vc_last.specs.Read.{layout_by}
 use Rattle.vc_ways.specs.LastWay.{LastWay}
 use Rattle.vc_ways.proofs.Blocks.{own}

@@ -1,4 +1,4 @@
-use Rattle.vc_base.proofs.Common.{◌≡◌, ℕ, ◌<◌, length, sym, ◌∙◌, subst, arith, place_of}
+use Rattle.vc_base.proofs.Common.{sym, ◌∙◌, arith}
 use Rattle.vc_last.specs.Read.{layout_by}
 use Rattle.vc_ways.specs.LastParts.{way_of}
 use Rattle.vc_ways.proofs.Blocks.{kept-length, own}

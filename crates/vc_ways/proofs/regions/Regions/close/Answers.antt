@@ -1,8 +1,8 @@
-use Rattle.vc_base.proofs.Common.{◌≡◌, ℕ, suc, ◌+◌, ◌-◌, ◌<◌, ◌≤◌, List, ◌∷◌, Option, Some, length, set, refl, sym, ap, ◌∙◌, arith, Discipline}
+use Rattle.vc_base.proofs.Common.{suc, ◌-◌, List, ◌∷◌, Option, Some, set, refl, ap, ◌∙◌, arith, Discipline}
 use Rattle.vc_seg.specs.Boxed.{disc_in_box}
 use Rattle.vc_seg.specs.Shelf.{place_at}
 use Rattle.vc_ways.specs.RegionsParts.{best_holding}
-use Rattle.vc_ways.specs.Settled.{slots_on, with_discs}
+use Rattle.vc_ways.specs.Settled.{slots_on}
 use Rattle.vc_ways.proofs.Slots.{one-back, still-taken}
 use Rattle.vc_ways.proofs.regions.Regions.close.Given as given
 use Rattle.vc_ways.proofs.regions.Regions.close.Goals as goal

@@ -1,9 +1,13 @@
-use Rattle.vc_base.proofs.Common.{◌≡◌, ℕ, suc, ◌∷◌, ◌<◌, Discipline, Layout, arith}
+use Rattle.vc_base.proofs.Common.{◌∙◌, ℕ, suc, ◌∷◌, Discipline, Layout, ap, arith, get_or, true}
 use Rattle.vc_model.specs.Best.{best_alloc}
 use Rattle.vc_best.specs.Parts.{disc_in, layout_of}
-use Rattle.vc_ways.specs.LastParts.{holding_of}
+use Rattle.vc_ways.specs.LastParts.{holding_of, way_of}
+use Rattle.vc_ways.specs.LastWay.{LastWay}
 use Rattle.vc_ways.specs.PoolParts.{holdings}
+use Rattle.vc_ways.specs.PoolWay.{class_of}
 use Rattle.vc_ways.specs.RegionsParts.{best_holding}
+use Rattle.vc_ways.proofs.Apart.{put-apart, put-has, put-stays}
+use Rattle.vc_ways.proofs.Flags.{drop-alive, put-alive, put-other, put-stays-alive}
 use Rattle.vc_ways.proofs.Kept.{asked-keeps}
 use Rattle.vc_ways.proofs.PoolSteps.{kept-same}
 use Rattle.vc_ways.proofs.regions.Regions.put.Given as given
@@ -30,3 +34,39 @@ pub returns-in-Err-put-clause-keeps : goal.returns-in-Err-put-clause-keeps
 returns-in-Err-put-clause-keeps g c =
     let b = c.args.self.now.best in
     (asked-keeps {R = Layout ℕ} (λ r. r.segments) (best_alloc (disc_in (meaning g) b).terms (layout_of b) 0 c.args.size 32) c.alloc.result (layout_of b) (layout_of c.alloc.new.self) _ _ _ c.alloc.ensures.answer c.alloc.ensures.disc, (c.put.ensures.keeps, kept-same _))
+
+pub returns-clause-comes : goal.returns-clause-comes
+returns-clause-comes g c =
+    let size = c.args.size in
+    let a = c.in-Ok.best.0 in
+    let old = (layout_of c.args.self.now.best).blocks in
+    let new = (layout_of c.alloc.new.self).blocks in
+    let terms = (holding_of (meaning g) c.args.self.now.last).disc.terms in
+    let way = way_of c.args.self.now.last in
+    let mid = way_of c.put.new.self in
+    let put = c.in-Ok-put.ensures.answer in
+    let cells = c.in-Ok-put_cell.ensures.comes in
+    let flag : ℕ → LastWay → _ = λ k w. get_or w.dead k true in
+    record {
+      there =
+          record {
+            size = c.requires.size;
+            best = put-has 0 size a old new c.in-Ok.ensures.put;
+            last = ap (flag c.in-Ok-put.last) c.drop_dead.ensures.way ∙ drop-alive mid c.in-Ok-put.last (put-alive terms way size c.in-Ok-put.last mid put);
+            cell = cells.there;
+          };
+      others =
+          λ k live _. (
+            record {
+              size = live.size;
+              best = put-stays 0 size a old new c.in-Ok.ensures.put k.best.0 live.best;
+              last = ap (flag k.last) c.drop_dead.ensures.way ∙ drop-alive mid k.last (put-stays-alive terms way size c.in-Ok-put.last mid put k.last live.last);
+              cell = (cells.others (class_of k.size) k.cell.0 live.cell tt).0;
+            },
+            record {
+              best = put-apart 0 size a old new c.in-Ok.ensures.put k.best.0 live.best;
+              last = put-other terms way size c.in-Ok-put.last mid put k.last live.last;
+              cell = (cells.others (class_of k.size) k.cell.0 live.cell tt).1;
+            },
+          );
+    }

@@ -1,9 +1,14 @@
-use Rattle.vc_base.proofs.Common.{◌≡◌, ℕ, suc, ◌∷◌, true, ◌<◌, Discipline, Layout, arith, place_of}
+use Rattle.vc_base.proofs.Common.{◌∙◌, ℕ, suc, ◌∷◌, true, Discipline, Layout, ap, arith, get_or, place_of}
 use Rattle.vc_model.specs.Resize.{best_resize}
 use Rattle.vc_best.specs.Parts.{disc_in, layout_of}
-use Rattle.vc_ways.specs.LastParts.{holding_of}
+use Rattle.vc_ways.specs.LastParts.{holding_of, way_of}
+use Rattle.vc_ways.specs.LastWay.{LastWay}
 use Rattle.vc_ways.specs.PoolParts.{holdings}
+use Rattle.vc_ways.specs.PoolWay.{class_of}
 use Rattle.vc_ways.specs.RegionsParts.{best_holding}
+use Rattle.vc_ways.proofs.Apart.{kept-apart, kept-stays}
+use Rattle.vc_ways.proofs.Blocks.{kept-has, own}
+use Rattle.vc_ways.proofs.Flags.{alive-within, drop-alive, sized-alive}
 use Rattle.vc_ways.proofs.Kept.{asked-keeps}
 use Rattle.vc_ways.proofs.PoolSteps.{keeps-then, kept-same}
 use Rattle.vc_ways.proofs.regions.Regions.resize.Given as given
@@ -35,3 +40,39 @@ pub returns-clause-keeps : goal.returns-clause-keeps
 returns-clause-keeps g c =
     let b = c.args.self.now.best in
     (asked-keeps {R = Layout ℕ} (λ r. r.segments) (best_resize (disc_in (meaning g) b).terms (layout_of b) (place_of c.args.live.now.best.0) c.args.size true) c.resize.result (layout_of b) (layout_of c.resize.new.self) _ _ _ c.resize.ensures.answer c.resize.ensures.disc, (keeps-then _ _ _ c.resize-2.ensures.keeps c.drop_dead.ensures.keeps, c.resize_cell.ensures.keeps))
+
+pub resize-requires-2-clause-block : goal.resize-requires-2-clause-block
+resize-requires-2-clause-block g c = alive-within (way_of c.args.self.now.last) c.args.live.now.last c.requires.live.last
+
+pub returns-clause-comes : goal.returns-clause-comes
+returns-clause-comes g c =
+    let a = c.args.live.now.best.0 in
+    let to = c.in-Ok.best.0 in
+    let old = layout_of c.args.self.now.best in
+    let new = layout_of c.resize.new.self in
+    let owned = own new c.resize.new.self.sound in
+    let mid = way_of c.resize-2.new.self in
+    let flags = sized-alive (holding_of (meaning g) c.args.self.now.last).disc.terms (way_of c.args.self.now.last) c.args.live.now.last c.args.size c.in-Ok-resize.last mid c.requires.live.last c.in-Ok-resize.ensures.answer in
+    let cells = c.in-Ok-resize_cell.ensures.comes in
+    let flag : ℕ → LastWay → _ = λ k w. get_or w.dead k true in
+    record {
+      there =
+          record {
+            size = c.requires.size;
+            best = kept-has a to old.blocks new.blocks (own old c.args.self.now.best.sound).exact c.requires.live.best c.in-Ok.ensures.kept;
+            last = ap (flag c.in-Ok-resize.last) c.drop_dead.ensures.way ∙ drop-alive mid c.in-Ok-resize.last flags.0;
+            cell = cells.there;
+          };
+      others =
+          λ k live apart.
+          let still = flags.1 k.last live.last apart.last in
+          let cell = cells.others (class_of k.size) k.cell.0 live.cell apart.cell in (
+            record {
+              size = live.size;
+              best = kept-stays a to old.blocks new.blocks owned c.in-Ok.ensures.kept k.best.0 live.best apart.best;
+              last = ap (flag k.last) c.drop_dead.ensures.way ∙ drop-alive mid k.last still.0;
+              cell = cell.0;
+            },
+            record { best = kept-apart a to old.blocks new.blocks owned c.in-Ok.ensures.kept k.best.0 live.best apart.best; last = still.1; cell = cell.1 },
+          );
+    }
