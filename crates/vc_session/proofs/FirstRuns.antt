@@ -1,5 +1,5 @@
 -- The run of the first commands of a run.
-use Rattle.vc_base.proofs.Common.{◌≡◌, ℕ, ◌+◌, ◌≤◌, Bool, cond, eqb, ◌==◌, List, [], ◌∷◌, ◌++◌, length, count_by, sym, refl, ap, ap₂, ◌∙◌, subst, append_assoc, arith, length-map, sum_by-append, AllByRecursion}
+use Rattle.vc_base.proofs.Common.{◌≡◌, ℕ, ◌≤◌, Bool, cond, eqb, ◌==◌, List, [], ◌∷◌, ◌++◌, length, count_by, sym, refl, ap, ap₂, ◌∙◌, subst, append_assoc, arith, length-map, sum_by-append, AllByRecursion}
 use Rattle.vc_base.proofs.Quantifiers.{all-both, all-map}
 use Rattle.vc_script.specs.declared.command.Command.{Command}
 use Rattle.vc_steps.specs.Moment.{Moment}

@@ -1,5 +1,5 @@
 -- Where no fault was counted no reply shows a need.
-use Rattle.vc_base.proofs.Common.{◌≡◌, ℕ, ◌+◌, Bool, true, false, cond, eqb, ◌==◌, List, [], ◌∷◌, ◌++◌, map, Some, None, Option, option_map, count_by, sym, refl, ap, ◌∙◌, subst, inl, inr, arith, eq-eqb, list_any, sum_by-append, AllByRecursion, Terms, at_number}
+use Rattle.vc_base.proofs.Common.{◌≡◌, ℕ, Bool, true, false, cond, eqb, ◌==◌, List, [], ◌∷◌, ◌++◌, map, Some, None, Option, option_map, count_by, sym, refl, ap, ◌∙◌, subst, inl, inr, arith, eq-eqb, list_any, sum_by-append, AllByRecursion, Terms, at_number}
 use Rattle.vc_region.specs.Region.{Region}
 use Rattle.vc_region.specs.Stat.{opened_region}
 use Rattle.vc_base.specs.declared.dict_method.DictMethod.{DictMethod}

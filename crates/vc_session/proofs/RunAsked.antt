@@ -1,5 +1,5 @@
 -- What running what the words ask for promises, by whether a source is read.
-use Rattle.vc_base.proofs.Common.{◌≡◌, ℕ, ◌≤◌, false, true, List, IfSome, IfOk, IfErr, OnErr, Some, None, Ok, Err, Option, Result, sym, refl, ◌∙◌, subst, false≢true}
+use Rattle.vc_base.proofs.Common.{◌≡◌, ℕ, ◌≤◌, List, IfSome, IfOk, IfErr, OnErr, Some, None, Ok, Err, Option, Result, sym, refl, ◌∙◌, subst, false≢true}
 use Rattle.vc_script.specs.declared.line_fault.LineFault.{LineFault}
 use Rattle.vc_script.specs.declared.tool.Tool.{Tool}
 use Rattle.vc_steps.specs.Moment.{Moment, over_sink}

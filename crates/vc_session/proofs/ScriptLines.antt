@@ -1,5 +1,5 @@
 -- The lines of the commands of a script rise, and are numbers of 64 bits.
-use Rattle.vc_base.proofs.Common.{ℕ, ◌+◌, ◌^◌, ◌<◌, ◌≤◌, true, false, List, [], ◌∷◌, length, IsOk, nat_lt, Ok, Err, Result, refl, inl, inr, arith, nat_tests, cases_Bool, false≢true, AllByRecursion}
+use Rattle.vc_base.proofs.Common.{ℕ, ◌+◌, ◌^◌, ◌<◌, ◌≤◌, List, [], ◌∷◌, length, IsOk, nat_lt, Ok, Err, Result, refl, inl, inr, arith, nat_tests, cases_Bool, false≢true, AllByRecursion}
 use Rattle.vc_base.proofs.Quantifiers.{all-weaken}
 use Rattle.vc_script.specs.declared.command.Command.{Command}
 use Rattle.vc_script.specs.declared.line_answer.LineAnswer.{LineAnswer}
