@@ -174,9 +174,9 @@ module _ (segs : List Bytes) (index : List ℕ) (n root : ℕ) (k : ∥ AreExten
     exact = λ b. contains-put (key_of mid) a h.names b ∙ exact b ∙ ap (λ z. z && ltb (place_of b).0 (n + 1)) (sym (is_free-stays mid new same b));
   }
 
-  pub made-linked : (new : Tiling) (result start before now most : ℕ) → is_free mid 0 ≡ false → plain new ≡ plain mid → GapLinked mid new root a result → GapsCost mid new root result before now 8 1 1
+  pub made-linked : (new : Tiling) (result start before now most : ℕ) → is_free mid 0 ≡ false → plain new ≡ plain mid → GapLinked mid new root a result → GapsCost mid new root result before now 8 1 1 → before + 1 ≤ now
       → MadeCost (tiling segs) root start before most → MadeCost new result start now (most + 1)
-  made-linked new result start before now most none same l g m =
+  made-linked new result start before now most none same l g one m =
       let v : Tree = h.tree.tree in
       let still : size tree.tree ≡ size v = ap (λ z. size z) tree-same in
       let grown : (u : Tree) → IsTree (gap_store new) result u → size u ≡ size v + 1 =
@@ -200,6 +200,7 @@ module _ (segs : List Bytes) (index : List ℕ) (n root : ℕ) (k : ∥ AreExten
               omega arith;
         };
         few = λ u k. let f = m.few v h.tree.is_tree in let e = grown u k in omega arith;
+        least = λ u k. let f = m.least v h.tree.is_tree in let e = grown u k in omega (arith, f, e, one);
       }
 
 module _ (segs : List Bytes) (index : List ℕ) (k : ∥ AreExtents segs index ∥₁) where

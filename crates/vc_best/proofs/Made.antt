@@ -58,7 +58,8 @@ pub made-none : (t : Tiling) (now most : ℕ) → is_free t 0 ≡ false → Made
 made-none t now most none = record {
   law = λ u k. record { cost = let r = ap rank (no_tree (gap_store t) 0 u none k refl) in omega arith };
   few = λ u k. let s = ap (λ z. size z) (no_tree (gap_store t) 0 u none k refl) in let l = size-leaf in omega arith;
+  least = λ u k. let s = ap (λ z. size z) (no_tree (gap_store t) 0 u none k refl) in let l = size-leaf in omega arith;
 }
 
 pub made-most : (t : Tiling) (root start now most more : ℕ) → most ≤ more → MadeCost t root start now most → MadeCost t root start now more
-made-most t root start now most more le m = record { law = m.law; few = λ u k. let f = m.few u k in omega arith }
+made-most t root start now most more le m = record { law = m.law; few = λ u k. let f = m.few u k in omega arith; least = m.least }

@@ -1,10 +1,10 @@
 -- What a call on a best region costs.
-use Rattle.std.specs.Prelude.{ℕ, ◌+◌, ◌*◌, max, min, Result, Ok, Err, ◌==◌, if◌then◌else◌}
+use Rattle.std.specs.Prelude.{ℕ, ◌+◌, ◌*◌, ◌≤◌, max, min, Result, Ok, Err, ◌==◌, if◌then◌else◌}
 use Rattle.vc_base.specs.declared.addr.Addr.{Addr}
 use Rattle.vc_model.specs.Layout.{Layout}
 use Rattle.vc_model.specs.Numbers.{gap_count}
 use Rattle.vc_seg.specs.declared.fault.RegionFault.{RegionFault}
-use Rattle.vc_splay.specs.Rank.{Costs, binary_digits}
+use Rattle.vc_splay.specs.Rank.{Costs, binary_digits, size}
 use Rattle.vc_splay.specs.Stands.{IsTree}
 use Rattle.vc_splay.specs.Tree.{Tree}
 use Rattle.vc_extent.specs.Tiling.{tiling}
@@ -38,3 +38,7 @@ least_of_alloc r (Err fault) = least_of_search r
 abbrev pub least_of_resize : Layout ℕ → ℕ → Result Addr RegionFault → ℕ
 least_of_resize r a (Ok to) = if to.0 == a then 3 else least_of_search r + 3
 least_of_resize r a (Err fault) = 1
+
+-- a step at least was taken for each gap that is in the tree then
+pub record StepsForGaps {I : Type 0} {V : I → Type 0} (new : Best I V) (start now : ℕ) : Type 0 where
+  pub least : (u : Tree) → IsTree (gap_store (tiling new.extents.segs.items)) new.root.0 u → start + size u ≤ now

@@ -53,7 +53,7 @@ pub struct Best {
 }
 
 impl Best {
-    ghost use Rattle.vc_best.specs.Cost.{CallCosts, TreeCosts, least_of_alloc};
+    ghost use Rattle.vc_best.specs.Cost.{CallCosts, StepsForGaps, TreeCosts, least_of_alloc};
     ghost use Rattle.vc_best.specs.Parts.{blocks_in, layout_of, segments_in};
 
     /// A region with no segment. It takes none before the first block, but memory for the places of 1,023. Where that is
@@ -153,6 +153,7 @@ impl Best {
     pub fn clear<L>(&mut self, steps: &mut Steps<L>)
         ensures layout { layout_of self.new ≡ cleared_layout (layout_of self.old) }
         ensures disc { state self.new.disc ≡ state self.old.disc }
+        ensures least_steps { StepsForGaps self.new steps.old steps.new }
         ensures call { CallCosts self.old self.new (max 1 (length (segments_in self.old)))
             steps.old steps.new }
     {

@@ -52,4 +52,4 @@ returns-then-is_some-clause-cost g c = λ start m.
     made-most t2 c.link_gap.result.0 start c.link_gap.new.steps _ _ (count-one n (map pair_of e.segs.items) here)
     (made-linked _ _ n c.args.root.now.0 e.kept here t1 c.reset-a.ensures.tiling c.requires.gaps t2 c.link_gap.result.0 start c.args.steps.now c.link_gap.new.steps _
     (gap_none r.segs.items r.index.items r.kept) c.link_gap.ensures.rest.extents
-    (subst (λ (z : ℕ). GapLinked t1 t2 c.args.root.now.0 z c.link_gap.result.0) c.reset-a.ensures.value c.link_gap.ensures.linked) c.link_gap.ensures.cost m)
+    (subst (λ (z : ℕ). GapLinked t1 t2 c.args.root.now.0 z c.link_gap.result.0) c.reset-a.ensures.value c.link_gap.ensures.linked) c.link_gap.ensures.cost c.link_gap.ensures.rises m)

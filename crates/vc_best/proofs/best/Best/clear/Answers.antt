@@ -14,3 +14,6 @@ returns-clause-call g c =
     let e = c.clear.new.extents in
     let all = ap (λ (ss : List (ℕ × ℕ)). length ss) (segments-by c.args.self.now.extents.segs.items) in
     made_costs c.args.self.now _ _ c.args.steps.now _ e.index.items e.kept c.clear.ensures.kept.merged _ (omega arith) c.clear.ensures.cost
+
+pub returns-clause-least_steps : goal.returns-clause-least_steps
+returns-clause-least_steps g c = record { least = c.clear.ensures.cost.least }
