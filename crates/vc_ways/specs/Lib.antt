@@ -13,4 +13,5 @@ pub mod Tally
 pub mod Step
 pub mod TraceParts
 pub mod Compare
+pub mod LineParts
 pub mod Rows

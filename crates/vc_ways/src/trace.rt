@@ -39,7 +39,7 @@ pub struct Trace {
 const LIVE_LIMIT: usize = 1_000_000;
 
 // Want of memory for the table of live blocks, or a sum that no u64 holds: it is told as of the first way.
-fn out_of_memory() -> Stop
+pub(crate) fn out_of_memory() -> Stop
     ensures { result.fault ≡ RegionFault.OutOfMemory }
 {
     Stop {
