@@ -1,6 +1,8 @@
 pub mod AtHolders
 pub mod ComeLemmas
 pub mod LookLemmas
+pub mod FillLemmas
+pub mod LoopLemmas
 pub mod MergeLemmas
 pub mod OwnLemmas
 pub mod RangeLemmas

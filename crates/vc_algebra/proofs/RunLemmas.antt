@@ -92,7 +92,7 @@ operation-listed layered links d e op layers m answers begins calls =
     drained xs answers (merge-drains layered links layers m xs answers begins.whole calls)
 
 -- what is left of a range behind a place
-rest_behind : Rules → Option (List ℕ) → List (Seen ℕ) → Option (ℕ × Addr) → List (Seen ℕ)
+pub rest_behind : Rules → Option (List ℕ) → List (Seen ℕ) → Option (ℕ × Addr) → List (Seen ℕ)
 rest_behind rules high xs None = []
 rest_behind rules high xs (Some p) = range rules None high (drop 1 (from_there (numbers_of p) xs))
 
@@ -120,9 +120,9 @@ over-none rules order low high x xs s over =
     no-range rules low high (x ∷ xs) (over, all-weaken (IsUpto rules x) (λ y. is_over rules high y ≡ true) xs (λ y u. over_up rules order high x y over u) s.0)
 
 -- a call that answers the first of what is left of a range leaves the rest
-record Leaves (rules : Rules) (high : Option (List ℕ)) (xs : List (Seen ℕ)) (r : Option (ℕ × Addr)) (left : List (Seen ℕ)) : Type 0 where
-  place : Answers r (first_of left)
-  rest : rest_behind rules high xs r ≡ drop 1 left
+pub record Leaves (rules : Rules) (high : Option (List ℕ)) (xs : List (Seen ℕ)) (r : Option (ℕ × Addr)) (left : List (Seen ℕ)) : Type 0 where
+  pub place : Answers r (first_of left)
+  pub rest : rest_behind rules high xs r ≡ drop 1 left
 
 step-within : (rules : Rules) → IsTotalOrder rules.compare → (high : Option (List ℕ)) (xs post : List (Seen ℕ)) (r : Option (ℕ × Addr)) → AreSorted rules post → (Answers r (first_of post) → from_place r xs ≡ post) → Answers r (if_upto rules high (first_of post))
     → Leaves rules high xs r (range rules None high post)
@@ -147,7 +147,7 @@ step-within rules order high xs (y ∷ ys) r s from a = elim (cases_Bool (is_ove
     on None a e = absurd (none-place (place_of y) a)
     on (Some q) a e = ap (λ z. range rules None high (drop 1 z)) e
 
-step-on : (rules : Rules) → IsTotalOrder rules.compare → (high : Option (List ℕ)) (xs : List (Seen ℕ)) (p : ℕ × Addr) (r : Option (ℕ × Addr)) → HaveOwn xs → AreSorted rules xs → list_any (is_at (numbers_of p)) xs ≡ true → Answers r (if_upto rules high (behind_last (is_at (numbers_of p)) xs))
+pub step-on : (rules : Rules) → IsTotalOrder rules.compare → (high : Option (List ℕ)) (xs : List (Seen ℕ)) (p : ℕ × Addr) (r : Option (ℕ × Addr)) → HaveOwn xs → AreSorted rules xs → list_any (is_at (numbers_of p)) xs ≡ true → Answers r (if_upto rules high (behind_last (is_at (numbers_of p)) xs))
     → Leaves rules high xs r (rest_behind rules high xs (Some p))
 unfolding rest_behind
 step-on rules order high xs p r own s any a =
@@ -179,7 +179,7 @@ unfolding rest_behind
 past-left rules high x xs None o a apart = refl
 past-left rules high x xs (Some q) o a apart = ap (λ z. range rules None high (drop 1 z)) (from-past (Some q) o x xs a apart)
 
-step-first : (rules : Rules) → IsTotalOrder rules.compare → (low high : Option (List ℕ)) (xs : List (Seen ℕ)) (r : Option (ℕ × Addr)) → HaveOwn xs → AreSorted rules xs → Answers r (first_of (range rules low high xs)) → rest_behind rules high xs r ≡ drop 1 (range rules low high xs)
+pub step-first : (rules : Rules) → IsTotalOrder rules.compare → (low high : Option (List ℕ)) (xs : List (Seen ℕ)) (r : Option (ℕ × Addr)) → HaveOwn xs → AreSorted rules xs → Answers r (first_of (range rules low high xs)) → rest_behind rules high xs r ≡ drop 1 (range rules low high xs)
 step-first rules order low high [] r own s a = none-left rules high [] r a
 step-first rules order low high (x ∷ xs) r own s a = elim (cases_Bool (is_from rules low x)) as (λ _. rest_behind rules high (x ∷ xs) r ≡ drop 1 (range rules low high (x ∷ xs))) [
   | inl t ↦ elim (cases_Bool (is_over rules high x)) as (λ _. rest_behind rules high (x ∷ xs) r ≡ drop 1 (range rules low high (x ∷ xs))) [

@@ -1,5 +1,6 @@
 pub mod Algebra
 pub mod Faults
+pub mod Filling
 pub mod InRegion
 pub mod RegionLaws
 pub mod Rows

@@ -2,6 +2,7 @@
 #![tactic(auto)]
 
 mod fault;
+mod filling;
 mod laws;
 mod merge;
 mod op;
