@@ -1,7 +1,8 @@
 //! Keeps the words of its input's first line and those of the rest in two ordered sets of one region, and prints the words of
 //! the first from one bound to another, and then, behind an empty line, those that both have. The bounds are the two words
 //! behind the program's name. Ends with status 0, or with a line on standard error and status 1 for a word of more than 1,024
-//! bytes or other than two bounds, 3 for a failed read, 4 for a failed write, 5 for want of memory.
+//! bytes or other than two bounds, 2 where the two sets can't be asked together, which never is, 3 for a failed read, 4 for a
+//! failed write, 5 for want of memory.
 #![tactic(auto)]
 
 mod fault;
