@@ -1,0 +1,4 @@
+pub mod Image
+pub mod Contents
+pub mod Header
+pub mod Rows
