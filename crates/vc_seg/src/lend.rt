@@ -1,6 +1,7 @@
-ghost use Rattle.std.specs.Prelude.{◌≡◌, ◌≢◌, ◌%◌, ◌≤◌, ◌⊎◌, Err, IfErr, IfOk, OnErr, OnOk, IsErrOf, false, length, map};
+ghost use Rattle.std.specs.Prelude.{◌≡◌, ◌≢◌, ◌%◌, ◌≤◌, ◌⊎◌, Err, IfErr, IfOk, OnErr, OnOk, IsErrOf, None, false, length, map};
 ghost use Rattle.vc_base.specs.Prelude.{IsRound, IsSegmentSize, Lent, Unserved, TooMany, ask};
 ghost use Rattle.vc_model.specs.Discipline.{CanExtend, Extended, Kept};
+ghost use Rattle.vc_model.specs.Segments.{growing};
 ghost use Rattle.vc_seg.specs.Lend.{IsAsked, IsGrantOf, IsNoGrant};
 ghost use Rattle.vc_seg.specs.Segment.{grown_segment, pair_of, zero_segment};
 
@@ -125,7 +126,7 @@ pub fn extend_segment(
 }
 
 /// A segment of zeros that a discipline lends to a region with these, under the least number that none of them has, of so
-/// many bytes. `TooManySegments` comes exactly where there are 1,023, `NoSegment` where the discipline refuses, and
+/// many bytes. None of them may be made longer instead. `TooManySegments` comes exactly where there are 1,023, `NoSegment` where the discipline refuses, and
 /// `OutOfMemory` for want of memory.
 pub fn lend_next<T: Numbered>(
     segs: &[T],
@@ -133,6 +134,7 @@ pub fn lend_next<T: Numbered>(
     alloc: Global,
     bytes: u32,
 ) -> Result<Segment, RegionFault>
+    requires new { growing (state disc.old).terms (map T.pair segs.now) ≡ None }
     requires few { length segs.now ≤ 1023 }
     requires bytes { IsSegmentSize bytes }
     requires multiple { bytes % (state disc.old).terms.round ≡ 0 }
