@@ -13,6 +13,5 @@ mod lay;
 mod lent;
 mod next;
 mod read;
-mod widen;
 
 pub use extents::Extents;

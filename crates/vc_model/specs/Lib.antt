@@ -21,4 +21,3 @@ pub mod Pool
 pub mod Last
 pub mod Rows
 pub mod PoolRows
-pub mod GrowthRows
