@@ -1,5 +1,5 @@
 .POSIX:
-.PHONY: all run test install uninstall needs-rt
+.PHONY: all archive run test install uninstall needs-rt
 
 CC = cc
 RT = rt
@@ -7,6 +7,8 @@ BIN = bin
 PREFIX = /usr/local
 BINDIR = $(PREFIX)/bin
 LIBDIR = $(BINDIR)/../lib/kolbista
+ARCHIVEDIR = $(PREFIX)/lib
+INCLUDEDIR = $(PREFIX)/include
 MANDIR = $(PREFIX)/share/man
 DOCDIR = $(PREFIX)/share/doc/kolbista
 TOOLS = record picture curve sites check from
@@ -19,6 +21,12 @@ all: needs-rt
 	mkdir -p bin
 	cp -f crates/vmreplay/out/vmreplay bin/vmreplay
 	cp -f crates/dtrun/out/dtrun bin/dtrun
+
+# Proves the library for C, over what make proved, and leaves its archive in bin/.
+archive: needs-rt
+	cd crates/kolbista_c && $(RT) lib
+	mkdir -p bin
+	tools/archive.sh "$$(dirname "$$($(RT) doc)")" crates/kolbista_c/out/libkolbista_c.a bin/libkolbista.a
 
 # A first look: compiles each program once, without proving, and runs it on its sample script. What make left in bin/ is taken
 # where no source is newer.
@@ -40,9 +48,19 @@ install: $(BIN)/vmreplay $(BIN)/dtrun
 	cd $(DESTDIR)$(BINDIR) && chmod 755 vmreplay dtrun
 	for page in $(PAGES); do cp -f man/$$page $(DESTDIR)$(MANDIR)/man1 || exit 1; done
 	cp -f docs/script.md $(DESTDIR)$(DOCDIR)
-	cp -f examples/*.vm examples/*.dt examples/*.words examples/*.replies $(DESTDIR)$(DOCDIR)/examples
+	cp -f examples/*.c examples/*.vm examples/*.dt examples/*.words examples/*.replies $(DESTDIR)$(DOCDIR)/examples
 	cd $(DESTDIR)$(MANDIR)/man1 && chmod 644 $(PAGES)
 	chmod 644 $(DESTDIR)$(DOCDIR)/script.md $(DESTDIR)$(DOCDIR)/examples/*
+	if test -f $(BIN)/libkolbista.a; then \
+	    mkdir -p $(DESTDIR)$(ARCHIVEDIR)/pkgconfig $(DESTDIR)$(INCLUDEDIR) $(DESTDIR)$(MANDIR)/man3 && \
+	    cp -f $(BIN)/libkolbista.a $(DESTDIR)$(ARCHIVEDIR) && \
+	    cp -f include/kolbista.h $(DESTDIR)$(INCLUDEDIR) && \
+	    cp -f man/kolbista.3 $(DESTDIR)$(MANDIR)/man3 && \
+	    printf 'Name: kolbista\nDescription: scripts over memory regions and dictionaries\nVersion: 1\nLibs: -L%s -lkolbista\nCflags: -I%s\n' \
+	        $(ARCHIVEDIR) $(INCLUDEDIR) > $(DESTDIR)$(ARCHIVEDIR)/pkgconfig/kolbista.pc; \
+	else \
+	    echo 'no library for C is installed: make archive leaves it in bin/'; \
+	fi
 	if command -v $(CC) > /dev/null; then \
 	    mkdir -p $(DESTDIR)$(LIBDIR) && \
 	    $(CC) -O2 -fno-builtin -shared -fPIC -o $(DESTDIR)$(LIBDIR)/record.so tools/record.c -ldl -lpthread; \
@@ -54,6 +72,7 @@ uninstall:
 	for name in vmreplay dtrun; do rm -f $(DESTDIR)$(BINDIR)/$$name; done
 	for tool in $(TOOLS); do rm -f $(DESTDIR)$(BINDIR)/vm$$tool; done
 	for page in $(PAGES); do rm -f $(DESTDIR)$(MANDIR)/man1/$$page; done
+	rm -f $(DESTDIR)$(ARCHIVEDIR)/libkolbista.a $(DESTDIR)$(ARCHIVEDIR)/pkgconfig/kolbista.pc $(DESTDIR)$(INCLUDEDIR)/kolbista.h $(DESTDIR)$(MANDIR)/man3/kolbista.3
 	rm -rf $(DESTDIR)$(LIBDIR) $(DESTDIR)$(DOCDIR)
 
 $(BIN)/vmreplay:

@@ -14,8 +14,11 @@ share/doc/kolbista/script.md
 share/man/man1/dtrun.1 share/man/man1/vmreplay.1
 share/man/man1/vmcurve.1 share/man/man1/vmpicture.1 share/man/man1/vmrecord.1
 END
+        if [ -f "$programs/libkolbista.a" ]; then
+            echo "include/kolbista.h lib/libkolbista.a lib/pkgconfig/kolbista.pc share/man/man3/kolbista.3" >> installed.files
+        fi
         check "installed: programs, tools, pages and the script language" same \
-            "$(cd "$at" && find bin share -type f ! -path '*/examples/*' | sort)" "$(tr ' ' '\n' < installed.files | sort)"
+            "$(cd "$at" && find bin share include lib -type f ! -name record.so ! -path '*/examples/*' 2> /dev/null | sort)" "$(tr ' ' '\n' < installed.files | sort)"
         if has cc && compiled sizes && compiled live; then
             "$at/bin/vmrecord" installed.vm -- ./sizes
             grep -v '^# sizes, process' installed.vm > sizes.lines

@@ -1,0 +1,40 @@
+/* kolbista.h: scripts over regions and dictionaries, run in memory. See kolbista(3). */
+#ifndef KOLBISTA_H
+#define KOLBISTA_H
+
+#include <stddef.h>
+#include <stdint.h>
+
+#ifdef __cplusplus
+extern "C" {
+#endif
+
+/* The tools. */
+enum { KB_VMREPLAY = 0, KB_DTRUN = 1 };
+
+/* Flags, or 0. */
+enum { KB_QUIET = 1, KB_STAT = 2 };
+
+/* What a run ends with. */
+enum {
+    KB_OK = 0,
+    KB_SCRIPT = 1, /* a line of the script is wrong */
+    KB_USAGE = 2,  /* there is no such tool or flag: nothing was run */
+    KB_FULL = 4,   /* the replies don't fit into out, or the line of what is wrong into err */
+    KB_MEMORY = 5  /* want of memory */
+};
+
+/*
+ * Runs a script as the tool's program does, over disciplines of its own, which have nothing out at the end. The replies are
+ * put at the front of out, and the line of what is wrong at the front of err, which 128 bytes hold; *out_used and *err_used
+ * tell how many bytes of each. The other bytes of both stay. A pointer may be any but NULL where its size is 0. The three
+ * memories don't overlap.
+ */
+uint32_t kb_run(uint32_t tool, uint32_t flags, const uint8_t *script, size_t script_size, uint8_t *out, size_t out_size,
+                size_t *out_used, uint8_t *err, size_t err_size, size_t *err_used);
+
+#ifdef __cplusplus
+}
+#endif
+
+#endif
