@@ -14,7 +14,7 @@ use crate::tests::between::{goes_on, put_elsewhere, started};
 use crate::tests::costs::{operation_costs, put_numbers, range_costs};
 use crate::tests::counted::{Counted, no_compares};
 use crate::tests::filled::{Asks, Row, filled, is_path, viewed};
-use crate::{AlgebraFault, Merge, Op, RegionLayers};
+use crate::{AlgebraFault, Merge, Op, RegionLayers, range_first};
 use DictMethod::{DtList, DtObag, DtOset};
 use std::alloc::Global;
 use std::cell::Cell;
@@ -38,8 +38,8 @@ type Range = (
     &'static [Shown],
 );
 
-// Two dictionaries, and why there is no operation on them.
-type Refusal = (u32, u32, AlgebraFault);
+// A dictionary, why there is no range of it, if there is none, another one, and why there is no operation on both.
+type Refusal = (u32, Option<AlgebraFault>, u32, AlgebraFault);
 
 // One operation.
 fn merged<D: DictDisc>(
@@ -78,7 +78,26 @@ fn ranged<D: DictDisc>(
     are_ranged(rt, paths, layers, d, low, high, want, steps)
 }
 
-// Why there is no operation on two dictionaries, and no range of the first where it isn't ordered.
+// Why there is no range of a dictionary, if there is none.
+fn unranged<D: DictDisc>(
+    rt: &impl Abort,
+    layers: &mut RegionLayers<D>,
+    paths: &Paths,
+    d: u32,
+    want: Option<AlgebraFault>,
+    steps: &mut Steps<Asks>,
+)
+    requires { CanFill state (map D.rules layers.old.kinds.items)
+        layers.old.region layers.old.dicts }
+    ensures { CanFill state (map D.rules layers.new.kinds.items)
+        layers.new.region layers.new.dicts }
+{
+    is_path(rt, layers, paths, d);
+    let answer = range_first(paths, layers, d, None, None, steps);
+    assert_eq!(rt; answer.err(), want, "{d}");
+}
+
+// Why there is no range of a dictionary, and no operation on it and another.
 fn refused<D: DictDisc>(
     rt: &impl Abort,
     layers: &mut RegionLayers<D>,
@@ -91,7 +110,8 @@ fn refused<D: DictDisc>(
     ensures { CanFill state (map D.rules layers.new.kinds.items)
         layers.new.region layers.new.dicts }
 {
-    let (d, e, want) = *refusal;
+    let (d, why, e, want) = *refusal;
+    unranged(rt, layers, paths, d, why, steps);
     is_path(rt, layers, paths, d);
     is_path(rt, layers, paths, e);
     let answer = Merge::start(paths, layers, d, e, Op::Meet, steps);
@@ -403,14 +423,34 @@ fn refusals_in_order(rt: HostRuntime) -> Result<(), Fail> {
         (DtList, 2, b"a"),
     ];
     let refusals: [Refusal; 8] = [
-        (0, 1, AlgebraFault::Differs),
-        (1, 0, AlgebraFault::Differs),
-        (0, 2, AlgebraFault::NotOrdered),
-        (2, 0, AlgebraFault::NotOrdered),
-        (0, 3, AlgebraFault::NotOrdered),
-        (3, 1, AlgebraFault::NotOrdered),
-        (2, 3, AlgebraFault::NotOrdered),
-        (2, 2, AlgebraFault::NotOrdered),
+        (0, None, 1, AlgebraFault::Differs),
+        (1, None, 0, AlgebraFault::Differs),
+        (0, None, 2, AlgebraFault::NotOrdered),
+        (
+            2,
+            Some(AlgebraFault::NotOrdered),
+            0,
+            AlgebraFault::NotOrdered,
+        ),
+        (0, None, 3, AlgebraFault::NotOrdered),
+        (
+            3,
+            Some(AlgebraFault::NotOrdered),
+            1,
+            AlgebraFault::NotOrdered,
+        ),
+        (
+            2,
+            Some(AlgebraFault::NotOrdered),
+            3,
+            AlgebraFault::NotOrdered,
+        ),
+        (
+            2,
+            Some(AlgebraFault::NotOrdered),
+            2,
+            AlgebraFault::NotOrdered,
+        ),
     ];
     stands(&rt, rt.alloc(), &rows, &[], &[], &[], &refusals)
 }
