@@ -1,5 +1,5 @@
 -- Dictionaries of a region that get objects: what one is asked for, and what it leaves of them all.
-use Rattle.vc_base.proofs.Common.{◌≡◌, ◌≢◌, ℕ, Bool, true, false, ◌&&◌, ◌++◌, List, [], ◌∷◌, map, set, length, zero, suc, nat_lt, ◌==◌, slice_get, option_map, Some, None, Option, IsSome, is_some, Result, Ok, Err, sym, refl, ap, ◌∙◌, subst, inl, inr, none-some, same_Some, slice_get-map, map-append, true≢false, eqb_tells, eq-eqb, eqb-true, and_parts, and_from, ltb-true, lt-ltb, list_all, AllByRecursion, Blocks, contains, some_address, at_number, has_table, is_set, method_number, Discipline, HasOut, Layout, Terms}
+use Rattle.vc_base.proofs.Common.{◌≡◌, ◌≢◌, ℕ, Bool, true, false, ◌&&◌, ◌++◌, List, [], ◌∷◌, map, set, length, zero, suc, nat_lt, ◌==◌, ◌<◌, slice_get, option_map, Some, None, Option, IsSome, is_some, Result, Ok, Err, sym, refl, ap, ◌∙◌, subst, inl, inr, none-some, same_Some, slice_get-map, map-append, true≢false, eqb_tells, eq-eqb, eqb-true, and_parts, and_from, ltb-true, lt-ltb, list_all, AllByRecursion, Blocks, contains, some_address, at_number, has_table, is_set, method_number, Discipline, HasOut, Layout, Terms}
 use Rattle.vc_base.specs.declared.fault.OutOfMemory.{OutOfMemory}
 use Rattle.vc_base.proofs.Members.{within-head, within-tail}
 use Rattle.vc_base.proofs.Methods.{same-method}
@@ -17,7 +17,7 @@ use Rattle.vc_objects.specs.Leaves.{GivesInserted, IsHalted, LeavesRest, Looks, 
 use Rattle.vc_objects.specs.Insert.{empty_dictionary, grow, insert}
 use Rattle.vc_objects.specs.Promises.{CanAsk}
 use Rattle.vc_objects.specs.Objects.{Dictionary, own_blocks}
-use Rattle.vc_objects.specs.Parts.{IsWhole, dictionary_in, dictionary_of, table_of}
+use Rattle.vc_objects.specs.Parts.{IsWhole, dictionary_in, dictionary_of, object_of, table_of}
 use Rattle.vc_objects.specs.declared.fate.Fate.{Fate}
 use Rattle.vc_objects.proofs.Leaving.{keeps-out, leaves-trans}
 use Rattle.vc_objects.proofs.Looking.{dictionary-same, dictionary-told}

@@ -7,6 +7,6 @@ pub mod MergeLemmas
 pub mod OwnLemmas
 pub mod RangeLemmas
 pub mod RunLemmas
-pub mod ElsewhereLemmas
+pub mod ToyLemmas
 pub mod SeenLemmas
 pub mod ToldLemmas

@@ -1,4 +1,4 @@
-use Rattle.vc_base.proofs.Common.{sym, ◌∙◌, false≢true, Discipline}
+use Rattle.vc_base.proofs.Common.{false, sym, ◌∙◌, false≢true, Discipline}
 use Rattle.vc_objects.specs.Parts.{dictionary_in}
 use Rattle.vc_objects.proofs.Leaving.{keeps-out}
 use Rattle.vc_algebra.proofs.FillLemmas.{leaves-looked, lone, put-err, put-ok}

@@ -1,9 +1,0 @@
-use Rattle.vc_base.proofs.Common.{map, ap}
-use Rattle.vc_paths.proofs.SeekLemmas.{path-first}
-use Rattle.vc_algebra.proofs.FillLemmas.{can-after}
-use Rattle.vc_algebra.proofs.tests.between.goes_on.Goals as goal
-
-pub returns-clause-fill : goal.returns-clause-fill
-returns-clause-fill g c =
-    let u = c.is_next.ensures.unchanged in
-    can-after (λ z. (goal.SegDisc-dyn g z).state z.1) _ u.layers u.stays.1 (ap (λ k. map g.D.DictDisc.rules k.items) u.stays.0) (path-first _ _ _ c.requires.merge.first.path).there c.requires.fill

@@ -1,9 +1,0 @@
-use Rattle.vc_base.proofs.Common.{map, ap}
-use Rattle.vc_paths.proofs.SeekLemmas.{path-first}
-use Rattle.vc_algebra.proofs.FillLemmas.{can-after}
-use Rattle.vc_algebra.proofs.tests.ranged.Goals as goal
-
-pub returns : goal.returns
-returns g c =
-    let u = c.are_ranged.ensures in
-    can-after (λ z. (goal.SegDisc-dyn g z).state z.1) _ u.layers u.stays.1 (ap (λ k. map g.D.DictDisc.rules k.items) u.stays.0) (path-first _ _ _ c.is_path.ensures).there c.requires

@@ -1,0 +1,7 @@
+use Rattle.vc_base.proofs.Common.{◌≡◌, ◌+◌, drop}
+use Rattle.vc_algebra.proofs.ToyLemmas.{places_from}
+use Rattle.vc_algebra.proofs.tests.toy.ToyOrdered.at_least.Given as goal
+
+-- the first that isn't less is among the objects that are left
+abbrev pub invariant-loop-i : goal.invariant-loop-i
+invariant-loop-i g l = places_from l.key (l.i + 1) (drop l.i l.bytes) ≡ places_from l.key 1 l.bytes
