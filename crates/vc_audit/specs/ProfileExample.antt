@@ -6,7 +6,7 @@ use Rattle.vc_seg.specs.declared.profile_row.ProfileRow.{ProfileRow}
 use Rattle.vc_audit.specs.Profile.{Profile, empty_profile, profile_alloc, profile_free, profile_resize}
 
 abbrev pub page_terms : Terms
-page_terms = record { round = 4096 }
+page_terms = record { round = 4096; grows = false }
 
 -- the sites `m` and `r`, and `-`, that of blocks without one
 abbrev pub m : List ℕ

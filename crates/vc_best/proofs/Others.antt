@@ -57,5 +57,5 @@ others-asked terms (Err e) r new label size align p = tt
 
 pub others-in_gap : (r new : Layout ℕ) (label size align : ℕ) (a : Addr) → IsPutInGap r new label size align a.0 → without_block (place_of a.0) new.blocks ≡ r.blocks
 others-in_gap r new label size align a p =
-    let terms : Terms = record { round = 32 } in
+    let terms : Terms = record { round = 32; grows = false } in
     others-alloc r label size a.0 new p.fresh terms align false (Answers-in_gap r new label size align a p terms)

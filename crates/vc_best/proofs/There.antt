@@ -18,7 +18,7 @@ there-asked terms (Err e) r new label size align p = tt
 
 pub there-in_gap : (r new : Layout ℕ) (label size align : ℕ) (a : Addr) → IsPutInGap r new label size align a.0 → find_block (place_of a.0) new.blocks ≡ Some (zeros label size (place_of a.0))
 there-in_gap r new label size align a p =
-    let terms : Terms = record { round = 32 } in
+    let terms : Terms = record { round = 32; grows = false } in
     new-found terms r label size align a.0 false new (Answers-in_gap r new label size align a p terms) p.fresh
 
 -- a change that keeps the place and the label

@@ -12,4 +12,5 @@ pub mod StretchedExtents
 pub mod Copies
 pub mod Removes
 pub mod Resets
+pub mod Widens
 pub mod Unused

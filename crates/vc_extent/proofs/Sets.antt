@@ -1,5 +1,5 @@
 -- One of several segments changes.
-use Rattle.vc_base.proofs.Common.{◌≡◌, ℕ, zero, suc, ◌+◌, ◌<◌, ◌≤◌, cond, eqb, ◌≢◌, List, [], ◌∷◌, map, length, get_or, take, set, All, HoldsAt, sym, refl, ap, ◌∙◌, subst, ⊎_elim, arith, length-set, get_or-set_other, get_or-set_same, eq-eqb, ne_eqb, cases_eq, All-head, All-set, All-tail, get_or_default, ∥∥₁_map, place_of, IsSegmentSize}
+use Rattle.vc_base.proofs.Common.{◌≡◌, ℕ, zero, suc, ◌+◌, ◌<◌, ◌≤◌, cond, eqb, ◌≢◌, List, [], ◌∷◌, map, length, get_or, take, set, All, HoldsAt, sym, refl, ap, ◌∙◌, subst, ⊎_elim, arith, length-set, get_or-set_other, get_or-set_same, eq-eqb, ne_eqb, cases_eq, All-head, All-set, All-tail, get_or_default, ∥∥₁_map, place_of}
 use Rattle.vc_seg.specs.Segment.{Bytes, IsRegionSegment, pair_of}
 use Rattle.vc_extent.specs.Extent.{Extent, extents}
 use Rattle.vc_extent.specs.Tiles.{IsTiled}
@@ -39,17 +39,16 @@ number-set i segs new within e k d =
     (λ (q : k ≡ i → ⊥). ap (λ (b : Bytes). b.number) (get_or-set_other segs i k new d q))
     (cases_eq k i)
 
--- numbered segments of which one is written, and keeps its number and its size and is tiled
-pub AreExtents-set : (segs : List Bytes) (index : List ℕ) (i : ℕ) (new : Bytes) → i < length segs → HoldsAt (λ (b : Bytes). new.number ≡ b.number) segs i → HoldsAt (λ (b : Bytes). length new.bytes ≡ length b.bytes) segs i → IsTiled new.bytes →
-    AreExtents segs index → AreExtents (set segs i new) index
-AreExtents-set segs index i new within number len tiled a =
+-- numbered segments of which one changes, and keeps its number and is tiled
+pub AreExtents-set : (segs : List Bytes) (index : List ℕ) (i : ℕ) (new : Bytes) → i < length segs → HoldsAt (λ (b : Bytes). new.number ≡ b.number) segs i → IsTiled new.bytes → AreExtents segs index → AreExtents (set segs i new) index
+AreExtents-set segs index i new within number tiled a =
     let numbers : (k : ℕ) (d : Bytes) → (get_or (set segs i new) k d).number ≡ (get_or segs k d).number = number-set i segs new within number in
     let s : IsRegionSegment (get_or segs i new) = a.segments.legal i new within in
     let legal : IsRegionSegment new =
     record {
       first = subst (λ k. 1 ≤ k) (sym (number new)) s.first;
       last = subst (λ k. k ≤ 1023) (sym (number new)) s.last;
-      size = subst IsSegmentSize (sym (len new)) s.size;
+      size = tiled.size;
     } in
     record {
       segments = record {
@@ -79,7 +78,7 @@ module _ {a i at : ℕ} {segs : List Bytes} {s new : Bytes} {change : Extent →
   is-changed = record { tiling = tiling-changed; pairs = pairs-changed }
 
   pub extents-changed : (index : List ℕ) → ∥ AreExtents segs index ∥₁ → ∥ AreExtents (set segs i new) index ∥₁
-  extents-changed index kept = ∥∥₁_map kept (AreExtents-set segs index i new f.place.within (λ d. ch.number ∙ ap (λ (b : Bytes). b.number) (same d)) (λ d. ch.len ∙ ap (λ (b : Bytes). length b.bytes) (same d)) ch.tiled)
+  extents-changed index kept = ∥∥₁_map kept (AreExtents-set segs index i new f.place.within (λ d. ch.number ∙ ap (λ (b : Bytes). b.number) (same d)) ch.tiled)
 
   -- the extent that the address names before and then
   pub extent-before : extent_in (at + 16) (extents s.bytes) ≡ extent_of (tiling segs) a

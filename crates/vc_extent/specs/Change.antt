@@ -1,5 +1,5 @@
 -- A list of extents and what becomes of it where one of them changes.
-use Rattle.std.specs.Prelude.{◌≡◌, ℕ, ◌+◌, ◌-◌, ◌<◌, ◌≤◌, List, [], ◌∷◌, Option, Some, None, length, take, ◌==◌, if◌then◌else◌}
+use Rattle.std.specs.Prelude.{◌≡◌, ℕ, ◌+◌, ◌-◌, ◌<◌, ◌≤◌, List, [], ◌∷◌, ◌++◌, Option, Some, None, length, take, ◌==◌, if◌then◌else◌}
 use Rattle.vc_model.specs.Bytes.{with_bytes}
 use Rattle.vc_model.specs.Segments.{span}
 use Rattle.vc_seg.specs.Segment.{Bytes}
@@ -115,6 +115,22 @@ one_free es = free_extent 32 (spans es) no_links ∷ []
 abbrev pub IsOneFree : List Extent → Type 0
 IsOneFree [] = ⊥
 IsOneFree (e ∷ es) = (e.size ≡ 0) × (es ≡ [])
+
+-- the span of the last of these extents, or that of one before them where there is none
+abbrev pub last_span : ℕ → List Extent → ℕ
+last_span before [] = before
+last_span before (e ∷ es) = last_span e.span es
+
+-- a free extent of so many bytes behind the others, by the offset that names it
+abbrev pub widen : ℕ → ℕ → List Extent → List Extent
+widen off more es = es ++ free_extent off more no_links ∷ []
+
+-- a segment that got so many bytes more: it keeps its number, and they are a free extent behind its extents, named by the size that it had
+pub record IsWidened (more : ℕ) (old new : Bytes) : Type 0 where
+  pub number : new.number ≡ old.number
+  pub len : length new.bytes ≡ length old.bytes + more
+  pub tiled : IsTiled new.bytes
+  pub extents : extents new.bytes ≡ widen (length old.bytes) more (extents old.bytes)
 
 -- a segment in which the extent that an offset names, and those behind it, changed: it keeps its number and its size, and extents tile it
 pub record Changes (off : ℕ) (change : Extent → List Extent → List Extent) (old new : Bytes) : Type 0 where

@@ -1,5 +1,5 @@
 -- Numbered segments of extents, as definitions over their bytes.
-use Rattle.std.specs.Prelude.{◌≡◌, ◌≢◌, ℕ, ◌+◌, ◌-◌, ◌%◌, ◌<◌, List, [], ◌∷◌, All, Option, None, Some, IsSome, length, map, take, slice_index, nat_lt, ◌==◌, if◌then◌else◌}
+use Rattle.std.specs.Prelude.{◌≡◌, ◌≢◌, ℕ, ◌+◌, ◌-◌, ◌%◌, ◌<◌, List, [], ◌∷◌, All, Option, None, Some, IsSome, length, map, take, slice_index, unwrap_or, nat_lt, ◌==◌, if◌then◌else◌}
 use Rattle.std.specs.List.{HoldsAt}
 use Rattle.vc_model.specs.Addr.{address, place_of}
 use Rattle.vc_model.specs.Segments.{span}
@@ -82,6 +82,15 @@ pub record AreExtents (segs : List Bytes) (index : List ℕ) : Type 0 where
 abbrev pub size_of : ℕ → List (ℕ × ℕ) → Option ℕ
 size_of number [] = None
 size_of number (s ∷ ss) = if s.0 == number then Some s.1 else size_of number ss
+
+-- its size, or 0 where it isn't there
+abbrev pub size_in : ℕ → List (ℕ × ℕ) → ℕ
+size_in number segs = unwrap_or (size_of number segs) 0
+
+-- so many bytes more in the segment of that number
+abbrev pub longer : ℕ → ℕ → List (ℕ × ℕ) → List (ℕ × ℕ)
+longer number more [] = []
+longer number more (s ∷ ss) = if s.0 == number then (s.0, s.1 + more) ∷ ss else s ∷ longer number more ss
 
 -- the segment of that number is there
 abbrev pub IsThere : ℕ → List Bytes → Type 0

@@ -45,7 +45,7 @@ pub struct Extents {
 }
 
 impl Extents {
-    /// With no segment. It takes the memory of 1,023 slots and of the index, and no other call takes any.
+    /// With no segment. It takes the memory of 1,023 slots and of the index, and no other call but `widen` takes any.
     pub fn new(alloc: Global) -> Result<Extents, OutOfMemory>
         ensures { IfOk result (λ e. e.segs.items ≡ []) }
     {

@@ -2,6 +2,8 @@ ghost use Rattle.std.specs.Prelude.{◌≡◌, ℕ, ◌+◌, ◌-◌, ◌<◌, �
 ghost use Rattle.vc_base.specs.Prelude.{IsSegmentSize, span};
 ghost use Rattle.vc_seg.specs.Field.{field_at};
 ghost use Rattle.vc_extent.specs.Extent.{Extent, busy_extent, extents, free_extent, no_links};
+ghost use Rattle.vc_extent.specs.Change.{IsWidened, last_span};
+ghost use Rattle.vc_seg.specs.Segment.{Bytes, grown_segment};
 ghost use Rattle.vc_seg.specs.Frame.{StaysBelow, StaysOutside};
 ghost use Rattle.vc_extent.specs.Tiles.{EndsWithin, IsTiled, Tiles};
 
@@ -82,6 +84,20 @@ pub(crate) fn lay_rest(seg: &mut Segment, at: u32, whole: u32, bytes: u32)
     set_boundary(seg, at + whole, left);
     lay_free(seg, at + bytes, left);
     set_boundary(seg, at + bytes, bytes);
+}
+
+// Of a segment that got so many bytes more, makes as many a free extent behind the others, of which the last has that
+// span. It begins where they end, 16 bytes before those that were added.
+pub(crate) fn lay_more(seg: &mut Segment, more: u32, before: u32)
+    requires long { more + 64 ≤ length seg.old.bytes }
+    requires least { 32 ≤ more }
+    requires multiple { more % 32 ≡ 0 }
+    ensures { (old : Bytes) → IsTiled old.bytes → before ≡ last_span 0 (extents old.bytes)
+        → seg.old ≡ grown_segment more old → IsWidened more old seg.new }
+{
+    let end = seg.size() - more - 16;
+    seg.set_field(end + 12, before);
+    lay_free(seg, end, more);
 }
 
 // Makes a segment one free extent, whatever lies in it.

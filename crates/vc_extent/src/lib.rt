@@ -13,5 +13,6 @@ mod lay;
 mod lent;
 mod next;
 mod read;
+mod widen;
 
 pub use extents::Extents;

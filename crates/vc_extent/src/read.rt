@@ -2,7 +2,8 @@
 
 ghost use Rattle.std.specs.Prelude.{◌≡◌, ◌+◌, ◌%◌, ◌<◌, ◌≤◌, IfSome, IsSome, length};
 ghost use Rattle.vc_extent.specs.Extent.{extents};
-ghost use Rattle.vc_extent.specs.Change.{IsExtentAt, behind, extent_in, first_of};
+ghost use Rattle.vc_extent.specs.Change.{IsExtentAt, behind, extent_in, first_of, last_span};
+ghost use Rattle.vc_extent.specs.Tiles.{IsTiled};
 
 use vc_seg::Segment;
 
@@ -32,6 +33,21 @@ pub(crate) fn span_behind(seg: &Segment, at: u32, bytes: u32) -> u32
     ensures multiple { result % 32 ≡ 0 }
 {
     seg.field(at + bytes)
+}
+
+// The span of the last extent of a segment. It is found by a walk from the first, which reads one span after another.
+pub(crate) fn last_in(seg: &Segment) -> u32
+    requires { IsTiled seg.now.bytes }
+    ensures { result ≡ last_span 0 (extents seg.now.bytes) }
+{
+    let end = seg.size() - 16;
+    let mut at = 16;
+    let mut span = 0;
+    while at < end {
+        span = seg.field(at);
+        at += span;
+    }
+    span
 }
 
 // The size of the extent from a place on, 0 where it is free.

@@ -52,10 +52,10 @@ first-place n =
     let off : (n * 1048576 + 1) % 1048576 * 32 ≡ 32 = omega arith in
     λ i. (seg i, off i)
 
--- two tilings that differ by a segment of one extent
-module _ (old new : Tiling) (n : ℕ) (same : (m : ℕ) → m ≢ n → extents_of m new ≡ extents_of m old)
-    (else : (to : ℕ) → to ≢ 32 → extent_in to (extents_of n new) ≡ extent_in to (extents_of n old)) where
-  other-extent : (b : ℕ) → b ≢ address (n, 32) → extent_of new b ≡ extent_of old b
+-- two tilings that differ at one offset of a segment
+module _ (old new : Tiling) (n off : ℕ) (multiple : off % 32 ≡ 0) (same : (m : ℕ) → m ≢ n → extents_of m new ≡ extents_of m old)
+    (else : (to : ℕ) → to ≢ off → extent_in to (extents_of n new) ≡ extent_in to (extents_of n old)) where
+  other-extent : (b : ℕ) → b ≢ address (n, off) → extent_of new b ≡ extent_of old b
   other-extent b ne =
       ⊎_elim
       (λ (q : b / 1048576 ≡ n).
@@ -63,17 +63,17 @@ module _ (old new : Tiling) (n : ℕ) (same : (m : ℕ) → m ≢ n → extents_
       (λ (q : b / 1048576 ≡ n → ⊥). ap (extent_in (place_of b).1) (same (b / 1048576) q))
       (cases_eq (b / 1048576) n)
 
-  gaps-one : {u : Tree} (root : ℕ) (out after : List ℕ) → ((b : ℕ) → b ≢ address (n, 32) → contains after b ≡ contains out b)
-      → (is_free old (address (n, 32)) && not (contains out (address (n, 32)))) ≡ false → (is_free new (address (n, 32)) && not (contains after (address (n, 32)))) ≡ false
+  pub gaps-one : {u : Tree} (root : ℕ) (out after : List ℕ) → ((b : ℕ) → b ≢ address (n, off) → contains after b ≡ contains out b)
+      → (is_free old (address (n, off)) && not (contains out (address (n, off)))) ≡ false → (is_free new (address (n, off)) && not (contains after (address (n, off)))) ≡ false
       → HasGapsBy u old root out → HasGapsBy u new root after
   gaps-one root out after named before then h =
-      gaps-touched old new root (address (n, 32) ∷ []) out after
-      (λ b apart. let ne : b ≢ address (n, 32) = λ q. apart-head (address (n, 32)) [] b apart (sym q) in (other-extent b ne, named b ne))
+      gaps-touched old new root (address (n, off) ∷ []) out after
+      (λ b apart. let ne : b ≢ address (n, off) = λ q. apart-head (address (n, off)) [] b apart (sym q) in (other-extent b ne, named b ne))
       (λ b touched.
       ⊎_elim
-      (λ (q : address (n, 32) ≡ b). (subst (λ z. (is_free old z && not (contains out z)) ≡ false) q before, subst (λ z. (is_free new z && not (contains after z)) ≡ false) q then))
+      (λ (q : address (n, off) ≡ b). (subst (λ z. (is_free old z && not (contains out z)) ≡ false) q before, subst (λ z. (is_free new z && not (contains after z)) ≡ false) q then))
       (λ (k : contains [] b ≡ true). absurd (true≢false (sym k)))
-      (within-cases (address (n, 32)) [] b touched))
+      (within-cases (address (n, off)) [] b touched))
       h
 
 not-free : (t : Tiling) (n : ℕ) → extents_of n t ≡ [] → is_free t (address (n, 32)) ≡ false
@@ -88,7 +88,7 @@ pub gaps-added_by : {u : Tree} (segs : List Bytes) (new : Tiling) (root n span :
 gaps-added_by segs new root n span out none e h =
     let es : List Extent = free_extent 32 span no_links ∷ [] in
     let own : extents_of n new ≡ es = ap (extents_of n) e ∙ extents-new n es segs none in
-    gaps-one (tiling segs) new n
+    gaps-one (tiling segs) new n 32 refl
     (λ m ne. ap (extents_of m) e ∙ extents-old n m es (tiling segs) ne)
     (λ to ne. ap (extent_in to) own ∙ ap (λ z. cond z (free_extent 32 span no_links) (free_extent to 0 no_links)) (ne_eqb 32 to (λ z. ne (sym z))) ∙ ap (extent_in to) (sym (extents-none n segs none)))
     root out (address (n, 32) ∷ out)
@@ -115,7 +115,7 @@ pub gaps-removed : {u : Tree} (old new : Tiling) (root n : ℕ) (x : Extent) (ou
     → HasGapsBy u old root (address (n, 32) ∷ out) → HasGapsBy u new root out
 gaps-removed old new root n x out only off e h =
     let own : extents_of n new ≡ [] = ap (extents_of n) e ∙ extents-taken n old in
-    gaps-one old new n
+    gaps-one old new n 32 refl
     (λ m ne. ap (extents_of m) e ∙ extents-left n m old ne)
     (λ to ne. ap (extent_in to) own ∙ sym (ap (extent_in to) only ∙ ap (λ z. cond z x (free_extent to 0 no_links)) (ne_eqb x.off to (λ z. ne (sym z ∙ off)))))
     root (address (n, 32) ∷ out) out

@@ -14,5 +14,6 @@ pub mod Carried
 pub mod Marked
 pub mod Joined
 pub mod Added
+pub mod Widened
 pub mod Bordered
 pub mod Staying

@@ -1,6 +1,6 @@
 -- What addresses name in a tiling after a change of one extent.
 use Rattle.vc_base.proofs.Common.{◌≡◌, ℕ, ◌/◌, ◌<◌, true, false, cond, eqb, ◌≢◌, List, [], ◌∷◌, sym, refl, ap, ◌∙◌, ⊎_elim, arith, ne_eqb, eqb-true, cases_Bool, cases_eq, place_of}
-use Rattle.vc_gaps.proofs.Common.{Extent, Tiling, behind, change_at, change_extent, change_in, extent_in, extent_of, extents_of}
+use Rattle.vc_gaps.proofs.Common.{Bytes, Extent, IsThere, Tiling, behind, change_at, change_extent, change_in, extent_in, extent_of, extents_of, tiling}
 use Rattle.vc_extent.proofs.Changed.{named-changed}
 
 -- an offset names an extent with that offset
@@ -20,6 +20,14 @@ extents_of-here n change (s ∷ ss) none =
     (λ (t : eqb s.0 n ≡ true). rw (t, t) refl)
     (λ (t : eqb s.0 n ≡ false). rw (t, t) (extents_of-here n change ss none))
     (cases_Bool (eqb s.0 n))
+
+pub extents_of-there : (n : ℕ) (change : List Extent → List Extent) (segs : List Bytes) → IsThere n segs → extents_of n (change_in n change (tiling segs)) ≡ change (extents_of n (tiling segs))
+extents_of-there n change [] there = absurd (cc)
+extents_of-there n change (s ∷ ss) there =
+    ⊎_elim
+    (λ (t : eqb s.number n ≡ true). rw (t, t) refl)
+    (λ (t : eqb s.number n ≡ false). rw (t, t) (extents_of-there n change ss (rw t at there)))
+    (cases_Bool (eqb s.number n))
 
 pub extents_of-other : (n m : ℕ) (change : List Extent → List Extent) (t : Tiling) → m ≢ n → extents_of m (change_in n change t) ≡ extents_of m t
 extents_of-other n m change [] ne = refl

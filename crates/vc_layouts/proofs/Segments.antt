@@ -1,8 +1,12 @@
 -- The segments of a layout: numbers of their own, the one that a lend adds, bytes that are written into one.
 use Rattle.vc_base.proofs.Common.{◌≡◌, ℕ, ◌+◌, ◌<◌, ◌≤◌, true, false, cond, eqb, ltb, ◌≢◌, List, [], ◌∷◌, ◌++◌, map, length, get_or, Err, All, Any, AllPairs, sym, refl, ap, ◌∙◌, subst, ⊎_elim, append_assoc, arith, ltb-false, ltb-true, ne_eqb, eqb-true, cases_Bool, eqb-false, All-map, get_or_default, length_push, with_bytes, Discipline, Lent, Served, TookBack, HaveOwnNumbers}
+use Rattle.std.proofs.lemmas.List.{append_cancel_left}
+use Rattle.vc_model.specs.Discipline.{Extended, extend_last}
+use Rattle.vc_model.specs.Segments.{with_more}
 use Rattle.vc_layouts.proofs.Lists.{AllPairs-map}
 use Rattle.vc_model.proofs.Keeping.{Kept-same}
 use Rattle.vc_base.proofs.Overwrites.{length-with_bytes}
+use Rattle.vc_seg.proofs.Backs.{extend_last-push}
 use Rattle.vc_seg.specs.Answer.{Asks}
 use Rattle.vc_seg.specs.Segment.{AreSegments, Bytes, pair_of}
 use Rattle.vc_seg.specs.declared.fault.RegionFault.{RegionFault}
@@ -48,6 +52,31 @@ Served-lent old new segments segments' n bytes e lent =
       out = λ rest o. lent.out ∙ (ap (λ (xs : List (ℕ × ℕ)). xs ++ (n, bytes) ∷ []) o ∙ (append_assoc rest segments ((n, bytes) ∷ []) ∙ ap (λ (xs : List (ℕ × ℕ)). rest ++ xs) (sym e)));
       room = λ other. lent.room;
       same = λ same. absurd (omega (arith, length_push segments (n, bytes), ap length (sym same ∙ e)));
+    }
+
+-- the segment lent latest has more bytes, whatever stands before it
+pub with_more-push : (more : ℕ) (front : List (ℕ × ℕ)) (p : ℕ × ℕ) → with_more more (front ++ p ∷ []) ≡ front ++ (p.0, p.1 + more) ∷ []
+with_more-push more [] p = refl
+with_more-push more (x ∷ []) p = refl
+with_more-push more (x ∷ y ∷ ys) p = ap (λ (zs : List (ℕ × ℕ)). x ∷ zs) (with_more-push more (y ∷ ys) p)
+
+-- a discipline that made the segment lent latest longer
+pub Served-extended : (old new : Discipline) (front segments segments' : List (ℕ × ℕ)) (n size more : ℕ) → segments ≡ front ++ (n, size) ∷ [] → segments' ≡ front ++ (n, size + more) ∷ [] → 1 ≤ more → Extended old new (n, size) more
+    → Served old new segments segments' more
+Served-extended old new front segments segments' n size more e e' some extended =
+    record {
+      kept = extended.kept;
+      faults = extended.faults;
+      out = λ rest o.
+          let whole : old.out ≡ (rest ++ front) ++ (n, size) ∷ [] = o ∙ (ap (λ (xs : List (ℕ × ℕ)). rest ++ xs) e ∙ sym (append_assoc rest front ((n, size) ∷ []))) in
+          extended.out
+          ∙ (ap (extend_last (n, size) more) whole
+          ∙ (extend_last-push (n, size) more (rest ++ front) ∙ (append_assoc rest front ((n, size + more) ∷ []) ∙ ap (λ (xs : List (ℕ × ℕ)). rest ++ xs) (sym e'))));
+      room = λ other. extended.room;
+      same = λ same.
+          let last : (n, size + more) ∷ [] ≡ (n, size) ∷ [] = append_cancel_left front ((n, size + more) ∷ []) ((n, size) ∷ []) (sym e' ∙ (same ∙ e)) in
+          let equal : size + more ≡ size = ap (λ (xs : List (ℕ × ℕ)). (get_or xs 0 (0, 0)).1) last in
+          absurd (omega (arith, equal, some));
     }
 
 -- the segments may be told by an equal list

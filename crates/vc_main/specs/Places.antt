@@ -1,5 +1,5 @@
 -- What the programs hand to their tools: the disciplines at the places of the shelf, and the kinds of dictionaries.
-use Rattle.std.specs.Prelude.{ℕ, List, [], ◌∷◌, None, nat_le, if◌then◌else◌}
+use Rattle.std.specs.Prelude.{ℕ, List, [], ◌∷◌, None, false, nat_le, if◌then◌else◌}
 use Rattle.vc_dtdisc.specs.declared.shape.Shape.{Shape}
 use Rattle.vc_dtdisc.specs.declared.shape.Shape.TheVariants.{Whole, Field, Text, Fold, Reverse, Clip}
 use Rattle.vc_model.specs.Discipline.{Discipline}
@@ -7,11 +7,11 @@ use Rattle.vc_seg.specs.Budget.{Budget}
 
 -- up to place 8 a discipline that rounds to 4,096 bytes, and from 9 to 12 one that rounds to 65,536; it tells no room
 abbrev pub heap_at : ℕ → Discipline
-heap_at place = record { out = []; faults = 0; terms = record { round = if nat_le place 8 then 4096 else 65536 }; room = None }
+heap_at place = record { out = []; faults = 0; terms = record { round = if nat_le place 8 then 4096 else 65536; grows = false }; room = None }
 
 -- from place 13 to 16 one that rounds to 4,096 bytes and has a budget of 1,048,576
 abbrev pub budgeted : Budget
-budgeted = record { budget = 1048576; out = []; faults = 0; terms = record { round = 4096 } }
+budgeted = record { budget = 1048576; out = []; faults = 0; terms = record { round = 4096; grows = false } }
 
 -- the shapes of the kinds, from kind 1 on
 abbrev pub shapes : List Shape

@@ -1,11 +1,12 @@
 -- What a segment discipline means to whoever asks it for segments.
-use Rattle.std.specs.Prelude.{◌≡◌, ◌≢◌, ℕ, ◌%◌, ◌<◌, ◌≤◌, ◌==◌, ◌&&◌, List, [], ◌∷◌, ◌++◌, Bool, Option, IfSome, if◌then◌else◌}
+use Rattle.std.specs.Prelude.{◌≡◌, ◌≢◌, ℕ, ◌+◌, ◌-◌, ◌%◌, ◌<◌, ◌≤◌, ◌==◌, ◌&&◌, List, [], ◌∷◌, ◌++◌, Bool, true, Option, Contains, IfSome, option_map, if◌then◌else◌}
 use Rattle.std.specs.List.{list_any}
 use Rattle.vc_model.specs.Count.{Rose}
 
--- what is constant of a discipline: the bytes to a multiple of which sizes are rounded up
+-- what is constant of a discipline: the bytes to a multiple of which sizes are rounded up, and whether it may be asked to make a segment longer
 pub record Terms : Type 0 where
   pub round : ℕ
+  pub grows : Bool
 
 -- the segments that are out, as number and bytes; the refusals so far; the bytes that it can still lend, where it tells them
 pub record Discipline : Type 0 where
@@ -76,3 +77,24 @@ same_pair p q = (p.0 == q.0) && (p.1 == q.1)
 abbrev pub without_last : ℕ × ℕ → List (ℕ × ℕ) → List (ℕ × ℕ)
 without_last p [] = []
 without_last p (q ∷ qs) = if list_any (same_pair p) qs then q ∷ without_last p qs else (if same_pair p q then qs else q ∷ qs)
+
+-- a list in which the last pair that is equal to this one has so many bytes more
+abbrev pub extend_last : ℕ × ℕ → ℕ → List (ℕ × ℕ) → List (ℕ × ℕ)
+extend_last p more [] = []
+extend_last p more (q ∷ qs) = if list_any (same_pair p) qs then q ∷ extend_last p more qs else (if same_pair p q then (q.0, q.1 + more) ∷ qs else q ∷ qs)
+
+-- a discipline may be asked for so many bytes more of a segment: it grows, the segment is out, the bytes are a multiple of the round and at least that, and the segment's size stays legal
+pub record CanExtend (d : Discipline) (pair : ℕ × ℕ) (more : ℕ) : Type 0 where
+  pub grows : d.terms.grows ≡ true
+  pub out : Contains d.out pair
+  pub some : 1 ≤ more
+  pub multiple : more % d.terms.round ≡ 0
+  pub size : IsSegmentSize (pair.1 + more)
+
+-- a segment was made longer: its pair has the new size, and the room held the bytes where it is told, and is less by them
+pub record Extended (old new : Discipline) (pair : ℕ × ℕ) (more : ℕ) : Type 0 where
+  pub kept : Kept old new
+  pub out : new.out ≡ extend_last pair more old.out
+  pub faults : new.faults ≡ old.faults
+  pub room : IfSome old.room (λ room. more ≤ room)
+  pub spent : new.room ≡ option_map (λ room. room - more) old.room

@@ -21,3 +21,4 @@ pub mod Pool
 pub mod Last
 pub mod Rows
 pub mod PoolRows
+pub mod GrowthRows

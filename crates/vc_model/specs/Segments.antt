@@ -1,6 +1,6 @@
 -- The segments of a region, as number and size in bytes, in order of lending.
-use Rattle.std.specs.Prelude.{ℕ, ◌+◌, ◌-◌, ◌*◌, ◌/◌, zero, suc, List, [], ◌∷◌, ◌++◌, Bool, true, length, map, nat_lt, ◌==◌, if◌then◌else◌}
-use Rattle.std.specs.List.{list_any}
+use Rattle.std.specs.Prelude.{ℕ, ◌+◌, ◌-◌, ◌*◌, ◌/◌, zero, suc, List, [], ◌∷◌, ◌++◌, Bool, true, false, Option, Some, None, length, map, nat_le, nat_lt, ◌==◌, if◌then◌else◌}
+use Rattle.std.specs.List.{last_or, list_any}
 use Rattle.vc_model.specs.Discipline.{Terms}
 
 -- n, rounded up to a multiple of the unit
@@ -60,6 +60,26 @@ ask_new bytes segments refused =
     then (if refused then NotLent else Granted (new_segment (lowest_unused (numbers segments)) bytes))
     else TooMany
 
+-- a segment has at most so many bytes
+abbrev pub size_limit : ℕ
+size_limit = 33554432
+
+-- the segment that gets more bytes where they are asked for: the one lent latest, where the discipline grows
+abbrev pub growing : Terms → List (ℕ × ℕ) → Option (ℕ × ℕ)
+growing terms segments = if terms.grows then last_or None segments else None
+
+-- asking for more bytes of a segment
+abbrev pub ask_more : ℕ → ℕ × ℕ → Bool → Asked
+ask_more bytes s refused =
+    if nat_le (s.1 + bytes) size_limit
+    then (if refused then NotLent else Granted (record { number = s.0; bytes = bytes; fresh = false }))
+    else TooMany
+
+-- asking for more of a segment, where there is one that may grow, or for a new one
+abbrev pub ask_by : Option (ℕ × ℕ) → ℕ → List (ℕ × ℕ) → Bool → Asked
+ask_by None bytes segments refused = ask_new bytes segments refused
+ask_by (Some s) bytes segments refused = ask_more bytes s refused
+
 -- asking a discipline of these terms for so many bytes, a multiple of the round; whether it refuses is the one free choice
 abbrev pub ask : Terms → ℕ → List (ℕ × ℕ) → Bool → Asked
-ask terms bytes segments refused = ask_new bytes segments refused
+ask terms bytes segments refused = ask_by (growing terms segments) bytes segments refused

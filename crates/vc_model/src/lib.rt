@@ -2,12 +2,14 @@
 //! of every crate cite. The functions here have no code: each states rows of the definitions, which the check computes.
 #![tactic(auto)]
 
+mod growth_rows;
 mod last_rows;
 mod number_rows;
 mod pool_rows;
 mod rows;
 mod walk_rows;
 
+pub use growth_rows::{asking_to_grow, blocks_where_it_grows, extending, growing};
 pub use last_rows::{last_blocks, last_compacting, last_resizing, last_segments};
 pub use number_rows::{numbers_of_nine_blocks, numbers_of_nothing, numbers_of_one_block};
 pub use pool_rows::{

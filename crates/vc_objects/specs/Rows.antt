@@ -20,7 +20,7 @@ by_fold = rules_of Fold
 
 -- sizes of segments are rounded to 4,096 bytes
 abbrev pub by_page : Terms
-by_page = record { round = 4096 }
+by_page = record { round = 4096; grows = false }
 
 -- an object of one byte in the holder at an offset of segment 1, which is 32 times a number
 abbrev pub byte_at_place : ℕ → ℕ → Object

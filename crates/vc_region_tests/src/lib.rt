@@ -1,4 +1,4 @@
-//! Tests of what regions stand on: splay trees, extents, gaps and best regions.
+//! Tests of what regions stand on: segments that grow, splay trees, extents, gaps and best regions.
 #![tactic(auto)]
 
 #[cfg(test)]
@@ -7,4 +7,6 @@ mod best;
 mod extent;
 #[cfg(test)]
 mod gaps;
+#[cfg(test)]
+mod seg;
 pub mod splay;

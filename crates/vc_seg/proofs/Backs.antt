@@ -1,6 +1,7 @@
 -- A segment that is taken back.
 use Rattle.vc_base.proofs.Common.{◌≡◌, ℕ, zero, suc, ◌+◌, ◌<◌, ◌≤◌, Bool, true, false, not, ◌&&◌, eqb, leb, ◌≢◌, List, [], ◌∷◌, ◌++◌, map, length, get_or, replicate, ◌==◌, All, Contains, filter, remove, AllPairs, sym, refl, ap, ◌∙◌, subst, ⊎_elim, arith, eq-eqb, ne_eqb, eqb-true, le-leb, nat_tests, and_from, and_left, cases_Bool, lt-leb, or_from, or_left, or_right, All-filter, All-head, All-map, All-tail, filter_agree, list_any-append, AllPairs-filter, count_by-le-length, length-filter, get_or-map, length-map, list_any, Discipline, HasOut, TookBack, same_pair, without_last}
 use Rattle.std.proofs.lemmas.List.Elements.{Contains-append_right}
+use Rattle.vc_model.specs.Discipline.{extend_last}
 use Rattle.vc_model.proofs.Keeping.{Kept-same, Kept-trans}
 use Rattle.vc_seg.specs.Segment.{AreSegments, Bytes, IsRegionSegment, pair_of}
 use Rattle.vc_seg.specs.Back.{is_kept, is_marked, stays_from}
@@ -9,6 +10,14 @@ use Rattle.vc_seg.proofs.Filters.{filter-filter, filter-all, filter-agree_on}
 
 same_pair-self : (p : ℕ × ℕ) → same_pair p p ≡ true
 same_pair-self p = and_from (eqb p.0 p.0) (eqb p.1 p.1) (eq-eqb p.0 p.0 refl) (eq-eqb p.1 p.1 refl)
+
+-- one more pair gets the bytes, whatever stands before it
+pub extend_last-push : (p : ℕ × ℕ) (more : ℕ) (xs : List (ℕ × ℕ)) → extend_last p more (xs ++ p ∷ []) ≡ xs ++ (p.0, p.1 + more) ∷ []
+extend_last-push p more [] = rw (same_pair-self p) refl
+extend_last-push p more (x ∷ xs) =
+    let found : list_any (same_pair p) (xs ++ p ∷ []) ≡ true =
+    list_any-append (same_pair p) xs (p ∷ []) ∙ or_right (list_any (same_pair p) xs) (list_any (same_pair p) (p ∷ [])) (or_left (same_pair p p) false (same_pair-self p)) in
+    rw found (ap (λ (zs : List (ℕ × ℕ)). x ∷ zs) (extend_last-push p more xs))
 
 -- what stands before the last such pair stays
 without_last-append : (p : ℕ × ℕ) (xs ys : List (ℕ × ℕ)) → list_any (same_pair p) ys ≡ true → without_last p (xs ++ ys) ≡ xs ++ without_last p ys

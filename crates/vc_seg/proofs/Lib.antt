@@ -8,6 +8,7 @@ pub mod Values
 pub mod Walks
 pub mod Lodging
 pub mod Unused
+pub mod Asking
 pub mod Grants
 pub mod Overwrites
 pub mod Copies

@@ -1,5 +1,5 @@
 -- A segment as a number and a list of bytes, and those of a region in order of lending.
-use Rattle.std.specs.Prelude.{◌≢◌, ℕ, ◌≤◌, List, All, AllPairs, length, replicate}
+use Rattle.std.specs.Prelude.{◌≢◌, ℕ, ◌≤◌, List, ◌++◌, All, AllPairs, length, replicate}
 use Rattle.vc_seg.specs.Numbered.{IsRegionPair}
 
 pub record Bytes : Type 0 where
@@ -9,6 +9,10 @@ pub record Bytes : Type 0 where
 -- a segment of zeros
 abbrev pub zero_segment : ℕ → ℕ → Bytes
 zero_segment number size = record { number = number; bytes = replicate size 0 }
+
+-- a segment with so many zeros more behind its bytes
+abbrev pub grown_segment : ℕ → Bytes → Bytes
+grown_segment more s = record { number = s.number; bytes = s.bytes ++ replicate more 0 }
 
 -- its number and its size in bytes
 abbrev pub pair_of : Bytes → ℕ × ℕ

@@ -12,6 +12,10 @@ impl SegDisc for Box<dyn SegDisc> {
         (**self).round()
     }
 
+    fn grows(&self) -> bool {
+        (**self).grows()
+    }
+
     fn faults(&self) -> u64 {
         (**self).faults()
     }
@@ -22,6 +26,10 @@ impl SegDisc for Box<dyn SegDisc> {
 
     fn lend(&mut self, alloc: Global, number: u32, size: u32) -> Result<Segment, LendFault> {
         (**self).lend(alloc, number, size)
+    }
+
+    fn extend(&mut self, alloc: Global, seg: &mut Segment, more: u32) -> Result<(), LendFault> {
+        (**self).extend(alloc, seg, more)
     }
 
     fn take_back(&mut self, seg: Segment) {

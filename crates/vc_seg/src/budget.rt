@@ -1,4 +1,4 @@
-ghost use Rattle.std.specs.Prelude.{◌≡◌, ◌+◌, ◌%◌, ◌<◌, ◌↔◌, [], Some, length, Contains, IfOk, OnOk, IsErrOf};
+ghost use Rattle.std.specs.Prelude.{◌≡◌, ◌+◌, ◌%◌, ◌<◌, ◌↔◌, [], Some, false, length, Contains, IfOk, OnOk, IsErrOf};
 ghost use Rattle.vc_base.specs.Prelude.{IsRound, IsSegmentSize, Lent, Unserved};
 ghost use Rattle.vc_model.specs.Count.{next_count};
 ghost use Rattle.vc_seg.specs.Budget.{discipline_of, left_in_budget};
@@ -23,7 +23,7 @@ pub struct BudgetDisc {
 }
 
 impl Model for BudgetDisc {
-    ghost use Rattle.std.specs.Prelude.{◌≡◌, ◌+◌};
+    ghost use Rattle.std.specs.Prelude.{◌≡◌, ◌+◌, false};
     ghost use Rattle.vc_base.specs.Prelude.{IsRound};
     ghost use Rattle.vc_seg.specs.Budget.{Budget, bytes_of};
 
@@ -33,7 +33,7 @@ impl Model for BudgetDisc {
       budget = d.budget;
       out = d.lent;
       faults = d.refusals;
-      terms = record { round = d.unit };
+      terms = record { round = d.unit; grows = false };
     } };
 
     ghost invariant = { λ d. IsRound d.unit × (d.left + bytes_of d.lent ≡ d.budget) };
@@ -48,7 +48,7 @@ impl BudgetDisc {
           budget = budget;
           out = [];
           faults = 0;
-          terms = record { round = round };
+          terms = record { round = round; grows = false };
         } }
     {
         BudgetDisc {
@@ -66,6 +66,12 @@ impl SegDisc for BudgetDisc {
 
     fn round(&self) -> u32 {
         self.unit
+    }
+
+    fn grows(&self) -> bool {
+        // A look at a field shows what every value has.
+        let _ = &self.unit;
+        false
     }
 
     fn faults(&self) -> u64 {
@@ -104,6 +110,12 @@ impl SegDisc for BudgetDisc {
         let segment = self.lent.lend(alloc, number, size)?;
         self.left -= bytes;
         Ok(segment)
+    }
+
+    // It doesn't grow, so nothing meets the condition.
+    fn extend(&mut self, _: Global, _: &mut Segment, _: u32) -> Result<(), LendFault> {
+        let _ = &self.unit;
+        unreachable!()
     }
 
     fn take_back(&mut self, seg: Segment)

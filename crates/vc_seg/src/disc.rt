@@ -1,7 +1,8 @@
-ghost use Rattle.std.specs.Prelude.{◌≡◌, ◌%◌, Contains, IfOk, OnOk, IsErrOf};
+ghost use Rattle.std.specs.Prelude.{◌≡◌, ◌%◌, Contains, IfOk, OnErr, OnOk, IsErrOf};
 ghost use Rattle.vc_base.specs.Prelude.{Discipline, IsRound, IsSegmentSize, Lent, Unserved};
+ghost use Rattle.vc_model.specs.Discipline.{CanExtend, Extended};
 ghost use Rattle.vc_seg.specs.Returned.{Returned};
-ghost use Rattle.vc_seg.specs.Segment.{zero_segment, pair_of};
+ghost use Rattle.vc_seg.specs.Segment.{grown_segment, zero_segment, pair_of};
 
 use crate::{LendFault, Segment};
 use std::alloc::Global;
@@ -16,7 +17,11 @@ pub trait SegDisc: Drop {
         ensures value { result ≡ (state self.now).terms.round }
         ensures legal { IsRound result };
 
-    /// How often a lend was refused. It never falls, and stays at the greatest u64 once there.
+    /// Whether it makes a segment that is out longer where it is asked for more (`extend`): a constant.
+    fn grows(&self) -> bool
+        ensures { result ≡ (state self.now).terms.grows };
+
+    /// How often a lend or an extension was refused. It never falls, and stays at the greatest u64 once there.
     fn faults(&self) -> u64
         ensures { result ≡ (state self.now).faults };
 
@@ -37,6 +42,23 @@ pub trait SegDisc: Drop {
             → Unserved (state self.old) (state self.new) size }
         ensures no_memory { IsErrOf result LendFault.OutOfMemory → state self.new
             ≡ state self.old };
+
+    /// Makes a segment that is out longer: it gets so many zeros behind its bytes, and its pair that many bytes. The
+    /// discipline grows, and the bytes are a multiple of the round from the round on, with which the segment's size stays
+    /// at most 33,554,432. With a refusal, or with no memory, the segment stays.
+    fn extend(&mut self, alloc: Global, seg: &mut Segment, more: u32) -> Result<(), LendFault>
+        requires { CanExtend (state self.old) (pair_of seg.old) more }
+
+        ensures segment { OnOk result (seg.new ≡ grown_segment more seg.old) }
+        ensures extended { OnOk result (Extended
+            (state self.old) (state self.new) (pair_of seg.old) more) }
+
+        // Refused comes only where the faults rose, and where the room is told, only where the bytes are above it.
+        ensures refused { IsErrOf result LendFault.Refused
+            → Unserved (state self.old) (state self.new) more }
+        ensures no_memory { IsErrOf result LendFault.OutOfMemory → state self.new
+            ≡ state self.old }
+        ensures same { OnErr result (seg.new ≡ seg.old) };
 
     /// Takes a segment back that is out: the last pair of that number and size. It cannot fail.
     fn take_back(&mut self, seg: Segment)

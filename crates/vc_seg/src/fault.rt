@@ -3,7 +3,7 @@ ghost use Rattle.std.specs.Prelude.{◌≡◌};
 use thiserror::Error;
 use vc_base::OutOfMemory;
 
-/// Why a segment was not lent.
+/// Why a segment was not lent, or not made longer.
 #[derive(Clone, Copy, Debug, PartialEq, Eq, Error)]
 pub enum LendFault {
     /// The discipline refused.

@@ -1,4 +1,4 @@
-ghost use Rattle.std.specs.Prelude.{◌≡◌, ℕ, ◌%◌, ◌<◌, ◌≤◌, ◌↔◌, List, [], ◌∷◌, ◌++◌, None, length, Contains, IfSome, IfOk, OnOk, OnErr, IsErrOf};
+ghost use Rattle.std.specs.Prelude.{◌≡◌, ℕ, ◌%◌, ◌<◌, ◌≤◌, ◌↔◌, List, [], ◌∷◌, ◌++◌, None, false, length, Contains, IfSome, IfOk, OnOk, OnErr, IsErrOf};
 ghost use Rattle.vc_base.specs.Prelude.{Rose, Discipline, IsRound, IsSegmentSize, Lent, Unserved};
 ghost use Rattle.vc_model.specs.Count.{next_count};
 ghost use Rattle.vc_seg.specs.Returned.{Returned};
@@ -22,7 +22,7 @@ pub struct FuseDisc {
 }
 
 impl Model for FuseDisc {
-    ghost use Rattle.std.specs.Prelude.{None};
+    ghost use Rattle.std.specs.Prelude.{None, false};
     ghost use Rattle.vc_base.specs.Prelude.{IsRound};
     ghost use Rattle.vc_seg.specs.Fuse.{Fuse};
 
@@ -32,7 +32,7 @@ impl Model for FuseDisc {
       discipline = record {
         out = d.lent;
         faults = d.refusals;
-        terms = record { round = d.unit };
+        terms = record { round = d.unit; grows = false };
         room = None;
       };
       fails = d.fails.items;
@@ -48,7 +48,7 @@ impl FuseDisc {
     pub fn new(round: u32, fails: Vec<u64>) -> FuseDisc
         requires { IsRound round }
         ensures meaning { result.discipline
-            ≡ record { out = []; faults = 0; terms = record { round = round }; room = None } }
+            ≡ record { out = []; faults = 0; terms = record { round = round; grows = false }; room = None } }
         ensures fails { result.fails ≡ fails.items }
         ensures calls { result.calls ≡ 0 }
     {
@@ -69,6 +69,12 @@ impl SegDisc for FuseDisc {
         self.unit
     }
 
+    fn grows(&self) -> bool {
+        // A look at a field shows what every value has.
+        let _ = &self.unit;
+        false
+    }
+
     fn faults(&self) -> u64 {
         self.refusals
     }
@@ -77,7 +83,6 @@ impl SegDisc for FuseDisc {
         ensures value { result ≡ self.now.discipline.room }
         ensures untold { result ≡ None }
     {
-        // A look at a field shows what every value has.
         let _ = &self.unit;
         None
     }
@@ -107,6 +112,12 @@ impl SegDisc for FuseDisc {
             return Err(LendFault::Refused);
         }
         Ok(self.lent.lend(alloc, number, size)?)
+    }
+
+    // It doesn't grow, so nothing meets the condition.
+    fn extend(&mut self, _: Global, _: &mut Segment, _: u32) -> Result<(), LendFault> {
+        let _ = &self.unit;
+        unreachable!()
     }
 
     fn take_back(&mut self, seg: Segment)

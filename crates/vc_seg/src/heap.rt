@@ -1,4 +1,4 @@
-ghost use Rattle.std.specs.Prelude.{◌≡◌, ℕ, ◌%◌, ◌<◌, ◌≤◌, List, [], ◌∷◌, ◌++◌, None, length, Contains, IfSome, IfOk, OnOk, OnErr, IsErrOf};
+ghost use Rattle.std.specs.Prelude.{◌≡◌, ℕ, ◌%◌, ◌<◌, ◌≤◌, List, [], ◌∷◌, ◌++◌, None, false, length, Contains, IfSome, IfOk, OnOk, OnErr, IsErrOf};
 ghost use Rattle.vc_base.specs.Prelude.{Rose, Discipline, IsRound, IsSegmentSize, Lent, Unserved};
 ghost use Rattle.vc_seg.specs.Returned.{Returned};
 ghost use Rattle.vc_seg.specs.Segment.{zero_segment, pair_of};
@@ -16,7 +16,7 @@ pub struct HeapDisc {
 }
 
 impl Model for HeapDisc {
-    ghost use Rattle.std.specs.Prelude.{None};
+    ghost use Rattle.std.specs.Prelude.{None, false};
     ghost use Rattle.vc_base.specs.Prelude.{Discipline, IsRound};
 
     ghost Value = { Discipline };
@@ -24,7 +24,7 @@ impl Model for HeapDisc {
     ghost view = { λ d. record {
       out = d.lent;
       faults = 0;
-      terms = record { round = d.unit };
+      terms = record { round = d.unit; grows = false };
       room = None;
     } };
 
@@ -38,7 +38,7 @@ impl HeapDisc {
         ensures { result ≡ record {
           out = [];
           faults = 0;
-          terms = record { round = round };
+          terms = record { round = round; grows = false };
           room = None;
         } }
     {
@@ -56,11 +56,16 @@ impl SegDisc for HeapDisc {
         self.unit
     }
 
+    fn grows(&self) -> bool {
+        // A look at a field shows what every value has.
+        let _ = &self.unit;
+        false
+    }
+
     fn faults(&self) -> u64
         ensures value { result ≡ self.now.faults }
         ensures zero { result ≡ 0 }
     {
-        // A look at a field shows what every value has.
         let _ = &self.unit;
         0
     }
@@ -84,6 +89,12 @@ impl SegDisc for HeapDisc {
         ensures no_memory { IsErrOf result LendFault.OutOfMemory → self.new ≡ self.old }
     {
         Ok(self.lent.lend(alloc, number, size)?)
+    }
+
+    // It doesn't grow, so nothing meets the condition.
+    fn extend(&mut self, _: Global, _: &mut Segment, _: u32) -> Result<(), LendFault> {
+        let _ = &self.unit;
+        unreachable!()
     }
 
     fn take_back(&mut self, seg: Segment)

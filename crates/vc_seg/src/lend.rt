@@ -1,7 +1,9 @@
-ghost use Rattle.std.specs.Prelude.{◌≡◌, ◌≢◌, ◌%◌, ◌≤◌, ◌⊎◌, Err, IfErr, IfOk, OnOk, IsErrOf, false, length, map};
+ghost use Rattle.std.specs.Prelude.{◌≡◌, ◌≢◌, ◌%◌, ◌≤◌, ◌⊎◌, Err, IfErr, IfOk, OnErr, OnOk, IsErrOf, None, false, length, map};
 ghost use Rattle.vc_base.specs.Prelude.{IsRound, IsSegmentSize, Lent, Unserved, TooMany, ask};
+ghost use Rattle.vc_model.specs.Discipline.{CanExtend, Extended, Kept};
+ghost use Rattle.vc_model.specs.Segments.{growing};
 ghost use Rattle.vc_seg.specs.Lend.{IsAsked, IsGrantOf, IsNoGrant};
-ghost use Rattle.vc_seg.specs.Segment.{zero_segment};
+ghost use Rattle.vc_seg.specs.Segment.{grown_segment, pair_of, zero_segment};
 
 use crate::number::lowest_unused;
 use crate::{LendFault, Numbered, RegionFault, SegDisc, Segment};
@@ -13,6 +15,13 @@ pub fn round_of(disc: &Box<dyn SegDisc>) -> u32
     ensures legal { IsRound result }
 {
     disc.round()
+}
+
+/// Whether a discipline makes a segment longer where it is asked for more.
+pub fn grows_of(disc: &Box<dyn SegDisc>) -> bool
+    ensures { result ≡ (state disc.now).terms.grows }
+{
+    disc.grows()
 }
 
 /// A segment of zeros that a discipline lends under that number, as `SegDisc::lend`: the size in bytes is a multiple of
@@ -34,8 +43,34 @@ pub fn obtain(
         → Unserved (state disc.old) (state disc.new) size }
     ensures no_memory { IsErrOf result LendFault.OutOfMemory
         → state disc.new ≡ state disc.old }
+    ensures kept { Kept (state disc.old) (state disc.new) }
 {
     disc.lend(alloc, number, size)
+}
+
+/// A segment that is out made longer by so many zeros, as `SegDisc::extend`: the discipline grows, and the bytes are a
+/// multiple of its round from that on, with which the segment's size stays at most 33,554,432. A region asks for more of
+/// a segment by this call alone.
+pub fn obtain_more(
+    disc: &mut Box<dyn SegDisc>,
+    alloc: Global,
+    seg: &mut Segment,
+    more: u32,
+) -> Result<(), LendFault>
+    requires { CanExtend (state disc.old) (pair_of seg.old) more }
+
+    ensures segment { OnOk result (seg.new ≡ grown_segment more seg.old) }
+    ensures extended { OnOk result (Extended (state disc.old) (state disc.new) (pair_of seg.old) more) }
+
+    // Refused comes only where the faults rose, and where the room is told, only where the bytes are above it.
+    ensures refused { IsErrOf result LendFault.Refused
+        → Unserved (state disc.old) (state disc.new) more }
+    ensures no_memory { IsErrOf result LendFault.OutOfMemory
+        → state disc.new ≡ state disc.old }
+    ensures same { OnErr result (seg.new ≡ seg.old) }
+    ensures kept { Kept (state disc.old) (state disc.new) }
+{
+    disc.extend(alloc, seg, more)
 }
 
 /// A segment of zeros that a discipline lends to a region under that number, as `obtain`. `NoSegment` comes where the
@@ -64,8 +99,34 @@ pub fn lend_segment(
     }
 }
 
+/// A segment of a region made longer by so many zeros, as `obtain_more`. `NoSegment` comes where the discipline refuses,
+/// and `OutOfMemory` for want of memory.
+pub fn extend_segment(
+    disc: &mut Box<dyn SegDisc>,
+    alloc: Global,
+    seg: &mut Segment,
+    more: u32,
+) -> Result<(), RegionFault>
+    requires { CanExtend (state disc.old) (pair_of seg.old) more }
+
+    ensures segment { OnOk result (seg.new ≡ grown_segment more seg.old) }
+    ensures extended { OnOk result (Extended (state disc.old) (state disc.new) (pair_of seg.old) more) }
+
+    ensures only { IfErr result (λ e. (e ≡ RegionFault.NoSegment) ⊎ (e ≡ RegionFault.OutOfMemory)) }
+    ensures refused { IsErrOf result RegionFault.NoSegment
+        → Unserved (state disc.old) (state disc.new) more }
+    ensures no_memory { IsErrOf result RegionFault.OutOfMemory → state disc.new ≡ state disc.old }
+    ensures same { OnErr result (seg.new ≡ seg.old) }
+{
+    match obtain_more(disc, alloc, seg, more) {
+        Ok(()) => Ok(()),
+        Err(LendFault::Refused) => Err(RegionFault::NoSegment),
+        Err(LendFault::OutOfMemory) => Err(RegionFault::OutOfMemory),
+    }
+}
+
 /// A segment of zeros that a discipline lends to a region with these, under the least number that none of them has, of so
-/// many bytes. `TooManySegments` comes exactly where there are 1,023, `NoSegment` where the discipline refuses, and
+/// many bytes. None of them may be made longer instead. `TooManySegments` comes exactly where there are 1,023, `NoSegment` where the discipline refuses, and
 /// `OutOfMemory` for want of memory.
 pub fn lend_next<T: Numbered>(
     segs: &[T],
@@ -73,6 +134,7 @@ pub fn lend_next<T: Numbered>(
     alloc: Global,
     bytes: u32,
 ) -> Result<Segment, RegionFault>
+    requires new { growing (state disc.old).terms (map T.pair segs.now) ≡ None }
     requires few { length segs.now ≤ 1023 }
     requires bytes { IsSegmentSize bytes }
     requires multiple { bytes % (state disc.old).terms.round ≡ 0 }

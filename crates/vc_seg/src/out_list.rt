@@ -1,8 +1,8 @@
-ghost use Rattle.std.specs.Prelude.{◌≡◌, ℕ, ◌+◌, ◌<◌, List, [], ◌∷◌, ◌++◌, length, remove, slice_index_or, Contains, IfOk, OnOk, OnErr};
+ghost use Rattle.std.specs.Prelude.{◌≡◌, ℕ, ◌+◌, ◌<◌, List, [], ◌∷◌, ◌++◌, length, remove, slice_index_or, slice_set, Contains, IfOk, OnOk, OnErr};
 ghost use Rattle.vc_base.specs.Prelude.{IsSegmentSize};
-ghost use Rattle.vc_model.specs.Discipline.{without_last};
+ghost use Rattle.vc_model.specs.Discipline.{extend_last, without_last};
 ghost use Rattle.vc_seg.specs.Budget.{bytes_of};
-ghost use Rattle.vc_seg.specs.Segment.{zero_segment, pair_of};
+ghost use Rattle.vc_seg.specs.Segment.{grown_segment, zero_segment, pair_of};
 
 use crate::Segment;
 use std::alloc::Global;
@@ -59,6 +59,26 @@ impl OutList {
         Ok(())
     }
 
+    /// Makes a segment that is out longer by so many zeros: the last pair that is equal to its own gets that many bytes.
+    #[tactic(auto, using(crate::proofs::LastPair::more_in_pair))]
+    pub fn extend(&mut self, alloc: Global, seg: &mut Segment, more: u32) -> Result<(), OutOfMemory>
+        requires out { Contains self.old (pair_of seg.old) }
+        requires size { IsSegmentSize (length seg.old.bytes + more) }
+        ensures segment { OnOk result (seg.new ≡ grown_segment more seg.old) }
+        ensures out { OnOk result (self.new ≡ extend_last (pair_of seg.old) more self.old) }
+        ensures bytes { OnOk result (bytes_of self.new ≡ bytes_of self.old + more) }
+        ensures err { OnErr result (self.new ≡ self.old) }
+        ensures same { OnErr result (seg.new ≡ seg.old) }
+    {
+        let (number, size) = (seg.number(), seg.size());
+        seg.grow(alloc, more)?;
+        if let Some(pairs) = &mut self.pairs {
+            let place = last_place(pairs, number, size);
+            pairs[place] = (number, size + more);
+        }
+        Ok(())
+    }
+
     /// Takes a segment back that is out: the last pair that is equal to its own goes.
     #[tactic(auto, using(crate::proofs::LastPair::less_one_pair))]
     pub fn take_back(&mut self, seg: Segment)
@@ -78,6 +98,8 @@ fn last_place(pairs: &[(u32, u32)], number: u32, size: u32) -> usize
     requires { Contains pairs.now (number, size) }
     ensures within { result < length pairs.now }
     ensures last { remove pairs.now result ≡ without_last (number, size) pairs.now }
+    ensures longer { (more : ℕ) → slice_set pairs.now result (number, size + more)
+        ≡ extend_last (number, size) more pairs.now }
     ensures bytes { (slice_index_or pairs.now result (0, 0)).1 ≡ size }
 {
     let mut end = pairs.len();

@@ -1,6 +1,6 @@
-ghost use Rattle.std.specs.Prelude.{◌≡◌, ℕ, ◌%◌, ◌≤◌, length, IfOk};
+ghost use Rattle.std.specs.Prelude.{◌≡◌, ℕ, ◌+◌, ◌%◌, ◌≤◌, length, IfOk, OnErr, OnOk};
 ghost use Rattle.vc_base.specs.Prelude.{IsSegmentSize};
-ghost use Rattle.vc_seg.specs.Segment.{zero_segment};
+ghost use Rattle.vc_seg.specs.Segment.{grown_segment, zero_segment};
 
 use crate::block::{Block, take};
 use std::alloc::Global;
@@ -56,6 +56,20 @@ impl Segment {
             }),
             None => Err(OutOfMemory),
         }
+    }
+
+    /// Puts so many zeros behind its bytes, a multiple of 32 with which its size stays at most 33,554,432. With no memory it
+    /// stays as it is.
+    pub fn grow(&mut self, alloc: Global, more: u32) -> Result<(), OutOfMemory>
+        requires { IsSegmentSize (length self.old.bytes + more) }
+        ensures grown { OnOk result (self.new ≡ grown_segment more self.old) }
+        ensures same { OnErr result (self.new ≡ self.old) }
+    {
+        let size = self.size();
+        let mut grown = Segment::take(alloc, self.number, size + more)?;
+        grown.carry(0, self, 0, size);
+        *self = grown;
+        Ok(())
     }
 
     /// Its number in its region.

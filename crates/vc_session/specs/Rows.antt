@@ -34,7 +34,7 @@ plain_text r = text_of no_words 0 r
 
 -- of a discipline that rounds to 4,096 bytes
 abbrev pub terms : Terms
-terms = record { round = 4096 }
+terms = record { round = 4096; grows = false }
 
 -- before the first line: a place of the shelf with such a discipline, and no region
 abbrev pub at_first : State

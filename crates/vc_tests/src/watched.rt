@@ -65,6 +65,10 @@ impl SegDisc for WatchedDisc {
         self.inner.round()
     }
 
+    fn grows(&self) -> bool {
+        self.inner.grows()
+    }
+
     fn faults(&self) -> u64 {
         self.inner.faults()
     }
@@ -82,6 +86,10 @@ impl SegDisc for WatchedDisc {
         let lent = self.inner.lend(alloc, number, size);
         self.lends.faults.set(self.inner.faults());
         lent
+    }
+
+    fn extend(&mut self, alloc: Global, seg: &mut Segment, more: u32) -> Result<(), LendFault> {
+        self.inner.extend(alloc, seg, more)
     }
 
     fn take_back(&mut self, seg: Segment) {

@@ -27,7 +27,7 @@ use Rattle.vc_views.proofs.BlockChanges.{IsClear, clear-others, dicts-set, each-
 
 -- a look asks no discipline, so any meaning of boxes serves
 abbrev no_discipline : Discipline
-no_discipline = record { out = []; faults = 0; terms = record { round = 32 }; room = None }
+no_discipline = record { out = []; faults = 0; terms = record { round = 32; grows = false }; room = None }
 
 module _ {I : Type 0} {V : I → Type 0} (es : List (List ℕ × HomeEntry I V)) (r : List ℕ) (j : ℕ) (v : HomeEntry I V) (b : best.Best I V)
     (at : position (bytes_eq r) (keys_of es) ≡ Some j) (read : slice_get (values_of es) j ≡ Some v) (is : v.region ≡ Best b) where

@@ -96,7 +96,7 @@ module _ {I : Type 0} {V : I → Type 0} (meaning : (x : I) × V x → Disciplin
       let f : Pool I V → Holding = holding_in meaning in
       let t : Holding → Terms = λ h. h.disc.terms in
       let within : k < length (map f xs) = omega (arith, lt, length-map xs f) in
-      get_or-map t (map f xs) k (f p) (record { round = 32 }) within ∙ ap t (get_or-map f xs k p (f p) lt ∙ ap f (sym is))
+      get_or-map t (map f xs) k (f p) (record { round = 32; grows = false }) within ∙ ap t (get_or-map f xs k p (f p) lt ∙ ap f (sym is))
 
   pub answer-here : (size : ℕ) (result : Result Addr RegionFault) → k ≡ class_of size → Answers (pool_alloc (disc_in meaning p).terms (pool_of p) 0 (class_bytes k)) result (pool_of p) (pool_of q) → Gives (cell_put (terms_in (holdings meaning xs)) (pools_of xs) size) (λ (a : Addr). place_of a.0) result (pools_of (set xs k q))
   answer-here size result e h =

@@ -1,5 +1,5 @@
 -- The way of pools by size class.
-use Rattle.std.specs.Prelude.{ℕ, List, [], ◌∷◌, Bool, count_by, nat_lt, replicate, slice_index, slice_index_or, slice_set, ◌==◌, if◌then◌else◌}
+use Rattle.std.specs.Prelude.{ℕ, List, [], ◌∷◌, Bool, false, count_by, nat_lt, replicate, slice_index, slice_index_or, slice_set, ◌==◌, if◌then◌else◌}
 use Rattle.vc_model.specs.Discipline.{Terms}
 use Rattle.vc_model.specs.Outcome.{Outcome, Done, done_as}
 use Rattle.vc_model.specs.Pool.{Pool, empty_pool, pool_alloc, pool_free}
@@ -25,7 +25,7 @@ abbrev pub pool_at : List (Pool ℕ) → ℕ → Pool ℕ
 pool_at pools class = slice_index_or pools class empty_pool
 
 abbrev pub terms_at : List Terms → ℕ → Terms
-terms_at terms class = slice_index_or terms class (record { round = 32 })
+terms_at terms class = slice_index_or terms class (record { round = 32; grows = false })
 
 -- a block is put into a cell of its class
 abbrev pub cell_put : List Terms → List (Pool ℕ) → ℕ → Bool → Outcome ((ℕ × ℕ) × List (Pool ℕ))

@@ -1,5 +1,5 @@
 -- Worked traces, over disciplines that round to 4,096 bytes.
-use Rattle.std.specs.Prelude.{ℕ, List, ◌++◌, Option, None, codes, decimal, fold, map, replicate, true}
+use Rattle.std.specs.Prelude.{ℕ, List, ◌++◌, Option, None, codes, decimal, fold, map, replicate, true, false}
 use Rattle.vc_model.specs.Discipline.{Terms}
 use Rattle.vc_model.specs.Layout.{place_of_block}
 use Rattle.vc_script.specs.declared.command.Command.{Command}
@@ -12,7 +12,7 @@ use Rattle.vc_ways.specs.Step.{End, Goes, Outside, State, Stops, start, step}
 use Rattle.vc_ways.specs.Compare.{Compared, BadLine, Finished, OutsideAt, StoppedAt, compare_input}
 
 abbrev pub terms : Terms
-terms = record { round = 4096 }
+terms = record { round = 4096; grows = false }
 
 abbrev pub same_terms : WayTerms
 same_terms = record { best = terms; last = terms; pools = replicate 20 terms }

@@ -1,4 +1,4 @@
-use Rattle.vc_base.proofs.Common.{◌≡◌, length, get_or, sym, ap, ◌∙◌, subst, ∥∥₁_map, get_or_default}
+use Rattle.vc_base.proofs.Common.{◌≡◌, get_or, sym, ap, ◌∙◌, subst, ∥∥₁_map, get_or_default}
 use Rattle.vc_seg.specs.Segment.{Bytes, pair_of}
 use Rattle.vc_extent.specs.Extent.{extents}
 use Rattle.vc_extent.specs.Change.{one_free}
@@ -18,7 +18,7 @@ invariant_of-self c =
       kept =
           ∥∥₁_map c.args.self.now.kept
           (AreExtents-set c.args.self.now.segs.items c.args.self.now.index.items c.place-place.result c.format.new.seg c.place-place.ensures.place.within
-          (λ d. c.format.ensures.number ∙ ap (λ (b : Bytes). b.number) (same h d)) (λ d. c.format.ensures.len ∙ ap (λ (b : Bytes). length b.bytes) (same h d)) c.format.ensures.tiled);
+          (λ d. c.format.ensures.number ∙ ap (λ (b : Bytes). b.number) (same h d)) c.format.ensures.tiled);
       reserved = c.args.self.now.reserved;
     }
 
