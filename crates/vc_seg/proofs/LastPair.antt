@@ -1,5 +1,6 @@
 -- The last pair of a list that is equal to a given one.
-use Rattle.vc_base.proofs.Common.{◌≡◌, ℕ, zero, suc, ◌+◌, ◌<◌, Bool, true, false, ◌||◌, ◌∙◌, eqb, eqb-true, and_parts, List, [], ◌∷◌, length, get_or, drop, remove, set, refl, ap, arith, list_any, same_pair, without_last}
+use Rattle.vc_base.proofs.Common.{◌≡◌, ℕ, zero, suc, ◌+◌, ◌-◌, ◌<◌, Bool, true, false, ◌||◌, ◌∙◌, eqb, eqb-true, and_parts, List, [], ◌∷◌, length, map, get_or, drop, remove, set, refl, sym, ap, arith, Option, Some, None, option_map, list_any, same_pair, without_last}
+use Rattle.std.specs.List.{last_or, slice_get}
 use Rattle.std.proofs.lemmas.List.Sums.{sum_by-remove, sum_by-set}
 use Rattle.vc_model.specs.Discipline.{extend_last}
 use Rattle.vc_seg.specs.Budget.{bytes_of}
@@ -45,3 +46,20 @@ set-last_pair p more (q ∷ qs) (suc i) d within here after =
 -- with more in the pair at a place the bytes are more by as many
 pub more_in_pair : (xs : List (ℕ × ℕ)) (i n size more : ℕ) → i < length xs → (get_or xs i (0, 0)).1 ≡ size → bytes_of (set xs i (n, size + more)) ≡ bytes_of xs + more
 more_in_pair xs i n size more within here = let sum = sum_by-set (λ s. s.1) xs i (n, size + more) (0, 0) within in omega arith
+
+-- the last of a list's images is the last one's image
+pub last_or-map : {A B : Type 0} (f : A → B) (o : Option A) (xs : List A) → last_or (option_map f o) (map f xs) ≡ option_map f (last_or o xs)
+last_or-map f o [] = refl
+last_or-map f o (x ∷ xs) = last_or-map f (Some x) xs
+
+-- the last one is the one behind all others
+last_or-get : {A : Type 0} (o : Option A) (xs : List A) (k : ℕ) → length xs ≡ suc k → last_or o xs ≡ slice_get xs k
+last_or-get o [] k long = absurd (omega (arith, long))
+last_or-get o (x ∷ []) zero long = refl
+last_or-get o (x ∷ []) (suc k) long = absurd (omega (arith, long))
+last_or-get o (x ∷ y ∷ ys) zero long = absurd (omega (arith, long))
+last_or-get o (x ∷ y ∷ ys) (suc k) long = last_or-get (Some x) (y ∷ ys) k (omega (arith, long))
+
+pub last_or-some : {A : Type 0} (xs : List A) (x : A) → Some x ≡ slice_get xs (length xs - 1) → last_or None xs ≡ Some x
+last_or-some [] x is = absurd (cc)
+last_or-some (y ∷ ys) x is = last_or-get None (y ∷ ys) (length (y ∷ ys) - 1) (omega arith) ∙ sym is

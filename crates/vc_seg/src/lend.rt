@@ -24,6 +24,20 @@ pub fn grows_of(disc: &Box<dyn SegDisc>) -> bool
     disc.grows()
 }
 
+/// The segment that gets more bytes where a region with these asks for them, as number and size: the one lent latest, where
+/// the discipline makes segments longer. None where it lends a new one instead.
+pub fn growing_of<T: Numbered>(segs: &[T], disc: &Box<dyn SegDisc>) -> Option<(u32, u32)>
+    ensures { result ≡ growing (state disc.now).terms (map T.pair segs.now) }
+{
+    if !disc.grows() {
+        return None;
+    }
+    match segs.last() {
+        Some(segment) => Some((segment.number(), segment.size())),
+        None => None,
+    }
+}
+
 /// A segment of zeros that a discipline lends under that number, as `SegDisc::lend`: the size in bytes is a multiple of
 /// its round, from 64 to 33,554,432. A region asks for a segment by this call alone.
 pub fn obtain(
@@ -126,8 +140,8 @@ pub fn extend_segment(
 }
 
 /// A segment of zeros that a discipline lends to a region with these, under the least number that none of them has, of so
-/// many bytes. None of them may be made longer instead. `TooManySegments` comes exactly where there are 1,023, `NoSegment` where the discipline refuses, and
-/// `OutOfMemory` for want of memory.
+/// many bytes. None of them may be made longer instead. `TooManySegments` comes exactly where there are 1,023, `NoSegment`
+/// where the discipline refuses, and `OutOfMemory` for want of memory.
 pub fn lend_next<T: Numbered>(
     segs: &[T],
     disc: &mut Box<dyn SegDisc>,

@@ -34,7 +34,9 @@ pub use disc::SegDisc;
 pub use fault::{LendFault, RegionFault};
 pub use fuse::FuseDisc;
 pub use heap::HeapDisc;
-pub use lend::{extend_segment, grows_of, lend_next, lend_segment, obtain, obtain_more, round_of};
+pub use lend::{
+    extend_segment, growing_of, grows_of, lend_next, lend_segment, obtain, obtain_more, round_of,
+};
 pub use method::Method;
 pub use number::{find_number, lowest_unused};
 pub use numbered::Numbered;
