@@ -10,6 +10,7 @@ pub mod Lodging
 pub mod Unused
 pub mod Asking
 pub mod Grants
+pub mod Growing
 pub mod Overwrites
 pub mod Copies
 pub mod BytesByNumber
