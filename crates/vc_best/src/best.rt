@@ -12,7 +12,7 @@ ghost use Rattle.vc_seg.specs.OneBlock.{IsBlockAt, IsBlockFreed, IsBlockPut, IsG
 ghost use Rattle.vc_seg.specs.Stat.{layout_stat};
 
 use crate::compact::{clear, close, compact};
-use crate::lend::put_in_new;
+use crate::lend::put_by_asking;
 use crate::stat::stat;
 use crate::tree::{free_block, put_in_gap};
 use crate::walk::{block_at, next_block};
@@ -122,7 +122,7 @@ impl Best {
             }
             None => {
                 let disc = &mut self.disc;
-                match put_in_new(extents, root, disc, self.alloc, size, align, tag, steps) {
+                match put_by_asking(extents, root, disc, self.alloc, size, align, tag, steps) {
                     Ok(to) => {
                         self.busy += 1;
                         Ok(to)

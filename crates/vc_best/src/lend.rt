@@ -1,6 +1,7 @@
-ghost use Rattle.std.specs.Prelude.{◌≡◌, ◌≢◌, ◌+◌, ◌≤◌, ◌%◌, IfOk, IfErr, IsErrOf, None, OnErr, false, map};
+ghost use Rattle.std.specs.Prelude.{◌≡◌, ◌≢◌, ◌+◌, ◌≤◌, ◌%◌, IfOk, IfErr, IsErrOf, None, OnErr, Some, false, map};
 ghost use Rattle.vc_base.specs.Prelude.{best_need, HasOut, IsSegmentSize, TooMany, ask};
 ghost use Rattle.vc_model.specs.Best.{place_in};
+ghost use Rattle.vc_model.specs.Segments.{growing};
 ghost use Rattle.vc_seg.specs.Answer.{Asks};
 ghost use Rattle.vc_seg.specs.Segment.{pair_of};
 ghost use Rattle.vc_seg.specs.Lend.{IsAsked, IsNoGrant};
@@ -13,7 +14,7 @@ use crate::tree::put_in_out;
 use std::alloc::Global;
 use vc_base::{Addr, Steps};
 use vc_extent::Extents;
-use vc_seg::{RegionFault, SegDisc, lend_segment, round_of, rounded_up, span_of};
+use vc_seg::{RegionFault, SegDisc, growing_of, lend_segment, round_of, rounded_up, span_of};
 
 // Asks for a segment of that many bytes under the least number that no segment has, and puts it behind the others as one
 // free extent. It answers the number.
@@ -23,6 +24,7 @@ fn lend_next(
     alloc: Global,
     bytes: u32,
 ) -> Result<u32, RegionFault>
+    requires new { growing (state disc.old).terms (map pair_of extents.old.segs.items) ≡ None }
     requires bytes { IsSegmentSize bytes }
     requires multiple { bytes % (state disc.old).terms.round ≡ 0 }
 
@@ -37,13 +39,90 @@ fn lend_next(
     let Some(number) = extents.lowest_unused() else {
         return Err(RegionFault::TooManySegments);
     };
-    let segment = lend_segment(disc, alloc, number, bytes)?;
-    extents.add(segment);
-    Ok(number)
+    match lend_segment(disc, alloc, number, bytes) {
+        Ok(segment) => {
+            extents.add(segment);
+            Ok(number)
+        }
+        Err(fault) => Err(fault),
+    }
 }
 
 // A block of zeros, which has no place, in a segment that the discipline lends for it.
-pub(crate) fn put_in_new<L>(
+fn put_in_new<L>(
+    extents: &mut Extents,
+    root: &mut Addr,
+    disc: &mut Box<dyn SegDisc>,
+    alloc: Global,
+    size: u32,
+    align: u32,
+    tag: u32,
+    steps: &mut Steps<L>,
+) -> Result<Addr, RegionFault>
+    requires new { growing (state disc.old).terms (map pair_of extents.old.segs.items) ≡ None }
+    requires allowed { AreAllowed size align }
+    requires whole { AreWhole extents.old.segs.items root.old.0 }
+    requires lent { HasOut (state disc.old) (layout_by extents.old.segs.items).segments }
+    requires none { place_in (layout_by extents.old.segs.items) size align ≡ None }
+    ensures put { IsPutByAsking (state disc.old).terms result (layout_by extents.old.segs.items)
+        (layout_by extents.new.segs.items) tag size align }
+    ensures disc { Asks result (state disc.old) (state disc.new)
+        (layout_by extents.old.segs.items).segments (layout_by extents.new.segs.items).segments
+        (best_need (state disc.old).terms size align) }
+    ensures whole { AreWhole extents.new.segs.items root.new.0 }
+    ensures rises { steps.old ≤ steps.new }
+    ensures least_steps { IfOk result (λ _. steps.old + 1 ≤ steps.new) }
+    ensures cost { GapsCost (tiling extents.old.segs.items) (tiling extents.new.segs.items)
+        root.old.0 root.new.0 steps.old steps.new 16 3 2 }
+{
+    let bytes = rounded_up(span_of(size) + align, round_of(disc));
+    match lend_next(extents, disc, alloc, bytes) {
+        Ok(number) => {
+            let a = Addr::new(number, 32);
+            Ok(put_in_out(extents, root, a, size, align, tag, steps))
+        }
+        Err(fault) => Err(fault),
+    }
+}
+
+// A block of zeros, which has no place, in a segment of that number and size that the discipline makes longer for it.
+fn put_in_longer<L>(
+    extents: &mut Extents,
+    root: &mut Addr,
+    disc: &mut Box<dyn SegDisc>,
+    alloc: Global,
+    last: (u32, u32),
+    size: u32,
+    align: u32,
+    tag: u32,
+    steps: &mut Steps<L>,
+) -> Result<Addr, RegionFault>
+    requires grows { growing (state disc.old).terms (map pair_of extents.old.segs.items) ≡ Some last }
+    requires allowed { AreAllowed size align }
+    requires whole { AreWhole extents.old.segs.items root.old.0 }
+    requires lent { HasOut (state disc.old) (layout_by extents.old.segs.items).segments }
+    requires none { place_in (layout_by extents.old.segs.items) size align ≡ None }
+    ensures put { IsPutByAsking (state disc.old).terms result (layout_by extents.old.segs.items)
+        (layout_by extents.new.segs.items) tag size align }
+    ensures disc { Asks result (state disc.old) (state disc.new)
+        (layout_by extents.old.segs.items).segments (layout_by extents.new.segs.items).segments
+        (best_need (state disc.old).terms size align) }
+    ensures whole { AreWhole extents.new.segs.items root.new.0 }
+    ensures rises { steps.old ≤ steps.new }
+    ensures least_steps { IfOk result (λ _. steps.old + 1 ≤ steps.new) }
+    ensures cost { GapsCost (tiling extents.old.segs.items) (tiling extents.new.segs.items)
+        root.old.0 root.new.0 steps.old steps.new 16 3 2 }
+{
+    let bytes = rounded_up(span_of(size) + align, round_of(disc));
+    if last.1 as u64 + bytes as u64 > 33_554_432 {
+        return Err(RegionFault::TooManySegments);
+    }
+    Err(RegionFault::OutOfMemory)
+}
+
+// A block of zeros, which has no place, where the discipline is asked for its bytes: in the segment that grows, else in a
+// new one.
+pub(crate) fn put_by_asking<L>(
     extents: &mut Extents,
     root: &mut Addr,
     disc: &mut Box<dyn SegDisc>,
@@ -68,12 +147,8 @@ pub(crate) fn put_in_new<L>(
     ensures cost { GapsCost (tiling extents.old.segs.items) (tiling extents.new.segs.items)
         root.old.0 root.new.0 steps.old steps.new 16 3 2 }
 {
-    let bytes = rounded_up(span_of(size) + align, round_of(disc));
-    match lend_next(extents, disc, alloc, bytes) {
-        Ok(number) => {
-            let a = Addr::new(number, 32);
-            Ok(put_in_out(extents, root, a, size, align, tag, steps))
-        }
-        Err(fault) => Err(fault),
+    match growing_of(&extents.segs, disc) {
+        Some(last) => put_in_longer(extents, root, disc, alloc, last, size, align, tag, steps),
+        None => put_in_new(extents, root, disc, alloc, size, align, tag, steps),
     }
 }

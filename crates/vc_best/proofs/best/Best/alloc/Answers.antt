@@ -17,7 +17,7 @@ use Rattle.vc_best.proofs.Puts.{place-runs, place_at}
 use Rattle.vc_best.proofs.There.{there-asked, there-in_gap}
 use Rattle.vc_best.proofs.best.Best.alloc.Given.{Over}
 use Rattle.vc_best.proofs.best.Best.alloc.Goals as goal
-use Rattle.vc_best.proofs.best.Best.alloc.Goals.{After-fit-least, After-put_in_gap-to, After-put_in_new}
+use Rattle.vc_best.proofs.best.Best.alloc.Goals.{After-fit-least, After-put_in_gap-to, After-put_by_asking}
 
 -- the tree before, and what the search leaves of the rest
 before : (g : Over) (c : After-fit-least g) → HasGaps (tiling c.args.self.now.extents.segs.items) c.args.self.now.root.0 []
@@ -57,16 +57,16 @@ put_in_gap-to-requires-clause-allowed g c = allowed g (goal.at.put_in_gap-to-req
 pub put_in_gap-to-requires-clause-whole : goal.put_in_gap-to-requires-clause-whole
 put_in_gap-to-requires-clause-whole g c = whole g (goal.at.put_in_gap-to-requires-clause-whole g c).After-fit-least
 
-pub put_in_new-requires-clause-allowed : goal.put_in_new-requires-clause-allowed
-put_in_new-requires-clause-allowed g c = allowed g (goal.at.put_in_new-requires-clause-allowed g c).After-fit-least
+pub put_by_asking-requires-clause-allowed : goal.put_by_asking-requires-clause-allowed
+put_by_asking-requires-clause-allowed g c = allowed g (goal.at.put_by_asking-requires-clause-allowed g c).After-fit-least
 
-pub put_in_new-requires-clause-whole : goal.put_in_new-requires-clause-whole
-put_in_new-requires-clause-whole g c = whole g (goal.at.put_in_new-requires-clause-whole g c).After-fit-least
+pub put_by_asking-requires-clause-whole : goal.put_by_asking-requires-clause-whole
+put_by_asking-requires-clause-whole g c = whole g (goal.at.put_by_asking-requires-clause-whole g c).After-fit-least
 
-pub put_in_new-requires-clause-none : goal.put_in_new-requires-clause-none
-put_in_new-requires-clause-none g c =
+pub put_by_asking-requires-clause-none : goal.put_by_asking-requires-clause-none
+put_by_asking-requires-clause-none g c =
     let t = tiling c.args.self.now.extents.segs.items in
-    let f = (goal.at.put_in_new-requires-clause-none g c).After-fit-least in
+    let f = (goal.at.put_by_asking-requires-clause-none g c).After-fit-least in
     ap (λ (r : Layout ℕ). place_in r c.args.size c.args.align) (same g f)
     ∙ place-runs _ _ c.args.size c.args.align c.args.self.now.extents.kept (merged-of t c.args.self.now.merged)
     ∙ ap (option_map (place_at c.args.align)) (least-none t (span c.args.size) c.span_of.result c.args.align c.fit-least.result.1 c.in-None.is c.span_of.ensures (c.fit-least.ensures.fitted.best (before g f)))
@@ -93,25 +93,25 @@ invariant_of-self g c =
     record { sound = h.sound; whole = h.whole; merged = h.merged; gaps = ∣ w.kept.gaps ∣₁; counted = omega (arith, one, old, c.args.self.now.counted) }
 
 -- what the call that may ask leaves
-left : (g : Over) (c : After-put_in_new g) → AreHeld c.put_in_new.new.extents.segs.items
+left : (g : Over) (c : After-put_by_asking g) → AreHeld c.put_by_asking.new.extents.segs.items
 left g c =
-    let n = c.put_in_new.new.extents in
-    held n.segs.items n.index.items n.kept c.put_in_new.ensures.whole.sizes c.put_in_new.ensures.whole.kept.merged
+    let n = c.put_by_asking.new.extents in
+    held n.segs.items n.index.items n.kept c.put_by_asking.ensures.whole.sizes c.put_by_asking.ensures.whole.kept.merged
 
 pub invariant_of-self-in-Ok : goal.invariant_of-self-in-Ok
 invariant_of-self-in-Ok g c =
     let at = goal.at.invariant_of-self-in-Ok g c in
-    let h = left g at.After-put_in_new in
-    let one : length (layout_by c.put_in_new.new.extents.segs.items).blocks ≡ length (layout_by c.fit-least.new.extents.segs.items).blocks + 1 = c.in-Ok.ensures.put.count in
+    let h = left g at.After-put_by_asking in
+    let one : length (layout_by c.put_by_asking.new.extents.segs.items).blocks ≡ length (layout_by c.fit-least.new.extents.segs.items).blocks + 1 = c.in-Ok.ensures.put.count in
     let old = ap (λ (r : Layout ℕ). length r.blocks) (same g at.After-fit-least) in
-    record { sound = h.sound; whole = h.whole; merged = h.merged; gaps = ∣ c.put_in_new.ensures.whole.kept.gaps ∣₁; counted = omega (arith, one, old, c.args.self.now.counted) }
+    record { sound = h.sound; whole = h.whole; merged = h.merged; gaps = ∣ c.put_by_asking.ensures.whole.kept.gaps ∣₁; counted = omega (arith, one, old, c.args.self.now.counted) }
 
 pub invariant_of-self-in-Err-1 : goal.invariant_of-self-in-Err-1
 invariant_of-self-in-Err-1 g c =
     let at = goal.at.invariant_of-self-in-Err-1 g c in
-    let h = left g at.After-put_in_new in
-    let is : layout_by c.put_in_new.new.extents.segs.items ≡ layout_by c.args.self.now.extents.segs.items = c.in-Err.ensures.put.err ∙ same g at.After-fit-least in
-    record { sound = h.sound; whole = h.whole; merged = h.merged; gaps = ∣ c.put_in_new.ensures.whole.kept.gaps ∣₁; counted = c.args.self.now.counted ∙ sym (ap (λ (r : Layout ℕ). length r.blocks) is) }
+    let h = left g at.After-put_by_asking in
+    let is : layout_by c.put_by_asking.new.extents.segs.items ≡ layout_by c.args.self.now.extents.segs.items = c.in-Err.ensures.put.err ∙ same g at.After-fit-least in
+    record { sound = h.sound; whole = h.whole; merged = h.merged; gaps = ∣ c.put_by_asking.ensures.whole.kept.gaps ∣₁; counted = c.args.self.now.counted ∙ sym (ap (λ (r : Layout ℕ). length r.blocks) is) }
 
 -- the block in its gap, by the layout before the search
 in_gap : (g : Over) (c : After-put_in_gap-to g) → IsPutInGap (layout_by c.args.self.now.extents.segs.items) (layout_by c.put_in_gap-to.new.extents.segs.items) c.args.tag c.args.size c.args.align c.put_in_gap-to.result.0
@@ -148,8 +148,8 @@ returns-in-Err-clause-no_memory g c = (IsPutByAsking-same _ _ _ _ _ _ _ (Err c.i
 found : (g : Over) (c : After-put_in_gap-to g) → c.args.align ≡ 32 → GapsCost (tiling c.args.self.now.extents.segs.items) (tiling c.put_in_gap-to.new.extents.segs.items) c.args.self.now.root.0 c.put_in_gap-to.new.root.0 c.args.steps.now c.put_in_gap-to.new.steps 40 3 2
 found g c unit = then_cost (whole g (goal.at.After-put_in_gap-to g c).After-fit-least).kept.gaps (c.fit-least.ensures.cost unit) c.put_in_gap-to.ensures.cost
 
-asked : (g : Over) (c : After-put_in_new g) → c.args.align ≡ 32 → GapsCost (tiling c.args.self.now.extents.segs.items) (tiling c.put_in_new.new.extents.segs.items) c.args.self.now.root.0 c.put_in_new.new.root.0 c.args.steps.now c.put_in_new.new.steps 40 3 2
-asked g c unit = cost_within (then_cost (whole g (goal.at.After-put_in_new g c).After-fit-least).kept.gaps (c.fit-least.ensures.cost unit) c.put_in_new.ensures.cost) 40 3 2 (omega arith) (omega arith) (omega arith)
+asked : (g : Over) (c : After-put_by_asking g) → c.args.align ≡ 32 → GapsCost (tiling c.args.self.now.extents.segs.items) (tiling c.put_by_asking.new.extents.segs.items) c.args.self.now.root.0 c.put_by_asking.new.root.0 c.args.steps.now c.put_by_asking.new.steps 40 3 2
+asked g c unit = cost_within (then_cost (whole g (goal.at.After-put_by_asking g c).After-fit-least).kept.gaps (c.fit-least.ensures.cost unit) c.put_by_asking.ensures.cost) 40 3 2 (omega arith) (omega arith) (omega arith)
 
 pub returns-in-Some-clause-cost : goal.returns-in-Some-clause-cost
 returns-in-Some-clause-cost g c = found g (goal.at.returns-in-Some-clause-cost g c).After-put_in_gap-to
@@ -158,16 +158,16 @@ pub returns-in-Some-clause-call : goal.returns-in-Some-clause-call
 returns-in-Some-clause-call g c = λ unit. call_costs c.args.self.now _ 1 c.args.steps.now _ 40 3 2 (omega arith) (omega arith) (found g (goal.at.returns-in-Some-clause-call g c).After-put_in_gap-to unit)
 
 pub returns-in-Ok-clause-cost : goal.returns-in-Ok-clause-cost
-returns-in-Ok-clause-cost g c = asked g (goal.at.returns-in-Ok-clause-cost g c).After-put_in_new
+returns-in-Ok-clause-cost g c = asked g (goal.at.returns-in-Ok-clause-cost g c).After-put_by_asking
 
 pub returns-in-Ok-clause-call : goal.returns-in-Ok-clause-call
-returns-in-Ok-clause-call g c = λ unit. call_costs c.args.self.now _ 1 c.args.steps.now _ 40 3 2 (omega arith) (omega arith) (asked g (goal.at.returns-in-Ok-clause-call g c).After-put_in_new unit)
+returns-in-Ok-clause-call g c = λ unit. call_costs c.args.self.now _ 1 c.args.steps.now _ 40 3 2 (omega arith) (omega arith) (asked g (goal.at.returns-in-Ok-clause-call g c).After-put_by_asking unit)
 
 pub returns-in-Err-clause-cost : goal.returns-in-Err-clause-cost
-returns-in-Err-clause-cost g c = asked g (goal.at.returns-in-Err-clause-cost g c).After-put_in_new
+returns-in-Err-clause-cost g c = asked g (goal.at.returns-in-Err-clause-cost g c).After-put_by_asking
 
 pub returns-in-Err-clause-call : goal.returns-in-Err-clause-call
-returns-in-Err-clause-call g c = λ unit. call_costs c.args.self.now _ 1 c.args.steps.now _ 40 3 2 (omega arith) (omega arith) (asked g (goal.at.returns-in-Err-clause-call g c).After-put_in_new unit)
+returns-in-Err-clause-call g c = λ unit. call_costs c.args.self.now _ 1 c.args.steps.now _ 40 3 2 (omega arith) (omega arith) (asked g (goal.at.returns-in-Err-clause-call g c).After-put_by_asking unit)
 
 -- what the search takes at least, where there is a gap
 sought : (g : Over) (c : After-fit-least g) → c.args.steps.now + min 1 (gap_count (layout_by c.args.self.now.extents.segs.items)) ≤ c.fit-least.new.steps
@@ -190,5 +190,5 @@ returns-in-Ok-clause-least_steps g c =
 pub returns-in-Err-clause-least_steps : goal.returns-in-Err-clause-least_steps
 returns-in-Err-clause-least_steps g c =
     let first = sought g (goal.at.returns-in-Err-clause-least_steps g c).After-fit-least in
-    let then = c.put_in_new.ensures.rises in
+    let then = c.put_by_asking.ensures.rises in
     omega arith
