@@ -1,5 +1,5 @@
 -- What the calls that put, resize and free a block make of a pool.
-use Rattle.vc_base.proofs.Common.{◌≡◌, ℕ, ◌+◌, ◌<◌, ◌≤◌, Bool, true, false, ◌≢◌, List, [], ◌∷◌, ◌++◌, map, length, Some, None, Option, sym, refl, ap, ◌∙◌, subst, ⊎_elim, arith, eq-eqb, ne_eqb, cases_eq, length-map, address, place_of, Discipline, Served, Terms, Layout, with_grant, Done, Outcome, Put, Pool, carve, carved_in, cell_for, element_with, pool_alloc, pool_need, uncarved, Grant, Granted, ask, new_segment, round_up}
+use Rattle.vc_base.proofs.Common.{◌≡◌, ℕ, ◌+◌, ◌<◌, ◌≤◌, Bool, true, false, ◌≢◌, List, [], ◌∷◌, ◌++◌, map, length, Some, None, Option, sym, refl, ap, ◌∙◌, subst, ⊎_elim, arith, eq-eqb, ne_eqb, cases_eq, address, place_of, Discipline, Served, Terms, Layout, with_grant, Done, Outcome, Put, Pool, carve, carved_in, cell_for, element_with, pool_alloc, pool_need, uncarved, Grant, Granted, TooMany, ask, new_segment, round_up}
 use Rattle.vc_model.proofs.Owned.{address-place_of}
 use Rattle.vc_layouts.proofs.Segments.{Served-lent, Served-same}
 use Rattle.vc_layouts.specs.Put.{with_zeros}
@@ -9,7 +9,7 @@ use Rattle.vc_seg.specs.declared.fault.RegionFault.TheVariants as code
 use Rattle.vc_seg.specs.Lend.{IsNoGrant}
 use Rattle.vc_pool_cells.specs.Blocks.{carved_by, layout_by, pair_of}
 use Rattle.vc_pool_cells.specs.Call.{IsReused}
-use Rattle.vc_pool_cells.specs.Cells.{Cells, cells_of}
+use Rattle.vc_pool_cells.specs.Cells.{Cells}
 use Rattle.vc_pool_cells.specs.Freed.{cells_at, freed_cells}
 use Rattle.vc_pool_cells.specs.Kept.{AreCellular, IsPool}
 use Rattle.vc_pool_cells.specs.Place.{cells_in}
@@ -60,17 +60,6 @@ pub full-is : (segs : List PoolSegment) (element freed set size : ℕ) → (1 �
 full-is segs element freed set size same new h =
     ap (λ e. uncarved (cell_for e) (pool_by segs element freed).carved (pool_by segs element freed).layout.segments) (with-is segs element freed size set same new)
     ∙ (sym (uncarved-spelled segs element freed set) ∙ h)
-
--- a segment is asked for where the block fits a cell, none is free and one more may be lent
-pub lacks-cell : (segs : List PoolSegment) (element freed set size : ℕ) → (1 ≤ element → element ≡ set) → (element ≡ 0 → set ≡ size) → size ≤ set → freed ≡ 0 →
-    uncarved (cell_for set) (carved_by (cells_in segs)) (map pair_of (cells_in segs)) ≡ None → length segs < 1023 → LacksCell (pool_by segs element freed) size
-lacks-cell segs element freed set size same new fits none full few =
-    record {
-      fits = omega (arith, with-is segs element freed size set same new, fits);
-      freed = empty-freed segs element freed none;
-      uncarved = full-is segs element freed set size same new full;
-      few = subst (λ (ps : List (ℕ × ℕ)). length ps < 1023) (sym (pairs-of segs element freed)) (rw (length-map (cells_in segs) pair_of, length-map segs cells_of) few);
-    }
 
 -- with a freed cell the element size is set
 no-zero : (m : ℕ) → m ≢ 0 → 1 ≤ m
@@ -148,6 +137,16 @@ module _ (terms : Terms) (segs : List PoolSegment) (element freed set tag size :
     ask-is refused = ap (λ n. ask terms n (map pair_of (cells_in segs)) refused) need-is ∙ ap (λ ps. ask terms (pool_need terms old size) ps refused) (sym (pairs-of segs element freed))
 
     module _ (full : uncarved (cell_for (element_with old size)) old.carved old.layout.segments ≡ None) where
+      -- a segment is asked for where the block fits a cell, none is free and the region may be granted what it needs
+      pub lacks-cell : (segs' : List PoolSegment) → segs' ≡ segs → (ask terms (cell_need terms set) (map pair_of (cells_in segs')) false ≢ TooMany) → LacksCell terms old size
+      lacks-cell segs' e may =
+          record {
+            fits = omega (arith, is, fits);
+            freed = empty;
+            uncarved = full;
+            may = λ many. may (ap (λ (ss : List PoolSegment). ask terms (cell_need terms set) (map pair_of (cells_in ss)) false) e ∙ (ask-is false ∙ many));
+          }
+
       -- into a segment that is asked for
       pub put-granted : (a : ℕ) (segs' : List PoolSegment) (before after : Discipline) → before.terms ≡ terms → IsPool element (cells_in segs) freed → IsGranted set tag size (cell_need terms set) (cells_in segs) (cells_in segs') before after a →
           IsPut (pool_alloc terms old tag size false) a (pool_by segs' set freed)

@@ -1,19 +1,19 @@
 -- When a block asks for a segment in a pool, and what it is granted.
-use Rattle.std.specs.Prelude.{◌≡◌, ℕ, ◌+◌, ◌<◌, ◌≤◌, List, [], None, false, length, map}
+use Rattle.std.specs.Prelude.{◌≡◌, ◌≢◌, ℕ, ◌+◌, ◌≤◌, List, [], None, false, map}
 use Rattle.vc_model.specs.Addr.{place_of}
 use Rattle.vc_model.specs.Discipline.{Discipline, Lent, Terms}
-use Rattle.vc_model.specs.Pool.{Pool, carved_in, cell_for, element_with, uncarved}
-use Rattle.vc_model.specs.Segments.{Granted, ask, new_segment, round_up, segment_limit}
+use Rattle.vc_model.specs.Pool.{Pool, carved_in, cell_for, element_with, pool_need, uncarved}
+use Rattle.vc_model.specs.Segments.{Granted, TooMany, ask, new_segment, round_up}
 use Rattle.vc_pool_cells.specs.Blocks.{carved_by, pair_of}
 use Rattle.vc_pool_cells.specs.Carve.{CarvesNew}
 use Rattle.vc_pool_cells.specs.Cells.{Cells}
 
--- the block fits the element size, no cell is free for it, neither a freed one nor an uncarved one, and one more segment may be lent
-pub record LacksCell {L : Type 0} (pool : Pool L) (size : ℕ) : Type 0 where
+-- the block fits the element size, no cell is free for it, neither a freed one nor an uncarved one, and the region may be granted what it needs
+pub record LacksCell {L : Type 0} (terms : Terms) (pool : Pool L) (size : ℕ) : Type 0 where
   pub fits : size ≤ element_with pool size
   pub freed : pool.freed ≡ []
   pub uncarved : uncarved (cell_for (element_with pool size)) pool.carved pool.layout.segments ≡ None
-  pub few : length pool.layout.segments < segment_limit
+  pub may : ask terms (pool_need terms pool size) pool.layout.segments false ≢ TooMany
 
 -- the bytes that a block asks for where each cell is carved: a segment of one cell at least, under these terms
 abbrev pub cell_need : Terms → ℕ → ℕ

@@ -74,7 +74,7 @@ impl Pool {
             (segments_in self.old) (segments_in self.new)
             (pool_need (state self.old.disc).terms (pool_of self.old) size) }
         ensures no_memory { IsErrOf result RegionFault.OutOfMemory
-            → LacksCell (pool_of self.old) size }
+            → LacksCell (state self.old.disc).terms (pool_of self.old) size }
         ensures put { IfOk result
             (λ a. IsBlockPut tag size a.0 (blocks_in self.old) (blocks_in self.new)) }
     {

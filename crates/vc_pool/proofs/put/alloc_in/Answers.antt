@@ -1,4 +1,4 @@
-use Rattle.vc_base.proofs.Common.{◌≡◌, ℕ, ◌<◌, ◌≤◌, List, ◌++◌, map, length, take, drop, Option, sym, refl, ap, ◌∙◌, subst, arith, with_items_is, cell_for, uncarved}
+use Rattle.vc_base.proofs.Common.{◌≡◌, ℕ, ◌≤◌, List, ◌++◌, map, length, take, drop, Option, sym, refl, ap, ◌∙◌, subst, arith, with_items_is, Terms, cell_for, uncarved}
 use Rattle.vc_pool_cells.specs.Blocks.{carved_by, pair_of}
 use Rattle.vc_pool_cells.specs.Call.{IsReused}
 use Rattle.vc_pool_cells.specs.Kept.{IsPool}
@@ -15,6 +15,10 @@ use Rattle.vc_pool.proofs.put.alloc_in.Given.{Over}
 -- the segments with the element size that the block has
 h : (g : Over) (c : After-element_with-set g) → IsPool c.element_with-set.result (cells_in c.args.segs.now.items) c.args.freed.now.0
 h g c = pool-with c.element_with-set.result c.args.element.now (cells_in c.args.segs.now.items) c.args.freed.now.0 c.args.size c.element_with-set.ensures.set c.element_with-set.ensures.unset c.requires.size.most c.requires.kept
+
+-- the terms of the discipline
+abbrev terms : (g : Over) (c : After-element_with-set g) → Terms
+terms g c = ((goal.SegDisc-dyn g (c.args.disc.now.vtable, c.args.disc.now.value)).state c.args.disc.now.value).terms
 
 most : (g : Over) (c : After-element_with-set g) → c.element_with-set.result ≤ 16777216
 most g c = (h g c).cells.most
@@ -79,7 +83,7 @@ returns-in-Some-clause-answer g c =
 pub returns-in-Some-clause-disc : goal.returns-in-Some-clause-disc
 returns-in-Some-clause-disc g c =
     let at = goal.at.returns-in-Some-clause-disc g c in
-    carved-disc _ c.args.segs.now.items c.args.element.now c.args.freed.now.0 c.element_with-set.result c.args.tag c.args.size c.element_with-set.ensures.set c.element_with-set.ensures.unset
+    carved-disc (terms g at.After-element_with-set) c.args.segs.now.items c.args.element.now c.args.freed.now.0 c.element_with-set.result c.args.tag c.args.size c.element_with-set.ensures.set c.element_with-set.ensures.unset
     c.requires.kept.cells (most g at.After-element_with-set) c.if-freed-ne0.false c.if-size-set.false c.requires.size.some
     c.in-Some.a.0 _ _
     (carved g at.After-carve_lowest c.in-Some.a.0 (h g at.After-element_with-set) c.in-Some.ensures.carved)
@@ -87,7 +91,7 @@ returns-in-Some-clause-disc g c =
 pub returns-in-Ok-clause-kept : goal.returns-in-Ok-clause-kept
 returns-in-Ok-clause-kept g c =
     let at = goal.at.returns-in-Ok-clause-kept g c in
-    let granted = granted-from c.element_with-set.result c.args.tag c.args.size _ _ c.args.segs.now.items (cells_in c.put_in_new.new.segs.items) _ _ c.in-Ok.a.0 (unchanged g at.After-carve_lowest c.in-None.ensures.same) c.in-Ok.ensures.granted in
+    let granted = granted-from c.element_with-set.result c.args.tag c.args.size _ _ c.args.segs.now.items (cells_in c.put_by_asking.new.segs.items) _ _ c.in-Ok.a.0 (unchanged g at.After-carve_lowest c.in-None.ensures.same) c.in-Ok.ensures.granted in
     (granted.carved c.args.element.now c.args.freed.now.0 c.element_with-set.ensures.set c.requires.kept).kept
 
 pub returns-in-Ok-clause-answer : goal.returns-in-Ok-clause-answer
@@ -96,17 +100,17 @@ returns-in-Ok-clause-answer g c =
     put-granted _ c.args.segs.now.items c.args.element.now c.args.freed.now.0 c.element_with-set.result c.args.tag c.args.size c.element_with-set.ensures.set c.element_with-set.ensures.unset
     c.requires.kept.cells (most g at.After-element_with-set) c.if-freed-ne0.false c.if-size-set.false c.requires.size.some
     (full-is c.args.segs.now.items c.args.element.now c.args.freed.now.0 c.element_with-set.result c.args.size c.element_with-set.ensures.set c.element_with-set.ensures.unset (place g at.After-carve_lowest _ c.in-None.ensures.place))
-    c.in-Ok.a.0 c.put_in_new.new.segs.items _ _ refl c.requires.kept
-    (granted-from c.element_with-set.result c.args.tag c.args.size _ _ c.args.segs.now.items (cells_in c.put_in_new.new.segs.items) _ _ c.in-Ok.a.0 (unchanged g at.After-carve_lowest c.in-None.ensures.same) c.in-Ok.ensures.granted)
+    c.in-Ok.a.0 c.put_by_asking.new.segs.items _ _ refl c.requires.kept
+    (granted-from c.element_with-set.result c.args.tag c.args.size _ _ c.args.segs.now.items (cells_in c.put_by_asking.new.segs.items) _ _ c.in-Ok.a.0 (unchanged g at.After-carve_lowest c.in-None.ensures.same) c.in-Ok.ensures.granted)
 
 pub returns-in-Ok-clause-disc : goal.returns-in-Ok-clause-disc
 returns-in-Ok-clause-disc g c =
     let at = goal.at.returns-in-Ok-clause-disc g c in
-    granted-disc _ c.args.segs.now.items c.args.element.now c.args.freed.now.0 c.element_with-set.result c.args.tag c.args.size c.element_with-set.ensures.set c.element_with-set.ensures.unset
+    granted-disc (terms g at.After-element_with-set) c.args.segs.now.items c.args.element.now c.args.freed.now.0 c.element_with-set.result c.args.tag c.args.size c.element_with-set.ensures.set c.element_with-set.ensures.unset
     c.requires.kept.cells (most g at.After-element_with-set) c.if-freed-ne0.false c.if-size-set.false c.requires.size.some
     (full-is c.args.segs.now.items c.args.element.now c.args.freed.now.0 c.element_with-set.result c.args.size c.element_with-set.ensures.set c.element_with-set.ensures.unset (place g at.After-carve_lowest _ c.in-None.ensures.place))
-    c.in-Ok.a.0 c.put_in_new.new.segs.items _ _ c.requires.kept
-    (granted-from c.element_with-set.result c.args.tag c.args.size _ _ c.args.segs.now.items (cells_in c.put_in_new.new.segs.items) _ _ c.in-Ok.a.0 (unchanged g at.After-carve_lowest c.in-None.ensures.same) c.in-Ok.ensures.granted)
+    c.in-Ok.a.0 c.put_by_asking.new.segs.items _ _ c.requires.kept
+    (granted-from c.element_with-set.result c.args.tag c.args.size _ _ c.args.segs.now.items (cells_in c.put_by_asking.new.segs.items) _ _ c.in-Ok.a.0 (unchanged g at.After-carve_lowest c.in-None.ensures.same) c.in-Ok.ensures.granted)
 
 pub returns-in-Err-clause-answer : goal.returns-in-Err-clause-answer
 returns-in-Err-clause-answer g c =
@@ -121,12 +125,13 @@ returns-in-Err-clause-answer g c =
 pub returns-in-Err-clause-no_memory : goal.returns-in-Err-clause-no_memory
 returns-in-Err-clause-no_memory g c =
     let at = goal.at.returns-in-Err-clause-no_memory g c in
-    λ e. lacks-cell c.args.segs.now.items c.args.element.now c.args.freed.now.0 c.element_with-set.result c.args.size c.element_with-set.ensures.set c.element_with-set.ensures.unset
-    c.if-size-set.false c.if-freed-ne0.false (place g at.After-carve_lowest _ c.in-None.ensures.place)
-    (subst (λ (ss : List PoolSegment). length ss < 1023) (unchanged g at.After-carve_lowest c.in-None.ensures.same) (c.in-Err.ensures.few e))
+    λ e. lacks-cell (terms g at.After-element_with-set) c.args.segs.now.items c.args.element.now c.args.freed.now.0 c.element_with-set.result c.args.tag c.args.size c.element_with-set.ensures.set c.element_with-set.ensures.unset
+    c.requires.kept.cells (most g at.After-element_with-set) c.if-freed-ne0.false c.if-size-set.false c.requires.size.some
+    (full-is c.args.segs.now.items c.args.element.now c.args.freed.now.0 c.element_with-set.result c.args.size c.element_with-set.ensures.set c.element_with-set.ensures.unset (place g at.After-carve_lowest _ c.in-None.ensures.place))
+    (after g at.After-carve_lowest) (unchanged g at.After-carve_lowest c.in-None.ensures.same) (c.in-Err.ensures.may e)
 
-pub put_in_new-requires-clause-lent : goal.put_in_new-requires-clause-lent
-put_in_new-requires-clause-lent g c =
-    let at = (goal.at.put_in_new-requires-clause-lent g c).After-carve_lowest in
+pub put_by_asking-requires-clause-lent : goal.put_by_asking-requires-clause-lent
+put_by_asking-requires-clause-lent g c =
+    let at = (goal.at.put_by_asking-requires-clause-lent g c).After-carve_lowest in
     let same = ap (λ (ss : List PoolSegment). map pair_of (cells_in ss)) (sym (unchanged g at c.in-None.ensures.same)) in
     (c.requires.lent.0, c.requires.lent.1 ∙ ap (λ ss. c.requires.lent.0 ++ ss) same)

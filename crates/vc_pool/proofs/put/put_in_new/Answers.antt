@@ -1,4 +1,5 @@
 use Rattle.vc_base.proofs.Common.{◌≡◌, ℕ, ◌+◌, ◌%◌, List, map, length, ap, ◌∙◌, subst, arith, cell_for, new_segment, round_up}
+use Rattle.vc_model.specs.Segments.{growing}
 use Rattle.vc_seg.proofs.Rounding.{IsSegmentSize-asked, round_up-mod_unit}
 use Rattle.vc_pool_cells.specs.Blocks.{pair_of}
 use Rattle.vc_pool_cells.specs.Kept.{IsPool}
@@ -52,3 +53,8 @@ returns-in-Ok-clause-granted g c =
           c.in_ok-reserve_one.ensures.items c.carve_new.ensures.carved unset last set h);
     } in
     granted-as c.args.element c.args.tag c.args.size c.rounded_up-bytes.result _ (cells_in c.args.segs.now.items) (cells_in c.carve_new.new.segs.items) _ _ c.carve_new.result.0 need own
+
+pub lend_next-requires-clause-new : goal.lend_next-requires-clause-new
+lend_next-requires-clause-new g c =
+    let disc = c.args.disc.now in
+    ap (growing ((goal.SegDisc-dyn g (disc.vtable, disc.value)).state disc.value).terms) (pairs-in c.deref.result.now ∙ ap (λ (ss : List PoolSegment). map pair_of (cells_in ss)) (c.deref.ensures.value ∙ c.in_ok-reserve_one.ensures.items)) ∙ c.requires.new
