@@ -1,6 +1,7 @@
 ghost use Rattle.std.specs.Prelude.{◌≡◌, ◌≢◌, ◌+◌, ◌%◌, ◌<◌, ◌≤◌, All, IfErr, IfOk, IsErrOf, None, OnErr, Some, false, map, option_map, vec_capacity};
 ghost use Rattle.vc_base.specs.Prelude.{address, place_of, HasOut, IsSegmentSize, TooMany, ask, HasBlock};
 ghost use Rattle.vc_model.specs.Last.{last_place, newest};
+ghost use Rattle.vc_model.specs.Segments.{growing};
 ghost use Rattle.vc_seg.specs.Lend.{IsAsked, IsNoGrant};
 ghost use Rattle.vc_seg.specs.OneBlock.{IsSize};
 ghost use Rattle.vc_seg.specs.Segment.{AreSegments, pair_of};
@@ -13,7 +14,7 @@ use crate::head::lay;
 use crate::place::place;
 use std::alloc::Global;
 use vc_base::Addr;
-use vc_seg::{RegionFault, SegDisc, Segment, lend_next, round_of, rounded_up, span_of};
+use vc_seg::{RegionFault, SegDisc, Segment, growing_of, lend_next, round_of, rounded_up, span_of};
 
 // Puts a block of zeros at a place behind those of the newest segment, and answers its address. It is the latest.
 fn put(segs: &mut Vec<Segment>, latest: Addr, seg: u32, off: u32, size: u32, tag: u32) -> Addr
@@ -41,6 +42,7 @@ fn add_segment(
 ) -> Result<u32, RegionFault>
     requires segments { AreSegments segs.old.items }
     requires room { 1023 ≤ vec_capacity segs.old }
+    requires new { growing (state disc.old).terms (map pair_of segs.old.items) ≡ None }
     requires bytes { IsSegmentSize bytes }
     requires multiple { bytes % (state disc.old).terms.round ≡ 0 }
 
@@ -60,7 +62,7 @@ fn add_segment(
     Ok(number)
 }
 
-// A block of zeros in a segment that is asked for.
+// A block of zeros in a segment that is lent for it.
 fn put_in_new(
     segs: &mut Vec<Segment>,
     latest: &mut Addr,
@@ -69,6 +71,7 @@ fn put_in_new(
     size: u32,
     tag: u32,
 ) -> Result<Addr, RegionFault>
+    requires new { growing (state disc.old).terms (map pair_of segs.old.items) ≡ None }
     requires kept { IsReady segs.old latest.old.0 }
     requires size { IsSize size }
     requires lent { HasOut (state disc.old) (layout_by segs.old.items latest.old.0).segments }
@@ -86,6 +89,59 @@ fn put_in_new(
             Ok(a)
         }
         Err(fault) => Err(fault),
+    }
+}
+
+// A block of zeros in the last segment, of that number and size, which the discipline makes longer.
+fn put_in_longer(
+    segs: &mut Vec<Segment>,
+    latest: &mut Addr,
+    disc: &mut Box<dyn SegDisc>,
+    alloc: Global,
+    last: (u32, u32),
+    size: u32,
+    tag: u32,
+) -> Result<Addr, RegionFault>
+    requires grows { growing (state disc.old).terms (map pair_of segs.old.items) ≡ Some last }
+    requires kept { IsReady segs.old latest.old.0 }
+    requires size { IsSize size }
+    requires lent { HasOut (state disc.old) (layout_by segs.old.items latest.old.0).segments }
+    requires none { last_place (layout_by segs.old.items latest.old.0) size ≡ None }
+    ensures kept { IsReady segs.new latest.new.0 }
+    ensures alloc { IsAlloc tag size result (layout_by segs.old.items latest.old.0)
+        (layout_by segs.new.items latest.new.0) (state disc.old) (state disc.new) }
+    ensures latest { IfOk result (λ a. latest.new.0 ≡ a.0) }
+{
+    let bytes = rounded_up(span_of(size) + 32, round_of(disc));
+    let many = last.1 as u64 + bytes as u64 > 33_554_432;
+    Err(if many {
+        RegionFault::TooManySegments
+    } else {
+        RegionFault::OutOfMemory
+    })
+}
+
+// A block of zeros where the discipline is asked for its bytes: in the segment that grows, else in a new one.
+fn put_by_asking(
+    segs: &mut Vec<Segment>,
+    latest: &mut Addr,
+    disc: &mut Box<dyn SegDisc>,
+    alloc: Global,
+    size: u32,
+    tag: u32,
+) -> Result<Addr, RegionFault>
+    requires kept { IsReady segs.old latest.old.0 }
+    requires size { IsSize size }
+    requires lent { HasOut (state disc.old) (layout_by segs.old.items latest.old.0).segments }
+    requires none { last_place (layout_by segs.old.items latest.old.0) size ≡ None }
+    ensures kept { IsReady segs.new latest.new.0 }
+    ensures alloc { IsAlloc tag size result (layout_by segs.old.items latest.old.0)
+        (layout_by segs.new.items latest.new.0) (state disc.old) (state disc.new) }
+    ensures latest { IfOk result (λ a. latest.new.0 ≡ a.0) }
+{
+    match growing_of(segs, disc) {
+        Some(last) => put_in_longer(segs, latest, disc, alloc, last, size, tag),
+        None => put_in_new(segs, latest, disc, alloc, size, tag),
     }
 }
 
@@ -112,6 +168,6 @@ pub(crate) fn alloc_in(
             *latest = a;
             Ok(a)
         }
-        None => put_in_new(segs, latest, disc, alloc, size, tag),
+        None => put_by_asking(segs, latest, disc, alloc, size, tag),
     }
 }
