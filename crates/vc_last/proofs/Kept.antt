@@ -2,6 +2,7 @@
 use Rattle.vc_base.proofs.Common.{◌≡◌, ℕ, suc, ◌+◌, ◌-◌, ◌*◌, ◌/◌, ◌%◌, ◌<◌, ◌≤◌, true, false, ◌≢◌, List, [], ◌∷◌, ◌++◌, map, length, get_or, Some, All, Any, AllPairs, sym, refl, ap, ◌∙◌, subst, inr, ⊎_elim, arith, eq-eqb, ne_eqb, cases_Bool, cases_eq, All-head, All-map, All-tail, get_or-map, length-map, length_push, address, place_of, newest, Block, address_of, is_at, span, IsSound, HasBlock, find_block}
 use Rattle.std.proofs.lemmas.Map.Made.{Contains-tail}
 use Rattle.vc_base.proofs.Places.{at-place, span-least}
+use Rattle.vc_model.specs.Last.{last_of}
 use Rattle.vc_seg.specs.Segment.{Bytes, pair_of}
 use Rattle.vc_seg.proofs.Backs.{Apart}
 use Rattle.vc_seg.specs.Memory.{bytes_of_number}
@@ -166,10 +167,14 @@ index-end k n (t ∷ ts) s e apart =
     let other : t.number ≢ n = λ q. apart 0 (length (t ∷ ts)) s (omega arith) (omega (arith, length_push ts s)) (q ∙ (sym e ∙ sym (ap (λ (b : Bytes). b.number) (get_or-last (t ∷ ts) s s)))) in
     rw (ne_eqb t.number n other) (omega (arith, index-end (k + 1) n ts s e (λ i j d lt within. apart (suc i) (suc j) d (omega (arith, lt)) (omega (arith, within)))))
 
+-- the segment lent latest, behind the others
+pub newest-cut : (segs : List Bytes) (s : ℕ × ℕ) → last_of (map pair_of segs) ≡ Some s → (front : List Bytes) × (t : Bytes) × (segs ≡ front ++ t ∷ []) × (pair_of t ≡ s)
+newest-cut [] s e = absurd (cc)
+newest-cut (c ∷ []) s e = let same : pair_of c ≡ s = cc in ([], c, refl, same)
+newest-cut (c ∷ d ∷ cs) s e = let rest = newest-cut (d ∷ cs) s e in (c ∷ rest.0, rest.1, ap (λ (xs : List Bytes). c ∷ xs) rest.2, rest.3)
+
 pub newest-split : (segs : List Bytes) (s : ℕ × ℕ) (bs : List (Block ℕ)) → newest (row (map pair_of segs) bs) ≡ Some s → (front : List Bytes) × (t : Bytes) × (segs ≡ front ++ t ∷ []) × (t.number ≡ s.0)
-newest-split [] s bs e = absurd (cc)
-newest-split (c ∷ []) s bs e = let same : pair_of c ≡ s = cc in ([], c, refl, ap (λ (p : ℕ × ℕ). p.0) same)
-newest-split (c ∷ d ∷ cs) s bs e = let rest = newest-split (d ∷ cs) s bs e in (c ∷ rest.0, rest.1, ap (λ (xs : List Bytes). c ∷ xs) rest.2, rest.3)
+newest-split segs s bs e = let cut = newest-cut segs s e in (cut.0, cut.1, cut.2, ap (λ (p : ℕ × ℕ). p.0) cut.3)
 
 pub lower-newest : (segs : List Bytes) (q size : ℕ) (bs : List (Block ℕ)) (b : Block ℕ) (s : ℕ × ℕ) → IsLastOf segs q bs → newest (row (map pair_of segs) bs) ≡ Some s → b.seg ≡ s.0 → IsBlockPlace (row (map pair_of segs) bs) size (b.seg, b.off) → All (λ c. LiesLower segs c b) bs
 lower-newest segs q size bs b s h new seg p =

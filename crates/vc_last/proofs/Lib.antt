@@ -8,9 +8,11 @@ pub mod Chains
 pub mod Writes
 pub mod Kept
 pub mod Lends
+pub mod Longer
 pub mod Bodies
 pub mod Lifts
 pub mod Newest
+pub mod Granted
 pub mod Puts
 pub mod Changes
 pub mod Moves

@@ -1,7 +1,9 @@
 -- The place behind the blocks of the newest segment.
-use Rattle.vc_base.proofs.Common.{◌≡◌, ℕ, ◌+◌, ◌%◌, ◌<◌, ◌≤◌, max, true, false, eqb, leb, ◌≢◌, List, [], ◌∷◌, ◌++◌, map, length, get_or, Some, None, fold, All, filter, Option, Any, sym, refl, ap, ◌∙◌, subst, ⊎_elim, arith, ne_eqb, le-leb, leb-true, cases_Bool, eqb-false, lt-leb, All-cons, All-head, All-nil, All-tail, length_push, none-some, same_Some, address, place_of, zeros, last_place, newest, Block, Layout, is_at, with_grant, new_segment, span, HasBlock}
-use Rattle.vc_model.specs.Last.{next_offset, place_behind_latest}
+use Rattle.vc_base.proofs.Common.{◌≡◌, ℕ, ◌+◌, ◌-◌, ◌%◌, ◌<◌, ◌≤◌, max, true, false, eqb, leb, ◌≢◌, List, [], ◌∷◌, ◌++◌, map, length, get_or, Some, None, fold, All, filter, Option, Any, sym, refl, ap, ◌∙◌, subst, ⊎_elim, arith, ne_eqb, le-leb, leb-true, eqb-true, cases_Bool, eqb-false, lt-leb, All-cons, All-head, All-nil, All-tail, length_push, none-some, same_Some, address, place_of, zeros, last_place, newest, Block, Layout, is_at, with_grant, new_segment, span, HasBlock}
+use Rattle.vc_model.specs.Last.{last_of, next_offset, place_behind_latest}
+use Rattle.vc_model.specs.Segments.{Grant, with_more}
 use Rattle.vc_base.proofs.Places.{some-span, at-place}
+use Rattle.vc_layouts.proofs.Segments.{only-one, with_more-push}
 use Rattle.vc_last.specs.Allocation.{EndsFirst, AreAllocated}
 use Rattle.vc_last.specs.Place.{EndBefore, IsBlockPlace}
 use Rattle.vc_last.proofs.Lists.{get_or-last, last_of-push, last_of-split}
@@ -48,6 +50,16 @@ ends-before number m to (b ∷ bs) le =
     (λ (t : eqb b.seg number ≡ false).
     let own : fold max m (ends number bs) ≤ to = rw t at le in
     All-cons (EndBefore (number, to)) b bs (λ e. absurd (eqb-false b.seg number t e)) (ends-before number m to bs own))
+    (cases_Bool (eqb b.seg number))
+
+ends-most : (number m to : ℕ) (bs : List (Block ℕ)) → m ≤ to → All (EndBefore (number, to)) bs → fold max m (ends number bs) ≤ to
+ends-most number m to [] le h = le
+ends-most number m to (b ∷ bs) le h =
+    let P : Block ℕ → Type 0 = EndBefore (number, to) in
+    let rest = All-tail P b bs h in
+    ⊎_elim
+    (λ (t : eqb b.seg number ≡ true). rw t (ends-most number (max m (b.off + span b.size)) to bs (omega (arith, le, All-head P b bs h (eqb-true b.seg number t))) rest))
+    (λ (t : eqb b.seg number ≡ false). rw t (ends-most number m to bs le rest))
     (cases_Bool (eqb b.seg number))
 
 any-last : (P : ℕ × ℕ → Type 0) (front : List (ℕ × ℕ)) (s : ℕ × ℕ) → P s → Any P (front ++ s ∷ [])
@@ -137,3 +149,23 @@ place-none r size off s is at over =
 pub place-granted : (r : Layout ℕ) (n bytes size : ℕ) → AreAllocated r → All (λ s. s.0 ≢ n) r.segments → 32 + span size ≤ bytes → last_place (with_grant r (new_segment n bytes)) size ≡ Some (n, 32)
 place-granted r n bytes size h fresh room =
     sym (place-some (with_grant r (new_segment n bytes)) size 32 (n, bytes) (last_of-push r.segments (n, bytes)) (sym (ends-none n 32 r.blocks (none-in r n h fresh))) room)
+
+-- all blocks of the segment lent latest end in it
+all-before : (r : Layout ℕ) (front : List (ℕ × ℕ)) (n size : ℕ) → AreAllocated r → r.segments ≡ front ++ (n, size) ∷ [] → All (EndBefore (n, size)) r.blocks
+all-before r front n size h split = λ k d lt own.
+    let b : Block ℕ = get_or r.blocks k d in
+    let u = h.usable k d lt in
+    let P : ℕ × ℕ → Type 0 = λ s. b.off - 16 + span b.size + 16 ≤ s.1 in
+    let one = only-one r.segments n P h.numbered.distinct (u.0, u.1, u.2, u.3, (sym u.4.0 ∙ own, omega (arith, u.4.2))) in
+    let at : get_or r.segments (length front) (n, size) ≡ (n, size) = ap (λ (ss : List (ℕ × ℕ)). get_or ss (length front) (n, size)) split ∙ get_or-last front (n, size) (n, size) in
+    let within : length front < length r.segments = omega (arith, ap length split, length_push front (n, size)) in
+    let end : b.off - 16 + span b.size + 16 ≤ size = subst P at (one (length front) (n, size) within (ap (λ (s : ℕ × ℕ). s.0) at)) in
+    omega (arith, end)
+
+-- where it gets more bytes, a block of these fits behind them
+pub place-longer : (r : Layout ℕ) (front : List (ℕ × ℕ)) (n had more size : ℕ) → AreAllocated r → r.segments ≡ front ++ (n, had) ∷ [] → 32 ≤ had → span size ≤ more → last_place (with_grant r (record { number = n; bytes = more; fresh = false })) size ≡ Some (n, next_offset n r.blocks)
+place-longer r front n had more size h split least room =
+    let g : Grant = record { number = n; bytes = more; fresh = false } in
+    let new : newest (with_grant r g) ≡ Some (n, had + more) = ap (λ (ss : List (ℕ × ℕ)). last_of (with_more more ss)) split ∙ (ap last_of (with_more-push more front (n, had)) ∙ last_of-push front (n, had + more)) in
+    let end : next_offset n r.blocks ≤ had = ends-most n 32 had r.blocks least (all-before r front n had h split) in
+    sym (place-some (with_grant r g) size (next_offset n r.blocks) (n, had + more) new refl (omega (arith, end, room)))

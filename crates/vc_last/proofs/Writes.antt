@@ -1,5 +1,5 @@
 -- What a write into a range of one segment leaves of the segments, and of the blocks outside of it.
-use Rattle.vc_base.proofs.Common.{◌≡◌, ℕ, ◌+◌, ◌-◌, ◌*◌, ◌/◌, ◌<◌, ◌≤◌, cond, eqb, ◌⊎◌, List, [], ◌∷◌, map, length, get_or, take, drop, All, AllPairs, sym, refl, ap, ◌∙◌, subst, ⊎_elim, arith, eq-eqb, ne_eqb, cases_eq, All-head, All-tail, get_or-map, length-map, place_of, IsSegmentSize, Block, address_of, span}
+use Rattle.vc_base.proofs.Common.{◌≡◌, ℕ, ◌+◌, ◌-◌, ◌*◌, ◌/◌, ◌<◌, ◌≤◌, cond, eqb, ◌⊎◌, List, [], ◌∷◌, map, length, get_or, take, drop, All, AllPairs, sym, refl, ap, ◌∙◌, subst, ⊎_elim, arith, eq-eqb, ne_eqb, cases_eq, All-head, All-tail, get_or-map, length-map, place_of, IsSegmentSize, Block, address_of}
 use Rattle.vc_seg.specs.Segment.{AreSegments, Bytes, pair_of}
 use Rattle.vc_seg.specs.Memory.{bytes_of_number, write_segment}
 use Rattle.vc_seg.specs.Field.{field_at}
@@ -162,14 +162,14 @@ head-made segs b e size label bytes =
     (λ i. record { label = label i; seg = b.seg; off = b.off; size = size i; bytes = all i }) ∙ at
 
 -- it has its head still, which names the same block before it
-head-kept : (o s : List Bytes) (b : Block ℕ) → HasHead o b → length (bytes_of_number b.seg s) ≡ length (bytes_of_number b.seg o) → SameBlock (bytes_of_number b.seg o) (bytes_of_number b.seg s) b → HasHead s b × (before_of s (address_of b) ≡ before_of o (address_of b))
+pub head-kept : (o s : List Bytes) (b : Block ℕ) → HasHead o b → length (bytes_of_number b.seg o) ≤ length (bytes_of_number b.seg s) → SameBlock (bytes_of_number b.seg o) (bytes_of_number b.seg s) b → HasHead s b × (before_of s (address_of b) ≡ before_of o (address_of b))
 head-kept o s b l len same =
     let says = head-says o b l in
     let exact = head-exact o b l in (
       record {
         some = l.some;
         first = l.first;
-        within = subst (λ k. b.off + span b.size ≤ k) (sym len) l.within;
+        within = omega (arith, l.within, len);
         zero = same.zero ∙ l.zero;
         is = head-made s b exact (says.size ∙ sym same.size) (says.label ∙ sym same.label) (says.bytes ∙ sym same.bytes);
       },
@@ -177,11 +177,11 @@ head-kept o s b l len same =
     )
 
 pub head-same : (o s : List Bytes) (b : Block ℕ) → HasHead o b → bytes_of_number b.seg s ≡ bytes_of_number b.seg o → HasHead s b × (before_of s (address_of b) ≡ before_of o (address_of b))
-head-same o s b l e = head-kept o s b l (ap length e) (same-bytes o s b e)
+head-same o s b l e = head-kept o s b l (omega (arith, ap length e)) (same-bytes o s b e)
 
 module _ (n from to : ℕ) (o s : List Bytes) (h : StaysBut n from to o s) where
   pub head-stays : (b : Block ℕ) → HasHead o b → LiesClear n from to b → HasHead s b × (before_of s (address_of b) ≡ before_of o (address_of b))
-  head-stays b l clear = head-kept o s b l (size-same b.seg o s h.pairs) (same-block n from to o s h b (omega (arith, l.first)) clear)
+  head-stays b l clear = head-kept o s b l (omega (arith, size-same b.seg o s h.pairs)) (same-block n from to o s h b (omega (arith, l.first)) clear)
 
   pub chain-stays : (p q : ℕ) (bs : List (Block ℕ)) → IsChain o p bs q → All (LiesClear n from to) bs → IsChain s p bs q
   chain-stays p q [] c clear = c

@@ -1,4 +1,4 @@
--- Where a block asks for a segment.
+-- Where bytes are asked for a block.
 use Rattle.std.specs.Prelude.{◌≡◌, ◌≢◌, ℕ, Bool, IfSome, IsTrue, None, Some, false}
 use Rattle.vc_model.specs.Discipline.{Terms}
 use Rattle.vc_model.specs.Last.{can_end, last_need, last_place, latest}
@@ -6,14 +6,14 @@ use Rattle.vc_model.specs.Layout.{Layout}
 use Rattle.vc_model.specs.Segments.{TooMany, ask}
 use Rattle.vc_model.specs.Touch.{find_block}
 
--- a block of that size asks for a segment
+-- bytes are asked for a block of that size
 pub record LacksPlace {L : Type 0} (terms : Terms) (r : Layout L) (size : ℕ) : Type 0 where
   -- the newest segment has no place for it
   pub none : last_place r size ≡ None
   -- the region may be granted what it needs
   pub may : ask terms (last_need terms size) r.segments false ≢ TooMany
 
--- the block at a place asks for a segment as it gets that size
+-- bytes are asked for the block at a place as it gets that size
 pub record MovesToNew {L : Type 0} (terms : Terms) (r : Layout L) (at : ℕ × ℕ) (size : ℕ) (may_move : Bool) : Type 0 where
   -- it is the latest, and can't stay
   pub must : IfSome (find_block at r.blocks) (λ b. (latest r ≡ Some b) × (can_end r size b ≡ false))

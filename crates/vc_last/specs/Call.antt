@@ -1,33 +1,25 @@
 -- What the calls of a last region answer and leave, by its layout and its discipline's meaning before and after.
-use Rattle.std.specs.Prelude.{◌≡◌, ℕ, List, Bool, Result, false, IfOk, IsErrOf, ◌≢◌, [], ◌∷◌, ◌++◌, All, map}
+use Rattle.std.specs.Prelude.{ℕ, Bool, Result, IfOk, IsErrOf}
 use Rattle.vc_model.specs.Addr.{place_of}
-use Rattle.vc_model.specs.Discipline.{Discipline, Terms}
+use Rattle.vc_model.specs.Discipline.{Discipline}
 use Rattle.vc_model.specs.Last.{last_alloc, last_need, last_resize}
 use Rattle.vc_model.specs.Layout.{Layout}
-use Rattle.vc_model.specs.Segments.{Granted, ask, new_segment}
 use Rattle.vc_model.specs.Touch.{HasBlock}
 use Rattle.vc_base.specs.declared.addr.Addr.{Addr}
 use Rattle.vc_seg.specs.Answer.{Answers, Asks}
-use Rattle.vc_seg.specs.Segment.{Bytes, pair_of, zero_segment}
 use Rattle.vc_seg.specs.OneBlock.{IsBlockKept}
 use Rattle.vc_last.specs.Ask.{LacksPlace, MovesToNew}
 use Rattle.vc_seg.specs.declared.fault.RegionFault.{RegionFault}
 use Rattle.vc_seg.specs.declared.fault.RegionFault.TheVariants as code
 
--- a segment of so many bytes was granted under the least number that these don't have, and stands behind them
-pub record IsLent (terms : Terms) (number bytes : ℕ) (old new : List Bytes) : Type 0 where
-  pub granted : ask terms bytes (map pair_of old) false ≡ Granted (new_segment number bytes)
-  pub pushed : new ≡ old ++ zero_segment number bytes ∷ []
-  pub fresh : All (λ s. s.number ≢ number) old
-
--- a block of that tag and size is allocated; want of memory comes only where a segment is asked for
+-- a block of that tag and size is allocated; want of memory comes only where bytes are asked for
 pub record IsAlloc (tag size : ℕ) (result : Result Addr RegionFault) (old new : Layout ℕ) (d e : Discipline) : Type 0 where
   pub answer : Answers (last_alloc d.terms old tag size) result old new
   pub disc : Asks result d e old.segments new.segments (last_need d.terms size)
   pub fresh : IfOk result (λ a. ¬ HasBlock old.blocks a.0)
   pub no_memory : IsErrOf result code.OutOfMemory → LacksPlace d.terms old size
 
--- the block at an address gets that size, if it is the latest; want of memory comes only where it moves, to a segment that is asked for
+-- the block at an address gets that size, if it is the latest; want of memory comes only where it moves and bytes are asked for
 pub record IsResize (a size : ℕ) (may_move : Bool) (result : Result Addr RegionFault) (old new : Layout ℕ) (d e : Discipline) : Type 0 where
   pub answer : Answers (last_resize d.terms old (place_of a) size may_move) result old new
   pub disc : Asks result d e old.segments new.segments (last_need d.terms size)

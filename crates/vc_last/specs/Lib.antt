@@ -18,5 +18,6 @@ pub mod Place
 pub mod Gaps
 pub mod Read
 pub mod Ask
+pub mod Granted
 pub mod Call
 pub mod Parts

@@ -65,9 +65,10 @@ impl Last {
     }
 
     /// A block of zeros, of 1 to 16,777,216 bytes: behind the last block of the newest segment, or at its offset 32 where
-    /// it has none. Where it doesn't fit there, a segment is asked for, and is then the newest. `TooManySegments` comes
-    /// where the region can't be granted one more, `NoSegment` where the discipline refuses, and `OutOfMemory` only where
-    /// one is asked for.
+    /// it has none. Where it doesn't fit there, bytes are asked for, and then the same rule holds: a discipline that grows
+    /// makes the newest segment longer, where there is one, and else a segment is lent, which is then the newest.
+    /// `TooManySegments` comes where there are 1,023 segments, or where the newest would be longer than 33,554,432 bytes,
+    /// `NoSegment` where the discipline refuses, and `OutOfMemory` only where bytes are asked for.
     pub fn alloc(&mut self, size: u32, tag: u32) -> Result<Addr, RegionFault>
         requires lent { HasOut (state self.old.disc) (segments_in self.old) }
         requires size { IsSize size }

@@ -1,6 +1,7 @@
 //! A region of blocks one behind another over the segments of a discipline. Only the latest block is freed or resized.
 #![tactic(auto)]
 
+mod ask;
 mod block;
 mod compact;
 mod free;

@@ -8,7 +8,7 @@ use Rattle.vc_last.proofs.Calls.{ends-there}
 use Rattle.vc_last.proofs.Chains.{latest-head}
 use Rattle.vc_last.proofs.Latest.{IsLatestAt}
 use Rattle.vc_last.proofs.Moves.{IsMove, end-latest, found-layout, latest-among, latest-block, latest-found, before-copied, move-at, moved-own, refused-move}
-use Rattle.vc_last.proofs.Puts.{served-as}
+use Rattle.vc_layouts.proofs.Segments.{Served-later}
 use Rattle.vc_last.proofs.Resizes.{moved-is, moved-others, moved-there, resize-moves}
 use Rattle.vc_last.proofs.resize.move_latest.Goals as goal
 use Rattle.vc_last.proofs.resize.move_latest.Goals.{After-copy_front, After-tag_at-tag, After-unlink}
@@ -84,7 +84,7 @@ returns-in-Ok-clause-resize g c =
     let moved = own g at.After-unlink (move g at.After-copy_front).block in
     record {
       answer = resize-moves _ o m n q c.in-Ok.to.0 c.tag_at-tag.result c.args.size l.at can l.label c.in-Ok.ensures.alloc.answer (moved-is o m n q c.in-Ok.to.0 c.tag_at-tag.result c.args.size l.at put c.in-Ok.ensures.alloc.fresh moved);
-      disc = served-as _ _ o.segments m.segments n.segments _ (same g at.After-unlink) c.in-Ok.ensures.alloc.disc;
+      disc = Served-later _ _ o.segments m.segments n.segments _ (same g at.After-unlink) c.in-Ok.ensures.alloc.disc;
       no_memory = λ e. absurd (cc);
       kept = record { label = moved-there o m n q c.in-Ok.to.0 c.tag_at-tag.result c.args.size l.at put c.in-Ok.ensures.alloc.fresh moved l.label; others = moved-others o m n q c.in-Ok.to.0 c.tag_at-tag.result c.args.size l.at put c.in-Ok.ensures.alloc.fresh moved };
     }
