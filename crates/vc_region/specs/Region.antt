@@ -89,7 +89,7 @@ region_need terms (OfProfile profile) size align = best_need terms size align
 -- a block asks for a segment, by the method: no gap holds it, no cell is free, or the newest segment has no place behind its last block
 abbrev pub RegionAsks : {L : Type 0} → Terms → Region L → ℕ → ℕ → Type 0
 RegionAsks terms (OfBest layout) size align = AsksForSegment terms layout size align
-RegionAsks terms (OfPool pool) size align = LacksCell pool size
+RegionAsks terms (OfPool pool) size align = LacksCell terms pool size
 RegionAsks terms (OfLast layout) size align = LacksPlace terms layout size
 RegionAsks terms (OfDebug debug) size align = DebugAsks terms debug size
 RegionAsks terms (OfProfile profile) size align = AsksForSegment terms (bare_layout profile) size align
