@@ -15,15 +15,8 @@ number-set i segs new within e k d =
     (λ (q : k ≡ i → ⊥). ap (λ (b : Bytes). b.number) (get_or-set_other segs i k new d q))
     (cases_eq k i)
 
-bytes-set : (i : ℕ) (segs : List Bytes) (new : Bytes) → i < length segs → new.number ≡ (get_or segs i new).number → length new.bytes ≡ length (get_or segs i new).bytes → AreSegments segs → AreSegments (set segs i new)
-bytes-set i segs new within number len h =
-    let s : IsRegionSegment (get_or segs i new) = h.legal i new within in
-    let legal : IsRegionSegment new =
-    record {
-      first = subst (λ k. 1 ≤ k) (sym number) s.first;
-      last = subst (λ k. k ≤ 1023) (sym number) s.last;
-      size = subst IsSegmentSize (sym len) s.size;
-    } in
+bytes-set : (i : ℕ) (segs : List Bytes) (new : Bytes) → i < length segs → new.number ≡ (get_or segs i new).number → IsRegionSegment new → AreSegments segs → AreSegments (set segs i new)
+bytes-set i segs new within number legal h =
     let long = length-set segs i new in
     record {
       few = omega (arith, h.few, long);
@@ -33,11 +26,27 @@ bytes-set i segs new within number len h =
           (sym (number-set i segs new within number j d) ∙ (e ∙ number-set i segs new within number k d));
     }
 
+-- or gets another legal size
+pub segments-sized : (i : ℕ) (segs : List Cells) (new : Cells) → i < length segs → new.number ≡ (get_or segs i new).number → IsSegmentSize (length new.bytes) → AreSegments (map segment_of segs) → AreSegments (map segment_of (set segs i new))
+segments-sized i segs new within number size h =
+    let own : Bytes = segment_of new in
+    let inside : i < length (map segment_of segs) = omega (arith, within, length-map segs segment_of) in
+    let at : get_or (map segment_of segs) i own ≡ segment_of (get_or segs i new) = get_or-map segment_of segs i new own within in
+    let same : own.number ≡ (get_or (map segment_of segs) i own).number = number ∙ sym (ap (λ (b : Bytes). b.number) at) in
+    let was : IsRegionSegment (get_or (map segment_of segs) i own) = h.legal i own inside in
+    let legal : IsRegionSegment own =
+    record {
+      first = subst (λ k. 1 ≤ k) (sym same) was.first;
+      last = subst (λ k. k ≤ 1023) (sym same) was.last;
+      size = size;
+    } in
+    subst AreSegments (sym (map-set segment_of segs i new)) (bytes-set i (map segment_of segs) own inside same legal h)
+
 pub segments-set : (i : ℕ) (segs : List Cells) (new : Cells) → i < length segs → new.number ≡ (get_or segs i new).number → length new.bytes ≡ length (get_or segs i new).bytes → AreSegments (map segment_of segs) → AreSegments (map segment_of (set segs i new))
 segments-set i segs new within number len h =
     let at : get_or (map segment_of segs) i (segment_of new) ≡ segment_of (get_or segs i new) = get_or-map segment_of segs i new (segment_of new) within in
-    subst AreSegments (sym (map-set segment_of segs i new))
-    (bytes-set i (map segment_of segs) (segment_of new) (omega (arith, within, length-map segs segment_of)) (number ∙ sym (ap (λ (b : Bytes). b.number) at)) (len ∙ sym (ap (λ (b : Bytes). length b.bytes) at)) h)
+    let was : IsSegmentSize (length (get_or segs i new).bytes) = subst (λ (b : Bytes). IsSegmentSize (length b.bytes)) at ((h.legal i (segment_of new) (omega (arith, within, length-map segs segment_of))).size) in
+    segments-sized i segs new within number (subst IsSegmentSize (sym len) was) h
 
 -- the segments with carved cells stand first still: where as many are carved as before, and where one more is in the first segment that isn't full
 pub front-set : (i : ℕ) (segs : List Cells) (new : Cells) → i < length segs → new.carved ≡ (get_or segs i new).carved → length new.pairs ≡ length (get_or segs i new).pairs → IsFront segs → IsFront (set segs i new)

@@ -17,4 +17,6 @@ pub mod CarvingCell
 pub mod NewSegment
 pub mod ElementSize
 pub mod NewSegmentCell
+pub mod LongerSegment
+pub mod LongerSegmentCell
 pub mod NoneCarved

@@ -8,7 +8,7 @@ use Rattle.vc_pool_cells.specs.Freed.{freed_cells}
 use Rattle.vc_pool_cells.specs.Kept.{AreCellular, IsPool}
 use Rattle.vc_pool_cells.specs.Place.{IsOther, cells_in}
 use Rattle.vc_pool_cells.specs.declared.segment.PoolSegment.{PoolSegment}
-use Rattle.vc_pool_cells.specs.Carve.{IsCarvedAt, IsCarvedNew, IsSetFrom}
+use Rattle.vc_pool_cells.specs.Carve.{IsCarvedAt, IsCarvedIn, IsSetFrom}
 use Rattle.vc_pool_cells.specs.Open.{IsFirstOpen}
 use Rattle.vc_pool_cells.proofs.LowestUncarved.{all-full}
 use Rattle.vc_pool_cells.proofs.NewSegment.{IsFresh, carved-grown, cellular-grown, freed-grown, layout-grown, open-grown, pool-grown}
@@ -37,10 +37,10 @@ module _ (element : ℕ) (olds news : List PoolSegment) (x : PoolSegment) (is : 
       let pair : ℕ → ℕ × ℕ = λ n. (x.seg.number, n) in
       place x ∙ (ap at own ∙ ap pair (ap (cell_offset (cell_for element)) fresh.carved ∙ (omega arith)))
 
-  pub carved-pushed : (tag size before last a : ℕ) (after : List Cells) → IsSetFrom element before → IsPool before (cells_in olds) last → (let at : ℕ × ℕ = (x.seg.number, 32) in place_of a ≡ at) →
+  pub carved-pushed : (tag size before last a : ℕ) (after : List Cells) → IsSetFrom element before → IsPool before (cells_in olds) last →
       (IsPool element (cells_in news) last → IsCarvedAt element tag size (cells_in news) after last a) →
-      IsCarvedNew element tag size (cells_in olds) after (new_segment x.seg.number (length x.seg.bytes)) last
-  carved-pushed tag size before last a after first h place carved =
+      IsCarvedIn element tag size (cells_in olds) after (new_segment x.seg.number (length x.seg.bytes)) last a
+  carved-pushed tag size before last a after first h carved =
       let cell : ℕ = cell_for element in
       let grown : List Cells = cells_in olds ++ cells_of x ∷ [] in
       let own : IsPool element (cells_in olds) last = pool-set_from element before (cells_in olds) k.most first last h in
@@ -48,10 +48,8 @@ module _ (element : ℕ) (olds news : List PoolSegment) (x : PoolSegment) (is : 
       record {
         kept = r.kept;
         layout = r.layout
-            ∙ (ap (λ (at : ℕ × ℕ). with_zeros (layout_by cell (cells_in news)) tag size at) place
-            ∙ ap (λ (l : Layout ℕ). with_zeros l tag size (x.seg.number, 32)) (ap (layout_by cell) all ∙ layout-grown element (cells_in olds) (cells_of x) k some few-cells fresh other));
+            ∙ ap (λ (l : Layout ℕ). with_zeros l tag size (place_of a)) (ap (layout_by cell) all ∙ layout-grown element (cells_in olds) (cells_of x) k some few-cells fresh other);
         freed = r.freed ∙ (ap (λ (ss : List Cells). freed_cells ss last) all ∙ freed-grown element (cells_in olds) (cells_of x) k some few-cells fresh other last own);
         carved = r.carved
-            ∙ (ap (λ (at : ℕ × ℕ). carve at.0 (carved_by (cells_in news))) place
-            ∙ ap (carve x.seg.number) (ap carved_by all ∙ carved-grown element (cells_in olds) (cells_of x) k some few-cells fresh other));
+            ∙ ap (carve (place_of a).0) (ap carved_by all ∙ carved-grown element (cells_in olds) (cells_of x) k some few-cells fresh other);
       }

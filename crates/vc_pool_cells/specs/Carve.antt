@@ -26,16 +26,16 @@ IsSetFrom element before = 1 ≤ before → before ≡ element
 abbrev pub AreCarved : ℕ → List Cells → Type 0
 AreCarved element segs = uncarved (cell_for element) (carved_by segs) (map pair_of segs) ≡ None
 
--- the segment that was granted stands behind the others, and a block of zeros is in its first cell
-pub record IsCarvedNew (element tag size : ℕ) (old new : List Cells) (grant : Grant) (last : ℕ) : Type 0 where
+-- what was granted is there, a segment behind the others or bytes more of the last one, and a block of zeros is in an uncarved cell of it, which stands at an address
+pub record IsCarvedIn (element tag size : ℕ) (old new : List Cells) (grant : Grant) (last a : ℕ) : Type 0 where
   pub kept : IsPool element new last
-  pub layout : layout_by (cell_for element) new ≡ with_zeros (with_grant (layout_by (cell_for element) old) grant) tag size (grant.number, 32)
+  pub layout : layout_by (cell_for element) new ≡ with_zeros (with_grant (layout_by (cell_for element) old) grant) tag size (place_of a)
   pub freed : freed_cells new last ≡ freed_cells old last
-  pub carved : carved_by new ≡ carve grant.number (carved_by old)
+  pub carved : carved_by new ≡ carve (place_of a).0 (carved_by old)
 
 -- the same of each pool that has these segments, whatever cell was freed last, and whose element size that block may set
-abbrev pub CarvesNew : ℕ → ℕ → ℕ → List Cells → List Cells → Grant → Type 0
-CarvesNew element tag size old new grant = (before last : ℕ) → IsSetFrom element before → IsPool before old last → IsCarvedNew element tag size old new grant last
+abbrev pub CarvesIn : ℕ → ℕ → ℕ → List Cells → List Cells → Grant → ℕ → Type 0
+CarvesIn element tag size old new grant a = (before last : ℕ) → IsSetFrom element before → IsPool before old last → IsCarvedIn element tag size old new grant last a
 
 -- no block is left, and no cell is carved
 pub record IsUncarved (element : ℕ) (old new : List Cells) : Type 0 where

@@ -1,5 +1,5 @@
 -- The segments of a pool with their cells, and what the calls on one cell make of a segment.
-use Rattle.std.specs.Prelude.{◌≡◌, ℕ, ◌+◌, ◌-◌, ◌%◌, ◌<◌, ◌≤◌, List, get_or, length, replicate, set, take, drop}
+use Rattle.std.specs.Prelude.{◌≡◌, ℕ, ◌+◌, ◌-◌, ◌/◌, ◌%◌, ◌<◌, ◌≤◌, List, ◌++◌, get_or, length, replicate, set, take, drop}
 use Rattle.std.specs.Int.{from_le_bytes, to_le_bytes, w64}
 use Rattle.vc_model.specs.Bytes.{with_bytes}
 use Rattle.vc_model.specs.Pool.{cell_offset}
@@ -68,6 +68,15 @@ with_cell_size cell index size s =
 -- the block in a cell has other bytes, from an offset in it on
 abbrev pub with_cell_bytes : ℕ → ℕ → ℕ → List ℕ → Cells → Cells
 with_cell_bytes cell index off src s = record s { bytes = with_bytes (cell_offset cell index + off) src s.bytes }
+
+-- a pair (0, 0) for each of so many cells stands behind the others
+abbrev pub with_more_pairs : ℕ → Cells → Cells
+with_more_pairs count s = record s { pairs = s.pairs ++ replicate count (0, 0) }
+
+-- so many zeros stand behind its bytes, and a pair (0, 0) for each cell that comes with them
+abbrev pub with_more_bytes : ℕ → ℕ → Cells → Cells
+with_more_bytes cell more s =
+    record (with_more_pairs ((length s.bytes + more - 32) / cell - length s.pairs) s) { bytes = s.bytes ++ replicate more 0 }
 
 -- no cell is carved
 abbrev pub uncarved_all : Cells → Cells

@@ -1,15 +1,25 @@
-ghost use Rattle.std.specs.Prelude.{◌≡◌, ◌+◌, ◌-◌, ◌/◌, ◌<◌, ◌≤◌, All, length, replicate, vec_capacity, vec_len};
+ghost use Rattle.std.specs.Prelude.{◌≡◌, ◌+◌, ◌-◌, ◌/◌, ◌<◌, ◌≤◌, ◌++◌, All, length, replicate, vec_capacity, vec_len};
 ghost use Rattle.vc_base.specs.Prelude.{place_of, cell_for};
 ghost use Rattle.vc_model.specs.Segments.{new_segment};
 ghost use Rattle.vc_seg.specs.Segment.{IsRegionSegment};
 ghost use Rattle.vc_pool_cells.specs.Kept.{AreCellular, FitsElement};
 ghost use Rattle.vc_pool_cells.specs.Place.{IsOther, cells_in};
-ghost use Rattle.vc_pool_cells.specs.Carve.{AreCarved, CarvesNew};
+ghost use Rattle.vc_pool_cells.specs.Carve.{AreCarved, CarvesIn};
 
 use crate::PoolSegment;
 use crate::carve::carve_at;
 use vc_base::Addr;
 use vc_seg::Segment;
+
+// Puts so many pairs (0, 0) behind the others of a table, which has room for them.
+pub(crate) fn push_pairs(table: &mut Vec<(u32, u32)>, count: usize)
+    requires room { vec_len table.old + count ≤ vec_capacity table.old }
+    ensures { table.new.items ≡ table.old.items ++ replicate count (0, 0) }
+{
+    for _ in 0..count {
+        table.push_reserved((0, 0));
+    }
+}
 
 /// Puts a segment behind the others, whose cells are all carved, with a table that has a pair (0, 0) for each of its cells,
 /// and a block of zeros into its first cell. Answers the block's address. The size is from 1 byte to the element size, which
@@ -32,8 +42,8 @@ pub fn carve_new(
     requires table { table.items ≡ replicate ((length segment.bytes - 32) / cell_for element) (0, 0) }
     requires size { FitsElement size element }
     ensures place { place_of result.0 ≡ (segment.number, 32) }
-    ensures carved { CarvesNew element tag size (cells_in segs.old.items) (cells_in segs.new.items)
-        (new_segment segment.number (length segment.bytes)) }
+    ensures carved { CarvesIn element tag size (cells_in segs.old.items) (cells_in segs.new.items)
+        (new_segment segment.number (length segment.bytes)) result.0 }
     ensures room { vec_capacity segs.new ≡ vec_capacity segs.old }
 {
     let place = segs.len();

@@ -13,7 +13,7 @@ mod rows;
 mod segment;
 mod touch;
 
-pub use carve::carve_lowest;
+pub use carve::{carve_at, carve_lowest};
 pub use cell::{find_cell, offset_of};
 pub use chain::{put_back, reuse};
 pub use clear::clear_all;

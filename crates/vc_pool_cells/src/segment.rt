@@ -1,7 +1,8 @@
-ghost use Rattle.std.specs.Prelude.{◌≡◌, ℕ, ◌+◌, ◌<◌, ◌≤◌, length, take, drop};
+ghost use Rattle.std.specs.Prelude.{◌≡◌, ℕ, ◌+◌, ◌-◌, ◌/◌, ◌<◌, ◌≤◌, length, take, drop, vec_capacity, vec_len};
 ghost use Rattle.vc_base.specs.Prelude.{cell_offset};
 
 use crate::cell::offset_of;
+use crate::grow::push_pairs;
 use vc_base::Addr;
 use vc_seg::Segment;
 
@@ -17,7 +18,7 @@ pub struct PoolSegment {
 }
 
 impl PoolSegment {
-    ghost use Rattle.vc_pool_cells.specs.Cells.{HasCell, IsCell, carved_with, cells_of, with_zeros_in, cell_link, pair_at, with_free_cell, with_cell_size, uncarved_all, with_cell_bytes};
+    ghost use Rattle.vc_pool_cells.specs.Cells.{HasCell, IsCell, carved_with, cells_of, with_zeros_in, cell_link, pair_at, with_free_cell, with_cell_size, uncarved_all, with_cell_bytes, with_more_pairs};
 
     /// Puts a block of zeros into a cell that has none. The cell is zero then as a whole.
     pub fn lay(&mut self, cell: u32, index: u32, size: u32, tag: u32)
@@ -96,6 +97,25 @@ impl PoolSegment {
         ensures { cells_of self.new ≡ with_cell_bytes cell index off src.now (cells_of self.old) }
     {
         self.seg.put(offset_of(cell, index) + off, src);
+    }
+
+    /// How many cells it has more with so many bytes more. It has at most 33,554,432 bytes with them.
+    pub fn cells_to_come(&self, cell: u32, more: u32) -> usize
+        requires cell { 1 ≤ cell }
+        requires most { length self.now.seg.bytes + more ≤ 33554432 }
+        requires fewer { length self.now.cells.items ≤ (length self.now.seg.bytes + more - 32) / cell }
+        ensures { result ≡ (length self.now.seg.bytes + more - 32) / cell - length self.now.cells.items }
+    {
+        let cells = (self.seg.size() + more - 32) / cell;
+        cells as usize - self.cells.len()
+    }
+
+    /// Puts a pair (0, 0) for each of so many cells behind the others. Its table has room for them.
+    pub fn add_pairs(&mut self, count: usize)
+        requires room { vec_len self.old.cells + count ≤ vec_capacity self.old.cells }
+        ensures { cells_of self.new ≡ with_more_pairs count (cells_of self.old) }
+    {
+        push_pairs(&mut self.cells, count);
     }
 
     /// Takes every block out. No cell is carved then, and what lies in their bytes stays.

@@ -2,7 +2,7 @@ use Rattle.vc_base.proofs.Common.{◌≡◌, ℕ, List, [], ◌∷◌, ◌++◌,
 use Rattle.vc_pool_cells.specs.Cells.{cells_of}
 use Rattle.vc_pool_cells.specs.Place.{cells_in}
 use Rattle.vc_pool_cells.specs.declared.segment.PoolSegment.{PoolSegment}
-use Rattle.vc_pool_cells.specs.Carve.{IsCarvedNew}
+use Rattle.vc_pool_cells.specs.Carve.{IsCarvedIn}
 use Rattle.vc_pool_cells.specs.Open.{IsFirstOpen}
 use Rattle.vc_pool_cells.proofs.NewSegment.{IsFresh}
 use Rattle.vc_pool_cells.proofs.NewSegmentCell.{carved-pushed, first-pushed, kept-pushed, place-pushed}
@@ -47,7 +47,7 @@ returns-clause-carved c =
     λ before last set h.
     let at = (goal.at.returns-clause-carved c).After-deref_mut in
     let long : length c.carve_at.new.segs ≡ c.push_reserved.new.self.len = omega arith in
-    subst (λ (ss : List PoolSegment). IsCarvedNew c.args.element c.args.tag c.args.size (cells_in c.args.segs.now.items) (cells_in ss) (new_segment c.args.segment.number (length c.args.segment.bytes)) last)
+    subst (λ (ss : List PoolSegment). IsCarvedIn c.args.element c.args.tag c.args.size (cells_in c.args.segs.now.items) (cells_in ss) (new_segment c.args.segment.number (length c.args.segment.bytes)) last c.carve_at.result.0)
     (sym (take_at c.carve_at.new.segs (drop (length c.carve_at.new.segs) c.push_reserved.new.self.items) c.push_reserved.new.self.len long))
     (carved-pushed c.args.element c.args.segs.now.items c.deref_mut.result.now (own at) (pushed at) c.requires.kept (omega arith) c.requires.few (fresh at) c.requires.unused c.args.tag c.args.size before last c.carve_at.result.0
-    (cells_in c.carve_at.new.segs) set h (returns-clause-place c) (c.carve_at.ensures.carved last))
+    (cells_in c.carve_at.new.segs) set h (c.carve_at.ensures.carved last))
