@@ -5,6 +5,7 @@ pub mod PoolAfterCalls
 pub mod PutOutcome
 pub mod PoolCalls
 pub mod AskedSegment
+pub mod GrowingSegment
 pub mod PoolNumbers
 pub mod PutBlocks
 pub mod Sound

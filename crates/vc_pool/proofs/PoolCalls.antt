@@ -1,7 +1,8 @@
 -- What the calls that put, resize and free a block make of a pool.
-use Rattle.vc_base.proofs.Common.{◌≡◌, ℕ, ◌+◌, ◌<◌, ◌≤◌, Bool, true, false, ◌≢◌, List, [], ◌∷◌, ◌++◌, map, length, Some, None, Option, sym, refl, ap, ◌∙◌, subst, ⊎_elim, arith, eq-eqb, ne_eqb, cases_eq, address, place_of, Discipline, Served, Terms, Layout, with_grant, Done, Outcome, Put, Pool, carve, carved_in, cell_for, element_with, pool_alloc, pool_need, uncarved, Grant, Granted, TooMany, ask, new_segment, round_up}
+use Rattle.vc_base.proofs.Common.{◌≡◌, ℕ, ◌+◌, ◌<◌, ◌≤◌, Bool, true, false, ◌≢◌, List, [], ◌∷◌, map, length, Some, None, Option, sym, refl, ap, ◌∙◌, subst, ⊎_elim, arith, eq-eqb, ne_eqb, cases_eq, address, place_of, Discipline, Served, Terms, Layout, with_grant, Done, Outcome, Put, Pool, carve, carved_in, cell_for, cell_offset, element_with, pool_alloc, pool_need, uncarved, Grant, Granted, TooMany, ask, round_up}
 use Rattle.vc_model.proofs.Owned.{address-place_of}
-use Rattle.vc_layouts.proofs.Segments.{Served-lent, Served-same}
+use Rattle.vc_model.specs.Segments.{segments_with}
+use Rattle.vc_layouts.proofs.Segments.{Served-same}
 use Rattle.vc_layouts.specs.Put.{with_zeros}
 use Rattle.vc_seg.specs.Answer.{IsPut, IsRefusal}
 use Rattle.vc_seg.specs.declared.fault.RegionFault.{RegionFault}
@@ -152,15 +153,17 @@ module _ (terms : Terms) (segs : List PoolSegment) (element freed set tag size :
           IsPut (pool_alloc terms old tag size false) a (pool_by segs' set freed)
       put-granted a segs' before after own h g =
           let r = g.carved element freed same h in
-          put-at (pool_alloc terms old tag size false) a (g.number, 32) (pool_by segs' set freed) _ (Some (new_segment g.number (cell_need terms set)))
-          (alloc-granted terms old tag size false g.number (cell_need terms set) (omega (arith, is, fits)) empty full (ap (carved_in g.number) (carved-of segs element freed) ∙ g.uncarved)
-          (sym (ask-is false) ∙ subst (λ (t : Terms). ask t (cell_need terms set) (map pair_of (cells_in segs)) false ≡ Granted (new_segment g.number (cell_need terms set))) own g.granted))
-          g.place
+          let at : ℕ → List (ℕ × ℕ) → ℕ × ℕ = λ e cs. (g.grant.number, cell_offset (cell_for e) (carved_in g.grant.number cs)) in
+          put-at (pool_alloc terms old tag size false) a (place_of a) (pool_by segs' set freed) _ (Some g.grant)
+          (alloc-granted terms old tag size false g.grant (place_of a) (g.place ∙ (ap (λ e. at e (carved_by (cells_in segs))) (sym is) ∙ ap (at (element_with old size)) (sym (carved-of segs element freed))))
+          (omega (arith, is, fits)) empty full
+          (sym (ask-is false) ∙ subst (λ (t : Terms). ask t (cell_need terms set) (map pair_of (cells_in segs)) false ≡ Granted g.grant) own g.granted))
+          refl
           (pool-is segs' set freed _
-          (r.layout ∙ ap (λ (l : Layout ℕ). with_zeros (with_grant l (new_segment g.number (cell_need terms set))) tag size (g.number, 32)) layout-old)
+          (r.layout ∙ ap (λ (l : Layout ℕ). with_zeros (with_grant l g.grant) tag size (place_of a)) layout-old)
           element-new
           (r.freed ∙ sym (freed-of segs element freed))
-          (r.carved ∙ ap (carve g.number) (sym (carved-of segs element freed))))
+          (r.carved ∙ ap (carve (place_of a).0) (sym (carved-of segs element freed))))
 
       refusal-of : (why : RegionFault) → IsNoGrant terms (cell_need terms set) (map pair_of (cells_in segs)) why → IsRefusal (pool_alloc terms old tag size) why
       refusal-of code.TooManySegments h = alloc-too_many terms old tag size false (omega (arith, is, fits)) empty full (sym (ask-is false) ∙ h)
@@ -177,10 +180,12 @@ module _ (terms : Terms) (segs : List PoolSegment) (element freed set tag size :
       pub granted-disc : (a : ℕ) (segs' : List PoolSegment) (before after : Discipline) → IsPool element (cells_in segs) freed → IsGranted set tag size (cell_need terms set) (cells_in segs) (cells_in segs') before after a →
           Served before after old.layout.segments (pool_by segs' set freed).layout.segments (pool_need terms old size)
       granted-disc a segs' before after h g =
+          let pairs : map pair_of (cells_in segs) ≡ old.layout.segments = sym (pairs-of segs element freed) in
+          let more : (pool_by segs' set freed).layout.segments ≡ segments_with g.grant old.layout.segments =
+          ap (λ (l : Layout ℕ). l.segments) (layout-of segs' set freed ∙ (g.carved element freed same h).layout) ∙ ap (λ (l : Layout ℕ). segments_with g.grant l.segments) layout-old in
           subst (Served before after old.layout.segments (pool_by segs' set freed).layout.segments) need-is
-          (Served-lent before after old.layout.segments (pool_by segs' set freed).layout.segments g.number (cell_need terms set)
-          (ap (λ (l : Layout ℕ). l.segments) (layout-of segs' set freed ∙ (g.carved element freed same h).layout) ∙ ap (λ (l : Layout ℕ). l.segments ++ (g.number, cell_need terms set) ∷ []) layout-old)
-          g.lent)
+          (subst (λ (ss : List (ℕ × ℕ)). Served before after old.layout.segments ss (cell_need terms set)) (sym more)
+          (subst (λ (ss : List (ℕ × ℕ)). Served before after ss (segments_with g.grant ss) (cell_need terms set)) pairs g.served))
 
     pub carved-disc : (a : ℕ) (segs' : List PoolSegment) (d : Discipline) → IsCarvedAt set tag size (cells_in segs) (cells_in segs') freed a → Served d d old.layout.segments (pool_by segs' set freed).layout.segments (pool_need terms old size)
     carved-disc a segs' d r =

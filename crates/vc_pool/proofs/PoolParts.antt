@@ -35,6 +35,12 @@ module _ (segs : List PoolSegment) (element freed : ℕ) where
   pub sound-kept : IsPool element (cells_in segs) freed → ∥ IsPoolSound (pool_by segs element freed) ∥₁
   sound-kept h = ∣ sound-of h.cells ∣₁
 
+-- a pool is told by the cells of its segments
+pub pool-same : (element freed : ℕ) (segs' segs : List PoolSegment) → cells_in segs' ≡ cells_in segs → pool_by segs' element freed ≡ pool_by segs element freed
+unfolding pool_by
+pool-same element freed segs' segs same =
+    λ j. record { layout = layout_by (cell_for element) (same j); element = element_of element; freed = freed_cells (same j) freed; carved = carved_by (same j) }
+
 -- with a block an element size is set
 pub with-block : (segs : List PoolSegment) (element freed a : ℕ) → AreCellular element (cells_in segs) → HasBlock (pool_by segs element freed).layout.blocks a → 1 ≤ element
 unfolding pool_by

@@ -1,5 +1,5 @@
 -- What putting a block into a pool answers, by what the pool has.
-use Rattle.vc_base.proofs.Common.{◌≡◌, ℕ, ◌<◌, ◌≤◌, Bool, true, false, ltb, List, [], ◌∷◌, Some, None, refl, ap, ◌∙◌, arith, le-ltb, lt-ltb, Terms, Layout, with_grant, Done, PoolSize, Refused, Pool, carve, carved_in, cell_for, cell_offset, element_with, pool_alloc, pool_need, pool_resize, put_asked, put_carving, put_free, uncarved, resize_there, Granted, NotLent, TooMany, ask, new_segment}
+use Rattle.vc_base.proofs.Common.{◌≡◌, ℕ, ◌<◌, ◌≤◌, Bool, true, false, ltb, List, [], ◌∷◌, Some, None, refl, sym, ap, ◌∙◌, le-ltb, lt-ltb, Terms, Layout, with_grant, Done, PoolSize, Refused, Pool, carve, carved_in, cell_for, cell_offset, element_with, pool_alloc, pool_need, pool_resize, put_asked, put_carving, put_free, uncarved, resize_there, Grant, Granted, NotLent, TooMany, ask}
 use Rattle.vc_model.specs.Outcome.{TooManySegments, NoSegment}
 use Rattle.vc_layouts.specs.Put.{with_zeros}
 
@@ -26,13 +26,13 @@ module _ (terms : Terms) (p : Pool ℕ) (tag size : ℕ) (refused : Bool) where
       pool_alloc terms p tag size refused ≡ put_asked p tag size (ask terms (pool_need terms p size) p.layout.segments refused)
   fits-asked h empty none = fits-carving h empty ∙ ap (put_carving terms p tag size refused) none
 
-  pub alloc-granted : (n bytes : ℕ) → size ≤ element_with p size → p.freed ≡ [] → uncarved (cell_for (element_with p size)) p.carved p.layout.segments ≡ None → carved_in n p.carved ≡ 0 → ask terms (pool_need terms p size) p.layout.segments refused ≡ Granted (new_segment n bytes) →
-      pool_alloc terms p tag size refused ≡ Done (record { at = (n, 32); region = after (with_zeros (with_grant p.layout (new_segment n bytes)) tag size (n, 32)) p.freed (carve n p.carved); granted = Some (new_segment n bytes) })
-  alloc-granted n bytes h empty none new granted =
-      let first : cell_offset (cell_for (element_with p size)) (carved_in n p.carved) ≡ 32 = ap (cell_offset (cell_for (element_with p size))) new ∙ (omega arith) in
+  pub alloc-granted : (g : Grant) (at : ℕ × ℕ) → (let is : ℕ × ℕ = (g.number, cell_offset (cell_for (element_with p size)) (carved_in g.number p.carved)) in at ≡ is) →
+      size ≤ element_with p size → p.freed ≡ [] → uncarved (cell_for (element_with p size)) p.carved p.layout.segments ≡ None → ask terms (pool_need terms p size) p.layout.segments refused ≡ Granted g →
+      pool_alloc terms p tag size refused ≡ Done (record { at = at; region = after (with_zeros (with_grant p.layout g) tag size at) p.freed (carve at.0 p.carved); granted = Some g })
+  alloc-granted g at place h empty none granted =
       fits-asked h empty none
       ∙ (ap (put_asked p tag size) granted
-      ∙ ap (λ off. Done (record { at = (n, off); region = after (with_zeros (with_grant p.layout (new_segment n bytes)) tag size (n, off)) p.freed (carve n p.carved); granted = Some (new_segment n bytes) })) first)
+      ∙ ap (λ (q : ℕ × ℕ). Done (record { at = q; region = after (with_zeros (with_grant p.layout g) tag size q) p.freed (carve q.0 p.carved); granted = Some g })) (sym place))
 
   pub alloc-too_many : size ≤ element_with p size → p.freed ≡ [] → uncarved (cell_for (element_with p size)) p.carved p.layout.segments ≡ None → ask terms (pool_need terms p size) p.layout.segments refused ≡ TooMany →
       pool_alloc terms p tag size refused ≡ Refused TooManySegments

@@ -4,8 +4,11 @@
 mod block;
 mod compact;
 mod count;
+mod lend;
+mod longer;
 mod pool;
 mod put;
+mod room;
 mod segments;
 mod walks;
 

@@ -62,8 +62,10 @@ impl Pool {
     }
 
     /// A block of zeros: 1 to 16,777,216 bytes, in the cell freed last, else in the lowest uncarved cell of the first
-    /// segment that has one. Where there is none, a segment is asked for: `OutOfMemory` comes only then, and never with 1,023
-    /// segments. `PoolSize` comes only where the size is above the element size.
+    /// segment that has one. Where there is none, the discipline is asked for more: for a segment, or for bytes behind those
+    /// of the one lent latest, where it makes segments longer. `TooManySegments` comes exactly where the region has 1,023
+    /// segments, or where that one would have more than 33,554,432 bytes, and `NoSegment` and `OutOfMemory` come only else.
+    /// `PoolSize` comes only where the size is above the element size.
     pub fn alloc(&mut self, size: u32, tag: u32) -> Result<Addr, RegionFault>
         requires lent { HasOut (state self.old.disc) (segments_in self.old) }
         requires size { IsSize size }

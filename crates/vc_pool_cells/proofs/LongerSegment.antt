@@ -1,5 +1,5 @@
 -- The last segment, whose cells are all carved like those of the others, gets more bytes, and uncarved cells for them.
-use Rattle.vc_base.proofs.Common.{◌≡◌, ℕ, zero, suc, ◌+◌, ◌-◌, ◌*◌, ◌/◌, ◌%◌, ◌<◌, ◌≤◌, Bool, true, false, List, [], ◌∷◌, ◌++◌, map, length, get_or, take, drop, set, replicate, All, flat_map, filter, ltb, sym, refl, ap, ◌∙◌, subst, ⊎_elim, mul-le-mul_right, append-nil, arith, length-append, length-set, take_all, take_at, drop_at, get_or-set_same, get_or_append_left, get_or_default, cases_eq, cases_lt, All-append, All-head, All-nil, All-set, All-tail, All-weaker, length-map, length-replicate, IsSegmentSize, Block, with_grant, cell_for, cell_offset, w64, from_le_bytes}
+use Rattle.vc_base.proofs.Common.{◌≡◌, ℕ, zero, suc, ◌+◌, ◌-◌, ◌*◌, ◌/◌, ◌%◌, ◌<◌, ◌≤◌, Bool, false, List, [], ◌∷◌, ◌++◌, map, length, get_or, take, drop, set, replicate, All, flat_map, filter, ltb, sym, refl, ap, ◌∙◌, subst, ⊎_elim, mul-le-mul_right, arith, length-append, length-set, take_all, take_at, drop_at, get_or-set_same, get_or_append_left, get_or_default, cases_eq, cases_lt, All-append, All-head, All-nil, All-set, All-tail, All-weaker, length-replicate, IsSegmentSize, Block, with_grant, cell_for, w64, from_le_bytes}
 use Rattle.std.proofs.lemmas.List.{take-set}
 use Rattle.std.proofs.lemmas.List.Elements.{All-replicate, All-take}
 use Rattle.vc_model.specs.Segments.{with_more}
@@ -8,7 +8,7 @@ use Rattle.vc_layouts.specs.InOrder.{in_order}
 use Rattle.vc_pool_cells.specs.Blocks.{block_of_cell, cell_blocks, segment_blocks, carved_by, layout_by, pair_of}
 use Rattle.vc_pool_cells.specs.Cells.{Cells, pair_at, with_more_bytes}
 use Rattle.vc_pool_cells.specs.Freed.{IsFreeCell, cells_at, freed_cells, index_at, link_word}
-use Rattle.vc_pool_cells.specs.Kept.{AreCellular, IsCellular, IsFront, IsFull, IsPool, IsPoolOf, segment_of}
+use Rattle.vc_pool_cells.specs.Kept.{AreCellular, IsCellular, IsFront, IsFull, IsPool, IsPoolOf}
 use Rattle.vc_pool_cells.specs.Open.{IsFirstOpen}
 use Rattle.vc_pool_cells.specs.Place.{IsAlone}
 use Rattle.vc_pool_cells.proofs.BlockPlaces.{all-legal, fits-cell, has-cell}
@@ -19,7 +19,7 @@ use Rattle.vc_pool_cells.proofs.OneSegment.{alone, cells-first, cells-other, cel
 use Rattle.vc_pool_cells.proofs.PoolChange.{pool-freed, pool-of}
 
 -- a cell more at least ends within so many bytes more
-more-cells : (cell size more : ℕ) → 1 ≤ cell → 32 ≤ size → cell ≤ more → (size - 32) / cell < (size + more - 32) / cell
+pub more-cells : (cell size more : ℕ) → 1 ≤ cell → 32 ≤ size → cell ≤ more → (size - 32) / cell < (size + more - 32) / cell
 more-cells cell size more some least fits =
     let x : ℕ = size - 32 in
     let y : ℕ = size + more - 32 in

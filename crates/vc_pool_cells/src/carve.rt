@@ -35,13 +35,7 @@ fn carve_in(segment: &mut PoolSegment, element: u32, size: u32, tag: u32) -> Add
 
 /// Puts a block of zeros into the lowest uncarved cell of the segment at a place, the first that isn't full, and answers its
 /// address. The size is from 1 byte to the element size, which is at most 16,777,216 bytes.
-pub fn carve_at(
-    segs: &mut [PoolSegment],
-    place: usize,
-    element: u32,
-    size: u32,
-    tag: u32,
-) -> Addr
+pub fn carve_at(segs: &mut [PoolSegment], place: usize, element: u32, size: u32, tag: u32) -> Addr
     requires kept { AreCellular element (cells_in segs.old) }
     requires first { IsFirstOpen (cells_in segs.old) place }
     requires size { FitsElement size element }

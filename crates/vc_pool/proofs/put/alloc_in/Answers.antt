@@ -5,9 +5,9 @@ use Rattle.vc_pool_cells.specs.Kept.{IsPool}
 use Rattle.vc_pool_cells.specs.Place.{cells_in}
 use Rattle.vc_pool_cells.specs.declared.segment.PoolSegment.{PoolSegment}
 use Rattle.vc_pool_cells.specs.Carve.{IsCarvedAt}
-use Rattle.vc_pool.specs.Read.{pool_by}
 use Rattle.vc_pool.proofs.PoolCalls.{asked-refusal, carved-disc, freed-some, full-is, granted-disc, lacks-cell, pool-with, put-carved, put-granted, put-reused}
 use Rattle.vc_pool.proofs.AskedSegment.{granted-from}
+use Rattle.vc_pool.proofs.PoolParts.{pool-same}
 use Rattle.vc_pool.proofs.put.alloc_in.Goals as goal
 use Rattle.vc_pool.proofs.put.alloc_in.Goals.{After-carve_lowest, After-element_with-set, After-reuse}
 use Rattle.vc_pool.proofs.put.alloc_in.Given.{Over}
@@ -119,7 +119,7 @@ returns-in-Err-clause-answer g c =
           c.requires.kept.cells (most g at.After-element_with-set) c.if-freed-ne0.false c.if-size-set.false c.requires.size.some
           (full-is c.args.segs.now.items c.args.element.now c.args.freed.now.0 c.element_with-set.result c.args.size c.element_with-set.ensures.set c.element_with-set.ensures.unset (place g at.After-carve_lowest _ c.in-None.ensures.place))
           c.in-Err.fault (after g at.After-carve_lowest) (unchanged g at.After-carve_lowest c.in-None.ensures.same) c.in-Err.ensures.fault,
-      ap (λ (ss : List PoolSegment). pool_by ss c.args.element.now c.args.freed.now.0) (c.in-Err.ensures.same ∙ unchanged g at.After-carve_lowest c.in-None.ensures.same),
+      pool-same c.args.element.now c.args.freed.now.0 c.put_by_asking.new.segs.items c.args.segs.now.items (c.in-Err.ensures.same ∙ ap cells_in (unchanged g at.After-carve_lowest c.in-None.ensures.same)),
     )
 
 pub returns-in-Err-clause-no_memory : goal.returns-in-Err-clause-no_memory

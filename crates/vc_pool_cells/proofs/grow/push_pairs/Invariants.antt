@@ -1,4 +1,4 @@
-use Rattle.vc_base.proofs.Common.{◌≡◌, ◌+◌, ◌≤◌, ◌++◌, replicate}
+use Rattle.vc_base.proofs.Common.{◌≡◌, ◌+◌, ◌++◌, replicate}
 use Rattle.vc_pool_cells.proofs.grow.push_pairs.Given as goal
 
 -- as many pairs as steps, and room for the others
