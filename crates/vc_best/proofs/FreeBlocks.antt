@@ -70,7 +70,7 @@ none-before off (y ∷ ys) x named e =
     (λ (t : eqb y.off off ≡ false). none-before off ys y (rw t at named) (rw t at e))
     (cases_Bool (eqb y.off off))
 
-first-is : (off : ℕ) (es : List Extent) → 0 < (extent_in off es).span → last_before None off es ≡ None → es ≡ extent_in off es ∷ behind off es
+pub first-is : (off : ℕ) (es : List Extent) → 0 < (extent_in off es).span → last_before None off es ≡ None → es ≡ extent_in off es ∷ behind off es
 first-is off [] named e = absurd (omega arith)
 first-is off (y ∷ ys) named e =
     ⊎_elim
@@ -200,14 +200,14 @@ module _ (t t1 t2 : List (ℕ × List Extent)) (a : ℕ) (c : IsCut t a) (is1 : 
           (λ u. u)
           (before (c.size - 16) 16 (place_of a).1 (extents_of (place_of a).0 t) p None c.lies refl named prev)
 
-      place : place_of b ≡ ((place_of a).0, p.off)
+      pub place : place_of b ≡ ((place_of a).0, p.off)
       place =
           ap place_of value ∙ place_of-address (place_of a).0 p.off (omega (arith, is.below, c.legal.most)) is.multiple
 
       at : (place_of b).1 ≡ p.off
       at = ap (λ (q : ℕ × ℕ). q.1) place
 
-      lower : (place_of b).1 < (place_of a).1
+      pub lower : (place_of b).1 < (place_of a).1
       lower = omega (arith, at, is.lower)
 
       pub lower-before : p.off < (place_of a).1
@@ -216,7 +216,7 @@ module _ (t t1 t2 : List (ℕ × List Extent)) (a : ℕ) (c : IsCut t a) (is1 : 
       pub extent : extent_of t b ≡ p
       extent = ap (λ (q : ℕ × ℕ). extent_in q.1 (extents_of q.0 t)) place ∙ is.is
 
-      rest : behind_of t b ≡ extent_of t a ∷ behind_of t a
+      pub rest : behind_of t b ≡ extent_of t a ∷ behind_of t a
       rest = ap (λ (q : ℕ × ℕ). behind q.1 (extents_of q.0 t)) place ∙ is.behind
 
       -- the same change from the one before it on

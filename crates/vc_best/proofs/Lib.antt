@@ -42,6 +42,10 @@ pub mod ZeroBlocks
 pub mod FreeRuns
 pub mod HeldHeads
 pub mod Lends
+pub mod Growing
+pub mod Longer
+pub mod Only
+pub mod MergedBut
 pub mod Puts
 pub mod Borders
 pub mod OtherSizes

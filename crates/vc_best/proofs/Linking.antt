@@ -59,26 +59,26 @@ module _ (segs : List Bytes) (index : List ℕ) (k : ∥ AreExtents segs index �
     pub before-not : 0 < (extent_of (tiling segs) b).size → free_before (tiling segs) a ≡ []
     before-not busy = name-busy (place_of a).0 (previous_of (tiling segs) a) before-is.0 before-is.1 (omega (arith, before-own, busy))
 
-  -- they are two
-  pub before-apart : (b : ℕ) (p : Extent) → IsNamed (tiling segs) b → previous_of (tiling segs) a ≡ Some p → b ≡ address ((place_of a).0, p.off) → contains (free_next (tiling segs) a) b ≡ false
-  before-apart b p other prev value = apart (next_of (tiling segs) a) refl
-    where
-      below : p.off < (place_of a).1
-      below =
-          ∥∥₁_elim k le_prop
-          (λ h.
-          lower-before (tiling segs) t1 (change_extent a absorb t1) a (cut-of segs index a h named) refl refl b p (cut-of segs index b h other) prev named value)
+  -- the address of the one before is less, and that of the one behind isn't
+  pub before-less : (b : ℕ) (p : Extent) → IsNamed (tiling segs) b → previous_of (tiling segs) a ≡ Some p → b ≡ address ((place_of a).0, p.off) → b < a
+  before-less b p other prev value =
+      let below : p.off < (place_of a).1 =
+      ∥∥₁_elim k le_prop
+      (λ h.
+      lower-before (tiling segs) t1 (change_extent a absorb t1) a (cut-of segs index a h named) refl refl b p (cut-of segs index b h other) prev named value) in
+      omega (arith, below, value)
 
-      apart : (o : Option Extent) → next_of (tiling segs) a ≡ o → contains (free_name (place_of a).0 o) b ≡ false
-      apart None e = refl
-      apart (Some y) e =
+  pub next-later : (b : ℕ) → b < a → contains (free_next (tiling segs) a) b ≡ false
+  next-later b lt = later (next_of (tiling segs) a) refl
+    where
+      later : (o : Option Extent) → next_of (tiling segs) a ≡ o → contains (free_name (place_of a).0 o) b ≡ false
+      later None e = refl
+      later (Some y) e =
           ⊎_elim
           (λ (t : is_busy y ≡ true). rw t refl)
           (λ (t : is_busy y ≡ false).
           let o = ∥∥₁_elim k (hlevel (ℕ_set)) (λ h. next-off (tiling segs) a (address ((place_of a).0, y.off)) y (cut-of segs index a h named) e refl) in
-          let least = ∥∥₁_elim k le_prop (λ h. (cut-of segs index a h named).cut.here.0.legal.least) in
-          let low = below in
-          rw t (ap (λ z. z || false) (ne_eqb (address ((place_of a).0, y.off)) b (λ q. omega (arith, o, least, low, value, q)))))
+          rw t (ap (λ z. z || false) (ne_eqb (address ((place_of a).0, y.off)) b (λ q. omega (arith, o, lt, q)))))
           (cases_Bool (is_busy y))
 
 -- a free extent that isn't out is in the tree

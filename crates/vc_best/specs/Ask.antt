@@ -5,8 +5,12 @@ use Rattle.vc_model.specs.Best.{best_need, place_in}
 use Rattle.vc_model.specs.Discipline.{Terms}
 use Rattle.vc_model.specs.Layout.{Layout}
 use Rattle.vc_model.specs.Resize.{can_stay}
-use Rattle.vc_model.specs.Segments.{TooMany, ask}
+use Rattle.vc_model.specs.Segments.{Grant, TooMany, ask}
 use Rattle.vc_model.specs.Touch.{find_block}
+
+-- so many bytes more of the segment of that number
+abbrev pub more_bytes : ℕ → ℕ → Grant
+more_bytes number bytes = record { number = number; bytes = bytes; fresh = false }
 
 -- a block of a size and an alignment asks a region for a segment
 pub record AsksForSegment {L : Type 0} (terms : Terms) (r : Layout L) (size align : ℕ) : Type 0 where

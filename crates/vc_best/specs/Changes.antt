@@ -51,3 +51,7 @@ move_border size body e es =
     else (if nat_lt (span size) e.span
     then absorb (free_extent (e.off + span size) (e.span - span size) no_links) es
     else stretch_rest size e es))
+
+-- an extent is left out
+abbrev pub leave_out : Extent → List Extent → List Extent
+leave_out e es = es

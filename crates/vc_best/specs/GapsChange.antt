@@ -1,5 +1,5 @@
 -- The tree of gaps where free extents come, go or change.
-use Rattle.std.specs.Prelude.{◌≡◌, ℕ, List, [], ◌++◌, ◌&&◌, nat_lt}
+use Rattle.std.specs.Prelude.{◌≡◌, ℕ, ◌<◌, List, [], ◌++◌, false, ◌&&◌, nat_lt}
 use Rattle.vc_base.specs.Holders.{contains}
 use Rattle.vc_model.specs.Addr.{place_of}
 use Rattle.vc_model.specs.Segments.{span}
@@ -7,7 +7,7 @@ use Rattle.vc_extent.specs.Tiling.{extent_of}
 use Rattle.vc_splay.specs.Tree.{Tree}
 use Rattle.vc_gaps.specs.ButLinks.{Tiling}
 use Rattle.vc_gaps.specs.GapStore.{is_free as names_free}
-use Rattle.vc_gaps.specs.GapTree.{HasGapTree, HasGapsBy}
+use Rattle.vc_gaps.specs.GapTree.{HasGapTree, HasGaps, HasGapsBy}
 use Rattle.vc_best.specs.Beside.{free_next}
 
 -- a tree without these gaps, and maybe without others, stays that tree through a change, without those then
@@ -25,3 +25,9 @@ pub record HasGapsBelow (number : ℕ) (t : Tiling) (root : ℕ) : Type 0 where
   pub names : List ℕ
   pub tree : HasGapTree t root names
   pub exact : (a : ℕ) → contains names a ≡ (names_free t a && nat_lt (place_of a).0 number)
+
+-- the root stands for a tree that has each free extent before an address
+pub record HasGapsBefore (t : Tiling) (root a : ℕ) : Type 0 where
+  pub out : List ℕ
+  pub gaps : HasGaps t root out
+  pub later : (b : ℕ) → b < a → contains out b ≡ false

@@ -1,13 +1,13 @@
 -- What the private calls of a best region ask and promise together.
 use Rattle.std.specs.Prelude.{◌≡◌, ℕ, ◌+◌, ◌-◌, ◌≤◌, ◌%◌, List, [], ◌∷◌, ◌++◌, All, Bool, IfOk, IfSome, IsErrOf, OnErr, Result, Some, false, filter, length, map, take}
 use Rattle.vc_base.specs.declared.addr.Addr.{Addr}
-use Rattle.vc_model.specs.Addr.{place_of}
+use Rattle.vc_model.specs.Addr.{address, place_of}
 use Rattle.vc_model.specs.Best.{best_alloc, place_in, without_block_at}
 use Rattle.vc_model.specs.Compact.{is_occupied}
 use Rattle.vc_model.specs.Discipline.{Terms}
 use Rattle.vc_model.specs.Layout.{Layout}
 use Rattle.vc_model.specs.Place.{IsAlign, holds, least}
-use Rattle.vc_model.specs.Segments.{Granted, ask, new_segment, span}
+use Rattle.vc_model.specs.Segments.{Granted, ask, new_segment, span, with_more}
 use Rattle.vc_model.specs.Touch.{HasBlock, find_block, with_bytes_at}
 use Rattle.vc_seg.specs.Answer.{Answers}
 use Rattle.vc_seg.specs.Back.{is_kept, is_marked}
@@ -17,13 +17,15 @@ use Rattle.vc_seg.specs.declared.fault.RegionFault.{RegionFault}
 use Rattle.vc_seg.specs.declared.fault.RegionFault.TheVariants as code
 use Rattle.vc_layouts.specs.Put.{with_zeros}
 use Rattle.vc_extent.specs.Extent.{free_extent, no_links}
-use Rattle.vc_extent.specs.Tiling.{IsBusy, IsFree, IsThere, change_extent, extent_of, tiling}
+use Rattle.vc_extent.specs.Change.{widen}
+use Rattle.vc_extent.specs.Tiling.{IsBusy, IsFree, IsThere, change_extent, change_in, extent_of, size_in, tiling}
 use Rattle.vc_gaps.specs.ButLinks.{Tiling}
 use Rattle.vc_gaps.specs.Fits.{free_runs, run_at}
 use Rattle.vc_gaps.specs.GapTree.{HasGaps}
-use Rattle.vc_best.specs.Ask.{AsksForSegment}
+use Rattle.vc_best.specs.Ask.{AsksForSegment, more_bytes}
 use Rattle.vc_best.specs.Blocks.{layout_by}
 use Rattle.vc_best.specs.Changes.{move_border}
+use Rattle.vc_best.specs.Beside.{IsMergedBut}
 use Rattle.vc_best.specs.Free.{IsMerged, room_of}
 
 -- no two free extents stand beside each other, and the tree with this root has each of them
@@ -51,6 +53,18 @@ pub record IsLentFree (terms : Terms) (old new : List Bytes) (number bytes : ℕ
   pub last : number ≤ 1023
   pub fresh : ¬ IsThere number old
 
+-- the segment of that number and size, which was lent latest, got so many bytes more, as one free extent behind its others, at
+-- an address
+pub record IsMoreFree (terms : Terms) (old new : List Bytes) (number had more a : ℕ) : Type 0 where
+  pub granted : ask terms more (map pair_of old) false ≡ Granted (more_bytes number more)
+  pub extents : tiling new ≡ change_in number (widen (size_in number (map pair_of old)) more) (tiling old)
+  pub pairs : map pair_of new ≡ with_more more (map pair_of old)
+  pub there : IsThere number old
+  pub size : size_in number (map pair_of old) ≡ had
+  pub least : 64 ≤ had
+  pub most : had + more ≤ 33554432
+  pub value : a ≡ address (number, had)
+
 -- a free extent has room for a block of that size at that offset of its segment
 pub record CanPutBlock (t : Tiling) (a off size : ℕ) : Type 0 where
   pub free : IsFree t a
@@ -63,7 +77,20 @@ pub record CanPutBlock (t : Tiling) (a off size : ℕ) : Type 0 where
 abbrev pub IsLeastHolding : Tiling → ℕ → ℕ → ℕ → Type 0
 IsLeastHolding t size align a = Some (run_at t a) ≡ least (filter (holds (span size) align) (free_runs t))
 
--- such a one is out of the tree of gaps, which has the other free extents
+-- alone among the free extents one holds a block of a size and an alignment
+abbrev pub IsOnlyHolding : Tiling → ℕ → ℕ → ℕ → Type 0
+IsOnlyHolding t size align a = filter (holds (span size) align) (free_runs t) ≡ run_at t a ∷ []
+
+-- such a one is out of the tree of gaps, which has the other free extents, and may stand behind one of them
+pub record IsOnlyOut (segs : List Bytes) (root size align a : ℕ) : Type 0 where
+  pub allowed : AreAllowed size align
+  pub free : IsFree (tiling segs) a
+  pub only : IsOnlyHolding (tiling segs) size align a
+  pub merged : IsMergedBut (tiling segs) a
+  pub gaps : HasGaps (tiling segs) root (a ∷ [])
+  pub sizes : All (λ b. b.size ≤ 16777264) (layout_by segs).blocks
+
+-- the least that holds such a block is out of the tree of gaps, which has the other free extents
 pub record IsLeastOut (segs : List Bytes) (root size align a : ℕ) : Type 0 where
   pub allowed : AreAllowed size align
   pub least : IsLeastHolding (tiling segs) size align a

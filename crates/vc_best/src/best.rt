@@ -79,8 +79,10 @@ impl Best {
     }
 
     /// A block of zeros: 1 to 16,777,264 bytes at an offset that the alignment divides, a power of two from 32 to 4,096.
-    /// Where no gap holds it, a segment is asked for. `TooManySegments` comes exactly where no gap holds it and there are
-    /// 1,023 segments, `OutOfMemory` only where a segment is asked for.
+    /// Where no gap holds it, the discipline is asked for bytes that hold it wherever it begins: for more of the segment lent
+    /// latest where it makes segments longer and there is one, else for a new segment. `TooManySegments` comes exactly where
+    /// no gap holds it and that segment would have more than 33,554,432 bytes with them, or a new one would be asked for and
+    /// there are 1,023. `OutOfMemory` comes only where the discipline is asked.
     pub fn alloc<L>(
         &mut self,
         size: u32,

@@ -9,10 +9,11 @@ ghost use Rattle.vc_gaps.specs.GapTree.{CanLinkGap, HasGaps};
 ghost use Rattle.vc_best.specs.Beside.{free_before, free_next, some_name};
 ghost use Rattle.vc_best.specs.Blocks.{layout_by};
 ghost use Rattle.vc_best.specs.Free.{IsMerged, room_of};
-ghost use Rattle.vc_best.specs.Standing.{AreAllowed, AreKept, AreWhole, CanPutBlock, IsLeastHolding, IsLeastOut, IsPutInGap};
+ghost use Rattle.vc_best.specs.GapsChange.{HasGapsBefore};
+ghost use Rattle.vc_best.specs.Standing.{AreAllowed, AreKept, AreWhole, CanPutBlock, IsLeastHolding, IsLeastOut, IsOnlyOut, IsPutInGap};
 
 use crate::carve::{cut_back, cut_front, lay_zeros};
-use crate::release::release;
+use crate::release::{absorb_before, release};
 use crate::stay::resize_there;
 use vc_base::{Addr, Steps};
 use vc_extent::Extents;
@@ -39,14 +40,13 @@ fn unlink_next(extents: &mut Extents, root: &mut Addr, a: Addr)
     }
 }
 
-// Takes the free extent before one, where there is one, out of a tree without the one behind.
+// Takes the free extent before one, where there is one, out of a tree that has it.
 fn unlink_before(extents: &mut Extents, root: &mut Addr, a: Addr)
     requires named { IsNamed (tiling extents.old.segs.items) a.0 }
-    requires gaps { HasGaps (tiling extents.old.segs.items) root.old.0
-        (free_next (tiling extents.old.segs.items) a.0) }
-    ensures gaps { HasGaps (tiling extents.new.segs.items) root.new.0
-        (free_before (tiling extents.old.segs.items) a.0
-        ++ free_next (tiling extents.old.segs.items) a.0) }
+    requires gaps { HasGapsBefore (tiling extents.old.segs.items) root.old.0 a.0 }
+    ensures gaps { (out : List ℕ) → HasGaps (tiling extents.old.segs.items) root.old.0 out
+        → HasGaps (tiling extents.new.segs.items) root.new.0
+        (free_before (tiling extents.old.segs.items) a.0 ++ out) }
     ensures cost { GapsCost (tiling extents.old.segs.items) (tiling extents.new.segs.items)
         root.old.0 root.new.0 0 0 12 0 0 }
     ensures rest { StaysButLinks extents.old.segs.items extents.new.segs.items }
@@ -145,6 +145,30 @@ pub(crate) fn put_in_out<L>(
 {
     let off = rounded_up(a.off(), align);
     put_block(extents, root, a, off, size, tag, steps)
+}
+
+// Puts a block of zeros into the one free extent that holds it, which isn't in the tree. With a free one before it, that is
+// taken out of the tree first and the two become one. It answers the block's address.
+pub(crate) fn put_at_end<L>(
+    extents: &mut Extents,
+    root: &mut Addr,
+    end: Addr,
+    size: u32,
+    align: u32,
+    tag: u32,
+    steps: &mut Steps<L>,
+) -> Addr
+    requires { IsOnlyOut extents.old.segs.items root.old.0 size align end.0 }
+    ensures put { IsPutInGap (layout_by extents.old.segs.items) (layout_by extents.new.segs.items)
+        tag size align result.0 }
+    ensures whole { AreWhole extents.new.segs.items root.new.0 }
+    ensures least_steps { steps.old + 1 ≤ steps.new }
+    ensures cost { GapsCost (tiling extents.old.segs.items) (tiling extents.new.segs.items)
+        root.old.0 root.new.0 steps.old steps.new 28 3 2 }
+{
+    unlink_before(extents, root, end);
+    let gap = absorb_before(extents, end);
+    put_in_out(extents, root, gap, size, align, tag, steps)
 }
 
 // Puts a block of zeros into the least gap that holds it. It answers the block's address.

@@ -1,6 +1,7 @@
 -- A tree of gaps where a segment gets a free extent more behind the others.
 use Rattle.vc_base.proofs.Common.{◌≡◌, ℕ, ◌+◌, ◌-◌, ◌*◌, ◌/◌, ◌%◌, ◌<◌, ◌≤◌, false, cond, ◌&&◌, eq-eqb, eqb, ltb, ◌≢◌, List, [], ◌∷◌, map, length, get_or, sym, refl, ap, ◌∙◌, subst, arith, ne_eqb, ∥∥₁_elim, ℕ_set, address, place_of}
 use Rattle.vc_base.proofs.Members.{within-head}
+use Rattle.vc_splay.specs.Tree.{Tree}
 use Rattle.vc_extent.specs.Change.{widen}
 use Rattle.vc_extent.specs.Tiles.{IsTiled, Tiles}
 use Rattle.vc_extent.specs.Tiling.{size_in}
@@ -8,7 +9,7 @@ use Rattle.vc_extent.proofs.Places.{Found, found}
 use Rattle.vc_extent.proofs.Tiled.{off-at, tiles-lt}
 use Rattle.vc_extent.proofs.Widens.{size-in}
 use Rattle.vc_gaps.proofs.Added.{gaps-one}
-use Rattle.vc_gaps.proofs.Common.{AreExtents, Bytes, Extent, HasGaps, IsFree, IsThere, Tiling, change_in, extent_in, extent_of, extents_of, extents, free_extent, is_free, no_links, pair_of, tiling}
+use Rattle.vc_gaps.proofs.Common.{AreExtents, Bytes, Extent, HasGaps, HasGapsBy, IsFree, IsThere, Tiling, change_in, extent_in, extent_of, extents_of, extents, free_extent, is_free, no_links, pair_of, tiling}
 use Rattle.vc_gaps.proofs.GapTrees.{gaps-own}
 use Rattle.vc_gaps.proofs.Marked.{contains-there, none-of, out-of}
 use Rattle.vc_gaps.proofs.Named.{extents_of-other, extents_of-there}
@@ -60,44 +61,49 @@ module _ (segs : List Bytes) (index : List ℕ) (new : Tiling) (n more : ℕ) (k
   multiple : size % 32 ≡ 0
   multiple = ∥∥₁_elim kept (hlevel (ℕ_set)) (λ k. (size-of segs index n more k there).multiple)
 
-  place : place_of (address (n, size)) ≡ (n, size)
-  place =
+  pub place-widened : place_of (address (n, size)) ≡ (n, size)
+  place-widened =
       let seg : (n * 1048576 + size / 32) / 1048576 ≡ n = omega (arith, below) in
       let off : (n * 1048576 + size / 32) % 1048576 * 32 ≡ size = omega (arith, below, multiple) in
       λ i. (seg i, off i)
 
-  own : extents_of n new ≡ widen size more (extents_of n (tiling segs))
-  own = ap (extents_of n) is ∙ extents_of-there n (widen size more) segs there
+  -- its extents then, of which none was named by its size before
+  pub own-widened : extents_of n new ≡ widen size more (extents_of n (tiling segs))
+  own-widened = ap (extents_of n) is ∙ extents_of-there n (widen size more) segs there
+
+  pub none-widened : (extent_in (size_in n (map pair_of segs)) (extents_of n (tiling segs))).span ≡ 0
+  none-widened = ∥∥₁_elim kept (hlevel (ℕ_set)) (λ k. (size-of segs index n more k there).end.none)
 
   named : (t : Tiling) → extent_of t (address (n, size)) ≡ extent_in size (extents_of n t)
-  named t = ap (λ (q : ℕ × ℕ). extent_in q.1 (extents_of q.0 t)) place
+  named t = ap (λ (q : ℕ × ℕ). extent_in q.1 (extents_of q.0 t)) place-widened
 
   not-free : is_free (tiling segs) (address (n, size)) ≡ false
-  not-free =
-      let none : (extent_in size (extents_of n (tiling segs))).span ≡ 0 = ∥∥₁_elim kept (hlevel (ℕ_set)) (λ k. (size-of segs index n more k there).end.none) in
-      ap (λ k. ltb 0 k && eqb (extent_of (tiling segs) (address (n, size))).size 0) (ap (λ (x : Extent). x.span) (named (tiling segs)) ∙ none)
+  not-free = ap (λ k. ltb 0 k && eqb (extent_of (tiling segs) (address (n, size))).size 0) (ap (λ (x : Extent). x.span) (named (tiling segs)) ∙ none-widened)
 
   -- it is out of the tree
-  pub gaps-widened : (root : ℕ) (out : List ℕ) → HasGaps (tiling segs) root out → HasGaps new root (address (n, size) ∷ out)
-  gaps-widened root out h =
+  pub gaps-widened_by : {u : Tree} (root : ℕ) (out : List ℕ) → HasGapsBy u (tiling segs) root out → HasGapsBy u new root (address (n, size) ∷ out)
+  gaps-widened_by root out h =
       let a : ℕ = address (n, size) in
-      (gaps-one (tiling segs) new n size multiple
+      gaps-one (tiling segs) new n size multiple
       (λ m ne. ap (extents_of m) is ∙ extents_of-other n m (widen size more) (tiling segs) ne)
-      (λ to ne. ap (extent_in to) own ∙ extent_in-widened to size more (extents_of n (tiling segs)) ne)
+      (λ to ne. ap (extent_in to) own-widened ∙ extent_in-widened to size more (extents_of n (tiling segs)) ne)
       root out (a ∷ out)
       (λ b ne. contains-there a b out ne)
       (none-of (tiling segs) a out not-free)
       (out-of new a (a ∷ out) (within-head a out))
-      (gaps-own (tiling segs) root out h)).gaps
+      h
+
+  pub gaps-widened : (root : ℕ) (out : List ℕ) → HasGaps (tiling segs) root out → HasGaps new root (address (n, size) ∷ out)
+  gaps-widened root out h = (gaps-widened_by root out (gaps-own (tiling segs) root out h)).gaps
 
   -- and free, with its bytes
   pub span-widened : (extent_of new (address (n, size))).span ≡ more
   span-widened =
-      ap (λ (x : Extent). x.span) (named new ∙ ap (extent_in size) own) ∙ ∥∥₁_elim kept (hlevel (ℕ_set)) (λ k. (size-of segs index n more k there).end.span)
+      ap (λ (x : Extent). x.span) (named new ∙ ap (extent_in size) own-widened) ∙ ∥∥₁_elim kept (hlevel (ℕ_set)) (λ k. (size-of segs index n more k there).end.span)
 
   pub free-widened : 0 < more → IsFree new (address (n, size))
   free-widened some =
       record {
         named = subst (λ (k : ℕ). 0 < k) (sym span-widened) some;
-        free = ap (λ (x : Extent). x.size) (named new ∙ ap (extent_in size) own) ∙ ∥∥₁_elim kept (hlevel (ℕ_set)) (λ k. (size-of segs index n more k there).end.free);
+        free = ap (λ (x : Extent). x.size) (named new ∙ ap (extent_in size) own-widened) ∙ ∥∥₁_elim kept (hlevel (ℕ_set)) (λ k. (size-of segs index n more k there).end.free);
       }

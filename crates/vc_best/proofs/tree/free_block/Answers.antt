@@ -4,19 +4,30 @@ use Rattle.vc_base.proofs.Members.{within-head}
 use Rattle.vc_gaps.specs.GapLaws.{but_links_twice}
 use Rattle.vc_gaps.proofs.GapTrees.{can_link-out}
 use Rattle.vc_best.proofs.Costs.{changed_cost, cost_from, then_cost}
-use Rattle.vc_best.proofs.Linking.{gaps-changed}
+use Rattle.vc_best.proofs.Linking.{gaps-changed, next-later}
 use Rattle.vc_best.proofs.Plain.{before_name-stays, busy-still, layout-stays, merged-stays, named-stays, next_name-stays}
 use Rattle.vc_best.proofs.tree.free_block.Given.{Over}
 use Rattle.vc_best.proofs.tree.free_block.Goals as goal
-use Rattle.vc_best.proofs.tree.free_block.Goals.{After-release-freed, After-unlink_before}
+use Rattle.vc_best.proofs.tree.free_block.Goals.{After-release-freed, After-unlink_before, After-unlink_next}
 
 pub unlink_before-requires-clause-named : goal.unlink_before-requires-clause-named
 unlink_before-requires-clause-named g c = named-stays (tiling c.args.extents.now.segs.items) (tiling c.unlink_next.new.extents.segs.items) c.unlink_next.ensures.rest.extents c.args.a.0 c.requires.busy.named
 
-pub unlink_before-requires-clause-gaps : goal.unlink_before-requires-clause-gaps
-unlink_before-requires-clause-gaps g c =
+-- the one behind is out of the tree
+behind : (g : Over) (c : After-unlink_next g) → HasGaps (tiling c.unlink_next.new.extents.segs.items) c.unlink_next.new.root.0 (free_next (tiling c.unlink_next.new.extents.segs.items) c.args.a.0)
+behind g c =
     let t1 = tiling c.unlink_next.new.extents.segs.items in
     subst (HasGaps t1 c.unlink_next.new.root.0) (sym (next_name-stays (tiling c.args.extents.now.segs.items) t1 c.unlink_next.ensures.rest.extents c.args.a.0)) c.unlink_next.ensures.gaps
+
+pub unlink_before-requires-clause-gaps : goal.unlink_before-requires-clause-gaps
+unlink_before-requires-clause-gaps g c =
+    let u = (goal.at.unlink_before-requires-clause-gaps g c).After-unlink_next in
+    let e = c.unlink_next.new.extents in
+    record {
+      out = free_next (tiling e.segs.items) c.args.a.0;
+      gaps = behind g u;
+      later = next-later e.segs.items e.index.items e.kept c.args.a.0 (named-stays (tiling c.args.extents.now.segs.items) (tiling e.segs.items) c.unlink_next.ensures.rest.extents c.args.a.0 c.requires.busy.named);
+    }
 
 -- all but links is as it was when both are out
 rest : (g : Over) (c : After-unlink_before g) → StaysButLinks c.args.extents.now.segs.items c.unlink_before.new.extents.segs.items
@@ -40,7 +51,8 @@ beside g c =
     let root = c.unlink_before.new.root.0 in
     let same = c.unlink_before.ensures.rest.extents in
     subst (λ (ps : List ℕ). HasGaps t2 root (ps ++ free_next t2 a)) (sym (before_name-stays t1 t2 same a))
-    (subst (λ (ns : List ℕ). HasGaps t2 root (free_before t1 a ++ ns)) (sym (next_name-stays t1 t2 same a)) c.unlink_before.ensures.gaps)
+    (subst (λ (ns : List ℕ). HasGaps t2 root (free_before t1 a ++ ns)) (sym (next_name-stays t1 t2 same a))
+    (c.unlink_before.ensures.gaps (free_next t1 a) (behind g (goal.at.After-release-freed g c).After-unlink_next)))
 
 freed : (g : Over) (c : After-release-freed g) → HasGaps (tiling c.release-freed.new.extents.segs.items) c.unlink_before.new.root.0 (c.release-freed.result.0 ∷ [])
 freed g c =
