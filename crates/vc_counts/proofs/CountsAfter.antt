@@ -1,7 +1,5 @@
 -- What is counted by what is read of one region is what the step did.
 use Rattle.vc_base.proofs.Common.{◌≡◌, ℕ, ◌+◌, ◌-◌, ◌<◌, ◌≤◌, max, Bool, true, false, cond, List, [], map, length, sum, count_by, sym, refl, ap, ◌∙◌, arith, length-map, Grant}
-use Rattle.vc_layouts.specs.Tally.{tally_of}
-use Rattle.vc_layouts.specs.declared.tally.Tally.{Tally}
 use Rattle.vc_layouts.proofs.Tallies.{tally_of-bytes, tally_of-count}
 use Rattle.vc_commands.specs.Home.{Home}
 use Rattle.vc_script.specs.Needs.{is_refusal}
@@ -10,7 +8,6 @@ use Rattle.vc_counts.specs.CanCount.{CanCount, IsInRange, counted_commands}
 use Rattle.vc_counts.specs.Counts.{live_bytes, counts_with_step, nothing_counted}
 use Rattle.vc_counts.specs.Working.{counts_after, tally_behind}
 use Rattle.vc_counts.specs.declared.counts.Counts.{Counts}
-use Rattle.vc_counts.proofs.GrantedSegments.{fresh-count, granted-sizes}
 use Rattle.vc_counts.proofs.Sums.{busy_homes}
 use Rattle.vc_counts.proofs.Tallies.{Tallies}
 
@@ -18,20 +15,25 @@ abbrev made : ℕ → ℕ → ℕ → ℕ → ℕ → ℕ → Counts
 made done refused segments bytes busy peak =
     record { done = done; refused = refused; segments = segments; bytes = bytes; busy = busy; peak = max peak busy }
 
-pub counts-after : (c : Counts) (s : State) (t : Stepped) (before after : ℕ) (had has : List (ℕ × ℕ)) → c.busy ≡ live_bytes s → Tallies before after (live_bytes s) (live_bytes t.state) had has t.granted → counts_after c (is_refusal t.reply) before after (tally_behind (length had) has) ≡ counts_with_step c t
+pub counts-after : (c : Counts) (s : State) (t : Stepped) (before after : ℕ) (had has : List (ℕ × ℕ)) → c.busy ≡ live_bytes s → Tallies before after (live_bytes s) (live_bytes t.state) had has t.granted →
+    counts_after c (is_refusal t.reply) before after (tally_behind (length had - 1) had) (tally_behind (length had - 1) has) ≡ counts_with_step c t
 counts-after c s t before after had has now tallies =
     let b = is_refusal t.reply in
     let done = c.done + cond b 0 1 in
     let refused = c.refused + cond b 1 0 in
-    let sizes = map (λ (g : Grant). g.bytes) t.granted in
+    let from = length had - 1 in
+    let last = tally_behind from had in
+    let then = tally_behind from has in
+    let counted : (ss : List (ℕ × ℕ)) → (tally_behind from ss).count ≡ length (drop from ss) = λ ss. tally_of-count (map (λ (s : ℕ × ℕ). s.1) (drop from ss)) ∙ length-map (drop from ss) (λ (s : ℕ × ℕ). s.1) in
+    let summed : (ss : List (ℕ × ℕ)) → (tally_behind from ss).bytes ≡ sum (map (λ (s : ℕ × ℕ). s.1) (drop from ss)) = λ ss. tally_of-bytes (map (λ (s : ℕ × ℕ). s.1) (drop from ss)) in
     let fresh = count_by (λ (g : Grant). g.fresh) t.granted in
-    let lent : tally_behind (length had) has ≡ tally_of sizes = ap (λ ss. tally_of (map (λ (s : ℕ × ℕ). s.1) ss)) (sym tallies.lent.segments) ∙ ap tally_of (granted-sizes t.granted) in
-    let count : (tally_behind (length had) has).count ≡ fresh = ap (λ (x : Tally). x.count) lent ∙ (tally_of-count sizes ∙ (length-map t.granted (λ (g : Grant). g.bytes) ∙ sym (fresh-count t.granted tallies.lent.fresh))) in
-    let bytes : (tally_behind (length had) has).bytes ≡ sum sizes = ap (λ (x : Tally). x.bytes) lent ∙ tally_of-bytes sizes in
+    let lent = sum (map (λ (g : Grant). g.bytes) t.granted) in
+    let count : then.count - last.count ≡ fresh = omega (arith, counted has, counted had, tallies.lent.count) in
+    let bytes : then.bytes - last.bytes ≡ lent = omega (arith, summed has, summed had, tallies.lent.bytes) in
     let busy : c.busy + after - before ≡ live_bytes t.state = omega (arith, now, tallies.busy) in
-    ap (λ n. made done refused (c.segments + n) (c.bytes + (tally_behind (length had) has).bytes) (c.busy + after - before) c.peak) count
+    ap (λ n. made done refused (c.segments + n) (c.bytes + (then.bytes - last.bytes)) (c.busy + after - before) c.peak) count
     ∙ (ap (λ n. made done refused (c.segments + fresh) (c.bytes + n) (c.busy + after - before) c.peak) bytes
-    ∙ ap (λ n. made done refused (c.segments + fresh) (c.bytes + sum sizes) n c.peak) busy)
+    ∙ ap (λ n. made done refused (c.segments + fresh) (c.bytes + lent) n c.peak) busy)
 
 one-more : (b : Bool) (c : Counts) (n : ℕ) → counted_commands c < n → c.done + cond b 0 1 + (c.refused + cond b 1 0) < n + 1
 one-more true c n below = omega (arith, below)

@@ -1,29 +1,40 @@
--- What a call of a region lends: the segment that it is granted stands behind those there.
-use Rattle.vc_base.proofs.Common.{◌≡◌, ℕ, Bool, true, false, cond, List, [], ◌∷◌, ◌++◌, length, nat_lt, Some, None, Option, refl, ap, best_alloc, best_need, place_in, put_in_new, put_or_ask, Terms, can_end, if_latest, last_alloc, last_need, last_place, put_behind_latest, put_in_newest, put_or_lend, resize_latest, Block, Layout, is_at, with_grant, Done, Fixed, NotLast, Outcome, PoolSize, Put, Refused, outcome_as, Pool, cell_for, element_with, pool_alloc, pool_need, pool_resize, put_asked, put_carving, put_free, uncarved, best_resize, can_stay, outcome_of_move, resize_found, stays, Asked, Grant, Granted, NotLent, TooMany, ask, lowest_unused, new_segment, numbers, find_block}
+-- What a call of a region lends: what it is granted stands behind the segments there, or in the last one.
+use Rattle.vc_base.proofs.Common.{◌≡◌, ℕ, ◌+◌, ◌≤◌, ◌⊎◌, Bool, true, false, cond, List, [], ◌∷◌, length, nat_le, nat_lt, Some, None, Option, refl, inl, inr, ⊎_elim, arith, best_alloc, best_need, place_in, put_in_new, put_or_ask, Terms, can_end, if_latest, last_alloc, last_need, last_place, put_behind_latest, put_in_newest, put_or_lend, resize_latest, Block, Layout, is_at, with_grant, Done, Fixed, NotLast, Outcome, PoolSize, Put, Refused, outcome_as, Pool, cell_for, element_with, pool_alloc, pool_need, pool_resize, put_asked, put_carving, put_free, uncarved, best_resize, can_stay, outcome_of_move, resize_found, stays, Asked, Grant, Granted, NotLent, TooMany, ask, lowest_unused, new_segment, numbers, find_block}
 use Rattle.vc_model.specs.Best.{put}
-use Rattle.vc_model.specs.Segments.{segment_limit, segments_with, with_more}
+use Rattle.vc_model.specs.Segments.{ask_by, growing, segment_limit, size_limit}
 use Rattle.vc_audit.specs.Debug.{put_with_guards, outcome_by, put_with_mark}
 use Rattle.vc_audit.specs.Profile.{profile_after}
 use Rattle.vc_objects.specs.Objects.{option_list}
 use Rattle.vc_region.specs.Region.{OfBest, OfPool, OfLast, OfDebug, OfProfile, Region, segments_of}
-use Rattle.vc_counts.proofs.GrantedSegments.{StandBehind, none-behind}
+use Rattle.vc_counts.proofs.GrantedSegments.{IsFor, StandBehind, behind-one, none-behind}
 
 pub either : {A : Type 0} (P : A → Type 0) (t : Bool) (a b : A) → P a → P b → P (cond t a b)
 either P true a b p q = p
 either P false a b p q = q
 
--- what asking granted is a new segment
-abbrev pub IsNew : Asked → Type 0
-IsNew (Granted g) = g.fresh ≡ true
-IsNew TooMany = Unit {0}
-IsNew NotLent = Unit {0}
+-- what asking granted is a new segment, or goes into one of these
+abbrev pub IsAskedFor : List (ℕ × ℕ) → Asked → Type 0
+IsAskedFor segments (Granted g) = IsFor segments g
+IsAskedFor segments TooMany = Unit {0}
+IsAskedFor segments NotLent = Unit {0}
 
-ask-is-new : (terms : Terms) (bytes : ℕ) (segments : List (ℕ × ℕ)) (refused : Bool) → IsNew (ask terms bytes segments refused)
-ask-is-new terms bytes segments refused =
+asked-by : (o : Option (ℕ × ℕ)) (bytes : ℕ) (segments : List (ℕ × ℕ)) (refused : Bool) → (o ≡ None) ⊎ (1 ≤ length segments) → IsAskedFor segments (ask_by o bytes segments refused)
+asked-by None bytes segments refused h =
     let granted = Granted (new_segment (lowest_unused (numbers segments)) bytes) in
-    either IsNew (nat_lt (length segments) segment_limit) (cond refused NotLent granted) TooMany (either IsNew refused NotLent granted tt refl) tt
+    either (IsAskedFor segments) (nat_lt (length segments) segment_limit) (cond refused NotLent granted) TooMany (either (IsAskedFor segments) refused NotLent granted tt (inl refl)) tt
+asked-by (Some s) bytes segments refused h =
+    let granted = Granted (record { number = s.0; bytes = bytes; fresh = false }) in
+    let some : 1 ≤ length segments = ⊎_elim (λ (e : Some s ≡ None). absurd (cc)) (λ (l : 1 ≤ length segments). l) h in
+    either (IsAskedFor segments) (nat_le (s.1 + bytes) size_limit) (cond refused NotLent granted) TooMany (either (IsAskedFor segments) refused NotLent granted tt (inr some)) tt
 
--- the segment that was granted for a block stands behind these, in what the region is then
+grows-in : (terms : Terms) (segments : List (ℕ × ℕ)) → (growing terms segments ≡ None) ⊎ (1 ≤ length segments)
+grows-in terms [] = inl (either (λ o. o ≡ None) terms.grows None None refl refl)
+grows-in terms (s ∷ ss) = inr (omega arith)
+
+asked-for : (terms : Terms) (bytes : ℕ) (segments : List (ℕ × ℕ)) (refused : Bool) → IsAskedFor segments (ask terms bytes segments refused)
+asked-for terms bytes segments refused = asked-by (growing terms segments) bytes segments refused (grows-in terms segments)
+
+-- what was granted for a block stands behind these or in the last one, in what the region is then
 abbrev pub PutsBy : {R : Type 0} → (R → List (ℕ × ℕ)) → List (ℕ × ℕ) → Outcome (Put R) → Type 0
 PutsBy of segments (Done p) = StandBehind segments (of p.region) (option_list p.granted)
 PutsBy of segments (Refused why) = Unit {0}
@@ -37,22 +48,19 @@ PutsCell segments o = PutsBy (λ p. p.layout.segments) segments o
 abbrev pub PutsIn : {L : Type 0} → List (ℕ × ℕ) → Outcome (Put (Region L)) → Type 0
 PutsIn segments o = PutsBy segments_of segments o
 
-behind-one : (segments : List (ℕ × ℕ)) (g : Grant) → g.fresh ≡ true → StandBehind segments (segments_with g segments) (g ∷ [])
-behind-one segments g fresh = record { segments = ap (λ b. cond b (segments ++ (g.number, g.bytes) ∷ []) (with_more g.bytes segments)) fresh; fresh = (fresh, tt) }
-
 module _ {L : Type 0} where
-  puts-new : (r : Layout L) (g : Grant) → g.fresh ≡ true → (label : L) (size : ℕ) (o : Option (ℕ × ℕ)) → Puts r.segments (put (with_grant r g) label size (Some g) o)
+  puts-new : (r : Layout L) (g : Grant) → IsFor r.segments g → (label : L) (size : ℕ) (o : Option (ℕ × ℕ)) → Puts r.segments (put (with_grant r g) label size (Some g) o)
   puts-new r g fresh label size None = tt
   puts-new r g fresh label size (Some at) = behind-one r.segments g fresh
 
-  puts-asked : (r : Layout L) (label : L) (size align : ℕ) (a : Asked) → IsNew a → Puts r.segments (put_in_new r label size align a)
+  puts-asked : (r : Layout L) (label : L) (size align : ℕ) (a : Asked) → IsAskedFor r.segments a → Puts r.segments (put_in_new r label size align a)
   puts-asked r label size align (Granted g) new = puts-new r g new label size (place_in (with_grant r g) size align)
   puts-asked r label size align TooMany new = tt
   puts-asked r label size align NotLent new = tt
 
   puts-placed : (terms : Terms) (r : Layout L) (label : L) (size align : ℕ) (refused : Bool) (o : Option (ℕ × ℕ)) → Puts r.segments (put_or_ask terms r label size align refused o)
   puts-placed terms r label size align refused (Some at) = none-behind r.segments r.segments refl
-  puts-placed terms r label size align refused None = puts-asked r label size align (ask terms (best_need terms size align) r.segments refused) (ask-is-new terms (best_need terms size align) r.segments refused)
+  puts-placed terms r label size align refused None = puts-asked r label size align (ask terms (best_need terms size align) r.segments refused) (asked-for terms (best_need terms size align) r.segments refused)
 
   pub puts-best : (terms : Terms) (r : Layout L) (label : L) (size align : ℕ) (refused : Bool) → Puts r.segments (best_alloc terms r label size align refused)
   puts-best terms r label size align refused = puts-placed terms r label size align refused (place_in r size align)
@@ -78,18 +86,18 @@ module _ {L : Type 0} where
   pub puts-resize : (terms : Terms) (r : Layout L) (at : ℕ × ℕ) (size : ℕ) (may_move refused : Bool) → Puts r.segments (best_resize terms r at size may_move refused)
   puts-resize terms r at size may_move refused = puts-found terms r size may_move refused (find_block at r.blocks)
 
-  puts-newest : (r : Layout L) (g : Grant) → g.fresh ≡ true → (label : L) (size : ℕ) (o : Option (ℕ × ℕ)) → Puts r.segments (put_behind_latest (with_grant r g) label size (Some g) o)
+  puts-newest : (r : Layout L) (g : Grant) → IsFor r.segments g → (label : L) (size : ℕ) (o : Option (ℕ × ℕ)) → Puts r.segments (put_behind_latest (with_grant r g) label size (Some g) o)
   puts-newest r g fresh label size None = tt
   puts-newest r g fresh label size (Some at) = behind-one r.segments g fresh
 
-  puts-lent : (r : Layout L) (label : L) (size : ℕ) (a : Asked) → IsNew a → Puts r.segments (put_in_newest r label size a)
+  puts-lent : (r : Layout L) (label : L) (size : ℕ) (a : Asked) → IsAskedFor r.segments a → Puts r.segments (put_in_newest r label size a)
   puts-lent r label size (Granted g) new = puts-newest r g new label size (last_place (with_grant r g) size)
   puts-lent r label size TooMany new = tt
   puts-lent r label size NotLent new = tt
 
   puts-behind : (terms : Terms) (r : Layout L) (label : L) (size : ℕ) (refused : Bool) (o : Option (ℕ × ℕ)) → Puts r.segments (put_or_lend terms r label size refused o)
   puts-behind terms r label size refused (Some at) = none-behind r.segments r.segments refl
-  puts-behind terms r label size refused None = puts-lent r label size (ask terms (last_need terms size) r.segments refused) (ask-is-new terms (last_need terms size) r.segments refused)
+  puts-behind terms r label size refused None = puts-lent r label size (ask terms (last_need terms size) r.segments refused) (asked-for terms (last_need terms size) r.segments refused)
 
   pub puts-last : (terms : Terms) (r : Layout L) (label : L) (size : ℕ) (refused : Bool) → Puts r.segments (last_alloc terms r label size refused)
   puts-last terms r label size refused = puts-behind terms r label size refused (last_place r size)
@@ -100,14 +108,14 @@ module _ {L : Type 0} where
       either (Puts r.segments) (is_at at b) (resize_latest terms r size may_move refused b) (Refused NotLast)
       (puts-resized r size b (can_end r size b) may_move (last_alloc terms r b.label size refused) (puts-last terms r b.label size refused)) tt
 
-  puts-cell : (p : Pool L) (label : L) (size : ℕ) (a : Asked) → IsNew a → PutsCell p.layout.segments (put_asked p label size a)
+  puts-cell : (p : Pool L) (label : L) (size : ℕ) (a : Asked) → IsAskedFor p.layout.segments a → PutsCell p.layout.segments (put_asked p label size a)
   puts-cell p label size (Granted g) new = behind-one p.layout.segments g new
   puts-cell p label size TooMany new = tt
   puts-cell p label size NotLent new = tt
 
   puts-carved : (terms : Terms) (p : Pool L) (label : L) (size : ℕ) (refused : Bool) (o : Option (ℕ × ℕ)) → PutsCell p.layout.segments (put_carving terms p label size refused o)
   puts-carved terms p label size refused (Some at) = none-behind p.layout.segments p.layout.segments refl
-  puts-carved terms p label size refused None = puts-cell p label size (ask terms (pool_need terms p size) p.layout.segments refused) (ask-is-new terms (pool_need terms p size) p.layout.segments refused)
+  puts-carved terms p label size refused None = puts-cell p label size (ask terms (pool_need terms p size) p.layout.segments refused) (asked-for terms (pool_need terms p size) p.layout.segments refused)
 
   puts-free : (terms : Terms) (p : Pool L) (label : L) (size : ℕ) (refused : Bool) (freed : List (ℕ × ℕ)) → PutsCell p.layout.segments (put_free terms p label size refused freed)
   puts-free terms p label size refused (at ∷ freed) = none-behind p.layout.segments p.layout.segments refl

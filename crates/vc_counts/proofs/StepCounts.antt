@@ -1,5 +1,5 @@
 -- A step's command is counted by what is read of its region before it and after it.
-use Rattle.vc_base.proofs.Common.{◌≡◌, ℕ, ◌+◌, ◌<◌, ◌≤◌, Bool, List, length, Option, sym, ap, ◌∙◌, subst, arith, AllByRecursion}
+use Rattle.vc_base.proofs.Common.{◌≡◌, ℕ, ◌+◌, ◌-◌, ◌<◌, ◌≤◌, Bool, List, length, Option, sym, ap, ◌∙◌, subst, arith, AllByRecursion}
 use Rattle.vc_layouts.specs.declared.tally.Tally.{Tally}
 use Rattle.vc_script.specs.Needs.{is_refusal, need_shown}
 use Rattle.vc_script.specs.declared.command.Command.{Command}
@@ -74,15 +74,19 @@ module _ (c : Counts) (s s' : State) (line : ℕ) (command : Command) (reply : R
     part-counted = omega (arith, before, after, tallied.busy, can.now)
 
     -- the counts by what is read of its region are those by the step
-    pub counts-step : (refused : Bool) (had : ℕ) (has : List (ℕ × ℕ)) (lent : Tally) → refused ≡ is_refusal reply → had ≡ length (segments_at name s.homes) → has ≡ segments_at name s'.homes → lent ≡ tally_behind had has → counts_after c refused (held + gone) (holds + more) lent ≡ counts_with_step c this_step
-    counts-step refused had has lent told first segments came =
+    pub counts-step : (refused : Bool) (from : ℕ) (had has : List (ℕ × ℕ)) (last now : Tally) → refused ≡ is_refusal reply → had ≡ segments_at name s.homes → has ≡ segments_at name s'.homes → from ≡ length (segments_at name s.homes) - 1 →
+        last ≡ tally_behind from had → now ≡ tally_behind from has → counts_after c refused (held + gone) (holds + more) last now ≡ counts_with_step c this_step
+    counts-step refused from had has last now told first segments place read_first read_then =
         let t = this_step in
         let reads : ℕ = before_by (reach_of command) name t.reply s in
         let same : refused ≡ is_refusal t.reply = told ∙ ap is_refusal (sym run.replied) in
-        let behind : lent ≡ tally_behind (length (segments_at name s.homes)) (segments_at name t.state.homes) =
-        came ∙ (ap (λ n. tally_behind n has) first ∙ ap (tally_behind (length (segments_at name s.homes))) (segments ∙ ap (λ (x : State). segments_at name x.homes) (sym run.state))) in
-        ap (λ b. counts_after c b (held + gone) (holds + more) lent) same
-        ∙ (ap (λ n. counts_after c (is_refusal t.reply) n (holds + more) lent) before
-        ∙ (ap (λ n. counts_after c (is_refusal t.reply) reads n lent) after
-        ∙ (ap (counts_after c (is_refusal t.reply) reads (after_by (reach_of command) name t.reply t.state)) behind
-        ∙ counts-after c s t reads (after_by (reach_of command) name t.reply t.state) (segments_at name s.homes) (segments_at name t.state.homes) can.now tallied)))
+        let at = length (segments_at name s.homes) - 1 in
+        let one : last ≡ tally_behind at (segments_at name s.homes) = read_first ∙ (ap (λ n. tally_behind n had) place ∙ ap (tally_behind at) first) in
+        let other : now ≡ tally_behind at (segments_at name t.state.homes) =
+        read_then ∙ (ap (λ n. tally_behind n has) place ∙ ap (tally_behind at) (segments ∙ ap (λ (x : State). segments_at name x.homes) (sym run.state))) in
+        ap (λ b. counts_after c b (held + gone) (holds + more) last now) same
+        ∙ (ap (λ n. counts_after c (is_refusal t.reply) n (holds + more) last now) before
+        ∙ (ap (λ n. counts_after c (is_refusal t.reply) reads n last now) after
+        ∙ (ap (λ l. counts_after c (is_refusal t.reply) reads (after_by (reach_of command) name t.reply t.state) l now) one
+        ∙ (ap (counts_after c (is_refusal t.reply) reads (after_by (reach_of command) name t.reply t.state) (tally_behind at (segments_at name s.homes))) other
+        ∙ counts-after c s t reads (after_by (reach_of command) name t.reply t.state) (segments_at name s.homes) (segments_at name t.state.homes) can.now tallied))))

@@ -15,7 +15,7 @@ use Rattle.vc_counts.specs.Reach.{bytes_freed_by, put_by_reply}
 use Rattle.vc_counts.specs.Working.{busy_home, busy_in_home, reached_at, segments_at, segments_at_home}
 use Rattle.vc_counts.specs.declared.reach.Reach.{Reach}
 use Rattle.vc_counts.specs.declared.reach.Reach.TheVariants.{Nothing, Block, Table, Dict, All}
-use Rattle.vc_counts.proofs.GrantedSegments.{Lends, lends-fewer, lends-same}
+use Rattle.vc_counts.proofs.GrantedSegments.{Lends, lends-none, lends-same}
 use Rattle.vc_counts.proofs.Sums.{busy_homes, busy-with, busy-without, named-with, put_region}
 
 -- from the bytes that a command reached before a step to those after it: all regions' blocks change by as many; and the
@@ -102,5 +102,5 @@ module _ (r : List ℕ) (hs : List Home) (h : Home) (found : home_named r hs ≡
   tallies-closed alone =
       record {
         busy = omega (arith, busy-without r hs h found, ap busy_in_home found, ap busy_in_home alone);
-        lent = subst (λ has. Lends (segments_at (Some r) hs) has []) (sym (ap segments_at_home alone)) (lends-fewer (segments_at (Some r) hs) [] (omega arith));
+        lent = subst (λ has. Lends (segments_at (Some r) hs) has []) (sym (ap segments_at_home alone)) (lends-none (segments_at (Some r) hs));
       }

@@ -90,15 +90,15 @@ segments_at name homes = segments_at_home (home_at name homes)
 abbrev pub tally_behind : ℕ → List (ℕ × ℕ) → Tally
 tally_behind first segments = tally_of (map (λ s. s.1) (drop first segments))
 
--- what is counted with one more command, from the bytes that it reached before it to those after it, and the segments that
--- came
-abbrev pub counts_after : Counts → Bool → ℕ → ℕ → Tally → Counts
-counts_after c refused before after lent =
+-- what is counted with one more command, from the bytes that it reached before it to those after it, and by its region's
+-- segments from the one on that was the last before it, before it and after it
+abbrev pub counts_after : Counts → Bool → ℕ → ℕ → Tally → Tally → Counts
+counts_after c refused before after last now =
     record {
       done = c.done + (if refused then 0 else 1);
       refused = c.refused + (if refused then 1 else 0);
-      segments = c.segments + lent.count;
-      bytes = c.bytes + lent.bytes;
+      segments = c.segments + (now.count - last.count);
+      bytes = c.bytes + (now.bytes - last.bytes);
       busy = c.busy + after - before;
       peak = max c.peak (c.busy + after - before);
     }

@@ -14,7 +14,7 @@ pub struct Counts {
     pub refused: u32,
     /// The segments that were lent, also those that are back by now.
     pub segments: u64,
-    /// The bytes of these segments.
+    /// The bytes of these segments, and those by which segments were made longer.
     pub bytes: u128,
     /// The bytes that the blocks of all open regions have now.
     pub busy: u128,
@@ -37,15 +37,15 @@ impl Counts {
         }
     }
 
-    // Counts one more command, by whether it was refused, by the bytes that it reached before it and after it, and by the
-    // segments that came.
-    pub(crate) fn add(&mut self, refused: bool, before: u128, after: u128, lent: Tally)
+    // Counts one more command, by whether it was refused, by the bytes that it reached before it and after it, and by its
+    // region's segments before it and after it, from the one on that was the last before it.
+    pub(crate) fn add(&mut self, refused: bool, before: u128, after: u128, last: Tally, now: Tally)
         requires range { IsInRange self.old }
         requires few { counted_commands self.old + 1 < 2 ^ 32 }
         requires part { before ≤ self.old.busy + after }
         requires reach { after ≤ 2 ^ 65 }
-        requires segments { lent.count ≤ 1023 }
-        ensures value { self.new ≡ counts_after self.old refused before after lent }
+        requires segments { now.count ≤ 1023 }
+        ensures value { self.new ≡ counts_after self.old refused before after last now }
         ensures range { IsInRange self.new }
     {
         if refused {
@@ -53,8 +53,8 @@ impl Counts {
         } else {
             self.done += 1;
         }
-        self.segments += lent.count;
-        self.bytes += lent.bytes as u128;
+        self.segments += now.count.saturating_sub(last.count);
+        self.bytes += now.bytes.saturating_sub(last.bytes) as u128;
         self.busy = self.busy + after - before;
         self.peak = self.peak.max(self.busy);
     }

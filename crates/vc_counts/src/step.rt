@@ -169,8 +169,8 @@ fn is_refusal(reply: &Reply) -> bool
 }
 
 /// Runs the command of a line, numbered from 1 on, as `Session::step` does, and counts it. Each line stands behind those
-/// of the commands before it. Before it and after it are read how many segments its region has, and of the region's blocks
-/// those that it may put, resize or free: the one that it names, or the table of its dictionary, and its reply tells of a
+/// of the commands before it. Before it and after it are read its region's segments from the last one on, and of the
+/// region's blocks those that it may put, resize or free: the one that it names, or the table of its dictionary, and its reply tells of a
 /// holder. Where it empties, turns or ends a dictionary all blocks of that are read, and all of the region where it clears
 /// or closes the region.
 /// With no memory nothing is counted, and every later step answers `OutOfMemory` as well.
@@ -193,13 +193,14 @@ pub fn counted_step<D: DictDisc>(
     show_names(&session.homes, &session.dicts);
     let reach = reach_of(command);
     let region = region_worked(session, command);
-    let had = segment_count_at(session, &region);
+    let from = segment_count_at(session, &region).saturating_sub(1);
+    let last = tally_behind_at(session, &region, from);
     let held = reached_at(session, &reach, &region);
     let reply = session.step(shelf, kinds, line, command)?;
     let before = held as u128 + freed_by(&reach, &reply) as u128;
     let holds = reached_at(session, &reach, &region);
     let after = holds as u128 + put_by(&reach, &reply) as u128;
-    let lent = tally_behind_at(session, &region, had);
-    counts.add(is_refusal(&reply), before, after, lent);
+    let now = tally_behind_at(session, &region, from);
+    counts.add(is_refusal(&reply), before, after, last, now);
     Ok(reply)
 }

@@ -79,8 +79,8 @@ returns-clause-runs g c =
     c.add.ensures.value
     ∙ counts-step c.args.counts.now (before g at) (after g at) c.args.line c.args.command.now c.in_ok-reply.reply c.requires.counts (was-run g at)
     c.region_worked-region.result c.reach_of-reach.result c.reached_at-held.result c.freed_by.result c.reached_at-holds.result c.put_by.result (was-read g at)
-    c.is_refusal.result c.segment_count_at-had.result (segments_at c.region_worked-region.result (after g at).homes) c.tally_behind_at-lent.result
-    c.is_refusal.ensures c.segment_count_at-had.ensures refl c.tally_behind_at-lent.ensures.value in
+    c.is_refusal.result c.saturating_sub-from.result (segments_at c.region_worked-region.result (before g at).homes) (segments_at c.region_worked-region.result (after g at).homes) c.tally_behind_at-last.result c.tally_behind_at-now.result
+    c.is_refusal.ensures refl refl (c.saturating_sub-from.ensures ∙ ap (λ n. n - 1) c.segment_count_at.ensures) c.tally_behind_at-last.ensures.value c.tally_behind_at-now.ensures.value in
     record {
       lasts = c.step.ensures.lasts;
       runs = record {
