@@ -1,5 +1,5 @@
 -- What the programs hand to their tools: the disciplines at the places of the shelf, and the kinds of dictionaries.
-use Rattle.std.specs.Prelude.{ℕ, List, [], ◌∷◌, None, false, nat_le, if◌then◌else◌}
+use Rattle.std.specs.Prelude.{ℕ, List, [], ◌∷◌, None, false, true, nat_le, if◌then◌else◌}
 use Rattle.vc_dtdisc.specs.declared.shape.Shape.{Shape}
 use Rattle.vc_dtdisc.specs.declared.shape.Shape.TheVariants.{Whole, Field, Text, Fold, Reverse, Clip}
 use Rattle.vc_model.specs.Discipline.{Discipline}
@@ -12,6 +12,10 @@ heap_at place = record { out = []; faults = 0; terms = record { round = if nat_l
 -- from place 13 to 16 one that rounds to 4,096 bytes and has a budget of 1,048,576
 abbrev pub budgeted : Budget
 budgeted = record { budget = 1048576; out = []; faults = 0; terms = record { round = 4096; grows = false } }
+
+-- at place 17 one that makes a segment longer, rounds to 4,096 bytes and has at most 33,554,432 bytes out
+abbrev pub growing : Budget
+growing = record { budget = 33554432; out = []; faults = 0; terms = record { round = 4096; grows = true } }
 
 -- the shapes of the kinds, from kind 1 on
 abbrev pub shapes : List Shape

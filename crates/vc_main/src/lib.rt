@@ -3,13 +3,13 @@
 #![tactic(auto)]
 
 ghost use Rattle.std.specs.Prelude.{◌≡◌, map, IfOk};
-ghost use Rattle.vc_main.specs.Places.{budgeted, heap_at, shapes};
+ghost use Rattle.vc_main.specs.Places.{budgeted, growing, heap_at, shapes};
 
 use std::alloc::{AllocError, Global};
 use std::env::{self, Env};
 use std::io::ErrorKind;
 use vc_dtdisc::{BuiltIn, Shape};
-use vc_seg::{BudgetDisc, HeapDisc};
+use vc_seg::{BudgetDisc, HeapDisc, SbrkDisc};
 
 /// The words behind the program's name. Where one isn't UTF-8 there's no list, and an empty word, which is refused, stands
 /// in its place.
@@ -39,6 +39,14 @@ pub fn budgeted() -> BudgetDisc
     ensures { result ≡ budgeted }
 {
     BudgetDisc::new(4096, 1_048_576)
+}
+
+/// The discipline at place 17: it makes a segment longer where more is asked for, rounds to 4,096 bytes, and has at most
+/// 33,554,432 bytes out, as many as a segment can have.
+pub fn growing() -> SbrkDisc
+    ensures { result ≡ growing }
+{
+    SbrkDisc::new(4096, 33_554_432)
 }
 
 /// The kinds of dictionaries, of which a script names the first as 1: by all bytes, by the text before a zero byte, without
