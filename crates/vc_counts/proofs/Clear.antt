@@ -1,5 +1,5 @@
 -- A best region puts a block where none stands.
-use Rattle.vc_base.proofs.Common.{◌≡◌, ℕ, zero, suc, ◌+◌, ◌-◌, ◌≤◌, Bool, true, false, cond, eqb, ◌≢◌, List, [], ◌∷◌, ◌++◌, length, get_or, nat_lt, Some, None, All, Contains, filter, Option, option_map, sym, refl, ◌∙◌, subst, ⊎_elim, true≢false, arith, eq-eqb, eqb-true, leb-true, and_parts, cases_Bool, or_parts, All-append, All-cons, All-filter, All-head, All-nil, All-tail, All-weaker, filter_passes, none-some, same_Some, list_any, best_alloc, best_need, place_in, put_in_new, put_or_ask, zeros, Terms, Run, gaps, Block, Layout, footprint, footprints, is_at, with_grant, Done, Outcome, Put, Refused, holds, lowest_offset, Asked, Granted, NotLent, TooMany, ask, lowest_unused, new_segment, numbers, span, unused_from, HaveOwnNumbers, IsUsable}
+use Rattle.vc_base.proofs.Common.{◌≡◌, ℕ, zero, suc, ◌+◌, ◌-◌, ◌<◌, ◌≤◌, Bool, true, false, cond, eqb, ◌≢◌, List, [], ◌∷◌, ◌++◌, length, get_or, get_or_default, nat_le, nat_lt, Some, None, All, Contains, filter, Option, option_map, sym, refl, ap, ◌∙◌, subst, ⊎_elim, true≢false, arith, eq-eqb, eqb-true, leb-true, and_parts, cases_Bool, or_parts, All-append, All-cons, All-filter, All-head, All-nil, All-tail, All-weaker, filter_passes, none-some, same_Some, list_any, best_alloc, best_need, place_in, put_in_new, put_or_ask, zeros, Terms, Run, gaps, Block, Layout, footprint, footprints, is_at, with_grant, Done, Outcome, Put, Refused, holds, lowest_offset, Asked, Grant, Granted, NotLent, TooMany, ask, lowest_unused, new_segment, numbers, span, unused_from, HaveOwnNumbers, IsUsable}
 use Rattle.std.proofs.lemmas.List.Elements.{All-contains_itself}
 use Rattle.vc_best.proofs.Gaps.{least-from}
 use Rattle.vc_layouts.proofs.Lists.{AllPairs-append}
@@ -8,11 +8,12 @@ use Rattle.vc_laws.proofs.Maximality.{IsGap-from_gaps}
 use Rattle.vc_laws.proofs.Members.{Any-from_member, Member-append_left, Some_of-from_Any}
 use Rattle.vc_model.specs.Best.{put}
 use Rattle.vc_model.specs.Place.{best_gap}
-use Rattle.vc_model.specs.Segments.{segment_limit}
+use Rattle.vc_model.specs.Segments.{ask_by, growing, segment_limit, size_limit, with_more}
 use Rattle.vc_base.proofs.Places.{some-span}
 use Rattle.vc_base.proofs.Options.{option_map-Some}
 use Rattle.vc_seg.proofs.Rounding.{round_up-least}
 use Rattle.vc_seg.proofs.Unused.{is_among, lowest_unused-unused}
+use Rattle.vc_counts.proofs.GrantedSegments.{more-many}
 use Rattle.vc_counts.proofs.RegionLends.{either}
 use Rattle.vc_counts.proofs.BlockSizes.{HasSized, IsClear, sized-more}
 
@@ -100,25 +101,76 @@ module _ {L : Type 0} (r : Layout L) (lawful : AreLawful r.segments (footprints 
         apart = lawful.apart;
       }
 
+-- with more bytes in the last segment
+longer-number : (more : ℕ) (ss : List (ℕ × ℕ)) (k : ℕ) (d : ℕ × ℕ) → (get_or (with_more more ss) k d).0 ≡ (get_or ss k d).0
+longer-number more [] k d = refl
+longer-number more (s ∷ []) zero d = refl
+longer-number more (s ∷ []) (suc k) d = refl
+longer-number more (s ∷ t ∷ ss) zero d = refl
+longer-number more (s ∷ t ∷ ss) (suc k) d = longer-number more (t ∷ ss) k d
+
+longer-size : (more : ℕ) (ss : List (ℕ × ℕ)) (k : ℕ) (d : ℕ × ℕ) → (get_or ss k d).1 ≤ (get_or (with_more more ss) k d).1
+longer-size more [] k d = omega arith
+longer-size more (s ∷ []) zero d = omega arith
+longer-size more (s ∷ []) (suc k) d = omega arith
+longer-size more (s ∷ t ∷ ss) zero d = omega arith
+longer-size more (s ∷ t ∷ ss) (suc k) d = longer-size more (t ∷ ss) k d
+
+module _ (more : ℕ) (ss : List (ℕ × ℕ)) where
+  own-longer : HaveOwnNumbers ss → HaveOwnNumbers (with_more more ss)
+  own-longer own =
+      let long = more-many ss more in
+      record {
+        first = λ k d within. subst (λ n. 1 ≤ n) (sym (longer-number more ss k d)) (own.first k d (omega (arith, long, within)));
+        distinct = λ i j d lt within e. own.distinct i j d lt (omega (arith, long, within)) (sym (longer-number more ss i d) ∙ (e ∙ longer-number more ss j d));
+      }
+
+  usable-longer : (f : Run) → IsUsable ss f → IsUsable (with_more more ss) f
+  usable-longer f (k, x, within, same, number, from, to) =
+      let long = more-many ss more in
+      let inside : k < length (with_more more ss) = omega (arith, long, within) in
+      let size = longer-size more ss k x in
+      let had : (get_or ss k x).1 ≡ x.1 = ap (λ s. s.1) same in
+      (k, get_or (with_more more ss) k x, inside, get_or_default (with_more more ss) k (get_or (with_more more ss) k x) x inside,
+      number ∙ (ap (λ s. s.0) (sym same) ∙ sym (longer-number more ss k x)), from, omega (arith, to, size, had))
+
+  lawful-longer : (fs : List Run) → AreLawful ss fs → AreLawful (with_more more ss) fs
+  lawful-longer fs lawful =
+      record {
+        numbered = own-longer lawful.numbered;
+        some = lawful.some;
+        usable = All-weaker (IsUsable ss) (IsUsable (with_more more ss)) usable-longer fs lawful.usable;
+        apart = lawful.apart;
+      }
+
 -- a block that is put leaves those there, each of its size at its address
 abbrev pub KeepsSized : {L : Type 0} → Layout L → Outcome (Put (Layout L)) → Type 0
 KeepsSized r (Done p) = (a n : ℕ) → HasSized r.blocks a n → HasSized p.region.blocks a n
 KeepsSized r (Refused why) = Unit {0}
 
 module _ {L : Type 0} (r : Layout L) (lawful : AreLawful r.segments (footprints r.blocks)) (label : L) (size align : ℕ) (some : 1 ≤ align) where
-  keeps-new : (n bytes : ℕ) → 1 ≤ n → is_among n (numbers r.segments) ≡ false → (o : Option (ℕ × ℕ)) → place_in (with_grant r (new_segment n bytes)) size align ≡ o → KeepsSized r (put (with_grant r (new_segment n bytes)) label size (Some (new_segment n bytes)) o)
-  keeps-new n bytes first unused None e = tt
-  keeps-new n bytes first unused (Some at) e =
-      λ a m has. sized-more (zeros label size at) r.blocks (clear-place (with_grant r (new_segment n bytes)) (lawful-more r lawful n bytes first unused) size align some at e) a m has
+  keeps-granted : (g : Grant) → AreLawful (with_grant r g).segments (footprints r.blocks) → (o : Option (ℕ × ℕ)) → place_in (with_grant r g) size align ≡ o → KeepsSized r (put (with_grant r g) label size (Some g) o)
+  keeps-granted g after None e = tt
+  keeps-granted g after (Some at) e = λ a m has. sized-more (zeros label size at) r.blocks (clear-place (with_grant r g) after size align some at e) a m has
+
+  keeps-by : (o : Option (ℕ × ℕ)) (need : ℕ) (refused : Bool) → KeepsSized r (put_in_new r label size align (ask_by o need r.segments refused))
+  keeps-by None need refused =
+      let n : ℕ = lowest_unused (numbers r.segments) in
+      let g = new_segment n need in
+      let P : Asked → Type 0 = λ a. KeepsSized r (put_in_new r label size align a) in
+      either P (nat_lt (length r.segments) segment_limit) (cond refused NotLent (Granted g)) TooMany
+      (either P refused NotLent (Granted g) tt
+      (keeps-granted g (lawful-more r lawful n need (unused-least 1 (length (numbers r.segments)) (numbers r.segments)) (lowest_unused-unused (numbers r.segments))) (place_in (with_grant r g) size align) refl))
+      tt
+  keeps-by (Some s) need refused =
+      let g : Grant = record { number = s.0; bytes = need; fresh = false } in
+      let P : Asked → Type 0 = λ a. KeepsSized r (put_in_new r label size align a) in
+      either P (nat_le (s.1 + need) size_limit) (cond refused NotLent (Granted g)) TooMany
+      (either P refused NotLent (Granted g) tt (keeps-granted g (lawful-longer need r.segments (footprints r.blocks) lawful) (place_in (with_grant r g) size align) refl))
+      tt
 
   keeps-asked : (terms : Terms) (need : ℕ) (refused : Bool) → KeepsSized r (put_in_new r label size align (ask terms need r.segments refused))
-  keeps-asked terms need refused =
-      let n : ℕ = lowest_unused (numbers r.segments) in
-      let P : Asked → Type 0 = λ a. KeepsSized r (put_in_new r label size align a) in
-      either P (nat_lt (length r.segments) segment_limit) (cond refused NotLent (Granted (new_segment n need))) TooMany
-      (either P refused NotLent (Granted (new_segment n need)) tt
-      (keeps-new n need (unused-least 1 (length (numbers r.segments)) (numbers r.segments)) (lowest_unused-unused (numbers r.segments)) (place_in (with_grant r (new_segment n need)) size align) refl))
-      tt
+  keeps-asked terms need refused = keeps-by (growing terms r.segments) need refused
 
   keeps-placed : (terms : Terms) (refused : Bool) (o : Option (ℕ × ℕ)) → place_in r size align ≡ o → KeepsSized r (put_or_ask terms r label size align refused o)
   keeps-placed terms refused (Some at) e =

@@ -85,7 +85,7 @@ more-bytes [] more some = absurd (omega (arith, some))
 more-bytes (s ∷ []) more some = omega (arith, sizes-cons s [], sizes-cons (s.0, s.1 + more) [])
 more-bytes (s ∷ t ∷ ss) more some = omega (arith, sizes-cons s (with_more more (t ∷ ss)), sizes-cons s (t ∷ ss), more-bytes (t ∷ ss) more (omega arith))
 
-more-many : (ss : List (ℕ × ℕ)) (more : ℕ) → length (with_more more ss) ≡ length ss
+pub more-many : (ss : List (ℕ × ℕ)) (more : ℕ) → length (with_more more ss) ≡ length ss
 more-many [] more = refl
 more-many (s ∷ []) more = refl
 more-many (s ∷ t ∷ ss) more = ap suc (more-many (t ∷ ss) more)

@@ -1,4 +1,4 @@
-use Rattle.vc_base.proofs.Common.{refl, ◌∙◌, Discipline}
+use Rattle.vc_base.proofs.Common.{◌-◌, refl, ap, ◌∙◌, Discipline}
 use Rattle.vc_steps.specs.Homes.{held_in_session, slots_on, state_over}
 use Rattle.vc_steps.specs.State.{State}
 use Rattle.vc_steps.specs.Told.{rules_in}
