@@ -1,6 +1,6 @@
 ghost use Rattle.std.specs.Prelude.{◌≡◌, ◌∷◌, [], ◌++◌, OnOk, Some};
-ghost use Rattle.vc_paths.specs.Layers.{Unchanged};
 ghost use Rattle.vc_paths.specs.Path.{IsPath, visible_of};
+ghost use Rattle.vc_paths.specs.Unchanged.{Unchanged};
 ghost use Rattle.vc_algebra.specs.Algebra.{meet, range};
 ghost use Rattle.ranges.specs.Showing.{lines_of};
 
@@ -33,7 +33,7 @@ pub(crate) fn put_range<Y: Ordered, L>(
     ensures lines { OnOk result (lines.new.items ≡ lines.old.items ++ lines_of
         (range ((Y.layered layers.old).layer d).rules (Some low.now) (Some high.now)
         (visible_of (Y.layered layers.old) paths.now d))) }
-    ensures unchanged { Unchanged Y.layered Y.Stays layers.old layers.new }
+    ensures unchanged { Unchanged Y.Layers layers.old layers.new }
 {
     let mut next = range_first(paths, layers, d, Some(low), Some(high), steps)?;
     while let Some(place) = next {
@@ -58,7 +58,7 @@ pub(crate) fn put_meet<Y: Ordered, L>(
         (meet ((Y.layered layers.old).layer d).rules
         (visible_of (Y.layered layers.old) paths.now d)
         (visible_of (Y.layered layers.old) paths.now e))) }
-    ensures unchanged { Unchanged Y.layered Y.Stays layers.old layers.new }
+    ensures unchanged { Unchanged Y.Layers layers.old layers.new }
 {
     let mut meet = Merge::start(paths, layers, d, e, Op::Meet, steps)?;
     while let Some(place) = meet.next(paths, layers, steps) {

@@ -1,9 +1,9 @@
 ghost use Rattle.std.specs.Prelude.{◌≡◌, ◌==◌, ◌&&◌, IfOk, IfSome, drop, true};
 ghost use Rattle.vc_base.specs.Prelude.{is_ordered};
 ghost use Rattle.std.specs.Result.{result_err};
-ghost use Rattle.vc_paths.specs.Layers.{Unchanged};
 ghost use Rattle.vc_paths.specs.Ordered.{IsStanding, object_at};
 ghost use Rattle.vc_paths.specs.Path.{IsPath, IsPathBy, IsVisible, numbers_of, visible_of};
+ghost use Rattle.vc_paths.specs.Unchanged.{Unchanged};
 ghost use Rattle.vc_algebra.specs.Faults.{merge_fault};
 ghost use Rattle.vc_algebra.specs.Runs.{IsMergeNext};
 ghost use Rattle.vc_algebra.specs.ToCome.{Begins, IsMerge, IsOfSame, Passes, from_place, turn_of};
@@ -63,7 +63,7 @@ fn passed<Y: Layers, L>(
     ensures rest { from_place result (visible_of (Y.layered layers.old) paths.now d)
         ≡ drop 1 (from_place place (visible_of (Y.layered layers.old) paths.now d)) }
     ensures seen { IfSome result (λ p. IsVisible (Y.layered layers.old) paths.now d (numbers_of p)) }
-    ensures unchanged { Unchanged Y.layered Y.Stays layers.old layers.new }
+    ensures unchanged { Unchanged Y.Layers layers.old layers.new }
 {
     match place {
         Some(from) => walk_next(paths, layers, d, from, steps),
@@ -87,7 +87,7 @@ impl Merge {
         requires second { IsPath (Y.layered layers.old) paths.now e }
         ensures fault { result_err result ≡ merge_fault (Y.layered layers.old) d e }
         ensures begins { IfOk result (λ m. Begins (Y.layered layers.new) paths.now d e op m) }
-        ensures unchanged { Unchanged Y.layered Y.Stays layers.old layers.new }
+        ensures unchanged { Unchanged Y.Layers layers.old layers.new }
     {
         if !are_ordered(layers, d, e) {
             return Err(AlgebraFault::NotOrdered);
@@ -136,7 +136,7 @@ impl Merge {
     ) -> Option<(u32, Addr)>
         requires { IsMerge (Y.layered layers.old) paths.now self.old }
         ensures passes { Passes (Y.layered layers.old) paths.now left self.old self.new result }
-        ensures unchanged { Unchanged Y.layered Y.Stays layers.old layers.new }
+        ensures unchanged { Unchanged Y.Layers layers.old layers.new }
     {
         if left {
             let place = self.left;
@@ -165,7 +165,7 @@ impl Merge {
         ensures stands { IsStanding (Y.layered layers.new) self.new.d result }
         ensures merge { IsMerge (Y.layered layers.new) paths.now self.new }
         ensures same { IsOfSame self.old self.new }
-        ensures unchanged { Unchanged Y.layered Y.Stays layers.old layers.new }
+        ensures unchanged { Unchanged Y.Layers layers.old layers.new }
     {
         while let Some(turn) = self.turn(layers, steps) {
             let place = self.pass(paths, layers, turn.takes_left(self.op), steps);

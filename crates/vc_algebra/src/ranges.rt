@@ -3,9 +3,9 @@ ghost use Rattle.std.specs.Result.{result_err};
 ghost use Rattle.std.specs.List.{filter};
 ghost use Rattle.vc_base.specs.Prelude.{is_ordered};
 ghost use Rattle.vc_dtdisc.specs.Finding.{first_of};
-ghost use Rattle.vc_paths.specs.Layers.{Unchanged};
 ghost use Rattle.vc_paths.specs.Ordered.{IsEnd, IsStanding, StandsInLike, is_past, nearer, object_at, object_there};
 ghost use Rattle.vc_paths.specs.Path.{Answers, IsPath, IsPathBy, IsVisible, numbers_of, objects_of, visible_of};
+ghost use Rattle.vc_paths.specs.Unchanged.{Unchanged};
 ghost use Rattle.vc_paths.specs.Visible.{Seen};
 ghost use Rattle.vc_algebra.specs.Algebra.{is_from, is_over};
 ghost use Rattle.vc_algebra.specs.Faults.{range_fault};
@@ -26,7 +26,7 @@ fn first_from<Y: Ordered, L>(
     requires method { is_ordered ((Y.layered layers.old).layer e).method ≡ true }
     ensures found { IsEnd false (Y.layered layers.old) e
         (is_from ((Y.layered layers.old).layer e).rules (option_copied low.entry)) result }
-    ensures unchanged { Unchanged Y.layered Y.Stays layers.old layers.new }
+    ensures unchanged { Unchanged Y.Layers layers.old layers.new }
 {
     match low {
         Some(key) => layers.at_least(e, key, steps),
@@ -70,7 +70,7 @@ fn nearer_from<Y: Ordered, L>(
         (first_of (filter (is_from ((Y.layered layers.old).layer e).rules (option_copied low.entry))
         (objects_of (Y.layered layers.old) e))) }
     ensures stands { IsStanding (Y.layered layers.old) e result }
-    ensures unchanged { Unchanged Y.layered Y.Stays layers.old layers.new }
+    ensures unchanged { Unchanged Y.Layers layers.old layers.new }
 {
     match first_from(layers, e, low, steps) {
         Some(at) => {
@@ -97,7 +97,7 @@ fn nearest_from<Y: Ordered, L>(
     ensures found { Answers result (first_of (filter
         (is_from ((Y.layered layers.old).layer d).rules (option_copied low.entry))
         (visible_of (Y.layered layers.old) paths.now d))) }
-    ensures unchanged { Unchanged Y.layered Y.Stays layers.old layers.new }
+    ensures unchanged { Unchanged Y.Layers layers.old layers.new }
 {
     paths.show_invariant();
     let mut best = None;
@@ -151,7 +151,7 @@ pub fn range_first<Y: Ordered, L>(
     ensures found { IfOk result (λ o. IsRangeFirst (Y.layered layers.old) paths.now d
         (option_copied low.entry) (option_copied high.entry) o) }
     ensures goes_on { IfOk result (λ o. IsRangeAt (Y.layered layers.new) paths.now d o) }
-    ensures unchanged { Unchanged Y.layered Y.Stays layers.old layers.new }
+    ensures unchanged { Unchanged Y.Layers layers.old layers.new }
 {
     if !layers.method(d).is_ordered() {
         return Err(AlgebraFault::NotOrdered);
@@ -176,7 +176,7 @@ pub fn range_next<Y: Ordered, L>(
     ensures found { IsRangeNext (Y.layered layers.old) paths.now d from (option_copied high.entry)
         result }
     ensures goes_on { IsRangeAt (Y.layered layers.new) paths.now d result }
-    ensures unchanged { Unchanged Y.layered Y.Stays layers.old layers.new }
+    ensures unchanged { Unchanged Y.Layers layers.old layers.new }
 {
     let next = walk_next(paths, layers, d, from, steps);
     up_to(layers, next, high, steps)

@@ -26,11 +26,6 @@ pub record Same (old new : Layered) : Type 0 where
   pub has : (d : ℕ) → old.Has d → new.Has d
   pub layers : new.layer ≡ old.layer
 
--- from one state of a store of layers to another one each is as it was, and so is what doesn't show in them
-pub record Unchanged {L : Type 0} (layered : L → Layered) (Stays : L → L → Type 0) (old new : L) : Type 0 where
-  pub layers : Same (layered old) (layered new)
-  pub stays : Stays old new
-
 -- the object at an address, and its bytes
 abbrev pub stands_at : ℕ → Object → Bool
 stands_at at o = o.at == at

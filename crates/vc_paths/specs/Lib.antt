@@ -6,5 +6,6 @@ pub mod Path
 pub mod Rows
 pub mod Seek
 pub mod Shown
+pub mod Unchanged
 pub mod View
 pub mod Visible

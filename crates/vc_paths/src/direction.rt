@@ -3,8 +3,9 @@ ghost use Rattle.std.specs.Prelude.{◌≡◌, ℕ, IsSome, List, Some};
 ghost use Rattle.std.specs.Option.{option_map};
 ghost use Rattle.vc_base.specs.Prelude.{number_of};
 ghost use Rattle.vc_paths.specs.Direction.{end_of, place_beside, place_past};
-ghost use Rattle.vc_paths.specs.Layers.{Unchanged, bytes_there, place_in};
+ghost use Rattle.vc_paths.specs.Layers.{bytes_there, place_in};
 ghost use Rattle.vc_paths.specs.Ordered.{CanSeek};
+ghost use Rattle.vc_paths.specs.Unchanged.{Unchanged};
 
 use crate::Layers;
 use vc_base::{Addr, Steps};
@@ -51,7 +52,7 @@ pub(crate) fn past_like<Y: Layers, L>(
         → bytes_there at.0 ((Y.layered layers.old).layer of).objects ≡ Some bytes
         → option_map number_of result ≡ place_past back ((Y.layered layers.old).layer d).rules
         bytes ((Y.layered layers.old).layer d).objects }
-    ensures unchanged { Unchanged Y.layered Y.Stays layers.old layers.new }
+    ensures unchanged { Unchanged Y.Layers layers.old layers.new }
 {
     if back {
         layers.before_like(d, of, at, steps)

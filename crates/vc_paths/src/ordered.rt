@@ -1,9 +1,9 @@
 ghost use Rattle.std.specs.Prelude.{◌≡◌, ℕ, true, not, Some};
 ghost use Rattle.std.specs.List.{filter};
 ghost use Rattle.vc_paths.specs.Direction.{end_of, neighbour};
-ghost use Rattle.vc_paths.specs.Layers.{Unchanged};
 ghost use Rattle.vc_paths.specs.Ordered.{CanSeek, IsApart, IsEnd, IsStanding, StandsInLike, if_level, is_past, nearer, place_in_dict, object_at, object_there};
 ghost use Rattle.vc_paths.specs.Path.{Answers, IsPathBy, IsVisible, is_at, numbers_of, objects_of, visible_of};
+ghost use Rattle.vc_paths.specs.Unchanged.{Unchanged};
 ghost use Rattle.vc_paths.specs.Visible.{Seen};
 
 use crate::direction::{beside, end_of, past_like};
@@ -50,7 +50,7 @@ fn first_past<Y: Layers, L>(
     requires apart { IsApart back (Y.layered layers.old) other }
     ensures found { IsEnd back (Y.layered layers.old) e (is_past back ((Y.layered layers.old).layer e).rules
         (object_at (Y.layered layers.old) other)) result }
-    ensures unchanged { Unchanged Y.layered Y.Stays layers.old layers.new }
+    ensures unchanged { Unchanged Y.Layers layers.old layers.new }
 {
     match other {
         Some((f, mark)) => {
@@ -82,7 +82,7 @@ fn nearer_with<Y: Layers, L>(
         (is_past back ((Y.layered layers.old).layer e).rules (object_at (Y.layered layers.old) other))
         (objects_of (Y.layered layers.old) e))) }
     ensures stands { IsStanding (Y.layered layers.old) e result }
-    ensures unchanged { Unchanged Y.layered Y.Stays layers.old layers.new }
+    ensures unchanged { Unchanged Y.Layers layers.old layers.new }
 {
     match first_past(layers, back, e, other, steps) {
         Some(at) => {
@@ -112,7 +112,7 @@ fn nearest_past<Y: Layers, L>(
     ensures found { Answers result (end_of back (filter
         (is_past back ((Y.layered layers.old).layer d).rules (object_at (Y.layered layers.old) other))
         (visible_of (Y.layered layers.old) paths.now d))) }
-    ensures unchanged { Unchanged Y.layered Y.Stays layers.old layers.new }
+    ensures unchanged { Unchanged Y.Layers layers.old layers.new }
 {
     paths.show_invariant();
     let mut best = None;
@@ -161,7 +161,7 @@ pub(crate) fn end<Y: Layers, L>(
 ) -> Option<(u32, Addr)>
     requires { IsPathBy true (Y.layered layers.old) paths.now d }
     ensures found { Answers result (end_of back (visible_of (Y.layered layers.old) paths.now d)) }
-    ensures unchanged { Unchanged Y.layered Y.Stays layers.old layers.new }
+    ensures unchanged { Unchanged Y.Layers layers.old layers.new }
 {
     nearest_past(paths, layers, back, d, None, steps)
 }
@@ -179,7 +179,7 @@ pub(crate) fn walk<Y: Layers, L>(
     requires from { IsVisible (Y.layered layers.old) paths.now d (numbers_of from) }
     ensures found { Answers result (neighbour back (is_at (numbers_of from))
         (visible_of (Y.layered layers.old) paths.now d)) }
-    ensures unchanged { Unchanged Y.layered Y.Stays layers.old layers.new }
+    ensures unchanged { Unchanged Y.Layers layers.old layers.new }
 {
     let next = beside(layers, back, from.0, from.1);
     match matching(layers, from, next, steps) {

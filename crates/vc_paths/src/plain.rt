@@ -3,9 +3,10 @@ ghost use Rattle.std.specs.List.{flat_map};
 ghost use Rattle.vc_base.specs.Prelude.{number_of};
 ghost use Rattle.vc_dtdisc.specs.Finding.{first_of, last_of};
 ghost use Rattle.vc_paths.specs.Direction.{end_of, neighbour, objects_left};
-ghost use Rattle.vc_paths.specs.Layers.{Unchanged, bytes_there, place_in};
+ghost use Rattle.vc_paths.specs.Layers.{bytes_there, place_in};
 ghost use Rattle.vc_paths.specs.Path.{Answers, IsPathBy, IsVisible, is_at, numbers_of, visible_of};
 ghost use Rattle.vc_paths.specs.Shown.{IsLayerOn, IsOnPath, IsPlaceIn, above, down, has_match, is_covered, unhidden_objects, shown_in};
+ghost use Rattle.vc_paths.specs.Unchanged.{Unchanged};
 
 use crate::direction::{beside, end_of};
 use crate::paths::is_link_to;
@@ -21,7 +22,7 @@ fn has_like<Y: Layers, L>(layers: &mut Y, u: u32, e: u32, at: Addr, steps: &mut 
     ensures found { (bytes : List ℕ)
         → bytes_there at.0 ((Y.layered layers.old).layer e).objects ≡ Some bytes
         → result ≡ has_match (Y.layered layers.old) u bytes u }
-    ensures unchanged { Unchanged Y.layered Y.Stays layers.old layers.new }
+    ensures unchanged { Unchanged Y.Layers layers.old layers.new }
 {
     layers.find_like(u, e, at, steps).is_some()
 }
@@ -40,7 +41,7 @@ fn is_hidden<Y: Layers, L>(
     ensures hidden { (bytes : List ℕ)
         → bytes_there at.0 ((Y.layered layers.old).layer e).objects ≡ Some bytes
         → result ≡ is_covered (Y.layered layers.old) paths.now d e bytes }
-    ensures unchanged { Unchanged Y.layered Y.Stays layers.old layers.new }
+    ensures unchanged { Unchanged Y.Layers layers.old layers.new }
 {
     paths.show_invariant();
     let mut upper = Some(d);
@@ -71,7 +72,7 @@ fn seen_along<Y: Layers, L>(
     ensures found { option_map number_of result ≡ place_in (end_of back (unhidden_objects
         (Y.layered layers.old) paths.now d e (objects_left back (option_map number_of at)
         ((Y.layered layers.old).layer e).objects))) }
-    ensures unchanged { Unchanged Y.layered Y.Stays layers.old layers.new }
+    ensures unchanged { Unchanged Y.Layers layers.old layers.new }
 {
     let mut here = at;
     while let Some(place) = here {
@@ -105,7 +106,7 @@ fn end_in<Y: Layers, L>(
     requires { IsLayerOn (Y.layered layers.old) paths.now d e }
     ensures found { option_map numbers_of result
         ≡ end_of back (shown_in (Y.layered layers.old) paths.now d e) }
-    ensures unchanged { Unchanged Y.layered Y.Stays layers.old layers.new }
+    ensures unchanged { Unchanged Y.Layers layers.old layers.new }
 {
     let start = end_of(layers, back, e);
     placed(e, seen_along(paths, layers, back, d, e, start, steps))
@@ -123,7 +124,7 @@ fn first_below<Y: Layers, L>(
     requires from { IsOnPath (Y.layered layers.old) paths.now d from }
     ensures found { option_map numbers_of result
         ≡ first_of (flat_map (shown_in (Y.layered layers.old) paths.now d) (down paths.now from)) }
-    ensures unchanged { Unchanged Y.layered Y.Stays layers.old layers.new }
+    ensures unchanged { Unchanged Y.Layers layers.old layers.new }
 {
     paths.show_invariant();
     let mut layer = from;
@@ -148,7 +149,7 @@ fn last_above<Y: Layers, L>(
     requires path { IsOnPath (Y.layered layers.old) paths.now d (Some d) }
     ensures found { option_map numbers_of result ≡ last_of (flat_map
         (shown_in (Y.layered layers.old) paths.now d) (above end (down paths.now (Some d)))) }
-    ensures unchanged { Unchanged Y.layered Y.Stays layers.old layers.new }
+    ensures unchanged { Unchanged Y.Layers layers.old layers.new }
 {
     paths.show_invariant();
     let mut best = None;
@@ -173,7 +174,7 @@ pub(crate) fn end<Y: Layers, L>(
 ) -> Option<(u32, Addr)>
     requires { IsPathBy false (Y.layered layers.old) paths.now d }
     ensures found { Answers result (end_of back (visible_of (Y.layered layers.old) paths.now d)) }
-    ensures unchanged { Unchanged Y.layered Y.Stays layers.old layers.new }
+    ensures unchanged { Unchanged Y.Layers layers.old layers.new }
 {
     paths.show_invariant();
     if back {
@@ -196,7 +197,7 @@ pub(crate) fn walk<Y: Layers, L>(
     requires from { IsVisible (Y.layered layers.old) paths.now d (numbers_of from) }
     ensures found { Answers result (neighbour back (is_at (numbers_of from))
         (visible_of (Y.layered layers.old) paths.now d)) }
-    ensures unchanged { Unchanged Y.layered Y.Stays layers.old layers.new }
+    ensures unchanged { Unchanged Y.Layers layers.old layers.new }
 {
     paths.show_invariant();
     let (e, at) = from;

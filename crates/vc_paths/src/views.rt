@@ -2,10 +2,10 @@ ghost use Rattle.std.specs.Prelude.{◌≡◌, None};
 ghost use Rattle.std.specs.List.{find};
 ghost use Rattle.vc_dtdisc.specs.Finding.{before_first, behind_last, first_of, last_of};
 ghost use Rattle.vc_paths.specs.Direction.{end_of, neighbour};
-ghost use Rattle.vc_paths.specs.Layers.{Unchanged};
 ghost use Rattle.vc_paths.specs.Links.{below};
 ghost use Rattle.vc_paths.specs.Path.{Answers, IsPath, IsVisible, is_at, numbers_of, visible_of};
 ghost use Rattle.vc_paths.specs.Seek.{has_key_in};
+ghost use Rattle.vc_paths.specs.Unchanged.{Unchanged};
 
 use crate::direction::beside;
 use crate::plain::placed;
@@ -25,7 +25,7 @@ pub fn search<Y: Layers, L>(
     requires { IsPath (Y.layered layers.old) paths.now d }
     ensures found { Answers result (find (has_key_in (Y.layered layers.old) d key.now)
         (visible_of (Y.layered layers.old) paths.now d)) }
-    ensures unchanged { Unchanged Y.layered Y.Stays layers.old layers.new }
+    ensures unchanged { Unchanged Y.Layers layers.old layers.new }
 {
     paths.show_invariant();
     let mut at = Some(d);
@@ -48,7 +48,7 @@ fn end<Y: Layers, L>(
 ) -> Option<(u32, Addr)>
     requires { IsPath (Y.layered layers.old) paths.now d }
     ensures found { Answers result (end_of back (visible_of (Y.layered layers.old) paths.now d)) }
-    ensures unchanged { Unchanged Y.layered Y.Stays layers.old layers.new }
+    ensures unchanged { Unchanged Y.Layers layers.old layers.new }
 {
     if layers.method(d).is_ordered() {
         ordered::end(paths, layers, back, d, steps)
@@ -68,7 +68,7 @@ pub fn first<Y: Layers, L>(
     requires { IsPath (Y.layered layers.old) paths.now d }
     ensures found { Answers result
         (first_of (visible_of (Y.layered layers.old) paths.now d)) }
-    ensures unchanged { Unchanged Y.layered Y.Stays layers.old layers.new }
+    ensures unchanged { Unchanged Y.Layers layers.old layers.new }
 {
     end(paths, layers, false, d, steps)
 }
@@ -84,7 +84,7 @@ pub fn last<Y: Layers, L>(
     requires { IsPath (Y.layered layers.old) paths.now d }
     ensures found { Answers result
         (last_of (visible_of (Y.layered layers.old) paths.now d)) }
-    ensures unchanged { Unchanged Y.layered Y.Stays layers.old layers.new }
+    ensures unchanged { Unchanged Y.Layers layers.old layers.new }
 {
     end(paths, layers, true, d, steps)
 }
@@ -103,7 +103,7 @@ fn walk<Y: Layers, L>(
     ensures found { Answers result (neighbour back (is_at (numbers_of from))
         (visible_of (Y.layered layers.old) paths.now d)) }
     ensures alone { below paths.now d ≡ None → steps.new ≡ steps.old }
-    ensures unchanged { Unchanged Y.layered Y.Stays layers.old layers.new }
+    ensures unchanged { Unchanged Y.Layers layers.old layers.new }
 {
     if paths.below(d).is_none() {
         placed(d, beside(layers, back, d, from.1))
@@ -128,7 +128,7 @@ pub fn walk_next<Y: Layers, L>(
     ensures found { Answers result (behind_last (is_at (numbers_of from))
         (visible_of (Y.layered layers.old) paths.now d)) }
     ensures alone { below paths.now d ≡ None → steps.new ≡ steps.old }
-    ensures unchanged { Unchanged Y.layered Y.Stays layers.old layers.new }
+    ensures unchanged { Unchanged Y.Layers layers.old layers.new }
 {
     walk(paths, layers, false, d, from, steps)
 }
@@ -145,7 +145,7 @@ pub fn next<Y: Layers, L>(
     requires { IsPath (Y.layered layers.old) paths.now d }
     ensures found { Answers result (behind_last (has_key_in (Y.layered layers.old) d key.now)
         (visible_of (Y.layered layers.old) paths.now d)) }
-    ensures unchanged { Unchanged Y.layered Y.Stays layers.old layers.new }
+    ensures unchanged { Unchanged Y.Layers layers.old layers.new }
 {
     match search(paths, layers, d, key, steps) {
         Some(from) => {
@@ -168,7 +168,7 @@ pub fn prev<Y: Layers, L>(
     requires { IsPath (Y.layered layers.old) paths.now d }
     ensures found { Answers result (before_first (has_key_in (Y.layered layers.old) d key.now)
         (visible_of (Y.layered layers.old) paths.now d)) }
-    ensures unchanged { Unchanged Y.layered Y.Stays layers.old layers.new }
+    ensures unchanged { Unchanged Y.Layers layers.old layers.new }
 {
     match search(paths, layers, d, key, steps) {
         Some(from) => walk(paths, layers, true, d, from, steps),

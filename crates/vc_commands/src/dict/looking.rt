@@ -1,9 +1,10 @@
 ghost use Rattle.std.specs.Prelude.{◌≡◌, ◌==◌, Some, None, true, IfOk, IsSome, map, if◌then◌else◌};
 ghost use Rattle.std.specs.Option.{option_map};
 ghost use Rattle.vc_base.specs.Prelude.{number_of};
-ghost use Rattle.vc_paths.specs.Layers.{Unchanged, bytes_there};
+ghost use Rattle.vc_paths.specs.Layers.{bytes_there};
 ghost use Rattle.vc_paths.specs.Ordered.{IsStanding, object_at};
 ghost use Rattle.vc_paths.specs.Path.{Answers, IsPath, visible_of};
+ghost use Rattle.vc_paths.specs.Unchanged.{Unchanged};
 ghost use Rattle.vc_paths.specs.Visible.{seen_bytes};
 ghost use Rattle.vc_commands.specs.DictCommands.{is_object};
 ghost use Rattle.vc_commands.specs.Looking.{found_by, found_reply, is_askable, is_look, look_place, look_reply, own_place};
@@ -88,7 +89,7 @@ fn found<Y: Layers, D: DictDisc>(
     requires rules { D.rules kind.now ≡ ((Y.layered layers.old).layer d).rules }
     ensures found { Answers result (found_by (D.rules kind.now) command.now
         (visible_of (Y.layered layers.old) paths.now d)) }
-    ensures unchanged { Unchanged Y.layered Y.Stays layers.old layers.new }
+    ensures unchanged { Unchanged Y.Layers layers.old layers.new }
 {
     let mut steps = Steps::<Uncounted>::new(alloc);
     match command {
@@ -120,7 +121,7 @@ fn walk<Y: Layers>(
     requires { IsPath (Y.layered layers.old) paths.now d }
     ensures reply { IfOk result (λ reply. reply ≡ Reply.Objects
         (map seen_bytes (visible_of (Y.layered layers.old) paths.now d))) }
-    ensures unchanged { Unchanged Y.layered Y.Stays layers.old layers.new }
+    ensures unchanged { Unchanged Y.Layers layers.old layers.new }
 {
     paths.show_invariant();
     let mut steps = Steps::<Uncounted>::new(alloc);
@@ -155,7 +156,7 @@ pub fn look<Y: Layers, D: DictDisc>(
         ≡ look_place (λ e. e == d) (D.rules kind.now) command.now
         (visible_of (Y.layered layers.old) paths.now d)) }
 
-    ensures unchanged { Unchanged Y.layered Y.Stays layers.old layers.new }
+    ensures unchanged { Unchanged Y.Layers layers.old layers.new }
 {
     if !is_askable(command) {
         return Ok((Reply::Refused(Refusal::Size), None));

@@ -1,5 +1,6 @@
 use Rattle.vc_base.proofs.Common.{ℕ, List, ◌++◌, ap, ◌∙◌}
-use Rattle.vc_paths.specs.Layers.{Layer, Layered, Unchanged}
+use Rattle.vc_paths.specs.Layers.{Layer, Layered}
+use Rattle.vc_paths.specs.Unchanged.{Unchanged}
 use Rattle.vc_paths.specs.Path.{visible_of}
 use Rattle.vc_paths.specs.Visible.{Seen}
 use Rattle.vc_paths.proofs.StayLemmas.{same-over}
@@ -12,7 +13,7 @@ use Rattle.ranges.proofs.show.put_meet.Given.{Over}
 use Rattle.ranges.proofs.show.put_meet.Goals as goal
 
 -- one call after others
-over : (g : Over) (a b c : g.row.Y.Denot) → Unchanged g.Y.Layers.layered g.Y.Layers.Stays a b → Unchanged g.Y.Layers.layered g.Y.Layers.Stays b c → Unchanged g.Y.Layers.layered g.Y.Layers.Stays a c
+over : (g : Over) (a b c : g.row.Y.Denot) → Unchanged g.Y.Layers a b → Unchanged g.Y.Layers b c → Unchanged g.Y.Layers a c
 over g a b c p q = record { layers = same-over p.layers q.layers; stays = g.met.Y.Layers.transitive a b c p.stays q.stays }
 
 abbrev bare : (ℕ → Layer) → Layered

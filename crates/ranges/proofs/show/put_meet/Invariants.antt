@@ -1,5 +1,5 @@
 use Rattle.vc_base.proofs.Common.{◌≡◌, ◌++◌, length}
-use Rattle.vc_paths.specs.Layers.{Unchanged}
+use Rattle.vc_paths.specs.Unchanged.{Unchanged}
 use Rattle.vc_paths.specs.Path.{visible_of}
 use Rattle.vc_algebra.specs.Algebra.{meet}
 use Rattle.vc_algebra.specs.ToCome.{IsMerge, to_come}
@@ -12,7 +12,7 @@ invariant-loop-place g l =
     let all = g.Y.Layers.layered l.fn.layers in
     record {
       merge : IsMerge (g.Y.Layers.layered l.layers) l.paths l.meet;
-      unchanged : Unchanged g.Y.Layers.layered g.Y.Layers.Stays l.fn.layers l.layers;
+      unchanged : Unchanged g.Y.Layers l.fn.layers l.layers;
       left : l.lines.items ++ lines_of (to_come (g.Y.Layers.layered l.layers) l.paths l.meet)
           ≡ l.fn.lines.items ++ lines_of (meet (all.layer l.d).rules (visible_of all l.paths l.d) (visible_of all l.paths l.e));
     }

@@ -1,5 +1,6 @@
 use Rattle.vc_base.proofs.Common.{◌<◌, ℕ, ◌++◌, drop, length, Some, sym, refl, ap, ◌∙◌, subst}
-use Rattle.vc_paths.specs.Layers.{Layer, Layered, Unchanged}
+use Rattle.vc_paths.specs.Layers.{Layer, Layered}
+use Rattle.vc_paths.specs.Unchanged.{Unchanged}
 use Rattle.vc_paths.specs.Path.{numbers_of, visible_of}
 use Rattle.vc_paths.proofs.StayLemmas.{same-over}
 use Rattle.vc_algebra.specs.Algebra.{range}
@@ -11,7 +12,7 @@ use Rattle.ranges.proofs.show.put_range.Given.{Over}
 use Rattle.ranges.proofs.show.put_range.Goals as goal
 
 -- one call after others
-over : (g : Over) (a b c : g.row.Y.Denot) → Unchanged g.Y.Layers.layered g.Y.Layers.Stays a b → Unchanged g.Y.Layers.layered g.Y.Layers.Stays b c → Unchanged g.Y.Layers.layered g.Y.Layers.Stays a c
+over : (g : Over) (a b c : g.row.Y.Denot) → Unchanged g.Y.Layers a b → Unchanged g.Y.Layers b c → Unchanged g.Y.Layers a c
 over g a b c p q = record { layers = same-over p.layers q.layers; stays = g.met.Y.Layers.transitive a b c p.stays q.stays }
 
 pub loop-next-smaller : goal.loop-next-smaller

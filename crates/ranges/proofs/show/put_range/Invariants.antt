@@ -1,5 +1,5 @@
 use Rattle.vc_base.proofs.Common.{◌≡◌, ℕ, List, ◌++◌, Some, length}
-use Rattle.vc_paths.specs.Layers.{Unchanged}
+use Rattle.vc_paths.specs.Unchanged.{Unchanged}
 use Rattle.vc_paths.specs.Path.{visible_of}
 use Rattle.vc_paths.specs.Visible.{Seen}
 use Rattle.vc_algebra.specs.Algebra.{range}
@@ -15,7 +15,7 @@ invariant-loop-next g l =
     let all = g.Y.Layers.layered l.fn.layers in
     record {
       at : IsRangeAt (g.Y.Layers.layered l.layers) l.paths l.d l.next;
-      unchanged : Unchanged g.Y.Layers.layered g.Y.Layers.Stays l.fn.layers l.layers;
+      unchanged : Unchanged g.Y.Layers l.fn.layers l.layers;
       left : (ys : List (Seen ℕ)) × RangeLeft all l.paths l.d (Some l.high) l.next ys
           × (l.lines.items ++ lines_of ys ≡ l.fn.lines.items ++ lines_of (range (all.layer l.d).rules (Some l.low) (Some l.high) (visible_of all l.paths l.d)));
     }
