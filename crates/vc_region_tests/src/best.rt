@@ -1,4 +1,5 @@
 mod calls;
 mod filled;
+mod growth;
 mod large;
 mod places;
