@@ -2,7 +2,7 @@
 use Rattle.vc_base.proofs.Common.{◌≡◌, ℕ, min, Bool, List, [], ℤ, Some, None, Option, refl, best_alloc, without_block_at, is_occupied, Terms, if_latest, last_alloc, last_resize, latest, Block, Layout, is_at, Done, NotLast, Outcome, Refused, done_as, pool_alloc, pool_resize, best_resize}
 use Rattle.vc_audit.specs.Debug.{guarded_place, guarded_size, user_size}
 use Rattle.vc_audit.specs.Profile.{with_site}
-use Rattle.vc_region.specs.Region.{OfBest, OfPool, OfLast, OfDebug, OfProfile, Region, region_align, region_alloc, region_clear, region_compact, region_free, region_poke, region_resize, region_watch, region_write, segments_of}
+use Rattle.vc_region.specs.Region.{OfBest, OfPool, OfLast, OfDebug, OfProfile, Region, region_align, region_alloc, region_compact, region_free, region_poke, region_resize, region_watch, segments_of}
 use Rattle.vc_counts.proofs.GrantedSegments.{Lends, lends-kept}
 use Rattle.vc_counts.proofs.RegionLends.{PutsIn, either, in-best, in-guards, in-last, in-pool, in-profile, in-resized, puts-best, puts-last, puts-latest, puts-pool, puts-resize, puts-sized}
 

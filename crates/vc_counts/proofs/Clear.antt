@@ -1,5 +1,5 @@
 -- A best region puts a block where none stands.
-use Rattle.vc_base.proofs.Common.{◌≡◌, ℕ, zero, suc, ◌+◌, ◌-◌, ◌<◌, ◌≤◌, Bool, true, false, cond, eqb, ◌≢◌, List, [], ◌∷◌, ◌++◌, length, get_or, get_or_default, nat_le, nat_lt, Some, None, All, Contains, filter, Option, option_map, sym, refl, ap, ◌∙◌, subst, ⊎_elim, true≢false, arith, eq-eqb, eqb-true, leb-true, and_parts, cases_Bool, or_parts, All-append, All-cons, All-filter, All-head, All-nil, All-tail, All-weaker, filter_passes, none-some, same_Some, list_any, best_alloc, best_need, place_in, put_in_new, put_or_ask, zeros, Terms, Run, gaps, Block, Layout, footprint, footprints, is_at, with_grant, Done, Outcome, Put, Refused, holds, lowest_offset, Asked, Grant, Granted, NotLent, TooMany, ask, lowest_unused, new_segment, numbers, span, unused_from, HaveOwnNumbers, IsUsable}
+use Rattle.vc_base.proofs.Common.{◌≡◌, ℕ, zero, suc, ◌+◌, ◌-◌, ◌<◌, ◌≤◌, Bool, true, false, cond, eqb, ◌≢◌, List, [], ◌∷◌, ◌++◌, length, get_or, get_or_default, nat_le, nat_lt, Some, None, All, Contains, filter, Option, sym, refl, ap, ◌∙◌, subst, ⊎_elim, true≢false, arith, eq-eqb, eqb-true, leb-true, and_parts, cases_Bool, or_parts, All-append, All-cons, All-filter, All-head, All-nil, All-tail, All-weaker, filter_passes, none-some, list_any, best_alloc, best_need, place_in, put_in_new, put_or_ask, zeros, Terms, Run, gaps, Block, Layout, footprint, footprints, is_at, with_grant, Done, Outcome, Put, Refused, holds, lowest_offset, Asked, Grant, Granted, NotLent, TooMany, ask, lowest_unused, new_segment, numbers, span, unused_from, HaveOwnNumbers, IsUsable}
 use Rattle.std.proofs.lemmas.List.Elements.{All-contains_itself}
 use Rattle.vc_best.proofs.Gaps.{least-from}
 use Rattle.vc_layouts.proofs.Lists.{AllPairs-append}
@@ -102,44 +102,48 @@ module _ {L : Type 0} (r : Layout L) (lawful : AreLawful r.segments (footprints 
       }
 
 -- with more bytes in the last segment
-longer-number : (more : ℕ) (ss : List (ℕ × ℕ)) (k : ℕ) (d : ℕ × ℕ) → (get_or (with_more more ss) k d).0 ≡ (get_or ss k d).0
-longer-number more [] k d = refl
-longer-number more (s ∷ []) zero d = refl
-longer-number more (s ∷ []) (suc k) d = refl
-longer-number more (s ∷ t ∷ ss) zero d = refl
-longer-number more (s ∷ t ∷ ss) (suc k) d = longer-number more (t ∷ ss) k d
+longer-number : (bytes : ℕ) (ss : List (ℕ × ℕ)) (k : ℕ) (d : ℕ × ℕ) → (get_or (with_more bytes ss) k d).0 ≡ (get_or ss k d).0
+longer-number bytes [] k d = refl
+longer-number bytes (s ∷ []) zero d = refl
+longer-number bytes (s ∷ []) (suc k) d = refl
+longer-number bytes (s ∷ t ∷ ss) zero d = refl
+longer-number bytes (s ∷ t ∷ ss) (suc k) d = longer-number bytes (t ∷ ss) k d
 
-longer-size : (more : ℕ) (ss : List (ℕ × ℕ)) (k : ℕ) (d : ℕ × ℕ) → (get_or ss k d).1 ≤ (get_or (with_more more ss) k d).1
-longer-size more [] k d = omega arith
-longer-size more (s ∷ []) zero d = omega arith
-longer-size more (s ∷ []) (suc k) d = omega arith
-longer-size more (s ∷ t ∷ ss) zero d = omega arith
-longer-size more (s ∷ t ∷ ss) (suc k) d = longer-size more (t ∷ ss) k d
+longer-size : (bytes : ℕ) (ss : List (ℕ × ℕ)) (k : ℕ) (d : ℕ × ℕ) → (get_or ss k d).1 ≤ (get_or (with_more bytes ss) k d).1
+longer-size bytes [] k d = omega arith
+longer-size bytes (s ∷ []) zero d = omega arith
+longer-size bytes (s ∷ []) (suc k) d = omega arith
+longer-size bytes (s ∷ t ∷ ss) zero d = omega arith
+longer-size bytes (s ∷ t ∷ ss) (suc k) d = longer-size bytes (t ∷ ss) k d
 
-module _ (more : ℕ) (ss : List (ℕ × ℕ)) where
-  own-longer : HaveOwnNumbers ss → HaveOwnNumbers (with_more more ss)
+module _ (bytes : ℕ) (ss : List (ℕ × ℕ)) where
+  own-longer : HaveOwnNumbers ss → HaveOwnNumbers (with_more bytes ss)
   own-longer own =
-      let long = more-many ss more in
+      let long = more-many ss bytes in
       record {
-        first = λ k d within. subst (λ n. 1 ≤ n) (sym (longer-number more ss k d)) (own.first k d (omega (arith, long, within)));
-        distinct = λ i j d lt within e. own.distinct i j d lt (omega (arith, long, within)) (sym (longer-number more ss i d) ∙ (e ∙ longer-number more ss j d));
+        first = λ k d within. subst (λ n. 1 ≤ n) (sym (longer-number bytes ss k d)) (own.first k d (omega (arith, long, within)));
+        distinct = λ i j d lt within e. own.distinct i j d lt (omega (arith, long, within)) (sym (longer-number bytes ss i d) ∙ (e ∙ longer-number bytes ss j d));
       }
 
-  usable-longer : (f : Run) → IsUsable ss f → IsUsable (with_more more ss) f
-  usable-longer f (k, x, within, same, number, from, to) =
-      let long = more-many ss more in
-      let inside : k < length (with_more more ss) = omega (arith, long, within) in
-      let size = longer-size more ss k x in
-      let had : (get_or ss k x).1 ≡ x.1 = ap (λ s. s.1) same in
-      (k, get_or (with_more more ss) k x, inside, get_or_default (with_more more ss) k (get_or (with_more more ss) k x) x inside,
-      number ∙ (ap (λ s. s.0) (sym same) ∙ sym (longer-number more ss k x)), from, omega (arith, to, size, had))
+  usable-longer : (f : Run) → IsUsable ss f → IsUsable (with_more bytes ss) f
+  usable-longer f (k, x, within, same, (number, from, to)) =
+      let long = more-many ss bytes in
+      let inside : k < length (with_more bytes ss) = omega (arith, long, within) in
+      let size = longer-size bytes ss k x in
+      let had : (get_or ss k x).1 ≡ x.1 = ap (λ s. s.1) same in (
+        k,
+        get_or (with_more bytes ss) k x,
+        inside,
+        get_or_default (with_more bytes ss) k (get_or (with_more bytes ss) k x) x inside,
+        (number ∙ (ap (λ s. s.0) (sym same) ∙ sym (longer-number bytes ss k x)), from, omega (arith, to, size, had)),
+      )
 
-  lawful-longer : (fs : List Run) → AreLawful ss fs → AreLawful (with_more more ss) fs
+  lawful-longer : (fs : List Run) → AreLawful ss fs → AreLawful (with_more bytes ss) fs
   lawful-longer fs lawful =
       record {
         numbered = own-longer lawful.numbered;
         some = lawful.some;
-        usable = All-weaker (IsUsable ss) (IsUsable (with_more more ss)) usable-longer fs lawful.usable;
+        usable = All-weaker (IsUsable ss) (IsUsable (with_more bytes ss)) usable-longer fs lawful.usable;
         apart = lawful.apart;
       }
 

@@ -1,5 +1,5 @@
 -- What a command on a dictionary lends: the segments that it is granted stand behind those of the region.
-use Rattle.vc_base.proofs.Common.{◌≡◌, ℕ, Bool, true, false, cond, List, [], ◌∷◌, ◌++◌, length, ◌==◌, Some, None, Option, refl, ◌∙◌, has_table, is_list, method_number, Terms, Layout, Outcome, Put}
+use Rattle.vc_base.proofs.Common.{◌≡◌, ℕ, Bool, true, false, cond, List, [], ◌∷◌, length, ◌==◌, Some, None, Option, refl, ◌∙◌, has_table, is_list, method_number, Terms, Layout, Outcome, Put}
 use Rattle.vc_base.specs.declared.dict_method.DictMethod.{DictMethod}
 use Rattle.vc_commands.specs.DictCommands.{append_in, delete_in, in_dict, insert_in, is_for_object, is_for_table, is_object, put_object, put_unless, removed_as, standing, turned_as}
 use Rattle.vc_commands.specs.Seat.{DictChanged, Seat, seat_with_refusal}

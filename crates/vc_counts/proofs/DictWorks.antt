@@ -1,5 +1,5 @@
 -- What a command that opens a dictionary, or that works on one, does to what is read of it.
-use Rattle.vc_base.proofs.Common.{◌≡◌, ℕ, ◌+◌, Bool, true, false, cond, List, [], ◌∷◌, ◌++◌, Some, None, Option, sym, refl, ap, ◌∙◌, subst, append-nil, arith, ∥∥₁_elim, ℕ_set, none-some, same_Some, bytes_eq-Decides, list_any, Layout, Outcome, Grant}
+use Rattle.vc_base.proofs.Common.{◌≡◌, ℕ, ◌+◌, Bool, true, false, cond, List, [], ◌∷◌, ◌++◌, Some, None, Option, sym, refl, ap, ◌∙◌, subst, arith, ∥∥₁_elim, ℕ_set, none-some, same_Some, bytes_eq-Decides, list_any, Layout, Outcome, Grant}
 use Rattle.vc_base.specs.declared.dict_method.DictMethod.{DictMethod}
 use Rattle.vc_commands.specs.DictCommands.{in_dict, is_for_table, table_refusal}
 use Rattle.vc_commands.specs.Home.{Home, Label}

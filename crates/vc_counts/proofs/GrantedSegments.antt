@@ -1,5 +1,5 @@
 -- What is granted to a region, in new segments behind those there or in the last of them, and segments that it gives back.
-use Rattle.vc_base.proofs.Common.{◌≡◌, ℕ, zero, suc, ◌+◌, ◌-◌, ◌<◌, ◌≤◌, ◌⊎◌, Bool, true, false, cond, List, [], ◌∷◌, ◌++◌, map, length, get_or, drop, sum, count_by, filter, sym, refl, ap, ◌∙◌, subst, inl, inr, ⊎_elim, cases_Bool, arith, sum-map, sum_by-cons, Grant}
+use Rattle.vc_base.proofs.Common.{◌≡◌, ℕ, zero, suc, ◌+◌, ◌-◌, ◌<◌, ◌≤◌, ◌⊎◌, Bool, true, false, cond, List, [], ◌∷◌, ◌++◌, map, length, get_or, drop, sum, count_by, filter, sym, refl, ap, ◌∙◌, subst, ⊎_elim, cases_Bool, arith, sum-map, sum_by-cons, Grant}
 use Rattle.vc_model.specs.Segments.{segments_with, with_more}
 
 -- the sizes of segments

@@ -1,4 +1,4 @@
-use Rattle.vc_base.proofs.Common.{ℕ, List, length, sym, ap, ◌∙◌, Discipline}
+use Rattle.vc_base.proofs.Common.{length, sym, ap, ◌∙◌, Discipline}
 use Rattle.vc_counts.specs.Working.{open_state, segments_at, segments_at_home}
 use Rattle.vc_counts.proofs.FoundHome.{home-none, segments-found}
 use Rattle.vc_counts.proofs.step.segment_count_at.Given as given
