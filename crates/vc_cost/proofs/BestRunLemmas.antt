@@ -26,7 +26,7 @@ use Rattle.vc_cost.specs.declared.best_call.BestCall.{BestCall}
 use Rattle.vc_cost.specs.declared.best_call.BestCall.TheVariants.{Alloc, Resize, Free, Clear, Compact}
 use Rattle.vc_cost.specs.BestCalls.{AreLive, IsDiscLeft, IsRefusedAt, IsRefusedBy, IsStoppedAt, Live, after_best, after_bests, best_weight, bests_made, greatest_gaps}
 use Rattle.vc_cost.specs.BestCosts.{IsBestMade, IsBestRefused, IsRunMade, IsRunStopped, live_in}
-use Rattle.vc_cost.proofs.FaultLemmas.{alloc-few}
+use Rattle.vc_cost.proofs.FaultLemmas.{alloc-first}
 use Rattle.vc_cost.proofs.LiveLemmas.{live-none}
 use Rattle.vc_cost.proofs.MadeLemmas.{size-names}
 
@@ -160,7 +160,7 @@ module _ {I : Type 0} {V : I → Type 0} (meaning : (x : I) × V x → Disciplin
 
 -- a region without a segment doesn't lack the place for one
 first-asks : (terms : Terms) (call : BestCall) (s : Live) → s.layout.segments ≡ [] → s.blocks ≡ [] → IsRefusedBy terms call s false TooManySegments → ⊥
-first-asks terms (Alloc size) s none empty h = alloc-few terms s.layout 0 size 32 (ap (λ ss. nat_lt (length ss) 1023) none) h
+first-asks terms (Alloc size) s none empty h = alloc-first terms s.layout 0 size 32 none h
 first-asks terms (Resize n size) s none empty h = true≢false (sym h.0 ∙ ap (λ bs. nat_lt n (length bs)) empty ∙ le-ltb n 0 (omega arith))
 first-asks terms (Free n) s none empty h = h
 first-asks terms Clear s none empty h = h

@@ -1,8 +1,9 @@
 -- With which faults a best region refuses a block.
-use Rattle.vc_base.proofs.Common.{◌≡◌, ◌≢◌, ℕ, ◌⊎◌, Bool, true, false, length, nat_lt, Option, Some, None, is_some, refl, sym, ap, ◌∙◌, inl, inr, ⊎_elim, cases_Bool, true≢false, best_alloc, best_need, place_in, put_in_new, put_or_ask, find_block, Terms, Block, Layout, Done, Fault, Outcome, Put, Refused, best_resize, can_stay, outcome_of_move, resize_found, stays, Asked, Grant, Granted, NotLent, TooMany, ask, lowest_unused, new_segment, numbers}
+use Rattle.vc_base.proofs.Common.{◌≡◌, ◌≢◌, ℕ, ◌+◌, ◌⊎◌, Bool, true, false, List, [], length, nat_le, nat_lt, Option, Some, None, is_some, refl, sym, ap, ◌∙◌, inl, inr, ⊎_elim, cases_Bool, true≢false, best_alloc, best_need, place_in, put_in_new, put_or_ask, find_block, Terms, Block, Layout, Done, Fault, Outcome, Put, Refused, best_resize, can_stay, outcome_of_move, resize_found, stays, Asked, Grant, Granted, NotLent, TooMany, ask, lowest_unused, new_segment, numbers}
 use Rattle.vc_model.specs.Best.{put}
 use Rattle.vc_model.specs.Outcome.{TooManySegments, NoSegment}
 use Rattle.vc_model.specs.Resize.{resize_block}
+use Rattle.vc_model.specs.Segments.{ask_by, growing, size_limit}
 use Rattle.vc_best.specs.Ask.{AsksForSegment}
 use Rattle.vc_seg.specs.Answer.{IsRefusal}
 use Rattle.vc_seg.specs.declared.fault.RegionFault.{RegionFault}
@@ -19,6 +20,11 @@ Lacks why = (why ≡ TooManySegments) ⊎ (why ≡ NoSegment)
 put-why : (r : Layout ℕ) (label size : ℕ) (g : Option Grant) (o : Option (ℕ × ℕ)) (why : Fault) → put r label size g o ≡ Refused why → why ≡ NoSegment
 put-why r label size g None why e = cc
 put-why r label size g (Some at) why e = absurd (cc)
+
+-- a region without a segment is granted one
+ask-first : (terms : Terms) (bytes : ℕ) → ask terms bytes [] false ≡ Granted (new_segment 1 bytes)
+ask-first terms bytes =
+    ⊎_elim (λ (t : terms.grows ≡ true). rw t refl) (λ (t : terms.grows ≡ false). rw t refl) (cases_Bool terms.grows)
 
 module _ (terms : Terms) (r : Layout ℕ) (label size align : ℕ) where
   asked-why : (a : Asked) (why : Fault) → put_in_new r label size align a ≡ Refused why → Lacks why
@@ -39,13 +45,22 @@ module _ (terms : Terms) (r : Layout ℕ) (label size align : ℕ) where
   asked-many TooMany e = refl
   asked-many NotLent e = absurd (cc)
 
-  many-both : (bytes : ℕ) → ask terms bytes r.segments false ≡ TooMany → ask terms bytes r.segments true ≡ TooMany
-  many-both bytes e =
+  many-by : (o : Option (ℕ × ℕ)) (bytes : ℕ) → ask_by o bytes r.segments false ≡ TooMany → ask_by o bytes r.segments true ≡ TooMany
+  many-by None bytes e =
       ⊎_elim
       (λ (t : nat_lt (length r.segments) 1023 ≡ true).
       let no : Granted (new_segment (lowest_unused (numbers r.segments)) bytes) ≡ TooMany = rw t at e in absurd (cc))
       (λ (t : nat_lt (length r.segments) 1023 ≡ false). rw t refl)
       (cases_Bool (nat_lt (length r.segments) 1023))
+  many-by (Some s) bytes e =
+      ⊎_elim
+      (λ (t : nat_le (s.1 + bytes) size_limit ≡ true).
+      let no : Granted (record { number = s.0; bytes = bytes; fresh = false }) ≡ TooMany = rw t at e in absurd (cc))
+      (λ (t : nat_le (s.1 + bytes) size_limit ≡ false). rw t refl)
+      (cases_Bool (nat_le (s.1 + bytes) size_limit))
+
+  many-both : (bytes : ℕ) → ask terms bytes r.segments false ≡ TooMany → ask terms bytes r.segments true ≡ TooMany
+  many-both bytes e = many-by (growing terms r.segments) bytes e
 
   place-both : (o : Option (ℕ × ℕ)) → put_or_ask terms r label size align false o ≡ Refused TooManySegments → put_or_ask terms r label size align true o ≡ Refused TooManySegments
   place-both None e =
@@ -59,15 +74,16 @@ module _ (terms : Terms) (r : Layout ℕ) (label size align : ℕ) where
   pub alloc-asks : AsksForSegment terms r size align → best_alloc terms r label size align false ≢ Refused TooManySegments
   alloc-asks h e = h.may (asked-many (ask terms (best_need terms size align) r.segments false) (sym (ap (put_or_ask terms r label size align false) h.none) ∙ e))
 
-  place-few : nat_lt (length r.segments) 1023 ≡ true → (o : Option (ℕ × ℕ)) → put_or_ask terms r label size align false o ≢ Refused TooManySegments
-  place-few few None e =
-      let no : Granted (new_segment (lowest_unused (numbers r.segments)) (best_need terms size align)) ≡ TooMany =
-      rw few at (asked-many (ask terms (best_need terms size align) r.segments false) e) in
+  place-first : r.segments ≡ [] → (o : Option (ℕ × ℕ)) → put_or_ask terms r label size align false o ≢ Refused TooManySegments
+  place-first none None e =
+      let bytes = best_need terms size align in
+      let many : ask terms bytes r.segments false ≡ TooMany = asked-many (ask terms bytes r.segments false) e in
+      let no : Granted (new_segment 1 bytes) ≡ TooMany = sym (ask-first terms bytes) ∙ (ap (λ ss. ask terms bytes ss false) (sym none) ∙ many) in
       absurd (cc)
-  place-few few (Some at) e = absurd (cc)
+  place-first none (Some at) e = absurd (cc)
 
-  pub alloc-few : nat_lt (length r.segments) 1023 ≡ true → best_alloc terms r label size align false ≢ Refused TooManySegments
-  alloc-few few e = place-few few (place_in r size align) e
+  pub alloc-first : r.segments ≡ [] → best_alloc terms r label size align false ≢ Refused TooManySegments
+  alloc-first none e = place-first none (place_in r size align) e
 
 -- the same of a block that may move
 move-why : (size : ℕ) (b : Block ℕ) (o : Placing) (why : Fault) → outcome_of_move size b o ≡ Refused why → o ≡ Refused why

@@ -15,7 +15,7 @@ use vc_seg::{RegionFault, SegDisc};
 /// live blocks comes first. Where none was refused, all of them together read at most 240 extent heads for each binary digit
 /// of that greatest number, and 260, for each call; one that names no block counts as none, and `Clear` and `Compact` as one
 /// for each segment then, and as one at least. Where one is refused the answer is its place in the list, from 0, and the
-/// fault: `TooManySegments` exactly where it needs a segment and there are 1,023, `NoSegment` only where it needs one and the
+/// fault: `TooManySegments` exactly where it needs a segment and may be granted none, `NoSegment` only where it needs one and the
 /// discipline refused, or `OutOfMemory`, which at place 0 may come before the first call. Condition: sizes are from 1 to
 /// 16,777,216 bytes.
 pub fn run_best<L>(
