@@ -1,0 +1,3 @@
+pub mod Fed
+pub mod Unread
+pub mod ToCome

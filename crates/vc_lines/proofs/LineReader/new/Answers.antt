@@ -1,0 +1,14 @@
+use Rattle.vc_base.proofs.Common.{arith, refl, rules}
+use Rattle.vc_lines.proofs.Fed.{new-is}
+use Rattle.vc_lines.proofs.LineReader.new.Goals as goal
+
+pub returns-clause-can : goal.returns-clause-can
+returns-clause-can c =
+    rw c.in_ok-cutter.ensures
+    (record {
+      is_open = refl;
+      cutting = new-is;
+      ordered = omega arith;
+      within = omega arith;
+      room = search rules;
+    })

@@ -1,0 +1,16 @@
+use Rattle.vc_base.proofs.Common.{◌≡◌, ◌-◌, ◌≤◌, length, IfSome}
+use Rattle.vc_lines.specs.Reading.{CanRead, Leaves, to_come}
+use Rattle.vc_lines.proofs.LineReader.next.Given as goal
+
+-- the lines to come are the same
+abbrev pub invariant-loop-self : goal.invariant-loop-self
+invariant-loop-self g l =
+    record {
+      can : CanRead l.self;
+      count : l.self.cutter.count ≡ l.fn.self.cutter.count;
+      leaves : IfSome (g.S.Source.left l.fn.source) (λ input. Leaves l.self (g.S.Source.left l.source) (to_come l.fn.self input));
+      never_falls : g.S.Source.failures l.fn.source ≤ g.S.Source.failures l.source;
+    }
+
+abbrev pub decreases-loop-self : goal.decreases-loop-self
+decreases-loop-self g l = 4096 - length l.self.cutter.kept
