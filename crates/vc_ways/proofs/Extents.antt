@@ -1,6 +1,6 @@
 -- The extents of the ways after a command.
-use Rattle.vc_base.proofs.Common.{◌≡◌, ℕ, ◌+◌, ◌<◌, List, [], false, true, None, length, map, sum, refl, sym, ap, subst, arith, Layout, Outcome, Done, Refused, Put, Pool, best_alloc, best_resize, segment_bytes}
-use Rattle.vc_ways.specs.Extents.{bytes_behind, counts_of, with_extents}
+use Rattle.vc_base.proofs.Common.{◌≡◌, ℕ, ◌+◌, ◌-◌, ◌<◌, ◌≤◌, List, [], false, true, None, length, map, sum, refl, sym, ap, subst, arith, Layout, Outcome, Done, Refused, Put, Pool, best_alloc, best_resize, segment_bytes}
+use Rattle.vc_ways.specs.Extents.{bytes_behind, newest_of, with_extents}
 use Rattle.vc_ways.specs.LastWay.{LastWay, drop_dead, last_dead, last_put, last_sized}
 use Rattle.vc_ways.specs.Live.{Live}
 use Rattle.vc_ways.specs.PoolWay.{cell_free, cell_put, cell_sized, class_of, pool_at}
@@ -30,25 +30,31 @@ gave size (Done b) (Done l) (Refused why) t e = absurd (cc)
 gave size (Done b) (Refused why) pool t e = absurd (cc)
 gave size (Refused why) last pool t e = absurd (cc)
 
-grown-extents : (r : Regions) (class : ℕ) (best : Layout ℕ) (last : LastWay) (pools : List (Pool ℕ)) → Grown r.best.segments best.segments → Grown r.last.region.segments last.region.segments → PoolsGrow r.pools pools class → extents (record { best = best; last = last; pools = pools }) ≡ with_extents (record { best = best; last = last; pools = pools }) class (counts_of r class) (extents r)
+-- an extent, by what grew
+grown-extent : (before after old new : ℕ) → (old ≤ before) × (after + old ≡ before + new) → after ≡ before - old + new
+grown-extent before after old new h = omega (arith, h.0, h.1)
+
+grown-extents : (r : Regions) (class : ℕ) (best : Layout ℕ) (last : LastWay) (pools : List (Pool ℕ)) → Grown r.best.segments best.segments → Grown r.last.region.segments last.region.segments → PoolsGrow r.pools pools class → extents (record { best = best; last = last; pools = pools }) ≡ with_extents (record { best = best; last = last; pools = pools }) class (newest_of r class) (extents r)
 grown-extents r class best last pools h k m =
-    let first = grown-bytes r.best.segments best.segments h in
-    let second = grown-bytes r.last.region.segments last.region.segments k in
-    let one = grown-bytes (pool_at r.pools class).layout.segments (pool_at pools class).layout.segments m.grown in
+    let first = grown-extent _ _ _ _ (grown-bytes r.best.segments best.segments h) in
+    let second = grown-extent _ _ _ _ (grown-bytes r.last.region.segments last.region.segments k) in
+    let old = (pool_at r.pools class).layout.segments in
+    let one = grown-bytes old (pool_at pools class).layout.segments m.grown in
     let all = m.sum in
-    let third : sum (map pool_bytes pools) ≡ sum (map pool_bytes r.pools) + bytes_behind (length (pool_at r.pools class).layout.segments) (pool_at pools class).layout.segments = omega (arith, one, all) in
+    let most = m.most in
+    let third : sum (map pool_bytes pools) ≡ sum (map pool_bytes r.pools) - bytes_behind (length old - 1) old + bytes_behind (length old - 1) (pool_at pools class).layout.segments = omega (arith, one.0, one.1, all, most) in
     λ i. record { best = first i; last = second i; pool = third i }
 
 module _ (terms : WayTerms) (r : Regions) (many : length r.pools ≡ 20) (size : ℕ) (few : class_of size < 20) (t : Live × Regions) where
-  by-gave : (best : Outcome (Put (Layout ℕ))) (last : Outcome (ℕ × LastWay)) (pool : Outcome ((ℕ × ℕ) × List (Pool ℕ))) → OnDone (λ b. Grown r.best.segments b.region.segments) best → OnDone (λ (l : ℕ × LastWay). Grown r.last.region.segments l.1.region.segments) last → OnDone (λ (p : (ℕ × ℕ) × List (Pool ℕ)). PoolsGrow r.pools p.1 (class_of size)) pool → three_ways size best last pool ≡ Took t → extents t.1 ≡ with_extents t.1 (class_of size) (counts_of r (class_of size)) (extents r)
+  by-gave : (best : Outcome (Put (Layout ℕ))) (last : Outcome (ℕ × LastWay)) (pool : Outcome ((ℕ × ℕ) × List (Pool ℕ))) → OnDone (λ b. Grown r.best.segments b.region.segments) best → OnDone (λ (l : ℕ × LastWay). Grown r.last.region.segments l.1.region.segments) last → OnDone (λ (p : (ℕ × ℕ) × List (Pool ℕ)). PoolsGrow r.pools p.1 (class_of size)) pool → three_ways size best last pool ≡ Took t → extents t.1 ≡ with_extents t.1 (class_of size) (newest_of r (class_of size)) (extents r)
   by-gave best last pool h k m e =
       let g = gave size best last pool t e in
       let grown = subst (λ (ss : List (ℕ × ℕ)). Grown r.last.region.segments ss) (sym (dropped g.l.1)) (on-done _ last g.l k g.last-is) in
-      subst (λ (x : Regions). extents x ≡ with_extents x (class_of size) (counts_of r (class_of size)) (extents r)) (sym g.regions)
+      subst (λ (x : Regions). extents x ≡ with_extents x (class_of size) (newest_of r (class_of size)) (extents r)) (sym g.regions)
       (grown-extents r (class_of size) g.b.region (drop_dead g.l.1) g.p.1 (on-done _ best g.b h g.best-is) grown (on-done _ pool g.p m g.pool-is))
 
   -- a block is put
-  pub put-extents : put_block terms r size None ≡ Took t → extents t.1 ≡ with_extents t.1 (class_of size) (counts_of r (class_of size)) (extents r)
+  pub put-extents : put_block terms r size None ≡ Took t → extents t.1 ≡ with_extents t.1 (class_of size) (newest_of r (class_of size)) (extents r)
   put-extents e =
       by-gave (best_alloc terms.best r.best 0 size 32 false) (last_put terms.last r.last size false) (cell_put terms.pools r.pools size false)
       (alloc-grows terms.best r.best 0 size 32 false) (way-put-grows terms.last r.last size false) (first (cell_put terms.pools r.pools size false) (cells-grow terms.pools r.pools many size false few)) e
@@ -58,7 +64,7 @@ module _ (terms : WayTerms) (r : Regions) (many : length r.pools ≡ 20) (size :
       first (Refused why) h = tt
 
   -- a block gets another size
-  pub size-extents : (live : Live) → class_of live.size < 20 → size_block terms r live size None ≡ Took t → extents t.1 ≡ with_extents t.1 (class_of size) (counts_of r (class_of size)) (extents r)
+  pub size-extents : (live : Live) → class_of live.size < 20 → size_block terms r live size None ≡ Took t → extents t.1 ≡ with_extents t.1 (class_of size) (newest_of r (class_of size)) (extents r)
   size-extents live few-old e =
       by-gave (best_resize terms.best r.best live.best size true false) (last_sized terms.last r.last live.last size false) (cell_sized terms.pools r.pools live.size live.cell size false)
       (resize-grows terms.best r.best live.best size false) (way-sized-grows terms.last r.last live.last size false) (sized-grow terms.pools r.pools many live.size size live.cell false few-old few) e

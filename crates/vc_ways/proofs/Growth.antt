@@ -1,24 +1,37 @@
 -- Segments that come with a command.
-use Rattle.vc_base.proofs.Common.{◌≡◌, ◌≢◌, ℕ, zero, suc, ◌+◌, ◌<◌, ⊎_elim, cases_eq, get_or-set_same, get_or-set_other, length-set, sum-map, segment_bytes, pool_free, List, [], ◌∷◌, ◌++◌, Bool, true, false, cond, Option, Some, None, length, map, sum, sum_by-append, sum_by-cons, drop-cons, drop_all, ◌≤◌, get_or, set, drop, eqb, nat_lt, refl, sym, ap, ◌∙◌, subst, arith, append-nil, Block, Layout, Outcome, Done, Refused, Put, Pool, Terms, best_alloc, best_need, best_resize, can_end, can_stay, cell_for, done_as, element_with, find_block, if_latest, is_at, last_alloc, last_need, last_place, last_resize, latest, lowest_unused, new_segment, numbers, outcome_of_move, place_in, pool_alloc, pool_need, put_asked, put_behind_latest, put_carving, put_free, put_in_new, put_in_newest, put_or_ask, put_or_lend, resize_found, resize_latest, stays, uncarved, with_grant, without_block_at, NotLast, PoolSize, cases_Bool, Grant, Granted, NotLent, TooMany, Asked}
+use Rattle.vc_base.proofs.Common.{◌≡◌, ◌≢◌, ℕ, zero, suc, ◌+◌, ◌-◌, ◌<◌, ask, take, take-append-drop, take-append-le, ⊎_elim, cases_eq, get_or-set_same, get_or-set_other, length-set, sum-map, segment_bytes, pool_free, List, [], ◌∷◌, ◌++◌, Bool, true, false, cond, Option, Some, None, length, map, sum, sum_by-append, sum_by-cons, drop-cons, drop_all, ◌≤◌, get_or, set, drop, eqb, nat_lt, refl, sym, ap, ◌∙◌, subst, arith, append-nil, Block, Layout, Outcome, Done, Refused, Put, Pool, Terms, best_alloc, best_need, best_resize, can_end, can_stay, cell_for, done_as, element_with, find_block, if_latest, is_at, last_alloc, last_need, last_place, last_resize, latest, lowest_unused, new_segment, numbers, outcome_of_move, place_in, pool_alloc, pool_need, put_asked, put_behind_latest, put_carving, put_free, put_in_new, put_in_newest, put_or_ask, put_or_lend, resize_found, resize_latest, stays, uncarved, with_grant, without_block_at, NotLast, PoolSize, cases_Bool, Grant, Granted, NotLent, TooMany, Asked}
 use Rattle.std.proofs.lemmas.List.{drop_at}
-use Rattle.std.proofs.lemmas.List.Sums.{sum_by-set}
+use Rattle.std.proofs.lemmas.List.Sums.{get_or-le-sum_by, sum_by-set}
 use Rattle.std.specs.List.{sum_by}
 use Rattle.vc_model.specs.Best.{put}
+use Rattle.vc_model.specs.Segments.{segments_with, with_more}
 use Rattle.vc_model.specs.Pool.{empty_pool}
 use Rattle.vc_ways.specs.Extents.{bytes_behind}
 use Rattle.vc_ways.specs.LastWay.{LastWay, done_or, drop_dead, drop_dead_in, ends_dead, free_latest_of, last_dead, last_put, last_sized, latest_place, latest_sized, without_latest}
 use Rattle.vc_ways.specs.PoolWay.{class_bytes, class_of, cell_put, cell_sized, cell_free, pool_at, terms_at}
 
--- segments, with more behind them
+-- segments, of which at most the newest got longer, and with more behind them
 pub record Grown (old new : List (ℕ × ℕ)) : Type 0 where
-  pub more : List (ℕ × ℕ)
-  pub is : new ≡ old ++ more
+  pub is : take (length old - 1) new ≡ take (length old - 1) old
 
 pub grown-same : (old new : List (ℕ × ℕ)) → new ≡ old → Grown old new
-grown-same old new e = record { more = []; is = e ∙ sym (append-nil old) }
+grown-same old new e = record { is = ap (take (length old - 1)) e }
 
-drop-front : (old more : List (ℕ × ℕ)) → drop (length old) (old ++ more) ≡ more
-drop-front old more = drop_at old more (length old) refl
+more-front : (more : ℕ) (old : List (ℕ × ℕ)) → take (length old - 1) (with_more more old) ≡ take (length old - 1) old
+more-front more [] = refl
+more-front more (s ∷ []) = refl
+more-front more (s ∷ t ∷ ss) =
+    let one : length (s ∷ t ∷ ss) - 1 ≡ suc (length (t ∷ ss) - 1) = omega arith in
+    ap (λ n. take n (s ∷ with_more more (t ∷ ss))) one
+    ∙ (ap (λ xs. s ∷ xs) (more-front more (t ∷ ss)) ∙ ap (λ n. take n (s ∷ t ∷ ss)) (sym one))
+
+-- with what is granted
+pub grown-with : (g : Grant) (old : List (ℕ × ℕ)) → Grown old (segments_with g old)
+grown-with g old = record { is = by g.fresh }
+  where
+    by : (t : Bool) → take (length old - 1) (cond t (old ++ (g.number, g.bytes) ∷ []) (with_more g.bytes old)) ≡ take (length old - 1) old
+    by true = take-append-le (length old - 1) old ((g.number, g.bytes) ∷ []) (omega arith)
+    by false = more-front g.bytes old
 
 abbrev bytes_in : List (ℕ × ℕ) → ℕ
 bytes_in segments = sum (map (λ s. s.1) segments)
@@ -32,12 +45,17 @@ sum-front old more =
     let second = sum-map size more in
     omega (arith, all, parts, first, second)
 
--- their sizes
-pub grown-bytes : (old new : List (ℕ × ℕ)) → Grown old new → sum (map (λ s. s.1) new) ≡ sum (map (λ s. s.1) old) + bytes_behind (length old) new
+-- their sizes, behind the first ones
+pub front-bytes : (k : ℕ) (segments : List (ℕ × ℕ)) → bytes_in segments ≡ bytes_in (take k segments) + bytes_behind k segments
+front-bytes k segments = ap bytes_in (sym (take-append-drop k segments)) ∙ sum-front (take k segments) (drop k segments)
+
+-- their sizes, by those from where one was the newest
+pub grown-bytes : (old new : List (ℕ × ℕ)) → Grown old new → (bytes_behind (length old - 1) old ≤ sum (map (λ s. s.1) old)) × (sum (map (λ s. s.1) new) + bytes_behind (length old - 1) old ≡ sum (map (λ s. s.1) old) + bytes_behind (length old - 1) new)
 grown-bytes old new h =
-    ap (λ (ss : List (ℕ × ℕ)). sum (map (λ s. s.1) ss)) h.is
-    ∙ (sum-front old h.more
-    ∙ ap (λ (ss : List (ℕ × ℕ)). sum (map (λ s. s.1) old) + sum (map (λ s. s.1) ss)) (sym (ap (drop (length old)) h.is ∙ drop-front old h.more)))
+    let before = front-bytes (length old - 1) old in
+    let after = front-bytes (length old - 1) new in
+    let same = ap bytes_in h.is in
+    (omega (arith, before), omega (arith, before, after, same))
 
 -- what a call answers that is done
 abbrev pub OnDone : {A : Type 0} → (A → Type 0) → Outcome A → Type 0
@@ -55,40 +73,34 @@ module _ (terms : Terms) (r : Layout ℕ) where
   same : Grown r.segments r.segments
   same = grown-same r.segments r.segments refl
 
-  abbrev fresh : ℕ → Grant
-  fresh bytes = new_segment (lowest_unused (numbers r.segments)) bytes
-
-  abbrev granted : ℕ → Bool → Bool → Asked
-  granted bytes refused few = cond few (cond refused NotLent (Granted (fresh bytes))) TooMany
-
   module _ (label size : ℕ) where
-    new-grows : (align bytes : ℕ) (refused few : Bool) → OnDone Grows (put_in_new r label size align (granted bytes refused few))
-    new-grows align bytes refused false = tt
-    new-grows align bytes true true = tt
-    new-grows align bytes false true = there (place_in (with_grant r (fresh bytes)) size align)
+    new-grows : (align : ℕ) (asked : Asked) → OnDone Grows (put_in_new r label size align asked)
+    new-grows align (Granted g) = there (place_in (with_grant r g) size align)
       where
-        there : (at : Option (ℕ × ℕ)) → OnDone Grows (put (with_grant r (fresh bytes)) label size (Some (fresh bytes)) at)
+        there : (at : Option (ℕ × ℕ)) → OnDone Grows (put (with_grant r g) label size (Some g) at)
         there None = tt
-        there (Some at) = record { more = (lowest_unused (numbers r.segments), bytes) ∷ []; is = refl }
+        there (Some at) = grown-with g r.segments
+    new-grows align TooMany = tt
+    new-grows align NotLent = tt
 
     asks-grows : (align : ℕ) (refused : Bool) (at : Option (ℕ × ℕ)) → OnDone Grows (put_or_ask terms r label size align refused at)
-    asks-grows align refused None = new-grows align (best_need terms size align) refused (nat_lt (length r.segments) 1023)
+    asks-grows align refused None = new-grows align (ask terms (best_need terms size align) r.segments refused)
     asks-grows align refused (Some at) = same
 
     pub alloc-grows : (align : ℕ) (refused : Bool) → OnDone Grows (best_alloc terms r label size align refused)
     alloc-grows align refused = asks-grows align refused (place_in r size align)
 
-    newest-grows : (bytes : ℕ) (refused few : Bool) → OnDone Grows (put_in_newest r label size (granted bytes refused few))
-    newest-grows bytes refused false = tt
-    newest-grows bytes true true = tt
-    newest-grows bytes false true = there (last_place (with_grant r (fresh bytes)) size)
+    newest-grows : (asked : Asked) → OnDone Grows (put_in_newest r label size asked)
+    newest-grows (Granted g) = there (last_place (with_grant r g) size)
       where
-        there : (at : Option (ℕ × ℕ)) → OnDone Grows (put_behind_latest (with_grant r (fresh bytes)) label size (Some (fresh bytes)) at)
+        there : (at : Option (ℕ × ℕ)) → OnDone Grows (put_behind_latest (with_grant r g) label size (Some g) at)
         there None = tt
-        there (Some at) = record { more = (lowest_unused (numbers r.segments), bytes) ∷ []; is = refl }
+        there (Some at) = grown-with g r.segments
+    newest-grows TooMany = tt
+    newest-grows NotLent = tt
 
     lends-grows : (refused : Bool) (at : Option (ℕ × ℕ)) → OnDone Grows (put_or_lend terms r label size refused at)
-    lends-grows refused None = newest-grows (last_need terms size) refused (nat_lt (length r.segments) 1023)
+    lends-grows refused None = newest-grows (ask terms (last_need terms size) r.segments refused)
     lends-grows refused (Some at) = same
 
     pub last-grows : (refused : Bool) → OnDone Grows (last_alloc terms r label size refused)
@@ -171,16 +183,16 @@ module _ (terms : Terms) (r : Pool ℕ) (label size : ℕ) where
   abbrev PoolGrows : Put (Pool ℕ) → Type 0
   PoolGrows p = Grown r.layout.segments p.region.layout.segments
 
-  carved-grows : (bytes : ℕ) (refused few : Bool) → OnDone PoolGrows (put_asked r label size (granted terms r.layout bytes refused few))
-  carved-grows bytes refused false = tt
-  carved-grows bytes true true = tt
-  carved-grows bytes false true = record { more = (lowest_unused (numbers r.layout.segments), bytes) ∷ []; is = refl }
+  carved-grows : (asked : Asked) → OnDone PoolGrows (put_asked r label size asked)
+  carved-grows (Granted g) = grown-with g r.layout.segments
+  carved-grows TooMany = tt
+  carved-grows NotLent = tt
 
   pub pool-grows : (refused : Bool) → OnDone PoolGrows (pool_alloc terms r label size refused)
   pool-grows refused = fits (nat_lt (element_with r size) size)
     where
       carves : (at : Option (ℕ × ℕ)) → OnDone PoolGrows (put_carving terms r label size refused at)
-      carves None = carved-grows (pool_need terms r size) refused (nat_lt (length r.layout.segments) 1023)
+      carves None = carved-grows (ask terms (pool_need terms r size) r.layout.segments refused)
       carves (Some at) = same terms r.layout
 
       free : (freed : List (ℕ × ℕ)) → OnDone PoolGrows (put_free terms r label size refused freed)
@@ -197,7 +209,11 @@ pool_bytes p = segment_bytes p.layout
 -- the pool of a class grows, and no other one does
 pub record PoolsGrow (old new : List (Pool ℕ)) (class : ℕ) : Type 0 where
   pub grown : Grown (pool_at old class).layout.segments (pool_at new class).layout.segments
+  pub most : pool_bytes (pool_at old class) ≤ sum (map pool_bytes old)
   pub sum : sum (map pool_bytes new) + pool_bytes (pool_at old class) ≡ sum (map pool_bytes old) + pool_bytes (pool_at new class)
+
+pools-most : (pools : List (Pool ℕ)) (class : ℕ) → class < length pools → pool_bytes (pool_at pools class) ≤ sum (map pool_bytes pools)
+pools-most pools class lt = omega (arith, get_or-le-sum_by pool_bytes pools class empty_pool lt, sum-map pool_bytes pools)
 
 pools-set : (pools : List (Pool ℕ)) (class : ℕ) (q : Pool ℕ) → class < length pools → Grown (pool_at pools class).layout.segments q.layout.segments → PoolsGrow pools (set pools class q) class
 pools-set pools class q lt grown =
@@ -208,6 +224,7 @@ pools-set pools class q lt grown =
           ap (λ n. n + pool_bytes (pool_at pools class)) (sum-map pool_bytes (set pools class q))
           ∙ (sum_by-set pool_bytes pools class q empty_pool lt
           ∙ (ap (λ n. n + pool_bytes q) (sym (sum-map pool_bytes pools)) ∙ ap (λ p. sum (map pool_bytes pools) + pool_bytes p) (sym here)));
+      most = pools-most pools class lt;
     }
 
 module _ (terms : List Terms) (pools : List (Pool ℕ)) (many : length pools ≡ 20) where
@@ -240,13 +257,14 @@ module _ (terms : List Terms) (pools : List (Pool ℕ)) (many : length pools ≡
       record {
         grown = subst (λ (ss : List (ℕ × ℕ)). Grown (pool_at pools class).layout.segments ss) (sym segs) h.grown;
         sum = ap (λ n. n + pool_bytes (pool_at pools class)) all ∙ (h.sum ∙ ap (λ (ss : List (ℕ × ℕ)). sum (map pool_bytes pools) + sum (map (λ s. s.1) ss)) (sym segs));
+        most = h.most;
       }
 
   pub sized-grow : (old size : ℕ) (at : ℕ × ℕ) (refused : Bool) → class_of old < 20 → class_of size < 20 → OnDone (λ (p : (ℕ × ℕ) × List (Pool ℕ)). PoolsGrow pools p.1 (class_of size)) (cell_sized terms pools old at size refused)
   sized-grow old size at refused few-old few = there (eqb (class_of size) (class_of old))
     where
       there : (t : Bool) → OnDone (λ (p : (ℕ × ℕ) × List (Pool ℕ)). PoolsGrow pools p.1 (class_of size)) (cond t (Done (at, pools)) (done_as {B = (ℕ × ℕ) × List (Pool ℕ)} (λ p. (p.0, cell_free p.1 old at)) (cell_put terms pools size refused)))
-      there true = record { grown = grown-same _ _ refl; sum = refl }
+      there true = record { grown = grown-same _ _ refl; sum = refl; most = pools-most pools (class_of size) (omega (arith, few, many)) }
       there false =
           done-grows (λ (p : (ℕ × ℕ) × List (Pool ℕ)). PoolsGrow pools p.1 (class_of size) × (length p.1 ≡ 20)) (λ (p : (ℕ × ℕ) × List (Pool ℕ)). PoolsGrow pools p.1 (class_of size)) _ (λ p h. freed-grow p.1 (class_of size) old at h.1 few-old h.0)
           (cell_put terms pools size refused) (cells-grow size refused few)

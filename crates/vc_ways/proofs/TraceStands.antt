@@ -6,7 +6,7 @@ use Rattle.std.proofs.lemmas.Map.Made.{lookup-map_values}
 use Rattle.indexmap.specs.IndexMap.{swap_remove_entry}
 use Rattle.vc_pool.specs.Parts.{pool_of}
 use Rattle.vc_ways.specs.Answer.{AreKept, Holding, IsLent}
-use Rattle.vc_ways.specs.Extents.{counts_of, with_extents}
+use Rattle.vc_ways.specs.Extents.{newest_of, with_extents}
 use Rattle.vc_ways.specs.PoolParts.{holding_in}
 use Rattle.vc_ways.specs.PoolWay.{class_of}
 use Rattle.vc_ways.specs.Regions.{extents, free_block}
@@ -15,7 +15,7 @@ use Rattle.vc_ways.specs.Step.{Goes, goes, is_new}
 use Rattle.vc_ways.specs.Table.{live_bytes, put_live, without_live}
 use Rattle.vc_ways.specs.Tally.{tallied}
 use Rattle.vc_ways.specs.TraceParts.{CanClose, IsPlaced, Stands, state_of, table_of}
-use Rattle.vc_ways.specs.declared.extent.Counts.{Counts}
+use Rattle.vc_ways.specs.declared.extent.Newests.{Newests}
 use Rattle.vc_ways.specs.declared.live.Live.{Live}
 use Rattle.vc_ways.specs.declared.regions.Regions.{Regions}
 use Rattle.vc_ways.specs.declared.trace.Trace.{Trace}
@@ -29,7 +29,7 @@ module _ {I : Type 0} {V : I → Type 0} (meaning : (x : I) × V x → Disciplin
   over = record { region = t.region; blocks = t.blocks; regions = mid; extents = t.extents; live = t.live; tally = t.tally }
 
   -- a block came, or has another size
-  module _ (r x : List ℕ) (l : Live) (gone size class : ℕ) (first : Counts) (o : Option Live) (placed : IsPlaced over t' r x l gone class first) (found : get bytes_eq t.blocks x ≡ o) (gone-is : gone ≡ unwrap_or (option_map (λ (k : Live). k.size) o) 0) (class-is : class ≡ class_of size) (first-is : first ≡ counts_of (regions_of t.regions) class) (grew : extents (regions_of mid) ≡ with_extents (regions_of mid) (class_of size) (counts_of (regions_of t.regions) (class_of size)) (extents (regions_of t.regions))) where
+  module _ (r x : List ℕ) (l : Live) (gone size class : ℕ) (first : Newests) (o : Option Live) (placed : IsPlaced over t' r x l gone class first) (found : get bytes_eq t.blocks x ≡ o) (gone-is : gone ≡ unwrap_or (option_map (λ (k : Live). k.size) o) 0) (class-is : class ≡ class_of size) (first-is : first ≡ newest_of (regions_of t.regions) class) (grew : extents (regions_of mid) ≡ with_extents (regions_of mid) (class_of size) (newest_of (regions_of t.regions) (class_of size)) (extents (regions_of t.regions))) where
     new-bytes : t'.live ≡ live_bytes (table_of t'.blocks.entries)
     new-bytes =
         placed.live
@@ -40,7 +40,7 @@ module _ {I : Type 0} {V : I → Type 0} (meaning : (x : I) × V x → Disciplin
     new-extents =
         placed.extents
         ∙ (ap (with_extents (regions_of mid) class first) stands.extents
-        ∙ (ap₂ (λ (k : ℕ) (f : Counts). with_extents (regions_of mid) k f (extents (regions_of t.regions))) class-is (first-is ∙ ap (counts_of (regions_of t.regions)) class-is)
+        ∙ (ap₂ (λ (k : ℕ) (f : Newests). with_extents (regions_of mid) k f (extents (regions_of t.regions))) class-is (first-is ∙ ap (newest_of (regions_of t.regions)) class-is)
         ∙ sym grew))
 
     pub placed-goes : goes (state_of t) r (put_live x (live_of l) (table_of t.blocks.entries)) (regions_of mid) ≡ Goes (state_of t')

@@ -1,5 +1,5 @@
 -- What a call of a way answers, and what it leaves of the disciplines.
-use Rattle.std.specs.Prelude.{◌≡◌, ℕ, List, [], ◌∷◌, ◌++◌, ◌⊎◌, Bool, false, Result, Ok, Err}
+use Rattle.std.specs.Prelude.{◌≡◌, ℕ, List, [], ◌∷◌, ◌++◌, Bool, false, Result, Ok, Err}
 use Rattle.vc_model.specs.Discipline.{Discipline, HasOut, Kept}
 use Rattle.vc_model.specs.Outcome.{Outcome, Done}
 use Rattle.vc_seg.specs.Answer.{IsRefusal}
@@ -29,7 +29,3 @@ abbrev pub AreKept : List Holding → List Holding → Type 0
 AreKept [] [] = Unit {0}
 AreKept (a ∷ rest) (b ∷ others) = Keeps a b × AreKept rest others
 AreKept olds news = ⊥
-
--- there is at most one segment more, behind the others
-abbrev pub IsGrown : List (ℕ × ℕ) → List (ℕ × ℕ) → Type 0
-IsGrown old new = (new ≡ old) ⊎ ((s : ℕ × ℕ) × (new ≡ old ++ s ∷ []))

@@ -11,7 +11,7 @@ use Rattle.vc_ways.specs.RegionsParts.{AreApart, AreWhole, IsLiveIn, IsStopped, 
 use Rattle.vc_ways.specs.Step.{End, Goes, Outside, State, Stops}
 use Rattle.vc_ways.specs.Table.{Table, live_bytes}
 use Rattle.vc_ways.specs.Tally.{tallied}
-use Rattle.vc_ways.specs.declared.extent.Counts.{Counts}
+use Rattle.vc_ways.specs.declared.extent.Newests.{Newests}
 use Rattle.vc_ways.specs.declared.live.Live.{Live}
 use Rattle.vc_ways.specs.declared.regions.Stop.{Stop}
 use Rattle.vc_ways.specs.declared.trace.Trace.{Trace}
@@ -42,8 +42,8 @@ pub record CanClose {I : Type 0} {V : I → Type 0} (meaning : (x : I) × V x �
   pub classes : length t.regions.pools.items ≡ 20
   pub lent : All IsLent (all_holdings meaning t.regions)
 
--- a name has a block, in place of one of so many bytes; before it came the regions had so many segments, of the pools that of its class
-pub record IsPlaced {I : Type 0} {V : I → Type 0} (old new : Trace I V) (r x : List ℕ) (block : Live) (gone class : ℕ) (first : Counts) : Type 0 where
+-- a name has a block, in place of one of so many bytes; before it came these were the newest segments, of the pools in that of its class
+pub record IsPlaced {I : Type 0} {V : I → Type 0} (old new : Trace I V) (r x : List ℕ) (block : Live) (gone class : ℕ) (first : Newests) : Type 0 where
   pub region : new.region ≡ Some r
   pub entries : new.blocks.entries ≡ insert_entry bytes_eq old.blocks.entries x block
   pub updates : Updates bytes_eq old.blocks new.blocks x (Some block)

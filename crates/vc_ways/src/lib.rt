@@ -16,7 +16,7 @@ mod trace;
 mod way;
 
 pub use each::Each;
-pub use extent::Counts;
+pub use extent::{Newest, Newests};
 pub use last_way::LastWay;
 pub use line::Wrong;
 pub use live::Live;

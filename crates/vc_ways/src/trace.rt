@@ -11,7 +11,7 @@ ghost use Rattle.vc_ways.specs.TraceParts.{CanClose, Ends, IsPlaced, Stands, sta
 
 use crate::pool_way::class_of;
 use crate::tally::none;
-use crate::{Counts, Each, Live, Regions, Stop, Tally, Way};
+use crate::{Each, Live, Newests, Regions, Stop, Tally, Way};
 use indexmap::IndexMap;
 use std::alloc::Global;
 use vc_base::Name;
@@ -104,8 +104,8 @@ impl Trace {
         }
     }
 
-    // A block came, or has another size: its name has it, in place of one of so many bytes. Before it the regions had so
-    // many segments, of the pools that of its class.
+    // A block came, or has another size: its name has it, in place of one of so many bytes. Before it these were
+    // the newest segments, of the pools in that of its class.
     fn place(
         &mut self,
         r: &Name,
@@ -113,7 +113,7 @@ impl Trace {
         live: Live,
         gone: u32,
         class: usize,
-        first: Counts,
+        first: Newests,
     ) -> Result<(), Stop>
         requires classes { length self.old.regions.pools.items ≡ 20 }
         requires class { class < 20 }
@@ -154,7 +154,7 @@ impl Trace {
             (all_holdings state self.new.regions) }
     {
         let class = class_of(size);
-        let first = self.regions.counts(class);
+        let first = self.regions.newest(class);
         match self.regions.put(size) {
             Ok(live) => match self.place(r, x, live, 0, class, first) {
                 Ok(()) => Ok(true),
@@ -181,7 +181,7 @@ impl Trace {
             Some(old) => old,
         };
         let class = class_of(size);
-        let first = self.regions.counts(class);
+        let first = self.regions.newest(class);
         match self.regions.resize(&old, size) {
             Ok(live) => match self.place(r, x, live, old.size, class, first) {
                 Ok(()) => Ok(true),

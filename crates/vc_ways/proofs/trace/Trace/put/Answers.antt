@@ -20,14 +20,14 @@ returns-in-Ok-place-clause-answer g c =
     let many = length-map t.regions.pools.items pool_of ∙ c.requires.stands.whole.classes in
     let grew = put-extents (terms_of (meaning g) t.regions) (regions_of t.regions) many c.args.size (class-few c.args.size c.requires.size.most) (live_of c.in-Ok.live, regions_of c.put.new.self) c.in-Ok.ensures.answer in
     ap (goes_with (state_of t) c.args.r.now c.args.x.now) c.in-Ok.ensures.answer
-    ∙ placed-goes (meaning g) t c.place.new.self c.put.new.self c.requires.stands c.in-Ok-place.ensures.regions c.args.r.now c.args.x.now c.in-Ok.live 0 c.args.size c.class_of-class.result c.counts-first.result None c.in-Ok-place.ensures.placed (new-none t.blocks.entries c.args.x.now c.requires.new) refl c.class_of-class.ensures.value c.counts-first.ensures grew
+    ∙ placed-goes (meaning g) t c.place.new.self c.put.new.self c.requires.stands c.in-Ok-place.ensures.regions c.args.r.now c.args.x.now c.in-Ok.live 0 c.args.size c.class_of-class.result c.newest-first.result None c.in-Ok-place.ensures.placed (new-none t.blocks.entries c.args.x.now c.requires.new) refl c.class_of-class.ensures.value c.newest-first.ensures grew
 
 pub returns-in-Ok-place-clause-stands : goal.returns-in-Ok-place-clause-stands
 returns-in-Ok-place-clause-stands g c =
     let t = c.args.self.now in
     let many = length-map t.regions.pools.items pool_of ∙ c.requires.stands.whole.classes in
     let grew = put-extents (terms_of (meaning g) t.regions) (regions_of t.regions) many c.args.size (class-few c.args.size c.requires.size.most) (live_of c.in-Ok.live, regions_of c.put.new.self) c.in-Ok.ensures.answer in
-    placed-stands (meaning g) t c.place.new.self c.put.new.self c.requires.stands c.in-Ok-place.ensures.regions c.args.r.now c.args.x.now c.in-Ok.live 0 c.args.size c.class_of-class.result c.counts-first.result None c.in-Ok-place.ensures.placed (new-none t.blocks.entries c.args.x.now c.requires.new) refl c.class_of-class.ensures.value c.counts-first.ensures grew
+    placed-stands (meaning g) t c.place.new.self c.put.new.self c.requires.stands c.in-Ok-place.ensures.regions c.args.r.now c.args.x.now c.in-Ok.live 0 c.args.size c.class_of-class.result c.newest-first.result None c.in-Ok-place.ensures.placed (new-none t.blocks.entries c.args.x.now c.requires.new) refl c.class_of-class.ensures.value c.newest-first.ensures grew
     (λ k. Unit {0}) c.in-Ok.ensures.whole c.in-Ok.ensures.keeps c.in-Ok.ensures.comes (λ q k other is. tt)
 
 pub returns-in-Ok-place-clause-keeps : goal.returns-in-Ok-place-clause-keeps

@@ -38,7 +38,7 @@ returns-in-Ok-place-clause-answer g c =
     let grew = size-extents (terms_of (meaning g) t.regions) (regions_of t.regions) many c.args.size (class-few c.args.size c.requires.size.most) (live_of c.in-Ok.live, regions_of c.resize.new.self) (live_of old) few c.in-Ok.ensures.answer in
     ap (size_found (terms_of (meaning g) t.regions) (state_of t) c.args.r.now c.args.x.now c.args.size None) (lookup-map_values live_of (bytes_eq c.args.x.now) t.blocks.entries ∙ ap (option_map live_of) (sym c.in-Some.ensures))
     ∙ (ap (goes_with (state_of t) c.args.r.now c.args.x.now) c.in-Ok.ensures.answer
-    ∙ placed-goes (meaning g) t c.place.new.self c.resize.new.self c.requires.stands c.in-Ok-place.ensures.regions c.args.r.now c.args.x.now c.in-Ok.live old.size c.args.size c.class_of-class.result c.counts-first.result (Some old) c.in-Ok-place.ensures.placed (sym c.in-Some.ensures) refl c.class_of-class.ensures.value c.counts-first.ensures grew)
+    ∙ placed-goes (meaning g) t c.place.new.self c.resize.new.self c.requires.stands c.in-Ok-place.ensures.regions c.args.r.now c.args.x.now c.in-Ok.live old.size c.args.size c.class_of-class.result c.newest-first.result (Some old) c.in-Ok-place.ensures.placed (sym c.in-Some.ensures) refl c.class_of-class.ensures.value c.newest-first.ensures grew)
 
 pub returns-in-Ok-place-clause-stands : goal.returns-in-Ok-place-clause-stands
 returns-in-Ok-place-clause-stands g c =
@@ -47,7 +47,7 @@ returns-in-Ok-place-clause-stands g c =
     let many = length-map t.regions.pools.items pool_of ∙ c.requires.stands.whole.classes in
     let few = class-few old.size (c.requires.stands.live c.args.x.now old (sym c.in-Some.ensures)).size.most in
     let grew = size-extents (terms_of (meaning g) t.regions) (regions_of t.regions) many c.args.size (class-few c.args.size c.requires.size.most) (live_of c.in-Ok.live, regions_of c.resize.new.self) (live_of old) few c.in-Ok.ensures.answer in
-    placed-stands (meaning g) t c.place.new.self c.resize.new.self c.requires.stands c.in-Ok-place.ensures.regions c.args.r.now c.args.x.now c.in-Ok.live old.size c.args.size c.class_of-class.result c.counts-first.result (Some old) c.in-Ok-place.ensures.placed (sym c.in-Some.ensures) refl c.class_of-class.ensures.value c.counts-first.ensures grew
+    placed-stands (meaning g) t c.place.new.self c.resize.new.self c.requires.stands c.in-Ok-place.ensures.regions c.args.r.now c.args.x.now c.in-Ok.live old.size c.args.size c.class_of-class.result c.newest-first.result (Some old) c.in-Ok-place.ensures.placed (sym c.in-Some.ensures) refl c.class_of-class.ensures.value c.newest-first.ensures grew
     (λ k. AreApart k old) c.in-Ok.ensures.whole c.in-Ok.ensures.keeps c.in-Ok.ensures.comes (λ q k other is. c.requires.stands.apart q c.args.x.now k old (λ e. other (sym e)) is (sym c.in-Some.ensures))
 
 pub returns-in-Ok-place-clause-keeps : goal.returns-in-Ok-place-clause-keeps
