@@ -1,6 +1,5 @@
 -- Segments that come with a command.
-use Rattle.vc_base.proofs.Common.{◌≡◌, ◌≢◌, ℕ, zero, suc, ◌+◌, ◌-◌, ◌<◌, ask, take, take-append-drop, take-append-le, ⊎_elim, cases_eq, get_or-set_same, get_or-set_other, length-set, sum-map, segment_bytes, pool_free, List, [], ◌∷◌, ◌++◌, Bool, true, false, cond, Option, Some, None, length, map, sum, sum_by-append, sum_by-cons, drop-cons, drop_all, ◌≤◌, get_or, set, drop, eqb, nat_lt, refl, sym, ap, ◌∙◌, subst, arith, append-nil, Block, Layout, Outcome, Done, Refused, Put, Pool, Terms, best_alloc, best_need, best_resize, can_end, can_stay, cell_for, done_as, element_with, find_block, if_latest, is_at, last_alloc, last_need, last_place, last_resize, latest, lowest_unused, new_segment, numbers, outcome_of_move, place_in, pool_alloc, pool_need, put_asked, put_behind_latest, put_carving, put_free, put_in_new, put_in_newest, put_or_ask, put_or_lend, resize_found, resize_latest, stays, uncarved, with_grant, without_block_at, NotLast, PoolSize, cases_Bool, Grant, Granted, NotLent, TooMany, Asked}
-use Rattle.std.proofs.lemmas.List.{drop_at}
+use Rattle.vc_base.proofs.Common.{◌≡◌, ◌≢◌, ℕ, zero, suc, ◌+◌, ◌-◌, ◌<◌, ask, take, take-append-drop, take-append-le, ⊎_elim, cases_eq, get_or-set_same, get_or-set_other, length-set, sum-map, segment_bytes, pool_free, List, [], ◌∷◌, ◌++◌, Bool, true, false, cond, Option, Some, None, length, map, sum, sum_by-append, sum_by-cons, drop-cons, drop_all, ◌≤◌, get_or, set, drop, eqb, nat_lt, refl, sym, ap, ◌∙◌, subst, arith, Block, Layout, Outcome, Done, Refused, Put, Pool, Terms, best_alloc, best_need, best_resize, can_end, can_stay, cell_for, done_as, element_with, find_block, if_latest, is_at, last_alloc, last_need, last_place, last_resize, latest, outcome_of_move, place_in, pool_alloc, pool_need, put_asked, put_behind_latest, put_carving, put_free, put_in_new, put_in_newest, put_or_ask, put_or_lend, resize_found, resize_latest, stays, uncarved, with_grant, without_block_at, NotLast, PoolSize, cases_Bool, Grant, Granted, NotLent, TooMany, Asked}
 use Rattle.std.proofs.lemmas.List.Sums.{get_or-le-sum_by, sum_by-set}
 use Rattle.std.specs.List.{sum_by}
 use Rattle.vc_model.specs.Best.{put}

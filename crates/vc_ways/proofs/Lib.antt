@@ -5,6 +5,8 @@ pub mod PoolSteps
 pub mod PoolLists
 pub mod ThreeWays
 pub mod Slots
+pub mod Loans
+pub mod Empty
 pub mod Apart
 pub mod Flags
 pub mod Cells

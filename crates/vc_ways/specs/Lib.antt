@@ -9,6 +9,7 @@ pub mod Regions
 pub mod RegionsParts
 pub mod Extents
 pub mod Settled
+pub mod Lends
 pub mod Tally
 pub mod Step
 pub mod TraceParts

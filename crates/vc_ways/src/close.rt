@@ -1,4 +1,4 @@
-ghost use Rattle.std.specs.Prelude.{◌≡◌, All, length};
+ghost use Rattle.std.specs.Prelude.{◌≡◌, ◌+◌, ◌≤◌, All, length};
 ghost use Rattle.vc_ways.specs.Answer.{IsLent};
 ghost use Rattle.vc_ways.specs.PoolParts.{holdings};
 ghost use Rattle.vc_ways.specs.Settled.{AreBack, AreTaken, slots_on};
@@ -7,11 +7,11 @@ use crate::{LastWay, Regions};
 use vc_pool::Pool;
 use vc_seg::Shelf;
 
-// Closes the pools, the last one first, and gives their disciplines to the places 3 to 22.
-fn close_pools(mut pools: Vec<Pool>, shelf: &mut Shelf)
-    requires classes { length pools.items ≡ 20 }
+// Closes the pools, at most 20, the last one first, and gives their disciplines to the places from 3 on.
+pub(crate) fn close_pools(mut pools: Vec<Pool>, shelf: &mut Shelf)
+    requires classes { length pools.items ≤ 20 }
     requires lent { All IsLent (holdings state pools.items) }
-    requires taken { AreTaken 22 (slots_on state shelf.old) }
+    requires taken { AreTaken (length pools.items + 2) (slots_on state shelf.old) }
     ensures { AreBack 2 (holdings state pools.items) (slots_on state shelf.old)
         (slots_on state shelf.new) }
 {

@@ -7,6 +7,7 @@ mod extent;
 mod last_way;
 mod line;
 mod live;
+mod open;
 mod pool_way;
 mod print;
 mod regions;

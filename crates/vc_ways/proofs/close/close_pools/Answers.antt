@@ -26,13 +26,13 @@ give_back-requires g c =
     let left = c.pop.new.self.items in
     let pool = c.in-Some.pool in
     let all : c.args.pools.items ≡ left ++ pool ∷ inv.0 = inv.1 ∙ (ap (λ xs. xs ++ inv.0) c.in-Some.ensures.items ∙ append_assoc left (pool ∷ []) inv.0) in
-    let count : 20 ≡ length left + suc (length inv.0) = sym c.requires.classes ∙ (ap length all ∙ length-append left (pool ∷ inv.0)) in
+    let count : length c.args.pools.items ≡ length left + suc (length inv.0) = ap length all ∙ length-append left (pool ∷ inv.0) in
     let more : length c.loop-pool.pools.items ≡ length left + 1 = ap length c.in-Some.ensures.items ∙ length-append left (pool ∷ []) in
     let n : ℕ = c.len.result + 3 in
     let is : n ≡ 2 + length left + 1 = omega (arith, c.len.ensures) in
     let first : 2 + length c.loop-pool.pools.items ≡ 2 + length left + 1 = omega (arith, more) in
     ap (λ xs. place_at xs n) (inv.2.slots ∙ ap (λ k. with_discs k inv.2.discs (slots_on (meaning g) c.args.shelf.now)) first)
-    ∙ still-taken (slots_on (meaning g) c.args.shelf.now) 22 c.requires.taken n (2 + length left) is (omega (arith, is, count)) inv.2.discs
+    ∙ still-taken (slots_on (meaning g) c.args.shelf.now) (length c.args.pools.items + 2) c.requires.taken n (2 + length left) is (omega (arith, is, count)) inv.2.discs
 
 pub loop-pool-preserved : goal.loop-pool-preserved
 loop-pool-preserved g c =
@@ -40,7 +40,7 @@ loop-pool-preserved g c =
     let left = c.pop.new.self.items in
     let pool = c.in-Some.pool in
     let all : c.args.pools.items ≡ left ++ pool ∷ inv.0 = inv.1 ∙ (ap (λ xs. xs ++ inv.0) c.in-Some.ensures.items ∙ append_assoc left (pool ∷ []) inv.0) in
-    let count : 20 ≡ length left + suc (length inv.0) = sym c.requires.classes ∙ (ap length all ∙ length-append left (pool ∷ inv.0)) in
+    let count : length c.args.pools.items ≡ length left + suc (length inv.0) = ap length all ∙ length-append left (pool ∷ inv.0) in
     let more : length c.loop-pool.pools.items ≡ length left + 1 = ap length c.in-Some.ensures.items ∙ length-append left (pool ∷ []) in
     let n : ℕ = c.len.result + 3 in
     let is : n ≡ 2 + length left + 1 = omega (arith, c.len.ensures) in
@@ -55,6 +55,6 @@ loop-pool-preserved g c =
         slots =
             c.give_back.ensures.filled
             ∙ (ap (λ (xs : List (Option Discipline)). set xs (n - 1) (Some d)) (inv.2.slots ∙ ap (λ k. with_discs k inv.2.discs slots) first)
-            ∙ one-back slots 22 c.requires.taken n (2 + length left) is (omega (arith, is, count)) inv.2.discs d);
+            ∙ one-back slots (length c.args.pools.items + 2) c.requires.taken n (2 + length left) is (omega (arith, is, count)) inv.2.discs d);
       },
     )

@@ -13,6 +13,12 @@ meaning g p = (g.dyn-1.0.entry p.0).1.state p.1
 pub close_pools-requires-clause-lent : goal.close_pools-requires-clause-lent
 close_pools-requires-clause-lent g c = λ i d lt. c.requires.lent (suc (suc i)) d (omega (arith, lt))
 
+pub close_pools-requires-clause-classes : goal.close_pools-requires-clause-classes
+close_pools-requires-clause-classes g c = omega (arith, c.requires.classes)
+
+pub close_pools-requires-clause-taken : goal.close_pools-requires-clause-taken
+close_pools-requires-clause-taken g c = λ n first last. c.requires.taken n first (omega (arith, last, c.requires.classes))
+
 pub close-second-requires : goal.close-second-requires
 close-second-requires g c = c.requires.lent 1 (best_holding (meaning g) c.args.self.best) (omega arith)
 

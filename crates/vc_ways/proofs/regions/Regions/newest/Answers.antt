@@ -1,4 +1,4 @@
-use Rattle.vc_base.proofs.Common.{◌≡◌, ◌∙◌, ℕ, List, map, sym, ap, arith, Discipline, Pool}
+use Rattle.vc_base.proofs.Common.{◌∙◌, ℕ, List, map, sym, ap, arith, Discipline, Pool}
 use Rattle.vc_seg.specs.Segment.{Bytes, pair_of}
 use Rattle.vc_best.proofs.Lends.{segments-by}
 use Rattle.vc_pool.proofs.PoolAfterCalls.{pairs-of-list}

@@ -1,4 +1,4 @@
-use Rattle.vc_base.proofs.Common.{ℕ, Discipline}
+use Rattle.vc_base.proofs.Common.{Discipline}
 use Rattle.vc_ways.specs.RegionsParts.{all_holdings}
 use Rattle.vc_ways.proofs.PoolSteps.{kept-same}
 use Rattle.vc_ways.proofs.trace.Trace.run_line.Given as given

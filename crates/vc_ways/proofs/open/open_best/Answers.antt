@@ -1,0 +1,31 @@
+use Rattle.vc_base.proofs.Common.{◌≡◌, ◌+◌, ap, arith, length, Discipline}
+use Rattle.vc_seg.specs.Boxed.{disc_in_box}
+use Rattle.vc_ways.specs.RegionsParts.{best_holding}
+use Rattle.vc_ways.specs.Lends.{unused}
+use Rattle.vc_ways.specs.Settled.{slots_on}
+use Rattle.vc_ways.proofs.Loans.{give-unused, lend-at}
+use Rattle.vc_ways.proofs.PoolSteps.{keeps-equal, keeps-same}
+use Rattle.vc_ways.proofs.open.open_best.Given as given
+use Rattle.vc_ways.proofs.open.open_best.Goals as goal
+
+abbrev meaning : (g : given.Over) → (x : g.dyn-1.0.I) × (g.dyn-1.0.entry x).0.Denot → Discipline
+meaning g p = (g.dyn-1.0.entry p.0).1.state p.1
+
+pub returns-in-Err-clause-lends : goal.returns-in-Err-clause-lends
+returns-in-Err-clause-lends g c = λ old hs many lends.
+    let d : Discipline = disc_in_box (meaning g) c.in-Some.disc in
+    let e : Discipline = disc_in_box (meaning g) c.in-Err.disc in
+    let before = slots_on (meaning g) c.args.shelf.now in
+    let mid = slots_on (meaning g) c.take.new.self in
+    let is : 1 ≡ length hs + 1 = omega (arith, many) in
+    let lent = lend-at hs old before 1 is lends mid d (unused d) c.in-Some.ensures.taken c.in-Some.ensures.emptied (keeps-same (unused d)) in
+    give-unused hs old mid (slots_on (meaning g) c.give_back.new.self) 1 d e is lent c.give_back.ensures.filled c.in-Err.ensures.err
+
+pub returns-in-Ok-clause-lends : goal.returns-in-Ok-clause-lends
+returns-in-Ok-clause-lends g c = λ old hs many lends.
+    let d : Discipline = disc_in_box (meaning g) c.in-Some.disc in
+    let before = slots_on (meaning g) c.args.shelf.now in
+    let mid = slots_on (meaning g) c.take.new.self in
+    let is : 1 ≡ length hs + 1 = omega (arith, many) in
+    let h = best_holding (meaning g) c.in-Ok.best in
+    lend-at hs old before 1 is lends mid d h c.in-Some.ensures.taken c.in-Some.ensures.emptied (keeps-equal (unused d) h c.in-Ok.ensures.ok.1 (ap (λ r. r.segments) c.in-Ok.ensures.ok.0))
