@@ -1098,6 +1098,8 @@ static int read_open(const char *words, size_t count)
     place = strtoul(words + length + 1 + n, NULL, 10);
     has_align = strcmp(method, "best") == 0 || strcmp(method, "profile") == 0;
     least_segment = place >= 9 && place <= 12 ? 65536 : 4096;
+    /* Over discipline 17 a region has one segment, so nothing is to be told of how many it takes. */
+    regions[0].is_told = place == 17;
     for (i = 0; i < count; i++) {
         line.used = 0;
         if (i) number(&line, i + 1);

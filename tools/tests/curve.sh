@@ -52,7 +52,7 @@ said "$here/../examples/trace.vm"
 check "curve: with none refused the status is 0" same "$status $(cat drawn.said) $(grep -c refused drawn.svg)" "0  0"
 said -r q refusals.vm
 check "curve of a region that is never opened" same "$status $(cat drawn.said)" "1 curve: no region q is ever open: the script opens none"
-printf 'open r best 17\nalloc r a 1\n' > bad.vm
+printf 'open r best 18\nalloc r a 1\n' > bad.vm
 said bad.vm
 check "curve of a region whose open is refused" \
     same "$status $(cat drawn.said)" "1 curve: no region r is ever open: line 1 is refused: no such discipline"

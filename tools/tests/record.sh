@@ -289,7 +289,7 @@ refusals() {
     check "with -q nothing is told" same "$? $(cat fault)" "0 "
     "$record" -p "$program" -c refused.vm -- ./sites 2> fault
     check "with -c, of a script of which nothing is refused, nothing is told" same "$? $(cat fault)" "0 "
-    "$record" -p "$program" -d 17 refused.vm -- ./fifo 2> fault
+    "$record" -p "$program" -d 18 refused.vm -- ./fifo 2> fault
     check "over no discipline: all commands are told" same "$? $(cat fault)" \
         "0 record: $dir/refused.vm: 5 of 5 commands are refused when it is run, the first in line 1: no such discipline"
     # Blocks of 60,000 bytes take a segment each, of which a region has 1,023.
