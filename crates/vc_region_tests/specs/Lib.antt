@@ -2,3 +2,4 @@ pub mod Toy
 pub mod Busy
 pub mod Two
 pub mod Lent
+pub mod PoolLent

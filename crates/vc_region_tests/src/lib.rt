@@ -1,4 +1,4 @@
-//! Tests of what regions stand on: segments that grow, splay trees, extents, gaps and best regions.
+//! Tests of what regions stand on: segments that grow, splay trees, extents, gaps, best regions and pools.
 #![tactic(auto)]
 
 #[cfg(test)]
@@ -7,6 +7,8 @@ mod best;
 mod extent;
 #[cfg(test)]
 mod gaps;
+#[cfg(test)]
+mod pool_growth;
 #[cfg(test)]
 mod seg;
 pub mod splay;
