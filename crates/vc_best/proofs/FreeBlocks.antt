@@ -1,14 +1,12 @@
 -- A block that is freed, and the free extents before and behind it.
-use Rattle.vc_base.proofs.Common.{◌≡◌, ℕ, ◌+◌, ◌-◌, ◌%◌, ◌<◌, ◌≤◌, Bool, true, false, not, ◌&&◌, eqb, ◌≢◌, ◌⊎◌, List, [], ◌∷◌, ◌++◌, Some, None, All, filter, Option, sym, refl, ap, ◌∙◌, subst, inl, inr, ⊎_elim, arith, le-ltb, lt-ltb, eq-eqb, ne_eqb, and_from, and_parts, cases_Bool, All-cons, All-nil, address, place_of}
-use Rattle.vc_best.proofs.Common.{Extent, IsBusy, IsFree, IsMerged, IsNamed, absorb, behind, behind_of, busy_in, change_at, change_extent, change_in, extent_in, extent_of, extents_of, first_of, free_before, free_extent, free_name, free_next, is_busy, is_free, is_merged, join, last_before, mark_free, next_of, no_links, previous_of}
+use Rattle.vc_base.proofs.Common.{◌≡◌, ℕ, ◌+◌, ◌-◌, ◌%◌, ◌<◌, ◌≤◌, true, false, not, ◌&&◌, eqb, ◌⊎◌, List, [], ◌∷◌, Some, None, filter, Option, sym, refl, ap, ◌∙◌, subst, inl, inr, ⊎_elim, arith, le-ltb, lt-ltb, eq-eqb, ne_eqb, and_from, cases_Bool, address, place_of}
+use Rattle.vc_best.proofs.Common.{Extent, IsFree, IsNamed, absorb, behind, behind_of, busy_in, change_extent, extent_in, extent_of, extents_of, first_of, free_extent, free_name, free_next, is_busy, is_free, is_merged, join, last_before, mark_free, next_of, no_links, previous_of}
 use Rattle.vc_gaps.proofs.Joined.{first-cons}
-use Rattle.vc_model.proofs.Owned.{address-place_of}
 use Rattle.vc_layouts.proofs.Blocks.{place_of-address}
-use Rattle.vc_best.proofs.Cuts.{Cut, behind-here, change_at-here, change_at-skip, change_in-same, cut, cut-change, extent_in-here, lower-other}
+use Rattle.vc_best.proofs.Cuts.{behind-here, change_at-here, cut, extent_in-here}
 use Rattle.vc_best.proofs.Known.{IsCut, now-none, now-same, off-of, then-behind, then-extent, then-steps}
 use Rattle.vc_best.proofs.Nexts.{none-first}
 use Rattle.vc_best.proofs.Lies.{Lies}
-use Rattle.vc_best.proofs.Merges.{merged-any, merged-at, merged-change, merged-weaker}
 
 -- an extent stands before the one of an offset
 pub record IsBefore (stop off : ℕ) (es : List Extent) (p : Extent) : Type 0 where
@@ -79,8 +77,9 @@ first-is off (y ∷ ys) named e =
     (cases_Bool (eqb y.off off))
 
 -- what a free extent that absorbs the next is
-pub record IsAbsorbed (ys : List Extent) (zs : List Extent) : Type 0 where
+pub record IsAbsorbed (e : Extent) (ys : List Extent) (zs : List Extent) : Type 0 where
   pub first : Extent
+  pub off : first.off ≡ e.off
   pub rest : List Extent
   pub is : zs ≡ first ∷ rest
   pub free : first.size ≡ 0
@@ -93,14 +92,15 @@ busy-free e h = le-ltb 0 e.size (omega arith)
 busy-of_free : (e : Extent) → is_free e ≡ true → is_busy e ≡ false
 busy-of_free e h = elim (is_busy e) as (λ v. not v ≡ true → v ≡ false) [ true ↦ λ q. sym q | false ↦ λ q. refl ] h
 
-pub absorbed : (e : Extent) (ys : List Extent) → e.size ≡ 0 → is_merged false ys ≡ true → IsAbsorbed ys (absorb e ys)
-absorbed e [] free m = record { first = e; rest = []; is = refl; free = free; merged = refl; busy = refl }
+pub absorbed : (e : Extent) (ys : List Extent) → e.size ≡ 0 → is_merged false ys ≡ true → IsAbsorbed e ys (absorb e ys)
+absorbed e [] free m = record { first = e; off = refl; rest = []; is = refl; free = free; merged = refl; busy = refl }
 absorbed e (y ∷ ys) free m =
     ⊎_elim
     (λ (t : is_free y ≡ true).
     let tail : is_merged (is_free y) ys ≡ true = m in
     record {
       first = free_extent e.off (e.span + y.span) no_links;
+      off = refl;
       rest = ys;
       is = rw t refl;
       free = refl;
@@ -110,6 +110,7 @@ absorbed e (y ∷ ys) free m =
     (λ (t : is_free y ≡ false).
     record {
       first = e;
+      off = refl;
       rest = y ∷ ys;
       is = rw t refl;
       free = free;
@@ -162,155 +163,39 @@ module _ (t t1 t2 : List (ℕ × List Extent)) (a : ℕ) (c : IsCut t a) (is1 : 
   is-freed named = record { named = rw (ap (λ (x : Extent). x.span) freed-extent) named; free = ap (λ (x : Extent). x.size) freed-extent }
 
   module _ (is2 : t2 ≡ change_extent a absorb t1) where
-    both : t2 ≡ change_extent a freed t
+    pub both : t2 ≡ change_extent a freed t
     both =
         then-steps t t1 a a mark_free c is1 refl (omega arith) t2 absorb freed is2
         (change_at-here (place_of a).1 (free_extent e.off e.span no_links) (behind_of t a) (off-of t a c) absorb)
 
-    -- with nothing before it
-    pub merged-first : IsBusy t a → IsMerged t → previous_of t a ≡ None → IsMerged t2
-    merged-first busy m none =
-        let es = extents_of (place_of a).0 t in
-        let named = busy.named in
-        let whole : es ≡ e ∷ ys = first-is (place_of a).1 es named none in
-        subst IsMerged (sym both)
-        (merged-change (place_of a).0 (change_at (place_of a).1 freed) t
-        (λ own.
-        let tail : is_merged (is_free e) ys ≡ true = (and_parts (not (false && is_free e)) (is_merged (is_free e) ys) (ap (is_merged false) (sym whole) ∙ own)).1 in
-        let x = absorbed (free_extent e.off e.span no_links) ys refl (merged-any (is_free e) ys tail) in
-        let changed : change_at (place_of a).1 freed es ≡ x.first ∷ x.rest =
-        ap (change_at (place_of a).1 freed) whole ∙ (change_at-here (place_of a).1 e ys (off-of t a c) freed ∙ x.is) in
-        ap (is_merged false) changed ∙ and_from (not (false && is_free x.first)) (is_merged (is_free x.first) x.rest) refl (merged-weaker (is_free x.first) x.rest x.merged))
-        m)
+-- the extent before one, by its address
+module _ (t : List (ℕ × List Extent)) (a : ℕ) (c : IsCut t a) (b : ℕ) (p : Extent) (prev : previous_of t a ≡ Some p) (named : IsNamed t a) (value : b ≡ address ((place_of a).0, p.off)) where
+  is : IsBefore (c.size - 16) (place_of a).1 (extents_of (place_of a).0 t) p
+  is =
+      let none : Option Extent = None in
+      ⊎_elim
+      (λ u. absurd (let q = u.0 in cc))
+      (λ u. u)
+      (before (c.size - 16) 16 (place_of a).1 (extents_of (place_of a).0 t) p None c.lies refl named prev)
 
-    -- with one before it
-    module _ (b : ℕ) (p : Extent) (d : IsCut t b) (prev : previous_of t a ≡ Some p) (named : IsNamed t a) (value : b ≡ address ((place_of a).0, p.off)) where
-      -- the one before it, and what the change is from there
-      abbrev x : Extent
-      x = extent_of t b
+  pub place : place_of b ≡ ((place_of a).0, p.off)
+  place =
+      ap place_of value ∙ place_of-address (place_of a).0 p.off (omega (arith, is.below, c.legal.most)) is.multiple
 
-      abbrev f : Extent → List Extent → List Extent
-      f x zs = x ∷ change_at (place_of a).1 freed zs
+  at : (place_of b).1 ≡ p.off
+  at = ap (λ (q : ℕ × ℕ). q.1) place
 
-      is : IsBefore (c.size - 16) (place_of a).1 (extents_of (place_of a).0 t) p
-      is =
-          let none : Option Extent = None in
-          ⊎_elim
-          (λ u. absurd (let q = u.0 in cc))
-          (λ u. u)
-          (before (c.size - 16) 16 (place_of a).1 (extents_of (place_of a).0 t) p None c.lies refl named prev)
+  pub lower : (place_of b).1 < (place_of a).1
+  lower = omega (arith, at, is.lower)
 
-      pub place : place_of b ≡ ((place_of a).0, p.off)
-      place =
-          ap place_of value ∙ place_of-address (place_of a).0 p.off (omega (arith, is.below, c.legal.most)) is.multiple
+  pub lower-before : p.off < (place_of a).1
+  lower-before = is.lower
 
-      at : (place_of b).1 ≡ p.off
-      at = ap (λ (q : ℕ × ℕ). q.1) place
+  pub extent : extent_of t b ≡ p
+  extent = ap (λ (q : ℕ × ℕ). extent_in q.1 (extents_of q.0 t)) place ∙ is.is
 
-      pub lower : (place_of b).1 < (place_of a).1
-      lower = omega (arith, at, is.lower)
-
-      pub lower-before : p.off < (place_of a).1
-      lower-before = is.lower
-
-      pub extent : extent_of t b ≡ p
-      extent = ap (λ (q : ℕ × ℕ). extent_in q.1 (extents_of q.0 t)) place ∙ is.is
-
-      pub rest : behind_of t b ≡ extent_of t a ∷ behind_of t a
-      rest = ap (λ (q : ℕ × ℕ). behind q.1 (extents_of q.0 t)) place ∙ is.behind
-
-      -- the same change from the one before it on
-      rebased : t2 ≡ change_extent b f t
-      rebased =
-          let n = (place_of a).0 in
-          let es = extents_of n t in
-          let off = (place_of a).1 in
-          let k : Cut (d.size - 16) 16 (place_of b).1 (extents_of (place_of b).0 t) = d.cut in
-          let seg : (place_of b).0 ≡ n = ap (λ (q : ℕ × ℕ). q.0) place in
-          let xs = k.before in
-          let zs = behind_of t b in
-          let others = lower-other (place_of b).1 off xs (omega (arith, lower)) k.lower in
-          let own : x.off ≡ (place_of b).1 = off-of t b d in
-          let here : All (λ (y : Extent). y.off ≢ off) (x ∷ []) = All-cons (λ (y : Extent). y.off ≢ off) x [] (λ q. omega (arith, lower)) (All-nil (λ (y : Extent). y.off ≢ off)) in
-          let whole : es ≡ xs ++ (x ∷ zs) = ap (λ (m : ℕ). extents_of m t) (sym seg) ∙ k.is in
-          let left : change_at off freed es ≡ xs ++ (x ∷ change_at off freed zs) =
-          ap (change_at off freed) whole ∙ (change_at-skip off freed xs (x ∷ zs) others ∙ ap (λ (ws : List Extent). xs ++ ws) (change_at-skip off freed (x ∷ []) zs here)) in
-          let right : change_at (place_of b).1 f es ≡ xs ++ (x ∷ change_at off freed zs) =
-          ap (λ (m : ℕ). change_at (place_of b).1 f (extents_of m t)) (sym seg) ∙ cut-change (d.size - 16) 16 (place_of b).1 (extents_of (place_of b).0 t) k f in
-          both ∙ (change_in-same n t (change_at off freed) (change_at (place_of b).1 f) (left ∙ sym right) ∙ ap (λ (m : ℕ). change_in m (change_at (place_of b).1 f) t) (sym seg))
-
-      pub extent-later : extent_of t2 b ≡ p
-      extent-later =
-          then-extent t t2 b b f d rebased refl (omega arith)
-          ∙ (extent_in-here (place_of b).1 (extent_of t b) (change_at (place_of a).1 freed (behind_of t b)) (off-of t b d) ∙ extent)
-
-      pub named-later : IsNamed t2 b
-      named-later = let some = is.some in rw (ap (λ (x : Extent). x.span) extent-later) some
-
-      tail : (v : Bool) → is_merged v (extent_of t b ∷ behind_of t b) ≡ true → is_merged false (behind_of t a) ≡ true
-      tail v own =
-          let one : is_merged (is_free (extent_of t b)) (e ∷ ys) ≡ true =
-          ap (is_merged (is_free (extent_of t b))) (sym rest) ∙ (and_parts (not (v && is_free (extent_of t b))) (is_merged (is_free (extent_of t b)) (behind_of t b)) own).1 in
-          merged-any (is_free e) ys (and_parts (not (is_free (extent_of t b) && is_free e)) (is_merged (is_free e) ys) one).1
-
-      changed : change_at (place_of a).1 freed (behind_of t b) ≡ freed (extent_of t a) (behind_of t a)
-      changed = ap (change_at (place_of a).1 freed) rest ∙ change_at-here (place_of a).1 (extent_of t a) (behind_of t a) (off-of t a c) freed
-
-      -- the names of the two before and after
-      pub before-busy : 0 < (extent_of t2 b).size → free_before t a ≡ []
-      before-busy busy =
-          let some : 0 < p.size = subst (λ (x : Extent). 0 < x.size) extent-later busy in
-          ap (free_name (place_of a).0) prev ∙ (let yes : is_busy p ≡ true = lt-ltb 0 p.size some in rw yes refl)
-
-      pub before-free : (extent_of t2 b).size ≡ 0 → free_before t a ≡ b ∷ []
-      before-free free =
-          let none : p.size ≡ 0 = ap (λ (x : Extent). x.size) (sym extent-later) ∙ free in
-          ap (free_name (place_of a).0) prev ∙ (rw (busy-free p none) (ap (λ n. n ∷ []) (sym value)))
-
-      pub next-later : free_next t2 b ≡ a ∷ []
-      next-later =
-          let seg : (place_of b).0 ≡ (place_of a).0 = ap (λ (q : ℕ × ℕ). q.0) place in
-          let zs = absorb (free_extent e.off e.span no_links) (behind_of t a) in
-          let same : behind_of t2 b ≡ zs =
-          then-behind t t2 b b f d rebased refl (omega arith)
-          ∙ (behind-here (place_of b).1 (extent_of t b) (change_at (place_of a).1 freed (behind_of t b)) (off-of t b d) ∙ changed) in
-          let own : free_next t2 b ≡ free_name (place_of b).0 (first_of zs) = ap (λ (ws : List Extent). free_name (place_of b).0 (first_of ws)) same in
-          let name : address ((place_of b).0, e.off) ≡ a = ap (λ (n : ℕ). address (n, e.off)) seg ∙ ap (λ (n : ℕ). address ((place_of a).0, n)) (off-of t a c) ∙ address-place_of a in
-          own ∙ absorbed-name (place_of b).0 (free_extent e.off e.span no_links) (behind_of t a) refl ∙ ap (λ (n : ℕ). n ∷ []) name
-
-      pub merged-busy : IsMerged t → 0 < (extent_of t2 b).size → IsMerged t2
-      merged-busy m busy =
-          let some : 0 < x.size = rw (ap (λ (y : Extent). y.size) (extent ∙ sym extent-later)) busy in
-          let yes : is_busy x ≡ true = lt-ltb 0 x.size some in
-          subst IsMerged (sym rebased)
-          (merged-at t b f d
-          (λ v own.
-          let r = absorbed (free_extent e.off e.span no_links) ys refl (tail v own) in
-          let first = (and_parts (not (v && is_free x)) (is_merged (is_free x) (behind_of t b)) own).0 in
-          and_from (not (v && is_free x)) (is_merged (is_free x) (change_at (place_of a).1 freed (behind_of t b))) first
-          (ap (is_merged (is_free x)) (changed ∙ r.is)
-          ∙ (ap (λ (w : Bool). is_merged (not w) (r.first ∷ r.rest)) yes
-          ∙ and_from (not (false && is_free r.first)) (is_merged (is_free r.first) r.rest) refl (merged-weaker (is_free r.first) r.rest r.merged))))
-          m)
-
-      pub merged-free : (t3 : List (ℕ × List Extent)) → IsMerged t → (extent_of t2 b).size ≡ 0 → t3 ≡ change_extent b absorb t2 → IsMerged t3
-      merged-free t3 m free is3 =
-          let g : Extent → List Extent → List Extent = λ x zs. absorb x (change_at (place_of a).1 freed zs) in
-          let none : x.size ≡ 0 = ap (λ (y : Extent). y.size) (extent ∙ sym extent-later) ∙ free in
-          let no : is_busy x ≡ false = busy-free x none in
-          let is_g : t3 ≡ change_extent b g t =
-          then-steps t t2 b b f d rebased refl (omega arith) t3 absorb g is3
-          (change_at-here (place_of b).1 x (change_at (place_of a).1 freed (behind_of t b)) (off-of t b d) absorb) in
-          subst IsMerged (sym is_g)
-          (merged-at t b g d
-          (λ v own.
-          let r = absorbed (free_extent e.off e.span no_links) ys refl (tail v own) in
-          let joins : g x (behind_of t b) ≡ free_extent x.off (x.span + r.first.span) no_links ∷ r.rest =
-          ap (absorb x) (changed ∙ r.is) ∙ rw (busy-free r.first r.free) refl in
-          let first : not (v && is_free x) ≡ true = (and_parts (not (v && is_free x)) (is_merged (is_free x) (behind_of t b)) own).0 in
-          let now : not (v && true) ≡ true = ap (λ (w : Bool). not (v && not w)) (sym no) ∙ first in
-          ap (is_merged v) joins ∙ and_from (not (v && true)) (is_merged true r.rest) now r.merged)
-          m)
+  pub rest : behind_of t b ≡ extent_of t a ∷ behind_of t a
+  rest = ap (λ (q : ℕ × ℕ). behind q.1 (extents_of q.0 t)) place ∙ is.behind
 
 -- what becomes of a free extent and the one behind it
 module _ (t : List (ℕ × List Extent)) (a : ℕ) (c : IsCut t a) where

@@ -1,6 +1,6 @@
 -- The tree of gaps where a block is freed and becomes one with the free extents beside it.
 use Rattle.vc_base.proofs.Common.{◌≡◌, ℕ, ◌+◌, ◌-◌, ◌<◌, List, [], ◌∷◌, ◌++◌, Some, sym, refl, ap, ◌∙◌, subst, arith, le_prop, ∥∥₁_elim, ℕ_set, address, place_of}
-use Rattle.vc_best.proofs.Common.{AreExtents, Bytes, Extent, GapsChange, HasGapsBy, IsBusy, IsFree, Tiling, behind_of, change_extent, extent_of, free_before, free_extent, free_name, free_next, join, mark_free, next_of, no_links, tiling}
+use Rattle.vc_best.proofs.Common.{AreExtents, Bytes, Extent, GapsChange, HasGapsBy, IsBusy, IsFree, Tiling, behind_of, change_extent, extent_of, free_extent, free_name, free_next, join, mark_free, next_of, no_links, tiling}
 use Rattle.vc_splay.specs.Tree.{Tree}
 use Rattle.vc_gaps.proofs.Joined.{first-cons, gaps-joined}
 use Rattle.vc_gaps.proofs.Marked.{gaps-freed}
@@ -8,7 +8,7 @@ use Rattle.vc_gaps.proofs.Named.{extent_of-here, own-off}
 use Rattle.vc_best.proofs.Known.{cut-of}
 use Rattle.vc_best.proofs.Lies.{Lies}
 use Rattle.vc_best.proofs.Nexts.{next-off}
-use Rattle.vc_best.proofs.Outs.{gaps-swap, inside-not}
+use Rattle.vc_best.proofs.Outs.{inside-not}
 use Rattle.vc_best.proofs.FreeBlocks.{busy-free}
 
 -- nothing free is behind it
@@ -60,16 +60,5 @@ module _ (old new : List Bytes) (i j : List ℕ) (k : ∥ AreExtents old i ∥�
 
 -- a block becomes free, and takes the free extent behind it
 module _ (t t1 t2 : Tiling) (a : ℕ) (is1 : t1 ≡ change_extent a mark_free t) (busy : IsBusy t a) (same : free_next t1 a ≡ free_next t a) (g2 : GapsChange t1 t2 (a ∷ free_next t1 a) (a ∷ [])) where
-  marked : {u : Tree} (root : ℕ) (out : List ℕ) → HasGapsBy u t root (free_next t a ++ out) → HasGapsBy u t1 root (a ∷ (free_next t1 a ++ out))
+  pub marked : {u : Tree} (root : ℕ) (out : List ℕ) → HasGapsBy u t root (free_next t a ++ out) → HasGapsBy u t1 root (a ∷ (free_next t1 a ++ out))
   marked {u = u} root out h = subst (λ ns. HasGapsBy u t1 root (a ∷ (ns ++ out))) (sym same) (gaps-freed t t1 root a (free_next t a ++ out) is1 busy h)
-
-  -- with nothing free before it
-  pub gaps-alone : free_before t a ≡ [] → GapsChange t t2 (free_before t a ++ free_next t a) (a ∷ [])
-  gaps-alone none u root out h = g2 u root out (marked root out (subst (λ ps. HasGapsBy u t root ((ps ++ free_next t a) ++ out)) none h))
-
-  -- with a free one before it, which takes it
-  pub gaps-both : (t3 : Tiling) (b : ℕ) → free_before t a ≡ b ∷ [] → free_next t2 b ≡ a ∷ [] → GapsChange t2 t3 (b ∷ free_next t2 b) (b ∷ []) → GapsChange t t3 (free_before t a ++ free_next t a) (b ∷ [])
-  gaps-both t3 b before next g3 u root out h =
-      let first : HasGapsBy u t root (b ∷ (free_next t a ++ out)) = subst (λ ps. HasGapsBy u t root ((ps ++ free_next t a) ++ out)) before h in
-      let joined : HasGapsBy u t2 root (a ∷ (b ∷ out)) = g2 u root (b ∷ out) (marked root (b ∷ out) (gaps-swap t root (b ∷ []) (free_next t a) out first)) in
-      g3 u root out (subst (λ ns. HasGapsBy u t2 root (b ∷ (ns ++ out))) (sym next) (gaps-swap t2 root (a ∷ []) (b ∷ []) out joined))

@@ -61,6 +61,7 @@ pub mod Starts
 pub mod Plain
 pub mod Outs
 pub mod FreeGaps
+pub mod Released
 pub mod BorderGaps
 pub mod Linking
 pub mod Costs

@@ -1,6 +1,6 @@
 -- The free extents beside one that are taken out of the tree of gaps and put into it.
 use Rattle.vc_base.proofs.Common.{◌≡◌, ℕ, ◌<◌, true, false, ◌||◌, List, [], ◌∷◌, ◌++◌, Some, None, Option, option_map, sym, refl, ap, ◌∙◌, ⊎_elim, arith, lt-ltb, ne_eqb, or-false, le_prop, ∥∥₁_elim, ℕ_set, cases_Bool, contains, address, place_of}
-use Rattle.vc_best.proofs.Common.{AreExtents, Bytes, Extent, GapsChange, HasGaps, HasGapsBy, IsInGaps, IsNamed, Tiling, absorb, change_extent, extent_of, free_before, free_name, free_next, is_busy, mark_free, next_of, previous_of, tiling}
+use Rattle.vc_best.proofs.Common.{AreExtents, Bytes, Extent, GapsChange, HasGaps, HasGapsBy, IsInGaps, IsNamed, Tiling, extent_of, free_before, free_name, free_next, is_busy, next_of, previous_of, tiling}
 use Rattle.vc_splay.specs.Tree.{Tree}
 use Rattle.vc_gaps.proofs.GapTrees.{free-bool, gaps-own, gaps-same, in_gaps-of}
 use Rattle.vc_best.proofs.Known.{cut-of}
@@ -19,18 +19,12 @@ pub name-busy : (n : ℕ) (o : Option Extent) (y : Extent) → o ≡ Some y → 
 name-busy n o y e some = ap (free_name n) e ∙ (let yes : is_busy y ≡ true = lt-ltb 0 y.size some in rw yes refl)
 
 module _ (segs : List Bytes) (index : List ℕ) (k : ∥ AreExtents segs index ∥₁) (a : ℕ) (named : IsNamed (tiling segs) a) where
-  abbrev t1 : Tiling
-  t1 = change_extent a mark_free (tiling segs)
-
   -- the size of the one behind and of the one before, by their addresses
   pub next-size : (b : ℕ) (y : Extent) → next_of (tiling segs) a ≡ Some y → b ≡ address ((place_of a).0, y.off) → (extent_of (tiling segs) b).size ≡ y.size
   next-size b y next value = ∥∥₁_elim k (hlevel (ℕ_set)) (λ h. ap (λ (x : Extent). x.size) (next-extent (tiling segs) a b y (cut-of segs index a h named) next value))
 
-  pub before-size : (b : ℕ) (p : Extent) → IsNamed (tiling segs) b → previous_of (tiling segs) a ≡ Some p → b ≡ address ((place_of a).0, p.off) → (extent_of (tiling segs) b).size ≡ p.size
-  before-size b p other prev value =
-      ∥∥₁_elim k (hlevel (ℕ_set))
-      (λ h.
-      ap (λ (x : Extent). x.size) (extent (tiling segs) t1 (change_extent a absorb t1) a (cut-of segs index a h named) refl refl b p (cut-of segs index b h other) prev named value))
+  pub before-size : (b : ℕ) (p : Extent) → previous_of (tiling segs) a ≡ Some p → b ≡ address ((place_of a).0, p.off) → (extent_of (tiling segs) b).size ≡ p.size
+  before-size b p prev value = ∥∥₁_elim k (hlevel (ℕ_set)) (λ h. ap (λ (x : Extent). x.size) (extent (tiling segs) a (cut-of segs index a h named) b p prev named value))
 
   -- the names of both, where they are there
   module _ (b : ℕ) (value : Some b ≡ option_map (λ (e : Extent). address ((place_of a).0, e.off)) (next_of (tiling segs) a)) where
@@ -46,12 +40,12 @@ module _ (segs : List Bytes) (index : List ℕ) (k : ∥ AreExtents segs index �
     pub next-not : 0 < (extent_of (tiling segs) b).size → free_next (tiling segs) a ≡ []
     next-not busy = name-busy (place_of a).0 (next_of (tiling segs) a) next-is.0 next-is.1 (omega (arith, next-own, busy))
 
-  module _ (b : ℕ) (other : IsNamed (tiling segs) b) (value : Some b ≡ option_map (λ (e : Extent). address ((place_of a).0, e.off)) (previous_of (tiling segs) a)) where
+  module _ (b : ℕ) (value : Some b ≡ option_map (λ (e : Extent). address ((place_of a).0, e.off)) (previous_of (tiling segs) a)) where
     before-is : (y : Extent) × (previous_of (tiling segs) a ≡ Some y) × (b ≡ address ((place_of a).0, y.off))
     before-is = some-address (place_of a).0 b (previous_of (tiling segs) a) value
 
     before-own : (extent_of (tiling segs) b).size ≡ before-is.0.size
-    before-own = before-size b before-is.0 other before-is.1 before-is.2
+    before-own = before-size b before-is.0 before-is.1 before-is.2
 
     pub before-one : (extent_of (tiling segs) b).size ≡ 0 → free_before (tiling segs) a ≡ b ∷ []
     before-one free = name-free (place_of a).0 b (previous_of (tiling segs) a) before-is.0 before-is.1 before-is.2 (sym before-own ∙ free)
@@ -60,12 +54,9 @@ module _ (segs : List Bytes) (index : List ℕ) (k : ∥ AreExtents segs index �
     before-not busy = name-busy (place_of a).0 (previous_of (tiling segs) a) before-is.0 before-is.1 (omega (arith, before-own, busy))
 
   -- the address of the one before is less, and that of the one behind isn't
-  pub before-less : (b : ℕ) (p : Extent) → IsNamed (tiling segs) b → previous_of (tiling segs) a ≡ Some p → b ≡ address ((place_of a).0, p.off) → b < a
-  before-less b p other prev value =
-      let below : p.off < (place_of a).1 =
-      ∥∥₁_elim k le_prop
-      (λ h.
-      lower-before (tiling segs) t1 (change_extent a absorb t1) a (cut-of segs index a h named) refl refl b p (cut-of segs index b h other) prev named value) in
+  pub before-less : (b : ℕ) (p : Extent) → previous_of (tiling segs) a ≡ Some p → b ≡ address ((place_of a).0, p.off) → b < a
+  before-less b p prev value =
+      let below : p.off < (place_of a).1 = ∥∥₁_elim k le_prop (λ h. lower-before (tiling segs) a (cut-of segs index a h named) b p prev named value) in
       omega (arith, below, value)
 
   pub next-later : (b : ℕ) → b < a → contains (free_next (tiling segs) a) b ≡ false

@@ -62,14 +62,7 @@ pub(crate) fn release(extents: &mut Extents, a: Addr) -> Addr
         (free_before (tiling extents.old.segs.items) a.0
         ++ free_next (tiling extents.old.segs.items) a.0) (result.0 ∷ []) }
 {
-    let before = extents.before(a);
     extents.mark_free(a);
     absorb_next(extents, a);
-    if let Some(first) = before {
-        if !extents.is_busy(first) {
-            absorb_next(extents, first);
-            return first;
-        }
-    }
-    a
+    absorb_before(extents, a)
 }

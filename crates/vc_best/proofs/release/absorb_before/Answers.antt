@@ -1,5 +1,5 @@
-use Rattle.vc_base.proofs.Common.{◌≡◌, ℕ, ◌<◌, false, List, [], ◌∷◌, ◌++◌, sym, refl, ap, ◌∙◌, subst, arith, ∥∥₁_elim, address, place_of}
-use Rattle.vc_best.proofs.Common.{HasGapsBy, IsFree, IsMerged, Tiling, absorb, behind_of, change_extent, extent_of, first_of, free_before, free_next, mark_free, next_of, previous_of, tiling}
+use Rattle.vc_base.proofs.Common.{◌≡◌, ℕ, ◌<◌, false, List, [], ◌∷◌, ◌++◌, sym, ap, ◌∙◌, subst, arith, ∥∥₁_elim, address, place_of}
+use Rattle.vc_best.proofs.Common.{HasGapsBy, IsFree, IsMerged, Tiling, behind_of, extent_of, first_of, free_before, free_next, next_of, previous_of, tiling}
 use Rattle.vc_base.proofs.Sets.{bytes-set}
 use Rattle.vc_model.proofs.Owned.{address-place_of}
 use Rattle.vc_best.specs.Standing.{IsOnlyHolding}
@@ -43,8 +43,6 @@ stand c prop f =
     let b = c.in-Some.first.0 in
     let named = c.requires.free.named in
     let p = some-address (place_of a).0 b (previous_of t a) c.in-Some.ensures.value in
-    let t1 : Tiling = change_extent a mark_free t in
-    let t2 : Tiling = change_extent a absorb t1 in
     ∥∥₁_elim c.args.extents.now.kept prop
     (λ h.
     let k = cut-of _ _ a h named in
@@ -52,9 +50,9 @@ stand c prop f =
     f (record {
       cut = k;
       first = d;
-      seg = ap (λ (q : ℕ × ℕ). q.0) (place t t1 t2 a k refl refl b p.0 d p.1 named p.2);
-      lower = lower t t1 t2 a k refl refl b p.0 d p.1 named p.2;
-      rest = rest t t1 t2 a k refl refl b p.0 d p.1 named p.2;
+      seg = ap (λ (q : ℕ × ℕ). q.0) (place t a k b p.0 p.1 named p.2);
+      lower = lower t a k b p.0 p.1 named p.2;
+      rest = rest t a k b p.0 p.1 named p.2;
     }))
 
 pub returns-then-is_busy-clause-merged : goal.returns-then-is_busy-clause-merged
@@ -67,7 +65,7 @@ pub returns-then-is_busy-clause-gaps : goal.returns-then-is_busy-clause-gaps
 returns-then-is_busy-clause-gaps c =
     let t = tiling c.args.extents.now.segs.items in
     let a = c.args.a.0 in
-    let none : free_before t a ≡ [] = before-not _ _ c.args.extents.now.kept a c.requires.free.named c.in-Some.first.0 c.in-Some.ensures.named c.in-Some.ensures.value (c.is_busy.ensures.0 c.if-is_busy.true) in
+    let none : free_before t a ≡ [] = before-not _ _ c.args.extents.now.kept a c.requires.free.named c.in-Some.first.0 c.in-Some.ensures.value (c.is_busy.ensures.0 c.if-is_busy.true) in
     λ u root out h. subst (λ (ps : List ℕ). HasGapsBy u t root ((ps ++ a ∷ []) ++ out)) none h
 
 -- the one before it is free
@@ -94,7 +92,7 @@ returns-clause-gaps c =
     let a = c.args.a.0 in
     let b = c.in-Some.first.0 in
     let n = (goal.at.returns-clause-gaps c).After-is_busy in
-    let before : free_before t a ≡ b ∷ [] = before-one _ _ c.args.extents.now.kept a c.requires.free.named b c.in-Some.ensures.named c.in-Some.ensures.value (free n c.if-is_busy.false).free in
+    let before : free_before t a ≡ b ∷ [] = before-one _ _ c.args.extents.now.kept a c.requires.free.named b c.in-Some.ensures.value (free n c.if-is_busy.false).free in
     let next : free_next t b ≡ a ∷ [] =
     stand n (hlevel (bytes-set))
     (λ s.
