@@ -40,11 +40,7 @@ terms = record { round = 4096; grows = false }
 abbrev pub at_first : State
 at_first = record { shelf = Some terms ∷ []; homes = []; kinds = []; dicts = [] }
 
--- the same where the discipline makes a segment longer
-abbrev pub growing_first : State
-growing_first = record at_first { shelf = Some (record { round = 4096; grows = true }) ∷ [] }
-
--- the same as the first with six kinds: by all bytes, by the text before a zero byte, without regard to case, in reverse order, by the first four bytes, and cut at eight
+-- the same with six kinds: by all bytes, by the text before a zero byte, without regard to case, in reverse order, by the first four bytes, and cut at eight
 abbrev pub with_kinds : State
 with_kinds =
     record {

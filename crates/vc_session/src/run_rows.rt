@@ -4,7 +4,7 @@ ghost use Rattle.vc_commands.specs.Whole.{with_labels};
 ghost use Rattle.vc_script.specs.Needs.{ForBlock};
 ghost use Rattle.vc_script.specs.declared.line_fault.LineFault.TheVariants.{UnknownCommand};
 ghost use Rattle.vc_script.specs.declared.tool.Tool.TheVariants.{Vmreplay};
-ghost use Rattle.vc_session.specs.Rows.{at_first, block_with, gap_behind, growing_first, moved_state, parsed_state};
+ghost use Rattle.vc_session.specs.Rows.{at_first, block_with, gap_behind, moved_state, parsed_state};
 ghost use Rattle.vc_session.specs.Rows.{part_from, text_from, text_refusing, with_kept};
 ghost use Rattle.vc_session.specs.Run.{first_bad};
 
@@ -51,26 +51,6 @@ pub fn gap_rows()
         (codes "open r best 1\nalloc r a 9\nalloc r b 9\nalloc r c 1\nfree r b\n"
         ++ codes "resize r a 48 fixed\nresize r a 49 fixed\n")
         ≡ codes "r open\na 1:32\nb 1:64\nc 1:96\nb freed\na 1:32\nrefused: cannot grow here\n" }
-{}
-
-/// A discipline that grows makes the segment longer where more is needed, in each method.
-pub fn growth_rows()
-    // In a best region the free bytes at the end are part of the gap.
-    ensures best { text_from growing_first
-        (codes "open r best 1\nalloc r a 4000\nalloc r b 4000\nsegments r\nclose r\n")
-        ≡ codes "r open\na 1:32\nb 1:4064\nsegments 1 1:8192\nr closed 1\n" }
-    // A block that moves goes behind itself.
-    ensures moved { text_from growing_first
-        (codes "open r best 1\nalloc r a 4000\nresize r a 5000 move\n")
-        ≡ codes "r open\na 1:32\na 1:4064\n" }
-    // A pool has more cells.
-    ensures pool { text_from growing_first
-        (codes "open r pool 1\nalloc r a 4000\nalloc r b 4000\nsegments r\n")
-        ≡ codes "r open\na 1:32\nb 1:4032\nsegments 1 1:8192\n" }
-    // In a last region the block goes behind the latest one.
-    ensures last { text_from growing_first
-        (codes "open r last 1\nalloc r a 4000\nalloc r b 4000\nsegments r\n")
-        ≡ codes "r open\na 1:32\nb 1:4064\nsegments 1 1:8192\n" }
 {}
 
 /// What is refused, and what was not asked for.

@@ -1,0 +1,64 @@
+use crate::watched::{WatchedDisc, nothing_seen};
+use std::alloc::{AllocError, Global};
+use std::process::Abort;
+use vc_base::{MemSink, MemSource};
+use vc_dtdisc::{BuiltIn, Shape};
+use vc_seg::Shelf;
+use vc_session::{Status, dtrun};
+
+// A script over one discipline that grows, and how it ends: the asks that are refused, and the one that finds no memory, 0
+// for none; the status, the replies and the line of what is wrong; how often the discipline was asked, and the sizes of the
+// segments that it took back, by eight digits each.
+pub(crate) struct Row {
+    pub refused: &'static [u64],
+    pub without_memory: u64,
+    pub words: &'static [&'static str],
+    pub script: &'static [u8],
+    pub status: Status,
+    pub out: &'static [u8],
+    pub err: &'static [u8],
+    pub asks: u64,
+    pub taken: u128,
+}
+
+fn words_of(alloc: Global, words: &[&str]) -> Result<Vec<String>, AllocError> {
+    let mut list = Vec::new(alloc);
+    for word in words {
+        list.push(String::from_str(alloc, word)?)?;
+    }
+    Ok(list)
+}
+
+fn sink(alloc: Global) -> Result<MemSink, AllocError> {
+    MemSink::new(alloc, 100_000, 4096, Vec::new(alloc)).map_err(|_| AllocError)
+}
+
+// Runs the script, and looks at all that comes of it.
+pub(crate) fn is_run(rt: &impl Abort, alloc: Global, row: &Row) -> Result<(), AllocError> {
+    let seen = nothing_seen(alloc)?;
+    let disc = WatchedDisc::new(row.refused, row.without_memory, &seen)?;
+    let mut shelf = Shelf::new(alloc);
+    assert!(rt; shelf.len() < u32::MAX);
+    assert!(rt; shelf.put(Box::new(alloc, disc)?).is_ok());
+    let mut kinds = Vec::new(alloc);
+    kinds.push(BuiltIn::new(Shape::Whole))?;
+    let words = words_of(alloc, row.words)?;
+    let mut source = MemSource::new(row.script.to_vec(alloc)?, 4096, Vec::new(alloc));
+    let mut out = sink(alloc)?;
+    let mut err = sink(alloc)?;
+    let status = dtrun(
+        alloc,
+        words.as_slice(),
+        &mut shelf,
+        &mut kinds,
+        &mut source,
+        &mut out,
+        &mut err,
+    );
+    assert!(rt; status == row.status);
+    assert!(rt; out.bytes() == row.out);
+    assert!(rt; err.bytes() == row.err);
+    assert!(rt; seen.asks.get() == row.asks);
+    assert!(rt; seen.taken.get() == row.taken);
+    Ok(())
+}
