@@ -1,4 +1,5 @@
-//! Tests of what regions stand on: segments that grow, splay trees, extents, gaps, best regions and pools.
+//! Tests of what regions stand on: segments that grow, splay trees, extents and gaps, and of best regions, pools and last
+//! regions.
 #![tactic(auto)]
 
 #[cfg(test)]
@@ -7,6 +8,8 @@ mod best;
 mod extent;
 #[cfg(test)]
 mod gaps;
+#[cfg(test)]
+mod last_growth;
 #[cfg(test)]
 mod pool_growth;
 #[cfg(test)]

@@ -1,0 +1,4 @@
+mod calls;
+mod edge;
+mod moves;
+mod rows;
