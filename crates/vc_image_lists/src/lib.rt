@@ -1,8 +1,10 @@
 //! Whether the lists of dictionaries are sound in blocks of which nothing is known.
 #![tactic(auto)]
 
+mod chain;
 mod holders;
 mod list;
 
+pub use chain::is_sound_chain;
 pub use holders::Holders;
 pub use list::is_sound_list;
