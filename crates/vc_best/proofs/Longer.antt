@@ -58,6 +58,9 @@ module _ (old new : List Bytes) (i : List ℕ) (k : ∥ AreExtents old i ∥₁)
   abbrev was : ℕ
   was = size_in n (map pair_of old)
 
+  own-extents : tiling new ≡ change_in n (widen (size_in n (map pair_of old)) more) (tiling old)
+  own-extents = l.extents ∙ ap (λ (m : ℕ). change_in n (widen m more) (tiling old)) (sym l.size)
+
   below : size_in n (map pair_of old) < 33554432
   below = omega (arith, l.size, l.most, some)
 
@@ -65,22 +68,22 @@ module _ (old new : List Bytes) (i : List ℕ) (k : ∥ AreExtents old i ∥₁)
   at = ap (λ (m : ℕ). address (n, m)) l.size ∙ sym l.value
 
   place : place_of a ≡ (n, size_in n (map pair_of old))
-  place = ap place_of (sym at) ∙ place-widened old i (tiling new) n more k l.there below l.extents
+  place = ap place_of (sym at) ∙ place-widened old i (tiling new) n more k l.there below own-extents
 
   pub more-free : IsFree (tiling new) a
-  more-free = subst (IsFree (tiling new)) at (free-widened old i (tiling new) n more k l.there below l.extents some)
+  more-free = subst (IsFree (tiling new)) at (free-widened old i (tiling new) n more k l.there below own-extents some)
 
   pub more-change : GapsChange (tiling old) (tiling new) [] (a ∷ [])
-  more-change u root out h = subst (λ (z : ℕ). HasGapsBy u (tiling new) root (z ∷ out)) at (gaps-widened_by old i (tiling new) n more k l.there below l.extents root out h)
+  more-change u root out h = subst (λ (z : ℕ). HasGapsBy u (tiling new) root (z ∷ out)) at (gaps-widened_by old i (tiling new) n more k l.there below own-extents root out h)
 
   pub more-gaps : HasGaps (tiling old) root [] → HasGaps (tiling new) root (a ∷ [])
-  more-gaps h = subst (λ (z : ℕ). HasGaps (tiling new) root (z ∷ [])) at (gaps-widened old i (tiling new) n more k l.there below l.extents root [] h)
+  more-gaps h = subst (λ (z : ℕ). HasGaps (tiling new) root (z ∷ [])) at (gaps-widened old i (tiling new) n more k l.there below own-extents root [] h)
 
   pub more-layout : layout_by new ≡ with_grant (layout_by old) (more_bytes n more)
   unfolding layout_by
   more-layout =
       let pairs = l.pairs in
-      let blocks : in_order (all_busy (tiling new)) ≡ in_order (all_busy (tiling old)) = ap in_order (ap all_busy l.extents ∙ busy-widened n was more (tiling old)) in
+      let blocks : in_order (all_busy (tiling new)) ≡ in_order (all_busy (tiling old)) = ap in_order (ap all_busy own-extents ∙ busy-widened n was more (tiling old)) in
       λ j. record { segments = pairs j; blocks = blocks j }
 
   others : AreExtents old i → All (λ e. e.off ≢ was) (extents_of n (tiling old))
@@ -88,7 +91,7 @@ module _ (old new : List Bytes) (i : List ℕ) (k : ∥ AreExtents old i ∥₁)
       let s = segment-of n old i h l.there in
       none-named was (extents_of n (tiling old))
       (All-weaker (IsWithin (s.size - 16) 16) (λ e. 32 ≤ e.span) (λ e w. w.legal.least) (extents_of n (tiling old)) (lies-within (s.size - 16) 16 (extents_of n (tiling old)) refl s.lies))
-      (none-widened old i (tiling new) n more k l.there below l.extents)
+      (none-widened old i (tiling new) n more k l.there below own-extents)
 
   -- the tiling is the old one without it
   left : change_extent a leave_out (tiling new) ≡ tiling old
@@ -96,13 +99,13 @@ module _ (old new : List Bytes) (i : List ℕ) (k : ∥ AreExtents old i ∥₁)
       ∥∥₁_elim k (hlevel (tiling-set))
       (λ h.
       ap (λ (q : ℕ × ℕ). change_in q.0 (change_at q.1 leave_out) (tiling new)) place
-      ∙ (ap (change_in n (change_at was leave_out)) l.extents
+      ∙ (ap (change_in n (change_at was leave_out)) own-extents
       ∙ (change_in-twice n (tiling old) (widen was more) (change_at was leave_out)
       ∙ change_in-none n (tiling old) (λ es. change_at was leave_out (widen was more es)) (left-widened was more (extents_of n (tiling old)) (others h)))))
 
   next : free_next (tiling new) a ≡ []
   next =
-      let own : extents_of n (tiling new) ≡ widen was more (extents_of n (tiling old)) = own-widened old i (tiling new) n more k l.there below l.extents in
+      let own : extents_of n (tiling new) ≡ widen was more (extents_of n (tiling old)) = own-widened old i (tiling new) n more k l.there below own-extents in
       ∥∥₁_elim k (hlevel (bytes-set))
       (λ h.
       ap (λ (q : ℕ × ℕ). free_name q.0 (first_of (behind q.1 (extents_of q.0 (tiling new))))) place
@@ -114,7 +117,7 @@ module _ (old new : List Bytes) (i : List ℕ) (k : ∥ AreExtents old i ∥₁)
   run : run_at (tiling new) a ≡ run_of_extent n (free_extent was more no_links)
   run =
       let x = extent_of (tiling new) a in
-      let span_is : x.span ≡ more = ap (λ (b : ℕ). (extent_of (tiling new) b).span) (sym at) ∙ span-widened old i (tiling new) n more k l.there below l.extents in
+      let span_is : x.span ≡ more = ap (λ (b : ℕ). (extent_of (tiling new) b).span) (sym at) ∙ span-widened old i (tiling new) n more k l.there below own-extents in
       let off_is : x.off ≡ was = extent_in-off (place_of a).1 (extents_of (place_of a).0 (tiling new)) ∙ ap (λ (q : ℕ × ℕ). q.1) place in
       let seg_is : (place_of a).0 ≡ n = ap (λ (q : ℕ × ℕ). q.0) place in
       λ j. record { seg = seg_is j; from = off_is j - 16; to = off_is j - 16 + span_is j }
@@ -131,7 +134,7 @@ module _ (old new : List Bytes) (i : List ℕ) (k : ∥ AreExtents old i ∥₁)
       let passes : test f ≡ true = le-leb (lowest_offset align f + span size) (f.to + 16) (omega (arith, high, room, first, size_is)) in
       let no : filter test (gaps.free_runs (tiling old)) ≡ [] =
       least-None _ (ap (λ (rs : List Run). least (filter test rs)) (sym (runs-by (tiling old))) ∙ option_map-None (place_at align) _ (sym (place-runs old i size align k merged) ∙ none)) in
-      ap (λ (t : List (ℕ × List Extent)). filter test (gaps.free_runs t)) l.extents ∙ only-widened test n was more old l.there passes no ∙ ap (λ r. r ∷ []) (sym run)
+      ap (λ (t : List (ℕ × List Extent)). filter test (gaps.free_runs t)) own-extents ∙ only-widened test n was more old l.there passes no ∙ ap (λ r. r ∷ []) (sym run)
 
   pub more-out : AreAllowed size align → AreWhole old root → place_in (layout_by old) size align ≡ None → span size + align ≤ more → IsOnlyOut new root size align a
   more-out allowed whole none room = record {

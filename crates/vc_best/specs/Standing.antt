@@ -57,7 +57,7 @@ pub record IsLentFree (terms : Terms) (old new : List Bytes) (number bytes : ℕ
 -- an address
 pub record IsMoreFree (terms : Terms) (old new : List Bytes) (number had more a : ℕ) : Type 0 where
   pub granted : ask terms more (map pair_of old) false ≡ Granted (more_bytes number more)
-  pub extents : tiling new ≡ change_in number (widen (size_in number (map pair_of old)) more) (tiling old)
+  pub extents : tiling new ≡ change_in number (widen had more) (tiling old)
   pub pairs : map pair_of new ≡ with_more more (map pair_of old)
   pub there : IsThere number old
   pub size : size_in number (map pair_of old) ≡ had

@@ -1,4 +1,6 @@
 use Rattle.vc_base.proofs.Common.{ℕ, ◌∙◌, ap, refl, arith, map, Terms, address, false}
+use Rattle.vc_extent.specs.Change.{widen}
+use Rattle.vc_extent.specs.Tiling.{change_in, tiling}
 use Rattle.vc_seg.specs.Segment.{pair_of}
 use Rattle.vc_seg.proofs.Growing.{more-asked}
 use Rattle.vc_best.proofs.Growing.{IsLast, last-can, last-is, last-legal, last-longer, last-served, last-size, last-there}
@@ -34,7 +36,7 @@ returns-in-Ok-clause-more g c =
     let e = c.args.extents.now in
     record {
       granted = more-asked (terms g s) c.args.more (map pair_of e.segs.items) (c.args.number, c.args.had) c.requires.last c.if-had-more-gt-SIZE_LIMIT.false false;
-      extents = c.in-Ok.ensures.tiling;
+      extents = c.in-Ok.ensures.tiling ∙ ap (λ (m : ℕ). change_in c.args.number (widen m c.args.more) (tiling e.segs.items)) (last-size e.segs.items e.index.items e.kept _ _ _ l);
       pairs = c.in-Ok.ensures.pairs ∙ last-longer e.segs.items e.index.items e.kept _ _ _ l c.args.more;
       there = last-there e.segs.items e.index.items e.kept _ _ _ l;
       size = last-size e.segs.items e.index.items e.kept _ _ _ l;
