@@ -1,4 +1,4 @@
-ghost use Rattle.std.specs.Prelude.{◌≡◌, ◌+◌, ◌*◌, length};
+ghost use Rattle.std.specs.Prelude.{◌≡◌, ℕ, ◌+◌, ◌*◌, ◌<◌, length, slice_index};
 ghost use Rattle.vc_base.specs.Cells.{Blocks, HasBytes, IsHolder, bytes_at, word_at};
 ghost use Rattle.vc_dtdisc.specs.Finds.{object_at};
 
@@ -20,4 +20,7 @@ pub trait Holders {
     fn object(&self, a: u32) -> &[u8]
         requires { IsHolder (blocks self.now) a }
         ensures { result.now ≡ object_at (blocks self.now) a };
+
+    /// Each byte is one.
+    ghost small: { (holders : Self) (a i : ℕ) → slice_index (bytes_at (blocks holders) a) i < 256 };
 }

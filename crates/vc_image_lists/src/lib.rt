@@ -1,10 +1,12 @@
 //! Whether the lists of dictionaries are sound in blocks of which nothing is known.
 #![tactic(auto)]
 
+mod ascending;
 mod chain;
 mod holders;
 mod list;
 
+pub use ascending::is_ascending;
 pub use chain::is_sound_chain;
 pub use holders::Holders;
 pub use list::is_sound_list;
