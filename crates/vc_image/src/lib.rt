@@ -1,0 +1,10 @@
+//! Images of a best region with its dictionaries: saved to a sink. This project's own.
+#![tactic(auto)]
+
+mod fault;
+mod head;
+mod saving;
+mod segments;
+
+pub use fault::SaveFault;
+pub use saving::save;
