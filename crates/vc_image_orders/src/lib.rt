@@ -1,0 +1,7 @@
+//! Whether ordered dictionaries are sound in blocks of which nothing is known.
+#![tactic(auto)]
+
+mod nodes;
+mod order;
+
+pub use order::is_sound_order;

@@ -1,0 +1,64 @@
+ghost use Rattle.std.specs.Prelude.{◌≡◌, ◌↔◌, ◌≤◌, ◌+◌, ℕ, IfOk, IsTrue, true};
+ghost use Rattle.vc_base.specs.Cells.{IsHolder, bytes_at};
+ghost use Rattle.vc_base.specs.Holders.{AreDistinct, contains};
+ghost use Rattle.vc_image_orders.specs.Sound.{ArePlain, IsPlainNode, IsSoundOrder};
+
+use crate::nodes::TreeNodes;
+use std::alloc::Global;
+use vc_base::{Addr, OutOfMemory, Steps};
+use vc_dtdisc::DictDisc;
+use vc_image_lists::{Holders, is_ascending};
+use vc_image_walks::in_order;
+
+// Whether a holder has 0 in its fourth word and at most 1,056 bytes.
+fn is_plain<N: Holders>(holders: &N, name: u32) -> bool
+    requires { IsHolder (N.blocks holders.now) name }
+    ensures { IsTrue result ↔ IsPlainNode (N.blocks holders.now) name }
+{
+    holders.size(name) <= 1056 && holders.word(name, 3) == 0
+}
+
+// Whether each of these holders has 0 in its fourth word and at most 1,056 bytes.
+fn are_plain<N: Holders>(holders: &N, names: &[u32]) -> bool
+    requires { (a : ℕ) → contains names.now a ≡ true → IsHolder (N.blocks holders.now) a }
+    ensures { IsTrue result ↔ ArePlain (N.blocks holders.now) names.now }
+{
+    for name in names {
+        if !is_plain(holders, *name) {
+            return false;
+        }
+    }
+    true
+}
+
+/// Whether so many holders are an ordered dictionary with that root, by a kind's order of keys: the nodes of a tree, in order of
+/// their keys, of which no two are equal where `alone` is true; each with 0 in its fourth word and with at most 1,056 bytes.
+/// That none stands twice isn't told: the answer is true where they are so, and false only where they aren't or one stands twice.
+/// Whatever the blocks' bytes are, no node is met twice. `steps` counts the compares. This project's own.
+pub fn is_sound_order<N: Holders, D: DictDisc, L>(
+    alloc: Global,
+    holders: &N,
+    kind: &D,
+    alone: bool,
+    count: u32,
+    root: Addr,
+    steps: &mut Steps<L>,
+) -> Result<bool, OutOfMemory>
+    ensures sound { IfOk result (λ b. IsTrue b
+        → IsSoundOrder (D.rules kind.now) (N.blocks holders.now) alone count root) }
+    ensures whole { IfOk result (λ b. (h : IsSoundOrder (D.rules kind.now) (N.blocks holders.now) alone count root)
+        → AreDistinct h.names → IsTrue b) }
+{
+    let nodes = TreeNodes { holders };
+    let names = match in_order(alloc, &nodes, root.0, count as usize)? {
+        Some(names) => names,
+        None => return Ok(false),
+    };
+    if names.len() != count as usize {
+        return Ok(false);
+    }
+    if !are_plain(holders, &names) {
+        return Ok(false);
+    }
+    Ok(is_ascending(holders, kind, alone, &names, steps))
+}
