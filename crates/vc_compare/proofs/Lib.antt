@@ -1,0 +1,3 @@
+pub mod TermsOn
+pub mod Running
+pub mod Breaking

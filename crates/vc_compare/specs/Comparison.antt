@@ -1,0 +1,81 @@
+-- What a comparison promises.
+use Rattle.std.specs.Prelude.{◌≡◌, ℕ, ◌<◌, ◌≤◌, List, Option, IfSome, codes}
+use Rattle.vc_model.specs.Count.{Rose}
+use Rattle.vc_model.specs.Discipline.{Discipline}
+use Rattle.vc_script.specs.Judged.{judged_lines}
+use Rattle.vc_compare.specs.declared.ending.Ending.{Ending}
+use Rattle.vc_compare.specs.declared.ending.Ending.TheVariants as ending
+use Rattle.vc_compare.specs.declared.ending.Fault.{Fault}
+use Rattle.vc_compare.specs.declared.ending.Fault.TheVariants as fault
+use Rattle.vc_compare.specs.declared.status.CompareStatus.{CompareStatus}
+use Rattle.vc_compare.specs.declared.status.CompareStatus.TheVariants.{Ok, Script, Usage, Read, Write, Memory, NoSegment, TooMany}
+use Rattle.vc_compare.specs.Ending.{EndsAs}
+use Rattle.vc_compare.specs.Streams.{Sinks}
+use Rattle.vc_compare.specs.Terms.{terms_on}
+use Rattle.vc_compare.specs.Told.{Broke, Told, Tried, err_line, message}
+use Rattle.vc_ways.specs.Lends.{HasAllBack}
+use Rattle.vc_ways.specs.Step.{start}
+use Rattle.vc_ways.specs.Tally.{report}
+use Rattle.vc_ways.specs.declared.tally.Tally.{Tally}
+
+-- one line was tried on err
+abbrev pub Tries : Sinks → Sinks → List ℕ → Type 0
+Tries old new line = Tried old.errors new.errors old.told new.told line
+
+-- by the status the report of a trace was written, or a front of it, or nothing for want of memory
+abbrev pub Finishes : Tally → CompareStatus → Sinks → Sinks → Type 0
+Finishes tally Ok old new = Told old.written new.written (report tally) × (new.told ≡ old.told)
+Finishes tally Write old new = Broke old.writes new.writes old.written new.written (report tally) × Tries old new (message (codes "write failed"))
+Finishes tally Memory old new = (new.written ≡ old.written) × Tries old new (message (codes "out of memory"))
+Finishes tally other old new = ⊥
+
+-- the status of a line that can't be run
+abbrev pub status_of : Fault → CompareStatus
+status_of (fault.Bad why) = Script
+status_of fault.Outside = Script
+status_of (fault.NoSegment way) = NoSegment
+status_of (fault.TooMany way) = TooMany
+
+-- its line is told; where that was broken off, a write failed
+abbrev pub IsFaultTold : ℕ → Fault → CompareStatus → Sinks → Sinks → Type 0
+IsFaultTold n fault Write old new = Broke old.errors new.errors old.told new.told (err_line n fault)
+IsFaultTold n fault status old new = (status ≡ status_of fault) × Told old.told new.told (err_line n fault)
+
+-- by the status it was told how a trace ends; but for a report nothing is written to out
+abbrev pub Ends : Ending → CompareStatus → Sinks → Sinks → Type 0
+Ends (ending.Finished tally) status old new = Finishes tally status old new
+Ends (ending.Faulty n fault) status old new = (new.written ≡ old.written) × IsFaultTold n fault status old new
+Ends ending.Read status old new = (status ≡ Read) × ((new.written ≡ old.written) × Tries old new (message (codes "read failed")))
+Ends ending.Memory status old new = (status ≡ Memory) × ((new.written ≡ old.written) × Tries old new (message (codes "out of memory")))
+
+-- words are refused
+abbrev pub AreRefused : CompareStatus → Sinks → Sinks → Type 0
+AreRefused Usage old new = Told old.told new.told (message (codes "bad arguments"))
+AreRefused Write old new = Broke old.errors new.errors old.told new.told (message (codes "bad arguments"))
+AreRefused other old new = ⊥
+
+-- what a source has left, and how often a read failed
+pub record Flow : Type 0 where
+  pub left : Option (List ℕ)
+  pub reads : ℕ
+
+abbrev pub flow : {S : Type 0} → (S → Option (List ℕ)) → (S → ℕ) → S → Flow
+flow left reads source = record { left = left source; reads = reads source }
+
+-- the trace of a source was run over the disciplines of a shelf, and how it ends was told
+pub record IsRun (status : CompareStatus) (slots : List (Option Discipline)) (before after : Flow) (old new : Sinks) : Type 0 where
+  pub how : Ending
+  pub ends : IfSome before.left (λ input. EndsAs (terms_on slots) start (judged_lines input) how after.left)
+  pub read : how ≡ ending.Read → Rose before.reads after.reads
+  pub told : Ends how status old new
+
+-- a comparison with so many words
+pub record Comparison (words : ℕ) (status : CompareStatus) (slots slots' : List (Option Discipline)) (before after : Flow) (old new : Sinks) : Type 0 where
+  -- words are refused, and then nothing is read or written but the line of that
+  pub refused : 0 < words → AreRefused status old new × ((after ≡ before) × (new.written ≡ old.written))
+  pub run : words ≡ 0 → IsRun status slots before after old new
+  -- on every exit each place has its discipline, with the segments out and the terms that it had, and no fault less
+  pub keeps : HasAllBack slots slots'
+  -- the counts of failures never fall
+  pub reads : before.reads ≤ after.reads
+  pub writes : (old.writes ≤ new.writes) × (old.errors ≤ new.errors)

@@ -1,0 +1,73 @@
+-- How the run of a trace ends.
+use Rattle.std.specs.Prelude.{◌≡◌, ℕ, List, [], ◌∷◌, ◌++◌, None, Option, Some, Result, Ok, Err}
+use Rattle.vc_model.specs.Outcome as outcome
+use Rattle.vc_script.specs.Answer.{answer}
+use Rattle.vc_script.specs.Pieces.{FoundLines}
+use Rattle.vc_script.specs.declared.command.Command.{Command}
+use Rattle.vc_script.specs.declared.line_answer.LineAnswer.TheVariants.{Is}
+use Rattle.vc_script.specs.declared.tool.Tool.TheVariants.{Vmreplay}
+use Rattle.vc_seg.specs.declared.fault.RegionFault.TheVariants as code
+use Rattle.vc_compare.specs.declared.ending.Ending.{Ending}
+use Rattle.vc_compare.specs.declared.ending.Ending.TheVariants.{Finished, Faulty, Read, Memory}
+use Rattle.vc_compare.specs.declared.ending.Fault.TheVariants.{Bad, Outside, NoSegment, TooMany}
+use Rattle.vc_ways.specs.Compare as compared
+use Rattle.vc_ways.specs.Compare.{Compared, after_line, compare_lines}
+use Rattle.vc_ways.specs.Regions.{WayTerms}
+use Rattle.vc_ways.specs.Step.{State, Stops, step}
+use Rattle.vc_ways.specs.declared.line.Wrong.{Wrong}
+use Rattle.vc_ways.specs.declared.line.Wrong.TheVariants as wrong
+use Rattle.vc_ways.specs.declared.regions.Stop.{Stop}
+use Rattle.vc_ways.specs.declared.way.Way.{Way}
+
+-- a way stops a command; any other fault is told as want of memory
+abbrev pub StopsAs : ℕ → Stop → Ending → Type 0
+StopsAs n stop (Faulty m (TooMany way)) = (m ≡ n) × ((stop.fault ≡ code.TooManySegments) × (stop.way ≡ way))
+StopsAs n stop (Faulty m (NoSegment way)) = (m ≡ n) × ((stop.fault ≡ code.NoSegment) × (stop.way ≡ way))
+StopsAs n stop Memory = Unit {0}
+StopsAs n stop other = ⊥
+
+-- how a trace ends at a line with which that is wrong; where nothing is, it goes on
+abbrev pub ending_of : ℕ → Option Wrong → Result Unit Ending
+ending_of n None = Ok tt
+ending_of n (Some (wrong.Bad fault)) = Err (Faulty n (Bad fault))
+ending_of n (Some wrong.Outside) = Err (Faulty n Outside)
+
+-- a command asks for a segment in a way: were it refused, the way would stop it there
+pub record AsksIn (terms : WayTerms) (s : State) (line : List ℕ) (way : Way) : Type 0 where
+  pub command : Command
+  pub is : answer Vmreplay line ≡ Is command
+  pub stops : step terms s command (Some way) ≡ Stops way outcome.NoSegment
+
+-- running one line: the trace goes on from a state, or ends there
+abbrev pub RunsLine : WayTerms → State → ℕ → List ℕ → Result Unit Ending → State → Type 0
+RunsLine terms s n line (Ok done) new = (behind : State → Compared) → after_line terms n s (Ok line) behind ≡ behind new
+RunsLine terms s n line (Err (Faulty m (Bad fault))) new = (m ≡ n) × ((behind : State → Compared) → after_line terms n s (Ok line) behind ≡ compared.BadLine n fault)
+RunsLine terms s n line (Err (Faulty m Outside)) new = (m ≡ n) × ((behind : State → Compared) → after_line terms n s (Ok line) behind ≡ compared.OutsideAt n)
+RunsLine terms s n line (Err (Faulty m (NoSegment way))) new = (m ≡ n) × AsksIn terms s line way
+RunsLine terms s n line (Err (Faulty m (TooMany way))) new = (m ≡ n) × ((behind : State → Compared) → after_line terms n s (Ok line) behind ≡ compared.StoppedAt n way outcome.TooManySegments)
+RunsLine terms s n line (Err Memory) new = Unit {0}
+RunsLine terms s n line (Err other) new = ⊥
+
+-- the first lines are run from a state to another, whatever is behind them
+abbrev pub Ran : WayTerms → State → FoundLines → State → Type 0
+Ran terms s front at = (behind : FoundLines) → compare_lines terms s (front ++ behind) ≡ compare_lines terms at behind
+
+-- the lines before one are run, and it asks for a segment in a way
+pub record AsksAt (terms : WayTerms) (s : State) (lines : FoundLines) (n : ℕ) (way : Way) : Type 0 where
+  pub front : FoundLines
+  pub line : List ℕ
+  pub behind : FoundLines
+  pub split : lines ≡ front ++ (n, Ok line) ∷ behind
+  pub at : State
+  pub ran : Ran terms s front at
+  pub asks : AsksIn terms at line way
+
+-- how the run of lines from a state ends, and what the source has left then
+abbrev pub EndsAs : WayTerms → State → FoundLines → Ending → Option (List ℕ) → Type 0
+EndsAs terms s lines (Finished tally) left = (compare_lines terms s lines ≡ compared.Finished tally) × (left ≡ Some [])
+EndsAs terms s lines (Faulty n (Bad fault)) left = compare_lines terms s lines ≡ compared.BadLine n fault
+EndsAs terms s lines (Faulty n Outside) left = compare_lines terms s lines ≡ compared.OutsideAt n
+EndsAs terms s lines (Faulty n (TooMany way)) left = compare_lines terms s lines ≡ compared.StoppedAt n way outcome.TooManySegments
+EndsAs terms s lines (Faulty n (NoSegment way)) left = AsksAt terms s lines n way
+EndsAs terms s lines Read left = Unit {0}
+EndsAs terms s lines Memory left = Unit {0}

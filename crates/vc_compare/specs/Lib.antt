@@ -1,0 +1,6 @@
+pub mod Status
+pub mod Streams
+pub mod Told
+pub mod Ending
+pub mod Terms
+pub mod Comparison
