@@ -16,3 +16,4 @@ pub mod Copies
 pub mod BytesByNumber
 pub mod FirstByNumber
 pub mod Frames
+pub mod Rooms

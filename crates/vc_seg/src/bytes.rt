@@ -3,13 +3,38 @@ ghost use Rattle.vc_base.specs.Prelude.{with_bytes};
 
 use crate::Segment;
 
+// Puts bytes over others from an offset on.
+pub(crate) fn put_in(bytes: &mut [u8], off: usize, src: &[u8])
+    requires { off + length src.now ≤ length bytes.old }
+    ensures { bytes.new ≡ with_bytes off src.now bytes.old }
+{
+    bytes[off..off + src.len()].copy_from_slice(src);
+}
+
+// Fills a range with one byte.
+fn fill_in(bytes: &mut [u8], off: usize, len: usize, byte: u8)
+    requires { off + len ≤ length bytes.old }
+    ensures { bytes.new ≡ with_bytes off (replicate len byte) bytes.old }
+{
+    bytes[off..off + len].fill(byte);
+}
+
+// Copies a range, also where the two ranges overlap.
+fn shift_in(bytes: &mut [u8], from: usize, to: usize, len: usize)
+    requires from { from + len ≤ length bytes.old }
+    requires to { to + len ≤ length bytes.old }
+    ensures { bytes.new ≡ with_bytes to (take len (drop from bytes.old)) bytes.old }
+{
+    bytes.copy_within(from..from + len, to);
+}
+
 impl Segment {
     /// Its bytes from an offset on. The range lies in the segment.
     pub fn bytes(&self, off: u32, len: u32) -> &[u8]
         requires { off + len ≤ length self.now.bytes }
         ensures { result.now ≡ take len (drop off self.now.bytes) }
     {
-        &self.block.all(self.at, self.size as usize)[off as usize..off as usize + len as usize]
+        &self.block.all(self.at, self.room as usize)[off as usize..off as usize + len as usize]
     }
 
     /// Puts bytes there from an offset on. They fit behind it.
@@ -18,8 +43,9 @@ impl Segment {
         ensures bytes { self.new.bytes ≡ with_bytes off src.now self.old.bytes }
         ensures number { self.new.number ≡ self.old.number }
     {
-        let from = off as usize;
-        self.block.all_mut(self.at, self.size as usize)[from..from + src.len()].copy_from_slice(
+        put_in(
+            self.block.all_mut(self.at, self.room as usize),
+            off as usize,
             src,
         );
     }
@@ -30,8 +56,12 @@ impl Segment {
         ensures bytes { self.new.bytes ≡ with_bytes off (replicate len byte) self.old.bytes }
         ensures number { self.new.number ≡ self.old.number }
     {
-        let from = off as usize;
-        self.block.all_mut(self.at, self.size as usize)[from..from + len as usize].fill(byte);
+        fill_in(
+            self.block.all_mut(self.at, self.room as usize),
+            off as usize,
+            len as usize,
+            byte,
+        );
     }
 
     /// Copies a range within the segment, also where the two ranges overlap. Both lie in the segment.
@@ -42,10 +72,12 @@ impl Segment {
             self.old.bytes }
         ensures number { self.new.number ≡ self.old.number }
     {
-        let start = from as usize;
-        self.block
-            .all_mut(self.at, self.size as usize)
-            .copy_within(start..start + len as usize, to as usize);
+        shift_in(
+            self.block.all_mut(self.at, self.room as usize),
+            from as usize,
+            to as usize,
+            len as usize,
+        );
     }
 
     /// Copies a range of another segment here. It lies in that segment, and fits here.

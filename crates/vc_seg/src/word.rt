@@ -28,7 +28,7 @@ impl Segment {
     {
         let from = at as usize;
         write_word(
-            &mut self.block.all_mut(self.at, self.size as usize)[from..from + 8],
+            &mut self.block.all_mut(self.at, self.room as usize)[from..from + 8],
             v,
         );
     }
