@@ -36,7 +36,7 @@ fn sink(alloc: Global) -> Result<MemSink, AllocError> {
 // Runs the script, and looks at all that comes of it.
 pub(crate) fn is_run(rt: &impl Abort, alloc: Global, row: &Row) -> Result<(), AllocError> {
     let seen = nothing_seen(alloc)?;
-    let disc = WatchedDisc::new(row.refused, row.without_memory, &seen)?;
+    let disc = WatchedDisc::new(row.refused.to_vec(alloc)?, row.without_memory, &seen)?;
     let mut shelf = Shelf::new(alloc);
     assert!(rt; shelf.len() < u32::MAX);
     assert!(rt; shelf.put(Box::new(alloc, disc)?).is_ok());

@@ -29,14 +29,14 @@ pub(crate) fn nothing_seen(alloc: Global) -> Result<Rc<Seen>, AllocError> {
 pub(crate) struct WatchedDisc {
     inner: SbrkDisc,
     refusals: u64,
-    refused: &'static [u64],
+    refused: Vec<u64>,
     without_memory: u64,
     seen: Rc<Seen>,
 }
 
 impl WatchedDisc {
     pub fn new(
-        refused: &'static [u64],
+        refused: Vec<u64>,
         without_memory: u64,
         seen: &Rc<Seen>,
     ) -> Result<WatchedDisc, AllocError> {
