@@ -74,4 +74,8 @@ for program in vmreplay dtrun; do
     calls FAIL_READ 3
     calls FAIL_WRITE 4
 done
+# It writes once, so that its reads and writes are not tried in turn.
+program=vmcompare
+sample=crates/$program
+allocations
 sort "$dir/lines" | uniq -c

@@ -1,12 +1,12 @@
 #!/bin/sh
-# Runs each script of this folder, *.vm with vmreplay and *.dt with dtrun, behind the words in the file *.words beside it,
-# if there is one, and compares what is written with the file *.replies:
+# Runs each script of this folder, *.vm with vmreplay, *.dt with dtrun and *.trace with vmcompare, behind the words in the
+# file *.words beside it, if there is one, and compares what is written with the file *.replies:
 #   examples/run.sh [FOLDER]
 # The programs are those of bin/ where no folder is named.
 set -u
 here=$(cd "$(dirname "$0")" && pwd) || exit 1
 programs=${1:-$here/../bin}
-for program in vmreplay dtrun; do
+for program in vmreplay dtrun vmcompare; do
     if [ ! -x "$programs/$program" ]; then
         echo "examples/run.sh: no program $programs/$program: run make first" >&2
         echo '0 passed, 1 failed'
@@ -17,9 +17,10 @@ dir=$(mktemp -d) || exit 1
 trap 'rm -rf "$dir"' EXIT
 passed=0
 failed=0
-for script in "$here"/*.vm "$here"/*.dt; do
+for script in "$here"/*.vm "$here"/*.dt "$here"/*.trace; do
     case $script in
         *.vm) program=vmreplay ;;
+        *.trace) program=vmcompare ;;
         *) program=dtrun ;;
     esac
     name=$(basename "${script%.*}")

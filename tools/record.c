@@ -1,5 +1,5 @@
-/* Writes the allocations of a program as a script for vmreplay. The program is run with this library preloaded, which the
-   script record beside it does.
+/* Writes the allocations of a program as a script for vmreplay, or as a trace for vmcompare. The program is run with this
+   library preloaded, which the script record beside it does.
 
    Each call is passed on to the allocator behind this library, and then said in one line. A line is written with the lock
    held, and a block's end is written before the block goes, so the order of the lines is right across threads. The process
@@ -11,10 +11,10 @@
    recording stops where the file gets no more room.
 
    VMREPLAY_RECORD is the path of the script, VMREPLAY_RECORD_PID the process that writes it, VMREPLAY_RECORD_OPEN the words
-   of its command open, VMREPLAY_RECORD_REGIONS the number of regions, VMREPLAY_RECORD_SITES is "no" where the sites of calls
-   are left out, and VMREPLAY_RECORD_THROUGH has the functions that are looked through, each with a newline. A program that
-   another process starts with this library writes a script of its own, whose path has a dot and the process's number behind
-   it. */
+   of its command open, in which the method is "trace" where there is no such command, VMREPLAY_RECORD_REGIONS the number of
+   regions, VMREPLAY_RECORD_SITES is "no" where the sites of calls are left out, and VMREPLAY_RECORD_THROUGH has the functions
+   that are looked through, each with a newline. A program that another process starts with this library writes a script of
+   its own, whose path has a dot and the process's number behind it. */
 #define _GNU_SOURCE
 #include <dlfcn.h>
 #include <elf.h>
@@ -336,6 +336,9 @@ static struct region regions[MOST_REGIONS];
 static size_t region_count;
 static int has_align;
 
+/* Whether it is a trace, whose region is never opened. */
+static int is_trace;
+
 /* The least segment that the disciplines lend. */
 static size_t least_segment;
 
@@ -416,7 +419,7 @@ static void count_block(uint32_t label, size_t before, size_t size)
     struct region *region = region_of(label);
     if (before) region->taken -= span_of(before);
     if (size) region->taken += span_of(size);
-    if (!region->is_told && region->taken >= 256 * least_segment) tell_much(region);
+    if (!is_trace && !region->is_told && region->taken >= 256 * least_segment) tell_much(region);
 }
 
 /* The live blocks: a table by address with open addressing, at most half full. Label 0 is a block that isn't in the script. */
@@ -1097,6 +1100,7 @@ static int read_open(const char *words, size_t count)
     memcpy(method, words + length + 1, n);
     place = strtoul(words + length + 1 + n, NULL, 10);
     has_align = strcmp(method, "best") == 0 || strcmp(method, "profile") == 0;
+    is_trace = strcmp(method, "trace") == 0;
     least_segment = place >= 9 && place <= 12 ? 65536 : 4096;
     /* Over discipline 17 a region has one segment, so nothing is to be told of how many it takes. */
     regions[0].is_told = place == 17;
@@ -1115,6 +1119,7 @@ static int read_open(const char *words, size_t count)
 static void tell_open(size_t i)
 {
     struct line line = { .used = 0 };
+    if (is_trace) return;
     word(&line, "open ");
     word(&line, regions[i].name);
     word(&line, " ");
@@ -1257,7 +1262,7 @@ static uint32_t tell_new(const char *call, size_t align, size_t size, const char
         return 0;
     }
     if (align && !has_align) {
-        comment(call, align, size, ": a region of this method has no align");
+        comment(call, align, size, is_trace ? ": a trace has no align" : ": a region of this method has no align");
         align = 0;
     }
     begin_command(&line, align ? "align" : "alloc", label);

@@ -1,9 +1,10 @@
 #!/bin/sh
 # Runs scripts without a proof, or by the programs that make left in bin/, where no source is newer:
 #   tools/try.sh [SCRIPT..]
-# dtrun runs a script NAME.dt, and vmreplay any other; where none is named each runs its sample script, as make run does. A
-# program is compiled once, whatever the number of its scripts, and not at all where bin/ has it. RT and BIN stand for the
-# command rt and the folder bin. The status is the greatest of the runs; without rt, where it is needed, it is 127.
+# dtrun runs a script NAME.dt, vmcompare a trace NAME.trace, and vmreplay any other; where none is named each runs its sample,
+# as make run does. A program is compiled once, whatever the number of its scripts, and not at all where bin/ has it. RT and
+# BIN stand for the command rt and the folder bin. The status is the greatest of the runs; without rt, where it is needed, it
+# is 127.
 set -u
 here=$(cd "$(dirname "$0")/.." && pwd) || exit 1
 rt=${RT:-rt}
@@ -94,21 +95,25 @@ run() {
     say "$name: compiled and run in $(took "$at")"
 }
 
-# A program's sample script, each command with its reply.
+# A program's sample script, each command with its reply; a trace, and what is told of it.
 sample() {
     run "$1" "$here/crates/$1/stdin" > "$dir/replies"
+    if [ "$1" = vmcompare ]; then
+        cat "$here/crates/$1/stdin" "$dir/replies"
+        return
+    fi
     awk -v replies="$dir/replies" '
         /^[ \t]*(#|$)/ { print; next }
         { reply = ""; getline reply < replies; printf "%-36s  %s\n", $0, reply }' "$here/crates/$1/stdin"
 }
 
 if [ $# -eq 0 ]; then
-    for name in vmreplay dtrun; do
+    for name in vmreplay dtrun vmcompare; do
         sample "$name"
         echo
     done
     if [ "$greatest" -eq 0 ]; then
-        echo "Both programs ran their samples in $(took "$began"), compiled: $compiled. A script of one's own: tools/try.sh SCRIPT; with a proof: make"
+        echo "The programs ran their samples in $(took "$began"), compiled: $compiled. A script of one's own: tools/try.sh SCRIPT; with a proof: make"
     else
         echo "A program didn't run its sample: status $greatest"
     fi
@@ -121,8 +126,8 @@ of() {
     for script do
         shift
         case $name:$script in
-            dtrun:*.dt) set -- "$@" "$script" ;;
-            *:*.dt | dtrun:*) ;;
+            dtrun:*.dt | vmcompare:*.trace) set -- "$@" "$script" ;;
+            *:*.dt | *:*.trace | dtrun:* | vmcompare:*) ;;
             *) set -- "$@" "$script" ;;
         esac
     done
@@ -131,4 +136,5 @@ of() {
 
 of vmreplay "$@"
 of dtrun "$@"
+of vmcompare "$@"
 exit "$greatest"

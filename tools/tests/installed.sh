@@ -5,13 +5,14 @@ if has make; then
         at=$dir/root/usr
         # A line for each folder, so that what is added is easily seen.
         cat > installed.files << END
-bin/dtrun bin/vmreplay
+bin/dtrun bin/vmcompare bin/vmreplay
 bin/vmcurve bin/vmpicture bin/vmrecord
 bin/vmsites share/man/man1/vmsites.1
+bin/vmways share/man/man1/vmways.1
 bin/vmcheck share/man/man1/vmcheck.1
 bin/vmfrom share/man/man1/vmfrom.1
-share/doc/kolbista/script.md
-share/man/man1/dtrun.1 share/man/man1/vmreplay.1
+share/doc/kolbista/script.md share/doc/kolbista/compare.md
+share/man/man1/dtrun.1 share/man/man1/vmreplay.1 share/man/man1/vmcompare.1
 share/man/man1/vmcurve.1 share/man/man1/vmpicture.1 share/man/man1/vmrecord.1
 END
         if [ -f "$programs/libkolbista.a" ]; then
@@ -36,6 +37,8 @@ END
         "$at/bin/vmpicture" -n 34 "$at/share/doc/kolbista/examples/trace.vm" > installed.svg
         check "installed: vmpicture finds vmreplay" grep -q '>blocks: 9, ' installed.svg
         check "installed: vmcheck finds dtrun" same "$("$at/bin/vmcheck" "$at/share/doc/kolbista/examples/set.dt" | sed 's/.*: no/no/; s/:.*//')" "no line is bad"
+        "$at/bin/vmways" "$at/share/doc/kolbista/examples/array.trace" > installed.svg
+        check "installed: vmways finds vmcompare" grep -q '>last, a last region: 8,192 bytes' installed.svg
         check "installed: vmsites finds vmreplay" test -n "$("$at/bin/vmsites" "$at/share/doc/kolbista/examples/profile.vm" | grep '^main ')"
         make -s -C "$here/.." uninstall DESTDIR="$dir/root" PREFIX=/usr
         check "uninstalled: no file is left" same "$(find "$dir/root" -type f)" ""

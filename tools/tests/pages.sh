@@ -9,7 +9,7 @@ for page in "$here"/../man/*.1; do
     fi
 done
 has mandoc || skipped "that the manual pages have no faults: there is no mandoc"
-tools="record picture curve sites check from"
+tools="record picture curve sites ways check from"
 for tool in $tools; do
     "$here/$tool" --help > help.out 2> fault
     check "$tool --help is its usage" same "$? $(head -n 1 help.out | cut -d ' ' -f 1-2) $(cat fault)" "0 usage: $tool "

@@ -321,8 +321,35 @@ spread() {
         "$(sed -n 's/^\([a-z]*\) r b[0-9][0-9]*/\1/p' "$here/tests/sizes.lines")"
 }
 
+# Traces for vmcompare: the same calls without open, align and sites.
+traces() {
+    "$record" -t -r heap sizes.trace -- ./sizes
+    check "a trace: the status is 0" same "$?" 0
+    sed -e 1d -e 's/ @.*//' -e 's/^align \(r b[0-9]*\) \([0-9]*\) .*/alloc \1 \2/' -e 's/^\([a-z]*\) r b/\1 heap b/' "$here/tests/sizes.lines" > trace.lines
+    grep -v '^# sizes, process\|: a trace has no align$' sizes.trace > trace.got
+    check "a trace: each call is the line that is expected" diff trace.lines trace.got
+    check "a trace: a comment tells each block whose alignment is left out" same "$(grep -c ' at a multiple of [0-9]*: a trace has no align$' sizes.trace)" 2
+    "$programs/vmcompare" < sizes.trace > trace.told 2> fault
+    check "a trace: vmcompare takes it as it is" same "$? $(grep -c 'peak' trace.told) $(cat fault)" "0 3 "
+    "$record" -t --sites sites.trace -- ./sites
+    check "a trace with sites: as many as in a script" same "$? $(grep -c '^alloc.* @' sites.trace)" "0 $("$record" -q sites.vm -- ./sites; grep -c '^alloc.* @' sites.vm)"
+    "$programs/vmcompare" < sites.trace > trace.told 2> fault
+    check "a trace with sites: vmcompare takes it as it is" same "$? $(cat fault)" "0 "
+    "$record" --trace shell.trace -- sh -c './sizes'
+    set -- shell.trace.*
+    check "a trace of a started program: it has one of its own" same "$# $(grep -c '^open' "$1")" "1 0"
+    "$record" -t shell.trace -- true
+    check "a trace: what an earlier one left beside it is gone" same "$(ls shell.trace.* 2> /dev/null)" ""
+    for words in '-m best' '-d 9' '-s 2' '-c' '-p x'; do
+        # shellcheck disable=SC2086
+        "$record" -t $words sizes.trace -- true 2> fault
+        check "a trace: no $words" same "$? $(cat fault)" "2 record: a trace opens no region: -m, -d, -s, -c and -p aren't for it"
+    done
+}
+
 if [ "$can_record" = yes ]; then
     sizes
+    traces
 many
 threads "threads over a slow realloc" "$dir/slow.so" 500
 threads threads "" 3000
