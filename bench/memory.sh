@@ -1,6 +1,6 @@
 #!/bin/sh
-# Lets each allocation of the sample runs of vmreplay and dtrun fail in turn, and then each read and each write of a run whose
-# script comes in two pieces. A run ends with the status that is due, with a front of the replies written and all memory
+# Lets each allocation of the sample runs of the programs fail in turn, and then each read and each write of a run of vmreplay
+# and of dtrun whose script comes in two pieces. A run ends with the status that is due, with a front of the replies written and all memory
 # freed, that of the segments with it: a segment that freed nothing when it is dropped would show here alone. No block begins
 # elsewhere than at a multiple of 8, as a segment's words want it.
 # Run by hand at the top of the repository. It needs cc.
