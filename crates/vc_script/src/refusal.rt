@@ -50,7 +50,7 @@ pub enum Refusal {
     ViewCycle,
     /// At `view`: some path would have more than 16 dictionaries.
     ViewTooDeep,
-    /// A segment was needed, and R has 1,023 already.
+    /// A segment was needed, and R has 1,023 already, or its one that grows is full.
     TooManySegments,
     /// A segment was needed for a block, and the discipline refused it.
     NoSegment,

@@ -27,7 +27,7 @@ impl From<OutOfMemory> for LendFault {
 /// Why a call of a region was refused. Each call tells which of these it can answer.
 #[derive(Clone, Copy, Debug, PartialEq, Eq, Error)]
 pub enum RegionFault {
-    /// A segment is needed and the region has 1,023.
+    /// A segment is needed and the region has 1,023, or the one that grows would have more than 33,554,432 bytes.
     #[error("TooManySegments")]
     TooManySegments,
     /// A segment is needed and the discipline refused it.
