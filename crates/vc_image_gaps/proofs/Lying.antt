@@ -1,4 +1,4 @@
--- Where a free extent lies in the bytes of an image.
+-- Where an extent lies in the bytes of an image.
 use Rattle.vc_base.proofs.Common.{◌≡◌, ℕ, ◌+◌, ◌-◌, ◌*◌, ◌/◌, ◌%◌, ◌<◌, ◌≤◌, min, true, nat_lt, ◌==◌, ◌&&◌, List, [], ◌∷◌, All, length, get_or, take, drop, sym, refl, ap, ◌∙◌, subst, arith, inl, inr, true≢false, eq-eqb, ne_eqb, cases_eq, cases_lt, lt-ltb, le-ltb, All-head, All-tail, length-take, length-drop, drop-take, drop-drop, take-take, from_le_bytes, w32}
 use Rattle.std.proofs.lemmas.List.Sums.{sum_by-cons}
 use Rattle.vc_seg.specs.Budget.{bytes_of}
@@ -8,7 +8,7 @@ use Rattle.vc_seg.specs.Numbered.{IsRegionPair}
 use Rattle.vc_seg.specs.Segment.{Bytes}
 use Rattle.vc_extent.specs.Change.{behind, extent_in}
 use Rattle.vc_extent.specs.Extent.{Extent, Links, extent_at, extents, links_at}
-use Rattle.vc_extent.specs.Tiles.{IsTiled}
+use Rattle.vc_extent.specs.Tiles.{IsLegal, IsTiled}
 use Rattle.vc_extent.specs.Tiling.{IsThere, extent_of, extents_of, tiling}
 use Rattle.vc_extent.proofs.Places.{named-there, there-last}
 use Rattle.vc_extent.proofs.Tiled.{IsPart, named-above, part, size-at, span-at, tiles-le}
@@ -35,14 +35,15 @@ tiled-bytes n (s ∷ ss) t h = elim (cases_eq s.number n) as (λ _. IsTiled (byt
   | inr other ↦ rw (ne_eqb s.number n other) (tiled-bytes n ss (All-tail (λ (s : Bytes). IsTiled s.bytes) s ss t) (rw (ne_eqb s.number n other) at h))
 ]
 
--- a number of a part of bytes
-field-in : (b bs : List ℕ) (p i : ℕ) → take (length bs) (drop p b) ≡ bs → i + 4 ≤ length bs → field_at i bs ≡ field_at (p + i) b
+-- a part of a part of bytes, and a number there
+pub part-in : (b bs : List ℕ) (p i n : ℕ) → take (length bs) (drop p b) ≡ bs → i + n ≤ length bs → take n (drop i bs) ≡ take n (drop (p + i) b)
+part-in b bs p i n e h =
+    sym (drop-take i n bs) ∙ ap (λ z. drop i (take (i + n) z)) (sym e) ∙ ap (drop i) (take-take (i + n) (length bs) (drop p b) h)
+    ∙ drop-take i n (drop p b) ∙ ap (take n) (drop-drop i p b)
+
+pub field-in : (b bs : List ℕ) (p i : ℕ) → take (length bs) (drop p b) ≡ bs → i + 4 ≤ length bs → field_at i bs ≡ field_at (p + i) b
 unfolding field_at
-field-in b bs p i e h =
-    let part-is : take 4 (drop i bs) ≡ take 4 (drop (p + i) b) =
-    sym (drop-take i 4 bs) ∙ ap (λ z. drop i (take (i + 4) z)) (sym e) ∙ ap (drop i) (take-take (i + 4) (length bs) (drop p b) h)
-    ∙ drop-take i 4 (drop p b) ∙ ap (take 4) (drop-drop i p b) in
-    ap (from_le_bytes w32) part-is
+field-in b bs p i e h = ap (from_le_bytes w32) (part-in b bs p i 4 e h)
 
 links-are : (at : ℕ) (b : List ℕ) → field_at (at + 4) b ≡ 0 → (extent_at at b).links ≡ links_at (at + 16) b
 unfolding extent_at
@@ -66,6 +67,63 @@ image-small b h =
     let most = most-bytes (pairs_in b) h.segments.legal in
     omega (arith, many, few, dicts, size, most)
 
+-- an extent that an address names lies from a place of its segment on, whose bytes lie from a place of the image on
+pub record LiesIn (image places : List ℕ) (a : ℕ) (e : Extent) : Type 0 where
+  pub bytes : List ℕ
+  pub at : ℕ
+  pub first : ℕ
+  pub number : a / 1048576 ≤ 1023
+  pub is : e ≡ extent_at at bytes
+  pub legal : IsLegal e
+  pub end : at + e.span + 16 ≤ length bytes
+  pub most : length bytes ≤ 33554432
+  pub start : start_of places a ≡ first + (at + 16)
+  pub whole : first + length bytes ≤ length image
+  pub part : take (length bytes) (drop first image) ≡ bytes
+  pub small : length image ≤ 68719476736
+
+pub lies-in : (image places : List ℕ) → IsHeader image → All (λ s. IsTiled s.bytes) (contents_of image).segs
+    → ((n : ℕ) → IsThere n (contents_of image).segs → take (length (bytes_of_number n (contents_of image).segs)) (drop (get_or places n 0) image) ≡ bytes_of_number n (contents_of image).segs)
+    → (a : ℕ) → 0 < (extent_of (tiling (contents_of image).segs) a).span → LiesIn image places a (extent_of (tiling (contents_of image).segs) a)
+lies-in image places head each parts a named =
+    let segs : List Bytes = (contents_of image).segs in
+    let n : ℕ = a / 1048576 in
+    let o : ℕ = a % 1048576 * 32 in
+    let bs : List ℕ = bytes_of_number n segs in
+    let p : ℕ = get_or places n 0 in
+    let e : Extent = extent_of (tiling segs) a in
+    let there : IsThere n segs = named-there n o segs named in
+    let same : extents_of n (tiling segs) ≡ extents bs = extents-bytes n segs there in
+    let tiled : IsTiled bs = tiled-bytes n segs each there in
+    let here : e ≡ extent_in o (extents bs) = ap (extent_in o) same in
+    let low : 32 ≤ o = named-above bs (length bs - 16) 0 16 o (extents bs) tiled.tiles (subst (λ (x : Extent). 0 < x.span) here named) in
+    let at : ℕ = o - 16 in
+    let off : o ≡ at + 16 = omega (arith, low) in
+    let found : e ≡ extent_in (at + 16) (extents bs) = here ∙ ap (λ z. extent_in z (extents bs)) off in
+    let h : IsPart bs (length bs - 16) at (extents bs) = part bs (length bs - 16) 0 16 at (extents bs) tiled.tiles (subst (λ (x : Extent). 0 < x.span) found named) in
+    let legal : IsLegal e = subst IsLegal (sym found) h.head.legal in
+    let least = legal.least in
+    let end : at + (extent_in (at + 16) (extents bs)).span ≤ length bs - 16 = tiles-le bs (length bs - 16) (extent_in (at + 16) (extents bs)).span (at + (extent_in (at + 16) (extents bs)).span) (behind (at + 16) (extents bs)) h.rest in
+    let end' : at + e.span ≤ length bs - 16 = subst (λ (x : Extent). at + x.span ≤ length bs - 16) (sym found) end in
+    let bytes : take (length bs) (drop p image) ≡ bs = parts n there in
+    let long : length bs ≡ min (length bs) (length (drop p image)) = ap length (sym bytes) ∙ length-take (length bs) (drop p image) in
+    let back : length (drop p image) ≡ length image - p = length-drop p image in
+    let size = tiled.size.least in
+    record {
+      bytes = bs;
+      at = at;
+      first = p;
+      number = there-last n segs (known-segments image head).legal there;
+      is = found ∙ h.head.extent;
+      legal = legal;
+      end = omega (arith, end', least);
+      most = tiled.size.most;
+      start = omega (arith, off);
+      whole = omega (arith, long, back, size);
+      part = bytes;
+      small = image-small image head;
+    }
+
 pub record Lies (image places : List ℕ) (a : ℕ) (e : Extent) : Type 0 where
   pub number : a / 1048576 ≤ 1023
   pub low : 16 ≤ start_of places a
@@ -80,49 +138,33 @@ pub record Lies (image places : List ℕ) (a : ℕ) (e : Extent) : Type 0 where
 pub lies : (image : List ℕ) (rows : List (List ℕ)) (places : List ℕ) (k : IsKnown image rows places) (a : ℕ) → is_free (tiling (contents_of image).segs) a ≡ true → Lies image places a (extent_of (tiling (contents_of image).segs) a)
 lies image rows places k a free =
     let segs : List Bytes = (contents_of image).segs in
-    let n : ℕ = a / 1048576 in
-    let o : ℕ = a % 1048576 * 32 in
-    let bs : List ℕ = bytes_of_number n segs in
-    let p : ℕ = get_or places n 0 in
     let e : Extent = extent_of (tiling segs) a in
-    let named : 0 < e.span = is_free-named (tiling segs) a free in
+    let l : LiesIn image places a e = lies-in image places k.head k.tiled k.marked.bytes a (is_free-named (tiling segs) a free) in
     let empty : e.size ≡ 0 = is_free-size (tiling segs) a free in
-    let there : IsThere n segs = named-there n o segs named in
-    let same : extents_of n (tiling segs) ≡ extents bs = extents-bytes n segs there in
-    let tiled : IsTiled bs = tiled-bytes n segs k.tiled there in
-    let here : e ≡ extent_in o (extents bs) = ap (extent_in o) same in
-    let low : 32 ≤ o = named-above bs (length bs - 16) 0 16 o (extents bs) tiled.tiles (subst (λ (x : Extent). 0 < x.span) here named) in
-    let at : ℕ = o - 16 in
-    let off : o ≡ at + 16 = omega (arith, low) in
-    let found : e ≡ extent_in (at + 16) (extents bs) = here ∙ ap (λ z. extent_in z (extents bs)) off in
-    let h : IsPart bs (length bs - 16) at (extents bs) = part bs (length bs - 16) 0 16 at (extents bs) tiled.tiles (subst (λ (x : Extent). 0 < x.span) found named) in
-    let is : e ≡ extent_at at bs = found ∙ h.head.extent in
-    let span : e.span ≡ field_at at bs = ap (λ (x : Extent). x.span) is ∙ span-at at bs in
-    let least : 32 ≤ e.span = subst (λ (x : Extent). 32 ≤ x.span) (sym found) h.head.legal.least in
-    let end : at + (extent_in (at + 16) (extents bs)).span ≤ length bs - 16 = tiles-le bs (length bs - 16) (extent_in (at + 16) (extents bs)).span (at + (extent_in (at + 16) (extents bs)).span) (behind (at + 16) (extents bs)) h.rest in
-    let end' : at + e.span ≤ length bs - 16 = subst (λ (x : Extent). at + x.span ≤ length bs - 16) (sym found) end in
-    let links : e.links ≡ links_at (at + 16) bs = ap (λ (x : Extent). x.links) is ∙ links-are at bs (sym (size-at at bs) ∙ ap (λ (x : Extent). x.size) (sym is) ∙ empty) in
-    let bytes : take (length bs) (drop p image) ≡ bs = k.marked.bytes n there in
-    let long : length bs ≡ min (length bs) (length (drop p image)) = ap length (sym bytes) ∙ length-take (length bs) (drop p image) in
-    let back : length (drop p image) ≡ length image - p = length-drop p image in
-    let size = tiled.size.least in
-    let most = tiled.size.most in
-    let start : start_of places a ≡ p + (at + 16) = omega (arith, off) in
-    let whole : p + length bs ≤ length image = omega (arith, long, back, size) in
-    let field : (i : ℕ) → i + 4 ≤ length bs → field_at i bs ≡ field_at (p + i) image = λ i l. field-in image bs p i bytes l in
+    let at : ℕ = l.at in
+    let p : ℕ = l.first in
+    let bs : List ℕ = l.bytes in
+    let links : e.links ≡ links_at (at + 16) bs = ap (λ (x : Extent). x.links) l.is ∙ links-are at bs (sym (size-at at bs) ∙ ap (λ (x : Extent). x.size) (sym l.is) ∙ empty) in
+    let span : e.span ≡ field_at at bs = ap (λ (x : Extent). x.span) l.is ∙ span-at at bs in
+    let field : (i : ℕ) → i + 4 ≤ length bs → field_at i bs ≡ field_at (p + i) image = λ i h. field-in image bs p i l.part h in
+    let start = l.start in
+    let end = l.end in
+    let least = l.legal.least in
+    let whole = l.whole in
+    let most = l.most in
     let s4 : start_of places a + 4 ≡ p + (at + 16 + 4) = omega (arith, start) in
     let s8 : start_of places a + 8 ≡ p + (at + 16 + 8) = omega (arith, start) in
     let s0 : start_of places a - 16 ≡ p + at = omega (arith, start) in
     record {
-      number = there-last n segs (known-segments image k.head).legal there;
+      number = l.number;
       low = omega (arith, start);
-      within = omega (arith, start, end', least, whole);
-      small = image-small image k.head;
-      span = ap (λ z. field_at z image) s0 ∙ sym (field at (omega (arith, end', least))) ∙ sym span;
-      most = omega (arith, end', most);
-      first = ap (λ z. field_at z image) start ∙ sym (field (at + 16) (omega (arith, end', least))) ∙ sym (ap (λ (l : Links). l.first) links);
-      second = ap (λ z. field_at z image) s4 ∙ sym (field (at + 16 + 4) (omega (arith, end', least))) ∙ sym (ap (λ (l : Links). l.second) links);
-      third = ap (λ z. field_at z image) s8 ∙ sym (field (at + 16 + 8) (omega (arith, end', least))) ∙ sym (ap (λ (l : Links). l.third) links);
+      within = omega (arith, start, end, least, whole);
+      small = l.small;
+      span = ap (λ z. field_at z image) s0 ∙ sym (field at (omega (arith, end, least))) ∙ sym span;
+      most = omega (arith, end, most);
+      first = ap (λ z. field_at z image) start ∙ sym (field (at + 16) (omega (arith, end, least))) ∙ sym (ap (λ (l : Links). l.first) links);
+      second = ap (λ z. field_at z image) s4 ∙ sym (field (at + 16 + 4) (omega (arith, end, least))) ∙ sym (ap (λ (l : Links). l.second) links);
+      third = ap (λ z. field_at z image) s8 ∙ sym (field (at + 16 + 8) (omega (arith, end, least))) ∙ sym (ap (λ (l : Links). l.third) links);
     }
 
 -- the mark of a free extent is 1
