@@ -1,7 +1,9 @@
-ghost use Rattle.std.specs.Prelude.{◌≡◌, ℕ, ◌+◌, ◌*◌, ◌≤◌, length};
+ghost use Rattle.std.specs.Prelude.{◌≡◌, ℕ, ◌+◌, ◌-◌, ◌*◌, ◌≤◌, drop, length, take};
+ghost use Rattle.std.specs.Int.{w64, from_le_bytes};
 ghost use Rattle.vc_base.specs.Cells.{HasBytes, bytes_at};
+ghost use Rattle.vc_seg.specs.Field.{field_at};
 ghost use Rattle.vc_image_blocks.specs.Blocks.{HasBlockMarks, blocks_of};
-ghost use Rattle.vc_image_marks.specs.Mark.{lists};
+ghost use Rattle.vc_image_marks.specs.Mark.{lists, mark_at};
 
 use vc_image_bytes::word;
 use vc_image_lists::Holders;
@@ -18,22 +20,36 @@ pub struct ImageBlocks<'a> {
     pub ghost known: { ∥ HasBlockMarks image.now (lists marks.now.rows.items) marks.now.places.items ∥₁ },
 }
 
+// Where the block at an address begins.
+fn start<'a>(blocks: &ImageBlocks<'a>, a: u32) -> usize
+    requires { 3 ≤ mark_at (lists blocks.now.marks.now.rows.items) a }
+    ensures bytes { take (field_at (result - 12) blocks.now.image.now) (drop result blocks.now.image.now)
+        ≡ bytes_at (blocks_of blocks.now.image.now) a }
+    ensures low { 12 ≤ result }
+    ensures within { result + field_at (result - 12) blocks.now.image.now ≤ length blocks.now.image.now }
+    ensures most { field_at (result - 12) blocks.now.image.now ≤ 33554432 }
+    ensures all { length blocks.now.image.now ≤ 68719476736 }
+{
+    blocks.marks.places[(a / 1_048_576) as usize] + 32 * (a % 1_048_576) as usize
+}
+
 // The bytes of the block at an address, none where there is none.
 fn bytes_of<'a>(blocks: &ImageBlocks<'a>, a: u32) -> &'a [u8]
-    ensures { result.now ≡ bytes_at (blocks_of blocks.now.image.now) a }
+    ensures bytes { result.now ≡ bytes_at (blocks_of blocks.now.image.now) a }
     ensures most { length result.now ≤ 33554432 }
 {
     if blocks.marks.get(a) < 3 {
         return &blocks.image[..0];
     }
-    let start = blocks.marks.places[(a / 1_048_576) as usize] + 32 * (a % 1_048_576) as usize;
-    let size = word(blocks.image, start - 12) as usize;
-    &blocks.image[start..start + size]
+    let at = start(blocks, a);
+    let size = word(blocks.image, at - 12) as usize;
+    &blocks.image[at..at + size]
 }
 
 // Eight bytes from a place on as a number.
 fn number(bytes: &[u8], at: usize) -> u64
     requires { at + 8 ≤ length bytes.now }
+    ensures { result ≡ from_le_bytes w64 (take 8 (drop at bytes.now)) }
 {
     let mut eight = [0u8; 8];
     eight.copy_from_slice(&bytes[at..at + 8]);
@@ -41,7 +57,9 @@ fn number(bytes: &[u8], at: usize) -> u64
 }
 
 impl<'a> Holders for ImageBlocks<'a> {
+    ghost use Rattle.vc_image_blocks.specs.BlockLaws.{bytes-small};
     ghost use Rattle.vc_image_blocks.specs.Blocks.{blocks_of};
+    ghost use Rattle.vc_image_marks.specs.Mark.{lists};
 
     ghost blocks = { λ s. blocks_of s.image.now };
 
