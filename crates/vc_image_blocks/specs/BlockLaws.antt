@@ -1,5 +1,5 @@
 -- Where an unlabelled block lies in the bytes of an image.
-use Rattle.vc_base.proofs.Common.{◌≡◌, ℕ, zero, suc, ◌+◌, ◌-◌, ◌/◌, ◌<◌, ◌≤◌, Bool, true, false, nat_lt, ◌==◌, ◌&&◌, List, [], ◌∷◌, All, Option, Some, None, unwrap_or, length, get_or, take, drop, sym, refl, ap, ◌∙◌, subst, arith, inl, inr, true≢false, eq-eqb, eqb_tells, eqb-true, ltb-true, lt-ltb, le-ltb, and_parts, cases_lt, length-take, get_or-take, get_or-drop, same_Some, le_prop, ∥∥₁_elim, cases_Bool, ⊎_elim, Block, bytes_at, place_of, find_block}
+use Rattle.vc_base.proofs.Common.{◌≡◌, ℕ, zero, suc, ◌+◌, ◌-◌, ◌/◌, ◌<◌, ◌≤◌, true, false, nat_lt, ◌==◌, ◌&&◌, List, [], ◌∷◌, All, Option, Some, None, unwrap_or, length, get_or, take, drop, sym, refl, ap, ◌∙◌, subst, arith, inl, inr, true≢false, eq-eqb, ne_eqb, eqb_tells, eqb-true, ltb-true, lt-ltb, le-ltb, and_parts, cases_lt, length-take, get_or-take, get_or-drop, same_Some, le_prop, ∥∥₁_elim, cases_Bool, ⊎_elim, Block, bytes_at, place_of, find_block}
 use Rattle.std.proofs.lemmas.List.{get_or_past}
 use Rattle.vc_base.proofs.Sets.{bytes-set}
 use Rattle.vc_model.proofs.Owned.{found-has}
@@ -15,8 +15,8 @@ use Rattle.vc_best.proofs.CellBytes.{cell-bytes}
 use Rattle.vc_best.proofs.Found.{busy-of, found-of}
 use Rattle.vc_image_bytes.specs.Contents.{contents_of}
 use Rattle.vc_image_bytes.specs.Header.{AreBytes, IsHeader}
-use Rattle.vc_image_marks.specs.Mark.{mark_at}
-use Rattle.vc_image_gaps.specs.Known.{known-segments, start_of}
+use Rattle.vc_image_marks.specs.Mark.{mark_at, mark_of}
+use Rattle.vc_image_gaps.specs.Known.{IsKnown, known-segments, start_of}
 use Rattle.vc_image_gaps.proofs.Lying.{LiesIn, field-in, lies-in, part-in}
 use Rattle.vc_image_blocks.specs.Blocks.{HasBlockMarks, blocks_of, is_cell}
 
@@ -139,6 +139,34 @@ module _ (image : List ℕ) (rows : List (List ℕ)) (places : List ℕ) (a : �
   pub marked-none : ∥ HasBlockMarks image rows places ∥₁ → mark_at rows a < 3 → bytes_at (blocks_of image) a ≡ []
   marked-none known h = ∥∥₁_elim known (bytes-set (bytes_at (blocks_of image) a) []) (λ k. none k (sym (k.marks a) ∙ le-ltb 2 (mark_at rows a) (omega (arith, h))))
 
+-- a mark of 3 is that of an unlabelled block
+mark-cell : (e : Extent) → nat_lt 2 (mark_of e) ≡ is_cell e
+mark-cell e = elim (cases_lt 0 e.span) as (λ _. nat_lt 2 (mark_of e) ≡ is_cell e) [
+  | inr none ↦ rw (eq-eqb e.span 0 (omega (arith, none)), le-ltb 0 e.span none) refl
+  | inl some ↦ elim (eqb_tells e.size 0) as (λ _. nat_lt 2 (mark_of e) ≡ is_cell e) [
+    | inl z ↦ rw (ne_eqb e.span 0 (λ q. omega (arith, q, some)), lt-ltb 0 e.span some, z.0, le-ltb 0 e.size (omega (arith, z.1))) refl
+    | inr ne ↦ elim (eqb_tells e.tag 0) as (λ _. nat_lt 2 (mark_of e) ≡ is_cell e) [
+      | inl t ↦ rw (ne_eqb e.span 0 (λ q. omega (arith, q, some)), lt-ltb 0 e.span some, ne.0, lt-ltb 0 e.size (some-size e.size ne.1), t.0) refl
+      | inr t ↦ rw (ne_eqb e.span 0 (λ q. omega (arith, q, some)), lt-ltb 0 e.span some, ne.0, lt-ltb 0 e.size (some-size e.size ne.1), t.0) refl
+    ]
+  ]
+]
+  where
+    some-size : (n : ℕ) → (n ≡ 0 → ⊥) → 0 < n
+    some-size n ne = omega (arith, ne)
+
+-- the marks of an image are such marks, and so are others of which the same are from 3 on
+pub from-marked : (image : List ℕ) (rows : List (List ℕ)) (places : List ℕ) → IsKnown image rows places → HasBlockMarks image rows places
+from-marked image rows places k = record {
+  head = k.head;
+  tiled = k.tiled;
+  marks = λ a. ap (nat_lt 2) (k.marked.marks a) ∙ mark-cell (extent_of (tiling (contents_of image).segs) a);
+  parts = k.marked.bytes;
+}
+
+pub other-marks : (image : List ℕ) (old new : List (List ℕ)) (places : List ℕ) → ((a : ℕ) → nat_lt 2 (mark_at new a) ≡ nat_lt 2 (mark_at old a)) → HasBlockMarks image old places → HasBlockMarks image new places
+other-marks image old new places same k = record { head = k.head; tiled = k.tiled; marks = λ a. same a ∙ k.marks a; parts = k.parts }
+
 part-small : (n at : ℕ) (b : List ℕ) → AreBytes b → AreBytes (take n (drop at b))
 part-small n at b small i = elim (cases_lt i n) as (λ _. get_or (take n (drop at b)) i 0 < 256) [
   | inl lt ↦ let e = get_or-take n (drop at b) i 0 lt in let f = get_or-drop at b i 0 in let s = small (at + i) in omega (arith, e, f, s)
@@ -152,10 +180,10 @@ none-small : AreBytes []
 none-small i = omega arith
 
 -- each byte of a block is one
-pub bytes-small : (image : List ℕ) (rows : List (List ℕ)) (places : List ℕ) → ∥ HasBlockMarks image rows places ∥₁ → (a i : ℕ) → get_or (bytes_at (blocks_of image) a) i 0 < 256
-bytes-small image rows places known a i = ∥∥₁_elim known le_prop (λ k.
+pub bytes-small : (image : List ℕ) (rows : List (List ℕ)) (places : List ℕ) → ∥ HasBlockMarks image rows places ∥₁ → AreBytes image → (a i : ℕ) → get_or (bytes_at (blocks_of image) a) i 0 < 256
+bytes-small image rows places known small a i = ∥∥₁_elim known le_prop (λ k.
     let e : Extent = extent_of (tiling (contents_of image).segs) a in
     ⊎_elim
-    (λ (t : is_cell e ≡ true). subst AreBytes (there image rows places a k t).bytes (part-small (field_at (start_of places a - 12) image) (start_of places a) image k.small) i)
+    (λ (t : is_cell e ≡ true). subst AreBytes (there image rows places a k t).bytes (part-small (field_at (start_of places a - 12) image) (start_of places a) image small) i)
     (λ (t : is_cell e ≡ false). subst AreBytes (sym (none image rows places a k t)) none-small i)
     (cases_Bool (is_cell e)))

@@ -8,7 +8,7 @@ use Rattle.vc_extent.specs.Tiling.{IsThere, extent_of, tiling}
 use Rattle.vc_best.specs.Blocks.{layout_by}
 use Rattle.vc_best.specs.Cells.{cells_of}
 use Rattle.vc_image_bytes.specs.Contents.{contents_of}
-use Rattle.vc_image_bytes.specs.Header.{AreBytes, IsHeader}
+use Rattle.vc_image_bytes.specs.Header.{IsHeader}
 use Rattle.vc_image_marks.specs.Mark.{mark_at}
 
 -- the unlabelled blocks of an image's segments, by their addresses
@@ -22,7 +22,6 @@ is_cell e = nat_lt 0 e.span && (nat_lt 0 e.size && (e.tag == 0))
 -- bytes have the head of an image, extents tile its segments, marks from 3 on are those of unlabelled blocks, and each
 -- segment's bytes begin at a place of the image
 pub record HasBlockMarks (image : List ℕ) (rows : List (List ℕ)) (places : List ℕ) : Type 0 where
-  pub small : AreBytes image
   pub head : IsHeader image
   pub tiled : All (λ s. IsTiled s.bytes) (contents_of image).segs
   pub marks : (a : ℕ) → nat_lt 2 (mark_at rows a) ≡ is_cell (extent_of (tiling (contents_of image).segs) a)

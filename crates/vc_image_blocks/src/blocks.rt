@@ -3,6 +3,7 @@ ghost use Rattle.std.specs.Int.{w64, from_le_bytes};
 ghost use Rattle.vc_base.specs.Cells.{HasBytes, bytes_at};
 ghost use Rattle.vc_seg.specs.Field.{field_at};
 ghost use Rattle.vc_image_blocks.specs.Blocks.{HasBlockMarks, blocks_of};
+ghost use Rattle.vc_image_bytes.specs.Header.{AreBytes};
 ghost use Rattle.vc_image_marks.specs.Mark.{lists, mark_at};
 
 use vc_image_bytes::word;
@@ -18,6 +19,18 @@ pub struct ImageBlocks<'a> {
     pub marks: &'a Marks,
     /// The image has a head, extents tile its segments, and marks from 3 on are those of its unlabelled blocks.
     pub ghost known: { ∥ HasBlockMarks image.now (lists marks.now.rows.items) marks.now.places.items ∥₁ },
+    /// Each byte of the image is one.
+    pub ghost small: { AreBytes image.now },
+}
+
+impl<'a> ImageBlocks<'a> {
+    /// The unlabelled blocks of an image of which the head and the segments are sound, by marks of them.
+    pub fn new(image: &'a [u8], marks: &'a Marks) -> ImageBlocks<'a>
+        requires { HasBlockMarks image.now (lists marks.now.rows.items) marks.now.places.items }
+        ensures { result.image.now ≡ image.now }
+    {
+        ImageBlocks { image, marks }
+    }
 }
 
 // Where the block at an address begins.
@@ -75,5 +88,5 @@ impl<'a> Holders for ImageBlocks<'a> {
         &bytes_of(self, a)[32..]
     }
 
-    ghost small = { λ s a i. bytes-small s.image.now (lists s.marks.now.rows.items) s.marks.now.places.items s.known a i };
+    ghost small = { λ s a i. bytes-small s.image.now (lists s.marks.now.rows.items) s.marks.now.places.items s.known s.small a i };
 }

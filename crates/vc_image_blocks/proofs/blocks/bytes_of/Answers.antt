@@ -1,4 +1,4 @@
-use Rattle.vc_base.proofs.Common.{◌≡◌, ℕ, ◌+◌, ◌-◌, ◌≤◌, List, length, take, drop, min, sym, ap, ◌∙◌, arith, length-take}
+use Rattle.vc_base.proofs.Common.{◌≡◌, ◌+◌, ◌-◌, take, drop, sym, ap, ◌∙◌, arith, length-take}
 use Rattle.vc_seg.specs.Field.{field_at}
 use Rattle.vc_image_marks.specs.Mark.{lists}
 use Rattle.vc_image_blocks.specs.BlockLaws.{marked-none}

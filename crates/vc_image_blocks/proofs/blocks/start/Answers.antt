@@ -1,9 +1,8 @@
-use Rattle.vc_base.proofs.Common.{◌≡◌, ℕ, List, ◌+◌, ◌-◌, ◌*◌, ◌/◌, ◌%◌, ◌≤◌, length, get_or, get_or_default, take, drop, sym, ap, ◌∙◌, subst, arith, bytes_at}
+use Rattle.vc_base.proofs.Common.{◌≡◌, ℕ, List, ◌+◌, ◌-◌, ◌*◌, ◌/◌, ◌%◌, ◌≤◌, length, get_or, get_or_default, take, drop, sym, ap, ◌∙◌, subst, arith}
 use Rattle.vc_seg.specs.Field.{field_at}
 use Rattle.vc_image_marks.specs.Mark.{lists}
 use Rattle.vc_image_gaps.specs.Known.{start_of}
-use Rattle.vc_image_blocks.specs.Blocks.{blocks_of}
-use Rattle.vc_image_blocks.specs.BlockLaws.{LiesAt, marked-there}
+use Rattle.vc_image_blocks.specs.BlockLaws.{marked-there}
 use Rattle.vc_image_blocks.proofs.blocks.start.Goals as goal
 
 pub index-requires : goal.index-requires

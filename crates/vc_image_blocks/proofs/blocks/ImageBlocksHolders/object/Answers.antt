@@ -1,4 +1,4 @@
-use Rattle.vc_base.proofs.Common.{◌≤◌, ◌-◌, length, drop, ap, ◌∙◌, arith, length-drop, take_all}
+use Rattle.vc_base.proofs.Common.{◌-◌, length, drop, ap, ◌∙◌, arith, length-drop, take_all}
 use Rattle.vc_image_blocks.proofs.blocks.ImageBlocksHolders.object.Goals as goal
 
 pub returns : goal.returns
