@@ -9,3 +9,12 @@ mod tool;
 
 pub use status::CompareStatus;
 pub use tool::compare;
+
+#[cfg(test)]
+mod failing;
+#[cfg(test)]
+mod given;
+#[cfg(test)]
+mod many;
+#[cfg(test)]
+mod rows;
