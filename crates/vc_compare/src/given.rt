@@ -19,8 +19,9 @@ pub(crate) struct Given<'a> {
     pub err_write: u64,
     pub place: u32,
     pub lend: u64,
-    // The disciplines that stand on the shelf.
+    // The disciplines that stand on the shelf, and whether they round to 65,536 bytes.
     pub places: u32,
+    pub is_wide: bool,
 }
 
 // Nothing fails.
@@ -35,6 +36,7 @@ pub(crate) fn ample(trace: &[u8]) -> Given {
         place: 0,
         lend: 0,
         places: PLACES,
+        is_wide: false,
     }
 }
 
@@ -100,7 +102,15 @@ pub(crate) fn put(rt: &impl Abort, shelf: &mut Shelf, disc: Box<dyn SegDisc>) {
 // What each place may lend that refuses no lend of a number.
 const BUDGET: u64 = 1 << 40;
 
-// Disciplines that round to 4,096 bytes; that of one place refuses one lend.
+fn budget(is_wide: bool) -> BudgetDisc {
+    if is_wide {
+        BudgetDisc::new(65_536, BUDGET)
+    } else {
+        BudgetDisc::new(4096, BUDGET)
+    }
+}
+
+// Disciplines that round to 4,096 bytes, if not to more; that of one place refuses one lend.
 fn shelf_of(rt: &impl Abort, alloc: Global, given: Given) -> Result<Shelf, AllocError> {
     let mut shelf = Shelf::new(alloc);
     for n in 0..given.places {
@@ -108,8 +118,7 @@ fn shelf_of(rt: &impl Abort, alloc: Global, given: Given) -> Result<Shelf, Alloc
             let disc = FuseDisc::new(4096, only(alloc, given.lend)?);
             put(rt, &mut shelf, Box::new(alloc, disc)?);
         } else {
-            let disc = BudgetDisc::new(4096, BUDGET);
-            put(rt, &mut shelf, Box::new(alloc, disc)?);
+            put(rt, &mut shelf, Box::new(alloc, budget(given.is_wide))?);
         }
     }
     Ok(shelf)
