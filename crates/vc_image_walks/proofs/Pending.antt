@@ -1,11 +1,9 @@
 -- What the items of a walk still spell.
-use Rattle.vc_base.proofs.Common.{◌≡◌, ℕ, zero, suc, ◌+◌, ◌<◌, ◌≤◌, false, List, [], ◌∷◌, ◌++◌, length, AreDistinct, sym, refl, ap, ◌∙◌, subst, arith, append_assoc, append-nil, length-append, false≢true}
-use Rattle.vc_splay.specs.Moves.{count, tally}
+use Rattle.vc_base.proofs.Common.{◌≡◌, ℕ, ◌+◌, ◌<◌, ◌≤◌, false, List, [], ◌∷◌, ◌++◌, length, sym, refl, ap, ◌∙◌, subst, arith, append_assoc, append-nil, length-append, false≢true}
 use Rattle.vc_splay.specs.Store.{Store}
 use Rattle.vc_splay.specs.Stands.{IsNode, Stands}
 use Rattle.vc_splay.specs.Tree.{Tree, Leaf, Node, name_of, names}
-use Rattle.vc_splay.proofs.TallyLemmas.{count-append, count-distinct, distinct-count, tally-root}
-use Rattle.vc_image_walks.specs.Spelled.{IsChild, IsSpelled}
+use Rattle.vc_image_walks.specs.Spelled.{IsSpelled}
 use Rattle.vc_image_walks.specs.declared.walk.Item.{Item}
 use Rattle.vc_image_walks.specs.declared.walk.Item.TheVariants.{Name, Part}
 
@@ -86,21 +84,6 @@ module _ (s : Store) (none : s.has 0 ≡ false) where
     pub first : IsSpelled s at left front
     pub second : IsSpelled s at right back
     pub whole : zs ≡ front ++ at ∷ back
-    pub apart : AreDistinct zs → left ≡ right → left ≡ 0
-
-  twice : (l r : Tree) (n : ℕ) → AreDistinct (names l ++ n ∷ names r) → name_of l ≡ name_of r → (name_of l ≡ 0 → ⊥) → ⊥
-  unfolding tally
-  twice l r n d e some =
-      let x = name_of l in
-      let once = distinct-count x (names l ++ n ∷ names r) d in
-      let sum = count-append x (names l) (n ∷ names r) in
-      let left : 1 ≤ count x (names l) = tally-root l some in
-      let right : 1 ≤ count x (names r) = subst (λ z. 1 ≤ count z (names r)) (sym e) (tally-root r (λ z. some (e ∙ z))) in
-      omega arith
-
-  zero-of : (n : ℕ) → ((n ≡ 0 → ⊥) → ⊥) → n ≡ 0
-  zero-of zero h = refl
-  zero-of (suc n) h = absurd (h (λ z. omega (arith, z)))
 
   pub opened : (up at : ℕ) (zs : List ℕ) → (at ≡ 0 → ⊥) → IsSpelled s up at zs → Opened up at zs
   opened up at zs some h = by h.tree h.stands h.top h.list
@@ -116,7 +99,6 @@ module _ (s : Store) (none : s.has 0 ≡ false) where
         first = record { tree = l; stands = subst (λ z. Stands s z l) (sym top) st.1; top = refl; list = refl };
         second = record { tree = r; stands = subst (λ z. Stands s z r) (sym top) st.2; top = refl; list = refl };
         whole = sym list ∙ ap (λ z. names l ++ z ∷ names r) (sym top);
-        apart = λ d e. zero-of (name_of l) (twice l r n (subst AreDistinct (sym list) d) e);
       }
 
   pub closed : (up at left right : ℕ) (front back : List ℕ) → IsNode s up at left right → IsSpelled s at left front → IsSpelled s at right back → IsSpelled s up at (front ++ at ∷ back)
@@ -197,20 +179,13 @@ module _ (s : Store) (none : s.has 0 ≡ false) (root most left_over up at : ℕ
       let n = ap length o.whole ∙ length-append o.front (at ∷ o.back) in
       omega arith
 
-  distinct-part : (front back : List ℕ) → AreDistinct (met ++ (front ++ back)) → AreDistinct front
-  distinct-part front back d = count-distinct front (λ n.
-      let once = distinct-count n (met ++ (front ++ back)) d in
-      let a = count-append n met (front ++ back) in
-      let b = count-append n front back in
-      omega arith)
-
-  pub walked-not : (at ≡ 0 → ⊥) → ((left right : ℕ) → IsChild s up at left right → ⊥) → (ws : List ℕ) → IsSpelled s 0 root ws → AreDistinct ws → ⊥
-  walked-not some never ws h d =
+  pub walked-not : (at ≡ 0 → ⊥) → ((left right : ℕ) → IsNode s up at left right → ⊥) → (ws : List ℕ) → IsSpelled s 0 root ws → ⊥
+  walked-not some never ws h =
       let f = found ws h in
       let o = opened s none up at f.front some f.item in
-      never o.left o.right (record { node = o.node; apart = o.apart (distinct-part f.front f.back (subst AreDistinct f.whole d)) })
+      never o.left o.right o.node
 
-  pub walked-node : (left right left_over' : ℕ) (more : List Item) → (at ≡ 0 → ⊥) → left_over ≡ left_over' + 1 → IsChild s up at left right → more ≡ rest ++ Part at right ∷ Name at ∷ Part at left ∷ [] → Walked s root most left_over' met more
+  pub walked-node : (left right left_over' : ℕ) (more : List Item) → (at ≡ 0 → ⊥) → left_over ≡ left_over' + 1 → IsNode s up at left right → more ≡ rest ++ Part at right ∷ Name at ∷ Part at left ∷ [] → Walked s root most left_over' met more
   walked-node left right left_over' more some le k em =
       let three : more ≡ ((rest ++ Part at right ∷ []) ++ Name at ∷ []) ++ Part at left ∷ [] =
       em ∙ sym (append_assoc rest (Part at right ∷ []) (Name at ∷ Part at left ∷ [])) ∙ sym (append_assoc (rest ++ Part at right ∷ []) (Name at ∷ []) (Part at left ∷ [])) in
@@ -223,12 +198,12 @@ module _ (s : Store) (none : s.has 0 ≡ false) (root most left_over up at : ℕ
             p.whole ∙ ap (λ y. p.front ++ y) (q.whole ∙ ap (λ y. y ++ q.back) q.item ∙ ap (λ y. at ∷ y) r.whole) ∙ sym (append_assoc p.front (at ∷ r.front) r.back) in
             subst (λ y. IsSpelled s 0 root (met ++ y)) (sym whole)
             (w.to ((p.front ++ at ∷ r.front) ++ r.back) (subst (λ y. Spells s y ((p.front ++ at ∷ r.front) ++ r.back)) (sym e)
-            (pushed s rest (Part up at) (p.front ++ at ∷ r.front) r.back (closed s none up at left right p.front r.front k.node p.item r.item) r.rest)));
+            (pushed s rest (Part up at) (p.front ++ at ∷ r.front) r.back (closed s none up at left right p.front r.front k p.item r.item) r.rest)));
         from = λ ws h.
             let f = found ws h in
             let o = opened s none up at f.front some f.item in
-            let first : IsSpelled s at left o.front = subst (λ y. IsSpelled s at y o.front) (sym o.node.left_kid ∙ k.node.left_kid) o.first in
-            let second : IsSpelled s at right o.back = subst (λ y. IsSpelled s at y o.back) (sym o.node.right_kid ∙ k.node.right_kid) o.second in (
+            let first : IsSpelled s at left o.front = subst (λ y. IsSpelled s at y o.front) (sym o.node.left_kid ∙ k.left_kid) o.first in
+            let second : IsSpelled s at right o.back = subst (λ y. IsSpelled s at y o.back) (sym o.node.right_kid ∙ k.right_kid) o.second in (
               o.front ++ at ∷ (o.back ++ f.back),
               f.whole ∙ ap (λ y. met ++ y) (ap (λ y. y ++ f.back) o.whole ∙ append_assoc o.front (at ∷ o.back) f.back),
               subst (λ y. Spells s y (o.front ++ at ∷ (o.back ++ f.back))) (sym three)

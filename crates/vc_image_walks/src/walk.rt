@@ -51,6 +51,7 @@ pub fn in_order<N: Known>(
     most: usize,
 ) -> Result<Option<Vec<u32>>, OutOfMemory>
     ensures some { IfOk result (λ o. IfSome o (λ names. IsSpelled (N.store nodes.now) 0 root names.items)) }
+    ensures distinct { IfOk result (λ o. IfSome o (λ names. AreDistinct names.items)) }
     ensures none { IfOk result (λ o. IfNone o ((zs : List ℕ) → IsSpelled (N.store nodes.now) 0 root zs → AreDistinct zs → most < length zs)) }
 {
     let mut names = Vec::new(alloc);
