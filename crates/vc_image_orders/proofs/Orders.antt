@@ -1,18 +1,13 @@
 -- Names that a walk met, and what is asked of each.
-use Rattle.vc_base.proofs.Common.{◌≡◌, ℕ, ◌+◌, ◌<◌, ◌≤◌, Bool, true, false, List, [], ◌∷◌, length, get_or, drop, contains, AreDistinct, sym, refl, ap, ◌∙◌, subst, arith, drop-cons, add-one}
-use Rattle.std.specs.List.{AllByRecursion}
-use Rattle.vc_base.specs.declared.addr.Addr.{Addr}
-use Rattle.vc_base.specs.Cells.{Blocks, IsHolder, bytes_at, word_at}
-use Rattle.vc_dtdisc.specs.Rules.{Rules}
+use Rattle.vc_base.proofs.Common.{◌≡◌, ℕ, ◌+◌, ◌<◌, true, List, [], ◌∷◌, length, get_or, drop, contains, sym, ap, ◌∙◌, subst, arith, drop-cons, add-one}
+use Rattle.vc_base.specs.Cells.{Blocks, IsHolder}
 use Rattle.vc_dtord.specs.NodeLaws.{node-none}
-use Rattle.vc_dtord.specs.Nodes.{is_node, node_store}
-use Rattle.vc_splay.specs.Store.{Store}
+use Rattle.vc_dtord.specs.Nodes.{node_store}
 use Rattle.vc_splay.specs.Tree.{names}
 use Rattle.vc_splay.specs.Unique.{one_tree}
 use Rattle.vc_splay.proofs.StandsLemmas.{Stands-there}
 use Rattle.vc_image_walks.specs.Spelled.{IsSpelled}
-use Rattle.vc_image_lists.specs.Ascending.{IsAscending}
-use Rattle.vc_image_orders.specs.Sound.{ArePlain, IsPlainNode, IsSoundOrder}
+use Rattle.vc_image_orders.specs.Sound.{ArePlain, IsPlainNode}
 use Rattle.vc_image_orders.proofs.Words.{node-bytes}
 
 -- each name of a spelled list is a holder

@@ -1,6 +1,6 @@
 ghost use Rattle.std.specs.Prelude.{◌≡◌, ◌↔◌, ◌≤◌, ◌+◌, ℕ, IfOk, IsTrue, true};
 ghost use Rattle.vc_base.specs.Cells.{IsHolder, bytes_at};
-ghost use Rattle.vc_base.specs.Holders.{AreDistinct, contains};
+ghost use Rattle.vc_base.specs.Holders.{contains};
 ghost use Rattle.vc_image_orders.specs.Sound.{ArePlain, IsPlainNode, IsSoundOrder};
 
 use crate::nodes::TreeNodes;
@@ -32,8 +32,7 @@ fn are_plain<N: Holders>(holders: &N, names: &[u32]) -> bool
 }
 
 /// Whether so many holders are an ordered dictionary with that root, by a kind's order of keys: the nodes of a tree, in order of
-/// their keys, of which no two are equal where `alone` is true; each with 0 in its fourth word and with at most 1,056 bytes.
-/// That none stands twice isn't told: the answer is true where they are so, and false only where they aren't or one stands twice.
+/// their keys, of which no two are equal where `alone` is true; each once, with 0 in its fourth word and with at most 1,056 bytes.
 /// Whatever the blocks' bytes are, no node is met twice. `steps` counts the compares. This project's own.
 pub fn is_sound_order<N: Holders, D: DictDisc, L>(
     alloc: Global,
@@ -44,10 +43,8 @@ pub fn is_sound_order<N: Holders, D: DictDisc, L>(
     root: Addr,
     steps: &mut Steps<L>,
 ) -> Result<bool, OutOfMemory>
-    ensures sound { IfOk result (λ b. IsTrue b
-        → IsSoundOrder (D.rules kind.now) (N.blocks holders.now) alone count root) }
-    ensures whole { IfOk result (λ b. (h : IsSoundOrder (D.rules kind.now) (N.blocks holders.now) alone count root)
-        → AreDistinct h.names → IsTrue b) }
+    ensures { IfOk result (λ b. IsTrue b
+        ↔ IsSoundOrder (D.rules kind.now) (N.blocks holders.now) alone count root) }
 {
     let nodes = TreeNodes { holders };
     let names = match in_order(alloc, &nodes, root.0, count as usize)? {

@@ -1,4 +1,4 @@
-use Rattle.vc_base.proofs.Common.{◌≡◌, nat_lt, ap, ◌∙◌}
+use Rattle.vc_base.proofs.Common.{nat_lt, ap, ◌∙◌}
 use Rattle.vc_base.specs.Cells.{bytes_at}
 use Rattle.vc_image_orders.proofs.Words.{short-is}
 use Rattle.vc_image_orders.proofs.nodes.is_short.Goals as goal

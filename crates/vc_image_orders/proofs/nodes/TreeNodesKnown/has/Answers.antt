@@ -1,5 +1,5 @@
-use Rattle.vc_base.proofs.Common.{◌≡◌, sym, ◌∙◌, arith}
-use Rattle.vc_image_orders.proofs.Words.{has-bytes, node-links, node-short, node-zero}
+use Rattle.vc_base.proofs.Common.{◌∙◌, arith}
+use Rattle.vc_image_orders.proofs.Words.{node-links, node-short, node-zero}
 use Rattle.vc_image_orders.proofs.nodes.TreeNodesKnown.has.Goals as goal
 
 pub returns-then-n-eq0 : goal.returns-then-n-eq0
