@@ -99,8 +99,11 @@ pub(crate) fn put(rt: &impl Abort, shelf: &mut Shelf, disc: Box<dyn SegDisc>) {
     assert!(rt; shelf.put(disc).is_ok());
 }
 
-// What each place may lend that refuses no lend of a number.
+// What a place may lend that refuses nothing.
 const BUDGET: u64 = 1 << 40;
+
+// What the place may lend that refuses what is above its room.
+const LESS: u64 = 4096;
 
 fn budget(is_wide: bool) -> BudgetDisc {
     if is_wide {
@@ -110,13 +113,28 @@ fn budget(is_wide: bool) -> BudgetDisc {
     }
 }
 
-// Disciplines that round to 4,096 bytes, if not to more; that of one place refuses one lend.
+// Puts the discipline that refuses a lend: one by its number, or what is above its room.
+fn put_refusing(
+    rt: &impl Abort,
+    alloc: Global,
+    shelf: &mut Shelf,
+    lend: u64,
+) -> Result<(), AllocError> {
+    if lend > 0 {
+        let disc = FuseDisc::new(4096, only(alloc, lend)?);
+        put(rt, shelf, Box::new(alloc, disc)?);
+    } else {
+        put(rt, shelf, Box::new(alloc, BudgetDisc::new(4096, LESS))?);
+    }
+    Ok(())
+}
+
+// Disciplines that round to 4,096 bytes, if not to more; that of one place refuses a lend.
 fn shelf_of(rt: &impl Abort, alloc: Global, given: Given) -> Result<Shelf, AllocError> {
     let mut shelf = Shelf::new(alloc);
     for n in 0..given.places {
         if n.wrapping_add(1) == given.place {
-            let disc = FuseDisc::new(4096, only(alloc, given.lend)?);
-            put(rt, &mut shelf, Box::new(alloc, disc)?);
+            put_refusing(rt, alloc, &mut shelf, given.lend)?;
         } else {
             put(rt, &mut shelf, Box::new(alloc, budget(given.is_wide))?);
         }
@@ -124,15 +142,27 @@ fn shelf_of(rt: &impl Abort, alloc: Global, given: Given) -> Result<Shelf, Alloc
     Ok(shelf)
 }
 
-// Each place has its discipline, and each budget is whole again.
-fn are_back(rt: &impl Abort, shelf: &Shelf, places: u32) {
-    assert!(rt; shelf.len() == places);
+// A discipline has all its segments, as its room tells, and refused one lend if it was to.
+fn is_back(rt: &impl Abort, disc: &Box<dyn SegDisc>, refuses: bool) {
+    let room = disc.room();
+    let faults = disc.faults();
+    if refuses {
+        assert!(rt; room.is_none() || room == Some(LESS));
+        assert!(rt; faults == 1);
+    } else {
+        assert!(rt; room == Some(BUDGET));
+        assert!(rt; faults == 0);
+    }
+}
+
+// Each place has its discipline back.
+fn are_back(rt: &impl Abort, shelf: &Shelf, given: Given) {
+    assert!(rt; shelf.len() == given.places);
+    let mut place = 0u32;
     for slot in &shelf.slots {
+        place = place.wrapping_add(1);
         match slot {
-            Some(disc) => {
-                let room = disc.room();
-                assert!(rt; room.is_none() || room == Some(BUDGET));
-            }
+            Some(disc) => is_back(rt, disc, place == given.place),
             None => assert!(rt; false),
         }
     }
@@ -173,6 +203,6 @@ pub(crate) fn run(
 ) -> Result<(), AllocError> {
     let mut shelf = shelf_of(rt, alloc, given)?;
     run_over(rt, alloc, &mut shelf, given, expected)?;
-    are_back(rt, &shelf, given.places);
+    are_back(rt, &shelf, given);
     Ok(())
 }

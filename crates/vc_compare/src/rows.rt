@@ -163,7 +163,8 @@ const WRONG: &[(&[u8], &[u8])] = &[
     ),
 ];
 
-// A place, the number of its lend that is refused, a trace, and the line that needed it.
+// A place, the number of its lend that is refused, or 0 where it has room for 4,096 bytes, a trace, and the line that needed
+// more.
 const REFUSED: &[(u32, u64, &[u8], &[u8])] = &[
     (
         2,
@@ -203,6 +204,24 @@ const REFUSED: &[(u32, u64, &[u8], &[u8])] = &[
         1,
         b"alloc t a 10\nalloc t b 65536\n",
         b"vmcompare: line 2: no segment\n",
+    ),
+    (
+        1,
+        0,
+        b"alloc t a 4000\nalloc t b 4000\n",
+        b"vmcompare: line 2: no segment\n",
+    ),
+    (
+        2,
+        0,
+        b"alloc t a 4000\nalloc t b 4000\n",
+        b"vmcompare: line 2: no segment\n",
+    ),
+    (
+        10,
+        0,
+        b"alloc t a 3000\n",
+        b"vmcompare: line 1: no segment\n",
     ),
 ];
 
