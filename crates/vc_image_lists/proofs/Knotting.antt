@@ -1,12 +1,12 @@
 -- What is left of a set or bag from a holder on, and what its slots tell of it.
-use Rattle.vc_base.proofs.Common.{◌≡◌, ◌≢◌, ℕ, zero, suc, ◌+◌, ◌%◌, ◌<◌, ◌≤◌, ◌^◌, true, false, eqb, List, [], ◌∷◌, ◌==◌, All, length, get_or, set, filter, sym, refl, ap, ◌∙◌, subst, arith, inl, inr, eq-eqb, ne_eqb, cases_eq, cases_lt, get_or-set_same, get_or-set_other, length-set, first_of}
+use Rattle.vc_base.proofs.Common.{◌≡◌, ◌≢◌, ℕ, zero, suc, ◌%◌, ◌<◌, ◌≤◌, ◌^◌, List, [], ◌∷◌, length, get_or, set, sym, refl, ap, ◌∙◌, subst, arith, inl, inr, eq-eqb, ne_eqb, cases_eq, cases_lt, get_or-set_same, get_or-set_other, length-set, first_of}
 use Rattle.std.specs.List.{AllByRecursion}
 use Rattle.std.proofs.lemmas.List.Elements.{All-from_recursion, recursion_from_All}
 use Rattle.vc_base.specs.declared.addr.Addr.{Addr}
-use Rattle.vc_base.specs.Cells.{Blocks, IsAddress, IsHolder, bytes_at, word_at}
+use Rattle.vc_base.specs.Cells.{Blocks, bytes_at, word_at}
 use Rattle.vc_base.specs.Holders.{last_of}
 use Rattle.vc_dtdisc.specs.Rules.{Rules}
-use Rattle.vc_dthash.specs.Chained.{AreChained, IsHashed, Leads, chain_of, hash_at}
+use Rattle.vc_dthash.specs.Chained.{IsHashed, Leads, chain_of, hash_at}
 use Rattle.vc_dtlist.specs.Linked.{Chain}
 use Rattle.vc_dict.specs.Listed.{holders_from}
 use Rattle.vc_image_lists.specs.Chained.{IsKnot, IsSoundChain}

@@ -1,3 +1,4 @@
 pub mod Linking
 pub mod Knotting
 pub mod Rising
+mod Doublings

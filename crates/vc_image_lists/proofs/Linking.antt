@@ -1,12 +1,12 @@
 -- What is left of a list from a holder on.
-use Rattle.vc_base.proofs.Common.{◌≡◌, ◌≢◌, ℕ, zero, suc, ◌+◌, ◌<◌, ◌≤◌, ◌^◌, true, false, eqb, List, [], ◌∷◌, ◌==◌, All, length, sym, refl, ap, ◌∙◌, subst, arith, inl, inr, true≢false, eq-eqb, ne_eqb, cases_eq, AreDistinct, contains, first_of}
+use Rattle.vc_base.proofs.Common.{◌≡◌, ℕ, zero, suc, ◌<◌, ◌≤◌, ◌^◌, true, false, List, [], ◌∷◌, length, sym, refl, ap, ◌∙◌, subst, arith, inl, inr, true≢false, ne_eqb, cases_eq, AreDistinct, contains, first_of}
 use Rattle.std.specs.List.{AllByRecursion}
 use Rattle.std.proofs.lemmas.List.Elements.{All-from_recursion, recursion_from_All}
 use Rattle.vc_base.specs.declared.addr.Addr.{Addr}
-use Rattle.vc_base.specs.Cells.{Blocks, IsAddress, IsHolder, bytes_at, word_at}
+use Rattle.vc_base.specs.Cells.{Blocks, bytes_at, word_at}
 use Rattle.vc_base.specs.Holders.{last_of}
 use Rattle.vc_base.proofs.Members.{within-head, within-tail}
-use Rattle.vc_dtlist.specs.Linked.{Chain, HasLinks, IsPlain, LinksFor, StandsFor}
+use Rattle.vc_dtlist.specs.Linked.{Chain, IsPlain}
 use Rattle.vc_dict.specs.Listed.{holders_from}
 use Rattle.vc_image_lists.specs.Sound.{IsLink, IsSoundList}
 

@@ -1,5 +1,5 @@
 -- Holders in order of their keys, each compared with the one before it.
-use Rattle.vc_base.proofs.Common.{◌≡◌, ℕ, zero, suc, ◌+◌, ◌-◌, ◌<◌, ◌≤◌, Bool, true, false, ◌||◌, List, [], ◌∷◌, Ordering, Less, Equal, Greater, length, get_or, drop, sym, refl, ap, ◌∙◌, subst, arith, true≢false, false≢true, drop-cons, add-one, ordering_reverse, list_any, or_parts}
+use Rattle.vc_base.proofs.Common.{◌≡◌, ℕ, ◌+◌, ◌-◌, ◌<◌, ◌≤◌, Bool, true, false, ◌||◌, List, [], ◌∷◌, Ordering, Less, Equal, Greater, length, get_or, drop, sym, refl, ap, ◌∙◌, subst, arith, true≢false, drop-cons, add-one, ordering_reverse, list_any}
 use Rattle.std.specs.Cmp.{IsTotalOrder}
 use Rattle.vc_base.specs.Cells.{Blocks}
 use Rattle.vc_dtdisc.specs.Finds.{object_at}

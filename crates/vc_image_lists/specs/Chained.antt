@@ -1,5 +1,5 @@
 -- Which sets and bags of blocks are sound, but for their tables.
-use Rattle.std.specs.Prelude.{◌≡◌, ◌≢◌, ℕ, ◌*◌, ◌<◌, ◌≤◌, ◌^◌, All, length}
+use Rattle.std.specs.Prelude.{◌≡◌, ◌≢◌, ℕ, ◌<◌, ◌≤◌, ◌^◌, All, length}
 use Rattle.vc_base.specs.declared.addr.Addr.{Addr}
 use Rattle.vc_base.specs.Cells.{Blocks, IsAddress, IsHolder, bytes_at, word_at}
 use Rattle.vc_dtdisc.specs.Rules.{Rules}

@@ -1,3 +1,4 @@
 pub mod Sound
 pub mod Chained
 pub mod Ascending
+pub mod Tables

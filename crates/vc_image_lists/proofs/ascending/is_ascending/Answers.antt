@@ -1,6 +1,6 @@
-use Rattle.vc_base.proofs.Common.{◌≡◌, ◌+◌, ◌-◌, ◌≤◌, ◌<◌, ℕ, List, [], true, false, length, get_or, drop, contains, sym, refl, ap, ap₂, ◌∙◌, subst, arith, true≢false, eqb, list_any_at, eqb-false, drop_all}
-use Rattle.vc_image_lists.specs.Ascending.{IsAscending, is_against, stand}
-use Rattle.vc_image_lists.proofs.Rising.{Walked, walked-end, walked-next, walked-not, walked-start}
+use Rattle.vc_base.proofs.Common.{◌≡◌, ◌-◌, length, get_or, sym, refl, ap, ap₂, ◌∙◌, arith, true≢false, eqb-false, drop_all}
+use Rattle.vc_image_lists.specs.Ascending.{is_against, stand}
+use Rattle.vc_image_lists.proofs.Rising.{walked-end, walked-next, walked-not, walked-start}
 use Rattle.vc_image_lists.proofs.ascending.is_ascending.Goals as goal
 
 pub loop-i-init : goal.loop-i-init

@@ -1,4 +1,4 @@
-use Rattle.vc_base.proofs.Common.{◌≡◌, ◌+◌, ◌≤◌, ◌↔◌}
+use Rattle.vc_base.proofs.Common.{◌+◌, ◌≤◌}
 use Rattle.vc_image_lists.proofs.Rising.{Walked}
 use Rattle.vc_image_lists.proofs.ascending.is_ascending.Given as goal
 

@@ -1,6 +1,5 @@
-use Rattle.vc_base.proofs.Common.{◌≡◌, ℕ, List, length, ◌≤◌, get_or_default, ◌-◌, ◌%◌, suc, Bool, true, false, get_or, sym, refl, ap, ◌∙◌, subst, arith, true≢false, eq-eqb, eqb-true, cases_Bool, ⊎_elim}
-use Rattle.vc_dthash.specs.Chained.{hash_at}
-use Rattle.vc_image_lists.proofs.Knotting.{Walking, walking-end, walking-next, walking-not, walking-other, walking-start}
+use Rattle.vc_base.proofs.Common.{◌≡◌, ℕ, List, length, ◌≤◌, get_or_default, ◌-◌, ◌%◌, Bool, true, false, get_or, sym, refl, ap, ◌∙◌, arith, true≢false}
+use Rattle.vc_image_lists.proofs.Knotting.{walking-end, walking-next, walking-not, walking-other, walking-start}
 use Rattle.vc_image_lists.proofs.chain.is_sound_chain.Goals as goal
 use Rattle.vc_image_lists.proofs.chain.is_sound_chain.Goals.{then-at-ne0-via-then-at-ne0, then-at-ne0-via-else-at-ne0+then-before-last}
 

@@ -1,5 +1,5 @@
-use Rattle.vc_base.proofs.Common.{◌≡◌, ◌-◌, suc, sym, refl, arith, eq-eqb, eqb-true, true≢false}
-use Rattle.vc_image_lists.proofs.Linking.{Walking, walking-end, walking-next, walking-not, walking-start}
+use Rattle.vc_base.proofs.Common.{◌-◌, sym, arith, eq-eqb, eqb-true, true≢false}
+use Rattle.vc_image_lists.proofs.Linking.{walking-end, walking-next, walking-not, walking-start}
 use Rattle.vc_image_lists.proofs.list.is_sound_list.Goals as goal
 
 pub loop-left-init : goal.loop-left-init
