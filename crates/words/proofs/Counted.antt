@@ -47,7 +47,7 @@ as_words-cons : (part : List ℕ) (parts : List (List ℕ)) → as_words (part �
 as_words-cons part parts = cons-by (nat_lt 0 (length part)) part (as_words parts)
 
 -- what a call that counts says of an object that is there
-counts-there : (answer : Put) (words : List (List ℕ)) (old new : Contents) → is_there answer ≡ true → Counts (Ok answer) words old new → count_each words old.objects ≡ Some new.objects
+pub counts-there : (answer : Put) (words : List (List ℕ)) (old new : Contents) → is_there answer ≡ true → Counts (Ok answer) words old new → count_each words old.objects ≡ Some new.objects
 counts-there put.New words old new is c = c
 counts-there put.Old words old new is c = c
 counts-there put.NoSegment words old new is c = absurd (true≢false (sym is))
@@ -82,7 +82,7 @@ counts-along (Ok put.OutOfMemory) words words' first old new e c = tt
 counts-along (Err why) words words' first old new e c = tt
 
 -- an object has eight bytes more than its word
-tally-length : (n : ℕ) (word : List ℕ) → length (tally n word) ≡ 8 + length word
+pub tally-length : (n : ℕ) (word : List ℕ) → length (tally n word) ≡ 8 + length word
 tally-length n word = length-append (to_be_bytes w64 n) word
 
 fits-false : (n : ℕ) (word : List ℕ) → is_object (tally n word) ≡ true → nat_lt 1016 (length word) ≡ false

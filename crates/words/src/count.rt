@@ -1,4 +1,4 @@
-ghost use Rattle.std.specs.Prelude.{◌≡◌, [], ◌∷◌, ◌++◌, flat_map, OnOk};
+ghost use Rattle.std.specs.Prelude.{◌≡◌, ◌<◌, ◌^◌, [], ◌∷◌, ◌++◌, flat_map, length, OnOk};
 ghost use Rattle.vc_store.specs.Collections.{contents};
 ghost use Rattle.words.specs.Counting.{Counts, count_of, line};
 ghost use Rattle.words.specs.Sets.{IsWordSet, StaysWordSet};
@@ -45,6 +45,7 @@ fn count_word(set: &mut WordSet, object: &mut Vec<u8>, word: &[u8]) -> Result<Pu
 pub(crate) fn count_words(alloc: Global, set: &mut WordSet, text: &[u8]) -> Result<Put, OutOfMemory>
     requires { IsWordSet state set.old }
     ensures counts { Counts result (words_of text.now) (contents set.old) (contents set.new) }
+    ensures most { length text.now < 2 ^ 63 }
     ensures stays { StaysWordSet state set.old set.new }
 {
     let mut object = Vec::new(alloc);
