@@ -2,5 +2,7 @@
 #![tactic(auto)]
 
 mod blocks;
+mod taking;
 
 pub use blocks::ImageBlocks;
+pub use taking::take_block;
