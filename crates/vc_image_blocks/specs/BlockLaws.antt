@@ -1,5 +1,5 @@
 -- Where an unlabelled block lies in the bytes of an image.
-use Rattle.vc_base.proofs.Common.{◌≡◌, ℕ, zero, suc, ◌+◌, ◌-◌, ◌/◌, ◌<◌, ◌≤◌, true, false, nat_lt, ◌==◌, ◌&&◌, List, [], ◌∷◌, All, Option, Some, None, unwrap_or, length, get_or, take, drop, sym, refl, ap, ◌∙◌, subst, arith, inl, inr, true≢false, eq-eqb, ne_eqb, eqb_tells, eqb-true, ltb-true, lt-ltb, le-ltb, and_parts, cases_lt, length-take, get_or-take, get_or-drop, same_Some, le_prop, ∥∥₁_elim, cases_Bool, ⊎_elim, Block, bytes_at, place_of, find_block}
+use Rattle.vc_base.proofs.Common.{◌≡◌, ℕ, zero, suc, ◌+◌, ◌-◌, ◌/◌, ◌<◌, ◌≤◌, true, false, nat_lt, ◌==◌, ◌&&◌, if◌then◌else◌, List, [], ◌∷◌, All, Option, Some, None, unwrap_or, length, get_or, take, drop, sym, refl, ap, ◌∙◌, subst, arith, inl, inr, true≢false, eq-eqb, ne_eqb, eqb_tells, eqb-true, ltb-true, lt-ltb, le-ltb, and_parts, cases_lt, length-take, get_or-take, get_or-drop, same_Some, le_prop, ∥∥₁_elim, cases_Bool, ⊎_elim, Block, bytes_at, place_of, find_block}
 use Rattle.std.proofs.lemmas.List.{get_or_past}
 use Rattle.vc_base.proofs.Sets.{bytes-set}
 use Rattle.vc_model.proofs.Owned.{found-has}
@@ -166,6 +166,14 @@ from-marked image rows places k = record {
 
 pub other-marks : (image : List ℕ) (old new : List (List ℕ)) (places : List ℕ) → ((a : ℕ) → nat_lt 2 (mark_at new a) ≡ nat_lt 2 (mark_at old a)) → HasBlockMarks image old places → HasBlockMarks image new places
 other-marks image old new places same k = record { head = k.head; tiled = k.tiled; marks = λ a. same a ∙ k.marks a; parts = k.parts }
+
+-- so are those without the marks of free extents
+pub free-taken : (image : List ℕ) (old new : List (List ℕ)) (places : List ℕ) → ((a : ℕ) → mark_at new a ≡ (if mark_at old a == 1 then 0 else mark_at old a)) → HasBlockMarks image old places → HasBlockMarks image new places
+free-taken image old new places is k = other-marks image old new places
+    (λ a. elim (eqb_tells (mark_at old a) 1) as (λ _. nat_lt 2 (mark_at new a) ≡ nat_lt 2 (mark_at old a)) [
+      | inl one ↦ ap (nat_lt 2) (is a ∙ ap (λ t. if t then 0 else mark_at old a) one.0) ∙ sym (ap (nat_lt 2) one.1)
+      | inr other ↦ ap (nat_lt 2) (is a ∙ ap (λ t. if t then 0 else mark_at old a) other.0)
+    ]) k
 
 part-small : (n at : ℕ) (b : List ℕ) → AreBytes b → AreBytes (take n (drop at b))
 part-small n at b small i = elim (cases_lt i n) as (λ _. get_or (take n (drop at b)) i 0 < 256) [
