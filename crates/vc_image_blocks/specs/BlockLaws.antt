@@ -1,5 +1,6 @@
 -- Where an unlabelled block lies in the bytes of an image.
-use Rattle.vc_base.proofs.Common.{◌≡◌, ℕ, zero, suc, ◌+◌, ◌-◌, ◌/◌, ◌<◌, ◌≤◌, true, false, nat_lt, ◌==◌, ◌&&◌, if◌then◌else◌, List, [], ◌∷◌, All, Option, Some, None, unwrap_or, length, get_or, take, drop, sym, refl, ap, ◌∙◌, subst, arith, inl, inr, true≢false, eq-eqb, ne_eqb, eqb_tells, eqb-true, ltb-true, lt-ltb, le-ltb, and_parts, cases_lt, length-take, get_or-take, get_or-drop, same_Some, le_prop, ∥∥₁_elim, cases_Bool, ⊎_elim, Block, bytes_at, place_of, find_block}
+use Rattle.std.specs.Prelude.{◌≡◌, ℕ, zero, suc, ◌+◌, ◌-◌, ◌/◌, ◌<◌, ◌≤◌, true, false, nat_lt, ◌==◌, ◌&&◌, if◌then◌else◌, List, [], ◌∷◌, All, Option, Some, None, length, get_or, take, drop}
+use Rattle.vc_base.proofs.Common.{unwrap_or, sym, refl, ap, ◌∙◌, subst, arith, inl, inr, true≢false, eq-eqb, ne_eqb, eqb_tells, eqb-true, ltb-true, lt-ltb, le-ltb, and_parts, cases_lt, length-take, get_or-take, get_or-drop, same_Some, le_prop, ∥∥₁_elim, cases_Bool, ⊎_elim, Block, bytes_at, place_of, find_block}
 use Rattle.std.proofs.lemmas.List.{get_or_past}
 use Rattle.vc_base.proofs.Sets.{bytes-set}
 use Rattle.vc_model.proofs.Owned.{found-has}
