@@ -5,6 +5,8 @@ mod fault;
 mod head;
 mod saving;
 mod segments;
+#[cfg(test)]
+mod tests;
 
 pub use fault::SaveFault;
 pub use saving::save;
