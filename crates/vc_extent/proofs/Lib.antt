@@ -14,3 +14,4 @@ pub mod Removes
 pub mod Resets
 pub mod Widens
 pub mod Unused
+pub mod WalkStarts

@@ -99,8 +99,6 @@ module _ {a i at : ℕ} {segs : List Bytes} {s new : Bytes} {change : Extent →
   pub length-changed : (n : ℕ) → length (extent_in (at + 16) (extents new.bytes)).body ≡ n → length (extent_of (tiling (set segs i new)) a).body ≡ n
   length-changed n len = ap (λ (x : Extent). length x.body) extent-changed ∙ len
 
-pub ruleset changed_steps = (is-changed, extents-changed)
-
 -- the same where the change tells the bytes that the extent has then
 module _ {a i at : ℕ} {segs : List Bytes} {s new : Bytes} (made : List ℕ → Extent → List Extent → List Extent) (f : IsFound a segs i at) (is : s ≡ get_or segs i s)
     (ch : Changes (at + 16) (made (extent_in (at + 16) (extents new.bytes)).body) s new) where

@@ -1,4 +1,4 @@
-#![tactic(auto, using(crate::proofs::Sets::changed_steps))]
+#![tactic(auto, using(crate::proofs::WalkStarts::changed_steps))]
 
 ghost use Rattle.std.specs.Prelude.{◌≡◌, ◌+◌, ◌<◌, ◌≤◌, ◌==◌, IfSome, IsSomeAnd, if◌then◌else◌, length, map, take};
 ghost use Rattle.vc_base.specs.Prelude.{address, place_of, span};
@@ -7,6 +7,8 @@ ghost use Rattle.vc_extent.specs.Tiling.{IsBusy, IsExtentChanged, extent_behind,
 
 use crate::edit::{shrink_in, stretch_in};
 use crate::extents::Extents;
+use crate::near::joined;
+use crate::read::span_in;
 use vc_base::Addr;
 use vc_seg::span_of;
 
@@ -30,6 +32,8 @@ impl Extents {
             (λ e. result.0 ≡ rest_behind size self.old.segs.items a.0 e) }
     {
         let (place, at) = self.find(a);
+        let bytes = span_in(&self.segs[place], at);
+        self.near = joined(self.near, a, bytes);
         let left = stretch_in(&mut self.segs[place], at, size);
         if left == 0 {
             return Addr::NONE;

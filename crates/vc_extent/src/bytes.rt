@@ -1,4 +1,4 @@
-#![tactic(auto, using(crate::proofs::Sets::changed_steps))]
+#![tactic(auto, using(crate::proofs::WalkStarts::changed_steps))]
 
 ghost use Rattle.std.specs.Prelude.{◌≡◌, ◌+◌, ◌<◌, ◌≤◌, length, map, replicate, take};
 ghost use Rattle.vc_extent.specs.Change.{link_in, set_link, write};

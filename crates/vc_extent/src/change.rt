@@ -1,4 +1,4 @@
-#![tactic(auto, using(crate::proofs::Sets::changed_steps))]
+#![tactic(auto, using(crate::proofs::WalkStarts::changed_steps))]
 
 ghost use Rattle.std.specs.Prelude.{◌≡◌, ℕ, ◌+◌, ◌%◌, ◌<◌, ◌≤◌, IfSome, IsSome, IsSomeAnd, length, map, take};
 ghost use Rattle.vc_base.specs.Prelude.{address, place_of, span};
@@ -7,6 +7,8 @@ ghost use Rattle.vc_extent.specs.Tiling.{IsBusy, IsFree, IsNamed, IsExtentChange
 
 use crate::edit::{join_in, mark_busy_in, mark_free_in, set_size_in, split_in};
 use crate::extents::Extents;
+use crate::near::joined;
+use crate::read::span_in;
 use vc_base::Addr;
 
 impl Extents {
@@ -34,6 +36,8 @@ impl Extents {
             join }
     {
         let (place, at) = self.find(a);
+        let bytes = span_in(&self.segs[place], at);
+        self.near = joined(self.near, a, bytes);
         join_in(&mut self.segs[place], at);
     }
 

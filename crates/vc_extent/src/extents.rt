@@ -10,6 +10,7 @@ ghost use Rattle.vc_extent.specs.Tiles.{IsTiled};
 ghost use Rattle.vc_extent.specs.Tiling.{AreExtents, IsFound, change_in, closed_up, IsNamed, IsPlace, IsThere, extent_of, extents_of, next_of, previous_of, size_of, tiling};
 
 use crate::lay::format;
+use crate::near::outside;
 use crate::next::{next_in, previous_in};
 use crate::read::{size_in, span_in, tag_in};
 use std::alloc::Global;
@@ -38,10 +39,15 @@ pub struct Extents {
     pub segs: Vec<Segment>,
     /// By a segment's number, 0 where it isn't there, else one more than its place in `segs`: 1,024 numbers.
     pub index: Vec<u32>,
+    // Where `widen` begins its walk to the last extent of a segment: at the extent that it made when it was called
+    // before, or at the one that this was joined into; `NONE` where there is none. So it passes each extent about once.
+    pub(crate) near: Addr,
     /// Extents tile each segment, each has a number of its own, and the index has its place.
     pub ghost kept: { ∥ AreExtents segs.items index.items ∥₁ },
     /// Each segment that can be added has room.
     pub ghost reserved: { 1023 ≤ vec_capacity segs },
+    /// Where a walk begins, there is an extent.
+    pub ghost named: { 0 < near.0 → IsNamed (tiling segs.items) near.0 },
 }
 
 impl Extents {
@@ -51,7 +57,8 @@ impl Extents {
     {
         let segs = Vec::with_capacity(alloc, 1023)?;
         let index = vec![in alloc; 0u32; 1024]?;
-        Ok(Extents { segs, index })
+        let near = Addr::NONE;
+        Ok(Extents { segs, index, near })
     }
 
     /// The size of the segment of that number in bytes, where it is there.
@@ -149,6 +156,7 @@ impl Extents {
         ensures contains { Contains self.old.segs.items result }
     {
         let place = self.place(n);
+        self.near = outside(self.near, n);
         self.index[n as usize] = 0;
         close_up(&mut self.index, place as u32 + 1);
         self.segs.remove(place)
@@ -164,6 +172,7 @@ impl Extents {
         ensures value { result.0 ≡ address (n, 32) }
     {
         let place = self.place(n);
+        self.near = outside(self.near, n);
         format(&mut self.segs[place]);
         Addr::new(n, 32)
     }

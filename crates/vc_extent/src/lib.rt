@@ -11,6 +11,7 @@ mod edit;
 mod extents;
 mod lay;
 mod lent;
+mod near;
 mod next;
 mod read;
 mod widen;

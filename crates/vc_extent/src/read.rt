@@ -3,7 +3,6 @@
 ghost use Rattle.std.specs.Prelude.{◌≡◌, ◌+◌, ◌%◌, ◌<◌, ◌≤◌, IfSome, IsSome, length};
 ghost use Rattle.vc_extent.specs.Extent.{extents};
 ghost use Rattle.vc_extent.specs.Change.{IsExtentAt, behind, extent_in, first_of, last_span};
-ghost use Rattle.vc_extent.specs.Tiles.{IsTiled};
 
 use vc_seg::Segment;
 
@@ -35,14 +34,15 @@ pub(crate) fn span_behind(seg: &Segment, at: u32, bytes: u32) -> u32
     seg.field(at + bytes)
 }
 
-// The span of the last extent of a segment. It is found by a walk from the first, which reads one span after another.
-pub(crate) fn last_in(seg: &Segment) -> u32
-    requires { IsTiled seg.now.bytes }
+// The span of the last extent of a segment. It is found by a walk from a place on, where an extent lies, which reads
+// one span after another.
+pub(crate) fn last_in(seg: &Segment, from: u32) -> u32
+    requires { IsExtentAt seg.now.bytes from }
     ensures { result ≡ last_span 0 (extents seg.now.bytes) }
 {
     let end = seg.size() - 16;
-    let mut at = 16;
-    let mut span = 0;
+    let mut span = span_in(seg, from);
+    let mut at = from + span;
     while at < end {
         span = seg.field(at);
         at += span;

@@ -1,9 +1,8 @@
 ghost use Rattle.std.specs.Prelude.{◌≡◌, IfOk, IsErrOf, OnErr, OnOk, map};
-ghost use Rattle.vc_base.specs.Prelude.{Unserved, address};
+ghost use Rattle.vc_base.specs.Prelude.{LentNothing, Unserved, address};
 ghost use Rattle.vc_model.specs.Discipline.{CanExtend, Extended, Kept};
 ghost use Rattle.vc_seg.specs.Segment.{pair_of};
-ghost use Rattle.vc_extent.specs.Change.{IsWidened, widen};
-ghost use Rattle.vc_extent.specs.Tiles.{IsTiled};
+ghost use Rattle.vc_extent.specs.Change.{IsExtentAt, IsWidened, widen};
 ghost use Rattle.vc_extent.specs.Tiling.{IsThere, change_in, longer, size_in, tiling};
 
 use crate::extents::Extents;
@@ -13,14 +12,16 @@ use std::alloc::Global;
 use vc_base::Addr;
 use vc_seg::{LendFault, SegDisc, Segment, obtain_more};
 
-// Asks for so many bytes more of a segment, and makes them a free extent behind the others.
+// Asks for so many bytes more of a segment, and makes them a free extent behind the others. One of these lies from a
+// place on.
 fn widen_in(
     seg: &mut Segment,
     alloc: Global,
     disc: &mut Box<dyn SegDisc>,
+    from: u32,
     more: u32,
 ) -> Result<(), LendFault>
-    requires tiled { IsTiled seg.old.bytes }
+    requires there { IsExtentAt seg.old.bytes from }
     requires can { CanExtend (state disc.old) (pair_of seg.old) more }
 
     ensures widened { OnOk result (IsWidened more seg.old seg.new) }
@@ -28,11 +29,11 @@ fn widen_in(
     ensures refused { IsErrOf result LendFault.Refused
         → Unserved (state disc.old) (state disc.new) more }
     ensures no_memory { IsErrOf result LendFault.OutOfMemory
-        → state disc.new ≡ state disc.old }
+        → LentNothing (state disc.old) (state disc.new) }
     ensures same { OnErr result (seg.new ≡ seg.old) }
     ensures kept { Kept (state disc.old) (state disc.new) }
 {
-    let before = last_in(seg);
+    let before = last_in(seg, from);
     obtain_more(disc, alloc, seg, more)?;
     lay_more(seg, more, before);
     Ok(())
@@ -42,7 +43,8 @@ impl Extents {
     /// Asks the discipline for so many bytes more of segment n, which is there, as `obtain_more`: the discipline grows and has
     /// the segment out, and the bytes are a multiple of its round from that on, with which the segment's size stays at
     /// most 33,554,432. They become one free extent behind the segment's last one, and the answer is its address. Where
-    /// the discipline refuses, or for want of memory, nothing changes. It reads the span of each extent of the segment.
+    /// the discipline refuses, or for want of memory, nothing changes. It reads the spans of the extents from the one
+    /// on that it made when it was called before, where that was for the same segment; else of all of the segment.
     pub fn widen(
         &mut self,
         alloc: Global,
@@ -68,12 +70,14 @@ impl Extents {
         ensures refused { IsErrOf result LendFault.Refused
             → Unserved (state disc.old) (state disc.new) more }
         ensures no_memory { IsErrOf result LendFault.OutOfMemory
-            → state disc.new ≡ state disc.old }
+            → LentNothing (state disc.old) (state disc.new) }
         ensures kept { Kept (state disc.old) (state disc.new) }
     {
-        let place = self.place(n);
+        let (place, from) = self.walk_from(n);
         let size = self.segs[place].size();
-        widen_in(&mut self.segs[place], alloc, disc, more)?;
-        Ok(Addr::new(n, size))
+        widen_in(&mut self.segs[place], alloc, disc, from, more)?;
+        let a = Addr::new(n, size);
+        self.near = a;
+        Ok(a)
     }
 }

@@ -1,21 +1,29 @@
-use Rattle.vc_base.proofs.Common.{◌+◌, ◌-◌, ℕ, length, sym, refl, ap, ◌∙◌, subst, arith}
-use Rattle.vc_extent.specs.Change.{last_span}
+use Rattle.vc_base.proofs.Common.{◌+◌, ◌-◌, ℕ, length, sym, ap, ◌∙◌, subst, arith}
+use Rattle.vc_extent.specs.Change.{behind, last_span}
 use Rattle.vc_extent.specs.Extent.{extents}
 use Rattle.vc_extent.specs.Tiles.{Tiles}
-use Rattle.vc_extent.proofs.Widens.{IsOn, walk-ends, walk-on}
+use Rattle.vc_extent.proofs.Changed.{rest-tiles}
+use Rattle.vc_extent.proofs.Widens.{IsOn, last-from, walk-ends, walk-on}
 use Rattle.vc_extent.proofs.read.last_in.Goals as goal
 use Rattle.vc_extent.proofs.read.last_in.Goals.{After-field-span}
 
 pub loop-at-init : goal.loop-at-init
-loop-at-init c = record { end = ap (λ k. k - 16) c.size-end.ensures.value; left = (extents c.args.seg.now.bytes, (c.requires.tiles, refl)) }
+loop-at-init c =
+    let from = c.args.from + 16 in
+    let es = extents c.args.seg.now.bytes in
+    let is = c.span_in-span.ensures.value in
+    record {
+      end = ap (λ k. k - 16) c.size-end.ensures.value;
+      left = (behind from es, (rest-tiles c.requires is, ap (λ (k : ℕ). last_span k (behind from es)) is ∙ last-from from 0 es c.requires.named));
+    }
 
 -- the step from the place that was read
 on : (c : After-field-span) → IsOn c.args.seg.now.bytes (length c.args.seg.now.bytes - 16) c.loop-at.span c.loop-at.at c.loop-at.invariant.left.0
 on c = walk-on c.args.seg.now.bytes (length c.args.seg.now.bytes - 16) c.loop-at.span c.loop-at.at c.loop-at.invariant.left.0 c.loop-at.invariant.left.1.0 (omega (arith, c.loop-at.invariant.end))
 
-pub overflow_add-at : goal.overflow_add-at
-overflow_add-at c =
-    let s = on (goal.at.overflow_add-at c).After-field-span in
+pub overflow_add-at-in-loop-at : goal.overflow_add-at-in-loop-at
+overflow_add-at-in-loop-at c =
+    let s = on (goal.at.overflow_add-at-in-loop-at c).After-field-span in
     omega (arith, s.end, c.field-span.ensures, c.loop-at.invariant.end)
 
 pub loop-at-smaller : goal.loop-at-smaller

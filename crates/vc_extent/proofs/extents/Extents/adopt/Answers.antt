@@ -1,7 +1,8 @@
 use Rattle.vc_base.proofs.Common.{◌≡◌, ℕ, ◌+◌, ◌≤◌, List, [], ◌∷◌, ◌++◌, length, set, sym, ap, ◌∙◌, subst, arith, le_prop, ∥∥₁_elim, ∥∥₁_map}
 use Rattle.vc_seg.specs.Segment.{Bytes}
-use Rattle.vc_extent.specs.Tiling.{AreExtents}
+use Rattle.vc_extent.specs.Tiling.{AreExtents, IsNamed, tiling}
 use Rattle.vc_extent.proofs.Pushes.{AreExtents-push, few-unused}
+use Rattle.vc_extent.proofs.WalkStarts.{near-pushed}
 use Rattle.vc_extent.proofs.extents.Extents.adopt.Goals as goal
 
 pub push_reserved-requires : goal.push_reserved-requires
@@ -24,4 +25,6 @@ invariant_of-self c =
           subst (λ (xs : List Bytes). ∥ AreExtents xs (set c.args.self.now.index.items c.number-number.result (c.len.result + 1)) ∥₁) (sym c.push_reserved.ensures.items)
           (subst (λ (xs : List ℕ). ∥ AreExtents (segs ++ new ∷ []) xs ∥₁) index pushed);
       reserved = omega (arith, c.push_reserved.ensures.capacity, c.args.self.now.reserved);
+      named = λ some.
+          subst (λ (xs : List Bytes). IsNamed (tiling xs) c.args.self.now.near.0) (sym c.push_reserved.ensures.items) (near-pushed c.args.self.now.near.0 segs new c.args.self.now.named some);
     }

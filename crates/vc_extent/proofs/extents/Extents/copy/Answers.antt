@@ -2,9 +2,10 @@ use Rattle.vc_base.proofs.Common.{◌≡◌, ◌+◌, ◌≤◌, List, [], ◌++
 use Rattle.vc_seg.specs.Memory.{with_copy_of}
 use Rattle.vc_seg.specs.Segment.{Bytes}
 use Rattle.vc_extent.specs.Change.{Changes, write}
-use Rattle.vc_extent.specs.Tiling.{IsExtentChanged, AreExtents, extent_of, tiling}
+use Rattle.vc_extent.specs.Tiling.{IsExtentChanged, AreExtents, IsNamed, extent_of, tiling}
 use Rattle.vc_extent.proofs.Copies.{copy-changes, source-fits, target-fits}
 use Rattle.vc_extent.proofs.Sets.{extents-changed, is-changed}
+use Rattle.vc_extent.proofs.WalkStarts.{keeps-write, near-changed}
 use Rattle.vc_extent.proofs.extents.Extents.copy.Goals as goal
 use Rattle.vc_extent.proofs.extents.Extents.copy.Goals.{After-copy_between}
 
@@ -53,6 +54,9 @@ invariant_of-self c =
           subst (λ (xs : List Bytes). ∥ AreExtents xs c.args.self.now.index.items ∥₁) (sym (items h))
           (extents-changed c.find-target.ensures.found (is h) (change h) c.args.self.now.index.items c.args.self.now.kept);
       reserved = c.args.self.now.reserved;
+      named = λ some.
+          subst (λ (xs : List Bytes). IsNamed (tiling xs) c.args.self.now.near.0) (sym (items h))
+          (near-changed c.find-target.ensures.found (is h) (change h) c.args.self.now.near.0 (keeps-write 0 (take c.args.len (extent_of (tiling c.args.self.now.segs.items) c.args.from.0).body)) c.args.self.now.named some);
     }
 
 pub returns : goal.returns

@@ -1,10 +1,11 @@
 use Rattle.vc_base.proofs.Common.{◌≡◌, List, map, length, Some, filter, remove, sym, ap, ◌∙◌, subst, arith, length-set, ∥∥₁_elim, ∥∥₁_map}
 use Rattle.vc_seg.specs.Back.{has_other_number}
 use Rattle.vc_seg.specs.Segment.{Bytes, pair_of}
-use Rattle.vc_extent.specs.Tiling.{AreExtents, tiling}
+use Rattle.vc_extent.specs.Tiling.{AreExtents, IsNamed, tiling}
 use Rattle.vc_extent.proofs.Places.{size-place}
 use Rattle.vc_extent.proofs.Propositions.{segments-set}
 use Rattle.vc_extent.proofs.Removes.{AreExtents-remove, pairs-filter, removed-is, tiling-filter}
+use Rattle.vc_extent.proofs.WalkStarts.{near-removed}
 use Rattle.vc_extent.proofs.extents.Extents.remove.Goals as goal
 use Rattle.vc_extent.proofs.extents.Extents.remove.Goals.{After-remove}
 
@@ -22,6 +23,9 @@ invariant_of-self c =
     record {
       kept = subst (λ (xs : List Bytes). ∥ AreExtents xs c.close_up.new.index.items ∥₁) (sym c.remove.ensures.items) made;
       reserved = omega (arith, c.remove.ensures.capacity, c.args.self.now.reserved);
+      named = λ some.
+          subst (λ (xs : List Bytes). IsNamed (tiling xs) c.outside-self.result.0) (sym c.remove.ensures.items)
+          (near-removed c.outside-self.ensures c.args.self.now.segs.items c.place-place.result p.numbered c.args.self.now.named some);
     }
 
 pub returns-clause-segs : goal.returns-clause-segs

@@ -5,6 +5,7 @@ use Rattle.vc_extent.specs.Change.{one_free}
 use Rattle.vc_extent.specs.Tiles.{IsTiled}
 use Rattle.vc_extent.proofs.Resets.{one-free}
 use Rattle.vc_extent.proofs.Sets.{AreExtents-set, pairs-set, tiling-set}
+use Rattle.vc_extent.proofs.WalkStarts.{near-reset}
 use Rattle.vc_extent.proofs.extents.Extents.reset.Goals as goal
 use Rattle.vc_extent.proofs.extents.Extents.reset.Goals.{After-format}
 
@@ -20,6 +21,9 @@ invariant_of-self c =
           (AreExtents-set c.args.self.now.segs.items c.args.self.now.index.items c.place-place.result c.format.new.seg c.place-place.ensures.place.within
           (λ d. c.format.ensures.number ∙ ap (λ (b : Bytes). b.number) (same h d)) c.format.ensures.tiled);
       reserved = c.args.self.now.reserved;
+      named =
+          near-reset c.outside-self.ensures c.args.self.now.segs.items c.place-place.result c.format.new.seg c.place-place.ensures.place
+          (c.format.ensures.number ∙ (ap (λ (b : Bytes). b.number) (same h c.index_mut.result.now) ∙ c.place-place.ensures.place.numbered c.index_mut.result.now)) c.format.ensures.tiled c.args.self.now.named;
     }
 
 pub returns-clause-tiling : goal.returns-clause-tiling
