@@ -8,7 +8,7 @@ pub use Rattle.vc_model.specs.Best.{best_need, without_block_at, zeros}
 pub use Rattle.vc_model.specs.Bytes.{with_bytes}
 pub use Rattle.vc_model.specs.Compact.{cleared_layout, compact_count, compacted_layout}
 pub use Rattle.vc_model.specs.Count.{Rose}
-pub use Rattle.vc_model.specs.Discipline.{Discipline, HasOut, IsRound, IsSegmentSize, Lent, NoneRefused, TookBack, Unserved}
+pub use Rattle.vc_model.specs.Discipline.{Discipline, HasOut, IsRound, IsSegmentSize, Exceptions, Excused, Kept, Lent, LentNothing, NoneRefused, TookBack, Unserved}
 pub use Rattle.vc_model.specs.Layout.{address_of, empty_layout, without_block}
 pub use Rattle.vc_model.specs.Place.{IsAlign}
 pub use Rattle.vc_model.specs.Pool.{cell_for, cell_offset, uncarved}

@@ -182,6 +182,6 @@ pub(crate) fn close(extents: Extents, disc: &mut Box<dyn SegDisc>) -> u32
     ensures count { result ≡ length (map pair_of extents.segs.items) }
     ensures disc { TookBack (state disc.old) (state disc.new) (map pair_of extents.segs.items) [] }
 {
-    let Extents { mut segs, index: _ } = extents;
+    let Extents { mut segs, .. } = extents;
     give_back_all(&mut segs, disc)
 }

@@ -5,6 +5,7 @@ use Rattle.vc_model.specs.Discipline.{Kept}
 use Rattle.vc_model.proofs.Keeping.{Kept-equal, Kept-same, NoneRefused-served}
 use Rattle.vc_model.specs.Outcome as model
 use Rattle.vc_region.specs.Region.{Region, segments_of}
+use Rattle.vc_seg.proofs.Nothing.{nothing-out, nothing-refused}
 use Rattle.vc_seg.specs.Answer.{Answers, Asks, IsRefusal}
 use Rattle.vc_seg.specs.declared.fault.RegionFault.{RegionFault}
 use Rattle.vc_seg.specs.declared.fault.RegionFault.TheVariants as code
@@ -57,12 +58,14 @@ changed-alike h disc region cells labels same has alike segments names =
 pub asks-kept : (result : Result Addr RegionFault) (d e : Discipline) (s s' : List (ℕ × ℕ)) (n : ℕ) → Asks result d e s s' n → Kept d e
 asks-kept (Ok a) d e s s' n asks = asks.kept
 asks-kept (Err code.NoSegment) d e s s' n asks = asks.kept
+asks-kept (Err code.OutOfMemory) d e s s' n asks = asks.kept
 asks-kept (Err fault) d e s s' n asks = asks.kept
 
 module _ (call : Bool → Outcome (Put (Region ℕ))) (r r' : Region ℕ) (d e : Discipline) (n : ℕ) where
   pub asks-out : (result : Result Addr RegionFault) → Answers call result r r' → Asks result d e (segments_of r) (segments_of r') n → KeepsOut d e (segments_of r) (segments_of r')
   asks-out (Ok a) answers asks = asks.out
   asks-out (Err code.NoSegment) answers asks = λ rest at. asks.out ∙ (at ∙ ap (λ (q : Region ℕ). rest ++ segments_of q) (sym answers.1))
+  asks-out (Err code.OutOfMemory) answers asks = nothing-out d e (segments_of r) (segments_of r') (ap segments_of answers.1) asks
   asks-out (Err fault) answers asks = asks.out
 
   -- a fault changes nothing
@@ -140,6 +143,7 @@ told-no_segment fault (Err e) tells is = absurd (subst IsAn (sym is) tt)
 pub told-served : {E : Type 0} (fault : RegionFault) (result : Result Reply E) (d e : Discipline) (s s' : List (ℕ × ℕ)) (n : ℕ) → TellsFault fault result → Asks (Err fault) d e s s' n → result ≢ Ok (reply.Refused why.NoSegment) → NoneRefused d e
 told-served code.NoSegment (Ok told) d e s s' n tells asks other = absurd (other (ap (λ q. Ok q) (sym (same_Some (reply.Refused why.NoSegment) told tells))))
 told-served code.NoSegment (Err x) d e s s' n tells asks other = absurd (none-some model.NoSegment (sym tells))
+told-served code.OutOfMemory result d e s s' n tells asks other = nothing-refused d e asks
 told-served fault result d e s s' n tells asks other = NoneRefused-served d e s s' n asks
 
 pub put-served : {E : Type 0} (tag : ℕ) (x : List ℕ) (put : Result Addr RegionFault) (old new : Labels) (result : Result Reply E) (d e : Discipline) (s s' : List (ℕ × ℕ)) (n : ℕ) → NamesPut tag x put old new result → Asks put d e s s' n → result ≢ Ok (reply.Refused why.NoSegment) → NoneRefused d e

@@ -1,7 +1,7 @@
 -- What one call makes of a best region and of the list of its live blocks.
 use Rattle.vc_base.proofs.Common.{◌≡◌, ℕ, zero, suc, ◌<◌, ◌≤◌, true, false, List, [], ◌∷◌, ◌++◌, map, map-append, map-set, length, length-map, max, get_or, get_or-map, remove, set, if◌then◌else◌, Option, Result, Some, None, is_some, option_map, Err, find_block, refl, sym, ap, ◌∙◌, subst, le-ltb, lt-ltb, none-some, arith, number_of, place_of, address, best_alloc, best_resize, without_block_at, without_block, cleared_layout, compacted_layout, Discipline, Served, TookBack, Layout, Done, Outcome, Put, Refused}
 use Rattle.vc_base.specs.declared.addr.Addr.{Addr}
-use Rattle.vc_model.proofs.Keeping.{Kept-equal}
+use Rattle.vc_model.proofs.Keeping.{NoneRefused-back, NoneRefused-equal, NoneRefused-same, NoneRefused-served}
 use Rattle.vc_splay.specs.Rank.{rank}
 use Rattle.vc_splay.specs.Unique.{IsTree-one}
 use Rattle.vc_extent.specs.Tiling.{tiling}
@@ -12,13 +12,14 @@ use Rattle.vc_best.specs.Cost.{CallCosts}
 use Rattle.vc_best.specs.Parts.{blocks_in, disc_in, layout_of, segments_in}
 use Rattle.vc_best.specs.declared.best.Best.{Best}
 use Rattle.vc_best.proofs.Places.{own_places}
+use Rattle.vc_seg.proofs.Nothing.{nothing-out}
 use Rattle.vc_seg.specs.Answer.{Asks, IsPut, IsRefusal}
 use Rattle.vc_seg.specs.OneBlock.{IsBlockKept, IsBlockPut, IsSize, IsGuardedSize}
 use Rattle.vc_seg.specs.declared.fault.RegionFault.{RegionFault}
 use Rattle.vc_seg.specs.declared.fault.RegionFault.TheVariants as code
 use Rattle.vc_cost.specs.declared.best_call.BestCall.{BestCall}
 use Rattle.vc_cost.specs.declared.best_call.BestCall.TheVariants.{Alloc, Resize, Free, Clear, Compact}
-use Rattle.vc_cost.specs.BestCalls.{AreLive, IsDiscLeft, IsRefusedBy, Live, after_best, best_weight, has_nth, resize_nth, with_last, with_nth, without_nth}
+use Rattle.vc_cost.specs.BestCalls.{AreLive, IsDiscLeft, IsDiscServed, IsRefusedBy, Live, after_best, best_weight, has_nth, resize_nth, with_last, with_nth, without_nth}
 use Rattle.vc_cost.specs.BestCosts.{IsBestMade, IsBestRefused, live_in}
 use Rattle.vc_cost.proofs.FaultLemmas.{alloc-asks, alloc-both, alloc-why, fault-of, resize-asks, resize-both, resize-why}
 use Rattle.vc_cost.proofs.LiveLemmas.{has-found, live-freed, live-moved, live-none, live-put, nth-there}
@@ -47,13 +48,12 @@ module _ {I : Type 0} {V : I → Type 0} (meaning : (x : I) × V x → Disciplin
   abbrev r : Live
   r = live_in old before
 
-  served : (size : ℕ) → Served (disc_in meaning old) (disc_in meaning new) (segments_in old) (segments_in new) size → TookBack (disc_in meaning old) (disc_in meaning new) (segments_in old) (segments_in new)
-  served size h = record { kept = h.kept; faults = h.faults; out = h.out }
+  served : (size : ℕ) → Served (disc_in meaning old) (disc_in meaning new) (segments_in old) (segments_in new) size → IsDiscServed (disc_in meaning old) (disc_in meaning new) (segments_in old) (segments_in new)
+  served size h = record { none = NoneRefused-served (disc_in meaning old) (disc_in meaning new) (segments_in old) (segments_in new) size h; out = h.out }
 
-  kept-back : disc_in meaning new ≡ disc_in meaning old → segments_in new ≡ segments_in old → TookBack (disc_in meaning old) (disc_in meaning new) (segments_in old) (segments_in new)
+  kept-back : disc_in meaning new ≡ disc_in meaning old → segments_in new ≡ segments_in old → IsDiscServed (disc_in meaning old) (disc_in meaning new) (segments_in old) (segments_in new)
   kept-back same segs = record {
-    kept = Kept-equal (disc_in meaning old) (disc_in meaning new) same;
-    faults = ap (λ (d : Discipline). d.faults) same;
+    none = NoneRefused-equal (disc_in meaning old) (disc_in meaning new) same;
     out = λ rest e. ap (λ (d : Discipline). d.out) same ∙ e ∙ ap (λ z. rest ++ z) (sym segs);
   }
 
@@ -153,7 +153,7 @@ module _ {I : Type 0} {V : I → Type 0} (meaning : (x : I) × V x → Disciplin
       record {
         leaves = λ i. record { layout = left i; blocks = e i };
         live = subst (AreLive (blocks_in new)) (sym e) (subst (λ bs. AreLive bs (map number_of before)) (sym (ap (λ (l : Layout ℕ). l.blocks) left)) live);
-        disc = d;
+        disc = record { none = NoneRefused-back (disc_in meaning old) (disc_in meaning new) (segments_in old) (segments_in new) d; out = d.out };
         cost = c;
       }
 
@@ -178,7 +178,7 @@ err-of w v e = ap (λ z. Err z) e
 pub asked-left : (why : RegionFault) (old new : Discipline) (segs segs' : List (ℕ × ℕ)) (size : ℕ) → segs' ≡ segs → Asks (Err why) old new segs segs' size → IsDiscLeft why old new segs segs'
 asked-left code.NoSegment old new segs segs' size same h = record { kept = h.kept; rose = λ e. h.rose; out = λ rest e. h.out ∙ e ∙ ap (λ z. rest ++ z) (sym same) }
 asked-left code.TooManySegments old new segs segs' size same h = record { kept = h.kept; rose = λ e. absurd (cc); out = h.out }
-asked-left code.OutOfMemory old new segs segs' size same h = record { kept = h.kept; rose = λ e. absurd (cc); out = h.out }
+asked-left code.OutOfMemory old new segs segs' size same h = record { kept = h.kept; rose = λ e. absurd (cc); out = nothing-out old new segs segs' same h }
 asked-left code.Fixed old new segs segs' size same h = record { kept = h.kept; rose = λ e. absurd (cc); out = h.out }
 asked-left code.PoolSize old new segs segs' size same h = record { kept = h.kept; rose = λ e. absurd (cc); out = h.out }
 asked-left code.NotLast old new segs segs' size same h = record { kept = h.kept; rose = λ e. absurd (cc); out = h.out }
@@ -190,7 +190,7 @@ module _ {I : Type 0} {V : I → Type 0} (meaning : (x : I) × V x → Disciplin
   none_made call same none = record {
     leaves = sym same;
     live = live;
-    disc = record { kept = Kept-equal (disc_in meaning b) (disc_in meaning b) refl; faults = refl; out = λ rest e. e };
+    disc = record { none = NoneRefused-same (disc_in meaning b); out = λ rest e. e };
     cost = record {
       law = λ t u h k. record {
         cost = let e = ap rank (IsTree-one (gap_store (tiling b.extents.segs.items)) b.root.0 t u (gap_none b.extents.segs.items b.extents.index.items b.extents.kept) h k) in omega arith;

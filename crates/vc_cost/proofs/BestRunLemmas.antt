@@ -9,7 +9,7 @@ use Rattle.vc_model.specs.Numbers.{gap_count}
 use Rattle.vc_model.specs.Outcome.{TooManySegments}
 use Rattle.vc_model.specs.Layout.{footprints}
 use Rattle.vc_model.specs.Gap.{gaps}
-use Rattle.vc_model.proofs.Keeping.{Kept-same, Kept-trans}
+use Rattle.vc_model.proofs.Keeping.{Kept-same, Kept-trans, NoneRefused-same, NoneRefused-trans, Rose-earlier}
 use Rattle.vc_splay.proofs.DigitLemmas.{digits-rise}
 use Rattle.vc_splay.specs.Rank.{binary_digits, rank, size}
 use Rattle.vc_splay.specs.Stands.{IsTree}
@@ -24,7 +24,7 @@ use Rattle.vc_seg.specs.declared.fault.RegionFault.{RegionFault}
 use Rattle.vc_seg.specs.declared.fault.RegionFault.TheVariants as code
 use Rattle.vc_cost.specs.declared.best_call.BestCall.{BestCall}
 use Rattle.vc_cost.specs.declared.best_call.BestCall.TheVariants.{Alloc, Resize, Free, Clear, Compact}
-use Rattle.vc_cost.specs.BestCalls.{AreLive, IsDiscLeft, IsRefusedAt, IsRefusedBy, IsStoppedAt, Live, after_best, after_bests, best_weight, bests_made, greatest_gaps}
+use Rattle.vc_cost.specs.BestCalls.{AreLive, IsDiscLeft, IsDiscServed, IsRefusedAt, IsRefusedBy, IsStoppedAt, Live, after_best, after_bests, best_weight, bests_made, greatest_gaps}
 use Rattle.vc_cost.specs.BestCosts.{IsBestMade, IsBestRefused, IsRunMade, IsRunStopped, live_in}
 use Rattle.vc_cost.proofs.FaultLemmas.{alloc-first}
 use Rattle.vc_cost.proofs.LiveLemmas.{live-none}
@@ -48,7 +48,7 @@ module _ (terms : Terms) (call : BestCall) where
 pub record AreBestsMade {I : Type 0} {V : I → Type 0} (meaning : (x : I) × V x → Discipline) (calls : List BestCall) (first now : Best I V) (live : List Addr) (greatest start steps : ℕ) : Type 0 where
   pub leaves : live_in now live ≡ after_bests (disc_in meaning first).terms calls (live_in first [])
   pub alive : AreLive (blocks_in now) (map number_of live)
-  pub disc : TookBack (disc_in meaning first) (disc_in meaning now) (segments_in first) (segments_in now)
+  pub disc : IsDiscServed (disc_in meaning first) (disc_in meaning now) (segments_in first) (segments_in now)
   pub most : greatest ≡ greatest_gaps (disc_in meaning first).terms calls (live_in first [])
   pub few : gap_count (layout_of now) ≤ greatest
   pub cost : (u : Tree) → IsTree (gap_store (tiling now.extents.segs.items)) now.root.0 u → steps + 2 * rank u ≤ start + bests_made (disc_in meaning first).terms calls (live_in first []) * (240 * binary_digits greatest + 260)
@@ -67,7 +67,7 @@ module _ {I : Type 0} {V : I → Type 0} (meaning : (x : I) × V x → Disciplin
       record {
         leaves = refl;
         alive = live-none (blocks_in b);
-        disc = record { kept = Kept-same (disc_in meaning b); faults = refl; out = λ rest e. e };
+        disc = record { none = NoneRefused-same (disc_in meaning b); out = λ rest e. e };
         most = refl;
         few = omega (arith, no);
         cost = λ u k.
@@ -90,15 +90,14 @@ module _ {I : Type 0} {V : I → Type 0} (meaning : (x : I) × V x → Disciplin
     pub bests_next : IsBestMade meaning call mid new live after steps last → greatest' ≡ max greatest (gap_count (layout_of new)) → AreBestsMade meaning (calls ++ call ∷ []) first new after greatest' start last
     bests_next k g =
         let made : live_in new after ≡ after_best terms call (after_bests terms calls r) =
-        k.leaves ∙ ap (λ t. after_best t call (live_in mid live)) h.disc.kept.terms ∙ ap (after_best terms call) h.leaves in
+        k.leaves ∙ ap (λ t. after_best t call (live_in mid live)) h.disc.none.kept.terms ∙ ap (after_best terms call) h.leaves in
         let gaps_now : gap_count (layout_of new) ≡ gap_count (after_best terms call (after_bests terms calls r)).layout = ap (λ (s : Live). gap_count s.layout) made in
         let all = greatest-more terms call calls r in
         record {
           leaves = made ∙ sym (after-more terms call calls r);
           alive = k.live;
           disc = record {
-            kept = Kept-trans (disc_in meaning first) (disc_in meaning mid) (disc_in meaning new) h.disc.kept k.disc.kept;
-            faults = k.disc.faults ∙ h.disc.faults;
+            none = NoneRefused-trans (disc_in meaning first) (disc_in meaning mid) (disc_in meaning new) h.disc.none k.disc.none;
             out = λ rest e. k.disc.out rest (h.disc.out rest e);
           };
           most = omega (arith, g, h.most, gaps_now, all);
@@ -122,8 +121,8 @@ module _ {I : Type 0} {V : I → Type 0} (meaning : (x : I) × V x → Disciplin
     -- the next one was refused
     pub bests_left : (why : RegionFault) → IsBestRefused meaning call mid new live why → IsDiscLeft why (disc_in meaning first) (disc_in meaning new) (segments_in first) (segments_in new)
     bests_left why k = record {
-      kept = Kept-trans (disc_in meaning first) (disc_in meaning mid) (disc_in meaning new) h.disc.kept k.disc.kept;
-      rose = λ e. subst (λ f. Rose f (disc_in meaning new).faults) h.disc.faults (k.disc.rose e);
+      kept = Kept-trans (disc_in meaning first) (disc_in meaning mid) (disc_in meaning new) h.disc.none.kept k.disc.kept;
+      rose = λ e. Rose-earlier (disc_in meaning first).faults (disc_in meaning mid).faults (disc_in meaning new).faults h.disc.none.kept.faults (k.disc.rose e);
       out = λ rest e. k.disc.out rest (h.disc.out rest e);
     }
 
@@ -143,11 +142,11 @@ module _ {I : Type 0} {V : I → Type 0} (meaning : (x : I) × V x → Disciplin
       let to : (b : Bool) (w : Fault) → IsRefusedBy (disc_in meaning mid).terms call (live_in mid live) b w → IsRefusedAt all items k given b w =
       λ b w q. record {
         there = within;
-        by = moved (disc_in meaning mid).terms all call (get_or items k Compact) (live_in mid live) (after_bests all (take k items) given) b w h.disc.kept.terms own h.leaves q;
+        by = moved (disc_in meaning mid).terms all call (get_or items k Compact) (live_in mid live) (after_bests all (take k items) given) b w h.disc.none.kept.terms own h.leaves q;
       }
       in
       let from : (b : Bool) (w : Fault) → IsRefusedAt all items k given b w → IsRefusedBy (disc_in meaning mid).terms call (live_in mid live) b w =
-      λ b w q. moved all (disc_in meaning mid).terms (get_or items k Compact) call (after_bests all (take k items) given) (live_in mid live) b w (sym h.disc.kept.terms) (sym own) (sym h.leaves) q.by in
+      λ b w q. moved all (disc_in meaning mid).terms (get_or items k Compact) call (after_bests all (take k items) given) (live_in mid live) b w (sym h.disc.none.kept.terms) (sym own) (sym h.leaves) q.by in
       record {
         place = inl within;
         layout = stop.same ∙ ap (λ (s : Live). s.layout) h.leaves;

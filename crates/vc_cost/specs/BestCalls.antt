@@ -5,7 +5,7 @@ use Rattle.vc_model.specs.Addr.{address, place_of}
 use Rattle.vc_model.specs.Best.{best_alloc, without_block_at}
 use Rattle.vc_model.specs.Compact.{cleared_layout, compacted_layout}
 use Rattle.vc_model.specs.Count.{Rose}
-use Rattle.vc_model.specs.Discipline.{Discipline, Kept, Terms}
+use Rattle.vc_model.specs.Discipline.{Discipline, Kept, NoneRefused, Terms}
 use Rattle.vc_model.specs.Layout.{Block, Layout}
 use Rattle.vc_model.specs.Numbers.{gap_count}
 use Rattle.vc_model.specs.Outcome.{Outcome, Done, Refused, Put, Fault, TooManySegments, NoSegment}
@@ -108,6 +108,12 @@ HasSize Compact = Unit {0}
 pub record AreLive (blocks : List (Block ℕ)) (live : List ℕ) : Type 0 where
   pub distinct : AreDistinct live
   pub there : All (HasBlock blocks) live
+
+-- what calls that were made leave of the discipline: nothing was refused, and out is what was, but for the segments of the region
+-- that came and went
+pub record IsDiscServed (old new : Discipline) (segments segments' : List (ℕ × ℕ)) : Type 0 where
+  pub none : NoneRefused old new
+  pub out : (rest : List (ℕ × ℕ)) → old.out ≡ rest ++ segments → new.out ≡ rest ++ segments'
 
 -- a refused call leaves of the discipline what was out, but for the segments of the region that came and went, and where the
 -- refusal is its own its faults rose

@@ -1,5 +1,5 @@
 -- In an open region the block that has a name is the only one that has it, and the only one at its place.
-use Rattle.vc_base.proofs.Common.{◌≡◌, ℕ, ◌+◌, ◌≤◌, true, false, cond, ◌≢◌, List, [], ◌∷◌, map, Some, None, Option, option_map, AllPairs, find, unwrap_or, sym, refl, ap, ◌∙◌, subst, inl, inr, ⊎_elim, arith, cases_Bool, All-map, same_Some, AllByRecursion, address, place_of, Discipline, Block, address_of, is_at, relabel_block, HaveOwnPlaces}
+use Rattle.vc_base.proofs.Common.{◌≡◌, Bool, ℕ, ◌+◌, ◌≤◌, true, false, cond, ◌≢◌, List, [], ◌∷◌, map, Some, None, Option, option_map, AllPairs, find, unwrap_or, sym, refl, ap, ◌∙◌, subst, inl, inr, ⊎_elim, arith, cases_Bool, All-map, same_Some, AllByRecursion, address, place_of, Discipline, Block, address_of, is_at, relabel_block, HaveOwnPlaces}
 use Rattle.vc_layouts.proofs.Lists.{AllPairs-map}
 use Rattle.vc_commands.specs.Blocks.{is_block, is_name_of}
 use Rattle.vc_commands.specs.Held.{Held, IsLive, IsNamed, home_of}
@@ -140,9 +140,9 @@ proper-held h names =
     }
 
 -- in a session
-pub are-named : (slots : List (Option Discipline)) (held : List Held) → IsSession slots held → AreNamed held
-are-named slots [] session = tt
-are-named slots (h ∷ hs) session = (session.0.names, are-named slots hs session.2)
+pub are-named : (armed : Bool) (slots : List (Option Discipline)) (held : List Held) → IsSession armed slots held → AreNamed held
+are-named armed slots [] session = tt
+are-named armed slots (h ∷ hs) session = (session.0.names, are-named armed slots hs session.2)
 
 pub are-proper : (held : List Held) → AreNamed held → AllByRecursion IsProper (map home_of held)
 are-proper [] named = tt

@@ -1,7 +1,7 @@
 -- What asking for bytes makes of the segments and the blocks of a region.
 use Rattle.vc_base.proofs.Common.{◌≡◌, ℕ, ◌+◌, ◌%◌, ◌≤◌, true, false, leb, ltb, ◌≢◌, ◌⊎◌, List, [], ◌∷◌, ◌++◌, map, length, get_or, set, Some, None, All, Option, Result, Ok, Err, IfErr, IsErrOf, OnErr, OnOk, sym, refl, ap, ◌∙◌, subst, inl, inr, ⊎_elim, arith, cases_Bool, All-map, length_push, map_push, none-some, length-replicate, Discipline, HasOut, IsSegmentSize, Lent, Terms, Unserved, Granted, TooMany, ask, lowest_unused, new_segment, numbers, last_place, Layout, with_grant, span}
 use Rattle.std.proofs.Math.Seq.{set-append_seam}
-use Rattle.vc_model.specs.Discipline.{CanExtend, Extended}
+use Rattle.vc_model.specs.Discipline.{LentNothing, CanExtend, Extended}
 use Rattle.vc_model.specs.Last.{next_offset}
 use Rattle.vc_model.specs.Segments.{Grant, ask_by, growing, segment_limit, segments_with, size_limit}
 use Rattle.vc_seg.specs.Segment.{AreSegments, Bytes, IsRegionSegment, grown_segment, pair_of, zero_segment}
@@ -163,7 +163,7 @@ module _ (d e : Discipline) (o : List Bytes) (s : ℕ × ℕ) (more i : ℕ) (b 
   stays : t ≡ b → set o i t ≡ o
   stays same = set-at w legal i last t ∙ (ap (λ (x : Bytes). (w).front ++ x ∷ []) (same ∙ own w legal i last d b at more size within) ∙ sym (w).split)
 
-  pub obtained-longer : (result : Result Unit RegionFault) → OnOk result (t ≡ grown_segment more b) → OnOk result (Extended d e (pair_of b) more) → IfErr result (λ why. (why ≡ code.NoSegment) ⊎ (why ≡ code.OutOfMemory)) → (IsErrOf result code.NoSegment → Unserved d e more) → (IsErrOf result code.OutOfMemory → e ≡ d) → OnErr result (t ≡ b) → IsObtained more result o (set o i t) d e
+  pub obtained-longer : (result : Result Unit RegionFault) → OnOk result (t ≡ grown_segment more b) → OnOk result (Extended d e (pair_of b) more) → IfErr result (λ why. (why ≡ code.NoSegment) ⊎ (why ≡ code.OutOfMemory)) → (IsErrOf result code.NoSegment → Unserved d e more) → (IsErrOf result code.OutOfMemory → LentNothing d e) → OnErr result (t ≡ b) → IsObtained more result o (set o i t) d e
   obtained-longer (Ok x) segment extended only refused none same =
       let v : IsGrowing d.terms o s = w in
       let new : set o i t ≡ v.front ++ grown_segment more v.newest ∷ [] = set-at v legal i last t ∙ ap (λ (x : Bytes). v.front ++ x ∷ []) (segment ∙ ap (grown_segment more) (own v legal i last d b at more size within)) in

@@ -8,7 +8,7 @@ use Rattle.vc_seg.specs.declared.fault.RegionFault.TheVariants as code
 use Rattle.vc_seg.specs.Lend.{IsAsked, IsNoGrant}
 use Rattle.vc_seg.specs.Memory.{bytes_of_number}
 use Rattle.vc_seg.proofs.BytesByNumber.{bytes_of_number-most}
-use Rattle.vc_layouts.proofs.Segments.{Served-same}
+use Rattle.vc_layouts.proofs.Segments.{Asks-fault, Served-same}
 use Rattle.vc_last.specs.Head.{LiesThere, StaysBut}
 use Rattle.vc_last.specs.Chain.{IsLast, IsLastOf, blocks_from}
 use Rattle.vc_last.specs.Place.{IsBlockPlace, with_latest}
@@ -91,14 +91,8 @@ pub unasked : (d : Discipline) (segments segments' : List (ℕ × ℕ)) (need : 
 unasked d segments segments' need e = subst (λ ss. Served d d segments ss need) (sym e) (Served-same d segments need)
 
 -- a call that was granted nothing
-pub refused-disc : (e : RegionFault) (old new : Discipline) (segments segments' : List (ℕ × ℕ)) (bytes need : ℕ) → bytes ≡ need → segments' ≡ segments → IsAsked (Err e) old new bytes → Asks (Err e) old new segments segments' need
-refused-disc code.NoSegment old new segments segments' bytes need e same h = subst (Unserved old new) e h
-refused-disc code.TooManySegments old new segments segments' bytes need e same h = subst (λ d. Served old d segments segments' need) (sym h) (unasked old segments segments' need same)
-refused-disc code.OutOfMemory old new segments segments' bytes need e same h = subst (λ d. Served old d segments segments' need) (sym h) (unasked old segments segments' need same)
-refused-disc code.Fixed old new segments segments' bytes need e same h = subst (λ d. Served old d segments segments' need) (sym h) (unasked old segments segments' need same)
-refused-disc code.PoolSize old new segments segments' bytes need e same h = subst (λ d. Served old d segments segments' need) (sym h) (unasked old segments segments' need same)
-refused-disc code.NotLast old new segments segments' bytes need e same h = subst (λ d. Served old d segments segments' need) (sym h) (unasked old segments segments' need same)
-refused-disc code.WrongMethod old new segments segments' bytes need e same h = subst (λ d. Served old d segments segments' need) (sym h) (unasked old segments segments' need same)
+pub refused-disc : (why : RegionFault) (old new : Discipline) (segments segments' : List (ℕ × ℕ)) (bytes need : ℕ) → bytes ≡ need → segments' ≡ segments → IsAsked (Err why) old new bytes → Asks (Err why) old new segments segments' need
+refused-disc why old new segments segments' bytes need e same h = Asks-fault why old new segments segments' need same (subst (IsAsked (Err why) old new) e h)
 
 -- lists and bytes may be told by equal ones
 pub served-need : (old new : Discipline) (segments mid mid' segments' : List (ℕ × ℕ)) (bytes need : ℕ) → segments ≡ mid → segments' ≡ mid' → bytes ≡ need → Served old new mid mid' bytes → Served old new segments segments' need

@@ -1,7 +1,8 @@
 -- The segments of a layout: numbers of their own, the one that a lend adds, bytes that are written into one.
 use Rattle.vc_base.proofs.Common.{◌≡◌, ℕ, ◌+◌, ◌<◌, ◌≤◌, true, false, cond, eqb, ltb, ◌≢◌, List, [], ◌∷◌, ◌++◌, map, length, get_or, Err, All, Any, AllPairs, sym, refl, ap, ◌∙◌, subst, ⊎_elim, append_assoc, arith, ltb-false, ltb-true, ne_eqb, eqb-true, cases_Bool, eqb-false, All-map, get_or_default, length_push, with_bytes, Discipline, Lent, Served, TookBack, HaveOwnNumbers}
+use Rattle.std.proofs.Common.{inl, inr}
 use Rattle.std.proofs.lemmas.List.{append_cancel_left}
-use Rattle.vc_model.specs.Discipline.{Extended, extend_last}
+use Rattle.vc_model.specs.Discipline.{Excused, Extended, LentNothing, extend_last}
 use Rattle.vc_model.specs.Segments.{with_more}
 use Rattle.vc_layouts.proofs.Lists.{AllPairs-map}
 use Rattle.vc_model.proofs.Keeping.{Kept-same}
@@ -41,7 +42,7 @@ only-one (s ∷ ss) n P h any = λ k d lt own.
 
 -- a discipline that was asked for nothing
 pub Served-same : (d : Discipline) (segments : List (ℕ × ℕ)) (bytes : ℕ) → Served d d segments segments bytes
-Served-same d segments bytes = record { kept = Kept-same d; faults = refl; out = λ rest e. e; room = λ other. absurd (other refl); same = λ e. refl }
+Served-same d segments bytes = record { kept = Kept-same d; faults = inl refl; out = λ rest e. e; room = λ other. absurd (other refl); same = λ e. refl }
 
 -- a discipline that lent a segment
 pub Served-lent : (old new : Discipline) (segments segments' : List (ℕ × ℕ)) (n bytes : ℕ) → segments' ≡ segments ++ (n, bytes) ∷ [] → Lent old new n bytes → Served old new segments segments' bytes
@@ -95,7 +96,7 @@ Served-granted old new segments segments' n bytes need e added lent = subst (Ser
 pub Asks-fault : (e : RegionFault) (old new : Discipline) (segments segments' : List (ℕ × ℕ)) (bytes : ℕ) → segments' ≡ segments → IsAsked (Err e) old new bytes → Asks (Err e) old new segments segments' bytes
 Asks-fault code.NoSegment old new segments segments' bytes same h = h
 Asks-fault code.TooManySegments old new segments segments' bytes same h = subst (λ (d : Discipline). Served old d segments segments' bytes) (sym h) (Served-unasked old segments segments' bytes same)
-Asks-fault code.OutOfMemory old new segments segments' bytes same h = subst (λ (d : Discipline). Served old d segments segments' bytes) (sym h) (Served-unasked old segments segments' bytes same)
+Asks-fault code.OutOfMemory old new segments segments' bytes same h = h
 Asks-fault code.Fixed old new segments segments' bytes same h = subst (λ (d : Discipline). Served old d segments segments' bytes) (sym h) (Served-unasked old segments segments' bytes same)
 Asks-fault code.PoolSize old new segments segments' bytes same h = subst (λ (d : Discipline). Served old d segments segments' bytes) (sym h) (Served-unasked old segments segments' bytes same)
 Asks-fault code.NotLast old new segments segments' bytes same h = subst (λ (d : Discipline). Served old d segments segments' bytes) (sym h) (Served-unasked old segments segments' bytes same)

@@ -1,6 +1,6 @@
 -- Regions of one segment of 4,096 bytes, for worked rows.
 use Rattle.std.specs.Prelude.{ℕ, List, [], ◌∷◌, Option, Some, None, false, true}
-use Rattle.vc_model.specs.Discipline.{Discipline, Terms}
+use Rattle.vc_model.specs.Discipline.{Discipline, Terms, no_exceptions}
 use Rattle.vc_model.specs.Outcome.{Outcome, Done, Put, Refused}
 use Rattle.vc_model.specs.Segments.{Grant}
 use Rattle.vc_model.specs.Layout.{Block, Layout, with_block}
@@ -13,7 +13,7 @@ rounds_to round = record { round = round; grows = false }
 
 -- a discipline that grows and rounds up to 4,096 bytes, with these segments out and so many bytes left
 abbrev pub growing_disc : List (ℕ × ℕ) → ℕ → Discipline
-growing_disc out left = record { out = out; faults = 0; terms = record { round = 4096; grows = true }; room = Some left }
+growing_disc out left = record { out = out; faults = 0; terms = record { round = 4096; grows = true }; room = Some left; exceptions = no_exceptions }
 
 -- where a block was put, and what was granted for it
 abbrev pub asked_place : Outcome (Put (Layout ℕ)) → Option ((ℕ × ℕ) × Option Grant)

@@ -1,6 +1,6 @@
 ghost use Rattle.std.specs.Prelude.{◌≡◌, [], ◌∷◌, Some, None, false, true};
 ghost use Rattle.vc_model.specs.Best.{best_alloc};
-ghost use Rattle.vc_model.specs.Discipline.{CanExtend, Extended, extend_last, without_last};
+ghost use Rattle.vc_model.specs.Discipline.{CanExtend, ExtendedAtOnce, extend_last, without_last};
 ghost use Rattle.vc_model.specs.GrowthRows.{best_of_one, grows_to, last_of_long, more_bytes, pool_of_long};
 ghost use Rattle.vc_model.specs.Last.{last_alloc, last_resize};
 ghost use Rattle.vc_model.specs.Pool.{pool_alloc};
@@ -30,9 +30,9 @@ pub fn growing()
     ensures above { ¬ CanExtend (growing_disc ((1, 33550336) ∷ []) 0) (1, 33550336) 8192 }
     ensures part { ¬ CanExtend (growing_disc ((1, 4096) ∷ []) 8192) (1, 4096) 32 }
     ensures nothing { ¬ CanExtend (growing_disc ((1, 4096) ∷ []) 8192) (1, 4096) 0 }
-    ensures extended { Extended (growing_disc ((1, 4096) ∷ []) 8192)
+    ensures extended { ExtendedAtOnce (growing_disc ((1, 4096) ∷ []) 8192)
         (growing_disc ((1, 12288) ∷ []) 0) (1, 4096) 8192 }
-    ensures unpaid { ¬ Extended (growing_disc ((1, 4096) ∷ []) 8192)
+    ensures unpaid { ¬ ExtendedAtOnce (growing_disc ((1, 4096) ∷ []) 8192)
         (growing_disc ((1, 12288) ∷ []) 8192) (1, 4096) 8192 }
 {}
 

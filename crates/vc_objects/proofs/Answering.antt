@@ -9,6 +9,7 @@ use Rattle.vc_dict.specs.declared.dict.Dict.{Dict}
 use Rattle.vc_dtdisc.specs.Objects.{Object}
 use Rattle.vc_dtdisc.specs.Rules.{Rules}
 use Rattle.vc_dtlist.proofs.HolderLemmas.{apart-append}
+use Rattle.vc_seg.proofs.Nothing.{nothing-refused}
 use Rattle.vc_seg.specs.Answer.{Asks, IsPut, IsRefusal}
 use Rattle.vc_seg.specs.declared.fault.RegionFault.{RegionFault}
 use Rattle.vc_seg.specs.declared.fault.RegionFault.TheVariants as code
@@ -121,7 +122,7 @@ module _ (rules : Rules) (terms : Terms) (r : Layout ℕ) (d : Dictionary) (appe
 pub asked-block : (old new : Discipline) (segments segments' : List (ℕ × ℕ)) (size : ℕ) (fault : RegionFault) → Asks (Err fault) old new segments segments' size → RefusedBy fault (Unserved old new size) old new
 asked-block old new segments segments' size code.TooManySegments h = NoneRefused-served old new segments segments' size h
 asked-block old new segments segments' size code.NoSegment h = h
-asked-block old new segments segments' size code.OutOfMemory h = NoneRefused-served old new segments segments' size h
+asked-block old new segments segments' size code.OutOfMemory h = nothing-refused old new h
 asked-block old new segments segments' size code.Fixed h = NoneRefused-served old new segments segments' size h
 asked-block old new segments segments' size code.PoolSize h = NoneRefused-served old new segments segments' size h
 asked-block old new segments segments' size code.NotLast h = NoneRefused-served old new segments segments' size h

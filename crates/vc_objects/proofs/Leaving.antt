@@ -1,6 +1,7 @@
 -- What calls leave of a region beside a dictionary's blocks, one after another.
 use Rattle.vc_base.proofs.Common.{◌≡◌, ℕ, true, false, List, IsSome, Some, None, Err, Option, sym, refl, ap, ◌∙◌, subst, ⊎_elim, true≢false, arith, cases_Bool, Blocks, contains, Discipline, HasOut, Served}
 use Rattle.vc_model.proofs.Keeping.{Kept-same, Kept-trans}
+use Rattle.vc_seg.proofs.Nothing.{nothing-out}
 use Rattle.vc_seg.specs.Answer.{Asks}
 use Rattle.vc_seg.specs.declared.fault.RegionFault.{RegionFault}
 use Rattle.vc_seg.specs.declared.fault.RegionFault.TheVariants as code
@@ -47,6 +48,7 @@ keeps-out old new s t keeps lent = (lent.0, keeps.out lent.0 lent.1)
 pub asked-keeps : (old new : Discipline) (s t : List (ℕ × ℕ)) (size : ℕ) (fault : RegionFault) → t ≡ s → Asks (Err fault) old new s t size → KeepsDisc old new s t
 asked-keeps old new s t size code.NoSegment same asked =
     subst (λ u. KeepsDisc old new s u) (sym same) (record { kept = asked.kept; out = λ rest is. asked.out ∙ is })
+asked-keeps old new s t size code.OutOfMemory same asked = record { kept = asked.kept; out = nothing-out old new s t same asked }
 asked-keeps old new s t size fault same asked = served-keeps old new s t size asked
 
 module _ {I : Type 0} {V : I → Type 0} (meaning : (x : I) × V x → Discipline) where

@@ -156,10 +156,10 @@ pub Contains-ends : (out ys : List (ℕ × ℕ)) (p : ℕ × ℕ) → (rest : Li
 Contains-ends out ys p h among = subst (λ (o : List (ℕ × ℕ)). Contains o p) (sym h.1) (Contains-append_right h.0 ys p among)
 
 pub TookBack-none : (d : Discipline) (held : List (ℕ × ℕ)) → TookBack d d held held
-TookBack-none d held = record { kept = Kept-same d; faults = refl; out = λ rest e. e }
+TookBack-none d held = record { kept = Kept-same d; faults = refl; exceptions = refl; out = λ rest e. e }
 
 pub TookBack-more : (a b c : Discipline) (held some left : List (ℕ × ℕ)) → TookBack a b held some → TookBack b c some left → TookBack a c held left
-TookBack-more a b c held some left h k = record { kept = Kept-trans a b c h.kept k.kept; faults = k.faults ∙ h.faults; out = λ rest e. k.out rest (h.out rest e) }
+TookBack-more a b c held some left h k = record { kept = Kept-trans a b c h.kept k.kept; faults = k.faults ∙ h.faults; exceptions = k.exceptions ∙ h.exceptions; out = λ rest e. k.out rest (h.out rest e) }
 
 -- what is left is still the end of what is out
 pub HasOut-left : (a b : Discipline) (held left : List (ℕ × ℕ)) → TookBack a b held left → HasOut a held → HasOut b left

@@ -1,5 +1,5 @@
 -- What asking gives where a segment may be made longer.
-use Rattle.vc_base.proofs.Common.{◌≡◌, ◌≢◌, ℕ, ◌+◌, ◌<◌, ◌≤◌, Bool, true, false, Option, Some, leb, le-leb, leb-true, List, refl, sym, ap, ◌∙◌, ⊎_elim, arith, cases_Bool, Terms, Asked, Grant, Granted, TooMany, NotLent, ask, if◌then◌else◌}
+use Rattle.vc_base.proofs.Common.{◌≡◌, ◌≢◌, ℕ, ◌+◌, ◌<◌, ◌≤◌, Bool, true, false, Some, leb, le-leb, leb-true, List, refl, sym, ap, ◌∙◌, ⊎_elim, arith, cases_Bool, Terms, Grant, Granted, TooMany, NotLent, ask, if◌then◌else◌}
 use Rattle.vc_model.specs.Segments.{ask_by, ask_more, growing, size_limit}
 
 -- a segment with so many bytes more

@@ -8,8 +8,9 @@ pub mod Values
 pub mod Walks
 pub mod Lodging
 pub mod Unused
-pub mod Asking
 pub mod Grants
+pub mod Retrying
+pub mod Nothing
 pub mod Growing
 pub mod Overwrites
 pub mod Copies

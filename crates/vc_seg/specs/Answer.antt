@@ -1,7 +1,7 @@
 -- What a call of a region answers, by the outcome that the definitions give.
 use Rattle.std.specs.Prelude.{◌≡◌, ℕ, List, Bool, true, false, Result, Ok, Err}
 use Rattle.vc_model.specs.Addr.{address, place_of}
-use Rattle.vc_model.specs.Discipline.{Discipline, Served, Unserved}
+use Rattle.vc_model.specs.Discipline.{Discipline, LentNothing, Served, Unserved}
 use Rattle.vc_model.specs.Outcome.{Outcome, Done, Refused, Put, TooManySegments, NoSegment, Fixed, PoolSize, NotLast, WrongMethod}
 use Rattle.vc_base.specs.declared.addr.Addr.{Addr}
 use Rattle.vc_seg.specs.declared.fault.RegionFault.{RegionFault}
@@ -35,4 +35,5 @@ Frees outcome (Err why) old new = IsRefusal (λ refused. outcome) why × (new �
 -- what such a call leaves of the discipline, of the region's segments before it and after it, and of the size that it may have asked for
 abbrev pub Asks : Result Addr RegionFault → Discipline → Discipline → List (ℕ × ℕ) → List (ℕ × ℕ) → ℕ → Type 0
 Asks (Err code.NoSegment) old new segments segments' size = Unserved old new size
+Asks (Err code.OutOfMemory) old new segments segments' size = LentNothing old new
 Asks answer old new segments segments' size = Served old new segments segments' size

@@ -1,7 +1,7 @@
 -- What asking a discipline for a segment answers and leaves.
 use Rattle.std.specs.Prelude.{◌≡◌, ◌≢◌, ℕ, ◌≤◌, List, All, true, false, Ok, Err}
 use Rattle.std.specs.declared.result.Result.{Result}
-use Rattle.vc_model.specs.Discipline.{Discipline, Lent, Terms, Unserved}
+use Rattle.vc_model.specs.Discipline.{Discipline, Lent, LentNothing, Terms, Unserved}
 use Rattle.vc_model.specs.Segments.{Granted, TooMany, NotLent, ask, new_segment}
 use Rattle.vc_seg.specs.Segment.{Bytes, zero_segment}
 use Rattle.vc_seg.specs.declared.fault.RegionFault.{RegionFault}
@@ -29,4 +29,5 @@ IsNoGrant terms bytes segments code.WrongMethod = ⊥
 abbrev pub IsAsked : Result ℕ RegionFault → Discipline → Discipline → ℕ → Type 0
 IsAsked (Ok number) old new bytes = Lent old new number bytes
 IsAsked (Err code.NoSegment) old new bytes = Unserved old new bytes
+IsAsked (Err code.OutOfMemory) old new bytes = LentNothing old new
 IsAsked answer old new bytes = new ≡ old

@@ -18,6 +18,7 @@ pub mod Boxed
 pub mod Back
 pub mod Lend
 pub mod Budget
+pub mod Relief
 pub mod Answer
 pub mod OneBlock
 pub mod Stat

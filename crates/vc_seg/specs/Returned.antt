@@ -7,3 +7,4 @@ pub record Returned (old new : Discipline) (pair : ℕ × ℕ) : Type 0 where
   pub kept : Kept old new
   pub out : new.out ≡ without_last pair old.out
   pub faults : new.faults ≡ old.faults
+  pub exceptions : new.exceptions ≡ old.exceptions

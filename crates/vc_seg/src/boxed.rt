@@ -24,6 +24,26 @@ impl SegDisc for Box<dyn SegDisc> {
         (**self).room()
     }
 
+    fn armed(&self) -> bool {
+        (**self).armed()
+    }
+
+    fn told(&self) -> u64 {
+        (**self).told()
+    }
+
+    fn yes(&self) -> u64 {
+        (**self).yes()
+    }
+
+    fn arm(&mut self, on: bool) {
+        (**self).arm(on)
+    }
+
+    fn exception(&mut self, size: u32) -> bool {
+        (**self).exception(size)
+    }
+
     fn lend(&mut self, alloc: Global, number: u32, size: u32) -> Result<Segment, LendFault> {
         (**self).lend(alloc, number, size)
     }

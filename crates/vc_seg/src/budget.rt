@@ -1,10 +1,12 @@
 ghost use Rattle.std.specs.Prelude.{◌≡◌, ◌+◌, ◌%◌, ◌<◌, ◌↔◌, [], Some, false, length, Contains, IfOk, OnOk, IsErrOf};
-ghost use Rattle.vc_base.specs.Prelude.{IsRound, IsSegmentSize, Lent, Unserved};
+ghost use Rattle.vc_base.specs.Prelude.{IsRound, IsSegmentSize};
 ghost use Rattle.vc_model.specs.Count.{next_count};
 ghost use Rattle.vc_seg.specs.Budget.{discipline_of, left_in_budget};
+ghost use Rattle.vc_model.specs.Discipline.{Excepted, LentAtOnce, RefusedAtOnce, armed_as, excused, no_exceptions, pleaded};
 ghost use Rattle.vc_seg.specs.Returned.{Returned};
 ghost use Rattle.vc_seg.specs.Segment.{zero_segment, pair_of};
 
+use crate::excuses::Excuses;
 use crate::out_list::OutList;
 use crate::{LendFault, SegDisc, Segment};
 use std::alloc::Global;
@@ -16,6 +18,7 @@ use vc_base::one_more;
 #[derive(Drop)]
 pub struct BudgetDisc {
     lent: OutList,
+    excuses: Excuses,
     unit: u32,
     budget: u64,
     left: u64,
@@ -34,6 +37,7 @@ impl Model for BudgetDisc {
       out = d.lent;
       faults = d.refusals;
       terms = record { round = d.unit; grows = false };
+      exceptions = d.excuses;
     } };
 
     ghost invariant = { λ d. IsRound d.unit × (d.left + bytes_of d.lent ≡ d.budget) };
@@ -49,15 +53,30 @@ impl BudgetDisc {
           out = [];
           faults = 0;
           terms = record { round = round; grows = false };
+          exceptions = no_exceptions;
         } }
     {
         BudgetDisc {
             lent: OutList::new(),
+            excuses: Excuses::new(),
             unit: round,
             budget,
             left: budget,
             refusals: 0,
         }
+    }
+
+    // Raises the budget by so many bytes, as an exception that is made.
+    pub(crate) fn relieve(&mut self, more: u64)
+        requires { self.old.budget + more < 18446744073709551616 }
+        ensures { self.new ≡ record self.old {
+          budget = self.old.budget + more;
+          exceptions = excused self.old.exceptions;
+        } }
+    {
+        self.excuses.grant();
+        self.budget += more;
+        self.left += more;
     }
 }
 
@@ -68,7 +87,10 @@ impl SegDisc for BudgetDisc {
         self.unit
     }
 
-    fn grows(&self) -> bool {
+    fn grows(&self) -> bool
+        ensures value { result ≡ self.now.terms.grows }
+        ensures no { result ≡ false }
+    {
         // A look at a field shows what every value has.
         let _ = &self.unit;
         false
@@ -84,6 +106,35 @@ impl SegDisc for BudgetDisc {
         Some(self.left)
     }
 
+    fn armed(&self) -> bool {
+        self.excuses.armed()
+    }
+
+    fn told(&self) -> u64 {
+        self.excuses.told()
+    }
+
+    fn yes(&self) -> u64 {
+        self.excuses.yes()
+    }
+
+    fn arm(&mut self, on: bool)
+        ensures armed { discipline_of self.new ≡ armed_as on (discipline_of self.old) }
+        ensures budget { self.new.budget ≡ self.old.budget }
+    {
+        self.excuses.arm(on);
+    }
+
+    // It makes no exception.
+    fn exception(&mut self, _: u32) -> bool
+        ensures excepted { Excepted (discipline_of self.old) (discipline_of self.new) result }
+        ensures never { result ≡ false }
+        ensures pleaded { self.new ≡ record self.old { exceptions = pleaded self.old.exceptions } }
+    {
+        self.excuses.refuse();
+        false
+    }
+
     fn lend(&mut self, alloc: Global, number: u32, size: u32) -> Result<Segment, LendFault>
         requires size { IsSegmentSize size }
         requires multiple { size % self.old.terms.round ≡ 0 }
@@ -96,10 +147,10 @@ impl SegDisc for BudgetDisc {
 
         // The trait's clauses.
         ensures segment { IfOk result (λ segment. segment ≡ zero_segment number size) }
-        ensures lent { OnOk result (Lent
+        ensures lent { OnOk result (LentAtOnce
             (discipline_of self.old) (discipline_of self.new) number size) }
         ensures refused { IsErrOf result LendFault.Refused
-            → Unserved (discipline_of self.old) (discipline_of self.new) size }
+            → RefusedAtOnce (discipline_of self.old) (discipline_of self.new) size }
         ensures no_memory { IsErrOf result LendFault.OutOfMemory → self.new ≡ self.old }
     {
         let bytes = u64::from(size);

@@ -1,9 +1,11 @@
 ghost use Rattle.std.specs.Prelude.{◌≡◌, ℕ, ◌%◌, ◌<◌, ◌≤◌, ◌↔◌, List, [], ◌∷◌, ◌++◌, None, false, length, Contains, IfSome, IfOk, OnOk, OnErr, IsErrOf};
-ghost use Rattle.vc_base.specs.Prelude.{Rose, Discipline, IsRound, IsSegmentSize, Lent, Unserved};
+ghost use Rattle.vc_base.specs.Prelude.{Rose, Discipline, IsRound, IsSegmentSize};
 ghost use Rattle.vc_model.specs.Count.{next_count};
+ghost use Rattle.vc_model.specs.Discipline.{Excepted, LentAtOnce, RefusedAtOnce, armed_as, no_exceptions, pleaded};
 ghost use Rattle.vc_seg.specs.Returned.{Returned};
 ghost use Rattle.vc_seg.specs.Segment.{zero_segment, pair_of};
 
+use crate::excuses::Excuses;
 use crate::out_list::OutList;
 use crate::{LendFault, SegDisc, Segment};
 use std::alloc::Global;
@@ -15,6 +17,7 @@ use vc_base::one_more;
 #[derive(Drop)]
 pub struct FuseDisc {
     lent: OutList,
+    excuses: Excuses,
     unit: u32,
     fails: Vec<u64>,
     calls: u64,
@@ -34,6 +37,7 @@ impl Model for FuseDisc {
         faults = d.refusals;
         terms = record { round = d.unit; grows = false };
         room = None;
+        exceptions = d.excuses;
       };
       fails = d.fails.items;
       calls = d.calls;
@@ -48,12 +52,13 @@ impl FuseDisc {
     pub fn new(round: u32, fails: Vec<u64>) -> FuseDisc
         requires { IsRound round }
         ensures meaning { result.discipline
-            ≡ record { out = []; faults = 0; terms = record { round = round; grows = false }; room = None } }
+            ≡ record { out = []; faults = 0; terms = record { round = round; grows = false }; room = None; exceptions = no_exceptions } }
         ensures fails { result.fails ≡ fails.items }
         ensures calls { result.calls ≡ 0 }
     {
         FuseDisc {
             lent: OutList::new(),
+            excuses: Excuses::new(),
             unit: round,
             fails,
             calls: 0,
@@ -87,6 +92,40 @@ impl SegDisc for FuseDisc {
         None
     }
 
+    fn armed(&self) -> bool {
+        self.excuses.armed()
+    }
+
+    fn told(&self) -> u64 {
+        self.excuses.told()
+    }
+
+    fn yes(&self) -> u64 {
+        self.excuses.yes()
+    }
+
+    fn arm(&mut self, on: bool)
+        ensures armed { self.new.discipline ≡ armed_as on self.old.discipline }
+        ensures fails { self.new.fails ≡ self.old.fails }
+        ensures calls { self.new.calls ≡ self.old.calls }
+    {
+        self.excuses.arm(on);
+    }
+
+    // It makes no exception.
+    fn exception(&mut self, _: u32) -> bool
+        ensures excepted { Excepted self.old.discipline self.new.discipline result }
+        ensures never { result ≡ false }
+        ensures pleaded { self.new.discipline ≡ record self.old.discipline {
+          exceptions = pleaded self.old.discipline.exceptions;
+        } }
+        ensures fails { self.new.fails ≡ self.old.fails }
+        ensures calls { self.new.calls ≡ self.old.calls }
+    {
+        self.excuses.refuse();
+        false
+    }
+
     fn lend(&mut self, alloc: Global, number: u32, size: u32) -> Result<Segment, LendFault>
         requires size { IsSegmentSize size }
         requires multiple { size % self.old.discipline.terms.round ≡ 0 }
@@ -100,9 +139,9 @@ impl SegDisc for FuseDisc {
 
         // The trait's clauses.
         ensures segment { IfOk result (λ segment. segment ≡ zero_segment number size) }
-        ensures lent { OnOk result (Lent self.old.discipline self.new.discipline number size) }
+        ensures lent { OnOk result (LentAtOnce self.old.discipline self.new.discipline number size) }
         ensures refused { IsErrOf result LendFault.Refused
-            → Unserved self.old.discipline self.new.discipline size }
+            → RefusedAtOnce self.old.discipline self.new.discipline size }
         ensures no_memory { IsErrOf result LendFault.OutOfMemory → self.new.discipline
             ≡ self.old.discipline }
     {

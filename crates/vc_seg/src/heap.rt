@@ -1,8 +1,10 @@
 ghost use Rattle.std.specs.Prelude.{◌≡◌, ℕ, ◌%◌, ◌<◌, ◌≤◌, List, [], ◌∷◌, ◌++◌, None, false, length, Contains, IfSome, IfOk, OnOk, OnErr, IsErrOf};
-ghost use Rattle.vc_base.specs.Prelude.{Rose, Discipline, IsRound, IsSegmentSize, Lent, Unserved};
+ghost use Rattle.vc_base.specs.Prelude.{Rose, Discipline, IsRound, IsSegmentSize};
+ghost use Rattle.vc_model.specs.Discipline.{Excepted, LentAtOnce, RefusedAtOnce, no_exceptions, pleaded};
 ghost use Rattle.vc_seg.specs.Returned.{Returned};
 ghost use Rattle.vc_seg.specs.Segment.{zero_segment, pair_of};
 
+use crate::excuses::Excuses;
 use crate::out_list::OutList;
 use crate::{LendFault, SegDisc, Segment};
 use std::alloc::Global;
@@ -12,6 +14,7 @@ use std::marker::Model;
 #[derive(Drop)]
 pub struct HeapDisc {
     lent: OutList,
+    excuses: Excuses,
     unit: u32,
 }
 
@@ -26,6 +29,7 @@ impl Model for HeapDisc {
       faults = 0;
       terms = record { round = d.unit; grows = false };
       room = None;
+      exceptions = d.excuses;
     } };
 
     ghost invariant = { λ d. IsRound d.unit };
@@ -40,10 +44,12 @@ impl HeapDisc {
           faults = 0;
           terms = record { round = round; grows = false };
           room = None;
+          exceptions = no_exceptions;
         } }
     {
         HeapDisc {
             lent: OutList::new(),
+            excuses: Excuses::new(),
             unit: round,
         }
     }
@@ -78,14 +84,40 @@ impl SegDisc for HeapDisc {
         None
     }
 
+    fn armed(&self) -> bool {
+        self.excuses.armed()
+    }
+
+    fn told(&self) -> u64 {
+        self.excuses.told()
+    }
+
+    fn yes(&self) -> u64 {
+        self.excuses.yes()
+    }
+
+    fn arm(&mut self, on: bool) {
+        self.excuses.arm(on);
+    }
+
+    // It makes no exception.
+    fn exception(&mut self, _: u32) -> bool
+        ensures excepted { Excepted self.old self.new result }
+        ensures never { result ≡ false }
+        ensures pleaded { self.new ≡ record self.old { exceptions = pleaded self.old.exceptions } }
+    {
+        self.excuses.refuse();
+        false
+    }
+
     fn lend(&mut self, alloc: Global, number: u32, size: u32) -> Result<Segment, LendFault>
         requires size { IsSegmentSize size }
         requires multiple { size % self.old.terms.round ≡ 0 }
 
         ensures never_refused { ¬ IsErrOf result LendFault.Refused }
         ensures segment { IfOk result (λ segment. segment ≡ zero_segment number size) }
-        ensures lent { OnOk result (Lent self.old self.new number size) }
-        ensures refused { IsErrOf result LendFault.Refused → Unserved self.old self.new size }
+        ensures lent { OnOk result (LentAtOnce self.old self.new number size) }
+        ensures refused { IsErrOf result LendFault.Refused → RefusedAtOnce self.old self.new size }
         ensures no_memory { IsErrOf result LendFault.OutOfMemory → self.new ≡ self.old }
     {
         Ok(self.lent.lend(alloc, number, size)?)

@@ -1,6 +1,6 @@
 ghost use Rattle.std.specs.Prelude.{◌≡◌, ◌≢◌, ◌%◌, ◌≤◌, ◌⊎◌, Err, IfErr, IfOk, OnErr, OnOk, IsErrOf, None, false, length, map};
-ghost use Rattle.vc_base.specs.Prelude.{IsRound, IsSegmentSize, Lent, Unserved, TooMany, ask};
-ghost use Rattle.vc_model.specs.Discipline.{CanExtend, Extended, Kept};
+ghost use Rattle.vc_base.specs.Prelude.{IsRound, IsSegmentSize, Lent, LentNothing, Unserved, TooMany, ask};
+ghost use Rattle.vc_model.specs.Discipline.{CanExtend, Excepts, Extended, Kept};
 ghost use Rattle.vc_model.specs.Segments.{growing};
 ghost use Rattle.vc_seg.specs.Lend.{IsAsked, IsGrantOf, IsNoGrant};
 ghost use Rattle.vc_seg.specs.Segment.{grown_segment, pair_of, zero_segment};
@@ -38,8 +38,17 @@ pub fn growing_of<T: Numbered>(segs: &[T], disc: &Box<dyn SegDisc>) -> Option<(u
     }
 }
 
+// Whether a discipline that refused so many bytes makes an exception. One that isn't armed isn't asked.
+fn excepts(disc: &mut Box<dyn SegDisc>, size: u32) -> bool
+    ensures { Excepts (state disc.old) (state disc.new) result }
+{
+    disc.armed() && disc.exception(size)
+}
+
 /// A segment of zeros that a discipline lends under that number, as `SegDisc::lend`: the size in bytes is a multiple of
-/// its round, from 64 to 33,554,432. A region asks for a segment by this call alone.
+/// its round, from 64 to 33,554,432. Where the discipline refuses it and is armed, it is asked for an exception; where it
+/// makes one, it is asked once more, and that answer counts. A region asks for a segment by this call alone.
+#[tactic(auto, using(crate::proofs::Retrying::retry_steps))]
 pub fn obtain(
     disc: &mut Box<dyn SegDisc>,
     alloc: Global,
@@ -56,15 +65,27 @@ pub fn obtain(
     ensures refused { IsErrOf result LendFault.Refused
         → Unserved (state disc.old) (state disc.new) size }
     ensures no_memory { IsErrOf result LendFault.OutOfMemory
-        → state disc.new ≡ state disc.old }
+        → LentNothing (state disc.old) (state disc.new) }
     ensures kept { Kept (state disc.old) (state disc.new) }
 {
-    disc.lend(alloc, number, size)
+    match disc.lend(alloc, number, size) {
+        Ok(segment) => Ok(segment),
+        Err(LendFault::OutOfMemory) => Err(LendFault::OutOfMemory),
+        Err(LendFault::Refused) => {
+            if excepts(disc, size) {
+                disc.lend(alloc, number, size)
+            } else {
+                Err(LendFault::Refused)
+            }
+        }
+    }
 }
 
 /// A segment that is out made longer by so many zeros, as `SegDisc::extend`: the discipline grows, and the bytes are a
-/// multiple of its round from that on, with which the segment's size stays at most 33,554,432. A region asks for more of
-/// a segment by this call alone.
+/// multiple of its round from that on, with which the segment's size stays at most 33,554,432. Where the discipline refuses
+/// and is armed, it is asked for an exception and once more, as `obtain` does. A region asks for more of a segment by
+/// this call alone.
+#[tactic(auto, using(crate::proofs::Retrying::retry_steps))]
 pub fn obtain_more(
     disc: &mut Box<dyn SegDisc>,
     alloc: Global,
@@ -80,11 +101,21 @@ pub fn obtain_more(
     ensures refused { IsErrOf result LendFault.Refused
         → Unserved (state disc.old) (state disc.new) more }
     ensures no_memory { IsErrOf result LendFault.OutOfMemory
-        → state disc.new ≡ state disc.old }
+        → LentNothing (state disc.old) (state disc.new) }
     ensures same { OnErr result (seg.new ≡ seg.old) }
     ensures kept { Kept (state disc.old) (state disc.new) }
 {
-    disc.extend(alloc, seg, more)
+    match disc.extend(alloc, seg, more) {
+        Ok(()) => Ok(()),
+        Err(LendFault::OutOfMemory) => Err(LendFault::OutOfMemory),
+        Err(LendFault::Refused) => {
+            if excepts(disc, more) {
+                disc.extend(alloc, seg, more)
+            } else {
+                Err(LendFault::Refused)
+            }
+        }
+    }
 }
 
 /// A segment of zeros that a discipline lends to a region under that number, as `obtain`. `NoSegment` comes where the
@@ -104,7 +135,8 @@ pub fn lend_segment(
     ensures only { IfErr result (λ e. (e ≡ RegionFault.NoSegment) ⊎ (e ≡ RegionFault.OutOfMemory)) }
     ensures refused { IsErrOf result RegionFault.NoSegment
         → Unserved (state disc.old) (state disc.new) bytes }
-    ensures no_memory { IsErrOf result RegionFault.OutOfMemory → state disc.new ≡ state disc.old }
+    ensures no_memory { IsErrOf result RegionFault.OutOfMemory
+        → LentNothing (state disc.old) (state disc.new) }
 {
     match obtain(disc, alloc, number, bytes) {
         Ok(segment) => Ok(segment),
@@ -129,7 +161,8 @@ pub fn extend_segment(
     ensures only { IfErr result (λ e. (e ≡ RegionFault.NoSegment) ⊎ (e ≡ RegionFault.OutOfMemory)) }
     ensures refused { IsErrOf result RegionFault.NoSegment
         → Unserved (state disc.old) (state disc.new) more }
-    ensures no_memory { IsErrOf result RegionFault.OutOfMemory → state disc.new ≡ state disc.old }
+    ensures no_memory { IsErrOf result RegionFault.OutOfMemory
+        → LentNothing (state disc.old) (state disc.new) }
     ensures same { OnErr result (seg.new ≡ seg.old) }
 {
     match obtain_more(disc, alloc, seg, more) {

@@ -1,11 +1,12 @@
-ghost use Rattle.std.specs.Prelude.{◌≡◌, ◌+◌, ◌%◌, ◌<◌, ◌↔◌, [], Some, true, length, Contains, IfOk, OnErr, OnOk, IsErrOf};
-ghost use Rattle.vc_base.specs.Prelude.{IsRound, IsSegmentSize, Lent, Unserved};
+ghost use Rattle.std.specs.Prelude.{◌≡◌, ◌+◌, ◌%◌, ◌<◌, ◌↔◌, [], Some, false, true, length, Contains, IfOk, OnErr, OnOk, IsErrOf};
+ghost use Rattle.vc_base.specs.Prelude.{IsRound, IsSegmentSize};
 ghost use Rattle.vc_model.specs.Count.{next_count};
-ghost use Rattle.vc_model.specs.Discipline.{CanExtend, Extended};
+ghost use Rattle.vc_model.specs.Discipline.{CanExtend, Excepted, ExtendedAtOnce, LentAtOnce, RefusedAtOnce, armed_as, no_exceptions, pleaded};
 ghost use Rattle.vc_seg.specs.Budget.{discipline_of, left_in_budget};
 ghost use Rattle.vc_seg.specs.Returned.{Returned};
 ghost use Rattle.vc_seg.specs.Segment.{grown_segment, zero_segment, pair_of};
 
+use crate::excuses::Excuses;
 use crate::out_list::OutList;
 use crate::{LendFault, SegDisc, Segment};
 use std::alloc::Global;
@@ -18,6 +19,7 @@ use vc_base::one_more;
 #[derive(Drop)]
 pub struct SbrkDisc {
     lent: OutList,
+    excuses: Excuses,
     unit: u32,
     limit: u64,
     left: u64,
@@ -36,6 +38,7 @@ impl Model for SbrkDisc {
       out = d.lent;
       faults = d.refusals;
       terms = record { round = d.unit; grows = true };
+      exceptions = d.excuses;
     } };
 
     ghost invariant = { λ d. IsRound d.unit × (d.left + bytes_of d.lent ≡ d.limit) };
@@ -51,10 +54,12 @@ impl SbrkDisc {
           out = [];
           faults = 0;
           terms = record { round = round; grows = true };
+          exceptions = no_exceptions;
         } }
     {
         SbrkDisc {
             lent: OutList::new(),
+            excuses: Excuses::new(),
             unit: round,
             limit,
             left: limit,
@@ -89,6 +94,35 @@ impl SegDisc for SbrkDisc {
         Some(self.left)
     }
 
+    fn armed(&self) -> bool {
+        self.excuses.armed()
+    }
+
+    fn told(&self) -> u64 {
+        self.excuses.told()
+    }
+
+    fn yes(&self) -> u64 {
+        self.excuses.yes()
+    }
+
+    fn arm(&mut self, on: bool)
+        ensures armed { discipline_of self.new ≡ armed_as on (discipline_of self.old) }
+        ensures budget { self.new.budget ≡ self.old.budget }
+    {
+        self.excuses.arm(on);
+    }
+
+    // It makes no exception.
+    fn exception(&mut self, _: u32) -> bool
+        ensures excepted { Excepted (discipline_of self.old) (discipline_of self.new) result }
+        ensures never { result ≡ false }
+        ensures pleaded { self.new ≡ record self.old { exceptions = pleaded self.old.exceptions } }
+    {
+        self.excuses.refuse();
+        false
+    }
+
     fn lend(&mut self, alloc: Global, number: u32, size: u32) -> Result<Segment, LendFault>
         requires size { IsSegmentSize size }
         requires multiple { size % self.old.terms.round ≡ 0 }
@@ -101,10 +135,10 @@ impl SegDisc for SbrkDisc {
 
         // The trait's clauses.
         ensures segment { IfOk result (λ segment. segment ≡ zero_segment number size) }
-        ensures lent { OnOk result (Lent
+        ensures lent { OnOk result (LentAtOnce
             (discipline_of self.old) (discipline_of self.new) number size) }
         ensures refused { IsErrOf result LendFault.Refused
-            → Unserved (discipline_of self.old) (discipline_of self.new) size }
+            → RefusedAtOnce (discipline_of self.old) (discipline_of self.new) size }
         ensures no_memory { IsErrOf result LendFault.OutOfMemory → self.new ≡ self.old }
     {
         let bytes = u64::from(size);
@@ -127,10 +161,10 @@ impl SegDisc for SbrkDisc {
 
         // The trait's clauses.
         ensures segment { OnOk result (seg.new ≡ grown_segment more seg.old) }
-        ensures extended { OnOk result (Extended
+        ensures extended { OnOk result (ExtendedAtOnce
             (discipline_of self.old) (discipline_of self.new) (pair_of seg.old) more) }
         ensures refused { IsErrOf result LendFault.Refused
-            → Unserved (discipline_of self.old) (discipline_of self.new) more }
+            → RefusedAtOnce (discipline_of self.old) (discipline_of self.new) more }
         ensures no_memory { IsErrOf result LendFault.OutOfMemory → self.new ≡ self.old }
         ensures same { OnErr result (seg.new ≡ seg.old) }
     {

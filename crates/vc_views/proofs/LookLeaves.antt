@@ -1,4 +1,5 @@
 -- What a look at one dictionary leaves of its region and of all dictionaries.
+use Rattle.vc_model.specs.Discipline.{no_exceptions}
 use Rattle.vc_base.proofs.Common.{◌≡◌, ℕ, zero, suc, false, List, [], ◌∷◌, map, set, slice_get, Some, None, option_map, remove, position, bytes_eq, Global, sym, refl, ap, ◌∙◌, subst, none-some, same_Some, AllByRecursion, keys_of, values_of, contains, Discipline, Layout, at_number}
 use Rattle.std.specs.declared.dyn_box.DynBox.{DynBox}
 use Rattle.indexmap.specs.IndexMap.{set_value_at}
@@ -27,7 +28,7 @@ use Rattle.vc_views.proofs.BlockChanges.{IsClear, clear-others, dicts-set, each-
 
 -- a look asks no discipline, so any meaning of boxes serves
 abbrev no_discipline : Discipline
-no_discipline = record { out = []; faults = 0; terms = record { round = 32; grows = false }; room = None }
+no_discipline = record { out = []; faults = 0; terms = record { round = 32; grows = false }; room = None; exceptions = no_exceptions }
 
 module _ {I : Type 0} {V : I → Type 0} (es : List (List ℕ × HomeEntry I V)) (r : List ℕ) (j : ℕ) (v : HomeEntry I V) (b : best.Best I V)
     (at : position (bytes_eq r) (keys_of es) ≡ Some j) (read : slice_get (values_of es) j ≡ Some v) (is : v.region ≡ Best b) where

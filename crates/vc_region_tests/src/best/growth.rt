@@ -154,6 +154,17 @@ fn behind_busy(rt: &impl Abort, best: &mut Best, steps: &mut Steps<Counted>)
     }
 }
 
+// Two blocks more fill the segment, the second of them by its last 4,096 bytes.
+fn last_bytes(rt: &impl Abort, best: &mut Best, steps: &mut Steps<Counted>)
+    requires { IsLent state best.old }
+    ensures { IsLent state best.new }
+{
+    if put(rt, best, steps, 4040, 33_546_304) && put(rt, best, steps, 4040, 33_550_368) {
+        has_one(rt, best, 33_554_432);
+        refused(rt, best, steps, 16, RegionFault::TooManySegments);
+    }
+}
+
 // A segment of 33,550,336 bytes gets 4,096 more, and not 8,192.
 fn to_the_limit(rt: &impl Abort, best: &mut Best, steps: &mut Steps<Counted>)
     requires { IsLent state best.old }
@@ -166,10 +177,7 @@ fn to_the_limit(rt: &impl Abort, best: &mut Best, steps: &mut Steps<Counted>)
     if put(rt, best, steps, 16_768_976, 16_777_312) {
         has_one(rt, best, 33_550_336);
         refused(rt, best, steps, 5000, RegionFault::TooManySegments);
-        if put(rt, best, steps, 4040, 33_546_304) && put(rt, best, steps, 4040, 33_550_368) {
-            has_one(rt, best, 33_554_432);
-            refused(rt, best, steps, 16, RegionFault::TooManySegments);
-        }
+        last_bytes(rt, best, steps);
     }
     assert_eq!(rt; best.disc.faults(), 0);
 }

@@ -142,4 +142,5 @@ returns-clause-disc g c =
           ∙ out-gone c.unlink_gap.new.extents.segs.items c.remove-segment.new.self.segs.items c.args.number c.remove-segment.result k.segments c.remove-segment.ensures.contains c.remove-segment.ensures.number c.remove-segment.ensures.segs rest));
       kept = c.give_back_one.ensures.kept;
       faults = c.give_back_one.ensures.faults;
+      exceptions = c.give_back_one.ensures.exceptions;
     }

@@ -33,8 +33,8 @@ was-run g c =
       alone = alone-held M session.homes.entries session.labels.items c.requires.session.regions.named c.show_names.ensures.homes;
       lone = lone-dicts held (views_by session.paths session.dicts.entries) session.dicts.entries c.show_names.ensures.dicts;
       seated = all-seated M _ session.homes.entries session.labels.items (views_by session.paths session.dicts.entries) session.dicts.entries c.requires.session.dicts;
-      proper = are-proper held (are-named (slots_on M c.args.shelf.now) held c.requires.session.regions.held);
-      proper_then = are-proper held' (are-named (slots_on M c.step.new.shelf) held' c.step.ensures.lasts.stands.regions.held);
+      proper = are-proper held (are-named c.args.session.now.is_armed (slots_on M c.args.shelf.now) held c.requires.session.regions.held);
+      proper_then = are-proper held' (are-named c.step.new.self.is_armed (slots_on M c.step.new.shelf) held' c.step.ensures.lasts.stands.regions.held);
       state = gives.state_after;
       replied = gives.replied;
     }
@@ -53,12 +53,12 @@ was-read g c =
 pub reached_at-held-requires-clause-names : goal.reached_at-held-requires-clause-names
 reached_at-held-requires-clause-names g c =
     let M = meaning g in
-    are-named (slots_on M c.args.shelf.now) (held_in_session M c.args.session.now) c.requires.session.regions.held
+    are-named c.args.session.now.is_armed (slots_on M c.args.shelf.now) (held_in_session M c.args.session.now) c.requires.session.regions.held
 
 pub reached_at-holds-requires-clause-names : goal.reached_at-holds-requires-clause-names
 reached_at-holds-requires-clause-names g c =
     let M = meaning g in
-    are-named (slots_on M c.step.new.shelf) (held_in_session M c.step.new.self) c.step.ensures.lasts.stands.regions.held
+    are-named c.step.new.self.is_armed (slots_on M c.step.new.shelf) (held_in_session M c.step.new.self) c.step.ensures.lasts.stands.regions.held
 
 pub reached_at-held-requires-clause-dicts : goal.reached_at-held-requires-clause-dicts
 reached_at-held-requires-clause-dicts g c = record { kinds = _; dicts = c.requires.session.dicts }

@@ -42,6 +42,7 @@ returns-in-Some-clause-out g c =
           (without_last-own g.T.Numbered.pair c.args.segs.now.items c.in-Some.place c.remove.result found.0 c.remove.ensures.value c.requires.distinct rest);
       kept = c.give_back_one.ensures.kept;
       faults = c.give_back_one.ensures.faults;
+      exceptions = c.give_back_one.ensures.exceptions;
     }
 
 pub returns-in_default-clause-segments : goal.returns-in_default-clause-segments
