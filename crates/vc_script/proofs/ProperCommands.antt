@@ -1,18 +1,18 @@
 -- The commands that a line gives are proper.
-use Rattle.vc_base.proofs.Common.{◌≡◌, ℕ, Bool, true, false, cond, ◌≢◌, List, [], ◌∷◌, length, nat_abs, IfOk, Some, None, Ok, Err, Option, Result, bytes_eq, sym, subst, AllByRecursion}
+use Rattle.vc_base.proofs.Common.{◌≡◌, ℕ, Bool, true, false, cond, cases_Bool, inl, inr, ◌==◌, ◌&&◌, ◌||◌, ◌≤◌, arith, nat_tests, codes, ◌≢◌, List, [], ◌∷◌, length, nat_abs, IfOk, Some, None, Ok, Err, Option, Result, bytes_eq, sym, subst, AllByRecursion}
 use Rattle.vc_script.specs.declared.command.Command.{Command}
 use Rattle.vc_script.specs.declared.line_fault.LineFault.{LineFault}
-use Rattle.vc_script.specs.declared.line_fault.LineFault.TheVariants.{WordCount}
+use Rattle.vc_script.specs.declared.line_fault.LineFault.TheVariants.{UnknownVersion, WordCount}
 use Rattle.vc_script.specs.declared.line_answer.LineAnswer.{LineAnswer}
-use Rattle.vc_script.specs.declared.line_answer.LineAnswer.TheVariants.{Blank, Is, Bad}
+use Rattle.vc_script.specs.declared.line_answer.LineAnswer.TheVariants.{Blank, Is, Version, Bad}
 use Rattle.vc_script.specs.declared.tool.Tool.{Tool}
 use Rattle.vc_script.specs.declared.tool.Tool.TheVariants.{Vmreplay, Dtrun}
 use Rattle.vc_base.specs.declared.fault.OutOfMemory.{OutOfMemory}
 use Rattle.vc_script.specs.Words.{words}
-use Rattle.vc_script.specs.Forms.{Form, Name, Site, Number, SignedNumber, Address, Bytes, RegionMethod, DictionaryMethod, Mode, NameOrDash, Value, value_of}
+use Rattle.vc_script.specs.Forms.{Form, Name, Site, Number, SignedNumber, Address, Bytes, RegionMethod, DictionaryMethod, Mode, NameOrDash, Value, number_of, value_of}
 use Rattle.vc_script.specs.Table.{Row, Values, command_of, dictionary_rows, command_made, own_rows, read_words, table, takes, values_of}
-use Rattle.vc_script.specs.Answer.{answer, answer_of, answer_to, command_in, is_comment}
-use Rattle.vc_script.specs.Proper.{IsProperAddress, IsFaultOfWords, IsName, IsNumber, IsProperAnswer, IsProperCommand, IsSite}
+use Rattle.vc_script.specs.Answer.{answer, answer_of, answer_to, command_in, is_comment, is_version_line, version_in, version_of}
+use Rattle.vc_script.specs.Proper.{IsProperAddress, IsFaultOfWords, IsName, IsNumber, IsProperAnswer, IsProperCommand, IsSite, IsVersion}
 use Rattle.vc_script.proofs.ProperWords.{Gives, Gives-address_of, Gives-bytes_of, Gives-dict_method_of, Gives-if, Gives-method_of, Gives-mode_of, Gives-name_of, Gives-name_or_dash_of, Gives-number_of, Gives-signed_of, Gives-site_of, Gives-then}
 
 -- the value of a word of a form
@@ -204,31 +204,52 @@ Gives-command_in [] first others each = tt
 Gives-command_in (r ∷ rows) first others each =
     Gives-if IsProperCommand (bytes_eq first r.word) (command_of r others) (command_in rows first others) (λ _. Gives-command_of r others each.0) (Gives-command_in rows first others each.1)
 
-IsProperAnswer-answer_of : (read : Result Command LineFault) → Gives IsProperCommand read → IsProperAnswer (answer_of read)
-IsProperAnswer-answer_of (Ok command) given = given
-IsProperAnswer-answer_of (Err fault) given = given
+IsProperAnswer-answer_of : (first : Bool) (read : Result Command LineFault) → Gives IsProperCommand read → IsProperAnswer first (answer_of read)
+IsProperAnswer-answer_of first (Ok command) given = given
+IsProperAnswer-answer_of first (Err fault) given = given
 
-IsProperAnswer-cond : (test : Bool) (read : LineAnswer) → IsProperAnswer read → IsProperAnswer (cond test Blank read)
-IsProperAnswer-cond true read proper = tt
-IsProperAnswer-cond false read proper = proper
+-- a number that tells a version is 1 or 2
+is-version : (n : ℕ) → (n == 1) || (n == 2) ≡ true → IsVersion true n
+is-version n is = (grind (arith, nat_tests, is), grind (arith, nat_tests, is))
 
-IsProperAnswer-answer_to : (tool : Tool) (ws : List (List ℕ)) → IsProperAnswer (answer_to tool ws)
-IsProperAnswer-answer_to tool [] = tt
-IsProperAnswer-answer_to tool (first ∷ others) =
-    IsProperAnswer-cond (is_comment first) (answer_of (command_in (table tool) first others)) (IsProperAnswer-answer_of (command_in (table tool) first others) (Gives-command_in (table tool) first others (proper_rows tool)))
+IsProperAnswer-version_of : (read : Result ℕ LineFault) → Gives IsNumber read → IsProperAnswer true (version_of read)
+IsProperAnswer-version_of (Ok n) given =
+    elim (cases_Bool ((n == 1) || (n == 2))) [
+      | inl is ↦ subst (λ test. IsProperAnswer true (cond test (Version n) (Bad UnknownVersion))) (sym is) (is-version n is)
+      | inr other ↦ subst (λ test. IsProperAnswer true (cond test (Version n) (Bad UnknownVersion))) (sym other) tt
+    ]
+IsProperAnswer-version_of (Err fault) given = given
 
-pub IsProperAnswer-answer : (tool : Tool) (line : List ℕ) → IsProperAnswer (answer tool line)
-IsProperAnswer-answer tool line = IsProperAnswer-answer_to tool (words line)
+IsProperAnswer-version_in : (others : List (List ℕ)) → IsProperAnswer true (version_in others)
+IsProperAnswer-version_in [] = tt
+IsProperAnswer-version_in (word ∷ []) = IsProperAnswer-version_of (number_of word) (Gives-number_of word)
+IsProperAnswer-version_in (word ∷ more ∷ others) = tt
+
+-- by whether the line is a comment, and whether it tells a version
+IsProperAnswer-cond : (first comment is : Bool) (version read : LineAnswer) → IsProperAnswer true version → IsProperAnswer first read → IsProperAnswer first (cond comment Blank (cond (first && is) version read))
+IsProperAnswer-cond first true is version read told proper = tt
+IsProperAnswer-cond true false true version read told proper = told
+IsProperAnswer-cond true false false version read told proper = proper
+IsProperAnswer-cond false false is version read told proper = proper
+
+IsProperAnswer-answer_to : (tool : Tool) (first : Bool) (ws : List (List ℕ)) → IsProperAnswer first (answer_to tool first ws)
+IsProperAnswer-answer_to tool first [] = tt
+IsProperAnswer-answer_to tool first (word ∷ others) =
+    IsProperAnswer-cond first (is_comment word) (bytes_eq word (codes "vc")) (version_in others) (answer_of (command_in (table tool) word others)) (IsProperAnswer-version_in others)
+    (IsProperAnswer-answer_of first (command_in (table tool) word others) (Gives-command_in (table tool) word others (proper_rows tool)))
+
+pub IsProperAnswer-answer : (tool : Tool) (first : Bool) (line : List ℕ) → IsProperAnswer first (answer tool first line)
+IsProperAnswer-answer tool first line = IsProperAnswer-answer_to tool first (words line)
 
 -- every command that a line gives is proper
-pub IsProperCommand-answer : (tool : Tool) (line : List ℕ) (command : Command) → answer tool line ≡ Is command → IsProperCommand command
-IsProperCommand-answer tool line command is = subst IsProperAnswer is (IsProperAnswer-answer tool line)
+pub IsProperCommand-answer : (tool : Tool) (first : Bool) (line : List ℕ) (command : Command) → answer tool first line ≡ Is command → IsProperCommand command
+IsProperCommand-answer tool first line command is = subst (IsProperAnswer first) is (IsProperAnswer-answer tool first line)
 
 -- a result that is the answer is proper
-pub IfOk-proper : (tool : Tool) (ws : List (List ℕ)) (r : Result LineAnswer OutOfMemory) → IfOk r (λ a. a ≡ answer_to tool ws) → IfOk r IsProperAnswer
-IfOk-proper tool ws (Ok a) is = subst IsProperAnswer (sym is) (IsProperAnswer-answer_to tool ws)
-IfOk-proper tool ws (Err e) is = tt
+pub IfOk-proper : (tool : Tool) (first : Bool) (ws : List (List ℕ)) (r : Result LineAnswer OutOfMemory) → IfOk r (λ a. a ≡ answer_to tool first ws) → IfOk r (IsProperAnswer first)
+IfOk-proper tool first ws (Ok a) is = subst (IsProperAnswer first) (sym is) (IsProperAnswer-answer_to tool first ws)
+IfOk-proper tool first ws (Err e) is = tt
 
 -- and none of the faults of cutting
-pub not_bad : (fault : LineFault) (r : Result LineAnswer OutOfMemory) → IfOk r IsProperAnswer → ¬ IsFaultOfWords fault → r ≢ Ok (Bad fault)
-not_bad fault r proper other is = other (subst (λ (r : Result LineAnswer OutOfMemory). IfOk r IsProperAnswer) is proper)
+pub not_bad : (first : Bool) (fault : LineFault) (r : Result LineAnswer OutOfMemory) → IfOk r (IsProperAnswer first) → ¬ IsFaultOfWords fault → r ≢ Ok (Bad fault)
+not_bad first fault r proper other is = other (subst (λ (r : Result LineAnswer OutOfMemory). IfOk r (IsProperAnswer first)) is proper)

@@ -1,11 +1,12 @@
 -- The grammar of lines.
-use Rattle.std.specs.Prelude.{ℕ, List, [], ◌∷◌, Bool, false, bytes_eq, ◌==◌, if◌then◌else◌, Result, Ok, Err}
+use Rattle.std.specs.Prelude.{ℕ, List, [], ◌∷◌, Bool, false, bytes_eq, codes, ◌==◌, ◌&&◌, ◌||◌, if◌then◌else◌, Result, Ok, Err}
 use Rattle.vc_script.specs.declared.command.Command.{Command}
 use Rattle.vc_script.specs.declared.line_fault.LineFault.{LineFault}
-use Rattle.vc_script.specs.declared.line_fault.LineFault.TheVariants.{UnknownCommand}
+use Rattle.vc_script.specs.declared.line_fault.LineFault.TheVariants.{UnknownCommand, UnknownVersion, WordCount}
 use Rattle.vc_script.specs.declared.line_answer.LineAnswer.{LineAnswer}
-use Rattle.vc_script.specs.declared.line_answer.LineAnswer.TheVariants.{Blank, Is, Bad}
+use Rattle.vc_script.specs.declared.line_answer.LineAnswer.TheVariants.{Blank, Is, Version, Bad}
 use Rattle.vc_script.specs.declared.tool.Tool.{Tool}
+use Rattle.vc_script.specs.Forms.{number_of}
 use Rattle.vc_script.specs.Words.{words}
 use Rattle.vc_script.specs.Table.{Row, command_of, table}
 
@@ -24,11 +25,27 @@ abbrev pub answer_of : Result Command LineFault → LineAnswer
 answer_of (Ok command) = Is command
 answer_of (Err fault) = Bad fault
 
--- the answer to the words of a line
-abbrev pub answer_to : Tool → List (List ℕ) → LineAnswer
-answer_to tool [] = Blank
-answer_to tool (first ∷ others) = if is_comment first then Blank else answer_of (command_in (table tool) first others)
+-- the version that a number tells
+abbrev pub version_of : Result ℕ LineFault → LineAnswer
+version_of (Ok n) = if (n == 1) || (n == 2) then Version n else Bad UnknownVersion
+version_of (Err fault) = Bad fault
 
--- the answer to a line
-abbrev pub answer : Tool → List ℕ → LineAnswer
-answer tool line = answer_to tool (words line)
+-- one word stands behind `vc`, a number
+abbrev pub version_in : List (List ℕ) → LineAnswer
+version_in (word ∷ []) = version_of (number_of word)
+version_in others = Bad WordCount
+
+-- `vc` is the first word of a line that tells the version; only the first line can be one
+abbrev pub is_version_line : Bool → List ℕ → Bool
+is_version_line first word = first && bytes_eq word (codes "vc")
+
+-- the answer to the words of a line; `first` says that it is the first line
+abbrev pub answer_to : Tool → Bool → List (List ℕ) → LineAnswer
+answer_to tool first [] = Blank
+answer_to tool first (word ∷ others) =
+    if is_comment word then Blank
+    else (if is_version_line first word then version_in others else answer_of (command_in (table tool) word others))
+
+-- the answer to a line; `first` says that it is the line numbered 1
+abbrev pub answer : Tool → Bool → List ℕ → LineAnswer
+answer tool first line = answer_to tool first (words line)

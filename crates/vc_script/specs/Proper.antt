@@ -1,9 +1,9 @@
 -- What holds of each command that a line gives.
-use Rattle.std.specs.Prelude.{ℕ, ◌^◌, ◌<◌, ◌≤◌, List, Option, Some, None, IsTrue, nat_abs}
+use Rattle.std.specs.Prelude.{ℕ, ◌^◌, ◌<◌, ◌≤◌, List, Bool, true, false, Option, Some, None, IsTrue, nat_abs}
 use Rattle.vc_script.specs.declared.command.Command.{Command}
 use Rattle.vc_script.specs.declared.command.Command.TheVariants.{OpenRegion, CloseRegion, ClearRegion, Compact, Alloc, Align, Resize, Free, WriteBlock, ReadBlock, SizeOf, AddrOf, SegmentOf, StatOf, Segments, Blocks, Poke, Check, Watch, ProfileOf, OpenDict, Insert, Append, Attach, Delete, Detach, Search, MatchKey, First, Last, Next, Prev, Walk, Count, View, Remethod, Empty, Shut}
 use Rattle.vc_script.specs.declared.line_answer.LineAnswer.{LineAnswer}
-use Rattle.vc_script.specs.declared.line_answer.LineAnswer.TheVariants.{Blank, Is, Bad}
+use Rattle.vc_script.specs.declared.line_answer.LineAnswer.TheVariants.{Blank, Is, Version, Bad}
 use Rattle.vc_script.specs.declared.line_fault.LineFault.{LineFault}
 use Rattle.vc_script.specs.declared.line_fault.LineFault.TheVariants.{LineTooLong, TooManyLines}
 use Rattle.vc_script.specs.declared.place.Place.{Place}
@@ -68,13 +68,19 @@ IsProperCommand (Remethod dict method) = IsName dict
 IsProperCommand (Empty dict) = IsName dict
 IsProperCommand (Shut dict) = IsName dict
 
+-- a version is 1 or 2, and only the first line tells one
+abbrev pub IsVersion : Bool → ℕ → Type 0
+IsVersion true n = (1 ≤ n) × (n ≤ 2)
+IsVersion false n = ⊥
+
 -- faults of the words of a line; the other two are found where the input is cut into lines
 abbrev pub IsFaultOfWords : LineFault → Type 0
 IsFaultOfWords LineTooLong = ⊥
 IsFaultOfWords TooManyLines = ⊥
 IsFaultOfWords fault = Unit {0}
 
-abbrev pub IsProperAnswer : LineAnswer → Type 0
-IsProperAnswer Blank = Unit {0}
-IsProperAnswer (Is command) = IsProperCommand command
-IsProperAnswer (Bad fault) = IsFaultOfWords fault
+abbrev pub IsProperAnswer : Bool → LineAnswer → Type 0
+IsProperAnswer first Blank = Unit {0}
+IsProperAnswer first (Is command) = IsProperCommand command
+IsProperAnswer first (Version version) = IsVersion first version
+IsProperAnswer first (Bad fault) = IsFaultOfWords fault

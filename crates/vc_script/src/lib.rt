@@ -37,6 +37,7 @@ mod spelled;
 mod table;
 mod target;
 mod tool;
+pub mod version_rows;
 mod word;
 
 pub use block_items::BlockItems;

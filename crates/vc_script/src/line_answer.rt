@@ -7,6 +7,8 @@ pub enum LineAnswer {
     Blank,
     /// A command.
     Is(Command),
+    /// A version of the language, on the first line alone: 1 or 2.
+    Version(u32),
     /// Nothing that can be done: what is wrong with the line.
     Bad(LineFault),
 }

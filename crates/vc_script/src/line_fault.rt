@@ -19,4 +19,6 @@ pub enum LineFault {
     LineTooLong,
     /// The line's number is above 2,147,483,647.
     TooManyLines,
+    /// The first line asks for a version of the language that isn't 1 or 2.
+    UnknownVersion,
 }

@@ -1,7 +1,8 @@
 ghost use Rattle.std.specs.Prelude.{◌≡◌, ◌≢◌, ◌∷◌, map, IfOk};
-ghost use Rattle.vc_script.specs.Answer.{answer, answer_to, is_comment};
+ghost use Rattle.vc_script.specs.Answer.{answer, answer_to, is_comment, is_version_line, version_in};
 ghost use Rattle.vc_script.specs.Proper.{IsProperAnswer};
 
+use crate::form::number_of;
 use crate::table::answer_in;
 use crate::word::put_words;
 use crate::{LineAnswer, LineFault, Tool};
@@ -10,10 +11,17 @@ use std::alloc::Global;
 use vc_base::OutOfMemory;
 
 /// What a line of a script asks for. The line stands without its newline and without a final CR; any other CR is a byte
-/// of a word. Only the bytes of an object need memory, in one piece, and it fails for want of it alone.
-pub fn read_line(alloc: Global, tool: Tool, line: &[u8]) -> Result<LineAnswer, OutOfMemory>
-    ensures value { IfOk result (λ a. a ≡ answer tool line.now) }
-    ensures proper { IfOk result IsProperAnswer }
+/// of a word. `first` says that the line is the one numbered 1, which alone can tell the version of the language, by
+/// `vc` and 1 or 2; on any other line `vc` is no command. Only the bytes of an object need memory, in one piece, and it
+/// fails for want of it alone.
+pub fn read_line(
+    alloc: Global,
+    tool: Tool,
+    first: bool,
+    line: &[u8],
+) -> Result<LineAnswer, OutOfMemory>
+    ensures value { IfOk result (λ a. a ≡ answer tool first line.now) }
+    ensures proper { IfOk result (IsProperAnswer first) }
     ensures not_too_long { result ≢ Ok (LineAnswer.Bad LineFault.LineTooLong) }
     ensures not_too_many { result ≢ Ok (LineAnswer.Bad LineFault.TooManyLines) }
 {
@@ -21,22 +29,48 @@ pub fn read_line(alloc: Global, tool: Tool, line: &[u8]) -> Result<LineAnswer, O
     put_words(line, &mut words);
     match words.as_slice().split_first() {
         None => Ok(LineAnswer::Blank),
-        Some((first, others)) => answer_to(alloc, tool, first, others),
+        Some((word, others)) => answer_to(alloc, tool, first, word, others),
     }
 }
 
+// What the words of a line ask for.
 fn answer_to(
     alloc: Global,
     tool: Tool,
-    first: &[u8],
+    first: bool,
+    word: &[u8],
     others: &[&[u8]],
 ) -> Result<LineAnswer, OutOfMemory>
-    ensures { IfOk result (λ a. a ≡ answer_to tool (first.now ∷ map (λ w. w.now) others.now)) }
+    ensures { IfOk result (λ a.
+        a ≡ answer_to tool first (word.now ∷ map (λ w. w.now) others.now)) }
 {
-    if is_comment(first) {
+    if is_comment(word) {
         return Ok(LineAnswer::Blank);
     }
-    answer_in(alloc, tool, first, others)
+    if is_version_line(first, word) {
+        return Ok(version_in(others));
+    }
+    answer_in(alloc, tool, word, others)
+}
+
+fn is_version_line(first: bool, word: &[u8]) -> bool
+    ensures { result ≡ is_version_line first word.now }
+{
+    first && word == b"vc".as_slice()
+}
+
+// The version that the words behind `vc` tell.
+fn version_in(others: &[&[u8]]) -> LineAnswer
+    ensures { result ≡ version_in (map (λ w. w.now) others.now) }
+{
+    match others {
+        [word] => match number_of(word) {
+            Ok(version) if version == 1 || version == 2 => LineAnswer::Version(version),
+            Ok(_) => LineAnswer::Bad(LineFault::UnknownVersion),
+            Err(fault) => LineAnswer::Bad(fault),
+        },
+        _ => LineAnswer::Bad(LineFault::WordCount),
+    }
 }
 
 fn is_comment(word: &[u8]) -> bool

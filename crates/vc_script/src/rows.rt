@@ -19,131 +19,131 @@ pub fn cut_words()
 
 /// Lines that ask for nothing.
 pub fn blank_lines()
-    ensures comment { answer Vmreplay (codes "# open r best 1") ≡ Blank }
-    ensures comment_word { answer Vmreplay (codes "  #open r best 1") ≡ Blank }
-    ensures empty { answer Vmreplay [] ≡ Blank }
-    ensures blanks { answer Vmreplay (codes " \t ") ≡ Blank }
+    ensures comment { answer Vmreplay false (codes "# open r best 1") ≡ Blank }
+    ensures comment_word { answer Vmreplay false (codes "  #open r best 1") ≡ Blank }
+    ensures empty { answer Vmreplay false [] ≡ Blank }
+    ensures blanks { answer Vmreplay false (codes " \t ") ≡ Blank }
 {}
 
 /// A line of each fault.
 pub fn faults()
-    ensures unknown_command { answer Vmreplay (codes "frob") ≡ Bad UnknownCommand }
-    ensures word_count { answer Vmreplay (codes "open r best") ≡ Bad WordCount }
-    ensures bad_name { answer Vmreplay (codes "open 9r best 1") ≡ Bad BadName }
-    ensures bad_number { answer Vmreplay (codes "alloc r a 99999999999") ≡ Bad BadNumber }
-    ensures bad_address { answer Vmreplay (codes "addr r 0:5") ≡ Bad BadAddress }
-    ensures bad_bytes { answer Vmreplay (codes "write r a 0 %zz") ≡ Bad BadBytes }
-    ensures unknown_method { answer Vmreplay (codes "open r bset 1") ≡ Bad UnknownMethod }
+    ensures unknown_command { answer Vmreplay false (codes "frob") ≡ Bad UnknownCommand }
+    ensures word_count { answer Vmreplay false (codes "open r best") ≡ Bad WordCount }
+    ensures bad_name { answer Vmreplay false (codes "open 9r best 1") ≡ Bad BadName }
+    ensures bad_number { answer Vmreplay false (codes "alloc r a 99999999999") ≡ Bad BadNumber }
+    ensures bad_address { answer Vmreplay false (codes "addr r 0:5") ≡ Bad BadAddress }
+    ensures bad_bytes { answer Vmreplay false (codes "write r a 0 %zz") ≡ Bad BadBytes }
+    ensures unknown_method { answer Vmreplay false (codes "open r bset 1") ≡ Bad UnknownMethod }
 {}
 
 /// The first word is judged first, then the number of words, then the words from the left.
 pub fn order()
-    ensures first_word { answer Vmreplay (codes "Open 9") ≡ Bad UnknownCommand }
-    ensures first_word_cr { answer Vmreplay (codes "stat\r r") ≡ Bad UnknownCommand }
-    ensures count { answer Vmreplay (codes "open 9 Best") ≡ Bad WordCount }
-    ensures count_none { answer Vmreplay (codes "stat") ≡ Bad WordCount }
-    ensures count_more { answer Vmreplay (codes "alloc r a 1 @s x") ≡ Bad WordCount }
-    ensures name_first { answer Vmreplay (codes "open 9 Best x") ≡ Bad BadName }
-    ensures method_second { answer Vmreplay (codes "open r Best x") ≡ Bad UnknownMethod }
-    ensures number_first { answer Vmreplay (codes "alloc r x y @9") ≡ Bad BadNumber }
-    ensures site_last { answer Vmreplay (codes "alloc r x 1 @9") ≡ Bad BadName }
-    ensures no_at { answer Vmreplay (codes "alloc r x 1 s") ≡ Bad BadName }
-    ensures cr_in_word { answer Vmreplay (codes "free r a\r") ≡ Bad BadName }
+    ensures first_word { answer Vmreplay false (codes "Open 9") ≡ Bad UnknownCommand }
+    ensures first_word_cr { answer Vmreplay false (codes "stat\r r") ≡ Bad UnknownCommand }
+    ensures count { answer Vmreplay false (codes "open 9 Best") ≡ Bad WordCount }
+    ensures count_none { answer Vmreplay false (codes "stat") ≡ Bad WordCount }
+    ensures count_more { answer Vmreplay false (codes "alloc r a 1 @s x") ≡ Bad WordCount }
+    ensures name_first { answer Vmreplay false (codes "open 9 Best x") ≡ Bad BadName }
+    ensures method_second { answer Vmreplay false (codes "open r Best x") ≡ Bad UnknownMethod }
+    ensures number_first { answer Vmreplay false (codes "alloc r x y @9") ≡ Bad BadNumber }
+    ensures site_last { answer Vmreplay false (codes "alloc r x 1 @9") ≡ Bad BadName }
+    ensures no_at { answer Vmreplay false (codes "alloc r x 1 s") ≡ Bad BadName }
+    ensures cr_in_word { answer Vmreplay false (codes "free r a\r") ≡ Bad BadName }
 {}
 
 /// Commands over dictionaries are commands of one tool alone; those over regions are commands of both.
 pub fn tools()
-    ensures dict { answer Vmreplay (codes "dict d set r 1") ≡ Bad UnknownCommand }
-    ensures insert { answer Vmreplay (codes "insert d a") ≡ Bad UnknownCommand }
-    ensures shut { answer Vmreplay (codes "shut d") ≡ Bad UnknownCommand }
-    ensures open { answer Dtrun (codes "open r best 1") ≡ Is (OpenRegion (codes "r") VmBest 1) }
-    ensures profile { answer Dtrun (codes "profile r") ≡ Is (ProfileOf (codes "r")) }
-    ensures frob { answer Dtrun (codes "frob") ≡ Bad UnknownCommand }
-    ensures comment { answer Dtrun (codes " # dict d set r 1") ≡ Blank }
+    ensures dict { answer Vmreplay false (codes "dict d set r 1") ≡ Bad UnknownCommand }
+    ensures insert { answer Vmreplay false (codes "insert d a") ≡ Bad UnknownCommand }
+    ensures shut { answer Vmreplay false (codes "shut d") ≡ Bad UnknownCommand }
+    ensures open { answer Dtrun false (codes "open r best 1") ≡ Is (OpenRegion (codes "r") VmBest 1) }
+    ensures profile { answer Dtrun false (codes "profile r") ≡ Is (ProfileOf (codes "r")) }
+    ensures frob { answer Dtrun false (codes "frob") ≡ Bad UnknownCommand }
+    ensures comment { answer Dtrun false (codes " # dict d set r 1") ≡ Blank }
 {}
 
 /// Of a command over dictionaries too the number of words is judged first, then the words from the left.
 pub fn dictionary_order()
-    ensures count { answer Dtrun (codes "dict 9 Set") ≡ Bad WordCount }
-    ensures name_first { answer Dtrun (codes "dict 9 Set 9 x") ≡ Bad BadName }
-    ensures method_second { answer Dtrun (codes "dict d Set 9 x") ≡ Bad UnknownMethod }
-    ensures region_third { answer Dtrun (codes "dict d set 9 x") ≡ Bad BadName }
-    ensures kind_last { answer Dtrun (codes "dict d set r x") ≡ Bad BadNumber }
-    ensures no_object { answer Dtrun (codes "insert d") ≡ Bad WordCount }
-    ensures two_objects { answer Dtrun (codes "delete d a b") ≡ Bad WordCount }
-    ensures object_last { answer Dtrun (codes "delete 9 %") ≡ Bad BadName }
-    ensures bad_object { answer Dtrun (codes "delete d %") ≡ Bad BadBytes }
-    ensures bad_viewed { answer Dtrun (codes "view d --") ≡ Bad BadName }
-    ensures no_dash { answer Dtrun (codes "shut -") ≡ Bad BadName }
+    ensures count { answer Dtrun false (codes "dict 9 Set") ≡ Bad WordCount }
+    ensures name_first { answer Dtrun false (codes "dict 9 Set 9 x") ≡ Bad BadName }
+    ensures method_second { answer Dtrun false (codes "dict d Set 9 x") ≡ Bad UnknownMethod }
+    ensures region_third { answer Dtrun false (codes "dict d set 9 x") ≡ Bad BadName }
+    ensures kind_last { answer Dtrun false (codes "dict d set r x") ≡ Bad BadNumber }
+    ensures no_object { answer Dtrun false (codes "insert d") ≡ Bad WordCount }
+    ensures two_objects { answer Dtrun false (codes "delete d a b") ≡ Bad WordCount }
+    ensures object_last { answer Dtrun false (codes "delete 9 %") ≡ Bad BadName }
+    ensures bad_object { answer Dtrun false (codes "delete d %") ≡ Bad BadBytes }
+    ensures bad_viewed { answer Dtrun false (codes "view d --") ≡ Bad BadName }
+    ensures no_dash { answer Dtrun false (codes "shut -") ≡ Bad BadName }
 {}
 
 /// A line of each command with a region alone.
 pub fn region_commands()
-    ensures close { answer Vmreplay (codes "close r") ≡ Is (CloseRegion (codes "r")) }
-    ensures clear { answer Vmreplay (codes "clear r") ≡ Is (ClearRegion (codes "r")) }
-    ensures compact { answer Vmreplay (codes "compact r") ≡ Is (Compact (codes "r")) }
-    ensures stat { answer Vmreplay (codes "stat r") ≡ Is (StatOf (codes "r")) }
-    ensures segments { answer Vmreplay (codes "segments r") ≡ Is (Segments (codes "r")) }
-    ensures blocks { answer Vmreplay (codes "blocks r") ≡ Is (Blocks (codes "r")) }
-    ensures check { answer Vmreplay (codes "check r") ≡ Is (Check (codes "r")) }
-    ensures profile { answer Vmreplay (codes "profile r") ≡ Is (ProfileOf (codes "r")) }
+    ensures close { answer Vmreplay false (codes "close r") ≡ Is (CloseRegion (codes "r")) }
+    ensures clear { answer Vmreplay false (codes "clear r") ≡ Is (ClearRegion (codes "r")) }
+    ensures compact { answer Vmreplay false (codes "compact r") ≡ Is (Compact (codes "r")) }
+    ensures stat { answer Vmreplay false (codes "stat r") ≡ Is (StatOf (codes "r")) }
+    ensures segments { answer Vmreplay false (codes "segments r") ≡ Is (Segments (codes "r")) }
+    ensures blocks { answer Vmreplay false (codes "blocks r") ≡ Is (Blocks (codes "r")) }
+    ensures check { answer Vmreplay false (codes "check r") ≡ Is (Check (codes "r")) }
+    ensures profile { answer Vmreplay false (codes "profile r") ≡ Is (ProfileOf (codes "r")) }
 {}
 
 /// A line of each other command.
 #[tactic(auto, unfolding(percent_encoding::specs::Percent::percent_decode))]
 pub fn block_commands()
-    ensures open { answer Vmreplay (codes "open r best 1") ≡ Is (OpenRegion (codes "r") VmBest 1) }
-    ensures alloc { answer Vmreplay (codes "alloc r a 100")
+    ensures open { answer Vmreplay false (codes "open r best 1") ≡ Is (OpenRegion (codes "r") VmBest 1) }
+    ensures alloc { answer Vmreplay false (codes "alloc r a 100")
         ≡ Is (Alloc (codes "r") (codes "a") 100 None) }
-    ensures alloc_at { answer Vmreplay (codes "alloc r a 100 @s")
+    ensures alloc_at { answer Vmreplay false (codes "alloc r a 100 @s")
         ≡ Is (Alloc (codes "r") (codes "a") 100 (Some (codes "s"))) }
-    ensures align { answer Vmreplay (codes "align r a 100 64")
+    ensures align { answer Vmreplay false (codes "align r a 100 64")
         ≡ Is (Align (codes "r") (codes "a") 100 64) }
-    ensures resize { answer Vmreplay (codes "resize r a 9 move")
+    ensures resize { answer Vmreplay false (codes "resize r a 9 move")
         ≡ Is (Resize (codes "r") (codes "a") 9 true) }
-    ensures resize_fixed { answer Vmreplay (codes "resize r a 9 fixed")
+    ensures resize_fixed { answer Vmreplay false (codes "resize r a 9 fixed")
         ≡ Is (Resize (codes "r") (codes "a") 9 false) }
-    ensures free { answer Vmreplay (codes "free r a") ≡ Is (Free (codes "r") (codes "a")) }
-    ensures write { answer Vmreplay (codes "write r a 7 x%3D")
+    ensures free { answer Vmreplay false (codes "free r a") ≡ Is (Free (codes "r") (codes "a")) }
+    ensures write { answer Vmreplay false (codes "write r a 7 x%3D")
         ≡ Is (WriteBlock (codes "r") (codes "a") 7 (codes "x=")) }
-    ensures read { answer Vmreplay (codes "read r a 7 3")
+    ensures read { answer Vmreplay false (codes "read r a 7 3")
         ≡ Is (ReadBlock (codes "r") (codes "a") 7 3) }
-    ensures size { answer Vmreplay (codes "size r a") ≡ Is (SizeOf (codes "r") (codes "a")) }
-    ensures addr { answer Vmreplay (codes "addr r 2:32")
+    ensures size { answer Vmreplay false (codes "size r a") ≡ Is (SizeOf (codes "r") (codes "a")) }
+    ensures addr { answer Vmreplay false (codes "addr r 2:32")
         ≡ Is (AddrOf (codes "r") (record { seg = 2; off = 32 })) }
-    ensures segment { answer Vmreplay (codes "segment r 2:32")
+    ensures segment { answer Vmreplay false (codes "segment r 2:32")
         ≡ Is (SegmentOf (codes "r") (record { seg = 2; off = 32 })) }
-    ensures poke { answer Vmreplay (codes "poke r a -3 165")
+    ensures poke { answer Vmreplay false (codes "poke r a -3 165")
         ≡ Is (Poke (codes "r") (codes "a") (negsuc 2) 165) }
-    ensures watch { answer Vmreplay (codes "watch r a") ≡ Is (Watch (codes "r") (codes "a")) }
+    ensures watch { answer Vmreplay false (codes "watch r a") ≡ Is (Watch (codes "r") (codes "a")) }
 {}
 
 /// A line of each command over dictionaries.
 #[tactic(auto, unfolding(percent_encoding::specs::Percent::percent_decode))]
 pub fn dictionary_commands()
-    ensures dict { answer Dtrun (codes "dict d oset r 6")
+    ensures dict { answer Dtrun false (codes "dict d oset r 6")
         ≡ Is (OpenDict (codes "d") DtOset (codes "r") 6) }
-    ensures insert { answer Dtrun (codes "insert d a%20") ≡ Is (Insert (codes "d") (codes "a ")) }
-    ensures append { answer Dtrun (codes "append d a") ≡ Is (Append (codes "d") (codes "a")) }
-    ensures attach { answer Dtrun (codes "attach d a") ≡ Is (Attach (codes "d") (codes "a")) }
-    ensures delete { answer Dtrun (codes "delete d a")
+    ensures insert { answer Dtrun false (codes "insert d a%20") ≡ Is (Insert (codes "d") (codes "a ")) }
+    ensures append { answer Dtrun false (codes "append d a") ≡ Is (Append (codes "d") (codes "a")) }
+    ensures attach { answer Dtrun false (codes "attach d a") ≡ Is (Attach (codes "d") (codes "a")) }
+    ensures delete { answer Dtrun false (codes "delete d a")
         ≡ Is (Delete (codes "d") (Some (codes "a"))) }
-    ensures delete_any { answer Dtrun (codes "delete d") ≡ Is (Delete (codes "d") None) }
-    ensures detach { answer Dtrun (codes "detach d a") ≡ Is (Detach (codes "d") (codes "a")) }
-    ensures search { answer Dtrun (codes "search d a") ≡ Is (Search (codes "d") (codes "a")) }
-    ensures match_key { answer Dtrun (codes "match d a") ≡ Is (MatchKey (codes "d") (codes "a")) }
-    ensures first { answer Dtrun (codes "first d") ≡ Is (First (codes "d")) }
-    ensures last { answer Dtrun (codes "last d") ≡ Is (Last (codes "d")) }
-    ensures next { answer Dtrun (codes "next d a") ≡ Is (Next (codes "d") (codes "a")) }
-    ensures prev { answer Dtrun (codes "prev d a") ≡ Is (Prev (codes "d") (codes "a")) }
-    ensures walk { answer Dtrun (codes "walk d") ≡ Is (Walk (codes "d")) }
-    ensures count { answer Dtrun (codes "count d") ≡ Is (Count (codes "d")) }
-    ensures view { answer Dtrun (codes "view d e") ≡ Is (View (codes "d") (Some (codes "e"))) }
-    ensures view_none { answer Dtrun (codes "view d -") ≡ Is (View (codes "d") None) }
-    ensures method { answer Dtrun (codes "method d list")
+    ensures delete_any { answer Dtrun false (codes "delete d") ≡ Is (Delete (codes "d") None) }
+    ensures detach { answer Dtrun false (codes "detach d a") ≡ Is (Detach (codes "d") (codes "a")) }
+    ensures search { answer Dtrun false (codes "search d a") ≡ Is (Search (codes "d") (codes "a")) }
+    ensures match_key { answer Dtrun false (codes "match d a") ≡ Is (MatchKey (codes "d") (codes "a")) }
+    ensures first { answer Dtrun false (codes "first d") ≡ Is (First (codes "d")) }
+    ensures last { answer Dtrun false (codes "last d") ≡ Is (Last (codes "d")) }
+    ensures next { answer Dtrun false (codes "next d a") ≡ Is (Next (codes "d") (codes "a")) }
+    ensures prev { answer Dtrun false (codes "prev d a") ≡ Is (Prev (codes "d") (codes "a")) }
+    ensures walk { answer Dtrun false (codes "walk d") ≡ Is (Walk (codes "d")) }
+    ensures count { answer Dtrun false (codes "count d") ≡ Is (Count (codes "d")) }
+    ensures view { answer Dtrun false (codes "view d e") ≡ Is (View (codes "d") (Some (codes "e"))) }
+    ensures view_none { answer Dtrun false (codes "view d -") ≡ Is (View (codes "d") None) }
+    ensures method { answer Dtrun false (codes "method d list")
         ≡ Is (Remethod (codes "d") DtList) }
-    ensures empty { answer Dtrun (codes "empty d") ≡ Is (Empty (codes "d")) }
-    ensures shut { answer Dtrun (codes "shut d") ≡ Is (Shut (codes "d")) }
+    ensures empty { answer Dtrun false (codes "empty d") ≡ Is (Empty (codes "d")) }
+    ensures shut { answer Dtrun false (codes "shut d") ≡ Is (Shut (codes "d")) }
 {}
 
 /// A name has 1 to 32 bytes: a letter, then letters, digits, `_` and `.`.
