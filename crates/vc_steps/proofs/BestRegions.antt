@@ -1,9 +1,5 @@
 -- A best region is its layout, with other labels, too.
 use Rattle.vc_base.proofs.Common.{◌≡◌, true, sym, refl, ap, ◌∙◌, true≢false, Layout, relabel_layout}
-use Rattle.vc_best.specs.declared.best.Best as best
-use Rattle.vc_region.specs.Cells.{rest_in}
-use Rattle.vc_region.specs.declared.region.Region as code
-use Rattle.vc_region.specs.declared.region.Region.TheVariants.{Best, Pool, Last, Debug, Profile}
 use Rattle.vc_region.specs.Region.{OfBest, OfDebug, OfLast, OfPool, OfProfile, Region, is_best, layout_in, region_with_labels}
 
 pub best-is : {L : Type 0} (r : Region L) → is_best r ≡ true → r ≡ OfBest (layout_in r)

@@ -1,5 +1,5 @@
 -- What closing a region leaves.
-use Rattle.vc_base.proofs.Common.{◌≡◌, ℕ, zero, suc, ◌-◌, ◌≤◌, true, false, cond, ◌≢◌, List, [], ◌∷◌, map, length, take, set, slice_get, Some, None, Option, option_map, remove, sym, refl, ap, ◌∙◌, subst, append-nil, arith, or_parts, map-set, none-some, same_Some, slice_get-map, AllByRecursion, list_any, Discipline, HasOut, TookBack, at_number}
+use Rattle.vc_base.proofs.Common.{◌≡◌, Bool, ℕ, zero, suc, ◌-◌, ◌≤◌, true, false, cond, ◌≢◌, List, [], ◌∷◌, map, length, take, set, slice_get, Some, None, Option, option_map, remove, sym, refl, ap, ◌∙◌, subst, append-nil, arith, or_parts, map-set, none-some, same_Some, slice_get-map, AllByRecursion, list_any, Discipline, HasOut, TookBack, at_number}
 use Rattle.std.proofs.lemmas.List.{set_comm}
 use Rattle.vc_region.specs.Region.{segments_of}
 use Rattle.vc_script.specs.declared.refusal.Refusal.TheVariants.{Busy}
@@ -10,7 +10,7 @@ use Rattle.vc_commands.specs.Labels.{name_of}
 use Rattle.vc_steps.specs.State.{State, step_with_reply, close_home, close_step, step_with_close, home_named, is_home_busy, step_with_refusal, without_home}
 use Rattle.vc_views.specs.Views.{DictHome}
 use Rattle.vc_commands.specs.Home.{Home, is_home}
-use Rattle.vc_steps.specs.Account.{Account, IsSession, account, accounts, account_after, account_back, settled_accounts, state_of}
+use Rattle.vc_steps.specs.Account.{Account, IsSession, account, accounts, account_after, account_back, asked_of, settled_accounts, state_of}
 use Rattle.vc_commands.specs.Held.{Held, home_of}
 use Rattle.vc_views.proofs.LinkLists.{all-remove}
 use Rattle.vc_steps.proofs.Cells.{at_number-from_one, at_number-zero, at_number_some, map-remove, slice_get-set_other}
@@ -26,27 +26,31 @@ pub account-closed : (d e : Discipline) (segments : List (ℕ × ℕ)) → HasOu
 account-closed d e segments has back =
     let out : take (length d.out - length segments) d.out ≡ e.out =
     front-out has.0 segments d.out has.1 ∙ sym (back.out has.0 has.1 ∙ append-nil has.0) in
-    ap (λ o. let a : Account = record { out = o; terms = e.terms; faults = e.faults } in a) (sym out)
-    ∙ (ap (λ t. let a : Account = record { out = (account_back d segments).out; terms = t; faults = e.faults } in a) back.kept.terms
-    ∙ ap (λ f. let a : Account = record { out = (account_back d segments).out; terms = d.terms; faults = f } in a) back.faults)
+    ap (λ o. let a : Account = record { out = o; terms = e.terms; faults = e.faults; asked = asked_of e } in a) (sym out)
+    ∙ (ap (λ t. let a : Account = record { out = (account_back d segments).out; terms = t; faults = e.faults; asked = asked_of e } in a) back.kept.terms
+    ∙ (ap (λ f. let a : Account = record { out = (account_back d segments).out; terms = d.terms; faults = f; asked = asked_of e } in a) back.faults
+    ∙ ap (λ x. let a : Account = record { out = (account_back d segments).out; terms = d.terms; faults = d.faults; asked = (x.told, x.yes) } in a) back.exceptions))
 
 -- another place stays
-pub elsewhere : (slots : Slots) (n : ℕ) (d : Discipline) → at_number slots n ≡ Some None → (p : ℕ) → p ≢ n → at_number (set slots (n - 1) (Some d)) p ≡ at_number slots p
-elsewhere slots n d at zero other = at_number-zero (set slots (n - 1) (Some d)) 0 refl ∙ sym (at_number-zero slots 0 refl)
-elsewhere slots n d at (suc k) other =
+pub elsewhere-set : (slots : Slots) (n : ℕ) (x : Option Discipline) {o : Option Discipline} → at_number slots n ≡ Some o → (p : ℕ) → p ≢ n → at_number (set slots (n - 1) x) p ≡ at_number slots p
+elsewhere-set slots n x {o = o} at zero other = at_number-zero (set slots (n - 1) x) 0 refl ∙ sym (at_number-zero slots 0 refl)
+elsewhere-set slots n x {o = o} at (suc k) other =
     let low : 1 ≤ suc k = omega arith in
-    let first : 1 ≤ n = (at_number_some slots n None at).0 in
-    at_number-from_one (set slots (n - 1) (Some d)) (suc k) low
-    ∙ (slice_get-set_other slots (n - 1) (suc k - 1) (Some d) (λ e. other (omega (arith, e, low, first)))
+    let first : 1 ≤ n = (at_number_some slots n o at).0 in
+    at_number-from_one (set slots (n - 1) x) (suc k) low
+    ∙ (slice_get-set_other slots (n - 1) (suc k - 1) x (λ e. other (omega (arith, e, low, first)))
     ∙ sym (at_number-from_one slots (suc k) low))
 
+pub elsewhere : (slots : Slots) (n : ℕ) (d : Discipline) {o : Option Discipline} → at_number slots n ≡ Some o → (p : ℕ) → p ≢ n → at_number (set slots (n - 1) (Some d)) p ≡ at_number slots p
+elsewhere slots n d at p other = elsewhere-set slots n (Some d) at p other
+
 -- the other regions still hold their disciplines
-pub session-closed : (slots slots' : Slots) (n : ℕ) (hs : List Held) → ((p : ℕ) → p ≢ n → at_number slots' p ≡ at_number slots p) → AllByRecursion (λ g. g.place ≢ n) hs → IsSession slots hs → IsSession slots' hs
-session-closed slots slots' n [] same away s = tt
-session-closed slots slots' n (h ∷ hs) same away s = (
-  record { place = same h.place away.0 ∙ s.0.place; lent = s.0.lent; names = s.0.names },
+pub session-closed : (armed : Bool) (slots slots' : Slots) (n : ℕ) (hs : List Held) → ((p : ℕ) → p ≢ n → at_number slots' p ≡ at_number slots p) → AllByRecursion (λ g. g.place ≢ n) hs → IsSession armed slots hs → IsSession armed slots' hs
+session-closed armed slots slots' n [] same away s = tt
+session-closed armed slots slots' n (h ∷ hs) same away s = (
+  record { place = same h.place away.0 ∙ s.0.place; armed_so = s.0.armed_so; lent = s.0.lent; names = s.0.names },
   s.1,
-  session-closed slots slots' n hs same away.1 s.2,
+  session-closed armed slots slots' n hs same away.1 s.2,
 )
 
 taken_of : (o : Option (Option Discipline)) → standing o ≡ Taken → o ≡ Some None
@@ -58,11 +62,11 @@ taken_of (Some (Some d)) e = absurd cc
 pub taken-at : (slots : Slots) (n : ℕ) → place_at slots n ≡ Taken → at_number slots n ≡ Some None
 taken-at slots n e = taken_of (at_number slots n) e
 
-session-remove : (slots : Slots) (hs : List Held) (i : ℕ) → IsSession slots hs → IsSession slots (remove hs i)
-session-remove slots [] zero s = tt
-session-remove slots [] (suc i) s = tt
-session-remove slots (g ∷ hs) zero s = s.2
-session-remove slots (g ∷ hs) (suc i) s = (s.0, all-remove (λ f. f.place ≢ g.place) hs i s.1, session-remove slots hs i s.2)
+session-remove : (armed : Bool) (slots : Slots) (hs : List Held) (i : ℕ) → IsSession armed slots hs → IsSession armed slots (remove hs i)
+session-remove armed slots [] zero s = tt
+session-remove armed slots [] (suc i) s = tt
+session-remove armed slots (g ∷ hs) zero s = s.2
+session-remove armed slots (g ∷ hs) (suc i) s = (s.0, all-remove (λ f. f.place ≢ g.place) hs i s.1, session-remove armed slots hs i s.2)
 
 -- no other region has the place of the one that is taken out
 away-remove : (hs : List Held) (i : ℕ) (h : Held) → slice_get hs i ≡ Some h → IsApart hs → AllByRecursion (λ g. g.place ≢ h.place) (remove hs i)
@@ -98,12 +102,12 @@ pub close-busy : (s : State) (r : List ℕ) (i : ℕ) → IsFirst (is_home r) s.
 close-busy s r i first busy =
     ap (close_home s r) (find-first (is_home r) s.homes i first) ∙ ap (λ b. cond b (step_with_refusal s Busy) (step_with_close s r first.item)) busy
 
-module _ (slots slots' : Slots) (hs : List Held) (i : ℕ) (h : Held) (at : slice_get hs i ≡ Some h) (session : IsSession slots hs) (here : accounts slots' ≡ set (accounts slots) (h.place - 1) (Some (account_after h))) where
-  pub session-close : ((p : ℕ) → p ≢ h.place → at_number slots' p ≡ at_number slots p) → IsSession slots' (remove hs i)
-  session-close same = session-closed slots slots' h.place (remove hs i) same (away-remove hs i h at (apart-session slots hs session)) (session-remove slots hs i session)
+module _ (armed : Bool) (slots slots' : Slots) (hs : List Held) (i : ℕ) (h : Held) (at : slice_get hs i ≡ Some h) (session : IsSession armed slots hs) (here : accounts slots' ≡ set (accounts slots) (h.place - 1) (Some (account_after h))) where
+  pub session-close : ((p : ℕ) → p ≢ h.place → at_number slots' p ≡ at_number slots p) → IsSession armed slots' (remove hs i)
+  session-close same = session-closed armed slots slots' h.place (remove hs i) same (away-remove hs i h at (apart-session armed slots hs session)) (session-remove armed slots hs i session)
 
   pub settled-close : settled_accounts (accounts slots') (remove hs i) ≡ settled_accounts (accounts slots) hs
-  settled-close = ap (λ a. settled_accounts a (remove hs i)) here ∙ settled-remove (accounts slots) hs i h at (apart-session slots hs session)
+  settled-close = ap (λ a. settled_accounts a (remove hs i)) here ∙ settled-remove (accounts slots) hs i h at (apart-session armed slots hs session)
 
   shelf-close : map (option_map (λ (d : Discipline). d.terms)) slots' ≡ set (map (option_map (λ (d : Discipline). d.terms)) slots) (h.place - 1) (Some h.disc.terms)
   shelf-close =

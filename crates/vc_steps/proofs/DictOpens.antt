@@ -1,5 +1,6 @@
 -- What the opening of a dictionary leaves of a session.
-use Rattle.vc_base.proofs.Common.{◌≡◌, ℕ, Bool, false, List, [], ◌∷◌, ◌++◌, map, set, slice_get, Some, None, Ok, Err, Option, Result, bytes_eq, sym, refl, ap, ◌∙◌, subst, none-some, same_Some, bytes_eq-Decides, Blocks, Discipline, Layout, relabel_layout, at_number, Fault, Outcome, done_as}
+use Rattle.vc_base.proofs.Common.{◌≡◌, ◌⊎◌, ℕ, Bool, false, List, [], ◌∷◌, ◌++◌, map, set, slice_get, Some, None, Ok, Err, Option, Result, bytes_eq, sym, refl, ap, ◌∙◌, subst, none-some, same_Some, bytes_eq-Decides, Blocks, Discipline, Layout, relabel_layout, at_number, Fault, Outcome, done_as}
+use Rattle.vc_model.specs.Discipline.{Excused}
 use Rattle.vc_base.specs.declared.dict_method.DictMethod.{DictMethod}
 use Rattle.vc_dict.specs.declared.dict.Dict.{Dict}
 use Rattle.vc_model.specs.Outcome as model
@@ -41,13 +42,12 @@ use Rattle.vc_steps.specs.Told.{tell}
 use Rattle.vc_steps.proofs.BestRegions.{best-named}
 use Rattle.vc_steps.proofs.RegionChange.{gives-same, homes-change, settles-none, settles-one, state-same}
 use Rattle.vc_steps.proofs.DictChange.{Touches, clear-none, dicts-kept, dicts-push, homes-kept, homes-push, now-named, was-named}
-use Rattle.vc_steps.proofs.DictsStay.{Entry, Vs}
+use Rattle.vc_steps.proofs.DictsStay.{Entry}
 use Rattle.vc_commands.proofs.Firsts.{IsFirst, first-unmap}
 use Rattle.vc_commands.proofs.Names.{name-none}
 use Rattle.vc_commands.specs.declared.region.home.HomeEntry.{HomeEntry}
 use Rattle.vc_steps.proofs.RegionAt.{RegionAt, region-first, region-named, region-stands, region_at}
-use Rattle.vc_steps.proofs.SessionHere.{SessionHere, helds, state_here, views, parts}
-use Rattle.vc_steps.proofs.Sessions.{Slots}
+use Rattle.vc_steps.proofs.SessionHere.{SessionHere, parts}
 
 -- what a fault tells where no table is put
 pub record TableTold (call : Bool → Outcome (Grown ℕ)) (told : Reply) : Type 0 where
@@ -130,16 +130,16 @@ module _ {I : Type 0} {V : I → Type 0} {meaning : (x : I) × V x → Disciplin
     gs = set hs j g
 
     abbrev Settled : List ℕ → Type 0
-    Settled refusals = Settles (settled_accounts (accounts slots) hs) (settled_accounts (accounts slots) gs) refusals
+    Settled refusals = Settles x.here.armed (settled_accounts (accounts slots) hs) (settled_accounts (accounts slots) gs) refusals
 
     -- a refusal of its discipline counts
     pub settles-failed : (fault : RegionFault) (told : Reply) → table_reply fault ≡ Some told → RefusedBy fault (LacksTable (Some 16) h.disc g.disc) h.disc g.disc → Settled (refusal_at s (OpenDict d method r k) told)
     settles-failed code.OutOfMemory told same asked = absurd (none-some told same)
     settles-failed code.NoSegment told same asked =
         subst (λ x. Settled (refusal_at s (OpenDict d method r k) x)) (same_Some (reply.Refused NoSegmentForTable) told same)
-        (subst (λ o. Settled (home_place o)) (sym home-found) (settles-one slots hs j h g at x.here.held change asked.rose))
+        (subst (λ o. Settled (home_place o)) (sym home-found) (settles-one x.here.armed slots hs j h g at x.here.held change asked.rose))
     settles-failed fault told same asked =
-        subst (λ x. Settled (refusal_at s (OpenDict d method r k) x)) (same_Some (reply.Refused why.TooManySegments) told same) (settles-none slots hs j h g at x.here.held change asked.faults)
+        subst (λ x. Settled (refusal_at s (OpenDict d method r k) x)) (same_Some (reply.Refused why.TooManySegments) told same) (settles-none x.here.armed slots hs j h g at x.here.held change asked.faults)
 
     -- and was wanting for the table
     pub lacks-failed : (fault : RegionFault) (told : Reply) → table_reply fault ≡ Some told → RefusedBy fault (LacksTable (Some 16) h.disc g.disc) h.disc g.disc → Touches h g [] [] → StepLacksFor s hs gs (OpenDict d method r k) told
@@ -160,29 +160,31 @@ module _ {I : Type 0} {V : I → Type 0} {meaning : (x : I) × V x → Disciplin
     pub state-failed : Touches h g [] [] → g.region ≡ h.region → g.labels ≡ h.labels → state_of kinds slots gs (dicts_in gs vs es) ≡ s
     state-failed touch region labels =
         ap (state_of kinds slots gs) (homes-kept kinds hs j h g [] [] named-first at touch vs es x.here.dicts (clear-none hs r es))
-        ∙ state-same slots hs j h g at x.here.held change kinds (dicts_in hs vs es)
+        ∙ state-same x.here.armed slots hs j h g at x.here.held change kinds (dicts_in hs vs es)
         (ap (λ q. let p : Region Label × FreedNames = (region_with_labels (name_of g.labels) q, kept_of g.labels) in p) region
         ∙ ap (λ l. let p : Region Label × FreedNames = (region_with_labels (name_of l) h.region, kept_of l) in p) labels)
 
   -- no block is put for its table, by the answer to the fault
   module _ (g : Held) {cells : Blocks} (change : IsChange (record h { cells = cells }) g) (gone : List Gone) where
-    no-fault : (fault : RegionFault) → table_reply fault ≡ None → RefusedBy fault (LacksTable (Some 16) h.disc g.disc) h.disc g.disc → g.disc.faults ≡ h.disc.faults
+    no-fault : (fault : RegionFault) → table_reply fault ≡ None → RefusedBy fault (LacksTable (Some 16) h.disc g.disc) h.disc g.disc → (g.disc.faults ≡ h.disc.faults) ⊎ Excused h.disc g.disc
     no-fault code.OutOfMemory none asked = asked.faults
     no-fault code.NoSegment none asked = absurd (none-some _ (sym none))
     no-fault fault none asked = asked.faults
 
-    pub steps-failed : {E : Type 0} (fault : RegionFault) (answer : Result Reply E) → TellsTable fault answer → RefusedBy fault (LacksTable (Some 16) h.disc g.disc) h.disc g.disc → IsRefusal (open_dictionary h.disc.terms (layout_in h.region) 0 method) fault → dict_refused s (home_of h) d k ≡ None → Touches h g [] [] → g.region ≡ h.region → g.labels ≡ h.labels → StepsBy answer (moment_over slots es vs kinds gone hs) (moment_over slots es vs kinds gone (set hs j g)) (OpenDict d method r k) (λ st. open_dict_step st d method r k)
+    pub steps-failed : {E : Type 0} (fault : RegionFault) (answer : Result Reply E) → TellsTable fault answer → RefusedBy fault (LacksTable (Some 16) h.disc g.disc) h.disc g.disc → IsRefusal (open_dictionary h.disc.terms (layout_in h.region) 0 method) fault → dict_refused s (home_of h) d k ≡ None → Touches h g [] [] → g.region ≡ h.region → g.labels ≡ h.labels → StepsBy answer (moment_over x.here.armed slots es vs kinds gone hs) (moment_over x.here.armed slots es vs kinds gone (set hs j g)) (OpenDict d method r k) (λ st. open_dict_step st d method r k)
     steps-failed fault (Ok told) tells asked refusal none touch region labels =
         record {
           gives = open-failed gone fault told (state_of kinds slots (set hs j g) (dicts_in (set hs j g) vs es)) (state-failed g change touch region labels) none tells refusal;
           settles = settles-failed g change fault told tells asked;
+          armed = refl;
           lacks = lacks-failed g change fault told tells asked touch;
         }
     steps-failed fault (Err e) tells asked refusal none touch region labels =
         record {
           state = state-failed g change touch region labels;
           gone = refl;
-          settles = settles-none slots hs j h g at x.here.held change (no-fault fault tells asked);
+          settles = settles-none x.here.armed slots hs j h g at x.here.held change (no-fault fault tells asked);
+          armed = refl;
         }
 
   -- its table is put
@@ -235,7 +237,7 @@ module _ {I : Type 0} {V : I → Type 0} {meaning : (x : I) × V x → Disciplin
     region-opened region same =
         ap (λ (q : Region Label). with_region r q (home_of h).kept s.homes) (best-named (name_of h.labels) g.region region touch.best (sym same))
         ∙ (ap (λ l. with_region r (region_with_labels (name_of l) g.region) (kept_of l) s.homes) (sym labels)
-        ∙ homes-change slots hs j h g at x.here.held change r (region-first meaning x.region))
+        ∙ homes-change x.here.armed slots hs j h g at x.here.held change r (region-first meaning x.region))
 
     gives-opened : (gone : List Gone) (o : Outcome (Grown ℕ)) (t : Stepped) → HasGrown o (layout_in g.region) (dictionary_of new g.cells) → t ≡ dict_opened s (home_of h) d k (done_as (relabel_grown (name_of h.labels)) o) → GivesStep t gone (reply.Opened d) opened_state gone
     gives-opened gone (model.Refused fault) t grown is = absurd grown

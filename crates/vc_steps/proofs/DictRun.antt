@@ -1,5 +1,6 @@
 -- A command on a dictionary, over the regions and dictionaries of a session as they are stored.
-use Rattle.vc_base.proofs.Common.{◌≡◌, ℕ, ◌-◌, true, false, cond, List, [], length, set, IfOk, OnErr, slice_get, Some, None, Ok, Err, Result, position, bytes_eq, sym, refl, ap, ◌∙◌, subst, ⊎_elim, cases_Bool, false≢true, same_Some, IsDistinct, keys_of, Discipline, HasOut, at_number}
+use Rattle.vc_base.proofs.Common.{◌≡◌, ◌⊎◌, ℕ, ◌-◌, true, false, cond, List, [], length, set, IfOk, OnErr, slice_get, Some, None, Ok, Err, Result, position, bytes_eq, sym, refl, ap, ◌∙◌, subst, ⊎_elim, cases_Bool, false≢true, same_Some, IsDistinct, keys_of, Discipline, HasOut, at_number}
+use Rattle.vc_model.specs.Discipline.{Excused}
 use Rattle.indexmap.specs.IndexMap.{set_value_at}
 use Rattle.vc_dict.specs.declared.dict.Dict.{Dict}
 use Rattle.vc_dtdisc.specs.Rules.{Gone, Rules}
@@ -45,11 +46,11 @@ use Rattle.vc_steps.proofs.DictRegion.{best_entry, region-change, touches}
 use Rattle.vc_steps.proofs.DictReplies.{IsOther, other-dict}
 use Rattle.vc_steps.proofs.DictStep.{cut-after, dicts-after, lacks-after, settles-after, step-after}
 use Rattle.vc_steps.proofs.DictsStay.{Entry, Vs}
-use Rattle.vc_steps.proofs.Sessions.{Slots, held-at}
+use Rattle.vc_steps.proofs.Sessions.{held-at}
 use Rattle.vc_steps.proofs.BarredCommands.{free-turn, linked-here}
 use Rattle.vc_steps.proofs.DictThere.{DictIn, its, whole-there}
 use Rattle.vc_steps.proofs.RegionAt.{helds-set, named-set, region-stands, region_at}
-use Rattle.vc_steps.proofs.SessionHere.{SessionHere, helds, state_here, views, parts}
+use Rattle.vc_steps.proofs.SessionHere.{parts}
 
 -- a command runs on a dictionary alone, and turns none that is linked
 pub record RunsAlone (s : State) (d : DictHome) (command : Command) : Type 0 where
@@ -90,8 +91,8 @@ module _ {I : Type 0} {V : I → Type 0} {meaning : (x : I) × V x → Disciplin
   abbrev is : IsDictOf kinds hs e
   is = its x
 
-  is_held : IsHeldFrom slots h
-  is_held = held-at slots hs x.j h at here.held
+  is_held : IsHeldFrom here.armed slots h
+  is_held = held-at here.armed slots hs x.j h at here.held
 
   -- the region's segments are the last that its discipline lent
   pub lent-by : HasOut h.disc (segments_of h.region)
@@ -169,8 +170,8 @@ module _ {I : Type 0} {V : I → Type 0} {meaning : (x : I) × V x → Disciplin
     carry : (P : List Rules → List Held → List Entry → Type 0) → P kinds (set hs x.j g) (set es i n) → P kinds' hs' es'
     carry P p = subst (λ y. P y hs' es') (sym ran.same_kinds) (subst (λ y. P kinds y es') (sym held-is) (subst (P kinds (set hs x.j g)) (sym es-is) p))
 
-    pub session-ran : IsSession slots hs'
-    session-ran = carry (λ ks xs ys. IsSession slots xs) (session-change slots hs x.j h g at here.held change)
+    pub session-ran : IsSession here.armed slots hs'
+    session-ran = carry (λ ks xs ys. IsSession here.armed slots xs) (session-change here.armed slots hs x.j h g at here.held change)
 
     pub named-ran : length here.labels ≡ length (set_value_at here.homes x.j (best_entry place after))
     named-ran = named-set meaning x.region (best_entry place after)
@@ -181,10 +182,10 @@ module _ {I : Type 0} {V : I → Type 0} {meaning : (x : I) × V x → Disciplin
         (dicts-after x index g new change touch refl ran.leaves.kind whole-new)
 
     -- with no fault counted
-    quiet-ran : (disc_in meaning after).faults ≡ (disc_in meaning before).faults → Settles (settled_accounts (accounts slots) hs) (settled_accounts (accounts slots) hs') []
+    quiet-ran : ((disc_in meaning after).faults ≡ (disc_in meaning before).faults) ⊎ Excused (disc_in meaning before) (disc_in meaning after) → Settles here.armed (settled_accounts (accounts slots) hs) (settled_accounts (accounts slots) hs') []
     quiet-ran same =
-        carry (λ ks xs ys. Settles (settled_accounts (accounts slots) hs) (settled_accounts (accounts slots) xs) [])
-        (settles-none slots hs x.j h g at here.held change same)
+        carry (λ ks xs ys. Settles here.armed (settled_accounts (accounts slots) hs) (settled_accounts (accounts slots) xs) [])
+        (settles-none here.armed slots hs x.j h g at here.held change same)
 
     abbrev tags : Seat ℕ
     tags = seat_in meaning rules before entry.dict
@@ -208,9 +209,9 @@ module _ {I : Type 0} {V : I → Type 0} {meaning : (x : I) × V x → Disciplin
     lacks-by : (command : Command) (reply : Reply) → LacksBy tags command reply (disc_in meaning before) (disc_in meaning after) → LacksBy (seat_by is.rules) command reply (disc_in meaning before) (disc_in meaning after)
     lacks-by command reply lacks = subst (λ r. LacksBy (seat_by r) command reply (disc_in meaning before) (disc_in meaning after)) rules-is lacks
 
-    settles-ran : (command : Command) (reply : Reply) → dict_of command ≡ Some name → IsOther reply → LacksBy tags command reply (disc_in meaning before) (disc_in meaning after) → Settles (settled_accounts (accounts slots) hs) (settled_accounts (accounts slots) hs') (refusal_at s command reply)
+    settles-ran : (command : Command) (reply : Reply) → dict_of command ≡ Some name → IsOther reply → LacksBy tags command reply (disc_in meaning before) (disc_in meaning after) → Settles here.armed (settled_accounts (accounts slots) hs) (settled_accounts (accounts slots) hs') (refusal_at s command reply)
     settles-ran command reply works other lacks =
-        carry (λ ks xs ys. Settles (settled_accounts (accounts slots) hs) (settled_accounts (accounts slots) xs) (refusal_at s command reply))
+        carry (λ ks xs ys. Settles here.armed (settled_accounts (accounts slots) hs) (settled_accounts (accounts slots) xs) (refusal_at s command reply))
         (settles-after x index g new change touch refl ran.leaves.kind whole-new command reply works other (lacks-by command reply lacks))
 
     lacks-ran : (command : Command) (reply : Reply) → dict_of command ≡ Some name → IsOther reply → LacksBy tags command reply (disc_in meaning before) (disc_in meaning after) → StepLacksFor s hs hs' command reply
@@ -229,10 +230,10 @@ module _ {I : Type 0} {V : I → Type 0} {meaning : (x : I) × V x → Disciplin
     other-ran command reply old told gives = subst IsOther gives.reply (other-dict tags command (need_shown reply))
 
     abbrev moment_after : Vs → List Gone → Moment
-    moment_after seen gone = record { state = state_of kinds' slots hs' (dicts_in hs' seen es'); regions = hs'; written = None; accounts = settled_accounts (accounts slots) hs'; gone = gone }
+    moment_after seen gone = record { state = state_of kinds' slots hs' (dicts_in hs' seen es'); regions = hs'; armed = here.armed; written = None; accounts = settled_accounts (accounts slots) hs'; gone = gone }
 
     abbrev moment_before : Moment
-    moment_before = record { state = s; regions = hs; written = None; accounts = settled_accounts (accounts slots) hs; gone = here.gone }
+    moment_before = record { state = s; regions = hs; armed = here.armed; written = None; accounts = settled_accounts (accounts slots) hs; gone = here.gone }
 
     views-ran : views_by here.links es' ≡ vs
     views-ran = ap (views_by here.links) es-is ∙ views-changed here.links es i e x.there new
@@ -263,6 +264,7 @@ module _ {I : Type 0} {V : I → Type 0} {meaning : (x : I) × V x → Disciplin
         record {
           gives = step-ran command reply here.gone gone' old told (alone-ran (Ok reply) command old told did) did.gives at_gone is_gone;
           settles = settles-ran command reply did.works plain did.asked;
+          armed = refl;
           lacks = lacks-ran command reply did.works plain did.asked;
         }
     steps-same (Err y) command gone' old told did at_gone is_gone =
@@ -270,6 +272,7 @@ module _ {I : Type 0} {V : I → Type 0} {meaning : (x : I) × V x → Disciplin
           state = cut-ran command did.works did.err.1;
           gone = is_gone ∙ (ap (set here.gone (entry.dict.kind - 1)) did.err.0 ∙ set_same here.gone (entry.dict.kind - 1) old (at_number_some here.gone entry.dict.kind old at_gone).1);
           settles = quiet-ran did.asked.faults;
+          armed = refl;
         }
 
     -- and each views what it did

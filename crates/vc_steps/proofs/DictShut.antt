@@ -22,7 +22,7 @@ use Rattle.vc_steps.proofs.RegionChange.{homes-change, session-change, settled-s
 use Rattle.vc_steps.proofs.DictChange.{IsClear, Touches, clear-others, dicts-kept, dicts-remove, homes-kept}
 use Rattle.vc_steps.proofs.DictByName.{home-at}
 use Rattle.vc_steps.proofs.DictsStay.{Entry, Vs}
-use Rattle.vc_steps.proofs.Sessions.{Slots, held-at}
+use Rattle.vc_steps.proofs.Sessions.{held-at}
 use Rattle.vc_best.specs.Cells.{cells_in, rest_in}
 use Rattle.vc_best.specs.Parts.{disc_in}
 use Rattle.vc_best.specs.declared.best.Best.{Best}
@@ -105,7 +105,7 @@ module _ {I : Type 0} {V : I → Type 0} {meaning : (x : I) × V x → Disciplin
     region-shut =
         ap (λ q. with_region e.1.home q (home_of h).kept (map home_of hs)) region-is
         ∙ (ap (λ l. with_region e.1.home (home_of g).region (kept_of l) (map home_of hs)) (sym labels)
-        ∙ homes-change slots hs x.j h g (region-stands meaning x.region) x.here.held change e.1.home (region-first meaning x.region))
+        ∙ homes-change x.here.armed slots hs x.j h g (region-stands meaning x.region) x.here.held change e.1.home (region-first meaning x.region))
 
     pub state-shut : list_any (is_dict e.0) (take x.i (dicts_in hs vs es)) ≡ false → state_of kinds slots gs (dicts_in gs vs (remove es x.i)) ≡ shut_state (state_here x.here) d
     state-shut none =
@@ -149,7 +149,7 @@ module _ {I : Type 0} {V : I → Type 0} {meaning : (x : I) × V x → Disciplin
 
     change-after : IsChange (let k : Held = record h_before { cells = cells_in o.after } in k) h_after
     change-after =
-        let is_held : IsHeldFrom x.here.slots h_before = held-at x.here.slots (helds x.here) x.j h_before (region-stands meaning x.region) x.here.held in
+        let is_held : IsHeldFrom x.here.armed x.here.slots h_before = held-at x.here.armed x.here.slots (helds x.here) x.j h_before (region-stands meaning x.region) x.here.held in
         region-change meaning x.e.1.home place before o.after x.region.l mine [] o.leaves is_held.lent is_held.names
 
     abbrev hs' : List Held
@@ -168,13 +168,13 @@ module _ {I : Type 0} {V : I → Type 0} {meaning : (x : I) × V x → Disciplin
     pub named-ended : length x.here.labels ≡ length (set_value_at x.here.homes x.j (best_entry place o.after))
     named-ended = named-set meaning x.region (best_entry place o.after)
 
-    pub session-ended : IsSession x.here.slots hs'
-    session-ended = carry (λ ks gs ls ds. IsSession x.here.slots gs) (session-change x.here.slots (helds x.here) x.j h_before h_after (region-stands meaning x.region) x.here.held change-after)
+    pub session-ended : IsSession x.here.armed x.here.slots hs'
+    session-ended = carry (λ ks gs ls ds. IsSession x.here.armed x.here.slots gs) (session-change x.here.armed x.here.slots (helds x.here) x.j h_before h_after (region-stands meaning x.region) x.here.held change-after)
 
     pub settled-ended : settled_accounts (accounts x.here.slots) hs' ≡ settled_accounts (accounts x.here.slots) (helds x.here)
     settled-ended =
         ap (settled_accounts (accounts x.here.slots)) held-is
-        ∙ settled-same x.here.slots (helds x.here) x.j h_before h_after (region-stands meaning x.region) x.here.held change-after (ap (λ (d : Discipline). d.faults) o.disc)
+        ∙ settled-same x.here.armed x.here.slots (helds x.here) x.j h_before h_after (region-stands meaning x.region) x.here.held change-after (ap (λ (d : Discipline). d.faults) o.disc) (ap (λ (d : Discipline). d.exceptions) o.disc)
 
     pub dicts-ended : AreDicts o.kinds' hs' o.es'
     dicts-ended = carry (λ ks gs ls ds. AreDicts ks gs ds) (dicts-shut x h_after change-after touch-after refl o.region)

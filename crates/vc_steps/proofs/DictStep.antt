@@ -1,8 +1,9 @@
 -- What a command on a dictionary does to the state, to its kind and to the settled shelf.
+use Rattle.vc_model.proofs.Keeping.{Rose-earlier}
 use Rattle.vc_base.proofs.Common.{◌≡◌, ℕ, ◌-◌, true, false, ◌⊎◌, List, map, set, slice_get, Some, None, Option, option_map, remove, position, bytes_eq, sym, refl, ap, ◌∙◌, subst, inl, inr, none-some, same_Some, slice_get-map, bytes_eq-Decides, AllByRecursion, keys_of, Blocks, Rose, Discipline, Layout, relabel_layout, at_number, Outcome, done_as}
 use Rattle.vc_model.specs.Outcome as model
 use Rattle.vc_dict.specs.declared.dict.Dict.{Dict}
-use Rattle.vc_dtdisc.specs.Rules.{Gone, Rules}
+use Rattle.vc_dtdisc.specs.Rules.{Gone}
 use Rattle.vc_region.specs.Region.{OfBest, Region, layout_in, region_with_labels}
 use Rattle.vc_region.proofs.Relabel.{layout-relabelled}
 use Rattle.vc_objects.specs.Insert.{Grown, grow}
@@ -39,15 +40,14 @@ use Rattle.vc_steps.proofs.DictChange.{IsClear, Touches, clear-others, dicts-set
 use Rattle.vc_steps.proofs.DictByName.{dict-found, dict-set, first-dict, home-at}
 use Rattle.vc_steps.proofs.DictReplies.{IsOther}
 use Rattle.vc_steps.proofs.DictTold.{tell-each}
-use Rattle.vc_steps.proofs.DictsStay.{Entry, Vs}
+use Rattle.vc_steps.proofs.DictsStay.{Entry}
 use Rattle.vc_commands.proofs.Firsts.{IsFirst}
 use Rattle.vc_steps.proofs.FirstHome.{with_region-first}
 use Rattle.vc_commands.proofs.Names.{name-none}
-use Rattle.vc_steps.proofs.Sessions.{Slots}
 use Rattle.vc_commands.specs.declared.region.home.HomeEntry.{HomeEntry}
 use Rattle.vc_steps.proofs.DictThere.{DictIn, best-there, dict-is, found-held, held-first, its}
 use Rattle.vc_steps.proofs.RegionAt.{region-first, region-named, region-stands, region_at}
-use Rattle.vc_steps.proofs.SessionHere.{helds, state_here, views, parts}
+use Rattle.vc_steps.proofs.SessionHere.{parts}
 
 table-rose : (o : Option ℕ) (old new : Discipline) → LacksTable o old new → Rose old.faults new.faults
 table-rose None old new lacks = absurd lacks
@@ -55,7 +55,7 @@ table-rose (Some slots) old new lacks = lacks.rose
 
 object-rose : (o : Option ℕ) (bytes : List ℕ) (old new : Discipline) → LacksHolder o bytes old new → Rose old.faults new.faults
 object-rose None bytes old new lacks = lacks.rose
-object-rose (Some slots) bytes old new lacks = subst (λ n. Rose n new.faults) lacks.grown.faults lacks.unserved.rose
+object-rose (Some slots) bytes old new lacks = Rose-earlier old.faults lacks.between.faults new.faults lacks.grown.kept.faults lacks.unserved.rose
 
 command-lacks : (s : State) (command : Command) (reply : Reply) (old new : Discipline) (d : List ℕ) → dict_of command ≡ Some d → DictLacks s command reply old new (dict_at s (dict_of command)) → CommandLacks s command reply old new
 command-lacks s (OpenDict x method r k) reply old new d works lacks = absurd (none-some d works)
@@ -176,7 +176,7 @@ module _ {I : Type 0} {V : I → Type 0} {meaning : (x : I) × V x → Disciplin
         let homes : with_region e.1.home region (home_of h).kept s.homes ≡ map home_of gs =
         ap (λ q. with_region e.1.home q (home_of h).kept s.homes) same
         ∙ (ap (λ l. with_region e.1.home (home_of g).region (kept_of l) s.homes) (sym labels)
-        ∙ homes-change slots hs x.j h g at x.here.held change e.1.home first) in
+        ∙ homes-change x.here.armed slots hs x.j h g at x.here.held change e.1.home first) in
         let ds : with_dict e.0 dict s.dicts ≡ dicts_in gs vs (set es x.i entry_new) =
         dict-set hs vs es e.0 x.i e x.there first_dict dict
         ∙ (ap (set (dicts_in hs vs es) x.i) (entry-home dict same_dict) ∙ sym homes-after) in
@@ -201,13 +201,13 @@ module _ {I : Type 0} {V : I → Type 0} {meaning : (x : I) × V x → Disciplin
         }
 
     abbrev Settled : List ℕ → Type 0
-    Settled refusals = Settles (settled_accounts (accounts slots) hs) (settled_accounts (accounts slots) gs) refusals
+    Settled refusals = Settles x.here.armed (settled_accounts (accounts slots) hs) (settled_accounts (accounts slots) gs) refusals
 
     settled-here : (command : Command) → dict_of command ≡ Some e.0 → Rose h.disc.faults g.disc.faults → Settled (place_named s (region_asked s command))
     settled-here command works rose =
         subst (λ o. Settled (place_named s o)) (sym (asked-home command works))
         (subst (λ o. Settled (home_place o)) (sym found-home)
-        (settles-one slots hs x.j h g at x.here.held change rose))
+        (settles-one x.here.armed slots hs x.j h g at x.here.held change rose))
 
     -- a refusal of its discipline counts
     pub settles-after : (command : Command) (reply : Reply) → dict_of command ≡ Some e.0 → IsOther reply → LacksBy tags command reply h.disc g.disc → Settled (refusal_at s command reply)
@@ -216,7 +216,7 @@ module _ {I : Type 0} {V : I → Type 0} {meaning : (x : I) × V x → Disciplin
         settled-here command works (table-rose (table_asked tags command) h.disc g.disc lacks)
     settles-after command (Refused NoSegmentForObject) works other lacks =
         settled-here command works (object-rose (table_asked tags command) (object_asked tags command) h.disc g.disc lacks)
-    settles-after command reply works other lacks = settles-none slots hs x.j h g at x.here.held change lacks.faults
+    settles-after command reply works other lacks = settles-none x.here.armed slots hs x.j h g at x.here.held change lacks.faults
 
     in-held : (command : Command) (reply : Reply) → dict_of command ≡ Some e.0 → LacksBy tags command reply h.disc g.disc → InHeld (held_named hs (region_asked s command)) (held_named gs (region_asked s command)) (CommandLacks s command reply)
     in-held command reply works lacks =

@@ -1,5 +1,5 @@
 -- One kind is told of objects.
-use Rattle.vc_base.proofs.Common.{◌≡◌, ℕ, zero, suc, ◌-◌, ◌<◌, ◌≤◌, List, [], ◌∷◌, map, length, set, slice_get, Some, option_map, sym, ap, ◌∙◌, arith, set-set, length-map, none-some, at_number}
+use Rattle.vc_base.proofs.Common.{◌≡◌, ℕ, ◌-◌, ◌<◌, ◌≤◌, List, [], ◌∷◌, map, length, set, slice_get, Some, option_map, sym, ap, ◌∙◌, arith, set-set, length-map, at_number}
 use Rattle.vc_base.proofs.Lists.{slice_get-set}
 use Rattle.vc_dtdisc.specs.Rules.{Gone, gone_after}
 use Rattle.vc_objects.specs.Leaves.{told_each}

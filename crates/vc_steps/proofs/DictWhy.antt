@@ -1,5 +1,5 @@
 -- The four reasons for which no dictionary is opened before its table is asked for.
-use Rattle.vc_base.proofs.Common.{◌≡◌, ℕ, ◌<◌, ◌≤◌, Bool, true, false, cond, not, ◌&&◌, List, length, nat_le, Some, None, Option, sym, refl, subst, arith, nat_tests, and_parts, false≢true, none-some, same_Some, list_any}
+use Rattle.vc_base.proofs.Common.{◌≡◌, ℕ, ◌<◌, ◌≤◌, Bool, true, false, cond, not, ◌&&◌, List, length, nat_le, Some, None, Option, sym, refl, subst, arith, nat_tests, and_parts, none-some, same_Some, list_any}
 use Rattle.vc_base.specs.declared.dict_method.DictMethod.{DictMethod}
 use Rattle.vc_script.specs.declared.command.Command.TheVariants.{OpenDict}
 use Rattle.vc_script.specs.declared.refusal.Refusal.{Refusal}
@@ -34,7 +34,7 @@ early false true true false x is = absurd (none-some x is)
 pub refused-early : (s : State) (h : Home) (d : List ℕ) (k : ℕ) (x : Refusal) → dict_refused s h d k ≡ Some x → IsEarly x
 refused-early s h d k x is = early (list_any (is_dict d) s.dicts) (is_kind s k) (is_best h.region) (nat_le dict_limit (length s.dicts)) x is
 
-pub settles-early : (s : State) (shelf : List (Option Account)) (d r : List ℕ) (method : DictMethod) (k : ℕ) (x : Refusal) → IsEarly x → Settles shelf shelf (refusal_at s (OpenDict d method r k) (Refused x))
+pub settles-early : {armed : Bool} (s : State) (shelf : List (Option Account)) (d r : List ℕ) (method : DictMethod) (k : ℕ) (x : Refusal) → IsEarly x → Settles armed shelf shelf (refusal_at s (OpenDict d method r k) (Refused x))
 settles-early s shelf d r method k why.DictionaryExists is = settles-same shelf
 settles-early s shelf d r method k why.NoSuchKind is = settles-same shelf
 settles-early s shelf d r method k why.WrongMethod is = settles-same shelf

@@ -1,5 +1,5 @@
 -- Open regions, by their names and as they stand for lists.
-use Rattle.vc_base.proofs.Common.{◌≡◌, ℕ, zero, suc, ◌+◌, ◌<◌, false, cond, ◌||◌, List, [], ◌∷◌, ◌++◌, map, length, get_or, take, set, is_some, slice_get, Some, None, Option, remove, position, bytes_eq, sym, refl, ap, ◌∙◌, subst, ⊎_elim, arith, cases_Bool, position-Some, none-some, same_Some, bytes_eq-Decides, list_any, keys_of, lookup, values_of, Discipline}
+use Rattle.vc_base.proofs.Common.{◌≡◌, ℕ, zero, suc, ◌+◌, ◌<◌, false, cond, ◌||◌, List, [], ◌∷◌, ◌++◌, map, length, get_or, take, set, is_some, slice_get, Some, remove, position, bytes_eq, sym, refl, ap, ◌∙◌, subst, ⊎_elim, arith, cases_Bool, position-Some, none-some, same_Some, list_any, keys_of, lookup, values_of, Discipline}
 use Rattle.indexmap.specs.IndexMap.{set_value_at}
 use Rattle.vc_base.proofs.Texts.{same_bytes, bytes_eq-swapped}
 use Rattle.vc_commands.specs.declared.region.home.HomeEntry.{HomeEntry}
@@ -9,7 +9,6 @@ use Rattle.vc_commands.specs.Held.{home_of}
 use Rattle.vc_commands.specs.RegionRun.{held_of}
 use Rattle.vc_steps.specs.Homes.{held_all}
 use Rattle.vc_commands.proofs.Firsts.{IsFirst, first-unmap}
-use Rattle.vc_commands.proofs.Names.{other_bytes}
 
 -- what stands at an index of a list
 pub slice-or : {A : Type 0} (xs : List A) (i : ℕ) (x : A) → i < length xs → x ≡ get_or xs i x → slice_get xs i ≡ Some x

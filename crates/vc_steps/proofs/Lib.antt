@@ -2,6 +2,7 @@ pub mod BestStays
 pub mod Cells
 pub mod RegionChange
 pub mod CloseLeaves
+pub mod Unarmed
 pub mod CutOff
 pub mod DictChange
 pub mod DictEnd

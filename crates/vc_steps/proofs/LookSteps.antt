@@ -2,7 +2,6 @@
 use Rattle.vc_base.proofs.Common.{◌≡◌, ℕ, true, List, map, length, IfOk, IfErr, ◌==◌, slice_get, Some, Ok, Err, Result, position, bytes_eq, sym, refl, ap, ◌∙◌, subst, arith, length-map, IsDistinct, keys_of, Discipline}
 use Rattle.vc_dtdisc.specs.Rules.{Rules}
 use Rattle.vc_paths.specs.Layers.{Layered}
-use Rattle.vc_paths.specs.Links.{Links}
 use Rattle.vc_paths.specs.Path.{visible_of}
 use Rattle.vc_script.specs.Needs.{need_shown}
 use Rattle.vc_script.specs.declared.command.Command.{Command}
@@ -25,8 +24,7 @@ use Rattle.vc_steps.proofs.RegionSteps.{moment_over}
 use Rattle.vc_steps.proofs.SameRest.{AllRest, rest-all, session-rest, settled-rest}
 use Rattle.vc_steps.proofs.SessionLayers.{layers-here, rules-here}
 use Rattle.vc_steps.proofs.SeenEntry.{entry-named, number-named}
-use Rattle.vc_steps.proofs.SessionHere.{SessionHere, helds, state_here, views, whole_in, parts}
-use Rattle.vc_steps.proofs.Sessions.{Slots}
+use Rattle.vc_steps.proofs.SessionHere.{SessionHere, state_here, views, whole_in, parts}
 use Rattle.vc_views.specs.Promises.{LooksThrough}
 use Rattle.vc_steps.proofs.DictByName.{first-dict}
 use Rattle.vc_steps.specs.Moment.{Moment}
@@ -60,8 +58,8 @@ module _ {I : Type 0} {V : I → Type 0} {E : Type 0} {meaning : (x : I) × V x 
   pub named-looked : length here.labels ≡ length homes'
   named-looked = omega (arith, here.named, length-map here.homes home_rest, length-map homes' home_rest, ap length looked.homes)
 
-  pub session-looked : IsSession slots gs
-  session-looked = session-rest slots hs gs rest here.held
+  pub session-looked : IsSession here.armed slots gs
+  session-looked = session-rest here.armed slots hs gs rest here.held
 
   pub settled-looked : settled_accounts (accounts slots) gs ≡ settled_accounts (accounts slots) hs
   settled-looked = settled-rest (accounts slots) hs gs rest
@@ -122,10 +120,10 @@ module _ {I : Type 0} {V : I → Type 0} {E : Type 0} {meaning : (x : I) × V x 
     linked-looked = linked-by answer ok looked.err
 
     abbrev moment_before : Moment
-    moment_before = moment_over slots es (views here) kinds here.gone hs
+    moment_before = moment_over here.armed slots es (views here) kinds here.gone hs
 
     abbrev moment_after : Moment
-    moment_after = moment_over slots es' (views_by links es') kinds here.gone gs
+    moment_after = moment_over here.armed slots es' (views_by links es') kinds here.gone gs
 
     steps-by : (r : Result Reply E) → IfOk r (λ reply. reply ≡ reply_through all links n command) → IfOk r (λ _. Looked) → IfErr r (λ _. Same) → StepsBy r moment_before moment_after command (λ st. dict_step st name command)
     steps-by (Ok reply) says is err =
@@ -135,8 +133,8 @@ module _ {I : Type 0} {V : I → Type 0} {E : Type 0} {meaning : (x : I) × V x 
         all (layers-here meaning kinds here.homes here.labels es here.named here.dicts) rules alike refl command look
         (ap (λ r. own_place (λ m. m == n) (look_found r command (visible_of all links n))) (sym alike)) (need_shown reply)
         ∙ (ap (λ r. step_with_reply moment_after.state (look_reply r command (visible_of all links n))) alike ∙ ap (step_with_reply moment_after.state) (sym says)))
-        refl settled-looked (subst IsGranted (sym says) shown)
-    steps-by (Err x) says is err = halts-same moment_before moment_after command (state-unlooked kinds slots hs gs rest links es es' here.are (same-seen err)) refl settled-looked
+        refl settled-looked refl (subst IsGranted (sym says) shown)
+    steps-by (Err x) says is err = halts-same moment_before moment_after command (state-unlooked kinds slots hs gs rest links es es' here.are (same-seen err)) refl settled-looked refl
 
     pub steps-looked : StepsBy answer moment_before moment_after command (λ st. dict_step st name command)
     steps-looked = steps-by answer replied ok looked.err

@@ -31,7 +31,7 @@ module _ {I : Type 0} {V : I → Type 0} {D : Type 0} (meaning : (x : I) × V x 
   new-stands = record {
     regions = record {
       named = ap length none.1 ∙ sym (ap length none.0);
-      held = subst (IsSession (slots_on meaning shelf)) (sym none-held) tt;
+      held = subst (IsSession session.is_armed (slots_on meaning shelf)) (sym none-held) tt;
     };
     dicts = subst (AreDicts (map rules kinds) (held_in_session meaning session)) (sym none.2) tt;
     views = subst (λ links. AreLinked links session.dicts.entries) (sym none.3) (subst (AreLinked no_links) (sym none.2) none-linked);

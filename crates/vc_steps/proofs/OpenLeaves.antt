@@ -1,5 +1,5 @@
 -- What opening a region does to the state, and to the settled shelf.
-use Rattle.vc_base.proofs.Common.{◌≡◌, ℕ, ◌-◌, ◌≤◌, true, false, cond, List, [], ◌∷◌, ◌++◌, map, length, take, set, is_some, slice_get, Some, None, Option, option_map, sym, refl, ap, ◌∙◌, subst, append-nil, arith, set-set, map-append, map-set, slice_get-map, AllByRecursion, list_any, Blocks, Discipline, Block, at_number, HaveOwnPlaces}
+use Rattle.vc_base.proofs.Common.{◌≡◌, ℕ, ◌-◌, ◌≤◌, Bool, true, false, cond, List, [], ◌∷◌, ◌++◌, map, length, take, set, is_some, slice_get, Some, None, Option, option_map, sym, refl, ap, ◌∙◌, subst, append-nil, arith, set-set, map-append, map-set, slice_get-map, AllByRecursion, list_any, Blocks, Discipline, Block, at_number, HaveOwnPlaces}
 use Rattle.vc_base.proofs.Lists.{slice_get-set}
 use Rattle.vc_dtdisc.specs.Rules.{Rules}
 use Rattle.vc_region.specs.Cells.{rest_of}
@@ -17,13 +17,16 @@ use Rattle.vc_commands.specs.Home.{Home, Label, is_home}
 use Rattle.slab.specs.Slab.{slab_len}
 use Rattle.vc_commands.specs.declared.region.labels.Labels.{Labels}
 use Rattle.vc_commands.specs.Labels.{AreLabels, kept_of, name_of, tag_of}
-use Rattle.vc_steps.specs.Account.{Account, IsSession, account, accounts, account_after, settled_accounts, state_of}
+use Rattle.vc_steps.specs.Account.{Account, IsSession, account, accounts, account_after, asked_of, settled_accounts, state_of}
 use Rattle.vc_commands.specs.Held.{Held, IsLive, IsNamed, home_of, tag_count}
 use Rattle.vc_steps.specs.State.{not_here as why_not}
 use Rattle.vc_steps.proofs.Cells.{at_number-from_one, at_number_some, at_number-map, set_same}
 use Rattle.vc_commands.proofs.Answers.{front-out}
 use Rattle.vc_commands.proofs.Names.{has-label-any, named_by}
 use Rattle.vc_steps.proofs.Settle.{settled-push, settled-set, settled-keeps, off-apart, Off}
+use Rattle.vc_model.specs.Discipline.{armed_as}
+use Rattle.vc_views.proofs.LinkLists.{map-set_same}
+use Rattle.vc_steps.proofs.CloseLeaves.{elsewhere, session-closed}
 use Rattle.vc_steps.proofs.Sessions.{Slots, apart-session, away-session, session-push}
 
 -- a new region has no labels, no segments and no blocks
@@ -88,7 +91,32 @@ none-named r labels none e =
 abbrev pub fresh : List ℕ → ℕ → Discipline → Region ℕ → Blocks → Labels → Held
 fresh name n d region cells labels = record { name = name; place = n; disc = d; region = region; cells = cells; labels = labels }
 
-module _ (slots : Slots) (hs : List Held) (name : List ℕ) (n : ℕ) (d : Discipline) (m : Method) (region : Region ℕ) (is : region ≡ opened_region m) (cells : Blocks) (labels : Labels) (none : AreNone labels) (at : at_number slots n ≡ Some (Some d)) (session : IsSession slots hs) where
+-- a discipline that was armed so where it stands on the shelf
+module _ (on : Bool) (slots : Slots) (n : ℕ) (d : Discipline) (at : at_number slots n ≡ Some (Some d)) where
+  abbrev pub armed-slots : Slots
+  armed-slots = set slots (n - 1) (Some (armed_as on d))
+
+  there-armed : slice_get slots (n - 1) ≡ Some (Some d)
+  there-armed = (at_number_some slots n (Some d) at).1
+
+  pub at-armed : at_number armed-slots n ≡ Some (Some (armed_as on d))
+  at-armed = at_number-from_one armed-slots n (at_number_some slots n (Some d) at).0 ∙ slice_get-set slots (n - 1) (Some d) (Some (armed_as on d)) there-armed
+
+  -- it has the account that it had, and the shelf tells the same terms
+  pub accounts-armed : accounts armed-slots ≡ accounts slots
+  accounts-armed = map-set_same (option_map account) slots (n - 1) (Some d) (Some (armed_as on d)) there-armed refl
+
+  pub state-armed : (kinds : List Rules) (hs : List Held) (ds : List DictHome) → state_of kinds armed-slots hs ds ≡ state_of kinds slots hs ds
+  state-armed kinds hs ds =
+      ap (λ rs. let s : State = record (state_of kinds slots hs ds) { shelf = rs } in s)
+      (map-set_same (option_map (λ (e : Discipline). e.terms)) slots (n - 1) (Some d) (Some (armed_as on d)) there-armed refl)
+
+  -- the open regions still hold theirs
+  pub session-armed : (armed : Bool) (hs : List Held) → IsSession armed slots hs → IsSession armed armed-slots hs
+  session-armed armed hs session =
+      session-closed armed slots armed-slots n hs (elsewhere slots n (armed_as on d) at) (away-session armed slots n d hs at session) session
+
+module _ (armed : Bool) (slots : Slots) (hs : List Held) (name : List ℕ) (n : ℕ) (d : Discipline) (m : Method) (region : Region ℕ) (is : region ≡ opened_region m) (cells : Blocks) (labels : Labels) (none : AreNone labels) (at : at_number slots n ≡ Some (Some d)) (so : d.exceptions.armed ≡ armed) (session : IsSession armed slots hs) where
   segments : segments_of region ≡ []
   segments = ap (λ r. segments_of r) is ∙ opened-segments m
 
@@ -106,12 +134,13 @@ module _ (slots : Slots) (hs : List Held) (name : List ℕ) (n : ℕ) (d : Disci
       ∙ (ap (λ shelf. step_with_reply (record (state_of kinds slots hs ds) { shelf = shelf; homes = map home_of hs ++ home_of (fresh name n d region cells labels) ∷ [] }) (Opened name)) (sym (map-set (option_map (λ (e : Discipline). e.terms)) slots (n - 1) None))
       ∙ ap (λ homes. step_with_reply (record (state_of kinds slots hs ds) { shelf = map (option_map (λ e. e.terms)) (set slots (n - 1) None); homes = homes }) (Opened name)) (sym (map-append home_of hs (fresh name n d region cells labels ∷ [])))))))
 
-  pub session-open : IsSession (set slots (n - 1) None) (hs ++ fresh name n d region cells labels ∷ [])
+  pub session-open : IsSession armed (set slots (n - 1) None) (hs ++ fresh name n d region cells labels ∷ [])
   session-open =
       let low = (at_number_some slots n (Some d) at).0 in
-      session-push slots (n - 1) (Some d) hs (fresh name n d region cells labels) there session (away-session slots n d hs at session)
+      session-push armed slots (n - 1) (Some d) hs (fresh name n d region cells labels) there session (away-session armed slots n d hs at session)
       (record {
         place = at_number-from_one (set slots (n - 1) None) n low ∙ slice_get-set slots (n - 1) (Some d) None there;
+        armed_so = so;
         lent = (d.out, sym (append-nil d.out) ∙ ap (λ s. d.out ++ s) (sym segments));
         names = none-named region labels none (ap (λ r. blocks_of r) is ∙ opened-blocks m);
       })
@@ -119,10 +148,10 @@ module _ (slots : Slots) (hs : List Held) (name : List ℕ) (n : ℕ) (d : Disci
   pub settled-open : settled_accounts (accounts (set slots (n - 1) None)) (hs ++ fresh name n d region cells labels ∷ []) ≡ settled_accounts (accounts slots) hs
   settled-open =
       let low = (at_number_some slots n (Some d) at).0 in
-      let off : Off (n - 1) hs = off-apart n hs low (away-session slots n d hs at session) (apart-session slots hs session) in
+      let off : Off (n - 1) hs = off-apart n hs low (away-session armed slots n d hs at session) (apart-session armed slots hs session) in
       let all : take (length d.out - length (segments_of region)) d.out ≡ d.out =
       front-out d.out (segments_of region) d.out (sym (append-nil d.out) ∙ ap (λ s. d.out ++ s) (sym segments)) in
-      let account_is : account_after (fresh name n d region cells labels) ≡ account d = ap (λ out. let a : Account = record { out = out; terms = d.terms; faults = d.faults } in a) all in
+      let account_is : account_after (fresh name n d region cells labels) ≡ account d = ap (λ out. let a : Account = record { out = out; terms = d.terms; faults = d.faults; asked = asked_of d } in a) all in
       let kept : slice_get (settled_accounts (accounts slots) hs) (n - 1) ≡ Some (Some (account_after (fresh name n d region cells labels))) =
       settled-keeps (accounts slots) (n - 1) hs off ∙ (slice_get-map (option_map account) slots (n - 1) ∙ (ap (option_map (option_map account)) there ∙ ap (λ a. Some (Some a)) (sym account_is))) in
       settled-push (accounts (set slots (n - 1) None)) hs (fresh name n d region cells labels)

@@ -1,5 +1,6 @@
 -- The opening of a dictionary in a session as it is stored.
-use Rattle.vc_base.proofs.Common.{◌≡◌, ℕ, ◌<◌, List, [], ◌∷◌, ◌++◌, length, set, slice_get, Some, None, Result, sym, refl, ap, ◌∙◌, subst, Discipline, HasOut, Layout, at_number}
+use Rattle.vc_base.proofs.Common.{◌≡◌, ◌⊎◌, ℕ, ◌<◌, List, [], ◌∷◌, ◌++◌, length, set, slice_get, Some, None, Result, sym, refl, ap, ◌∙◌, subst, Discipline, HasOut, Layout, at_number}
+use Rattle.vc_model.specs.Discipline.{Excused}
 use Rattle.indexmap.specs.IndexMap.{set_value_at}
 use Rattle.vc_dict.specs.declared.dict.Dict.{Dict}
 use Rattle.vc_dtdisc.specs.Rules.{Rules}
@@ -36,11 +37,11 @@ use Rattle.vc_steps.proofs.RegionChange.{session-change, settles-none}
 use Rattle.vc_steps.proofs.DictChange.{Touches}
 use Rattle.vc_steps.proofs.DictOpens.{OpensIn, dicts-failed, dicts-opened, open-done, steps-failed}
 use Rattle.vc_steps.proofs.DictRegion.{best_entry, region-change, touches}
-use Rattle.vc_steps.proofs.DictsStay.{Entry, Vs}
+use Rattle.vc_steps.proofs.DictsStay.{Entry}
 use Rattle.vc_steps.proofs.RegionAt.{helds-set, named-set, region-stands, region_at}
 use Rattle.vc_steps.proofs.RegionSteps.{moment_over}
-use Rattle.vc_steps.proofs.SessionHere.{SessionHere, helds, state_here, views, parts}
-use Rattle.vc_steps.proofs.Sessions.{Slots, held-at}
+use Rattle.vc_steps.proofs.SessionHere.{state_here, parts}
+use Rattle.vc_steps.proofs.Sessions.{held-at}
 
 module _ {I : Type 0} {V : I → Type 0} {meaning : (x : I) × V x → Discipline} (place : ℕ) (before : Best I V) (x : OpensIn meaning (best_entry place before)) (allowed : dict_refused (state_here x.here) (home_of (region_at meaning x.region)) x.d x.k ≡ None) where
   open x use {here}
@@ -52,8 +53,8 @@ module _ {I : Type 0} {V : I → Type 0} {meaning : (x : I) × V x → Disciplin
   at : slice_get hs x.j ≡ Some h
   at = region-stands meaning x.region
 
-  is_held : IsHeldFrom slots h
-  is_held = held-at slots hs x.j h at here.held
+  is_held : IsHeldFrom here.armed slots h
+  is_held = held-at here.armed slots hs x.j h at here.held
 
   -- the region's segments are the last that its discipline lent
   pub lent-by : HasOut h.disc (segments_of h.region)
@@ -63,7 +64,7 @@ module _ {I : Type 0} {V : I → Type 0} {meaning : (x : I) × V x → Disciplin
   command = OpenDict x.d x.method x.r x.k
 
   abbrev moment_before : Moment
-  moment_before = moment_over slots es vs kinds here.gone hs
+  moment_before = moment_over here.armed slots es vs kinds here.gone hs
 
   -- what the call left of the region
   module _ (after : Best I V) (mine : List ℕ) (leaves : Leaves meaning before after [] mine) where
@@ -85,12 +86,12 @@ module _ {I : Type 0} {V : I → Type 0} {meaning : (x : I) × V x → Disciplin
     pub named-opened : length here.labels ≡ length (set_value_at here.homes x.j (best_entry place after))
     named-opened = named-set meaning x.region (best_entry place after)
 
-    pub session-opened : IsSession slots hs'
-    session-opened = subst (IsSession slots) (sym held-is) (session-change slots hs x.j h g at here.held change)
+    pub session-opened : IsSession here.armed slots hs'
+    session-opened = subst (IsSession here.armed slots) (sym held-is) (session-change here.armed slots hs x.j h g at here.held change)
 
   -- with these dictionaries
   abbrev moment_with : List Held → List Entry → Moment
-  moment_with gs es' = moment_over slots es' (views_by here.links es') kinds here.gone gs
+  moment_with gs es' = moment_over here.armed slots es' (views_by here.links es') kinds here.gone gs
 
   -- no block was put for its table
   module _ (after : Best I V) (stays : StaysAll meaning before after) (es' : List Entry) (kept : es' ≡ es) where
@@ -124,7 +125,7 @@ module _ {I : Type 0} {V : I → Type 0} {meaning : (x : I) × V x → Disciplin
     pub dict : Dict
     pub after : Best I V
     pub opens : Opens meaning rules x.method x.k before dict after
-    pub asked : (disc_in meaning after).faults ≡ (disc_in meaning before).faults
+    pub asked : ((disc_in meaning after).faults ≡ (disc_in meaning before).faults) ⊎ Excused (disc_in meaning before) (disc_in meaning after)
     pub n : ℕ
     pub free : entry_numbered n es ≡ None
     pub below : n < numbers
@@ -167,7 +168,8 @@ module _ {I : Type 0} {V : I → Type 0} {meaning : (x : I) × V x → Disciplin
       gives =
           subst (λ q. GivesStep (open_dict_step (state_here here) x.d x.method x.r x.k NoNeed) here.gone (Opened x.d) q here.gone) (sym state-is)
           (open-done x one o.dict o.n no-view change-one touch-one refl o.opens.numbered o.rules o.by o.opens.whole here.gone allowed o.opens.grown);
-      settles = subst (λ ks. Settles (settled_accounts (accounts slots) hs) (settled_accounts (accounts slots) ks) []) (sym held-one) (settles-none slots hs x.j h one at here.held change-one o.asked);
+      settles = subst (λ ks. Settles here.armed (settled_accounts (accounts slots) hs) (settled_accounts (accounts slots) ks) []) (sym held-one) (settles-none here.armed slots hs x.j h one at here.held change-one o.asked);
+      armed = refl;
       lacks = tt;
     }
 

@@ -28,8 +28,8 @@ granted-none s command (Refused why.NoSegmentForTable) granted = absurd granted
 granted-none s command (Refused why.NoSegmentForObject) granted = absurd granted
 granted-none s command reply granted = refl
 
-pub granted-settles : (s : State) (before after : List (Option Account)) (command : Command) (reply : Reply) → IsGranted reply → Settles before after [] → Settles before after (refusal_at s command reply)
-granted-settles s before after command reply granted settles = subst (Settles before after) (sym (granted-none s command reply granted)) settles
+pub granted-settles : {armed : Bool} (s : State) (before after : List (Option Account)) (command : Command) (reply : Reply) → IsGranted reply → Settles armed before after [] → Settles armed before after (refusal_at s command reply)
+granted-settles {armed = armed} s before after command reply granted settles = subst (Settles armed before after) (sym (granted-none s command reply granted)) settles
 
 granted-opened : (s : State) (r : List ℕ) (n : ℕ) (region : Region Label) (place : Option (Option Terms)) → IsGranted (opened_over s r n region place).reply
 granted-opened s r n region None = tt

@@ -1,5 +1,7 @@
 -- What a change of one region's lists does to the state, and to the settled shelf.
-use Rattle.vc_base.proofs.Common.{◌≡◌, ℕ, ◌-◌, true, false, cond, ◌≢◌, List, [], ◌∷◌, map, set, ◌==◌, slice_get, Some, None, count_by, option_map, bytes_eq, sym, refl, ap, ◌∙◌, subst, arith, nat_tests, map-set, none-some, same_Some, slice_get-map, Blocks, Rose, Terms, at_number}
+use Rattle.vc_base.proofs.Common.{◌≡◌, ℕ, ◌-◌, Bool, true, false, cond, ◌≢◌, List, [], ◌∷◌, map, set, ◌==◌, slice_get, Some, None, count_by, option_map, bytes_eq, sym, refl, ap, ◌∙◌, subst, arith, nat_tests, map-set, none-some, same_Some, slice_get-map, Blocks, Rose, Terms, at_number, ◌⊎◌}
+use Rattle.vc_model.specs.Discipline.{Exceptions, Excused}
+use Rattle.vc_model.proofs.Keeping.{unless-unarmed}
 use Rattle.vc_script.specs.declared.command.Command.{Command}
 use Rattle.vc_script.specs.declared.command.Command.TheVariants.{ClearRegion, OpenDict}
 use Rattle.vc_script.specs.declared.reply.Reply.{Reply}
@@ -19,7 +21,7 @@ use Rattle.vc_commands.specs.RegionCommands.{in_region}
 use Rattle.vc_steps.specs.Refusals.{refusal_at, place_named, home_place}
 use Rattle.vc_steps.specs.Told.{tell}
 use Rattle.vc_commands.proofs.Firsts.{IsFirst, first-unmap}
-use Rattle.vc_steps.specs.Account.{Account, CountsFaults, Lacks, held_named, IsHeldFrom, IsSession, Settles, account, accounts, account_after, settled_accounts, state_of, without_faults}
+use Rattle.vc_steps.specs.Account.{Account, CountsFaults, Lacks, held_named, IsHeldFrom, IsSession, Settles, account, accounts, asked_of, account_after, settled_accounts, state_of, without_faults}
 use Rattle.vc_commands.specs.Held.{Held, LacksSegment, IsChange, home_of}
 use Rattle.vc_views.proofs.LinkLists.{map-set_same}
 use Rattle.vc_steps.proofs.Cells.{at_number-from_one, at_number_some, set_same}
@@ -27,7 +29,7 @@ use Rattle.vc_commands.proofs.Firsts.{find-first, find-set}
 use Rattle.vc_steps.proofs.FirstHome.{with_region-first}
 use Rattle.vc_steps.proofs.Settle.{settled-change, settled-at}
 use Rattle.vc_commands.proofs.Grants.{IsPlain}
-use Rattle.vc_steps.proofs.SettledShelf.{OnlyAt, counts-equal, counts-one, settles-set}
+use Rattle.vc_steps.proofs.SettledShelf.{OnlyAt, counts-granted, counts-one, settles-set}
 use Rattle.vc_steps.proofs.Sessions.{Slots, apart-session, held-at, session-set}
 
 one_here : (p : ℕ) → count_by (λ q. q == p) (p ∷ []) ≡ 1
@@ -86,57 +88,61 @@ step-busy s gone line command r x h found is busy =
     gives-same (step_of s line command NoNeed (Some r)) gone (Refused Busy) s
     (ap (region_step s r line command NoNeed) found ∙ cleared-busy s r x command (step_with_change s r (in_region h line command NoNeed)) is busy)
 
+abbrev asked_by : Exceptions → ℕ × ℕ
+asked_by e = (e.told, e.yes)
+
 -- whatever the cells were before the change
-module _ (slots : Slots) (hs : List Held) (i : ℕ) (h g : Held) (at : slice_get hs i ≡ Some h) (session : IsSession slots hs) {cells : Blocks} (change : IsChange (record h { cells = cells }) g) where
-  held : IsHeldFrom slots h
-  held = held-at slots hs i h at session
+module _ (armed : Bool) (slots : Slots) (hs : List Held) (i : ℕ) (h g : Held) (at : slice_get hs i ≡ Some h) (session : IsSession armed slots hs) {cells : Blocks} (change : IsChange (record h { cells = cells }) g) where
+  held : IsHeldFrom armed slots h
+  held = held-at armed slots hs i h at session
 
-  pub session-change : IsSession slots (set hs i g)
+  pub session-change : IsSession armed slots (set hs i g)
   session-change =
-      session-set slots hs i h g at change.place
-      (record { place = ap (at_number slots) change.place ∙ held.place; lent = change.lent; names = change.names }) session
+      session-set armed slots hs i h g at change.place
+      (record { place = ap (at_number slots) change.place ∙ held.place; armed_so = change.kept.armed ∙ held.armed_so; lent = change.lent; names = change.names }) session
 
-  pub settles-change : (n : ℕ) (refusals : List ℕ) → CountsFaults n h.disc.faults g.disc.faults → OnlyAt h.place n refusals → Settles (settled_accounts (accounts slots) hs) (settled_accounts (accounts slots) (set hs i g)) refusals
+  pub settles-change : (n : ℕ) (refusals : List ℕ) → CountsFaults armed n h.disc.faults g.disc.faults → OnlyAt h.place n refusals → Settles armed (settled_accounts (accounts slots) hs) (settled_accounts (accounts slots) (set hs i g)) refusals
   settles-change n refusals rose only =
       let found = at_number_some slots h.place None held.place in
       let there : slice_get (accounts slots) (h.place - 1) ≡ Some None = slice_get-map (option_map account) slots (h.place - 1) ∙ ap (option_map (option_map account)) found.1 in
       let has : at_number (settled_accounts (accounts slots) hs) h.place ≡ Some (Some (account_after h)) =
-      at_number-from_one (settled_accounts (accounts slots) hs) h.place found.0 ∙ settled-at (accounts slots) hs i h None at there (apart-session slots hs session) in
+      at_number-from_one (settled_accounts (accounts slots) hs) h.place found.0 ∙ settled-at (accounts slots) hs i h None at there (apart-session armed slots hs session) in
       let same : without_faults (account_after g) ≡ without_faults (account_after h) =
       ap (λ o. let p : List (ℕ × ℕ) × Terms = (o, g.disc.terms) in p) change.out ∙ ap (λ r. let p : List (ℕ × ℕ) × Terms = ((account_after h).out, r) in p) change.kept.terms in
       let after : settled_accounts (accounts slots) (set hs i g) ≡ set (settled_accounts (accounts slots) hs) (h.place - 1) (Some (account_after g)) =
-      settled-change (accounts slots) hs i h g at change.place (apart-session slots hs session)
+      settled-change (accounts slots) hs i h g at change.place (apart-session armed slots hs session)
       ∙ ap (λ p. set (settled_accounts (accounts slots) hs) (p - 1) (Some (account_after g))) change.place in
-      subst (λ s. Settles (settled_accounts (accounts slots) hs) s refusals) (sym after)
-      (settles-set (settled_accounts (accounts slots) hs) h.place n (account_after h) (account_after g) refusals has same rose only)
+      subst (λ s. Settles armed (settled_accounts (accounts slots) hs) s refusals) (sym after)
+      (settles-set (settled_accounts (accounts slots) hs) h.place n (account_after h) (account_after g) refusals has same (λ off. ap asked_by (change.kept.unarmed (held.armed_so ∙ off))) rose only)
 
-  -- where no fault was counted
-  pub settles-none : g.disc.faults ≡ h.disc.faults → Settles (settled_accounts (accounts slots) hs) (settled_accounts (accounts slots) (set hs i g)) []
-  settles-none same = settles-change 0 [] (counts-equal h.disc.faults g.disc.faults same) (no_refusal h.place)
+  -- where all was granted, and no fault was counted if the discipline isn't armed
+  pub settles-none : (g.disc.faults ≡ h.disc.faults) ⊎ Excused h.disc g.disc → Settles armed (settled_accounts (accounts slots) hs) (settled_accounts (accounts slots) (set hs i g)) []
+  settles-none same = settles-change 0 [] (counts-granted h.disc.faults g.disc.faults change.kept.faults (λ off. unless-unarmed h.disc g.disc (held.armed_so ∙ off) same)) (no_refusal h.place)
 
   -- and where one was for a refusal
-  pub settles-one : Rose h.disc.faults g.disc.faults → Settles (settled_accounts (accounts slots) hs) (settled_accounts (accounts slots) (set hs i g)) (h.place ∷ [])
+  pub settles-one : Rose h.disc.faults g.disc.faults → Settles armed (settled_accounts (accounts slots) hs) (settled_accounts (accounts slots) (set hs i g)) (h.place ∷ [])
   settles-one rose = settles-change 1 (h.place ∷ []) (counts-one h.disc.faults g.disc.faults change.kept.faults rose) (one_refusal h.place)
 
-  pub settles-reply : (kinds : List Rules) (ds : List DictHome) (r : List ℕ) (command : Command) (reply : Reply) → region_asked (state_of kinds slots hs ds) command ≡ Some r → home_named r (state_of kinds slots hs ds).homes ≡ Some (home_of h) → (reply ≡ Refused NoSegment → Rose h.disc.faults g.disc.faults) → (reply ≢ Refused NoSegment → g.disc.faults ≡ h.disc.faults) → IsPlain reply → Settles (settled_accounts (accounts slots) hs) (settled_accounts (accounts slots) (set hs i g)) (refusal_at (state_of kinds slots hs ds) command reply)
+  pub settles-reply : (kinds : List Rules) (ds : List DictHome) (r : List ℕ) (command : Command) (reply : Reply) → region_asked (state_of kinds slots hs ds) command ≡ Some r → home_named r (state_of kinds slots hs ds).homes ≡ Some (home_of h) → (reply ≡ Refused NoSegment → Rose h.disc.faults g.disc.faults) → (reply ≢ Refused NoSegment → (g.disc.faults ≡ h.disc.faults) ⊎ Excused h.disc g.disc) → IsPlain reply → Settles armed (settled_accounts (accounts slots) hs) (settled_accounts (accounts slots) (set hs i g)) (refusal_at (state_of kinds slots hs ds) command reply)
   settles-reply kinds ds r command (Refused NoSegment) works found rose none plain =
-      subst (λ o. Settles (settled_accounts (accounts slots) hs) (settled_accounts (accounts slots) (set hs i g)) (place_named (state_of kinds slots hs ds) o)) (sym works)
-      (subst (λ o. Settles (settled_accounts (accounts slots) hs) (settled_accounts (accounts slots) (set hs i g)) (home_place o)) (sym found)
+      subst (λ o. Settles armed (settled_accounts (accounts slots) hs) (settled_accounts (accounts slots) (set hs i g)) (place_named (state_of kinds slots hs ds) o)) (sym works)
+      (subst (λ o. Settles armed (settled_accounts (accounts slots) hs) (settled_accounts (accounts slots) (set hs i g)) (home_place o)) (sym found)
       (settles-one (rose refl)))
   settles-reply kinds ds r command (Refused NoSegmentForTable) works found rose none plain = absurd plain
   settles-reply kinds ds r command (Refused NoSegmentForObject) works found rose none plain = absurd plain
   settles-reply kinds ds r command reply works found rose none plain = settles-none (none (λ e. cc))
 
-  -- where its discipline has no more faults, the settled shelf is the same
-  pub settled-same : g.disc.faults ≡ h.disc.faults → settled_accounts (accounts slots) (set hs i g) ≡ settled_accounts (accounts slots) hs
-  settled-same faults =
-      let apart = apart-session slots hs session in
+  -- where its discipline has no more faults and no more exceptions, the settled shelf is the same
+  pub settled-same : g.disc.faults ≡ h.disc.faults → g.disc.exceptions ≡ h.disc.exceptions → settled_accounts (accounts slots) (set hs i g) ≡ settled_accounts (accounts slots) hs
+  settled-same faults exceptions =
+      let apart = apart-session armed slots hs session in
       let found = at_number_some slots h.place None held.place in
       let there : slice_get (accounts slots) (h.place - 1) ≡ Some None = slice_get-map (option_map account) slots (h.place - 1) ∙ ap (option_map (option_map account)) found.1 in
       let same : account_after g ≡ account_after h =
-      ap (λ o. let a : Account = record { out = o; terms = g.disc.terms; faults = g.disc.faults } in a) change.out
-      ∙ (ap (λ r. let a : Account = record { out = (account_after h).out; terms = r; faults = g.disc.faults } in a) change.kept.terms
-      ∙ ap (λ f. let a : Account = record { out = (account_after h).out; terms = h.disc.terms; faults = f } in a) faults) in
+      ap (λ o. let a : Account = record { out = o; terms = g.disc.terms; faults = g.disc.faults; asked = asked_of g.disc } in a) change.out
+      ∙ (ap (λ r. let a : Account = record { out = (account_after h).out; terms = r; faults = g.disc.faults; asked = asked_of g.disc } in a) change.kept.terms
+      ∙ (ap (λ f. let a : Account = record { out = (account_after h).out; terms = h.disc.terms; faults = f; asked = asked_of g.disc } in a) faults
+      ∙ ap (λ e. let a : Account = record { out = (account_after h).out; terms = h.disc.terms; faults = h.disc.faults; asked = asked_by e } in a) exceptions)) in
       settled-change (accounts slots) hs i h g at change.place apart
       ∙ (ap (λ p. set (settled_accounts (accounts slots) hs) (p - 1) (Some (account_after g))) change.place
       ∙ (ap (λ a. set (settled_accounts (accounts slots) hs) (h.place - 1) (Some a)) same

@@ -1,5 +1,6 @@
 -- A command in a region, over the regions and dictionaries of a session.
-use Rattle.vc_base.proofs.Common.{◌≡◌, ℕ, false, ◌≢◌, List, map, set, IfOk, OnErr, slice_get, Some, None, Ok, Err, Result, sym, refl, ap, ◌∙◌, subst, AllByRecursion}
+use Rattle.vc_base.proofs.Common.{◌≡◌, Bool, ◌⊎◌, ℕ, false, ◌≢◌, List, map, set, IfOk, OnErr, slice_get, Some, None, Ok, Err, Result, sym, refl, ap, ◌∙◌, subst, AllByRecursion}
+use Rattle.vc_model.specs.Discipline.{Excused}
 use Rattle.vc_dtdisc.specs.Rules.{Gone, Rules}
 use Rattle.vc_script.specs.Needs.{Need, need_shown}
 use Rattle.vc_script.specs.declared.command.Command.{Command}
@@ -29,11 +30,12 @@ use Rattle.vc_steps.proofs.InRegion.{lacks-plain, run-best, run-stays}
 use Rattle.vc_steps.proofs.OnShelf.{error-at, ok-at}
 use Rattle.vc_steps.proofs.Sessions.{Slots}
 
-abbrev pub moment_over : Slots → List Entry → Vs → List Rules → List Gone → List Held → Moment
-moment_over slots es vs kinds gone hs =
+abbrev pub moment_over : Bool → Slots → List Entry → Vs → List Rules → List Gone → List Held → Moment
+moment_over armed slots es vs kinds gone hs =
     record {
       state = state_of kinds slots hs (dicts_in hs vs es);
       regions = hs;
+      armed = armed;
       written = None;
       accounts = settled_accounts (accounts slots) hs;
       gone = gone;
@@ -49,7 +51,7 @@ by-answer : {E : Type 0} (answer : Result Reply E) (now next : Moment) (command 
 by-answer (Ok reply) now next command given ok err s is = subst (λ f. Steps now next command (f (need_shown reply)) reply) (sym is) (ok reply refl)
 by-answer (Err e) now next command given ok err s is = err e refl
 
-module _ (slots : Slots) (hs : List Held) (es : List Entry) (vs : Vs) (i : ℕ) (h g : Held) (at : slice_get hs i ≡ Some h) (session : IsSession slots hs) (line : ℕ) (command : Command) (change : IsChange (left_by command h) g) (r : List ℕ) (first : IsFirst (is_home r) (map home_of hs) i) (dict : dict_of command ≡ None) (works : region_of_command command ≡ Some r) (free : (x : List ℕ) → command ≡ ClearRegion x → lies_in r es ≡ false) {E : Type 0} (answer : Result Reply E) (gives : IfOk answer (λ reply. GivesRegion (in_region (home_of h) line command (need_shown reply)) ((home_of g).region, (home_of g).kept) reply)) (err : OnErr answer ((let p : Region Label × FreedNames = ((home_of g).region, (home_of g).kept) in p) ≡ ((home_of h).region, (home_of h).kept))) (unserved : answer ≡ Ok (Refused NoSegment) → LacksSegment h g (block_asked command)) (faults : answer ≢ Ok (Refused NoSegment) → g.disc.faults ≡ h.disc.faults) where
+module _ (armed : Bool) (slots : Slots) (hs : List Held) (es : List Entry) (vs : Vs) (i : ℕ) (h g : Held) (at : slice_get hs i ≡ Some h) (session : IsSession armed slots hs) (line : ℕ) (command : Command) (change : IsChange (left_by command h) g) (r : List ℕ) (first : IsFirst (is_home r) (map home_of hs) i) (dict : dict_of command ≡ None) (works : region_of_command command ≡ Some r) (free : (x : List ℕ) → command ≡ ClearRegion x → lies_in r es ≡ false) {E : Type 0} (answer : Result Reply E) (gives : IfOk answer (λ reply. GivesRegion (in_region (home_of h) line command (need_shown reply)) ((home_of g).region, (home_of g).kept) reply)) (err : OnErr answer ((let p : Region Label × FreedNames = ((home_of g).region, (home_of g).kept) in p) ≡ ((home_of h).region, (home_of h).kept))) (unserved : answer ≡ Ok (Refused NoSegment) → LacksSegment h g (block_asked command)) (faults : answer ≢ Ok (Refused NoSegment) → (g.disc.faults ≡ h.disc.faults) ⊎ Excused h.disc g.disc) where
   abbrev gs : List Held
   gs = set hs i g
 
@@ -69,39 +71,41 @@ module _ (slots : Slots) (hs : List Held) (es : List Entry) (vs : Vs) (i : ℕ) 
     step-lacks : (reply : Reply) → answer ≡ Ok reply → reply ≡ Refused NoSegment → StepLacks hs gs command
     step-lacks reply is same =
         subst (λ o. Lacks (held_named hs o) (held_named gs o) (block_asked command)) (sym works)
-        (lacks-change slots hs i h g at session change r (block_asked command) first (unserved (is ∙ ap (λ q. Ok q) same)))
+        (lacks-change armed slots hs i h g at session change r (block_asked command) first (unserved (is ∙ ap (λ q. Ok q) same)))
 
-    step-ok : (reply : Reply) → answer ≡ Ok reply → Steps (moment_over slots es vs kinds gone hs) (moment_over slots es vs kinds gone gs) command (step_of s line command (need_shown reply) (Some r)) reply
+    step-ok : (reply : Reply) → answer ≡ Ok reply → Steps (moment_over armed slots es vs kinds gone hs) (moment_over armed slots es vs kinds gone gs) command (step_of s line command (need_shown reply) (Some r)) reply
     step-ok reply is =
         let run = ok-at answer reply (λ q. GivesRegion (in_region (home_of h) line command (need_shown q)) ((home_of g).region, (home_of g).kept) q) is gives in
         let plain = subst IsPlain run.replied (plain-region (home_of h) line command (need_shown reply)) in
         record {
           gives = subst (λ ds. GivesStep (step_of s line command (need_shown reply) (Some r)) gone reply (state_of kinds slots gs ds) gone) (sym dicts-same)
-              (step-change slots hs i h g at session change kinds (dicts_in hs vs es) gone r line command reply first (λ x e. busy-lies hs vs es r ∙ free x e) run);
+              (step-change armed slots hs i h g at session change kinds (dicts_in hs vs es) gone r line command reply first (λ x e. busy-lies hs vs es r ∙ free x e) run);
           settles =
-              settles-reply slots hs i h g at session change kinds (dicts_in hs vs es) r command reply
-              (asked-region s command r dict works) (found-change slots hs i h g at session change r first)
+              settles-reply armed slots hs i h g at session change kinds (dicts_in hs vs es) r command reply
+              (asked-region s command r dict works) (found-change armed slots hs i h g at session change r first)
               (λ e. (unserved (is ∙ ap (λ q. Ok q) e)).rose) (λ other. faults (λ e. other (same_Ok reply (Refused NoSegment) (sym is ∙ e)))) plain;
+          armed = refl;
           lacks = lacks-plain s hs gs command reply plain (step-lacks reply is);
         }
 
-    step-err : (e : E) → answer ≡ Err e → Halts (moment_over slots es vs kinds gone hs) (moment_over slots es vs kinds gone gs) command
+    step-err : (e : E) → answer ≡ Err e → Halts (moment_over armed slots es vs kinds gone hs) (moment_over armed slots es vs kinds gone gs) command
     step-err e is =
         record {
           state = cut-same s command (state_of kinds slots gs (dicts_in gs vs es))
               (ap (λ ds. state_of kinds slots gs ds) dicts-same
-              ∙ state-same slots hs i h g at session change kinds (dicts_in hs vs es) (error-at answer e _ is err));
+              ∙ state-same armed slots hs i h g at session change kinds (dicts_in hs vs es) (error-at answer e _ is err));
           gone = refl;
-          settles = settles-none slots hs i h g at session change (faults (λ o. ok-err (Refused NoSegment) e (sym o ∙ is)));
+          settles = settles-none armed slots hs i h g at session change (faults (λ o. ok-err (Refused NoSegment) e (sym o ∙ is)));
+          armed = refl;
         }
 
     -- the step by what the region answered
-    steps-region : StepsBy answer (moment_over slots es vs kinds gone hs) (moment_over slots es vs kinds gone gs) command (λ st need. step_of st line command need (Some r))
+    steps-region : StepsBy answer (moment_over armed slots es vs kinds gone hs) (moment_over armed slots es vs kinds gone gs) command (λ st need. step_of st line command need (Some r))
     steps-region =
-        by-answer answer (moment_over slots es vs kinds gone hs) (moment_over slots es vs kinds gone gs) command (λ need. step_of s line command need (Some r)) step-ok step-err
+        by-answer answer (moment_over armed slots es vs kinds gone hs) (moment_over armed slots es vs kinds gone gs) command (λ need. step_of s line command need (Some r)) step-ok step-err
         (λ st need. step_of st line command need (Some r)) refl
 
   -- and what the region leaves of the session's dictionaries
-  pub region-ran : ((kinds : List Rules) (gone : List Gone) → AreDicts kinds hs es → StepsBy answer (moment_over slots es vs kinds gone hs) (moment_over slots es vs kinds gone gs) command (λ st need. step_of st line command need (Some r)))
+  pub region-ran : ((kinds : List Rules) (gone : List Gone) → AreDicts kinds hs es → StepsBy answer (moment_over armed slots es vs kinds gone hs) (moment_over armed slots es vs kinds gone gs) command (λ st need. step_of st line command need (Some r)))
       × ((kinds : List Rules) → AreDicts kinds hs es → AreDicts kinds gs es)
   region-ran = (steps-region, region-dicts)

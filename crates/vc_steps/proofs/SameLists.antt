@@ -26,16 +26,21 @@ module _ {I : Type 0} {V : I → Type 0} (meaning : (x : I) × V x → Disciplin
   settled-lists = ap (λ s. settled_accounts (accounts s) (held_all meaning homes' labels')) same_slots ∙ ap (settled_accounts (accounts slots)) held-lists
 
 -- it keeps its regions
-pub keeps-lists : {I : Type 0} {V : I → Type 0} {D : Type 0} {meaning : (x : I) × V x → Discipline} {shelf' : Shelf I V} {session session' : Session D I V} (shelf : Shelf I V) → HoldsRegions meaning shelf session → slots_on meaning shelf' ≡ slots_on meaning shelf
-    → session'.homes.entries ≡ session.homes.entries → session'.labels.items ≡ session.labels.items → session'.dicts.entries ≡ session.dicts.entries → session'.paths ≡ session.paths → session'.is_spent ≡ session.is_spent → KeepsRegions meaning session shelf' session'
-keeps-lists {meaning = meaning} {shelf' = shelf'} {session = session} {session' = session'} shelf is slots homes labels dicts paths spent =
+pub keeps-lists-over : {I : Type 0} {V : I → Type 0} {D : Type 0} {meaning : (x : I) × V x → Discipline} {shelf' : Shelf I V} {session session' : Session D I V} (slots : Slots) → length session.labels.items ≡ length session.homes.entries → IsSession session.is_armed slots (held_in_session meaning session) → slots_on meaning shelf' ≡ slots
+    → session'.homes.entries ≡ session.homes.entries → session'.labels.items ≡ session.labels.items → session'.dicts.entries ≡ session.dicts.entries → session'.paths ≡ session.paths → session'.is_spent ≡ session.is_spent → session'.is_armed ≡ session.is_armed → KeepsRegions meaning session shelf' session'
+keeps-lists-over {meaning = meaning} {shelf' = shelf'} {session = session} {session' = session'} over named is slots homes labels dicts paths spent armed =
     let held : held_in_session meaning session' ≡ held_in_session meaning session = held-lists meaning slots homes labels in
     record {
       regions = record {
-        named = ap length labels ∙ (is.named ∙ sym (ap length homes));
-        held = subst (λ s. IsSession s (held_in_session meaning session')) (sym slots) (subst (IsSession (slots_on meaning shelf)) (sym held) is.held);
+        named = ap length labels ∙ (named ∙ sym (ap length homes));
+        held = subst (λ s. IsSession session'.is_armed s (held_in_session meaning session')) (sym slots) (subst (λ on. IsSession on over (held_in_session meaning session')) (sym armed) (subst (IsSession session.is_armed over) (sym held) is));
       };
       dicts = λ kinds all. subst (λ hs. AreDicts kinds hs session'.dicts.entries) (sym held) (subst (AreDicts kinds (held_in_session meaning session)) (sym dicts) all);
       views = λ are. subst (λ l. AreLinked l session'.dicts.entries) (sym paths) (subst (AreLinked session.paths) (sym dicts) are);
       spent = spent;
+      armed = armed;
     }
+
+pub keeps-lists : {I : Type 0} {V : I → Type 0} {D : Type 0} {meaning : (x : I) × V x → Discipline} {shelf' : Shelf I V} {session session' : Session D I V} (shelf : Shelf I V) → HoldsRegions meaning shelf session → slots_on meaning shelf' ≡ slots_on meaning shelf
+    → session'.homes.entries ≡ session.homes.entries → session'.labels.items ≡ session.labels.items → session'.dicts.entries ≡ session.dicts.entries → session'.paths ≡ session.paths → session'.is_spent ≡ session.is_spent → session'.is_armed ≡ session.is_armed → KeepsRegions meaning session shelf' session'
+keeps-lists {meaning = meaning} shelf is slots homes labels dicts paths spent armed = keeps-lists-over (slots_on meaning shelf) is.named is.held slots homes labels dicts paths spent armed

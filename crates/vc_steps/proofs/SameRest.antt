@@ -1,5 +1,5 @@
 -- What a look through a view path leaves of a session: regions of which only the bytes in cells differ.
-use Rattle.vc_base.proofs.Common.{◌≡◌, ℕ, zero, suc, ◌-◌, ◌≢◌, List, [], ◌∷◌, map, length, set, slice_get, Some, Option, sym, refl, ap, ◌∙◌, subst, ap₂, arith, none-some, same_Some, map-map, AllByRecursion, Discipline}
+use Rattle.vc_base.proofs.Common.{◌≡◌, Bool, ℕ, zero, suc, ◌-◌, ◌≢◌, List, [], ◌∷◌, map, length, set, slice_get, Some, Option, sym, refl, ap, ◌∙◌, subst, ap₂, arith, none-some, same_Some, map-map, AllByRecursion, Discipline}
 use Rattle.vc_base.specs.declared.dict_method.DictMethod.{DictMethod}
 use Rattle.vc_base.proofs.Lists.{head-same, tail-same}
 use Rattle.vc_seg.specs.Boxed.{disc_in_box}
@@ -60,17 +60,17 @@ apart-rest p (h ∷ hs) [] all apart = absurd all
 apart-rest p (h ∷ hs) (g ∷ gs) all apart =
     (subst (λ (k : Held). k.place ≢ p) (sym all.0) apart.0, apart-rest p hs gs all.1 apart.1)
 
-held-rest : (slots : Slots) (h g : Held) → SameRest h g → IsHeldFrom slots h → IsHeldFrom slots g
-held-rest slots h g same is = subst (IsHeldFrom slots) (sym same) (record { place = is.place; lent = is.lent; names = is.names })
+held-rest : (armed : Bool) (slots : Slots) (h g : Held) → SameRest h g → IsHeldFrom armed slots h → IsHeldFrom armed slots g
+held-rest armed slots h g same is = subst (IsHeldFrom armed slots) (sym same) (record { place = is.place; armed_so = is.armed_so; lent = is.lent; names = is.names })
 
-pub session-rest : (slots : Slots) (hs gs : List Held) → AllRest hs gs → IsSession slots hs → IsSession slots gs
-session-rest slots [] [] all is = is
-session-rest slots [] (g ∷ gs) all is = absurd all
-session-rest slots (h ∷ hs) [] all is = absurd all
-session-rest slots (h ∷ hs) (g ∷ gs) all is = (
-  held-rest slots h g all.0 is.0,
+pub session-rest : (armed : Bool) (slots : Slots) (hs gs : List Held) → AllRest hs gs → IsSession armed slots hs → IsSession armed slots gs
+session-rest armed slots [] [] all is = is
+session-rest armed slots [] (g ∷ gs) all is = absurd all
+session-rest armed slots (h ∷ hs) [] all is = absurd all
+session-rest armed slots (h ∷ hs) (g ∷ gs) all is = (
+  held-rest armed slots h g all.0 is.0,
   subst (λ p. AllByRecursion (λ k. k.place ≢ p) gs) (sym (ap (λ (k : Held). k.place) all.0)) (apart-rest h.place hs gs all.1 is.1),
-  session-rest slots hs gs all.1 is.2,
+  session-rest armed slots hs gs all.1 is.2,
 )
 
 -- and what they stand for is the same

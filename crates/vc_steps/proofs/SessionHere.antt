@@ -1,5 +1,5 @@
 -- A session as it is stored, and a dictionary of it.
-use Rattle.vc_base.proofs.Common.{◌≡◌, ℕ, false, List, map, length, is_some, slice_get, Some, option_map, position, bytes_eq, sym, ap, ◌∙◌, none-some, keys_of, lookup, values_of, Discipline}
+use Rattle.vc_base.proofs.Common.{◌≡◌, Bool, ℕ, false, List, map, length, is_some, slice_get, Some, option_map, position, bytes_eq, sym, ap, ◌∙◌, none-some, keys_of, lookup, values_of, Discipline}
 use Rattle.vc_dtdisc.specs.Rules.{Gone, Rules}
 use Rattle.vc_paths.specs.Links.{Links}
 use Rattle.vc_seg.specs.declared.shelf.Shelf.{Shelf}
@@ -27,6 +27,7 @@ use Rattle.vc_steps.proofs.Sessions.{Slots}
 -- a session over regions and dictionaries as they are stored, what its kinds were told of, and what holds of it
 pub record SessionHere {I : Type 0} {V : I → Type 0} (meaning : (x : I) × V x → Discipline) : Type 0 where
   pub kinds : List Rules
+  pub armed : Bool
   pub slots : Slots
   pub homes : List (List ℕ × HomeEntry I V)
   pub labels : List Labels
@@ -34,7 +35,7 @@ pub record SessionHere {I : Type 0} {V : I → Type 0} (meaning : (x : I) × V x
   pub es : List Entry
   pub gone : List Gone
   pub named : length labels ≡ length homes
-  pub held : IsSession slots (held_all meaning homes labels)
+  pub held : IsSession armed slots (held_all meaning homes labels)
   pub dicts : AreDicts kinds (held_all meaning homes labels) es
   pub are : AreLinked links es
 
@@ -43,6 +44,7 @@ abbrev pub session_here : {I : Type 0} {V : I → Type 0} {D : Type 0} (meaning 
     → IsSessionOver meaning rules shelf session kinds → SessionHere meaning
 session_here meaning rules gone shelf session kinds is = record {
   kinds = rules_in rules kinds;
+  armed = session.is_armed;
   slots = slots_on meaning shelf;
   homes = session.homes.entries;
   labels = session.labels.items;

@@ -47,7 +47,7 @@ state_over meaning kinds shelf session =
 -- each open region has its names, and a place of its own, whose discipline it holds
 pub record HoldsRegions {I : Type 0} {V : I → Type 0} {D : Type 0} (meaning : (x : I) × V x → Discipline) (shelf : Shelf I V) (session : Session D I V) : Type 0 where
   pub named : length session.labels.items ≡ length session.homes.entries
-  pub held : IsSession (slots_on meaning shelf) (held_in_session meaning session)
+  pub held : IsSession session.is_armed (slots_on meaning shelf) (held_in_session meaning session)
 
 -- each dictionary is whole in its region, by its kind
 abbrev pub HoldsDicts : {I : Type 0} {V : I → Type 0} {D : Type 0} → ((x : I) × V x → Discipline) → List Rules → Session D I V → Type 0
@@ -69,8 +69,9 @@ pub record KeepsRegions {I : Type 0} {V : I → Type 0} {D : Type 0} (meaning : 
   pub dicts : (kinds : List Rules) → HoldsDicts meaning kinds session → HoldsDicts meaning kinds session'
   -- and the view paths are as they were
   pub views : AreLinked session.paths session.dicts.entries → AreLinked session'.paths session'.dicts.entries
-  -- whether it found no memory stays
+  -- whether it found no memory stays, and whether it arms disciplines
   pub spent : session'.is_spent ≡ session.is_spent
+  pub armed : session'.is_armed ≡ session.is_armed
 
 -- the accounts on the shelf when every open region is closed
 abbrev pub settled_over : {I : Type 0} {V : I → Type 0} {D : Type 0} → ((x : I) × V x → Discipline) → Shelf I V → Session D I V → List (Option Account)

@@ -1,19 +1,20 @@
 -- What a run is at a moment.
-use Rattle.std.specs.Prelude.{ℕ, List, [], Option, None}
+use Rattle.std.specs.Prelude.{ℕ, Bool, false, List, [], Option, None}
 use Rattle.vc_model.specs.Discipline.{Discipline}
 use Rattle.vc_dtdisc.specs.Rules.{Gone, Rules}
 use Rattle.vc_seg.specs.declared.shelf.Shelf.{Shelf}
 use Rattle.vc_steps.specs.declared.session.Session.{Session}
 use Rattle.vc_steps.specs.State.{State}
-use Rattle.vc_steps.specs.Account.{Account, KeepsAccounts}
+use Rattle.vc_steps.specs.Account.{Account}
 use Rattle.vc_commands.specs.Held.{Held}
 use Rattle.vc_steps.specs.Homes.{accounts_on, held_in_session, settled_over, state_on, state_over}
 use Rattle.vc_steps.specs.Told.{ended_told, gone_in, rules_in, tell}
 
--- the state, the open regions with their disciplines, what the replies' sink tells, the accounts of the disciplines once every open region is closed, and what each kind was told of so far
+-- the state, the open regions with their disciplines, whether these are armed, what the replies' sink tells, the accounts of the disciplines once every open region is closed, and what each kind was told of so far
 pub record Moment : Type 0 where
   pub state : State
   pub regions : List Held
+  pub armed : Bool
   pub written : Option (List ℕ)
   pub accounts : List (Option Account)
   pub gone : List Gone
@@ -24,6 +25,7 @@ moment_by meaning kinds gone shelf session =
     record {
       state = state_over meaning kinds shelf session;
       regions = held_in_session meaning session;
+      armed = session.is_armed;
       written = None;
       accounts = settled_over meaning shelf session;
       gone = gone;
@@ -39,6 +41,7 @@ moment_at_rest_by meaning kinds gone shelf =
     record {
       state = state_on meaning kinds shelf;
       regions = [];
+      armed = false;
       written = None;
       accounts = accounts_on meaning shelf;
       gone = gone;
@@ -55,7 +58,3 @@ over_sink m written = record m { written = written }
 -- the same once the kinds are told of what the session has at its end
 abbrev pub moment_at_end : Moment → Moment
 moment_at_end m = record m { gone = tell (ended_told m.state) m.gone }
-
--- each place has its discipline, with the segments out and the terms that it had, and no fault less
-abbrev pub Keeps : Moment → Moment → Type 0
-Keeps before after = KeepsAccounts before.accounts after.accounts

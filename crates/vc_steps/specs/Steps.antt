@@ -1,5 +1,5 @@
 -- What a step promises, from the moment before it to the one after it.
-use Rattle.std.specs.Prelude.{◌≡◌, ℕ, ◌+◌, List, [], None, Result, Ok, Err, IfSome, length, slice_get}
+use Rattle.std.specs.Prelude.{◌≡◌, ℕ, ◌+◌, List, [], None, Result, Ok, Err, false, IfSome, length, slice_get}
 use Rattle.vc_model.specs.Discipline.{Discipline}
 use Rattle.vc_dtdisc.specs.Rules.{Gone, Rules}
 use Rattle.vc_objects.specs.Remove.{bytes_of}
@@ -8,11 +8,11 @@ use Rattle.vc_script.specs.Needs.{Need, need_shown}
 use Rattle.vc_script.specs.declared.command.Command.{Command}
 use Rattle.vc_script.specs.declared.reply.Reply.{Reply}
 use Rattle.vc_seg.specs.declared.shelf.Shelf.{Shelf}
-use Rattle.vc_steps.specs.Account.{KeepsAccounts, Settles}
+use Rattle.vc_steps.specs.Account.{ArmsNone, KeepsAccounts, SameAsked, Settles}
 use Rattle.vc_steps.specs.DictHomes.{dict_home}
 use Rattle.vc_views.specs.Numbers.{views_by}
 use Rattle.vc_steps.specs.Dicts.{shut_state, told_of}
-use Rattle.vc_steps.specs.Homes.{IsSessionOver, held_in_session, settled_over}
+use Rattle.vc_steps.specs.Homes.{IsSessionOver, held_in_session, settled_over, slots_on}
 use Rattle.vc_steps.specs.WantedSegments.{IsCutOff, StepLacksFor}
 use Rattle.vc_steps.specs.Moment.{Moment, moment}
 use Rattle.vc_steps.specs.Refusals.{refusal_at}
@@ -26,8 +26,10 @@ use Rattle.vc_steps.specs.declared.session.Session.{Session}
 pub record Steps (now next : Moment) (command : Command) (given : Stepped) (reply : Reply) : Type 0 where
   -- the reply and the state are those of the definitions, and the kinds were told so
   pub gives : GivesStep given now.gone reply next.state next.gone
-  -- the disciplines are the same, and no fault was counted at any place but for a segment that the reply refuses
-  pub settles : Settles now.accounts next.accounts (refusal_at now.state command reply)
+  -- the disciplines are the same, and no fault was counted at any place but for a segment that the reply refuses, or by an exception of an armed one
+  pub settles : Settles now.armed now.accounts next.accounts (refusal_at now.state command reply)
+  -- disciplines are armed as before
+  pub armed : next.armed ≡ now.armed
   -- the discipline that refused it was asked for what is needed, and its room was below that, where it is told
   pub lacks : StepLacksFor now.state now.regions next.regions command reply
 
@@ -37,8 +39,10 @@ pub record Halts (now next : Moment) (command : Command) : Type 0 where
   pub state : IsCutOff now.state command next.state
   -- the kinds were told of nothing
   pub gone : next.gone ≡ now.gone
-  -- the disciplines are the same, and no fault was counted
-  pub settles : Settles now.accounts next.accounts []
+  -- the disciplines are the same, and no fault was counted but by an exception of an armed one
+  pub settles : Settles now.armed now.accounts next.accounts []
+  -- they are armed as before
+  pub armed : next.armed ≡ now.armed
 
 -- by the answer of a command; the definitions give a step by the state and by the need that the reply shows
 abbrev pub StepsBy : {E : Type 0} → Result Reply E → Moment → Moment → Command → (State → Need → Stepped) → Type 0
@@ -53,6 +57,11 @@ pub record Lasts {I : Type 0} {V : I → Type 0} {D : Type 0} (meaning : (x : I)
   pub keeps_rules : KeepRules rules kinds kinds'
   -- each place has its discipline, with the segments out and the terms that it had, and no fault less
   pub accounts : KeepsAccounts (settled_over meaning shelf session) (settled_over meaning shelf' session')
+  -- it arms disciplines as before, and where it doesn't none was asked for an exception
+  pub armed : session'.is_armed ≡ session.is_armed
+  pub asked : session.is_armed ≡ false → SameAsked (settled_over meaning shelf session) (settled_over meaning shelf' session')
+  -- and what goes back is unarmed
+  pub arms_none : ArmsNone (slots_on meaning shelf) (slots_on meaning shelf')
 
 -- a session was run over a shelf and kinds: that lasts of it, and that was run from the moment before to the one after
 pub record RunsOver {I : Type 0} {V : I → Type 0} {D : Type 0} (meaning : (x : I) × V x → Discipline) (rules : D → Rules) (gone : D → Gone) (shelf : Shelf I V) (session : Session D I V) (kinds : List D) (shelf' : Shelf I V) (session' : Session D I V) (kinds' : List D) (ran : Moment → Moment → Type 0) : Type 0 where

@@ -6,7 +6,7 @@ ghost use Rattle.vc_region.specs.Region.{segments_of};
 ghost use Rattle.vc_seg.specs.Shelf.{place_at};
 ghost use Rattle.vc_region.specs.Cells.{rest_in};
 ghost use Rattle.vc_region.specs.Parts.{disc_in};
-ghost use Rattle.vc_steps.specs.Account.{account_back};
+ghost use Rattle.vc_steps.specs.Account.{ArmsNone, account_back};
 ghost use Rattle.vc_steps.specs.Homes.{HoldsDicts, HoldsRegions, KeepsRegions, accounts_on, held_in_session, settled_over, slots_on, state_over};
 ghost use Rattle.vc_steps.specs.DictHomes.{lies_in};
 ghost use Rattle.vc_steps.specs.Closes.{ClosesAt};
@@ -18,7 +18,7 @@ use vc_commands::HomeEntry;
 use vc_script::{Refusal, Reply};
 use vc_seg::{BoxedDisc, SegDisc, Shelf, ShelfPlace};
 
-// Closes one region, gives its discipline back to its place, and answers how many segments it gave back.
+// Closes one region, gives its discipline back unarmed to its place, and answers how many segments it gave back.
 fn close_region(home: HomeEntry, shelf: &mut Shelf) -> u32
     requires taken { place_at (slots_on state shelf.old) home.place ≡ ShelfPlace.Taken }
     requires lent { HasOut (disc_in state home.region)
@@ -30,9 +30,11 @@ fn close_region(home: HomeEntry, shelf: &mut Shelf) -> u32
     ensures elsewhere { (p : ℕ) → p ≢ home.place
         → at_number (slots_on state shelf.new) p
         ≡ at_number (slots_on state shelf.old) p }
+    ensures unarmed { ArmsNone (slots_on state shelf.old) (slots_on state shelf.new) }
 {
     let HomeEntry { place, region } = home;
-    let (disc, count) = region.close();
+    let (mut disc, count) = region.close();
+    disc.arm(false);
     shelf.give_back(place, disc);
     count
 }
@@ -49,6 +51,7 @@ impl<D> Session<D> {
         ensures regions { KeepsRegions state self.old shelf.new self.new }
         ensures settled { settled_over state shelf.new self.new
             ≡ settled_over state shelf.old self.old }
+        ensures unarmed { ArmsNone (slots_on state shelf.old) (slots_on state shelf.new) }
     {
         let _ = self.labels.remove(i);
         match self.homes.shift_remove_index(i) {
@@ -67,6 +70,7 @@ impl<D> Session<D> {
         ensures regions { KeepsRegions state self.old shelf.new self.new }
         ensures settled { settled_over state shelf.new self.new
             ≡ settled_over state shelf.old self.old }
+        ensures unarmed { ArmsNone (slots_on state shelf.old) (slots_on state shelf.new) }
     {
         match self.homes.get_index_of(name) {
             None => Reply::Refused(Refusal::NoRegion),

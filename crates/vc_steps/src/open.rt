@@ -1,7 +1,8 @@
 ghost use Rattle.std.specs.Prelude.{◌≡◌, List};
 ghost use Rattle.vc_dtdisc.specs.Rules.{Gone, Rules};
 ghost use Rattle.vc_script.specs.declared.command.Command.TheVariants.{OpenRegion};
-ghost use Rattle.vc_steps.specs.Homes.{HoldsDicts, HoldsRegions, KeepsRegions, settled_over};
+ghost use Rattle.vc_steps.specs.Account.{ArmsNone};
+ghost use Rattle.vc_steps.specs.Homes.{HoldsDicts, HoldsRegions, KeepsRegions, settled_over, slots_on};
 ghost use Rattle.vc_steps.specs.State.{not_here};
 ghost use Rattle.vc_steps.specs.Moment.{moment_by};
 ghost use Rattle.vc_steps.specs.State.{open_step};
@@ -42,15 +43,17 @@ impl<D> Session<D> {
         ensures regions { KeepsRegions state self.old shelf.new self.new }
         ensures settled { settled_over state shelf.new self.new
             ≡ settled_over state shelf.old self.old }
+        ensures unarmed { ArmsNone (slots_on state shelf.old) (slots_on state shelf.new) }
     {
         if self.homes.contains_key(&name) {
             return Ok(Reply::Refused(Refusal::RegionExists));
         }
         self.homes.reserve(1)?;
         self.labels.reserve(1)?;
-        let Some(disc) = shelf.take(n) else {
+        let Some(mut disc) = shelf.take(n) else {
             return Ok(Reply::Refused(not_here(shelf.place(n))));
         };
+        disc.arm(self.is_armed);
         match Region::open(self.alloc, method, disc) {
             Ok(region) => {
                 // There is room, so this takes no memory and cannot fail.
@@ -58,7 +61,8 @@ impl<D> Session<D> {
                 self.labels.push_reserved(Labels::new(self.alloc));
                 Ok(Reply::Opened(name))
             }
-            Err((_, disc)) => {
+            Err((_, mut disc)) => {
+                disc.arm(false);
                 shelf.give_back(n, disc);
                 Err(OutOfMemory)
             }

@@ -1,6 +1,7 @@
-ghost use Rattle.std.specs.Prelude.{◌≡◌, ◌&&◌, [], List, None, Some, false, IfOk, OnErr, OnOk, IsTrue};
+ghost use Rattle.std.specs.Prelude.{◌≡◌, ◌⊎◌, ◌==◌, ◌&&◌, [], List, None, Some, false, IfOk, OnErr, OnOk, IsTrue};
 ghost use Rattle.vc_dtdisc.specs.Rules.{Gone, Rules};
-ghost use Rattle.vc_steps.specs.Homes.{HoldsDicts, HoldsRegions, IsSessionOver, KeepsRegions, StandsOverAny, accounts_on, settled_over, state_over};
+ghost use Rattle.vc_steps.specs.Account.{ArmsNone};
+ghost use Rattle.vc_steps.specs.Homes.{HoldsDicts, HoldsRegions, IsSessionOver, KeepsRegions, StandsOverAny, accounts_on, settled_over, slots_on, state_over};
 ghost use Rattle.vc_steps.specs.DictHomes.{lies_in};
 ghost use Rattle.vc_steps.specs.Dicts.{dict_of};
 ghost use Rattle.vc_paths.specs.Links.{no_links};
@@ -33,6 +34,8 @@ pub struct Session<D> {
     pub(crate) labels: Vec<Labels>,
     pub(crate) alloc: Global,
     pub(crate) is_spent: bool,
+    // Whether it arms the disciplines of its regions.
+    pub(crate) is_armed: bool,
     // The indices of the region and of the dictionary that a command worked on last: each may hold another one by now, or
     // none.
     pub(crate) last_region: usize,
@@ -49,6 +52,7 @@ impl<D> Drop for Session<D> {
             labels: _,
             alloc: _,
             is_spent: _,
+            is_armed: _,
             last_region: _,
             last_dict: _,
             kind: _,
@@ -63,6 +67,7 @@ impl<D: DictDisc> Session<D> {
             × (s.dicts.entries ≡ []) × (s.paths ≡ no_links)) }
         ensures stands { IfOk result (StandsOverAny state D.rules) }
         ensures memory { IfOk result (λ s. s.is_spent ≡ false) }
+        ensures unarmed { IfOk result (λ s. s.is_armed ≡ false) }
     {
         Session::over(alloc, tool, IndexMap::new(alloc))
     }
@@ -79,6 +84,7 @@ impl<D: DictDisc> Session<D> {
             × (s.dicts.entries ≡ []) × (s.paths ≡ no_links)) }
         ensures stands { IfOk result (StandsOverAny state D.rules) }
         ensures memory { IfOk result (λ s. s.is_spent ≡ false) }
+        ensures unarmed { IfOk result (λ s. s.is_armed ≡ false) }
     {
         let _ = tool;
         Ok(Session {
@@ -88,10 +94,28 @@ impl<D: DictDisc> Session<D> {
             labels: Vec::new(alloc),
             alloc,
             is_spent: false,
+            is_armed: false,
             last_region: 0,
             last_dict: 0,
             kind: PhantomData,
         })
+    }
+
+    /// Takes the version of the script, 1 or 2, before the first step: in version 2 the disciplines of its regions are armed
+    /// while these are open, so that one that refuses may make an exception. A new session is for version 1.
+    pub fn set_version(&mut self, version: u32)
+        requires version { (version ≡ 1) ⊎ (version ≡ 2) }
+        requires nothing { self.old.homes.entries ≡ [] }
+        ensures { self.new ≡ record self.old { is_armed = version == 2 } }
+    {
+        self.is_armed = version == 2;
+    }
+
+    /// Whether it arms the disciplines of its regions: in version 2.
+    pub fn is_armed(&self) -> bool
+        ensures { result ≡ self.now.is_armed }
+    {
+        self.is_armed
     }
 
     // Runs a command that works on no dictionary and in no region that is open.
@@ -215,14 +239,15 @@ impl<D: DictDisc> Session<D> {
     fn close_all(&mut self, shelf: &mut Shelf)
         requires session { HoldsRegions state shelf.old self.old }
         requires none { self.old.dicts.entries ≡ [] }
-        ensures { accounts_on state shelf.new ≡ settled_over state shelf.old self.old }
+        ensures shelf { accounts_on state shelf.new ≡ settled_over state shelf.old self.old }
+        ensures unarmed { ArmsNone (slots_on state shelf.old) (slots_on state shelf.new) }
     {
         while !self.homes.is_empty() {
             let _ = self.close_at(shelf, 0);
         }
     }
 
-    /// Ends every view, shuts every dictionary and closes every region, and gives each discipline back to its place. It cannot fail. Both
+    /// Ends every view, shuts every dictionary and closes every region, and gives each discipline back unarmed to its place. It cannot fail. Both
     /// go in order of opening; the kinds are told of all objects, and each region gives its segments back in ascending order of number.
     pub fn end(self, shelf: &mut Shelf, kinds: &mut Vec<D>)
         requires { IsSessionOver state D.rules shelf.old self kinds.old.items }
@@ -231,6 +256,7 @@ impl<D: DictDisc> Session<D> {
             (ended_told (state_over state (rules_in D.rules kinds.old.items) shelf.old self))
             (gone_in D.gone kinds.old.items) }
         ensures rules { KeepRules D.rules kinds.old.items kinds.new.items }
+        ensures unarmed { ArmsNone (slots_on state shelf.old) (slots_on state shelf.new) }
     {
         let mut rest = self;
         end_views(&mut rest.paths);

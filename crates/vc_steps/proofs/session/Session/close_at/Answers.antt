@@ -23,7 +23,7 @@ close_region-requires g c =
     let own = slice-or labels c.args.i c.remove.result (omega (arith, c.requires.session.named, c.requires.within)) c.remove.ensures.value in
     let h = held_of M c.in-Some.field-0-0 c.in-Some.home c.remove.result in
     let at = held-entry M c.args.self.now.homes.entries labels c.args.i (c.in-Some.field-0-0, c.in-Some.home) c.remove.result (sym c.in-Some.ensures.entry) own in
-    let held = held-at (slots_on M c.args.shelf.now) (held_in_session M c.args.self.now) c.args.i h at c.requires.session.held in
+    let held = held-at c.args.self.now.is_armed (slots_on M c.args.shelf.now) (held_in_session M c.args.self.now) c.args.i h at c.requires.session.held in
     record { taken = ap standing held.place; lent = held.lent }
 
 pub returns : goal.returns
@@ -64,7 +64,7 @@ returns g c =
       regions = record {
         regions = record {
           named = named;
-          held = subst (λ hs. IsSession slots' hs) (sym rest) (session-close slots slots' helds c.args.i h at c.requires.session.held c.close_region.ensures.here c.close_region.ensures.elsewhere);
+          held = subst (λ hs. IsSession c.args.self.now.is_armed slots' hs) (sym rest) (session-close c.args.self.now.is_armed slots slots' helds c.args.i h at c.requires.session.held c.close_region.ensures.here c.close_region.ensures.elsewhere);
         };
         dicts = λ kinds dicts.
             subst (λ hs. AreDicts kinds hs es) (sym rest)
@@ -72,6 +72,8 @@ returns g c =
             (all-other kinds helds (remove helds c.args.i) h.name (λ e other. stays-remove kinds helds c.args.i h at e other) es none) dicts);
         views = λ are. are;
         spent = refl;
+        armed = refl;
       };
-      settled = ap (λ hs. settled_accounts (accounts slots') hs) rest ∙ settled-close slots slots' helds c.args.i h at c.requires.session.held c.close_region.ensures.here;
+      unarmed = c.close_region.ensures.unarmed;
+      settled = ap (λ hs. settled_accounts (accounts slots') hs) rest ∙ settled-close c.args.self.now.is_armed slots slots' helds c.args.i h at c.requires.session.held c.close_region.ensures.here;
     }

@@ -71,7 +71,7 @@ returns-else-is_busy-clause-step g c = λ kinds dicts.
     let free : lies_in r es ≡ false = sym c.if-is_busy.ensures in
     let stays = dicts_in-stay kinds helds (remove helds i) vs es (all-other kinds helds (remove helds i) r (λ e other. stays-remove kinds helds i h at e other) es free) dicts in
     let helds' = held_in_session M session' in
-    step-close slots slots' helds i h at c.requires.held here kinds (dicts_in helds vs es) r count (region-first M x) (busy-lies helds vs es r ∙ free) counted
+    step-close c.args.self.now.is_armed slots slots' helds i h at c.requires.held here kinds (dicts_in helds vs es) r count (region-first M x) (busy-lies helds vs es r ∙ free) counted
     ∙ (ap (λ ds. step_with_reply (state_of kinds slots' (remove helds i) ds) (Closed r count)) (sym stays)
     ∙ (ap (λ hs. step_with_reply (state_of kinds slots' hs (dicts_in hs vs es)) (Closed r count)) (sym closes.others)
     ∙ (ap (λ ds. step_with_reply (state_of kinds slots' helds' (dicts_in helds' (views_by session.paths ds) ds)) (Closed r count)) (sym closes.entries)

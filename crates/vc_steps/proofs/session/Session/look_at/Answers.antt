@@ -6,7 +6,7 @@ use Rattle.vc_steps.proofs.LookSteps.{dicts-looked, linked-looked, named-looked,
 use Rattle.vc_steps.proofs.SeenEntry.{entry-named, number-named}
 use Rattle.vc_steps.proofs.SessionLayers.{are-over, path-here}
 use Rattle.vc_steps.proofs.SessionHere.{SessionHere, session_here}
-use Rattle.vc_steps.proofs.SettledShelf.{keeps-equal}
+use Rattle.vc_steps.proofs.SettledShelf.{asked-equal, keeps-equal}
 use Rattle.vc_steps.proofs.session.Session.look_at.Given as given
 use Rattle.vc_steps.proofs.session.Session.look_at.Goals as goal
 use Rattle.vc_steps.proofs.session.Session.look_at.Goals.{After-show_names}
@@ -48,7 +48,10 @@ returns g c =
             views = linked-looked all looked c.show_names.ensures name c.requires.index c.requires.look;
           };
           keeps_rules = refl;
+          armed = refl;
           accounts = keeps-equal _ _ (settled-looked all looked);
+          asked = λ off. asked-equal _ _ (settled-looked all looked);
+          arms_none = λ n d at on. at;
         };
         spent = refl;
       };

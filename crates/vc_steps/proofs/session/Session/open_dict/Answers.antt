@@ -31,7 +31,7 @@ use Rattle.vc_steps.proofs.OpensHere.{DictOpened, dicts-new, dicts-unopened, len
 use Rattle.vc_steps.proofs.RegionAt.{RegionAt, found_at, region-stands, region_at, stored_at}
 use Rattle.vc_steps.proofs.SessionHere.{SessionHere, helds, session_here, state_here, views}
 use Rattle.vc_steps.proofs.SettledShelf.{keeps-same, keeps-settles, settles-same}
-use Rattle.vc_steps.proofs.Steps.{halts-same, halts-steps, keeps-steps}
+use Rattle.vc_steps.proofs.Steps.{asked-steps, halts-same, halts-steps, keeps-steps}
 use Rattle.vc_steps.proofs.session.Session.open_dict.Given as given
 use Rattle.vc_steps.proofs.session.Session.open_dict.Goals as goal
 use Rattle.vc_steps.proofs.session.Session.open_dict.Goals.{After-dict_refused, After-index_mut}
@@ -83,6 +83,7 @@ returns-in_default-clause-steps g c =
           open-none s (gone_in g.D.DictDisc.gone c.args.kinds.now.items) c.args.name c.args.region c.args.method c.args.kind NoNeed
           (find-none (is_home c.args.region) s.homes (any-named M session.homes.entries session.labels.items c.args.region c.requires.session.regions.named ∙ (sym c.get_index_of.ensures.found ∙ ap is_some c.in_default.is)));
       settles = settles-same _;
+      armed = refl;
       lacks = tt;
     }
 
@@ -98,6 +99,7 @@ returns-in-Some-dict_refused-clause-steps g c =
     record {
       gives = open-refused x x.here.gone (need_shown (Refused refusal)) refusal is;
       settles = settles-early s (settled_accounts (accounts x.here.slots) hs) x.d x.r x.method x.k refusal early;
+      armed = refl;
       lacks = lacks-early s hs hs x.d x.r x.method x.k refusal early;
     }
 
@@ -109,7 +111,7 @@ returns-in_err-reserve g c =
     let helds = held_in_session M c.args.self.now in
     let kept = c.reserve.ensures.entries in
     record {
-      steps = halts-steps c.from_residual.result _ _ _ _ (search rules) (halts-same _ _ _ (ap (λ x. state_of kinds slots helds (dicts_in helds (views_by c.args.self.now.paths x) x)) kept) refl refl);
+      steps = halts-steps c.from_residual.result _ _ _ _ (search rules) (halts-same _ _ _ (ap (λ x. state_of kinds slots helds (dicts_in helds (views_by c.args.self.now.paths x) x)) kept) refl refl refl);
       stays = record {
         lasts = record {
           stands = record {
@@ -118,7 +120,10 @@ returns-in_err-reserve g c =
             views = subst (AreLinked c.args.self.now.paths) (sym kept) c.requires.session.views;
           };
           keeps_rules = refl;
+          armed = refl;
           accounts = keeps-same _;
+          asked = λ off. refl;
+          arms_none = λ n d at on. at;
         };
         spent = refl;
       };
@@ -177,7 +182,10 @@ returns-in-Err g c =
             views = linked-unopened shelf best x allowed after stays new kept;
           };
           keeps_rules = refl;
+          armed = refl;
           accounts = keeps-steps c.table_refused.result _ _ _ _ steps;
+          asked = asked-steps c.table_refused.result _ _ _ _ steps;
+          arms_none = λ n d at on. at;
         };
         spent = refl;
       };
@@ -229,7 +237,10 @@ returns-in-Ok g c =
             views = linked-new shelf best x allowed o;
           };
           keeps_rules = refl;
+          armed = refl;
           accounts = keeps-settles steps.settles;
+          asked = steps.settles.asked;
+          arms_none = λ n d at on. at;
         };
         spent = refl;
       };

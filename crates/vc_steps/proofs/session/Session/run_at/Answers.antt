@@ -13,7 +13,7 @@ use Rattle.vc_steps.proofs.DictTold.{kind-at, kind-within}
 use Rattle.vc_steps.proofs.Helds.{slice-or}
 use Rattle.vc_steps.proofs.RegionAt.{stored_at}
 use Rattle.vc_steps.proofs.SessionHere.{DictAt, SessionHere, entry_at, home-open, session_here, stands-at, whole_at}
-use Rattle.vc_steps.proofs.Steps.{keeps-steps}
+use Rattle.vc_steps.proofs.Steps.{asked-steps, keeps-steps}
 use Rattle.vc_steps.proofs.session.Session.run_at.Given as given
 use Rattle.vc_steps.proofs.session.Session.run_at.Goals as goal
 use Rattle.vc_steps.proofs.session.Session.run_at.Goals.{After-index-entry, After-index_mut-3}
@@ -146,7 +146,10 @@ returns g c =
             views = linked-ran place best x index ran c.run.result command (gone one) (gone told) did;
           };
           keeps_rules = same_kinds;
+          armed = refl;
           accounts = keeps-steps c.run.result _ _ command _ steps;
+          asked = asked-steps c.run.result _ _ command _ steps;
+          arms_none = λ n d at on. at;
         };
         spent = refl;
       };

@@ -1,12 +1,12 @@
-use Rattle.vc_base.proofs.Common.{◌≡◌, List, Some, None, sym, refl, ap, ◌∙◌}
+use Rattle.vc_base.proofs.Common.{◌≡◌, List, Some, sym, refl, ap, ◌∙◌}
 use Rattle.vc_dtdisc.specs.Rules.{Gone}
 use Rattle.vc_script.specs.Target.{dict_at, region_at, target_of}
-use Rattle.vc_script.specs.declared.target.Target.TheVariants.{Shelf, Region, Dict}
+use Rattle.vc_script.specs.declared.target.Target.TheVariants.{Shelf, Region}
 use Rattle.vc_steps.specs.Dicts.{dict_of, dict_step}
-use Rattle.vc_steps.specs.Step.{region_of_command, shelf_step, step, step_of, step_on}
+use Rattle.vc_steps.specs.Step.{shelf_step, step, step_of, step_on}
 use Rattle.vc_steps.specs.Told.{gone_in, rules_in}
 use Rattle.vc_steps.proofs.RegionChange.{step-region, step-shelf}
-use Rattle.vc_steps.proofs.Steps.{keeps-steps, steps-as}
+use Rattle.vc_steps.proofs.Steps.{asked-steps, keeps-steps, steps-as}
 use Rattle.vc_steps.proofs.session.Session.run_command.Goals as goal
 
 pub run_on_shelf-requires-clause-dict : goal.run_on_shelf-requires-clause-dict
@@ -52,7 +52,10 @@ returns-in-Region-clause-stays g c =
       lasts = record {
         stands = record { regions = c.run_in_region.ensures.regions.regions; dicts = c.run_in_region.ensures.regions.dicts kinds c.requires.dicts; views = c.run_in_region.ensures.regions.views c.requires.views };
         keeps_rules = refl;
+        armed = c.run_in_region.ensures.regions.armed;
         accounts = keeps-steps c.run_in_region.result _ _ c.args.command.now _ (c.run_in_region.ensures.steps kinds gone c.requires.dicts);
+        asked = asked-steps c.run_in_region.result _ _ c.args.command.now _ (c.run_in_region.ensures.steps kinds gone c.requires.dicts);
+        arms_none = λ n d at on. at;
       };
       spent = c.run_in_region.ensures.regions.spent;
     }

@@ -47,6 +47,7 @@ returns-in_default-clause-steps g c = λ kinds gone dicts.
           step-none (state_over M kinds c.args.shelf.now session) gone c.args.line c.args.command.now r
           (find-none (is_home r) (map home_of (held_in_session M session)) (any-named M session.homes.entries session.labels.items r c.requires.regions.named ∙ sym c.in_default.ensures.found));
       settles = settles-same _;
+      armed = refl;
       lacks = tt;
     }
 
@@ -66,6 +67,7 @@ returns-then-clears_busy-clause-steps g c = λ kinds gone dicts.
           step-busy (state_over M kinds c.args.shelf.now session) gone c.args.line command r is.0 first.item
           (find-first (is_home r) (map home_of helds) c.in-Some.i first) is.1 (busy-lies helds (views_by session.paths es) es r ∙ both.1);
       settles = settles-same _;
+      armed = refl;
       lacks = tt;
     }
 
@@ -73,7 +75,7 @@ pub run-requires : goal.run-requires
 run-requires g c =
     let M = meaning g in
     let x = region g (goal.at.run-requires g c).After-index_mut-2 in
-    let held = held-at (slots_on M c.args.shelf.now) (held_in_session M c.args.self.now) c.in-Some.i (region_at M x) (region-stands M x) c.requires.regions.held in
+    let held = held-at c.args.self.now.is_armed (slots_on M c.args.shelf.now) (held_in_session M c.args.self.now) c.in-Some.i (region_at M x) (region-stands M x) c.requires.regions.held in
     record { names = held.names; lent = held.lent }
 
 pub returns : goal.returns
@@ -94,18 +96,19 @@ returns g c =
     let change = c.run.ensures.change r in
     let after = helds-put M x c.run.new.self c.run.new.labels in
     let ran =
-    region-ran slots helds es vs i h k at session c.args.line command change r (region-first M x) c.requires.dict c.requires.region (clear-free command (lies_in r es) (sym c.if-clears_busy.ensures)) c.run.result
+    region-ran c.args.self.now.is_armed slots helds es vs i h k at session c.args.line command change r (region-first M x) c.requires.dict c.requires.region (clear-free command (lies_in r es) (sym c.if-clears_busy.ensures)) c.run.result
     (if_ok_at c.run.result _ _ (λ reply is runs. runs r) c.run.ensures.runs.step) c.run.ensures.runs.err c.run.ensures.runs.unserved (λ other. (c.run.ensures.runs.served other).faults) in
     record {
       steps = λ kinds gone dicts.
-          subst (λ hs. StepsBy c.run.result (moment_over slots es vs kinds gone helds) (moment_over slots es vs kinds gone hs) command (λ s need. step_of s c.args.line command need (Some r))) (sym after) (ran.0 kinds gone dicts);
+          subst (λ hs. StepsBy c.run.result (moment_over c.args.self.now.is_armed slots es vs kinds gone helds) (moment_over c.args.self.now.is_armed slots es vs kinds gone hs) command (λ s need. step_of s c.args.line command need (Some r))) (sym after) (ran.0 kinds gone dicts);
       regions = record {
         regions = record {
           named = named-put M x c.run.new.self c.run.new.labels;
-          held = subst (λ hs. IsSession slots hs) (sym after) (session-change slots helds i h k at session change);
+          held = subst (λ hs. IsSession c.args.self.now.is_armed slots hs) (sym after) (session-change c.args.self.now.is_armed slots helds i h k at session change);
         };
         dicts = λ kinds dicts. subst (λ hs. AreDicts kinds hs es) (sym after) (ran.1 kinds dicts);
         views = λ are. are;
         spent = refl;
+        armed = refl;
       };
     }

@@ -1,4 +1,4 @@
-use Rattle.vc_base.proofs.Common.{◌≡◌, ◌<◌, false, slice_get, Some, sym, ap, ◌∙◌, Discipline}
+use Rattle.vc_base.proofs.Common.{refl, ◌≡◌, ◌<◌, false, slice_get, Some, sym, ap, ◌∙◌, Discipline}
 use Rattle.vc_script.specs.Needs.{NoNeed}
 use Rattle.vc_script.specs.Target.{dict_at, looks, works_alone}
 use Rattle.vc_script.specs.declared.target.Target.TheVariants.{Dict}
@@ -50,6 +50,7 @@ returns-in_default-clause-steps g c =
           gives-same (dict_step s name command NoNeed) (gone_in g.D.DictDisc.gone c.args.kinds.now.items) (Refused NoDictionary) s
           (ap (on_found s (dict_command s command NoNeed)) (dict-none (held_in_session M session) (views_by session.paths es) es name (sym c.in_default.ensures.found)));
       settles = settles-same _;
+      armed = refl;
       lacks = tt;
     }
 
@@ -75,6 +76,7 @@ returns-then-is_barred-clause-steps g c =
           ∙ barred-refused all.kinds all.slots (helds all) all.links all.es c.show_names.ensures all.are d.i (entry_at d) there command NoNeed (home_of is.home) is.rules
           (ap (bars_at all.links d.v.number) c.requires.command ∙ sym c.if-is_barred.ensures));
       settles = settles-same _;
+      armed = refl;
       lacks = tt;
     }
 
@@ -101,6 +103,7 @@ returns-in-End-clause-steps g c =
           step-shut all.kinds all.slots (helds all) all.es (views all) d.i (entry_at d) there (first-at all d) all.dicts c.args.command.now d.name _
           all.gone _ ends unviewed shuts.state shuts.gone;
       settles = settles-equal _ _ shuts.accounts;
+      armed = c.shut_at.ensures.stays.lasts.armed;
       lacks = tt;
     }
 

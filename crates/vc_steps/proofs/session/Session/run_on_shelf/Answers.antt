@@ -4,7 +4,7 @@ use Rattle.vc_steps.specs.Homes.{state_over}
 use Rattle.vc_steps.specs.Moment.{moment}
 use Rattle.vc_steps.specs.Told.{gone_in, rules_in}
 use Rattle.vc_steps.proofs.RefusesNothing.{close-granted}
-use Rattle.vc_steps.proofs.SettledShelf.{keeps-equal}
+use Rattle.vc_steps.proofs.SettledShelf.{asked-equal, keeps-equal}
 use Rattle.vc_steps.proofs.Steps.{steps-quiet}
 use Rattle.vc_steps.proofs.session.Session.run_on_shelf.Given as given
 use Rattle.vc_steps.proofs.session.Session.run_on_shelf.Goals as goal
@@ -21,7 +21,10 @@ returns-in-OpenRegion-clause-stays g c = record {
   lasts = record {
     stands = record { regions = c.open_region.ensures.regions.regions; dicts = c.open_region.ensures.regions.dicts _ c.requires.session.dicts; views = c.open_region.ensures.regions.views c.requires.session.views };
     keeps_rules = refl;
+    armed = c.open_region.ensures.regions.armed;
     accounts = keeps-equal _ _ c.open_region.ensures.settled;
+    asked = λ off. asked-equal _ _ c.open_region.ensures.settled;
+    arms_none = c.open_region.ensures.unarmed;
   };
   spent = c.open_region.ensures.regions.spent;
 }
@@ -34,14 +37,17 @@ returns-in-CloseRegion-clause-steps g c =
     let granted = close-granted (state_over M kinds c.args.shelf.now c.args.self.now) (state_over M kinds c.close_named.new.shelf c.close_named.new.self) c.in-CloseRegion.name c.close_named.result is in
     rw c.in-CloseRegion.is
     (steps-quiet (moment M g.D.DictDisc.rules g.D.DictDisc.gone c.args.shelf.now c.args.self.now c.args.kinds.now.items) (moment M g.D.DictDisc.rules g.D.DictDisc.gone c.close_named.new.shelf c.close_named.new.self c.args.kinds.now.items)
-    (CloseRegion c.in-CloseRegion.name) _ c.close_named.result is refl c.close_named.ensures.settled granted)
+    (CloseRegion c.in-CloseRegion.name) _ c.close_named.result is refl c.close_named.ensures.settled c.close_named.ensures.regions.armed granted)
 
 pub returns-in-CloseRegion-clause-stays : goal.returns-in-CloseRegion-clause-stays
 returns-in-CloseRegion-clause-stays g c = record {
   lasts = record {
     stands = record { regions = c.close_named.ensures.regions.regions; dicts = c.close_named.ensures.regions.dicts _ c.requires.session.dicts; views = c.close_named.ensures.regions.views c.requires.session.views };
     keeps_rules = refl;
+    armed = c.close_named.ensures.regions.armed;
     accounts = keeps-equal _ _ c.close_named.ensures.settled;
+    asked = λ off. asked-equal _ _ c.close_named.ensures.settled;
+    arms_none = c.close_named.ensures.unarmed;
   };
   spent = c.close_named.ensures.regions.spent;
 }

@@ -26,7 +26,7 @@ use Rattle.vc_objects.specs.Parts.{dictionary_in}
 use Rattle.vc_steps.proofs.RegionSteps.{moment_over}
 use Rattle.vc_steps.proofs.RegionAt.{stored_at}
 use Rattle.vc_steps.proofs.SessionHere.{SessionHere, home-open, session_here, whole_in}
-use Rattle.vc_steps.proofs.SettledShelf.{keeps-equal}
+use Rattle.vc_steps.proofs.SettledShelf.{asked-equal, keeps-equal}
 use Rattle.vc_steps.proofs.session.Session.shut_at.Given as given
 use Rattle.vc_steps.proofs.session.Session.shut_at.Goals as goal
 use Rattle.vc_steps.proofs.session.Session.shut_at.Goals.{After-index_mut, After-index_mut-2, In-Some}
@@ -137,7 +137,7 @@ returns g c =
         shuts =
             if_some-to
             (λ (f : Entry). Shuts (moment M item gone c.args.shelf.now c.args.self.now items)
-            (moment_over (slots_on M c.args.shelf.now) o.es' (views_by o.links' o.es') o.kinds' (gone_in gone (set items k told)) hs) (dict_home (held_in_session M c.args.self.now) vs f))
+            (moment_over c.args.self.now.is_armed (slots_on M c.args.shelf.now) o.es' (views_by o.links' o.es') o.kinds' (gone_in gone (set items k told)) hs) (dict_home (held_in_session M c.args.self.now) vs f))
             (slice_get c.args.self.now.dicts.entries c.args.i) x.e x.there
             (record {
               state = state-ended place best x o;
@@ -160,7 +160,10 @@ returns g c =
             views = linked-ended place best x o;
           };
           keeps_rules = same_kinds;
+          armed = refl;
           accounts = keeps-equal _ _ (settled-ended place best x o);
+          asked = λ off. asked-equal _ _ (settled-ended place best x o);
+          arms_none = λ n d at on. at;
         };
         spent = refl;
       };

@@ -1,4 +1,4 @@
-use Rattle.vc_base.proofs.Common.{◌≡◌, Some, sym, ap, ◌∙◌, subst, same_Some, Discipline}
+use Rattle.vc_base.proofs.Common.{sym, ap, ◌∙◌, subst, same_Some, Discipline}
 use Rattle.vc_script.specs.Needs.{need_shown}
 use Rattle.vc_script.specs.Target.{dict_at}
 use Rattle.vc_script.specs.declared.command.Command.TheVariants.{View}

@@ -64,7 +64,10 @@ returns-in_default-clause-stays g c =
           views = subst (λ ls. AreLinked ls c.args.self.now.dicts.entries) (sym c.end.ensures) (links-ended (meaning g) (here g i) (own g i));
         };
         keeps_rules = refl;
+        armed = refl;
         accounts = keeps-same _;
+        asked = λ off. refl;
+        arms_none = λ n d at on. at;
       };
       spent = refl;
     }
@@ -112,7 +115,10 @@ returns-in-Ok-clause-stays g c =
           views = stands.views;
         };
         keeps_rules = refl;
+        armed = refl;
         accounts = stands.accounts;
+        asked = λ off. stands.asked;
+        arms_none = λ n d at on. at;
       };
       spent = refl;
     }
@@ -143,7 +149,10 @@ returns-in-Err-clause-stays g c =
           views = stands.views;
         };
         keeps_rules = refl;
+        armed = refl;
         accounts = stands.accounts;
+        asked = λ off. stands.asked;
+        arms_none = λ n d at on. at;
       };
       spent = refl;
     }
