@@ -15,7 +15,7 @@ use std::alloc::Global;
 use std::process::ExitCode;
 use vc_base::{Sink, Source, StdSink, StdSource};
 use vc_dtdisc::{BuiltIn, DictDisc};
-use vc_main::{budgeted, growing, heap_at, kinds, words_of};
+use vc_main::{budgeted, growing, heap_at, kinds, relieved, words_of};
 use vc_seg::{BoxedDisc, SegDisc, Shelf};
 use vc_session::{Status, dtrun};
 
@@ -26,7 +26,7 @@ fn exit(status: Status) -> ExitCode
     ExitCode::from(status.number())
 }
 
-// Runs the tool over the disciplines of seventeen places, and answers what the program ends with: the number of its status.
+// Runs the tool over the disciplines of eighteen places, and answers what the program ends with: the number of its status.
 fn run<S: Source, O: Sink, E: Sink>(
     alloc: Global,
     words: &[String],
@@ -36,7 +36,7 @@ fn run<S: Source, O: Sink, E: Sink>(
     out: &mut O,
     err: &mut E,
 ) -> ExitCode
-    requires places { vec_len shelf.old.slots ≡ 17 }
+    requires places { vec_len shelf.old.slots ≡ 18 }
     requires kinds { map (λ kind. kind.shape) kinds.old.items ≡ shapes }
     ensures { EndsProgram Dtrun (words_of (map string_bytes words.now)) (exit_status result)
         (borrowed shelf.old kinds.old source.old out.old err.old)
@@ -47,8 +47,8 @@ fn run<S: Source, O: Sink, E: Sink>(
     exit(dtrun(alloc, words, shelf, kinds, source, out, err))
 }
 
-// Disciplines 1 to 12 never refuse a segment, 13 to 16 have a budget, and 17 makes a segment longer. With no memory for
-// them nothing is read or written.
+// Disciplines 1 to 12 never refuse a segment, 13 to 16 have a budget, 17 makes a segment longer, and 18 has a budget that
+// it raises once. With no memory for them nothing is read or written.
 fn main(rt: HostRuntime) -> ExitCode {
     let alloc = rt.alloc();
     let Ok(words) = words_of(&rt) else {
@@ -75,6 +75,12 @@ fn main(rt: HostRuntime) -> ExitCode {
         };
     }
     let Ok(disc) = Box::new(alloc, growing()) else {
+        return exit(Status::Memory);
+    };
+    let Ok(_) = shelf.put(disc) else {
+        return exit(Status::Memory);
+    };
+    let Ok(disc) = Box::new(alloc, relieved()) else {
         return exit(Status::Memory);
     };
     let Ok(_) = shelf.put(disc) else {

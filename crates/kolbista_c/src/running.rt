@@ -5,7 +5,7 @@ ghost use Rattle.vc_session.specs.Status.{number};
 use crate::slice_source::SliceSource;
 use std::alloc::{AllocError, Global};
 use vc_base::MemSink;
-use vc_main::{budgeted, growing, kinds};
+use vc_main::{budgeted, growing, kinds, relieved};
 use vc_script::Tool;
 use vc_seg::{BoxedDisc, HeapDisc, SegDisc, Shelf};
 use vc_session::{Status, dtrun, replay};
@@ -35,7 +35,7 @@ fn play(
     replies: &mut MemSink,
     told: &mut MemSink,
 ) -> Result<Status, AllocError>
-    requires shelf { vec_len shelf.old.slots ≡ 17 }
+    requires shelf { vec_len shelf.old.slots ≡ 18 }
     requires replies { (replies.old.written ≡ []) × (replies.old.faults ≡ 0) }
     requires told { (told.old.written ≡ []) × (told.old.faults ≡ 0) }
     ensures ok { IfOk result (λ status. Played tool (map string_bytes words.now) script.now status
@@ -88,7 +88,7 @@ fn run_over(
     err: &mut [u8],
     err_used: &mut usize,
 ) -> u32
-    requires shelf { vec_len shelf.old.slots ≡ 17 }
+    requires shelf { vec_len shelf.old.slots ≡ 18 }
     requires out { out_used.old ≡ 0 }
     requires err { err_used.old ≡ 0 }
     ensures { Runs (Some tool) (Some (map string_bytes words.now)) script.now result
@@ -109,8 +109,8 @@ fn run_over(
     answer(status, fit)
 }
 
-// Runs a tool over disciplines of its own: 1 to 12 never refuse a segment, 13 to 16 have a budget, and 17 makes a
-// segment longer.
+// Runs a tool over disciplines of its own: 1 to 12 never refuse a segment, 13 to 16 have a budget, 17 makes a segment
+// longer, and 18 has a budget that it raises once.
 pub(crate) fn run(
     alloc: Global,
     tool: Tool,
@@ -156,6 +156,12 @@ pub(crate) fn run(
         };
     }
     let Ok(disc) = Box::new(alloc, growing()) else {
+        return 5;
+    };
+    let Ok(_) = shelf.put(disc) else {
+        return 5;
+    };
+    let Ok(disc) = Box::new(alloc, relieved()) else {
         return 5;
     };
     let Ok(_) = shelf.put(disc) else {

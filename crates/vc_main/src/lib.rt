@@ -3,13 +3,13 @@
 #![tactic(auto)]
 
 ghost use Rattle.std.specs.Prelude.{◌≡◌, map, IfOk};
-ghost use Rattle.vc_main.specs.Places.{budgeted, growing, heap_at, shapes};
+ghost use Rattle.vc_main.specs.Places.{budgeted, growing, heap_at, relieved, shapes};
 
 use std::alloc::{AllocError, Global};
 use std::env::{self, Env};
 use std::io::ErrorKind;
 use vc_dtdisc::{BuiltIn, Shape};
-use vc_seg::{BudgetDisc, HeapDisc, SbrkDisc};
+use vc_seg::{BudgetDisc, HeapDisc, ReliefDisc, SbrkDisc};
 
 /// The words behind the program's name. Where one isn't UTF-8 there's no list, and an empty word, which is refused, stands
 /// in its place.
@@ -47,6 +47,14 @@ pub fn growing() -> SbrkDisc
     ensures { result ≡ growing }
 {
     SbrkDisc::new(4096, 33_554_432)
+}
+
+/// The discipline at place 18: it rounds to 4,096 bytes, and has a budget of 1,048,576 bytes, which is raised by as much
+/// where it is asked for an exception first.
+pub fn relieved() -> ReliefDisc
+    ensures { result ≡ relieved }
+{
+    ReliefDisc::new(4096, 1_048_576, 1_048_576)
 }
 
 /// The kinds of dictionaries, of which a script names the first as 1: by all bytes, by the text before a zero byte, without

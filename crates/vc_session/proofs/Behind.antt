@@ -32,6 +32,7 @@ use Rattle.vc_session.specs.Replay.{IsReplay, IsRunOf, Told}
 use Rattle.vc_session.specs.Run.{script}
 use Rattle.vc_session.specs.SoFar.{AtEnd}
 use Rattle.vc_session.specs.Streams.{Flows}
+use Rattle.vc_session.specs.QuietText.{style_by}
 use Rattle.vc_session.specs.Text.{replies_text, counts_of, good_lines, is_quiet, lines_text, stat_line, numbers_text, stats_by, summary, summary_by, tail_lines, text_of}
 use Rattle.vc_session.proofs.Progress.{progress-end, told-more}
 use Rattle.vc_session.proofs.ShownNeeds.{IsUnnumbered, NoLine, none-unnumbered}
@@ -83,19 +84,19 @@ summary-same true lines c d same = ap (summary lines) (same refl)
 
 module _ {start now : Moment} {counts : Counts} {text : List ℕ} {count : ℕ} {done : List (ℕ × Command)} (w : Words) (lines : ℕ) (tail : List ℕ) (p : Progress (is_quiet w) start now counts text count done) (is : tail ≡ lines_text (tail_lines w lines counts now.state.homes)) where
   -- what is said of a run at its last command: what is written of its replies, and this behind it
-  pub text-says : text_of w lines p.ran ≡ replies_text (is_quiet w) p.ran ++ tail
+  pub text-says : text_of w now.armed lines p.ran ≡ replies_text (style_by (is_quiet w) now.armed) p.ran ++ tail
   text-says =
-      ap (λ s. replies_text (is_quiet w) p.ran ++ lines_text (tail_lines w lines (counts_of p.ran) s.homes)) p.state
-      ∙ (ap (λ ls. replies_text (is_quiet w) p.ran ++ lines_text (ls ++ stats_by w.stat now.state.homes)) (summary-same (is_quiet w) lines (counts_of p.ran) counts (λ quiet. sym (p.counted quiet)))
-      ∙ ap (λ t. replies_text (is_quiet w) p.ran ++ t) (sym is))
+      ap (λ s. replies_text (style_by (is_quiet w) now.armed) p.ran ++ lines_text (tail_lines w lines (counts_of p.ran) s.homes)) p.state
+      ∙ (ap (λ ls. replies_text (style_by (is_quiet w) now.armed) p.ran ++ lines_text (ls ++ stats_by w.stat now.state.homes)) (summary-same (is_quiet w) lines (counts_of p.ran) counts (λ quiet. sym (p.counted quiet)))
+      ∙ ap (λ t. replies_text (style_by (is_quiet w) now.armed) p.ran ++ t) (sym is))
 
   -- no line of which has a number in front
-  pub tail-unnumbered : is_quiet w ≡ true → (n : ℕ) → n < 2 ^ 64 → NoLine n (ended_lines tail)
-  tail-unnumbered quiet n below = subst (λ t. NoLine n (ended_lines t)) (sym is) (tail-none w lines counts now.state.homes p.proper_state n below)
+  pub tail-unnumbered : (n : ℕ) → n < 2 ^ 64 → NoLine n (ended_lines tail)
+  tail-unnumbered n below = subst (λ t. NoLine n (ended_lines t)) (sym is) (tail-none w lines counts now.state.homes p.proper_state n below)
 
   -- and the end of the run once this is written
-  pub text-ends : (after : Option (List ℕ)) → count < 2 ^ 64 → Told start.written after (text ++ tail) → IsRunOf (is_quiet w) (text_of w lines) start (moment_at_end (over_sink now after)) done
-  text-ends after few told = progress-end p (text_of w lines) tail after few tail-unnumbered text-says told
+  pub text-ends : (after : Option (List ℕ)) → count < 2 ^ 64 → Told start.written after (text ++ tail) → IsRunOf (is_quiet w) now.armed (text_of w now.armed lines) start (moment_at_end (over_sink now after)) done
+  text-ends after few told = progress-end p (text_of w now.armed lines) tail after few tail-unnumbered text-says told
 
 pub good-same : (bad : Option (ℕ × LineFault)) (lines total : ℕ) → (bad ≡ None → lines ≡ total) → good_lines bad lines ≡ good_lines bad total
 good-same None lines total same = same refl
@@ -108,8 +109,10 @@ script-ends tool w start now counts lines bad (Some input) left after tail is wr
     record {
       first = e.first;
       stops = e.stops;
-      run = subst (λ n. IsRunOf (is_quiet w) (text_of w n) start (moment_at_end (over_sink now after)) (script tool input)) (good-same bad lines (length (judged_lines input)) e.whole)
-          (text-ends w (good_lines bad lines) tail e.progress is after (omega (arith, e.few)) (told-more start.written now.written after e.text tail e.told written));
+      run =
+          subst (λ second. IsRunOf (is_quiet w) second (text_of w second (good_lines bad (length (judged_lines input)))) start (moment_at_end (over_sink now after)) (script tool input)) e.armed
+          (subst (λ n. IsRunOf (is_quiet w) now.armed (text_of w now.armed n) start (moment_at_end (over_sink now after)) (script tool input)) (good-same bad lines (length (judged_lines input)) e.whole)
+          (text-ends w (good_lines bad lines) tail e.progress is after (omega (arith, e.few)) (told-more start.written now.written after e.text tail e.told written)));
     }
 
 -- what a run of a source's lines promises once what stands behind the replies is written
@@ -127,6 +130,7 @@ script-told tool w quiet start last counts count number lines bad old mid new no
       cut_short = tt;
       cut = tt;
       not_ahead = tt;
+      arms = runs.arms;
       read = tt;
       write = tt;
       reads = omega (arith, runs.reads, reads);

@@ -8,14 +8,16 @@ use Rattle.vc_script.specs.ProperReply.{IsProperReply}
 use Rattle.vc_steps.specs.Moment.{Moment, over_sink}
 use Rattle.vc_script.specs.declared.reply.Reply.{Reply}
 use Rattle.vc_steps.specs.State.{State}
-use Rattle.vc_steps.specs.Account.{KeepsAccounts, RoseBy, Settles, faults_of}
+use Rattle.vc_model.specs.Count.{RoseBy}
+use Rattle.vc_steps.specs.Account.{KeepsAccounts, Settles, faults_of}
 use Rattle.vc_model.specs.Numbered.{at_number}
 use Rattle.vc_script.specs.Lines.{ended_lines}
 use Rattle.vc_script.specs.Needs.{AreAscending, Need, NoNeed, ShowsNeeds, need_at, need_shown}
 use Rattle.vc_session.specs.Cut.{IsCut, IsFurther, RoseAsRefused, with_further}
 use Rattle.vc_session.specs.Far.{AreLines, RanFar, WrotePart}
 use Rattle.vc_session.specs.Progress.{Progress}
-use Rattle.vc_session.specs.QuietText.{body_by, line_by, needs_by_text}
+use Rattle.vc_session.specs.declared.style.Style.{Style}
+use Rattle.vc_session.specs.QuietText.{body_by, line_by, needs_by_text, style_by}
 use Rattle.vc_session.specs.Replay.{FaultsStayed, IsRunOf, Told}
 use Rattle.vc_session.specs.Run.{Ran, lines_of, nothing_ran, run_from}
 use Rattle.vc_session.specs.Text.{replies_text}
@@ -23,12 +25,12 @@ use Rattle.vc_session.proofs.FirstRuns.{FirstRan, LineParts, first-ran, line-par
 use Rattle.vc_session.proofs.FrontNeeds.{ShowsFront, all-split, front-shows, rising-parts}
 use Rattle.vc_session.proofs.Fronts.{EndsAmong, IsPartOf, ends-among, none-front}
 use Rattle.vc_session.proofs.NoneRefused.{run-none, shown-none, stayed-none, stayed-same}
-use Rattle.vc_session.proofs.Progress.{none-needed, shows, told-none}
+use Rattle.vc_session.proofs.Progress.{none-needed, none-written, shows, told-none}
 use Rattle.vc_session.proofs.ShownNeeds.{NoLine, numbers_of}
 
 -- a text that is said of a run begins with what is written of its replies
-abbrev pub BeginsWithReplies : Bool → (Ran → List ℕ) → Type 0
-BeginsWithReplies quiet said = (ran : Ran) → (more : List ℕ) × (said ran ≡ replies_text quiet ran ++ more)
+abbrev pub BeginsWithReplies : Style → (Ran → List ℕ) → Type 0
+BeginsWithReplies style said = (ran : Ran) → (more : List ℕ) × (said ran ≡ replies_text style ran ++ more)
 
 -- of the same lists of refusals or longer ones as much is said
 pub rose-fewer : (m n before after : ℕ) → m ≤ n → RoseBy n before after → RoseBy m before after
@@ -36,16 +38,16 @@ rose-fewer m n before after fewer (inl more) = inl (omega (arith, fewer, more))
 rose-fewer m n before after fewer (inr last) = inr last
 
 -- what a run says whose first replies begin with a front of their text
-said-front : (quiet : Bool) (said : Ran → List ℕ) → BeginsWithReplies quiet said → (s : State) (cs ds : List (ℕ × Command)) (needs : List (ℕ × Need)) (whole : List (ℕ × Reply)) (text rest : List ℕ) → (run_from s cs needs).replies ≡ whole → body_by quiet whole ≡ text ++ rest → (behind : List ℕ) × (said (run_from s (cs ++ ds) needs) ≡ text ++ behind)
-said-front quiet said begins s cs ds needs whole text rest replied front =
+said-front : (style : Style) (said : Ran → List ℕ) → BeginsWithReplies style said → (s : State) (cs ds : List (ℕ × Command)) (needs : List (ℕ × Need)) (whole : List (ℕ × Reply)) (text rest : List ℕ) → (run_from s cs needs).replies ≡ whole → body_by style whole ≡ text ++ rest → (behind : List ℕ) × (said (run_from s (cs ++ ds) needs) ≡ text ++ behind)
+said-front style said begins s cs ds needs whole text rest replied front =
     let more = (begins (run_from s (cs ++ ds) needs)).0 in
     let others = (run_from (run_from s cs needs).state ds needs).replies in (
-      rest ++ (body_by quiet others ++ more),
+      rest ++ (body_by style others ++ more),
       (begins (run_from s (cs ++ ds) needs)).1
-          ∙ (ap (λ rs. body_by quiet rs ++ more) (replies-append s cs ds needs ∙ ap (λ rs. rs ++ others) replied)
-          ∙ (ap (λ xs. xs ++ more) (flat_map-append (line_by quiet) whole others ∙ ap (λ xs. xs ++ body_by quiet others) front)
-          ∙ (append_assoc (text ++ rest) (body_by quiet others) more
-          ∙ append_assoc text rest (body_by quiet others ++ more)))),
+          ∙ (ap (λ rs. body_by style rs ++ more) (replies-append s cs ds needs ∙ ap (λ rs. rs ++ others) replied)
+          ∙ (ap (λ xs. xs ++ more) (flat_map-append (line_by style) whole others ∙ ap (λ xs. xs ++ body_by style others) front)
+          ∙ (append_assoc (text ++ rest) (body_by style others) more
+          ∙ append_assoc text rest (body_by style others ++ more)))),
     )
 
 -- a further need, where a reply was begun, and what the run for these needs says
@@ -68,13 +70,13 @@ shows-next r needs whole below shows =
     all-push (λ q. need_at ((r.0, need_shown r.1) ∷ needs) q.0 ≡ need_shown q.1) whole r (shows-further r.0 (need_shown r.1) needs whole below shows)
     (ap (λ t. cond t (need_shown r.1) (need_at needs r.0)) (eq-eqb r.0 r.0 refl))
 
-module _ {quiet : Bool} {start now : Moment} {text : List ℕ} {done : List (ℕ × Command)} (f : RanFar quiet start now text done) (said : Ran → List ℕ) (begins : BeginsWithReplies quiet said) (rest : List (ℕ × Command)) (rising : AreAscending (lines_of done)) (needs : List (ℕ × Need)) where
+module _ {style : Style} {start now : Moment} {text : List ℕ} {done : List (ℕ × Command)} (f : RanFar style start now text done) (said : Ran → List ℕ) (begins : BeginsWithReplies style said) (rest : List (ℕ × Command)) (rising : AreAscending (lines_of done)) (needs : List (ℕ × Need)) where
   -- the text ends within the reply of the next command, or behind the last
-  reaches : (whole others : List (ℕ × Reply)) (part : List ℕ) (cs ds : List (ℕ × Command)) → done ≡ cs ++ ds → f.ran.replies ≡ whole ++ others → lines_of cs ≡ numbers_of whole → lines_of ds ≡ numbers_of others → text ≡ body_by quiet whole ++ part → IsPartOf quiet part others → ShowsNeeds needs whole → AllByRecursion (λ n. AllByRecursion (λ m. m < n) (numbers_of whole)) (numbers_of others) → AllByRecursion (λ n. need_at needs n ≡ NoNeed) (numbers_of others) → Reaches said start.state (done ++ rest) needs text
+  reaches : (whole others : List (ℕ × Reply)) (part : List ℕ) (cs ds : List (ℕ × Command)) → done ≡ cs ++ ds → f.ran.replies ≡ whole ++ others → lines_of cs ≡ numbers_of whole → lines_of ds ≡ numbers_of others → text ≡ body_by style whole ++ part → IsPartOf style part others → ShowsNeeds needs whole → AllByRecursion (λ n. AllByRecursion (λ m. m < n) (numbers_of whole)) (numbers_of others) → AllByRecursion (λ n. need_at needs n ≡ NoNeed) (numbers_of others) → Reaches said start.state (done ++ rest) needs text
   reaches whole [] part cs ds split parts lines behind is begun shows above none =
       let first = first-ran f rising cs ds whole [] split parts lines needs shows in
-      let whole_text : body_by quiet whole ≡ text ++ [] = sym (append-nil (body_by quiet whole)) ∙ (ap (λ xs. body_by quiet whole ++ xs) (sym begun) ∙ (sym is ∙ sym (append-nil text))) in
-      let says = said-front quiet said begins start.state cs (ds ++ rest) needs whole text [] first.replies whole_text in
+      let whole_text : body_by style whole ≡ text ++ [] = sym (append-nil (body_by style whole)) ∙ (ap (λ xs. body_by style whole ++ xs) (sym begun) ∙ (sym is ∙ sym (append-nil text))) in
+      let says = said-front style said begins start.state cs (ds ++ rest) needs whole text [] first.replies whole_text in
       let commands : cs ++ (ds ++ rest) ≡ done ++ rest = sym (append_assoc cs ds rest) ∙ ap (λ es. es ++ rest) (sym split) in
       record {
         further = None;
@@ -93,12 +95,12 @@ module _ {quiet : Bool} {start now : Moment} {text : List ℕ} {done : List (ℕ
       ∙ (ap₂ (λ ns n. ns ++ n ∷ []) lines head
       ∙ sym (map-append (λ (q : ℕ × Reply). q.0) whole (r ∷ []))) in
       let first = first-ran f rising (cs ++ d ∷ []) ds (whole ++ r ∷ []) rs split_next parts_next lines_next next (shows-next r needs whole above.0 shows) in
-      let whole_text : body_by quiet (whole ++ r ∷ []) ≡ text ++ begun.0 =
-      flat_map-append (line_by quiet) whole (r ∷ [])
-      ∙ (ap (λ xs. body_by quiet whole ++ xs) (append-nil (line_by quiet r) ∙ begun.1)
-      ∙ (sym (append_assoc (body_by quiet whole) part begun.0)
+      let whole_text : body_by style (whole ++ r ∷ []) ≡ text ++ begun.0 =
+      flat_map-append (line_by style) whole (r ∷ [])
+      ∙ (ap (λ xs. body_by style whole ++ xs) (append-nil (line_by style r) ∙ begun.1)
+      ∙ (sym (append_assoc (body_by style whole) part begun.0)
       ∙ ap (λ xs. xs ++ begun.0) (sym is))) in
-      let says = said-front quiet said begins start.state (cs ++ d ∷ []) (ds ++ rest) next (whole ++ r ∷ []) text begun.0 first.replies whole_text in
+      let says = said-front style said begins start.state (cs ++ d ∷ []) (ds ++ rest) next (whole ++ r ∷ []) text begun.0 first.replies whole_text in
       let commands : (cs ++ d ∷ []) ++ (ds ++ rest) ≡ done ++ rest = sym (append_assoc (cs ++ d ∷ []) ds rest) ∙ ap (λ es. es ++ rest) (sym split_next) in
       record {
         further = Some (r.0, need_shown r.1);
@@ -107,9 +109,9 @@ module _ {quiet : Bool} {start now : Moment} {text : List ℕ} {done : List (ℕ
         says = ap (λ es. said (run_from start.state es next)) (sym commands) ∙ says.1;
       }
 
-module _ {quiet : Bool} {start now : Moment} {text : List ℕ} {done : List (ℕ × Command)} (f : RanFar quiet start now text done) (said : Ran → List ℕ) (begins : BeginsWithReplies quiet said) (rest : List (ℕ × Command)) (lines : AreLines (done ++ rest)) where
-  ends : EndsAmong quiet f.ran.replies text
-  ends = ends-among quiet f.ran.replies text f.behind f.proper f.front
+module _ {style : Style} {start now : Moment} {text : List ℕ} {done : List (ℕ × Command)} (f : RanFar style start now text done) (said : Ran → List ℕ) (begins : BeginsWithReplies style said) (rest : List (ℕ × Command)) (lines : AreLines (done ++ rest)) where
+  ends : EndsAmong style f.ran.replies text
+  ends = ends-among style f.ran.replies text f.behind f.proper f.front
 
   parts : LineParts done (numbers_of ends.whole) (numbers_of ends.others)
   parts = line-parts done (numbers_of ends.whole) (numbers_of ends.others) (f.lines ∙ (ap numbers_of ends.split ∙ map-append (λ (r : ℕ × Reply). r.0) ends.whole ends.others))
@@ -131,16 +133,16 @@ module _ {quiet : Bool} {start now : Moment} {text : List ℕ} {done : List (ℕ
   rising_done = (rising-parts (lines_of done) (lines_of rest) (subst AreAscending (map-append (λ (c : ℕ × Command). c.0) done rest) lines.rising)).first
 
   abbrev needs : List (ℕ × Need)
-  needs = needs_by_text quiet (lines_of (done ++ rest)) text
+  needs = needs_by_text style (lines_of (done ++ rest)) text
 
   proper_whole : AllByRecursion (λ r. IsProperReply r.1) ends.whole
   proper_whole = (all-split (λ r. IsProperReply r.1) ends.whole ends.others (subst (AllByRecursion (λ r. IsProperReply r.1)) ends.split f.proper)).0
 
   shown_needs : ShowsFront needs ends.whole behind_lines
   shown_needs =
-      subst (λ ns. ShowsFront (needs_by_text quiet ns text) ends.whole behind_lines) (sym all_lines)
-      (subst (λ xs. ShowsFront (needs_by_text quiet (numbers_of ends.whole ++ behind_lines) xs) ends.whole behind_lines) (sym ends.is)
-      (front-shows quiet ends.whole ends.part behind_lines (subst (AllByRecursion (λ n. n < 2 ^ 64)) all_lines lines.below) rising proper_whole ends.one_line))
+      subst (λ ns. ShowsFront (needs_by_text style ns text) ends.whole behind_lines) (sym all_lines)
+      (subst (λ xs. ShowsFront (needs_by_text style (numbers_of ends.whole ++ behind_lines) xs) ends.whole behind_lines) (sym ends.is)
+      (front-shows style ends.whole ends.part behind_lines (subst (AllByRecursion (λ n. n < 2 ^ 64)) all_lines lines.below) rising proper_whole ends.one_line))
 
   none_begun : AllByRecursion (λ n. need_at needs n ≡ NoNeed) (numbers_of ends.others)
   none_begun = (all-split (λ n. need_at needs n ≡ NoNeed) (numbers_of ends.others) (lines_of rest) shown_needs.none).0
@@ -166,7 +168,7 @@ module _ {quiet : Bool} {start now : Moment} {text : List ℕ} {done : List (ℕ
       (all-append (λ n. need_at needs n ≡ NoNeed) (numbers_of ends.whole) behind_lines (shown-none needs ends.whole shown_needs.shows replied) shown_needs.none)
 
   -- a run that went so far was cut where the text ends
-  pub cut-of : (after : Option (List ℕ)) → Told start.written after text → IsCut quiet said start (over_sink now after) (done ++ rest)
+  pub cut-of : (after : Option (List ℕ)) → Told start.written after text → IsCut style said start (over_sink now after) (done ++ rest)
   cut-of after told = record {
     written = text;
     behind = reached.behind;
@@ -184,12 +186,12 @@ module _ {quiet : Bool} {start now : Moment} {text : List ℕ} {done : List (ℕ
   }
 
 -- whatever was refused, no less was counted at any place
-rose-settles : (start now : Moment) {refusals : List ℕ} → Settles start.accounts now.accounts refusals → RoseAsRefused refusals start now
+rose-settles : {armed : Bool} (start now : Moment) {refusals : List ℕ} → Settles armed start.accounts now.accounts refusals → RoseAsRefused refusals start now
 rose-settles start now settles = λ place. (settles.faults place).rose
 
 -- no command was run
-pub far-start : (quiet : Bool) (start : Moment) → RanFar quiet start start [] []
-far-start quiet start = record {
+pub far-start : (style : Style) (start : Moment) → RanFar style start start [] []
+far-start style start = record {
   ran = nothing_ran start.state;
   lines = refl;
   proper = tt;
@@ -200,7 +202,7 @@ far-start quiet start = record {
 }
 
 -- a run in its middle, all of which is gathered
-pub far-of : {quiet : Bool} {start now : Moment} {counts : Counts} {text : List ℕ} {count : ℕ} {done : List (ℕ × Command)} → Progress quiet start now counts text count done → RanFar quiet start now text done
+pub far-of : {quiet : Bool} {start now : Moment} {counts : Counts} {text : List ℕ} {count : ℕ} {done : List (ℕ × Command)} → Progress quiet start now counts text count done → RanFar (style_by quiet now.armed) start now text done
 far-of {quiet} {start} {now} {text = text} p = record {
   ran = p.ran;
   lines = p.lines;
@@ -212,7 +214,7 @@ far-of {quiet} {start} {now} {text = text} p = record {
 }
 
 -- the same of a text that a front of it was written of
-pub far-front : {quiet : Bool} {start now : Moment} {text : List ℕ} (front behind : List ℕ) {done : List (ℕ × Command)} → RanFar quiet start now text done → text ≡ front ++ behind → RanFar quiet start now front done
+pub far-front : {style : Style} {start now : Moment} {text : List ℕ} (front behind : List ℕ) {done : List (ℕ × Command)} → RanFar style start now text done → text ≡ front ++ behind → RanFar style start now front done
 far-front front behind f is = record {
   ran = f.ran;
   lines = f.lines;
@@ -223,12 +225,24 @@ far-front front behind f is = record {
   front = f.front ∙ (ap (λ xs. xs ++ f.behind) is ∙ append_assoc front behind f.behind);
 }
 
+-- of no command any style says as much
+pub far-none : {style : Style} (other : Style) {start now : Moment} {text : List ℕ} → RanFar style start now text [] → RanFar other start now text []
+far-none {style} other f = record {
+  ran = f.ran;
+  lines = f.lines;
+  proper = f.proper;
+  run = f.run;
+  rose = f.rose;
+  behind = f.behind;
+  front = none-written other f.ran f.lines ∙ (sym (none-written style f.ran f.lines) ∙ f.front);
+}
+
 rose-on : (n before now after : ℕ) → now ≤ after → RoseBy n before now → RoseBy n before after
 rose-on n before now after never_falls (inl more) = inl (omega (arith, never_falls, more))
 rose-on n before now after never_falls (inr last) = inr (omega (arith, never_falls, last))
 
 -- no fault less is counted later
-pub far-on : {quiet : Bool} {start now : Moment} (next : Moment) {text : List ℕ} {done : List (ℕ × Command)} → RanFar quiet start now text done → KeepsAccounts now.accounts next.accounts → RanFar quiet start next text done
+pub far-on : {style : Style} {start now : Moment} (next : Moment) {text : List ℕ} {done : List (ℕ × Command)} → RanFar style start now text done → KeepsAccounts now.accounts next.accounts → RanFar style start next text done
 far-on next f keeps = record {
   ran = f.ran;
   lines = f.lines;
@@ -240,8 +254,8 @@ far-on next f keeps = record {
 }
 
 -- a whole run is a cut of itself
-pub cut-run : {quiet : Bool} {said : Ran → List ℕ} {before after : Moment} {commands : List (ℕ × Command)} → IsRunOf quiet said before after commands → IsCut quiet said before after commands
-cut-run {quiet} {said} {before} {after} {commands} r = record {
+pub cut-run : {quiet second : Bool} {said : Ran → List ℕ} {before after : Moment} {commands : List (ℕ × Command)} → IsRunOf quiet second said before after commands → IsCut (style_by quiet second) said before after commands
+cut-run {commands = commands} r = record {
   written = r.written;
   behind = [];
   further = None;
@@ -257,10 +271,10 @@ cut-run {quiet} {said} {before} {after} {commands} r = record {
 }
 
 -- a run at its last command, with a front of what is written behind its replies
-pub cut-tail : {quiet : Bool} {start now : Moment} {counts : Counts} {text : List ℕ} {count : ℕ} {done : List (ℕ × Command)} (p : Progress quiet start now counts text count done) (said : Ran → List ℕ) (tail front behind : List ℕ) (after : Option (List ℕ)) → count < 2 ^ 64 → (quiet ≡ true → (n : ℕ) → n < 2 ^ 64 → NoLine n (ended_lines tail)) → said p.ran ≡ replies_text quiet p.ran ++ tail → tail ≡ front ++ behind → Told start.written after (text ++ front) → IsCut quiet said start (over_sink now after) done
+pub cut-tail : {quiet : Bool} {start now : Moment} {counts : Counts} {text : List ℕ} {count : ℕ} {done : List (ℕ × Command)} (p : Progress quiet start now counts text count done) (said : Ran → List ℕ) (tail front behind : List ℕ) (after : Option (List ℕ)) → count < 2 ^ 64 → ((n : ℕ) → n < 2 ^ 64 → NoLine n (ended_lines tail)) → said p.ran ≡ replies_text (style_by quiet now.armed) p.ran ++ tail → tail ≡ front ++ behind → Told start.written after (text ++ front) → IsCut (style_by quiet now.armed) said start (over_sink now after) done
 cut-tail {quiet} {start} {now} {text = text} {done = done} p said tail front behind after few none says is told =
-    let needs : List (ℕ × Need) = needs_by_text quiet (lines_of done) (text ++ front) in
-    let at_lines : ShowsNeeds needs p.ran.replies = shows p front few (λ quiet n below. none-front n front behind (subst (λ xs. NoLine n (ended_lines xs)) is (none quiet n below))) in
+    let needs : List (ℕ × Need) = needs_by_text (style_by quiet now.armed) (lines_of done) (text ++ front) in
+    let at_lines : ShowsNeeds needs p.ran.replies = shows p front few (λ n below. none-front n front behind (subst (λ xs. NoLine n (ended_lines xs)) is (none n below))) in
     let ran : run_from start.state done needs ≡ p.ran = p.run needs at_lines in
     record {
       written = text ++ front;
@@ -278,19 +292,19 @@ cut-tail {quiet} {start} {now} {text = text} {done = done} p said tail front beh
     }
 
 -- nothing was run and nothing written
-pub cut-none : (quiet : Bool) (said : Ran → List ℕ) → BeginsWithReplies quiet said → (start now : Moment) (commands : List (ℕ × Command)) → AreLines commands → KeepsAccounts start.accounts now.accounts → now.written ≡ start.written → IsCut quiet said start now commands
-cut-none quiet said begins start now commands lines keeps same =
-    cut-of (far-on now (far-start quiet start) keeps) said begins commands lines now.written (subst (λ w. Told start.written w []) (sym same) (told-none start.written))
+pub cut-none : (style : Style) (said : Ran → List ℕ) → BeginsWithReplies style said → (start now : Moment) (commands : List (ℕ × Command)) → AreLines commands → KeepsAccounts start.accounts now.accounts → now.written ≡ start.written → IsCut style said start now commands
+cut-none style said begins start now commands lines keeps same =
+    cut-of (far-on now (far-start style start) keeps) said begins commands lines now.written (subst (λ w. Told start.written w []) (sym same) (told-none start.written))
 
 -- so of commands that were run in part
-pub cut-part : {quiet : Bool} {start now : Moment} {commands : List (ℕ × Command)} → WrotePart quiet start now commands → (said : Ran → List ℕ) → BeginsWithReplies quiet said → AreLines commands → IsCut quiet said start now commands
-cut-part {quiet} {start} {now} w said begins lines =
-    subst (IsCut quiet said start now) (sym w.part.split)
+pub cut-part : {style : Style} {start now : Moment} {commands : List (ℕ × Command)} → WrotePart style start now commands → (said : Ran → List ℕ) → BeginsWithReplies style said → AreLines commands → IsCut style said start now commands
+cut-part {style} {start} {now} w said begins lines =
+    subst (IsCut style said start now) (sym w.part.split)
     (cut-of w.part.far said begins w.part.rest (subst AreLines w.part.split lines) now.written w.told)
 
 -- the same cut at another moment, with the same accounts and over the same sink
-pub cut-same : {quiet : Bool} {said : Ran → List ℕ} {before now : Moment} (after : Moment) {commands : List (ℕ × Command)} → after.written ≡ now.written → after.accounts ≡ now.accounts → IsCut quiet said before now commands → IsCut quiet said before after commands
-cut-same {quiet} {said} {before} {now} after {commands} written accounts c = record {
+pub cut-same : {style : Style} {said : Ran → List ℕ} {before now : Moment} (after : Moment) {commands : List (ℕ × Command)} → after.written ≡ now.written → after.accounts ≡ now.accounts → IsCut style said before now commands → IsCut style said before after commands
+cut-same {style} {said} {before} {now} after {commands} written accounts c = record {
   written = c.written;
   behind = c.behind;
   further = c.further;
@@ -301,6 +315,6 @@ cut-same {quiet} {said} {before} {now} after {commands} written accounts c = rec
   others = c.others;
   split = c.split;
   none = c.none;
-  rose = λ place. subst (λ shelf. RoseBy (count_by (λ p. p == place) (run_from before.state c.shown (needs_by_text quiet (lines_of commands) c.written)).refusals) (faults_of (at_number before.accounts place)) (faults_of (at_number shelf place))) (sym accounts) (c.rose place);
+  rose = λ place. subst (λ shelf. RoseBy (count_by (λ p. p == place) (run_from before.state c.shown (needs_by_text style (lines_of commands) c.written)).refusals) (faults_of (at_number before.accounts place)) (faults_of (at_number shelf place))) (sym accounts) (c.rose place);
   no_need = λ stayed. c.no_need (stayed-same before now after accounts stayed);
 }

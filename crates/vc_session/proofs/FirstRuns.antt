@@ -1,5 +1,5 @@
 -- The run of the first commands of a run.
-use Rattle.vc_base.proofs.Common.{◌≡◌, ℕ, ◌≤◌, Bool, cond, eqb, ◌==◌, List, [], ◌∷◌, ◌++◌, length, count_by, sym, refl, ap, ap₂, ◌∙◌, subst, append_assoc, arith, length-map, sum_by-append, AllByRecursion}
+use Rattle.vc_base.proofs.Common.{◌≡◌, ℕ, ◌≤◌, cond, eqb, ◌==◌, List, [], ◌∷◌, ◌++◌, length, count_by, sym, refl, ap, ap₂, ◌∙◌, subst, append_assoc, arith, length-map, sum_by-append, AllByRecursion}
 use Rattle.vc_base.proofs.Quantifiers.{all-both, all-map}
 use Rattle.vc_script.specs.declared.command.Command.{Command}
 use Rattle.vc_steps.specs.Moment.{Moment}
@@ -10,6 +10,7 @@ use Rattle.vc_script.specs.Needs.{AreAscending, Need, ShowsNeeds, need_at, need_
 use Rattle.vc_script.proofs.Texts.{needs_shown, shows-needs_shown}
 use Rattle.vc_steps.specs.Step.{step}
 use Rattle.vc_session.specs.Far.{RanFar}
+use Rattle.vc_session.specs.declared.style.Style.{Style}
 use Rattle.vc_session.specs.Run.{lines_of, run_from, run_with_step}
 use Rattle.vc_session.proofs.FrontNeeds.{all-split}
 use Rattle.vc_session.proofs.ShownNeeds.{numbers_of}
@@ -79,7 +80,7 @@ pub record FirstRan (s : State) (cs : List (ℕ × Command)) (needs : List (ℕ 
   pub replies : (run_from s cs needs).replies ≡ whole
   pub refused : (place : ℕ) → count_by (λ p. p == place) (run_from s cs needs).refusals ≤ count_by (λ p. p == place) refusals
 
-module _ {quiet : Bool} {start now : Moment} {text : List ℕ} {done : List (ℕ × Command)} (f : RanFar quiet start now text done) (rising : AreAscending (lines_of done)) (cs ds : List (ℕ × Command)) (whole others : List (ℕ × Reply)) (split : done ≡ cs ++ ds) (parts : f.ran.replies ≡ whole ++ others) (lines : lines_of cs ≡ numbers_of whole) (needs : List (ℕ × Need)) (shows : ShowsNeeds needs whole) where
+module _ {style : Style} {start now : Moment} {text : List ℕ} {done : List (ℕ × Command)} (f : RanFar style start now text done) (rising : AreAscending (lines_of done)) (cs ds : List (ℕ × Command)) (whole others : List (ℕ × Reply)) (split : done ≡ cs ++ ds) (parts : f.ran.replies ≡ whole ++ others) (lines : lines_of cs ≡ numbers_of whole) (needs : List (ℕ × Need)) (shows : ShowsNeeds needs whole) where
   abbrev all : List (ℕ × Need)
   all = needs_shown f.ran.replies
 

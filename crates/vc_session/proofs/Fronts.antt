@@ -6,7 +6,9 @@ use Rattle.vc_script.specs.Print.{line_of, printed}
 use Rattle.vc_script.specs.Lines.{ended_after, ended_lines}
 use Rattle.vc_script.specs.Needs.{Need, NoNeed, need_shown}
 use Rattle.vc_script.proofs.Newlines.{OneLine, line-printed, stays}
-use Rattle.vc_session.specs.QuietText.{body_by, has_line, line_by, numbered_line}
+use Rattle.vc_session.specs.declared.style.Style.{Style}
+use Rattle.vc_session.specs.declared.style.Style.TheVariants.{Plain, Numbered, Quiet}
+use Rattle.vc_session.specs.QuietText.{body_by, has_line, line_by, numbered_line, style_by}
 use Rattle.vc_session.proofs.ShownNeeds.{NoLine, line-numbered, regroup}
 
 -- a list that two pieces are put together from, in two ways: the first piece of the one is a front of that of the other
@@ -45,48 +47,49 @@ numbered-is n r NoNeed proper = inl refl
 numbered-is n r need proper = inr (decimal n ++ 32 ∷ printed r, regroup (decimal n) (printed r), line-numbered n r proper)
 
 -- what is written of a reply is such a one
-line-is : (quiet : Bool) (r : ℕ × Reply) → IsProperReply r.1 → IsLine (line_by quiet r)
-line-is false r proper = inr (printed r.1, refl, line-printed r.1 proper)
-line-is true r proper = numbered-is r.0 r.1 (need_shown r.1) proper
+line-is : (style : Style) (r : ℕ × Reply) → IsProperReply r.1 → IsLine (line_by style r)
+line-is Plain r proper = inr (printed r.1, refl, line-printed r.1 proper)
+line-is Numbered r proper = inr (decimal r.0 ++ 32 ∷ printed r.1, regroup (decimal r.0) (printed r.1), line-numbered r.0 r.1 proper)
+line-is Quiet r proper = numbered-is r.0 r.1 (need_shown r.1) proper
 
-within-one_line : (quiet : Bool) (r : ℕ × Reply) (part more : List ℕ) (b : ℕ) → IsProperReply r.1 → line_by quiet r ≡ part ++ b ∷ more → OneLine part
-within-one_line quiet r part more b proper same =
-    elim (line-is quiet r proper) [
+within-one_line : (style : Style) (r : ℕ × Reply) (part more : List ℕ) (b : ℕ) → IsProperReply r.1 → line_by style r ≡ part ++ b ∷ more → OneLine part
+within-one_line style r part more b proper same =
+    elim (line-is style r proper) [
       | inl none ↦ absurd (none-before part more b (sym none ∙ same))
       | inr line ↦ front-one_line part line.0 more b line.2 (sym line.1 ∙ same)
     ]
 
 -- a part of what is written of the first of these
-abbrev pub IsPartOf : Bool → List ℕ → List (ℕ × Reply) → Type 0
-IsPartOf quiet part [] = part ≡ []
-IsPartOf quiet part (r ∷ rs) = (rest : List ℕ) × (line_by quiet r ≡ part ++ rest)
+abbrev pub IsPartOf : Style → List ℕ → List (ℕ × Reply) → Type 0
+IsPartOf style part [] = part ≡ []
+IsPartOf style part (r ∷ rs) = (rest : List ℕ) × (line_by style r ≡ part ++ rest)
 
 -- a text is what is written of the first of these replies, and a part of the next without a newline
-pub record EndsAmong (quiet : Bool) (replies : List (ℕ × Reply)) (text : List ℕ) : Type 0 where
+pub record EndsAmong (style : Style) (replies : List (ℕ × Reply)) (text : List ℕ) : Type 0 where
   pub whole : List (ℕ × Reply)
   pub others : List (ℕ × Reply)
   pub part : List ℕ
   pub split : replies ≡ whole ++ others
-  pub is : text ≡ body_by quiet whole ++ part
+  pub is : text ≡ body_by style whole ++ part
   pub one_line : OneLine part
-  pub begun : IsPartOf quiet part others
+  pub begun : IsPartOf style part others
 
 -- as any front does of what is written of them
-pub ends-among : (quiet : Bool) (rs : List (ℕ × Reply)) (text behind : List ℕ) → AllByRecursion (λ r. IsProperReply r.1) rs → body_by quiet rs ≡ text ++ behind → EndsAmong quiet rs text
-ends-among quiet [] [] behind proper same = record { whole = []; others = []; part = []; split = refl; is = refl; one_line = refl; begun = refl }
-ends-among quiet [] (t ∷ ts) behind proper same = absurd cc
-ends-among quiet (r ∷ rs) text behind proper same =
-    elim (fronts (line_by quiet r) (body_by quiet rs) text behind same) [
-      | inl b ↦ one-more r b.0 b.1 (ends-among quiet rs b.0 behind proper.1 b.2)
-      | inr w ↦ record { whole = []; others = r ∷ rs; part = text; split = refl; is = refl; one_line = within-one_line quiet r text w.1 w.0 proper.0 w.2; begun = (w.0 ∷ w.1, w.2) }
+pub ends-among : (style : Style) (rs : List (ℕ × Reply)) (text behind : List ℕ) → AllByRecursion (λ r. IsProperReply r.1) rs → body_by style rs ≡ text ++ behind → EndsAmong style rs text
+ends-among style [] [] behind proper same = record { whole = []; others = []; part = []; split = refl; is = refl; one_line = refl; begun = refl }
+ends-among style [] (t ∷ ts) behind proper same = absurd cc
+ends-among style (r ∷ rs) text behind proper same =
+    elim (fronts (line_by style r) (body_by style rs) text behind same) [
+      | inl b ↦ one-more r b.0 b.1 (ends-among style rs b.0 behind proper.1 b.2)
+      | inr w ↦ record { whole = []; others = r ∷ rs; part = text; split = refl; is = refl; one_line = within-one_line style r text w.1 w.0 proper.0 w.2; begun = (w.0 ∷ w.1, w.2) }
     ] where
-      one-more : {text : List ℕ} {rs : List (ℕ × Reply)} (r : ℕ × Reply) (more : List ℕ) → text ≡ line_by quiet r ++ more → EndsAmong quiet rs more → EndsAmong quiet (r ∷ rs) text
+      one-more : {text : List ℕ} {rs : List (ℕ × Reply)} (r : ℕ × Reply) (more : List ℕ) → text ≡ line_by style r ++ more → EndsAmong style rs more → EndsAmong style (r ∷ rs) text
       one-more r more is e = record {
         whole = r ∷ e.whole;
         others = e.others;
         part = e.part;
         split = ap (λ qs. r ∷ qs) e.split;
-        is = is ∙ (ap (λ xs. line_by quiet r ++ xs) e.is ∙ sym (append_assoc (line_by quiet r) (body_by quiet e.whole) e.part));
+        is = is ∙ (ap (λ xs. line_by style r ++ xs) e.is ∙ sym (append_assoc (line_by style r) (body_by style e.whole) e.part));
         one_line = e.one_line;
         begun = e.begun;
       }
@@ -107,14 +110,21 @@ ended-more begun (x ∷ xs) rest =
       | false ↦ ended-more (begun ++ x ∷ []) xs rest
     ]
 
+-- what is written of a reply in a run that isn't quiet is a line
+one-line : (second : Bool) (r : ℕ × Reply) → (xs : List ℕ) × (line_by (style_by false second) r ≡ xs ++ 10 ∷ [])
+one-line false r = (printed r.1, refl)
+one-line true r = (decimal r.0 ++ 32 ∷ printed r.1, regroup (decimal r.0) (printed r.1))
+
 -- a text that begins with the lines of replies has as many whole lines, or more
-pub ended-least : (rs : List (ℕ × Reply)) (tail : List ℕ) → length rs ≤ length (ended_lines (body_by false rs ++ tail))
-ended-least [] tail = omega arith
-ended-least (r ∷ rs) tail =
-    let rest : List ℕ = body_by false rs ++ tail in
-    let is : body_by false (r ∷ rs) ++ tail ≡ printed r.1 ++ 10 ∷ rest =
-    append_assoc (line_of r.1) (body_by false rs) tail ∙ append_assoc (printed r.1) (10 ∷ []) rest in
-    subst (λ xs. length (r ∷ rs) ≤ length (ended_lines xs)) (sym is) (omega (arith, ended-least rs tail, ended-more [] (printed r.1) rest))
+pub ended-least : (second : Bool) (rs : List (ℕ × Reply)) (tail : List ℕ) → length rs ≤ length (ended_lines (body_by (style_by false second) rs ++ tail))
+ended-least second [] tail = omega arith
+ended-least second (r ∷ rs) tail =
+    let style : Style = style_by false second in
+    let line = one-line second r in
+    let rest : List ℕ = body_by style rs ++ tail in
+    let is : body_by style (r ∷ rs) ++ tail ≡ line.0 ++ 10 ∷ rest =
+    append_assoc (line_by style r) (body_by style rs) tail ∙ (ap (λ xs. xs ++ rest) line.1 ∙ append_assoc line.0 (10 ∷ []) rest) in
+    subst (λ xs. length (r ∷ rs) ≤ length (ended_lines xs)) (sym is) (omega (arith, ended-least second rs tail, ended-more [] line.0 rest))
 
 -- the lines of a front are the first ones
 ended-front : (begun xs ys : List ℕ) → (more : List (List ℕ)) × (ended_after begun (xs ++ ys) ≡ ended_after begun xs ++ more)

@@ -1,5 +1,5 @@
 -- What was written of generated commands where a run of them was broken off.
-use Rattle.vc_base.proofs.Common.{◌≡◌, ℕ, ◌+◌, ◌≤◌, true, List, [], ◌∷◌, ◌++◌, length, take, drop, IfSome, Some, None, Ok, Err, Option, Result, sym, refl, ap, ◌∙◌, subst, append-nil, arith, take-append-drop, Rose}
+use Rattle.vc_base.proofs.Common.{◌≡◌, ℕ, ◌+◌, ◌≤◌, true, false, List, [], ◌∷◌, ◌++◌, length, take, drop, IfSome, Some, None, Ok, Err, Option, Result, sym, refl, ap, ◌∙◌, subst, append-nil, arith, take-append-drop, Rose}
 use Rattle.vc_counts.specs.declared.counts.Counts.{Counts}
 use Rattle.vc_generate.specs.Generated.{commands_of_seed}
 use Rattle.vc_script.specs.declared.command.Command.{Command}
@@ -14,6 +14,8 @@ use Rattle.vc_session.specs.Progress.{Progress}
 use Rattle.vc_session.specs.Replay.{Told, on_lines}
 use Rattle.vc_session.specs.declared.engine.Stop.{Stop}
 use Rattle.vc_session.specs.declared.engine.Stop.TheVariants.{Write, Memory}
+use Rattle.vc_session.specs.QuietText.{style_by}
+use Rattle.vc_session.specs.declared.style.Style.TheVariants.{Quiet}
 use Rattle.vc_session.specs.Text.{is_quiet, lines_text, tail_lines, text_of}
 use Rattle.vc_words.specs.declared.words.Words.{Words}
 use Rattle.vc_session.proofs.Behind.{tail-unnumbered, text-says}
@@ -29,7 +31,7 @@ on_lines-append n (c ∷ cs) ds =
     ap (λ es. (n, c) ∷ es) (on_lines-append (n + 1) cs ds ∙ ap (λ (k : ℕ). on_lines (n + 1) cs ++ on_lines k ds) (omega arith))
 
 module _ {start now : Moment} {told told' : Option (List ℕ)} {before : Counts} {gathered : List ℕ} {line : ℕ} {commands left : List Command} (g : Generating start now told told' before gathered line commands left) (next : Moment) (keeps : KeepsAccounts now.accounts next.accounts) where
-  part-of : (front behind : List ℕ) → g.written ++ gathered ≡ front ++ behind → Told told next.written front → WrotePart true (over_sink start told) next (on_lines 1 commands)
+  part-of : (front behind : List ℕ) → g.written ++ gathered ≡ front ++ behind → Told told next.written front → WrotePart Quiet (over_sink start told) next (on_lines 1 commands)
   part-of front behind is wrote = record {
     text = front;
     part = record {
@@ -42,11 +44,11 @@ module _ {start now : Moment} {told told' : Option (List ℕ)} {before : Counts}
   }
 
   -- what is gathered was not written
-  pub generating-part : next.written ≡ told' → WrotePart true (over_sink start told) next (on_lines 1 commands)
+  pub generating-part : next.written ≡ told' → WrotePart Quiet (over_sink start told) next (on_lines 1 commands)
   generating-part same = part-of g.written gathered refl (subst (λ w. Told told w g.written) (sym same) g.tells)
 
   -- or a front of it was
-  pub generating-front : IfSome told' (λ w. (k : ℕ) × (next.written ≡ Some (w ++ take k gathered))) → WrotePart true (over_sink start told) next (on_lines 1 commands)
+  pub generating-front : IfSome told' (λ w. (k : ℕ) × (next.written ≡ Some (w ++ take k gathered))) → WrotePart Quiet (over_sink start told) next (on_lines 1 commands)
   generating-front front =
       let wrote = told-front told told' next.written g.written gathered g.tells front in
       part-of (g.written ++ take wrote.0 gathered) (drop wrote.0 gathered) (text-front g.written wrote.0 gathered) wrote.1
@@ -58,16 +60,16 @@ module _ (tool : Tool) (w : Words) (n : ℕ) (is : w.generate ≡ Some n) (most 
   lines : AreLines (on_lines 1 commands)
   lines = on_lines-lines commands (omega (arith, generated-most tool n w.seed most))
 
-  begins : BeginsWithReplies true (text_of w (length commands))
-  begins = subst (λ q. BeginsWithReplies q (text_of w (length commands))) (quiet-generated w n is) (text-begins w (length commands))
+  begins : BeginsWithReplies Quiet (text_of w false (length commands))
+  begins = subst (λ q. BeginsWithReplies (style_by q false) (text_of w false (length commands))) (quiet-generated w n is) (text-begins w false (length commands))
 
   -- what was written of a part of them is a cut
-  part-cut : (start now after : Moment) → after.written ≡ now.written → after.accounts ≡ now.accounts → WrotePart true start now (on_lines 1 commands) → Cuts (Some n) tool w start after None
-  part-cut start now after written accounts part = cut-same after written accounts (cut-part part (text_of w (length commands)) begins lines)
+  part-cut : (start now after : Moment) → after.written ≡ now.written → after.accounts ≡ now.accounts → WrotePart Quiet start now (on_lines 1 commands) → Cuts (Some n) tool w start after None
+  part-cut start now after written accounts part = cut-same after written accounts (cut-part part (text_of w false (length commands)) begins lines)
 
   -- nothing was run and nothing written
   pub cuts-generated : (start now : Moment) → KeepsAccounts start.accounts now.accounts → now.written ≡ start.written → Cuts (Some n) tool w start now None
-  cuts-generated start now keeps same = cut-none true (text_of w (length commands)) begins start now (on_lines 1 commands) lines keeps same
+  cuts-generated start now keeps same = cut-none Quiet (text_of w false (length commands)) begins start now (on_lines 1 commands) lines keeps same
 
   module _ (start last : Moment) (counts : Counts) (told told' : Option (List ℕ)) (failures failures' : ℕ) where
     -- a run of them was broken off
@@ -97,22 +99,23 @@ module _ (tool : Tool) (w : Words) (n : ℕ) (is : w.generate ≡ Some n) (most 
     }
 
     -- or a front of it was written
-    pub generated-broken : (U : Type 0) (stop : Stop) (all : ℕ) (told'' : Option (List ℕ)) (failures'' : ℕ) (none tail : List ℕ) → stop ≡ Write → none ≡ [] → tail ≡ none ++ lines_text (tail_lines w all counts last.state.homes) → RunsCommands (Ok all) commands start last counts told told' failures failures' → IfSome told' (λ bytes. (k : ℕ) × (told'' ≡ Some (bytes ++ take k tail))) → failures' ≤ failures'' → Rose failures' failures'' → RunsGenerated tool w n (let answer : Result U Stop = Err stop in answer) start (moment_at_end last) told told'' failures failures''
-    generated-broken U stop all told'' failures'' none tail write empty behind r front never rose =
+    pub generated-broken : (U : Type 0) (stop : Stop) (all : ℕ) (told'' : Option (List ℕ)) (failures'' : ℕ) (none tail : List ℕ) → stop ≡ Write → last.armed ≡ false → none ≡ [] → tail ≡ none ++ lines_text (tail_lines w all counts last.state.homes) → RunsCommands (Ok all) commands start last counts told told' failures failures' → IfSome told' (λ bytes. (k : ℕ) × (told'' ≡ Some (bytes ++ take k tail))) → failures' ≤ failures'' → Rose failures' failures'' → RunsGenerated tool w n (let answer : Result U Stop = Err stop in answer) start (moment_at_end last) told told'' failures failures''
+    generated-broken U stop all told'' failures'' none tail write off empty behind r front never rose =
         let ran = r.ran in
         let wrote = told-front told told' told'' ran.text tail ran.tells front in
         let quiet : true ≡ is_quiet w = sym (quiet-generated w n is) in
         let progress : Progress (is_quiet w) (over_sink start told) (over_sink last told') counts ran.text all (on_lines 1 commands) =
         subst (λ q. Progress q (over_sink start told) (over_sink last told') counts ran.text all (on_lines 1 commands)) quiet ran.progress in
         let tail_is : tail ≡ lines_text (tail_lines w all counts last.state.homes) = behind ∙ ap (λ xs. xs ++ lines_text (tail_lines w all counts last.state.homes)) empty in
-        let cut : IsCut (is_quiet w) (text_of w all) (over_sink start told) (over_sink last told'') (on_lines 1 commands) =
-        cut-tail progress (text_of w all) tail (take wrote.0 tail) (drop wrote.0 tail) told'' (omega (arith, ran.count, generated-most tool n w.seed most)) (tail-unnumbered w all tail progress tail_is) (text-says w all tail progress tail_is) (sym (take-append-drop wrote.0 tail)) wrote.1 in
+        let cut : IsCut (style_by (is_quiet w) last.armed) (text_of w last.armed all) (over_sink start told) (over_sink last told'') (on_lines 1 commands) =
+        cut-tail progress (text_of w last.armed all) tail (take wrote.0 tail) (drop wrote.0 tail) told'' (omega (arith, ran.count, generated-most tool n w.seed most)) (tail-unnumbered w all tail progress tail_is) (text-says w all tail progress tail_is) (sym (take-append-drop wrote.0 tail)) wrote.1 in
         record {
           run = tt;
           cut =
               cut-same (over_sink (moment_at_end last) told'') refl refl
-              (subst (λ q. IsCut q (text_of w (length commands)) (over_sink start told) (over_sink last told'') (on_lines 1 commands)) (sym quiet)
-              (subst (λ k. IsCut (is_quiet w) (text_of w k) (over_sink start told) (over_sink last told'') (on_lines 1 commands)) ran.count cut));
+              (subst (λ q. IsCut (style_by q false) (text_of w false (length commands)) (over_sink start told) (over_sink last told'') (on_lines 1 commands)) (sym quiet)
+              (subst (λ k. IsCut (style_by (is_quiet w) false) (text_of w false k) (over_sink start told) (over_sink last told'') (on_lines 1 commands)) ran.count
+              (subst (λ on. IsCut (style_by (is_quiet w) on) (text_of w on all) (over_sink start told) (over_sink last told'') (on_lines 1 commands)) off cut)));
           read = write-read stop write;
           write = λ other. rose-from failures failures' failures'' r.writes rose;
           writes = omega (arith, r.writes, never);

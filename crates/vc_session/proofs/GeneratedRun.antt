@@ -1,5 +1,5 @@
 -- A run of generated commands, and what each adds to it.
-use Rattle.vc_base.proofs.Common.{◌≡◌, ℕ, ◌+◌, ◌^◌, ◌<◌, ◌≤◌, true, ◌||◌, List, [], ◌∷◌, ◌++◌, length, is_some, IfSome, OnOk, IsTrue, nat_le, Some, None, Ok, Err, Option, Result, sym, refl, ap, ◌∙◌, subst, append_assoc, append-nil, add-zero, arith, length-append, leb-true, or-true, and_parts, same_Some, AllByRecursion}
+use Rattle.vc_base.proofs.Common.{◌≡◌, ℕ, ◌+◌, ◌^◌, ◌<◌, ◌≤◌, true, false, ◌||◌, List, [], ◌∷◌, ◌++◌, length, is_some, IfSome, OnOk, IsTrue, nat_le, Some, None, Ok, Err, Option, Result, sym, refl, ap, ◌∙◌, subst, append_assoc, append-nil, add-zero, arith, length-append, leb-true, or-true, and_parts, same_Some, AllByRecursion}
 use Rattle.vc_base.proofs.Quantifiers.{all-middle}
 use Rattle.vc_counts.specs.declared.counts.Counts.{Counts}
 use Rattle.vc_generate.specs.Generated.{commands_of_seed}
@@ -17,6 +17,7 @@ use Rattle.vc_session.specs.Generating.{Generating, RanAll, RunsCommands}
 use Rattle.vc_session.specs.Progress.{Progress}
 use Rattle.vc_session.specs.ProperState.{IsProperState}
 use Rattle.vc_session.specs.QuietText.{line_by}
+use Rattle.vc_session.specs.declared.style.Style.TheVariants.{Quiet}
 use Rattle.vc_session.specs.Replay.{IsGenerated, IsRunOf, Told, on_lines}
 use Rattle.vc_session.specs.Run.{nothing_ran}
 use Rattle.vc_session.specs.declared.engine.Stop.{Stop}
@@ -64,15 +65,15 @@ module _ {start now : Moment} {told told' : Option (List ℕ)} {before : Counts}
       let all : g.done ++ c ∷ left' ≡ commands = subst (λ cs. g.done ++ cs ≡ commands) is g.all in
       let pushed : (g.done ++ c ∷ []) ++ left' ≡ commands = append_assoc g.done (c ∷ []) left' ∙ all in
       let here : IsProperCommand c = all-middle IsProperCommand g.done c left' (subst (AllByRecursion IsProperCommand) (sym all) proper) in
-      let gathers : gathered' ≡ gathered ++ line_by true (line + 1, i.reply) = same_Some gathered' (gathered ++ line_by true (line + 1, i.reply)) i.told in
+      let gathers : gathered' ≡ gathered ++ line_by Quiet (line + 1, i.reply) = same_Some gathered' (gathered ++ line_by Quiet (line + 1, i.reply)) i.told in
       let below : line < line + 1 = omega arith in
-      let behind : Progress true (over_sink start told) (over_sink next told') counts ((g.written ++ gathered) ++ line_by true (line + 1, i.reply)) (line + 1) (on_lines 1 g.done ++ (line + 1, c) ∷ []) =
+      let behind : Progress true (over_sink start told) (over_sink next told') counts ((g.written ++ gathered) ++ line_by Quiet (line + 1, i.reply)) (line + 1) (on_lines 1 g.done ++ (line + 1, c) ∷ []) =
       progress-over told' (progress-step (line + 1) below (progress-over (Some gathered) g.progress) c here i) in
       let number : line + 1 ≡ 1 + length g.done = omega (arith, g.count) in
       let lines : on_lines 1 g.done ++ (line + 1, c) ∷ [] ≡ on_lines 1 (g.done ++ c ∷ []) =
       ap (λ (k : ℕ). on_lines 1 g.done ++ (k, c) ∷ []) number ∙ sym (on_lines-push 1 g.done c) in
-      let text : (g.written ++ gathered) ++ line_by true (line + 1, i.reply) ≡ g.written ++ gathered' =
-      append_assoc g.written gathered (line_by true (line + 1, i.reply)) ∙ ap (λ xs. g.written ++ xs) (sym gathers) in
+      let text : (g.written ++ gathered) ++ line_by Quiet (line + 1, i.reply) ≡ g.written ++ gathered' =
+      append_assoc g.written gathered (line_by Quiet (line + 1, i.reply)) ∙ ap (λ xs. g.written ++ xs) (sym gathers) in
       record {
         done = g.done ++ c ∷ [];
         all = pushed;
@@ -126,27 +127,28 @@ pub quiet-generated : (w : Words) (n : ℕ) → w.generate ≡ Some n → is_qui
 quiet-generated w n is = ap (λ g. w.quiet || is_some g) is ∙ or-true w.quiet
 
 -- they were run, and what stands behind the replies is written
-pub generating-ends : {start now : Moment} {told told' : Option (List ℕ)} {counts : Counts} {lines : ℕ} (tool : Tool) (w : Words) (n : ℕ) (after : Option (List ℕ)) (tail : List ℕ) → w.generate ≡ Some n → n ≤ 1000000 → RanAll start now told told' counts (commands_of_seed tool n w.seed) lines → tail ≡ lines_text (tail_lines w lines counts now.state.homes) → Told told' after tail → IsGenerated tool w n (over_sink start told) (over_sink (moment_at_end now) after)
-generating-ends {start} {now} {told} {told'} {counts} {lines} tool w n after tail is most r ends wrote =
+pub generating-ends : {start now : Moment} {told told' : Option (List ℕ)} {counts : Counts} {lines : ℕ} (tool : Tool) (w : Words) (n : ℕ) (after : Option (List ℕ)) (tail : List ℕ) → w.generate ≡ Some n → n ≤ 1000000 → now.armed ≡ false → RanAll start now told told' counts (commands_of_seed tool n w.seed) lines → tail ≡ lines_text (tail_lines w lines counts now.state.homes) → Told told' after tail → IsGenerated tool w n (over_sink start told) (over_sink (moment_at_end now) after)
+generating-ends {start} {now} {told} {told'} {counts} {lines} tool w n after tail is most off r ends wrote =
     let commands = commands_of_seed tool n w.seed in
     let quiet : is_quiet w ≡ true = quiet-generated w n is in
     let few : lines < 2 ^ 64 = omega (arith, r.count, generated-most tool n w.seed most) in
     let progress : Progress (is_quiet w) (over_sink start told) (over_sink now told') counts r.text lines (on_lines 1 commands) =
     subst (λ q. Progress q (over_sink start told) (over_sink now told') counts r.text lines (on_lines 1 commands)) (sym quiet) r.progress in
-    let run : IsRunOf (is_quiet w) (text_of w lines) (over_sink start told) (over_sink (moment_at_end now) after) (on_lines 1 commands) =
+    let run : IsRunOf (is_quiet w) now.armed (text_of w now.armed lines) (over_sink start told) (over_sink (moment_at_end now) after) (on_lines 1 commands) =
     text-ends w lines tail progress ends after few (told-more told told' after r.text tail r.tells wrote) in
     record {
       run =
-          subst (λ q. IsRunOf q (text_of w (length commands)) (over_sink start told) (over_sink (moment_at_end now) after) (on_lines 1 commands)) quiet
-          (subst (λ k. IsRunOf (is_quiet w) (text_of w k) (over_sink start told) (over_sink (moment_at_end now) after) (on_lines 1 commands)) r.count run);
+          subst (λ q. IsRunOf q false (text_of w false (length commands)) (over_sink start told) (over_sink (moment_at_end now) after) (on_lines 1 commands)) quiet
+          (subst (λ k. IsRunOf (is_quiet w) false (text_of w false k) (over_sink start told) (over_sink (moment_at_end now) after) (on_lines 1 commands)) r.count
+          (subst (λ on. IsRunOf (is_quiet w) on (text_of w on lines) (over_sink start told) (over_sink (moment_at_end now) after) (on_lines 1 commands)) off run));
     }
 
 -- the same of the answers of what was called
-pub generating-told : {U : Type 0} (made : U) (tool : Tool) (w : Words) (n : ℕ) (start last : Moment) (counts : Counts) (lines : ℕ) (commands : List Command) (told told' told'' : Option (List ℕ)) (failures failures' failures'' : ℕ) (none tail : List ℕ) → w.generate ≡ Some n → n ≤ 1000000 → commands ≡ commands_of_seed tool n w.seed → none ≡ [] → tail ≡ none ++ lines_text (tail_lines w lines counts last.state.homes) → RunsCommands (Ok lines) commands start last counts told told' failures failures' → Told told' told'' tail → failures' ≤ failures'' → RunsGenerated tool w n (let answer : Result U Stop = Ok made in answer) start (moment_at_end last) told told'' failures failures''
-generating-told made tool w n start last counts lines commands told told' told'' failures failures' failures'' none tail is most all empty behind runs wrote never =
+pub generating-told : {U : Type 0} (made : U) (tool : Tool) (w : Words) (n : ℕ) (start last : Moment) (counts : Counts) (lines : ℕ) (commands : List Command) (told told' told'' : Option (List ℕ)) (failures failures' failures'' : ℕ) (none tail : List ℕ) → w.generate ≡ Some n → n ≤ 1000000 → last.armed ≡ false → commands ≡ commands_of_seed tool n w.seed → none ≡ [] → tail ≡ none ++ lines_text (tail_lines w lines counts last.state.homes) → RunsCommands (Ok lines) commands start last counts told told' failures failures' → Told told' told'' tail → failures' ≤ failures'' → RunsGenerated tool w n (let answer : Result U Stop = Ok made in answer) start (moment_at_end last) told told'' failures failures''
+generating-told made tool w n start last counts lines commands told told' told'' failures failures' failures'' none tail is most off all empty behind runs wrote never =
     record {
       run =
-          generating-ends tool w n told'' tail is most
+          generating-ends tool w n told'' tail is most off
           (subst (λ cs. RanAll start last told told' counts cs lines) all runs.ran)
           (behind ∙ ap (λ xs. xs ++ lines_text (tail_lines w lines counts last.state.homes)) empty) wrote;
       cut = tt;

@@ -12,7 +12,8 @@ use Rattle.vc_script.specs.declared.reply.Reply.TheVariants.{Refused}
 use Rattle.vc_script.specs.Needs.{Need, NoNeed, ShowsNeeds, need_at, need_shown}
 use Rattle.vc_commands.specs.Home.{Home, Label, is_home}
 use Rattle.vc_views.specs.Views.{DictHome, dict_named}
-use Rattle.vc_steps.specs.Account.{RoseBy, faults_of}
+use Rattle.vc_model.specs.Count.{RoseBy}
+use Rattle.vc_steps.specs.Account.{faults_of}
 use Rattle.vc_steps.specs.Dicts.{dict_command, dict_of, on_found, on_seat, open_dict_in, region_asked_for}
 use Rattle.vc_steps.specs.Moment.{Moment}
 use Rattle.vc_steps.specs.Refusals.{home_place, place_named, refusal_at}

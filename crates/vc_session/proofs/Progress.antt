@@ -18,12 +18,13 @@ use Rattle.vc_steps.specs.Refusals.{refusal_at}
 use Rattle.vc_steps.specs.State.{State, Stepped}
 use Rattle.vc_steps.specs.Step.{step}
 use Rattle.vc_steps.specs.Told.{ended_told, tell}
-use Rattle.vc_steps.proofs.SettledShelf.{settles-same, settles-trans}
+use Rattle.vc_steps.proofs.SettledShelf.{settles-armed, settles-same, settles-trans}
 use Rattle.vc_steps.proofs.KindsTold.{tell-append}
-use Rattle.vc_session.specs.Engine.{IsIdle, IsStep}
+use Rattle.vc_session.specs.Engine.{IsIdle, IsStep, TakesVersion}
 use Rattle.vc_session.specs.Progress.{Progress}
 use Rattle.vc_session.specs.ProperState.{IsProperState}
-use Rattle.vc_session.specs.QuietText.{body_by, line_by, needs_by_text}
+use Rattle.vc_session.specs.declared.style.Style.{Style}
+use Rattle.vc_session.specs.QuietText.{body_by, line_by, needs_by_text, style_by}
 use Rattle.vc_session.specs.Replay.{FaultsStayed, IsRunOf, Told, all_told, run_by}
 use Rattle.vc_session.specs.Run.{Ran, lines_of, nothing_ran, run_from}
 use Rattle.vc_session.specs.Text.{replies_text, counts_of}
@@ -81,7 +82,7 @@ progress-over written p = record {
 
 -- a run stays what it is where nothing changed
 pub progress-same : {quiet : Bool} {start now next : Moment} {before counts : Counts} {text : List ℕ} {count : ℕ} {done : List (ℕ × Command)} → Progress quiet start now before text count done → IsIdle now next before counts → Progress quiet start next counts text count done
-progress-same {start = start} {now = now} {next = next} p idle = record {
+progress-same {quiet = quiet} {start = start} {now = now} {next = next} p idle = record {
   ran = p.ran;
   lines = p.lines;
   rising = p.rising;
@@ -90,10 +91,39 @@ progress-same {start = start} {now = now} {next = next} p idle = record {
   proper_state = subst IsProperState (sym idle.state) p.proper_state;
   run = p.run;
   state = p.state ∙ sym idle.state;
-  settles = subst (Settles start.accounts next.accounts) (append-nil p.ran.refusals) (settles-trans start.accounts now.accounts next.accounts p.ran.refusals [] p.settles idle.settles);
+  settles =
+      subst (λ on. Settles on start.accounts next.accounts p.ran.refusals) (sym idle.armed)
+      (subst (Settles now.armed start.accounts next.accounts) (append-nil p.ran.refusals) (settles-trans start.accounts now.accounts next.accounts p.ran.refusals [] p.settles idle.settles));
   gone = idle.gone ∙ p.gone;
-  told = p.told;
-  counted = λ quiet. idle.same_counts ∙ p.counted quiet;
+  told = p.told ∙ ap (λ on. replies_text (style_by quiet on) p.ran) (sym idle.armed);
+  counted = λ is_quiet. idle.same_counts ∙ p.counted is_quiet;
+}
+
+none-replied : (rs : List (ℕ × Reply)) → [] ≡ map (λ (r : ℕ × Reply). r.0) rs → rs ≡ []
+none-replied [] none = refl
+none-replied (r ∷ rs) none = absurd cc
+
+-- where no command was run, nothing is written of replies, whatever is asked for
+pub none-written : (style : Style) (ran : Ran) → [] ≡ map (λ (r : ℕ × Reply). r.0) ran.replies → replies_text style ran ≡ []
+none-written style ran none = ap (λ rs. body_by style rs) (none-replied ran.replies none)
+
+-- a run of no command stays what it is where the version was told
+pub progress-version : {quiet : Bool} {start now next : Moment} {before counts : Counts} {text : List ℕ} {count n version : ℕ} → now.armed ≡ false → Progress quiet start now before text count [] → TakesVersion now next before counts n version → Progress quiet start next counts text count []
+progress-version {quiet = quiet} {start = start} {now = now} {next = next} off p told = record {
+  ran = p.ran;
+  lines = p.lines;
+  rising = p.rising;
+  within = p.within;
+  proper = p.proper;
+  proper_state = subst IsProperState (sym told.state) p.proper_state;
+  run = p.run;
+  state = p.state ∙ sym told.state;
+  settles =
+      subst (λ accounts. Settles next.armed start.accounts accounts p.ran.refusals) (sym told.accounts)
+      (settles-armed next.armed (subst (λ on. Settles on start.accounts now.accounts p.ran.refusals) off p.settles));
+  gone = told.gone ∙ p.gone;
+  told = p.told ∙ (none-written (style_by quiet now.armed) p.ran p.lines ∙ sym (none-written (style_by quiet next.armed) p.ran p.lines));
+  counted = λ is_quiet. told.same_counts ∙ p.counted is_quiet;
 }
 
 -- what a run with one more step counted
@@ -113,9 +143,9 @@ counts-push r c t =
     (ap sum (map-append (λ (g : Grant). g.bytes) r.granted t.granted) ∙ sum_by-append (λ n. n) (map (λ (g : Grant). g.bytes) r.granted) (map (λ (g : Grant). g.bytes) t.granted))
 
 -- one more reply
-body-push : (quiet : Bool) (replies : List (ℕ × Reply)) (r : ℕ × Reply) → body_by quiet (replies ++ r ∷ []) ≡ body_by quiet replies ++ line_by quiet r
-body-push quiet replies r =
-    flat_map-append (line_by quiet) replies (r ∷ []) ∙ ap (λ w. body_by quiet replies ++ w) (append-nil (line_by quiet r))
+body-push : (style : Style) (replies : List (ℕ × Reply)) (r : ℕ × Reply) → body_by style (replies ++ r ∷ []) ≡ body_by style replies ++ line_by style r
+body-push style replies r =
+    flat_map-append (line_by style) replies (r ∷ []) ∙ ap (λ w. body_by style replies ++ w) (append-nil (line_by style r))
 
 module _ {quiet : Bool} {start now : Moment} {before : Counts} {text : List ℕ} {count : ℕ} {done : List (ℕ × Command)} (n : ℕ) (below : count < n) (p : Progress quiet start now before text count done) where
   within-next : AllByRecursion (λ m. m ≤ n) (lines_of done)
@@ -194,7 +224,7 @@ module _ {quiet : Bool} {start now : Moment} {before : Counts} {text : List ℕ}
         ∙ pushed-stepped)))
 
     -- one more command was run
-    pub progress-step : Progress quiet start next counts (text ++ line_by quiet (n, i.reply)) n (done ++ (n, c) ∷ [])
+    pub progress-step : Progress quiet start next counts (text ++ line_by (style_by quiet now.armed) (n, i.reply)) n (done ++ (n, c) ∷ [])
     progress-step = record {
       ran = stepped_ran;
       lines = lines_next ∙ (ap (λ ns. ns ++ n ∷ []) p.lines ∙ sym (map-append (λ (r : ℕ × Reply). r.0) p.ran.replies ((n, i.reply) ∷ [])));
@@ -204,14 +234,17 @@ module _ {quiet : Bool} {start now : Moment} {before : Counts} {text : List ℕ}
       proper_state = proper_next.1;
       run = run_next;
       state = refl;
-      settles = settles-trans start.accounts now.accounts next.accounts p.ran.refusals (refusal_at now.state c i.reply) p.settles i.steps.settles;
+      settles =
+          subst (λ on. Settles on start.accounts next.accounts (p.ran.refusals ++ refusal_at now.state c i.reply)) (sym i.steps.armed)
+          (settles-trans start.accounts now.accounts next.accounts p.ran.refusals (refusal_at now.state c i.reply) p.settles i.steps.settles);
       gone =
           i.steps.gives.told
           ∙ (ap (λ g. tell t.told g) p.gone
           ∙ sym (tell-append p.ran.told t.told start.gone));
       told =
-          ap (λ w. w ++ line_by quiet (n, i.reply)) p.told
-          ∙ sym (body-push quiet p.ran.replies (n, i.reply));
+          ap (λ w. w ++ line_by (style_by quiet now.armed) (n, i.reply)) p.told
+          ∙ (sym (body-push (style_by quiet now.armed) p.ran.replies (n, i.reply))
+          ∙ ap (λ on. replies_text (style_by quiet on) stepped_ran) (sym i.steps.armed));
       counted = λ is_quiet.
           i.counted is_quiet
           ∙ (ap (λ b. counts_with_step b t) (p.counted is_quiet)
@@ -221,17 +254,20 @@ module _ {quiet : Bool} {start now : Moment} {before : Counts} {text : List ℕ}
 
 -- the end of a run whose text is that of its replies and this one behind them
 module _ {quiet : Bool} {start now : Moment} {counts : Counts} {text : List ℕ} {count : ℕ} {done : List (ℕ × Command)} (p : Progress quiet start now counts text count done) where
+  abbrev style : Style
+  style = style_by quiet now.armed
+
   few_lines : count < 2 ^ 64 → AllByRecursion (λ n. n < 2 ^ 64) (map (λ (r : ℕ × Reply). r.0) p.ran.replies)
   few_lines few =
       subst (AllByRecursion (λ n. n < 2 ^ 64)) p.lines
       (all-weaken (λ n. n ≤ count) (λ n. n < 2 ^ 64) (lines_of done) (λ n le. omega (arith, le, few)) p.within)
 
   -- the text shows the needs of its replies
-  pub shows : (tail : List ℕ) → count < 2 ^ 64 → (quiet ≡ true → (n : ℕ) → n < 2 ^ 64 → NoLine n (ended_lines tail)) → ShowsNeeds (needs_by_text quiet (lines_of done) (text ++ tail)) p.ran.replies
+  pub shows : (tail : List ℕ) → count < 2 ^ 64 → ((n : ℕ) → n < 2 ^ 64 → NoLine n (ended_lines tail)) → ShowsNeeds (needs_by_text style (lines_of done) (text ++ tail)) p.ran.replies
   shows tail few none =
-      subst (λ t. ShowsNeeds (needs_by_text quiet (lines_of done) (t ++ tail)) p.ran.replies) (sym p.told)
-      (subst (λ ns. ShowsNeeds (needs_by_text quiet ns (replies_text quiet p.ran ++ tail)) p.ran.replies) (sym p.lines)
-      (shows-needs quiet p.ran.replies tail (few_lines few) (subst AreAscending p.lines p.rising) p.proper none))
+      subst (λ t. ShowsNeeds (needs_by_text style (lines_of done) (t ++ tail)) p.ran.replies) (sym p.told)
+      (subst (λ ns. ShowsNeeds (needs_by_text style ns (replies_text style p.ran ++ tail)) p.ran.replies) (sym p.lines)
+      (shows-needs style p.ran.replies tail (few_lines few) (subst AreAscending p.lines p.rising) p.proper none))
 
   -- where no fault was counted no reply shows a need
   module _ (needs : List (ℕ × Need)) (shows : ShowsNeeds needs p.ran.replies) (stayed : FaultsStayed start now) where
@@ -251,18 +287,18 @@ module _ {quiet : Bool} {start now : Moment} {counts : Counts} {text : List ℕ}
     none-refused =
         p.run [] (all-weaken (λ r. need_shown r.1 ≡ NoNeed) (λ r. need_at [] r.0 ≡ need_shown r.1) p.ran.replies (λ r none. sym none) replied-none)
 
-  pub progress-end : (said : Ran → List ℕ) (tail : List ℕ) (after : Option (List ℕ)) → count < 2 ^ 64 → (quiet ≡ true → (n : ℕ) → n < 2 ^ 64 → NoLine n (ended_lines tail)) → said p.ran ≡ replies_text quiet p.ran ++ tail → Told start.written after (text ++ tail) → IsRunOf quiet said start (moment_at_end (over_sink now after)) done
+  pub progress-end : (said : Ran → List ℕ) (tail : List ℕ) (after : Option (List ℕ)) → count < 2 ^ 64 → ((n : ℕ) → n < 2 ^ 64 → NoLine n (ended_lines tail)) → said p.ran ≡ replies_text style p.ran ++ tail → Told start.written after (text ++ tail) → IsRunOf quiet now.armed said start (moment_at_end (over_sink now after)) done
   progress-end said tail after few none says told =
-      let ran : run_by quiet start done (text ++ tail) ≡ p.ran = p.run (needs_by_text quiet (lines_of done) (text ++ tail)) (shows tail few none) in
+      let ran : run_by style start done (text ++ tail) ≡ p.ran = p.run (needs_by_text style (lines_of done) (text ++ tail)) (shows tail few none) in
       record {
         written = text ++ tail;
         text = ap (λ t. t ++ tail) p.told ∙ (sym says ∙ ap said (sym ran));
         told = told;
-        settles = subst (λ e. Settles start.accounts now.accounts e.refusals) (sym ran) p.settles;
-        no_need = none-needed (needs_by_text quiet (lines_of done) (text ++ tail)) (shows tail few none);
+        settles = subst (λ e. Settles now.armed start.accounts now.accounts e.refusals) (sym ran) p.settles;
+        no_need = none-needed (needs_by_text style (lines_of done) (text ++ tail)) (shows tail few none);
         unrefused = λ stayed.
             ap (λ t. t ++ tail) p.told
-            ∙ (sym says ∙ ap said (sym (none-refused (needs_by_text quiet (lines_of done) (text ++ tail)) (shows tail few none) stayed)));
+            ∙ (sym says ∙ ap said (sym (none-refused (needs_by_text style (lines_of done) (text ++ tail)) (shows tail few none) stayed)));
         gone =
             ap (λ g. tell (ended_told now.state) g) p.gone
             ∙ (sym (tell-append p.ran.told (ended_told now.state) start.gone)

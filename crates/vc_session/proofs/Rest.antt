@@ -1,5 +1,5 @@
 -- A run from a session in which nothing is open to the session's end.
-use Rattle.vc_base.proofs.Common.{◌≡◌, ℕ, Bool, List, [], ◌∷◌, map, length, IfSome, IfOk, IfErr, OnErr, Some, None, Ok, Err, Option, Result, sym, refl, ap, ◌∙◌, subst, AllByRecursion, Discipline}
+use Rattle.vc_base.proofs.Common.{◌≡◌, ℕ, Bool, false, List, [], ◌∷◌, map, length, IfSome, IfOk, IfErr, OnErr, Some, None, Ok, Err, Option, Result, sym, refl, ap, ◌∙◌, subst, AllByRecursion, Discipline}
 use Rattle.vc_dtdisc.specs.Rules.{Gone, Rules}
 use Rattle.vc_seg.specs.declared.shelf.Shelf.{Shelf}
 use Rattle.vc_script.specs.declared.command.Command.{Command}
@@ -16,7 +16,7 @@ use Rattle.vc_steps.specs.Moment.{Moment, moment, over_sink, moment_at_rest_by, 
 use Rattle.vc_session.specs.ProperState.{IsProperHome, IsProperOver}
 use Rattle.vc_session.specs.Replay.{IsCutShort, IsGenerated, IsReplay, IsRunOf, Told, run_by}
 use Rattle.vc_session.specs.Engine.{RunsScript}
-use Rattle.vc_session.specs.Run.{Ran, first_bad, script}
+use Rattle.vc_session.specs.Run.{Ran, first_bad, is_second, script}
 use Rattle.vc_script.specs.Judged.{judged_lines}
 use Rattle.vc_session.specs.Cut.{IsCut}
 use Rattle.vc_session.proofs.Cuts.{cut-same}
@@ -24,6 +24,9 @@ use Rattle.vc_session.proofs.NoneRefused.{stayed-same}
 use Rattle.vc_session.specs.Headline.{Headline}
 use Rattle.vc_session.specs.declared.status.Status.{Status}
 use Rattle.vc_session.specs.Streams.{Flows, Streams}
+use Rattle.vc_session.specs.QuietText.{style_by}
+use Rattle.vc_session.specs.declared.style.Style.{Style}
+use Rattle.vc_session.proofs.SoFar.{some-all}
 use Rattle.vc_session.specs.Text.{good_lines, is_quiet, text_of}
 use Rattle.vc_words.specs.declared.words.Words.{Words}
 use Rattle.vc_session.specs.declared.engine.Stop.{Stop}
@@ -39,13 +42,14 @@ pub record Rests (now after : Moment) : Type 0 where
   pub gone : after.gone ≡ now.gone
 
 module _ {before now after : Moment} (rests : Rests now after) where
-  pub run-rest : {quiet : Bool} {said : Ran → List ℕ} {commands : List (ℕ × Command)} → IsRunOf quiet said before now commands → IsRunOf quiet said before after commands
-  run-rest {quiet} {said} {commands} r =
+  pub run-rest : {quiet second : Bool} {said : Ran → List ℕ} {commands : List (ℕ × Command)} → IsRunOf quiet second said before now commands → IsRunOf quiet second said before after commands
+  run-rest {quiet} {second} {said} {commands} r =
       record {
         written = r.written;
         text = r.text;
         told = subst (λ w. Told before.written w r.written) (sym rests.written) r.told;
-        settles = subst (λ s. Settles before.accounts s (run_by quiet before commands r.written).refusals) (sym rests.accounts) r.settles;
+        settles =
+            subst (λ s. Settles second before.accounts s (run_by (style_by quiet second) before commands r.written).refusals) (sym rests.accounts) r.settles;
         no_need = λ stayed. r.no_need (stayed-same before now after rests.accounts stayed);
         unrefused = λ stayed. r.unrefused (stayed-same before now after rests.accounts stayed);
         gone = rests.gone ∙ r.gone;
@@ -67,7 +71,7 @@ module _ {before now after : Moment} (rests : Rests now after) where
     run = run-rest r.run;
   }
 
-  pub cut-rest : {quiet : Bool} {said : Ran → List ℕ} {commands : List (ℕ × Command)} → IsCut quiet said before now commands → IsCut quiet said before after commands
+  pub cut-rest : {style : Style} {said : Ran → List ℕ} {commands : List (ℕ × Command)} → IsCut style said before now commands → IsCut style said before after commands
   cut-rest c = cut-same after rests.written rests.accounts c
 
 some-each : (o : Option (List ℕ)) (P Q : List ℕ → Type 0) → ((x : List ℕ) → P x → Q x) → IfSome o P → IfSome o Q
@@ -87,8 +91,8 @@ on_err-each (Ok x) f p = tt
 on_err-each (Err e) f p = f p
 
 -- what a run of a script promises at its last line it promises behind its session's end, from the same start
-pub runs-rest : (tool : Tool) (w : Words) (start before now after : Moment) (old new : Flows) (answer : Result (Option (ℕ × LineFault)) Stop) → start ≡ before → ((written : Option (List ℕ)) → Rests (over_sink now written) (over_sink after written)) → RunsScript tool w answer start now old new → RunsScript tool w answer before after old new
-runs-rest tool w start before now after old new answer same rests r =
+pub runs-rest : (tool : Tool) (w : Words) (start before now after : Moment) (old new : Flows) (answer : Result (Option (ℕ × LineFault)) Stop) → start ≡ before → ((written : Option (List ℕ)) → Rests (over_sink now written) (over_sink after written)) → after.armed ≡ false → RunsScript tool w answer start now old new → RunsScript tool w answer before after old new
+runs-rest tool w start before now after old new answer same rests off r =
     record {
       replay =
           ok-each answer (λ bad. IfSome old.left (λ input. IsReplay tool w (over_sink start old.written) (over_sink now new.written) input bad new.left)) (λ bad. IfSome old.left (λ input. IsReplay tool w (over_sink before old.written) (over_sink after new.written) input bad new.left))
@@ -100,8 +104,9 @@ runs-rest tool w start before now after old new answer same rests r =
           (λ input ran. subst (λ m. IsCutShort tool (is_quiet w) (over_sink m old.written) (over_sink after new.written) input new.left) same (cut_short-rest (rests new.written) ran))) r.cut_short;
       cut =
           on_err-each answer
-          (some-each old.left _ _ (λ input c. subst (λ m. IsCut (is_quiet w) (text_of w (good_lines (first_bad tool input) (length (judged_lines input)))) (over_sink m old.written) (over_sink after new.written) (script tool input)) same (cut-rest (rests new.written) c))) r.cut;
+          (some-each old.left _ _ (λ input c. subst (λ m. IsCut (style_by (is_quiet w) (is_second tool input)) (text_of w (is_second tool input) (good_lines (first_bad tool input) (length (judged_lines input)))) (over_sink m old.written) (over_sink after new.written) (script tool input)) same (cut-rest (rests new.written) c))) r.cut;
       not_ahead = r.not_ahead;
+      arms = some-all old.left _ (λ input one. off);
       read = r.read;
       write = r.write;
       reads = r.reads;
@@ -123,13 +128,16 @@ module _ {I : Type 0} {V : I → Type 0} {D : Type 0} (meaning : (x : I) × V x 
   moment_of hs es = record {
     state = state_of (rules_in rules kinds) (slots_on meaning shelf) hs (dicts_in hs (views_by session.paths session.dicts.entries) es);
     regions = hs;
+    armed = session.is_armed;
     written = None;
     accounts = settled_accounts (accounts (slots_on meaning shelf)) hs;
     gone = gone_in gone kinds;
   }
 
-  pub new-moment : moment meaning rules gone shelf session kinds ≡ moment_at_rest meaning rules gone shelf kinds
-  new-moment = ap (λ hs. moment_of hs session.dicts.entries) no_held ∙ ap (λ es. moment_of [] es) none.2
+  pub new-moment : session.is_armed ≡ false → moment meaning rules gone shelf session kinds ≡ moment_at_rest meaning rules gone shelf kinds
+  new-moment off =
+      ap (λ hs. moment_of hs session.dicts.entries) no_held
+      ∙ (ap (λ es. moment_of [] es) none.2 ∙ ap (λ on. let m : Moment = record (moment_of [] []) { armed = on } in m) off)
 
 map-none : {A B : Type 0} (f : A → B) (xs ys : List A) → map f xs ≡ map f ys → ys ≡ [] → xs ≡ []
 map-none f [] ys same none = refl

@@ -1,11 +1,11 @@
 -- The lines of the commands of a script rise, and are numbers of 64 bits.
-use Rattle.vc_base.proofs.Common.{ℕ, ◌+◌, ◌^◌, ◌<◌, ◌≤◌, List, [], ◌∷◌, length, IsOk, nat_lt, Ok, Err, Result, refl, inl, inr, arith, nat_tests, cases_Bool, false≢true, AllByRecursion}
+use Rattle.vc_base.proofs.Common.{ℕ, ◌==◌, ◌+◌, ◌^◌, ◌<◌, ◌≤◌, List, [], ◌∷◌, length, IsOk, nat_lt, Ok, Err, Result, refl, inl, inr, arith, nat_tests, cases_Bool, false≢true, AllByRecursion}
 use Rattle.vc_base.proofs.Quantifiers.{all-weaken}
 use Rattle.vc_script.specs.declared.command.Command.{Command}
 use Rattle.vc_script.specs.declared.line_answer.LineAnswer.{LineAnswer}
 use Rattle.vc_script.specs.declared.line_fault.LineFault.{LineFault}
 use Rattle.vc_script.specs.declared.tool.Tool.{Tool}
-use Rattle.vc_script.specs.declared.line_answer.LineAnswer.TheVariants.{Blank, Is, Bad}
+use Rattle.vc_script.specs.declared.line_answer.LineAnswer.TheVariants.{Blank, Is, Version, Bad}
 use Rattle.vc_script.specs.Answer.{answer}
 use Rattle.vc_script.specs.Judged.{judge, judged_from, judged_then, last_number}
 use Rattle.vc_script.specs.Lines.{lines}
@@ -36,10 +36,11 @@ rise-one number {ns} below r = record {
 rise-answered : (number : ℕ) (a : LineAnswer) (behind : List (ℕ × Command)) → number ≤ last_number → RiseFrom (number + 1) (lines_of behind) → RiseFrom number (lines_of (command_then number a behind))
 rise-answered number Blank behind few r = rise-later r
 rise-answered number (Is command) behind few r = rise-one number (omega (arith, few)) r
+rise-answered number (Version version) behind few r = rise-later r
 rise-answered number (Bad fault) behind few r = rise-none number
 
 rise-judged : (tool : Tool) (number : ℕ) (j : Result (List ℕ) LineFault) (behind : List (ℕ × Result (List ℕ) LineFault)) → (IsOk j → number ≤ last_number) → RiseFrom (number + 1) (lines_of (commands_in tool behind)) → RiseFrom number (lines_of (commands_in tool (judged_then number j behind)))
-rise-judged tool number (Ok line) behind few r = rise-answered number (answer tool line) (commands_in tool behind) (few refl) r
+rise-judged tool number (Ok line) behind few r = rise-answered number (answer tool (number == 1) line) (commands_in tool behind) (few refl) r
 rise-judged tool number (Err fault) behind few r = rise-none number
 
 -- a line that can be taken has a number

@@ -1,5 +1,5 @@
 -- A run of lines that come in pieces: what was run so far, and what is left.
-use Rattle.vc_base.proofs.Common.{◌≡◌, ℕ, ◌+◌, ◌<◌, ◌≤◌, Bool, ◌≢◌, List, [], ◌∷◌, ◌++◌, length, take, drop, IfSome, IfErr, OnErr, IsOk, IsTrue, Some, None, Ok, Err, Option, Result, sym, refl, ap, ◌∙◌, subst, inl, inr, append_assoc, append-nil, arith, take-append-drop, length-take-le, eqb_tells, drop_all, none-some, same_Some, AllByRecursion}
+use Rattle.vc_base.proofs.Common.{◌≡◌, ℕ, ◌+◌, ◌==◌, false, ◌<◌, ◌≤◌, Bool, ◌≢◌, List, [], ◌∷◌, ◌++◌, length, take, drop, IfSome, IfErr, OnErr, IsOk, IsTrue, Some, None, Ok, Err, Option, Result, sym, refl, ap, ◌∙◌, subst, inl, inr, append_assoc, append-nil, arith, take-append-drop, length-take-le, eqb_tells, drop_all, none-some, same_Some, AllByRecursion}
 use Rattle.vc_counts.specs.declared.counts.Counts.{Counts}
 use Rattle.vc_model.specs.Stream.{Reads, Takes}
 use Rattle.vc_base.proofs.Quantifiers.{all-append}
@@ -18,17 +18,23 @@ use Rattle.vc_session.specs.Engine.{IsIdle, LineRan}
 use Rattle.vc_steps.specs.Moment.{Moment, moment_at_end, over_sink}
 use Rattle.vc_session.specs.Progress.{Progress}
 use Rattle.vc_session.specs.ProperState.{IsProperState}
+use Rattle.vc_session.specs.QuietText.{style_by}
 use Rattle.vc_session.specs.Replay.{IsCutShort, IsRunOf, ShowsNoFault, Stops, StopsAtFault, Told}
-use Rattle.vc_session.specs.Run.{commands_in, fault_in, nothing_ran, script, wholly_read}
+use Rattle.vc_session.specs.Run.{commands_in, fault_in, is_second_in, nothing_ran, script, version_in, wholly_read}
 use Rattle.vc_session.specs.SoFar.{AtEnd, FoundSoFar, Reading, Running, SoFar, ended_rest, fuel, judged_rest}
 use Rattle.vc_session.specs.Text.{replies_text, counts_of}
 use Rattle.vc_session.proofs.Feeds.{Feeds, fed-feeds}
 use Rattle.vc_session.proofs.Progress.{progress-end, progress-over}
-use Rattle.vc_session.proofs.RunMiddle.{bad-line, running-line, running-over, running-same, running-start}
+use Rattle.vc_session.proofs.RunMiddle.{bad-line, running-line, running-over, running-same, running-start, second-append}
 
 pub if_some : (o : Option (List ℕ)) (P Q : List ℕ → Type 0) → ((x : List ℕ) → P x → Q x) → IfSome o P → IfSome o Q
 if_some None P Q f p = tt
 if_some (Some x) P Q f p = f x p
+
+-- what holds of all holds of what there is
+pub some-all : (o : Option (List ℕ)) (P : List ℕ → Type 0) → ((x : List ℕ) → P x) → IfSome o P
+some-all None P all = tt
+some-all (Some x) P all = all x
 
 pub if_both : (o : Option (List ℕ)) (P Q R : List ℕ → Type 0) → ((x : List ℕ) → P x → Q x → R x) → IfSome o P → IfSome o Q → IfSome o R
 if_both None P Q R f p q = tt
@@ -95,8 +101,9 @@ module _ {tool : Tool} {quiet : Bool} {start now : Moment} {counts : Counts} {te
     unread = same ∙ r.unread;
     no_fault = shows-none;
     run =
-        subst (IsRunOf quiet (replies_text quiet) start (moment_at_end (over_sink now after))) (sym (ap (commands_in tool) read_lines ∙ (running.script [] ∙ append-nil running.done)))
-        (progress-end running.progress (replies_text quiet) [] after (omega (arith, few)) (λ is_quiet n below xs. refl) (sym (append-nil (replies_text quiet running.progress.ran))) (subst (Told start.written after) (sym (append-nil text)) told));
+        subst (λ second. IsRunOf quiet second (replies_text (style_by quiet second)) start (moment_at_end (over_sink now after)) (commands_in tool (wholly_read (r.before ++ r.last)))) (running.armed ∙ ap (is_second_in tool) (sym (append-nil whole) ∙ sym read_lines))
+        (subst (IsRunOf quiet now.armed (replies_text (style_by quiet now.armed)) start (moment_at_end (over_sink now after))) (sym (ap (commands_in tool) read_lines ∙ (running.script [] ∙ append-nil running.done)))
+        (progress-end running.progress (replies_text (style_by quiet now.armed)) [] after (omega (arith, few)) (λ n below xs. refl) (sym (append-nil (replies_text (style_by quiet now.armed) running.progress.ran))) (subst (Told start.written after) (sym (append-nil text)) told)));
   }
 
 reading-start : (tool : Tool) (o : Option (List ℕ)) → IfSome o (λ input. Reading tool input o new_cutting [] [])
@@ -149,18 +156,19 @@ fed-tells-all s rest next cut used is e behind = subst (λ f. Tells f.cut f.afte
 fed-feeds-all : (s : Cutting) (rest : List ℕ) (next : Cutting) (cut : Cut) (used : ℕ) → IsCutting s → result_of_feed s rest ≡ record { after = next; cut = cut; used = used } → (behind : List ℕ) → Feeds cut next used s rest behind
 fed-feeds-all s rest next cut used is e behind = subst (λ f. Feeds f.cut f.after f.used s rest behind) e (fed-feeds s rest behind is)
 
-pub so_far-start : (tool : Tool) (quiet : Bool) (start : Moment) (counts : Counts) (told : Option (List ℕ)) → IsProperState start.state → (IsTrue quiet → counts ≡ counts_of (nothing_ran start.state)) → SoFar tool quiet start start counts [] told told new_cutting []
-so_far-start tool quiet start counts told all none = record { whole = []; running = running-start tool quiet start counts all none; reading = reading-start tool told }
+pub so_far-start : (tool : Tool) (quiet : Bool) (start : Moment) (counts : Counts) (told : Option (List ℕ)) → start.armed ≡ false → IsProperState start.state → (IsTrue quiet → counts ≡ counts_of (nothing_ran start.state)) → SoFar tool quiet start start counts [] told told new_cutting []
+so_far-start tool quiet start counts told off all none = record { whole = []; running = running-start tool quiet start counts off all none; reading = reading-start tool told }
 
 -- the end of a run whose lines are found
-at-end-of : {tool : Tool} {quiet : Bool} {start now : Moment} {counts : Counts} {text : List ℕ} {count : ℕ} {whole : FoundSoFar} (input : List ℕ) (left after : Option (List ℕ)) (lines : ℕ) (found : FoundSoFar) (bad : Option (ℕ × LineFault)) → count ≤ last_number → Running tool quiet start now counts text count whole → judged_lines input ≡ whole ++ found → commands_in tool found ≡ [] → fault_in tool found ≡ bad → (bad ≡ None → lines ≡ length (judged_lines input)) → Stops tool input bad left → Told start.written after text → AtEnd tool quiet start (over_sink now after) counts lines input bad left
-at-end-of {tool} {quiet} {start} {now} {counts} {text} {count} {whole} input left after lines found bad few r all none first size stops told =
+at-end-of : {tool : Tool} {quiet : Bool} {start now : Moment} {counts : Counts} {text : List ℕ} {count : ℕ} {whole : FoundSoFar} (input : List ℕ) (left after : Option (List ℕ)) (lines : ℕ) (found : FoundSoFar) (bad : Option (ℕ × LineFault)) → count ≤ last_number → Running tool quiet start now counts text count whole → judged_lines input ≡ whole ++ found → commands_in tool found ≡ [] → fault_in tool found ≡ bad → version_in tool found ≡ 1 → (bad ≡ None → lines ≡ length (judged_lines input)) → Stops tool input bad left → Told start.written after text → AtEnd tool quiet start (over_sink now after) counts lines input bad left
+at-end-of {tool} {quiet} {start} {now} {counts} {text} {count} {whole} input left after lines found bad few r all none first one size stops told =
     let done : script tool input ≡ r.done = ap (commands_in tool) all ∙ (r.script found ∙ (ap (λ cs. r.done ++ cs) none ∙ append-nil r.done)) in
     record {
       text = text;
       count = count;
       few = few;
       progress = subst (Progress quiet start (over_sink now after) counts text count) (sym done) (progress-over after r.progress);
+      armed = r.armed ∙ (sym (second-append tool whole found one) ∙ ap (is_second_in tool) (sym all));
       told = told;
       first = sym (ap (fault_in tool) all ∙ (r.good found ∙ first));
       stops = stops;
@@ -211,10 +219,10 @@ module _ {tool : Tool} {quiet : Bool} {start now : Moment} {counts : Counts} {te
   pub so_far-bad_cut : (fault : LineFault) (lines : ℕ) (after : Option (List ℕ)) → SoFar tool quiet start now counts text told left s rest → result_of_feed s rest ≡ record { after = next; cut = Bad fault; used = used } → Told start.written after text → IfSome told (λ input. AtEnd tool quiet start (over_sink now after) counts lines input (Some (next.count + 1, fault)) left)
   so_far-bad_cut fault lines after r e written = if_some told _ _ (λ input reading.
       let bad : ℕ × LineFault = (next.count + 1, fault) in
-      at-end-of input left after lines ((next.count + 1, Err fault) ∷ []) (Some bad) is.few r.running (judged-input reading ∙ ap (λ ls. r.whole ++ ls) (fed-tells-all s rest next (Bad fault) used is e reading.behind)) refl refl (some-bad bad lines (judged_lines input)) (stops-at reading) written) r.reading
+      at-end-of input left after lines ((next.count + 1, Err fault) ∷ []) (Some bad) is.few r.running (judged-input reading ∙ ap (λ ls. r.whole ++ ls) (fed-tells-all s rest next (Bad fault) used is e reading.behind)) refl refl refl (some-bad bad lines (judged_lines input)) (stops-at reading) written) r.reading
 
 -- a line was run
-pub so_far-line : {tool : Tool} {quiet : Bool} {start now : Moment} {before counts : Counts} (next_moment : Moment) {told left : Option (List ℕ)} {s : Cutting} {rest : List ℕ} (front old new : List ℕ) (next : Cutting) (used : ℕ) → now.written ≡ Some old → next_moment.written ≡ Some new → IsCutting s → SoFar tool quiet start now before (front ++ old) told left s rest → result_of_feed s rest ≡ record { after = next; cut = Whole; used = used } → LineRan quiet now next_moment before counts next.count (answer tool next.line) None → SoFar tool quiet start next_moment counts (front ++ new) told left next (drop used rest)
+pub so_far-line : {tool : Tool} {quiet : Bool} {start now : Moment} {before counts : Counts} (next_moment : Moment) {told left : Option (List ℕ)} {s : Cutting} {rest : List ℕ} (front old new : List ℕ) (next : Cutting) (used : ℕ) → now.written ≡ Some old → next_moment.written ≡ Some new → IsCutting s → SoFar tool quiet start now before (front ++ old) told left s rest → result_of_feed s rest ≡ record { after = next; cut = Whole; used = used } → LineRan quiet now next_moment before counts next.count (answer tool (next.count == 1) next.line) None → SoFar tool quiet start next_moment counts (front ++ new) told left next (drop used rest)
 so_far-line next_moment {told} {left} {s} {rest} front old new next used held holds is r e ran = record {
   whole = r.whole ++ (next.count, Ok next.line) ∷ [];
   running = running-line front old new next.count next.line held holds (fed-feeds-all s rest next Whole used is e []).1.1.1 r.running ran;
@@ -227,12 +235,12 @@ idle-told front old new was after held holds idle written =
     subst (λ xs. Told was after (front ++ xs)) (same_Some new old (sym holds ∙ (idle.told ∙ held))) written
 
 -- a line is bad
-pub so_far-bad_line : {tool : Tool} {quiet : Bool} {start now : Moment} {before : Counts} (next_moment : Moment) (counts : Counts) {told left : Option (List ℕ)} {s : Cutting} {rest : List ℕ} (front old new : List ℕ) (next : Cutting) (used : ℕ) (fault : LineFault) (lines : ℕ) (after : Option (List ℕ)) → now.written ≡ Some old → next_moment.written ≡ Some new → IsCutting s → SoFar tool quiet start now before (front ++ old) told left s rest → result_of_feed s rest ≡ record { after = next; cut = Whole; used = used } → LineRan quiet now next_moment before counts next.count (answer tool next.line) (Some fault) → Told start.written after (front ++ new) → IfSome told (λ input. AtEnd tool quiet start (over_sink next_moment after) counts lines input (Some (next.count, fault)) left)
+pub so_far-bad_line : {tool : Tool} {quiet : Bool} {start now : Moment} {before : Counts} (next_moment : Moment) (counts : Counts) {told left : Option (List ℕ)} {s : Cutting} {rest : List ℕ} (front old new : List ℕ) (next : Cutting) (used : ℕ) (fault : LineFault) (lines : ℕ) (after : Option (List ℕ)) → now.written ≡ Some old → next_moment.written ≡ Some new → IsCutting s → SoFar tool quiet start now before (front ++ old) told left s rest → result_of_feed s rest ≡ record { after = next; cut = Whole; used = used } → LineRan quiet now next_moment before counts next.count (answer tool (next.count == 1) next.line) (Some fault) → Told start.written after (front ++ new) → IfSome told (λ input. AtEnd tool quiet start (over_sink next_moment after) counts lines input (Some (next.count, fault)) left)
 so_far-bad_line {tool} {quiet} {start} next_moment counts {told} {left} {s} {rest} front old new next used fault lines after held holds is r e ran written = if_some told _ _ (λ input reading.
     let line = bad-line quiet tool next.count next.line fault ran in
     let behind = judged_rest next (drop used rest ++ reading.behind) in
     let bad : ℕ × LineFault = (next.count, fault) in
-    at-end-of input left after lines ((next.count, Ok next.line) ∷ behind) (Some bad) is.few (running-same r.running line.idle) (judged-input reading ∙ ap (λ ls. r.whole ++ ls) (fed-tells-all s rest next Whole used is e reading.behind).0) (line.none behind) (line.first behind) (some-bad bad lines (judged_lines input)) (stops-at reading) (idle-told front old new start.written after held holds line.idle written)) r.reading
+    at-end-of input left after lines ((next.count, Ok next.line) ∷ behind) (Some bad) is.few (running-same r.running line.idle) (judged-input reading ∙ ap (λ ls. r.whole ++ ls) (fed-tells-all s rest next Whole used is e reading.behind).0) (line.none behind) (line.first behind) (line.version behind) (some-bad bad lines (judged_lines input)) (stops-at reading) (idle-told front old new start.written after held holds line.idle written)) r.reading
 
 -- nothing is behind the bytes of a source that is at its end
 pub none-behind : {tool : Tool} {input : List ℕ} {left : Option (List ℕ)} {s : Cutting} {whole : FoundSoFar} (r : Reading tool input left s [] whole) → left ≡ Some [] → judged_lines input ≡ whole ++ judged_rest s []
@@ -243,23 +251,23 @@ module _ {tool : Tool} {quiet : Bool} {start now : Moment} {before : Counts} {to
   pub so_far-end_none : {text : List ℕ} (lines : ℕ) (after : Option (List ℕ)) → lines ≡ s.count → SoFar tool quiet start now before text told left s [] → IfSome told (λ input. left ≡ Some []) → judged_rest s [] ≡ [] → Told start.written after text → IfSome told (λ input. AtEnd tool quiet start (over_sink now after) before lines input None left)
   so_far-end_none lines after same r at_end last written = if_both told _ _ _ (λ input reading end.
       let all : judged_lines input ≡ r.whole ++ [] = none-behind reading end ∙ ap (λ ls. r.whole ++ ls) last in
-      at-end-of input left after lines [] None is.few r.running all refl refl (λ none. same ∙ (sym r.running.size ∙ sym (ap length (all ∙ append-nil r.whole)))) end written) r.reading at_end
+      at-end-of input left after lines [] None is.few r.running all refl refl refl (λ none. same ∙ (sym r.running.size ∙ sym (ap length (all ∙ append-nil r.whole)))) end written) r.reading at_end
 
   module _ (next : Moment) (counts : Counts) (n : ℕ) (line : List ℕ) (last : judged_rest s [] ≡ (n, Ok line) ∷ []) (follows : n ≡ s.count + 1) where
     -- the end behind a last line, which is good
-    pub so_far-end_good : (front old new : List ℕ) (after : Option (List ℕ)) → n ≤ last_number → now.written ≡ Some old → next.written ≡ Some new → SoFar tool quiet start now before (front ++ old) told left s [] → IfSome told (λ input. left ≡ Some []) → LineRan quiet now next before counts n (answer tool line) None → Told start.written after (front ++ new) → IfSome told (λ input. AtEnd tool quiet start (over_sink next after) counts n input None left)
+    pub so_far-end_good : (front old new : List ℕ) (after : Option (List ℕ)) → n ≤ last_number → now.written ≡ Some old → next.written ≡ Some new → SoFar tool quiet start now before (front ++ old) told left s [] → IfSome told (λ input. left ≡ Some []) → LineRan quiet now next before counts n (answer tool (n == 1) line) None → Told start.written after (front ++ new) → IfSome told (λ input. AtEnd tool quiet start (over_sink next after) counts n input None left)
     so_far-end_good front old new after few held holds r at_end ran written = if_both told _ _ _ (λ input reading end.
         let running = running-line front old new n line held holds follows r.running ran in
         let whole : FoundSoFar = r.whole ++ (n, Ok line) ∷ [] in
         let all : judged_lines input ≡ whole = none-behind reading end ∙ ap (λ ls. r.whole ++ ls) last in
-        at-end-of input left after n [] None few running (all ∙ sym (append-nil whole)) refl refl (λ none. sym running.size ∙ sym (ap length all)) end written) r.reading at_end
+        at-end-of input left after n [] None few running (all ∙ sym (append-nil whole)) refl refl refl (λ none. sym running.size ∙ sym (ap length all)) end written) r.reading at_end
 
     -- or bad
-    pub so_far-end_bad : (front old new : List ℕ) (fault : LineFault) (lines : ℕ) (after : Option (List ℕ)) → now.written ≡ Some old → next.written ≡ Some new → SoFar tool quiet start now before (front ++ old) told left s [] → IfSome told (λ input. left ≡ Some []) → LineRan quiet now next before counts n (answer tool line) (Some fault) → Told start.written after (front ++ new) → IfSome told (λ input. AtEnd tool quiet start (over_sink next after) counts lines input (Some (n, fault)) left)
+    pub so_far-end_bad : (front old new : List ℕ) (fault : LineFault) (lines : ℕ) (after : Option (List ℕ)) → now.written ≡ Some old → next.written ≡ Some new → SoFar tool quiet start now before (front ++ old) told left s [] → IfSome told (λ input. left ≡ Some []) → LineRan quiet now next before counts n (answer tool (n == 1) line) (Some fault) → Told start.written after (front ++ new) → IfSome told (λ input. AtEnd tool quiet start (over_sink next after) counts lines input (Some (n, fault)) left)
     so_far-end_bad front old new fault lines after held holds r at_end ran written = if_both told _ _ _ (λ input reading end.
         let at = bad-line quiet tool n line fault ran in
         let bad : ℕ × LineFault = (n, fault) in
-        at-end-of input left after lines ((n, Ok line) ∷ []) (Some bad) is.few (running-same r.running at.idle) (none-behind reading end ∙ ap (λ ls. r.whole ++ ls) last) (at.none []) (at.first []) (some-bad bad lines (judged_lines input)) (stops-at reading) (idle-told front old new start.written after held holds at.idle written)) r.reading at_end
+        at-end-of input left after lines ((n, Ok line) ∷ []) (Some bad) is.few (running-same r.running at.idle) (none-behind reading end ∙ ap (λ ls. r.whole ++ ls) last) (at.none []) (at.first []) (at.version []) (some-bad bad lines (judged_lines input)) (stops-at reading) (idle-told front old new start.written after held holds at.idle written)) r.reading at_end
 
 -- a read that gave nothing found nothing left
 pub at-end : {tool : Tool} {quiet : Bool} {start now : Moment} {counts : Counts} {text : List ℕ} {told left : Option (List ℕ)} {s : Cutting} (left' : Option (List ℕ)) (buf : List ℕ) → SoFar tool quiet start now counts text told left s [] → length buf ≡ 4096 → Reads left left' buf 0 → IfSome told (λ input. left' ≡ Some [])

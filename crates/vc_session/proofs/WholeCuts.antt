@@ -8,7 +8,8 @@ use Rattle.vc_steps.proofs.SettledShelf.{keeps-same}
 use Rattle.vc_session.specs.Asked.{is_in_range}
 use Rattle.vc_session.specs.Cut.{Cuts, IsCut, NotAhead}
 use Rattle.vc_session.specs.Replay.{ReplaysBy}
-use Rattle.vc_session.specs.Run.{script}
+use Rattle.vc_session.specs.Run.{is_second, script}
+use Rattle.vc_session.specs.QuietText.{style_by}
 use Rattle.vc_session.specs.Text.{good_lines, is_quiet, text_of}
 use Rattle.vc_words.specs.declared.words.Words.{Words}
 use Rattle.vc_session.proofs.Broken.{cuts-source, text-begins}
@@ -22,12 +23,12 @@ module _ (tool : Tool) (w : Words) (before after : Moment) (told left : Option (
   -- a script that was run up to a bad line
   pub replay-cuts : (g : Option ℕ) (bad : ℕ × LineFault) → ReplaysBy g tool w before after told left (Some bad) → Cuts g tool w before after told
   replay-cuts None bad replay =
-      if_some told _ _ (λ input r. subst (λ b. IsCut (is_quiet w) (text_of w (good_lines b (length (judged_lines input)))) before after (script tool input)) r.first (cut-run r.run)) replay
+      if_some told _ _ (λ input r. subst (λ b. IsCut (style_by (is_quiet w) (is_second tool input)) (text_of w (is_second tool input) (good_lines b (length (judged_lines input)))) before after (script tool input)) r.first (cut-run r.run)) replay
   replay-cuts (Some n) bad replay = absurd (none-some bad (sym replay.0))
 
   pub replay-not_ahead : (g : Option ℕ) (bad : ℕ × LineFault) → ReplaysBy g tool w before after told left (Some bad) → NotAhead tool (is_quiet w) told left before.written after.written
   replay-not_ahead None bad replay =
-      λ plain. if_some told _ _ (λ input r. not_ahead-run tool input left (text-begins w (good_lines (Some bad) (length (judged_lines input)))) r.run plain) replay
+      λ plain. if_some told _ _ (λ input r. not_ahead-run tool input left (text-begins w (is_second tool input) (good_lines (Some bad) (length (judged_lines input)))) r.run plain) replay
   replay-not_ahead (Some n) bad replay = absurd (none-some bad (sym replay.0))
 
 cuts-by : (tool : Tool) (w : Words) (start : Moment) (told : Option (List ℕ)) (g : Option ℕ) → w.generate ≡ g → IsTrue (is_in_range g) → Cuts g tool w start start told

@@ -1,19 +1,22 @@
 -- What was written of a run that a failed write or want of memory broke off.
-use Rattle.std.specs.Prelude.{◌≡◌, ℕ, ◌≤◌, List, ◌∷◌, ◌++◌, Option, Some, None, Bool, true, false, ◌<◌, IfSome, count_by, length, ◌==◌}
+use Rattle.std.specs.Prelude.{◌≡◌, ℕ, ◌≤◌, List, ◌∷◌, ◌++◌, Option, Some, None, Bool, false, ◌<◌, IfSome, count_by, length, ◌==◌}
 use Rattle.std.specs.List.{AllByRecursion}
 use Rattle.vc_script.specs.declared.command.Command.{Command}
 use Rattle.vc_steps.specs.Moment.{Moment}
 use Rattle.vc_model.specs.Numbered.{at_number}
 use Rattle.vc_script.specs.Needs.{Need, NoNeed, need_at}
-use Rattle.vc_steps.specs.Account.{RoseBy, faults_of}
-use Rattle.vc_session.specs.QuietText.{needs_by_text}
+use Rattle.vc_model.specs.Count.{RoseBy}
+use Rattle.vc_steps.specs.Account.{faults_of}
+use Rattle.vc_session.specs.QuietText.{needs_by_text, style_by}
 use Rattle.vc_script.specs.declared.tool.Tool.{Tool}
 use Rattle.vc_script.specs.Judged.{judged_lines}
 use Rattle.vc_script.specs.Lines.{ended_lines}
 use Rattle.vc_generate.specs.Generated.{commands_of_seed}
 use Rattle.vc_session.specs.Replay.{FaultsStayed, ShowsNone, Told, generated_script}
-use Rattle.vc_session.specs.Run.{Ran, commands_in, first_bad, lines_of, run_from, script, wholly_read}
+use Rattle.vc_session.specs.Run.{Ran, commands_in, first_bad, is_second, lines_of, run_from, script, wholly_read}
 use Rattle.vc_session.specs.Text.{good_lines, is_quiet, text_of}
+use Rattle.vc_session.specs.declared.style.Style.{Style}
+use Rattle.vc_session.specs.declared.style.Style.TheVariants.{Quiet}
 use Rattle.vc_words.specs.declared.words.Words.{Words}
 
 -- needs, with one further in front where there is one
@@ -33,22 +36,22 @@ RoseAsRefused refusals before after =
     (faults_of (at_number before.accounts place)) (faults_of (at_number after.accounts place))
 
 -- what was written is a front of the text for the needs that its whole lines show, or for these and one further
-pub record IsCut (quiet : Bool) (said : Ran → List ℕ) (before after : Moment) (commands : List (ℕ × Command)) : Type 0 where
+pub record IsCut (style : Style) (said : Ran → List ℕ) (before after : Moment) (commands : List (ℕ × Command)) : Type 0 where
   pub written : List ℕ
   pub behind : List ℕ
   pub further : Option (ℕ × Need)
-  pub is_further : IsFurther (needs_by_text quiet (lines_of commands) written) further
-  pub text : said (run_from before.state commands (with_further (needs_by_text quiet (lines_of commands) written) further)) ≡ written ++ behind
+  pub is_further : IsFurther (needs_by_text style (lines_of commands) written) further
+  pub text : said (run_from before.state commands (with_further (needs_by_text style (lines_of commands) written) further)) ≡ written ++ behind
   pub told : Told before.written after.written written
   -- it shows a need of none of the commands behind these
   pub shown : List (ℕ × Command)
   pub others : List (ℕ × Command)
   pub split : commands ≡ shown ++ others
-  pub none : AllByRecursion (λ n. need_at (needs_by_text quiet (lines_of commands) written) n ≡ NoNeed) (lines_of others)
+  pub none : AllByRecursion (λ n. need_at (needs_by_text style (lines_of commands) written) n ≡ NoNeed) (lines_of others)
   -- and each refusal of these was counted
-  pub rose : RoseAsRefused (run_from before.state shown (needs_by_text quiet (lines_of commands) written)).refusals before after
+  pub rose : RoseAsRefused (run_from before.state shown (needs_by_text style (lines_of commands) written)).refusals before after
   -- where no fault was counted, it shows no need
-  pub no_need : FaultsStayed before after → ShowsNone quiet (lines_of commands) written
+  pub no_need : FaultsStayed before after → ShowsNone style (lines_of commands) written
 
 -- at most 4,096 bytes were taken behind a front whose whole lines have at most so many commands
 pub record ReadsNoFurther (tool : Tool) (input : List ℕ) (left : Option (List ℕ)) (most : ℕ) : Type 0 where
@@ -60,7 +63,7 @@ pub record ReadsNoFurther (tool : Tool) (input : List ℕ) (left : Option (List 
   pub unread : left ≡ Some rest
   pub few : length (commands_in tool (wholly_read before)) ≤ most
 
--- where replies are written plainly and that of a command of an input that was told isn't whole, no more was taken behind the line of the first such command
+-- where a run isn't quiet and the reply of a command of an input that was told isn't whole, no more was taken behind the line of the first such command
 abbrev pub NotAhead : Tool → Bool → Option (List ℕ) → Option (List ℕ) → Option (List ℕ) → Option (List ℕ) → Type 0
 NotAhead tool quiet told left before after =
     quiet ≡ false → IfSome told (λ input. IfSome before (λ front. (written : List ℕ) → after ≡ Some (front ++ written)
@@ -70,6 +73,6 @@ NotAhead tool quiet told left before after =
 -- by the words of a tool what was written of the source's script, where the source told it, or of so many generated commands, is a cut
 abbrev pub Cuts : Option ℕ → Tool → Words → Moment → Moment → Option (List ℕ) → Type 0
 Cuts None tool w before after told =
-    IfSome told (λ input. IsCut (is_quiet w) (text_of w (good_lines (first_bad tool input) (length (judged_lines input)))) before after (script tool input))
+    IfSome told (λ input. IsCut (style_by (is_quiet w) (is_second tool input)) (text_of w (is_second tool input) (good_lines (first_bad tool input) (length (judged_lines input)))) before after (script tool input))
 Cuts (Some n) tool w before after told =
-    IsCut true (text_of w (length (commands_of_seed tool n w.seed))) before after (generated_script tool w n)
+    IsCut Quiet (text_of w false (length (commands_of_seed tool n w.seed))) before after (generated_script tool w n)

@@ -1,22 +1,22 @@
 -- What running one line does, and what running a script promises.
-use Rattle.std.specs.Prelude.{◌≡◌, ◌≢◌, ℕ, ◌≤◌, List, [], Option, Some, None, Bool, Result, IfErr, IfOk, IfSome, IsTrue, OnErr, OnOk}
+use Rattle.std.specs.Prelude.{◌≡◌, ◌≢◌, ◌==◌, ℕ, ◌≤◌, List, [], Option, Some, None, Bool, Result, IfErr, IfOk, IfSome, IsTrue, OnErr, OnOk}
 use Rattle.vc_counts.specs.Counts.{counts_with_step}
 use Rattle.vc_counts.specs.declared.counts.Counts.{Counts}
 use Rattle.vc_model.specs.Count.{Rose}
 use Rattle.vc_script.specs.Needs.{need_shown}
 use Rattle.vc_script.specs.declared.command.Command.{Command}
 use Rattle.vc_script.specs.declared.line_answer.LineAnswer.{LineAnswer}
-use Rattle.vc_script.specs.declared.line_answer.LineAnswer.TheVariants.{Blank, Is, Bad}
+use Rattle.vc_script.specs.declared.line_answer.LineAnswer.TheVariants.{Blank, Is, Version, Bad}
 use Rattle.vc_script.specs.declared.line_fault.LineFault.{LineFault}
 use Rattle.vc_script.specs.declared.reply.Reply.{Reply}
 use Rattle.vc_script.specs.declared.tool.Tool.{Tool}
 use Rattle.vc_session.specs.Cut.{Cuts, NotAhead}
 use Rattle.vc_session.specs.Far.{WrotePart}
 use Rattle.vc_session.specs.Progress.{CountsOn}
-use Rattle.vc_session.specs.QuietText.{line_by}
+use Rattle.vc_session.specs.QuietText.{line_by, style_by}
 use Rattle.vc_session.specs.Replay.{IsCutShort, IsGenerated, IsReplay, ReplaysBy, Told}
-use Rattle.vc_session.specs.Run.{script}
-use Rattle.vc_session.specs.SoFar.{AtEnd}
+use Rattle.vc_session.specs.Run.{is_second, script}
+use Rattle.vc_session.specs.SoFar.{ArmsBy, AtEnd}
 use Rattle.vc_session.specs.Streams.{Flows}
 use Rattle.vc_session.specs.Text.{is_quiet}
 use Rattle.vc_session.specs.declared.engine.Stop.{Stop}
@@ -31,7 +31,18 @@ use Rattle.vc_words.specs.declared.words.Words.{Words}
 pub record IsIdle (now next : Moment) (before counts : Counts) : Type 0 where
   pub state : next.state ≡ now.state
   pub told : next.written ≡ now.written
-  pub settles : Settles now.accounts next.accounts []
+  pub settles : Settles now.armed now.accounts next.accounts []
+  pub armed : next.armed ≡ now.armed
+  pub gone : next.gone ≡ now.gone
+  pub same_counts : counts ≡ before
+
+-- nothing was run, and the first line told the version, by which disciplines are armed from now on
+pub record TakesVersion (now next : Moment) (before counts : Counts) (n version : ℕ) : Type 0 where
+  pub first : n ≡ 1
+  pub armed : next.armed ≡ (version == 2)
+  pub state : next.state ≡ now.state
+  pub told : next.written ≡ now.written
+  pub accounts : next.accounts ≡ now.accounts
   pub gone : next.gone ≡ now.gone
   pub same_counts : counts ≡ before
 
@@ -39,7 +50,7 @@ pub record IsIdle (now next : Moment) (before counts : Counts) : Type 0 where
 pub record IsStep (quiet : Bool) (now next : Moment) (before counts : Counts) (n : ℕ) (command : Command) : Type 0 where
   pub reply : Reply
   pub steps : Steps now next command (step now.state n command (need_shown reply)) reply
-  pub told : Told now.written next.written (line_by quiet (n, reply))
+  pub told : Told now.written next.written (line_by (style_by quiet now.armed) (n, reply))
   pub counted : IsTrue quiet → counts ≡ counts_with_step before (step now.state n command (need_shown reply))
 
 -- what running the command of a line promises by its answer: it is a step, and quietly it was counted
@@ -50,6 +61,7 @@ pub record RunsLine {E : Type 0} (quiet : Bool) (answer : Result Reply E) (now n
 -- a line was run by its answer
 abbrev pub LineRan : Bool → Moment → Moment → Counts → Counts → ℕ → LineAnswer → Option LineFault → Type 0
 LineRan quiet now next before counts n Blank fault = (fault ≡ None) × IsIdle now next before counts
+LineRan quiet now next before counts n (Version version) fault = (fault ≡ None) × TakesVersion now next before counts n version
 LineRan quiet now next before counts n (Bad why) fault = (fault ≡ Some why) × IsIdle now next before counts
 LineRan quiet now next before counts n (Is command) fault = (fault ≡ None) × IsStep quiet now next before counts n command
 
@@ -58,7 +70,9 @@ pub record RunsLines (tool : Tool) (quiet : Bool) (answer : Result (Option (ℕ 
   pub at_end : IfOk answer (λ bad. IfSome old.left (λ input. AtEnd tool quiet (over_sink start old.written) (over_sink last new.written) counts lines input bad new.left))
   pub cut_short : IfErr answer (λ stop. stop ≡ Read → IfSome old.left (λ input. IsCutShort tool quiet (over_sink start old.written) (moment_at_end (over_sink last new.written)) input new.left))
   -- wherever it was broken off, a front of what is written of the replies was written
-  pub far : OnErr answer (IfSome old.left (λ input. WrotePart quiet (over_sink start old.written) (over_sink last new.written) (script tool input)))
+  pub far : OnErr answer (IfSome old.left (λ input. WrotePart (style_by quiet (is_second tool input)) (over_sink start old.written) (over_sink last new.written) (script tool input)))
+  -- disciplines are armed only where the version is 2
+  pub arms : IfSome old.left (λ input. ArmsBy tool input last)
   -- and no more was read than what the next replies are of
   pub not_ahead : IfErr answer (λ stop. stop ≡ Write → NotAhead tool quiet old.left new.left old.written new.written)
   pub read : IfErr answer (λ stop. stop ≡ Read → Rose old.reads new.reads)
@@ -75,6 +89,8 @@ pub record RunsScript (tool : Tool) (w : Words) (answer : Result (Option (ℕ ×
   -- wherever it was broken off, what was written is a cut, and reading didn't run ahead of it
   pub cut : OnErr answer (Cuts None tool w (over_sink start old.written) (over_sink last new.written) old.left)
   pub not_ahead : IfErr answer (λ stop. stop ≡ Write → NotAhead tool (is_quiet w) old.left new.left old.written new.written)
+  -- disciplines are armed only where the version is 2
+  pub arms : IfSome old.left (λ input. ArmsBy tool input last)
   -- a fault comes from its stream
   pub read : IfErr answer (λ stop. stop ≡ Read → Rose old.reads new.reads)
   pub write : IfErr answer (λ stop. stop ≡ Write → Rose old.writes new.writes)

@@ -1,5 +1,5 @@
 -- How far a run came.
-use Rattle.std.specs.Prelude.{◌≡◌, ℕ, List, ◌++◌, Bool, map, ◌^◌, ◌<◌}
+use Rattle.std.specs.Prelude.{◌≡◌, ℕ, List, ◌++◌, map, ◌^◌, ◌<◌}
 use Rattle.std.specs.List.{AllByRecursion}
 use Rattle.vc_script.specs.declared.command.Command.{Command}
 use Rattle.vc_steps.specs.Moment.{Moment}
@@ -9,16 +9,17 @@ use Rattle.vc_session.specs.Cut.{RoseAsRefused}
 use Rattle.vc_session.specs.Run.{Ran, lines_of, run_from}
 use Rattle.vc_session.specs.Text.{replies_text}
 use Rattle.vc_session.specs.Replay.{Told}
+use Rattle.vc_session.specs.declared.style.Style.{Style}
 
 -- these commands were run for the needs that their replies show, each refusal was counted, and a front of what is written of the replies is this text
-pub record RanFar (quiet : Bool) (start now : Moment) (text : List ℕ) (done : List (ℕ × Command)) : Type 0 where
+pub record RanFar (style : Style) (start now : Moment) (text : List ℕ) (done : List (ℕ × Command)) : Type 0 where
   pub ran : Ran
   pub lines : lines_of done ≡ map (λ r. r.0) ran.replies
   pub proper : AllByRecursion (λ r. IsProperReply r.1) ran.replies
   pub run : (needs : List (ℕ × Need)) → ShowsNeeds needs ran.replies → run_from start.state done needs ≡ ran
   pub rose : RoseAsRefused ran.refusals start now
   pub behind : List ℕ
-  pub front : replies_text quiet ran ≡ text ++ behind
+  pub front : replies_text style ran ≡ text ++ behind
 
 -- the lines of commands rise, each below 2^64
 pub record AreLines (commands : List (ℕ × Command)) : Type 0 where
@@ -26,14 +27,14 @@ pub record AreLines (commands : List (ℕ × Command)) : Type 0 where
   pub below : AllByRecursion (λ n. n < 2 ^ 64) (lines_of commands)
 
 -- of these commands the first were run so far
-pub record RanPart (quiet : Bool) (start now : Moment) (text : List ℕ) (commands : List (ℕ × Command)) : Type 0 where
+pub record RanPart (style : Style) (start now : Moment) (text : List ℕ) (commands : List (ℕ × Command)) : Type 0 where
   pub done : List (ℕ × Command)
   pub rest : List (ℕ × Command)
   pub split : commands ≡ done ++ rest
-  pub far : RanFar quiet start now text done
+  pub far : RanFar style start now text done
 
 -- and that text was written
-pub record WrotePart (quiet : Bool) (start now : Moment) (commands : List (ℕ × Command)) : Type 0 where
+pub record WrotePart (style : Style) (start now : Moment) (commands : List (ℕ × Command)) : Type 0 where
   pub text : List ℕ
-  pub part : RanPart quiet start now text commands
+  pub part : RanPart style start now text commands
   pub told : Told start.written now.written text

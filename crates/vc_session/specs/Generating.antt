@@ -8,6 +8,7 @@ use Rattle.vc_session.specs.Progress.{Progress}
 use Rattle.vc_session.specs.Replay.{Told, on_lines}
 use Rattle.vc_session.specs.declared.engine.Stop.{Stop}
 use Rattle.vc_session.specs.declared.engine.Stop.TheVariants.{Read, Write}
+use Rattle.vc_session.specs.declared.style.Style.TheVariants.{Quiet}
 use Rattle.vc_steps.specs.Moment.{Moment, over_sink}
 
 -- these commands were run quietly up to those that are left, each on its line; what is gathered is still to be written
@@ -35,7 +36,7 @@ pub record RunsCommands (answer : Result ℕ Stop) (commands : List Command) (st
     (counts : Counts) (told told' : Option (List ℕ)) (failures failures' : ℕ) : Type 0 where
   pub ran : IfOk answer (RanAll start now told told' counts commands)
   -- wherever it was broken off, a front of what is written of the replies was written
-  pub far : OnErr answer (WrotePart true (over_sink start told) (over_sink now told') (on_lines 1 commands))
+  pub far : OnErr answer (WrotePart Quiet (over_sink start told) (over_sink now told') (on_lines 1 commands))
   -- nothing is read, and a failed write comes from the sink
   pub read : IfErr answer (λ stop. stop ≢ Read)
   pub write : IfErr answer (λ stop. stop ≡ Write → Rose failures failures')

@@ -5,11 +5,12 @@ use Rattle.vc_script.specs.declared.line_fault.LineFault.{LineFault}
 use Rattle.vc_script.specs.declared.tool.Tool.{Tool}
 use Rattle.vc_session.specs.declared.status.Status.{Status}
 use Rattle.vc_session.specs.declared.status.Status.TheVariants.{Ok, Script, Usage, Read, Write, Memory}
+use Rattle.vc_session.specs.Arming.{AsksFirst, Keeps}
 use Rattle.vc_session.specs.Cut.{Cuts, NotAhead}
 use Rattle.vc_session.specs.Replay.{Broke, IsCutShort, ReplaysBy, Told, Tried, err_line, message}
 use Rattle.vc_session.specs.Streams.{Streams}
 use Rattle.vc_session.specs.Text.{is_quiet}
-use Rattle.vc_steps.specs.Moment.{Keeps, Moment, over_sink}
+use Rattle.vc_steps.specs.Moment.{Moment, over_sink}
 use Rattle.vc_words.specs.declared.words.Words.{Words}
 
 -- from one moment and what the streams mean then to another, what the words ask for was run up to this bad line
@@ -50,7 +51,7 @@ pub record Headline (tool : Tool) (asked : Option Words) (start last : Moment) (
   -- the counts of failures never fall
   pub reads : old.reads ≤ new.reads
   pub writes : (old.writes ≤ new.writes) × (old.errors ≤ new.errors)
-  -- on every exit each place has its discipline, with the segments out and the terms that it had, and no fault less
-  pub keeps : Keeps start last
+  -- on every exit each place has its discipline, with the segments out and the terms that it had, no fault less; and where version 1 was run, none was asked for an exception
+  pub keeps : Keeps (AsksFirst asked tool old.left) start last
   -- and the kinds have the rules that they had
   pub rules : last.state.kinds ≡ start.state.kinds

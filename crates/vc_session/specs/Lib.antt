@@ -28,6 +28,7 @@ pub mod Replay
 pub mod Cut
 pub mod Far
 pub mod Streams
+pub mod Arming
 pub mod Headline
 pub mod Completes
 pub mod Promises

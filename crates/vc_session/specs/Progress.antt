@@ -1,5 +1,5 @@
 -- A run at its beginning and in its middle, by the commands that it ran.
-use Rattle.std.specs.Prelude.{◌≡◌, ℕ, ◌<◌, ◌≤◌, List, Bool, Result, IfOk, IsTrue, OnOk, map}
+use Rattle.std.specs.Prelude.{◌≡◌, ℕ, ◌<◌, ◌≤◌, List, [], Bool, false, Result, IfOk, IsTrue, OnOk, map}
 use Rattle.std.specs.List.{AllByRecursion}
 use Rattle.vc_counts.specs.CanCount.{CanCount}
 use Rattle.vc_counts.specs.Counts.{live_bytes}
@@ -12,6 +12,7 @@ use Rattle.vc_script.specs.ProperReply.{IsProperReply}
 use Rattle.vc_seg.specs.declared.shelf.Shelf.{Shelf}
 use Rattle.vc_session.specs.ProperState.{IsProperOver, IsProperState}
 use Rattle.vc_session.specs.Run.{Ran, lines_of, nothing_ran, run_from}
+use Rattle.vc_session.specs.QuietText.{style_by}
 use Rattle.vc_session.specs.Text.{replies_text, counts_of}
 use Rattle.vc_steps.specs.Account.{Settles}
 use Rattle.vc_steps.specs.Homes.{state_over}
@@ -20,7 +21,7 @@ use Rattle.vc_steps.specs.State.{State}
 use Rattle.vc_steps.specs.Told.{rules_in, tell}
 use Rattle.vc_steps.specs.declared.session.Session.{Session}
 
--- these commands, on rising lines up to that number, were run for the needs that their replies show, and that is the text of the replies, quiet or not; a quiet run counted so much
+-- these commands, on rising lines up to that number, were run for the needs that their replies show, and that is the text of the replies, quiet or not, by what the session arms; a quiet run counted so much
 pub record Progress (quiet : Bool) (start now : Moment) (counts : Counts) (text : List ℕ) (count : ℕ) (done : List (ℕ × Command)) : Type 0 where
   pub ran : Ran
   pub lines : lines_of done ≡ map (λ r. r.0) ran.replies
@@ -30,14 +31,19 @@ pub record Progress (quiet : Bool) (start now : Moment) (counts : Counts) (text 
   pub proper_state : IsProperState now.state
   pub run : (needs : List (ℕ × Need)) → ShowsNeeds needs ran.replies → run_from start.state done needs ≡ ran
   pub state : ran.state ≡ now.state
-  pub settles : Settles start.accounts now.accounts ran.refusals
+  pub settles : Settles now.armed start.accounts now.accounts ran.refusals
   pub gone : now.gone ≡ tell ran.told start.gone
-  pub told : text ≡ replies_text quiet ran
+  pub told : text ≡ replies_text (style_by quiet now.armed) ran
   pub counted : IsTrue quiet → counts ≡ counts_of ran
 
 -- a quiet run can count a command on any line behind that number
 abbrev pub CanCountOn : Bool → Counts → State → ℕ → Type 0
 CanCountOn quiet counts s count = IsTrue quiet → (line : ℕ) → count < line → CanCount counts (live_bytes s) line
+
+-- nothing is open in a session, and it arms no discipline
+pub record IsFresh {I : Type 0} {V : I → Type 0} {D : Type 0} (session : Session D I V) : Type 0 where
+  pub nothing : session.homes.entries ≡ []
+  pub unarmed : session.is_armed ≡ false
 
 -- a session that stands over a shelf and kinds can begin a run with these counts: of no command
 pub record CanBegin {I : Type 0} {V : I → Type 0} {D : Type 0} (quiet : Bool) (meaning : (x : I) × V x → Discipline) (rules : D → Rules) (shelf : Shelf I V) (session : Session D I V) (kinds : List D) (counts : Counts) : Type 0 where

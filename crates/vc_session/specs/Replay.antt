@@ -1,10 +1,10 @@
 -- What the end of a run promises.
-use Rattle.std.specs.Prelude.{◌≡◌, ℕ, ◌+◌, ◌≤◌, ◌⊎◌, List, [], ◌∷◌, ◌++◌, Option, Some, None, Bool, true, IfSome, IsOk, codes, decimal, length, take}
+use Rattle.std.specs.Prelude.{◌≡◌, ℕ, ◌+◌, ◌≤◌, ◌⊎◌, List, [], ◌∷◌, ◌++◌, Option, Some, None, Bool, true, false, IfSome, IsOk, codes, decimal, length, take}
 use Rattle.std.specs.List.{AllByRecursion}
 use Rattle.vc_model.specs.Count.{Rose}
 use Rattle.vc_script.specs.declared.command.Command.{Command}
 use Rattle.vc_script.specs.declared.line_fault.LineFault.{LineFault}
-use Rattle.vc_script.specs.declared.line_fault.LineFault.TheVariants.{UnknownCommand, WordCount, BadName, BadNumber, BadAddress, BadBytes, UnknownMethod, LineTooLong, TooManyLines}
+use Rattle.vc_script.specs.declared.line_fault.LineFault.TheVariants.{UnknownCommand, WordCount, BadName, BadNumber, BadAddress, BadBytes, UnknownMethod, LineTooLong, TooManyLines, UnknownVersion}
 use Rattle.vc_script.specs.declared.tool.Tool.{Tool}
 use Rattle.vc_script.specs.declared.tool.Tool.TheVariants.{Vmreplay, Dtrun}
 use Rattle.vc_model.specs.Numbered.{at_number}
@@ -15,9 +15,10 @@ use Rattle.vc_steps.specs.Told.{ended_told, tell}
 use Rattle.vc_script.specs.Judged.{judged_lines}
 use Rattle.vc_generate.specs.Generated.{commands_of_seed}
 use Rattle.vc_session.specs.Completes.{Stayed}
-use Rattle.vc_session.specs.QuietText.{needs_by_text}
-use Rattle.vc_session.specs.Run.{Ran, commands_in, fault_in, first_bad, lines_of, run_from, script, wholly_read}
+use Rattle.vc_session.specs.QuietText.{needs_by_text, style_by}
+use Rattle.vc_session.specs.Run.{Ran, commands_in, fault_in, first_bad, is_second, is_second_in, lines_of, run_from, script, wholly_read}
 use Rattle.vc_session.specs.Text.{replies_text, good_lines, is_quiet, text_of}
+use Rattle.vc_session.specs.declared.style.Style.{Style}
 use Rattle.vc_words.specs.declared.words.Words.{Words}
 
 -- what a sink told, followed by a piece
@@ -52,14 +53,15 @@ fault_text BadBytes = codes "bad bytes"
 fault_text UnknownMethod = codes "unknown method or mode"
 fault_text LineTooLong = codes "line too long"
 fault_text TooManyLines = codes "too many lines"
+fault_text UnknownVersion = codes "unknown version"
 
 -- the line that err gets for a bad line
 abbrev pub err_line : Tool → ℕ × LineFault → List ℕ
 err_line tool bad = message tool (codes "line " ++ decimal bad.0 ++ codes ": " ++ fault_text bad.1)
 
--- the run of commands for the needs that a text shows, by whether it is a quiet one
-abbrev pub run_by : Bool → Moment → List (ℕ × Command) → List ℕ → Ran
-run_by quiet before commands written = run_from before.state commands (needs_by_text quiet (lines_of commands) written)
+-- the run of commands for the needs that a text shows, by how replies are written
+abbrev pub run_by : Style → Moment → List (ℕ × Command) → List ℕ → Ran
+run_by style before commands written = run_from before.state commands (needs_by_text style (lines_of commands) written)
 
 -- what a run and its end tell
 abbrev pub all_told : Ran → List (ℕ × List ℕ)
@@ -71,20 +73,20 @@ FaultsStayed before after =
     (place : ℕ) → Stayed (faults_of (at_number before.accounts place)) (faults_of (at_number after.accounts place))
 
 -- at none of these lines does a text show a need
-abbrev pub ShowsNone : Bool → List ℕ → List ℕ → Type 0
-ShowsNone quiet lines written =
-    AllByRecursion (λ n. need_at (needs_by_text quiet lines written) n ≡ NoNeed) lines
+abbrev pub ShowsNone : Style → List ℕ → List ℕ → Type 0
+ShowsNone style lines written =
+    AllByRecursion (λ n. need_at (needs_by_text style lines written) n ≡ NoNeed) lines
 
--- a run of commands, quiet or not, whose text is said by a function of the run: what was written is the text of the run for the needs that it shows, the shelf settles with the run's refusals, and the kinds were told of what went in it and at its end
-pub record IsRunOf (quiet : Bool) (said : Ran → List ℕ) (before after : Moment) (commands : List (ℕ × Command)) : Type 0 where
+-- a run of commands, quiet or not, of a script of version 2 or not, whose text is said by a function of the run: what was written is the text of the run for the needs that it shows, the shelf settles with the run's refusals, and the kinds were told of what went in it and at its end
+pub record IsRunOf (quiet second : Bool) (said : Ran → List ℕ) (before after : Moment) (commands : List (ℕ × Command)) : Type 0 where
   pub written : List ℕ
-  pub text : written ≡ said (run_by quiet before commands written)
+  pub text : written ≡ said (run_by (style_by quiet second) before commands written)
   pub told : Told before.written after.written written
-  pub settles : Settles before.accounts after.accounts (run_by quiet before commands written).refusals
+  pub settles : Settles second before.accounts after.accounts (run_by (style_by quiet second) before commands written).refusals
   -- where no fault was counted, it shows no need, and is the text of the run in which nothing is refused
-  pub no_need : FaultsStayed before after → ShowsNone quiet (lines_of commands) written
+  pub no_need : FaultsStayed before after → ShowsNone (style_by quiet second) (lines_of commands) written
   pub unrefused : FaultsStayed before after → written ≡ said (run_from before.state commands [])
-  pub gone : after.gone ≡ tell (all_told (run_by quiet before commands written)) before.gone
+  pub gone : after.gone ≡ tell (all_told (run_by (style_by quiet second) before commands written)) before.gone
 
 -- bytes that show no fault: their whole lines are good, and no line is too long or past the last number, the one that has begun among them
 pub record ShowsNoFault (tool : Tool) (bytes : List ℕ) : Type 0 where
@@ -110,7 +112,7 @@ Stops tool input (Some bad) left = StopsAtFault tool input left
 pub record IsReplay (tool : Tool) (w : Words) (before after : Moment) (input : List ℕ) (bad : Option (ℕ × LineFault)) (left : Option (List ℕ)) : Type 0 where
   pub first : bad ≡ first_bad tool input
   pub stops : Stops tool input bad left
-  pub run : IsRunOf (is_quiet w) (text_of w (good_lines bad (length (judged_lines input)))) before after (script tool input)
+  pub run : IsRunOf (is_quiet w) (is_second tool input) (text_of w (is_second tool input) (good_lines bad (length (judged_lines input)))) before after (script tool input)
 
 -- a run that a failed read ended: the lines that were wholly read were run, and no byte that was read shows a fault
 pub record IsCutShort (tool : Tool) (quiet : Bool) (before after : Moment) (input : List ℕ) (left : Option (List ℕ)) : Type 0 where
@@ -119,7 +121,7 @@ pub record IsCutShort (tool : Tool) (quiet : Bool) (before after : Moment) (inpu
   pub split : input ≡ bytes ++ rest
   pub unread : left ≡ Some rest
   pub no_fault : ShowsNoFault tool bytes
-  pub run : IsRunOf quiet (replies_text quiet) before after (commands_in tool (wholly_read bytes))
+  pub run : IsRunOf quiet (is_second_in tool (wholly_read bytes)) (replies_text (style_by quiet (is_second_in tool (wholly_read bytes)))) before after (commands_in tool (wholly_read bytes))
 
 -- commands on the lines from a number on
 abbrev pub on_lines : ℕ → List Command → List (ℕ × Command)
@@ -130,9 +132,9 @@ on_lines n (c ∷ cs) = (n, c) ∷ on_lines (n + 1) cs
 abbrev pub generated_script : Tool → Words → ℕ → List (ℕ × Command)
 generated_script tool w n = on_lines 1 (commands_of_seed tool n w.seed)
 
--- a quiet run of these; no source is read, and none is spoken of
+-- a quiet run of these, in version 1; no source is read, and none is spoken of
 pub record IsGenerated (tool : Tool) (w : Words) (n : ℕ) (before after : Moment) : Type 0 where
-  pub run : IsRunOf true (text_of w (length (commands_of_seed tool n w.seed))) before after (generated_script tool w n)
+  pub run : IsRunOf true false (text_of w false (length (commands_of_seed tool n w.seed))) before after (generated_script tool w n)
 
 -- from one moment to another, and from what a source tells to what it has left: so many generated commands were run, of which no line is bad, or else the source's script, up to this bad line
 abbrev pub ReplaysBy : Option ℕ → Tool → Words → Moment → Moment → Option (List ℕ) → Option (List ℕ) → Option (ℕ × LineFault) → Type 0

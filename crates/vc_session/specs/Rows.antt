@@ -30,7 +30,7 @@ four_words = record no_words { generate = Some 4; seed = 42 }
 
 -- what a run writes without words
 abbrev pub plain_text : Ran → List ℕ
-plain_text r = text_of no_words 0 r
+plain_text r = text_of no_words false 0 r
 
 -- of a discipline that rounds to 4,096 bytes
 abbrev pub terms : Terms

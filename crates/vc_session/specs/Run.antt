@@ -1,10 +1,10 @@
 -- The commands of an input, a run of them, and its text.
-use Rattle.std.specs.Prelude.{ℕ, List, [], ◌∷◌, ◌++◌, Option, Some, None, Result, Ok, Err, map, max}
+use Rattle.std.specs.Prelude.{ℕ, Bool, ◌==◌, List, [], ◌∷◌, ◌++◌, Option, Some, None, Result, Ok, Err, map, max}
 use Rattle.vc_counts.specs.Counts.{live_bytes}
 use Rattle.vc_model.specs.Segments.{Grant}
 use Rattle.vc_script.specs.declared.command.Command.{Command}
 use Rattle.vc_script.specs.declared.line_answer.LineAnswer.{LineAnswer}
-use Rattle.vc_script.specs.declared.line_answer.LineAnswer.TheVariants.{Blank, Is, Bad}
+use Rattle.vc_script.specs.declared.line_answer.LineAnswer.TheVariants.{Blank, Is, Version, Bad}
 use Rattle.vc_script.specs.declared.line_fault.LineFault.{LineFault}
 use Rattle.vc_script.specs.declared.reply.Reply.{Reply}
 use Rattle.vc_script.specs.declared.tool.Tool.{Tool}
@@ -20,10 +20,11 @@ use Rattle.vc_steps.specs.Step.{step}
 abbrev pub command_then : ℕ → LineAnswer → List (ℕ × Command) → List (ℕ × Command)
 command_then n Blank behind = behind
 command_then n (Is command) behind = (n, command) ∷ behind
+command_then n (Version version) behind = behind
 command_then n (Bad fault) behind = []
 
 abbrev pub command_in_turn : Tool → ℕ → Result (List ℕ) LineFault → List (ℕ × Command) → List (ℕ × Command)
-command_in_turn tool n (Ok line) behind = command_then n (answer tool line) behind
+command_in_turn tool n (Ok line) behind = command_then n (answer tool (n == 1) line) behind
 command_in_turn tool n (Err fault) behind = []
 
 -- the commands of lines before the first bad one, each with its line's number
@@ -37,10 +38,11 @@ script tool input = commands_in tool (judged_lines input)
 abbrev pub fault_then : ℕ → LineAnswer → Option (ℕ × LineFault) → Option (ℕ × LineFault)
 fault_then n Blank behind = behind
 fault_then n (Is command) behind = behind
+fault_then n (Version version) behind = behind
 fault_then n (Bad fault) behind = Some (n, fault)
 
 abbrev pub fault_in_turn : Tool → ℕ → Result (List ℕ) LineFault → Option (ℕ × LineFault) → Option (ℕ × LineFault)
-fault_in_turn tool n (Ok line) behind = fault_then n (answer tool line) behind
+fault_in_turn tool n (Ok line) behind = fault_then n (answer tool (n == 1) line) behind
 fault_in_turn tool n (Err fault) behind = Some (n, fault)
 
 -- the first bad line, by its number, and what is wrong with it
@@ -50,6 +52,30 @@ fault_in tool (line ∷ rest) = fault_in_turn tool line.0 line.1 (fault_in tool 
 
 abbrev pub first_bad : Tool → List ℕ → Option (ℕ × LineFault)
 first_bad tool input = fault_in tool (judged_lines input)
+
+-- the version that a line's answer tells
+abbrev pub version_told : LineAnswer → ℕ
+version_told (Version version) = version
+version_told other = 1
+
+abbrev pub version_in_turn : Tool → ℕ → Result (List ℕ) LineFault → ℕ
+version_in_turn tool n (Ok line) = version_told (answer tool (n == 1) line)
+version_in_turn tool n (Err fault) = 1
+
+-- the version of lines, which the first of them tells; it is 1 where that one tells none
+abbrev pub version_in : Tool → List (ℕ × Result (List ℕ) LineFault) → ℕ
+version_in tool [] = 1
+version_in tool (line ∷ rest) = version_in_turn tool line.0 line.1
+
+abbrev pub version_of : Tool → List ℕ → ℕ
+version_of tool input = version_in tool (judged_lines input)
+
+-- whether it is the second, in which replies have their lines' numbers and disciplines are armed
+abbrev pub is_second_in : Tool → List (ℕ × Result (List ℕ) LineFault) → Bool
+is_second_in tool lines = version_in tool lines == 2
+
+abbrev pub is_second : Tool → List ℕ → Bool
+is_second tool input = version_of tool input == 2
 
 -- the lines that were wholly read of an input of which these bytes were read
 abbrev pub wholly_read : List ℕ → List (ℕ × Result (List ℕ) LineFault)

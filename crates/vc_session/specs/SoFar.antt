@@ -1,5 +1,5 @@
 -- A run in its middle, of lines that come in pieces.
-use Rattle.std.specs.Prelude.{◌≡◌, ℕ, ◌+◌, ◌-◌, ◌*◌, ◌≤◌, List, [], ◌++◌, Option, Some, None, Bool, Result, Ok, IfOk, IfSome, IsOk, IsTrue, OnErr, length}
+use Rattle.std.specs.Prelude.{◌≡◌, ℕ, ◌+◌, ◌-◌, ◌*◌, ◌≤◌, List, [], ◌++◌, Option, Some, None, Bool, false, Result, Ok, IfOk, IfSome, IsOk, IsTrue, OnErr, length}
 use Rattle.std.specs.List.{AllByRecursion}
 use Rattle.vc_base.specs.declared.fault.OutOfMemory.{OutOfMemory}
 use Rattle.vc_counts.specs.declared.counts.Counts.{Counts}
@@ -11,10 +11,12 @@ use Rattle.vc_script.specs.Judged.{judged_lines, judged_from, last_number, line_
 use Rattle.vc_script.specs.Lines.{ended_after, lines_after}
 use Rattle.vc_steps.specs.Moment.{Moment, over_sink}
 use Rattle.vc_steps.specs.State.{State}
+use Rattle.vc_steps.specs.declared.session.Session.{Session}
 use Rattle.vc_session.specs.Far.{RanPart}
-use Rattle.vc_session.specs.Progress.{CanCountOn, Progress}
+use Rattle.vc_session.specs.Progress.{CanCountOn, IsFresh, Progress}
+use Rattle.vc_session.specs.QuietText.{style_by}
 use Rattle.vc_session.specs.Replay.{ShowsNoFault, Stops, Told}
-use Rattle.vc_session.specs.Run.{commands_in, fault_in, first_bad, script, wholly_read}
+use Rattle.vc_session.specs.Run.{commands_in, fault_in, first_bad, is_second, is_second_in, script, version_of, wholly_read}
 
 -- lines by their numbers, or what is wrong with them
 abbrev pub FoundSoFar : Type 0
@@ -28,6 +30,8 @@ pub record Running (tool : Tool) (quiet : Bool) (start now : Moment) (counts : C
   pub short : AllByRecursion (λ line. IsOk line.1) whole
   pub script : (behind : FoundSoFar) → commands_in tool (whole ++ behind) ≡ done ++ commands_in tool behind
   pub good : (behind : FoundSoFar) → fault_in tool (whole ++ behind) ≡ fault_in tool behind
+  -- disciplines are armed by the version that the first line told
+  pub armed : now.armed ≡ is_second_in tool whole
 
 -- what is judged of the bytes behind those that were fed
 abbrev pub judged_rest : Cutting → List ℕ → FoundSoFar
@@ -61,10 +65,20 @@ pub record AtEnd (tool : Tool) (quiet : Bool) (start now : Moment) (counts : Cou
   pub count : ℕ
   pub few : count ≤ last_number
   pub progress : Progress quiet start now counts text count (script tool input)
+  pub armed : now.armed ≡ is_second tool input
   pub told : Told start.written now.written text
   pub first : bad ≡ first_bad tool input
   pub stops : Stops tool input bad left
   pub whole : bad ≡ None → lines ≡ length (judged_lines input)
+
+-- disciplines aren't armed by a script of version 1
+abbrev pub ArmsBy : Tool → List ℕ → Moment → Type 0
+ArmsBy tool input now = version_of tool input ≡ 1 → now.armed ≡ false
+
+-- of commands of an input the first were run so far, written as its version asks for
+pub record RanPartBy (tool : Tool) (quiet : Bool) (start now : Moment) (text : List ℕ) (input : List ℕ) : Type 0 where
+  pub part : RanPart (style_by quiet (is_second tool input)) start now text (script tool input)
+  pub arms : ArmsBy tool input now
 
 -- each run so far goes on: what was left of a piece was run up to what is left now, and its replies were gathered
 pub record GoesOn (tool : Tool) (quiet : Bool) (first now : Moment) (before counts : Counts) (gathered : List ℕ) (s next : Cutting) (rest rest' : List ℕ) : Type 0 where
@@ -80,11 +94,11 @@ pub record EndsAll (tool : Tool) (quiet : Bool) (first now : Moment) (before cou
 
 -- each run so far is run on, whatever comes of it: what is gathered is a front of what is written of the replies
 pub record GoesFar (tool : Tool) (quiet : Bool) (first now : Moment) (before : Counts) (gathered : List ℕ) (s : Cutting) (rest : List ℕ) : Type 0 where
-  pub far : {start : Moment} {text : List ℕ} {told left : Option (List ℕ)} → SoFar tool quiet start first before text told left s rest → IfSome told (λ input. RanPart quiet start now (text ++ gathered) (script tool input))
+  pub far : {start : Moment} {text : List ℕ} {told left : Option (List ℕ)} → SoFar tool quiet start first before text told left s rest → IfSome told (λ input. RanPartBy tool quiet start now (text ++ gathered) input)
 
 -- and so with the input's end
 pub record EndsFar (tool : Tool) (quiet : Bool) (first now : Moment) (before : Counts) (gathered : List ℕ) (s : Cutting) : Type 0 where
-  pub far : {start : Moment} {text : List ℕ} {told left : Option (List ℕ)} → SoFar tool quiet start first before text told left s [] → IfSome told (λ input. left ≡ Some []) → IfSome told (λ input. RanPart quiet start now (text ++ gathered) (script tool input))
+  pub far : {start : Moment} {text : List ℕ} {told left : Option (List ℕ)} → SoFar tool quiet start first before text told left s [] → IfSome told (λ input. left ≡ Some []) → IfSome told (λ input. RanPartBy tool quiet start now (text ++ gathered) input)
 
 -- more may be fed to a cutter
 pub record CanFeed (s : Cutting) : Type 0 where
@@ -92,9 +106,11 @@ pub record CanFeed (s : Cutting) : Type 0 where
   pub cutting : IsCutting s
 
 -- and a quiet run can count the commands of later lines
-pub record CanGoOn (quiet : Bool) (counts : Counts) (now : State) (s : Cutting) : Type 0 where
+pub record CanGoOn {I : Type 0} {V : I → Type 0} {D : Type 0} (quiet : Bool) (counts : Counts) (now : State) (session : Session D I V) (s : Cutting) : Type 0 where
   pub feeds : CanFeed s
   pub can_count : CanCountOn quiet counts now s.count
+  -- before the first line nothing is open
+  pub fresh : s.count ≡ 0 → IsFresh session
 
 -- the bytes that can still be taken without a fault
 abbrev pub fuel : Cutting → ℕ

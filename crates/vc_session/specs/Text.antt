@@ -10,9 +10,10 @@ use Rattle.vc_script.specs.declared.line_fault.LineFault.{LineFault}
 use Rattle.vc_script.specs.declared.reply.Reply.TheVariants.{Stats}
 use Rattle.vc_script.specs.Needs.{is_refusal}
 use Rattle.vc_script.specs.Print.{printed}
-use Rattle.vc_session.specs.QuietText.{body_by}
+use Rattle.vc_session.specs.QuietText.{body_by, style_by}
 use Rattle.vc_session.specs.Run.{Ran}
 use Rattle.vc_seg.specs.declared.stat.Stat.{Stat}
+use Rattle.vc_session.specs.declared.style.Style.{Style}
 use Rattle.vc_words.specs.declared.words.Words.{Words}
 
 -- with `--quiet`, and where commands are generated, no reply is printed but one that refuses a segment
@@ -71,9 +72,9 @@ abbrev pub lines_text : List (List ℕ) → List ℕ
 lines_text lines = flat_map (λ line. line ++ 10 ∷ []) lines
 
 -- what a run writes of its replies, and all that one writes that is cut short
-abbrev pub replies_text : Bool → Ran → List ℕ
-replies_text quiet r = body_by quiet r.replies
+abbrev pub replies_text : Style → Ran → List ℕ
+replies_text style r = body_by style r.replies
 
--- what a run of so many lines writes
-abbrev pub text_of : Words → ℕ → Ran → List ℕ
-text_of w lines r = replies_text (is_quiet w) r ++ lines_text (tail_lines w lines (counts_of r) r.state.homes)
+-- what a run of so many lines writes, by whether its script is of version 2
+abbrev pub text_of : Words → Bool → ℕ → Ran → List ℕ
+text_of w second lines r = replies_text (style_by (is_quiet w) second) r ++ lines_text (tail_lines w lines (counts_of r) r.state.homes)

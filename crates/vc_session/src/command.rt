@@ -9,6 +9,7 @@ ghost use Rattle.vc_steps.specs.Steps.{RunsOver};
 ghost use Rattle.vc_steps.specs.Told.{rules_in};
 
 use crate::gather::gather;
+use crate::style::style_by;
 use vc_base::OutOfMemory;
 use vc_counts::{Counts, counted_step};
 use vc_dtdisc::DictDisc;
@@ -39,7 +40,8 @@ fn run_command<D: DictDisc>(
     session.step(shelf, kinds, n, command)
 }
 
-// Runs the command of the line of that number, and gathers what is written of its reply. A quiet run counts it.
+// Runs the command of the line of that number, and gathers what is written of its reply. A quiet run counts it, and a
+// session that arms disciplines is of a script of version 2.
 pub(crate) fn run_answer<D: DictDisc>(
     quiet: bool,
     session: &mut Session<D>,
@@ -60,9 +62,10 @@ pub(crate) fn run_answer<D: DictDisc>(
         counts.old counts.new n command.now)) }
     ensures same { OnErr result (replies.new.items ≡ replies.old.items) }
 {
+    let style = style_by(quiet, session.is_armed());
     let ran = run_command(quiet, session, shelf, kinds, n, command, counts);
     match &ran {
-        Ok(reply) => gather(quiet, n, reply, replies),
+        Ok(reply) => gather(style, n, reply, replies),
         Err(_) => Err(OutOfMemory),
     }
 }

@@ -1,15 +1,15 @@
-ghost use Rattle.std.specs.Prelude.{◌≡◌, [], Some, IsTrue, OnErr};
+ghost use Rattle.std.specs.Prelude.{◌≡◌, ◌==◌, [], None, Ok, Some, IsTrue, OnErr};
 ghost use Rattle.vc_counts.specs.CanCount.{CanCount};
 ghost use Rattle.vc_counts.specs.Counts.{live_bytes};
 ghost use Rattle.vc_script.specs.Answer.{answer};
 ghost use Rattle.vc_script.specs.Cutting.{new_cutting};
 ghost use Rattle.vc_session.specs.Engine.{LineRan, RunsLines};
-ghost use Rattle.vc_session.specs.Progress.{CanBegin, CountsOn};
+ghost use Rattle.vc_session.specs.Progress.{CanBegin, CountsOn, IsFresh};
 ghost use Rattle.vc_session.specs.SoFar.{CanGoOn, RunsLast, RunsPiece};
 ghost use Rattle.vc_session.specs.Streams.{flows};
 ghost use Rattle.vc_steps.specs.Homes.{IsSessionOver, state_over};
 ghost use Rattle.vc_steps.specs.Moment.{over_sink};
-ghost use Rattle.vc_steps.specs.Steps.{RunsOver};
+ghost use Rattle.vc_session.specs.Arming.{RunsArming};
 ghost use Rattle.vc_steps.specs.Told.{rules_in};
 
 use crate::command::run_answer;
@@ -60,7 +60,8 @@ impl From<WriteFailed> for Stop {
     }
 }
 
-// Runs the line of that number and gathers what is written of its reply, or answers what is wrong with it.
+// Runs the line of that number and gathers what is written of its reply, or answers what is wrong with it. Line 1 may tell
+// the version instead.
 fn run_line<D: DictDisc>(
     alloc: Global,
     tool: Tool,
@@ -74,19 +75,25 @@ fn run_line<D: DictDisc>(
     replies: &mut Vec<u8>,
 ) -> Result<Option<LineFault>, OutOfMemory>
     requires session { IsSessionOver state D.rules shelf.old session.old kinds.old.items }
+    requires fresh { n ≡ 1 → IsFresh session.old }
     requires counts { IsTrue quiet → CanCount counts.old (live_bytes
         (state_over state (rules_in D.rules kinds.old.items) shelf.old session.old)) n }
-    ensures runs { RunsOver state D.rules D.gone shelf.old session.old kinds.old.items
+    ensures runs { RunsArming state D.rules D.gone shelf.old session.old kinds.old.items
         shelf.new session.new kinds.new.items
         (λ now next. CountsOn quiet result counts.new next n (LineRan quiet
         (over_sink now (Some replies.old.items)) (over_sink next (Some replies.new.items))
-        counts.old counts.new n (answer tool line.now))) }
+        counts.old counts.new n (answer tool (n == 1) line.now))) }
     ensures same { OnErr result (replies.new.items ≡ replies.old.items) }
+    ensures armed { OnErr result (session.new.is_armed ≡ session.old.is_armed) }
 {
-    let read = read_line(alloc, tool, line);
+    let read = read_line(alloc, tool, n == 1, line);
     match &read {
         Ok(read) => match read {
             LineAnswer::Blank => Ok(None),
+            LineAnswer::Version(version) => {
+                session.set_version(*version);
+                Ok(None)
+            }
             LineAnswer::Bad(fault) => Ok(Some(*fault)),
             LineAnswer::Is(command) => {
                 run_answer(quiet, session, shelf, kinds, n, command, counts, replies)?;
@@ -113,13 +120,15 @@ fn run_piece<D: DictDisc>(
 ) -> Result<Option<(u32, LineFault)>, OutOfMemory>
     requires session { IsSessionOver state D.rules shelf.old session.old kinds.old.items }
     requires goes_on { CanGoOn quiet counts.old
-        (state_over state (rules_in D.rules kinds.old.items) shelf.old session.old) cutter.old }
+        (state_over state (rules_in D.rules kinds.old.items) shelf.old session.old)
+        session.old cutter.old }
     requires none { replies.old.items ≡ [] }
-    ensures { RunsOver state D.rules D.gone shelf.old session.old kinds.old.items
+    ensures runs { RunsArming state D.rules D.gone shelf.old session.old kinds.old.items
         shelf.new session.new kinds.new.items
         (λ now next. RunsPiece tool quiet result
         (over_sink now (Some replies.old.items)) (over_sink next (Some replies.new.items))
         counts.old counts.new replies.new.items cutter.old cutter.new piece.now) }
+    ensures fresh { result ≡ Ok None → cutter.new.count ≡ 0 → IsFresh session.new }
 {
     let mut rest = piece;
     while !rest.is_empty() {
@@ -164,9 +173,10 @@ fn run_last<D: DictDisc>(
 ) -> Result<Option<(u32, LineFault)>, OutOfMemory>
     requires session { IsSessionOver state D.rules shelf.old session.old kinds.old.items }
     requires goes_on { CanGoOn quiet counts.old
-        (state_over state (rules_in D.rules kinds.old.items) shelf.old session.old) cutter.old }
+        (state_over state (rules_in D.rules kinds.old.items) shelf.old session.old)
+        session.old cutter.old }
     requires none { replies.old.items ≡ [] }
-    ensures { RunsOver state D.rules D.gone shelf.old session.old kinds.old.items
+    ensures { RunsArming state D.rules D.gone shelf.old session.old kinds.old.items
         shelf.new session.new kinds.new.items
         (λ now next. RunsLast tool quiet result
         (over_sink now (Some replies.old.items)) (over_sink next (Some replies.new.items))
@@ -209,9 +219,10 @@ pub(crate) fn run_lines<D: DictDisc, S: Source, O: Sink>(
     replies: &mut Vec<u8>,
 ) -> Result<Option<(u32, LineFault)>, Stop>
     requires begins { CanBegin quiet state D.rules shelf.old session.old kinds.old.items counts.old }
+    requires fresh { IsFresh session.old }
     requires new { cutter.old ≡ new_cutting }
     requires none { replies.old.items ≡ [] }
-    ensures { RunsOver state D.rules D.gone shelf.old session.old kinds.old.items
+    ensures { RunsArming state D.rules D.gone shelf.old session.old kinds.old.items
         shelf.new session.new kinds.new.items
         (λ start last. RunsLines tool quiet result start last counts.new cutter.new.count
         (flows S.left S.failures O.written O.failures source.old out.old)

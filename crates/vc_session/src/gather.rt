@@ -5,6 +5,7 @@ ghost use Rattle.vc_script.specs.Print.{line_of};
 ghost use Rattle.vc_session.specs.QuietText.{is_need, line_by};
 ghost use Rattle.vc_session.specs.Replay.{Told};
 
+use crate::style::Style;
 use itoa::Buffer;
 use vc_base::OutOfMemory;
 use vc_script::{Refusal, Reply, put_reply};
@@ -58,23 +59,26 @@ fn gather_numbered(replies: &mut Vec<u8>, n: u32, reply: &Reply) -> Result<(), O
     }
 }
 
-// Gathers what is written of the reply to the command of a line, whole or not at all: its line, or quietly only a
-// refused segment, behind the number.
+// Gathers what is written of the reply to the command of a line, whole or not at all: its line, plainly or behind the
+// number, or quietly only a refused segment, behind the number.
 pub(crate) fn gather(
-    quiet: bool,
+    style: Style,
     n: u32,
     reply: &Reply,
     replies: &mut Vec<u8>,
 ) -> Result<(), OutOfMemory>
     ensures told { OnOk result (Told (Some replies.old.items) (Some replies.new.items)
-        (line_by quiet (n, reply.now))) }
+        (line_by style (n, reply.now))) }
     ensures same { OnErr result (replies.new.items ≡ replies.old.items) }
 {
-    if !quiet {
-        return put_reply(replies, reply);
+    match style {
+        Style::Plain => put_reply(replies, reply),
+        Style::Numbered => gather_numbered(replies, n, reply),
+        Style::Quiet => {
+            if !refuses_segment(reply) {
+                return Ok(());
+            }
+            gather_numbered(replies, n, reply)
+        }
     }
-    if !refuses_segment(reply) {
-        return Ok(());
-    }
-    gather_numbered(replies, n, reply)
 }

@@ -5,13 +5,15 @@ ghost use Rattle.vc_counts.specs.CanCount.{CanCount};
 ghost use Rattle.vc_counts.specs.Counts.{live_bytes};
 ghost use Rattle.vc_generate.specs.Generated.{commands_of_seed};
 ghost use Rattle.vc_script.specs.Proper.{IsProperCommand};
+ghost use Rattle.vc_session.specs.Arming.{Keeps};
 ghost use Rattle.vc_session.specs.Engine.{IsStep, RunsGenerated};
 ghost use Rattle.vc_session.specs.Generating.{RunsCommands};
-ghost use Rattle.vc_session.specs.Progress.{CanBegin, CountsOn};
+ghost use Rattle.vc_session.specs.Progress.{CanBegin, CountsOn, IsFresh};
 ghost use Rattle.vc_session.specs.ProperState.{IsProperOver};
 ghost use Rattle.vc_session.specs.Replay.{Told};
-ghost use Rattle.vc_steps.specs.Homes.{IsSessionOver, state_over};
-ghost use Rattle.vc_steps.specs.Moment.{Keeps, moment_at_end, over_sink, moment_at_rest};
+ghost use Rattle.vc_steps.specs.Account.{ArmsNone};
+ghost use Rattle.vc_steps.specs.Homes.{IsSessionOver, slots_on, state_over};
+ghost use Rattle.vc_steps.specs.Moment.{moment_at_end, over_sink, moment_at_rest};
 ghost use Rattle.vc_steps.specs.Steps.{RunsOver};
 ghost use Rattle.vc_steps.specs.Told.{KeepRules, rules_in};
 
@@ -138,7 +140,7 @@ fn run_all<D: DictDisc, O: Sink>(
     out: &mut O,
 ) -> Result<(), Stop>
     requires session { IsProperOver state D.rules shelf.old session.old kinds.old.items }
-    requires nothing { session.old.homes.entries ≡ [] }
+    requires fresh { IsFresh session.old }
     requires asked { words.now.generate ≡ Some n }
     requires most { n ≤ 1000000 }
     ensures { RunsOver state D.rules D.gone shelf.old session.old kinds.old.items
@@ -178,10 +180,11 @@ pub(crate) fn run_generated<D: DictDisc, O: Sink>(
         (moment_at_rest state D.rules D.gone shelf.old kinds.old.items)
         (moment_at_rest state D.rules D.gone shelf.new kinds.new.items)
         (O.written out.old) (O.written out.new) (O.failures out.old) (O.failures out.new)) }
-    ensures keeps { Keeps
+    ensures keeps { Keeps (Unit {0})
         (moment_at_rest state D.rules D.gone shelf.old kinds.old.items)
         (moment_at_rest state D.rules D.gone shelf.new kinds.new.items) }
     ensures rules { KeepRules D.rules kinds.old.items kinds.new.items }
+    ensures unarmed { ArmsNone (slots_on state shelf.old) (slots_on state shelf.new) }
 {
     let Some(n) = asked.words.generate else {
         return Ok(());

@@ -15,9 +15,11 @@ pub mod run_rows;
 mod script;
 mod status;
 mod stream;
+mod style;
 mod tail;
 mod told;
 mod tool;
+pub mod version_rows;
 pub mod view_rows;
 
 pub use generated::generate;

@@ -1,11 +1,14 @@
 ghost use Rattle.std.specs.Prelude.{◌≡◌, [], None, Some, length};
 ghost use Rattle.vc_script.specs.Cutting.{new_cutting};
+ghost use Rattle.vc_session.specs.Arming.{IsFirst, Keeps, RunsArming};
 ghost use Rattle.vc_session.specs.Engine.{RunsScript};
+ghost use Rattle.vc_session.specs.Progress.{IsFresh};
 ghost use Rattle.vc_session.specs.ProperState.{IsProperOver};
 ghost use Rattle.vc_session.specs.Streams.{flows};
 ghost use Rattle.vc_session.specs.Text.{good_lines};
-ghost use Rattle.vc_steps.specs.Moment.{Keeps, moment_at_end, moment_at_rest};
-ghost use Rattle.vc_steps.specs.Steps.{RunsOver};
+ghost use Rattle.vc_steps.specs.Account.{ArmsNone};
+ghost use Rattle.vc_steps.specs.Homes.{slots_on};
+ghost use Rattle.vc_steps.specs.Moment.{moment_at_end, moment_at_rest};
 ghost use Rattle.vc_steps.specs.Told.{KeepRules};
 
 use crate::engine::{Stop, run_lines};
@@ -44,9 +47,9 @@ fn run_script<D: DictDisc, S: Source, O: Sink>(
     cutter: &mut LineCutter,
 ) -> Result<Option<(u32, LineFault)>, Stop>
     requires session { IsProperOver state D.rules shelf.old session.old kinds.old.items }
-    requires nothing { session.old.homes.entries ≡ [] }
+    requires fresh { IsFresh session.old }
     requires new { cutter.old ≡ new_cutting }
-    ensures { RunsOver state D.rules D.gone shelf.old session.old kinds.old.items
+    ensures { RunsArming state D.rules D.gone shelf.old session.old kinds.old.items
         shelf.new session.new kinds.new.items
         (λ start last. RunsScript tool words.now result start (moment_at_end last)
         (flows S.left S.failures O.written O.failures source.old out.old)
@@ -91,9 +94,11 @@ pub(crate) fn run_source<D: DictDisc, S: Source, O: Sink>(
         (flows S.left S.failures O.written O.failures source.old out.old)
         (flows S.left S.failures O.written O.failures source.new out.new) }
     ensures keeps { Keeps
+        (IsFirst None tool (S.left source.old))
         (moment_at_rest state D.rules D.gone shelf.old kinds.old.items)
         (moment_at_rest state D.rules D.gone shelf.new kinds.new.items) }
     ensures rules { KeepRules D.rules kinds.old.items kinds.new.items }
+    ensures unarmed { ArmsNone (slots_on state shelf.old) (slots_on state shelf.new) }
 {
     let mut cutter = LineCutter::new(alloc)?;
     let mut session = Session::<D>::over(alloc, tool, IndexMap::new(alloc))?;

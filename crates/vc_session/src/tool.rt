@@ -1,9 +1,12 @@
 ghost use Rattle.std.specs.Prelude.{◌≡◌, [], Some, IsSome, map, string_bytes};
 ghost use Rattle.vc_script.specs.declared.tool.Tool.TheVariants.{Dtrun, Vmreplay};
+ghost use Rattle.vc_session.specs.Arming.{IsFirst, Keeps};
 ghost use Rattle.vc_session.specs.Engine.{RunsAsked};
 ghost use Rattle.vc_session.specs.Promises.{Promises, borrowed};
 ghost use Rattle.vc_session.specs.Streams.{flows, streams};
-ghost use Rattle.vc_steps.specs.Moment.{Keeps, moment_at_rest_by, moment_at_rest};
+ghost use Rattle.vc_steps.specs.Account.{ArmsNone};
+ghost use Rattle.vc_steps.specs.Homes.{slots_on};
+ghost use Rattle.vc_steps.specs.Moment.{moment_at_rest_by, moment_at_rest};
 ghost use Rattle.vc_steps.specs.Told.{KeepRules};
 ghost use Rattle.vc_words.specs.Words.{words_of};
 
@@ -37,9 +40,11 @@ fn run_asked<D: DictDisc, S: Source, O: Sink>(
         (flows S.left S.failures O.written O.failures source.new out.new) }
     ensures generated { IsSome asked.now.words.generate → source.new ≡ source.old }
     ensures keeps { Keeps
+        (IsFirst asked.now.words.generate tool (S.left source.old))
         (moment_at_rest state D.rules D.gone shelf.old kinds.old.items)
         (moment_at_rest state D.rules D.gone shelf.new kinds.new.items) }
     ensures rules { KeepRules D.rules kinds.old.items kinds.new.items }
+    ensures unarmed { ArmsNone (slots_on state shelf.old) (slots_on state shelf.new) }
 {
     match asked.words.generate {
         None => run_source(alloc, tool, &asked.words, shelf, kinds, source, out),
@@ -61,11 +66,12 @@ fn run_words<D: DictDisc, S: Source, O: Sink, E: Sink>(
     out: &mut O,
     err: &mut E,
 ) -> Status
-    ensures { Promises tool (Some asked.now.words) result
+    ensures promises { Promises tool (Some asked.now.words) result
         (borrowed shelf.old kinds.old source.old out.old err.old)
         (borrowed shelf.new kinds.new source.new out.new err.new)
         (λ shelf kinds. moment_at_rest state D.rules D.gone shelf kinds.items)
         (streams S.left S.failures O.written O.failures E.written E.failures) }
+    ensures unarmed { ArmsNone (slots_on state shelf.old) (slots_on state shelf.new) }
 {
     match run_asked(alloc, tool, asked, shelf, kinds, source, out) {
         Ok(None) => Status::Ok,
@@ -99,11 +105,12 @@ fn run_tool<D: DictDisc, S: Source, O: Sink, E: Sink>(
     out: &mut O,
     err: &mut E,
 ) -> Status
-    ensures { Promises tool (words_of (map string_bytes words.now)) result
+    ensures promises { Promises tool (words_of (map string_bytes words.now)) result
         (borrowed shelf.old kinds.old source.old out.old err.old)
         (borrowed shelf.new kinds.new source.new out.new err.new)
         (λ shelf kinds. moment_at_rest state D.rules D.gone shelf kinds.items)
         (streams S.left S.failures O.written O.failures E.written E.failures) }
+    ensures unarmed { ArmsNone (slots_on state shelf.old) (slots_on state shelf.new) }
 {
     match read_words(alloc, words) {
         Ok(Some(words)) => {
@@ -136,11 +143,12 @@ pub fn replay<S: Source, O: Sink, E: Sink>(
     out: &mut O,
     err: &mut E,
 ) -> Status
-    ensures { Promises Vmreplay (words_of (map string_bytes words.now)) result
+    ensures promises { Promises Vmreplay (words_of (map string_bytes words.now)) result
         (borrowed shelf.old (tt {0}) source.old out.old err.old)
         (borrowed shelf.new (tt {0}) source.new out.new err.new)
         (λ shelf _. moment_at_rest_by state [] [] shelf)
         (streams S.left S.failures O.written O.failures E.written E.failures) }
+    ensures unarmed { ArmsNone (slots_on state shelf.old) (slots_on state shelf.new) }
 {
     let mut kinds: Vec<BuiltIn> = Vec::new(alloc);
     run_tool(
@@ -166,11 +174,12 @@ pub fn dtrun<D: DictDisc, S: Source, O: Sink, E: Sink>(
     out: &mut O,
     err: &mut E,
 ) -> Status
-    ensures { Promises Dtrun (words_of (map string_bytes words.now)) result
+    ensures promises { Promises Dtrun (words_of (map string_bytes words.now)) result
         (borrowed shelf.old kinds.old source.old out.old err.old)
         (borrowed shelf.new kinds.new source.new out.new err.new)
         (λ shelf kinds. moment_at_rest state D.rules D.gone shelf kinds.items)
         (streams S.left S.failures O.written O.failures E.written E.failures) }
+    ensures unarmed { ArmsNone (slots_on state shelf.old) (slots_on state shelf.new) }
 {
     run_tool(alloc, Tool::Dtrun, words, shelf, kinds, source, out, err)
 }

@@ -354,6 +354,7 @@ pub took-behind : (old mid new : Discipline) (s t : List (ℕ × ℕ)) → mid �
 took-behind old mid new s t same keeps took = record {
   kept = subst (λ d. Kept d new) same took.kept;
   faults = took.faults ∙ ap (λ (d : Discipline). d.faults) same;
+  exceptions = took.exceptions ∙ ap (λ (d : Discipline). d.exceptions) same;
   out = λ rest is. took.out rest (keeps.out rest is);
 }
 

@@ -13,7 +13,7 @@ ghost use Rattle.vc_words.specs.Words.{words_of};
 use std::alloc::Global;
 use std::process::ExitCode;
 use vc_base::{Sink, Source, StdSink, StdSource};
-use vc_main::{budgeted, growing, heap_at, words_of};
+use vc_main::{budgeted, growing, heap_at, relieved, words_of};
 use vc_seg::{BoxedDisc, SegDisc, Shelf};
 use vc_session::{Status, replay};
 
@@ -24,7 +24,7 @@ fn exit(status: Status) -> ExitCode
     ExitCode::from(status.number())
 }
 
-// Runs the tool over the disciplines of seventeen places, and answers what the program ends with: the number of its status.
+// Runs the tool over the disciplines of eighteen places, and answers what the program ends with: the number of its status.
 fn run<S: Source, O: Sink, E: Sink>(
     alloc: Global,
     words: &[String],
@@ -33,7 +33,7 @@ fn run<S: Source, O: Sink, E: Sink>(
     out: &mut O,
     err: &mut E,
 ) -> ExitCode
-    requires places { vec_len shelf.old.slots ≡ 17 }
+    requires places { vec_len shelf.old.slots ≡ 18 }
     ensures { EndsProgram Vmreplay (words_of (map string_bytes words.now)) (exit_status result)
         (borrowed shelf.old (tt {0}) source.old out.old err.old)
         (borrowed shelf.new (tt {0}) source.new out.new err.new)
@@ -43,8 +43,8 @@ fn run<S: Source, O: Sink, E: Sink>(
     exit(replay(alloc, words, shelf, source, out, err))
 }
 
-// Disciplines 1 to 12 never refuse a segment, 13 to 16 have a budget, and 17 makes a segment longer. With no memory for
-// them nothing is read or written.
+// Disciplines 1 to 12 never refuse a segment, 13 to 16 have a budget, 17 makes a segment longer, and 18 has a budget that
+// it raises once. With no memory for them nothing is read or written.
 fn main(rt: HostRuntime) -> ExitCode {
     let alloc = rt.alloc();
     let Ok(words) = words_of(&rt) else {
@@ -68,6 +68,12 @@ fn main(rt: HostRuntime) -> ExitCode {
         };
     }
     let Ok(disc) = Box::new(alloc, growing()) else {
+        return exit(Status::Memory);
+    };
+    let Ok(_) = shelf.put(disc) else {
+        return exit(Status::Memory);
+    };
+    let Ok(disc) = Box::new(alloc, relieved()) else {
         return exit(Status::Memory);
     };
     let Ok(_) = shelf.put(disc) else {

@@ -10,8 +10,8 @@ returns-in-Ok g c =
         runs = record {
           ran =
               if_ok-map c.gather.result
-              (λ told. record { reply = c.in-Ok.reply; steps = let s = ran.steps in record { gives = s.gives; settles = s.settles; lacks = s.lacks }; told = told; counted = ran.counts_on.ran })
-              c.gather.ensures.told;
+              (λ told. record { reply = c.in-Ok.reply; steps = let s = ran.steps in record { gives = s.gives; settles = s.settles; armed = s.armed; lacks = s.lacks }; told = told; counted = ran.counts_on.ran })
+              (rw (c.style_by-style.ensures, c.is_armed.ensures) at c.gather.ensures.told);
           can = on_ok-of c.gather.result ran.counts_on.can;
         };
       };

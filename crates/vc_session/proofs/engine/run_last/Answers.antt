@@ -1,10 +1,15 @@
 use Rattle.vc_base.proofs.Common.{refl, arith, same_Some, rules}
-use Rattle.vc_session.proofs.SessionLasts.{lasts-same}
+use Rattle.vc_session.proofs.SessionLasts.{arming-same}
 use Rattle.vc_session.proofs.HowFar.{so_far-last, so_far-part}
 use Rattle.vc_session.proofs.RunMiddle.{bad-line}
 use Rattle.vc_steps.proofs.SettledShelf.{keeps-same}
 use Rattle.vc_session.proofs.SoFar.{end-count, end-none, end-same, end-whole, so_far-end_bad, so_far-end_good, so_far-end_none, so_far-none}
 use Rattle.vc_session.proofs.engine.run_last.Goals as goal
+
+pub run_line-requires-clause-fresh : goal.run_line-requires-clause-fresh
+run_line-requires-clause-fresh g c =
+    let follows = end-count c.args.cutter.now c.end.new.self c.end.result c.end.ensures.state c.end.ensures.cut c.in-Whole.is in
+    λ first. c.requires.goes_on.fresh (omega (arith, first, c.number.ensures.value, follows))
 
 pub run_line-requires-clause-counts : goal.run_line-requires-clause-counts
 run_line-requires-clause-counts g c =
@@ -26,7 +31,7 @@ returns-in-Some g c =
         far = record {
           far = λ r at_end.
               let line = bad-line c.args.quiet c.args.tool c.end.new.self.count c.end.new.self.line c.in-Some.fault ran in
-              so_far-part _ _ _ _ (same_Some _ _ line.idle.told) (so_far-none _ c.requires.none r) c.run_line.ensures.runs.lasts.accounts;
+              so_far-part _ _ _ _ (same_Some _ _ line.idle.told) line.idle.armed (so_far-none _ c.requires.none r) c.run_line.ensures.runs.lasts.lasts.accounts;
         };
       };
     }
@@ -50,10 +55,10 @@ returns-in_default g c =
     let is = c.requires.goes_on.feeds.cutting in
     let same = end-same c.args.cutter.now c.end.new.self c.end.result c.end.ensures.state c.end.ensures.cut c.in_default.not-Whole in
     record {
-      lasts = lasts-same c.requires.session;
+      lasts = arming-same c.requires.session;
       runs = record {
         ended = record { end = λ after r at_end written. so_far-end_none is c.end.new.self.count after same (so_far-none _ c.requires.none r) at_end (end-none c.args.cutter.now c.end.result is c.end.ensures.cut c.in_default.not-Whole) written };
-        far = record { far = λ {start} {text} r at_end. so_far-part _ text c.args.replies.now.items c.args.replies.now.items refl (so_far-none _ c.requires.none r) (keeps-same _) };
+        far = record { far = λ {start} {text} r at_end. so_far-part _ text c.args.replies.now.items c.args.replies.now.items refl refl (so_far-none _ c.requires.none r) (keeps-same _) };
       };
     }
 
@@ -63,6 +68,6 @@ returns-in_err-fault-in-Whole g c =
       lasts = c.run_line.ensures.runs.lasts;
       runs = record {
         ended = search rules;
-        far = record { far = λ r at_end. so_far-part _ _ _ _ c.in_err-fault-in-Whole.ensures.same (so_far-none _ c.requires.none r) c.run_line.ensures.runs.lasts.accounts };
+        far = record { far = λ r at_end. so_far-part _ _ _ _ c.in_err-fault-in-Whole.ensures.same c.in_err-fault-in-Whole.ensures.armed (so_far-none _ c.requires.none r) c.run_line.ensures.runs.lasts.lasts.accounts };
       };
     }

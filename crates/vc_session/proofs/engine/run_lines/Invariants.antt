@@ -2,9 +2,9 @@ use Rattle.vc_base.proofs.Common.{◌≡◌, ℕ, ◌≤◌, List, [], length}
 use Rattle.vc_steps.specs.Moment.{moment, over_sink}
 use Rattle.vc_session.specs.Replay.{Told}
 use Rattle.vc_session.specs.SoFar.{CanFeed, SoFar, fuel}
-use Rattle.vc_session.specs.Progress.{CanCountOn}
+use Rattle.vc_session.specs.Progress.{CanCountOn, IsFresh}
 use Rattle.vc_steps.specs.Homes.{state_over}
-use Rattle.vc_steps.specs.Steps.{Lasts}
+use Rattle.vc_session.specs.Arming.{LastsArming}
 use Rattle.vc_steps.specs.Told.{rules_in}
 use Rattle.vc_session.proofs.engine.run_lines.Given as goal
 
@@ -15,7 +15,8 @@ invariant-loop-n g l =
       room : length l.buf ≡ 4096;
       none : l.replies.items ≡ [];
       feeds : CanFeed l.cutter;
-      lasts : Lasts (λ z. (goal.SegDisc-dyn g z).state z.1) g.D.DictDisc.rules l.fn.shelf l.fn.session l.fn.kinds.items l.shelf l.session l.kinds.items;
+      lasts : LastsArming (λ z. (goal.SegDisc-dyn g z).state z.1) g.D.DictDisc.rules l.fn.shelf l.fn.session l.fn.kinds.items l.shelf l.session l.kinds.items;
+      fresh : l.cutter.count ≡ 0 → IsFresh l.session;
       text : List ℕ;
       counts : CanCountOn l.quiet l.counts (state_over (λ z. (goal.SegDisc-dyn g z).state z.1) (rules_in g.D.DictDisc.rules l.kinds.items) l.shelf l.session) l.cutter.count;
       so_far : SoFar l.tool l.quiet

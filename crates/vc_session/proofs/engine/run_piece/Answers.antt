@@ -1,7 +1,7 @@
 use Rattle.vc_base.proofs.Common.{◌+◌, IsTrue, sym, refl, ap, ◌∙◌, subst, arith, length-drop, same_Some, take_rest, rules}
 use Rattle.vc_session.proofs.QuietCounts.{can-same}
 use Rattle.vc_session.specs.SoFar.{Ends}
-use Rattle.vc_session.proofs.SessionLasts.{lasts-same, lasts-trans}
+use Rattle.vc_session.proofs.SessionLasts.{arming-same, arming-trans}
 use Rattle.vc_session.proofs.HowFar.{goes-far, goes-far-on}
 use Rattle.vc_session.proofs.RunMiddle.{bad-line}
 use Rattle.vc_session.proofs.SoFar.{fed-is, more-count, more-kept, ok-some, on_err, so_far-bad_cut, so_far-bad_line, so_far-line, so_far-more, so_far-none, whole-count, whole-kept}
@@ -10,8 +10,9 @@ use Rattle.vc_session.proofs.engine.run_piece.Goals as goal
 pub loop-rest-init : goal.loop-rest-init
 loop-rest-init g c = record {
   feeds = c.requires.goes_on.feeds;
-  lasts = lasts-same c.requires.session;
+  lasts = arming-same c.requires.session;
   counts = c.requires.goes_on.can_count;
+  fresh = c.requires.goes_on.fresh;
   goes_on = record { on = λ r. so_far-none _ c.requires.none r };
   less = omega arith;
 }
@@ -26,6 +27,7 @@ loop-rest-preserved-in-More g c =
     (record {
       feeds = record { is_open = subst IsTrue (sym kept.fed) inv.feeds.is_open; cutting = kept.cutting };
       lasts = inv.lasts;
+      fresh = λ none. inv.fresh (sym (more-count c.loop-rest.cutter c.loop-rest.rest.now next c.feed-cut.result.1 inv.feeds.cutting e) ∙ none);
       counts = can-same _ _ _ _ _ (more-count c.loop-rest.cutter c.loop-rest.rest.now next c.feed-cut.result.1 inv.feeds.cutting e) inv.counts;
       goes_on = record { on = λ r. so_far-more next c.feed-cut.result.1 inv.feeds.cutting (inv.goes_on.on r) e };
       less = omega (arith, inv.less, kept.less, c.feed-cut.ensures.within, length-drop c.feed-cut.result.1 c.loop-rest.rest.now);
@@ -37,18 +39,21 @@ returns-in-Bad g c =
     let next = c.feed-cut.new.self in
     let e = fed-is c.loop-rest.cutter c.loop-rest.rest.now next _ _ c.feed-cut.result.1 c.feed-cut.ensures.fed c.in-Bad.is in
     record {
-      lasts = inv.lasts;
       runs = record {
-        good = λ is. absurd (cc is);
-        bad = λ bad same.
-            subst (Ends _ _ _ _ _ _ _ _ _ _) (ap (λ n. (n + 1, c.in-Bad.fault)) (sym c.number.ensures.value) ∙ ok-some (c.number.result + 1, c.in-Bad.fault) bad same)
-            (record { end = λ after r written. so_far-bad_cut next c.feed-cut.result.1 inv.feeds.cutting c.in-Bad.fault next.count after (inv.goes_on.on r) e written });
-        open_is = λ is. absurd (cc is);
-        less = λ is. absurd (cc is);
-        counted = λ is. absurd (cc is);
-        far_bad = λ bad same. goes-far inv.goes_on;
-        far_wanting = tt;
+        lasts = inv.lasts;
+        runs = record {
+          good = λ is. absurd (cc is);
+          bad = λ bad same.
+              subst (Ends _ _ _ _ _ _ _ _ _ _) (ap (λ n. (n + 1, c.in-Bad.fault)) (sym c.number.ensures.value) ∙ ok-some (c.number.result + 1, c.in-Bad.fault) bad same)
+              (record { end = λ after r written. so_far-bad_cut next c.feed-cut.result.1 inv.feeds.cutting c.in-Bad.fault next.count after (inv.goes_on.on r) e written });
+          open_is = λ is. absurd (cc is);
+          less = λ is. absurd (cc is);
+          counted = λ is. absurd (cc is);
+          far_bad = λ bad same. goes-far inv.goes_on;
+          far_wanting = tt;
+        };
       };
+      fresh = λ is. absurd (cc is);
     }
 
 pub returns-in-Some : goal.returns-in-Some
@@ -58,20 +63,23 @@ returns-in-Some g c =
     let e = fed-is c.loop-rest.cutter c.loop-rest.rest.now next _ _ c.feed-cut.result.1 c.feed-cut.ensures.fed c.in-Whole.is in
     let ran = rw (c.line.ensures, c.number-in-Whole.ensures.value, c.in-Some.is) at c.in_ok-fault-in-Whole.ensures.runs.runs.ran in
     record {
-      lasts = lasts-trans inv.lasts c.run_line.ensures.runs.lasts;
       runs = record {
-        good = λ is. absurd (cc is);
-        bad = λ bad same.
-            subst (Ends _ _ _ _ _ _ _ _ _ _) (ap (λ n. (n, c.in-Some.fault)) (sym c.number-in-Some.ensures.value) ∙ ok-some (c.number-in-Some.result, c.in-Some.fault) bad same)
-            (record { end = λ after r written. so_far-bad_line _ _ _ _ _ next c.feed-cut.result.1 c.in-Some.fault next.count after refl refl inv.feeds.cutting (inv.goes_on.on r) e ran written });
-        open_is = λ is. absurd (cc is);
-        less = λ is. absurd (cc is);
-        counted = λ is. absurd (cc is);
-        far_bad = λ bad same.
-            let line = bad-line c.args.quiet c.args.tool next.count next.line c.in-Some.fault ran in
-            goes-far-on _ _ _ inv.goes_on (same_Some _ _ line.idle.told) c.run_line.ensures.runs.lasts.accounts;
-        far_wanting = tt;
+        lasts = arming-trans inv.lasts c.run_line.ensures.runs.lasts;
+        runs = record {
+          good = λ is. absurd (cc is);
+          bad = λ bad same.
+              subst (Ends _ _ _ _ _ _ _ _ _ _) (ap (λ n. (n, c.in-Some.fault)) (sym c.number-in-Some.ensures.value) ∙ ok-some (c.number-in-Some.result, c.in-Some.fault) bad same)
+              (record { end = λ after r written. so_far-bad_line _ _ _ _ _ next c.feed-cut.result.1 c.in-Some.fault next.count after refl refl inv.feeds.cutting (inv.goes_on.on r) e ran written });
+          open_is = λ is. absurd (cc is);
+          less = λ is. absurd (cc is);
+          counted = λ is. absurd (cc is);
+          far_bad = λ bad same.
+              let line = bad-line c.args.quiet c.args.tool next.count next.line c.in-Some.fault ran in
+              goes-far-on _ _ _ inv.goes_on (same_Some _ _ line.idle.told) line.idle.armed c.run_line.ensures.runs.lasts.lasts.accounts;
+          far_wanting = tt;
+        };
       };
+      fresh = λ is. absurd (cc is);
     }
 
 pub loop-rest-preserved : goal.loop-rest-preserved
@@ -84,11 +92,19 @@ loop-rest-preserved g c =
     rw take_rest
     (record {
       feeds = record { is_open = subst IsTrue (sym kept.fed) inv.feeds.is_open; cutting = kept.cutting };
-      lasts = lasts-trans inv.lasts c.run_line.ensures.runs.lasts;
+      lasts = arming-trans inv.lasts c.run_line.ensures.runs.lasts;
+      fresh = λ none. absurd (omega (arith, none, whole-count c.loop-rest.cutter c.loop-rest.rest.now next c.feed-cut.result.1 inv.feeds.cutting e));
       counts = rw c.number-in-Whole.ensures.value at c.in_ok-fault-in-Whole.ensures.runs.runs.can;
       goes_on = record { on = λ r. so_far-line _ _ _ _ next c.feed-cut.result.1 refl refl inv.feeds.cutting (inv.goes_on.on r) e ran };
       less = omega (arith, inv.less, kept.less, c.feed-cut.ensures.within, length-drop c.feed-cut.result.1 c.loop-rest.rest.now);
     })
+
+pub run_line-requires-clause-fresh : goal.run_line-requires-clause-fresh
+run_line-requires-clause-fresh g c =
+    let inv = c.loop-rest.invariant in
+    let next = c.feed-cut.new.self in
+    let e = fed-is c.loop-rest.cutter c.loop-rest.rest.now next _ _ c.feed-cut.result.1 c.feed-cut.ensures.fed c.in-Whole.is in
+    λ first. inv.fresh (omega (arith, first, c.number-in-Whole.ensures.value, whole-count c.loop-rest.cutter c.loop-rest.rest.now next c.feed-cut.result.1 inv.feeds.cutting e))
 
 pub run_line-requires-clause-counts : goal.run_line-requires-clause-counts
 run_line-requires-clause-counts g c =
@@ -101,14 +117,17 @@ pub returns-in_err-fault-in-Whole : goal.returns-in_err-fault-in-Whole
 returns-in_err-fault-in-Whole g c =
     let inv = c.loop-rest.invariant in
     record {
-      lasts = lasts-trans inv.lasts c.run_line.ensures.runs.lasts;
       runs = record {
-        good = search rules;
-        bad = search rules;
-        open_is = search rules;
-        less = search rules;
-        counted = search rules;
-        far_bad = search rules;
-        far_wanting = on_err _ _ (goes-far-on _ _ _ inv.goes_on c.in_err-fault-in-Whole.ensures.same c.run_line.ensures.runs.lasts.accounts);
+        lasts = arming-trans inv.lasts c.run_line.ensures.runs.lasts;
+        runs = record {
+          good = search rules;
+          bad = search rules;
+          open_is = search rules;
+          less = search rules;
+          counted = search rules;
+          far_bad = search rules;
+          far_wanting = on_err _ _ (goes-far-on _ _ _ inv.goes_on c.in_err-fault-in-Whole.ensures.same c.in_err-fault-in-Whole.ensures.armed c.run_line.ensures.runs.lasts.lasts.accounts);
+        };
       };
+      fresh = search rules;
     }

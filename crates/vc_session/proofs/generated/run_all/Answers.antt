@@ -1,4 +1,4 @@
-use Rattle.vc_base.proofs.Common.{ℕ, arith, refl, rules}
+use Rattle.vc_base.proofs.Common.{ℕ, arith, refl, ◌∙◌, rules}
 use Rattle.vc_session.proofs.SoFar.{on_err}
 use Rattle.vc_session.specs.declared.engine.Stop.TheVariants.{Memory, Write}
 use Rattle.vc_generate.proofs.ProperGenerated.{proper_generated}
@@ -20,7 +20,7 @@ returns g c =
       lasts = c.run_commands.ensures.lasts;
       runs =
           generating-told _ c.args.tool c.args.words.now c.args.n _ _ c.run_commands.new.counts c.in_ok-lines.lines _ _ _ _ _ _ _ c.new-tail.result.items _
-          c.requires.asked c.requires.most c.new-generator.ensures c.new-tail.ensures.items c.in_ok-gather_tail.ensures
+          c.requires.asked c.requires.most (c.run_commands.ensures.lasts.armed ∙ c.requires.fresh.unarmed) c.new-generator.ensures c.new-tail.ensures.items c.in_ok-gather_tail.ensures
           (rw c.in_ok-lines.was at c.run_commands.ensures.runs) (rw c.as_slice.ensures.value at c.in_ok-write_all.ensures.ok) c.write_all.ensures.never_falls;
     }
 
@@ -59,7 +59,7 @@ returns-in_err-write_all g c =
       lasts = c.run_commands.ensures.lasts;
       runs = record {
         run = search rules;
-        cut = on_err _ _ (generated-broken c.args.tool c.args.words.now c.args.n c.requires.asked c.requires.most _ _ c.run_commands.new.counts _ _ _ _ ℕ Write c.in_ok-lines.lines _ _ c.new-tail.result.items _ refl c.new-tail.ensures.items c.in_ok-gather_tail.ensures r (rw c.as_slice.ensures.value at c.write_all.ensures.front) c.write_all.ensures.never_falls c.in_err-write_all.ensures.cause).cut;
+        cut = on_err _ _ (generated-broken c.args.tool c.args.words.now c.args.n c.requires.asked c.requires.most _ _ c.run_commands.new.counts _ _ _ _ ℕ Write c.in_ok-lines.lines _ _ c.new-tail.result.items _ refl (c.run_commands.ensures.lasts.armed ∙ c.requires.fresh.unarmed) c.new-tail.ensures.items c.in_ok-gather_tail.ensures r (rw c.as_slice.ensures.value at c.write_all.ensures.front) c.write_all.ensures.never_falls c.in_err-write_all.ensures.cause).cut;
         read = search rules;
         write = search rules;
         writes = omega (arith, r.writes, c.write_all.ensures.never_falls);

@@ -1,5 +1,5 @@
 use Rattle.vc_base.proofs.Common.{◌≡◌, sym, refl, ◌∙◌, subst, arith, Discipline, rules}
-use Rattle.vc_steps.specs.Account.{KeepsAccounts}
+use Rattle.vc_steps.specs.Account.{KeepsAccounts, SameAsked}
 use Rattle.vc_steps.specs.Moment.{Moment, moment_at_end, moment, moment_at_rest}
 use Rattle.vc_steps.proofs.SettledShelf.{keeps-same}
 use Rattle.vc_session.proofs.GeneratedCuts.{cuts-generated}
@@ -16,6 +16,9 @@ pub run_all-ended-requires-clause-session : goal.run_all-ended-requires-clause-s
 run_all-ended-requires-clause-session g c =
     new-session (meaning g) g.D.DictDisc.rules g.D.DictDisc.gone c.args.shelf.now c.in_ok-session.session c.args.kinds.now.items c.in_ok-session.ensures.none
 
+pub run_all-ended-requires-clause-fresh : goal.run_all-ended-requires-clause-fresh
+run_all-ended-requires-clause-fresh g c = record { nothing = c.in_ok-session.ensures.none.0; unarmed = c.in_ok-session.ensures.unarmed }
+
 pub run_all-ended-requires-clause-most : goal.run_all-ended-requires-clause-most
 run_all-ended-requires-clause-most g c = asked-most c.args.asked.now.words.generate c.in-Some.n c.in-Some.is c.args.asked.now.in_range
 
@@ -28,16 +31,22 @@ returns g c =
     let last = moment M rules gone c.run_all-ended.new.shelf c.run_all-ended.new.session c.run_all-ended.new.kinds.items in
     let before = moment_at_rest M rules gone c.args.shelf.now c.args.kinds.now.items in
     let after = moment_at_rest M rules gone c.end.new.shelf c.end.new.kinds.items in
-    let same : start ≡ before = new-moment M rules gone c.args.shelf.now c.in_ok-session.session c.args.kinds.now.items c.in_ok-session.ensures.none in
+    let same : start ≡ before = new-moment M rules gone c.args.shelf.now c.in_ok-session.session c.args.kinds.now.items c.in_ok-session.ensures.none c.in_ok-session.ensures.unarmed in
     record {
       runs =
           if_some _ c.args.asked.now.words.generate c.in-Some.n c.in-Some.is
           (generated-rests c.args.tool c.args.asked.now.words c.in-Some.n start before (moment_at_end last) after _ _ _ _ c.run_all-ended.result same
           (λ written. record { written = refl; accounts = c.end.ensures.shelf; gone = c.end.ensures.gone }) c.run_all-ended.ensures.runs);
-      keeps =
-          subst (λ a. KeepsAccounts before.accounts a) (sym c.end.ensures.shelf)
-          (subst (λ (m : Moment). KeepsAccounts m.accounts last.accounts) same c.run_all-ended.ensures.lasts.accounts);
+      keeps = record {
+        accounts =
+            subst (λ a. KeepsAccounts before.accounts a) (sym c.end.ensures.shelf)
+            (subst (λ (m : Moment). KeepsAccounts m.accounts last.accounts) same c.run_all-ended.ensures.lasts.accounts);
+        asked = λ first.
+            subst (λ a. SameAsked before.accounts a) (sym c.end.ensures.shelf)
+            (subst (λ (m : Moment). SameAsked m.accounts last.accounts) same (c.run_all-ended.ensures.lasts.asked c.in_ok-session.ensures.unarmed));
+      };
       rules = c.end.ensures.rules ∙ c.run_all-ended.ensures.lasts.keeps_rules;
+      unarmed = λ n d at on. c.run_all-ended.ensures.lasts.arms_none n d (c.end.ensures.unarmed n d at on) on;
     }
 
 pub returns-in_err-session-clause-runs : goal.returns-in_err-session-clause-runs

@@ -1,8 +1,9 @@
 use Rattle.vc_base.proofs.Common.{◌≡◌, sym, refl, ◌∙◌, subst, Discipline, rules}
-use Rattle.vc_steps.specs.Account.{KeepsAccounts}
+use Rattle.vc_steps.specs.Account.{KeepsAccounts, SameAsked}
 use Rattle.vc_steps.specs.Moment.{Moment, moment_at_end, moment, moment_at_rest}
 use Rattle.vc_steps.proofs.SettledShelf.{keeps-same}
 use Rattle.vc_session.proofs.Broken.{cuts-source}
+use Rattle.vc_session.proofs.HowFar.{first-arms, unarmed-arms}
 use Rattle.vc_session.proofs.SoFar.{on_err}
 use Rattle.vc_session.proofs.Rest.{new-moment, new-session, runs-rest}
 use Rattle.vc_session.proofs.script.run_source.Given as given
@@ -15,6 +16,9 @@ pub run_script-ended-requires-clause-session : goal.run_script-ended-requires-cl
 run_script-ended-requires-clause-session g c =
     new-session (meaning g) g.D.DictDisc.rules g.D.DictDisc.gone c.args.shelf.now c.in_ok-session.session c.args.kinds.now.items c.in_ok-session.ensures.none
 
+pub run_script-ended-requires-clause-fresh : goal.run_script-ended-requires-clause-fresh
+run_script-ended-requires-clause-fresh g c = record { nothing = c.in_ok-session.ensures.none.0; unarmed = c.in_ok-session.ensures.unarmed }
+
 pub returns : goal.returns
 returns g c =
     let M = meaning g in
@@ -24,15 +28,21 @@ returns g c =
     let last = moment M rules gone c.run_script-ended.new.shelf c.run_script-ended.new.session c.run_script-ended.new.kinds.items in
     let before = moment_at_rest M rules gone c.args.shelf.now c.args.kinds.now.items in
     let after = moment_at_rest M rules gone c.end.new.shelf c.end.new.kinds.items in
-    let same : start ≡ before = new-moment M rules gone c.args.shelf.now c.in_ok-session.session c.args.kinds.now.items c.in_ok-session.ensures.none in
+    let same : start ≡ before = new-moment M rules gone c.args.shelf.now c.in_ok-session.session c.args.kinds.now.items c.in_ok-session.ensures.none c.in_ok-session.ensures.unarmed in
     record {
       runs =
           runs-rest c.args.tool c.args.words.now start before (moment_at_end last) after _ _ c.run_script-ended.result same
-          (λ written. record { written = refl; accounts = c.end.ensures.shelf; gone = c.end.ensures.gone }) c.run_script-ended.ensures.runs;
-      keeps =
-          subst (λ a. KeepsAccounts before.accounts a) (sym c.end.ensures.shelf)
-          (subst (λ (m : Moment). KeepsAccounts m.accounts last.accounts) same c.run_script-ended.ensures.lasts.accounts);
-      rules = c.end.ensures.rules ∙ c.run_script-ended.ensures.lasts.keeps_rules;
+          (λ written. record { written = refl; accounts = c.end.ensures.shelf; gone = c.end.ensures.gone }) refl c.run_script-ended.ensures.runs;
+      keeps = record {
+        accounts =
+            subst (λ a. KeepsAccounts before.accounts a) (sym c.end.ensures.shelf)
+            (subst (λ (m : Moment). KeepsAccounts m.accounts last.accounts) same c.run_script-ended.ensures.lasts.lasts.accounts);
+        asked = λ first.
+            subst (λ a. SameAsked before.accounts a) (sym c.end.ensures.shelf)
+            (subst (λ (m : Moment). SameAsked m.accounts last.accounts) same (c.run_script-ended.ensures.lasts.lasts.asked (first-arms _ _ last c.run_script-ended.ensures.runs.arms first)));
+      };
+      rules = c.end.ensures.rules ∙ c.run_script-ended.ensures.lasts.lasts.keeps_rules;
+      unarmed = λ n d at on. c.run_script-ended.ensures.lasts.lasts.arms_none n d (c.end.ensures.unarmed n d at on) on;
     }
 
 pub returns-in_err-cutter-clause-runs : goal.returns-in_err-cutter-clause-runs
@@ -42,6 +52,7 @@ returns-in_err-cutter-clause-runs g c =
       cut_short = search rules;
       cut = on_err _ _ (cuts-source c.args.tool c.args.words.now _ _ _ (keeps-same _) refl);
       not_ahead = search rules;
+      arms = unarmed-arms _ _ (moment_at_rest (meaning g) g.D.DictDisc.rules g.D.DictDisc.gone c.args.shelf.now c.args.kinds.now.items) refl;
       read = search rules;
       write = search rules;
       reads = search rules;
@@ -55,6 +66,7 @@ returns-in_err-session-clause-runs g c =
       cut_short = search rules;
       cut = on_err _ _ (cuts-source c.args.tool c.args.words.now _ _ _ (keeps-same _) refl);
       not_ahead = search rules;
+      arms = unarmed-arms _ _ (moment_at_rest (meaning g) g.D.DictDisc.rules g.D.DictDisc.gone c.args.shelf.now c.args.kinds.now.items) refl;
       read = search rules;
       write = search rules;
       reads = search rules;

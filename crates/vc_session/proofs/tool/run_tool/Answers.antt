@@ -8,12 +8,12 @@ use Rattle.vc_session.proofs.tool.run_tool.Goals as goal
 pub invariant_of-asked : goal.invariant_of-asked
 invariant_of-asked g c = record { in_range = in_range (map string_bytes c.args.words.now) c.in-Ok-Some.words (rw c.in-Ok-Some.field-0-is at c.in-Ok-Some.ensures) }
 
-pub returns-in-Ok-Some : goal.returns-in-Ok-Some
-returns-in-Ok-Some g c =
-    promises-taken (sym (rw c.in-Ok-Some.field-0-is at c.in-Ok-Some.ensures)) c.run_words.ensures
+pub returns-in-Ok-Some-clause-promises : goal.returns-in-Ok-Some-clause-promises
+returns-in-Ok-Some-clause-promises g c =
+    promises-taken (sym (rw c.in-Ok-Some.field-0-is at c.in-Ok-Some.ensures)) c.run_words.ensures.promises
 
-pub returns-in-Err : goal.returns-in-Err
-returns-in-Err g c = record {
+pub returns-in-Err-clause-promises : goal.returns-in-Err-clause-promises
+returns-in-Err-clause-promises g c = record {
   headline = record {
     ok = λ other. absurd (cc other);
     script = λ other. absurd (cc other);

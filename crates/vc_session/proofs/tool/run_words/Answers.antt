@@ -5,38 +5,38 @@ use Rattle.vc_session.proofs.StatusDue.{from-source}
 use Rattle.vc_session.proofs.ToolPromises.{promises-asked}
 use Rattle.vc_session.proofs.tool.run_words.Goals as goal
 
-pub returns-in-Ok-None : goal.returns-in-Ok-None
-returns-in-Ok-None g c =
+pub returns-in-Ok-None-clause-promises : goal.returns-in-Ok-None-clause-promises
+returns-in-Ok-None-clause-promises g c =
     promises-asked (rw c.in-Ok-None.field-0-is at c.in-Ok-None.ensures.runs.replay) (search rules) (search rules)
     c.in-Ok-None.ensures.runs.reads (search rules) c.in-Ok-None.ensures.keeps c.in-Ok-None.ensures.rules (search rules) (search rules)
 
-pub returns-in-Ok : goal.returns-in-Ok
-returns-in-Ok g c =
+pub returns-in-Ok-clause-promises : goal.returns-in-Ok-clause-promises
+returns-in-Ok-clause-promises g c =
     let bad : ℕ × LineFault = (c.in-Ok-Some.n, c.in-Ok-Some.fault) in
     let replay = rw c.in-Ok-Some.field-0-is at c.in-Ok-Some.ensures.runs.replay in
     promises-asked (from-source _ _ _ _ _ _ _ bad replay, (bad, c.in-Ok.ensures.told, replay)) (search rules) (search rules)
     c.in-Ok-Some.ensures.runs.reads (c.in-Ok-Some.ensures.runs.writes, c.in-Ok.ensures.never_falls) c.in-Ok-Some.ensures.keeps c.in-Ok-Some.ensures.rules (search rules) (search rules)
 
-pub returns-in-Err : goal.returns-in-Err
-returns-in-Err g c =
+pub returns-in-Err-clause-promises : goal.returns-in-Err-clause-promises
+returns-in-Err-clause-promises g c =
     let bad : ℕ × LineFault = (c.in-Ok-Some.n, c.in-Ok-Some.fault) in
     let replay = rw c.in-Ok-Some.field-0-is at c.in-Ok-Some.ensures.runs.replay in
     promises-asked (inr (bad, c.in-Err.ensures.broke, replay))
     (λ is. replay-cuts _ _ _ _ _ _ _ bad replay) (λ is. replay-not_ahead _ _ _ _ _ _ _ bad replay)
     c.in-Ok-Some.ensures.runs.reads (c.in-Ok-Some.ensures.runs.writes, c.in-Err.ensures.never_falls) c.in-Ok-Some.ensures.keeps c.in-Ok-Some.ensures.rules (search rules) (search rules)
 
-pub returns-in-Err-Read : goal.returns-in-Err-Read
-returns-in-Err-Read g c =
+pub returns-in-Err-Read-clause-promises : goal.returns-in-Err-Read-clause-promises
+returns-in-Err-Read-clause-promises g c =
     let read = c.in-Err-Read.ensures.runs.read c.in-Err-Read.field-0-is in
     promises-asked ((read.0, read.1, search rules), read.2) (search rules) (search rules)
     (search rules) (search rules) c.run_asked.ensures.keeps c.run_asked.ensures.rules (search rules) (search rules)
 
-pub returns-in-Err-Write : goal.returns-in-Err-Write
-returns-in-Err-Write g c =
+pub returns-in-Err-Write-clause-promises : goal.returns-in-Err-Write-clause-promises
+returns-in-Err-Write-clause-promises g c =
     promises-asked (search rules) (λ is. c.in-Err-Write.ensures.runs.cut) (λ is. c.in-Err-Write.ensures.runs.not_ahead c.in-Err-Write.field-0-is)
     (search rules) (search rules) c.run_asked.ensures.keeps c.run_asked.ensures.rules (search rules) (search rules)
 
-pub returns-in-Err-Memory : goal.returns-in-Err-Memory
-returns-in-Err-Memory g c =
+pub returns-in-Err-Memory-clause-promises : goal.returns-in-Err-Memory-clause-promises
+returns-in-Err-Memory-clause-promises g c =
     promises-asked (search rules) (λ is. c.in-Err-Memory.ensures.runs.cut) (search rules)
     (search rules) (search rules) c.run_asked.ensures.keeps c.run_asked.ensures.rules (search rules) (search rules)
