@@ -1,9 +1,10 @@
-use crate::watched::{WatchedDisc, nothing_seen};
+use crate::watched::{Seen, WatchedDisc, nothing_seen};
 use std::alloc::{AllocError, Global};
 use std::process::Abort;
+use std::rc::Rc;
 use vc_base::{MemSink, MemSource};
 use vc_dtdisc::{BuiltIn, Shape};
-use vc_seg::Shelf;
+use vc_seg::{SegDisc, Shelf};
 use vc_session::{Status, dtrun};
 
 // A script over one discipline that grows, and how it ends: the asks that are refused, and the one that finds no memory, 0
@@ -33,13 +34,35 @@ fn sink(alloc: Global) -> Result<MemSink, AllocError> {
     MemSink::new(alloc, 100_000, 4096, Vec::new(alloc)).map_err(|_| AllocError)
 }
 
-// Runs the script, and looks at all that comes of it.
-pub(crate) fn is_run(rt: &impl Abort, alloc: Global, row: &Row) -> Result<(), AllocError> {
-    let seen = nothing_seen(alloc)?;
-    let disc = WatchedDisc::new(row.refused.to_vec(alloc)?, row.without_memory, &seen)?;
+fn shelf_of(
+    rt: &impl Abort,
+    alloc: Global,
+    row: &Row,
+    exceptions: u64,
+    seen: &Rc<Seen>,
+) -> Result<Shelf, AllocError> {
+    let disc = WatchedDisc::new(
+        row.refused.to_vec(alloc)?,
+        row.without_memory,
+        exceptions,
+        seen,
+    )?;
     let mut shelf = Shelf::new(alloc);
     assert!(rt; shelf.len() < u32::MAX);
     assert!(rt; shelf.put(Box::new(alloc, disc)?).is_ok());
+    Ok(shelf)
+}
+
+// Runs the script over a discipline that makes so many exceptions, looks at all that comes of it, and answers what was
+// seen of the discipline, which is there and unarmed behind it.
+pub(crate) fn is_run_by(
+    rt: &impl Abort,
+    alloc: Global,
+    row: &Row,
+    exceptions: u64,
+) -> Result<Rc<Seen>, AllocError> {
+    let seen = nothing_seen(alloc)?;
+    let mut shelf = shelf_of(rt, alloc, row, exceptions, &seen)?;
     let mut kinds = Vec::new(alloc);
     kinds.push(BuiltIn::new(Shape::Whole))?;
     let words = words_of(alloc, row.words)?;
@@ -60,5 +83,15 @@ pub(crate) fn is_run(rt: &impl Abort, alloc: Global, row: &Row) -> Result<(), Al
     assert!(rt; err.bytes() == row.err);
     assert!(rt; seen.asks.get() == row.asks);
     assert!(rt; seen.taken.get() == row.taken);
+    match shelf.slots.first() {
+        Some(Some(disc)) => assert!(rt; !disc.armed()),
+        _ => assert!(rt; false),
+    }
+    Ok(seen)
+}
+
+// Runs the script over one that makes none.
+pub(crate) fn is_run(rt: &impl Abort, alloc: Global, row: &Row) -> Result<(), AllocError> {
+    let _ = is_run_by(rt, alloc, row, 0)?;
     Ok(())
 }

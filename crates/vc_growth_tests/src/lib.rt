@@ -2,6 +2,8 @@
 #![tactic(auto)]
 
 #[cfg(test)]
+mod exceptions;
+#[cfg(test)]
 mod given;
 #[cfg(test)]
 mod rows;

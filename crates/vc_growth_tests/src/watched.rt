@@ -2,35 +2,51 @@ ghost use Rattle.std.specs.Prelude.{None};
 ghost use Rattle.vc_model.specs.Discipline.{Discipline};
 
 use std::alloc::{AllocError, Global};
-use std::cell::Cell;
+use std::cell::{Cell, RefCell};
 use std::rc::Rc;
 use vc_base::one_more;
 use vc_seg::{LendFault, SbrkDisc, SegDisc, Segment};
 
 // What is seen of a discipline: how often it was asked for a segment or for more of one, and the sizes of the segments
-// that it took back, by eight digits each, the last one lowest.
+// that it took back, by eight digits each, the last one lowest. And what was asked of it, in order: it is armed (+) or
+// unarmed (-), a lend (l) or an extension (x) is asked for, and an exception is made (y) or isn't (n).
 #[derive(Drop)]
 pub(crate) struct Seen {
     pub asks: Cell<u64>,
     pub taken: Cell<u128>,
+    pub calls: RefCell<Vec<u8>>,
+}
+
+impl Seen {
+    // Notes behind earlier ones, with ample memory.
+    fn note(&self, call: u8) {
+        if let Ok(mut calls) = self.calls.try_borrow_mut() {
+            let _ = calls.push(call);
+        }
+    }
 }
 
 pub(crate) fn nothing_seen(alloc: Global) -> Result<Rc<Seen>, AllocError> {
     let seen = Seen {
         asks: Cell::new(0),
         taken: Cell::new(0),
+        calls: RefCell::new(Vec::new(alloc)),
     };
     Ok(Rc::new(alloc, seen)?)
 }
 
 // A discipline that grows, rounds to 4,096 bytes, tells no room, and refuses the asks of these numbers, counted from 1. The
-// ask of one number finds no memory.
+// ask of one number finds no memory. It makes so many exceptions.
 #[derive(Drop)]
 pub(crate) struct WatchedDisc {
     inner: SbrkDisc,
+    is_armed: bool,
     refusals: u64,
+    told: u64,
+    yes: u64,
     refused: Vec<u64>,
     without_memory: u64,
+    exceptions: u64,
     seen: Rc<Seen>,
 }
 
@@ -38,13 +54,18 @@ impl WatchedDisc {
     pub fn new(
         refused: Vec<u64>,
         without_memory: u64,
+        exceptions: u64,
         seen: &Rc<Seen>,
     ) -> Result<WatchedDisc, AllocError> {
         Ok(WatchedDisc {
             inner: SbrkDisc::new(4096, 1 << 40),
+            is_armed: false,
             refusals: 0,
+            told: 0,
+            yes: 0,
             refused,
             without_memory,
+            exceptions,
             seen: seen.clone()?,
         })
     }
@@ -64,7 +85,7 @@ impl WatchedDisc {
 }
 
 impl SegDisc for WatchedDisc {
-    ghost state = { λ d. record { out = d.inner.out; faults = d.refusals; terms = d.inner.terms; room = None } };
+    ghost state = { λ d. record { out = d.inner.out; faults = d.refusals; terms = d.inner.terms; room = None; exceptions = record { armed = d.is_armed; told = d.told; yes = d.yes } } };
 
     fn round(&self) -> u32 {
         self.inner.round()
@@ -83,7 +104,35 @@ impl SegDisc for WatchedDisc {
         None
     }
 
+    fn armed(&self) -> bool {
+        self.is_armed
+    }
+
+    fn told(&self) -> u64 {
+        self.told
+    }
+
+    fn yes(&self) -> u64 {
+        self.yes
+    }
+
+    fn arm(&mut self, on: bool) {
+        self.seen.note(if on { b'+' } else { b'-' });
+        self.is_armed = on;
+    }
+
+    fn exception(&mut self, _: u32) -> bool {
+        self.told = one_more(self.told);
+        let made = self.yes < self.exceptions;
+        self.seen.note(if made { b'y' } else { b'n' });
+        if made {
+            self.yes = one_more(self.yes);
+        }
+        made
+    }
+
     fn lend(&mut self, alloc: Global, number: u32, size: u32) -> Result<Segment, LendFault> {
+        self.seen.note(b'l');
         match self.is_asked() {
             Ok(()) => {}
             Err(LendFault::OutOfMemory) => return Err(LendFault::OutOfMemory),
@@ -103,6 +152,7 @@ impl SegDisc for WatchedDisc {
     }
 
     fn extend(&mut self, alloc: Global, seg: &mut Segment, more: u32) -> Result<(), LendFault> {
+        self.seen.note(b'x');
         match self.is_asked() {
             Ok(()) => {}
             Err(LendFault::OutOfMemory) => return Err(LendFault::OutOfMemory),

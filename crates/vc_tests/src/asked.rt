@@ -6,22 +6,22 @@ use std::process::Abort;
 use std::test::Fail;
 use vc_base::{MemSink, MemSource, Source};
 use vc_script::Tool;
-use vc_seg::{BudgetDisc, HeapDisc, Shelf};
+use vc_seg::{BudgetDisc, HeapDisc, ReliefDisc, SbrkDisc, Shelf};
 use vc_session::{Status, dtrun, replay};
 
 // Words with a blank between each two, or none; a script that comes in one piece; the reads that fail, by their numbers
 // from 1 on; the room for bytes of replies; and what comes out, and what is left to be read.
 #[derive(Drop)]
-struct Row {
-    tool: Tool,
-    line: &'static str,
-    script: &'static [u8],
-    reads: &'static [u64],
-    room: usize,
-    status: Status,
-    out: &'static [u8],
-    err: &'static [u8],
-    left: &'static [u8],
+pub(crate) struct Row {
+    pub tool: Tool,
+    pub line: &'static str,
+    pub script: &'static [u8],
+    pub reads: &'static [u64],
+    pub room: usize,
+    pub status: Status,
+    pub out: &'static [u8],
+    pub err: &'static [u8],
+    pub left: &'static [u8],
 }
 
 const BLOCK: &[u8] = b"open r best 1\nalloc r a 100\n";
@@ -29,11 +29,11 @@ const BLOCK: &[u8] = b"open r best 1\nalloc r a 100\n";
 const TOO_LARGE: &[u8] = b"open r best 13\nalloc r a 1048576\n";
 
 // Words, a script that is read to its end, and what is written.
-struct Said {
-    tool: Tool,
-    line: &'static str,
-    script: &'static [u8],
-    out: &'static [u8],
+pub(crate) struct Said {
+    pub tool: Tool,
+    pub line: &'static str,
+    pub script: &'static [u8],
+    pub out: &'static [u8],
 }
 
 const SAID: &[Said] = &[
@@ -163,7 +163,7 @@ const REFUSED: &[&str] = &[
     " ",
 ];
 
-// Twelve disciplines that refuse nothing, and four with a budget.
+// Twelve disciplines that refuse nothing, four with a budget, one that grows, and one that makes an exception.
 fn shelf(rt: &impl Abort, alloc: Global) -> Result<Shelf, AllocError> {
     let mut shelf = Shelf::new(alloc);
     for _ in 0..12 {
@@ -176,6 +176,16 @@ fn shelf(rt: &impl Abort, alloc: Global) -> Result<Shelf, AllocError> {
             Box::new(alloc, BudgetDisc::new(4096, 1_048_576))?,
         );
     }
+    put(
+        rt,
+        &mut shelf,
+        Box::new(alloc, SbrkDisc::new(4096, 33_554_432))?,
+    );
+    put(
+        rt,
+        &mut shelf,
+        Box::new(alloc, ReliefDisc::new(4096, 1_048_576, 1_048_576))?,
+    );
     Ok(shelf)
 }
 
@@ -196,14 +206,14 @@ fn sink(alloc: Global, room: usize) -> Result<MemSink, AllocError> {
 
 // Where a run reads, and where its replies and the line of what is wrong go.
 #[derive(Drop)]
-struct Streams {
+pub(crate) struct Streams {
     source: MemSource,
     out: MemSink,
     err: MemSink,
 }
 
 impl Streams {
-    fn new(
+    pub fn new(
         alloc: Global,
         script: &[u8],
         reads: &[u64],
@@ -217,6 +227,23 @@ impl Streams {
     }
 }
 
+// Runs a tool behind these words over a shelf.
+pub(crate) fn run_over(
+    alloc: Global,
+    tool: Tool,
+    line: &str,
+    shelf: &mut Shelf,
+    streams: &mut Streams,
+) -> Result<Status, AllocError> {
+    let words = words(alloc, line)?;
+    let mut kinds = kinds(alloc)?;
+    let Streams { source, out, err } = streams;
+    Ok(match tool {
+        Tool::Vmreplay => replay(alloc, words.as_slice(), shelf, source, out, err),
+        Tool::Dtrun => dtrun(alloc, words.as_slice(), shelf, &mut kinds, source, out, err),
+    })
+}
+
 // Runs a tool behind these words.
 fn run(
     rt: &impl Abort,
@@ -225,22 +252,8 @@ fn run(
     line: &str,
     streams: &mut Streams,
 ) -> Result<Status, AllocError> {
-    let words = words(alloc, line)?;
     let mut shelf = shelf(rt, alloc)?;
-    let mut kinds = kinds(alloc)?;
-    let Streams { source, out, err } = streams;
-    Ok(match tool {
-        Tool::Vmreplay => replay(alloc, words.as_slice(), &mut shelf, source, out, err),
-        Tool::Dtrun => dtrun(
-            alloc,
-            words.as_slice(),
-            &mut shelf,
-            &mut kinds,
-            source,
-            out,
-            err,
-        ),
-    })
+    run_over(alloc, tool, line, &mut shelf, streams)
 }
 
 // What a source has left.
@@ -254,7 +267,7 @@ fn left(alloc: Global, source: &mut MemSource) -> Result<Vec<u8>, AllocError> {
     buf[..n].to_vec(alloc)
 }
 
-fn is_run(rt: &impl Abort, alloc: Global, row: &Row) -> Result<(), AllocError> {
+pub(crate) fn is_run(rt: &impl Abort, alloc: Global, row: &Row) -> Result<(), AllocError> {
     let mut streams = Streams::new(alloc, row.script, row.reads, row.room)?;
     let status = run(rt, alloc, row.tool, row.line, &mut streams)?;
     assert!(rt; status == row.status);
@@ -265,7 +278,7 @@ fn is_run(rt: &impl Abort, alloc: Global, row: &Row) -> Result<(), AllocError> {
     Ok(())
 }
 
-fn read_to_end(said: &Said) -> Row {
+pub(crate) fn read_to_end(said: &Said) -> Row {
     Row {
         tool: said.tool,
         line: said.line,

@@ -28,7 +28,7 @@ const ON_OBJECTS: &[&[u8]] = &[
 
 // Whether that is the command of the line.
 fn is_command(alloc: Global, tool: Tool, line: &[u8], command: &Command) -> bool {
-    match read_line(alloc, tool, line) {
+    match read_line(alloc, tool, false, line) {
         Ok(LineAnswer::Is(asked)) => asked == *command,
         _ => false,
     }

@@ -144,7 +144,7 @@ fn read(alloc: Global, tool: Tool, word: &[u8], others: &str) -> Result<LineAnsw
     let mut line = Vec::from_slice(alloc, word)?;
     line.push(b' ')?;
     line.extend_from_slice(others.as_bytes())?;
-    Ok(read_line(alloc, tool, line.as_slice())?)
+    Ok(read_line(alloc, tool, false, line.as_slice())?)
 }
 
 // Any word but one of the tool's is unknown.
@@ -206,7 +206,7 @@ fn first_words(rt: HostRuntime) -> Result<(), Fail> {
                         assert!(rt; own && tool == Tool::Vmreplay, "at {word}");
                         assert!(rt; fault == LineFault::UnknownCommand, "at {word}");
                     }
-                    LineAnswer::Blank => assert!(rt; false, "at {word}"),
+                    LineAnswer::Blank | LineAnswer::Version(_) => assert!(rt; false, "at {word}"),
                 }
                 knows_only_it(&rt, rt.alloc(), tool, word.as_bytes(), others)?;
             }
@@ -237,7 +237,7 @@ fn objects(rt: HostRuntime) -> Result<(), Fail> {
         let mut line = Vec::from_slice(alloc, b"insert d ")?;
         line.extend_from_slice(word.as_bytes())?;
         let object = Bytes::from_vec(Vec::from_slice(alloc, bytes)?);
-        match read_line(alloc, Tool::Dtrun, line.as_slice())? {
+        match read_line(alloc, Tool::Dtrun, false, line.as_slice())? {
             LineAnswer::Is(command) => {
                 assert!(rt;
                     command == Command::Insert(Name::new(b"d"), object),
@@ -247,7 +247,7 @@ fn objects(rt: HostRuntime) -> Result<(), Fail> {
             _ => assert!(rt; false, "at {word}"),
         }
     }
-    match read_line(alloc, Tool::Dtrun, b"delete d")? {
+    match read_line(alloc, Tool::Dtrun, false, b"delete d")? {
         LineAnswer::Is(command) => assert!(rt; command == Command::Delete(Name::new(b"d"), None)),
         _ => assert!(rt; false),
     }

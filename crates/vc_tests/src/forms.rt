@@ -298,7 +298,7 @@ const DICTIONARY_LINES: &[(Option<LineFault>, &[&str])] = &[
 // Whether an answer is a command, or has that fault.
 fn is_answer(answer: &LineAnswer, fault: Option<LineFault>) -> bool {
     match answer {
-        LineAnswer::Blank => false,
+        LineAnswer::Blank | LineAnswer::Version(_) => false,
         LineAnswer::Is(_) => fault.is_none(),
         LineAnswer::Bad(found) => fault == Some(*found),
     }
@@ -306,14 +306,14 @@ fn is_answer(answer: &LineAnswer, fault: Option<LineFault>) -> bool {
 
 // Whether a line is read so, with ample memory.
 fn is_read(alloc: Global, tool: Tool, line: &str, fault: Option<LineFault>) -> bool {
-    match read_line(alloc, tool, line.as_bytes()) {
+    match read_line(alloc, tool, false, line.as_bytes()) {
         Ok(answer) => is_answer(&answer, fault),
         Err(_) => false,
     }
 }
 
 fn is_blank(alloc: Global, line: &str) -> bool {
-    match read_line(alloc, Tool::Dtrun, line.as_bytes()) {
+    match read_line(alloc, Tool::Dtrun, false, line.as_bytes()) {
         Ok(answer) => matches!(answer, LineAnswer::Blank),
         Err(_) => false,
     }

@@ -3,6 +3,7 @@ use std::alloc::{AllocError, Global};
 use std::process::Abort;
 use vc_base::{MemSink, MemSource, Sink, Source};
 use vc_dtdisc::{BuiltIn, DictDisc, Shape};
+use vc_script::Tool;
 use vc_seg::{BudgetDisc, FuseDisc, HeapDisc, SegDisc, Shelf};
 use vc_session::{Status, dtrun, replay};
 
@@ -120,7 +121,39 @@ fn is_run(rt: &impl Abort, status: Status, out: &[u8], err: &[u8], expected: Exp
     assert!(rt; err == expected.err);
 }
 
-// Runs the script of what is given behind these words of a command line, and looks at what comes out.
+// Runs a tool on the script of what is given behind these words of a command line, and looks at what comes out.
+pub(crate) fn run_tool(
+    rt: &impl Abort,
+    alloc: Global,
+    tool: Tool,
+    words: &[String],
+    shelf: &mut Shelf,
+    given: Given,
+    expected: Expected,
+) -> Result<(), AllocError> {
+    let mut kinds = kinds(alloc)?;
+    let Streams {
+        mut source,
+        mut out,
+        mut err,
+    } = open_streams(rt, alloc, given)?;
+    let status = match tool {
+        Tool::Vmreplay => replay(alloc, words, shelf, &mut source, &mut out, &mut err),
+        Tool::Dtrun => dtrun(
+            alloc,
+            words,
+            shelf,
+            &mut kinds,
+            &mut source,
+            &mut out,
+            &mut err,
+        ),
+    };
+    is_run(rt, status, out.bytes(), err.bytes(), expected);
+    Ok(())
+}
+
+// The same of vmreplay.
 pub(crate) fn run(
     rt: &impl Abort,
     alloc: Global,
@@ -129,23 +162,7 @@ pub(crate) fn run(
     given: Given,
     expected: Expected,
 ) -> Result<(), AllocError> {
-    let mut streams = open_streams(rt, alloc, given)?;
-    let status = replay(
-        alloc,
-        words,
-        shelf,
-        &mut streams.source,
-        &mut streams.out,
-        &mut streams.err,
-    );
-    is_run(
-        rt,
-        status,
-        streams.out.bytes(),
-        streams.err.bytes(),
-        expected,
-    );
-    Ok(())
+    run_tool(rt, alloc, Tool::Vmreplay, words, shelf, given, expected)
 }
 
 // One kind of each shape.

@@ -4,6 +4,8 @@
 #[cfg(test)]
 mod ahead;
 #[cfg(test)]
+mod armed;
+#[cfg(test)]
 mod asked;
 #[cfg(test)]
 mod blocks;
@@ -13,6 +15,8 @@ mod calls;
 mod commands;
 #[cfg(test)]
 mod dicts;
+#[cfg(test)]
+mod exceptions;
 #[cfg(test)]
 mod first_words;
 #[cfg(test)]
@@ -34,6 +38,8 @@ mod order;
 #[cfg(test)]
 mod refusals;
 #[cfg(test)]
+mod retried;
+#[cfg(test)]
 mod rows;
 #[cfg(test)]
 mod same;
@@ -45,6 +51,8 @@ mod streams;
 mod tables;
 #[cfg(test)]
 mod told;
+#[cfg(test)]
+mod versions;
 #[cfg(test)]
 mod views;
 #[cfg(test)]

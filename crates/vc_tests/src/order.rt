@@ -106,14 +106,14 @@ fn taken(
     rt: &impl Abort,
     alloc: Global,
     digits: &[u128],
-    budget: u64,
+    budget: u32,
     given: Given,
     expected: Expected,
 ) -> Result<u128, AllocError> {
     let lends = no_lends(alloc)?;
     let mut shelf = Shelf::new(alloc);
     for digit in digits {
-        let disc = WatchedDisc::new(budget, *digit, 0, &lends)?;
+        let disc = WatchedDisc::new(budget, 0, *digit, 0, &lends)?;
         put(rt, &mut shelf, Box::new(alloc, disc)?);
     }
     run(rt, alloc, &[], &mut shelf, given, expected)?;

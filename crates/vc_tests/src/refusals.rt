@@ -44,7 +44,7 @@ fn unserved(lends: u32) -> Ends {
 // faults, and gives what was written.
 fn ran(rt: &impl Abort, alloc: Global, script: &[u8], ends: Ends) -> Result<Vec<u8>, AllocError> {
     let lends = no_lends(alloc)?;
-    let disc = WatchedDisc::new(4096, 0, ends.without_memory, &lends)?;
+    let disc = WatchedDisc::new(4096, 0, 0, ends.without_memory, &lends)?;
     let mut shelf = Shelf::new(alloc);
     put(rt, &mut shelf, Box::new(alloc, disc)?);
     let mut kinds = Vec::new(alloc);

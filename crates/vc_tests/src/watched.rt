@@ -1,5 +1,5 @@
 ghost use Rattle.std.specs.Prelude.{◌≡◌, ◌%◌, Contains, IfOk, OnOk, IsErrOf};
-ghost use Rattle.vc_base.specs.Prelude.{IsRound, IsSegmentSize, Lent, Unserved};
+ghost use Rattle.vc_base.specs.Prelude.{IsRound, IsSegmentSize};
 ghost use Rattle.vc_dtdisc.specs.ShapeLaws.{rules-lawful};
 ghost use Rattle.vc_dtdisc.specs.Shapes.{rules_of};
 ghost use Rattle.vc_seg.specs.Budget.{discipline_of};
@@ -12,16 +12,27 @@ use std::cmp::Ordering;
 use std::rc::Rc;
 use vc_base::{OutOfMemory, Steps};
 use vc_dtdisc::{BuiltIn, DictDisc};
-use vc_seg::{BudgetDisc, LendFault, SegDisc, Segment};
+use vc_seg::{LendFault, ReliefDisc, SegDisc, Segment, Shelf};
 
 // What is seen of the disciplines of a shelf: how many lends they were asked for, the faults of the one that lent last,
 // and each segment that they took back, by two digits behind those of earlier ones: the discipline's own, and that of
-// the segment's number.
+// the segment's number. And what was asked of them, in order: they are armed (+) or unarmed (-), a lend is met (l),
+// refused (r) or finds no memory (m), and an exception is made (y) or isn't (n).
 #[derive(Drop)]
 pub(crate) struct Lends {
     pub count: Cell<u32>,
     pub faults: Cell<u64>,
     pub taken: Cell<u128>,
+    pub calls: RefCell<Vec<u8>>,
+}
+
+impl Lends {
+    // Notes behind earlier ones, with ample memory.
+    fn note(&self, call: u8) {
+        if let Ok(mut calls) = self.calls.try_borrow_mut() {
+            let _ = calls.push(call);
+        }
+    }
 }
 
 pub(crate) fn no_lends(alloc: Global) -> Result<Rc<Lends>, AllocError> {
@@ -29,14 +40,24 @@ pub(crate) fn no_lends(alloc: Global) -> Result<Rc<Lends>, AllocError> {
         count: Cell::new(0),
         faults: Cell::new(0),
         taken: Cell::new(0),
+        calls: RefCell::new(Vec::new(alloc)),
     };
     Ok(Rc::new(alloc, lends)?)
 }
 
-// A discipline with a budget that is watched. The lend of one number finds no memory.
+// What is seen of the discipline at a place, from 0 on: whether it is armed; and how often it refused, was asked for an
+// exception and made one.
+pub(crate) fn seen(shelf: &Shelf, place: usize) -> Option<(bool, (u64, u64, u64))> {
+    match shelf.slots.get(place) {
+        Some(Some(disc)) => Some((disc.armed(), (disc.faults(), disc.told(), disc.yes()))),
+        _ => None,
+    }
+}
+
+// A discipline with a budget, which one exception raises, that is watched. The lend of one number finds no memory.
 #[derive(Drop)]
 pub(crate) struct WatchedDisc {
-    inner: BudgetDisc,
+    inner: ReliefDisc,
     digit: u128,
     without_memory: u32,
     lends: Rc<Lends>,
@@ -44,13 +65,14 @@ pub(crate) struct WatchedDisc {
 
 impl WatchedDisc {
     pub fn new(
-        budget: u64,
+        budget: u32,
+        relief: u32,
         digit: u128,
         without_memory: u32,
         lends: &Rc<Lends>,
     ) -> Result<WatchedDisc, AllocError> {
         Ok(WatchedDisc {
-            inner: BudgetDisc::new(4096, budget),
+            inner: ReliefDisc::new(4096, u64::from(budget), u64::from(relief)),
             digit,
             without_memory,
             lends: lends.clone()?,
@@ -59,7 +81,7 @@ impl WatchedDisc {
 }
 
 impl SegDisc for WatchedDisc {
-    ghost state = { λ d. discipline_of d.inner };
+    ghost state = { λ d. discipline_of d.inner.budget };
 
     fn round(&self) -> u32 {
         self.inner.round()
@@ -77,13 +99,38 @@ impl SegDisc for WatchedDisc {
         self.inner.room()
     }
 
+    fn armed(&self) -> bool {
+        self.inner.armed()
+    }
+
+    fn told(&self) -> u64 {
+        self.inner.told()
+    }
+
+    fn yes(&self) -> u64 {
+        self.inner.yes()
+    }
+
+    fn arm(&mut self, on: bool) {
+        self.lends.note(if on { b'+' } else { b'-' });
+        self.inner.arm(on);
+    }
+
+    fn exception(&mut self, size: u32) -> bool {
+        let made = self.inner.exception(size);
+        self.lends.note(if made { b'y' } else { b'n' });
+        made
+    }
+
     fn lend(&mut self, alloc: Global, number: u32, size: u32) -> Result<Segment, LendFault> {
         let count = self.lends.count.get().wrapping_add(1);
         self.lends.count.set(count);
         if count == self.without_memory {
+            self.lends.note(b'm');
             return Err(LendFault::OutOfMemory);
         }
         let lent = self.inner.lend(alloc, number, size);
+        self.lends.note(if lent.is_ok() { b'l' } else { b'r' });
         self.lends.faults.set(self.inner.faults());
         lent
     }

@@ -37,7 +37,7 @@ fn run_line<D: DictDisc>(
     requires { IsSessionOver state D.rules shelf.old session.old kinds.old.items }
     ensures { IsSessionOver state D.rules shelf.new session.new kinds.new.items }
 {
-    match read_line(alloc, Tool::Dtrun, line)? {
+    match read_line(alloc, Tool::Dtrun, false, line)? {
         LineAnswer::Is(command) => {
             let reply = session.step(shelf, kinds, 1, &command)?;
             assert!(rt; !matches!(&reply, Reply::Refused(_)), "{line:?}");
