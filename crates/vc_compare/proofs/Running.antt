@@ -3,7 +3,7 @@ use Rattle.vc_base.proofs.Common.{◌≡◌, ℕ, ◌+◌, List, [], ◌∷◌, 
 use Rattle.vc_model.specs.Outcome as outcome
 use Rattle.vc_script.specs.Pieces.{FoundLines}
 use Rattle.vc_script.specs.declared.line_fault.LineFault.{LineFault}
-use Rattle.vc_compare.specs.Ending.{EndsAs, Ran, RunsLine, ending_of}
+use Rattle.vc_compare.specs.Ending.{AsksIn, EndsAs, Ran, RunsLine, ending_of}
 use Rattle.vc_compare.specs.declared.ending.Ending.{Ending}
 use Rattle.vc_compare.specs.declared.ending.Ending.TheVariants.{Finished, Faulty, Read, Memory}
 use Rattle.vc_compare.specs.declared.ending.Fault.TheVariants.{Bad, Outside, NoSegment, TooMany}
@@ -11,6 +11,7 @@ use Rattle.vc_lines.specs.Reading.{Gives, found_behind, to_come, unread_of}
 use Rattle.vc_lines.specs.declared.LineReader.{LineReader}
 use Rattle.vc_lines.specs.declared.Next.{Next}
 use Rattle.vc_lines.specs.declared.Next.TheVariants as next
+use Rattle.vc_ways.specs.Asking.{Asking}
 use Rattle.vc_ways.specs.Compare as compared
 use Rattle.vc_ways.specs.Compare.{compare_lines}
 use Rattle.vc_ways.specs.Regions.{WayTerms}
@@ -33,7 +34,7 @@ pub so_far-start : (terms : WayTerms) (s : State) (reader : LineReader) (left : 
 so_far-start terms s reader None = tt
 so_far-start terms s reader (Some input) = record { front = []; rest = input; has = refl; split = refl; ran = λ behind. refl }
 
-module _ {terms : WayTerms} {s : State} {lines : FoundLines} {reader : LineReader} {left : Option (List ℕ)} {now : State} (so : SoFar terms s lines reader left now) where
+module _ (P : Asking → Type 0) {terms : WayTerms} {s : State} {lines : FoundLines} {reader : LineReader} {left : Option (List ℕ)} {now : State} (so : SoFar terms s lines reader left now) where
   -- what is next, of the bytes that are left
   next-of : (answer : Next) (reader' : LineReader) (left' : Option (List ℕ)) → IfSome left (λ input. Gives (Ok answer) reader reader' input left') → Gives (Ok answer) reader reader' so.rest left'
   next-of answer reader' left' gives = subst (λ o. IfSome o (λ input. Gives (Ok answer) reader reader' input left')) so.has gives
@@ -42,7 +43,7 @@ module _ {terms : WayTerms} {s : State} {lines : FoundLines} {reader : LineReade
   ran-all found e = ap (compare_lines terms s) (so.split ∙ ap (λ ls. so.front ++ ls) e) ∙ so.ran found
 
   -- a line goes
-  pub so_far-line : (reader' : LineReader) (left' : Option (List ℕ)) (now' : State) → IfSome left (λ input. Gives (Ok next.Line) reader reader' input left') → RunsLine terms now reader'.cutter.count reader'.cutter.line (Ok tt) now' → SoFar terms s lines reader' left' now'
+  pub so_far-line : (reader' : LineReader) (left' : Option (List ℕ)) (now' : State) → IfSome left (λ input. Gives (Ok next.Line) reader reader' input left') → RunsLine terms now P reader'.cutter.count reader'.cutter.line (Ok tt) now' → SoFar terms s lines reader' left' now'
   so_far-line reader' left' now' gives runs =
       let g = next-of next.Line reader' left' gives in
       let line : FoundLines = (reader'.cutter.count, Ok reader'.cutter.line) ∷ [] in
@@ -57,20 +58,20 @@ module _ {terms : WayTerms} {s : State} {lines : FoundLines} {reader : LineReade
       }
 
   -- the end of the source
-  pub so_far-end : (reader' : LineReader) (left' : Option (List ℕ)) → IfSome left (λ input. Gives (Ok next.End) reader reader' input left') → EndsAs terms s lines (Finished now.tally) left'
+  pub so_far-end : (reader' : LineReader) (left' : Option (List ℕ)) → IfSome left (λ input. Gives (Ok next.End) reader reader' input left') → EndsAs terms s P lines (Finished now.tally) left'
   so_far-end reader' left' gives = let g = next-of next.End reader' left' gives in (ran-all [] g.0, g.1)
 
-  pub so_far-last : (reader' : LineReader) (left' : Option (List ℕ)) (now' : State) → IfSome left (λ input. Gives (Ok next.Last) reader reader' input left') → RunsLine terms now reader'.cutter.count reader'.cutter.line (Ok tt) now' → EndsAs terms s lines (Finished now'.tally) left'
+  pub so_far-last : (reader' : LineReader) (left' : Option (List ℕ)) (now' : State) → IfSome left (λ input. Gives (Ok next.Last) reader reader' input left') → RunsLine terms now P reader'.cutter.count reader'.cutter.line (Ok tt) now' → EndsAs terms s P lines (Finished now'.tally) left'
   so_far-last reader' left' now' gives runs =
       let g = next-of next.Last reader' left' gives in
       (ran-all ((reader'.cutter.count, Ok reader'.cutter.line) ∷ []) g.0 ∙ runs (λ after. compare_lines terms after []), g.1)
 
   -- a line that can't be taken
-  pub so_far-bad : (fault : LineFault) (reader' : LineReader) (left' : Option (List ℕ)) → IfSome left (λ input. Gives (Ok (next.Bad fault)) reader reader' input left') → EndsAs terms s lines (Faulty (reader'.cutter.count + 1) (Bad fault)) left'
+  pub so_far-bad : (fault : LineFault) (reader' : LineReader) (left' : Option (List ℕ)) → IfSome left (λ input. Gives (Ok (next.Bad fault)) reader reader' input left') → EndsAs terms s P lines (Faulty (reader'.cutter.count + 1) (Bad fault)) left'
   so_far-bad fault reader' left' gives = ran-all ((reader'.cutter.count + 1, Err fault) ∷ []) (next-of (next.Bad fault) reader' left' gives)
 
   -- a line at which it ends
-  ends-at : (n : ℕ) (line : List ℕ) (behind : FoundLines) (how : Ending) (left' : Option (List ℕ)) (now' : State) → to_come reader so.rest ≡ (n, Ok line) ∷ behind → RunsLine terms now n line (Err how) now' → EndsAs terms s lines how left'
+  ends-at : (n : ℕ) (line : List ℕ) (behind : FoundLines) (how : Ending) (left' : Option (List ℕ)) (now' : State) → to_come reader so.rest ≡ (n, Ok line) ∷ behind → RunsLine terms now P n line (Err how) now' → EndsAs terms s P lines how left'
   ends-at n line behind (Finished tally) left' now' e runs = absurd runs
   ends-at n line behind Read left' now' e runs = absurd runs
   ends-at n line behind Memory left' now' e runs = tt
@@ -87,15 +88,15 @@ module _ {terms : WayTerms} {s : State} {lines : FoundLines} {reader : LineReade
     split = so.split ∙ ap (λ ls. so.front ++ ls) (e ∙ ap (λ (k : ℕ). let found : FoundLines = (k, Ok line) ∷ behind in found) (sym runs.0));
     at = now;
     ran = so.ran;
-    asks = runs.1;
+    asks = subst (λ (k : ℕ). AsksIn terms now P k line way) (sym runs.0) runs.1;
   }
 
-  pub so_far-stops : (how : Ending) (reader' : LineReader) (left' : Option (List ℕ)) (now' : State) → IfSome left (λ input. Gives (Ok next.Line) reader reader' input left') → RunsLine terms now reader'.cutter.count reader'.cutter.line (Err how) now' → EndsAs terms s lines how left'
+  pub so_far-stops : (how : Ending) (reader' : LineReader) (left' : Option (List ℕ)) (now' : State) → IfSome left (λ input. Gives (Ok next.Line) reader reader' input left') → RunsLine terms now P reader'.cutter.count reader'.cutter.line (Err how) now' → EndsAs terms s P lines how left'
   so_far-stops how reader' left' now' gives runs =
       let g = next-of next.Line reader' left' gives in
       ends-at reader'.cutter.count reader'.cutter.line g.0 how left' now' g.1.0 runs
 
-  pub so_far-stops_last : (how : Ending) (reader' : LineReader) (left' : Option (List ℕ)) (now' : State) → IfSome left (λ input. Gives (Ok next.Last) reader reader' input left') → RunsLine terms now reader'.cutter.count reader'.cutter.line (Err how) now' → EndsAs terms s lines how left'
+  pub so_far-stops_last : (how : Ending) (reader' : LineReader) (left' : Option (List ℕ)) (now' : State) → IfSome left (λ input. Gives (Ok next.Last) reader reader' input left') → RunsLine terms now P reader'.cutter.count reader'.cutter.line (Err how) now' → EndsAs terms s P lines how left'
   so_far-stops_last how reader' left' now' gives runs =
       let g = next-of next.Last reader' left' gives in
       ends-at reader'.cutter.count reader'.cutter.line [] how left' now' g.0 runs
@@ -106,10 +107,10 @@ if_both None P Q f p = tt
 if_both (Some x) P Q f p = f x p
 
 -- a line by what is wrong with it
-pub line-runs : (terms : WayTerms) (s : State) (n : ℕ) (line : List ℕ) (wrong : Option Wrong) (new : State) → LineEnds terms s line (Ok wrong) new → RunsLine terms s n line (ending_of n wrong) new
-line-runs terms s n line None new ends = ends n
-line-runs terms s n line (Some (wrong.Bad fault)) new ends = (refl, ends n)
-line-runs terms s n line (Some wrong.Outside) new ends = (refl, ends n)
+pub line-runs : (terms : WayTerms) (s : State) (P : Asking → Type 0) (n : ℕ) (line : List ℕ) (wrong : Option Wrong) (new : State) → LineEnds terms s n line (Ok wrong) new → RunsLine terms s P n line (ending_of n wrong) new
+line-runs terms s P n line None new ends = ends
+line-runs terms s P n line (Some (wrong.Bad fault)) new ends = (refl, ends)
+line-runs terms s P n line (Some wrong.Outside) new ends = (refl, ends)
 
 pub on_ok : {T E : Type 0} (r : Result T E) (P : Type 0) → P → OnOk r P
 on_ok (Ok x) P p = p

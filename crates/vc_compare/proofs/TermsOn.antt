@@ -1,5 +1,5 @@
 -- The terms of disciplines that are lent, and that are kept.
-use Rattle.vc_base.proofs.Common.{◌≡◌, List, [], ◌∷◌, Option, Some, None, map, length, take, refl, ap, ap₂, ◌∙◌, Discipline, length-map}
+use Rattle.vc_base.proofs.Common.{◌≡◌, List, [], ◌∷◌, Bool, Option, Some, None, map, length, take, refl, ap, ap₂, ◌∙◌, Discipline, length-map}
 use Rattle.vc_ways.specs.Answer.{AreKept, Holding}
 use Rattle.vc_ways.specs.Lends.{Lends}
 use Rattle.vc_ways.specs.PoolParts.{holding_in, holdings, terms_in}
@@ -10,11 +10,11 @@ use Rattle.vc_compare.specs.Terms.{place_terms, terms_on}
 abbrev Slots : Type 0
 Slots = List (Option Discipline)
 
-kept-terms : (hs gs : List Holding) → AreKept hs gs → terms_in gs ≡ terms_in hs
-kept-terms [] [] kept = refl
-kept-terms [] (g ∷ gs) kept = absurd kept
-kept-terms (h ∷ hs) [] kept = absurd kept
-kept-terms (h ∷ hs) (g ∷ gs) kept = ap₂ (λ t ts. t ∷ ts) kept.0.kept.terms (kept-terms hs gs kept.1)
+kept-terms : (went : Bool) (hs gs : List Holding) → AreKept went hs gs → terms_in gs ≡ terms_in hs
+kept-terms went [] [] kept = refl
+kept-terms went [] (g ∷ gs) kept = absurd kept
+kept-terms went (h ∷ hs) [] kept = absurd kept
+kept-terms went (h ∷ hs) (g ∷ gs) kept = ap₂ (λ t ts. t ∷ ts) kept.0.kept.terms (kept-terms went hs gs kept.1)
 
 lent-terms : (hs : List Holding) (old new : Slots) → Lends hs old new → terms_in hs ≡ map place_terms (take (length hs) old)
 lent-terms [] old new lends = refl
@@ -26,11 +26,11 @@ lent-terms (h ∷ hs) (Some d ∷ old) (None ∷ new) lends = ap₂ (λ t ts. t 
 
 module _ {I : Type 0} {V : I → Type 0} (meaning : (x : I) × V x → Discipline) where
   -- the terms of all ways stay
-  pub regions-terms : (old new : Regions I V) → AreKept (all_holdings meaning old) (all_holdings meaning new) → terms_of meaning new ≡ terms_of meaning old
-  regions-terms old new kept =
+  pub regions-terms : (went : Bool) (old new : Regions I V) → AreKept went (all_holdings meaning old) (all_holdings meaning new) → terms_of meaning new ≡ terms_of meaning old
+  regions-terms went old new kept =
       let first = kept.0.kept.terms in
       let second = kept.1.0.kept.terms in
-      let pools = kept-terms (holdings meaning old.pools.items) (holdings meaning new.pools.items) kept.1.1 in
+      let pools = kept-terms went (holdings meaning old.pools.items) (holdings meaning new.pools.items) kept.1.1 in
       λ i. record { best = first i; last = second i; pools = pools i }
 
   -- and are those of the places from which they are lent

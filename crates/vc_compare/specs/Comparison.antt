@@ -1,7 +1,8 @@
 -- What a comparison promises.
-use Rattle.std.specs.Prelude.{◌≡◌, ℕ, ◌<◌, ◌≤◌, List, Option, IfSome, codes}
+use Rattle.std.specs.Prelude.{◌≡◌, ◌⊎◌, ℕ, ◌<◌, ◌≤◌, List, Option, IfSome, codes}
 use Rattle.vc_model.specs.Count.{Rose}
 use Rattle.vc_model.specs.Discipline.{Discipline}
+use Rattle.vc_model.specs.Outcome as outcome
 use Rattle.vc_script.specs.Judged.{judged_lines}
 use Rattle.vc_compare.specs.declared.ending.Ending.{Ending}
 use Rattle.vc_compare.specs.declared.ending.Ending.TheVariants as ending
@@ -10,9 +11,11 @@ use Rattle.vc_compare.specs.declared.ending.Fault.TheVariants as fault
 use Rattle.vc_compare.specs.declared.status.CompareStatus.{CompareStatus}
 use Rattle.vc_compare.specs.declared.status.CompareStatus.TheVariants.{Ok, Script, Usage, Read, Write, Memory, NoSegment, TooMany}
 use Rattle.vc_compare.specs.Ending.{EndsAs}
+use Rattle.vc_compare.specs.Refusal.{IsRefused, NoneRose, Stays}
 use Rattle.vc_compare.specs.Streams.{Sinks}
 use Rattle.vc_compare.specs.Terms.{terms_on}
 use Rattle.vc_compare.specs.Told.{Broke, Told, Tried, err_line, message}
+use Rattle.vc_ways.specs.Compare.{BadLine, Compared, Finished, OutsideAt, StoppedAt, compare_input}
 use Rattle.vc_ways.specs.Lends.{HasAllBack}
 use Rattle.vc_ways.specs.Step.{start}
 use Rattle.vc_ways.specs.Tally.{report}
@@ -62,18 +65,33 @@ pub record Flow : Type 0 where
 abbrev pub flow : {S : Type 0} → (S → Option (List ℕ)) → (S → ℕ) → S → Flow
 flow left reads source = record { left = left source; reads = reads source }
 
--- the trace of a source was run over the disciplines of a shelf, and how it ends was told
-pub record IsRun (status : CompareStatus) (slots : List (Option Discipline)) (before after : Flow) (old new : Sinks) : Type 0 where
+-- the trace of a source was run over the disciplines of a shelf, and how it ends was told. With a refused segment the discipline at the place that was asked refused it
+pub record IsRun (status : CompareStatus) (slots slots' : List (Option Discipline)) (before after : Flow) (old new : Sinks) : Type 0 where
   pub how : Ending
-  pub ends : IfSome before.left (λ input. EndsAs (terms_on slots) start (judged_lines input) how after.left)
+  pub ends : IfSome before.left (λ input. EndsAs (terms_on slots) start (IsRefused slots slots') (judged_lines input) how after.left)
   pub read : how ≡ ending.Read → Rose before.reads after.reads
   pub told : Ends how status old new
+
+-- neither a read nor a write of the report failed
+pub record NoneFails (before after : Flow) (old new : Sinks) : Type 0 where
+  pub reads : Stays before.reads after.reads
+  pub writes : Stays old.writes new.writes
+
+-- a trace has no bad line, and in no way it needs more segments than a region may have
+abbrev pub IsFine : Compared → Type 0
+IsFine (Finished tally) = Unit {0}
+IsFine (BadLine n fault) = ⊥
+IsFine (OutsideAt n) = ⊥
+IsFine (StoppedAt n way outcome.TooManySegments) = ⊥
+IsFine (StoppedAt n way why) = Unit {0}
 
 -- a comparison with so many words
 pub record Comparison (words : ℕ) (status : CompareStatus) (slots slots' : List (Option Discipline)) (before after : Flow) (old new : Sinks) : Type 0 where
   -- words are refused, and then nothing is read or written but the line of that
   pub refused : 0 < words → AreRefused status old new × ((after ≡ before) × (new.written ≡ old.written))
-  pub run : words ≡ 0 → IsRun status slots before after old new
+  pub run : words ≡ 0 → IsRun status slots slots' before after old new
+  -- where no discipline counts a refusal and neither source nor out fails, the report of a trace that is fine is written, but for want of memory
+  pub complete : words ≡ 0 → NoneRose slots slots' → NoneFails before after old new → IfSome before.left (λ input. IsFine (compare_input (terms_on slots) input) → (status ≡ Ok) ⊎ (status ≡ Memory))
   -- on every exit each place has its discipline, with the segments out and the terms that it had, and no fault less
   pub keeps : HasAllBack slots slots'
   -- the counts of failures never fall

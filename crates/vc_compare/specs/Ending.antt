@@ -1,5 +1,5 @@
 -- How the run of a trace ends.
-use Rattle.std.specs.Prelude.{◌≡◌, ℕ, List, [], ◌∷◌, ◌++◌, None, Option, Some, Result, Ok, Err}
+use Rattle.std.specs.Prelude.{◌≡◌, ℕ, List, [], ◌∷◌, ◌++◌, None, Option, Some, Result, Ok, Err, ◌==◌}
 use Rattle.vc_model.specs.Outcome as outcome
 use Rattle.vc_script.specs.Answer.{answer}
 use Rattle.vc_script.specs.Pieces.{FoundLines}
@@ -10,6 +10,7 @@ use Rattle.vc_seg.specs.declared.fault.RegionFault.TheVariants as code
 use Rattle.vc_compare.specs.declared.ending.Ending.{Ending}
 use Rattle.vc_compare.specs.declared.ending.Ending.TheVariants.{Finished, Faulty, Read, Memory}
 use Rattle.vc_compare.specs.declared.ending.Fault.TheVariants.{Bad, Outside, NoSegment, TooMany}
+use Rattle.vc_ways.specs.Asking.{Asking, asking, size_asked}
 use Rattle.vc_ways.specs.Compare as compared
 use Rattle.vc_ways.specs.Compare.{Compared, after_line, compare_lines}
 use Rattle.vc_ways.specs.Regions.{WayTerms}
@@ -32,42 +33,43 @@ ending_of n None = Ok tt
 ending_of n (Some (wrong.Bad fault)) = Err (Faulty n (Bad fault))
 ending_of n (Some wrong.Outside) = Err (Faulty n Outside)
 
--- a command asks for a segment in a way: were it refused, the way would stop it there
-pub record AsksIn (terms : WayTerms) (s : State) (line : List ℕ) (way : Way) : Type 0 where
+-- a command asks for a segment in a way: were it refused, the way would stop it there. What is said of a refusal holds of what it asks for
+pub record AsksIn (terms : WayTerms) (s : State) (Refused : Asking → Type 0) (n : ℕ) (line : List ℕ) (way : Way) : Type 0 where
   pub command : Command
-  pub is : answer Vmreplay line ≡ Is command
+  pub is : answer Vmreplay (n == 1) line ≡ Is command
   pub stops : step terms s command (Some way) ≡ Stops way outcome.NoSegment
+  pub refused : Refused (asking terms s.regions way (size_asked command))
 
--- running one line: the trace goes on from a state, or ends there
-abbrev pub RunsLine : WayTerms → State → ℕ → List ℕ → Result Unit Ending → State → Type 0
-RunsLine terms s n line (Ok done) new = (behind : State → Compared) → after_line terms n s (Ok line) behind ≡ behind new
-RunsLine terms s n line (Err (Faulty m (Bad fault))) new = (m ≡ n) × ((behind : State → Compared) → after_line terms n s (Ok line) behind ≡ compared.BadLine n fault)
-RunsLine terms s n line (Err (Faulty m Outside)) new = (m ≡ n) × ((behind : State → Compared) → after_line terms n s (Ok line) behind ≡ compared.OutsideAt n)
-RunsLine terms s n line (Err (Faulty m (NoSegment way))) new = (m ≡ n) × AsksIn terms s line way
-RunsLine terms s n line (Err (Faulty m (TooMany way))) new = (m ≡ n) × ((behind : State → Compared) → after_line terms n s (Ok line) behind ≡ compared.StoppedAt n way outcome.TooManySegments)
-RunsLine terms s n line (Err Memory) new = Unit {0}
-RunsLine terms s n line (Err other) new = ⊥
+-- running one line: the trace goes on from a state, or ends there. With a refused segment, what is said of a refusal holds
+abbrev pub RunsLine : WayTerms → State → (Asking → Type 0) → ℕ → List ℕ → Result Unit Ending → State → Type 0
+RunsLine terms s Refused n line (Ok done) new = (behind : State → Compared) → after_line terms n s (Ok line) behind ≡ behind new
+RunsLine terms s Refused n line (Err (Faulty m (Bad fault))) new = (m ≡ n) × ((behind : State → Compared) → after_line terms n s (Ok line) behind ≡ compared.BadLine n fault)
+RunsLine terms s Refused n line (Err (Faulty m Outside)) new = (m ≡ n) × ((behind : State → Compared) → after_line terms n s (Ok line) behind ≡ compared.OutsideAt n)
+RunsLine terms s Refused n line (Err (Faulty m (NoSegment way))) new = (m ≡ n) × AsksIn terms s Refused n line way
+RunsLine terms s Refused n line (Err (Faulty m (TooMany way))) new = (m ≡ n) × ((behind : State → Compared) → after_line terms n s (Ok line) behind ≡ compared.StoppedAt n way outcome.TooManySegments)
+RunsLine terms s Refused n line (Err Memory) new = Unit {0}
+RunsLine terms s Refused n line (Err other) new = ⊥
 
 -- the first lines are run from a state to another, whatever is behind them
 abbrev pub Ran : WayTerms → State → FoundLines → State → Type 0
 Ran terms s front at = (behind : FoundLines) → compare_lines terms s (front ++ behind) ≡ compare_lines terms at behind
 
 -- the lines before one are run, and it asks for a segment in a way
-pub record AsksAt (terms : WayTerms) (s : State) (lines : FoundLines) (n : ℕ) (way : Way) : Type 0 where
+pub record AsksAt (terms : WayTerms) (s : State) (Refused : Asking → Type 0) (lines : FoundLines) (n : ℕ) (way : Way) : Type 0 where
   pub front : FoundLines
   pub line : List ℕ
   pub behind : FoundLines
   pub split : lines ≡ front ++ (n, Ok line) ∷ behind
   pub at : State
   pub ran : Ran terms s front at
-  pub asks : AsksIn terms at line way
+  pub asks : AsksIn terms at Refused n line way
 
--- how the run of lines from a state ends, and what the source has left then
-abbrev pub EndsAs : WayTerms → State → FoundLines → Ending → Option (List ℕ) → Type 0
-EndsAs terms s lines (Finished tally) left = (compare_lines terms s lines ≡ compared.Finished tally) × (left ≡ Some [])
-EndsAs terms s lines (Faulty n (Bad fault)) left = compare_lines terms s lines ≡ compared.BadLine n fault
-EndsAs terms s lines (Faulty n Outside) left = compare_lines terms s lines ≡ compared.OutsideAt n
-EndsAs terms s lines (Faulty n (TooMany way)) left = compare_lines terms s lines ≡ compared.StoppedAt n way outcome.TooManySegments
-EndsAs terms s lines (Faulty n (NoSegment way)) left = AsksAt terms s lines n way
-EndsAs terms s lines Read left = Unit {0}
-EndsAs terms s lines Memory left = Unit {0}
+-- how the run of lines from a state ends, and what the source has left then. With a refused segment, what is said of a refusal holds
+abbrev pub EndsAs : WayTerms → State → (Asking → Type 0) → FoundLines → Ending → Option (List ℕ) → Type 0
+EndsAs terms s Refused lines (Finished tally) left = (compare_lines terms s lines ≡ compared.Finished tally) × (left ≡ Some [])
+EndsAs terms s Refused lines (Faulty n (Bad fault)) left = compare_lines terms s lines ≡ compared.BadLine n fault
+EndsAs terms s Refused lines (Faulty n Outside) left = compare_lines terms s lines ≡ compared.OutsideAt n
+EndsAs terms s Refused lines (Faulty n (TooMany way)) left = compare_lines terms s lines ≡ compared.StoppedAt n way outcome.TooManySegments
+EndsAs terms s Refused lines (Faulty n (NoSegment way)) left = AsksAt terms s Refused lines n way
+EndsAs terms s Refused lines Read left = Unit {0}
+EndsAs terms s Refused lines Memory left = Unit {0}

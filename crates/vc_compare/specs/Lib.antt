@@ -3,4 +3,5 @@ pub mod Streams
 pub mod Told
 pub mod Ending
 pub mod Terms
+pub mod Refusal
 pub mod Comparison

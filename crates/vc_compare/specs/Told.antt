@@ -2,7 +2,7 @@
 use Rattle.std.specs.Prelude.{◌≡◌, ℕ, List, ◌++◌, ◌⊎◌, Option, Some, IfSome, codes, decimal, take}
 use Rattle.vc_model.specs.Count.{Rose}
 use Rattle.vc_script.specs.declared.line_fault.LineFault.{LineFault}
-use Rattle.vc_script.specs.declared.line_fault.LineFault.TheVariants.{UnknownCommand, WordCount, BadName, BadNumber, BadAddress, BadBytes, UnknownMethod, LineTooLong, TooManyLines}
+use Rattle.vc_script.specs.declared.line_fault.LineFault.TheVariants.{UnknownCommand, WordCount, BadName, BadNumber, BadAddress, BadBytes, UnknownMethod, LineTooLong, TooManyLines, UnknownVersion}
 use Rattle.vc_compare.specs.declared.ending.Fault.{Fault}
 use Rattle.vc_compare.specs.declared.ending.Fault.TheVariants.{Bad, Outside, NoSegment, TooMany}
 
@@ -35,6 +35,7 @@ line_fault_text BadBytes = codes "bad bytes"
 line_fault_text UnknownMethod = codes "unknown method or mode"
 line_fault_text LineTooLong = codes "line too long"
 line_fault_text TooManyLines = codes "too many lines"
+line_fault_text UnknownVersion = codes "unknown version"
 
 -- what keeps a line from being run
 abbrev pub fault_text : Fault → List ℕ

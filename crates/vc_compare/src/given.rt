@@ -105,7 +105,7 @@ const BUDGET: u64 = 1 << 40;
 // What the place may lend that refuses what is above its room.
 const LESS: u64 = 4096;
 
-fn budget(is_wide: bool) -> BudgetDisc {
+pub(crate) fn budget(is_wide: bool) -> BudgetDisc {
     if is_wide {
         BudgetDisc::new(65_536, BUDGET)
     } else {
@@ -143,7 +143,7 @@ fn shelf_of(rt: &impl Abort, alloc: Global, given: Given) -> Result<Shelf, Alloc
 }
 
 // A discipline has all its segments, as its room tells, and refused one lend if it was to.
-fn is_back(rt: &impl Abort, disc: &Box<dyn SegDisc>, refuses: bool) {
+pub(crate) fn is_back(rt: &impl Abort, disc: &Box<dyn SegDisc>, refuses: bool) {
     let room = disc.room();
     let faults = disc.faults();
     if refuses {

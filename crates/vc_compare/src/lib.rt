@@ -11,6 +11,8 @@ pub use status::CompareStatus;
 pub use tool::compare;
 
 #[cfg(test)]
+mod armed;
+#[cfg(test)]
 mod failing;
 #[cfg(test)]
 mod given;

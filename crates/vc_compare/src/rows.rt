@@ -143,6 +143,16 @@ const WRONG: &[(&[u8], &[u8])] = &[
         b"alloc t a 10\nfree t a\nfree t a\n",
         b"vmcompare: line 3: not in a trace\n",
     ),
+    // A version of scripts, which line 1 alone tells.
+    (
+        b"vc 2\nalloc t a 10\n",
+        b"vmcompare: line 1: not in a trace\n",
+    ),
+    (b"vc 3\n", b"vmcompare: line 1: unknown version\n"),
+    (
+        b"alloc t a 10\nvc 2\n",
+        b"vmcompare: line 2: unknown command\n",
+    ),
     // No line of a script.
     (
         b"frob\nalloc t a 10\n",

@@ -26,6 +26,7 @@ fn line_fault_text(fault: LineFault) -> &'static str
         LineFault::UnknownMethod => "unknown method or mode",
         LineFault::LineTooLong => "line too long",
         LineFault::TooManyLines => "too many lines",
+        LineFault::UnknownVersion => "unknown version",
     }
 }
 

@@ -4,7 +4,7 @@ use Rattle.vc_model.specs.Pool.{empty_pool}
 use Rattle.vc_pool.specs.Parts.{pool_of}
 use Rattle.vc_pool.specs.declared.pool.Pool.{Pool}
 use Rattle.vc_ways.specs.Answer.{Holding, IsLent}
-use Rattle.vc_ways.specs.Lends.{HasLent, Lends}
+use Rattle.vc_ways.specs.Lends.{HasOpened, Lends, Opens}
 use Rattle.vc_ways.specs.PoolParts.{holding_in, holdings, pools_of}
 use Rattle.vc_ways.specs.Settled.{AreTaken}
 use Rattle.vc_ways.proofs.Loans.{are-taken}
@@ -30,10 +30,10 @@ module _ {I : Type 0} {V : I → Type 0} (meaning : (x : I) × V x → Disciplin
   lent-size hs pools two = omega (arith, length-append hs (holdings meaning pools), length-map pools (holding_in meaning), two)
 
   -- one more
-  pub lent-push : (hs : List Holding) (pools : List (Pool I V)) (p : Pool I V) (old new : List (Option Discipline)) → Lends ((hs ++ holdings meaning pools) ++ holding_in meaning p ∷ []) old new → Lends (hs ++ holdings meaning (pools ++ p ∷ [])) old new
-  lent-push hs pools p old new lends =
-      subst (λ gs. Lends gs old new) (append_assoc hs (holdings meaning pools) (holding_in meaning p ∷ []) ∙ ap (λ gs. hs ++ gs) (sym (map_push (holding_in meaning) pools p))) lends
+  pub lent-push : (hs : List Holding) (pools : List (Pool I V)) (p : Pool I V) (old new : List (Option Discipline)) → Opens ((hs ++ holdings meaning pools) ++ holding_in meaning p ∷ []) old new → Opens (hs ++ holdings meaning (pools ++ p ∷ [])) old new
+  lent-push hs pools p old new opens =
+      subst (λ gs. Opens gs old new) (append_assoc hs (holdings meaning pools) (holding_in meaning p ∷ []) ∙ ap (λ gs. hs ++ gs) (sym (map_push (holding_in meaning) pools p))) opens
 
-  pub pools-taken : (pools : List (Pool I V)) (before after : List (Option Discipline)) → HasLent 2 before → ((old : List (Option Discipline)) (hs : List Holding) → length hs ≡ 2 → Lends hs old before → Lends (hs ++ holdings meaning pools) old after) → AreTaken (length pools + 2) after
+  pub pools-taken : (pools : List (Pool I V)) (before after : List (Option Discipline)) → HasOpened 2 before → ((old : List (Option Discipline)) (hs : List Holding) → length hs ≡ 2 → Opens hs old before → Lends (hs ++ holdings meaning pools) old after) → AreTaken (length pools + 2) after
   pools-taken pools before after lent lends =
       are-taken (lent.1.0 ++ holdings meaning pools) lent.0 after (length pools + 2) (lent-size lent.1.0 pools lent.1.1.0) (lends lent.0 lent.1.0 lent.1.1.0 lent.1.1.1)

@@ -5,7 +5,8 @@ use Rattle.vc_ways.specs.LastWay.{LastWay, drop_dead, last_dead, last_put, last_
 use Rattle.vc_ways.specs.Live.{Live}
 use Rattle.vc_ways.specs.PoolWay.{cell_free, cell_put, cell_sized, class_of, pool_at}
 use Rattle.vc_ways.specs.Regions.{Regions, Stopped, Took, Tried, WayTerms, extents, free_block, put_block, size_block, three_ways}
-use Rattle.vc_ways.proofs.Growth.{Grown, OnDone, PoolsGrow, alloc-grows, cells-grow, dropped, freed-sum, grown-bytes, on-done, pool_bytes, resize-grows, sized-grow, way-put-grows, way-sized-grows}
+use Rattle.vc_ways.proofs.Grown.{Grown, OnDone, on-done}
+use Rattle.vc_ways.proofs.Growth.{PoolsGrow, alloc-grows, cells-grow, dropped, freed-sum, grown-bytes, pool_bytes, resize-grows, sized-grow, way-put-grows, way-sized-grows}
 
 -- what the calls in the three ways gave
 record Gave (size : ℕ) (best : Outcome (Put (Layout ℕ))) (last : Outcome (ℕ × LastWay)) (pool : Outcome ((ℕ × ℕ) × List (Pool ℕ))) (t : Live × Regions) : Type 0 where

@@ -1,36 +1,13 @@
 -- Segments that come with a command.
-use Rattle.vc_base.proofs.Common.{◌≡◌, ◌≢◌, ℕ, zero, suc, ◌+◌, ◌-◌, ◌<◌, ask, take, take-append-drop, take-append-le, ⊎_elim, cases_eq, get_or-set_same, get_or-set_other, length-set, sum-map, segment_bytes, pool_free, List, [], ◌∷◌, ◌++◌, Bool, true, false, cond, Option, Some, None, length, map, sum, sum_by-append, sum_by-cons, drop-cons, drop_all, ◌≤◌, get_or, set, drop, eqb, nat_lt, refl, sym, ap, ◌∙◌, subst, arith, Block, Layout, Outcome, Done, Refused, Put, Pool, Terms, best_alloc, best_need, best_resize, can_end, can_stay, cell_for, done_as, element_with, find_block, if_latest, is_at, last_alloc, last_need, last_place, last_resize, latest, outcome_of_move, place_in, pool_alloc, pool_need, put_asked, put_behind_latest, put_carving, put_free, put_in_new, put_in_newest, put_or_ask, put_or_lend, resize_found, resize_latest, stays, uncarved, with_grant, without_block_at, NotLast, PoolSize, cases_Bool, Grant, Granted, NotLent, TooMany, Asked}
+use Rattle.vc_base.proofs.Common.{◌≡◌, ◌≢◌, ℕ, zero, suc, ◌+◌, ◌-◌, ◌<◌, ask, take, take-append-drop, ⊎_elim, cases_eq, get_or-set_same, get_or-set_other, length-set, sum-map, segment_bytes, pool_free, List, [], ◌∷◌, ◌++◌, Bool, true, false, cond, Option, Some, None, length, map, sum, sum_by-append, sum_by-cons, drop-cons, drop_all, ◌≤◌, get_or, set, drop, eqb, nat_lt, refl, sym, ap, ◌∙◌, subst, arith, Block, Layout, Outcome, Done, Refused, Put, Pool, Terms, best_alloc, best_need, best_resize, can_end, can_stay, cell_for, done_as, element_with, find_block, if_latest, is_at, last_alloc, last_need, last_place, last_resize, latest, outcome_of_move, place_in, pool_alloc, pool_need, put_asked, put_behind_latest, put_carving, put_free, put_in_new, put_in_newest, put_or_ask, put_or_lend, resize_found, resize_latest, stays, uncarved, with_grant, without_block_at, NotLast, PoolSize, cases_Bool, Granted, NotLent, TooMany, Asked}
 use Rattle.std.proofs.lemmas.List.Sums.{get_or-le-sum_by, sum_by-set}
 use Rattle.std.specs.List.{sum_by}
 use Rattle.vc_model.specs.Best.{put}
-use Rattle.vc_model.specs.Segments.{segments_with, with_more}
 use Rattle.vc_model.specs.Pool.{empty_pool}
 use Rattle.vc_ways.specs.Extents.{bytes_behind}
 use Rattle.vc_ways.specs.LastWay.{LastWay, done_or, drop_dead, drop_dead_in, ends_dead, free_latest_of, last_dead, last_put, last_sized, latest_place, latest_sized, without_latest}
 use Rattle.vc_ways.specs.PoolWay.{class_bytes, class_of, cell_put, cell_sized, cell_free, pool_at, terms_at}
-
--- segments, of which at most the newest got longer, and with more behind them
-pub record Grown (old new : List (ℕ × ℕ)) : Type 0 where
-  pub is : take (length old - 1) new ≡ take (length old - 1) old
-
-pub grown-same : (old new : List (ℕ × ℕ)) → new ≡ old → Grown old new
-grown-same old new e = record { is = ap (take (length old - 1)) e }
-
-more-front : (more : ℕ) (old : List (ℕ × ℕ)) → take (length old - 1) (with_more more old) ≡ take (length old - 1) old
-more-front more [] = refl
-more-front more (s ∷ []) = refl
-more-front more (s ∷ t ∷ ss) =
-    let one : length (s ∷ t ∷ ss) - 1 ≡ suc (length (t ∷ ss) - 1) = omega arith in
-    ap (λ n. take n (s ∷ with_more more (t ∷ ss))) one
-    ∙ (ap (λ xs. s ∷ xs) (more-front more (t ∷ ss)) ∙ ap (λ n. take n (s ∷ t ∷ ss)) (sym one))
-
--- with what is granted
-pub grown-with : (g : Grant) (old : List (ℕ × ℕ)) → Grown old (segments_with g old)
-grown-with g old = record { is = by g.fresh }
-  where
-    by : (t : Bool) → take (length old - 1) (cond t (old ++ (g.number, g.bytes) ∷ []) (with_more g.bytes old)) ≡ take (length old - 1) old
-    by true = take-append-le (length old - 1) old ((g.number, g.bytes) ∷ []) (omega arith)
-    by false = more-front g.bytes old
+use Rattle.vc_ways.proofs.Grown.{Grown, OnDone, grown-same, grown-with}
 
 abbrev bytes_in : List (ℕ × ℕ) → ℕ
 bytes_in segments = sum (map (λ s. s.1) segments)
@@ -55,14 +32,6 @@ grown-bytes old new h =
     let after = front-bytes (length old - 1) new in
     let same = ap bytes_in h.is in
     (omega (arith, before), omega (arith, before, after, same))
-
--- what a call answers that is done
-abbrev pub OnDone : {A : Type 0} → (A → Type 0) → Outcome A → Type 0
-OnDone P (Done answer) = P answer
-OnDone P (Refused why) = Unit {0}
-
-pub on-done : {A : Type 0} (P : A → Type 0) (o : Outcome A) (a : A) → OnDone P o → o ≡ Done a → P a
-on-done P o a h e = subst (OnDone P) e h
 
 -- in a best region, and in a last one
 module _ (terms : Terms) (r : Layout ℕ) where

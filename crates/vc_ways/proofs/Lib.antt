@@ -1,8 +1,10 @@
+pub mod Grown
 pub mod Kept
 pub mod Blocks
 pub mod LatestBlock
 pub mod PoolSteps
 pub mod PoolLists
+pub mod Refusals
 pub mod ThreeWays
 pub mod Slots
 pub mod Loans
@@ -12,6 +14,7 @@ pub mod Flags
 pub mod Cells
 pub mod Tables
 pub mod Growth
+pub mod BestKept
 pub mod Extents
 pub mod Lives
 pub mod TraceSteps

@@ -1,18 +1,18 @@
 -- Live blocks by name, as commands put, move and free them.
-use Rattle.vc_base.proofs.Common.{◌≡◌, ◌≢◌, ℕ, List, [], ◌∷◌, true, false, cond, Option, Some, None, bytes_eq, bytes_eq-Decides, sym, ap, ◌∙◌, subst, ⊎_elim, cases_Bool, All, All-cons, All-head, All-nil, All-tail, false≢true, none-some, same_Some}
+use Rattle.vc_base.proofs.Common.{◌≡◌, ◌≢◌, ℕ, List, [], ◌∷◌, Bool, true, false, cond, Option, Some, None, bytes_eq, bytes_eq-Decides, sym, ap, ◌∙◌, subst, ⊎_elim, cases_Bool, All, All-cons, All-head, All-nil, All-tail, false≢true, none-some, same_Some}
 use Rattle.vc_ways.specs.Answer.{AreKept, Holding, IsLent}
 use Rattle.vc_ways.specs.Regions.{Regions}
 use Rattle.vc_ways.specs.RegionsParts.{AreApart, Comes, IsLiveIn}
 use Rattle.vc_ways.specs.declared.live.Live.{Live}
 
 -- what is lent stays so
-pub kept-lent : (olds news : List Holding) → All IsLent olds → AreKept olds news → All IsLent news
-kept-lent [] [] all kept = All-nil IsLent
-kept-lent [] (b ∷ bs) all kept = absurd kept
-kept-lent (a ∷ rest) [] all kept = absurd kept
-kept-lent (a ∷ rest) (b ∷ others) all kept =
+pub kept-lent : (went : Bool) (olds news : List Holding) → All IsLent olds → AreKept went olds news → All IsLent news
+kept-lent went [] [] all kept = All-nil IsLent
+kept-lent went [] (b ∷ bs) all kept = absurd kept
+kept-lent went (a ∷ rest) [] all kept = absurd kept
+kept-lent went (a ∷ rest) (b ∷ others) all kept =
     let lent = All-head IsLent a rest all in
-    All-cons IsLent b others (lent.0, kept.0.out lent.0 lent.1) (kept-lent rest others (All-tail IsLent a rest all) kept.1)
+    All-cons IsLent b others (lent.0, kept.0.out lent.0 lent.1) (kept-lent went rest others (All-tail IsLent a rest all) kept.1)
 
 pub apart-sym : (a b : Live) → AreApart a b → AreApart b a
 apart-sym a b h = record { best = λ e. h.best (sym e); last = λ e. h.last (sym e); cell = λ c e. h.cell (sym c) (sym e) }

@@ -1,55 +1,56 @@
 -- Disciplines that are lent from the first places of a shelf, one after another, and come back.
-use Rattle.vc_base.proofs.Common.{◌≡◌, ◌≢◌, ℕ, zero, suc, ◌+◌, ◌-◌, ◌<◌, List, [], ◌∷◌, ◌++◌, Option, Some, None, length, map, set, take, drop, slice_get, ne_eqb, cond, refl, sym, ap, ◌∙◌, subst, arith, append-nil, none-some, same_Some, zero-add, Bool}
+use Rattle.vc_base.proofs.Common.{◌≡◌, ◌≢◌, ℕ, zero, suc, ◌+◌, ◌-◌, ◌<◌, List, [], ◌∷◌, ◌++◌, Option, Some, None, length, map, set, take, drop, slice_get, ne_eqb, cond, refl, sym, ap, ◌∙◌, subst, arith, append-nil, none-some, same_Some, zero-add, Bool, false}
 use Rattle.vc_model.specs.Discipline.{Discipline, TookBack}
+use Rattle.vc_model.proofs.Keeping.{Kept-same, Kept-trans}
 use Rattle.vc_seg.specs.Shelf.{slot_at, standing}
 use Rattle.vc_ways.specs.Answer.{AreKept, Holding, Keeps}
-use Rattle.vc_ways.specs.Lends.{HasAllBack, HasLent, IsBack, Lends, unused}
+use Rattle.vc_ways.specs.Lends.{HasAllBack, HasLent, IsBack, Lends, Opens, unused}
 use Rattle.vc_ways.specs.Settled.{AreSettled, AreTaken, with_discs}
-use Rattle.vc_ways.proofs.PoolSteps.{keeps-then}
+use Rattle.vc_ways.proofs.PoolSteps.{keeps-both, keeps-same}
 use Rattle.vc_ways.proofs.Slots.{place-is}
 
 abbrev Slots : Type 0
 Slots = List (Option Discipline)
 
 pub back-same : (d : Discipline) → IsBack d d
-back-same d = record { kept = record { terms = refl; faults = omega arith }; out = refl }
+back-same d = record { kept = Kept-same d; out = refl }
 
 pub all-back-same : (xs : Slots) → HasAllBack xs xs
 all-back-same [] = tt
 all-back-same (None ∷ xs) = (tt, all-back-same xs)
 all-back-same (Some d ∷ xs) = (back-same d, all-back-same xs)
 
--- a discipline that is back, and held then
-held-back : (d e : Discipline) (h : Holding) → IsBack d e → Keeps (unused e) h → Keeps (unused d) h
-held-back d e h back held =
-    keeps-then (unused d) (unused e) h (record { kept = back.kept; out = λ rest is. back.out ∙ is }) held
-
 -- it comes back
-settled-back : (d e : Discipline) (h : Holding) → Keeps (unused d) h → TookBack h.disc e h.segments [] → IsBack d e
+settled-back : (d e : Discipline) (h : Holding) → Keeps false (unused d) h → TookBack h.disc e h.segments [] → IsBack d e
 settled-back d e h held took =
-    let less = held.kept.faults in
-    let same = took.faults in
     record {
-      kept = record { terms = took.kept.terms ∙ held.kept.terms; faults = omega (arith, less, same) };
+      kept = Kept-trans d h.disc e held.kept took.kept;
       out = took.out d.out (held.out d.out (sym (append-nil d.out))) ∙ append-nil d.out;
     }
 
 -- one more is lent
-pub lend-one : (hs : List Holding) (old new : Slots) (d : Discipline) (h : Holding) → Lends hs old new → slice_get new (length hs) ≡ Some (Some d) → Keeps (unused d) h → Lends (hs ++ h ∷ []) old (set new (length hs) None)
-lend-one [] [] [] d h lends e held = absurd (none-some (Some d) e)
-lend-one [] [] (y ∷ new) d h lends e held = absurd lends
-lend-one [] (x ∷ old) [] d h lends e held = absurd lends
-lend-one [] (None ∷ old) (None ∷ new) d h lends e held = absurd (none-some d (same_Some None (Some d) e))
-lend-one [] (None ∷ old) (Some y ∷ new) d h lends e held = absurd lends.0
-lend-one [] (Some x ∷ old) (None ∷ new) d h lends e held = absurd lends.0
-lend-one [] (Some x ∷ old) (Some y ∷ new) d h lends e held =
-    let same : y ≡ d = same_Some y d (same_Some (Some y) (Some d) e) in
-    (held-back x d h (subst (IsBack x) same lends.0) held, lends.1)
-lend-one (g ∷ hs) [] new d h lends e held = absurd lends
-lend-one (g ∷ hs) (None ∷ old) new d h lends e held = absurd lends
-lend-one (g ∷ hs) (Some x ∷ old) [] d h lends e held = absurd lends
-lend-one (g ∷ hs) (Some x ∷ old) (Some y ∷ new) d h lends e held = absurd lends
-lend-one (g ∷ hs) (Some x ∷ old) (None ∷ new) d h lends e held = (lends.0, lend-one hs old new d h lends.1 e held)
+pub lend-one : (hs : List Holding) (old new : Slots) (d : Discipline) (h : Holding) → Opens hs old new → slice_get new (length hs) ≡ Some (Some d) → h ≡ unused d → Opens (hs ++ h ∷ []) old (set new (length hs) None)
+lend-one [] old [] d h opens e held = absurd (none-some (Some d) e)
+lend-one [] [] (y ∷ new) d h opens e held = absurd (cc)
+lend-one [] (None ∷ old) (y ∷ new) d h opens e held = absurd (none-some d (same_Some None (Some d) (sym (ap (λ (xs : Slots). slice_get xs 0) opens) ∙ e)))
+lend-one [] (Some x ∷ old) (y ∷ new) d h opens e held =
+    let same : x ≡ d = same_Some x d (same_Some (Some x) (Some d) (sym (ap (λ (xs : Slots). slice_get xs 0) opens) ∙ e)) in
+    (held ∙ ap unused (sym same), ap (λ (xs : Slots). drop 1 xs) opens)
+lend-one (g ∷ hs) [] new d h opens e held = absurd opens
+lend-one (g ∷ hs) (None ∷ old) new d h opens e held = absurd opens
+lend-one (g ∷ hs) (Some x ∷ old) [] d h opens e held = absurd opens
+lend-one (g ∷ hs) (Some x ∷ old) (Some y ∷ new) d h opens e held = absurd opens
+lend-one (g ∷ hs) (Some x ∷ old) (None ∷ new) d h opens e held = (opens.0, lend-one hs old new d h opens.1 e held)
+
+-- what is held as it was is held
+pub opens-lends : (hs : List Holding) (old new : Slots) → Opens hs old new → Lends hs old new
+opens-lends [] old new opens = subst (HasAllBack old) (sym opens) (all-back-same old)
+opens-lends (h ∷ hs) [] new opens = absurd opens
+opens-lends (h ∷ hs) (None ∷ old) new opens = absurd opens
+opens-lends (h ∷ hs) (Some x ∷ old) [] opens = absurd opens
+opens-lends (h ∷ hs) (Some x ∷ old) (Some y ∷ new) opens = absurd opens
+opens-lends (h ∷ hs) (Some x ∷ old) (None ∷ new) opens =
+    (subst (Keeps false (unused x)) (sym opens.0) (keeps-same (unused x)), opens-lends hs old new opens.1)
 
 -- and comes back
 pub give-one : (hs : List Holding) (h : Holding) (old new : Slots) (e : Discipline) → Lends (hs ++ h ∷ []) old new → TookBack h.disc e h.segments [] → Lends hs old (set new (length hs) (Some e))
@@ -82,7 +83,7 @@ pub has-taken : (most : ℕ) (new : Slots) → HasLent most new → AreTaken mos
 has-taken most new h = are-taken h.1.0 h.0 new most h.1.1.0 h.1.1.1
 
 -- what is held goes on
-pub lends-kept : (hs gs : List Holding) (old new : Slots) → AreKept hs gs → Lends hs old new → Lends gs old new
+pub lends-kept : (hs gs : List Holding) (old new : Slots) → AreKept false hs gs → Lends hs old new → Lends gs old new
 lends-kept [] [] old new kept lends = lends
 lends-kept [] (g ∷ gs) old new kept lends = absurd kept
 lends-kept (h ∷ hs) [] old new kept lends = absurd kept
@@ -91,7 +92,7 @@ lends-kept (h ∷ hs) (g ∷ gs) (None ∷ old) new kept lends = absurd lends
 lends-kept (h ∷ hs) (g ∷ gs) (Some x ∷ old) [] kept lends = absurd lends
 lends-kept (h ∷ hs) (g ∷ gs) (Some x ∷ old) (Some y ∷ new) kept lends = absurd lends
 lends-kept (h ∷ hs) (g ∷ gs) (Some x ∷ old) (None ∷ new) kept lends =
-    (keeps-then (unused x) h g lends.0 kept.0, lends-kept hs gs old new kept.1 lends.1)
+    (keeps-both (unused x) h g lends.0 kept.0, lends-kept hs gs old new kept.1 lends.1)
 
 -- all of them come back
 all-settled : (hs : List Holding) (ds : List Discipline) (old new : Slots) → Lends hs old new → AreSettled hs ds → HasAllBack old (map Some ds ++ drop (length ds) new)
@@ -119,7 +120,7 @@ lends-settled (h ∷ hs) gs ds (Some x ∷ old) (None ∷ new) lends settled =
     (lends.0, lends-settled hs gs ds old new lends.1 settled)
 
 -- by the number of the place
-module _ (hs : List Holding) (old before : Slots) (n : ℕ) (is : n ≡ length hs + 1) (lends : Lends hs old before) where
+module _ (hs : List Holding) (old before : Slots) (n : ℕ) (is : n ≡ length hs + 1) (opens : Opens hs old before) where
   at-place : n - 1 ≡ length hs
   at-place = omega (arith, is)
 
@@ -128,10 +129,10 @@ module _ (hs : List Holding) (old before : Slots) (n : ℕ) (is : n ≡ length h
       let some : n ≢ 0 = omega (arith, is) in
       ap (λ (b : Bool). cond b None (slice_get before (n - 1))) (ne_eqb n 0 some) ∙ ap (slice_get before) at-place
 
-  pub lend-at : (after : Slots) (d : Discipline) (h : Holding) → slot_at before n ≡ Some (Some d) → after ≡ set before (n - 1) None → Keeps (unused d) h → Lends (hs ++ h ∷ []) old after
+  pub lend-at : (after : Slots) (d : Discipline) (h : Holding) → slot_at before n ≡ Some (Some d) → after ≡ set before (n - 1) None → h ≡ unused d → Opens (hs ++ h ∷ []) old after
   lend-at after d h there emptied held =
-      subst (Lends (hs ++ h ∷ []) old) (sym (emptied ∙ ap (λ k. set before k None) at-place))
-      (lend-one hs old before d h lends (sym got ∙ there) held)
+      subst (Opens (hs ++ h ∷ []) old) (sym (emptied ∙ ap (λ k. set before k None) at-place))
+      (lend-one hs old before d h opens (sym got ∙ there) held)
 
 pub give-at : (hs : List Holding) (h : Holding) (old before after : Slots) (n : ℕ) (e : Discipline) → n ≡ length hs + 1 → Lends (hs ++ h ∷ []) old before → after ≡ set before (n - 1) (Some e) → TookBack h.disc e h.segments [] → Lends hs old after
 give-at hs h old before after n e is lends filled took =
@@ -140,8 +141,12 @@ give-at hs h old before after n e is lends filled took =
 
 -- a discipline that nobody asked comes back
 pub took-same : (d : Discipline) → TookBack d d [] []
-took-same d = record { kept = record { terms = refl; faults = omega arith }; faults = refl; out = λ rest e. e }
+took-same d = record { kept = Kept-same d; faults = refl; exceptions = refl; out = λ rest e. e }
 
-pub give-unused : (hs : List Holding) (old before after : Slots) (n : ℕ) (d e : Discipline) → n ≡ length hs + 1 → Lends (hs ++ unused d ∷ []) old before → after ≡ set before (n - 1) (Some e) → e ≡ d → Lends hs old after
-give-unused hs old before after n d e is lends filled same =
-    give-at hs (unused d) old before after n e is lends filled (subst (λ k. TookBack d k [] []) (sym same) (took-same d))
+pub give-unused : (hs : List Holding) (old before after : Slots) (n : ℕ) (d e : Discipline) → n ≡ length hs + 1 → Opens (hs ++ unused d ∷ []) old before → after ≡ set before (n - 1) (Some e) → e ≡ d → Lends hs old after
+give-unused hs old before after n d e is opens filled same =
+    give-at hs (unused d) old before after n e is (opens-lends (hs ++ unused d ∷ []) old before opens) filled (subst (λ k. TookBack d k [] []) (sym same) (took-same d))
+
+-- a discipline that is held without a segment is held as it was
+pub held-unused : (h : Holding) (d : Discipline) → h.disc ≡ d → h.segments ≡ [] → h ≡ unused d
+held-unused h d same none = λ i. record { disc = same i; segments = none i }

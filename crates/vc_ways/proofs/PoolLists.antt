@@ -88,10 +88,10 @@ module _ {I : Type 0} {V : I → Type 0} (meaning : (x : I) × V x → Disciplin
       let within : k < length (map f xs) = omega (arith, lt, length-map xs f) in
       subst IsLent (get_or-map f xs k p (f p) lt ∙ ap f (sym is)) (all k (f p) within)
 
-  pub kept-here : Keeps (holding_in meaning p) (holding_in meaning q) → AreKept (holdings meaning xs) (holdings meaning (set xs k q))
-  kept-here h = kept-set (holding_in meaning) xs k q p lt (subst (λ (o : Pool I V). Keeps (holding_in meaning o) (holding_in meaning q)) is h)
+  pub kept-here : {went : Bool} → Keeps went (holding_in meaning p) (holding_in meaning q) → AreKept went (holdings meaning xs) (holdings meaning (set xs k q))
+  kept-here {went} h = kept-set _ (holding_in meaning) xs k q p lt (subst (λ (o : Pool I V). Keeps went (holding_in meaning o) (holding_in meaning q)) is h)
 
-  terms-here : terms_at (terms_in (holdings meaning xs)) k ≡ (disc_in meaning p).terms
+  pub terms-here : terms_at (terms_in (holdings meaning xs)) k ≡ (disc_in meaning p).terms
   terms-here =
       let f : Pool I V → Holding = holding_in meaning in
       let t : Holding → Terms = λ h. h.disc.terms in

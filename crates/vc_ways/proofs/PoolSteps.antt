@@ -1,35 +1,56 @@
 -- One pool of a list changes.
-use Rattle.vc_base.proofs.Common.{◌≡◌, ℕ, zero, suc, ◌<◌, List, [], ◌∷◌, map, set, length, get_or, refl, sym, ◌∙◌, subst, arith, Discipline}
+use Rattle.vc_base.proofs.Common.{◌≡◌, ℕ, zero, suc, ◌<◌, List, [], ◌∷◌, Bool, false, true, map, set, length, get_or, refl, sym, ◌∙◌, subst, arith, Discipline}
+use Rattle.vc_model.proofs.Keeping.{Kept-same, Kept-trans}
 use Rattle.vc_ways.specs.Answer.{AreKept, Holding, Keeps}
 
 -- nothing changes
-pub keeps-same : (h : Holding) → Keeps h h
-keeps-same h = record { kept = record { terms = refl; faults = omega arith }; out = λ rest e. e }
+pub keeps-same : {went : Bool} (h : Holding) → Keeps went h h
+keeps-same h = record { kept = Kept-same h.disc; out = λ rest e. e; none = λ e. e; same = λ yes e. refl }
 
-pub keeps-then : (a b c : Holding) → Keeps a b → Keeps b c → Keeps a c
+-- what holds of a call that went holds of any
+pub keeps-any : {went : Bool} (a b : Holding) → Keeps true a b → Keeps went a b
+keeps-any a b h = record { kept = h.kept; out = h.out; none = h.none; same = λ yes. h.same refl }
+
+pub kept-any : (went : Bool) (xs ys : List Holding) → AreKept true xs ys → AreKept went xs ys
+kept-any went [] [] h = tt
+kept-any went [] (y ∷ ys) h = absurd h
+kept-any went (x ∷ xs) [] h = absurd h
+kept-any went (x ∷ xs) (y ∷ ys) h = (keeps-any {went = went} x y h.0, kept-any went xs ys h.1)
+
+-- two calls, one behind the other
+pub keeps-both : {first second : Bool} (a b c : Holding) → Keeps first a b → Keeps second b c → Keeps false a c
+keeps-both a b c h k =
+    record {
+      kept = Kept-trans a.disc b.disc c.disc h.kept k.kept;
+      out = λ rest e. k.out rest (h.out rest e);
+      none = λ e. h.none (k.none e);
+      same = λ yes e. absurd (cc);
+    }
+
+-- the first one went
+pub keeps-then : {went : Bool} (a b c : Holding) → Keeps true a b → Keeps went b c → Keeps went a c
 keeps-then a b c h k =
-    let first = h.kept.faults in
-    let second = k.kept.faults in
-    record { kept = record { terms = k.kept.terms ∙ h.kept.terms; faults = omega (arith, first, second) }; out = λ rest e. k.out rest (h.out rest e) }
+    let both = keeps-both a b c h k in
+    record { kept = both.kept; out = both.out; none = both.none; same = λ yes e. k.same yes e ∙ h.same refl (k.none e) }
 
-pub kept-same : (hs : List Holding) → AreKept hs hs
-kept-same [] = tt
-kept-same (h ∷ hs) = (keeps-same h, kept-same hs)
+pub kept-same : (went : Bool) (hs : List Holding) → AreKept went hs hs
+kept-same went [] = tt
+kept-same went (h ∷ hs) = (keeps-same {went = went} h, kept-same went hs)
 
-pub kept-then : (xs ys zs : List Holding) → AreKept xs ys → AreKept ys zs → AreKept xs zs
-kept-then [] [] [] h k = tt
-kept-then [] [] (z ∷ zs) h k = absurd k
-kept-then [] (y ∷ ys) zs h k = absurd h
-kept-then (x ∷ xs) [] zs h k = absurd h
-kept-then (x ∷ xs) (y ∷ ys) [] h k = absurd k
-kept-then (x ∷ xs) (y ∷ ys) (z ∷ zs) h k = (keeps-then x y z h.0 k.0, kept-then xs ys zs h.1 k.1)
+pub kept-then : (went : Bool) (xs ys zs : List Holding) → AreKept true xs ys → AreKept went ys zs → AreKept went xs zs
+kept-then went [] [] [] h k = tt
+kept-then went [] [] (z ∷ zs) h k = absurd k
+kept-then went [] (y ∷ ys) zs h k = absurd h
+kept-then went (x ∷ xs) [] zs h k = absurd h
+kept-then went (x ∷ xs) (y ∷ ys) [] h k = absurd k
+kept-then went (x ∷ xs) (y ∷ ys) (z ∷ zs) h k = (keeps-then {went = went} x y z h.0 k.0, kept-then went xs ys zs h.1 k.1)
 
 -- one of them is another one
-pub kept-set : {A : Type 0} (f : A → Holding) (xs : List A) (k : ℕ) (x d : A) → k < length xs → Keeps (f (get_or xs k d)) (f x) → AreKept (map f xs) (map f (set xs k x))
-kept-set f [] k x d lt h = tt
-kept-set f (y ∷ ys) zero x d lt h = (h, kept-same (map f ys))
-kept-set f (y ∷ ys) (suc k) x d lt h = (keeps-same (f y), kept-set f ys k x d (omega (arith, lt)) h)
+pub kept-set : (went : Bool) {A : Type 0} (f : A → Holding) (xs : List A) (k : ℕ) (x d : A) → k < length xs → Keeps went (f (get_or xs k d)) (f x) → AreKept went (map f xs) (map f (set xs k x))
+kept-set went f [] k x d lt h = tt
+kept-set went f (y ∷ ys) zero x d lt h = (h, kept-same went (map f ys))
+kept-set went f (y ∷ ys) (suc k) x d lt h = (keeps-same {went = went} (f y), kept-set went f ys k x d (omega (arith, lt)) h)
 
 -- the discipline and the segments are the same
-pub keeps-equal : (a b : Holding) → b.disc ≡ a.disc → b.segments ≡ a.segments → Keeps a b
-keeps-equal a b d s = subst (λ (disc : Discipline). Keeps a (record { disc = disc; segments = b.segments })) (sym d) (subst (λ (segments : List (ℕ × ℕ)). Keeps a (record { disc = a.disc; segments = segments })) (sym s) (keeps-same a))
+pub keeps-equal : {went : Bool} (a b : Holding) → b.disc ≡ a.disc → b.segments ≡ a.segments → Keeps went a b
+keeps-equal {went} a b d s = subst (λ (disc : Discipline). Keeps went a (record { disc = disc; segments = b.segments })) (sym d) (subst (λ (segments : List (ℕ × ℕ)). Keeps went a (record { disc = a.disc; segments = segments })) (sym s) (keeps-same a))

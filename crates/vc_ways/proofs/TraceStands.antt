@@ -1,5 +1,5 @@
 -- A trace stands after a command, and is what the definitions say.
-use Rattle.vc_base.proofs.Common.{length, length-map, [], ◌∷◌, suc, map, nat_lt, lookup, and_parts, arith, false≢true, true, ◌≡◌, ◌≢◌, ℕ, ◌+◌, ◌-◌, List, All, Option, Some, None, bytes_eq, cond, option_map, unwrap_or, refl, sym, ap, ap₂, ◌∙◌, subst, Discipline}
+use Rattle.vc_base.proofs.Common.{length, length-map, [], ◌∷◌, suc, map, nat_lt, lookup, and_parts, arith, false≢true, true, Bool, ◌≡◌, ◌≢◌, ℕ, ◌+◌, ◌-◌, List, All, Option, Some, None, bytes_eq, cond, option_map, unwrap_or, refl, sym, ap, ap₂, ◌∙◌, subst, Discipline}
 use Rattle.std.specs.HashMap.{get}
 use Rattle.std.specs.Prelude.{is_none}
 use Rattle.std.proofs.lemmas.Map.Made.{lookup-map_values}
@@ -48,13 +48,13 @@ module _ {I : Type 0} {V : I → Type 0} (meaning : (x : I) × V x → Disciplin
         goes-placed t.region t.blocks.entries t'.blocks.entries (regions_of t.regions) (regions_of mid) t.tally t'.tally r t'.live t'.extents new-bytes new-extents placed.tally x l placed.entries
         ∙ ap₂ (λ (name : Option (List ℕ)) (m : Regions I V). Goes (record { region = name; table = table_of t'.blocks.entries; regions = regions_of m; tally = t'.tally })) (sym placed.region) (sym same)
 
-    pub placed-stands : (Stays : Live → Type 0) → AreWhole mid → AreKept (all_holdings meaning t.regions) (all_holdings meaning mid) → Comes Stays (regions_of t.regions) l (regions_of mid) → ((q : List ℕ) (k : Live) → x ≢ q → get bytes_eq t.blocks q ≡ Some k → Stays k) → Stands meaning t'
+    pub placed-stands : (Stays : Live → Type 0) → AreWhole mid → AreKept true (all_holdings meaning t.regions) (all_holdings meaning mid) → Comes Stays (regions_of t.regions) l (regions_of mid) → ((q : List ℕ) (k : Live) → x ≢ q → get bytes_eq t.blocks q ≡ Some k → Stays k) → Stands meaning t'
     placed-stands Stays whole kept comes stays =
         let blocks : List ℕ → Option Live = λ q. get bytes_eq t.blocks q in
         let blocks' : List ℕ → Option Live = λ q. get bytes_eq t'.blocks q in
         record {
           whole = subst (λ (m : Regions I V). AreWhole m) (sym same) whole;
-          lent = subst (λ (m : Regions I V). All IsLent (all_holdings meaning m)) (sym same) (kept-lent (all_holdings meaning t.regions) (all_holdings meaning mid) stands.lent kept);
+          lent = subst (λ (m : Regions I V). All IsLent (all_holdings meaning m)) (sym same) (kept-lent _ (all_holdings meaning t.regions) (all_holdings meaning mid) stands.lent kept);
           live =
               subst (λ (m : Regions I V). (q : List ℕ) (k : Live) → get bytes_eq t'.blocks q ≡ Some k → IsLiveIn (regions_of m) k) (sym same)
               (comes-live Stays (regions_of t.regions) (regions_of mid) l comes blocks blocks' x placed.updates.0 stands.live stands.apart stays);
@@ -77,13 +77,13 @@ module _ {I : Type 0} {V : I → Type 0} (meaning : (x : I) × V x → Disciplin
         ∙ (goes-left t.region t.blocks.entries t'.blocks.entries (regions_of t.regions) (regions_of mid) t.tally t'.tally r t'.live t'.extents left-live left-extents told x entries
         ∙ ap₂ (λ (name : Option (List ℕ)) (m : Regions I V). Goes (record { region = name; table = table_of t'.blocks.entries; regions = regions_of m; tally = t'.tally })) (sym region) (sym same))
 
-    pub left-stands : AreWhole mid → AreKept (all_holdings meaning t.regions) (all_holdings meaning mid) → ((k : Live) → IsLiveIn (regions_of t.regions) k → AreApart k l → IsLiveIn (regions_of mid) k) → ((q : List ℕ) → get bytes_eq t'.blocks q ≡ cond (bytes_eq x q) None (get bytes_eq t.blocks q)) → Stands meaning t'
+    pub left-stands : AreWhole mid → AreKept true (all_holdings meaning t.regions) (all_holdings meaning mid) → ((k : Live) → IsLiveIn (regions_of t.regions) k → AreApart k l → IsLiveIn (regions_of mid) k) → ((q : List ℕ) → get bytes_eq t'.blocks q ≡ cond (bytes_eq x q) None (get bytes_eq t.blocks q)) → Stands meaning t'
     left-stands whole kept others updates =
         let blocks : List ℕ → Option Live = λ q. get bytes_eq t.blocks q in
         let blocks' : List ℕ → Option Live = λ q. get bytes_eq t'.blocks q in
         record {
           whole = subst (λ (m : Regions I V). AreWhole m) (sym same) whole;
-          lent = subst (λ (m : Regions I V). All IsLent (all_holdings meaning m)) (sym same) (kept-lent (all_holdings meaning t.regions) (all_holdings meaning mid) stands.lent kept);
+          lent = subst (λ (m : Regions I V). All IsLent (all_holdings meaning m)) (sym same) (kept-lent _ (all_holdings meaning t.regions) (all_holdings meaning mid) stands.lent kept);
           live =
               subst (λ (m : Regions I V). (q : List ℕ) (k : Live) → get bytes_eq t'.blocks q ≡ Some k → IsLiveIn (regions_of m) k) (sym same)
               (goes-live (regions_of t.regions) (regions_of mid) l blocks blocks' x found others updates stands.live stands.apart);
@@ -92,23 +92,23 @@ module _ {I : Type 0} {V : I → Type 0} (meaning : (x : I) × V x → Disciplin
           extents = left-extents ∙ ap (λ (m : Regions I V). extents (regions_of m)) (sym same);
         }
 
-kept-long : (xs ys : List Holding) → AreKept xs ys → length ys ≡ length xs
-kept-long [] [] kept = refl
-kept-long [] (y ∷ ys) kept = absurd kept
-kept-long (x ∷ xs) [] kept = absurd kept
-kept-long (x ∷ xs) (y ∷ ys) kept = ap suc (kept-long xs ys kept.1)
+kept-long : (went : Bool) (xs ys : List Holding) → AreKept went xs ys → length ys ≡ length xs
+kept-long went [] [] kept = refl
+kept-long went [] (y ∷ ys) kept = absurd kept
+kept-long went (x ∷ xs) [] kept = absurd kept
+kept-long went (x ∷ xs) (y ∷ ys) kept = ap suc (kept-long went xs ys kept.1)
 
 -- whatever a command answers, the trace can be closed
-pub closes : {I : Type 0} {V : I → Type 0} (meaning : (x : I) × V x → Discipline) (t t' : Trace I V) → Stands meaning t → AreKept (all_holdings meaning t.regions) (all_holdings meaning t'.regions) → CanClose meaning t'
+pub closes : {I : Type 0} {V : I → Type 0} {went : Bool} (meaning : (x : I) × V x → Discipline) (t t' : Trace I V) → Stands meaning t → AreKept went (all_holdings meaning t.regions) (all_holdings meaning t'.regions) → CanClose meaning t'
 closes meaning t t' stands kept =
     let olds = t.regions.pools.items in
     let news = t'.regions.pools.items in
-    let same : suc (suc (length (map (holding_in meaning) news))) ≡ suc (suc (length (map (holding_in meaning) olds))) = kept-long (all_holdings meaning t.regions) (all_holdings meaning t'.regions) kept in
+    let same : suc (suc (length (map (holding_in meaning) news))) ≡ suc (suc (length (map (holding_in meaning) olds))) = kept-long _ (all_holdings meaning t.regions) (all_holdings meaning t'.regions) kept in
     let old = length-map olds (holding_in meaning) in
     let new = length-map news (holding_in meaning) in
     record {
       classes = omega (arith, same, old, new, stands.whole.classes);
-      lent = kept-lent (all_holdings meaning t.regions) (all_holdings meaning t'.regions) stands.lent kept;
+      lent = kept-lent _ (all_holdings meaning t.regions) (all_holdings meaning t'.regions) stands.lent kept;
     }
 
 -- a name under which a block can be put has none

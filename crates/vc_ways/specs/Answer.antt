@@ -1,5 +1,5 @@
 -- What a call of a way answers, and what it leaves of the disciplines.
-use Rattle.std.specs.Prelude.{◌≡◌, ℕ, List, [], ◌∷◌, ◌++◌, Bool, false, Result, Ok, Err}
+use Rattle.std.specs.Prelude.{◌≡◌, ℕ, List, [], ◌∷◌, ◌++◌, Bool, false, true, Result, Ok, Err}
 use Rattle.vc_model.specs.Discipline.{Discipline, HasOut, Kept}
 use Rattle.vc_model.specs.Outcome.{Outcome, Done}
 use Rattle.vc_seg.specs.Answer.{IsRefusal}
@@ -19,13 +19,15 @@ pub record Holding : Type 0 where
 abbrev pub IsLent : Holding → Type 0
 IsLent h = HasOut h.disc h.segments
 
--- its terms are the same, its faults have not fallen, and what is out besides the region's segments is out
-pub record Keeps (old new : Holding) : Type 0 where
+-- its terms are the same, its faults have not fallen, and what is out besides the region's segments is out. Where the region has no segment it had none, and where the call went the discipline is the same then
+pub record Keeps (went : Bool) (old new : Holding) : Type 0 where
   pub kept : Kept old.disc new.disc
   pub out : (rest : List (ℕ × ℕ)) → old.disc.out ≡ rest ++ old.segments → new.disc.out ≡ rest ++ new.segments
+  pub none : new.segments ≡ [] → old.segments ≡ []
+  pub same : went ≡ true → new.segments ≡ [] → new.disc ≡ old.disc
 
 -- of each of these
-abbrev pub AreKept : List Holding → List Holding → Type 0
-AreKept [] [] = Unit {0}
-AreKept (a ∷ rest) (b ∷ others) = Keeps a b × AreKept rest others
-AreKept olds news = ⊥
+abbrev pub AreKept : Bool → List Holding → List Holding → Type 0
+AreKept went [] [] = Unit {0}
+AreKept went (a ∷ rest) (b ∷ others) = Keeps went a b × AreKept went rest others
+AreKept went olds news = ⊥

@@ -1,8 +1,8 @@
 -- A trace from its first line to its end.
-use Rattle.std.specs.Prelude.{ℕ, List, [], ◌∷◌, None, Result, Ok, Err}
+use Rattle.std.specs.Prelude.{ℕ, List, [], ◌∷◌, None, Result, Ok, Err, ◌==◌}
 use Rattle.vc_model.specs.Outcome.{Fault}
 use Rattle.vc_script.specs.declared.line_answer.LineAnswer.{LineAnswer}
-use Rattle.vc_script.specs.declared.line_answer.LineAnswer.TheVariants.{Blank, Is, Bad}
+use Rattle.vc_script.specs.declared.line_answer.LineAnswer.TheVariants.{Blank, Is, Version, Bad}
 use Rattle.vc_script.specs.declared.line_fault.LineFault.{LineFault}
 use Rattle.vc_script.specs.declared.tool.Tool.TheVariants.{Vmreplay}
 use Rattle.vc_script.specs.Answer.{answer}
@@ -28,10 +28,11 @@ after_command n (Stops way why) behind = StoppedAt n way why
 abbrev pub after_answer : WayTerms → ℕ → State → LineAnswer → (State → Compared) → Compared
 after_answer terms n s Blank behind = behind s
 after_answer terms n s (Is command) behind = after_command n (step terms s command None) behind
+after_answer terms n s (Version version) behind = OutsideAt n
 after_answer terms n s (Bad fault) behind = BadLine n fault
 
 abbrev pub after_line : WayTerms → ℕ → State → Result (List ℕ) LineFault → (State → Compared) → Compared
-after_line terms n s (Ok line) behind = after_answer terms n s (answer Vmreplay line) behind
+after_line terms n s (Ok line) behind = after_answer terms n s (answer Vmreplay (n == 1) line) behind
 after_line terms n s (Err fault) behind = BadLine n fault
 
 -- lines are run in turn from a state on, up to the first that can't be; no way asks in vain for a segment

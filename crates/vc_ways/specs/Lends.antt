@@ -1,5 +1,5 @@
 -- Disciplines that a shelf has lent from its first places.
-use Rattle.std.specs.Prelude.{◌≡◌, ℕ, List, [], ◌∷◌, ◌++◌, Option, Some, None, Result, Ok, Err, length}
+use Rattle.std.specs.Prelude.{◌≡◌, ℕ, List, [], ◌∷◌, ◌++◌, Option, Some, None, false, Result, Ok, Err, length}
 use Rattle.vc_base.specs.declared.fault.OutOfMemory.{OutOfMemory}
 use Rattle.vc_model.specs.Discipline.{Discipline, Kept}
 use Rattle.vc_ways.specs.Answer.{Holding, Keeps}
@@ -25,19 +25,29 @@ HasAllBack [] [] = Unit {0}
 HasAllBack (x ∷ old) (y ∷ new) = HasBack x y × HasAllBack old new
 HasAllBack old new = ⊥
 
+-- the disciplines of the first places are lent, and held as they were; all else of the shelf is the same
+abbrev pub Opens : List Holding → List (Option Discipline) → List (Option Discipline) → Type 0
+Opens [] old new = new ≡ old
+Opens (h ∷ hs) (Some d ∷ old) (None ∷ new) = (h ≡ unused d) × Opens hs old new
+Opens hs old new = ⊥
+
 -- the disciplines of the first places are lent, and held with segments of theirs; each other place has its own
 abbrev pub Lends : List Holding → List (Option Discipline) → List (Option Discipline) → Type 0
 Lends [] old new = HasAllBack old new
-Lends (h ∷ hs) (Some d ∷ old) (None ∷ new) = Keeps (unused d) h × Lends hs old new
+Lends (h ∷ hs) (Some d ∷ old) (None ∷ new) = Keeps false (unused d) h × Lends hs old new
 Lends hs old new = ⊥
 
 -- the disciplines of so many places are lent
 abbrev pub HasLent : ℕ → List (Option Discipline) → Type 0
 HasLent count slots = (old : List (Option Discipline)) × ((hs : List Holding) × ((length hs ≡ count) × Lends hs old slots))
 
+-- and are held as they were
+abbrev pub HasOpened : ℕ → List (Option Discipline) → Type 0
+HasOpened count slots = (old : List (Option Discipline)) × ((hs : List Holding) × ((length hs ≡ count) × Opens hs old slots))
+
 -- behind those of so many places others are lent, by what was opened over them; where nothing was, they are back
-abbrev pub LendsMore : {A : Type 0} → (A → List Holding) → ℕ → Result A OutOfMemory → List (Option Discipline) → List (Option Discipline) → Type 0
-LendsMore held count (Ok a) before after =
-    (old : List (Option Discipline)) (hs : List Holding) → length hs ≡ count → Lends hs old before → Lends (hs ++ held a) old after
-LendsMore held count (Err fault) before after =
-    (old : List (Option Discipline)) (hs : List Holding) → length hs ≡ count → Lends hs old before → Lends hs old after
+abbrev pub OpensMore : {A : Type 0} → (A → List Holding) → ℕ → Result A OutOfMemory → List (Option Discipline) → List (Option Discipline) → Type 0
+OpensMore held count (Ok a) before after =
+    (old : List (Option Discipline)) (hs : List Holding) → length hs ≡ count → Opens hs old before → Opens (hs ++ held a) old after
+OpensMore held count (Err fault) before after =
+    (old : List (Option Discipline)) (hs : List Holding) → length hs ≡ count → Opens hs old before → Lends hs old after

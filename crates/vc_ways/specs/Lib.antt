@@ -6,6 +6,7 @@ pub mod LastParts
 pub mod PoolWay
 pub mod PoolParts
 pub mod Regions
+pub mod Asking
 pub mod RegionsParts
 pub mod Extents
 pub mod Settled

@@ -1,5 +1,5 @@
 -- What running a line of a trace answers.
-use Rattle.std.specs.Prelude.{◌≡◌, ◌⊎◌, ℕ, List, None, Option, Some, Result, Ok, Err}
+use Rattle.std.specs.Prelude.{◌≡◌, ◌⊎◌, ℕ, List, None, Option, Some, Result, Ok, Err, ◌==◌}
 use Rattle.vc_script.specs.Answer.{answer}
 use Rattle.vc_script.specs.declared.command.Command.{Command}
 use Rattle.vc_script.specs.declared.line_answer.LineAnswer.TheVariants.{Is}
@@ -13,10 +13,10 @@ use Rattle.vc_ways.specs.declared.line.Wrong.{Wrong}
 use Rattle.vc_ways.specs.declared.line.Wrong.TheVariants.{Bad, Outside}
 use Rattle.vc_ways.specs.declared.regions.Stop.{Stop}
 
--- under any number, what is behind the line is run from the state after it; or the trace ends there. A stop is want of memory, or that of the line's command
-abbrev pub LineEnds : WayTerms → State → List ℕ → Result (Option Wrong) Stop → State → Type 0
-LineEnds terms s line (Ok None) new = (n : ℕ) (behind : State → Compared) → after_line terms n s (Ok line) behind ≡ behind new
-LineEnds terms s line (Ok (Some (Bad fault))) new = (n : ℕ) (behind : State → Compared) → after_line terms n s (Ok line) behind ≡ BadLine n fault
-LineEnds terms s line (Ok (Some Outside)) new = (n : ℕ) (behind : State → Compared) → after_line terms n s (Ok line) behind ≡ OutsideAt n
-LineEnds terms s line (Err stop) new =
-    (stop.fault ≡ code.OutOfMemory) ⊎ ((command : Command) × (answer Vmreplay line ≡ Is command) × IsStopped (λ way why. Stops way why) (step terms s command) stop.way stop.fault)
+-- what is behind the line of that number is run from the state after it; or the trace ends there. A stop is want of memory, or that of the line's command
+abbrev pub LineEnds : WayTerms → State → ℕ → List ℕ → Result (Option Wrong) Stop → State → Type 0
+LineEnds terms s n line (Ok None) new = (behind : State → Compared) → after_line terms n s (Ok line) behind ≡ behind new
+LineEnds terms s n line (Ok (Some (Bad fault))) new = (behind : State → Compared) → after_line terms n s (Ok line) behind ≡ BadLine n fault
+LineEnds terms s n line (Ok (Some Outside)) new = (behind : State → Compared) → after_line terms n s (Ok line) behind ≡ OutsideAt n
+LineEnds terms s n line (Err stop) new =
+    (stop.fault ≡ code.OutOfMemory) ⊎ ((command : Command) × (answer Vmreplay (n == 1) line ≡ Is command) × IsStopped (λ way why. Stops way why) (step terms s command) stop.way stop.fault)

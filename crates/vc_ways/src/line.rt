@@ -1,7 +1,8 @@
-ghost use Rattle.std.specs.Prelude.{◌≡◌, OnOk};
+ghost use Rattle.std.specs.Prelude.{◌≡◌, IfErr, OnOk, is_ok};
 ghost use Rattle.vc_ways.specs.Answer.{AreKept};
+ghost use Rattle.vc_ways.specs.Asking.{IsUnserved, line_size};
 ghost use Rattle.vc_ways.specs.LineParts.{LineEnds};
-ghost use Rattle.vc_ways.specs.RegionsParts.{all_holdings, terms_of};
+ghost use Rattle.vc_ways.specs.RegionsParts.{all_holdings, regions_of, terms_of};
 ghost use Rattle.vc_ways.specs.TraceParts.{CanClose, Stands, state_of};
 
 use crate::trace::out_of_memory;
@@ -20,22 +21,31 @@ pub enum Wrong {
 }
 
 impl Trace {
-    /// Runs a line, given without its newline, and answers what is wrong with it. A line of blanks and a comment do
-    /// nothing. Reading a line takes memory; the other stops are those of `run`. After a stop the trace can only be
+    /// Runs the line of that number, from 1 on, given without its newline, and answers what is wrong with it. A line of
+    /// blanks and a comment do nothing; line 1 may tell a version of scripts, which belongs to no trace. Reading a line takes memory; the other stops are those of `run`. After a stop the trace can only be
     /// closed.
-    pub fn run_line(&mut self, alloc: Global, line: &[u8]) -> Result<Option<Wrong>, Stop>
+    pub fn run_line(
+        &mut self,
+        alloc: Global,
+        number: u32,
+        line: &[u8],
+    ) -> Result<Option<Wrong>, Stop>
         requires stands { Stands state self.old }
-        ensures answer { LineEnds (terms_of state self.old.regions) (state_of self.old) line.now
+        ensures answer { LineEnds (terms_of state self.old.regions) (state_of self.old) number line.now
             result (state_of self.new) }
         ensures stands { OnOk result (Stands state self.new) }
-        ensures keeps { AreKept (all_holdings state self.old.regions)
+        ensures keeps { AreKept (is_ok result) (all_holdings state self.old.regions)
             (all_holdings state self.new.regions) }
+        ensures refused { IfErr result (λ stop. IsUnserved (terms_of state self.old.regions)
+            (regions_of self.old.regions) (line_size number line.now) stop
+            (all_holdings state self.old.regions) (all_holdings state self.new.regions)) }
         ensures closes { CanClose state self.new }
     {
-        let read = read_line(alloc, Tool::Vmreplay, line);
+        let read = read_line(alloc, Tool::Vmreplay, number == 1, line);
         match &read {
             Ok(read) => match read {
                 LineAnswer::Blank => Ok(None),
+                LineAnswer::Version(_) => Ok(Some(Wrong::Outside)),
                 LineAnswer::Bad(fault) => Ok(Some(Wrong::Bad(*fault))),
                 LineAnswer::Is(command) => match self.run(command) {
                     Ok(true) => Ok(None),

@@ -6,7 +6,7 @@ ghost use Rattle.vc_best.specs.Parts as best;
 ghost use Rattle.vc_pool.specs.Parts.{pool_of};
 ghost use Rattle.vc_ways.specs.Answer.{IsLent};
 ghost use Rattle.vc_ways.specs.LastParts.{last_holding};
-ghost use Rattle.vc_ways.specs.Lends.{HasAllBack, HasLent, Lends, LendsMore};
+ghost use Rattle.vc_ways.specs.Lends.{HasAllBack, HasLent, HasOpened, Lends, OpensMore};
 ghost use Rattle.vc_ways.specs.PoolParts.{holding_in, holdings, pools_of};
 ghost use Rattle.vc_ways.specs.Regions.{new_regions};
 ghost use Rattle.vc_ways.specs.RegionsParts.{all_holdings, best_holding, regions_of};
@@ -26,7 +26,7 @@ use vc_seg::{SegDisc, Shelf};
 // the answer is the same. The check asks for a condition on a call that could drop a box; this one always holds.
 fn open_best(alloc: Global, shelf: &mut Shelf) -> Result<Best, OutOfMemory>
     requires { 0 ≤ 0 }
-    ensures lends { LendsMore (λ b. best_holding state b ∷ []) 0 result
+    ensures lends { OpensMore (λ b. best_holding state b ∷ []) 0 result
         (slots_on state shelf.old) (slots_on state shelf.new) }
     ensures opened { IfOk result (λ b. best.layout_of b ≡ empty_layout) }
 {
@@ -45,7 +45,7 @@ fn open_best(alloc: Global, shelf: &mut Shelf) -> Result<Best, OutOfMemory>
 // A last region over the discipline of place 2, likewise.
 fn open_last(alloc: Global, shelf: &mut Shelf) -> Result<Last, OutOfMemory>
     requires { 0 ≤ 0 }
-    ensures lends { LendsMore (λ l. last_holding state l ∷ []) 1 result
+    ensures lends { OpensMore (λ l. last_holding state l ∷ []) 1 result
         (slots_on state shelf.old) (slots_on state shelf.new) }
     ensures opened { IfOk result (λ l. last.layout_of l ≡ empty_layout) }
 {
@@ -64,7 +64,7 @@ fn open_last(alloc: Global, shelf: &mut Shelf) -> Result<Last, OutOfMemory>
 // A pool over the discipline of a place, likewise.
 fn open_pool(alloc: Global, shelf: &mut Shelf, n: u32) -> Result<Pool, OutOfMemory>
     requires { 1 ≤ n }
-    ensures lends { LendsMore (λ p. holding_in state p ∷ []) (n - 1) result
+    ensures lends { OpensMore (λ p. holding_in state p ∷ []) (n - 1) result
         (slots_on state shelf.old) (slots_on state shelf.new) }
     ensures opened { IfOk result (λ p. pool_of p ≡ empty_pool) }
 {
@@ -82,8 +82,8 @@ fn open_pool(alloc: Global, shelf: &mut Shelf, n: u32) -> Result<Pool, OutOfMemo
 
 // A pool for each class, over the disciplines of places 3 to 22, likewise.
 fn open_pools(alloc: Global, shelf: &mut Shelf) -> Result<Vec<Pool>, OutOfMemory>
-    requires { HasLent 2 (slots_on state shelf.old) }
-    ensures lends { LendsMore (λ pools. holdings state pools.items) 2 result
+    requires { HasOpened 2 (slots_on state shelf.old) }
+    ensures lends { OpensMore (λ pools. holdings state pools.items) 2 result
         (slots_on state shelf.old) (slots_on state shelf.new) }
     ensures opened { IfOk result (λ pools. pools_of pools.items ≡ replicate 20 empty_pool) }
     ensures lent { IfOk result (λ pools. All IsLent (holdings state pools.items)) }
@@ -116,7 +116,7 @@ impl Regions {
     /// Regions without a block, over the disciplines of a shelf: the best region over that of place 1, the last one over that
     /// of place 2, and the classes over those of 3 to 22. With no memory, or where a place has no discipline, all are back.
     pub fn open(alloc: Global, shelf: &mut Shelf) -> Result<Regions, OutOfMemory>
-        ensures lends { LendsMore (all_holdings state) 0 result
+        ensures lends { OpensMore (all_holdings state) 0 result
             (slots_on state shelf.old) (slots_on state shelf.new) }
         ensures none { IfOk result (λ r. regions_of r ≡ new_regions) }
         ensures lent { IfOk result (λ r. All IsLent (all_holdings state r)) }

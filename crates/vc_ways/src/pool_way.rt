@@ -1,7 +1,8 @@
-ghost use Rattle.std.specs.Prelude.{◌≡◌, ◌≢◌, ℕ, IfOk, OnOk, ◌<◌, ◌≤◌, All, length};
+ghost use Rattle.std.specs.Prelude.{◌≡◌, ◌≢◌, ℕ, IfOk, IsErrOf, OnOk, ◌<◌, ◌≤◌, All, is_ok, length, true};
 ghost use Rattle.vc_base.specs.Prelude.{place_of, HasBlock};
 ghost use Rattle.vc_seg.specs.OneBlock.{IsSize};
 ghost use Rattle.vc_ways.specs.Answer.{AreKept, Gives, IsLent};
+ghost use Rattle.vc_ways.specs.Asking.{Refuses, asking_cell};
 ghost use Rattle.vc_ways.specs.PoolParts.{CellComes, cells_at, holdings, pools_of, terms_in};
 ghost use Rattle.vc_ways.specs.PoolWay.{cell_free, cell_put, cell_sized, class_of};
 
@@ -39,7 +40,10 @@ pub(crate) fn put_cell(pools: &mut Vec<Pool>, size: u32) -> Result<Addr, RegionF
     ensures answer { Gives
         (cell_put (terms_in (holdings state pools.old.items)) (pools_of pools.old.items) size)
         (λ a. place_of a.0) result (pools_of pools.new.items) }
-    ensures keeps { AreKept (holdings state pools.old.items) (holdings state pools.new.items) }
+    ensures keeps { AreKept (is_ok result) (holdings state pools.old.items) (holdings state pools.new.items) }
+    ensures refused { IsErrOf result RegionFault.NoSegment → Refuses
+        (asking_cell (terms_in (holdings state pools.old.items)) (pools_of pools.old.items) size)
+        (holdings state pools.old.items) (holdings state pools.new.items) }
     ensures classes { length pools.new.items ≡ 20 }
     ensures others { (class : ℕ) → class ≢ class_of size
         → cells_at (pools_of pools.new.items) class ≡ cells_at (pools_of pools.old.items) class }
@@ -58,7 +62,7 @@ pub(crate) fn free_cell(pools: &mut Vec<Pool>, size: u32, at: Addr)
     requires block { HasBlock (cells_at (pools_of pools.old.items) (class_of size)) at.0 }
     ensures pools { pools_of pools.new.items
         ≡ cell_free (pools_of pools.old.items) size (place_of at.0) }
-    ensures keeps { AreKept (holdings state pools.old.items) (holdings state pools.new.items) }
+    ensures keeps { AreKept true (holdings state pools.old.items) (holdings state pools.new.items) }
     ensures classes { length pools.new.items ≡ 20 }
     ensures others { (class a : ℕ) → HasBlock (cells_at (pools_of pools.old.items) class) a
         → (class ≡ class_of size → a ≢ at.0)
@@ -85,7 +89,10 @@ pub(crate) fn resize_cell(
         (cell_sized (terms_in (holdings state pools.old.items)) (pools_of pools.old.items) old
         (place_of at.0) size)
         (λ a. place_of a.0) result (pools_of pools.new.items) }
-    ensures keeps { AreKept (holdings state pools.old.items) (holdings state pools.new.items) }
+    ensures keeps { AreKept (is_ok result) (holdings state pools.old.items) (holdings state pools.new.items) }
+    ensures refused { IsErrOf result RegionFault.NoSegment → Refuses
+        (asking_cell (terms_in (holdings state pools.old.items)) (pools_of pools.old.items) size)
+        (holdings state pools.old.items) (holdings state pools.new.items) }
     ensures classes { length pools.new.items ≡ 20 }
     ensures comes { IfOk result (λ to. CellComes
         (λ class a. class ≡ class_of old → a ≢ at.0) (pools_of pools.old.items)

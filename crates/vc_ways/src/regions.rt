@@ -1,6 +1,7 @@
-ghost use Rattle.std.specs.Prelude.{◌≡◌, All, IfOk, OnOk};
+ghost use Rattle.std.specs.Prelude.{◌≡◌, All, IfErr, IfOk, OnOk, is_ok, true};
 ghost use Rattle.vc_seg.specs.OneBlock.{IsSize};
 ghost use Rattle.vc_ways.specs.Answer.{AreKept, IsLent};
+ghost use Rattle.vc_ways.specs.Asking.{IsUnserved};
 ghost use Rattle.vc_ways.specs.Regions.{free_block, put_block, size_block};
 
 use crate::pool_way::{free_cell, put_cell, resize_cell};
@@ -45,7 +46,9 @@ impl Regions {
         ensures answer { Tries (put_block (terms_of state self.old) (regions_of self.old) size)
             result (regions_of self.new) }
         ensures whole { OnOk result (AreWhole self.new) }
-        ensures keeps { AreKept (all_holdings state self.old) (all_holdings state self.new) }
+        ensures keeps { AreKept (is_ok result) (all_holdings state self.old) (all_holdings state self.new) }
+        ensures refused { IfErr result (λ stop. IsUnserved (terms_of state self.old)
+            (regions_of self.old) size stop (all_holdings state self.old) (all_holdings state self.new)) }
         ensures comes { IfOk result (λ l. Comes (λ _. Unit {0}) (regions_of self.old) l
             (regions_of self.new)) }
     {
@@ -91,7 +94,9 @@ impl Regions {
             (size_block (terms_of state self.old) (regions_of self.old) (live_of live.now) size)
             result (regions_of self.new) }
         ensures whole { OnOk result (AreWhole self.new) }
-        ensures keeps { AreKept (all_holdings state self.old) (all_holdings state self.new) }
+        ensures keeps { AreKept (is_ok result) (all_holdings state self.old) (all_holdings state self.new) }
+        ensures refused { IfErr result (λ stop. IsUnserved (terms_of state self.old)
+            (regions_of self.old) size stop (all_holdings state self.old) (all_holdings state self.new)) }
         ensures comes { IfOk result (λ l. Comes (λ k. AreApart k live.now) (regions_of self.old) l
             (regions_of self.new)) }
     {
@@ -132,7 +137,7 @@ impl Regions {
         requires live { IsLiveIn (regions_of self.old) live.now }
         ensures regions { regions_of self.new ≡ free_block (regions_of self.old) (live_of live.now) }
         ensures whole { AreWhole self.new }
-        ensures keeps { AreKept (all_holdings state self.old) (all_holdings state self.new) }
+        ensures keeps { AreKept true (all_holdings state self.old) (all_holdings state self.new) }
         ensures others { (k : Live) → IsLiveIn (regions_of self.old) k → AreApart k live.now
             → IsLiveIn (regions_of self.new) k }
     {

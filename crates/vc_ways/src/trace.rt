@@ -1,7 +1,8 @@
-ghost use Rattle.std.specs.Prelude.{◌≡◌, ◌<◌, All, None, IfErr, IfOk, OnOk, bytes_eq, false, if◌then◌else◌, length, true};
+ghost use Rattle.std.specs.Prelude.{◌≡◌, ◌<◌, All, None, IfErr, IfOk, OnOk, bytes_eq, false, if◌then◌else◌, is_ok, length, true};
 ghost use Rattle.std.specs.HashMap.{get};
 ghost use Rattle.vc_seg.specs.OneBlock.{IsSize};
 ghost use Rattle.vc_ways.specs.Answer.{AreKept, IsLent};
+ghost use Rattle.vc_ways.specs.Asking.{IsUnserved, size_asked};
 ghost use Rattle.vc_ways.specs.RegionsParts.{all_holdings, regions_of, terms_of};
 ghost use Rattle.vc_ways.specs.Regions.{new_regions, put_block};
 ghost use Rattle.vc_ways.specs.Settled.{AreBack, AreTaken, slots_on};
@@ -150,8 +151,11 @@ impl Trace {
             (put_block (terms_of state self.old.regions) (regions_of self.old.regions) size refused))
             result (state_of self.new) }
         ensures stands { OnOk result (Stands state self.new) }
-        ensures keeps { AreKept (all_holdings state self.old.regions)
+        ensures keeps { AreKept (is_ok result) (all_holdings state self.old.regions)
             (all_holdings state self.new.regions) }
+        ensures refused { IfErr result (λ stop. IsUnserved (terms_of state self.old.regions)
+            (regions_of self.old.regions) size stop
+            (all_holdings state self.old.regions) (all_holdings state self.new.regions)) }
     {
         let class = class_of(size);
         let first = self.regions.newest(class);
@@ -173,8 +177,11 @@ impl Trace {
             (find_live x.now (state_of self.old).table))
             result (state_of self.new) }
         ensures stands { OnOk result (Stands state self.new) }
-        ensures keeps { AreKept (all_holdings state self.old.regions)
+        ensures keeps { AreKept (is_ok result) (all_holdings state self.old.regions)
             (all_holdings state self.new.regions) }
+        ensures refused { IfErr result (λ stop. IsUnserved (terms_of state self.old.regions)
+            (regions_of self.old.regions) size stop
+            (all_holdings state self.old.regions) (all_holdings state self.new.regions)) }
     {
         let old = match self.found(x) {
             None => return Ok(false),
@@ -199,7 +206,7 @@ impl Trace {
             ≡ (if result then Goes (state_of self.new) else Outside) }
         ensures same { result ≡ false → state_of self.new ≡ state_of self.old }
         ensures stands { Stands state self.new }
-        ensures keeps { AreKept (all_holdings state self.old.regions)
+        ensures keeps { AreKept true (all_holdings state self.old.regions)
             (all_holdings state self.new.regions) }
     {
         let live = match self.found(x) {
@@ -223,8 +230,11 @@ impl Trace {
         ensures answer { Ends (step (terms_of state self.old.regions) (state_of self.old) command.now)
             result (state_of self.new) }
         ensures stands { OnOk result (Stands state self.new) }
-        ensures keeps { AreKept (all_holdings state self.old.regions)
+        ensures keeps { AreKept (is_ok result) (all_holdings state self.old.regions)
             (all_holdings state self.new.regions) }
+        ensures refused { IfErr result (λ stop. IsUnserved (terms_of state self.old.regions)
+            (regions_of self.old.regions) (size_asked command.now) stop
+            (all_holdings state self.old.regions) (all_holdings state self.new.regions)) }
         ensures closes { CanClose state self.new }
     {
         match command {

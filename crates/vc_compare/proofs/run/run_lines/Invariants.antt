@@ -1,4 +1,4 @@
-use Rattle.vc_base.proofs.Common.{◌-◌, ◌≤◌, IfSome, Discipline}
+use Rattle.vc_base.proofs.Common.{◌-◌, ◌≤◌, IfSome, Discipline, false, true}
 use Rattle.vc_lines.specs.Reading.{CanRead, to_come}
 use Rattle.vc_script.specs.Judged.{last_number}
 use Rattle.vc_ways.specs.Answer.{AreKept}
@@ -16,7 +16,8 @@ invariant-loop-next g l =
     record {
       stands : Stands (meaning g) l.trace;
       can : CanRead l.reader;
-      keeps : AreKept (all_holdings (meaning g) l.fn.trace.regions) (all_holdings (meaning g) l.trace.regions);
+      keeps : AreKept true (all_holdings (meaning g) l.fn.trace.regions) (all_holdings (meaning g) l.trace.regions);
+      keeps_any : AreKept false (all_holdings (meaning g) l.fn.trace.regions) (all_holdings (meaning g) l.trace.regions);
       so_far : IfSome (g.S.Source.left l.fn.source) (λ input. SoFar (terms_of (meaning g) l.fn.trace.regions) (state_of l.fn.trace) (to_come l.fn.reader input) l.reader (g.S.Source.left l.source) (state_of l.trace));
       never_falls : g.S.Source.failures l.fn.source ≤ g.S.Source.failures l.source;
     }

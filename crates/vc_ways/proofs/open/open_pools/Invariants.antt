@@ -2,7 +2,7 @@ use Rattle.vc_base.proofs.Common.{◌≡◌, ◌-◌, ◌≤◌, ◌++◌, List,
 use Rattle.vc_model.specs.Pool.{empty_pool}
 use Rattle.vc_pool.specs.Parts.{pool_of}
 use Rattle.vc_ways.specs.Answer.{Holding}
-use Rattle.vc_ways.specs.Lends.{Lends}
+use Rattle.vc_ways.specs.Lends.{Opens}
 use Rattle.vc_ways.specs.PoolParts.{holdings}
 use Rattle.vc_ways.specs.Settled.{slots_on}
 use Rattle.vc_ways.proofs.open.open_pools.Given as goal
@@ -17,7 +17,7 @@ invariant-loop-alloc g l =
       few : length l.pools.items ≤ 20;
       room : 20 ≤ vec_capacity l.pools;
       empty : All (λ p. pool_of p ≡ empty_pool) l.pools.items;
-      lends : (old : List (Option Discipline)) (hs : List Holding) → length hs ≡ 2 → Lends hs old (slots_on (meaning g) l.fn.shelf) → Lends (hs ++ holdings (meaning g) l.pools.items) old (slots_on (meaning g) l.shelf);
+      lends : (old : List (Option Discipline)) (hs : List Holding) → length hs ≡ 2 → Opens hs old (slots_on (meaning g) l.fn.shelf) → Opens (hs ++ holdings (meaning g) l.pools.items) old (slots_on (meaning g) l.shelf);
     }
 
 abbrev pub decreases-loop-alloc : goal.decreases-loop-alloc

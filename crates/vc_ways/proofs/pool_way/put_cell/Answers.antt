@@ -1,9 +1,11 @@
-use Rattle.vc_base.proofs.Common.{Discipline, ◌∙◌, ℕ, arith}
+use Rattle.vc_base.proofs.Common.{Discipline, ◌∙◌, ℕ, arith, false}
 use Rattle.vc_model.specs.Pool.{Pool, pool_alloc}
 use Rattle.vc_pool.specs.Parts.{disc_in, pool_of}
 use Rattle.vc_ways.specs.PoolWay.{class_bytes}
-use Rattle.vc_ways.proofs.Kept.{asked-keeps}
+use Rattle.vc_ways.proofs.Growth.{pool-grows}
+use Rattle.vc_ways.proofs.Kept.{asked-keeps, asked-unserved}
 use Rattle.vc_ways.proofs.PoolLists.{answer-here, cells-other, comes-here, class-size, kept-here, lent-here}
+use Rattle.vc_ways.proofs.Refusals.{refused-here}
 use Rattle.vc_ways.proofs.pool_way.put_cell.Given as given
 use Rattle.vc_ways.proofs.pool_way.put_cell.Goals as goal
 
@@ -24,7 +26,7 @@ returns-clause-answer g c =
 pub returns-clause-keeps : goal.returns-clause-keeps
 returns-clause-keeps g c =
     kept-here (meaning g) c.args.pools.now.items c.class_of-class.result c.index_mut.result.now c.alloc.new.self (omega (arith, c.class_of-class.ensures.few, c.requires.classes)) c.index_mut.ensures.value
-    (asked-keeps {R = Pool ℕ} (λ p. p.layout.segments) (pool_alloc (disc_in (meaning g) c.index_mut.result.now).terms (pool_of c.index_mut.result.now) 0 (class_bytes c.class_of-class.result)) c.alloc.result (pool_of c.index_mut.result.now) (pool_of c.alloc.new.self) _ _ _ c.alloc.ensures.answer c.alloc.ensures.disc)
+    (asked-keeps {R = Pool ℕ} (λ p. p.layout.segments) (pool_alloc (disc_in (meaning g) c.index_mut.result.now).terms (pool_of c.index_mut.result.now) 0 (class_bytes c.class_of-class.result)) c.alloc.result (pool_of c.index_mut.result.now) (pool_of c.alloc.new.self) _ _ _ c.alloc.ensures.answer (pool-grows (disc_in (meaning g) c.index_mut.result.now).terms (pool_of c.index_mut.result.now) 0 (class_bytes c.class_of-class.result) false) c.alloc.ensures.disc)
 
 pub returns-clause-others : goal.returns-clause-others
 returns-clause-others g c =
@@ -34,3 +36,8 @@ returns-clause-others g c =
 pub returns-clause-comes : goal.returns-clause-comes
 returns-clause-comes g c =
     comes-here (meaning g) c.args.pools.now.items c.class_of-class.result c.index_mut.result.now c.alloc.new.self (omega (arith, c.class_of-class.ensures.few, c.requires.classes)) c.index_mut.ensures.value c.args.size c.alloc.result c.class_of-class.ensures.value c.alloc.ensures.put
+
+pub returns-clause-refused : goal.returns-clause-refused
+returns-clause-refused g c = λ refused.
+    refused-here (meaning g) c.args.pools.now.items c.class_of-class.result c.index_mut.result.now c.alloc.new.self (omega (arith, c.class_of-class.ensures.few, c.requires.classes)) c.index_mut.ensures.value c.args.size c.class_of-class.ensures.value
+    (asked-unserved c.alloc.result _ _ _ _ _ c.alloc.ensures.disc refused)

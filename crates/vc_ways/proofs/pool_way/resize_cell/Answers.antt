@@ -1,11 +1,11 @@
-use Rattle.vc_base.proofs.Common.{◌≢◌, ◌∙◌, ℕ, List, sym, subst, Block, HasBlock}
+use Rattle.vc_base.proofs.Common.{◌≢◌, ◌∙◌, ℕ, List, sym, subst, true, Block, HasBlock}
 use Rattle.vc_ways.specs.PoolWay.{class_of}
 use Rattle.vc_ways.proofs.PoolSteps.{kept-same, kept-then}
 use Rattle.vc_ways.proofs.PoolLists.{sized-refused}
 use Rattle.vc_ways.proofs.pool_way.resize_cell.Goals as goal
 
 pub returns-then-class_of-clause-keeps : goal.returns-then-class_of-clause-keeps
-returns-then-class_of-clause-keeps g c = kept-same _
+returns-then-class_of-clause-keeps g c = kept-same true _
 
 pub free_cell-requires-clause-block : goal.free_cell-requires-clause-block
 free_cell-requires-clause-block g c =
@@ -13,7 +13,7 @@ free_cell-requires-clause-block g c =
     subst (λ (bs : List (Block ℕ)). HasBlock bs c.args.at.0) (sym (c.put_cell.ensures.others (class_of c.args.old) other)) c.requires.block
 
 pub returns-in-Ok-clause-keeps : goal.returns-in-Ok-clause-keeps
-returns-in-Ok-clause-keeps g c = kept-then _ _ _ c.put_cell.ensures.keeps c.free_cell.ensures.keeps
+returns-in-Ok-clause-keeps g c = kept-then _ _ _ _ c.in-Ok.ensures.keeps c.free_cell.ensures.keeps
 
 pub returns-in-Err-clause-answer : goal.returns-in-Err-clause-answer
 returns-in-Err-clause-answer g c =

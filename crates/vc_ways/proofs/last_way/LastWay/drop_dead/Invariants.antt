@@ -1,4 +1,4 @@
-use Rattle.vc_base.proofs.Common.{◌≡◌, length, Discipline}
+use Rattle.vc_base.proofs.Common.{◌≡◌, length, true, Discipline}
 use Rattle.vc_last.specs.Parts.{segments_in}
 use Rattle.vc_ways.specs.Answer.{Keeps}
 use Rattle.vc_ways.specs.LastWay.{drop_dead}
@@ -14,7 +14,7 @@ invariant-loop-self g l =
     record {
       way : drop_dead (way_of l.self) ≡ drop_dead (way_of l.initial.self);
       paired : IsPaired l.self;
-      keeps : Keeps (holding_of (meaning g) l.initial.self) (holding_of (meaning g) l.self);
+      keeps : Keeps true (holding_of (meaning g) l.initial.self) (holding_of (meaning g) l.self);
       segments : segments_in l.self.region ≡ segments_in l.initial.self.region;
     }
 

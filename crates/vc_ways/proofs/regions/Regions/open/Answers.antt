@@ -2,12 +2,12 @@ use Rattle.vc_base.proofs.Common.{◌≡◌, ◌++◌, [], ◌∷◌, All-cons, 
 use Rattle.vc_seg.specs.Boxed.{disc_in_box}
 use Rattle.vc_ways.specs.Answer.{Holding, IsLent}
 use Rattle.vc_ways.specs.LastParts.{last_holding}
-use Rattle.vc_ways.specs.Lends.{Lends}
+use Rattle.vc_ways.specs.Lends.{Lends, Opens}
 use Rattle.vc_ways.specs.PoolParts.{holdings}
 use Rattle.vc_ways.specs.RegionsParts.{best_holding}
 use Rattle.vc_ways.specs.Settled.{slots_on}
 use Rattle.vc_ways.proofs.Empty.{lent-none}
-use Rattle.vc_ways.proofs.Loans.{all-back-same, are-taken, give-at}
+use Rattle.vc_ways.proofs.Loans.{are-taken, give-at}
 use Rattle.vc_ways.proofs.regions.Regions.open.Given as given
 use Rattle.vc_ways.proofs.regions.Regions.open.Goals as goal
 
@@ -21,14 +21,14 @@ pub close_best-requires-clause-taken : goal.close_best-requires-clause-taken
 close_best-requires-clause-taken g c =
     let start = slots_on (meaning g) c.args.shelf.now in
     let first = best_holding (meaning g) c.in-Ok.best in
-    (start, (first ∷ [], (refl, c.in-Err-open_last.ensures.lends start (first ∷ []) refl (c.in-Ok.ensures.lends start [] refl (all-back-same start)))))
+    (start, (first ∷ [], (refl, c.in-Err-open_last.ensures.lends start (first ∷ []) refl (c.in-Ok.ensures.lends start [] refl refl))))
 
 pub open_pools-requires : goal.open_pools-requires
 open_pools-requires g c =
     let start = slots_on (meaning g) c.args.shelf.now in
     let first = best_holding (meaning g) c.in-Ok.best in
     let second = last_holding (meaning g) c.in-Ok-open_last.last in
-    (start, (first ∷ second ∷ [], (refl, c.in-Ok-open_last.ensures.lends start (first ∷ []) refl (c.in-Ok.ensures.lends start [] refl (all-back-same start)))))
+    (start, (first ∷ second ∷ [], (refl, c.in-Ok-open_last.ensures.lends start (first ∷ []) refl (c.in-Ok.ensures.lends start [] refl refl))))
 
 pub close-disc-requires : goal.close-disc-requires
 close-disc-requires g c = lent-none (last_holding (meaning g) c.in-Ok-open_last.last) (ap (λ r. r.segments) c.in-Ok-open_last.ensures.opened)
@@ -38,7 +38,7 @@ give_back-requires g c =
     let start = slots_on (meaning g) c.args.shelf.now in
     let first = best_holding (meaning g) c.in-Ok.best in
     let second = last_holding (meaning g) c.in-Ok-open_last.last in
-    let lends = c.in-Err-open_pools.ensures.lends start (first ∷ second ∷ []) refl (c.in-Ok-open_last.ensures.lends start (first ∷ []) refl (c.in-Ok.ensures.lends start [] refl (all-back-same start))) in
+    let lends = c.in-Err-open_pools.ensures.lends start (first ∷ second ∷ []) refl (c.in-Ok-open_last.ensures.lends start (first ∷ []) refl (c.in-Ok.ensures.lends start [] refl refl)) in
     are-taken (first ∷ second ∷ []) start (slots_on (meaning g) c.open_pools.new.shelf) 2 refl lends 2 (omega arith) (omega arith)
 
 pub close_best-requires-in-Err-open_pools-clause-lent : goal.close_best-requires-in-Err-open_pools-clause-lent
@@ -49,7 +49,7 @@ close_best-requires-in-Err-open_pools-clause-taken g c =
     let start = slots_on (meaning g) c.args.shelf.now in
     let first = best_holding (meaning g) c.in-Ok.best in
     let second = last_holding (meaning g) c.in-Ok-open_last.last in
-    let lends = c.in-Err-open_pools.ensures.lends start (first ∷ second ∷ []) refl (c.in-Ok-open_last.ensures.lends start (first ∷ []) refl (c.in-Ok.ensures.lends start [] refl (all-back-same start))) in
+    let lends = c.in-Err-open_pools.ensures.lends start (first ∷ second ∷ []) refl (c.in-Ok-open_last.ensures.lends start (first ∷ []) refl (c.in-Ok.ensures.lends start [] refl refl)) in
     (start, (first ∷ [], (refl, give-at (first ∷ []) second start (slots_on (meaning g) c.open_pools.new.shelf) (slots_on (meaning g) c.give_back.new.self) 2 (disc_in_box (meaning g) c.close-disc.result.0) refl lends c.give_back.ensures.filled c.close-disc.ensures.disc)))
 
 pub returns-in-Ok-open_pools-clause-lends : goal.returns-in-Ok-open_pools-clause-lends
@@ -64,7 +64,7 @@ returns-in-Ok-open_pools-clause-lends g c = λ old. by old
     pools : List Holding
     pools = holdings (meaning g) c.in-Ok-open_pools.pools.items
 
-    by : (old : List (Option Discipline)) (hs : List Holding) → length hs ≡ 0 → Lends hs old (slots_on (meaning g) c.args.shelf.now) → Lends (hs ++ first ∷ second ∷ pools) old (slots_on (meaning g) c.open_pools.new.shelf)
+    by : (old : List (Option Discipline)) (hs : List Holding) → length hs ≡ 0 → Opens hs old (slots_on (meaning g) c.args.shelf.now) → Opens (hs ++ first ∷ second ∷ pools) old (slots_on (meaning g) c.open_pools.new.shelf)
     by old [] zero lends = c.in-Ok-open_pools.ensures.lends old (first ∷ second ∷ []) refl (c.in-Ok-open_last.ensures.lends old (first ∷ []) refl (c.in-Ok.ensures.lends old [] refl lends))
     by old (h ∷ hs) zero lends = absurd (omega (arith, zero))
 
@@ -84,7 +84,7 @@ returns-in-Err-open_pools-clause-lends g c = λ old. by old
     second : Holding
     second = last_holding (meaning g) c.in-Ok-open_last.last
 
-    by : (old : List (Option Discipline)) (hs : List Holding) → length hs ≡ 0 → Lends hs old (slots_on (meaning g) c.args.shelf.now) → Lends hs old (slots_on (meaning g) c.close_best-in-Err-open_pools.new.shelf)
+    by : (old : List (Option Discipline)) (hs : List Holding) → length hs ≡ 0 → Opens hs old (slots_on (meaning g) c.args.shelf.now) → Lends hs old (slots_on (meaning g) c.close_best-in-Err-open_pools.new.shelf)
     by old [] zero lends =
         c.close_best-in-Err-open_pools.ensures old
         (give-at (first ∷ []) second old (slots_on (meaning g) c.open_pools.new.shelf) (slots_on (meaning g) c.give_back.new.self) 2 (disc_in_box (meaning g) c.close-disc.result.0) refl

@@ -1,15 +1,15 @@
-use Rattle.vc_base.proofs.Common.{◌∙◌, ℕ, suc, ◌∷◌, Discipline, Layout, ap, arith, get_or, true}
-use Rattle.vc_model.specs.Best.{best_alloc}
-use Rattle.vc_best.specs.Parts.{disc_in, layout_of}
+use Rattle.vc_base.proofs.Common.{◌∙◌, ℕ, suc, ◌∷◌, Discipline, Ok, Err, ap, arith, get_or, refl, true}
+use Rattle.vc_best.specs.Parts.{layout_of}
 use Rattle.vc_ways.specs.LastParts.{holding_of, way_of}
 use Rattle.vc_ways.specs.LastWay.{LastWay}
 use Rattle.vc_ways.specs.PoolParts.{holdings}
 use Rattle.vc_ways.specs.PoolWay.{class_of}
 use Rattle.vc_ways.specs.RegionsParts.{best_holding}
 use Rattle.vc_ways.proofs.Apart.{put-apart, put-has, put-stays}
+use Rattle.vc_ways.proofs.BestKept.{put-keeps}
 use Rattle.vc_ways.proofs.Flags.{drop-alive, put-alive, put-other, put-stays-alive}
-use Rattle.vc_ways.proofs.Kept.{asked-keeps}
-use Rattle.vc_ways.proofs.PoolSteps.{kept-same}
+use Rattle.vc_ways.proofs.Kept.{refused-unserved}
+use Rattle.vc_ways.proofs.PoolSteps.{keeps-any, keeps-then, kept-same}
 use Rattle.vc_ways.proofs.regions.Regions.put.Given as given
 use Rattle.vc_ways.proofs.regions.Regions.put.Goals as goal
 
@@ -27,13 +27,28 @@ put_cell-requires-clause-lent g c = λ i d lt. c.requires.lent (suc (suc i)) d (
 
 pub returns-in-Err-clause-keeps : goal.returns-in-Err-clause-keeps
 returns-in-Err-clause-keeps g c =
-    let b = c.args.self.now.best in
-    (asked-keeps {R = Layout ℕ} (λ r. r.segments) (best_alloc (disc_in (meaning g) b).terms (layout_of b) 0 c.args.size 32) c.alloc.result (layout_of b) (layout_of c.alloc.new.self) _ _ _ c.alloc.ensures.answer c.alloc.ensures.disc, kept-same (holding_of (meaning g) c.args.self.now.last ∷ holdings (meaning g) c.args.self.now.pools.items))
+    (put-keeps (meaning g) c.args.self.now.best c.alloc.new.self c.args.size (Err c.in-Err.fault) c.in-Err.ensures.disc c.in-Err.ensures.answer, kept-same _ (holding_of (meaning g) c.args.self.now.last ∷ holdings (meaning g) c.args.self.now.pools.items))
 
 pub returns-in-Err-put-clause-keeps : goal.returns-in-Err-put-clause-keeps
 returns-in-Err-put-clause-keeps g c =
-    let b = c.args.self.now.best in
-    (asked-keeps {R = Layout ℕ} (λ r. r.segments) (best_alloc (disc_in (meaning g) b).terms (layout_of b) 0 c.args.size 32) c.alloc.result (layout_of b) (layout_of c.alloc.new.self) _ _ _ c.alloc.ensures.answer c.alloc.ensures.disc, (c.put.ensures.keeps, kept-same _))
+    (keeps-any _ _ (put-keeps (meaning g) c.args.self.now.best c.alloc.new.self c.args.size (Ok c.in-Ok.best) c.in-Ok.ensures.disc c.in-Ok.ensures.answer), (c.in-Err-put.ensures.keeps, kept-same _ _))
+
+pub returns-in-Err-put_cell-clause-keeps : goal.returns-in-Err-put_cell-clause-keeps
+returns-in-Err-put_cell-clause-keeps g c =
+    (keeps-any _ _ (put-keeps (meaning g) c.args.self.now.best c.alloc.new.self c.args.size (Ok c.in-Ok.best) c.in-Ok.ensures.disc c.in-Ok.ensures.answer), (keeps-any _ _ c.in-Ok-put.ensures.keeps, c.in-Err-put_cell.ensures.keeps))
+
+pub returns-clause-keeps : goal.returns-clause-keeps
+returns-clause-keeps g c =
+    (put-keeps (meaning g) c.args.self.now.best c.alloc.new.self c.args.size (Ok c.in-Ok.best) c.in-Ok.ensures.disc c.in-Ok.ensures.answer, (keeps-then _ _ _ c.in-Ok-put.ensures.keeps c.drop_dead.ensures.keeps, c.in-Ok-put_cell.ensures.keeps))
+
+pub returns-in-Err-clause-refused : goal.returns-in-Err-clause-refused
+returns-in-Err-clause-refused g c = λ e. (refl, refused-unserved c.in-Err.fault _ _ _ _ _ c.in-Err.ensures.disc e)
+
+pub returns-in-Err-put-clause-refused : goal.returns-in-Err-put-clause-refused
+returns-in-Err-put-clause-refused g c = λ e. (refl, c.in-Err-put.ensures.refused (ap Err e))
+
+pub returns-in-Err-put_cell-clause-refused : goal.returns-in-Err-put_cell-clause-refused
+returns-in-Err-put_cell-clause-refused g c = λ e. c.in-Err-put_cell.ensures.refused (ap Err e)
 
 pub returns-clause-comes : goal.returns-clause-comes
 returns-clause-comes g c =

@@ -1,16 +1,16 @@
-use Rattle.vc_base.proofs.Common.{◌∙◌, ℕ, suc, ◌∷◌, true, Discipline, Layout, ap, arith, get_or, place_of}
-use Rattle.vc_model.specs.Resize.{best_resize}
-use Rattle.vc_best.specs.Parts.{disc_in, layout_of}
+use Rattle.vc_base.proofs.Common.{◌∙◌, ℕ, suc, ◌∷◌, true, Discipline, Ok, Err, ap, arith, get_or, place_of, refl}
+use Rattle.vc_best.specs.Parts.{layout_of}
 use Rattle.vc_ways.specs.LastParts.{holding_of, way_of}
 use Rattle.vc_ways.specs.LastWay.{LastWay}
 use Rattle.vc_ways.specs.PoolParts.{holdings}
 use Rattle.vc_ways.specs.PoolWay.{class_of}
 use Rattle.vc_ways.specs.RegionsParts.{best_holding}
 use Rattle.vc_ways.proofs.Apart.{kept-apart, kept-stays}
+use Rattle.vc_ways.proofs.BestKept.{sized-keeps}
 use Rattle.vc_ways.proofs.Blocks.{kept-has, own}
 use Rattle.vc_ways.proofs.Flags.{alive-within, drop-alive, sized-alive}
-use Rattle.vc_ways.proofs.Kept.{asked-keeps}
-use Rattle.vc_ways.proofs.PoolSteps.{keeps-then, kept-same}
+use Rattle.vc_ways.proofs.Kept.{refused-unserved}
+use Rattle.vc_ways.proofs.PoolSteps.{keeps-any, keeps-then, kept-same}
 use Rattle.vc_ways.proofs.regions.Regions.resize.Given as given
 use Rattle.vc_ways.proofs.regions.Regions.resize.Goals as goal
 
@@ -28,18 +28,28 @@ resize_cell-requires-clause-lent g c = λ i d lt. c.requires.lent (suc (suc i)) 
 
 pub returns-in-Err-clause-keeps : goal.returns-in-Err-clause-keeps
 returns-in-Err-clause-keeps g c =
-    let b = c.args.self.now.best in
-    (asked-keeps {R = Layout ℕ} (λ r. r.segments) (best_resize (disc_in (meaning g) b).terms (layout_of b) (place_of c.args.live.now.best.0) c.args.size true) c.resize.result (layout_of b) (layout_of c.resize.new.self) _ _ _ c.resize.ensures.answer c.resize.ensures.disc, kept-same (holding_of (meaning g) c.args.self.now.last ∷ holdings (meaning g) c.args.self.now.pools.items))
+    (sized-keeps (meaning g) c.args.self.now.best c.resize.new.self c.args.size (Err c.in-Err.fault) c.in-Err.ensures.disc (place_of c.args.live.now.best.0) c.in-Err.ensures.answer, kept-same _ (holding_of (meaning g) c.args.self.now.last ∷ holdings (meaning g) c.args.self.now.pools.items))
 
 pub returns-in-Err-resize-clause-keeps : goal.returns-in-Err-resize-clause-keeps
 returns-in-Err-resize-clause-keeps g c =
-    let b = c.args.self.now.best in
-    (asked-keeps {R = Layout ℕ} (λ r. r.segments) (best_resize (disc_in (meaning g) b).terms (layout_of b) (place_of c.args.live.now.best.0) c.args.size true) c.resize.result (layout_of b) (layout_of c.resize.new.self) _ _ _ c.resize.ensures.answer c.resize.ensures.disc, (c.resize-2.ensures.keeps, kept-same _))
+    (keeps-any _ _ (sized-keeps (meaning g) c.args.self.now.best c.resize.new.self c.args.size (Ok c.in-Ok.best) c.in-Ok.ensures.disc (place_of c.args.live.now.best.0) c.in-Ok.ensures.answer), (c.in-Err-resize.ensures.keeps, kept-same _ _))
+
+pub returns-in-Err-resize_cell-clause-keeps : goal.returns-in-Err-resize_cell-clause-keeps
+returns-in-Err-resize_cell-clause-keeps g c =
+    (keeps-any _ _ (sized-keeps (meaning g) c.args.self.now.best c.resize.new.self c.args.size (Ok c.in-Ok.best) c.in-Ok.ensures.disc (place_of c.args.live.now.best.0) c.in-Ok.ensures.answer), (keeps-any _ _ c.in-Ok-resize.ensures.keeps, c.in-Err-resize_cell.ensures.keeps))
 
 pub returns-clause-keeps : goal.returns-clause-keeps
 returns-clause-keeps g c =
-    let b = c.args.self.now.best in
-    (asked-keeps {R = Layout ℕ} (λ r. r.segments) (best_resize (disc_in (meaning g) b).terms (layout_of b) (place_of c.args.live.now.best.0) c.args.size true) c.resize.result (layout_of b) (layout_of c.resize.new.self) _ _ _ c.resize.ensures.answer c.resize.ensures.disc, (keeps-then _ _ _ c.resize-2.ensures.keeps c.drop_dead.ensures.keeps, c.resize_cell.ensures.keeps))
+    (sized-keeps (meaning g) c.args.self.now.best c.resize.new.self c.args.size (Ok c.in-Ok.best) c.in-Ok.ensures.disc (place_of c.args.live.now.best.0) c.in-Ok.ensures.answer, (keeps-then _ _ _ c.in-Ok-resize.ensures.keeps c.drop_dead.ensures.keeps, c.in-Ok-resize_cell.ensures.keeps))
+
+pub returns-in-Err-clause-refused : goal.returns-in-Err-clause-refused
+returns-in-Err-clause-refused g c = λ e. (refl, refused-unserved c.in-Err.fault _ _ _ _ _ c.in-Err.ensures.disc e)
+
+pub returns-in-Err-resize-clause-refused : goal.returns-in-Err-resize-clause-refused
+returns-in-Err-resize-clause-refused g c = λ e. (refl, c.in-Err-resize.ensures.refused (ap Err e))
+
+pub returns-in-Err-resize_cell-clause-refused : goal.returns-in-Err-resize_cell-clause-refused
+returns-in-Err-resize_cell-clause-refused g c = λ e. c.in-Err-resize_cell.ensures.refused (ap Err e)
 
 pub resize-requires-2-clause-block : goal.resize-requires-2-clause-block
 resize-requires-2-clause-block g c = alive-within (way_of c.args.self.now.last) c.args.live.now.last c.requires.live.last

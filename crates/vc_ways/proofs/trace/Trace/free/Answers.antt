@@ -17,7 +17,7 @@ returns-in-None-clause-answer g c =
     ap (free_found (state_of c.args.self.now) c.args.r.now c.args.x.now) (lookup-map_values live_of (bytes_eq c.args.x.now) c.args.self.now.blocks.entries ∙ ap (option_map live_of) (sym c.in-None.ensures))
 
 pub returns-in-None-clause-keeps : goal.returns-in-None-clause-keeps
-returns-in-None-clause-keeps g c = kept-same (all_holdings (meaning g) c.args.self.now.regions)
+returns-in-None-clause-keeps g c = kept-same _ (all_holdings (meaning g) c.args.self.now.regions)
 
 pub free-requires-clause-live : goal.free-requires-clause-live
 free-requires-clause-live g c = c.requires.stands.live c.args.x.now c.in-Some.live (sym c.in-Some.ensures)

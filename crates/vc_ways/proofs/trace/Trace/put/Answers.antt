@@ -1,4 +1,4 @@
-use Rattle.vc_base.proofs.Common.{◌∙◌, None, length-map, refl, sym, ap, subst, Discipline}
+use Rattle.vc_base.proofs.Common.{◌∙◌, None, length-map, refl, sym, ap, subst, Discipline, false, true}
 use Rattle.vc_pool.specs.Parts.{pool_of}
 use Rattle.vc_ways.specs.Answer.{AreKept}
 use Rattle.vc_ways.specs.RegionsParts.{all_holdings, live_of, regions_of, terms_of}
@@ -7,6 +7,7 @@ use Rattle.vc_ways.specs.TraceParts.{state_of}
 use Rattle.vc_ways.specs.declared.regions.Regions.{Regions}
 use Rattle.vc_ways.proofs.Extents.{put-extents}
 use Rattle.vc_ways.proofs.PoolLists.{class-few}
+use Rattle.vc_ways.proofs.PoolSteps.{kept-any}
 use Rattle.vc_ways.proofs.TraceStands.{new-none, placed-goes, placed-stands}
 use Rattle.vc_ways.proofs.trace.Trace.put.Given as given
 use Rattle.vc_ways.proofs.trace.Trace.put.Goals as goal
@@ -32,8 +33,8 @@ returns-in-Ok-place-clause-stands g c =
 
 pub returns-in-Ok-place-clause-keeps : goal.returns-in-Ok-place-clause-keeps
 returns-in-Ok-place-clause-keeps g c =
-    subst (λ (m : Regions _ _). AreKept (all_holdings (meaning g) c.args.self.now.regions) (all_holdings (meaning g) m)) (sym c.in-Ok-place.ensures.regions) c.in-Ok.ensures.keeps
+    subst (λ (m : Regions _ _). AreKept true (all_holdings (meaning g) c.args.self.now.regions) (all_holdings (meaning g) m)) (sym c.in-Ok-place.ensures.regions) c.in-Ok.ensures.keeps
 
 pub returns-in-Err-place-clause-keeps : goal.returns-in-Err-place-clause-keeps
 returns-in-Err-place-clause-keeps g c =
-    subst (λ (m : Regions _ _). AreKept (all_holdings (meaning g) c.args.self.now.regions) (all_holdings (meaning g) m)) (sym c.in-Err-place.ensures.regions) c.in-Ok.ensures.keeps
+    subst (λ (m : Regions _ _). AreKept false (all_holdings (meaning g) c.args.self.now.regions) (all_holdings (meaning g) m)) (sym c.in-Err-place.ensures.regions) (kept-any false (all_holdings (meaning g) c.args.self.now.regions) (all_holdings (meaning g) c.put.new.self) c.in-Ok.ensures.keeps)

@@ -1,4 +1,4 @@
-use Rattle.vc_base.proofs.Common.{◌∙◌, None, Some, bytes_eq, length-map, option_map, refl, sym, ap, subst, Discipline}
+use Rattle.vc_base.proofs.Common.{◌∙◌, None, Some, bytes_eq, length-map, option_map, refl, sym, ap, subst, Discipline, false, true}
 use Rattle.std.proofs.lemmas.Map.Made.{lookup-map_values}
 use Rattle.vc_pool.specs.Parts.{pool_of}
 use Rattle.vc_ways.specs.Answer.{AreKept}
@@ -9,7 +9,7 @@ use Rattle.vc_ways.specs.TraceParts.{state_of}
 use Rattle.vc_ways.specs.declared.regions.Regions.{Regions}
 use Rattle.vc_ways.proofs.Extents.{size-extents}
 use Rattle.vc_ways.proofs.PoolLists.{class-few}
-use Rattle.vc_ways.proofs.PoolSteps.{kept-same}
+use Rattle.vc_ways.proofs.PoolSteps.{kept-any, kept-same}
 use Rattle.vc_ways.proofs.TraceSteps.{goes-stopped}
 use Rattle.vc_ways.proofs.TraceStands.{placed-goes, placed-stands}
 use Rattle.vc_ways.proofs.trace.Trace.resize.Given as given
@@ -24,7 +24,7 @@ returns-in-None-clause-answer g c =
     ap (size_found (terms_of (meaning g) t.regions) (state_of t) c.args.r.now c.args.x.now c.args.size None) (lookup-map_values live_of (bytes_eq c.args.x.now) t.blocks.entries ∙ ap (option_map live_of) (sym c.in-None.ensures))
 
 pub returns-in-None-clause-keeps : goal.returns-in-None-clause-keeps
-returns-in-None-clause-keeps g c = kept-same (all_holdings (meaning g) c.args.self.now.regions)
+returns-in-None-clause-keeps g c = kept-same _ (all_holdings (meaning g) c.args.self.now.regions)
 
 pub resize-requires-clause-live : goal.resize-requires-clause-live
 resize-requires-clause-live g c = c.requires.stands.live c.args.x.now c.in-Some.old (sym c.in-Some.ensures)
@@ -52,11 +52,11 @@ returns-in-Ok-place-clause-stands g c =
 
 pub returns-in-Ok-place-clause-keeps : goal.returns-in-Ok-place-clause-keeps
 returns-in-Ok-place-clause-keeps g c =
-    subst (λ (m : Regions _ _). AreKept (all_holdings (meaning g) c.args.self.now.regions) (all_holdings (meaning g) m)) (sym c.in-Ok-place.ensures.regions) c.in-Ok.ensures.keeps
+    subst (λ (m : Regions _ _). AreKept true (all_holdings (meaning g) c.args.self.now.regions) (all_holdings (meaning g) m)) (sym c.in-Ok-place.ensures.regions) c.in-Ok.ensures.keeps
 
 pub returns-in-Err-place-clause-keeps : goal.returns-in-Err-place-clause-keeps
 returns-in-Err-place-clause-keeps g c =
-    subst (λ (m : Regions _ _). AreKept (all_holdings (meaning g) c.args.self.now.regions) (all_holdings (meaning g) m)) (sym c.in-Err-place.ensures.regions) c.in-Ok.ensures.keeps
+    subst (λ (m : Regions _ _). AreKept false (all_holdings (meaning g) c.args.self.now.regions) (all_holdings (meaning g) m)) (sym c.in-Err-place.ensures.regions) (kept-any false (all_holdings (meaning g) c.args.self.now.regions) (all_holdings (meaning g) c.resize.new.self) c.in-Ok.ensures.keeps)
 
 pub returns-in-Err-clause-answer : goal.returns-in-Err-clause-answer
 returns-in-Err-clause-answer g c =

@@ -1,4 +1,5 @@
-use Rattle.vc_base.proofs.Common.{Discipline}
+use Rattle.vc_base.proofs.Common.{Discipline, true}
+use Rattle.vc_ways.specs.Answer.{AreKept}
 use Rattle.vc_ways.specs.RegionsParts.{all_holdings, terms_of}
 use Rattle.vc_ways.specs.TraceParts.{state_of}
 use Rattle.vc_ways.proofs.OtherCommands.{others-outside}
@@ -17,21 +18,22 @@ pub returns-then-may_move-clause-closes : goal.returns-then-may_move-clause-clos
 returns-then-may_move-clause-closes g c = closes (meaning g) c.args.self.now c.resize.new.self c.requires.stands c.resize.ensures.keeps
 
 pub returns-else-is_region-clause-keeps : goal.returns-else-is_region-clause-keeps
-returns-else-is_region-clause-keeps g c = kept-same (all_holdings (meaning g) c.args.self.now.regions)
+returns-else-is_region-clause-keeps g c = kept-same _ (all_holdings (meaning g) c.args.self.now.regions)
 
 pub returns-else-is_region-2-clause-keeps : goal.returns-else-is_region-2-clause-keeps
-returns-else-is_region-2-clause-keeps g c = kept-same (all_holdings (meaning g) c.args.self.now.regions)
+returns-else-is_region-2-clause-keeps g c = kept-same _ (all_holdings (meaning g) c.args.self.now.regions)
 
 pub returns-else-is_region-3-clause-keeps : goal.returns-else-is_region-3-clause-keeps
-returns-else-is_region-3-clause-keeps g c = kept-same (all_holdings (meaning g) c.args.self.now.regions)
+returns-else-is_region-3-clause-keeps g c = kept-same _ (all_holdings (meaning g) c.args.self.now.regions)
 
 pub returns-in_default : goal.returns-in_default
 returns-in_default g c =
     let t = c.args.self.now in
-    let same = kept-same (all_holdings (meaning g) t.regions) in
+    let same : AreKept true (all_holdings (meaning g) t.regions) (all_holdings (meaning g) t.regions) = kept-same _ (all_holdings (meaning g) t.regions) in
     record {
       answer = others-outside (terms_of (meaning g) t.regions) (state_of t) c.args.command.now c.in_default.not-Alloc c.in_default.not-Resize c.in_default.not-Free;
       stands = c.requires.stands;
       keeps = same;
+      refused = tt;
       closes = closes (meaning g) t t c.requires.stands same;
     }

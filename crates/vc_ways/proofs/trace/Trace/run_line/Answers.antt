@@ -8,10 +8,13 @@ abbrev meaning : (g : given.Over) → (x : g.dyn-1.0.I) × (g.dyn-1.0.entry x).0
 meaning g p = (g.dyn-1.0.entry p.0).1.state p.1
 
 pub returns-in-Blank-clause-keeps : goal.returns-in-Blank-clause-keeps
-returns-in-Blank-clause-keeps g c = kept-same (all_holdings (meaning g) c.args.self.now.regions)
+returns-in-Blank-clause-keeps g c = kept-same _ (all_holdings (meaning g) c.args.self.now.regions)
 
 pub returns-in-Bad-clause-keeps : goal.returns-in-Bad-clause-keeps
-returns-in-Bad-clause-keeps g c = kept-same (all_holdings (meaning g) c.args.self.now.regions)
+returns-in-Bad-clause-keeps g c = kept-same _ (all_holdings (meaning g) c.args.self.now.regions)
 
 pub returns-clause-keeps : goal.returns-clause-keeps
-returns-clause-keeps g c = kept-same (all_holdings (meaning g) c.args.self.now.regions)
+returns-clause-keeps g c = kept-same _ (all_holdings (meaning g) c.args.self.now.regions)
+
+pub returns-in-Version-clause-keeps : goal.returns-in-Version-clause-keeps
+returns-in-Version-clause-keeps g c = kept-same _ (all_holdings (meaning g) c.args.self.now.regions)
