@@ -4,4 +4,4 @@
 mod nodes;
 mod order;
 
-pub use order::is_sound_order;
+pub use order::sound_order;

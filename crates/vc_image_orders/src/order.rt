@@ -1,4 +1,4 @@
-ghost use Rattle.std.specs.Prelude.{◌≡◌, ◌↔◌, ◌≤◌, ◌+◌, ℕ, IfOk, IsTrue, true};
+ghost use Rattle.std.specs.Prelude.{◌≡◌, ◌↔◌, ◌≤◌, ◌+◌, ℕ, IfOk, IfSome, IfNone, IsTrue, true};
 ghost use Rattle.vc_base.specs.Cells.{IsHolder, bytes_at};
 ghost use Rattle.vc_base.specs.Holders.{contains};
 ghost use Rattle.vc_image_orders.specs.Sound.{ArePlain, IsPlainNode, IsSoundOrder};
@@ -31,10 +31,11 @@ fn are_plain<N: Holders>(holders: &N, names: &[u32]) -> bool
     true
 }
 
-/// Whether so many holders are an ordered dictionary with that root, by a kind's order of keys: the nodes of a tree, in order of
-/// their keys, of which no two are equal where `alone` is true; each once, with 0 in its fourth word and with at most 1,056 bytes.
-/// Whatever the blocks' bytes are, no node is met twice. `steps` counts the compares. This project's own.
-pub fn is_sound_order<N: Holders, D: DictDisc, L>(
+/// The holders of an ordered dictionary with that root, by a kind's order of keys, in order; none where they aren't
+/// sound: so many nodes of a tree, in order of their keys, of which no two are equal where `alone` is true; each
+/// once, with 0 in its fourth word and with at most 1,056 bytes. Whatever the blocks' bytes are, no node is met
+/// twice. `steps` counts the compares. This project's own.
+pub fn sound_order<N: Holders, D: DictDisc, L>(
     alloc: Global,
     holders: &N,
     kind: &D,
@@ -42,20 +43,25 @@ pub fn is_sound_order<N: Holders, D: DictDisc, L>(
     count: u32,
     root: Addr,
     steps: &mut Steps<L>,
-) -> Result<bool, OutOfMemory>
-    ensures { IfOk result (λ b. IsTrue b
-        ↔ IsSoundOrder (D.rules kind.now) (N.blocks holders.now) alone count root) }
+) -> Result<Option<Vec<u32>>, OutOfMemory>
+    ensures some { IfOk result (λ o. IfSome o (λ names.
+        (h : IsSoundOrder (D.rules kind.now) (N.blocks holders.now) alone count root) × (h.names ≡ names.items))) }
+    ensures none { IfOk result (λ o. IfNone o
+        (¬ IsSoundOrder (D.rules kind.now) (N.blocks holders.now) alone count root)) }
 {
     let nodes = TreeNodes { holders };
     let names = match in_order(alloc, &nodes, root.0, count as usize)? {
         Some(names) => names,
-        None => return Ok(false),
+        None => return Ok(None),
     };
     if names.len() != count as usize {
-        return Ok(false);
+        return Ok(None);
     }
     if !are_plain(holders, &names) {
-        return Ok(false);
+        return Ok(None);
     }
-    Ok(is_ascending(holders, kind, alone, &names, steps))
+    if !is_ascending(holders, kind, alone, &names, steps) {
+        return Ok(None);
+    }
+    Ok(Some(names))
 }

@@ -6,7 +6,7 @@ use Rattle.vc_image_bytes.specs.Contents.{contents_of}
 use Rattle.vc_image_bytes.specs.Header.{IsHeader}
 use Rattle.vc_image_checks.specs.Sound.{AreSoundSegments, IsFirstUnsoundSegment}
 use Rattle.vc_image_parts.specs.declared.part.Part.{Part}
-use Rattle.vc_image_parts.specs.declared.part.Part.TheVariants.{Header, Segment, Tree}
+use Rattle.vc_image_parts.specs.declared.part.Part.TheVariants.{Header, Segment, Tree, Dictionary, Rest}
 
 -- the tree at the root names each free extent once, by span and then by address
 abbrev pub HasSoundTree : List ℕ → Type 0
@@ -24,8 +24,10 @@ pub record IsTreeUnsound (image : List ℕ) : Type 0 where
   pub segments : AreSoundSegments (contents_of image).segs
   pub tree : ¬ HasSoundTree image
 
--- all parts before this one are sound, and it isn't
+-- all parts before this one are sound, and it isn't; one behind the tree isn't looked at
 abbrev pub IsFirstUnsound : List ℕ → Part → Type 0
 IsFirstUnsound image Header = ¬ IsHeader image
 IsFirstUnsound image (Segment n) = IsHeader image × IsFirstUnsoundSegment n (contents_of image).segs
 IsFirstUnsound image Tree = IsTreeUnsound image
+IsFirstUnsound image (Dictionary n) = ⊥
+IsFirstUnsound image Rest = ⊥

@@ -7,4 +7,8 @@ pub enum Part {
     Segment(u32),
     /// The tree of free extents.
     Tree,
+    /// The dictionary of that number, from 0 on.
+    Dictionary(u32),
+    /// The unlabelled blocks that no dictionary has.
+    Rest,
 }

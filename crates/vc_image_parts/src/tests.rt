@@ -20,6 +20,7 @@ fn told_with(alloc: Global, place: usize, byte: u8) -> u8
         Ok(Some(Part::Header)) => 1,
         Ok(Some(Part::Segment(_))) => 2,
         Ok(Some(Part::Tree)) => 3,
+        Ok(Some(_)) => 4,
         Ok(None) => 0,
         Err(_) => 9,
     }

@@ -1,0 +1,4 @@
+pub mod Alone
+pub mod Sound
+pub mod Taken
+pub mod Whole

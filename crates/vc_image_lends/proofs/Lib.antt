@@ -1,0 +1,4 @@
+pub mod Uneven
+pub mod Lending
+pub mod Busy
+pub mod Regions
