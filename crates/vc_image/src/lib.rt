@@ -1,12 +1,19 @@
-//! Images of a best region with its dictionaries: saved to a sink. This project's own.
+//! Images of a best region with its dictionaries: saved to a sink, and loaded over a discipline. This project's own.
 #![tactic(auto)]
 
+#[cfg(test)]
+mod block_rows;
+mod dicts;
 mod fault;
 mod head;
+mod loading;
+#[cfg(test)]
+mod round_trips;
 mod saving;
 mod segments;
 #[cfg(test)]
 mod tests;
 
-pub use fault::SaveFault;
+pub use fault::{LoadFault, SaveFault};
+pub use loading::{Loaded, load};
 pub use saving::save;

@@ -1,0 +1,9 @@
+mod Sizes
+mod Rows
+mod Begun
+mod Rising
+mod Standing
+mod Numbers
+mod Joined
+mod Loaded
+mod Returning
