@@ -12,9 +12,10 @@
 
    VMREPLAY_RECORD is the path of the script, VMREPLAY_RECORD_PID the process that writes it, VMREPLAY_RECORD_OPEN the words
    of its command open, in which the method is "trace" where there is no such command, VMREPLAY_RECORD_REGIONS the number of
-   regions, VMREPLAY_RECORD_SITES is "no" where the sites of calls are left out, and VMREPLAY_RECORD_THROUGH has the functions
-   that are looked through, each with a newline. A program that another process starts with this library writes a script of
-   its own, whose path has a dot and the process's number behind it. */
+   regions, VMREPLAY_RECORD_SITES is "no" where the sites of calls are left out, VMREPLAY_RECORD_VERSION is "2" where the script
+   is of version 2, and VMREPLAY_RECORD_THROUGH has the functions that are looked through, each with a newline. A program that
+   another process starts with this library writes a script of its own, whose path has a dot and the process's number behind
+   it. */
 #define _GNU_SOURCE
 #include <dlfcn.h>
 #include <elf.h>
@@ -1149,7 +1150,7 @@ static void read_wrappers(const char *names)
 static void begin(void)
 {
     extern char **environ;
-    const char *name, *writer, *words, *sites, *count;
+    const char *name, *writer, *words, *sites, *count, *version;
     struct line line = { .used = 0 };
     pid_t self = getpid();
     size_t n;
@@ -1161,6 +1162,7 @@ static void begin(void)
     words = getenv("VMREPLAY_RECORD_OPEN");
     count = getenv("VMREPLAY_RECORD_REGIONS");
     sites = getenv("VMREPLAY_RECORD_SITES");
+    version = getenv("VMREPLAY_RECORD_VERSION");
     n = name ? strlen(name) : 0;
     if (n == 0 || n > sizeof path - 32) {
         stop();
@@ -1186,6 +1188,12 @@ static void begin(void)
         stop();
     }
     pthread_setcancelstate(before, NULL);
+    /* Nothing may stand in front of the version. */
+    if (version && strcmp(version, "2") == 0) {
+        word(&line, "vc 2");
+        end_line(&line);
+        line.used = 0;
+    }
     tell_open(0);
     word(&line, "# ");
     for (name = program_invocation_short_name; *name && line.used < 200; name++) {

@@ -70,6 +70,23 @@ drawn() {
     { grep -v '^close' "$1"; printf "%s $region\n" stat segments blocks; } | "$program"
 }
 
+# Makes second.vm, a script of version 2, and the program second, which prints its replies and those of stat, segments and blocks
+# behind it, whatever it is given: each has the number of its line in front. They stand in second.replies.
+second() {
+    printf '%s\n' 'vc 2' '# one is too great' 'open r best 1' 'alloc r a 100 @main' 'alloc r b 16777217' 'free r b' > second.vm
+    cat > second.replies << END
+3 r open
+4 a 1:32
+5 refused: size
+6 refused: no block
+7 busy 1 free 1 sbusy 100 sfree 3936 mbusy 100 mfree 3936 segs 1 extent 4096
+8 segments 1 1:4096
+9 blocks 1 a@1:32+100
+END
+    printf '#!/bin/sh\ncat > /dev/null\ncat %s/second.replies\n' "$dir" > second
+    chmod +x second
+}
+
 # Whether a browser shows drawn.svg: an empty page, or one that tells a fault, is a smaller one.
 shown() {
     timeout 120 "$browser" --headless --no-sandbox --disable-gpu --hide-scrollbars --user-data-dir="$dir/browser" \

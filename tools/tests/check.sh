@@ -38,6 +38,17 @@ finds "a comment of another kind" '// hi\n' 'checked.vm:1:1: unknown command' ' 
     'hint: a comment that begins with // or ;: comments begin with #'
 finds "a byte order mark" '\0357\0273\0277open r best 1\n' 'checked.vm:1:1: unknown command' '    \357\273\277open r best 1' '    ^~~~~~~~~~~~~~~~' \
     'hint: the file begins with a byte order mark: tail -c +4 script leaves its three bytes out; in UTF-16, convert the file first'
+finds "a version that isn't on line 1" '# hi\nvc 2\n' 'checked.vm:2:1: unknown command' '    vc 2' '    ^~' \
+    'hint: vc 2 on another line than the first: a comment or a blank line stands before it: the version stands on line 1, or nowhere'
+finds "a version that isn't there" 'vc 3\nopen r best 1\n' 'checked.vm:1:4: unknown version' '    vc 3' '       ^' \
+    'hint: a number behind vc that is neither 1 nor 2: vc 2, or no such line'
+finds "a version without its number" 'vc\n' 'checked.vm:1:3: wrong number of words' '    vc' '      ^' \
+    'vc is a line of 2 words, and here are 1' \
+    'hint: open without its discipline, or resize without its mode: open r best 1, resize r a 10 move'
+finds "a version that is no number" ' vc two\n' 'checked.vm:1:5: bad number' '     vc two' '        ^~~' \
+    'hint: 0x10, 4k, 1,000 or -1: decimal digits alone'
+finds "a bad line of version 2" 'vc 2\nopen r best 1\nalloc r a 4k\n' 'checked.vm:3:11: bad number' '    alloc r a 4k' '              ^~' \
+    'hint: 0x10, 4k, 1,000 or -1: decimal digits alone'
 finds "a word that is no command" 'frob\n' 'checked.vm:1:1: unknown command' '    frob' '    ^~~~' \
     'hint: the commands stand in the page of the script language, and in the manual page of vmreplay'
 finds "a comment behind a command" 'alloc r a 10 # ten\n' 'checked.vm:1:16: wrong number of words' '    alloc r a 10 # ten' \
@@ -101,6 +112,19 @@ checked -p "$program" checked.vm
 check "check: each reason of a refusal, with its first line" same "$status $(cat checked.out)" "3 $(cat checked.due)"
 checked -p "$program" < "$here/../examples/trace.vm"
 check "check: a script that is all right" same "$status $(cat checked.out)" "0 standard input: no line is bad: lines 40, commands 39, refused 0"
+second
+cat > checked.due << 'END'
+second.vm: no line is bad: lines 6, commands 4, refused 2
+
+second.vm:5: refused: size, 1 in all
+    alloc r b 16777217
+
+second.vm:6: refused: no block, 1 in all
+    free r b
+hint: an earlier alloc of that name was refused: look at the first refusal
+END
+checked -p ./second second.vm
+check "check: a script of version 2" same "$status $(cat checked.out)" "3 $(cat checked.due)"
 checked -p "$program" checked.none
 check "check: no such script" same "$status $(cat checked.said)" "2 check: checked.none can't be read"
 "$here/check" --hints > checked.hints

@@ -52,7 +52,7 @@ said "$here/../examples/trace.vm"
 check "curve: with none refused the status is 0" same "$status $(cat drawn.said) $(grep -c refused drawn.svg)" "0  0"
 said -r q refusals.vm
 check "curve of a region that is never opened" same "$status $(cat drawn.said)" "1 curve: no region q is ever open: the script opens none"
-printf 'open r best 18\nalloc r a 1\n' > bad.vm
+printf 'open r best 19\nalloc r a 1\n' > bad.vm
 said bad.vm
 check "curve of a region whose open is refused" \
     same "$status $(cat drawn.said)" "1 curve: no region r is ever open: line 1 is refused: no such discipline"
@@ -87,6 +87,17 @@ check "curve of sites: between two points the peak has the same parts" \
 said -s "$here/../examples/trace.vm"
 check "curve of sites without any: it is told" \
     same "$status $(cat drawn.said)" "1 curve: no block of region heap has a site: an alloc names one by @ and a name"
+
+# Version 2.
+second
+"$curve" -p ./second -n 6 second.vm > drawn.svg 2> drawn.said
+check "curve of a script of version 2" same "$? $(cat drawn.said)" \
+    "3 curve: 2 of 4 commands on region r were refused, the first at line 5: size"
+check "curve of a script of version 2: its peak" grep -q '>peak: 100 bytes live behind line 4; 6 lines, 1 point<' drawn.svg
+check "curve of a script of version 2: what stat tells" grep -q '<title>behind line 6: 100 bytes live, extent 4,096, waste 3,996<' drawn.svg
+said -n 1 second.vm
+check "curve of a script of version 2, a point each line" same "$status $(cat drawn.said) $(grep -c 'class="point"' drawn.svg)" \
+    "3 curve: 2 of 4 commands on region r were refused, the first at line 5: size 6"
 
 # Texts stand in strips of their own: from above the legend, the word of the axis and the peak, the drawing, and beneath it the
 # first refusal, the numbers of lines and the word of that axis.

@@ -26,7 +26,7 @@ END
             check "installed: vmrecord records" diff "$here/tests/sizes.lines" sizes.lines
             "$at/bin/vmrecord" -m pool installed.vm -- ./live 5 100 2> fault
             check "installed: vmrecord finds vmreplay" same "$? $(cat fault)" "0 "
-            "$at/bin/vmrecord" -d 18 installed.vm -- ./live 5 100 2> fault
+            "$at/bin/vmrecord" -d 19 installed.vm -- ./live 5 100 2> fault
             check "installed: vmrecord tells what is refused" \
                 same "$(grep -c ': 6 of 6 commands are refused when it is run' fault)" 1
         fi

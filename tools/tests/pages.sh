@@ -15,7 +15,7 @@ for tool in $tools; do
     check "$tool --help is its usage" same "$? $(head -n 1 help.out | cut -d ' ' -f 1-2) $(cat fault)" "0 usage: $tool "
     check "$tool --help: no line is wider than 80 columns" same "$(awk 'length > 80' help.out)" ""
     check "the manual page of $tool tells each of its options" sh -c '
-        for option in $(grep -o "^  -[a-z]" help.out | tr -d " -"); do grep -q "^.It Fl $option" "$1" || exit 1; done' sh "$here/../man/vm$tool.1"
+        for option in $(grep -o "^  -[a-z0-9]" help.out | tr -d " -"); do grep -q "^.It Fl $option" "$1" || exit 1; done' sh "$here/../man/vm$tool.1"
 done
 "$here/../bench/edits.sh" > edits.out 2>&1
 check "bench/edits.sh without a word tells its usage" same "$? $(head -c 6 edits.out)" "2 usage:"

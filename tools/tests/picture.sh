@@ -21,7 +21,7 @@ told() {
 }
 
 stat_of() {
-    awk '$1 == "busy" { print $2, $4, $6, $8, $12, $14, $16, $16 }' "$1" | tail -n 1
+    sed 's/^[0-9]* busy /busy /' "$1" | awk '$1 == "busy" { print $2, $4, $6, $8, $12, $14, $16, $16 }' | tail -n 1
 }
 
 # picture_of NAME REPLIES OPTION..: the picture is there, well-formed, and its numbers are those of stat.
@@ -32,7 +32,7 @@ picture_of() {
     "$picture" "$@" -t "$name & <more>" "$replies" > drawn.svg 2> drawn.said
     status=$?
     expected=0
-    ! grep -q '^refused: ' "$replies" || expected=3
+    ! grep -q '^\([0-9]* \)\{0,1\}refused: ' "$replies" || expected=3
     check "picture of $name: status $expected" same "$status" "$expected"
     check "picture of $name: its numbers are those of stat" same "$(told drawn.svg)" "$(stat_of "$replies")"
     if has xmllint; then
@@ -48,9 +48,9 @@ for script in "$here"/../examples/*.vm; do
     picture_of "$name" drawn.replies -m "$method"
     picture_of "$name, by the script" drawn.replies -s "$script"
     # Where no block is, the numbers of stat may be those of a pool too.
-    if ! grep -q '^blocks 0$' drawn.replies; then picture_of "$name, by stat" drawn.replies; fi
+    if ! grep -q '^\([0-9]* \)\{0,1\}blocks 0$' drawn.replies; then picture_of "$name, by stat" drawn.replies; fi
     # Without stat the method is enough, and the cells of a pool.
-    grep -v '^busy' drawn.replies > short.replies
+    grep -v '^\([0-9]* \)\{0,1\}busy' drawn.replies > short.replies
     "$picture" -m "$method" -c 64 -t "$name & <more>" short.replies > short.svg 2> short.said
     check "picture of $name, without stat" same "$(told short.svg)" "$(stat_of drawn.replies)"
 done
@@ -164,6 +164,27 @@ said -r r other.vm
 check "what is refused of another region is not told" same "$status $(cat drawn.said)" "0 "
 said -r s other.vm
 check "what is refused of this one is" same "$status $(cat drawn.said)" "3 picture: 2 of 4 commands on region s were refused, the first at line 5: pool size"
+
+# Version 2: the number in front of a reply is no part of it.
+second
+{ cat second.vm; printf '%s r\n' stat segments blocks; } | "$program" > numbered.replies
+check "replies of version 2 are as they are told here" cmp second.replies numbered.replies
+"$picture" -p ./second second.vm > drawn.svg 2> drawn.said
+check "picture of a script of version 2" same "$? $(cat drawn.said) $(told drawn.svg)" \
+    "3 picture: 2 of 4 commands on region r were refused, the first at line 5: size 1 1 100 3936 3936 1 4096 4096"
+check "picture of a script of version 2: the block" grep -q '<title>a: 1:32, 100 bytes' drawn.svg
+said second.replies
+check "picture of replies of version 2" same "$status $(cat drawn.said) $(told drawn.svg)" \
+    "3 picture: 2 of the first 4 replies are refusals, the first is reply 3: size 1 1 100 3936 3936 1 4096 4096"
+said -s second.vm second.replies
+check "picture of replies of version 2, by the script" same "$status $(cat drawn.said) $(told drawn.svg)" \
+    "3 picture: 2 of 4 commands on region r were refused, the first at line 5: size 1 1 100 3936 3936 1 4096 4096"
+{ cat second.replies; sed -n 's/^7 busy/stat r busy/p' second.replies; } > stat.replies
+said stat.replies
+check "picture of replies of version 2, and behind them the numbers of --stat" same "$status $(told drawn.svg)" "3 1 1 100 3936 3936 1 4096 4096"
+{ echo '1 fig'; sed -n 's/^[789] //p' second.replies; } > walk.replies
+said walk.replies
+check "picture of replies of version 1, one of which begins with a number" same "$status $(told drawn.svg)" "0 1 1 100 3936 3936 1 4096 4096"
 
 # A region that is closed.
 { cat two.vm; printf '%s\n' 'close r' 'stat r' 'segments r' 'blocks r'; } | "$program" > closed.replies

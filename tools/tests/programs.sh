@@ -69,3 +69,28 @@ while IFS= read -r line; do
     esac
 done < "$here/tests/runs"
 finish_case
+
+# In each example line 1 is a comment, where a version may stand.
+in_version() {
+    sed "1s/.*/vc $1/" "$2" > second.in
+    # shellcheck disable=SC2086
+    "$programs/$3" $words < second.in > second.out 2> second.err && test ! -s second.err
+}
+for script in "$here"/../examples/*.vm "$here"/../examples/*.dt; do
+    head -n 1 "$script" | grep -q '^#' || continue
+    program_of=vmreplay
+    [ "${script%.dt}" = "$script" ] || program_of=dtrun
+    name=$(basename "$script")
+    words=
+    [ ! -f "${script%.*}.words" ] || words=$(cat "${script%.*}.words")
+    check "$name in version 1, which its line 1 tells" in_version 1 "$script" "$program_of"
+    check "$name in version 1: the replies are those without the line" cmp second.out "${script%.*}.replies"
+    check "$name in version 2" in_version 2 "$script" "$program_of"
+    case $words in
+        *--quiet*) check "$name in version 2, quiet: what is written is the same" cmp second.out "${script%.*}.replies" ;;
+        *)
+            awk '!/^[ \t]*(#|$)/ { print NR }' "$script" | paste -d ' ' - "${script%.*}.replies" > second.due
+            check "$name in version 2: the replies are the same behind the numbers of their lines" cmp second.out second.due
+            ;;
+    esac
+done

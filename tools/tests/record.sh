@@ -271,6 +271,24 @@ options() {
     done
 }
 
+# Scripts of version 2.
+versions() {
+    "$record" -q -2 second.vm -- ./sizes
+    check "version 2: the first line of the script says so" same "$? $(head -n 1 second.vm)" "0 vc 2"
+    tail -n +2 second.vm | grep -v '^# sizes, process' > second.lines
+    check "version 2: the other lines are those of version 1" diff "$here/tests/sizes.lines" second.lines
+    "$program" < second.vm > second.out 2> fault
+    check "version 2: it runs to its end, nothing refused, and each reply has a number" \
+        same "$? $(cat fault) $(grep -c 'refused' second.out) $(grep -vc '^[0-9]* ' second.out)" "0  0 0"
+    "$record" -q -2 started.vm -- sh -c './sizes'
+    set -- started.vm.*
+    check "version 2: so does that of a started program" same "$# $(head -n 1 "$1")" "1 vc 2"
+    "$record" -2 started.vm -- true
+    check "version 2: what an earlier recording left beside it is gone" same "$(ls started.vm.* 2> /dev/null)" ""
+    "$record" -t -2 second.trace -- true 2> fault
+    check "version 2: a trace has none" same "$? $(cat fault)" "2 record: a trace has no version: -2 isn't for it"
+}
+
 # What is refused of a script.
 refusals() {
     printf '#include <stdlib.h>\nint main(void) { void *a = malloc(10), *b = malloc(20); free(a); free(b); return 0; }\n' |
@@ -289,7 +307,17 @@ refusals() {
     check "with -q nothing is told" same "$? $(cat fault)" "0 "
     "$record" -p "$program" -c refused.vm -- ./sites 2> fault
     check "with -c, of a script of which nothing is refused, nothing is told" same "$? $(cat fault)" "0 "
-    "$record" -p "$program" -d 18 refused.vm -- ./fifo 2> fault
+    # The replies to a script of version 2 have numbers.
+    printf '%s\n' '2 r open' '4 b1 1:32' '5 b2 1:64' '6 refused: not last' '7 b2 freed' > fifo.replies
+    printf '#!/bin/sh\ncat > /dev/null\ncat %s/fifo.replies\n' "$dir" > numbered
+    chmod +x numbered
+    "$record" -p ./numbered -2 -m last refused.vm -- ./fifo 2> fault
+    check "of version 2, in a last region: the refused commands are told" \
+        same "$? $(cat fault)" "0 record: $dir/refused.vm: 1 of 5 ${told% 5:} 6: not last"
+    "$record" -p "$program" -2 -m last refused.vm -- ./fifo 2> fault
+    check "of version 2, in a last region, by vmreplay: the same" \
+        same "$? $(cat fault)" "0 record: $dir/refused.vm: 1 of 5 ${told% 5:} 6: not last"
+    "$record" -p "$program" -d 19 refused.vm -- ./fifo 2> fault
     check "over no discipline: all commands are told" same "$? $(cat fault)" \
         "0 record: $dir/refused.vm: 5 of 5 commands are refused when it is run, the first in line 1: no such discipline"
     # Blocks of 60,000 bytes take a segment each, of which a region has 1,023.
@@ -358,6 +386,7 @@ threads threads "" 3000
     nothing
     sites
     options
+    versions
     refusals
     spread
 fi

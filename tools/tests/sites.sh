@@ -88,3 +88,9 @@ check "sites: of all regions, what was refused" same "$(cat table.said)" "sites:
 check "sites: of one region" same "$(rows -r r regions.vm)" "one 0 0 100 100.0|two 1 30 30 0.0|all 1 30 100 100.0|"
 check "sites: of the other" same "$(rows -r s regions.vm)" "one 0 0 50 55.6|two 0 0 40 44.4|all 0 0 90 100.0|"
 check "sites: of the other, what was refused" same "$(cat table.said)" "sites: 1 of 5 commands on region s was refused, the first at line 9: no region"
+
+# Version 2.
+second
+"$sites" -p ./second second.vm > table 2> table.said
+check "sites of a script of version 2" same "$? $(sed -n 2p table | tr -s ' ') $(cat table.said)" \
+    "3 main 1 100 100 100.0 % sites: 2 of 4 commands were refused, the first at line 5: size"
