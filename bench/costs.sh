@@ -9,6 +9,8 @@
 #     equals      one key again and again in a bag, and what is beside it
 #     walk        a walk along two ordered sets: what the walk alone takes for each object that it shows
 #     halves      blocks in a best, a debug and a profile region, every second one freed
+#     fills       blocks of 1,000 and of 16 bytes in a best region whose one segment gets longer, and in one that is lent
+#                 segment after segment; and in a pool and a last region whose segment gets longer
 #     mixed       blocks of forty sites in a best, a debug and a profile region, freed in mixed order
 #     watches     blocks in a debug region, watched and resized
 #     trace       what the C compiler allocates for a program of bench/, recorded by tools/record, in a best, a debug and a
@@ -88,6 +90,14 @@ halves() {
     for method in best debug profile; do both "halves, $method" 40000 vmreplay halves "$method" N; done
 }
 
+fills() {
+    for place in 17 9; do
+        both "fills of 1,000 bytes over $place, best" 8000 vmreplay fills best "$place" 1000 N
+        both "fills of 16 bytes over $place, best" 40000 vmreplay fills best "$place" 16 N
+    done
+    for method in pool last; do both "fills of 1,000 bytes over 17, $method" 8000 vmreplay fills "$method" 17 1000 N; done
+}
+
 mixed() {
     for method in best debug profile; do both "mixed, $method" 10000 vmreplay mixed "$method" N; done
 }
@@ -107,7 +117,7 @@ trace() {
     done
 }
 
-cases='keys line generated nexts equals walk halves mixed watches trace'
+cases='keys line generated nexts equals walk halves fills mixed watches trace'
 for case in "$@"; do
     case " $cases " in
         *" $case "*) ;;

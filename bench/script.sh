@@ -22,6 +22,7 @@
 #   bench/script.sh layers OBJECTS [walk]   two ordered sets have the same objects, so many, and the lower one as many more
 #                                    behind them; the upper one views the lower one, and is walked where 'walk' is told
 #   bench/script.sh halves METHOD BLOCKS   so many blocks in a region of that method, of which every second one is freed
+#   bench/script.sh fills METHOD PLACE SIZE BLOCKS   so many blocks of that size in a region of that method over that discipline
 # It needs awk.
 set -eu
 
@@ -212,6 +213,13 @@ layers() {
     }'
 }
 
+fills() {
+    awk -v method="$1" -v place="$2" -v size="$3" -v blocks="$4" 'BEGIN {
+        print "open r " method " " place
+        for (i = 0; i < blocks; i++) print "alloc r b" i " " size
+    }'
+}
+
 halves() {
     awk -v method="$1" -v blocks="$2" 'BEGIN {
         print "open r " method " 9"
@@ -223,6 +231,6 @@ halves() {
 
 case "${1-} $#" in
     "frees 1" | "segments 1" | "resizes 1" | "resizes 2" | "one 1" | "one 2" | "live 2" | "mixed 3" | "watches 2" | "puts 2" | \
-    "objects 3" | "turns 4" | "keys 4" | "line 2" | "nexts 3" | "equals 2" | "layers 2" | "layers 3" | "halves 3") "$@" ;;
+    "objects 3" | "turns 4" | "keys 4" | "line 2" | "nexts 3" | "equals 2" | "layers 2" | "layers 3" | "halves 3" | "fills 5") "$@" ;;
     *) sed -n '/^#   bench/,/^# It needs/s/^#   //p' "$0" >&2; exit 2 ;;
 esac
