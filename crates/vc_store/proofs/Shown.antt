@@ -1,6 +1,8 @@
 -- What a dictionary shows of what a call does to it.
 use Rattle.vc_base.proofs.Common.{◌≡◌, ℕ, ◌*◌, suc, Bool, true, false, List, [], ◌∷◌, ◌++◌, map, length, take, drop, if◌then◌else◌, ◌==◌, Some, None, Option, option_map, Result, Ok, Err, IfOk, OnErr, sym, refl, ap, ◌∙◌, subst, ⊎_elim, inl, inr, true≢false, none-some, same_Some, arith, eqb_tells, map-append, find, cond, is_some, nat_le, ◌&&◌, common_steps, is_set, Blocks, HasBytes, IsAddress, AreDistinct, contains, some_address, append-nil, HasOut, Discipline, Layout, Terms, Done, Outcome, Put, Refused}
 use Rattle.vc_base.specs.declared.fault.OutOfMemory.{OutOfMemory}
+use Rattle.std.specs.Ordering.{is_ge}
+use Rattle.vc_base.specs.Methods.{is_ordered}
 use Rattle.vc_model.specs.Addr.{address}
 use Rattle.vc_model.specs.Discipline.{Kept, TookBack}
 use Rattle.vc_base.specs.declared.dict_method.DictMethod.{DictMethod}
@@ -14,6 +16,7 @@ use Rattle.vc_objects.specs.Insert.{Grown, alloc_unlabelled, grow, grown_to, gro
 use Rattle.vc_base.specs.declared.addr.Addr.{Addr}
 use Rattle.vc_base.specs.Prelude.{number_of}
 use Rattle.vc_base.proofs.Members.{within-head, within-tail}
+use Rattle.vc_base.proofs.Lists.{find-map}
 use Rattle.vc_base.proofs.Options.{is_some-map}
 use Rattle.vc_dtdisc.specs.Finds.{object_at}
 use Rattle.vc_dict.specs.Listed.{holders_of}
@@ -31,9 +34,9 @@ use Rattle.vc_objects.specs.Remove.{bytes_of, remove, remove_found}
 use Rattle.vc_objects.specs.declared.fate.Fate.{Fate}
 use Rattle.vc_objects.specs.declared.fate.Fate.TheVariants.{Stored, NoTable, NoHolder}
 use Rattle.vc_store.specs.declared.put.Put.{Put as Answer}
-use Rattle.vc_store.specs.Contents.{before_address, contents_in, contents_of, place_of}
+use Rattle.vc_store.specs.Contents.{before_address, contents_in, contents_of, place_of, with_current}
 use Rattle.vc_store.specs.Reading as reading
-use Rattle.vc_store.specs.Reading.{AfterPut, current, found, has_match, is_object, put_at, put_by, without_key}
+use Rattle.vc_store.specs.Reading.{AfterPut, Sought, current, found, has_match, is_from, is_object, put_at, put_by, with_place, without_key}
 use Rattle.vc_store.specs.Tries.{Tries, TriesBy, told_as}
 use Rattle.vc_store.proofs.Places.{object-placed, place, place-told}
 
@@ -163,12 +166,15 @@ module _ {I : Type 0} {V : I → Type 0} (meaning : (x : I) × V x → Disciplin
       tries-from answer rules object (disc_in meaning before) (disc_in meaning mid) (disc_in meaning after) (rest_in before) (rest_in mid) (rest_in after)
       (dictionary_in old before) (dictionary_in d mid) (dictionary_in new after) l.disc l.region l.dict t
 
--- whether there is an object that has a key
-pub found-some : (rules : Rules) (key : List ℕ) (xs : List Object) (o : Option Addr) → option_map number_of o ≡ option_map address_of (first_with objects.bytes_of rules key xs)
-    → is_some o ≡ is_some (found rules key (bytes_of xs))
-found-some rules key xs o e =
-    let first = first_with objects.bytes_of rules key xs in
-    sym (is_some-map number_of o) ∙ (ap is_some e ∙ (is_some-map address_of first ∙ (sym (is_some-map objects.bytes_of first) ∙ ap is_some (sym (found-shown rules key xs)))))
+-- the first that passes a test, and whether there is one
+find-shown : (test : List ℕ → Bool) (xs : List Object) → find test (bytes_of xs) ≡ option_map objects.bytes_of (find (λ o. test o.bytes) xs)
+find-shown test xs = find-map objects.bytes_of test xs
+
+pub found-some : (test : List ℕ → Bool) (xs : List Object) (o : Option Addr) → option_map number_of o ≡ option_map address_of (find (λ o. test o.bytes) xs)
+    → is_some o ≡ is_some (find test (bytes_of xs))
+found-some test xs o e =
+    let first = find (λ o. test o.bytes) xs in
+    sym (is_some-map number_of o) ∙ (ap is_some e ∙ (is_some-map address_of first ∙ (sym (is_some-map objects.bytes_of first) ∙ ap is_some (sym (find-shown test xs)))))
 
 -- the holder that is found is one of them, and has that object
 found-at : (b : Blocks) (test : Object → Bool) (xs : List ℕ) (a : ℕ) → Some a ≡ option_map address_of (find test (map (object_of b) xs))
@@ -214,15 +220,15 @@ module _ (rules : Rules) (d : Dict) (b : Blocks) (at : Addr) (whole : IsWhole ru
       ap (λ p. reading.object_at p (bytes_of (dictionary_of d b).objects)) pointed-place ∙ object-placed b (holders_of d b) at.0 w
 
 -- the one that is found
-pub seek-within : (rules : Rules) (key : List ℕ) (d : Dict) (b : Blocks) (at : Addr) → Some at.0 ≡ option_map address_of (first_with objects.bytes_of rules key (dictionary_of d b).objects)
+seek-within : (test : List ℕ → Bool) (d : Dict) (b : Blocks) (at : Addr) → Some at.0 ≡ option_map address_of (find (λ o. test o.bytes) (dictionary_of d b).objects)
     → contains (holders_of d b) at.0 ≡ true
-seek-within rules key d b at e = (found-at b (λ o. objects.has_key rules key o.bytes) (holders_of d b) at.0 e).0
+seek-within test d b at e = (found-at b (λ o. test o.bytes) (holders_of d b) at.0 e).0
 
-pub seek-shown : (rules : Rules) (key : List ℕ) (d : Dict) (b : Blocks) (at : Addr) → IsWhole rules d b → Some at.0 ≡ option_map address_of (first_with objects.bytes_of rules key (dictionary_of d b).objects)
-    → current (contents_of (dictionary_of (record { method = d.method; kind = d.kind; count = d.count; current = at; heads = d.heads }) b)) ≡ found rules key (bytes_of (dictionary_of d b).objects)
-seek-shown rules key d b at whole e =
-    let h = found-at b (λ o. objects.has_key rules key o.bytes) (holders_of d b) at.0 e in
-    pointed-shown rules d b at whole h.0 ∙ (sym h.1 ∙ sym (found-shown rules key (dictionary_of d b).objects))
+seek-shown : (rules : Rules) (test : List ℕ → Bool) (d : Dict) (b : Blocks) (at : Addr) → IsWhole rules d b → Some at.0 ≡ option_map address_of (find (λ o. test o.bytes) (dictionary_of d b).objects)
+    → current (contents_of (dictionary_of (record { method = d.method; kind = d.kind; count = d.count; current = at; heads = d.heads }) b)) ≡ find test (bytes_of (dictionary_of d b).objects)
+seek-shown rules test d b at whole e =
+    let h = found-at b (λ o. test o.bytes) (holders_of d b) at.0 e in
+    pointed-shown rules d b at whole h.0 ∙ (sym h.1 ∙ sym (find-shown test (dictionary_of d b).objects))
 
 module _ {I : Type 0} {V : I → Type 0} (meaning : (x : I) × V x → Discipline) (rules : Rules) (before after : Best I V) (old d : Dict) (at : Addr) where
   pub pointed-leaves : LeavesRest meaning rules before old after d → contains (holders_of d (cells_in after)) at.0 ≡ true
@@ -232,6 +238,59 @@ module _ {I : Type 0} {V : I → Type 0} (meaning : (x : I) × V x → Disciplin
     kind = l.kind;
     rest = record { disc = l.rest.disc; labelled = l.rest.labelled; others = l.rest.others; fresh = l.rest.fresh };
   }
+
+-- what was found is current, if there is one
+module _ {I : Type 0} {V : I → Type 0} (meaning : (x : I) × V x → Discipline) (rules : Rules) (test : List ℕ → Bool) (before after : Best I V) (old d : Dict) (looks : Looks meaning rules before old after d) where
+  same-objects : (dictionary_in d after).objects ≡ (dictionary_in old before).objects
+  same-objects = ap (λ (c : Dictionary). c.objects) looks.dict
+
+  here : (at : Addr) → Some at.0 ≡ option_map address_of (find (λ o. test o.bytes) (dictionary_in old before).objects)
+      → Some at.0 ≡ option_map address_of (find (λ o. test o.bytes) (dictionary_in d after).objects)
+  here at e = e ∙ ap (λ (os : List Object). option_map address_of (find (λ o. test o.bytes) os)) (sym same-objects)
+
+  seen-current : (at : Option Addr) → option_map number_of at ≡ option_map address_of (find (λ o. test o.bytes) (dictionary_in old before).objects)
+      → is_some at ≡ true → current (contents_in (with_current at d) after) ≡ find test (contents_in old before).objects
+  seen-current None e there = absurd (true≢false (sym there))
+  seen-current (Some at) e there =
+      seek-shown rules test d (cells_in after) at looks.leaves.whole (here at e)
+      ∙ ap (λ (os : List Object). find test (bytes_of os)) same-objects
+
+  seen-same : (at : Option Addr) → contents_in (with_current at d) after ≡ with_place (contents_in (with_current at d) after).place (contents_in old before)
+  seen-same None = ap (λ (c : Dictionary). with_place (contents_in d after).place (contents_of c)) looks.dict
+  seen-same (Some at) = ap (λ (c : Dictionary). with_place (contents_in (with_current (Some at) d) after).place (contents_of c)) looks.dict
+
+  seen-missed : (at : Option Addr) → is_some at ≡ false → contents_in (with_current at d) after ≡ contents_in old before
+  seen-missed None e = ap contents_of looks.dict
+  seen-missed (Some at) e = absurd (true≢false e)
+
+  module _ (at : Option Addr) (e : option_map number_of at ≡ option_map address_of (find (λ o. test o.bytes) (dictionary_in old before).objects)) (new : Dict) (shown : new ≡ with_current at d) where
+    pub seen : (answer : Bool) → answer ≡ is_some at → Sought test answer (contents_in old before) (contents_in new after)
+    seen answer is = subst (λ (z : Dict). Sought test answer (contents_in old before) (contents_in z after)) (sym shown) record {
+      there = is ∙ found-some test (dictionary_in old before).objects at e;
+      current = λ t. seen-current at e (sym is ∙ t);
+      same = seen-same at;
+      missed = λ t. seen-missed at (sym is ∙ t);
+    }
+
+    pub seen-leaves : LeavesRest meaning rules before old after new
+    seen-leaves = subst (λ (z : Dict). LeavesRest meaning rules before old after z) (sym shown) (by at e)
+      where
+        by : (at : Option Addr) → option_map number_of at ≡ option_map address_of (find (λ o. test o.bytes) (dictionary_in old before).objects)
+            → LeavesRest meaning rules before old after (with_current at d)
+        by None e = looks.leaves
+        by (Some at) e = pointed-leaves meaning rules before after old d at looks.leaves (seek-within test d (cells_in after) at (here at e))
+
+-- what is sought from a key on, by a method that is ordered or isn't
+find-none : {A : Type 0} (xs : List A) → find (λ x. false) xs ≡ None
+find-none [] = refl
+find-none (x ∷ xs) = find-none xs
+
+module _ {A : Type 0} (method : DictMethod) (rules : Rules) (key : List ℕ) (bytes : A → List ℕ) (xs : List A) where
+  pub from-ordered : is_ordered method ≡ true → find (λ x. is_from method rules key (bytes x)) xs ≡ find (λ x. is_ge (rules.compare (rules.key (bytes x)) key)) xs
+  from-ordered e = ap (λ t. find (λ x. t && is_ge (rules.compare (rules.key (bytes x)) key)) xs) e
+
+  pub from-none : is_ordered method ≡ false → find (λ x. is_from method rules key (bytes x)) xs ≡ None
+  from-none e = ap (λ t. find (λ x. t && is_ge (rules.compare (rules.key (bytes x)) key)) xs) e ∙ find-none xs
 
 -- without the first object that has a key
 abbrev gone_from : Option Object → List Object → List Object

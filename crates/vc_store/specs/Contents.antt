@@ -1,5 +1,6 @@
 -- What a dictionary of a best region shows, read from its heads and from the region's cells.
 use Rattle.std.specs.Prelude.{ℕ, suc, List, [], ◌∷◌, Option, Some, None, ◌==◌, if◌then◌else◌}
+use Rattle.vc_base.specs.declared.addr.Addr.{Addr}
 use Rattle.vc_dtdisc.specs.Objects.{Object}
 use Rattle.vc_dict.specs.declared.dict.Dict.{Dict}
 use Rattle.vc_best.specs.declared.best.Best.{Best}
@@ -24,3 +25,9 @@ contents_of d =
 
 abbrev pub contents_in : {I : Type 0} {V : I → Type 0} → Dict → Best I V → Contents
 contents_in dict best = contents_of (dictionary_in dict best)
+
+-- with the object of a holder current, where there is one
+abbrev pub with_current : Option Addr → Dict → Dict
+with_current None dict = dict
+with_current (Some at) dict =
+    record { method = dict.method; kind = dict.kind; count = dict.count; current = at; heads = dict.heads }

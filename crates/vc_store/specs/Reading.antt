@@ -2,7 +2,9 @@
 use Rattle.std.specs.Prelude.{◌≡◌, ℕ, suc, ◌+◌, ◌-◌, Bool, true, false, List, [], ◌∷◌, ◌++◌, Option, Some, None, is_some, unwrap_or, length, take, drop, nat_le, nat_lt, slice_get, ◌==◌, ◌&&◌, if◌then◌else◌}
 use Rattle.vc_base.specs.declared.dict_method.DictMethod.{DictMethod}
 use Rattle.vc_base.specs.declared.dict_method.DictMethod.TheVariants.{DtSet, DtBag, DtOset, DtObag, DtList, DtStack, DtQueue}
-use Rattle.vc_base.specs.Methods.{is_set}
+use Rattle.std.specs.List.{find}
+use Rattle.std.specs.Ordering.{is_ge}
+use Rattle.vc_base.specs.Methods.{is_ordered, is_set}
 use Rattle.vc_dtdisc.specs.Finding.{without_first}
 use Rattle.vc_dtdisc.specs.Objects.{first_with, has_key, is_greater, placed_among}
 use Rattle.vc_dtdisc.specs.Rules.{Rules}
@@ -49,6 +51,17 @@ is_object object = nat_le 1 (length object) && nat_le (length object) 1024
 -- the first object that has a key
 abbrev pub found : Rules → List ℕ → List (List ℕ) → Option (List ℕ)
 found rules key objects = first_with (λ object. object) rules key objects
+
+-- whether an object is sought from a key on: by an ordered method, where its key isn't less
+abbrev pub is_from : DictMethod → Rules → List ℕ → List ℕ → Bool
+is_from method rules key object = is_ordered method && is_ge (rules.compare (rules.key object) key)
+
+-- the first object that passes a test is current now, where there is one; else nothing changed
+pub record Sought (test : List ℕ → Bool) (answer : Bool) (old new : Contents) : Type 0 where
+  pub there : answer ≡ is_some (find test old.objects)
+  pub current : answer ≡ true → current new ≡ find test old.objects
+  pub same : new ≡ with_place new.place old
+  pub missed : answer ≡ false → new ≡ old
 
 -- objects without the first that has a key
 abbrev pub without_key : Rules → List ℕ → List (List ℕ) → List (List ℕ)

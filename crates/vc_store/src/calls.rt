@@ -1,15 +1,18 @@
-ghost use Rattle.std.specs.Prelude.{◌≡◌, [], Some, None, true, false, is_some, IfOk, OnErr, OnOk, if◌then◌else◌};
+ghost use Rattle.std.specs.Prelude.{◌≡◌, [], Some, None, false, is_some, option_map, IfOk, OnErr, OnOk, if◌then◌else◌};
+ghost use Rattle.std.specs.List.{find};
+ghost use Rattle.vc_base.specs.Prelude.{number_of};
+ghost use Rattle.vc_dtdisc.specs.Objects.{address_of, has_key};
 ghost use Rattle.vc_best.specs.Cells.{cells_in};
 ghost use Rattle.vc_best.specs.Parts.{disc_in};
 ghost use Rattle.vc_objects.specs.Leaves.{Looks, LeavesRest, told_if};
-ghost use Rattle.vc_objects.specs.Parts.{IsWhole};
+ghost use Rattle.vc_objects.specs.Parts.{IsWhole, dictionary_in};
 ghost use Rattle.vc_objects.specs.Promises.{CanAsk, CanPut};
-ghost use Rattle.vc_store.specs.Contents.{contents_in};
-ghost use Rattle.vc_store.specs.Reading.{AfterPut, LacksKey, current, found, has_match, is_object, place_after, with_place};
+ghost use Rattle.vc_store.specs.Contents.{contents_in, with_current};
+ghost use Rattle.vc_store.specs.Reading.{AfterPut, LacksKey, Sought, found, has_match, is_from, is_object, place_after};
 ghost use Rattle.vc_store.specs.Tries.{IsTried, Tries, told_as};
 
 use crate::put::Put;
-use vc_base::{OutOfMemory, Steps};
+use vc_base::{Addr, OutOfMemory, Steps};
 use vc_best::Best;
 use vc_dict::Dict;
 use vc_dtdisc::DictDisc;
@@ -87,29 +90,61 @@ pub(crate) fn put<D: DictDisc>(best: &mut Best, dict: &mut Dict, kind: &D, objec
     put_new(best, dict, kind, object)
 }
 
-// Makes the first object current that has a key, and answers whether there is one.
-pub(crate) fn seek<D: DictDisc>(best: &mut Best, dict: &mut Dict, kind: &D, key: &[u8]) -> bool
-    requires whole { IsWhole (D.rules kind.now) dict.old (cells_in best.old) }
-
-    ensures found { result
-        ≡ is_some (found (D.rules kind.now) key.now (contents_in dict.old best.old).objects) }
-    ensures shown { result ≡ true → current (contents_in dict.new best.new)
-        ≡ found (D.rules kind.now) key.now (contents_in dict.old best.old).objects }
-    ensures same { contents_in dict.new best.new
-        ≡ with_place (contents_in dict.new best.new).place (contents_in dict.old best.old) }
-    ensures missed { result ≡ false → contents_in dict.new best.new
-        ≡ contents_in dict.old best.old }
-    ensures disc { disc_in state best.new ≡ disc_in state best.old }
-    ensures leaves { LeavesRest state (D.rules kind.now) best.old dict.old best.new dict.new }
+// Makes the object of a holder current, and answers whether there is one.
+fn show(dict: &mut Dict, at: Option<Addr>) -> bool
+    ensures there { result ≡ is_some at }
+    ensures dict { dict.new ≡ with_current at dict.old }
 {
-    let mut steps = Steps::<Uncounted>::new(best.alloc);
-    match find(best, dict, kind, key, &mut steps) {
+    match at {
         Some(at) => {
             dict.current = at;
             true
         }
         None => false,
     }
+}
+
+// Makes the first object current that has a key, and answers whether there is one.
+pub(crate) fn seek<D: DictDisc>(best: &mut Best, dict: &mut Dict, kind: &D, key: &[u8]) -> bool
+    requires whole { IsWhole (D.rules kind.now) dict.old (cells_in best.old) }
+
+    ensures sought { Sought (has_key (D.rules kind.now) key.now) result
+        (contents_in dict.old best.old) (contents_in dict.new best.new) }
+    ensures disc { disc_in state best.new ≡ disc_in state best.old }
+    ensures leaves { LeavesRest state (D.rules kind.now) best.old dict.old best.new dict.new }
+{
+    let mut steps = Steps::<Uncounted>::new(best.alloc);
+    let at = find(best, dict, kind, key, &mut steps);
+    show(dict, at)
+}
+
+// The holder of the first object of an ordered method whose key isn't less than another one; none by another method.
+fn least<D: DictDisc>(best: &mut Best, dict: &mut Dict, kind: &D, key: &[u8]) -> Option<Addr>
+    requires whole { IsWhole (D.rules kind.now) dict.old (cells_in best.old) }
+    ensures found { option_map number_of result ≡ option_map address_of
+        (find (λ o. is_from dict.old.method (D.rules kind.now) key.now o.bytes)
+        (dictionary_in dict.old best.old).objects) }
+    ensures looks { Looks state (D.rules kind.now) best.old dict.old best.new dict.new }
+{
+    if dict.method.is_ordered() {
+        let mut steps = Steps::<Uncounted>::new(best.alloc);
+        dict.at_least(best, kind, key, &mut steps)
+    } else {
+        None
+    }
+}
+
+// Makes the first object of an ordered method current whose key isn't less than another one, and answers whether there is one.
+pub(crate) fn seek_from<D: DictDisc>(best: &mut Best, dict: &mut Dict, kind: &D, key: &[u8]) -> bool
+    requires whole { IsWhole (D.rules kind.now) dict.old (cells_in best.old) }
+
+    ensures sought { Sought (is_from dict.old.method (D.rules kind.now) key.now) result
+        (contents_in dict.old best.old) (contents_in dict.new best.new) }
+    ensures disc { disc_in state best.new ≡ disc_in state best.old }
+    ensures leaves { LeavesRest state (D.rules kind.now) best.old dict.old best.new dict.new }
+{
+    let at = least(best, dict, kind, key);
+    show(dict, at)
 }
 
 // Takes the first object out that has a key, telling the kind, and answers whether there is one. Its bytes come into `out`.

@@ -1,4 +1,4 @@
-use crate::calls::{put, seek, take};
+use crate::calls::{put, seek, seek_from, take};
 use crate::put::Put;
 use vc_base::{Addr, Cells, DictMethod, OutOfMemory};
 use vc_best::Best;
@@ -23,10 +23,11 @@ impl<D: DictDisc + Drop> Collection<D> {
     ghost use Rattle.vc_seg.specs.Answer.{IsRefusal};
     ghost use Rattle.vc_seg.specs.Stat.{layout_stat};
     ghost use Rattle.vc_base.specs.Prelude.{HasOut};
+    ghost use Rattle.vc_dtdisc.specs.Objects.{has_key};
     ghost use Rattle.vc_best.specs.Parts.{disc_in, layout_of, segments_in};
     ghost use Rattle.vc_objects.specs.Leaves.{KeepsDisc, told_each, told_if};
     ghost use Rattle.vc_objects.specs.Promises.{StaysAll, opening_in};
-    ghost use Rattle.vc_store.specs.Reading.{AfterPut, LacksKey, current, first_place, found, last_place, next_place, place_after, previous_place, with_place};
+    ghost use Rattle.vc_store.specs.Reading.{AfterPut, LacksKey, Sought, current, first_place, found, is_from, last_place, next_place, place_after, previous_place, with_place};
     ghost use Rattle.vc_store.specs.Tries.{IsTried, Tries};
     ghost use Rattle.vc_store.specs.Collections.{IsOpen, StaysOpen, best_of, contents, dict_of, disc_of, kind_of, lender, lent_to};
 
@@ -76,17 +77,24 @@ impl<D: DictDisc + Drop> Collection<D> {
     /// Makes the first object current that has a key, and answers whether there is one. Where there is none, nothing changes.
     pub fn find(&mut self, key: &[u8]) -> bool
         requires open { IsOpen (D.rules (kind_of self.old)) self.old (disc_of self.old state) }
-        ensures found { result
-            ≡ is_some (found (D.rules (kind_of self.old)) key.now (contents self.old).objects) }
-        ensures current { result ≡ true → current (contents self.new)
-            ≡ found (D.rules (kind_of self.old)) key.now (contents self.old).objects }
-        ensures same { contents self.new
-            ≡ with_place (contents self.new).place (contents self.old) }
-        ensures missed { result ≡ false → contents self.new ≡ contents self.old }
+        ensures sought { Sought (has_key (D.rules (kind_of self.old)) key.now) result
+            (contents self.old) (contents self.new) }
         ensures kind { kind_of self.new ≡ kind_of self.old }
         ensures stays { StaysOpen state D.rules self.old self.new }
     {
         seek(&mut self.best, &mut self.dict, &self.kind, key)
+    }
+
+    /// Makes the first object current whose key isn't less than that one, and answers whether there is one. Where there is none,
+    /// nothing changes; and there is one in an ordered set or bag alone.
+    pub fn at_least(&mut self, key: &[u8]) -> bool
+        requires open { IsOpen (D.rules (kind_of self.old)) self.old (disc_of self.old state) }
+        ensures sought { Sought (is_from (contents self.old).method
+            (D.rules (kind_of self.old)) key.now) result (contents self.old) (contents self.new) }
+        ensures kind { kind_of self.new ≡ kind_of self.old }
+        ensures stays { StaysOpen state D.rules self.old self.new }
+    {
+        seek_from(&mut self.best, &mut self.dict, &self.kind, key)
     }
 
     /// Makes the first object current, and answers whether there is one.

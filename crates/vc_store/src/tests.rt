@@ -1,4 +1,4 @@
-ghost use Rattle.vc_store.specs.Collections.{IsOpen, StaysOpen, disc_of, kind_of};
+ghost use Rattle.vc_store.specs.Collections.{IsOpen, disc_of, kind_of};
 
 use crate::{Collection, Put};
 use std::alloc::Global;
@@ -16,7 +16,7 @@ fn two_words<D: DictDisc + Drop>(
     words: &mut Collection<D>,
 ) -> Result<(), Fail>
     requires { IsOpen (D.rules (kind_of words.old)) words.old (disc_of words.old state) }
-    ensures { StaysOpen state D.rules words.old words.new }
+    ensures { IsOpen (D.rules (kind_of words.new)) words.new (disc_of words.new state) }
 {
     assert_eq!(rt; words.insert(b"pear"), Put::New);
     assert_eq!(rt; words.insert(b"apple"), Put::New);
@@ -28,6 +28,9 @@ fn two_words<D: DictDisc + Drop>(
     assert!(rt; words.current() == Some(b"apple".as_slice()));
     let next = words.next();
     assert!(rt; next);
+    assert!(rt; words.current() == Some(b"pear".as_slice()));
+    let behind = words.at_least(b"b");
+    assert!(rt; behind);
     assert!(rt; words.current() == Some(b"pear".as_slice()));
     let over = words.next();
     assert!(rt; !over);

@@ -11,7 +11,7 @@ admit-requires-clause-new g c =
     let key = c.args.key.now in
     let set = c.args.set.now in
     let keys = (contents set).objects in
-    let missed : is_some (found (rules_of set.kind.shape) key keys) ≡ false = sym c.find.ensures.found ∙ c.if-find.false in
+    let missed : is_some (found (rules_of set.kind.shape) key keys) ≡ false = sym c.find.ensures.sought.there ∙ c.if-find.false in
     none-from (found key_rules key (contents c.args.queue.now).objects)
     (ap (λ ks. is_some (found key_rules key ks)) (sym c.requires.same)
     ∙ (ap (λ r. is_some (found r key keys)) (sym c.requires.set.rules) ∙ missed))

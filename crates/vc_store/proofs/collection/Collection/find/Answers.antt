@@ -13,6 +13,6 @@ returns-clause-stays g c = record {
     lent = keeps-out _ _ _ _ c.seek.ensures.leaves.rest.disc c.requires.open.lent;
   };
   rules = refl;
-  method = ap (λ (d : Contents). d.method) c.seek.ensures.same;
+  method = ap (λ (d : Contents). d.method) c.seek.ensures.sought.same;
   lends = c.seek.ensures.leaves.rest.disc;
 }
