@@ -50,14 +50,8 @@ fn is_right(row: &Row, status: Status, out: &[u8], err: &[u8]) -> bool {
     }
 }
 
-// Runs a script over a discipline, and looks at what comes out, and whether the discipline is there and unarmed.
-fn runs(
-    rt: &impl Abort,
-    alloc: Global,
-    row: &Row,
-    disc: Box<dyn SegDisc>,
-) -> Result<(), AllocError> {
-    let mut shelf = shelf_of(alloc, disc)?;
+// Runs a script over a shelf of one discipline, and looks at what comes out, and whether that is there and unarmed.
+fn runs(rt: &impl Abort, alloc: Global, row: &Row, shelf: &mut Shelf) -> Result<(), AllocError> {
     let mut source = MemSource::new(row.script.to_vec(alloc)?, 4096, Vec::new(alloc));
     let (Ok(mut out), Ok(mut err)) = (
         MemSink::new(alloc, 100, 100, Vec::new(alloc)),
@@ -65,20 +59,22 @@ fn runs(
     ) else {
         return Err(AllocError);
     };
-    let status = replay(alloc, &[], &mut shelf, &mut source, &mut out, &mut err);
+    let status = replay(alloc, &[], shelf, &mut source, &mut out, &mut err);
     assert!(rt; is_right(row, status, out.bytes(), err.bytes()));
-    assert!(rt; matches!(seen(&shelf, 0), Some((false, _))));
+    assert!(rt; matches!(seen(shelf, 0), Some((false, _))));
     Ok(())
 }
 
 fn runs_once(rt: &impl Abort, alloc: Global) -> Result<(), AllocError> {
-    runs(rt, alloc, &ONCE, fuse(alloc)?)
+    let mut shelf = shelf_of(alloc, fuse(alloc)?)?;
+    runs(rt, alloc, &ONCE, &mut shelf)
 }
 
 // Its discipline makes an exception for the second block.
 fn runs_twice(rt: &impl Abort, alloc: Global) -> Result<(), AllocError> {
     let disc = ReliefDisc::new(4096, 4096, 4096);
-    runs(rt, alloc, &TWICE, Box::new(alloc, disc)?)
+    let mut shelf = shelf_of(alloc, Box::new(alloc, disc)?)?;
+    runs(rt, alloc, &TWICE, &mut shelf)
 }
 
 #[test]
