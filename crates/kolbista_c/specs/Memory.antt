@@ -47,12 +47,12 @@ abbrev pub streams_over : List ℕ → Streams
 streams_over script =
     record { left = Some script; reads = 0; written = Some []; writes = 0; told = Some []; errors = 0 }
 
--- from a shelf of seventeen disciplines and a script, the tool kept its promises and wrote that
+-- from a shelf of eighteen disciplines and a script, the tool kept its promises and wrote that
 pub record Played (tool : Tool) (words : List (List ℕ)) (script : List ℕ) (status : Status) (replies told : List ℕ) : Type 0 where
   pub start : Moment
   pub last : Moment
   pub streams : Streams
-  pub places : length start.accounts ≡ 17
+  pub places : length start.accounts ≡ 18
   pub written : streams.written ≡ Some replies
   pub said : streams.told ≡ Some told
   pub headline : Headline tool (words_of words) start last (streams_over script) streams status
