@@ -2,7 +2,8 @@
 use Rattle.vc_base.proofs.Common.{◌≡◌, ℕ, List, [], ◌++◌, ◌∙◌, sym, refl, ap, append-nil}
 use Rattle.vc_base.specs.declared.dict_method.DictMethod.{DictMethod}
 use Rattle.vc_base.specs.declared.dict_method.DictMethod.TheVariants.{DtSet, DtQueue}
-use Rattle.vc_model.specs.Discipline.{Discipline}
+use Rattle.vc_model.specs.Discipline.{Discipline, TookBack}
+use Rattle.vc_objects.specs.Leaves.{KeepsDisc}
 use Rattle.vc_dtdisc.specs.Shapes.{BuiltInKind, rules_of}
 use Rattle.vc_objects.proofs.Leaving.{keeps-same, keeps-trans}
 use Rattle.vc_store.specs.Collections.{StaysOpen, contents, disc_of, lent_to}
@@ -12,6 +13,11 @@ use Rattle.cache.specs.Tables.{AreKeys, IsTable, StayKeys, StaysTable}
 -- a region of no segment has the last that are out
 pub out-with : (out segments : List (ℕ × ℕ)) → segments ≡ [] → out ≡ out ++ segments
 out-with out segments e = sym (ap (λ s. out ++ s) e ∙ append-nil out)
+
+-- from a collection's opening to its close
+pub closed-keeps : (a b c d : Discipline) (s t u : List (ℕ × ℕ)) → KeepsDisc a b s t → KeepsDisc b c t u → TookBack c d u [] → KeepsDisc a d s []
+closed-keeps a b c d s t u opened kept took =
+    keeps-trans a c d s u [] (keeps-trans a b c s t u opened kept) record { kept = took.kept; out = took.out }
 
 module _ {I : Type 0} {V : I → Type 0} (meaning : (x : I) × V x → Discipline) where
   pub keys-same : (m : DictMethod) (a : Collection BuiltInKind I V) → AreKeys meaning m a → StayKeys meaning m a a
