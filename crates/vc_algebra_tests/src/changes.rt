@@ -72,6 +72,27 @@ fn started<D: DictDisc>(
     begun(paths, layers, of, steps)
 }
 
+// Whether it may go on over two paths of a region.
+fn goes_on_there<D: DictDisc>(
+    paths: &Paths,
+    layers: &mut RegionLayers<D>,
+    merge: &Merge,
+    steps: &mut Steps<Compares>,
+) -> bool
+    requires fill { CanFill state (map D.rules layers.old.kinds.items)
+        layers.old.region layers.old.dicts }
+    requires first { IsPath (layered_in (map D.rules layers.old.kinds.items)
+        layers.old.region layers.old.dicts) paths.now merge.now.d }
+    requires second { IsPath (layered_in (map D.rules layers.old.kinds.items)
+        layers.old.region layers.old.dicts) paths.now merge.now.e }
+    ensures may { IsTrue result → IsMerge (layered_in (map D.rules layers.new.kinds.items)
+        layers.new.region layers.new.dicts) paths.now merge.now }
+    ensures fill { CanFill state (map D.rules layers.new.kinds.items)
+        layers.new.region layers.new.dicts }
+{
+    goes_on(paths, layers, merge, steps)
+}
+
 // Whether the condition of its next call holds.
 fn may_go_on<D: DictDisc>(
     paths: &Paths,
@@ -89,7 +110,7 @@ fn may_go_on<D: DictDisc>(
     if !layers.has_path(paths, merge.d) || !layers.has_path(paths, merge.e) {
         return false;
     }
-    goes_on(paths, layers, merge, steps)
+    goes_on_there(paths, layers, merge, steps)
 }
 
 // The next answer, which is nothing at the end.
@@ -110,6 +131,24 @@ fn answer<Y: Ordered>(
     Ok(text)
 }
 
+// So over two paths of a region.
+fn answer_there<D: DictDisc>(
+    alloc: Global,
+    paths: &Paths,
+    layers: &mut RegionLayers<D>,
+    merge: &mut Merge,
+    steps: &mut Steps<Compares>,
+) -> Result<Vec<u8>, Stop>
+    requires fill { CanFill state (map D.rules layers.old.kinds.items)
+        layers.old.region layers.old.dicts }
+    requires merge { IsMerge (layered_in (map D.rules layers.old.kinds.items)
+        layers.old.region layers.old.dicts) paths.now merge.old }
+    ensures { CanFill state (map D.rules layers.new.kinds.items)
+        layers.new.region layers.new.dicts }
+{
+    answer(alloc, paths, layers, merge, steps)
+}
+
 // The condition holds, and this is the next answer.
 fn is_next<D: DictDisc>(
     rt: &impl Abort,
@@ -127,7 +166,7 @@ fn is_next<D: DictDisc>(
 {
     let may = may_go_on(paths, layers, merge, steps);
     assert!(rt; may, "{want}");
-    shows(rt, answer(alloc, paths, layers, merge, steps), want)
+    shows(rt, answer_there(alloc, paths, layers, merge, steps), want)
 }
 
 // Does one act.

@@ -43,7 +43,10 @@ fn over<D: DictDisc>(alloc: Global, best: Best, kinds: Vec<D>) -> RegionLayers<D
 }
 
 // A new region with no dictionary yet.
-pub(crate) fn empty<D: DictDisc + Drop>(alloc: Global, kinds: Vec<D>) -> Result<RegionLayers<D>, Fail>
+pub(crate) fn empty<D: DictDisc + Drop>(
+    alloc: Global,
+    kinds: Vec<D>,
+) -> Result<RegionLayers<D>, Fail>
     ensures { IfOk result (λ l. CanFill state (map D.rules l.kinds.items) l.region l.dicts) }
 {
     let disc = Box::new(alloc, HeapDisc::new(4096))?;

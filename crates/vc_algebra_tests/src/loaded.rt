@@ -11,7 +11,11 @@ use vc_image::{load, save};
 use vc_seg::{BoxedDisc, HeapDisc, SegDisc};
 
 // The dictionaries that an image gives over another discipline.
-fn of_image<D: DictDisc + Drop>(alloc: Global, image: &[u8], kinds: Vec<D>) -> Result<RegionLayers<D>, Fail>
+fn of_image<D: DictDisc + Drop>(
+    alloc: Global,
+    image: &[u8],
+    kinds: Vec<D>,
+) -> Result<RegionLayers<D>, Fail>
     ensures { IfOk result (λ l. CanFill state (map D.rules l.kinds.items) l.region l.dicts) }
 {
     let disc = Box::new(alloc, HeapDisc::new(64))?;

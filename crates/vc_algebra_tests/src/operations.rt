@@ -69,10 +69,7 @@ const VIEWING: Case = Case {
         (Ask::Of(Op::Union, 0, 6), "1:a 0:b 1:c 7:d 7:D 6:x"),
         (Ask::Of(Op::Meet, 0, 6), "0:b"),
         (Ask::Of(Op::Minus, 0, 6), "1:a 1:c"),
-        (
-            Ask::Of(Op::Union, 4, 2),
-            "5:a 5:A 4:b 4:B 5:c 5:C 3:d 2:x",
-        ),
+        (Ask::Of(Op::Union, 4, 2), "5:a 5:A 4:b 4:B 5:c 5:C 3:d 2:x"),
         (Ask::Of(Op::Meet, 4, 2), "4:b 4:B"),
         (Ask::Of(Op::Minus, 4, 2), "5:a 5:A 5:c 5:C"),
         (

@@ -1,9 +1,0 @@
-use Rattle.vc_base.proofs.Common.{map, ap}
-use Rattle.vc_paths.proofs.SeekLemmas.{path-first}
-use Rattle.vc_algebra.proofs.FillLemmas.{can-after}
-use Rattle.vc_algebra_tests.proofs.changes.may_go_on.Goals as goal
-
-pub returns-clause-fill : goal.returns-clause-fill
-returns-clause-fill g c =
-    can-after _ c.args.merge.now.d c.goes_on.ensures.unchanged.layers c.goes_on.ensures.unchanged.stays.1 (ap (λ v. map g.D.DictDisc.rules v.items) c.goes_on.ensures.unchanged.stays.0)
-    (path-first _ c.args.paths.now c.args.merge.now.d (c.goes_on.requires.first)).there c.requires
