@@ -1,14 +1,12 @@
 -- Dictionaries that are loaded from an image may get objects.
-use Rattle.vc_base.proofs.Common.{◌≡◌, ℕ, List, [], ◌∷◌, ◌++◌, map, sym, refl, ap, ◌∙◌, subst, AllByRecursion, Blocks, Discipline, Terms}
-use Rattle.vc_seg.specs.Segment.{Bytes, pair_of}
+use Rattle.vc_base.proofs.Common.{ℕ, List, [], ◌∷◌, ◌++◌, map, sym, refl, ap, ◌∙◌, subst, AllByRecursion, Blocks, Discipline, Terms}
+use Rattle.vc_seg.specs.Segment.{pair_of}
 use Rattle.vc_dtdisc.specs.Rules.{Rules}
 use Rattle.vc_dict.specs.declared.dict.Dict.{Dict}
 use Rattle.vc_best.proofs.Lends.{segments-by}
 use Rattle.vc_best.specs.Cells.{cells_in}
 use Rattle.vc_region.specs.Parts.{disc_in}
 use Rattle.vc_region.specs.declared.region.Region.{Region}
-use Rattle.vc_region.specs.declared.region.Region.TheVariants.{Best as OfBest}
-use Rattle.vc_image_bytes.specs.Contents.{contents_of}
 use Rattle.vc_image_lends.specs.Lends.{AreLent}
 use Rattle.vc_image.specs.Load.{AreApart, IsLoaded, IsWholeAmong, pairs_of}
 use Rattle.vc_algebra.specs.Filling.{CanFill, IsSettled}

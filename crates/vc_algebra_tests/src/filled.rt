@@ -113,7 +113,8 @@ pub(crate) fn put_dict<D: DictDisc>(
 {
     assert!(rt; layers.dicts.as_slice().len() < 256);
     assert!(rt; !method.has_table());
-    assert!(rt; 0 < kind && kind as usize <= layers.kinds.len());
+    assert!(rt; 0 < kind);
+    assert!(rt; kind as usize <= layers.kinds.len());
     Ok(layers.open(method, kind)?)
 }
 
