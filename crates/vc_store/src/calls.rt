@@ -68,8 +68,8 @@ fn put_new<D: DictDisc>(best: &mut Best, dict: &mut Dict, kind: &D, object: &[u8
     told_as(insert(best, dict, kind, object, false, &mut steps))
 }
 
-// Puts an object, unless one of a set matches it.
-pub(crate) fn put<D: DictDisc>(best: &mut Best, dict: &mut Dict, kind: &D, object: &[u8]) -> Put
+/// Puts an object, unless one of a set matches it.
+pub fn put<D: DictDisc>(best: &mut Best, dict: &mut Dict, kind: &D, object: &[u8]) -> Put
     requires ask { CanAsk state (D.rules kind.now) best.old dict.old }
 
     ensures objects { AfterPut result (D.rules kind.now) object.now (contents_in dict.old best.old)
@@ -104,8 +104,8 @@ fn show(dict: &mut Dict, at: Option<Addr>) -> bool
     }
 }
 
-// Makes the first object current that has a key, and answers whether there is one.
-pub(crate) fn seek<D: DictDisc>(best: &mut Best, dict: &mut Dict, kind: &D, key: &[u8]) -> bool
+/// Makes the first object current that has a key, and answers whether there is one.
+pub fn seek<D: DictDisc>(best: &mut Best, dict: &mut Dict, kind: &D, key: &[u8]) -> bool
     requires whole { IsWhole (D.rules kind.now) dict.old (cells_in best.old) }
 
     ensures sought { Sought (has_key (D.rules kind.now) key.now) result
@@ -134,8 +134,8 @@ fn least<D: DictDisc>(best: &mut Best, dict: &mut Dict, kind: &D, key: &[u8]) ->
     }
 }
 
-// Makes the first object of an ordered method current whose key isn't less than another one, and answers whether there is one.
-pub(crate) fn seek_from<D: DictDisc>(best: &mut Best, dict: &mut Dict, kind: &D, key: &[u8]) -> bool
+/// Makes the first object of an ordered method current whose key isn't less than another one, and answers whether there is one.
+pub fn seek_from<D: DictDisc>(best: &mut Best, dict: &mut Dict, kind: &D, key: &[u8]) -> bool
     requires whole { IsWhole (D.rules kind.now) dict.old (cells_in best.old) }
 
     ensures sought { Sought (is_from dict.old.method (D.rules kind.now) key.now) result
@@ -147,9 +147,9 @@ pub(crate) fn seek_from<D: DictDisc>(best: &mut Best, dict: &mut Dict, kind: &D,
     show(dict, at)
 }
 
-// Takes the first object out that has a key, telling the kind, and answers whether there is one. Its bytes come into `out`.
-// With no memory for them nothing changes.
-pub(crate) fn take<D: DictDisc>(
+/// Takes the first object out that has a key, telling the kind, and answers whether there is one. Its bytes come into `out`.
+/// With no memory for them nothing changes.
+pub fn take<D: DictDisc>(
     best: &mut Best,
     dict: &mut Dict,
     kind: &mut D,

@@ -1,7 +1,7 @@
 //! A dictionary with a region of its own, to be used by a program.
 #![tactic(auto)]
 
-mod calls;
+pub mod calls;
 mod collection;
 mod put;
 #[cfg(test)]
