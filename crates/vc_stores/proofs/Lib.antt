@@ -1,0 +1,7 @@
+pub mod Numbers
+pub mod Kept
+pub mod Changed
+pub mod Here
+pub mod Added
+pub mod Ended
+pub mod Moving

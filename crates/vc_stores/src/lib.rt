@@ -1,0 +1,8 @@
+//! Dictionaries by number in one region, to be used by a program.
+#![tactic(auto)]
+
+mod cursor;
+mod moves;
+mod store;
+
+pub use store::Store;
