@@ -1,5 +1,5 @@
 -- What a dictionary that comes behind the others leaves of a store, and one that is refused.
-use Rattle.vc_base.proofs.Common.{◌≡◌, ◌≢◌, ◌+◌, ◌<◌, ℕ, suc, zero, Bool, true, false, List, [], ◌∷◌, ◌++◌, Option, Some, None, option_map, is_some, length, length-append, slice_get, refl, sym, ap, ◌∙◌, subst, inl, inr, arith, eqb_tells, same_Some, if◌then◌else◌, Blocks, Discipline, Terms, Layout, has_table}
+use Rattle.vc_base.proofs.Common.{◌≡◌, ◌≢◌, ◌+◌, ℕ, false, [], ◌∷◌, ◌++◌, Some, None, option_map, is_some, length, length-append, slice_get, refl, sym, ap, ◌∙◌, subst, arith, same_Some, if◌then◌else◌, Blocks, Discipline, has_table}
 use Rattle.vc_base.specs.declared.dict_method.DictMethod.{DictMethod}
 use Rattle.vc_dtdisc.specs.Rules.{Rules}
 use Rattle.vc_dict.specs.declared.dict.Dict.{Dict}
@@ -14,7 +14,7 @@ use Rattle.vc_objects.proofs.Leaving.{keeps-out}
 use Rattle.vc_store.specs.Contents.{contents_in, contents_of}
 use Rattle.vc_store.specs.Reading.{Contents}
 use Rattle.vc_store.proofs.Shown.{grown-same}
-use Rattle.vc_stores.specs.Stores.{AllStay, AreApart, HasDict, IsOpen, OthersStay, StaysOpen, contents, contents_or, dict_at, dicts_of, disc_of, joined, kind_at, kinds_of, lent_to, numbers_of, rules_at, rules_or, shown}
+use Rattle.vc_stores.specs.Stores.{AllStay, AreApart, HasDict, IsOpen, OthersStay, StaysOpen, contents_or, dict_at, dicts_of, disc_of, joined, kind_at, kinds_of, lent_to, numbers_of, rules_at, rules_or, shown}
 use Rattle.vc_stores.specs.declared.store.Store.{Store}
 use Rattle.vc_stores.proofs.Changed.{Changes, others-stay, rules-same, still-open}
 use Rattle.vc_stores.proofs.Here.{below-there}

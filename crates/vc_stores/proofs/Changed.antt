@@ -1,19 +1,19 @@
 -- What a change of one dictionary leaves of a store.
-use Rattle.vc_base.proofs.Common.{◌≡◌, ◌≢◌, ℕ, true, false, List, Option, Some, None, IsSome, is_some, option_map, length, set, slice_get, refl, sym, ap, ◌∙◌, subst, inl, inr, eqb_tells, true≢false, false_from_ne_true, same_Some, Blocks, contains, HasOut, Discipline}
+use Rattle.vc_base.proofs.Common.{◌≡◌, ◌≢◌, ℕ, true, false, List, Option, Some, None, is_some, option_map, length, set, slice_get, refl, sym, ap, ◌∙◌, subst, inl, inr, eqb_tells, true≢false, false_from_ne_true, same_Some, Blocks, contains, HasOut, Discipline}
 use Rattle.vc_base.proofs.Lists.{slice_get-set}
 use Rattle.vc_dtdisc.specs.Rules.{Gone, Rules}
 use Rattle.vc_dict.specs.declared.dict.Dict.{Dict}
 use Rattle.vc_best.specs.Cells.{cells_in}
 use Rattle.vc_best.specs.Parts.{disc_in, segments_in}
 use Rattle.vc_objects.specs.Leaves.{LeavesRest}
-use Rattle.vc_objects.specs.Objects.{Dictionary, own_blocks}
+use Rattle.vc_objects.specs.Objects.{own_blocks}
 use Rattle.vc_objects.specs.Parts.{IsWhole, dictionary_in, dictionary_of}
 use Rattle.vc_objects.proofs.Leaving.{keeps-out}
 use Rattle.vc_store.specs.Contents.{contents_in, contents_of}
 use Rattle.vc_store.specs.Reading.{Contents}
 use Rattle.vc_store.specs.Tries.{IsTried, Tries}
 use Rattle.vc_store.specs.declared.put.Put.{Put}
-use Rattle.vc_stores.specs.Stores.{AreApart, HasDict, IsOpen, OthersStay, StaysOpen, TriesAt, contents, contents_or, dict_at, dicts_of, disc_of, gone_at, gone_or, joined, kind_at, kinds_of, numbers_of, rules_at, rules_or, shown}
+use Rattle.vc_stores.specs.Stores.{AreApart, HasDict, IsOpen, OthersStay, StaysOpen, TriesAt, contents, contents_or, dict_at, dicts_of, disc_of, gone_at, gone_or, joined, kind_at, kinds_of, numbers_of, rules_at, rules_or}
 use Rattle.vc_stores.specs.declared.store.Store.{Store}
 use Rattle.vc_stores.proofs.Kept.{Kept, apart-new, other-kept}
 use Rattle.vc_stores.proofs.Numbers.{joined-there, length-put, set-other}

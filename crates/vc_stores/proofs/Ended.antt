@@ -1,21 +1,19 @@
 -- What a dictionary that is shut leaves of a store, and all of them, one after another.
-use Rattle.vc_base.proofs.Common.{◌≡◌, ◌≢◌, ◌+◌, ◌<◌, ◌≤◌, ℕ, List, [], Option, Some, None, option_map, length, set, slice_get, refl, sym, ap, ◌∙◌, subst, inl, inr, arith, eqb_tells, none-some, cases_lt, ⊎_elim, Discipline, TookBack}
+use Rattle.vc_base.proofs.Common.{◌≡◌, ◌≢◌, ◌+◌, ◌<◌, ◌≤◌, ℕ, [], Some, None, option_map, length, set, slice_get, refl, sym, ap, ◌∙◌, subst, inl, inr, arith, eqb_tells, none-some, cases_lt, ⊎_elim, Discipline, TookBack}
 use Rattle.std.proofs.lemmas.Option.{slice_get_past}
 use Rattle.vc_base.proofs.Lists.{slice_get-set}
 use Rattle.vc_dtdisc.specs.Rules.{Gone, Rules}
 use Rattle.vc_dict.specs.declared.dict.Dict.{Dict}
 use Rattle.vc_best.specs.Cells.{cells_in}
 use Rattle.vc_best.specs.Parts.{disc_in, segments_in}
-use Rattle.vc_best.specs.declared.best.Best.{Best}
 use Rattle.vc_objects.specs.Leaves.{KeepsDisc, Leaves, told_each}
 use Rattle.vc_objects.specs.Objects.{own_blocks}
 use Rattle.vc_objects.specs.Parts.{dictionary_in}
 use Rattle.vc_objects.specs.Remove.{bytes_of}
 use Rattle.vc_objects.proofs.Leaving.{keeps-out, keeps-same, keeps-trans}
 use Rattle.vc_store.specs.Contents.{contents_in}
-use Rattle.vc_store.specs.Reading.{Contents}
 use Rattle.vc_store.proofs.Shown.{took-behind}
-use Rattle.vc_stores.specs.Stores.{AreTold, Ends, IsOpen, OthersStay, contents, contents_or, dict_at, dicts_of, disc_of, gone_at, gone_or, joined, kind_at, kinds_of, lent_to, numbers_of, rules_at, rules_or, shown}
+use Rattle.vc_stores.specs.Stores.{AreTold, Ends, IsOpen, contents, contents_or, dict_at, dicts_of, disc_of, gone_at, gone_or, joined, kind_at, kinds_of, lent_to, numbers_of, rules_at, rules_or, shown}
 use Rattle.vc_stores.specs.declared.store.Store.{Store}
 use Rattle.vc_stores.proofs.Added.{all-still, stays-still}
 use Rattle.vc_stores.proofs.Changed.{Changes, others-stay, still-open}

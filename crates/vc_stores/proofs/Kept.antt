@@ -1,5 +1,5 @@
 -- A dictionary whose own blocks stay is whole still, and what it was; so is one beside another that changes.
-use Rattle.vc_base.proofs.Common.{◌≡◌, ◌≢◌, ℕ, true, false, List, [], ◌∷◌, map, unwrap_or, None, IsSome, is_some, sym, ap, ◌∙◌, subst, inl, inr, arith, eqb_tells, true≢false, false_from_ne_true, AllByRecursion, Blocks, IsAddress, body_of, contains}
+use Rattle.vc_base.proofs.Common.{◌≡◌, ◌≢◌, ℕ, true, false, List, [], ◌∷◌, unwrap_or, None, IsSome, is_some, sym, ap, ◌∙◌, subst, inl, inr, arith, eqb_tells, true≢false, false_from_ne_true, AllByRecursion, Blocks, IsAddress, body_of, contains}
 use Rattle.vc_base.proofs.Members.{within-tail}
 use Rattle.vc_dtdisc.specs.Rules.{IsObject, Rules}
 use Rattle.vc_dict.specs.Listed.{holders_of}

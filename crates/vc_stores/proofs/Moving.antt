@@ -3,13 +3,13 @@ use Rattle.vc_base.proofs.Common.{◌≡◌, ◌==◌, ℕ, true, false, List, O
 use Rattle.vc_base.specs.declared.addr.Addr.{Addr}
 use Rattle.vc_dtdisc.specs.Objects.{Object}
 use Rattle.vc_dict.specs.Listed.{holders_of}
-use Rattle.vc_dict.specs.Stands.{IsDict, IsIn, IsKept, IsMember}
+use Rattle.vc_dict.specs.Stands.{IsIn, IsKept}
 use Rattle.vc_dict.specs.declared.dict.Dict.{Dict}
 use Rattle.vc_best.specs.Cells.{cells_in}
 use Rattle.vc_best.specs.declared.best.Best.{Best}
-use Rattle.vc_objects.specs.Parts.{IsWhole, dictionary_of}
+use Rattle.vc_objects.specs.Parts.{dictionary_of}
 use Rattle.vc_store.specs.Contents.{contents_in, place_of}
-use Rattle.vc_store.specs.Reading.{Contents, with_place}
+use Rattle.vc_store.specs.Reading.{with_place}
 use Rattle.vc_store.proofs.Cursor.{none-whole}
 use Rattle.vc_store.proofs.Shown.{pointed-place, pointed-whole, within-rest}
 use Rattle.vc_stores.specs.Moves.{IsWholeBy, Moves}

@@ -8,7 +8,7 @@ use Rattle.vc_best.specs.declared.best.Best.{Best}
 use Rattle.vc_objects.specs.Objects.{own_blocks}
 use Rattle.vc_objects.specs.Parts.{IsWhole, dictionary_in}
 use Rattle.vc_store.specs.Contents.{contents_in}
-use Rattle.vc_store.specs.Reading.{Contents, with_place}
+use Rattle.vc_store.specs.Reading.{with_place}
 
 -- a dictionary is whole by some kind's rules
 pub record IsWholeBy (dict : Dict) (blocks : Blocks) : Type 0 where

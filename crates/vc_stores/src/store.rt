@@ -5,7 +5,7 @@ use vc_dtdisc::DictDisc;
 use vc_objects::{empty, open, shut};
 use vc_seg::{BoxedDisc, RegionFault, SegDisc, Stat};
 use vc_store::Put;
-use vc_store::calls::{put, seek, take};
+use vc_store::calls::{put, seek, seek_from, take};
 
 /// Dictionaries in one region over the segments of a discipline, each by a number from 0 on, by one of seven methods and of
 /// a kind of its own. Their objects are byte strings of 1 to 1,024 bytes, of which one in each may be current. A number is
@@ -27,7 +27,8 @@ impl<D: DictDisc + Drop> Store<D> {
     ghost use Rattle.vc_best.specs.Parts.{disc_in, layout_of, segments_in};
     ghost use Rattle.vc_objects.specs.Leaves.{told_each, told_if};
     ghost use Rattle.vc_objects.specs.Promises.{opening_in};
-    ghost use Rattle.vc_store.specs.Reading.{AfterPut, LacksKey, current, found, place_after, with_place};
+    ghost use Rattle.vc_dtdisc.specs.Objects.{has_key};
+    ghost use Rattle.vc_store.specs.Reading.{AfterPut, LacksKey, Sought, current, found, is_from, place_after, with_place};
     ghost use Rattle.vc_stores.specs.Stores.{AllStay, AreTold, Ends, HasDict, HasRoom, IsOpen, OthersStay, StaysOpen, TriesAt, best_of, contents, dict_at, dicts_of, disc_of, gone_at, kind_at, kinds_of, lender, lent_to, numbers_of, rules_at, shown};
 
     /// A store of no dictionaries in a best region, which is the store's from then on. The region's segments are the last that
@@ -137,13 +138,8 @@ impl<D: DictDisc + Drop> Store<D> {
     pub fn find(&mut self, n: usize, key: &[u8]) -> bool
         requires open { IsOpen D.rules self.old (disc_of self.old state) }
         requires there { HasDict self.old n }
-        ensures found { result ≡ is_some (found (rules_at D.rules self.old n) key.now
-            (contents self.old n).objects) }
-        ensures current { result ≡ true → current (contents self.new n)
-            ≡ found (rules_at D.rules self.old n) key.now (contents self.old n).objects }
-        ensures same { contents self.new n
-            ≡ with_place (contents self.new n).place (contents self.old n) }
-        ensures missed { result ≡ false → contents self.new n ≡ contents self.old n }
+        ensures sought { Sought (has_key (rules_at D.rules self.old n) key.now) result
+            (contents self.old n) (contents self.new n) }
         ensures kinds { kinds_of self.new ≡ kinds_of self.old }
         ensures numbers { numbers_of self.new ≡ numbers_of self.old }
         ensures others { OthersStay self.old self.new n }
@@ -153,6 +149,25 @@ impl<D: DictDisc + Drop> Store<D> {
             unreachable!()
         };
         seek(&mut self.best, dict, &self.kinds[n], key)
+    }
+
+    /// Makes the first object current whose key isn't less than that one, and answers whether there is one. Where there is none,
+    /// nothing changes; and there is one in an ordered set or bag alone.
+    pub fn at_least(&mut self, n: usize, key: &[u8]) -> bool
+        requires open { IsOpen D.rules self.old (disc_of self.old state) }
+        requires there { HasDict self.old n }
+        ensures sought { Sought (is_from (contents self.old n).method
+            (rules_at D.rules self.old n) key.now) result
+            (contents self.old n) (contents self.new n) }
+        ensures kinds { kinds_of self.new ≡ kinds_of self.old }
+        ensures numbers { numbers_of self.new ≡ numbers_of self.old }
+        ensures others { OthersStay self.old self.new n }
+        ensures stays { StaysOpen state D.rules self.old self.new }
+    {
+        let Some(dict) = &mut self.dicts[n] else {
+            unreachable!()
+        };
+        seek_from(&mut self.best, dict, &self.kinds[n], key)
     }
 
     /// The current object of a dictionary, or none.

@@ -1,4 +1,4 @@
-use Rattle.vc_base.proofs.Common.{length, sym}
+use Rattle.vc_base.proofs.Common.{length}
 use Rattle.vc_dict.specs.Listed.{holders_of}
 use Rattle.vc_best.specs.Cells.{cells_in}
 use Rattle.vc_store.specs.Contents.{contents_in}

@@ -1,4 +1,4 @@
-use Rattle.vc_base.proofs.Common.{◌≤◌, ◌<◌, arith, sym, ◌∙◌, subst, Discipline}
+use Rattle.vc_base.proofs.Common.{◌≤◌, arith, Discipline}
 use Rattle.vc_stores.specs.Stores.{numbers_of}
 use Rattle.vc_stores.proofs.Ended.{all-told, below-next, below-start, took-all}
 use Rattle.vc_stores.proofs.store.Store.close.Given.{Over}

@@ -5,7 +5,7 @@ use Rattle.vc_best.specs.Parts.{disc_in, segments_in}
 use Rattle.vc_objects.specs.Leaves.{KeepsDisc}
 use Rattle.vc_objects.specs.Promises.{Opens, opening_in}
 use Rattle.vc_objects.proofs.Leaving.{keeps-same}
-use Rattle.vc_stores.specs.Stores.{OthersStay, disc_of, kind_at, lent_to, numbers_of, shown}
+use Rattle.vc_stores.specs.Stores.{OthersStay, disc_of, kind_at, lent_to, shown}
 use Rattle.vc_stores.proofs.Added.{all-still, empty-added, empty_by, kind-last, number-more, others-added, stays-added, stays-still}
 use Rattle.vc_stores.proofs.store.Store.dict.Given.{Over}
 use Rattle.vc_stores.proofs.store.Store.dict.Goals as goal

@@ -1,4 +1,4 @@
-use Rattle.vc_base.proofs.Common.{◌≡◌, [], None, length, length-map, sym, ap, ◌∙◌, Discipline}
+use Rattle.vc_base.proofs.Common.{◌≡◌, length, length-map, sym, ap, ◌∙◌, Discipline}
 use Rattle.vc_dtdisc.specs.Objects.{bytes_of}
 use Rattle.vc_objects.specs.Leaves.{told_each}
 use Rattle.vc_objects.specs.Objects.{Dictionary}
@@ -6,7 +6,7 @@ use Rattle.vc_objects.specs.Parts.{dictionary_in}
 use Rattle.vc_store.specs.Contents.{contents_of}
 use Rattle.vc_stores.specs.Stores.{contents, dicts_of}
 use Rattle.vc_stores.proofs.Added.{empty_by}
-use Rattle.vc_stores.proofs.Changed.{Call, moved, others-there, same-numbers, shown-before, stays-there, told-at}
+use Rattle.vc_stores.proofs.Changed.{Call, moved, others-there, same-numbers, stays-there, told-at}
 use Rattle.vc_stores.proofs.Here.{below-there, call-changed, read-there, whole-here, with_both}
 use Rattle.vc_stores.proofs.store.Store.empty.Given.{Over}
 use Rattle.vc_stores.proofs.store.Store.empty.Goals as goal

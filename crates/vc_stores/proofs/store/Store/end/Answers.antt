@@ -1,4 +1,4 @@
-use Rattle.vc_base.proofs.Common.{Some, None, length, set, refl, sym, ap, ◌∙◌, Discipline}
+use Rattle.vc_base.proofs.Common.{Some, set, refl, sym, ap, ◌∙◌, Discipline}
 use Rattle.std.proofs.lemmas.Option.{slice_get-get_or}
 use Rattle.vc_stores.specs.Stores.{dicts_of}
 use Rattle.vc_stores.proofs.Ended.{ended, ended-none}

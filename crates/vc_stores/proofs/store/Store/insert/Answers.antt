@@ -1,7 +1,5 @@
-use Rattle.vc_base.proofs.Common.{◌≡◌, sym, subst, same_Some, ◌∙◌, Discipline}
-use Rattle.vc_dict.specs.declared.dict.Dict.{Dict}
-use Rattle.vc_store.specs.Reading.{AfterPut, Contents, place_after}
-use Rattle.vc_store.specs.Tries.{IsTried, Tries}
+use Rattle.vc_base.proofs.Common.{◌≡◌, ◌∙◌, Discipline}
+use Rattle.vc_store.specs.Reading.{AfterPut, place_after}
 use Rattle.vc_stores.specs.Stores.{dicts_of}
 use Rattle.vc_stores.proofs.Changed.{Call, moved, others-there, same-numbers, stays-there, tried-at}
 use Rattle.vc_stores.proofs.Here.{below-there, call-kept, read-there, whole-here, with_dict}
