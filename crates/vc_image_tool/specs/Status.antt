@@ -1,0 +1,13 @@
+-- The number of each status.
+use Rattle.std.specs.Prelude.{ℕ}
+use Rattle.vc_image_tool.specs.declared.status.ImageStatus.{ImageStatus}
+use Rattle.vc_image_tool.specs.declared.status.ImageStatus.TheVariants.{Done, Unsound, Usage, Read, Write, Memory, NotLent}
+
+abbrev pub number : ImageStatus → ℕ
+number Done = 0
+number Unsound = 1
+number Usage = 2
+number Read = 3
+number Write = 4
+number Memory = 5
+number NotLent = 6

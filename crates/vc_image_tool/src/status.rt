@@ -1,0 +1,45 @@
+ghost use Rattle.std.specs.Prelude.{◌≡◌};
+
+/// How a task on an image ends. This project's own.
+#[derive(Clone, Copy, Debug, PartialEq, Eq)]
+pub enum ImageStatus {
+    /// The image is sound, and what was asked for is written.
+    Done,
+
+    /// A part of the image isn't sound.
+    Unsound,
+
+    /// The words behind the program's name were refused.
+    Usage,
+
+    /// The file can't be read.
+    Read,
+
+    /// A write failed.
+    Write,
+
+    /// Want of memory.
+    Memory,
+
+    /// The image is sound, and the discipline doesn't lend it its segments.
+    NotLent,
+}
+
+impl ImageStatus {
+    ghost use Rattle.vc_image_tool.specs.Status.{number};
+
+    /// The number that a program ends with, from 0 to 6.
+    pub fn number(self) -> u8
+        ensures { result ≡ number self }
+    {
+        match self {
+            ImageStatus::Done => 0,
+            ImageStatus::Unsound => 1,
+            ImageStatus::Usage => 2,
+            ImageStatus::Read => 3,
+            ImageStatus::Write => 4,
+            ImageStatus::Memory => 5,
+            ImageStatus::NotLent => 6,
+        }
+    }
+}
