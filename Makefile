@@ -12,17 +12,19 @@ INCLUDEDIR = $(PREFIX)/include
 MANDIR = $(PREFIX)/share/man
 DOCDIR = $(PREFIX)/share/doc/kolbista
 TOOLS = record picture curve sites ways check from
-PAGES = vmreplay.1 dtrun.1 vmcompare.1 vmrecord.1 vmpicture.1 vmcurve.1 vmsites.1 vmways.1 vmcheck.1 vmfrom.1
+PAGES = vmreplay.1 dtrun.1 vmcompare.1 vmimage.1 vmrecord.1 vmpicture.1 vmcurve.1 vmsites.1 vmways.1 vmcheck.1 vmfrom.1
 
-# Proves the three programs and all below them, runs each on its sample, and leaves them in bin/.
+# Proves the four programs and all below them, runs each on its sample, and leaves them in bin/.
 all: needs-rt
 	cd crates/vmreplay && $(RT) run < stdin > /dev/null
 	cd crates/dtrun && $(RT) run < stdin > /dev/null
 	cd crates/vmcompare && $(RT) run < stdin > /dev/null
+	cd crates/vmimage && $(RT) run -- show data/fruit.image > /dev/null
 	mkdir -p bin
 	cp -f crates/vmreplay/out/vmreplay bin/vmreplay
 	cp -f crates/dtrun/out/dtrun bin/dtrun
 	cp -f crates/vmcompare/out/vmcompare bin/vmcompare
+	cp -f crates/vmimage/out/vmimage bin/vmimage
 
 # Proves the library for C, over what make proved, and leaves its archive in bin/.
 archive: needs-rt
@@ -43,14 +45,14 @@ test: needs-rt
 	.ci/run
 
 # Installs what make left in bin/, and makes it first where it isn't there; and the tools, which record needs a C compiler for.
-install: $(BIN)/vmreplay $(BIN)/dtrun $(BIN)/vmcompare
+install: $(BIN)/vmreplay $(BIN)/dtrun $(BIN)/vmcompare $(BIN)/vmimage
 	mkdir -p $(DESTDIR)$(BINDIR) $(DESTDIR)$(MANDIR)/man1 $(DESTDIR)$(DOCDIR)/examples
-	cp -f $(BIN)/vmreplay $(BIN)/dtrun $(BIN)/vmcompare $(DESTDIR)$(BINDIR)
+	cp -f $(BIN)/vmreplay $(BIN)/dtrun $(BIN)/vmcompare $(BIN)/vmimage $(DESTDIR)$(BINDIR)
 	for tool in $(TOOLS); do cp -f tools/$$tool $(DESTDIR)$(BINDIR)/vm$$tool && chmod 755 $(DESTDIR)$(BINDIR)/vm$$tool || exit 1; done
-	cd $(DESTDIR)$(BINDIR) && chmod 755 vmreplay dtrun vmcompare
+	cd $(DESTDIR)$(BINDIR) && chmod 755 vmreplay dtrun vmcompare vmimage
 	for page in $(PAGES); do cp -f man/$$page $(DESTDIR)$(MANDIR)/man1 || exit 1; done
-	cp -f docs/script.md docs/compare.md $(DESTDIR)$(DOCDIR)
-	cp -f examples/*.c examples/*.vm examples/*.dt examples/*.trace examples/*.words examples/*.replies $(DESTDIR)$(DOCDIR)/examples
+	cp -f docs/script.md docs/compare.md docs/image.md $(DESTDIR)$(DOCDIR)
+	cp -f examples/*.c examples/*.vm examples/*.dt examples/*.trace examples/*.image examples/*.words examples/*.replies $(DESTDIR)$(DOCDIR)/examples
 	cd $(DESTDIR)$(MANDIR)/man1 && chmod 644 $(PAGES)
 	chmod 644 $(DESTDIR)$(DOCDIR)/*.md $(DESTDIR)$(DOCDIR)/examples/*
 	if test -f $(BIN)/libkolbista.a; then \
@@ -71,7 +73,7 @@ install: $(BIN)/vmreplay $(BIN)/dtrun $(BIN)/vmcompare
 	fi
 
 uninstall:
-	for name in vmreplay dtrun vmcompare; do rm -f $(DESTDIR)$(BINDIR)/$$name; done
+	for name in vmreplay dtrun vmcompare vmimage; do rm -f $(DESTDIR)$(BINDIR)/$$name; done
 	for tool in $(TOOLS); do rm -f $(DESTDIR)$(BINDIR)/vm$$tool; done
 	for page in $(PAGES); do rm -f $(DESTDIR)$(MANDIR)/man1/$$page; done
 	rm -f $(DESTDIR)$(ARCHIVEDIR)/libkolbista.a $(DESTDIR)$(ARCHIVEDIR)/pkgconfig/kolbista.pc $(DESTDIR)$(INCLUDEDIR)/kolbista.h $(DESTDIR)$(MANDIR)/man3/kolbista.3
@@ -85,3 +87,6 @@ $(BIN)/dtrun: $(BIN)/vmreplay
 
 $(BIN)/vmcompare: $(BIN)/dtrun
 	test -x $(BIN)/vmcompare || $(MAKE) all
+
+$(BIN)/vmimage: $(BIN)/vmcompare
+	test -x $(BIN)/vmimage || $(MAKE) all

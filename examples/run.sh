@@ -1,12 +1,13 @@
 #!/bin/sh
 # Runs each script of this folder, *.vm with vmreplay, *.dt with dtrun and *.trace with vmcompare, behind the words in the
-# file *.words beside it, if there is one, and compares what is written with the file *.replies:
+# file *.words beside it, if there is one, shows each image *.image with vmimage, and compares what is written with the
+# file *.replies:
 #   examples/run.sh [FOLDER]
 # The programs are those of bin/ where no folder is named.
 set -u
 here=$(cd "$(dirname "$0")" && pwd) || exit 1
 programs=${1:-$here/../bin}
-for program in vmreplay dtrun vmcompare; do
+for program in vmreplay dtrun vmcompare vmimage; do
     if [ ! -x "$programs/$program" ]; then
         echo "examples/run.sh: no program $programs/$program: run make first" >&2
         echo '0 passed, 1 failed'
@@ -17,18 +18,23 @@ dir=$(mktemp -d) || exit 1
 trap 'rm -rf "$dir"' EXIT
 passed=0
 failed=0
-for script in "$here"/*.vm "$here"/*.dt "$here"/*.trace; do
+for script in "$here"/*.vm "$here"/*.dt "$here"/*.trace "$here"/*.image; do
     case $script in
         *.vm) program=vmreplay ;;
         *.trace) program=vmcompare ;;
+        *.image) program=vmimage ;;
         *) program=dtrun ;;
     esac
     name=$(basename "${script%.*}")
     words=
     [ ! -e "$here/$name.words" ] || words=$(cat "$here/$name.words")
-    # Words are parted at blanks.
-    # shellcheck disable=SC2086
-    "$programs/$program" $words < "$script" > "$dir/out" 2> "$dir/err"
+    if [ "$program" = vmimage ]; then
+        "$programs/vmimage" show "$script" > "$dir/out" 2> "$dir/err"
+    else
+        # Words are parted at blanks.
+        # shellcheck disable=SC2086
+        "$programs/$program" $words < "$script" > "$dir/out" 2> "$dir/err"
+    fi
     status=$?
     if [ "$status" -eq 0 ] && [ ! -s "$dir/err" ] && cmp -s "$here/$name.replies" "$dir/out"; then
         echo "$program $name: $(wc -l < "$dir/out" | tr -d ' ') replies as they stand in $name.replies, status 0, nothing on standard error"

@@ -8,7 +8,7 @@ set -u
 here=$(cd "$(dirname "$0")" && pwd) || exit 1
 programs=${1:-$here/../bin}
 [ $# -eq 0 ] || shift
-for program in vmreplay dtrun vmcompare; do
+for program in vmreplay dtrun vmcompare vmimage; do
     if [ ! -x "$programs/$program" ]; then
         echo "tools/test.sh: no program $programs/$program: run make first" >&2
         echo '0 passed, 1 failed'

@@ -1,8 +1,8 @@
 #!/bin/sh
 # Runs scripts without a proof, or by the programs that make left in bin/, where no source is newer:
 #   tools/try.sh [SCRIPT..]
-# dtrun runs a script NAME.dt, vmcompare a trace NAME.trace, and vmreplay any other; where none is named each runs its sample,
-# as make run does. A program is compiled once, whatever the number of its scripts, and not at all where bin/ has it. RT and
+# dtrun runs a script NAME.dt, vmcompare a trace NAME.trace, vmimage shows an image NAME.image, and vmreplay runs any other;
+# where none is named each runs its sample, as make run does. A program is compiled once, whatever the number of its scripts, and not at all where bin/ has it. RT and
 # BIN stand for the command rt and the folder bin. The status is the greatest of the runs; without rt, where it is needed, it
 # is 127.
 set -u
@@ -58,6 +58,23 @@ compiles() {
     at=$(date +%s)
 }
 
+# by_bin NAME SCRIPT: the program in bin/ on a script.
+by_bin() {
+    if [ "$1" = vmimage ]; then "$bin/vmimage" show "$2"; else "$bin/$1" < "$2"; fi
+}
+
+# by_rt NAME SCRIPT: the program, compiled by rt, on a script.
+by_rt() {
+    cd "$here/crates/$1" || return
+    if [ "$1" = vmimage ]; then "$rt" try --data "image=$2" -- show image < /dev/null; else "$rt" try < "$2"; fi
+}
+
+# cases_by_rt NAME FOLDER: the same on each script of a folder.
+cases_by_rt() {
+    cd "$here/crates/$1" || return
+    if [ "$1" = vmimage ]; then "$rt" try --cases "$2" -- show '{}'; else "$rt" try --cases "$2"; fi
+}
+
 # The scripts of one program.
 run() {
     name=$1
@@ -66,7 +83,7 @@ run() {
         say "$name: the program in bin, which make proved"
         for script in "$@"; do
             [ $# -eq 1 ] || echo "== $script"
-            "$bin/$name" < "$script"
+            by_bin "$name" "$script"
             ended $?
         done
         return
@@ -74,7 +91,7 @@ run() {
     compiles "$name"
     if [ $# -eq 1 ]; then
         given=$(cd "$(dirname "$1")" && pwd)/$(basename "$1")
-        (cd "$here/crates/$name" && "$rt" try < "$given") 2> "$dir/said"
+        (by_rt "$name" "$given") 2> "$dir/said"
         ended $?
     else
         # Their order is that of the names.
@@ -84,7 +101,7 @@ run() {
             n=$((n + 1))
             cp "$script" "$dir/$name/$n-$(basename "$script")" || exit 1
         done
-        (cd "$here/crates/$name" && "$rt" try --cases "$dir/$name") 2> "$dir/said" > "$dir/out"
+        (cases_by_rt "$name" "$dir/$name") 2> "$dir/said" > "$dir/out"
         ended $?
         sed 's/^== 1[0-9][0-9][0-9]-/== /' "$dir/out"
         for status in $(sed -n 's/^case=.* status=\([0-9]*\) .*/\1/p' "$dir/said"); do ended "$status"; done
@@ -95,8 +112,12 @@ run() {
     say "$name: compiled and run in $(took "$at")"
 }
 
-# A program's sample script, each command with its reply; a trace, and what is told of it.
+# A program's sample script, each command with its reply; a trace, and what is told of it; what is shown of an image.
 sample() {
+    if [ "$1" = vmimage ]; then
+        run vmimage "$here/crates/vmimage/data/fruit.image"
+        return
+    fi
     run "$1" "$here/crates/$1/stdin" > "$dir/replies"
     if [ "$1" = vmcompare ]; then
         cat "$here/crates/$1/stdin" "$dir/replies"
@@ -108,7 +129,7 @@ sample() {
 }
 
 if [ $# -eq 0 ]; then
-    for name in vmreplay dtrun vmcompare; do
+    for name in vmreplay dtrun vmcompare vmimage; do
         sample "$name"
         echo
     done
@@ -126,8 +147,8 @@ of() {
     for script do
         shift
         case $name:$script in
-            dtrun:*.dt | vmcompare:*.trace) set -- "$@" "$script" ;;
-            *:*.dt | *:*.trace | dtrun:* | vmcompare:*) ;;
+            dtrun:*.dt | vmcompare:*.trace | vmimage:*.image) set -- "$@" "$script" ;;
+            *:*.dt | *:*.trace | *:*.image | dtrun:* | vmcompare:* | vmimage:*) ;;
             *) set -- "$@" "$script" ;;
         esac
     done
@@ -137,4 +158,5 @@ of() {
 of vmreplay "$@"
 of dtrun "$@"
 of vmcompare "$@"
+of vmimage "$@"
 exit "$greatest"

@@ -28,13 +28,13 @@ first() {
 if has make; then
     : > rt.log
     make -s -C "$here/.." run RT="$dir/rt" BIN="$dir/none" > first.out 2> first.said
-    check "make run: status 0, and each program compiled once" same "$? $(tr '\n' ' ' < rt.log)" "0 vmreplay try dtrun try vmcompare try "
+    check "make run: status 0, and each program compiled once" same "$? $(sed 's/ --data .*//' rt.log | tr '\n' ' ')" "0 vmreplay try dtrun try vmcompare try vmimage try "
     check "make run: it says what it does, and how long it took" same "$(sed 's/[0-9]* seconds\{0,1\}$/N/' first.said)" \
-        "$(for name in vmreplay dtrun vmcompare; do echo "$name: compiling it, not proved (bin has none); this takes a minute or two"; echo "$name: compiled and run in N"; done)"
+        "$(for name in vmreplay dtrun vmcompare vmimage; do echo "$name: compiling it, not proved (bin has none); this takes a minute or two"; echo "$name: compiled and run in N"; done)"
     check "make run: each command stands beside its reply" \
         same "$(grep -c '^alloc heap conf 512  *reply to alloc heap conf 512$' first.out)" 1
     check "make run: a line of its own ends it" \
-        same "$(tail -n 1 first.out | sed 's/in [0-9]* second[s]*/in N/')" "The programs ran their samples in N, compiled: 3. A script of one's own: tools/try.sh SCRIPT; with a proof: make"
+        same "$(tail -n 1 first.out | sed 's/in [0-9]* second[s]*/in N/')" "The programs ran their samples in N, compiled: 4. A script of one's own: tools/try.sh SCRIPT; with a proof: make"
     for target in all run test install; do
         make -s -C "$here/.." "$target" RT=no_such_rt BIN="$dir/none" DESTDIR="$dir/none" > first.out 2> first.said
         check "make $target without rt: it is told where that comes from" \
@@ -48,7 +48,7 @@ check "a program that fails on its sample: the last line says so" same "$? $(tai
 
 # Scripts of one's own.
 mkdir -p now
-cp "$programs/vmreplay" "$programs/dtrun" "$programs/vmcompare" now
+cp "$programs/vmreplay" "$programs/dtrun" "$programs/vmcompare" "$programs/vmimage" now
 printf 'open r best 1\nalloc r a 100\n' > one.vm
 printf 'open r best 1\nbad\n' > 'two three.vm'
 printf 'open r best 1\ndict d set r 1\n' > four.dt
@@ -60,6 +60,10 @@ a 1:32 vmreplay: the program in bin, which make proved"
 first "$dir/now" five.trace
 check "a trace by the program in bin: what is told of it" \
     same "$status $(head -n 2 first.out | tr '\n' ';') $(cat first.said)" "0 live 100;best peak 4096 waste 3996; vmcompare: the program in bin, which make proved"
+cp "$here/../examples/fruit.image" .
+first "$dir/now" fruit.image
+check "an image by the program in bin: what it holds" \
+    same "$status $(tail -n 1 first.out) $(cat first.said)" "0 2 apple Plum vmimage: the program in bin, which make proved"
 first "$dir/now"
 check "the samples by the programs in bin: nothing is compiled" same "$status $(cat rt.log) $(tail -n 1 first.out | sed 's/.*compiled: /compiled: /; s/\. .*//')" "0  compiled: 0"
 touch -t 200001010000 now/vmreplay

@@ -7,6 +7,7 @@ if has make; then
         cat > installed.files << END
 bin/dtrun bin/vmcompare bin/vmreplay
 bin/vmcurve bin/vmpicture bin/vmrecord
+bin/vmimage share/man/man1/vmimage.1 share/doc/kolbista/image.md
 bin/vmsites share/man/man1/vmsites.1
 bin/vmways share/man/man1/vmways.1
 bin/vmcheck share/man/man1/vmcheck.1
@@ -39,6 +40,7 @@ END
         check "installed: vmcheck finds dtrun" same "$("$at/bin/vmcheck" "$at/share/doc/kolbista/examples/set.dt" | sed 's/.*: no/no/; s/:.*//')" "no line is bad"
         "$at/bin/vmways" "$at/share/doc/kolbista/examples/array.trace" > installed.svg
         check "installed: vmways finds vmcompare" grep -q '>last, a last region: 8,192 bytes' installed.svg
+        check "installed: vmimage shows an image" same "$("$at/bin/vmimage" show "$at/share/doc/kolbista/examples/fruit.image" | tail -n 1)" "2 apple Plum"
         check "installed: vmsites finds vmreplay" test -n "$("$at/bin/vmsites" "$at/share/doc/kolbista/examples/profile.vm" | grep '^main ')"
         make -s -C "$here/.." uninstall DESTDIR="$dir/root" PREFIX=/usr
         check "uninstalled: no file is left" same "$(find "$dir/root" -type f)" ""

@@ -52,6 +52,7 @@ while IFS= read -r line; do
             ;;
         'input '*) from=$rest ;;
         'output '*) to=$rest ;;
+        'file '*) printf '%b' "${rest#* }" > "${rest%% *}" ;;
         'status '*) status=$rest ;;
         '< '*) printf '%b\n' "$rest" >> run.in ;;
         '<') echo >> run.in ;;

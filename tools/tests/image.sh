@@ -1,0 +1,52 @@
+# vmimage on an image of a few dictionaries, and on the same with damages.
+# shellcheck shell=sh disable=SC2154
+image=$programs/vmimage
+fruit=$here/../examples/fruit.image
+
+# spoilt AT BYTES..: spoilt.image, the image with other bytes at some places, each told as by printf.
+spoilt() {
+    cp "$fruit" spoilt.image
+    while [ $# -gt 0 ]; do
+        # shellcheck disable=SC2059
+        printf "$2" | dd of=spoilt.image bs=1 seek="$1" conv=notrunc 2> dd.said
+        shift 2
+    done
+}
+
+# unsound PART AT BYTES..: with these bytes that part is told, whether the image is checked or shown.
+unsound() {
+    part=$1
+    shift
+    spoilt "$@"
+    for task in check show; do
+        check "vmimage $task: bytes at $1 are others" \
+            same "$("$image" "$task" spoilt.image 2>&1 > image.out; echo "status $?, out $(wc -c < image.out | tr -d ' ')")" \
+            "vmimage: unsound: $part
+status 1, out 0"
+    done
+}
+
+check "vmimage check: an image is sound" same "$("$image" check "$fruit")" sound
+unsound header 0 X
+unsound header 8 '\003'
+unsound 'segment 1' 116 '\000'
+unsound 'segment 1' 192 '\000'
+unsound tree 12 '\000\000\000\000'
+unsound 'dictionary 0' 28 '\007'
+unsound 'dictionary 0' 32 '\007'
+unsound 'dictionary 0' 36 '\003'
+# The list's first holder leads to itself.
+unsound 'dictionary 0' 204 '\003'
+unsound 'dictionary 1' 72 '\001'
+# The root of the ordered set is its own right child.
+unsound 'dictionary 1' 396 '\011'
+# The ordered set has no objects, so that its holders are of none.
+unsound rest 72 '\000' 76 '\000\000\000\000' 96 '\000\000\000\000'
+# What nothing asks of: the first bytes of the segment, and a byte behind a block's size.
+spoilt 100 X 173 X
+check "vmimage check: bytes that are of no account" same "$("$image" check spoilt.image)" sound
+"$image" show spoilt.image > image.out
+check "vmimage show: nor are they shown" cmp image.out "${fruit%.image}.replies"
+"$here/picture" image.out > image.svg 2> fault
+check "what vmimage shows is drawn" same "$? $(cat fault)" "0 "
+check "what vmimage shows is drawn: its blocks by their numbers" same "$(grep -c '>blocks: 5, ' image.svg)" 1
