@@ -4,5 +4,7 @@
 mod cursor;
 mod moves;
 mod store;
+#[cfg(test)]
+mod tests;
 
 pub use store::Store;
