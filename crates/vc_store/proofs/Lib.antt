@@ -4,3 +4,4 @@ pub mod Putting
 pub mod Removing
 pub mod Shown
 pub mod Staying
+pub mod Moving

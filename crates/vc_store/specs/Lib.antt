@@ -3,3 +3,4 @@ pub mod Contents
 pub mod Answers
 pub mod Tries
 pub mod Collections
+pub mod Moves

@@ -1,4 +1,5 @@
 use crate::calls::{put, seek, seek_from, take};
+use crate::moves::{to_first, to_last, to_next, to_prev};
 use crate::put::Put;
 use vc_base::{Addr, Cells, DictMethod, OutOfMemory};
 use vc_best::Best;
@@ -106,16 +107,7 @@ impl<D: DictDisc + Drop> Collection<D> {
         ensures kind { kind_of self.new ≡ kind_of self.old }
         ensures stays { StaysOpen state D.rules self.old self.new }
     {
-        match self.dict.first(&self.best) {
-            Some(at) => {
-                self.dict.current = at;
-                true
-            }
-            None => {
-                self.dict.current = Addr::NONE;
-                false
-            }
-        }
+        to_first(&self.best, &mut self.dict)
     }
 
     /// Makes the last object current, and answers whether there is one.
@@ -127,16 +119,7 @@ impl<D: DictDisc + Drop> Collection<D> {
         ensures kind { kind_of self.new ≡ kind_of self.old }
         ensures stays { StaysOpen state D.rules self.old self.new }
     {
-        match self.dict.last(&self.best) {
-            Some(at) => {
-                self.dict.current = at;
-                true
-            }
-            None => {
-                self.dict.current = Addr::NONE;
-                false
-            }
-        }
+        to_last(&self.best, &mut self.dict)
     }
 
     /// Makes the object behind the current one current, and answers whether there is one: none behind the last, nor where none
@@ -150,19 +133,7 @@ impl<D: DictDisc + Drop> Collection<D> {
         ensures kind { kind_of self.new ≡ kind_of self.old }
         ensures stays { StaysOpen state D.rules self.old self.new }
     {
-        if self.dict.current == Addr::NONE {
-            return false;
-        }
-        match self.dict.next(&self.best, self.dict.current) {
-            Some(at) => {
-                self.dict.current = at;
-                true
-            }
-            None => {
-                self.dict.current = Addr::NONE;
-                false
-            }
-        }
+        to_next(&self.best, &mut self.dict)
     }
 
     /// Makes the object before the current one current, and answers whether there is one: none before the first, nor where none
@@ -175,20 +146,7 @@ impl<D: DictDisc + Drop> Collection<D> {
         ensures kind { kind_of self.new ≡ kind_of self.old }
         ensures stays { StaysOpen state D.rules self.old self.new }
     {
-        let here = self.dict.current;
-        if here == Addr::NONE {
-            return false;
-        }
-        match self.dict.prev(&self.best, here) {
-            Some(at) => {
-                self.dict.current = at;
-                true
-            }
-            None => {
-                self.dict.current = Addr::NONE;
-                false
-            }
-        }
+        to_prev(&self.best, &mut self.dict)
     }
 
     /// The current object, or none.

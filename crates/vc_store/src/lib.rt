@@ -3,6 +3,7 @@
 
 pub mod calls;
 mod collection;
+pub mod moves;
 mod put;
 #[cfg(test)]
 mod tests;

@@ -20,7 +20,7 @@ use Rattle.vc_store.specs.Reading.{Contents, current, object_at, with_place}
 use Rattle.vc_store.proofs.Shown.{current-there, pointed-shown, within-rest}
 use Rattle.vc_stores.specs.Stores.{HasDict, IsOpen, OthersStay, StaysOpen, contents, contents_or, dict_at, dicts_of, disc_of, joined, kind_at, kinds_of, lent_to, numbers_of, rules_at, rules_or}
 use Rattle.vc_stores.specs.declared.store.Store.{Store}
-use Rattle.vc_stores.specs.Moves.{IsWholeBy, Moves}
+use Rattle.vc_store.specs.Moves.{IsWholeBy, Moves}
 use Rattle.vc_stores.proofs.Changed.{Call, moved, others-there, same-numbers, stays-there}
 use Rattle.vc_stores.proofs.Numbers.{at-below, set-itself}
 

@@ -4,4 +4,3 @@ pub mod Changed
 pub mod Here
 pub mod Added
 pub mod Ended
-pub mod Moving

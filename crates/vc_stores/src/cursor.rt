@@ -1,7 +1,7 @@
 use crate::Store;
-use crate::moves::{to_first, to_last, to_next, to_prev};
 use vc_dtdisc::DictDisc;
 use vc_seg::{BoxedDisc, SegDisc};
+use vc_store::moves::{to_first, to_last, to_next, to_prev};
 
 impl<D: DictDisc + Drop> Store<D> {
     ghost use Rattle.std.specs.Prelude.{◌≡◌, is_some, length};

@@ -2,7 +2,6 @@
 #![tactic(auto)]
 
 mod cursor;
-mod moves;
 mod store;
 #[cfg(test)]
 mod tests;

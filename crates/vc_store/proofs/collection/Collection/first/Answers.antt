@@ -1,54 +1,14 @@
-use Rattle.vc_base.proofs.Common.{refl, rules, is_some, sym, ap}
-use Rattle.vc_best.specs.Cells.{cells_in}
-use Rattle.vc_dict.specs.Listed.{holders_of}
-use Rattle.vc_objects.proofs.Leaving.{keeps-same}
-use Rattle.vc_store.specs.Contents.{contents_in}
-use Rattle.vc_store.specs.Reading.{with_place}
-use Rattle.vc_store.proofs.Cursor.{first-some}
-use Rattle.vc_store.proofs.Places.{within-first}
-use Rattle.vc_store.proofs.Shown.{pointed-place, pointed-whole}
+use Rattle.vc_store.proofs.Staying.{stays-moved, there-moved}
 use Rattle.vc_store.proofs.collection.Collection.first.Goals as goal
 
-pub first-requires : goal.first-requires
-first-requires g c =
-    let self = c.args.self.now in
-    record { rules = g.D.DictDisc.rules self.kind; is = record { holders = holders_of self.dict (cells_in self.best); stands = c.requires.open.whole.stands } }
+pub to_first-requires : goal.to_first-requires
+to_first-requires g c = record { whole = record { rules = g.D.DictDisc.rules c.args.self.now.kind; whole = c.requires.open.whole } }
 
-pub returns-in-Some-clause-moved : goal.returns-in-Some-clause-moved
-returns-in-Some-clause-moved g c =
-    let self = c.args.self.now in
-    let rules = g.D.DictDisc.rules self.kind in
-    ap (λ p. with_place p (contents_in self.dict self.best))
-    (first-some rules self.dict (cells_in self.best) c.requires.open.whole c.in-Some.at (c.in-Some.ensures rules (holders_of self.dict (cells_in self.best)) c.requires.open.whole.stands))
+pub returns-clause-moved : goal.returns-clause-moved
+returns-clause-moved g c = c.to_first.ensures.moves.moved
 
-pub returns-in-Some-clause-stays : goal.returns-in-Some-clause-stays
-returns-in-Some-clause-stays g c =
-    let self = c.args.self.now in
-    let rules = g.D.DictDisc.rules self.kind in
-    record {
-      is_open = record {
-        whole =
-            pointed-whole rules self.dict (cells_in self.best) c.in-Some.at c.requires.open.whole
-            (within-first (holders_of self.dict (cells_in self.best)) c.in-Some.at.0 (sym (c.in-Some.ensures rules (holders_of self.dict (cells_in self.best)) c.requires.open.whole.stands)));
-        lent = c.requires.open.lent;
-      };
-      rules = refl;
-      method = refl;
-      lends = keeps-same _ _ _ _ refl refl;
-    }
+pub returns-clause-there : goal.returns-clause-there
+returns-clause-there g c = there-moved (λ z. (goal.SegDisc-dyn g z).state z.1) g.D.DictDisc.rules c.args.self.now c.to_first.new.dict _ c.to_first.result c.to_first.ensures.moves
 
-pub returns-in-Some-clause-there : goal.returns-in-Some-clause-there
-returns-in-Some-clause-there g c =
-    let self = c.args.self.now in
-    let rules = g.D.DictDisc.rules self.kind in
-    ap is_some
-    (sym (pointed-place rules self.dict (cells_in self.best) c.in-Some.at c.requires.open.whole
-    (within-first (holders_of self.dict (cells_in self.best)) c.in-Some.at.0 (sym (c.in-Some.ensures rules (holders_of self.dict (cells_in self.best)) c.requires.open.whole.stands)))))
-
-pub returns-in-None-clause-stays : goal.returns-in-None-clause-stays
-returns-in-None-clause-stays g c = record {
-  is_open = search rules;
-  rules = refl;
-  method = refl;
-  lends = keeps-same _ _ _ _ refl refl;
-}
+pub returns-clause-stays : goal.returns-clause-stays
+returns-clause-stays g c = stays-moved (λ z. (goal.SegDisc-dyn g z).state z.1) g.D.DictDisc.rules c.args.self.now c.to_first.new.dict _ c.to_first.result c.to_first.ensures.moves c.requires.open

@@ -1,85 +1,14 @@
-use Rattle.vc_base.proofs.Common.{refl, rules, ◌≡◌, true, is_some, sym, ap, contains}
-use Rattle.vc_best.specs.Cells.{cells_in}
-use Rattle.vc_dict.specs.Listed.{holders_of}
-use Rattle.vc_objects.proofs.Leaving.{keeps-same}
-use Rattle.vc_store.specs.Contents.{contents_in}
-use Rattle.vc_store.specs.Reading.{with_place}
-use Rattle.vc_store.proofs.Cursor.{next-none, next-some}
-use Rattle.vc_store.proofs.Places.{within-next}
-use Rattle.vc_store.proofs.Shown.{pointed-place, pointed-whole, within-rest}
+use Rattle.vc_store.proofs.Staying.{stays-moved, there-moved}
 use Rattle.vc_store.proofs.collection.Collection.next.Goals as goal
 
-pub next-requires : goal.next-requires
-next-requires g c =
-    let self = c.args.self.now in
-    let whole = c.requires.open.whole in
-    record {
-      rules = g.D.DictDisc.rules self.kind;
-      is = record {
-        holders = holders_of self.dict (cells_in self.best);
-        stands = whole.stands;
-        within = within-rest self.dict.current.0 (holders_of self.dict (cells_in self.best)) (sym c.if-eq.ensures) whole.current;
-      };
-    }
+pub to_next-requires : goal.to_next-requires
+to_next-requires g c = record { whole = record { rules = g.D.DictDisc.rules c.args.self.now.kind; whole = c.requires.open.whole } }
 
-pub returns-in-Some-clause-moved : goal.returns-in-Some-clause-moved
-returns-in-Some-clause-moved g c =
-    let self = c.args.self.now in
-    let rules = g.D.DictDisc.rules self.kind in
-    let whole = c.requires.open.whole in
-    let w : contains (holders_of self.dict (cells_in self.best)) self.dict.current.0 ≡ true =
-    within-rest self.dict.current.0 (holders_of self.dict (cells_in self.best)) (sym c.if-eq.ensures) whole.current in
-    ap (λ p. with_place p (contents_in self.dict self.best))
-    (next-some rules self.dict (cells_in self.best) whole w c.in-Some.at (c.in-Some.ensures rules (holders_of self.dict (cells_in self.best)) whole.stands))
+pub returns-clause-moved : goal.returns-clause-moved
+returns-clause-moved g c = c.to_next.ensures.moves.moved
 
-pub returns-in-Some-clause-there : goal.returns-in-Some-clause-there
-returns-in-Some-clause-there g c =
-    let self = c.args.self.now in
-    let rules = g.D.DictDisc.rules self.kind in
-    let whole = c.requires.open.whole in
-    ap is_some
-    (sym (pointed-place rules self.dict (cells_in self.best) c.in-Some.at whole
-    (within-next (holders_of self.dict (cells_in self.best)) self.dict.current.0 c.in-Some.at.0 (sym (c.in-Some.ensures rules (holders_of self.dict (cells_in self.best)) whole.stands)))))
+pub returns-clause-there : goal.returns-clause-there
+returns-clause-there g c = there-moved (λ z. (goal.SegDisc-dyn g z).state z.1) g.D.DictDisc.rules c.args.self.now c.to_next.new.dict _ c.to_next.result c.to_next.ensures.moves
 
-pub returns-in-Some-clause-stays : goal.returns-in-Some-clause-stays
-returns-in-Some-clause-stays g c =
-    let self = c.args.self.now in
-    let rules = g.D.DictDisc.rules self.kind in
-    let whole = c.requires.open.whole in
-    record {
-      is_open = record {
-        whole =
-            pointed-whole rules self.dict (cells_in self.best) c.in-Some.at whole
-            (within-next (holders_of self.dict (cells_in self.best)) self.dict.current.0 c.in-Some.at.0 (sym (c.in-Some.ensures rules (holders_of self.dict (cells_in self.best)) whole.stands)));
-        lent = c.requires.open.lent;
-      };
-      rules = refl;
-      method = refl;
-      lends = keeps-same _ _ _ _ refl refl;
-    }
-
-pub returns-in-None-clause-moved : goal.returns-in-None-clause-moved
-returns-in-None-clause-moved g c =
-    let self = c.args.self.now in
-    let rules = g.D.DictDisc.rules self.kind in
-    let whole = c.requires.open.whole in
-    let w : contains (holders_of self.dict (cells_in self.best)) self.dict.current.0 ≡ true =
-    within-rest self.dict.current.0 (holders_of self.dict (cells_in self.best)) (sym c.if-eq.ensures) whole.current in
-    ap (λ p. with_place p (contents_in self.dict self.best))
-    (next-none rules self.dict (cells_in self.best) whole w (c.in-None.ensures rules (holders_of self.dict (cells_in self.best)) whole.stands))
-
-pub returns-in-None-clause-stays : goal.returns-in-None-clause-stays
-returns-in-None-clause-stays g c = record {
-  is_open = search rules;
-  rules = refl;
-  method = refl;
-  lends = keeps-same _ _ _ _ refl refl;
-}
-
-pub returns-then-eq-clause-stays : goal.returns-then-eq-clause-stays
-returns-then-eq-clause-stays g c = record {
-  is_open = c.requires.open;
-  rules = refl;
-  method = refl;
-  lends = keeps-same _ _ _ _ refl refl;
-}
+pub returns-clause-stays : goal.returns-clause-stays
+returns-clause-stays g c = stays-moved (λ z. (goal.SegDisc-dyn g z).state z.1) g.D.DictDisc.rules c.args.self.now c.to_next.new.dict _ c.to_next.result c.to_next.ensures.moves c.requires.open

@@ -5,8 +5,8 @@ use Rattle.vc_store.specs.Contents.{contents_in}
 use Rattle.vc_store.specs.Reading.{first_place}
 use Rattle.vc_store.proofs.Cursor.{first-none, first-some}
 use Rattle.vc_store.proofs.Places.{within-first}
-use Rattle.vc_stores.proofs.Moving.{can-look, moved-none, moved-to}
-use Rattle.vc_stores.proofs.moves.to_first.Goals as goal
+use Rattle.vc_store.proofs.Moving.{can-look, moved-none, moved-to}
+use Rattle.vc_store.proofs.moves.to_first.Goals as goal
 
 pub first-requires : goal.first-requires
 first-requires g c = can-look c.args.best.now c.args.dict.now c.requires.whole

@@ -4,8 +4,8 @@ use Rattle.vc_best.specs.Cells.{cells_in}
 use Rattle.vc_store.specs.Contents.{contents_in}
 use Rattle.vc_store.specs.Reading.{last_place}
 use Rattle.vc_store.proofs.Cursor.{last-moved, last-none, last-there}
-use Rattle.vc_stores.proofs.Moving.{can-look, moved-none, moved-to}
-use Rattle.vc_stores.proofs.moves.to_last.Goals as goal
+use Rattle.vc_store.proofs.Moving.{can-look, moved-none, moved-to}
+use Rattle.vc_store.proofs.moves.to_last.Goals as goal
 
 pub last-requires : goal.last-requires
 last-requires g c = can-look c.args.best.now c.args.dict.now c.requires.whole

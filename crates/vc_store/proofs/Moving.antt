@@ -12,7 +12,7 @@ use Rattle.vc_store.specs.Contents.{contents_in, place_of}
 use Rattle.vc_store.specs.Reading.{with_place}
 use Rattle.vc_store.proofs.Cursor.{none-whole}
 use Rattle.vc_store.proofs.Shown.{pointed-place, pointed-whole, within-rest}
-use Rattle.vc_stores.specs.Moves.{IsWholeBy, Moves}
+use Rattle.vc_store.specs.Moves.{IsWholeBy, Moves}
 
 module _ {I : Type 0} {V : I → Type 0} (best : Best I V) (d : Dict) (by : IsWholeBy d (cells_in best)) where
   abbrev b : Blocks

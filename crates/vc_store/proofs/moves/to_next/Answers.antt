@@ -5,8 +5,8 @@ use Rattle.vc_store.specs.Contents.{contents_in}
 use Rattle.vc_store.specs.Reading.{next_place}
 use Rattle.vc_store.proofs.Cursor.{next-none, next-some}
 use Rattle.vc_store.proofs.Places.{within-next}
-use Rattle.vc_stores.proofs.Moving.{current-in, current-within, moved-none, moved-still, moved-to}
-use Rattle.vc_stores.proofs.moves.to_next.Goals as goal
+use Rattle.vc_store.proofs.Moving.{current-in, current-within, moved-none, moved-still, moved-to}
+use Rattle.vc_store.proofs.moves.to_next.Goals as goal
 
 pub next-requires : goal.next-requires
 next-requires g c = current-in c.args.best.now c.args.dict.now c.requires.whole (sym c.if-eq.ensures)

@@ -4,8 +4,8 @@ use Rattle.vc_best.specs.Cells.{cells_in}
 use Rattle.vc_store.specs.Contents.{contents_in}
 use Rattle.vc_store.specs.Reading.{previous_place}
 use Rattle.vc_store.proofs.Cursor.{previous-moved, previous-none, previous-there}
-use Rattle.vc_stores.proofs.Moving.{current-in, current-within, moved-none, moved-still, moved-to}
-use Rattle.vc_stores.proofs.moves.to_prev.Goals as goal
+use Rattle.vc_store.proofs.Moving.{current-in, current-within, moved-none, moved-still, moved-to}
+use Rattle.vc_store.proofs.moves.to_prev.Goals as goal
 
 pub prev-requires : goal.prev-requires
 prev-requires g c = current-in c.args.best.now c.args.dict.now c.requires.whole (sym c.if-eq.ensures)
