@@ -1,5 +1,5 @@
 -- The commands that a line gives are proper.
-use Rattle.vc_base.proofs.Common.{◌≡◌, ℕ, Bool, true, false, cond, cases_Bool, inl, inr, ◌==◌, ◌&&◌, ◌||◌, ◌≤◌, arith, nat_tests, codes, ◌≢◌, List, [], ◌∷◌, length, nat_abs, IfOk, Some, None, Ok, Err, Option, Result, bytes_eq, sym, subst, AllByRecursion}
+use Rattle.vc_base.proofs.Common.{◌≡◌, ℕ, Bool, true, false, cond, cases_Bool, inl, inr, ◌==◌, ◌&&◌, ◌||◌, ◌≤◌, arith, nat_tests, codes, ◌≢◌, List, [], ◌∷◌, length, nat_abs, IfOk, OnOk, Some, None, Ok, Err, Option, Result, bytes_eq, sym, subst, AllByRecursion}
 use Rattle.vc_script.specs.declared.command.Command.{Command}
 use Rattle.vc_script.specs.declared.line_fault.LineFault.{LineFault}
 use Rattle.vc_script.specs.declared.line_fault.LineFault.TheVariants.{UnknownVersion, WordCount}
@@ -245,10 +245,10 @@ IsProperAnswer-answer tool first line = IsProperAnswer-answer_to tool first (wor
 pub IsProperCommand-answer : (tool : Tool) (first : Bool) (line : List ℕ) (command : Command) → answer tool first line ≡ Is command → IsProperCommand command
 IsProperCommand-answer tool first line command is = subst (IsProperAnswer first) is (IsProperAnswer-answer tool first line)
 
--- a result that is the answer is proper
-pub IfOk-proper : (tool : Tool) (first : Bool) (ws : List (List ℕ)) (r : Result LineAnswer OutOfMemory) → IfOk r (λ a. a ≡ answer_to tool first ws) → IfOk r (IsProperAnswer first)
-IfOk-proper tool first ws (Ok a) is = subst (IsProperAnswer first) (sym is) (IsProperAnswer-answer_to tool first ws)
-IfOk-proper tool first ws (Err e) is = tt
+-- what is the answer, where a result is Ok, is proper
+pub OnOk-proper : {T : Type 0} (tool : Tool) (first : Bool) (line : List ℕ) (r : Result T OutOfMemory) (a : LineAnswer) → OnOk r (a ≡ answer tool first line) → OnOk r (IsProperAnswer first a)
+OnOk-proper tool first line (Ok done) a is = subst (IsProperAnswer first) (sym is) (IsProperAnswer-answer tool first line)
+OnOk-proper tool first line (Err e) a is = tt
 
 -- and none of the faults of cutting
 pub not_bad : (first : Bool) (fault : LineFault) (r : Result LineAnswer OutOfMemory) → IfOk r (IsProperAnswer first) → ¬ IsFaultOfWords fault → r ≢ Ok (Bad fault)

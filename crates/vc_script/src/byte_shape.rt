@@ -10,30 +10,18 @@ use crate::name_word::{NameWord, name_of};
 use crate::spelled::Spelled;
 use crate::{Bytes, LineFault};
 use std::alloc::Global;
-use vc_base::{Name, OutOfMemory};
+use vc_base::OutOfMemory;
 
 // `D OBJ`, with the word that spells the object.
-fn object_word_in<'a>(others: &[&'a [u8]]) -> Result<(NameWord<'a>, Spelled<'a>), LineFault>
+pub(crate) fn object_word_in<'a>(
+    others: &[&'a [u8]],
+) -> Result<(NameWord<'a>, Spelled<'a>), LineFault>
     ensures { result_map_both (λ t. (t.0, (spelled_bytes t.1, tt))) (λ e. e) result
         ≡ read_words (form.Name ∷ form.Bytes ∷ []) None (map (λ w. w.now) others.now) }
 {
     match others {
         [dict, object] => two(name_of(dict), spelled_of(object)),
         _ => Err(LineFault::WordCount),
-    }
-}
-
-// `D OBJ`.
-pub(crate) fn object_in(
-    alloc: Global,
-    others: &[&[u8]],
-) -> Result<Result<(Name, Bytes), LineFault>, OutOfMemory>
-    ensures { IfOk result (λ read. result_map_both (λ t. (t.0, (t.1, tt))) (λ e. e) read
-        ≡ read_words (form.Name ∷ form.Bytes ∷ []) None (map (λ w. w.now) others.now)) }
-{
-    match object_word_in(others) {
-        Ok((dict, object)) => Ok(Ok((dict.name(), decoded(alloc, object)?))),
-        Err(fault) => Ok(Err(fault)),
     }
 }
 

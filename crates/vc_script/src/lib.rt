@@ -49,7 +49,7 @@ pub use form::number_of;
 pub use line_answer::LineAnswer;
 pub use line_fault::LineFault;
 pub use object_items::ObjectItems;
-pub use parse::read_line;
+pub use parse::{read_into, read_line};
 pub use place::Place;
 pub use print::{print_reply, put_reply};
 pub use refusal::Refusal;

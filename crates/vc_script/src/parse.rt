@@ -1,4 +1,4 @@
-ghost use Rattle.std.specs.Prelude.{◌≡◌, ◌≢◌, ◌∷◌, map, IfOk};
+ghost use Rattle.std.specs.Prelude.{◌≡◌, ◌≢◌, ◌∷◌, map, IfOk, OnErr, OnOk};
 ghost use Rattle.vc_script.specs.Answer.{answer, answer_to, is_comment, is_version_line, version_in};
 ghost use Rattle.vc_script.specs.Proper.{IsProperAnswer};
 
@@ -25,11 +25,31 @@ pub fn read_line(
     ensures not_too_long { result ≢ Ok (LineAnswer.Bad LineFault.LineTooLong) }
     ensures not_too_many { result ≢ Ok (LineAnswer.Bad LineFault.TooManyLines) }
 {
+    let mut asked = LineAnswer::Blank;
+    read_into(alloc, tool, first, line, &mut asked)?;
+    Ok(asked)
+}
+
+/// The same, put in place of an answer. Where memory is wanting, that one stays.
+pub fn read_into(
+    alloc: Global,
+    tool: Tool,
+    first: bool,
+    line: &[u8],
+    asked: &mut LineAnswer,
+) -> Result<(), OutOfMemory>
+    ensures value { OnOk result (asked.new ≡ answer tool first line.now) }
+    ensures proper { OnOk result (IsProperAnswer first asked.new) }
+    ensures same { OnErr result (asked.new ≡ asked.old) }
+{
     let mut words = ArrayVec::new();
     put_words(line, &mut words);
     match words.as_slice().split_first() {
-        None => Ok(LineAnswer::Blank),
-        Some((word, others)) => answer_to(alloc, tool, first, word, others),
+        None => {
+            *asked = LineAnswer::Blank;
+            Ok(())
+        }
+        Some((word, others)) => answer_to(alloc, tool, first, word, others, asked),
     }
 }
 
@@ -40,17 +60,21 @@ fn answer_to(
     first: bool,
     word: &[u8],
     others: &[&[u8]],
-) -> Result<LineAnswer, OutOfMemory>
-    ensures { IfOk result (λ a.
-        a ≡ answer_to tool first (word.now ∷ map (λ w. w.now) others.now)) }
+    asked: &mut LineAnswer,
+) -> Result<(), OutOfMemory>
+    ensures value { OnOk result (asked.new
+        ≡ answer_to tool first (word.now ∷ map (λ w. w.now) others.now)) }
+    ensures same { OnErr result (asked.new ≡ asked.old) }
 {
     if is_comment(word) {
-        return Ok(LineAnswer::Blank);
+        *asked = LineAnswer::Blank;
+        return Ok(());
     }
     if is_version_line(first, word) {
-        return Ok(version_in(others));
+        *asked = version_in(others);
+        return Ok(());
     }
-    answer_in(alloc, tool, word, others)
+    answer_in(alloc, tool, word, others, asked)
 }
 
 fn is_version_line(first: bool, word: &[u8]) -> bool
