@@ -58,6 +58,8 @@ fn all_name_bytes(bytes: &[u8]) -> bool
     bytes.iter().all(|b| is_name_byte(*b))
 }
 
+// It isn't inlined, so that the loop over its bytes has the registers to itself.
+#[inline(never)]
 pub(crate) fn is_name(word: &[u8]) -> bool
     ensures { result ≡ is_name word.now }
 {
