@@ -18,7 +18,7 @@ use std::alloc::Global;
 use vc_base::{OutOfMemory, ReadFailed, Sink, Source, WriteFailed};
 use vc_counts::Counts;
 use vc_dtdisc::DictDisc;
-use vc_script::{Cut, LineAnswer, LineCutter, LineFault, Tool, read_line};
+use vc_script::{Cut, LineAnswer, LineCutter, LineFault, Tool, read_into};
 use vc_seg::{BoxedDisc, SegDisc, Shelf};
 use vc_steps::Session;
 
@@ -86,9 +86,9 @@ fn run_line<D: DictDisc>(
     ensures same { OnErr result (replies.new.items ≡ replies.old.items) }
     ensures armed { OnErr result (session.new.is_armed ≡ session.old.is_armed) }
 {
-    let read = read_line(alloc, tool, n == 1, line);
-    match &read {
-        Ok(read) => match read {
+    let mut read = LineAnswer::Blank;
+    match read_into(alloc, tool, n == 1, line, &mut read) {
+        Ok(()) => match &read {
             LineAnswer::Blank => Ok(None),
             LineAnswer::Version(version) => {
                 session.set_version(*version);

@@ -25,7 +25,7 @@ returns-in-Blank g c =
         lasts = arming-same c.requires.session;
         runs = record {
           ran =
-              rw (sym (rw c.in-Ok.is at c.read_line-read.ensures.value) ∙ c.in-Blank.is)
+              rw (sym (rw c.in-Ok.is at c.read_into.ensures.value) ∙ c.in-Blank.is)
               (refl, record { state = refl; told = refl; settles = settles-same _; armed = refl; gone = refl; same_counts = refl });
           can = can-on _ _ _ _ c.requires.counts;
         };
@@ -41,7 +41,7 @@ returns-in-Bad g c =
         lasts = arming-same c.requires.session;
         runs = record {
           ran =
-              rw (sym (rw c.in-Ok.is at c.read_line-read.ensures.value) ∙ c.in-Bad.is)
+              rw (sym (rw c.in-Ok.is at c.read_into.ensures.value) ∙ c.in-Bad.is)
               (refl, record { state = refl; told = refl; settles = settles-same _; armed = refl; gone = refl; same_counts = refl });
           can = can-on _ _ _ _ c.requires.counts;
         };
@@ -56,7 +56,7 @@ returns-in-Ok g c =
       runs = record {
         lasts = arming-of c.run_answer.ensures.runs.lasts;
         runs = record {
-          ran = rw (sym (rw c.in-Ok.is at c.read_line-read.ensures.value) ∙ c.in-Is.is) (refl, c.in_ok-run_answer-in-Is.ensures.runs.runs.ran);
+          ran = rw (sym (rw c.in-Ok.is at c.read_into.ensures.value) ∙ c.in-Is.is) (refl, c.in_ok-run_answer-in-Is.ensures.runs.runs.ran);
           can = c.in_ok-run_answer-in-Is.ensures.runs.runs.can;
         };
       };
@@ -71,7 +71,7 @@ returns-in-Version-clause-runs g c =
     let shelf = c.args.shelf.now in
     let version : ℕ = c.in-Version.version in
     let on : Bool = version == 2 in
-    let proper : IsProperAnswer (c.args.n == 1) (Version version) = rw c.in-Version.is at (rw c.in-Ok.is at c.read_line-read.ensures.proper) in
+    let proper : IsProperAnswer (c.args.n == 1) (Version version) = rw c.in-Version.is at (rw c.in-Ok.is at c.read_into.ensures.proper) in
     let first : c.args.n ≡ 1 = eqb-true c.args.n 1 (first-version (c.args.n == 1) version proper) in
     let fresh = c.requires.fresh first in
     let state : state_over M kinds shelf c.set_version.new.self ≡ state_over M kinds shelf c.args.session.now = ap (λ s. state_over M kinds shelf s) c.set_version.ensures in
@@ -79,7 +79,7 @@ returns-in-Version-clause-runs g c =
       lasts = arming-told c.set_version.new.self on c.set_version.ensures fresh c.requires.session;
       runs = record {
         ran =
-            rw (sym (rw c.in-Ok.is at c.read_line-read.ensures.value) ∙ c.in-Version.is) (
+            rw (sym (rw c.in-Ok.is at c.read_into.ensures.value) ∙ c.in-Version.is) (
               refl,
               record {
                 first = first;
