@@ -1,0 +1,54 @@
+-- The numbers of answers, methods and kinds.
+use Rattle.std.specs.Prelude.{ℕ, ◌-◌, Option, Some, None, ◌==◌, if◌then◌else◌, slice_get}
+use Rattle.vc_base.specs.declared.dict_method.DictMethod.{DictMethod}
+use Rattle.vc_base.specs.declared.dict_method.DictMethod.TheVariants.{DtSet, DtBag, DtOset, DtObag, DtList, DtStack, DtQueue}
+use Rattle.vc_dtdisc.specs.declared.shape.Shape.{Shape}
+use Rattle.vc_main.specs.Places.{shapes}
+use Rattle.vc_seg.specs.declared.fault.RegionFault.{RegionFault}
+use Rattle.vc_seg.specs.declared.fault.RegionFault.TheVariants as fault
+use Rattle.vc_store.specs.declared.put.Put.{Put}
+use Rattle.vc_store.specs.declared.put.Put.TheVariants as put
+use Rattle.vc_checked.specs.declared.answer.Answer.{Answer}
+use Rattle.vc_checked.specs.declared.answer.Answer.TheVariants.{Done, TooSmall, OutOfMemory, Old, NoObject, NoDict, NoMethod, NoKind, WrongSize, NoSegment}
+
+-- the number of an answer
+abbrev pub number : Answer → ℕ
+number Done = 0
+number TooSmall = 4
+number OutOfMemory = 5
+number Old = 6
+number NoObject = 7
+number NoDict = 8
+number NoMethod = 9
+number NoKind = 10
+number WrongSize = 11
+number NoSegment = 12
+
+-- the answer to what became of an object
+abbrev pub told : Put → Answer
+told put.New = Done
+told put.Old = Old
+told put.NoSegment = NoSegment
+told put.OutOfMemory = OutOfMemory
+told put.WrongSize = WrongSize
+
+-- the answer where a region has no room for a table
+abbrev pub fault_of : RegionFault → Answer
+fault_of fault.OutOfMemory = OutOfMemory
+fault_of other = NoSegment
+
+-- the method of a number: a set, a bag, an ordered set, an ordered bag, a list, a stack, a queue
+abbrev pub method_of : ℕ → Option DictMethod
+method_of n =
+    if n == 0 then Some DtSet
+    else (if n == 1 then Some DtBag
+    else (if n == 2 then Some DtOset
+    else (if n == 3 then Some DtObag
+    else (if n == 4 then Some DtList
+    else (if n == 5 then Some DtStack
+    else (if n == 6 then Some DtQueue
+    else None))))))
+
+-- the shape of a kind's number, from 1 on
+abbrev pub shape_of : ℕ → Option Shape
+shape_of n = if n == 0 then None else slice_get shapes (n - 1)

@@ -1,0 +1,42 @@
+ghost use Rattle.std.specs.Prelude.{◌≡◌};
+ghost use Rattle.vc_store.specs.Reading.{current};
+ghost use Rattle.vc_stores.specs.Stores.{HasDict, IsOpen, contents, disc_of};
+ghost use Rattle.vc_checked.specs.Shown.{IsShown, Shows, room};
+
+use crate::Answer;
+use vc_dtdisc::DictDisc;
+use vc_seg::{BoxedDisc, SegDisc};
+use vc_stores::Store;
+
+// Puts an object at the front of a buffer, where it fits, and tells its length.
+fn put(object: &[u8], out: &mut [u8], needed: &mut usize) -> Answer
+    ensures { IsShown object.now (room out.old out.new needed.new) result }
+{
+    let n = object.len();
+    *needed = n;
+    if n > out.len() {
+        return Answer::TooSmall;
+    }
+    out[..n].copy_from_slice(object);
+    Answer::Done
+}
+
+// Shows the current object of a dictionary.
+pub(crate) fn show<D: DictDisc + Drop>(
+    store: &Store<D>,
+    n: usize,
+    out: &mut [u8],
+    needed: &mut usize,
+) -> Answer
+    requires open { IsOpen D.rules store.now (disc_of store.now state) }
+    requires there { HasDict store.now n }
+    ensures { Shows (current (contents store.now n)) (room out.old out.new needed.new) result }
+{
+    match store.current(n) {
+        Some(object) => put(object, out, needed),
+        None => {
+            *needed = 0;
+            Answer::NoObject
+        }
+    }
+}
