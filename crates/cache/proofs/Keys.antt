@@ -1,5 +1,5 @@
 -- Keys that are put among others and go.
-use Rattle.vc_base.proofs.Common.{◌≡◌, ℕ, ◌+◌, ◌<◌, ◌==◌, zero, suc, Bool, true, false, cond, List, [], ◌∷◌, ◌++◌, Option, Some, None, is_some, length, map, take, drop, get_or, flat_map, codes, if◌then◌else◌, is_eq, sym, refl, ap, ap₂, ◌∙◌, subst, none-some, same_Some, true≢false, ne_eqb, add-one, arith, and_right, append_assoc, append-nil, map-append, is_set}
+use Rattle.vc_base.proofs.Common.{◌≡◌, ℕ, ◌+◌, ◌<◌, ◌==◌, zero, suc, Bool, true, false, cond, List, [], ◌∷◌, ◌++◌, Option, Some, None, is_some, length, map, take, drop, get_or, flat_map, codes, if◌then◌else◌, is_eq, sym, refl, ap, ap₂, ◌∙◌, subst, none-some, same_Some, true≢false, ne_eqb, add-one, arith, and_right, append_assoc, append-nil, map-append, is_set, slice_get, slice_get-map, option_map}
 use Rattle.std.specs.Cmp.{tied_itself}
 use Rattle.std.proofs.Math.Seq.{take-suc}
 use Rattle.std.proofs.lemmas.Grind.{flat_map-append}
@@ -13,7 +13,8 @@ use Rattle.vc_store.specs.Answers.{is_there}
 use Rattle.vc_store.specs.Reading.{AfterPut, Contents, first_place, found, has_match, object_at, put_by, without_key}
 use Rattle.vc_store.specs.declared.put.Put.{Put}
 use Rattle.vc_store.specs.declared.put.Put.TheVariants as put
-use Rattle.cache.specs.Asking.{Admits, Asks, Drops, Puts, Replies, Table, asked, asked_each, key_rules, line, new_table}
+use Rattle.cache.specs.Blaming.{Blames, fault_of}
+use Rattle.cache.specs.Asking.{Admits, Asks, Drops, IsSized, Puts, Replies, Table, asked, asked_each, key_rules, line, new_table}
 
 -- a key has itself
 pub own-key : (key : List ℕ) → has_key key_rules key key ≡ true
@@ -197,3 +198,21 @@ map-more f xs i x key lt is e =
 
 pub asked-replies : (asked_for keys : List (List ℕ)) (lines : List ℕ) → AskedSo asked_for keys lines → Replies asked_for lines
 asked-replies asked_for keys lines so = (so.runs, so.each, ap (λ (t : Table). t.lines) so.table)
+
+-- a key of a wrong size is one of those that were asked for
+key-at : {A : Type 0} (xs : List A) (i : ℕ) (x : A) → i < length xs → x ≡ get_or xs i x → slice_get xs i ≡ Some x
+key-at [] i x lt is = absurd (omega (arith, lt))
+key-at (y ∷ ys) zero x lt is = ap Some (sym is)
+key-at (y ∷ ys) (suc i) x lt is = key-at ys i x (omega (arith, lt)) is
+
+pub blamed : {A : Type 0} (f : A → List ℕ) (xs : List A) (i : ℕ) (x : A) (answer : Put) (key : List ℕ) → i < length xs → x ≡ get_or xs i x → key ≡ f x → IsSized answer key → Blames (map f xs) (fault_of answer)
+blamed f xs i x put.WrongSize key lt is e size = record {
+  place = i;
+  key = key;
+  at = slice_get-map f xs i ∙ (ap (option_map f) (key-at xs i x lt is) ∙ ap Some (sym e));
+  wrong = size;
+}
+blamed f xs i x put.New key lt is e size = tt
+blamed f xs i x put.Old key lt is e size = tt
+blamed f xs i x put.NoSegment key lt is e size = tt
+blamed f xs i x put.OutOfMemory key lt is e size = tt

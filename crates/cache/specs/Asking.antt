@@ -4,8 +4,9 @@ use Rattle.vc_dtdisc.specs.Rules.{Rules}
 use Rattle.vc_dtdisc.specs.Shapes.{rules_of}
 use Rattle.vc_dtdisc.specs.declared.shape.Shape.TheVariants.{Whole}
 use Rattle.vc_store.specs.Answers.{is_there}
-use Rattle.vc_store.specs.Reading.{found}
+use Rattle.vc_store.specs.Reading.{found, is_object}
 use Rattle.vc_store.specs.declared.put.Put.{Put}
+use Rattle.vc_store.specs.declared.put.Put.TheVariants as put
 
 -- an object is a key
 abbrev pub key_rules : Rules
@@ -48,6 +49,11 @@ asked_each runs t = fold (λ t run. asked run.0 run.1 t) t runs
 abbrev pub Replies : List (List ℕ) → List ℕ → Type 0
 Replies keys lines =
     (runs : List (ℕ × List ℕ)) × (map (λ run. run.1) runs ≡ keys) × (lines ≡ (asked_each runs new_table).lines)
+
+-- an answer tells of a wrong size only where a key has no byte, or more than 1,024
+abbrev pub IsSized : Put → List ℕ → Type 0
+IsSized put.WrongSize key = is_object key ≡ false
+IsSized other key = Unit {0}
 
 -- what single calls make of the keys and of the lines: the oldest went, or there was none
 abbrev pub Drops : Bool → List (List ℕ) → List (List ℕ) → List ℕ → List ℕ → Type 0

@@ -1,2 +1,3 @@
 pub mod Asking
+pub mod Blaming
 pub mod Tables

@@ -1,7 +1,7 @@
 ghost use Rattle.std.specs.Prelude.{◌≡◌, ◌++◌, None, IfOk, OnOk};
 ghost use Rattle.vc_store.specs.Collections.{contents};
 ghost use Rattle.vc_store.specs.Reading.{found};
-ghost use Rattle.cache.specs.Asking.{Admits, Drops, Puts, key_rules, line};
+ghost use Rattle.cache.specs.Asking.{Admits, Drops, IsSized, Puts, key_rules, line};
 ghost use Rattle.cache.specs.Tables.{IsTable, StaysTable};
 
 use std::alloc::Global;
@@ -55,6 +55,7 @@ fn put_both(alloc: Global, set: &mut Keys, queue: &mut Keys, key: &[u8]) -> Resu
     requires new { found key_rules key.now (contents queue.old).objects ≡ None }
     ensures puts { IfOk result (λ put. Puts put key.now (contents queue.old).objects
         (contents queue.new).objects) }
+    ensures size { IfOk result (λ put. IsSized put key.now) }
     ensures same { OnOk result ((contents set.new).objects ≡ (contents queue.new).objects) }
     ensures stays { StaysTable state set.old queue.old set.new queue.new }
 {
@@ -83,6 +84,7 @@ pub(crate) fn admit(
     requires new { found key_rules key.now (contents queue.old).objects ≡ None }
     ensures admits { IfOk result (λ put. Admits put key.now (contents queue.old).objects
         (contents queue.new).objects lines.old.items lines.new.items) }
+    ensures size { IfOk result (λ put. IsSized put key.now) }
     ensures same { OnOk result ((contents set.new).objects ≡ (contents queue.new).objects) }
     ensures stays { StaysTable state set.old queue.old set.new queue.new }
 {

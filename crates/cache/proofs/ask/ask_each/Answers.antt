@@ -1,7 +1,8 @@
 use Rattle.vc_base.proofs.Common.{map, string_bytes, take, sym, subst}
 use Rattle.vc_model.specs.Discipline.{Discipline}
 use Rattle.vc_store.specs.Collections.{contents}
-use Rattle.cache.proofs.Keys.{AskedSo, asked-more, map-more}
+use Rattle.cache.proofs.Keys.{AskedSo, asked-more, blamed, map-more}
+use Rattle.cache.specs.Blaming.{Blames}
 use Rattle.cache.proofs.Tables.{table-trans}
 use Rattle.cache.proofs.ask.ask_each.Given.{Over}
 use Rattle.cache.proofs.ask.ask_each.Goals as goal
@@ -24,3 +25,8 @@ loop-key-preserved g c =
       same = c.in-Ok.ensures.same;
       stays = table-trans (meaning g) c.args.set.now c.args.queue.now c.loop-key.set c.loop-key.queue c.ask.new.set c.ask.new.queue inv.stays c.ask.ensures.stays;
     }
+
+pub returns-then-not-is_there-clause-blames : goal.returns-then-not-is_there-clause-blames
+returns-then-not-is_there-clause-blames g c =
+    subst (Blames (map string_bytes c.args.keys.now)) (sym c.fault_of.ensures)
+    (blamed string_bytes c.args.keys.now c.loop-key.key-index c.key-item.result c.in-Ok.put c.as_bytes.result.now c.loop-key-test.true c.key-item.is c.as_bytes.ensures.value c.in-Ok.ensures.size)
