@@ -1,5 +1,5 @@
 -- A discipline that refuses a segment, and comes back.
-use Rattle.vc_base.proofs.Common.{◌≡◌, ℕ, zero, suc, ◌<◌, ◌≤◌, List, [], ◌∷◌, ◌++◌, Option, Some, None, IfSome, Rose, length, map, drop, refl, sym, ◌∙◌, subst, arith, inl, inr, slice_get, true, zero-add, Discipline}
+use Rattle.vc_base.proofs.Common.{◌≡◌, ℕ, zero, suc, ◌<◌, List, [], ◌∷◌, ◌++◌, Option, Some, None, IfSome, Rose, length, map, drop, refl, sym, ◌∙◌, subst, arith, inl, inr, slice_get, true, zero-add, Discipline}
 use Rattle.vc_model.specs.Count.{last_count}
 use Rattle.vc_model.proofs.Keeping.{NoneRefused-back, rose-within, told-within, twice-within}
 use Rattle.vc_model.specs.Discipline.{TookBack, Unserved}

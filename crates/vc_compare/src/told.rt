@@ -1,34 +1,15 @@
 ghost use Rattle.std.specs.Prelude.{◌≡◌, ◌≤◌, OnErr, OnOk, length};
-ghost use Rattle.vc_compare.specs.Told.{Broke, Told, err_line, fault_text, line_fault_text, message};
+ghost use Rattle.vc_compare.specs.Told.{err_line, fault_text, message};
+ghost use Rattle.vc_write.specs.Told.{Broke, Told};
 
 use crate::ending::Fault;
 use arrayvec::ArrayString;
 use itoa::Buffer;
 use vc_base::{Sink, WriteFailed};
-use vc_script::LineFault;
 use vc_write::write_all;
 
 // The longest line of err has 51 bytes: `vmcompare: line 2147483647: unknown method or mode` with its newline.
 const LINE_BYTES: usize = 96;
-
-// What is wrong with a line that is none of a script.
-fn line_fault_text(fault: LineFault) -> &'static str
-    ensures text { result.now ≡ line_fault_text fault }
-    ensures short { length result.now ≤ 22 }
-{
-    match fault {
-        LineFault::UnknownCommand => "unknown command",
-        LineFault::WordCount => "wrong number of words",
-        LineFault::BadName => "bad name",
-        LineFault::BadNumber => "bad number",
-        LineFault::BadAddress => "bad address",
-        LineFault::BadBytes => "bad bytes",
-        LineFault::UnknownMethod => "unknown method or mode",
-        LineFault::LineTooLong => "line too long",
-        LineFault::TooManyLines => "too many lines",
-        LineFault::UnknownVersion => "unknown version",
-    }
-}
 
 // What keeps a line from being run.
 fn fault_text(fault: Fault) -> &'static str
@@ -36,7 +17,7 @@ fn fault_text(fault: Fault) -> &'static str
     ensures short { length result.now ≤ 22 }
 {
     match fault {
-        Fault::Bad(fault) => line_fault_text(fault),
+        Fault::Bad(fault) => fault.text(),
         Fault::Outside => "not in a trace",
         Fault::NoSegment(_) => "no segment",
         Fault::TooMany(_) => "too many segments",

@@ -20,3 +20,4 @@ pub mod Shown
 pub mod Target
 pub mod Print
 pub mod Puts
+pub mod Faults

@@ -22,3 +22,27 @@ pub enum LineFault {
     /// The first line asks for a version of the language that isn't 1 or 2.
     UnknownVersion,
 }
+
+impl LineFault {
+    ghost use Rattle.std.specs.Prelude.{◌≡◌, ◌≤◌, length};
+    ghost use Rattle.vc_script.specs.Faults.{fault_text};
+
+    /// It as it is told, in at most 22 letters.
+    pub fn text(self) -> &'static str
+        ensures text { result.now ≡ fault_text self }
+        ensures short { length result.now ≤ 22 }
+    {
+        match self {
+            LineFault::UnknownCommand => "unknown command",
+            LineFault::WordCount => "wrong number of words",
+            LineFault::BadName => "bad name",
+            LineFault::BadNumber => "bad number",
+            LineFault::BadAddress => "bad address",
+            LineFault::BadBytes => "bad bytes",
+            LineFault::UnknownMethod => "unknown method or mode",
+            LineFault::LineTooLong => "line too long",
+            LineFault::TooManyLines => "too many lines",
+            LineFault::UnknownVersion => "unknown version",
+        }
+    }
+}

@@ -25,16 +25,17 @@ use Rattle.vc_script.proofs.Newlines.{OneLine, line-printed, line-both, line-dec
 use Rattle.vc_seg.specs.declared.stat.Stat.{Stat}
 use Rattle.vc_steps.specs.Homes.{held_all}
 use Rattle.vc_steps.specs.Moment.{Moment, moment_at_end, over_sink}
-use Rattle.vc_session.specs.Engine.{RunsLines, RunsScript}
+use Rattle.vc_session.specs.Engine.{RunsLines, RunsOn}
 use Rattle.vc_session.specs.ProperState.{IsProperHome}
 use Rattle.vc_session.specs.Progress.{Progress}
-use Rattle.vc_session.specs.Replay.{IsReplay, IsRunOf, Told}
+use Rattle.vc_session.specs.Replay.{IsReplay, IsRunOf, LeavesReplay, LeavesRun}
+use Rattle.vc_write.specs.Told.{Told}
 use Rattle.vc_session.specs.Run.{script}
 use Rattle.vc_session.specs.SoFar.{AtEnd}
 use Rattle.vc_session.specs.Streams.{Flows}
 use Rattle.vc_session.specs.QuietText.{style_by}
 use Rattle.vc_session.specs.Text.{replies_text, counts_of, good_lines, is_quiet, lines_text, stat_line, numbers_text, stats_by, summary, summary_by, tail_lines, text_of}
-use Rattle.vc_session.proofs.Progress.{progress-end, told-more}
+use Rattle.vc_session.proofs.Progress.{progress-end, progress-leaves, told-more}
 use Rattle.vc_session.proofs.ShownNeeds.{IsUnnumbered, NoLine, none-unnumbered}
 use Rattle.vc_words.specs.declared.words.Words.{Words}
 
@@ -98,6 +99,9 @@ module _ {start now : Moment} {counts : Counts} {text : List ℕ} {count : ℕ} 
   pub text-ends : (after : Option (List ℕ)) → count < 2 ^ 64 → Told start.written after (text ++ tail) → IsRunOf (is_quiet w) now.armed (text_of w now.armed lines) start (moment_at_end (over_sink now after)) done
   text-ends after few told = progress-end p (text_of w now.armed lines) tail after few tail-unnumbered text-says told
 
+  pub text-leaves : (after : Option (List ℕ)) → count < 2 ^ 64 → Told start.written after (text ++ tail) → LeavesRun (is_quiet w) now.armed (text_of w now.armed lines) start (over_sink now after) done
+  text-leaves after few told = progress-leaves p (text_of w now.armed lines) tail after few tail-unnumbered text-says told
+
 pub good-same : (bad : Option (ℕ × LineFault)) (lines total : ℕ) → (bad ≡ None → lines ≡ total) → good_lines bad lines ≡ good_lines bad total
 good-same None lines total same = same refl
 good-same (Some bad) lines total same = refl
@@ -115,26 +119,36 @@ script-ends tool w start now counts lines bad (Some input) left after tail is wr
           (text-ends w (good_lines bad lines) tail e.progress is after (omega (arith, e.few)) (told-more start.written now.written after e.text tail e.told written)));
     }
 
+script-leaves : (tool : Tool) (w : Words) (start now : Moment) (counts : Counts) (lines : ℕ) (bad : Option (ℕ × LineFault)) (told left : Option (List ℕ)) (after : Option (List ℕ)) (tail : List ℕ) → tail ≡ lines_text (tail_lines w (good_lines bad lines) counts now.state.homes) → Told now.written after tail → IfSome told (λ input. AtEnd tool (is_quiet w) start now counts lines input bad left) → IfSome told (λ input. LeavesReplay tool w start (over_sink now after) input bad)
+script-leaves tool w start now counts lines bad None left after tail is written e = tt
+script-leaves tool w start now counts lines bad (Some input) left after tail is written e =
+    subst (λ second. LeavesRun (is_quiet w) second (text_of w second (good_lines bad (length (judged_lines input)))) start (over_sink now after) (script tool input)) e.armed
+    (subst (λ n. LeavesRun (is_quiet w) now.armed (text_of w now.armed n) start (over_sink now after) (script tool input)) (good-same bad lines (length (judged_lines input)) e.whole)
+    (text-leaves w (good_lines bad lines) tail e.progress is after (omega (arith, e.few)) (told-more start.written now.written after e.text tail e.told written)))
+
 -- what a run of a source's lines promises once what stands behind the replies is written
-pub script-told : (tool : Tool) (w : Words) (quiet : Bool) (start last : Moment) (counts : Counts) (count number lines : ℕ) (bad : Option (ℕ × LineFault)) (old mid new : Flows) (none tail : List ℕ) → quiet ≡ is_quiet w → number ≡ count → lines ≡ good_lines bad number → none ≡ [] → tail ≡ none ++ lines_text (tail_lines w lines counts last.state.homes) → RunsLines tool quiet (Ok bad) start last counts count old mid → Told mid.written new.written tail → new.left ≡ mid.left → mid.reads ≤ new.reads → mid.writes ≤ new.writes → RunsScript tool w (Ok bad) start (moment_at_end last) old new
+pub script-told : (tool : Tool) (w : Words) (quiet : Bool) (start last : Moment) (counts : Counts) (count number lines : ℕ) (bad : Option (ℕ × LineFault)) (old mid new : Flows) (none tail : List ℕ) → quiet ≡ is_quiet w → number ≡ count → lines ≡ good_lines bad number → none ≡ [] → tail ≡ none ++ lines_text (tail_lines w lines counts last.state.homes) → RunsLines tool quiet (Ok bad) start last counts count old mid → Told mid.written new.written tail → new.left ≡ mid.left → mid.reads ≤ new.reads → mid.writes ≤ new.writes → RunsOn tool w (Ok bad) start last old new
 script-told tool w quiet start last counts count number lines bad old mid new none tail by_words counted good empty is runs written left reads writes =
     let behind : tail ≡ lines_text (tail_lines w (good_lines bad count) counts last.state.homes) =
     is
     ∙ (ap (λ xs. xs ++ lines_text (tail_lines w lines counts last.state.homes)) empty
     ∙ ap (λ n. lines_text (tail_lines w n counts last.state.homes)) (good ∙ ap (λ n. good_lines bad n) counted)) in
+    let ends : IfSome old.left (λ input. AtEnd tool (is_quiet w) (over_sink start old.written) (over_sink last mid.written) counts count input bad new.left) =
+    subst (λ l. IfSome old.left (λ input. AtEnd tool (is_quiet w) (over_sink start old.written) (over_sink last mid.written) counts count input bad l)) (sym left)
+    (subst (λ q. IfSome old.left (λ input. AtEnd tool q (over_sink start old.written) (over_sink last mid.written) counts count input bad mid.left)) by_words runs.at_end) in
     record {
-      replay =
-          script-ends tool w (over_sink start old.written) (over_sink last mid.written) counts count bad old.left new.left new.written tail behind written
-          (subst (λ l. IfSome old.left (λ input. AtEnd tool (is_quiet w) (over_sink start old.written) (over_sink last mid.written) counts count input bad l)) (sym left)
-          (subst (λ q. IfSome old.left (λ input. AtEnd tool q (over_sink start old.written) (over_sink last mid.written) counts count input bad mid.left)) by_words runs.at_end));
-      cut_short = tt;
-      cut = tt;
-      not_ahead = tt;
-      arms = runs.arms;
-      read = tt;
-      write = tt;
-      reads = omega (arith, runs.reads, reads);
-      writes = omega (arith, runs.writes, writes);
+      script = record {
+        replay = script-ends tool w (over_sink start old.written) (over_sink last mid.written) counts count bad old.left new.left new.written tail behind written ends;
+        cut_short = tt;
+        cut = tt;
+        not_ahead = tt;
+        arms = runs.arms;
+        read = tt;
+        write = tt;
+        reads = omega (arith, runs.reads, reads);
+        writes = omega (arith, runs.writes, writes);
+      };
+      leaves = script-leaves tool w (over_sink start old.written) (over_sink last mid.written) counts count bad old.left new.left new.written tail behind written ends;
     }
 
 -- a region's entry tells its numbers

@@ -17,7 +17,6 @@ pub mod Ranges
 pub mod Rest
 pub mod Runs
 pub mod SoFar
-pub mod Written
 pub mod Fronts
 pub mod FrontNeeds
 pub mod FirstRuns

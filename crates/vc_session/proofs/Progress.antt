@@ -25,7 +25,8 @@ use Rattle.vc_session.specs.Progress.{Progress}
 use Rattle.vc_session.specs.ProperState.{IsProperState}
 use Rattle.vc_session.specs.declared.style.Style.{Style}
 use Rattle.vc_session.specs.QuietText.{body_by, line_by, needs_by_text, style_by}
-use Rattle.vc_session.specs.Replay.{FaultsStayed, IsRunOf, Told, all_told, run_by}
+use Rattle.vc_session.specs.Replay.{FaultsStayed, IsRunOf, LeavesRun, all_told, run_by}
+use Rattle.vc_write.specs.Told.{Told}
 use Rattle.vc_session.specs.Run.{Ran, lines_of, nothing_ran, run_from}
 use Rattle.vc_session.specs.Text.{replies_text, counts_of}
 use Rattle.vc_session.proofs.NoneRefused.{run-none, shown-none, stayed-none}
@@ -286,6 +287,17 @@ module _ {quiet : Bool} {start now : Moment} {counts : Counts} {text : List ℕ}
     none-refused : run_from start.state done [] ≡ p.ran
     none-refused =
         p.run [] (all-weaken (λ r. need_shown r.1 ≡ NoNeed) (λ r. need_at [] r.0 ≡ need_shown r.1) p.ran.replies (λ r none. sym none) replied-none)
+
+  -- what is left is the state that the run leaves for them
+  pub progress-leaves : (said : Ran → List ℕ) (tail : List ℕ) (after : Option (List ℕ)) → count < 2 ^ 64 → ((n : ℕ) → n < 2 ^ 64 → NoLine n (ended_lines tail)) → said p.ran ≡ replies_text style p.ran ++ tail → Told start.written after (text ++ tail) → LeavesRun quiet now.armed said start (over_sink now after) done
+  progress-leaves said tail after few none says told =
+      let ran : run_by style start done (text ++ tail) ≡ p.ran = p.run (needs_by_text style (lines_of done) (text ++ tail)) (shows tail few none) in
+      record {
+        written = text ++ tail;
+        text = ap (λ t. t ++ tail) p.told ∙ (sym says ∙ ap said (sym ran));
+        told = told;
+        state = sym p.state ∙ ap (λ (r : Ran). r.state) (sym ran);
+      }
 
   pub progress-end : (said : Ran → List ℕ) (tail : List ℕ) (after : Option (List ℕ)) → count < 2 ^ 64 → ((n : ℕ) → n < 2 ^ 64 → NoLine n (ended_lines tail)) → said p.ran ≡ replies_text style p.ran ++ tail → Told start.written after (text ++ tail) → IsRunOf quiet now.armed said start (moment_at_end (over_sink now after)) done
   progress-end said tail after few none says told =

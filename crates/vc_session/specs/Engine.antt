@@ -14,7 +14,8 @@ use Rattle.vc_session.specs.Cut.{Cuts, NotAhead}
 use Rattle.vc_session.specs.Far.{WrotePart}
 use Rattle.vc_session.specs.Progress.{CountsOn}
 use Rattle.vc_session.specs.QuietText.{line_by, style_by}
-use Rattle.vc_session.specs.Replay.{IsCutShort, IsGenerated, IsReplay, ReplaysBy, Told}
+use Rattle.vc_session.specs.Replay.{IsCutShort, IsGenerated, IsReplay, LeavesReplay, ReplaysBy}
+use Rattle.vc_write.specs.Told.{Told}
 use Rattle.vc_session.specs.Run.{is_second, script}
 use Rattle.vc_session.specs.SoFar.{ArmsBy, AtEnd}
 use Rattle.vc_session.specs.Streams.{Flows}
@@ -97,6 +98,11 @@ pub record RunsScript (tool : Tool) (w : Words) (answer : Result (Option (ℕ ×
   -- the counts of failures never fall
   pub reads : old.reads ≤ new.reads
   pub writes : old.writes ≤ new.writes
+
+-- what running it over a session promises that goes on behind it: besides, the session is as the run leaves it
+pub record RunsOn (tool : Tool) (w : Words) (answer : Result (Option (ℕ × LineFault)) Stop) (start last : Moment) (old new : Flows) : Type 0 where
+  pub script : RunsScript tool w answer start (moment_at_end last) old new
+  pub leaves : IfOk answer (λ bad. IfSome old.left (λ input. LeavesReplay tool w (over_sink start old.written) (over_sink last new.written) input bad))
 
 -- what running generated commands promises; `told` is what the replies' sink tells, and `failures` how often a write of it failed
 pub record RunsGenerated {U : Type 0} (tool : Tool) (w : Words) (n : ℕ) (answer : Result U Stop) (start last : Moment) (told told' : Option (List ℕ)) (failures failures' : ℕ) : Type 0 where

@@ -5,7 +5,8 @@ use Rattle.vc_model.specs.Count.{Rose}
 use Rattle.vc_script.specs.declared.command.Command.{Command}
 use Rattle.vc_session.specs.Far.{WrotePart}
 use Rattle.vc_session.specs.Progress.{Progress}
-use Rattle.vc_session.specs.Replay.{Told, on_lines}
+use Rattle.vc_session.specs.Replay.{on_lines}
+use Rattle.vc_write.specs.Told.{Told}
 use Rattle.vc_session.specs.declared.engine.Stop.{Stop}
 use Rattle.vc_session.specs.declared.engine.Stop.TheVariants.{Read, Write}
 use Rattle.vc_session.specs.declared.style.Style.TheVariants.{Quiet}

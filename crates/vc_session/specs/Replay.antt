@@ -1,10 +1,10 @@
 -- What the end of a run promises.
-use Rattle.std.specs.Prelude.{◌≡◌, ℕ, ◌+◌, ◌≤◌, ◌⊎◌, List, [], ◌∷◌, ◌++◌, Option, Some, None, Bool, true, false, IfSome, IsOk, codes, decimal, length, take}
+use Rattle.std.specs.Prelude.{◌≡◌, ℕ, ◌+◌, ◌≤◌, List, [], ◌∷◌, ◌++◌, Option, Some, None, Bool, true, false, IfSome, IsOk, codes, decimal, length, take}
 use Rattle.std.specs.List.{AllByRecursion}
 use Rattle.vc_model.specs.Count.{Rose}
 use Rattle.vc_script.specs.declared.command.Command.{Command}
 use Rattle.vc_script.specs.declared.line_fault.LineFault.{LineFault}
-use Rattle.vc_script.specs.declared.line_fault.LineFault.TheVariants.{UnknownCommand, WordCount, BadName, BadNumber, BadAddress, BadBytes, UnknownMethod, LineTooLong, TooManyLines, UnknownVersion}
+use Rattle.vc_script.specs.Faults.{fault_text}
 use Rattle.vc_script.specs.declared.tool.Tool.{Tool}
 use Rattle.vc_script.specs.declared.tool.Tool.TheVariants.{Vmreplay, Dtrun}
 use Rattle.vc_model.specs.Numbered.{at_number}
@@ -19,21 +19,8 @@ use Rattle.vc_session.specs.QuietText.{needs_by_text, style_by}
 use Rattle.vc_session.specs.Run.{Ran, commands_in, fault_in, first_bad, is_second, is_second_in, lines_of, run_from, script, wholly_read}
 use Rattle.vc_session.specs.Text.{replies_text, good_lines, is_quiet, text_of}
 use Rattle.vc_session.specs.declared.style.Style.{Style}
+use Rattle.vc_write.specs.Told.{Told}
 use Rattle.vc_words.specs.declared.words.Words.{Words}
-
--- what a sink told, followed by a piece
-abbrev pub Told : Option (List ℕ) → Option (List ℕ) → List ℕ → Type 0
-Told before after piece = IfSome before (λ w. after ≡ Some (w ++ piece))
-
--- a front of a piece was written, and a write failed
-abbrev pub Broke : ℕ → ℕ → Option (List ℕ) → Option (List ℕ) → List ℕ → Type 0
-Broke failures failures' before after piece =
-    Rose failures failures' × IfSome before (λ w. (k : ℕ) × (after ≡ Some (w ++ take k piece)))
-
--- a piece was written once: all of it, or a front of it and a write failed
-abbrev pub Tried : ℕ → ℕ → Option (List ℕ) → Option (List ℕ) → List ℕ → Type 0
-Tried failures failures' before after piece =
-    Told before after piece ⊎ Broke failures failures' before after piece
 
 abbrev pub tool_name : Tool → List ℕ
 tool_name Vmreplay = codes "vmreplay"
@@ -42,18 +29,6 @@ tool_name Dtrun = codes "dtrun"
 -- the line that err gets: the tool's name, and what happened
 abbrev pub message : Tool → List ℕ → List ℕ
 message tool text = tool_name tool ++ codes ": " ++ text ++ codes "\n"
-
-abbrev pub fault_text : LineFault → List ℕ
-fault_text UnknownCommand = codes "unknown command"
-fault_text WordCount = codes "wrong number of words"
-fault_text BadName = codes "bad name"
-fault_text BadNumber = codes "bad number"
-fault_text BadAddress = codes "bad address"
-fault_text BadBytes = codes "bad bytes"
-fault_text UnknownMethod = codes "unknown method or mode"
-fault_text LineTooLong = codes "line too long"
-fault_text TooManyLines = codes "too many lines"
-fault_text UnknownVersion = codes "unknown version"
 
 -- the line that err gets for a bad line
 abbrev pub err_line : Tool → ℕ × LineFault → List ℕ
@@ -88,6 +63,13 @@ pub record IsRunOf (quiet second : Bool) (said : Ran → List ℕ) (before after
   pub unrefused : FaultsStayed before after → written ≡ said (run_from before.state commands [])
   pub gone : after.gone ≡ tell (all_told (run_by (style_by quiet second) before commands written)) before.gone
 
+-- what such a run leaves: its last state is that of the run for the needs that its text shows
+pub record LeavesRun (quiet second : Bool) (said : Ran → List ℕ) (before last : Moment) (commands : List (ℕ × Command)) : Type 0 where
+  pub written : List ℕ
+  pub text : written ≡ said (run_by (style_by quiet second) before commands written)
+  pub told : Told before.written last.written written
+  pub state : last.state ≡ (run_by (style_by quiet second) before commands written).state
+
 -- bytes that show no fault: their whole lines are good, and no line is too long or past the last number, the one that has begun among them
 pub record ShowsNoFault (tool : Tool) (bytes : List ℕ) : Type 0 where
   pub good : fault_in tool (wholly_read bytes) ≡ None
@@ -113,6 +95,10 @@ pub record IsReplay (tool : Tool) (w : Words) (before after : Moment) (input : L
   pub first : bad ≡ first_bad tool input
   pub stops : Stops tool input bad left
   pub run : IsRunOf (is_quiet w) (is_second tool input) (text_of w (is_second tool input) (good_lines bad (length (judged_lines input)))) before after (script tool input)
+
+-- and what it leaves, at its last line
+abbrev pub LeavesReplay : Tool → Words → Moment → Moment → List ℕ → Option (ℕ × LineFault) → Type 0
+LeavesReplay tool w before last input bad = LeavesRun (is_quiet w) (is_second tool input) (text_of w (is_second tool input) (good_lines bad (length (judged_lines input)))) before last (script tool input)
 
 -- a run that a failed read ended: the lines that were wholly read were run, and no byte that was read shows a fault
 pub record IsCutShort (tool : Tool) (quiet : Bool) (before after : Moment) (input : List ℕ) (left : Option (List ℕ)) : Type 0 where

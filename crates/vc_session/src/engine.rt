@@ -13,7 +13,6 @@ ghost use Rattle.vc_session.specs.Arming.{RunsArming};
 ghost use Rattle.vc_steps.specs.Told.{rules_in};
 
 use crate::command::run_answer;
-use crate::stream::write_all;
 use std::alloc::Global;
 use vc_base::{OutOfMemory, ReadFailed, Sink, Source, WriteFailed};
 use vc_counts::Counts;
@@ -21,12 +20,18 @@ use vc_dtdisc::DictDisc;
 use vc_script::{Cut, LineAnswer, LineCutter, LineFault, Tool, read_into};
 use vc_seg::{BoxedDisc, SegDisc, Shelf};
 use vc_steps::Session;
+use vc_write::write_all;
 
-// Why a run ended before its lines did.
-#[derive(Clone, Copy)]
-pub(crate) enum Stop {
+/// Why a run ended before its lines did. This project's own.
+#[derive(Clone, Copy, Debug, PartialEq, Eq)]
+pub enum Stop {
+    /// A read failed.
     Read,
+
+    /// A write failed.
     Write,
+
+    /// Want of memory.
     Memory,
 }
 

@@ -14,7 +14,6 @@ pub mod quiet_rows;
 pub mod run_rows;
 mod script;
 mod status;
-mod stream;
 mod style;
 mod tail;
 mod told;
@@ -22,7 +21,9 @@ mod tool;
 pub mod version_rows;
 pub mod view_rows;
 
+pub use engine::Stop;
 pub use generated::generate;
+pub use script::run_script;
 pub use status::Status;
 pub use tool::{dtrun, replay};
 pub use vc_steps::{DictEntry, HomeEntry, Session};

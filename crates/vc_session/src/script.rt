@@ -1,18 +1,17 @@
 ghost use Rattle.std.specs.Prelude.{◌≡◌, [], None, Some, length};
 ghost use Rattle.vc_script.specs.Cutting.{new_cutting};
 ghost use Rattle.vc_session.specs.Arming.{IsFirst, Keeps, RunsArming};
-ghost use Rattle.vc_session.specs.Engine.{RunsScript};
+ghost use Rattle.vc_session.specs.Engine.{RunsOn, RunsScript};
 ghost use Rattle.vc_session.specs.Progress.{IsFresh};
 ghost use Rattle.vc_session.specs.ProperState.{IsProperOver};
 ghost use Rattle.vc_session.specs.Streams.{flows};
 ghost use Rattle.vc_session.specs.Text.{good_lines};
 ghost use Rattle.vc_steps.specs.Account.{ArmsNone};
 ghost use Rattle.vc_steps.specs.Homes.{slots_on};
-ghost use Rattle.vc_steps.specs.Moment.{moment_at_end, moment_at_rest};
+ghost use Rattle.vc_steps.specs.Moment.{moment_at_rest};
 ghost use Rattle.vc_steps.specs.Told.{KeepRules};
 
 use crate::engine::{Stop, run_lines};
-use crate::stream::write_all;
 use crate::tail::{gather_tail, is_quiet};
 use indexmap::IndexMap;
 use std::alloc::Global;
@@ -23,6 +22,7 @@ use vc_script::{LineCutter, LineFault, Tool};
 use vc_seg::{BoxedDisc, SegDisc, Shelf};
 use vc_steps::Session;
 use vc_words::Words;
+use vc_write::write_all;
 
 // How many of so many lines are before the first bad one.
 fn good_lines(bad: Option<(u32, LineFault)>, lines: u32) -> u32
@@ -34,8 +34,11 @@ fn good_lines(bad: Option<(u32, LineFault)>, lines: u32) -> u32
     }
 }
 
-// Runs the script over a session in which nothing is open, and writes what stands behind the replies.
-fn run_script<D: DictDisc, S: Source, O: Sink>(
+/// Runs the script that a source gives over a session in which nothing is open, and writes the replies and what stands
+/// behind them, by the words of a tool. It ends with the script or before its first bad line, which it answers with its
+/// number, from 1 on; or where a read or a write fails, or memory is wanting. The session is left as the script leaves it,
+/// for its caller to end; the cutter is a new one.
+pub fn run_script<D: DictDisc, S: Source, O: Sink>(
     alloc: Global,
     tool: Tool,
     words: &Words,
@@ -51,7 +54,7 @@ fn run_script<D: DictDisc, S: Source, O: Sink>(
     requires new { cutter.old ≡ new_cutting }
     ensures { RunsArming state D.rules D.gone shelf.old session.old kinds.old.items
         shelf.new session.new kinds.new.items
-        (λ start last. RunsScript tool words.now result start (moment_at_end last)
+        (λ start last. RunsOn tool words.now result start last
         (flows S.left S.failures O.written O.failures source.old out.old)
         (flows S.left S.failures O.written O.failures source.new out.new)) }
 {

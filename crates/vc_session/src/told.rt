@@ -1,11 +1,12 @@
 ghost use Rattle.std.specs.Prelude.{◌≡◌, ◌≤◌, OnErr, OnOk, length};
-ghost use Rattle.vc_session.specs.Replay.{Broke, Told, err_line, fault_text, message, tool_name};
+ghost use Rattle.vc_session.specs.Replay.{err_line, message, tool_name};
+ghost use Rattle.vc_write.specs.Told.{Broke, Told};
 
-use crate::stream::write_all;
 use arrayvec::ArrayString;
 use itoa::Buffer;
 use vc_base::{Sink, WriteFailed};
 use vc_script::{LineFault, Tool};
+use vc_write::write_all;
 
 // The longest line of err has 50 bytes: `vmreplay: line 2147483647: unknown method or mode` with its newline.
 const LINE_BYTES: usize = 96;
@@ -17,24 +18,6 @@ fn tool_name(tool: Tool) -> &'static str
     match tool {
         Tool::Vmreplay => "vmreplay",
         Tool::Dtrun => "dtrun",
-    }
-}
-
-fn fault_text(fault: LineFault) -> &'static str
-    ensures text { result.now ≡ fault_text fault }
-    ensures short { length result.now ≤ 22 }
-{
-    match fault {
-        LineFault::UnknownCommand => "unknown command",
-        LineFault::WordCount => "wrong number of words",
-        LineFault::BadName => "bad name",
-        LineFault::BadNumber => "bad number",
-        LineFault::BadAddress => "bad address",
-        LineFault::BadBytes => "bad bytes",
-        LineFault::UnknownMethod => "unknown method or mode",
-        LineFault::LineTooLong => "line too long",
-        LineFault::TooManyLines => "too many lines",
-        LineFault::UnknownVersion => "unknown version",
     }
 }
 
@@ -73,6 +56,6 @@ pub(crate) fn tell_fault<E: Sink>(
     text.push_str("line ");
     text.push_str(buffer.format(n));
     text.push_str(": ");
-    text.push_str(fault_text(fault));
+    text.push_str(fault.text());
     tell(err, tool, text.as_str())
 }

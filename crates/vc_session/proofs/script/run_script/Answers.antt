@@ -21,15 +21,18 @@ returns-in_err-bad g c =
     record {
       lasts = c.run_lines-ran.ensures.lasts;
       runs = record {
-        replay = search rules;
-        cut_short = search rules;
-        cut = on_err _ _ (script-failed c.args.tool c.args.words.now c.is_quiet.result _ _ _ c.run_lines-ran.new.counts _ _ _ c.is_quiet.ensures r).cut;
-        not_ahead = search rules;
-        arms = r.arms;
-        read = search rules;
-        write = search rules;
-        reads = search rules;
-        writes = search rules;
+        script = record {
+          replay = search rules;
+          cut_short = search rules;
+          cut = on_err _ _ (script-failed c.args.tool c.args.words.now c.is_quiet.result _ _ _ c.run_lines-ran.new.counts _ _ _ c.is_quiet.ensures r).cut;
+          not_ahead = search rules;
+          arms = r.arms;
+          read = search rules;
+          write = search rules;
+          reads = search rules;
+          writes = search rules;
+        };
+        leaves = search rules;
       };
     }
 
@@ -39,15 +42,18 @@ returns-in_err-gather_tail g c =
     record {
       lasts = c.run_lines-ran.ensures.lasts;
       runs = record {
-        replay = search rules;
-        cut_short = search rules;
-        cut = on_err _ _ (tail-wanting c.args.tool c.args.words.now c.is_quiet.result Memory _ _ c.run_lines-ran.new.counts _ c.in_ok-bad.bad _ _ c.is_quiet.ensures refl r).cut;
-        not_ahead = search rules;
-        arms = r.arms;
-        read = search rules;
-        write = search rules;
-        reads = search rules;
-        writes = search rules;
+        script = record {
+          replay = search rules;
+          cut_short = search rules;
+          cut = on_err _ _ (tail-wanting c.args.tool c.args.words.now c.is_quiet.result Memory _ _ c.run_lines-ran.new.counts _ c.in_ok-bad.bad _ _ c.is_quiet.ensures refl r).cut;
+          not_ahead = search rules;
+          arms = r.arms;
+          read = search rules;
+          write = search rules;
+          reads = search rules;
+          writes = search rules;
+        };
+        leaves = search rules;
       };
     }
 
@@ -58,14 +64,17 @@ returns-in_err-write_all g c =
     record {
       lasts = c.run_lines-ran.ensures.lasts;
       runs = record {
-        replay = search rules;
-        cut_short = search rules;
-        cut = on_err _ _ (tail-cut c.args.tool c.args.words.now c.is_quiet.result _ _ c.run_lines-ran.new.counts _ c.number.result c.good_lines-lines.result c.in_ok-bad.bad _ _ _ c.new-tail.result.items _ c.is_quiet.ensures c.number.ensures.value c.good_lines-lines.ensures c.new-tail.ensures.items c.in_ok-gather_tail.ensures r front);
-        not_ahead = if_err _ _ _ (tail-not_ahead c.args.tool c.args.words.now c.is_quiet.result _ _ c.run_lines-ran.new.counts _ c.in_ok-bad.bad _ _ _ _ _ c.is_quiet.ensures r front);
-        arms = r.arms;
-        read = search rules;
-        write = search rules;
-        reads = search rules;
-        writes = omega (arith, r.writes, c.write_all.ensures.never_falls);
+        script = record {
+          replay = search rules;
+          cut_short = search rules;
+          cut = on_err _ _ (tail-cut c.args.tool c.args.words.now c.is_quiet.result _ _ c.run_lines-ran.new.counts _ c.number.result c.good_lines-lines.result c.in_ok-bad.bad _ _ _ c.new-tail.result.items _ c.is_quiet.ensures c.number.ensures.value c.good_lines-lines.ensures c.new-tail.ensures.items c.in_ok-gather_tail.ensures r front);
+          not_ahead = if_err _ _ _ (tail-not_ahead c.args.tool c.args.words.now c.is_quiet.result _ _ c.run_lines-ran.new.counts _ c.in_ok-bad.bad _ _ _ _ _ c.is_quiet.ensures r front);
+          arms = r.arms;
+          read = search rules;
+          write = search rules;
+          reads = search rules;
+          writes = omega (arith, r.writes, c.write_all.ensures.never_falls);
+        };
+        leaves = search rules;
       };
     }

@@ -32,14 +32,14 @@ returns g c =
     record {
       runs =
           runs-rest c.args.tool c.args.words.now start before (moment_at_end last) after _ _ c.run_script-ended.result same
-          (λ written. record { written = refl; accounts = c.end.ensures.shelf; gone = c.end.ensures.gone }) refl c.run_script-ended.ensures.runs;
+          (λ written. record { written = refl; accounts = c.end.ensures.shelf; gone = c.end.ensures.gone }) refl c.run_script-ended.ensures.runs.script;
       keeps = record {
         accounts =
             subst (λ a. KeepsAccounts before.accounts a) (sym c.end.ensures.shelf)
             (subst (λ (m : Moment). KeepsAccounts m.accounts last.accounts) same c.run_script-ended.ensures.lasts.lasts.accounts);
         asked = λ first.
             subst (λ a. SameAsked before.accounts a) (sym c.end.ensures.shelf)
-            (subst (λ (m : Moment). SameAsked m.accounts last.accounts) same (c.run_script-ended.ensures.lasts.lasts.asked (first-arms _ _ last c.run_script-ended.ensures.runs.arms first)));
+            (subst (λ (m : Moment). SameAsked m.accounts last.accounts) same (c.run_script-ended.ensures.lasts.lasts.asked (first-arms _ _ last c.run_script-ended.ensures.runs.script.arms first)));
       };
       rules = c.end.ensures.rules ∙ c.run_script-ended.ensures.lasts.lasts.keeps_rules;
       unarmed = λ n d at on. c.run_script-ended.ensures.lasts.lasts.arms_none n d (c.end.ensures.unarmed n d at on) on;
