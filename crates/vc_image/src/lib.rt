@@ -15,5 +15,5 @@ mod segments;
 mod tests;
 
 pub use fault::{LoadFault, SaveFault};
-pub use loading::{Loaded, load};
-pub use saving::save;
+pub use loading::{Loaded, load, load_best};
+pub use saving::{save, save_best};

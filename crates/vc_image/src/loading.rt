@@ -2,6 +2,7 @@ ghost use Rattle.std.specs.Prelude.{◌≡◌, IfErr, IfOk, List, map};
 ghost use Rattle.vc_model.specs.Discipline.{Kept};
 ghost use Rattle.vc_dtdisc.specs.Rules.{Rules};
 ghost use Rattle.vc_region.specs.Parts.{disc_of};
+ghost use Rattle.vc_region.specs.declared.region.Region.TheVariants.{Best as OfBest};
 ghost use Rattle.vc_image_dicts.specs.Whole.{IsSound};
 ghost use Rattle.vc_image_lends.specs.Lends.{AreLent};
 ghost use Rattle.vc_image_parts.specs.Front.{IsSoundFront};
@@ -10,6 +11,7 @@ ghost use Rattle.vc_image.specs.Load.{IsLoaded, IsNotLoaded, fault_of, pairs_of}
 use crate::LoadFault;
 use crate::dicts::dicts_of_image;
 use std::alloc::Global;
+use vc_best::Best;
 use vc_dict::Dicts;
 use vc_dtdisc::DictDisc;
 use vc_image_dicts::unsound_part;
@@ -43,11 +45,11 @@ fn load_sound(
     alloc: Global,
     image: &[u8],
     disc: Box<dyn SegDisc>,
-) -> Result<Loaded, (LoadFault, Box<dyn SegDisc>)>
+) -> Result<(Best, Dicts), (LoadFault, Box<dyn SegDisc>)>
     requires { IsSoundFront image.now }
     ensures loaded { (kinds : List Rules) → IsSound kinds image.now
-        → IfOk result (λ l. IsLoaded kinds (state disc).terms image.now l.region l.dicts) }
-    ensures lent { IfOk result (λ l. AreLent (state disc) (state (disc_of l.region))
+        → IfOk result (λ l. IsLoaded kinds (state disc).terms image.now (OfBest l.0) l.1) }
+    ensures lent { IfOk result (λ l. AreLent (state disc) (state l.0.disc)
         (pairs_of image.now)) }
     ensures fault { (kinds : List Rules) → IsSound kinds image.now
         → IfErr result (λ e. IsNotLoaded kinds image.now (state disc) (state e.1) e.0) }
@@ -59,11 +61,32 @@ fn load_sound(
         Err(_) => return Err((LoadFault::OutOfMemory, disc)),
     };
     match region_of_image(alloc, image, disc) {
-        Ok(best) => Ok(Loaded {
-            region: Region::from_best(best),
-            dicts,
-        }),
+        Ok(best) => Ok((best, dicts)),
         Err((fault, disc)) => Err((fault_of(fault), disc)),
+    }
+}
+
+/// A best region with dictionaries, loaded from the image of one as by `load`, where the region isn't to be held as a
+/// `Region`. This project's own.
+pub fn load_best<D: DictDisc>(
+    alloc: Global,
+    image: &[u8],
+    kinds: &Vec<D>,
+    disc: Box<dyn SegDisc>,
+) -> Result<(Best, Dicts), (LoadFault, Box<dyn SegDisc>)>
+    ensures loaded { IfOk result (λ l. IsLoaded (map D.rules kinds.now.items) (state disc).terms
+        image.now (OfBest l.0) l.1) }
+    ensures lent { IfOk result (λ l. AreLent (state disc) (state l.0.disc)
+        (pairs_of image.now)) }
+    ensures fault { IfErr result (λ e. IsNotLoaded (map D.rules kinds.now.items) image.now
+        (state disc) (state e.1) e.0) }
+    ensures out { IfErr result (λ e. (state e.1).out ≡ (state disc).out) }
+    ensures kept { IfErr result (λ e. Kept (state disc) (state e.1)) }
+{
+    match unsound_part(alloc, image, kinds) {
+        Ok(None) => load_sound(alloc, image, disc),
+        Ok(Some(part)) => Err((LoadFault::Bad(part), disc)),
+        Err(_) => Err((LoadFault::OutOfMemory, disc)),
     }
 }
 
@@ -90,9 +113,11 @@ pub fn load<D: DictDisc>(
     ensures out { IfErr result (λ e. (state e.1).out ≡ (state disc).out) }
     ensures kept { IfErr result (λ e. Kept (state disc) (state e.1)) }
 {
-    match unsound_part(alloc, image, kinds) {
-        Ok(None) => load_sound(alloc, image, disc),
-        Ok(Some(part)) => Err((LoadFault::Bad(part), disc)),
-        Err(_) => Err((LoadFault::OutOfMemory, disc)),
+    match load_best(alloc, image, kinds, disc) {
+        Ok((best, dicts)) => Ok(Loaded {
+            region: Region::Best(best),
+            dicts,
+        }),
+        Err(fault) => Err(fault),
     }
 }

@@ -16,8 +16,10 @@ use vc_dtdisc::DictDisc;
 use vc_region::Region;
 use vc_write::write_all;
 
-// Writes the image of a best region with dictionaries.
-fn save_best<O: Sink>(
+/// Writes the image of a best region with at most 256 dictionaries, as `save` does, where it isn't held as a `Region`, and
+/// answers how many bytes it has. After a fault a front of the image is written, and nothing of the region, its discipline
+/// or the dictionaries changes. This project's own.
+pub fn save_best<O: Sink>(
     alloc: Global,
     best: &Best,
     dicts: &[Dict],

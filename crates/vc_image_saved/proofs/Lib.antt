@@ -1,9 +1,9 @@
 mod Sizes
 mod Rows
-mod Begun
+pub mod Begun
 mod Rising
-mod Standing
-mod Numbers
-mod Joined
+pub mod Standing
+pub mod Numbers
+pub mod Joined
 mod Loaded
 mod Returning

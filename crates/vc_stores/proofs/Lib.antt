@@ -4,3 +4,7 @@ pub mod Changed
 pub mod Here
 pub mod Added
 pub mod Ended
+pub mod Copied
+pub mod Placed
+pub mod Loaded
+pub mod Returned

@@ -1,9 +1,19 @@
 //! Dictionaries by number in one region, to be used by a program.
 #![tactic(auto)]
 
+mod copies;
 mod cursor;
+mod fault;
+#[cfg(test)]
+mod image_tests;
+mod law;
+mod loading;
+mod placing;
+mod saving;
 mod store;
 #[cfg(test)]
 mod tests;
 
+pub use fault::{StoreLoadFault, StoreSaveFault};
+pub use law::loaded_shows_the_same;
 pub use store::Store;

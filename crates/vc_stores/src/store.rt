@@ -15,7 +15,7 @@ use vc_store::calls::{put, seek, seek_from, take};
 pub struct Store<D: DictDisc + Drop> {
     pub(crate) best: Best,
     pub(crate) dicts: Vec<Option<Dict>>,
-    kinds: Vec<D>,
+    pub(crate) kinds: Vec<D>,
 }
 
 impl<D: DictDisc + Drop> Store<D> {

@@ -10,7 +10,7 @@ use vc_seg::{BoxedDisc, HeapDisc, SegDisc};
 use vc_store::Put;
 
 // Puts an object into the dictionary of a number, where there is one.
-fn put<D: DictDisc + Drop>(store: &mut Store<D>, n: usize, object: &[u8]) -> Option<Put>
+pub(crate) fn put<D: DictDisc + Drop>(store: &mut Store<D>, n: usize, object: &[u8]) -> Option<Put>
     requires { IsOpen D.rules store.old (disc_of store.old state) }
     ensures { IsOpen D.rules store.new (disc_of store.new state) }
 {
@@ -22,7 +22,7 @@ fn put<D: DictDisc + Drop>(store: &mut Store<D>, n: usize, object: &[u8]) -> Opt
 }
 
 // Whether a word is the current object of the dictionary of a number; no word is that of none.
-fn is_current<D: DictDisc + Drop>(store: &Store<D>, n: usize, word: &str) -> bool
+pub(crate) fn is_current<D: DictDisc + Drop>(store: &Store<D>, n: usize, word: &str) -> bool
     requires { IsOpen D.rules store.now (disc_of store.now state) }
 {
     if store.has(n) {
@@ -57,7 +57,7 @@ fn words_in_both<D: DictDisc + Drop>(rt: &impl Abort, store: &mut Store<D>) -> R
 }
 
 // Ends the dictionary of a number, where there is one.
-fn shut<D: DictDisc + Drop>(store: &mut Store<D>, n: usize)
+pub(crate) fn shut<D: DictDisc + Drop>(store: &mut Store<D>, n: usize)
     requires { IsOpen D.rules store.old (disc_of store.old state) }
     ensures { IsOpen D.rules store.new (disc_of store.new state) }
 {
@@ -78,7 +78,7 @@ fn without_first<D: DictDisc + Drop>(rt: &impl Abort, store: &mut Store<D>) -> R
 }
 
 // Opens a dictionary, and looks at its number.
-fn opened<D: DictDisc + Drop>(
+pub(crate) fn opened<D: DictDisc + Drop>(
     rt: &impl Abort,
     store: &mut Store<D>,
     method: DictMethod,

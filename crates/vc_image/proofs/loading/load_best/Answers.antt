@@ -1,5 +1,5 @@
 use Rattle.vc_base.proofs.Common.{map}
-use Rattle.vc_image.proofs.loading.load.Goals as goal
+use Rattle.vc_image.proofs.loading.load_best.Goals as goal
 
 pub returns-in-Ok-None-clause-loaded : goal.returns-in-Ok-None-clause-loaded
 returns-in-Ok-None-clause-loaded g c =
