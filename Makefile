@@ -52,7 +52,7 @@ install: $(BIN)/vmreplay $(BIN)/dtrun $(BIN)/vmcompare $(BIN)/vmimage
 	cd $(DESTDIR)$(BINDIR) && chmod 755 vmreplay dtrun vmcompare vmimage
 	for page in $(PAGES); do cp -f man/$$page $(DESTDIR)$(MANDIR)/man1 || exit 1; done
 	cp -f docs/script.md docs/compare.md docs/image.md $(DESTDIR)$(DOCDIR)
-	cp -f examples/*.c examples/*.vm examples/*.dt examples/*.trace examples/*.image examples/*.words examples/*.replies $(DESTDIR)$(DOCDIR)/examples
+	cp -f examples/*.c examples/*.vm examples/*.dt examples/*.trace examples/*.image examples/*.save examples/*.words examples/*.replies $(DESTDIR)$(DOCDIR)/examples
 	cd $(DESTDIR)$(MANDIR)/man1 && chmod 644 $(PAGES)
 	chmod 644 $(DESTDIR)$(DOCDIR)/*.md $(DESTDIR)$(DOCDIR)/examples/*
 	if test -f $(BIN)/libkolbista.a; then \

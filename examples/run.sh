@@ -1,7 +1,7 @@
 #!/bin/sh
 # Runs each script of this folder, *.vm with vmreplay, *.dt with dtrun and *.trace with vmcompare, behind the words in the
 # file *.words beside it, if there is one, shows each image *.image with vmimage, and compares what is written with the
-# file *.replies:
+# file *.replies; and saves what each script *.save leaves with vmimage, and compares that with the image *.image:
 #   examples/run.sh [FOLDER]
 # The programs are those of bin/ where no folder is named.
 set -u
@@ -43,6 +43,19 @@ for script in "$here"/*.vm "$here"/*.dt "$here"/*.trace "$here"/*.image; do
         echo "$program $name: FAILED, status $status"
         cat "$dir/err"
         diff "$here/$name.replies" "$dir/out"
+        failed=$((failed + 1))
+    fi
+done
+for script in "$here"/*.save; do
+    name=$(basename "${script%.save}")
+    "$programs/vmimage" save "$dir/image" < "$script" > "$dir/out" 2> "$dir/err"
+    status=$?
+    if [ "$status" -eq 0 ] && [ ! -s "$dir/err" ] && cmp -s "$here/$name.image" "$dir/image"; then
+        echo "vmimage $name: the image as it stands in $name.image, status 0, nothing on standard error"
+        passed=$((passed + 1))
+    else
+        echo "vmimage $name: FAILED, status $status"
+        cat "$dir/err"
         failed=$((failed + 1))
     fi
 done

@@ -50,3 +50,23 @@ check "vmimage show: nor are they shown" cmp image.out "${fruit%.image}.replies"
 "$here/picture" image.out > image.svg 2> fault
 check "what vmimage shows is drawn" same "$? $(cat fault)" "0 "
 check "what vmimage shows is drawn: its blocks by their numbers" same "$(grep -c '>blocks: 5, ' image.svg)" 1
+
+# An image that is saved: that of the script beside the example, byte for byte, in the place of what was there before.
+printf older > saved.image
+check "vmimage save: what the script prints" \
+    same "$("$image" save saved.image < "${fruit%.image}.save" 2>&1)" \
+    "$("$programs/dtrun" < "${fruit%.image}.save")"
+check "vmimage save: the image of the example, and no other file" \
+    same "$(cmp saved.image "$fruit" && echo saved*)" saved.image
+printf other > saved.image.new
+check "vmimage save: a file that stands in the way is left alone" \
+    same "$(echo open r best 1 | "$image" save saved.image 2>&1 > image.out; echo "status $? $(cat image.out saved.image.new)")" \
+    "vmimage: write failed
+status 4 r open
+other"
+check "vmimage save: and so is the older image" cmp saved.image "$fruit"
+rm saved.image.new
+check "vmimage save: a script that is refused leaves the older image" \
+    same "$(echo frob | "$image" save saved.image 2>&1; echo "status $? $(cmp saved.image "$fruit" && echo saved*)")" \
+    "vmimage: line 1: unknown command
+status 7 saved.image"

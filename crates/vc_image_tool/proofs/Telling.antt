@@ -9,7 +9,7 @@ use Rattle.vc_image_tool.specs.Told.{fault_line, status_of}
 use Rattle.vc_image_tool.specs.declared.fault.ImageFault.{ImageFault}
 use Rattle.vc_image_tool.specs.declared.fault.ImageFault.TheVariants as fault
 use Rattle.vc_image_tool.specs.declared.status.ImageStatus.{ImageStatus}
-use Rattle.vc_image_tool.specs.declared.status.ImageStatus.TheVariants.{Done, Unsound, Usage, Read, Write, Memory, NotLent}
+use Rattle.vc_image_tool.specs.declared.status.ImageStatus.TheVariants.{Done, Unsound, Usage, Read, Write, Memory, NotLent, Script, NoImage}
 
 module _ (kinds : List Rules) (image : List ℕ) (old new : Sinks) where
   -- a sound image is told so
@@ -21,6 +21,8 @@ module _ (kinds : List Rules) (image : List ℕ) (old new : Sinks) where
   put-checked Write s p = (s, p)
   put-checked Memory s p = absurd p
   put-checked NotLent s p = (s, p)
+  put-checked Script s p = (s, p)
+  put-checked NoImage s p = (s, p)
 
   checked-by : (why : ImageFault) → IsJudged kinds image (Err why) → Tells old new (fault_line why) → Checks kinds image (status_of why) old new
   checked-by fault.Usage j t = absurd j
@@ -32,6 +34,7 @@ module _ (kinds : List Rules) (image : List ℕ) (old new : Sinks) where
   checked-by (fault.Load load.Grows) j t = absurd j
   checked-by (fault.Load (load.NoSegment number)) j t = absurd j
   checked-by (fault.Load load.OutOfMemory) j t = absurd j
+  checked-by (fault.Script why) j t = absurd j
 
   -- and what is wrong with another one
   pub told-checked : (why : ImageFault) (status : ImageStatus) → IsJudged kinds image (Err why) → status ≡ status_of why → Tells old new (fault_line why) → Checks kinds image status old new
@@ -48,6 +51,7 @@ module _ (kinds : List Rules) (image : List ℕ) (old new : Sinks) where
     shown-by (fault.Load load.Grows) n t = record { why = load.Grows; status = refl; left = n.0; cause = n.1; told = t }
     shown-by (fault.Load (load.NoSegment number)) n t = record { why = load.NoSegment number; status = refl; left = n.0; cause = n.1; told = t }
     shown-by (fault.Load load.OutOfMemory) n t = t
+    shown-by (fault.Script why) n t = absurd n
 
     -- why nothing is shown of an image
     pub told-shown : (why : ImageFault) (status : ImageStatus) → IsNotShown kinds image d why → status ≡ status_of why → Tells old new (fault_line why) → Shows kinds image d status old new

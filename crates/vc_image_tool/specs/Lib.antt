@@ -4,3 +4,4 @@ pub mod Told
 pub mod Streams
 pub mod Shown
 pub mod Promises
+pub mod Making

@@ -13,7 +13,8 @@ use Rattle.vc_image_tool.specs.declared.status.ImageStatus.{ImageStatus}
 use Rattle.vc_image_tool.specs.declared.status.ImageStatus.TheVariants.{Done, Unsound, Write, Memory, NotLent}
 use Rattle.vc_image_tool.specs.Shown.{shown_of}
 use Rattle.vc_image_tool.specs.Streams.{Sinks}
-use Rattle.vc_image_tool.specs.Told.{Broke, Told, Tried, fault_line, load_status, message}
+use Rattle.vc_image_tool.specs.Told.{fault_line, load_status, message}
+use Rattle.vc_write.specs.Told.{Broke, Told, Tried}
 
 -- one line was tried on err
 abbrev pub Tries : Sinks → Sinks → List ℕ → Type 0

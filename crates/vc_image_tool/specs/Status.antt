@@ -1,7 +1,7 @@
 -- The number of each status.
 use Rattle.std.specs.Prelude.{ℕ}
 use Rattle.vc_image_tool.specs.declared.status.ImageStatus.{ImageStatus}
-use Rattle.vc_image_tool.specs.declared.status.ImageStatus.TheVariants.{Done, Unsound, Usage, Read, Write, Memory, NotLent}
+use Rattle.vc_image_tool.specs.declared.status.ImageStatus.TheVariants.{Done, Unsound, Usage, Read, Write, Memory, NotLent, Script, NoImage}
 
 abbrev pub number : ImageStatus → ℕ
 number Done = 0
@@ -11,3 +11,5 @@ number Read = 3
 number Write = 4
 number Memory = 5
 number NotLent = 6
+number Script = 7
+number NoImage = 8

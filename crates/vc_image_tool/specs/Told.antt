@@ -1,28 +1,16 @@
 -- What is told on err.
-use Rattle.std.specs.Prelude.{◌≡◌, ℕ, List, ◌++◌, ◌⊎◌, Option, Some, IfSome, codes, decimal, take}
-use Rattle.vc_model.specs.Count.{Rose}
+use Rattle.std.specs.Prelude.{ℕ, List, ◌++◌, codes, decimal}
 use Rattle.vc_image.specs.declared.fault.LoadFault.{LoadFault}
 use Rattle.vc_image.specs.declared.fault.LoadFault.TheVariants as load
 use Rattle.vc_image_parts.specs.declared.part.Part.{Part}
 use Rattle.vc_image_parts.specs.declared.part.Part.TheVariants.{Header, Segment, Tree, Dictionary, Rest}
+use Rattle.vc_image_script.specs.declared.fault.ScriptFault.{ScriptFault}
+use Rattle.vc_image_script.specs.declared.fault.ScriptFault.TheVariants as script
+use Rattle.vc_script.specs.Faults.{fault_text as line_text}
 use Rattle.vc_image_tool.specs.declared.fault.ImageFault.{ImageFault}
 use Rattle.vc_image_tool.specs.declared.fault.ImageFault.TheVariants as fault
 use Rattle.vc_image_tool.specs.declared.status.ImageStatus.{ImageStatus}
-use Rattle.vc_image_tool.specs.declared.status.ImageStatus.TheVariants.{Unsound, Usage, Read, Write, Memory, NotLent}
-
--- what a sink told, followed by a piece
-abbrev pub Told : Option (List ℕ) → Option (List ℕ) → List ℕ → Type 0
-Told before after piece = IfSome before (λ w. after ≡ Some (w ++ piece))
-
--- a front of a piece was written, and a write failed
-abbrev pub Broke : ℕ → ℕ → Option (List ℕ) → Option (List ℕ) → List ℕ → Type 0
-Broke failures failures' before after piece =
-    Rose failures failures' × IfSome before (λ w. (k : ℕ) × (after ≡ Some (w ++ take k piece)))
-
--- a piece was written once: all of it, or a front of it and a write failed
-abbrev pub Tried : ℕ → ℕ → Option (List ℕ) → Option (List ℕ) → List ℕ → Type 0
-Tried failures failures' before after piece =
-    Told before after piece ⊎ Broke failures failures' before after piece
+use Rattle.vc_image_tool.specs.declared.status.ImageStatus.TheVariants.{Unsound, Usage, Read, Write, Memory, NotLent, Script, NoImage}
 
 -- the line that err gets: the program's name, and what happened
 abbrev pub message : List ℕ → List ℕ
@@ -48,6 +36,16 @@ load_text load.Grows = codes "too many segments"
 load_text (load.NoSegment number) = segment_text number (codes ": no segment")
 load_text load.OutOfMemory = codes "out of memory"
 
+-- why no image is made of what a script leaves
+abbrev pub script_text : ScriptFault → List ℕ
+script_text (script.Line n why) = codes "line " ++ decimal n ++ codes ": " ++ line_text why
+script_text script.Read = codes "read failed"
+script_text script.Write = codes "write failed"
+script_text script.Memory = codes "out of memory"
+script_text script.NoRegion = codes "no region"
+script_text script.WrongMethod = codes "wrong method"
+script_text (script.Unsound part) = load_text (load.Bad part)
+
 -- what is wrong
 abbrev pub fault_text : ImageFault → List ℕ
 fault_text fault.Usage = codes "bad arguments"
@@ -55,6 +53,7 @@ fault_text fault.Read = codes "read failed"
 fault_text fault.Write = codes "write failed"
 fault_text fault.Memory = codes "out of memory"
 fault_text (fault.Load why) = load_text why
+fault_text (fault.Script why) = script_text why
 
 -- the line of that
 abbrev pub fault_line : ImageFault → List ℕ
@@ -68,6 +67,16 @@ load_status load.Grows = NotLent
 load_status (load.NoSegment number) = NotLent
 load_status load.OutOfMemory = Memory
 
+-- the status of a script of which no image is made
+abbrev pub script_status : ScriptFault → ImageStatus
+script_status (script.Line n why) = Script
+script_status script.Read = Read
+script_status script.Write = Write
+script_status script.Memory = Memory
+script_status script.NoRegion = NoImage
+script_status script.WrongMethod = NoImage
+script_status (script.Unsound part) = Unsound
+
 -- the status of a fault
 abbrev pub status_of : ImageFault → ImageStatus
 status_of fault.Usage = Usage
@@ -75,3 +84,4 @@ status_of fault.Read = Read
 status_of fault.Write = Write
 status_of fault.Memory = Memory
 status_of (fault.Load why) = load_status why
+status_of (fault.Script why) = script_status why

@@ -1,4 +1,5 @@
 use vc_image::LoadFault;
+use vc_image_script::ScriptFault;
 
 /// What keeps a task on an image from its end. This project's own.
 #[derive(Clone, Copy, Debug, PartialEq, Eq)]
@@ -13,4 +14,6 @@ pub enum ImageFault {
     Memory,
     /// The image isn't sound, or isn't loaded.
     Load(LoadFault),
+    /// No image is made of what a script leaves.
+    Script(ScriptFault),
 }

@@ -1,13 +1,16 @@
-//! Judges the image of a region and shows what it holds, and tells what is wrong with one. This project's own.
+//! Judges the image of a region and shows what it holds, makes one of what a script leaves, and tells what is wrong. This
+//! project's own.
 #![tactic(auto)]
 
 mod fault;
+mod making;
 mod status;
 mod task;
 mod told;
 mod tool;
 
 pub use fault::ImageFault;
+pub use making::make;
 pub use status::ImageStatus;
 pub use task::{ImageTask, task_of};
 pub use told::tell;

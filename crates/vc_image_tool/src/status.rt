@@ -12,7 +12,7 @@ pub enum ImageStatus {
     /// The words behind the program's name were refused.
     Usage,
 
-    /// The file can't be read.
+    /// The file, or the script, can't be read.
     Read,
 
     /// A write failed.
@@ -23,12 +23,18 @@ pub enum ImageStatus {
 
     /// The image is sound, and the discipline doesn't lend it its segments.
     NotLent,
+
+    /// Something is wrong with a line of the script.
+    Script,
+
+    /// The script leaves no region open, or the first one isn't of the method best.
+    NoImage,
 }
 
 impl ImageStatus {
     ghost use Rattle.vc_image_tool.specs.Status.{number};
 
-    /// The number that a program ends with, from 0 to 6.
+    /// The number that a program ends with, from 0 to 8.
     pub fn number(self) -> u8
         ensures { result ≡ number self }
     {
@@ -40,6 +46,8 @@ impl ImageStatus {
             ImageStatus::Write => 4,
             ImageStatus::Memory => 5,
             ImageStatus::NotLent => 6,
+            ImageStatus::Script => 7,
+            ImageStatus::NoImage => 8,
         }
     }
 }

@@ -8,6 +8,8 @@ pub enum ImageTask {
     Check,
     /// What it holds is shown: `show`.
     Show,
+    /// It is made of what a script leaves: `save`.
+    Save,
 }
 
 // The task of that name.
@@ -19,6 +21,9 @@ fn named(name: &str) -> Option<ImageTask>
     }
     if name == "show" {
         return Some(ImageTask::Show);
+    }
+    if name == "save" {
+        return Some(ImageTask::Save);
     }
     None
 }

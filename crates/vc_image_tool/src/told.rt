@@ -1,6 +1,8 @@
 ghost use Rattle.std.specs.Prelude.{◌≡◌, ◌≤◌, ◌++◌, OnErr, OnOk, codes, decimal, length};
 ghost use Rattle.arrayvec.specs.ArrayString.{array_string_len};
-ghost use Rattle.vc_image_tool.specs.Told.{Broke, Told, Tried, fault_line, fault_text, load_text, part_text, segment_text, status_of};
+ghost use Rattle.vc_image_script.specs.declared.fault.ScriptFault.TheVariants.{Line as LineWrong};
+ghost use Rattle.vc_image_tool.specs.Told.{fault_line, fault_text, load_text, part_text, script_status, script_text, segment_text, status_of};
+ghost use Rattle.vc_write.specs.Told.{Broke, Told, Tried};
 
 use crate::{ImageFault, ImageStatus};
 use arrayvec::ArrayString;
@@ -8,9 +10,11 @@ use itoa::Buffer;
 use vc_base::{Sink, WriteFailed};
 use vc_image::LoadFault;
 use vc_image_parts::Part;
+use vc_image_script::ScriptFault;
+use vc_script::LineFault;
 use vc_write::write_all;
 
-// The longest line of err has 41 bytes: `vmimage: unsound: dictionary 4294967295` with its newline.
+// The longest line of err has 49 bytes: `vmimage: line 4294967295: unknown method or mode` with its newline.
 const LINE_BYTES: usize = 96;
 
 type Line = ArrayString<LINE_BYTES>;
@@ -71,6 +75,36 @@ fn put_load_fault(line: &mut Line, fault: LoadFault)
     }
 }
 
+// Puts what is wrong with the line of a number.
+fn put_line(line: &mut Line, number: u32, fault: LineFault)
+    requires { array_string_len line.old ≤ 9 }
+    ensures bytes { line.new.bytes ≡ line.old.bytes ++ script_text (LineWrong number fault) }
+    ensures short { array_string_len line.new ≤ 92 }
+{
+    let mut buffer = Buffer::new();
+    line.push_str("line ");
+    line.push_str(buffer.format(number));
+    line.push_str(": ");
+    line.push_str(fault.text());
+}
+
+// Puts why no image is made of what a script leaves.
+fn put_script_fault(line: &mut Line, fault: ScriptFault)
+    requires { array_string_len line.old ≤ 9 }
+    ensures bytes { line.new.bytes ≡ line.old.bytes ++ script_text fault }
+    ensures short { array_string_len line.new ≤ 92 }
+{
+    match fault {
+        ScriptFault::Line(number, fault) => put_line(line, number, fault),
+        ScriptFault::Read => line.push_str("read failed"),
+        ScriptFault::Write => line.push_str("write failed"),
+        ScriptFault::Memory => line.push_str("out of memory"),
+        ScriptFault::NoRegion => line.push_str("no region"),
+        ScriptFault::WrongMethod => line.push_str("wrong method"),
+        ScriptFault::Unsound(part) => put_load_fault(line, LoadFault::Bad(part)),
+    }
+}
+
 // Puts what is wrong.
 fn put_fault(line: &mut Line, fault: ImageFault)
     requires { array_string_len line.old ≤ 9 }
@@ -83,6 +117,7 @@ fn put_fault(line: &mut Line, fault: ImageFault)
         ImageFault::Write => line.push_str("write failed"),
         ImageFault::Memory => line.push_str("out of memory"),
         ImageFault::Load(fault) => put_load_fault(line, fault),
+        ImageFault::Script(fault) => put_script_fault(line, fault),
     }
 }
 
@@ -100,6 +135,20 @@ fn tell_fault<E: Sink>(err: &mut E, fault: ImageFault) -> Result<(), WriteFailed
     write_all(err, line.as_str().as_bytes())
 }
 
+// The status of a script of which no image is made.
+fn script_status(fault: ScriptFault) -> ImageStatus
+    ensures { result ≡ script_status fault }
+{
+    match fault {
+        ScriptFault::Line(_, _) => ImageStatus::Script,
+        ScriptFault::Read => ImageStatus::Read,
+        ScriptFault::Write => ImageStatus::Write,
+        ScriptFault::Memory => ImageStatus::Memory,
+        ScriptFault::NoRegion | ScriptFault::WrongMethod => ImageStatus::NoImage,
+        ScriptFault::Unsound(_) => ImageStatus::Unsound,
+    }
+}
+
 // The status of a fault.
 fn status_of(fault: ImageFault) -> ImageStatus
     ensures { result ≡ status_of fault }
@@ -115,6 +164,7 @@ fn status_of(fault: ImageFault) -> ImageStatus
             LoadFault::Round(_) | LoadFault::Grows | LoadFault::NoSegment(_) =>
                 ImageStatus::NotLent,
         },
+        ImageFault::Script(fault) => script_status(fault),
     }
 }
 

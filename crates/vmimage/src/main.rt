@@ -1,17 +1,23 @@
-//! Judges the image of a region in a file, or shows what it holds.
+//! Judges the image of a region in a file, shows what it holds, or writes one of what a script leaves.
 #![tactic(auto)]
 
-ghost use Rattle.std.specs.Prelude.{◌≡◌};
-ghost use Rattle.std.specs.Process.{exit_status};
-ghost use Rattle.vc_image_tool.specs.Status.{number};
+mod file;
 
-use std::fs;
-use std::io::{Error, ErrorKind};
+ghost use Rattle.std.specs.Prelude.{◌≡◌, map, vec_len};
+ghost use Rattle.std.specs.Process.{exit_status};
+ghost use Rattle.vc_image_tool.specs.Making.{Makes};
+ghost use Rattle.vc_image_tool.specs.Status.{number};
+ghost use Rattle.vc_session.specs.Streams.{streams};
+ghost use Rattle.vc_steps.specs.Moment.{moment_at_rest};
+
+use crate::file::{read, replace};
+use std::alloc::Global;
 use std::process::ExitCode;
-use vc_base::StdSink;
-use vc_image_tool::{ImageFault, ImageStatus, ImageTask, check, show, task_of, tell};
-use vc_main::{kinds, words_of};
-use vc_seg::{HeapDisc, SegDisc};
+use vc_base::{MemSink, Sink, Source, StdSink, StdSource};
+use vc_dtdisc::{BuiltIn, DictDisc};
+use vc_image_tool::{ImageFault, ImageStatus, ImageTask, check, make, show, task_of, tell};
+use vc_main::{budgeted, growing, heap_at, kinds, relieved, words_of};
+use vc_seg::{BoxedDisc, HeapDisc, SegDisc, Shelf};
 
 // What the program ends with: the number of the status.
 fn exit(status: ImageStatus) -> ExitCode
@@ -20,20 +26,114 @@ fn exit(status: ImageStatus) -> ExitCode
     ExitCode::from(status.number())
 }
 
-// Why a file isn't read.
-fn unread(why: Error) -> ImageFault {
-    if why.kind() == ErrorKind::OutOfMemory {
-        ImageFault::Memory
-    } else {
-        ImageFault::Read
+// Judges the image in a file.
+fn check_file(rt: &HostRuntime, name: &str) -> ImageStatus {
+    let alloc = rt.alloc();
+    let mut out = StdSink::new(rt.stdout());
+    let mut err = StdSink::new(rt.stderr());
+    let Ok(kinds) = kinds(alloc) else {
+        return tell(&mut err, ImageFault::Memory);
+    };
+    match read(rt, name) {
+        Ok(image) => check(alloc, &kinds, image.as_slice(), &mut out, &mut err),
+        Err(why) => tell(&mut err, why),
     }
 }
 
-// The kinds are those of dtrun. The discipline rounds to 32 bytes, of which the size of each segment of a sound image is a
-// multiple, and never refuses a segment.
-fn main(rt: HostRuntime) -> ExitCode {
+// Shows what the image in a file holds. The discipline rounds to 32 bytes, of which the size of each segment of a sound image
+// is a multiple, and never refuses a segment.
+fn show_file(rt: &HostRuntime, name: &str) -> ImageStatus {
     let alloc = rt.alloc();
     let mut out = StdSink::new(rt.stdout());
+    let mut err = StdSink::new(rt.stderr());
+    let Ok(kinds) = kinds(alloc) else {
+        return tell(&mut err, ImageFault::Memory);
+    };
+    let Ok(disc) = Box::new(alloc, HeapDisc::new(32)) else {
+        return tell(&mut err, ImageFault::Memory);
+    };
+    match read(rt, name) {
+        Ok(image) => show(alloc, &kinds, image.as_slice(), disc, &mut out, &mut err),
+        Err(why) => tell(&mut err, why),
+    }
+}
+
+// Makes the image of what a script leaves, over the disciplines of eighteen places.
+fn made<S: Source, O: Sink, E: Sink>(
+    alloc: Global,
+    shelf: &mut Shelf,
+    kinds: &mut Vec<BuiltIn>,
+    source: &mut S,
+    out: &mut O,
+    err: &mut E,
+) -> Result<MemSink, ImageStatus>
+    requires places { vec_len shelf.old.slots ≡ 18 }
+    ensures makes { Makes state (map ⟦<BuiltIn as DictDisc>⟧.rules kinds.old.items) result
+        (moment_at_rest state ⟦<BuiltIn as DictDisc>⟧.rules ⟦<BuiltIn as DictDisc>⟧.gone shelf.old kinds.old.items)
+        (moment_at_rest state ⟦<BuiltIn as DictDisc>⟧.rules ⟦<BuiltIn as DictDisc>⟧.gone shelf.new kinds.new.items)
+        (streams S.left S.failures O.written O.failures E.written E.failures
+        source.old out.old err.old)
+        (streams S.left S.failures O.written O.failures E.written E.failures
+        source.new out.new err.new) }
+{
+    make(alloc, shelf, kinds, source, out, err)
+}
+
+// Runs a script over the disciplines and the kinds of dtrun, and writes the image of what it leaves to a file.
+fn save_file(rt: &HostRuntime, name: &str) -> ImageStatus {
+    let alloc = rt.alloc();
+    let mut source = StdSource::new(rt.stdin());
+    let mut out = StdSink::new(rt.stdout());
+    let mut err = StdSink::new(rt.stderr());
+    let Ok(mut kinds) = kinds(alloc) else {
+        return tell(&mut err, ImageFault::Memory);
+    };
+    let mut shelf = Shelf::new(alloc);
+    for i in 0..12u32 {
+        let Ok(disc) = Box::new(alloc, heap_at(i + 1)) else {
+            return tell(&mut err, ImageFault::Memory);
+        };
+        let Ok(_) = shelf.put(disc) else {
+            return tell(&mut err, ImageFault::Memory);
+        };
+    }
+    for _budgeted in 0..4u32 {
+        let Ok(disc) = Box::new(alloc, budgeted()) else {
+            return tell(&mut err, ImageFault::Memory);
+        };
+        let Ok(_) = shelf.put(disc) else {
+            return tell(&mut err, ImageFault::Memory);
+        };
+    }
+    let Ok(disc) = Box::new(alloc, growing()) else {
+        return tell(&mut err, ImageFault::Memory);
+    };
+    let Ok(_) = shelf.put(disc) else {
+        return tell(&mut err, ImageFault::Memory);
+    };
+    let Ok(disc) = Box::new(alloc, relieved()) else {
+        return tell(&mut err, ImageFault::Memory);
+    };
+    let Ok(_) = shelf.put(disc) else {
+        return tell(&mut err, ImageFault::Memory);
+    };
+    match made(
+        alloc,
+        &mut shelf,
+        &mut kinds,
+        &mut source,
+        &mut out,
+        &mut err,
+    ) {
+        Ok(image) => match replace(rt, name, image.bytes()) {
+            Ok(()) => ImageStatus::Done,
+            Err(why) => tell(&mut err, why),
+        },
+        Err(status) => status,
+    }
+}
+
+fn main(rt: HostRuntime) -> ExitCode {
     let mut err = StdSink::new(rt.stderr());
     let Ok(words) = words_of(&rt) else {
         return exit(tell(&mut err, ImageFault::Memory));
@@ -41,18 +141,10 @@ fn main(rt: HostRuntime) -> ExitCode {
     let Some(task) = task_of(words.as_slice()) else {
         return exit(tell(&mut err, ImageFault::Usage));
     };
-    let Ok(kinds) = kinds(alloc) else {
-        return exit(tell(&mut err, ImageFault::Memory));
-    };
-    let Ok(disc) = Box::new(alloc, HeapDisc::new(32)) else {
-        return exit(tell(&mut err, ImageFault::Memory));
-    };
-    let image = match fs::read(&rt, words[1].as_str()) {
-        Ok(image) => image,
-        Err(why) => return exit(tell(&mut err, unread(why))),
-    };
+    let name = words[1].as_str();
     exit(match task {
-        ImageTask::Check => check(alloc, &kinds, image.as_slice(), &mut out, &mut err),
-        ImageTask::Show => show(alloc, &kinds, image.as_slice(), disc, &mut out, &mut err),
+        ImageTask::Check => check_file(&rt, name),
+        ImageTask::Show => show_file(&rt, name),
+        ImageTask::Save => save_file(&rt, name),
     })
 }

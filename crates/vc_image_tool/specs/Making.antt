@@ -1,0 +1,30 @@
+-- What is promised of an image that is made of what a script leaves.
+use Rattle.std.specs.Prelude.{◌≡◌, List, Result, Ok, Err}
+use Rattle.vc_base.specs.Memory.{MemorySink}
+use Rattle.vc_dtdisc.specs.Rules.{Rules}
+use Rattle.vc_model.specs.Discipline.{Discipline}
+use Rattle.vc_image_script.specs.Promises.{FailsBy, Saves}
+use Rattle.vc_image_script.specs.declared.fault.ScriptFault.{ScriptFault}
+use Rattle.vc_image_tool.specs.Told.{fault_line, script_status}
+use Rattle.vc_image_tool.specs.declared.fault.ImageFault.TheVariants as fault
+use Rattle.vc_image_tool.specs.declared.status.ImageStatus.{ImageStatus}
+use Rattle.vc_session.specs.Streams.{Flows, Streams}
+use Rattle.vc_steps.specs.Moment.{Moment}
+use Rattle.vc_write.specs.Told.{Tried}
+
+-- the source and the sink of replies among the streams
+abbrev pub flows_of : Streams → Flows
+flows_of s = record { left = s.left; reads = s.reads; written = s.written; writes = s.writes }
+
+module _ {I : Type 0} {V : I → Type 0} (meaning : (x : I) × V x → Discipline) (kinds : List Rules) where
+  -- it is told why no image is made
+  pub record TellsScript (status : ImageStatus) (start last : Moment) (old new : Streams) : Type 0 where
+    pub why : ScriptFault
+    pub cause : FailsBy meaning kinds why start last (flows_of old) (flows_of new)
+    pub status_is : status ≡ script_status why
+    pub told : Tried old.errors new.errors old.told new.told (fault_line (fault.Script why))
+
+  -- by what is answered
+  abbrev pub Makes : Result MemorySink ImageStatus → Moment → Moment → Streams → Streams → Type 0
+  Makes (Ok image) start last old new = Saves meaning kinds (Ok image) start last (flows_of old) (flows_of new)
+  Makes (Err status) start last old new = TellsScript status start last old new
