@@ -1,4 +1,4 @@
-/* kolbista.h: scripts over regions and dictionaries, run in memory. See kolbista(3). */
+/* kolbista.h: scripts over regions and dictionaries, run in memory, and images of regions. See kolbista(3). */
 #ifndef KOLBISTA_H
 #define KOLBISTA_H
 
@@ -15,13 +15,14 @@ enum { KB_VMREPLAY = 0, KB_DTRUN = 1 };
 /* Flags, or 0. */
 enum { KB_QUIET = 1, KB_STAT = 2 };
 
-/* What a run ends with. */
+/* What a call ends with. */
 enum {
     KB_OK = 0,
-    KB_SCRIPT = 1, /* a line of the script is wrong */
-    KB_USAGE = 2,  /* there is no such tool or flag: nothing was run */
-    KB_FULL = 4,   /* the replies don't fit into out, or the line of what is wrong into err */
-    KB_MEMORY = 5  /* want of memory */
+    KB_SCRIPT = 1,  /* a line of the script is wrong */
+    KB_UNSOUND = 1, /* a part of the image isn't sound */
+    KB_USAGE = 2,   /* there is no such tool or flag: nothing was run */
+    KB_FULL = 4,    /* what is written doesn't fit into out, or the line of what is wrong into err */
+    KB_MEMORY = 5   /* want of memory */
 };
 
 /*
@@ -32,6 +33,19 @@ enum {
  */
 uint32_t kb_run(uint32_t tool, uint32_t flags, const uint8_t *script, size_t script_size, uint8_t *out, size_t out_size,
                 size_t *out_used, uint8_t *err, size_t err_size, size_t *err_used);
+
+/*
+ * Judges the image of a region in memory, as 'vmimage check' does: KB_OK where it is sound, KB_UNSOUND where a part of it
+ * isn't, which the line at the front of err names; 128 bytes hold it.
+ */
+uint32_t kb_check(const uint8_t *image, size_t image_size, uint8_t *err, size_t err_size, size_t *err_used);
+
+/*
+ * Puts what a sound image holds at the front of out, as 'vmimage show' prints it: what stat, segments and blocks tell of the
+ * region, and a walk of each dictionary, a line each. With KB_UNSOUND nothing is put there, and err gets a line.
+ */
+uint32_t kb_show(const uint8_t *image, size_t image_size, uint8_t *out, size_t out_size, size_t *out_used, uint8_t *err,
+                 size_t err_size, size_t *err_used);
 
 #ifdef __cplusplus
 }

@@ -2,6 +2,7 @@ ghost use Rattle.std.specs.Prelude.{◌≡◌, ◌≤◌, ◌&&◌, Some, [], if
 ghost use Rattle.kolbista_c.specs.Memory.{IsFilled, Played, Runs, buffer, words_by};
 ghost use Rattle.vc_session.specs.Status.{number};
 
+use crate::buffers::{LINE, fill_both};
 use crate::slice_source::SliceSource;
 use std::alloc::{AllocError, Global};
 use vc_base::MemSink;
@@ -52,30 +53,6 @@ fn play(
     }
 }
 
-// Puts as many bytes as fit at the front of a buffer, and tells how many.
-fn fill(room: &mut [u8], bytes: &[u8]) -> usize
-    ensures { IsFilled bytes.now (buffer room.old room.new result) }
-{
-    let n = bytes.len().min(room.len());
-    room[..n].copy_from_slice(&bytes[..n]);
-    n
-}
-
-// Whether the replies and the line of what is wrong fit into their buffers.
-fn both_fit(replies: &[u8], out: &[u8], told: &[u8], err: &[u8]) -> bool
-    ensures { result ≡ (nat_le (length replies.now) (length out.now)
-        && nat_le (length told.now) (length err.now)) }
-{
-    replies.len() <= out.len() && told.len() <= err.len()
-}
-
-// The number of a status, or that of a failed write where what was written doesn't fit.
-fn answer(status: Status, fit: bool) -> u32
-    ensures { result ≡ (if fit then number status else 4) }
-{
-    if fit { u32::from(status.number()) } else { 4 }
-}
-
 // Runs a tool over a shelf, and puts what it writes into two buffers.
 fn run_over(
     alloc: Global,
@@ -97,16 +74,21 @@ fn run_over(
     let Ok(mut replies) = MemSink::new(alloc, out.len(), out.len().max(1), Vec::new(alloc)) else {
         return 5;
     };
-    let Ok(mut told) = MemSink::new(alloc, err.len(), err.len().max(1), Vec::new(alloc)) else {
+    let Ok(mut told) = MemSink::new(alloc, LINE, LINE, Vec::new(alloc)) else {
         return 5;
     };
     let Ok(status) = play(alloc, tool, words, shelf, script, &mut replies, &mut told) else {
         return 5;
     };
-    let fit = both_fit(replies.bytes(), out, told.bytes(), err);
-    *out_used = fill(out, replies.bytes());
-    *err_used = fill(err, told.bytes());
-    answer(status, fit)
+    fill_both(
+        u32::from(status.number()),
+        &replies,
+        &told,
+        out,
+        out_used,
+        err,
+        err_used,
+    )
 }
 
 // Runs a tool over disciplines of its own: 1 to 12 never refuse a segment, 13 to 16 have a budget, 17 makes a segment
