@@ -1,4 +1,5 @@
-# The archive for C: the examples through kb_run, of a C program that is linked with it.
+# The archive for C: the examples through kb_run, of a C program that is linked with it; and dictionaries beside those of
+# Graphviz's libcdt.
 # shellcheck shell=sh disable=SC2154
 archive=$programs/libkolbista.a
 scripts_run() {
@@ -13,6 +14,13 @@ scripts_run() {
     done
 }
 
+# Programs that are linked with the archive, and whose allocations it counts.
+beside() {
+    # shellcheck disable=SC2046
+    cc -O2 -Wall -Werror -I "$here/../include" -Wl,--wrap=malloc,--wrap=realloc,--wrap=free -o kb_beside \
+        "$here/tests/beside.c" "$archive" $(pkg-config --cflags --libs libcdt)
+}
+
 if [ ! -f "$archive" ]; then
     skipped "the archive for C: there is no libkolbista.a beside the programs; make archive makes it"
 elif ! has cc; then
@@ -24,12 +32,49 @@ elif cc -O2 -Wall -Werror -I "$here/../include" -o kb_script "$here/tests/kb_scr
     printf 'open r best 1\nalloc r a 100\n' > kb.in
     check "archive: a run that fits exactly" same "$(./kb_script 0 0 22 < kb.in; echo "$?")" "$(printf 'r open\na 1:32\n0')"
     check "archive: a run that doesn't fit" same "$(./kb_script 0 0 5 < kb.in; echo "$?")" "$(printf 'r ope4')"
+    printf 'alloc\n' > kb.bad
+    check "archive: a line of what is wrong that fits exactly" \
+        same "$(./kb_script 0 0 9 40 < kb.bad 2>&1; echo "$?")" "$(printf 'vmreplay: line 1: wrong number of words\n1')"
+    check "archive: one that doesn't fit" same "$(./kb_script 0 0 9 39 < kb.bad 2>&1; echo "$?")" 'vmreplay: line 1: wrong number of words4'
     check "archive: no such tool" same "$(./kb_script 2 0 < kb.in; echo "$?")" 2
     if has valgrind; then
         check "archive: no error and no leak" \
             valgrind -q --leak-check=full --error-exitcode=9 ./kb_script 0 3 < kb.in > /dev/null
     else
         skipped "the archive's memory: there is no valgrind"
+    fi
+    cc -O2 -Wall -Werror -I "$here/../include" -o kb_image "$here/tests/kb_image.c" "$archive"
+    fruit=$here/../examples/fruit.image
+    check "archive: an image is sound" same "$(./kb_image check < "$fruit" 2>&1; echo "$?")" 0
+    check "archive: an image is shown" same "$(./kb_image show < "$fruit" 2>&1)" "$(cat "${fruit%.image}.replies")"
+    bytes=$(wc -c < "${fruit%.image}.replies")
+    check "archive: what is shown fits exactly" same "$(./kb_image show "$bytes" < "$fruit" > kb.out 2>&1; echo "$?")" 0
+    check "archive: what is shown doesn't fit" \
+        same "$(./kb_image show "$((bytes - 1))" < "$fruit" 2> kb.err | cmp - "${fruit%.image}.replies" 2>&1 | grep -c EOF; cat kb.err)" \
+        "$(printf '1\nvmimage: write failed')"
+    head -c 100 "$fruit" > kb.image
+    for task in check show; do
+        check "archive: an image isn't sound, $task" \
+            same "$(./kb_image $task < kb.image 2>&1; echo "$?")" "$(printf 'vmimage: unsound: header\n1')"
+        check "archive: the line of that doesn't fit, $task" \
+            same "$(./kb_image $task 9 24 < kb.image 2>&1; echo "$?")" 'vmimage: unsound: header4'
+    done
+    if ! has pkg-config || ! pkg-config --exists libcdt; then
+        skipped "the archive beside Graphviz's libcdt: there is no libcdt"
+    elif beside; then
+        for method in set bag oset obag stack queue; do
+            check "archive: 100,000 lines on a dictionary, $method, answered as libcdt does" \
+                ./kb_beside $method 100000 20000 1
+            check "archive: each allocation fails in turn, $method" ./kb_beside $method 60 12 2 fail
+        done
+        if has valgrind; then
+            check "archive: no error and no leak beside libcdt" \
+                valgrind -q --leak-check=full --error-exitcode=9 ./kb_beside oset 2000 300 3
+            check "archive: no error and no leak where allocations fail" \
+                valgrind -q --leak-check=full --error-exitcode=9 ./kb_beside set 40 12 4 fail
+        fi
+    else
+        check "archive: a C program is linked with libcdt" false
     fi
 else
     cat fault
