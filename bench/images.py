@@ -1,6 +1,7 @@
 #!/usr/bin/env python3
 """Damages an image and counts what vmimage tells: python3 bench/images.py [IMAGE [PROGRAM]], run by hand; or times it on a
-large one: python3 bench/images.py speed [N [PROGRAM]].
+large one: python3 bench/images.py speed [N [PROGRAM]]; or saves what scripts leave and compares: python3 bench/images.py
+saves [N [PROGRAM]].
 
 The image is examples/fruit.image and the program bin/vmimage where none is named. Each byte in turn becomes up to three
 others, and each word of four bytes up to five other numbers; then the file is cut at each of its bytes. It prints how many
@@ -10,10 +11,17 @@ it, or a check of more than ten seconds ends it, and leaves the damaged image.
 The large one is of a set of N objects, 300,000 where N isn't named, of 40 bytes each. It prints the seconds of dtrun on the
 script that makes them, of vmimage save on the same, and of vmimage check and show on the image; then those of a copy of the
 image's bytes in memory. Each is the least of three.
+
+The scripts are N random ones, 1,000 where N isn't named, of one or two regions and up to six dictionaries of any method and
+kind, with views, turns and refusals. What vmimage save prints is what dtrun prints, the image is sound, and what vmimage show
+prints of it is what stat, segments, blocks and walk reply at the script's end, but for the names of blocks. The first script
+where that fails is printed, and ends it with status 1.
 """
 import collections
 import ctypes
 import os
+import random
+import re
 import subprocess
 import sys
 import tempfile
@@ -91,8 +99,80 @@ def speed(count, program):
     os.rmdir(folder)
 
 
+METHODS = ["set", "bag", "oset", "obag", "list", "stack", "queue"]
+
+
+def line_of(rng):
+    """A random line."""
+    d, e = (f"d{rng.randrange(6)}" for _ in range(2))
+    x = rng.choice("xyz") + str(rng.randrange(9))
+    word = "".join(rng.choice("aAbBc") for _ in range(rng.randrange(1, 5))) + rng.choice(["", "", "%00q", "%41"])
+    object_line = rng.choice("insert insert insert append attach delete detach search next prev match".split())
+    return rng.choice(
+        [f"{object_line} {d} {word * rng.choice([1, 1, 1, 9])}"] * 12
+        + [
+            f"dict {d} {rng.choice(METHODS)} {rng.choice('rrrs')} {rng.randrange(1, 7)}",
+            f"method {d} {rng.choice(METHODS)}",
+            f"view {d} {e}",
+            f"view {d} -",
+            f"delete {d}",
+            f"alloc {rng.choice('rrs')} {x} {rng.choice([1, 40, 500, 5000])}",
+            f"resize r {x} {rng.choice([1, 90, 3000])} {rng.choice(['move', 'fixed'])}",
+            f"free {rng.choice('rrs')} {x}",
+            f"write r {x} 0 ab",
+            rng.choice([f"first {d}", f"last {d}", f"walk {d}", "stat r"]),
+            rng.choice([f"shut {d}", f"empty {d}", "compact r"] + [f"search {d} a"] * 4),
+        ]
+    )
+
+
+def saved_alike(rng, save, path):
+    """Whether a random script is saved as it should be, and the script. `save` names vmimage."""
+    dtrun = os.path.join(os.path.dirname(save), "dtrun")
+
+    def run(words, lines):
+        return subprocess.run(words, input="\n".join(lines) + "\n", capture_output=True, text=True, timeout=20)
+
+    lines = [f"open r best {rng.randrange(1, 19)}", f"open s {rng.choice(['best', 'pool'])} {rng.randrange(1, 19)}"]
+    lines += [line_of(rng) for _ in range(rng.randrange(5, 200))]
+    replies = run([dtrun], lines).stdout.split("\n")
+    there = []
+    for line, reply in zip(lines, replies):
+        words = line.split()
+        if words[0] == "dict" and reply == f"{words[1]} open":
+            there.append((words[1], words[3]))
+        if words[0] == "shut" and reply == f"{words[1]} shut":
+            there = [other for other in there if other[0] != words[1]]
+    ends = [f"view {d} -" for d, _ in there]
+    asks = ["stat r", "segments r", "blocks r"] + [f"walk {d}" for d, region in there if region == "r"]
+    wanted = run([dtrun], lines + ends + asks).stdout.split("\n")[len(lines) + len(ends) :]
+    saved = run([save, "save", path], lines)
+    judged = run([save, "check", path], [])
+    shown = run([save, "show", path], []).stdout.split("\n")
+    wanted[2] = re.sub(r" [^*@ ]+@", " #@", wanted[2])
+    shown[2:3] = [re.sub(r" [0-9]+@", " #@", line) for line in shown[2:3]]
+    alike = (saved.returncode, saved.stdout.split("\n"), judged.stdout, shown) == (0, replies, "sound\n", wanted)
+    return alike, lines
+
+
+def saves(count, program):
+    """Saves what random scripts leave."""
+    folder = tempfile.mkdtemp()
+    path = os.path.join(folder, "image")
+    for seed in range(count):
+        alike, lines = saved_alike(random.Random(seed), program, path)
+        if not alike:
+            print("\n".join(lines))
+            sys.exit(f"script {seed} isn't saved as it should be: {path} is left")
+        os.remove(path)
+    os.rmdir(folder)
+    print(f"{count} scripts: each image is sound, and shows what the script left")
+
+
 def main():
     words = sys.argv[1:] + [None, None, None]
+    if words[0] == "saves":
+        return saves(int(words[1] or 1000), words[2] or os.path.join(HERE, "..", "bin", "vmimage"))
     if words[0] == "speed":
         return speed(int(words[1] or 300_000), words[2] or os.path.join(HERE, "..", "bin", "vmimage"))
     source = words[0] or os.path.join(HERE, "..", "examples", "fruit.image")
