@@ -227,7 +227,8 @@ agree-moved old new tag label agree named m tags =
       all = ap (λ m. length m.entries) tags ∙ (agree.all ∙ (ap (λ n. n + length (kept_of old)) (sym m.count) ∙ ap (λ es. slab_len new.by_tag + length (kept_among es.entries)) (sym tags)));
     }
 
-count-none : (slots : List (Option Label)) → ((k : ℕ) → slice_index_or slots k None ≡ None) → count_by (λ (o : Option Label). is_some o) slots ≡ 0
+-- without a slot that is taken none is counted
+pub count-none : (slots : List (Option Label)) → ((k : ℕ) → slice_index_or slots k None ≡ None) → count_by (λ (o : Option Label). is_some o) slots ≡ 0
 count-none [] none = refl
 count-none (o ∷ os) none =
     count-cons (λ (p : Option Label). is_some p) o os

@@ -18,6 +18,8 @@ pub mod Listing
 pub mod Lists
 pub mod Moving
 pub mod Names
+pub mod OwnTags
+pub mod ByTag
 pub mod Placed
 pub mod PutBlocks
 pub mod Resized

@@ -21,4 +21,6 @@ pub mod LookRows
 pub mod Naming
 pub mod RegionCommands
 pub mod RegionRun
+pub mod Tagged
+pub mod TagRows
 pub mod Whole

@@ -5,7 +5,7 @@ mod dict;
 mod region;
 
 pub use dict::{DictEntry, look, run};
-pub use region::{HomeEntry, Labels};
+pub use region::{HomeEntry, Labels, labels_by_tag};
 
 // Marks a counter of steps that no one reads.
 struct Uncounted;

@@ -21,7 +21,7 @@ use vc_script::{Refusal, Reply};
 use vc_seg::{BoxedDisc, RegionFault, SegDisc};
 
 // A region has at most so many labels.
-const LABEL_LIMIT: usize = 1_000_000;
+pub(crate) const LABEL_LIMIT: usize = 1_000_000;
 
 fn is_size(size: u32) -> bool
     ensures { result ≡ is_size size }

@@ -126,7 +126,7 @@ impl Labels {
     }
 
     // Takes out the block of this name, and returns its address.
-    fn remove(&mut self, name: &Name) -> Option<Addr>
+    pub(crate) fn remove(&mut self, name: &Name) -> Option<Addr>
         requires agree { AreLabels self.old }
         requires there { IsSome (tag_of self.old name.now) }
 
