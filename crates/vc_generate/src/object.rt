@@ -10,9 +10,12 @@ use vc_script::{Bytes, Command};
 fn object_of(alloc: Global, word: u32) -> Result<Bytes, AllocError>
     ensures { IfOk result (λ object. object ≡ generated_object word) }
 {
-    let mut buffer = Buffer::new();
-    let mut bytes = Vec::from_slice(alloc, b"k")?;
-    bytes.extend_from_slice(buffer.format(word / 256 % 1000).as_bytes())?;
+    let mut number = Buffer::new();
+    let digits = number.format((word / 256 % 1000) as u16).as_bytes();
+    let mut object = [b'k'; 6];
+    let end = 1 + digits.len();
+    object[1..end].copy_from_slice(digits);
+    let bytes = object[..end].to_vec(alloc)?;
     Ok(Bytes::from_vec(bytes))
 }
 
