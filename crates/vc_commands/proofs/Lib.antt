@@ -5,6 +5,7 @@ mod Seats
 mod Apart
 mod Walking
 pub mod Agreeing
+pub mod Answered
 pub mod Answers
 pub mod Auditing
 pub mod Emptying

@@ -7,6 +7,7 @@ pub use Rattle.vc_objects.specs.Objects
 pub use Rattle.vc_objects.specs.Leaves
 pub mod Seat
 pub mod Sizes
+pub mod Answered
 pub mod Audit
 pub mod Blocks
 pub mod DictCommands

@@ -1,4 +1,5 @@
 ghost use Rattle.std.specs.Prelude.{◌≡◌, Some, IfSome, true, false, slice_get};
+ghost use Rattle.vc_commands.specs.Answered.{answered};
 ghost use Rattle.vc_script.specs.Target.{target_of};
 ghost use Rattle.vc_script.specs.declared.target.Target.TheVariants.{Dict};
 ghost use Rattle.vc_steps.specs.DictHomes.{dict_index};
@@ -26,10 +27,11 @@ impl<D: DictDisc> Session<D> {
         name: &Name,
         work: Work,
         command: &Command,
-    ) -> Result<Reply, OutOfMemory>
+        reply: &mut Reply,
+    ) -> Result<(), OutOfMemory>
         requires session { IsSessionOver state D.rules shelf.now self.old kinds.old.items }
         requires command { target_of command.now ≡ Dict name.now work }
-        ensures steps { StepsBy result
+        ensures steps { StepsBy (answered result reply.new)
             (moment state D.rules D.gone shelf.now self.old kinds.old.items)
             (moment state D.rules D.gone shelf.now self.new kinds.new.items)
             command.now (λ s. dict_step s name.now command.now) }
@@ -37,20 +39,26 @@ impl<D: DictDisc> Session<D> {
             shelf.now self.new kinds.new.items }
     {
         let Some(i) = self.dict_index(name) else {
-            return Ok(Reply::Refused(Refusal::NoDictionary));
+            *reply = Reply::Refused(Refusal::NoDictionary);
+            return Ok(());
         };
         show_names(&self.dicts);
         if is_barred(&self.paths, self.dicts[i].number, work) {
-            return Ok(Reply::Refused(Refusal::Viewed));
+            *reply = Reply::Refused(Refusal::Viewed);
+            return Ok(());
         }
         match work {
-            Work::Look => self.look_at(shelf, kinds, name, i, command),
-            Work::View => Ok(self.view_by(shelf, kinds, name, i, command)),
+            Work::Look => self.look_at(shelf, kinds, name, i, command, reply),
+            Work::View => {
+                self.view_by(shelf, kinds, name, i, command, reply);
+                Ok(())
+            }
             Work::End => {
                 self.shut_at(shelf, kinds, i);
-                Ok(Reply::ShutDown(*name))
+                *reply = Reply::ShutDown(*name);
+                Ok(())
             }
-            _ => self.run_at(shelf, kinds, name, i, command),
+            _ => self.run_at(shelf, kinds, name, i, command, reply),
         }
     }
 
@@ -63,7 +71,8 @@ impl<D: DictDisc> Session<D> {
         name: &Name,
         i: usize,
         command: &Command,
-    ) -> Result<Reply, OutOfMemory>
+        reply: &mut Reply,
+    ) -> Result<(), OutOfMemory>
         requires session { IsSessionOver state D.rules shelf.now self.old kinds.old.items }
         requires name { dict_of command.now ≡ Some name.now }
         requires index { dict_index name.now self.old.dicts.entries ≡ Some i }
@@ -71,7 +80,7 @@ impl<D: DictDisc> Session<D> {
         requires free { IfSome (slice_get self.old.dicts.entries i)
             (λ e. is_barred self.old.paths e.1.number command.now ≡ false) }
         ensures { RunsOn state D.rules D.gone shelf.now self.old kinds.old.items
-            self.new kinds.new.items name.now command.now result }
+            self.new kinds.new.items name.now command.now (answered result reply.new) }
     {
         show_names(&self.dicts);
         let entry = &self.dicts[i];
@@ -90,6 +99,7 @@ impl<D: DictDisc> Session<D> {
             &mut self.dicts[i].dict,
             &mut kinds[k],
             command,
+            reply,
         )
     }
 }

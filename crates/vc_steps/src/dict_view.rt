@@ -1,4 +1,5 @@
 ghost use Rattle.std.specs.Prelude.{◌≡◌, Some, true};
+ghost use Rattle.vc_commands.specs.Answered.{answered};
 ghost use Rattle.vc_commands.specs.Looking.{is_look};
 ghost use Rattle.vc_script.specs.Needs.{need_shown};
 ghost use Rattle.vc_script.specs.Target.{target_of};
@@ -64,7 +65,8 @@ impl<D: DictDisc> Session<D> {
         }
     }
 
-    // The same by a command that sets what the dictionary views.
+    // The same by a command that sets what the dictionary views. It stands apart as the commands on the shelf do.
+    #[inline(never)]
     pub(crate) fn view_by(
         &mut self,
         shelf: &Shelf,
@@ -72,7 +74,8 @@ impl<D: DictDisc> Session<D> {
         name: &Name,
         i: usize,
         command: &Command,
-    ) -> Reply
+        reply: &mut Reply,
+    )
         requires session { IsSessionOver state D.rules shelf.now self.old kinds.now.items }
         requires command { target_of command.now ≡ Dict name.now Work.View }
         requires index { dict_index name.now self.old.dicts.entries ≡ Some i }
@@ -81,12 +84,12 @@ impl<D: DictDisc> Session<D> {
             (moment state D.rules D.gone shelf.now self.new kinds.now.items)
             command.now
             (dict_step (state_over state (rules_in D.rules kinds.now.items) shelf.now self.old) name.now
-            command.now (need_shown result)) result }
+            command.now (need_shown reply.new)) reply.new }
         ensures stays { Stays state D.rules shelf.now self.old kinds.now.items
             shelf.now self.new kinds.now.items }
     {
         match command {
-            Command::View(_, viewed) => self.view_named(shelf, kinds, name, i, viewed),
+            Command::View(_, viewed) => *reply = self.view_named(shelf, kinds, name, i, viewed),
             _ => unreachable!(),
         }
     }
@@ -99,13 +102,14 @@ impl<D: DictDisc> Session<D> {
         name: &Name,
         i: usize,
         command: &Command,
-    ) -> Result<Reply, OutOfMemory>
+        reply: &mut Reply,
+    ) -> Result<(), OutOfMemory>
         requires session { IsSessionOver state D.rules shelf.now self.old kinds.now.items }
         requires name { dict_of command.now ≡ Some name.now }
         requires index { dict_index name.now self.old.dicts.entries ≡ Some i }
         requires look { is_look command.now ≡ true }
         ensures { RunsOn state D.rules D.gone shelf.now self.old kinds.now.items
-            self.new kinds.now.items name.now command.now result }
+            self.new kinds.now.items name.now command.now (answered result reply.new) }
     {
         show_names(&self.dicts);
         self.last_dict = i;
@@ -118,6 +122,7 @@ impl<D: DictDisc> Session<D> {
             &self.paths,
             i,
             command,
+            reply,
         )
     }
 }

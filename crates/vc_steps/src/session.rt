@@ -1,5 +1,6 @@
 ghost use Rattle.std.specs.Prelude.{◌≡◌, ◌⊎◌, ◌==◌, ◌&&◌, [], List, None, Some, false, IfOk, OnErr, OnOk, IsTrue};
 ghost use Rattle.vc_dtdisc.specs.Rules.{Gone, Rules};
+ghost use Rattle.vc_commands.specs.Answered.{answered};
 ghost use Rattle.vc_steps.specs.Account.{ArmsNone};
 ghost use Rattle.vc_steps.specs.Homes.{HoldsDicts, HoldsRegions, IsSessionOver, KeepsRegions, StandsOverAny, accounts_on, settled_over, slots_on, state_over};
 ghost use Rattle.vc_steps.specs.DictHomes.{lies_in};
@@ -14,7 +15,7 @@ use indexmap::IndexMap;
 use std::alloc::Global;
 use std::marker::PhantomData;
 use vc_base::{Name, OutOfMemory};
-use vc_commands::{DictEntry, HomeEntry, Labels};
+use vc_commands::{DictEntry, HomeEntry, Labels, put_answer};
 use vc_dict::Paths;
 use vc_dtdisc::DictDisc;
 use vc_script::{Command, Refusal, Reply, Target, Tool};
@@ -118,17 +119,20 @@ impl<D: DictDisc> Session<D> {
         self.is_armed
     }
 
-    // Runs a command that works on no dictionary and in no region that is open.
+    // Runs a command that works on no dictionary and in no region that is open. It stands apart, since a call clears room for
+    // the replies of all its arms.
+    #[inline(never)]
     fn run_on_shelf(
         &mut self,
         shelf: &mut Shelf,
         kinds: &Vec<D>,
         command: &Command,
-    ) -> Result<Reply, OutOfMemory>
+        reply: &mut Reply,
+    ) -> Result<(), OutOfMemory>
         requires session { IsSessionOver state D.rules shelf.old self.old kinds.now.items }
         requires dict { dict_of command.now ≡ None }
         requires region { region_of_command command.now ≡ None }
-        ensures steps { StepsBy result
+        ensures steps { StepsBy (answered result reply.new)
             (moment state D.rules D.gone shelf.old self.old kinds.now.items)
             (moment state D.rules D.gone shelf.new self.new kinds.now.items)
             command.now (λ s. shelf_step s command.now) }
@@ -136,12 +140,23 @@ impl<D: DictDisc> Session<D> {
             shelf.new self.new kinds.now.items }
     {
         match command {
-            Command::OpenRegion(name, method, n) => self.open_region(shelf, *name, *method, *n),
-            Command::CloseRegion(name) => Ok(self.close_named(shelf, name)),
-            Command::OpenDict(name, method, region, kind) => {
-                self.open_dict(shelf, kinds, *name, *method, *region, *kind)
+            Command::OpenRegion(name, method, n) => {
+                put_answer(self.open_region(shelf, *name, *method, *n), reply)
             }
-            _ => Ok(Reply::Refused(Refusal::NoRegion)),
+            Command::CloseRegion(name) => {
+                *reply = self.close_named(shelf, name);
+                Ok(())
+            }
+            Command::OpenDict(name, method, region, kind) => {
+                put_answer(
+                    self.open_dict(shelf, kinds, *name, *method, *region, *kind),
+                    reply,
+                )
+            }
+            _ => {
+                *reply = Reply::Refused(Refusal::NoRegion);
+                Ok(())
+            }
         }
     }
 
@@ -159,25 +174,28 @@ impl<D: DictDisc> Session<D> {
         name: &Name,
         line: u32,
         command: &Command,
-    ) -> Result<Reply, OutOfMemory>
+        reply: &mut Reply,
+    ) -> Result<(), OutOfMemory>
         requires regions { HoldsRegions state shelf.now self.old }
         requires dict { dict_of command.now ≡ None }
         requires region { region_of_command command.now ≡ Some name.now }
         ensures steps { (kinds : List Rules) (gone : List Gone) → HoldsDicts state kinds self.old
-            → StepsBy result
+            → StepsBy (answered result reply.new)
             (moment_by state kinds gone shelf.now self.old)
             (moment_by state kinds gone shelf.now self.new)
             command.now (λ s need. step_of s line command.now need (Some name.now)) }
         ensures regions { KeepsRegions state self.old shelf.now self.new }
     {
         let Some(i) = self.region_index(name) else {
-            return Ok(Reply::Refused(Refusal::NoRegion));
+            *reply = Reply::Refused(Refusal::NoRegion);
+            return Ok(());
         };
         self.last_region = i;
         if self.clears_busy(name, command) {
-            return Ok(Reply::Refused(Refusal::Busy));
+            *reply = Reply::Refused(Refusal::Busy);
+            return Ok(());
         }
-        self.homes[i].run(self.alloc, &mut self.labels[i], line, command)
+        self.homes[i].run(self.alloc, &mut self.labels[i], line, command, reply)
     }
 
     // Runs one command. With no memory the state stays, but that a table may have grown.
@@ -187,9 +205,10 @@ impl<D: DictDisc> Session<D> {
         kinds: &mut Vec<D>,
         line: u32,
         command: &Command,
-    ) -> Result<Reply, OutOfMemory>
+        reply: &mut Reply,
+    ) -> Result<(), OutOfMemory>
         requires { IsSessionOver state D.rules shelf.old self.old kinds.old.items }
-        ensures steps { StepsBy result
+        ensures steps { StepsBy (answered result reply.new)
             (moment state D.rules D.gone shelf.old self.old kinds.old.items)
             (moment state D.rules D.gone shelf.new self.new kinds.new.items)
             command.now (λ s. step s line command.now) }
@@ -198,9 +217,9 @@ impl<D: DictDisc> Session<D> {
     {
         let target = command.target();
         match &target {
-            Target::Shelf => self.run_on_shelf(shelf, kinds, command),
-            Target::Region(name) => self.run_in_region(shelf, name, line, command),
-            Target::Dict(name, work) => self.run_on_dict(shelf, kinds, name, *work, command),
+            Target::Shelf => self.run_on_shelf(shelf, kinds, command, reply),
+            Target::Region(name) => self.run_in_region(shelf, name, line, command, reply),
+            Target::Dict(name, work) => self.run_on_dict(shelf, kinds, name, *work, command, reply),
         }
     }
 
@@ -225,10 +244,35 @@ impl<D: DictDisc> Session<D> {
         ensures stays_spent { OnErr result (IsTrue self.new.is_spent) }
         ensures not_spent { OnOk result (self.new.is_spent ≡ false) }
     {
+        let mut reply = Reply::Nothing;
+        self.step_into(shelf, kinds, line, command, &mut reply)?;
+        Ok(reply)
+    }
+
+    /// The same, with the reply put in place of another one. Where memory is wanting any may stand there.
+    pub fn step_into(
+        &mut self,
+        shelf: &mut Shelf,
+        kinds: &mut Vec<D>,
+        line: u32,
+        command: &Command,
+        reply: &mut Reply,
+    ) -> Result<(), OutOfMemory>
+        requires { IsSessionOver state D.rules shelf.old self.old kinds.old.items }
+        ensures steps { StepsBy (answered result reply.new)
+            (moment state D.rules D.gone shelf.old self.old kinds.old.items)
+            (moment state D.rules D.gone shelf.new self.new kinds.new.items)
+            command.now (λ s. step s line command.now) }
+        ensures lasts { Lasts state D.rules shelf.old self.old kinds.old.items
+            shelf.new self.new kinds.new.items }
+        ensures spent { IsTrue self.old.is_spent → OnOk result ⊥ }
+        ensures stays_spent { OnErr result (IsTrue self.new.is_spent) }
+        ensures not_spent { OnOk result (self.new.is_spent ≡ false) }
+    {
         if self.is_spent {
             return Err(OutOfMemory);
         }
-        let ran = self.run_command(shelf, kinds, line, command);
+        let ran = self.run_command(shelf, kinds, line, command, reply);
         if ran.is_err() {
             self.is_spent = true;
         }

@@ -5,6 +5,7 @@ use Rattle.vc_dtdisc.specs.Rules.{Rules}
 use Rattle.vc_paths.specs.Layers.{Layered}
 use Rattle.vc_paths.specs.Links.{Links}
 use Rattle.vc_paths.specs.Path.{visible_of}
+use Rattle.vc_commands.specs.Answered.{answered}
 use Rattle.vc_commands.specs.Looking.{look_found, look_reply, own_place}
 use Rattle.vc_commands.specs.declared.region.home.HomeEntry.{HomeEntry}
 use Rattle.vc_script.specs.declared.command.Command.{Command}
@@ -16,21 +17,21 @@ use Rattle.vc_views.specs.Promises.{IsLook, LeavesDicts, LooksThrough}
 
 -- a look by the rules of the dictionary's own layer
 module _ (all : Layered) (links : Links) (d : ℕ) (command : Command) (rules : Rules) (alike : rules ≡ (all.layer d).rules) where
-  pub is-look : {E : Type 0} (answer : Result (Reply × Option Addr) E)
-      → IfOk answer (λ r. r.0 ≡ look_reply rules command (visible_of all links d))
-      → IfOk answer (λ r. option_map number_of r.1 ≡ own_place (λ e. e == d) (look_found rules command (visible_of all links d)))
-      → IfOk answer (IsLook all links d command)
-  is-look (Ok r) reply place = record {
+  pub is-look : {E : Type 0} (answer : Result (Option Addr) E) (shown : Reply)
+      → OnOk answer (shown ≡ look_reply rules command (visible_of all links d))
+      → IfOk answer (λ at. option_map number_of at ≡ own_place (λ e. e == d) (look_found rules command (visible_of all links d)))
+      → IfOk answer (IsLook all links d command shown)
+  is-look (Ok at) shown reply place = record {
     reply = reply ∙ ap (λ q. look_reply q command (visible_of all links d)) alike;
     place = place ∙ ap (λ q. own_place (λ e. e == d) (look_found q command (visible_of all links d))) alike;
   }
-  is-look (Err e) reply place = tt
+  is-look (Err e) shown reply place = tt
 
 -- with no memory all is as it was
-pub look-halted : {I : Type 0} {V : I → Type 0} {E : Type 0} (kinds : List Rules) (homes homes' : List (List ℕ × HomeEntry I V)) (dicts dicts' : List Entry) (links : Links) (i : ℕ) (command : Command) (answer : Result Reply E)
-    → OnOk answer ⊥ → LeavesDicts kinds homes homes' dicts dicts' → LooksThrough kinds homes homes' dicts dicts' links i command answer
-look-halted kinds homes homes' dicts dicts' links i command (Ok reply) is leaves = absurd is
-look-halted kinds homes homes' dicts dicts' links i command (Err e) is leaves = record {
+pub look-halted : {I : Type 0} {V : I → Type 0} {U E : Type 0} (kinds : List Rules) (homes homes' : List (List ℕ × HomeEntry I V)) (dicts dicts' : List Entry) (links : Links) (i : ℕ) (command : Command) (answer : Result U E) (shown : Reply)
+    → OnOk answer ⊥ → LeavesDicts kinds homes homes' dicts dicts' → LooksThrough kinds homes homes' dicts dicts' links i command (answered answer shown)
+look-halted kinds homes homes' dicts dicts' links i command (Ok done) shown is leaves = absurd is
+look-halted kinds homes homes' dicts dicts' links i command (Err e) shown is leaves = record {
   reply = tt;
   homes = leaves.keeps.rest;
   dicts = leaves.dicts;

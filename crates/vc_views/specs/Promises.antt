@@ -33,9 +33,9 @@ pub record LeavesDicts {I : Type 0} {V : I → Type 0} (kinds : List Rules) (hom
   pub keeps : KeepsDicts kinds kinds homes homes' entries entries'
 
 -- a look replies so, and tells where what it finds is, where that is an object of the dictionary itself
-pub record IsLook (all : Layered) (links : Links) (d : ℕ) (command : Command) (answer : Reply × Option Addr) : Type 0 where
-  pub reply : answer.0 ≡ reply_through all links d command
-  pub place : option_map number_of answer.1 ≡ place_through all links d command
+pub record IsLook (all : Layered) (links : Links) (d : ℕ) (command : Command) (shown : Reply) (at : Option Addr) : Type 0 where
+  pub reply : shown ≡ reply_through all links d command
+  pub place : option_map number_of at ≡ place_through all links d command
 
 -- a command looks through the dictionary at an index, where there is one: all dictionaries are whole, under numbers of their own, and that one has a path
 pub record CanLook {I : Type 0} {V : I → Type 0} (kinds : List Rules) (homes : List (List ℕ × HomeEntry I V)) (entries : List (List ℕ × DictEntry)) (links : Links) (i : ℕ) (command : Command) : Type 0 where

@@ -1,5 +1,6 @@
 ghost use Rattle.std.specs.Prelude.{◌≡◌, true, IfOk, map};
 ghost use Rattle.vc_dtdisc.specs.Rules.{Rules};
+ghost use Rattle.vc_commands.specs.Answered.{answered};
 ghost use Rattle.vc_commands.specs.Looking.{is_look};
 ghost use Rattle.vc_paths.specs.Path.{IsPath};
 ghost use Rattle.vc_views.specs.Promises.{CanLook, IsLook, LeavesDicts, LooksThrough, layered_over};
@@ -14,7 +15,7 @@ use vc_dtdisc::DictDisc;
 use vc_paths::Paths;
 use vc_script::{Command, Reply};
 
-// Looks through the dictionary of a number, and answers the reply and the address of what is to be current, if anything.
+// Looks through the dictionary of a number, and answers the address of what is to be current, if anything.
 fn look_through<D: DictDisc>(
     alloc: Global,
     homes: &mut IndexMap<Name, HomeEntry>,
@@ -24,12 +25,13 @@ fn look_through<D: DictDisc>(
     paths: &Paths,
     d: u32,
     command: &Command,
-) -> Result<(Reply, Option<Addr>), OutOfMemory>
+    reply: &mut Reply,
+) -> Result<Option<Addr>, OutOfMemory>
     requires path { IsPath (layered_over (map D.rules kinds.now.items) homes.old.entries
         dicts.old.entries) paths.now d }
     requires look { is_look command.now ≡ true }
     ensures look { IfOk result (IsLook (layered_over (map D.rules kinds.now.items)
-        homes.old.entries dicts.old.entries) paths.now d command.now) }
+        homes.old.entries dicts.old.entries) paths.now d command.now reply.new) }
     ensures leaves { LeavesDicts (map D.rules kinds.now.items)
         homes.old.entries homes.new.entries dicts.old.entries dicts.new.entries }
 {
@@ -40,14 +42,15 @@ fn look_through<D: DictDisc>(
         dicts,
         kinds,
     };
-    look(alloc, paths, &mut layers, d, kind, command)
+    look(alloc, paths, &mut layers, d, kind, command, reply)
 }
 
-/// Answers a command that looks for an object, or walks over all, through the dictionary of an index, from 0 on, and along
-/// its view path. What is found is current then where it is an object of that dictionary itself; no other dictionary's
-/// current object changes. An object or a key that is not of 1 to 1,024 bytes is refused. Want of memory is the one error,
-/// and leaves every dictionary as it was. Of a region only the links inside holders may change. An index at which a
-/// dictionary's region may stand, which may be any number, is looked at first. This project's own.
+/// Puts in place of a reply the one to a command that looks for an object, or walks over all, through the dictionary of an
+/// index, from 0 on, and along its view path. What is found is current then where it is an object of that dictionary
+/// itself; no other dictionary's current object changes. An object or a key that is not of 1 to 1,024 bytes is refused.
+/// Want of memory is the one error, and leaves every dictionary as it was, but any reply. Of a region only the links inside
+/// holders may change. An index at which a dictionary's region may stand, which may be any number, is looked at first. This
+/// project's own.
 pub fn look_at<D: DictDisc>(
     alloc: Global,
     homes: &mut IndexMap<Name, HomeEntry>,
@@ -57,18 +60,19 @@ pub fn look_at<D: DictDisc>(
     paths: &Paths,
     i: usize,
     command: &Command,
-) -> Result<Reply, OutOfMemory>
+    reply: &mut Reply,
+) -> Result<(), OutOfMemory>
     requires { CanLook (map D.rules kinds.now.items)
         homes.old.entries dicts.old.entries paths.now i command.now }
     ensures { LooksThrough (map D.rules kinds.now.items)
         homes.old.entries homes.new.entries dicts.old.entries dicts.new.entries
-        paths.now i command.now result }
+        paths.now i command.now (answered result reply.new) }
 {
     let d = dicts[i].number;
-    let (reply, place) = look_through(alloc, homes, near, dicts, kinds, paths, d, command)?;
+    let place = look_through(alloc, homes, near, dicts, kinds, paths, d, command, reply)?;
     let Some(at) = place else {
-        return Ok(reply);
+        return Ok(());
     };
     dicts[i].dict.current = at;
-    Ok(reply)
+    Ok(())
 }

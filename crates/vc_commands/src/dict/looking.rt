@@ -1,4 +1,4 @@
-ghost use Rattle.std.specs.Prelude.{◌≡◌, ◌==◌, Some, None, true, IfOk, IsSome, map, if◌then◌else◌};
+ghost use Rattle.std.specs.Prelude.{◌≡◌, ◌==◌, Some, None, true, IfOk, IsSome, OnOk, map, if◌then◌else◌};
 ghost use Rattle.std.specs.Option.{option_map};
 ghost use Rattle.vc_base.specs.Prelude.{number_of};
 ghost use Rattle.vc_paths.specs.Layers.{bytes_there};
@@ -54,25 +54,30 @@ fn own_at(d: u32, e: u32, at: Addr) -> Option<Addr>
     if e == d { Some(at) } else { None }
 }
 
-// The object at a place, and its address where it is one of the first dictionary itself.
+// Shows the object at a place, and answers its address where it is one of the first dictionary itself.
 fn show<Y: Layers>(
     alloc: Global,
     layers: &Y,
     d: u32,
     found: Option<(u32, Addr)>,
-) -> Result<(Reply, Option<Addr>), OutOfMemory>
+    reply: &mut Reply,
+) -> Result<Option<Addr>, OutOfMemory>
     requires { IsStanding (Y.layered layers.now) d found }
-    ensures reply { IfOk result (λ r. r.0
+    ensures reply { OnOk result (reply.new
         ≡ found_reply (object_at (Y.layered layers.now) found)) }
-    ensures place { IfOk result (λ r. option_map number_of r.1
+    ensures place { IfOk result (λ at. option_map number_of at
         ≡ own_place (λ e. e == d) (object_at (Y.layered layers.now) found)) }
 {
     match found {
         Some(at) => {
             let bytes = copied(alloc, layers, at.0, at.1)?;
-            Ok((Reply::Found(bytes), own_at(d, at.0, at.1)))
+            *reply = Reply::Found(bytes);
+            Ok(own_at(d, at.0, at.1))
         }
-        None => Ok((Reply::Nothing, None)),
+        None => {
+            *reply = Reply::Nothing;
+            Ok(None)
+        }
     }
 }
 
@@ -111,7 +116,8 @@ fn found<Y: Layers, D: DictDisc>(
     }
 }
 
-// All objects in order.
+// All objects in order. It stands apart, since a call clears room for the replies of all its arms.
+#[inline(never)]
 fn walk<Y: Layers>(
     alloc: Global,
     paths: &Paths,
@@ -134,10 +140,11 @@ fn walk<Y: Layers>(
     Ok(Reply::Objects(ObjectItems::from_vec(items)))
 }
 
-/// Answers a command that looks for an object, or walks over all, through the view path of dictionary `d`, by its kind.
-/// Beside the reply stands the address of the holder of what is found, where that is an object of `d` itself: it is to be
-/// current then, and else the current object stays. An object or a key that is not of 1 to 1,024 bytes is refused. Want of
-/// memory is the one error. No object changes; only the links inside holders may.
+/// Puts in place of a reply the one to a command that looks for an object, or walks over all, through the view path of
+/// dictionary `d`, by its kind. Answers the address of the holder of what is found, where that is an object of `d` itself:
+/// it is to be current then, and else the current object stays. An object or a key that is not of 1 to 1,024 bytes is
+/// refused. Want of memory is the one error, after which any reply may stand there. No object changes; only the links
+/// inside holders may.
 pub fn look<Y: Layers, D: DictDisc>(
     alloc: Global,
     paths: &Paths,
@@ -145,27 +152,32 @@ pub fn look<Y: Layers, D: DictDisc>(
     d: u32,
     kind: &D,
     command: &Command,
-) -> Result<(Reply, Option<Addr>), OutOfMemory>
+    reply: &mut Reply,
+) -> Result<Option<Addr>, OutOfMemory>
     requires path { IsPath (Y.layered layers.old) paths.now d }
     requires rules { D.rules kind.now ≡ ((Y.layered layers.old).layer d).rules }
     requires look { is_look command.now ≡ true }
 
-    ensures reply { IfOk result (λ r. r.0 ≡ look_reply (D.rules kind.now) command.now
+    ensures reply { OnOk result (reply.new ≡ look_reply (D.rules kind.now) command.now
         (visible_of (Y.layered layers.old) paths.now d)) }
-    ensures place { IfOk result (λ r. option_map number_of r.1
+    ensures place { IfOk result (λ at. option_map number_of at
         ≡ look_place (λ e. e == d) (D.rules kind.now) command.now
         (visible_of (Y.layered layers.old) paths.now d)) }
 
     ensures unchanged { Unchanged Y.Layers layers.old layers.new }
 {
     if !is_askable(command) {
-        return Ok((Reply::Refused(Refusal::Size), None));
+        *reply = Reply::Refused(Refusal::Size);
+        return Ok(None);
     }
     match command {
-        Command::Walk(_) => Ok((walk(alloc, paths, layers, d)?, None)),
+        Command::Walk(_) => {
+            *reply = walk(alloc, paths, layers, d)?;
+            Ok(None)
+        }
         _ => {
             let at = found(alloc, paths, layers, d, kind, command);
-            show(alloc, layers, d, at)
+            show(alloc, layers, d, at, reply)
         }
     }
 }

@@ -7,6 +7,7 @@ ghost use Rattle.vc_objects.specs.Insert.{slots_wanted};
 ghost use Rattle.vc_objects.specs.Leaves.{Looks};
 ghost use Rattle.vc_objects.specs.Parts.{IsWhole, dictionary_in};
 ghost use Rattle.vc_objects.specs.Promises.{CanAsk, CanPut, IsStill};
+ghost use Rattle.vc_commands.specs.Answered.{answered};
 ghost use Rattle.vc_commands.specs.DictCommands.{append_in, attach_in, fate_reply, insert_in, insert_made_in};
 ghost use Rattle.vc_commands.specs.DictCommands.{put_object, standing};
 ghost use Rattle.vc_commands.specs.DictRun.{IsOfHolder, IsSpent, RunsDict, object_there, seat_in};
@@ -44,10 +45,11 @@ fn put<D: DictDisc>(
     kind: &D,
     object: Vec<u8>,
     append: bool,
-) -> Result<Reply, OutOfMemory>
+    reply: &mut Reply,
+) -> Result<(), OutOfMemory>
     requires can { CanPut state (D.rules kind.now) best.old dict.old object.items append }
 
-    ensures runs { RunsDict state result (D.rules kind.now)
+    ensures runs { RunsDict state (answered result reply.new) (D.rules kind.now)
         (put_object (seat_in state (D.rules kind.now) best.old dict.old) append object.items)
         (slots_wanted (dictionary_in dict.old best.old)) object.items
         best.old dict.old (D.gone kind.now) best.new dict.new (D.gone kind.now) }
@@ -56,7 +58,8 @@ fn put<D: DictDisc>(
 {
     let mut steps = Steps::<Uncounted>::new(alloc);
     let fate = vc_objects::insert(best, dict, kind, &object, append, &mut steps)?;
-    Ok(fate_reply(object, fate))
+    *reply = fate_reply(object, fate);
+    Ok(())
 }
 
 // The holder of the object of a set that an object matches.
@@ -89,11 +92,12 @@ fn put_unless<D: DictDisc>(
     dict: &mut Dict,
     kind: &D,
     object: Vec<u8>,
-) -> Result<Reply, OutOfMemory>
+    reply: &mut Reply,
+) -> Result<(), OutOfMemory>
     requires ask { CanAsk state (D.rules kind.now) best.old dict.old }
     requires object { IsObject object.items }
 
-    ensures runs { RunsDict state result (D.rules kind.now)
+    ensures runs { RunsDict state (answered result reply.new) (D.rules kind.now)
         (insert_in (seat_in state (D.rules kind.now) best.old dict.old) object.items)
         (slots_wanted (dictionary_in dict.old best.old)) object.items
         best.old dict.old (D.gone kind.now) best.new dict.new (D.gone kind.now) }
@@ -103,9 +107,10 @@ fn put_unless<D: DictDisc>(
     match standing(alloc, best, dict, kind, &object) {
         Some(at) => {
             let bytes = best.body(at).to_vec(alloc)?;
-            Ok(Reply::Old(Bytes::from_vec(bytes)))
+            *reply = Reply::Old(Bytes::from_vec(bytes));
+            Ok(())
         }
-        None => put(alloc, best, dict, kind, object, false),
+        None => put(alloc, best, dict, kind, object, false, reply),
     }
 }
 
@@ -125,10 +130,11 @@ pub(crate) fn insert<D: DictDisc>(
     dict: &mut Dict,
     kind: &D,
     object: &[u8],
-) -> Result<Reply, OutOfMemory>
+    reply: &mut Reply,
+) -> Result<(), OutOfMemory>
     requires ask { CanAsk state (D.rules kind.now) best.old dict.old }
 
-    ensures runs { RunsDict state result (D.rules kind.now)
+    ensures runs { RunsDict state (answered result reply.new) (D.rules kind.now)
         (insert_made_in (seat_in state (D.rules kind.now) best.old dict.old) object.now)
         (slots_wanted (dictionary_in dict.old best.old)) ((D.rules kind.now).made object.now)
         best.old dict.old (D.gone kind.now) best.new dict.new (D.gone kind.now) }
@@ -136,10 +142,11 @@ pub(crate) fn insert<D: DictDisc>(
         (rest_in best.new) (dictionary_in dict.new best.new)) }
 {
     if !is_object(object) {
-        return Ok(Reply::Refused(Refusal::Size));
+        *reply = Reply::Refused(Refusal::Size);
+        return Ok(());
     }
     let out = made_object(alloc, kind, object)?;
-    put_unless(alloc, best, dict, kind, out)
+    put_unless(alloc, best, dict, kind, out, reply)
 }
 
 // `attach`: puts the object itself, unless one of a set matches it.
@@ -149,10 +156,11 @@ pub(crate) fn attach<D: DictDisc>(
     dict: &mut Dict,
     kind: &D,
     object: &[u8],
-) -> Result<Reply, OutOfMemory>
+    reply: &mut Reply,
+) -> Result<(), OutOfMemory>
     requires ask { CanAsk state (D.rules kind.now) best.old dict.old }
 
-    ensures runs { RunsDict state result (D.rules kind.now)
+    ensures runs { RunsDict state (answered result reply.new) (D.rules kind.now)
         (attach_in (seat_in state (D.rules kind.now) best.old dict.old) object.now)
         (slots_wanted (dictionary_in dict.old best.old)) object.now
         best.old dict.old (D.gone kind.now) best.new dict.new (D.gone kind.now) }
@@ -160,10 +168,11 @@ pub(crate) fn attach<D: DictDisc>(
         (rest_in best.new) (dictionary_in dict.new best.new)) }
 {
     if !is_object(object) {
-        return Ok(Reply::Refused(Refusal::Size));
+        *reply = Reply::Refused(Refusal::Size);
+        return Ok(());
     }
     let out = object.to_vec(alloc)?;
-    put_unless(alloc, best, dict, kind, out)
+    put_unless(alloc, best, dict, kind, out, reply)
 }
 
 // `append`: puts the object that is made of these bytes behind the current one of a list.
@@ -173,21 +182,24 @@ pub(crate) fn append<D: DictDisc>(
     dict: &mut Dict,
     kind: &D,
     object: &[u8],
-) -> Result<Reply, OutOfMemory>
+    reply: &mut Reply,
+) -> Result<(), OutOfMemory>
     requires ask { CanAsk state (D.rules kind.now) best.old dict.old }
 
-    ensures runs { RunsDict state result (D.rules kind.now)
+    ensures runs { RunsDict state (answered result reply.new) (D.rules kind.now)
         (append_in (seat_in state (D.rules kind.now) best.old dict.old) object.now)
         (slots_wanted (dictionary_in dict.old best.old)) ((D.rules kind.now).made object.now)
         best.old dict.old (D.gone kind.now) best.new dict.new (D.gone kind.now) }
     ensures err { OnErr result (IsStill best.old dict.old best.new dict.new) }
 {
     if !dict.method.is_list() {
-        return Ok(Reply::Refused(Refusal::WrongMethod));
+        *reply = Reply::Refused(Refusal::WrongMethod);
+        return Ok(());
     }
     if !is_object(object) {
-        return Ok(Reply::Refused(Refusal::Size));
+        *reply = Reply::Refused(Refusal::Size);
+        return Ok(());
     }
     let out = made_object(alloc, kind, object)?;
-    put(alloc, best, dict, kind, out, true)
+    put(alloc, best, dict, kind, out, true, reply)
 }

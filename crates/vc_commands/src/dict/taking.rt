@@ -4,6 +4,7 @@ ghost use Rattle.vc_dtdisc.specs.Rules.{Gone, Rules};
 ghost use Rattle.vc_best.specs.Cells.{cells_in, rest_in};
 ghost use Rattle.vc_objects.specs.Parts.{IsWhole, dictionary_in};
 ghost use Rattle.vc_objects.specs.Remove.{remove, remove_unnamed};
+ghost use Rattle.vc_commands.specs.Answered.{answered};
 ghost use Rattle.vc_commands.specs.DictCommands.{delete_in, gone_reply, remove_in, removed_as};
 ghost use Rattle.vc_commands.specs.DictRun.{TakesDict, seat_in};
 
@@ -50,22 +51,25 @@ pub(crate) fn take<D: DictDisc>(
     kind: &mut D,
     object: &[u8],
     tells: bool,
-) -> Result<Reply, OutOfMemory>
+    reply: &mut Reply,
+) -> Result<(), OutOfMemory>
     requires whole { IsWhole (D.rules kind.old) dict.old (cells_in best.old) }
 
-    ensures takes { TakesDict state result (D.rules kind.old)
+    ensures takes { TakesDict state (answered result reply.new) (D.rules kind.old)
         (remove_in (seat_in state (D.rules kind.old) best.old dict.old) tells object.now)
         best.old dict.old (D.gone kind.old) best.new dict.new (D.gone kind.new) }
     ensures rules { D.rules kind.new ≡ D.rules kind.old }
 {
     if !is_object(object) {
-        return Ok(Reply::Refused(Refusal::Size));
+        *reply = Reply::Refused(Refusal::Size);
+        return Ok(());
     }
     let mut out = with_room(alloc)?;
     let mut steps = Steps::<Uncounted>::new(alloc);
     let key = kind.key(object);
     let is_gone = vc_objects::remove(best, dict, kind, key, tells, &mut out, &mut steps);
-    Ok(gone_reply(is_gone, out, tells))
+    *reply = gone_reply(is_gone, out, tells);
+    Ok(())
 }
 
 // Takes out the first object of a stack or queue, telling the kind.
@@ -74,17 +78,19 @@ fn take_unnamed<D: DictDisc>(
     best: &mut Best,
     dict: &mut Dict,
     kind: &mut D,
-) -> Result<Reply, OutOfMemory>
+    reply: &mut Reply,
+) -> Result<(), OutOfMemory>
     requires whole { IsWhole (D.rules kind.old) dict.old (cells_in best.old) }
 
-    ensures takes { TakesDict state result (D.rules kind.old)
+    ensures takes { TakesDict state (answered result reply.new) (D.rules kind.old)
         (removed_as true (remove_unnamed (rest_in best.old) (dictionary_in dict.old best.old)))
         best.old dict.old (D.gone kind.old) best.new dict.new (D.gone kind.new) }
     ensures rules { D.rules kind.new ≡ D.rules kind.old }
 {
     let mut out = with_room(alloc)?;
     let is_gone = vc_objects::remove_unnamed(best, dict, kind, &mut out);
-    Ok(gone_reply(is_gone, out, true))
+    *reply = gone_reply(is_gone, out, true);
+    Ok(())
 }
 
 // `delete`: takes out the first match of an object, or the first object of a stack or queue, and tells the kind.
@@ -94,16 +100,17 @@ pub(crate) fn delete<D: DictDisc>(
     dict: &mut Dict,
     kind: &mut D,
     object: &Option<Bytes>,
-) -> Result<Reply, OutOfMemory>
+    reply: &mut Reply,
+) -> Result<(), OutOfMemory>
     requires whole { IsWhole (D.rules kind.old) dict.old (cells_in best.old) }
 
-    ensures takes { TakesDict state result (D.rules kind.old)
+    ensures takes { TakesDict state (answered result reply.new) (D.rules kind.old)
         (delete_in (seat_in state (D.rules kind.old) best.old dict.old) object.now)
         best.old dict.old (D.gone kind.old) best.new dict.new (D.gone kind.new) }
     ensures rules { D.rules kind.new ≡ D.rules kind.old }
 {
     match object {
-        Some(bytes) => take(alloc, best, dict, kind, bytes.as_slice(), true),
-        None => take_unnamed(alloc, best, dict, kind),
+        Some(bytes) => take(alloc, best, dict, kind, bytes.as_slice(), true, reply),
+        None => take_unnamed(alloc, best, dict, kind, reply),
     }
 }

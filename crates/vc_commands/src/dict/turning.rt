@@ -5,6 +5,7 @@ ghost use Rattle.vc_best.specs.Parts.{disc_in};
 ghost use Rattle.vc_objects.specs.Leaves.{LeavesRest};
 ghost use Rattle.vc_objects.specs.Parts.{IsWhole};
 ghost use Rattle.vc_objects.specs.Promises.{CanAsk, IsStill};
+ghost use Rattle.vc_commands.specs.Answered.{answered};
 ghost use Rattle.vc_script.specs.Needs.{NoNeed, need_shown};
 ghost use Rattle.vc_commands.specs.DictCommands.{empty_in};
 ghost use Rattle.vc_commands.specs.DictRun.{Gives, RunsCommand, seat_in};
@@ -26,10 +27,11 @@ pub(crate) fn remethod<D: DictDisc>(
     kind: &mut D,
     name: Name,
     method: DictMethod,
-) -> Result<Reply, OutOfMemory>
+    reply: &mut Reply,
+) -> Result<(), OutOfMemory>
     requires ask { CanAsk state (D.rules kind.old) best.old dict.old }
 
-    ensures runs { RunsCommand state result (D.rules kind.old) (Command.Remethod name method)
+    ensures runs { RunsCommand state (answered result reply.new) (D.rules kind.old) (Command.Remethod name method)
         best.old dict.old (D.gone kind.old) best.new dict.new (D.gone kind.new) }
     ensures rules { D.rules kind.new ≡ D.rules kind.old }
     ensures err { OnErr result ((D.gone kind.new ≡ D.gone kind.old)
@@ -37,11 +39,20 @@ pub(crate) fn remethod<D: DictDisc>(
 {
     let mut steps = Steps::<Uncounted>::new(alloc);
     match vc_objects::turn(best, dict, kind, method, &mut steps) {
-        Ok(()) => Ok(Reply::MethodIs(name, method)),
+        Ok(()) => {
+            *reply = Reply::MethodIs(name, method);
+            Ok(())
+        }
         Err(RegionFault::OutOfMemory) => Err(OutOfMemory),
-        Err(RegionFault::NoSegment) => Ok(Reply::Refused(Refusal::NoSegmentForTable)),
+        Err(RegionFault::NoSegment) => {
+            *reply = Reply::Refused(Refusal::NoSegmentForTable);
+            Ok(())
+        }
         // No other refusal comes.
-        Err(_) => Ok(Reply::Refused(Refusal::TooManySegments)),
+        Err(_) => {
+            *reply = Reply::Refused(Refusal::TooManySegments);
+            Ok(())
+        }
     }
 }
 

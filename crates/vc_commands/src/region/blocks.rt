@@ -5,6 +5,7 @@ ghost use Rattle.slab.specs.Slab.{HasRoomFor, slab_len};
 ghost use Rattle.vc_region.specs.Cells.{rest_in};
 ghost use Rattle.vc_region.specs.Parts.{disc_in};
 ghost use Rattle.vc_region.specs.Region.{segments_of};
+ghost use Rattle.vc_commands.specs.Answered.{answered};
 ghost use Rattle.vc_commands.specs.Held.{IsNamed};
 ghost use Rattle.vc_commands.specs.Blocks.{align_in, align_refused, alloc_in, fault_of, free_in, is_align, is_size, no_block, script_refusal, resize_in, site_of, size_refused};
 ghost use Rattle.vc_commands.specs.FreedNames.{line_of};
@@ -88,11 +89,14 @@ fn refusal_of(fault: RegionFault) -> Option<Refusal>
 }
 
 // The answer to a region's fault.
-fn refused(fault: RegionFault) -> Result<Reply, OutOfMemory>
-    ensures { TellsFault fault result }
+fn refused(fault: RegionFault, reply: &mut Reply) -> Result<(), OutOfMemory>
+    ensures { TellsFault fault (answered result reply.new) }
 {
     match refusal_of(fault) {
-        Some(why) => Ok(Reply::Refused(why)),
+        Some(why) => {
+            *reply = Reply::Refused(why);
+            Ok(())
+        }
         None => Err(OutOfMemory),
     }
 }
@@ -131,20 +135,22 @@ fn name_put(
     labels: &mut Labels,
     name: &Name,
     put: Result<Addr, RegionFault>,
-) -> Result<Reply, OutOfMemory>
+    reply: &mut Reply,
+) -> Result<(), OutOfMemory>
     requires agree { AreLabels labels.old }
     requires new { tag_of labels.old name.now ≡ None }
     requires room_by_tag { HasRoomFor labels.old.by_tag 1 }
     requires room_by_name { 0 < spare labels.old.tags }
     requires tag { labels.old.by_tag.vacant_key + 1 < 2 ^ 32 }
-    ensures { NamesPut (labels.old.by_tag.vacant_key + 1) name.now put labels.old labels.new result }
+    ensures { NamesPut (labels.old.by_tag.vacant_key + 1) name.now put labels.old labels.new (answered result reply.new) }
 {
     match put {
         Ok(at) => {
             labels.insert(*name, at);
-            Ok(Reply::At(*name, place_of(at), None))
+            *reply = Reply::At(*name, place_of(at), None);
+            Ok(())
         }
-        Err(fault) => refused(fault),
+        Err(fault) => refused(fault, reply),
     }
 }
 
@@ -158,21 +164,30 @@ impl HomeEntry {
         name: &Name,
         site: &Option<Name>,
         size: u32,
-    ) -> Result<Reply, OutOfMemory>
+        reply: &mut Reply,
+    ) -> Result<(), OutOfMemory>
         requires names { IsNamed (rest_in self.old.region) labels.old }
         requires lent { HasOut (disc_in state self.old.region)
             (segments_of (rest_in self.old.region)) }
 
-        ensures runs { RunsHome state result
+        ensures runs { RunsHome state (answered result reply.new)
             (λ h need. alloc_in h name.now site.now size (is_for_block need))
             (Some (size, 32)) self.old labels.old self.new labels.new }
         ensures change { ChangesRegion state self.old labels.old self.new labels.new }
     {
         match new_refused(labels, name, size_refused(size)) {
-            Some(why) => Ok(Reply::Refused(why)),
+            Some(why) => {
+                *reply = Reply::Refused(why);
+                Ok(())
+            }
             None => {
                 let tag = labels.reserve()?;
-                name_put(labels, name, self.region.alloc(size, tag, site_of(site)))
+                name_put(
+                    labels,
+                    name,
+                    self.region.alloc(size, tag, site_of(site)),
+                    reply,
+                )
             }
         }
     }
@@ -184,22 +199,31 @@ impl HomeEntry {
         name: &Name,
         size: u32,
         align: u32,
-    ) -> Result<Reply, OutOfMemory>
+        reply: &mut Reply,
+    ) -> Result<(), OutOfMemory>
         requires names { IsNamed (rest_in self.old.region) labels.old }
         requires lent { HasOut (disc_in state self.old.region)
             (segments_of (rest_in self.old.region)) }
 
-        ensures runs { RunsHome state result
+        ensures runs { RunsHome state (answered result reply.new)
             (λ h need. align_in h name.now size align (is_for_block need))
             (Some (size, align)) self.old labels.old self.new labels.new }
         ensures change { ChangesRegion state self.old labels.old self.new labels.new }
     {
         let words = align_refused(&self.region, size, align);
         match new_refused(labels, name, words) {
-            Some(why) => Ok(Reply::Refused(why)),
+            Some(why) => {
+                *reply = Reply::Refused(why);
+                Ok(())
+            }
             None => {
                 let tag = labels.reserve()?;
-                name_put(labels, name, self.region.align(size, align, tag, b"-"))
+                name_put(
+                    labels,
+                    name,
+                    self.region.align(size, align, tag, b"-"),
+                    reply,
+                )
             }
         }
     }
@@ -211,29 +235,33 @@ impl HomeEntry {
         name: &Name,
         size: u32,
         may_move: bool,
-    ) -> Result<Reply, OutOfMemory>
+        reply: &mut Reply,
+    ) -> Result<(), OutOfMemory>
         requires names { IsNamed (rest_in self.old.region) labels.old }
         requires lent { HasOut (disc_in state self.old.region)
             (segments_of (rest_in self.old.region)) }
 
-        ensures runs { RunsHome state result
+        ensures runs { RunsHome state (answered result reply.new)
             (λ h need. resize_in h name.now size may_move (is_for_block need))
             (Some (size, 32)) self.old labels.old self.new labels.new }
         ensures change { ChangesRegion state self.old labels.old self.new labels.new }
     {
         let Some(at) = find_block(&self.region, labels, name) else {
-            return Ok(Reply::Refused(no_block(labels, name)));
+            *reply = Reply::Refused(no_block(labels, name));
+            return Ok(());
         };
         if !is_size(size) {
-            return Ok(Reply::Refused(Refusal::Size));
+            *reply = Reply::Refused(Refusal::Size);
+            return Ok(());
         }
         let watch = watch_line(&self.region, at);
         match self.region.resize(at, size, may_move) {
             Ok(to) => {
                 labels.move_to(name, to);
-                Ok(Reply::At(*name, place_of(to), watch))
+                *reply = Reply::At(*name, place_of(to), watch);
+                Ok(())
             }
-            Err(fault) => refused(fault),
+            Err(fault) => refused(fault, reply),
         }
     }
 
@@ -243,26 +271,29 @@ impl HomeEntry {
         labels: &mut Labels,
         name: &Name,
         line: u32,
-    ) -> Result<Reply, OutOfMemory>
+        reply: &mut Reply,
+    ) -> Result<(), OutOfMemory>
         requires names { IsNamed (rest_in self.old.region) labels.old }
         requires lent { HasOut (disc_in state self.old.region)
             (segments_of (rest_in self.old.region)) }
 
-        ensures runs { RunsHome state result (λ h need. free_in h name.now line) None
+        ensures runs { RunsHome state (answered result reply.new) (λ h need. free_in h name.now line) None
             self.old labels.old self.new labels.new }
         ensures change { ChangesRegion state self.old labels.old self.new labels.new }
     {
         let Some(at) = find_block(&self.region, labels, name) else {
-            return Ok(Reply::Refused(no_block(labels, name)));
+            *reply = Reply::Refused(no_block(labels, name));
+            return Ok(());
         };
         let watch = watch_line(&self.region, at);
         let keeps = keeps_freed(&self.region);
         match self.region.free(at) {
             Ok(()) => {
                 let _ = labels.free(name, keeps, line);
-                Ok(Reply::Freed(*name, watch))
+                *reply = Reply::Freed(*name, watch);
+                Ok(())
             }
-            Err(fault) => refused(fault),
+            Err(fault) => refused(fault, reply),
         }
     }
 }

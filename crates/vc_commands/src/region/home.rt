@@ -3,10 +3,12 @@ ghost use Rattle.vc_base.specs.Prelude.{place_of, HasBlock, HasOut};
 ghost use Rattle.vc_region.specs.Cells.{rest_in};
 ghost use Rattle.vc_region.specs.Parts.{blocks_in, disc_in};
 ghost use Rattle.vc_region.specs.Region.{segments_of};
+ghost use Rattle.vc_commands.specs.Answered.{answered};
 ghost use Rattle.vc_commands.specs.Held.{HasName, IsNamed};
 ghost use Rattle.vc_commands.specs.Labels.{tag_of};
 ghost use Rattle.vc_commands.specs.RegionCommands.{block_asked, in_region, puts_block};
 
+use crate::lent::put_answer;
 use crate::region::labels::Labels;
 use std::alloc::Global;
 use vc_base::{Addr, Name, OutOfMemory};
@@ -47,33 +49,38 @@ pub(crate) fn find_block(region: &Region, labels: &Labels, name: &Name) -> Optio
 impl HomeEntry {
     ghost use Rattle.vc_commands.specs.RegionRun.{LeavesRegion, RunsHome};
 
-    /// Runs the command of a line, numbered from 1 on, in the region whose names these are, and answers its reply. A command
-    /// that works in no region is refused as if there were none. A refusal changes neither the region nor its names; want of memory,
-    /// the one error, neither blocks nor names.
+    /// Runs the command of a line, numbered from 1 on, in the region whose names these are, and puts its reply in place of
+    /// another one. A command that works in no region is refused as if there were none. A refusal changes neither the region
+    /// nor its names; want of memory, the one error, neither blocks nor names, and any reply may stand then.
     pub fn run(
         &mut self,
         alloc: Global,
         labels: &mut Labels,
         line: u32,
         command: &Command,
-    ) -> Result<Reply, OutOfMemory>
+        reply: &mut Reply,
+    ) -> Result<(), OutOfMemory>
         requires names { IsNamed (rest_in self.old.region) labels.old }
         requires lent { HasOut (disc_in state self.old.region)
             (segments_of (rest_in self.old.region)) }
 
-        ensures runs { RunsHome state result (λ h. in_region h line command.now)
+        ensures runs { RunsHome state (answered result reply.new) (λ h. in_region h line command.now)
             (Some (block_asked command.now)) self.old labels.old self.new labels.new }
         ensures change { LeavesRegion state command.now
             self.old labels.old self.new labels.new }
     {
         match command {
-            Command::Alloc(_, block, size, site) => self.allocate(labels, block, site, *size),
-            Command::Align(_, block, size, align) => self.align(labels, block, *size, *align),
-            Command::Resize(_, block, size, may_move) => self.resize(
-                labels, block, *size, *may_move,
+            Command::Alloc(_, block, size, site) => self.allocate(
+                labels, block, site, *size, reply,
             ),
-            Command::Free(_, block) => self.free(labels, block, line),
-            _ => self.run_other(alloc, labels, line, command),
+            Command::Align(_, block, size, align) => self.align(
+                labels, block, *size, *align, reply,
+            ),
+            Command::Resize(_, block, size, may_move) => self.resize(
+                labels, block, *size, *may_move, reply,
+            ),
+            Command::Free(_, block) => self.free(labels, block, line, reply),
+            _ => { put_answer(self.run_other(alloc, labels, line, command), reply) }
         }
     }
 

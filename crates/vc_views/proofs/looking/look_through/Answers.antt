@@ -31,7 +31,7 @@ look-requires-clause-rules g c = rules-are g (goal.at.look-requires-clause-rules
 pub returns-clause-look : goal.returns-clause-look
 returns-clause-look g c =
     let all = layered_over (map g.D.DictDisc.rules c.args.kinds.now.items) c.args.homes.now.entries c.args.dicts.now.entries in
-    is-look all c.args.paths.now c.args.d c.args.command.now (g.D.DictDisc.rules c.kind_of-kind.result.now) (rules-are g (goal.at.returns-clause-look g c).After-kind_of-kind) c.look.result
+    is-look all c.args.paths.now c.args.d c.args.command.now (g.D.DictDisc.rules c.kind_of-kind.result.now) (rules-are g (goal.at.returns-clause-look g c).After-kind_of-kind) c.look.result c.look.new.reply
     c.look.ensures.reply c.look.ensures.place
 
 pub returns-clause-leaves : goal.returns-clause-leaves

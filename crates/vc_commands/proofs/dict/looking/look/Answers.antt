@@ -1,4 +1,4 @@
-use Rattle.vc_base.proofs.Common.{◌≡◌, IfOk, ◌==◌, option_map, sym, ap, ◌∙◌, subst, number_of}
+use Rattle.vc_base.proofs.Common.{◌≡◌, IfOk, OnOk, ◌==◌, option_map, sym, ap, ◌∙◌, subst, number_of}
 use Rattle.vc_paths.specs.Path.{visible_of}
 use Rattle.vc_commands.specs.Looking.{found_reply, own_place}
 use Rattle.vc_commands.proofs.Walking.{found-asked, meant-found, meant-kept, reply-found}
@@ -21,7 +21,7 @@ returns-in_default g c =
     let object = (meant-kept c.args.d c.found-at.result _ c.found-at.ensures.unchanged.layers meant).object in
     let asked = sym c.if-not-is_askable.ensures in
     record {
-      reply = subst (λ z. IfOk c.show.result (λ r. r.0 ≡ z)) (ap found_reply object ∙ sym (reply-found rules command seen asked c.in_default.not-Walk)) c.show.ensures.reply;
-      place = subst (λ z. IfOk c.show.result (λ r. option_map number_of r.1 ≡ own_place (λ e. e == c.args.d) z)) (object ∙ sym (found-asked rules command seen asked)) c.show.ensures.place;
+      reply = subst (λ z. OnOk c.show.result (c.show.new.reply ≡ z)) (ap found_reply object ∙ sym (reply-found rules command seen asked c.in_default.not-Walk)) c.show.ensures.reply;
+      place = subst (λ z. IfOk c.show.result (λ at. option_map number_of at ≡ own_place (λ e. e == c.args.d) z)) (object ∙ sym (found-asked rules command seen asked)) c.show.ensures.place;
       unchanged = c.found-at.ensures.unchanged;
     }

@@ -1,4 +1,5 @@
 use Rattle.vc_base.proofs.Common.{◌≡◌, ◌-◌, ◌<◌, ◌≤◌, false, length, set, slice_get, Some, position, bytes_eq, sym, refl, ap, ◌∙◌, subst, map-set, same_Some, keys_of, Discipline}
+use Rattle.vc_commands.specs.Answered.{answered}
 use Rattle.vc_views.proofs.Firsts.{no-other}
 use Rattle.vc_commands.specs.declared.dict.entry.DictEntry.{DictEntry}
 use Rattle.vc_views.specs.Numbers.{is_barred}
@@ -125,7 +126,7 @@ returns g c =
       kinds' = rules_in rules (set items k told);
       same_kinds = same_kinds;
     } in
-    let did : CommandRan place best x index ran c.run.result command (gone one) (gone told) = record {
+    let did : CommandRan place best x index ran (answered c.run.result c.run.new.reply) command (gone one) (gone told) = record {
       works = c.requires.name;
       alone = c.requires.alone;
       names = c.show_names.ensures;
@@ -135,7 +136,7 @@ returns g c =
       asked = c.run.ensures.runs.asked;
     } in
     let is_gone = map-set gone items k told ∙ ap (λ (y : DictEntry). set (gone_in gone items) (y.dict.kind - 1) (gone told)) (same g at) in
-    let steps = steps-ran place best x index ran c.run.result command (gone_in gone (set items k told)) (gone one) (gone told) did (kind-at gone items e.dict.kind one kind.0 kind.1) is_gone in
+    let steps = steps-ran place best x index ran (answered c.run.result c.run.new.reply) command (gone_in gone (set items k told)) (gone one) (gone told) did (kind-at gone items e.dict.kind one kind.0 kind.1) is_gone in
     record {
       steps = steps;
       stays = record {
@@ -143,12 +144,12 @@ returns g c =
           stands = record {
             regions = record { named = named-ran place best x index ran; held = session-ran place best x index ran };
             dicts = dicts-ran place best x index ran;
-            views = linked-ran place best x index ran c.run.result command (gone one) (gone told) did;
+            views = linked-ran place best x index ran (answered c.run.result c.run.new.reply) command (gone one) (gone told) did;
           };
           keeps_rules = same_kinds;
           armed = refl;
-          accounts = keeps-steps c.run.result _ _ command _ steps;
-          asked = asked-steps c.run.result _ _ command _ steps;
+          accounts = keeps-steps (answered c.run.result c.run.new.reply) _ _ command _ steps;
+          asked = asked-steps (answered c.run.result c.run.new.reply) _ _ command _ steps;
           arms_none = λ n d at on. at;
         };
         spent = refl;

@@ -1,4 +1,5 @@
 use Rattle.vc_base.proofs.Common.{map, Some, sym, refl, ◌∙◌, subst, and_parts, Discipline}
+use Rattle.vc_commands.specs.Answered.{answered}
 use Rattle.vc_commands.specs.Held.{home_of}
 use Rattle.vc_views.specs.Numbers.{views_by}
 use Rattle.vc_steps.specs.Account.{IsSession}
@@ -96,11 +97,11 @@ returns g c =
     let change = c.run.ensures.change r in
     let after = helds-put M x c.run.new.self c.run.new.labels in
     let ran =
-    region-ran c.args.self.now.is_armed slots helds es vs i h k at session c.args.line command change r (region-first M x) c.requires.dict c.requires.region (clear-free command (lies_in r es) (sym c.if-clears_busy.ensures)) c.run.result
-    (if_ok_at c.run.result _ _ (λ reply is runs. runs r) c.run.ensures.runs.step) c.run.ensures.runs.err c.run.ensures.runs.unserved (λ other. (c.run.ensures.runs.served other).faults) in
+    region-ran c.args.self.now.is_armed slots helds es vs i h k at session c.args.line command change r (region-first M x) c.requires.dict c.requires.region (clear-free command (lies_in r es) (sym c.if-clears_busy.ensures)) (answered c.run.result c.run.new.reply)
+    (if_ok_at (answered c.run.result c.run.new.reply) _ _ (λ reply is runs. runs r) c.run.ensures.runs.step) c.run.ensures.runs.err c.run.ensures.runs.unserved (λ other. (c.run.ensures.runs.served other).faults) in
     record {
       steps = λ kinds gone dicts.
-          subst (λ hs. StepsBy c.run.result (moment_over c.args.self.now.is_armed slots es vs kinds gone helds) (moment_over c.args.self.now.is_armed slots es vs kinds gone hs) command (λ s need. step_of s c.args.line command need (Some r))) (sym after) (ran.0 kinds gone dicts);
+          subst (λ hs. StepsBy (answered c.run.result c.run.new.reply) (moment_over c.args.self.now.is_armed slots es vs kinds gone helds) (moment_over c.args.self.now.is_armed slots es vs kinds gone hs) command (λ s need. step_of s c.args.line command need (Some r))) (sym after) (ran.0 kinds gone dicts);
       regions = record {
         regions = record {
           named = named-put M x c.run.new.self c.run.new.labels;

@@ -14,7 +14,7 @@ meaning g p = (g.dyn-1.0.entry p.0).1.state p.1
 
 pub returns-in-OpenRegion-clause-steps : goal.returns-in-OpenRegion-clause-steps
 returns-in-OpenRegion-clause-steps g c =
-    rw c.in-OpenRegion.is (c.open_region.ensures.steps (rules_in g.D.DictDisc.rules c.args.kinds.now.items) (gone_in g.D.DictDisc.gone c.args.kinds.now.items) c.requires.session.dicts)
+    rw c.put_answer.ensures (rw c.in-OpenRegion.is (c.open_region.ensures.steps (rules_in g.D.DictDisc.rules c.args.kinds.now.items) (gone_in g.D.DictDisc.gone c.args.kinds.now.items) c.requires.session.dicts))
 
 pub returns-in-OpenRegion-clause-stays : goal.returns-in-OpenRegion-clause-stays
 returns-in-OpenRegion-clause-stays g c = record {
@@ -51,3 +51,7 @@ returns-in-CloseRegion-clause-stays g c = record {
   };
   spent = c.close_named.ensures.regions.spent;
 }
+
+pub returns-in-OpenDict-clause-steps : goal.returns-in-OpenDict-clause-steps
+returns-in-OpenDict-clause-steps g c =
+    rw c.put_answer-in-OpenDict.ensures (rw c.in-OpenDict.is c.open_dict.ensures.steps)

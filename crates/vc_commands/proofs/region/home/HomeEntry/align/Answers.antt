@@ -5,6 +5,8 @@ use Rattle.vc_region.specs.Cells.{rest_in}
 use Rattle.vc_region.specs.Parts.{disc_in, region_of}
 use Rattle.vc_region.proofs.Keeps.{align-keeps}
 use Rattle.vc_region.proofs.Sound.{own_places}
+use Rattle.vc_commands.specs.Answered.{answered}
+use Rattle.vc_commands.proofs.Answered.{ok-answered}
 use Rattle.vc_commands.specs.Held.{home_of}
 use Rattle.vc_commands.specs.Blocks.{align_refused, is_align, is_size}
 use Rattle.vc_commands.specs.RegionRun.{held_of}
@@ -60,7 +62,7 @@ returns-in_ok-tag-in-None g c =
     let ok = c.in_ok-tag-in-None.ensures.ok in
     let terms = (disc_in (meaning g) c.args.self.now.region).terms in
     let old = rest_in c.args.self.now.region in
-    let done : IsPlaced (meaning g) c.args.self.now c.args.labels.now c.align.new.self name (λ k. align_refused k.region size align) (λ k u. region_align k.terms k.region (Some name) (45 ∷ []) size align u) (region_align terms old tag (45 ∷ []) size align) tag size align c.reserve.new.self c.name_put.new.labels c.align.result c.name_put.result =
+    let done : IsPlaced (meaning g) c.args.self.now c.args.labels.now c.align.new.self name (λ k. align_refused k.region size align) (λ k u. region_align k.terms k.region (Some name) (45 ∷ []) size align u) (region_align terms old tag (45 ∷ []) size align) tag size align c.reserve.new.self c.name_put.new.labels c.align.result (answered c.name_put.result c.name_put.new.reply) =
     record {
       names = c.requires.names;
       allowed = λ r. words g (goal.at.returns-in_ok-tag-in-None g c).After-new_refused r ∙ c.in-None.is;
@@ -70,7 +72,7 @@ returns-in_ok-tag-in-None g c =
       vacant = ok.2;
       commutes = λ r. align-commutes (held_of (meaning g) r c.args.self.now c.args.labels.now) name tag (45 ∷ []) size align;
       stays = align-keeps terms old tag (45 ∷ []) size align false;
-      named = subst (λ t. NamesPut t name c.align.result c.reserve.new.self c.name_put.new.labels c.name_put.result) (sym ok.0) c.name_put.ensures;
+      named = subst (λ t. NamesPut t name c.align.result c.reserve.new.self c.name_put.new.labels (answered c.name_put.result c.name_put.new.reply)) (sym ok.0) c.name_put.ensures;
       seen = seen-align terms (region_of c.args.self.now.region) (region_of c.align.new.self) tag (45 ∷ []) size c.align.result ok.1 c.align.ensures.put (own_places c.align.new.self) align c.align.ensures.answer;
       asks = c.align.ensures.disc;
     } in
@@ -79,7 +81,7 @@ returns-in_ok-tag-in-None g c =
 pub returns-in_err-tag-in-None : goal.returns-in_err-tag-in-None
 returns-in_err-tag-in-None g c =
     record {
-      runs = runs-halted _ c.from_residual.result _ _ _ _ _ _ (search rules) (reserved-with (meaning g) c.args.self.now c.reserve.ensures.same) (NoneRefused-same _);
+      runs = runs-halted _ (answered c.from_residual.result c.args.reply.now) _ _ _ _ _ _ (ok-answered c.from_residual.result c.args.reply.now _ (search rules)) (reserved-with (meaning g) c.args.self.now c.reserve.ensures.same) (NoneRefused-same _);
       change = reserved-change (meaning g) c.args.self.now c.reserve.ensures.same c.reserve.ensures.agree c.requires.names c.requires.lent;
     }
 

@@ -5,6 +5,8 @@ use Rattle.vc_region.specs.Cells.{rest_in}
 use Rattle.vc_region.specs.Parts.{disc_in, region_of}
 use Rattle.vc_region.proofs.Keeps.{alloc-keeps}
 use Rattle.vc_region.proofs.Sound.{own_places}
+use Rattle.vc_commands.specs.Answered.{answered}
+use Rattle.vc_commands.proofs.Answered.{ok-answered}
 use Rattle.vc_commands.specs.Held.{home_of}
 use Rattle.vc_commands.specs.Blocks.{site_of, size_refused}
 use Rattle.vc_commands.specs.RegionRun.{held_of}
@@ -48,7 +50,7 @@ returns-in_ok-tag-in-None g c =
     let site = c.site_of.result.now in
     let terms = (disc_in (meaning g) c.args.self.now.region).terms in
     let old = rest_in c.args.self.now.region in
-    let done : IsPlaced (meaning g) c.args.self.now c.args.labels.now c.alloc.new.self name (λ k. size_refused size) (λ k u. region_alloc k.terms k.region (Some name) (site_of c.args.site.now) size u) (region_alloc terms old tag site size) tag size 32 c.reserve.new.self c.name_put.new.labels c.alloc.result c.name_put.result =
+    let done : IsPlaced (meaning g) c.args.self.now c.args.labels.now c.alloc.new.self name (λ k. size_refused size) (λ k u. region_alloc k.terms k.region (Some name) (site_of c.args.site.now) size u) (region_alloc terms old tag site size) tag size 32 c.reserve.new.self c.name_put.new.labels c.alloc.result (answered c.name_put.result c.name_put.new.reply) =
     record {
       names = c.requires.names;
       allowed = λ r. allowed g (goal.at.returns-in_ok-tag-in-None g c).In-None;
@@ -60,7 +62,7 @@ returns-in_ok-tag-in-None g c =
           let h = held_of (meaning g) r c.args.self.now c.args.labels.now in
           ap (λ s. region_alloc terms (home_of h).region (Some name) s size u) (sym c.site_of.ensures.value) ∙ alloc-commutes h name tag site size f new same u;
       stays = alloc-keeps terms old tag site size false;
-      named = subst (λ t. NamesPut t name c.alloc.result c.reserve.new.self c.name_put.new.labels c.name_put.result) (sym ok.0) c.name_put.ensures;
+      named = subst (λ t. NamesPut t name c.alloc.result c.reserve.new.self c.name_put.new.labels (answered c.name_put.result c.name_put.new.reply)) (sym ok.0) c.name_put.ensures;
       seen = seen-alloc terms (region_of c.args.self.now.region) (region_of c.alloc.new.self) tag site size c.alloc.result ok.1 c.alloc.ensures.put (own_places c.alloc.new.self) c.alloc.ensures.answer;
       asks = c.alloc.ensures.disc;
     } in
@@ -69,7 +71,7 @@ returns-in_ok-tag-in-None g c =
 pub returns-in_err-tag-in-None : goal.returns-in_err-tag-in-None
 returns-in_err-tag-in-None g c =
     record {
-      runs = runs-halted _ c.from_residual.result _ _ _ _ _ _ (search rules) (reserved-with (meaning g) c.args.self.now c.reserve.ensures.same) (NoneRefused-same _);
+      runs = runs-halted _ (answered c.from_residual.result c.args.reply.now) _ _ _ _ _ _ (ok-answered c.from_residual.result c.args.reply.now _ (search rules)) (reserved-with (meaning g) c.args.self.now c.reserve.ensures.same) (NoneRefused-same _);
       change = reserved-change (meaning g) c.args.self.now c.reserve.ensures.same c.reserve.ensures.agree c.requires.names c.requires.lent;
     }
 

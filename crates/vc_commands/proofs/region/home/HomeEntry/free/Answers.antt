@@ -1,6 +1,7 @@
 use Rattle.vc_base.proofs.Common.{◌≡◌, ℕ, List, None, IsSome, sym, refl, ap, ◌∙◌, subst, place_of, Discipline, address_of}
 use Rattle.vc_model.proofs.Keeping.{NoneRefused-equal, NoneRefused-same}
 use Rattle.vc_region.specs.Region.{blocks_of, region_with_labels, segments_of}
+use Rattle.vc_commands.specs.Answered.{answered}
 use Rattle.vc_commands.specs.Labels.{kept_of, name_of}
 use Rattle.vc_region.specs.Cells.{cells_in, region_cells, rest_in}
 use Rattle.vc_region.specs.Parts.{disc_in, region_of}
@@ -72,8 +73,8 @@ returns-in-Err g c =
     let kept = seen-kept (region_of c.args.self.now.region) c.in-Some.at.0 b.block b.found b.first c.in-Err.fault (region_of c.free.new.self) c.in-Err.ensures.answer.0 c.in-Err.ensures.answer.1 in
     record {
       runs = runs-granted _ _ _ _ _ _ _ None (λ h need. granted-free h c.args.name.now c.args.line)
-          (if_ok-all c.refused.result _ (λ r. step-kept (held_of (meaning g) r c.args.self.now c.args.labels.now) c.in-Some.ensures.some c.args.line c.in-Err.fault c.refused.result c.refused.ensures kept.0 (rest_in c.free.new.self) kept.1))
-          (err-all c.refused.result (ap (λ q. (region_with_labels (name_of c.args.labels.now) q, kept_of c.args.labels.now)) kept.1)) (NoneRefused-equal _ _ c.free.ensures.disc);
+          (if_ok-all (answered c.refused.result c.refused.new.reply) _ (λ r. step-kept (held_of (meaning g) r c.args.self.now c.args.labels.now) c.in-Some.ensures.some c.args.line c.in-Err.fault (answered c.refused.result c.refused.new.reply) c.refused.ensures kept.0 (rest_in c.free.new.self) kept.1))
+          (err-all (answered c.refused.result c.refused.new.reply) (ap (λ q. (region_with_labels (name_of c.args.labels.now) q, kept_of c.args.labels.now)) kept.1)) (NoneRefused-equal _ _ c.free.ensures.disc);
       change = λ r.
           changed-alike (held_of (meaning g) r c.args.self.now c.args.labels.now) (disc_in (meaning g) c.free.new.self) (rest_in c.free.new.self) (cells_in c.free.new.self) c.args.labels.now (ap region_cells c.in-Err.ensures.answer.1) c.requires.lent c.free.ensures.disc
           (ap segments_of kept.1) (subst (λ q. IsNamed q c.args.labels.now) (sym kept.1) c.requires.names);

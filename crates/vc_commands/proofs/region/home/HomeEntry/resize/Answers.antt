@@ -4,6 +4,7 @@ use Rattle.vc_region.specs.Region.{region_with_labels}
 use Rattle.vc_region.specs.Cells.{rest_in}
 use Rattle.vc_region.specs.Parts.{disc_in, region_of}
 use Rattle.vc_script.specs.declared.refusal.Refusal.TheVariants as why
+use Rattle.vc_commands.specs.Answered.{answered}
 use Rattle.vc_commands.proofs.Seen.{seen-out}
 use Rattle.vc_commands.specs.Held.{IsNamed, home_of}
 use Rattle.vc_commands.specs.Blocks.{resize_block, resize_in}
@@ -80,11 +81,11 @@ returns-in-Err g c =
     let asked = asks (meaning g) c.args.self.now.region c.resize.new.self c.in-Some.ensures.some c.args.size c.args.may_move (Err c.in-Err.fault) done in
     record {
       runs = record {
-        step = if_ok-all c.refused.result _ (λ r.
-            step-fault (held_of (meaning g) r c.args.self.now c.args.labels.now) c.in-Some.ensures.some c.args.size c.args.may_move (sym c.if-not-is_size.ensures) c.in-Err.fault c.refused.result c.refused.ensures rest.answer.0 (rest_in c.resize.new.self) rest.answer.1);
-        err = err-all c.refused.result (ap (λ q. (region_with_labels (name_of c.args.labels.now) q, kept_of c.args.labels.now)) rest.answer.1);
-        unserved = λ e. asks-unserved c.in-Err.fault _ _ _ _ _ (told-no_segment c.in-Err.fault c.refused.result c.refused.ensures e) asked;
-        served = λ other. told-served c.in-Err.fault c.refused.result _ _ _ _ _ c.refused.ensures c.in-Err.ensures.disc other;
+        step = if_ok-all (answered c.refused.result c.refused.new.reply) _ (λ r.
+            step-fault (held_of (meaning g) r c.args.self.now c.args.labels.now) c.in-Some.ensures.some c.args.size c.args.may_move (sym c.if-not-is_size.ensures) c.in-Err.fault (answered c.refused.result c.refused.new.reply) c.refused.ensures rest.answer.0 (rest_in c.resize.new.self) rest.answer.1);
+        err = err-all (answered c.refused.result c.refused.new.reply) (ap (λ q. (region_with_labels (name_of c.args.labels.now) q, kept_of c.args.labels.now)) rest.answer.1);
+        unserved = λ e. asks-unserved c.in-Err.fault _ _ _ _ _ (told-no_segment c.in-Err.fault (answered c.refused.result c.refused.new.reply) c.refused.ensures e) asked;
+        served = λ other. told-served c.in-Err.fault (answered c.refused.result c.refused.new.reply) _ _ _ _ _ c.refused.ensures c.in-Err.ensures.disc other;
       };
       change = λ r.
           resized-change (meaning g) c.args.self.now.region c.resize.new.self c.in-Some.ensures.some c.args.size c.args.may_move (Err c.in-Err.fault) done r c.args.self.now.place c.args.labels.now c.requires.lent

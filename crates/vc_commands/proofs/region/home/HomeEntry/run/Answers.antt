@@ -31,3 +31,6 @@ returns-in-Resize-clause-change g c = rw c.in-Resize.is c.resize.ensures.change
 
 pub returns-in-Free-clause-change : goal.returns-in-Free-clause-change
 returns-in-Free-clause-change g c = rw c.in-Free.is c.free.ensures.change
+
+pub returns-in_default-clause-runs : goal.returns-in_default-clause-runs
+returns-in_default-clause-runs g c = rw c.put_answer.ensures c.run_other.ensures.runs
