@@ -1,6 +1,7 @@
 ghost use Rattle.std.specs.Prelude.{◌≡◌, ◌<◌, ◌^◌, ◌≤◌, bytes_eq, length};
 ghost use Rattle.std.specs.List.{IsDistinct};
 ghost use Rattle.std.specs.Map.{keys_of};
+ghost use Rattle.vc_commands.specs.Answered.{answered};
 ghost use Rattle.vc_counts.specs.CanCount.{CanCount};
 ghost use Rattle.vc_counts.specs.Counting.{CountsStep, IsCountSpentBy};
 ghost use Rattle.vc_counts.specs.Counts.{live_bytes};
@@ -168,7 +169,7 @@ fn is_refusal(reply: &Reply) -> bool
     matches!(reply, Reply::Refused(_))
 }
 
-/// Runs the command of a line, numbered from 1 on, as `Session::step` does, and counts it. Each line stands behind those
+/// Runs the command of a line, numbered from 1 on, as `Session::step_into` does, and counts it. Each line stands behind those
 /// of the commands before it. Before it and after it are read its region's segments from the last one on, and of the
 /// region's blocks those that it may put, resize or free: the one that it names, or the table of its dictionary, and its reply tells of a
 /// holder. Where it empties, turns or ends a dictionary all blocks of that are read, and all of the region where it clears
@@ -181,13 +182,15 @@ pub fn counted_step<D: DictDisc>(
     line: u32,
     command: &Command,
     counts: &mut Counts,
-) -> Result<Reply, OutOfMemory>
+    reply: &mut Reply,
+) -> Result<(), OutOfMemory>
     requires session { IsSessionOver state D.rules shelf.old session.old kinds.old.items }
     requires counts { CanCount counts.old (live_bytes
         (state_over state (rules_in D.rules kinds.old.items) shelf.old session.old)) line }
     ensures runs { RunsOver state D.rules D.gone shelf.old session.old kinds.old.items
         shelf.new session.new kinds.new.items
-        (λ now next. CountsStep result now next line command.now counts.old counts.new) }
+        (λ now next. CountsStep (answered result reply.new) now next line command.now
+        counts.old counts.new) }
     ensures spent { IsCountSpentBy result session.old.is_spent session.new.is_spent }
 {
     show_names(&session.homes, &session.dicts);
@@ -196,11 +199,11 @@ pub fn counted_step<D: DictDisc>(
     let from = segment_count_at(session, &region).saturating_sub(1);
     let last = tally_behind_at(session, &region, from);
     let held = reached_at(session, &reach, &region);
-    let reply = session.step(shelf, kinds, line, command)?;
-    let before = held as u128 + freed_by(&reach, &reply) as u128;
+    session.step_into(shelf, kinds, line, command, reply)?;
+    let before = held as u128 + freed_by(&reach, reply) as u128;
     let holds = reached_at(session, &reach, &region);
-    let after = holds as u128 + put_by(&reach, &reply) as u128;
+    let after = holds as u128 + put_by(&reach, reply) as u128;
     let now = tally_behind_at(session, &region, from);
-    counts.add(is_refusal(&reply), before, after, last, now);
-    Ok(reply)
+    counts.add(is_refusal(reply), before, after, last, now);
+    Ok(())
 }

@@ -1,4 +1,5 @@
 ghost use Rattle.std.specs.Prelude.{◌≡◌, Some, IsTrue, OnErr};
+ghost use Rattle.vc_commands.specs.Answered.{answered};
 ghost use Rattle.vc_counts.specs.CanCount.{CanCount};
 ghost use Rattle.vc_counts.specs.Counts.{live_bytes};
 ghost use Rattle.vc_session.specs.Engine.{IsStep, RunsLine};
@@ -26,18 +27,20 @@ fn run_command<D: DictDisc>(
     n: u32,
     command: &Command,
     counts: &mut Counts,
-) -> Result<Reply, OutOfMemory>
+    reply: &mut Reply,
+) -> Result<(), OutOfMemory>
     requires session { IsSessionOver state D.rules shelf.old session.old kinds.old.items }
     requires counts { IsTrue quiet → CanCount counts.old (live_bytes
         (state_over state (rules_in D.rules kinds.old.items) shelf.old session.old)) n }
     ensures { RunsOver state D.rules D.gone shelf.old session.old kinds.old.items
         shelf.new session.new kinds.new.items
-        (λ now next. RunsLine quiet result now next counts.old counts.new n command.now) }
+        (λ now next. RunsLine quiet (answered result reply.new) now next
+        counts.old counts.new n command.now) }
 {
     if quiet {
-        return counted_step(session, shelf, kinds, n, command, counts);
+        return counted_step(session, shelf, kinds, n, command, counts, reply);
     }
-    session.step(shelf, kinds, n, command)
+    session.step_into(shelf, kinds, n, command, reply)
 }
 
 // Runs the command of the line of that number, and gathers what is written of its reply. A quiet run counts it, and a
@@ -63,9 +66,9 @@ pub(crate) fn run_answer<D: DictDisc>(
     ensures same { OnErr result (replies.new.items ≡ replies.old.items) }
 {
     let style = style_by(quiet, session.is_armed());
-    let ran = run_command(quiet, session, shelf, kinds, n, command, counts);
-    match &ran {
-        Ok(reply) => gather(style, n, reply, replies),
+    let mut reply = Reply::Nothing;
+    match run_command(quiet, session, shelf, kinds, n, command, counts, &mut reply) {
+        Ok(()) => gather(style, n, &reply, replies),
         Err(_) => Err(OutOfMemory),
     }
 }

@@ -20,26 +20,26 @@ abbrev before : (g : given.Over) → After-is_refusal g → State
 before g c = state_over (meaning g) (rules_in g.D.DictDisc.rules c.args.kinds.now.items) c.args.shelf.now c.args.session.now
 
 abbrev after : (g : given.Over) → After-is_refusal g → State
-after g c = state_over (meaning g) (rules_in g.D.DictDisc.rules c.step.new.kinds.items) c.step.new.shelf c.step.new.self
+after g c = state_over (meaning g) (rules_in g.D.DictDisc.rules c.step_into.new.kinds.items) c.step_into.new.shelf c.step_into.new.self
 
-was-run : (g : given.Over) (c : After-is_refusal g) → WasRun (before g c) (after g c) c.args.line c.args.command.now c.in_ok-reply.reply
+was-run : (g : given.Over) (c : After-is_refusal g) → WasRun (before g c) (after g c) c.args.line c.args.command.now c.step_into.new.reply
 was-run g c =
     let M = meaning g in
     let session = c.args.session.now in
     let held = held_in_session M session in
-    let held' = held_in_session M c.step.new.self in
-    let gives = c.in_ok-reply.ensures.steps.gives in
+    let held' = held_in_session M c.step_into.new.self in
+    let gives = c.in_ok-step_into.ensures.steps.gives in
     record {
       alone = alone-held M session.homes.entries session.labels.items c.requires.session.regions.named c.show_names.ensures.homes;
       lone = lone-dicts held (views_by session.paths session.dicts.entries) session.dicts.entries c.show_names.ensures.dicts;
       seated = all-seated M _ session.homes.entries session.labels.items (views_by session.paths session.dicts.entries) session.dicts.entries c.requires.session.dicts;
       proper = are-proper held (are-named c.args.session.now.is_armed (slots_on M c.args.shelf.now) held c.requires.session.regions.held);
-      proper_then = are-proper held' (are-named c.step.new.self.is_armed (slots_on M c.step.new.shelf) held' c.step.ensures.lasts.stands.regions.held);
+      proper_then = are-proper held' (are-named c.step_into.new.self.is_armed (slots_on M c.step_into.new.shelf) held' c.step_into.ensures.lasts.stands.regions.held);
       state = gives.state_after;
       replied = gives.replied;
     }
 
-was-read : (g : given.Over) (c : After-is_refusal g) → WasRead (before g c) (after g c) c.args.command.now c.in_ok-reply.reply c.region_worked-region.result c.reach_of-reach.result c.reached_at-held.result c.freed_by.result c.reached_at-holds.result c.put_by.result
+was-read : (g : given.Over) (c : After-is_refusal g) → WasRead (before g c) (after g c) c.args.command.now c.step_into.new.reply c.region_worked-region.result c.reach_of-reach.result c.reached_at-held.result c.freed_by.result c.reached_at-holds.result c.put_by.result
 was-read g c =
     record {
       region = c.region_worked-region.ensures;
@@ -58,18 +58,18 @@ reached_at-held-requires-clause-names g c =
 pub reached_at-holds-requires-clause-names : goal.reached_at-holds-requires-clause-names
 reached_at-holds-requires-clause-names g c =
     let M = meaning g in
-    are-named c.step.new.self.is_armed (slots_on M c.step.new.shelf) (held_in_session M c.step.new.self) c.step.ensures.lasts.stands.regions.held
+    are-named c.step_into.new.self.is_armed (slots_on M c.step_into.new.shelf) (held_in_session M c.step_into.new.self) c.step_into.ensures.lasts.stands.regions.held
 
 pub reached_at-held-requires-clause-dicts : goal.reached_at-held-requires-clause-dicts
 reached_at-held-requires-clause-dicts g c = record { kinds = _; dicts = c.requires.session.dicts }
 
 pub reached_at-holds-requires-clause-dicts : goal.reached_at-holds-requires-clause-dicts
-reached_at-holds-requires-clause-dicts g c = record { kinds = _; dicts = c.step.ensures.lasts.stands.dicts }
+reached_at-holds-requires-clause-dicts g c = record { kinds = _; dicts = c.step_into.ensures.lasts.stands.dicts }
 
 pub add-requires-clause-part : goal.add-requires-clause-part
 add-requires-clause-part g c =
     let at = (goal.at.add-requires-clause-part g c).After-is_refusal in
-    part-counted c.args.counts.now (before g at) (after g at) c.args.line c.args.command.now c.in_ok-reply.reply c.requires.counts (was-run g at)
+    part-counted c.args.counts.now (before g at) (after g at) c.args.line c.args.command.now c.step_into.new.reply c.requires.counts (was-run g at)
     c.region_worked-region.result c.reach_of-reach.result c.reached_at-held.result c.freed_by.result c.reached_at-holds.result c.put_by.result (was-read g at)
 
 pub returns-clause-runs : goal.returns-clause-runs
@@ -77,18 +77,18 @@ returns-clause-runs g c =
     let at = (goal.at.returns-clause-runs g c).After-is_refusal in
     let counted =
     c.add.ensures.value
-    ∙ counts-step c.args.counts.now (before g at) (after g at) c.args.line c.args.command.now c.in_ok-reply.reply c.requires.counts (was-run g at)
+    ∙ counts-step c.args.counts.now (before g at) (after g at) c.args.line c.args.command.now c.step_into.new.reply c.requires.counts (was-run g at)
     c.region_worked-region.result c.reach_of-reach.result c.reached_at-held.result c.freed_by.result c.reached_at-holds.result c.put_by.result (was-read g at)
     c.is_refusal.result c.saturating_sub-from.result (segments_at c.region_worked-region.result (before g at).homes) (segments_at c.region_worked-region.result (after g at).homes) c.tally_behind_at-last.result c.tally_behind_at-now.result
     c.is_refusal.ensures refl refl (c.saturating_sub-from.ensures ∙ ap (λ n. n - 1) c.segment_count_at.ensures) c.tally_behind_at-last.ensures.value c.tally_behind_at-now.ensures.value in
     record {
-      lasts = c.step.ensures.lasts;
+      lasts = c.step_into.ensures.lasts;
       runs = record {
-        steps = c.in_ok-reply.ensures.steps;
+        steps = c.in_ok-step_into.ensures.steps;
         counts = counted;
         stays = tt;
         can =
-            can-next c.args.counts.now (before g at) (after g at) c.args.line c.args.command.now c.in_ok-reply.reply c.requires.counts (was-run g at)
+            can-next c.args.counts.now (before g at) (after g at) c.args.line c.args.command.now c.step_into.new.reply c.requires.counts (was-run g at)
             c.add.new.self counted c.add.ensures.range;
       };
     }
