@@ -6,6 +6,18 @@ ghost use Rattle.std.specs.Map.{keys_of};
 use indexmap::IndexMap;
 use vc_base::Name;
 
+// The index of a name in a map, from 0 on. It stands apart, so that a look near by is short.
+#[inline(never)]
+fn index_far<V>(map: &IndexMap<Name, V>, name: &Name) -> Option<usize>
+    ensures index { result ≡ position (bytes_eq name.now) (keys_of map.now.entries) }
+    ensures found { is_some result ≡ is_some (get bytes_eq map.now name.now) }
+    ensures within { IfSome result (λ i. i < length map.now.entries) }
+    ensures value { IfSome result (λ i. slice_get (values map.now) i
+        ≡ get bytes_eq map.now name.now) }
+{
+    map.get_index_of(name)
+}
+
 /// The index of a name in a map, from 0 on, as `get_index_of` answers it. An index at which the name may stand, which may
 /// be any number, is looked at first: so a name that is asked for again costs one comparison. This project's own.
 pub fn index_near<V>(map: &IndexMap<Name, V>, name: &Name, near: usize) -> Option<usize>
@@ -25,5 +37,5 @@ pub fn index_near<V>(map: &IndexMap<Name, V>, name: &Name, near: usize) -> Optio
         }
         None => {}
     }
-    map.get_index_of(name)
+    index_far(map, name)
 }

@@ -31,7 +31,8 @@ pub(crate) fn remethod<D: DictDisc>(
 ) -> Result<(), OutOfMemory>
     requires ask { CanAsk state (D.rules kind.old) best.old dict.old }
 
-    ensures runs { RunsCommand state (answered result reply.new) (D.rules kind.old) (Command.Remethod name method)
+    ensures runs { RunsCommand state (answered result reply.new) (D.rules kind.old)
+        (Command.Remethod name method)
         best.old dict.old (D.gone kind.old) best.new dict.new (D.gone kind.new) }
     ensures rules { D.rules kind.new ≡ D.rules kind.old }
     ensures err { OnErr result ((D.gone kind.new ≡ D.gone kind.old)

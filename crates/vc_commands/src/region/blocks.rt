@@ -142,7 +142,8 @@ fn name_put(
     requires room_by_tag { HasRoomFor labels.old.by_tag 1 }
     requires room_by_name { 0 < spare labels.old.tags }
     requires tag { labels.old.by_tag.vacant_key + 1 < 2 ^ 32 }
-    ensures { NamesPut (labels.old.by_tag.vacant_key + 1) name.now put labels.old labels.new (answered result reply.new) }
+    ensures { NamesPut (labels.old.by_tag.vacant_key + 1) name.now put
+        labels.old labels.new (answered result reply.new) }
 {
     match put {
         Ok(at) => {
@@ -277,8 +278,8 @@ impl HomeEntry {
         requires lent { HasOut (disc_in state self.old.region)
             (segments_of (rest_in self.old.region)) }
 
-        ensures runs { RunsHome state (answered result reply.new) (λ h need. free_in h name.now line) None
-            self.old labels.old self.new labels.new }
+        ensures runs { RunsHome state (answered result reply.new)
+            (λ h need. free_in h name.now line) None self.old labels.old self.new labels.new }
         ensures change { ChangesRegion state self.old labels.old self.new labels.new }
     {
         let Some(at) = find_block(&self.region, labels, name) else {

@@ -64,8 +64,9 @@ impl HomeEntry {
         requires lent { HasOut (disc_in state self.old.region)
             (segments_of (rest_in self.old.region)) }
 
-        ensures runs { RunsHome state (answered result reply.new) (λ h. in_region h line command.now)
-            (Some (block_asked command.now)) self.old labels.old self.new labels.new }
+        ensures runs { RunsHome state (answered result reply.new)
+            (λ h. in_region h line command.now) (Some (block_asked command.now))
+            self.old labels.old self.new labels.new }
         ensures change { LeavesRegion state command.now
             self.old labels.old self.new labels.new }
     {
