@@ -1,15 +1,15 @@
 -- What lasts of a session, from one time to the next.
-use Rattle.vc_base.proofs.Common.{◌≡◌, ℕ, List, [], Bool, true, false, refl, sym, ◌∙◌, subst, false≢true, Discipline}
+use Rattle.vc_base.proofs.Common.{◌≡◌, List, Bool, true, false, refl, sym, ◌∙◌, subst, false≢true, Discipline}
 use Rattle.vc_dtdisc.specs.Rules.{Rules}
 use Rattle.vc_seg.specs.declared.shelf.Shelf.{Shelf}
 use Rattle.vc_steps.specs.declared.session.Session.{Session}
-use Rattle.vc_commands.specs.declared.region.home.HomeEntry.{HomeEntry}
-use Rattle.vc_steps.specs.Account.{IsSession}
-use Rattle.vc_steps.specs.Homes.{IsSessionOver, held_all, settled_over, slots_on}
+use Rattle.vc_steps.specs.Account.{KeepsAccounts, SameAsked}
+use Rattle.vc_steps.specs.Arms.{ArmsAll}
+use Rattle.vc_steps.specs.Homes.{IsSessionOver, settled_over}
 use Rattle.vc_steps.specs.Steps.{Lasts}
+use Rattle.vc_steps.proofs.ArmedRegions.{arms-settled, arms-stands}
 use Rattle.vc_steps.proofs.SettledShelf.{keeps-same, keeps-trans}
 use Rattle.vc_session.specs.Arming.{LastsArming}
-use Rattle.vc_session.specs.Progress.{IsFresh}
 
 pub lasts-same : {I : Type 0} {V : I → Type 0} {D : Type 0} {meaning : (x : I) × V x → Discipline} {rules : D → Rules} {shelf : Shelf I V} {session : Session D I V} {kinds : List D} → IsSessionOver meaning rules shelf session kinds → Lasts meaning rules shelf session kinds shelf session kinds
 lasts-same {meaning = meaning} {shelf = shelf} {session = session} stands =
@@ -53,25 +53,18 @@ module _ {I : Type 0} {V : I → Type 0} {D : Type 0} {meaning : (x : I) × V x 
     armed = λ on. next.armed (first.armed on);
   }
 
-  -- a session in which nothing is open is told whether it arms disciplines
-  pub arming-told : {shelf : Shelf I V} {session : Session D I V} {kinds : List D} (next : Session D I V) (on : Bool) → next ≡ record session { is_armed = on } → IsFresh session → IsSessionOver meaning rules shelf session kinds → LastsArming meaning rules shelf session kinds shelf next kinds
-  arming-told {shelf} {session} {kinds} next on is fresh stands =
-      subst (λ s. LastsArming meaning rules shelf session kinds shelf s kinds) (sym is)
-      (record {
+  -- a session that armed no discipline is told whether it arms them
+  pub arming-told : {shelf : Shelf I V} {session : Session D I V} {kinds : List D} (next : Session D I V) (on : Bool) → ArmsAll meaning on session next → session.is_armed ≡ false → IsSessionOver meaning rules shelf session kinds → LastsArming meaning rules shelf session kinds shelf next kinds
+  arming-told {shelf} {session} {kinds} next on arms unarmed stands =
+      let same : settled_over meaning shelf next ≡ settled_over meaning shelf session = arms-settled arms shelf in
+      record {
         lasts = record {
-          stands = record {
-            regions = record {
-              named = stands.regions.named;
-              held = subst (λ (hs : List (List ℕ × HomeEntry I V)). IsSession on (slots_on meaning shelf) (held_all meaning hs session.labels.items)) (sym fresh.nothing) tt;
-            };
-            dicts = stands.dicts;
-            views = stands.views;
-          };
+          stands = arms-stands arms rules shelf kinds stands;
           keeps_rules = refl;
-          accounts = keeps-same (settled_over meaning shelf session);
+          accounts = subst (KeepsAccounts (settled_over meaning shelf session)) (sym same) (keeps-same (settled_over meaning shelf session));
           armed = refl;
-          asked = λ off. refl;
+          asked = λ off. subst (SameAsked (settled_over meaning shelf session)) (sym same) refl;
           arms_none = λ n d at on. at;
         };
-        armed = λ armed. absurd (false≢true (sym fresh.unarmed ∙ armed));
-      })
+        armed = λ armed. absurd (false≢true (sym unarmed ∙ armed));
+      }

@@ -1,5 +1,5 @@
 -- A run at its beginning and in its middle, by the commands that it ran.
-use Rattle.std.specs.Prelude.{◌≡◌, ℕ, ◌<◌, ◌≤◌, List, [], Bool, false, Result, IfOk, IsTrue, OnOk, map}
+use Rattle.std.specs.Prelude.{◌≡◌, ℕ, ◌<◌, ◌≤◌, List, Bool, Result, IfOk, IsTrue, OnOk, map}
 use Rattle.std.specs.List.{AllByRecursion}
 use Rattle.vc_counts.specs.CanCount.{CanCount}
 use Rattle.vc_counts.specs.Counts.{live_bytes}
@@ -40,16 +40,11 @@ pub record Progress (quiet : Bool) (start now : Moment) (counts : Counts) (text 
 abbrev pub CanCountOn : Bool → Counts → State → ℕ → Type 0
 CanCountOn quiet counts s count = IsTrue quiet → (line : ℕ) → count < line → CanCount counts (live_bytes s) line
 
--- nothing is open in a session, and it arms no discipline
-pub record IsFresh {I : Type 0} {V : I → Type 0} {D : Type 0} (session : Session D I V) : Type 0 where
-  pub nothing : session.homes.entries ≡ []
-  pub unarmed : session.is_armed ≡ false
-
 -- a session that stands over a shelf and kinds can begin a run with these counts: of no command
 pub record CanBegin {I : Type 0} {V : I → Type 0} {D : Type 0} (quiet : Bool) (meaning : (x : I) × V x → Discipline) (rules : D → Rules) (shelf : Shelf I V) (session : Session D I V) (kinds : List D) (counts : Counts) : Type 0 where
   pub over : IsProperOver meaning rules shelf session kinds
   pub can : CanCountOn quiet counts (state_over meaning (rules_in rules kinds) shelf session) 0
-  pub zero : counts ≡ counts_of (nothing_ran (state_over meaning (rules_in rules kinds) shelf session))
+  pub zero : IsTrue quiet → counts ≡ counts_of (nothing_ran (state_over meaning (rules_in rules kinds) shelf session))
 
 -- what ran up to a line, where it ended well, did that, and if it was quiet it can count a command on any line behind
 pub record CountsOn {T E : Type 0} (quiet : Bool) (answer : Result T E) (counts : Counts) (now : Moment) (line : ℕ) (did : T → Type 0) : Type 0 where

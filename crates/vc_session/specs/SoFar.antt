@@ -13,7 +13,7 @@ use Rattle.vc_steps.specs.Moment.{Moment, over_sink}
 use Rattle.vc_steps.specs.State.{State}
 use Rattle.vc_steps.specs.declared.session.Session.{Session}
 use Rattle.vc_session.specs.Far.{RanPart}
-use Rattle.vc_session.specs.Progress.{CanCountOn, IsFresh, Progress}
+use Rattle.vc_session.specs.Progress.{CanCountOn, Progress}
 use Rattle.vc_session.specs.QuietText.{style_by}
 use Rattle.vc_session.specs.Replay.{ShowsNoFault, Stops}
 use Rattle.vc_write.specs.Told.{Told}
@@ -110,8 +110,8 @@ pub record CanFeed (s : Cutting) : Type 0 where
 pub record CanGoOn {I : Type 0} {V : I → Type 0} {D : Type 0} (quiet : Bool) (counts : Counts) (now : State) (session : Session D I V) (s : Cutting) : Type 0 where
   pub feeds : CanFeed s
   pub can_count : CanCountOn quiet counts now s.count
-  -- before the first line nothing is open
-  pub fresh : s.count ≡ 0 → IsFresh session
+  -- before the first line it arms no discipline
+  pub unarmed : s.count ≡ 0 → session.is_armed ≡ false
 
 -- the bytes that can still be taken without a fault
 abbrev pub fuel : Cutting → ℕ

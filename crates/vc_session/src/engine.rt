@@ -1,10 +1,10 @@
-ghost use Rattle.std.specs.Prelude.{◌≡◌, ◌==◌, [], None, Ok, Some, IsTrue, OnErr};
+ghost use Rattle.std.specs.Prelude.{◌≡◌, ◌==◌, [], None, Ok, Some, IsTrue, OnErr, false};
 ghost use Rattle.vc_counts.specs.CanCount.{CanCount};
 ghost use Rattle.vc_counts.specs.Counts.{live_bytes};
 ghost use Rattle.vc_script.specs.Answer.{answer};
 ghost use Rattle.vc_script.specs.Cutting.{new_cutting};
 ghost use Rattle.vc_session.specs.Engine.{LineRan, RunsLines};
-ghost use Rattle.vc_session.specs.Progress.{CanBegin, CountsOn, IsFresh};
+ghost use Rattle.vc_session.specs.Progress.{CanBegin, CountsOn};
 ghost use Rattle.vc_session.specs.SoFar.{CanGoOn, RunsLast, RunsPiece};
 ghost use Rattle.vc_session.specs.Streams.{flows};
 ghost use Rattle.vc_steps.specs.Homes.{IsSessionOver, state_over};
@@ -80,7 +80,7 @@ fn run_line<D: DictDisc>(
     replies: &mut Vec<u8>,
 ) -> Result<Option<LineFault>, OutOfMemory>
     requires session { IsSessionOver state D.rules shelf.old session.old kinds.old.items }
-    requires fresh { n ≡ 1 → IsFresh session.old }
+    requires unarmed { n ≡ 1 → session.old.is_armed ≡ false }
     requires counts { IsTrue quiet → CanCount counts.old (live_bytes
         (state_over state (rules_in D.rules kinds.old.items) shelf.old session.old)) n }
     ensures runs { RunsArming state D.rules D.gone shelf.old session.old kinds.old.items
@@ -133,7 +133,7 @@ fn run_piece<D: DictDisc>(
         (λ now next. RunsPiece tool quiet result
         (over_sink now (Some replies.old.items)) (over_sink next (Some replies.new.items))
         counts.old counts.new replies.new.items cutter.old cutter.new piece.now) }
-    ensures fresh { result ≡ Ok None → cutter.new.count ≡ 0 → IsFresh session.new }
+    ensures unarmed { result ≡ Ok None → cutter.new.count ≡ 0 → session.new.is_armed ≡ false }
 {
     let mut rest = piece;
     while !rest.is_empty() {
@@ -224,7 +224,7 @@ pub(crate) fn run_lines<D: DictDisc, S: Source, O: Sink>(
     replies: &mut Vec<u8>,
 ) -> Result<Option<(u32, LineFault)>, Stop>
     requires begins { CanBegin quiet state D.rules shelf.old session.old kinds.old.items counts.old }
-    requires fresh { IsFresh session.old }
+    requires unarmed { session.old.is_armed ≡ false }
     requires new { cutter.old ≡ new_cutting }
     requires none { replies.old.items ≡ [] }
     ensures { RunsArming state D.rules D.gone shelf.old session.old kinds.old.items

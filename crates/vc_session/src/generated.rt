@@ -1,4 +1,4 @@
-ghost use Rattle.std.specs.Prelude.{◌≡◌, ℕ, ◌<◌, ◌≤◌, ◌^◌, List, [], ◌++◌, Some, true, IfOk, IfSome, OnErr, OnOk, length, take};
+ghost use Rattle.std.specs.Prelude.{◌≡◌, ℕ, ◌<◌, ◌≤◌, ◌^◌, List, [], ◌++◌, Some, false, true, IfOk, IfSome, OnErr, OnOk, length, take};
 ghost use Rattle.std.specs.List.{AllByRecursion};
 ghost use Rattle.vc_base.specs.Prelude.{Rose};
 ghost use Rattle.vc_counts.specs.CanCount.{CanCount};
@@ -8,7 +8,7 @@ ghost use Rattle.vc_script.specs.Proper.{IsProperCommand};
 ghost use Rattle.vc_session.specs.Arming.{Keeps};
 ghost use Rattle.vc_session.specs.Engine.{IsStep, RunsGenerated};
 ghost use Rattle.vc_session.specs.Generating.{RunsCommands};
-ghost use Rattle.vc_session.specs.Progress.{CanBegin, CountsOn, IsFresh};
+ghost use Rattle.vc_session.specs.Progress.{CanBegin, CountsOn};
 ghost use Rattle.vc_session.specs.ProperState.{IsProperOver};
 ghost use Rattle.vc_write.specs.Told.{Told};
 ghost use Rattle.vc_steps.specs.Account.{ArmsNone};
@@ -128,7 +128,7 @@ fn run_commands<D: DictDisc, O: Sink>(
     Ok(line)
 }
 
-// Runs the commands over a session in which nothing is open, and writes what stands behind the replies.
+// Runs the commands over a session of regions without blocks that arms no discipline, and writes what stands behind the replies.
 fn run_all<D: DictDisc, O: Sink>(
     alloc: Global,
     tool: Tool,
@@ -140,7 +140,9 @@ fn run_all<D: DictDisc, O: Sink>(
     out: &mut O,
 ) -> Result<(), Stop>
     requires session { IsProperOver state D.rules shelf.old session.old kinds.old.items }
-    requires fresh { IsFresh session.old }
+    requires unarmed { session.old.is_armed ≡ false }
+    requires counts { live_bytes
+        (state_over state (rules_in D.rules kinds.old.items) shelf.old session.old) ≡ 0 }
     requires asked { words.now.generate ≡ Some n }
     requires most { n ≤ 1000000 }
     ensures { RunsOver state D.rules D.gone shelf.old session.old kinds.old.items

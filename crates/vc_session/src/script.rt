@@ -1,15 +1,15 @@
-ghost use Rattle.std.specs.Prelude.{◌≡◌, [], None, Some, length};
+ghost use Rattle.std.specs.Prelude.{◌≡◌, [], None, Some, IsTrue, false, length};
+ghost use Rattle.vc_counts.specs.Counts.{live_bytes};
 ghost use Rattle.vc_script.specs.Cutting.{new_cutting};
 ghost use Rattle.vc_session.specs.Arming.{IsFirst, Keeps, RunsArming};
 ghost use Rattle.vc_session.specs.Engine.{RunsOn, RunsScript};
-ghost use Rattle.vc_session.specs.Progress.{IsFresh};
 ghost use Rattle.vc_session.specs.ProperState.{IsProperOver};
 ghost use Rattle.vc_session.specs.Streams.{flows};
-ghost use Rattle.vc_session.specs.Text.{good_lines};
+ghost use Rattle.vc_session.specs.Text.{good_lines, is_quiet};
 ghost use Rattle.vc_steps.specs.Account.{ArmsNone};
-ghost use Rattle.vc_steps.specs.Homes.{slots_on};
+ghost use Rattle.vc_steps.specs.Homes.{slots_on, state_over};
 ghost use Rattle.vc_steps.specs.Moment.{moment_at_rest};
-ghost use Rattle.vc_steps.specs.Told.{KeepRules};
+ghost use Rattle.vc_steps.specs.Told.{KeepRules, rules_in};
 
 use crate::engine::{Stop, run_lines};
 use crate::tail::{gather_tail, is_quiet};
@@ -34,10 +34,11 @@ fn good_lines(bad: Option<(u32, LineFault)>, lines: u32) -> u32
     }
 }
 
-/// Runs the script that a source gives over a session in which nothing is open, and writes the replies and what stands
-/// behind them, by the words of a tool. It ends with the script or before its first bad line, which it answers with its
-/// number, from 1 on; or where a read or a write fails, or memory is wanting. The session is left as the script leaves it,
-/// for its caller to end; the cutter is a new one.
+/// Runs the script that a source gives over a session in which regions may be open, none of them armed, and writes the
+/// replies and what stands behind them, by the words of a tool. It ends with the script or before its first bad line, which
+/// it answers with its number, from 1 on; or where a read or a write fails, or memory is wanting. The session is left as
+/// the script leaves it, for its caller to end; the cutter is a new one. A quiet run counts from 0 on, so it begins over
+/// regions without blocks.
 pub fn run_script<D: DictDisc, S: Source, O: Sink>(
     alloc: Global,
     tool: Tool,
@@ -50,7 +51,9 @@ pub fn run_script<D: DictDisc, S: Source, O: Sink>(
     cutter: &mut LineCutter,
 ) -> Result<Option<(u32, LineFault)>, Stop>
     requires session { IsProperOver state D.rules shelf.old session.old kinds.old.items }
-    requires fresh { IsFresh session.old }
+    requires unarmed { session.old.is_armed ≡ false }
+    requires counts { IsTrue (is_quiet words.now) → live_bytes
+        (state_over state (rules_in D.rules kinds.old.items) shelf.old session.old) ≡ 0 }
     requires new { cutter.old ≡ new_cutting }
     ensures { RunsArming state D.rules D.gone shelf.old session.old kinds.old.items
         shelf.new session.new kinds.new.items

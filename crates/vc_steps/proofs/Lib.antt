@@ -3,6 +3,7 @@ pub mod Cells
 pub mod RegionChange
 pub mod CloseLeaves
 pub mod Unarmed
+pub mod ArmedRegions
 pub mod CutOff
 pub mod DictChange
 pub mod DictEnd

@@ -10,7 +10,7 @@ use Rattle.vc_steps.specs.declared.session.Session.{Session}
 use Rattle.vc_views.specs.Numbers.{AreLinked}
 
 -- without links and dictionaries nothing is linked
-no-link : (k n : ℕ) → link_at (slice_get (replicate k None) n) ≡ None
+pub no-link : (k n : ℕ) → link_at (slice_get (replicate k None) n) ≡ None
 no-link zero n = refl
 no-link (suc k) zero = refl
 no-link (suc k) (suc n) = no-link k n

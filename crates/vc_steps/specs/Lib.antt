@@ -20,6 +20,7 @@ pub mod Refusals
 pub mod Steps
 pub mod DictRuns
 pub mod Closes
+pub mod Arms
 pub use Rattle.vc_script.specs.Answer
 pub use Rattle.vc_script.specs.Judged
 pub use Rattle.vc_script.specs.Needs

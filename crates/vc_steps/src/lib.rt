@@ -1,6 +1,7 @@
 //! One step of a session: a command on its open regions and dictionaries, over a shelf and kinds.
 #![tactic(auto)]
 
+mod arming;
 mod close;
 mod dict_open;
 mod dict_run;

@@ -2,6 +2,7 @@ ghost use Rattle.std.specs.Prelude.{◌≡◌, ◌⊎◌, ◌==◌, ◌&&◌, []
 ghost use Rattle.vc_dtdisc.specs.Rules.{Gone, Rules};
 ghost use Rattle.vc_commands.specs.Answered.{answered};
 ghost use Rattle.vc_steps.specs.Account.{ArmsNone};
+ghost use Rattle.vc_steps.specs.Arms.{ArmsAll};
 ghost use Rattle.vc_steps.specs.Homes.{HoldsDicts, HoldsRegions, IsSessionOver, KeepsRegions, StandsOverAny, accounts_on, settled_over, slots_on, state_over};
 ghost use Rattle.vc_steps.specs.DictHomes.{lies_in};
 ghost use Rattle.vc_steps.specs.Dicts.{dict_of};
@@ -11,6 +12,7 @@ ghost use Rattle.vc_steps.specs.Step.{is_clear, region_of_command, shelf_step, s
 ghost use Rattle.vc_steps.specs.Steps.{Lasts, Stays, StepsBy};
 ghost use Rattle.vc_steps.specs.Told.{KeepRules, ended_told, gone_in, rules_in, tell};
 
+use crate::arming::arm;
 use indexmap::IndexMap;
 use std::alloc::Global;
 use std::marker::PhantomData;
@@ -88,28 +90,52 @@ impl<D: DictDisc> Session<D> {
         ensures unarmed { IfOk result (λ s. s.is_armed ≡ false) }
     {
         let _ = tool;
-        Ok(Session {
+        let paths = Paths::new(alloc)?;
+        Ok(Session::of_parts(alloc, homes, Vec::new(alloc), IndexMap::new(alloc), paths))
+    }
+
+    /// A session with these regions open, the names of the blocks of each in the same order, these dictionaries and these
+    /// view paths. It arms no discipline. That it stands over a shelf and kinds is for its caller to show.
+    pub fn of_parts(
+        alloc: Global,
+        homes: IndexMap<Name, HomeEntry>,
+        labels: Vec<Labels>,
+        dicts: IndexMap<Name, DictEntry>,
+        paths: Paths,
+    ) -> Session<D>
+        ensures homes { result.homes.entries ≡ homes.entries }
+        ensures labels { result.labels.items ≡ labels.items }
+        ensures dicts { result.dicts.entries ≡ dicts.entries }
+        ensures paths { result.paths ≡ paths }
+        ensures memory { result.is_spent ≡ false }
+        ensures unarmed { result.is_armed ≡ false }
+    {
+        Session {
             homes,
-            dicts: IndexMap::new(alloc),
-            paths: Paths::new(alloc)?,
-            labels: Vec::new(alloc),
+            dicts,
+            paths,
+            labels,
             alloc,
             is_spent: false,
             is_armed: false,
             last_region: 0,
             last_dict: 0,
             kind: PhantomData,
-        })
+        }
     }
 
     /// Takes the version of the script, 1 or 2, before the first step: in version 2 the disciplines of its regions are armed
-    /// while these are open, so that one that refuses may make an exception. A new session is for version 1.
+    /// while these are open, so that one that refuses may make an exception. Regions may be open already: theirs are armed,
+    /// or unarmed, as those of later ones are. A new session is for version 1.
     pub fn set_version(&mut self, version: u32)
         requires version { (version ≡ 1) ⊎ (version ≡ 2) }
-        requires nothing { self.old.homes.entries ≡ [] }
-        ensures { self.new ≡ record self.old { is_armed = version == 2 } }
+        ensures { ArmsAll state (version == 2) self.old self.new }
     {
-        self.is_armed = version == 2;
+        let on = version == 2;
+        self.is_armed = on;
+        for i in 0..self.homes.len() {
+            arm(&mut self.homes[i], on);
+        }
     }
 
     /// Whether it arms the disciplines of its regions: in version 2.

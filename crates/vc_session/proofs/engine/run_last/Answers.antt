@@ -6,10 +6,10 @@ use Rattle.vc_steps.proofs.SettledShelf.{keeps-same}
 use Rattle.vc_session.proofs.SoFar.{end-count, end-none, end-same, end-whole, so_far-end_bad, so_far-end_good, so_far-end_none, so_far-none}
 use Rattle.vc_session.proofs.engine.run_last.Goals as goal
 
-pub run_line-requires-clause-fresh : goal.run_line-requires-clause-fresh
-run_line-requires-clause-fresh g c =
+pub run_line-requires-clause-unarmed : goal.run_line-requires-clause-unarmed
+run_line-requires-clause-unarmed g c =
     let follows = end-count c.args.cutter.now c.end.new.self c.end.result c.end.ensures.state c.end.ensures.cut c.in-Whole.is in
-    λ first. c.requires.goes_on.fresh (omega (arith, first, c.number.ensures.value, follows))
+    λ first. c.requires.goes_on.unarmed (omega (arith, first, c.number.ensures.value, follows))
 
 pub run_line-requires-clause-counts : goal.run_line-requires-clause-counts
 run_line-requires-clause-counts g c =

@@ -7,7 +7,8 @@ use Rattle.vc_session.proofs.QuietCounts.{can-on}
 use Rattle.vc_session.proofs.SessionLasts.{arming-of, arming-same, arming-told}
 use Rattle.vc_steps.proofs.SettledShelf.{settles-same}
 use Rattle.vc_session.proofs.RunMiddle.{first-version}
-use Rattle.vc_steps.specs.Homes.{settled_over, state_over}
+use Rattle.vc_steps.proofs.ArmedRegions.{arms-settled, arms-state}
+use Rattle.vc_steps.specs.Homes.{state_over}
 use Rattle.vc_steps.specs.Told.{rules_in}
 use Rattle.vc_session.proofs.engine.run_line.Given as given
 use Rattle.vc_session.proofs.engine.run_line.Goals as goal
@@ -73,20 +74,20 @@ returns-in-Version-clause-runs g c =
     let on : Bool = version == 2 in
     let proper : IsProperAnswer (c.args.n == 1) (Version version) = rw c.in-Version.is at (rw c.in-Ok.is at c.read_into.ensures.proper) in
     let first : c.args.n ≡ 1 = eqb-true c.args.n 1 (first-version (c.args.n == 1) version proper) in
-    let fresh = c.requires.fresh first in
-    let state : state_over M kinds shelf c.set_version.new.self ≡ state_over M kinds shelf c.args.session.now = ap (λ s. state_over M kinds shelf s) c.set_version.ensures in
+    let unarmed = c.requires.unarmed first in
+    let state : state_over M kinds shelf c.set_version.new.self ≡ state_over M kinds shelf c.args.session.now = arms-state c.set_version.ensures kinds shelf in
     record {
-      lasts = arming-told c.set_version.new.self on c.set_version.ensures fresh c.requires.session;
+      lasts = arming-told c.set_version.new.self on c.set_version.ensures unarmed c.requires.session;
       runs = record {
         ran =
             rw (sym (rw c.in-Ok.is at c.read_into.ensures.value) ∙ c.in-Version.is) (
               refl,
               record {
                 first = first;
-                armed = ap (λ s. s.is_armed) c.set_version.ensures;
+                armed = ap (λ s. s.is_armed) c.set_version.ensures.rest;
                 state = state;
                 told = refl;
-                accounts = ap (λ s. settled_over M shelf s) c.set_version.ensures;
+                accounts = arms-settled c.set_version.ensures shelf;
                 gone = refl;
                 same_counts = refl;
               },

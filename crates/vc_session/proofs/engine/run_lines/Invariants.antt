@@ -1,8 +1,8 @@
-use Rattle.vc_base.proofs.Common.{◌≡◌, ℕ, ◌≤◌, List, [], length}
+use Rattle.vc_base.proofs.Common.{◌≡◌, ℕ, ◌≤◌, false, List, [], length}
 use Rattle.vc_steps.specs.Moment.{moment, over_sink}
 use Rattle.vc_write.specs.Told.{Told}
 use Rattle.vc_session.specs.SoFar.{CanFeed, SoFar, fuel}
-use Rattle.vc_session.specs.Progress.{CanCountOn, IsFresh}
+use Rattle.vc_session.specs.Progress.{CanCountOn}
 use Rattle.vc_steps.specs.Homes.{state_over}
 use Rattle.vc_session.specs.Arming.{LastsArming}
 use Rattle.vc_steps.specs.Told.{rules_in}
@@ -16,7 +16,7 @@ invariant-loop-n g l =
       none : l.replies.items ≡ [];
       feeds : CanFeed l.cutter;
       lasts : LastsArming (λ z. (goal.SegDisc-dyn g z).state z.1) g.D.DictDisc.rules l.fn.shelf l.fn.session l.fn.kinds.items l.shelf l.session l.kinds.items;
-      fresh : l.cutter.count ≡ 0 → IsFresh l.session;
+      unarmed : l.cutter.count ≡ 0 → l.session.is_armed ≡ false;
       text : List ℕ;
       counts : CanCountOn l.quiet l.counts (state_over (λ z. (goal.SegDisc-dyn g z).state z.1) (rules_in g.D.DictDisc.rules l.kinds.items) l.shelf l.session) l.cutter.count;
       so_far : SoFar l.tool l.quiet

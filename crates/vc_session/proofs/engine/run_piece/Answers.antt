@@ -12,7 +12,7 @@ loop-rest-init g c = record {
   feeds = c.requires.goes_on.feeds;
   lasts = arming-same c.requires.session;
   counts = c.requires.goes_on.can_count;
-  fresh = c.requires.goes_on.fresh;
+  unarmed = c.requires.goes_on.unarmed;
   goes_on = record { on = λ r. so_far-none _ c.requires.none r };
   less = omega arith;
 }
@@ -27,7 +27,7 @@ loop-rest-preserved-in-More g c =
     (record {
       feeds = record { is_open = subst IsTrue (sym kept.fed) inv.feeds.is_open; cutting = kept.cutting };
       lasts = inv.lasts;
-      fresh = λ none. inv.fresh (sym (more-count c.loop-rest.cutter c.loop-rest.rest.now next c.feed-cut.result.1 inv.feeds.cutting e) ∙ none);
+      unarmed = λ none. inv.unarmed (sym (more-count c.loop-rest.cutter c.loop-rest.rest.now next c.feed-cut.result.1 inv.feeds.cutting e) ∙ none);
       counts = can-same _ _ _ _ _ (more-count c.loop-rest.cutter c.loop-rest.rest.now next c.feed-cut.result.1 inv.feeds.cutting e) inv.counts;
       goes_on = record { on = λ r. so_far-more next c.feed-cut.result.1 inv.feeds.cutting (inv.goes_on.on r) e };
       less = omega (arith, inv.less, kept.less, c.feed-cut.ensures.within, length-drop c.feed-cut.result.1 c.loop-rest.rest.now);
@@ -53,7 +53,7 @@ returns-in-Bad g c =
           far_wanting = tt;
         };
       };
-      fresh = λ is. absurd (cc is);
+      unarmed = λ is. absurd (cc is);
     }
 
 pub returns-in-Some : goal.returns-in-Some
@@ -79,7 +79,7 @@ returns-in-Some g c =
           far_wanting = tt;
         };
       };
-      fresh = λ is. absurd (cc is);
+      unarmed = λ is. absurd (cc is);
     }
 
 pub loop-rest-preserved : goal.loop-rest-preserved
@@ -93,18 +93,18 @@ loop-rest-preserved g c =
     (record {
       feeds = record { is_open = subst IsTrue (sym kept.fed) inv.feeds.is_open; cutting = kept.cutting };
       lasts = arming-trans inv.lasts c.run_line.ensures.runs.lasts;
-      fresh = λ none. absurd (omega (arith, none, whole-count c.loop-rest.cutter c.loop-rest.rest.now next c.feed-cut.result.1 inv.feeds.cutting e));
+      unarmed = λ none. absurd (omega (arith, none, whole-count c.loop-rest.cutter c.loop-rest.rest.now next c.feed-cut.result.1 inv.feeds.cutting e));
       counts = rw c.number-in-Whole.ensures.value at c.in_ok-fault-in-Whole.ensures.runs.runs.can;
       goes_on = record { on = λ r. so_far-line _ _ _ _ next c.feed-cut.result.1 refl refl inv.feeds.cutting (inv.goes_on.on r) e ran };
       less = omega (arith, inv.less, kept.less, c.feed-cut.ensures.within, length-drop c.feed-cut.result.1 c.loop-rest.rest.now);
     })
 
-pub run_line-requires-clause-fresh : goal.run_line-requires-clause-fresh
-run_line-requires-clause-fresh g c =
+pub run_line-requires-clause-unarmed : goal.run_line-requires-clause-unarmed
+run_line-requires-clause-unarmed g c =
     let inv = c.loop-rest.invariant in
     let next = c.feed-cut.new.self in
     let e = fed-is c.loop-rest.cutter c.loop-rest.rest.now next _ _ c.feed-cut.result.1 c.feed-cut.ensures.fed c.in-Whole.is in
-    λ first. inv.fresh (omega (arith, first, c.number-in-Whole.ensures.value, whole-count c.loop-rest.cutter c.loop-rest.rest.now next c.feed-cut.result.1 inv.feeds.cutting e))
+    λ first. inv.unarmed (omega (arith, first, c.number-in-Whole.ensures.value, whole-count c.loop-rest.cutter c.loop-rest.rest.now next c.feed-cut.result.1 inv.feeds.cutting e))
 
 pub run_line-requires-clause-counts : goal.run_line-requires-clause-counts
 run_line-requires-clause-counts g c =
@@ -129,5 +129,5 @@ returns-in_err-fault-in-Whole g c =
           far_wanting = on_err _ _ (goes-far-on _ _ _ inv.goes_on c.in_err-fault-in-Whole.ensures.same c.in_err-fault-in-Whole.ensures.armed c.run_line.ensures.runs.lasts.lasts.accounts);
         };
       };
-      fresh = search rules;
+      unarmed = search rules;
     }

@@ -1,7 +1,7 @@
-use Rattle.vc_base.proofs.Common.{◌≡◌, ◌+◌, ◌≤◌, length, Some}
+use Rattle.vc_base.proofs.Common.{◌≡◌, ◌+◌, ◌≤◌, false, length, Some}
 use Rattle.vc_steps.specs.Moment.{moment, over_sink}
 use Rattle.vc_session.specs.SoFar.{CanFeed, GoesOn, fuel}
-use Rattle.vc_session.specs.Progress.{CanCountOn, IsFresh}
+use Rattle.vc_session.specs.Progress.{CanCountOn}
 use Rattle.vc_steps.specs.Homes.{state_over}
 use Rattle.vc_session.specs.Arming.{LastsArming}
 use Rattle.vc_steps.specs.Told.{rules_in}
@@ -13,7 +13,7 @@ invariant-loop-rest g l =
     record {
       feeds : CanFeed l.cutter;
       lasts : LastsArming (λ z. (goal.SegDisc-dyn g z).state z.1) g.D.DictDisc.rules l.fn.shelf l.fn.session l.fn.kinds.items l.shelf l.session l.kinds.items;
-      fresh : l.cutter.count ≡ 0 → IsFresh l.session;
+      unarmed : l.cutter.count ≡ 0 → l.session.is_armed ≡ false;
       counts : CanCountOn l.quiet l.counts (state_over (λ z. (goal.SegDisc-dyn g z).state z.1) (rules_in g.D.DictDisc.rules l.kinds.items) l.shelf l.session) l.cutter.count;
       goes_on : GoesOn l.tool l.quiet
           (over_sink (moment (λ z. (goal.SegDisc-dyn g z).state z.1) g.D.DictDisc.rules g.D.DictDisc.gone l.fn.shelf l.fn.session l.fn.kinds.items) (Some l.fn.replies.items))

@@ -12,7 +12,7 @@ pub loop-command-init : goal.loop-command-init
 loop-command-init g c = record {
   lasts = lasts-same c.requires.begins.over.stands;
   can = c.requires.begins.can;
-  generating = generating-start _ _ _ _ _ c.requires.begins.over.proper c.requires.begins.zero c.requires.none;
+  generating = generating-start _ _ _ _ _ c.requires.begins.over.proper (c.requires.begins.zero refl) c.requires.none;
   writes = omega arith;
 }
 

@@ -3,7 +3,9 @@ use Rattle.vc_steps.specs.Account.{KeepsAccounts, SameAsked}
 use Rattle.vc_steps.specs.Moment.{Moment, moment_at_end, moment, moment_at_rest}
 use Rattle.vc_steps.proofs.SettledShelf.{keeps-same}
 use Rattle.vc_session.proofs.GeneratedCuts.{cuts-generated}
+use Rattle.vc_session.proofs.QuietCounts.{busy-none}
 use Rattle.vc_session.proofs.SoFar.{on_err}
+use Rattle.vc_steps.specs.Told.{rules_in}
 use Rattle.vc_session.proofs.GeneratedRun.{asked-most, generated-rests, if_some}
 use Rattle.vc_session.proofs.Rest.{new-moment, new-session}
 use Rattle.vc_session.proofs.generated.run_generated.Given as given
@@ -16,8 +18,8 @@ pub run_all-ended-requires-clause-session : goal.run_all-ended-requires-clause-s
 run_all-ended-requires-clause-session g c =
     new-session (meaning g) g.D.DictDisc.rules g.D.DictDisc.gone c.args.shelf.now c.in_ok-session.session c.args.kinds.now.items c.in_ok-session.ensures.none
 
-pub run_all-ended-requires-clause-fresh : goal.run_all-ended-requires-clause-fresh
-run_all-ended-requires-clause-fresh g c = record { nothing = c.in_ok-session.ensures.none.0; unarmed = c.in_ok-session.ensures.unarmed }
+pub run_all-ended-requires-clause-counts : goal.run_all-ended-requires-clause-counts
+run_all-ended-requires-clause-counts g c = busy-none (meaning g) (rules_in g.D.DictDisc.rules c.args.kinds.now.items) c.args.shelf.now c.in_ok-session.session c.in_ok-session.ensures.none.0
 
 pub run_all-ended-requires-clause-most : goal.run_all-ended-requires-clause-most
 run_all-ended-requires-clause-most g c = asked-most c.args.asked.now.words.generate c.in-Some.n c.in-Some.is c.args.asked.now.in_range

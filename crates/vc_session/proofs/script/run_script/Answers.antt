@@ -1,9 +1,27 @@
-use Rattle.vc_base.proofs.Common.{refl, arith, rules}
+use Rattle.vc_base.proofs.Common.{◌≡◌, IsTrue, refl, ◌∙◌, subst, arith, Discipline, rules}
+use Rattle.vc_counts.specs.Counts.{live_bytes}
+use Rattle.vc_session.proofs.QuietCounts.{can-first, counts-first}
+use Rattle.vc_steps.specs.Homes.{state_over}
+use Rattle.vc_steps.specs.Told.{rules_in}
+use Rattle.vc_session.proofs.script.run_script.Given as given
 use Rattle.vc_session.proofs.Behind.{script-told}
 use Rattle.vc_session.proofs.Broken.{script-failed, tail-cut, tail-not_ahead, tail-wanting}
 use Rattle.vc_session.proofs.SoFar.{if_err, on_err}
 use Rattle.vc_session.specs.declared.engine.Stop.TheVariants.{Memory}
 use Rattle.vc_session.proofs.script.run_script.Goals as goal
+
+abbrev meaning : (g : given.Over) → (x : g.dyn-1.0.I) × (g.dyn-1.0.entry x).0.Denot → Discipline
+meaning g p = (g.dyn-1.0.entry p.0).1.state p.1
+
+pub run_lines-ran-requires-clause-begins : goal.run_lines-ran-requires-clause-begins
+run_lines-ran-requires-clause-begins g c =
+    let now = state_over (meaning g) (rules_in g.D.DictDisc.rules c.args.kinds.now.items) c.args.shelf.now c.args.session.now in
+    let none : IsTrue c.is_quiet.result → live_bytes now ≡ 0 = λ quiet. c.requires.counts (subst (λ b. IsTrue b) c.is_quiet.ensures quiet) in
+    record {
+      over = c.requires.session;
+      can = rw c.new-counts.ensures (λ quiet. can-first c.is_quiet.result now (none quiet) quiet);
+      zero = λ quiet. c.new-counts.ensures ∙ counts-first now (none quiet);
+    }
 
 pub returns : goal.returns
 returns g c =

@@ -4,7 +4,9 @@ use Rattle.vc_steps.specs.Moment.{Moment, moment_at_end, moment, moment_at_rest}
 use Rattle.vc_steps.proofs.SettledShelf.{keeps-same}
 use Rattle.vc_session.proofs.Broken.{cuts-source}
 use Rattle.vc_session.proofs.HowFar.{first-arms, unarmed-arms}
+use Rattle.vc_session.proofs.QuietCounts.{busy-none}
 use Rattle.vc_session.proofs.SoFar.{on_err}
+use Rattle.vc_steps.specs.Told.{rules_in}
 use Rattle.vc_session.proofs.Rest.{new-moment, new-session, runs-rest}
 use Rattle.vc_session.proofs.script.run_source.Given as given
 use Rattle.vc_session.proofs.script.run_source.Goals as goal
@@ -16,8 +18,8 @@ pub run_script-ended-requires-clause-session : goal.run_script-ended-requires-cl
 run_script-ended-requires-clause-session g c =
     new-session (meaning g) g.D.DictDisc.rules g.D.DictDisc.gone c.args.shelf.now c.in_ok-session.session c.args.kinds.now.items c.in_ok-session.ensures.none
 
-pub run_script-ended-requires-clause-fresh : goal.run_script-ended-requires-clause-fresh
-run_script-ended-requires-clause-fresh g c = record { nothing = c.in_ok-session.ensures.none.0; unarmed = c.in_ok-session.ensures.unarmed }
+pub run_script-ended-requires-clause-counts : goal.run_script-ended-requires-clause-counts
+run_script-ended-requires-clause-counts g c = λ quiet. busy-none (meaning g) (rules_in g.D.DictDisc.rules c.args.kinds.now.items) c.args.shelf.now c.in_ok-session.session c.in_ok-session.ensures.none.0
 
 pub returns : goal.returns
 returns g c =
