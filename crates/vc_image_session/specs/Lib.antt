@@ -1,0 +1,5 @@
+pub mod Copies
+pub mod Entries
+pub mod Names
+pub mod Opens
+pub mod State
