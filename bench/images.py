@@ -1,7 +1,7 @@
 #!/usr/bin/env python3
 """Damages an image and counts what vmimage tells: python3 bench/images.py [IMAGE [PROGRAM]], run by hand; or times it on a
 large one: python3 bench/images.py speed [N [PROGRAM]]; or saves what scripts leave and compares: python3 bench/images.py
-saves [N [PROGRAM]].
+saves [N [PROGRAM]]; or runs scripts over images and compares: python3 bench/images.py runs [N [PROGRAM]].
 
 The image is examples/fruit.image and the program bin/vmimage where none is named. Each byte in turn becomes up to three
 others, and each word of four bytes up to five other numbers; then the file is cut at each of its bytes. It prints how many
@@ -16,6 +16,10 @@ The scripts are N random ones, 1,000 where N isn't named, of one or two regions 
 kind, with views, turns and refusals. What vmimage save prints is what dtrun prints, the image is sound, and what vmimage show
 prints of it is what stat, segments, blocks and walk reply at the script's end, but for the names of blocks. The first script
 where that fails is printed, and ends it with status 1.
+
+Scripts that are run over images are such ones of one region, cut into two to four pieces. Each piece is run by vmimage run over
+the image that the one before it left, under the names that the image gives, and every reply is that of dtrun to the script
+in one go.
 """
 import collections
 import ctypes
@@ -155,6 +159,65 @@ def saved_alike(rng, save, path):
     return alike, lines
 
 
+def renamed(text, names):
+    """A text with other names, by a table of them."""
+    return re.sub(r"[a-z][a-z0-9]*", lambda word: names.get(word[0], word[0]), text)
+
+
+def continued_alike(rng, program, path):
+    """Whether a random script in pieces, each run over the image that the one before it left, is answered as in one go, and the
+    script. A name is that of the script in one go, or over an image the one that it has there."""
+    dtrun = os.path.join(os.path.dirname(program), "dtrun")
+
+    def run(words, lines):
+        text = "".join(line + "\n" for line in lines)
+        return subprocess.run(words, input=text, capture_output=True, text=True, timeout=20).stdout.split("\n")[:-1]
+
+    def placed(reply):
+        return {place: name for name, place in re.findall(r" ([^*@ ]+)@([0-9:]+)", reply)}
+
+    done, names, dicts = ["open r best 1"], {}, []
+    run([program, "save", path], done)
+    for _ in range(rng.randrange(2, 5)):
+        # Names of dictionaries begin with e, so that none is one of an image; no other region is open.
+        piece = [re.sub(r"\bd([0-5])\b", r"e\1", line_of(rng)) for _ in range(rng.randrange(1, 60))]
+        piece = [line for line in piece if not re.search(r"\bs\b", line)]
+        replies = run([dtrun], done + piece)[len(done) :]
+        for line, reply in zip(piece, replies):
+            words = line.split()
+            if words[0] == "dict" and reply == f"{words[1]} open":
+                dicts.append(words[1])
+            if words[0] == "shut" and reply == f"{words[1]} shut":
+                dicts.remove(words[1])
+        # Views aren't saved.
+        piece += [f"view {d} -" for d in dicts]
+        replies = run([dtrun], done + piece)[len(done) :]
+        there = run([program, "run", path], [renamed(line, names) for line in piece])
+        back = {other: name for name, other in names.items()}
+        done += piece
+        if [renamed(reply, back) for reply in there] != replies:
+            return False, done
+        blocks = placed(run([dtrun], done + ["blocks r"])[-1])
+        tags = placed(run([program, "show", path], [])[2])
+        names = {blocks[place]: f"b{tag}" for place, tag in tags.items()}
+        names.update({d: f"d{n + 1}" for n, d in enumerate(dicts)})
+    return True, done
+
+
+def runs(count, program):
+    """Runs random scripts in pieces over images."""
+    folder = tempfile.mkdtemp()
+    path = os.path.join(folder, "image")
+    for seed in range(count):
+        alike, lines = continued_alike(random.Random(seed), program, path)
+        if not alike:
+            print("\n".join(lines))
+            sys.exit(f"script {seed} isn't run over images as in one go: {path} is left")
+        os.remove(path)
+    os.rmdir(folder)
+    print(f"{count} scripts: each is answered over images as in one go")
+
+
 def saves(count, program):
     """Saves what random scripts leave."""
     folder = tempfile.mkdtemp()
@@ -171,8 +234,9 @@ def saves(count, program):
 
 def main():
     words = sys.argv[1:] + [None, None, None]
-    if words[0] == "saves":
-        return saves(int(words[1] or 1000), words[2] or os.path.join(HERE, "..", "bin", "vmimage"))
+    if words[0] in ("saves", "runs"):
+        check = saves if words[0] == "saves" else runs
+        return check(int(words[1] or 1000), words[2] or os.path.join(HERE, "..", "bin", "vmimage"))
     if words[0] == "speed":
         return speed(int(words[1] or 300_000), words[2] or os.path.join(HERE, "..", "bin", "vmimage"))
     source = words[0] or os.path.join(HERE, "..", "examples", "fruit.image")

@@ -70,3 +70,27 @@ check "vmimage save: a script that is refused leaves the older image" \
     same "$(echo frob | "$image" save saved.image 2>&1; echo "status $? $(cmp saved.image "$fruit" && echo saved*)")" \
     "vmimage: line 1: unknown command
 status 7 saved.image"
+
+# A script over an image: it goes on where the one before it ended.
+printf 'VCIMAGE1\0\0\0\0\0\0\0\0\0\0\0\0' > run.image
+check "vmimage run: over an image in which nothing lies" \
+    same "$(printf 'dict a oset r 1\ninsert a pear\nalloc r x 9\n' | "$image" run run.image 2>&1; echo "status $?")" \
+    "a open
+new pear
+x 1:96
+status 0"
+check "vmimage run: over what that left, by the names of the image" \
+    same "$(printf 'insert d1 fig\nblocks r\nfree r b1\nwalk d1\n' | "$image" run run.image 2>&1; echo "status $?")" \
+    "new fig
+blocks 3 *@1:32+36 b1@1:96+9 *@1:128+35
+b1 freed
+2 fig pear
+status 0"
+check "vmimage run: the image of that" same "$("$image" show run.image | tail -n 2)" "blocks 2 *@1:32+36 *@1:128+35
+2 fig pear"
+cp run.image kept.image
+check "vmimage run: a script that is refused leaves the older image" \
+    same "$(printf 'insert d1 plum\nfrob\n' | "$image" run run.image 2>&1; echo "status $? $(cmp run.image kept.image && ls run*)")" \
+    "new plum
+vmimage: line 2: unknown command
+status 7 run.image"

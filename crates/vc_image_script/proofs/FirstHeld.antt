@@ -12,7 +12,8 @@ use Rattle.vc_commands.specs.RegionRun.{held_of}
 use Rattle.vc_dict.specs.declared.dict.Dict.{Dict}
 use Rattle.vc_dict.proofs.HeadLemmas.{dict-again}
 use Rattle.vc_dict.specs.Listed.{holders_of}
-use Rattle.vc_image_script.specs.Copies.{copies_in, copy_of}
+use Rattle.vc_image_script.specs.Copies.{copies_in}
+use Rattle.vc_image_session.specs.Copies.{copy_of}
 use Rattle.vc_commands.specs.Home.{Home, Label}
 use Rattle.vc_image_script.specs.Found.{HasOtherFirst, IsFirstImage}
 use Rattle.vc_image_script.specs.Image.{IsFirstOf, IsImageOf}

@@ -1,3 +1,4 @@
 pub mod Copied
 pub mod FirstHeld
 pub mod Ended
+pub mod Overs

@@ -4,13 +4,9 @@ use Rattle.std.specs.List.{flat_map}
 use Rattle.std.specs.Str.{bytes_eq}
 use Rattle.vc_commands.specs.declared.dict.entry.DictEntry.{DictEntry}
 use Rattle.vc_dict.specs.declared.dict.Dict.{Dict}
-use Rattle.vc_dict.specs.Parts.{dict_by, heads_in}
+use Rattle.vc_image_session.specs.Copies.{copy_of}
 
--- a dictionary made of the numbers of another one
-abbrev pub copy_of : Dict → Dict
-copy_of d = dict_by d.method d.kind d.count d.current (heads_in d)
-
--- that of an entry, where it lies in the region of that name
+-- a copy of the dictionary of an entry, where it lies in the region of that name
 abbrev pub copies_of : List ℕ → DictEntry → List Dict
 copies_of region entry = if bytes_eq entry.home region then copy_of entry.dict ∷ [] else []
 

@@ -1,17 +1,18 @@
 ghost use Rattle.std.specs.Prelude.{◌≡◌, ◌++◌, ◌∷◌, [], IfOk, OnOk};
-ghost use Rattle.vc_image_script.specs.Copies.{copies_in, copies_of, copy_of};
+ghost use Rattle.vc_image_script.specs.Copies.{copies_in, copies_of};
+ghost use Rattle.vc_image_session.specs.Copies.{copy_of};
 
 use std::alloc::Global;
 use vc_base::{Name, OutOfMemory};
 use vc_dict::{Dict, Dicts};
+use vc_image_session::copy_of;
 use vc_session::{DictEntry, Session};
 
 // Puts a copy of a dictionary behind the others.
 fn add(copies: &mut Dicts, dict: &Dict) -> Result<(), OutOfMemory>
     ensures { OnOk result (copies.new ≡ copies.old ++ copy_of dict.now ∷ []) }
 {
-    let heads = dict.heads();
-    match copies.add(Dict::from_parts(dict.method, dict.kind, dict.count, dict.current, heads)) {
+    match copies.add(copy_of(dict)) {
         Ok(()) => Ok(()),
         Err((refused, _)) => Err(refused),
     }

@@ -1,9 +1,8 @@
-ghost use Rattle.std.specs.Prelude.{◌≡◌, None, map};
+ghost use Rattle.std.specs.Prelude.{◌≡◌, None, false, map};
 ghost use Rattle.vc_image_script.specs.Promises.{Saves};
 ghost use Rattle.vc_script.specs.Cutting.{new_cutting};
 ghost use Rattle.vc_script.specs.declared.tool.Tool.TheVariants.{Dtrun};
 ghost use Rattle.vc_session.specs.Arming.{IsFirst, Keeps, RunsArming};
-ghost use Rattle.vc_session.specs.Progress.{IsFresh};
 ghost use Rattle.vc_session.specs.ProperState.{IsProperOver};
 ghost use Rattle.vc_session.specs.Streams.{flows};
 ghost use Rattle.vc_steps.specs.Account.{ArmsNone};
@@ -30,8 +29,8 @@ const PLAIN: Words = Words {
     seed: 0,
 };
 
-// Runs a script over a session in which nothing is open, and makes the image of the first region that it leaves open.
-fn run_and_save<D: DictDisc, S: Source, O: Sink>(
+// Runs a script over a session that arms no discipline yet, and makes the image of the first region that it leaves open.
+pub(crate) fn run_and_save<D: DictDisc, S: Source, O: Sink>(
     alloc: Global,
     session: &mut Session<D>,
     shelf: &mut Shelf,
@@ -41,7 +40,7 @@ fn run_and_save<D: DictDisc, S: Source, O: Sink>(
     cutter: &mut LineCutter,
 ) -> Result<MemSink, ScriptFault>
     requires session { IsProperOver state D.rules shelf.old session.old kinds.old.items }
-    requires fresh { IsFresh session.old }
+    requires unarmed { session.old.is_armed ≡ false }
     requires new { cutter.old ≡ new_cutting }
     ensures { RunsArming state D.rules D.gone shelf.old session.old kinds.old.items
         shelf.new session.new kinds.new.items

@@ -35,6 +35,7 @@ module _ (kinds : List Rules) (image : List ℕ) (old new : Sinks) where
   checked-by (fault.Load (load.NoSegment number)) j t = absurd j
   checked-by (fault.Load load.OutOfMemory) j t = absurd j
   checked-by (fault.Script why) j t = absurd j
+  checked-by (fault.Open why) j t = absurd j
 
   -- and what is wrong with another one
   pub told-checked : (why : ImageFault) (status : ImageStatus) → IsJudged kinds image (Err why) → status ≡ status_of why → Tells old new (fault_line why) → Checks kinds image status old new
@@ -52,6 +53,7 @@ module _ (kinds : List Rules) (image : List ℕ) (old new : Sinks) where
     shown-by (fault.Load (load.NoSegment number)) n t = record { why = load.NoSegment number; status = refl; left = n.0; cause = n.1; told = t }
     shown-by (fault.Load load.OutOfMemory) n t = t
     shown-by (fault.Script why) n t = absurd n
+    shown-by (fault.Open why) n t = absurd n
 
     -- why nothing is shown of an image
     pub told-shown : (why : ImageFault) (status : ImageStatus) → IsNotShown kinds image d why → status ≡ status_of why → Tells old new (fault_line why) → Shows kinds image d status old new

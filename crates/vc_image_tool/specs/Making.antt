@@ -1,13 +1,16 @@
 -- What is promised of an image that is made of what a script leaves.
-use Rattle.std.specs.Prelude.{◌≡◌, List, Result, Ok, Err}
+use Rattle.std.specs.Prelude.{◌≡◌, ℕ, List, Result, Ok, Err}
 use Rattle.vc_base.specs.Memory.{MemorySink}
-use Rattle.vc_dtdisc.specs.Rules.{Rules}
+use Rattle.vc_dtdisc.specs.Rules.{Gone, Rules}
 use Rattle.vc_model.specs.Discipline.{Discipline}
+use Rattle.vc_image_script.specs.Over.{Remakes}
 use Rattle.vc_image_script.specs.Promises.{FailsBy, Saves}
+use Rattle.vc_image_script.specs.declared.over_fault.OverFault.{OverFault}
 use Rattle.vc_image_script.specs.declared.fault.ScriptFault.{ScriptFault}
-use Rattle.vc_image_tool.specs.Told.{fault_line, script_status}
+use Rattle.vc_image_tool.specs.Told.{fault_line, over_fault, script_status, status_of}
 use Rattle.vc_image_tool.specs.declared.fault.ImageFault.TheVariants as fault
 use Rattle.vc_image_tool.specs.declared.status.ImageStatus.{ImageStatus}
+use Rattle.vc_seg.specs.declared.shelf.Shelf.{Shelf}
 use Rattle.vc_session.specs.Streams.{Flows, Streams}
 use Rattle.vc_steps.specs.Moment.{Moment}
 use Rattle.vc_write.specs.Told.{Tried}
@@ -28,3 +31,17 @@ module _ {I : Type 0} {V : I → Type 0} (meaning : (x : I) × V x → Disciplin
   abbrev pub Makes : Result MemorySink ImageStatus → Moment → Moment → Streams → Streams → Type 0
   Makes (Ok image) start last old new = Saves meaning kinds (Ok image) start last (flows_of old) (flows_of new)
   Makes (Err status) start last old new = TellsScript status start last old new
+
+module _ {I : Type 0} {V : I → Type 0} {D : Type 0} (meaning : (x : I) × V x → Discipline) (rules : D → Rules) (gone : D → Gone) (place : ℕ) (image : List ℕ) (shelf : Shelf I V) (kinds : List D) where
+  -- it is told why no image is made of what a script leaves that is run over this one
+  pub record TellsOver (status : ImageStatus) (shelf' : Shelf I V) (kinds' : List D) (old new : Streams) : Type 0 where
+    pub why : OverFault
+    pub cause : Remakes meaning rules gone place image shelf kinds (Err why) shelf' kinds' (flows_of old) (flows_of new)
+    pub status_is : status ≡ status_of (over_fault why)
+    pub told : Tried old.errors new.errors old.told new.told (fault_line (over_fault why))
+
+  -- by what is answered
+  abbrev pub MakesOver : Result MemorySink ImageStatus → Shelf I V → List D → Streams → Streams → Type 0
+  MakesOver (Ok remade) shelf' kinds' old new =
+      Remakes meaning rules gone place image shelf kinds (Ok remade) shelf' kinds' (flows_of old) (flows_of new)
+  MakesOver (Err status) shelf' kinds' old new = TellsOver status shelf' kinds' old new

@@ -4,8 +4,12 @@ use Rattle.vc_image.specs.declared.fault.LoadFault.{LoadFault}
 use Rattle.vc_image.specs.declared.fault.LoadFault.TheVariants as load
 use Rattle.vc_image_parts.specs.declared.part.Part.{Part}
 use Rattle.vc_image_parts.specs.declared.part.Part.TheVariants.{Header, Segment, Tree, Dictionary, Rest}
+use Rattle.vc_image_script.specs.declared.over_fault.OverFault.{OverFault}
+use Rattle.vc_image_script.specs.declared.over_fault.OverFault.TheVariants as over
 use Rattle.vc_image_script.specs.declared.fault.ScriptFault.{ScriptFault}
 use Rattle.vc_image_script.specs.declared.fault.ScriptFault.TheVariants as script
+use Rattle.vc_image_session.specs.declared.fault.OpenFault.{OpenFault}
+use Rattle.vc_image_session.specs.declared.fault.OpenFault.TheVariants as unopened
 use Rattle.vc_script.specs.Faults.{fault_text as line_text}
 use Rattle.vc_image_tool.specs.declared.fault.ImageFault.{ImageFault}
 use Rattle.vc_image_tool.specs.declared.fault.ImageFault.TheVariants as fault
@@ -46,6 +50,12 @@ script_text script.NoRegion = codes "no region"
 script_text script.WrongMethod = codes "wrong method"
 script_text (script.Unsound part) = load_text (load.Bad part)
 
+-- why an image isn't opened for a script
+abbrev pub open_text : OpenFault → List ℕ
+open_text unopened.NoDiscipline = codes "no discipline"
+open_text (unopened.Load why) = load_text why
+open_text unopened.Tags = codes "wrong tags"
+
 -- what is wrong
 abbrev pub fault_text : ImageFault → List ℕ
 fault_text fault.Usage = codes "bad arguments"
@@ -54,8 +64,14 @@ fault_text fault.Write = codes "write failed"
 fault_text fault.Memory = codes "out of memory"
 fault_text (fault.Load why) = load_text why
 fault_text (fault.Script why) = script_text why
+fault_text (fault.Open why) = open_text why
 
--- the line of that
+-- what keeps a script from being run over an image, or from an image of what it leaves
+abbrev pub over_fault : OverFault → ImageFault
+over_fault (over.Open why) = fault.Open why
+over_fault (over.Script why) = fault.Script why
+
+-- the line of a fault
 abbrev pub fault_line : ImageFault → List ℕ
 fault_line why = message (fault_text why)
 
@@ -77,6 +93,12 @@ script_status script.NoRegion = NoImage
 script_status script.WrongMethod = NoImage
 script_status (script.Unsound part) = Unsound
 
+-- the status of an image that isn't opened for one
+abbrev pub open_status : OpenFault → ImageStatus
+open_status unopened.NoDiscipline = NotLent
+open_status (unopened.Load why) = load_status why
+open_status unopened.Tags = NotLent
+
 -- the status of a fault
 abbrev pub status_of : ImageFault → ImageStatus
 status_of fault.Usage = Usage
@@ -85,3 +107,4 @@ status_of fault.Write = Write
 status_of fault.Memory = Memory
 status_of (fault.Load why) = load_status why
 status_of (fault.Script why) = script_status why
+status_of (fault.Open why) = open_status why

@@ -1,5 +1,6 @@
 use vc_image::LoadFault;
 use vc_image_script::ScriptFault;
+use vc_image_session::OpenFault;
 
 /// What keeps a task on an image from its end. This project's own.
 #[derive(Clone, Copy, Debug, PartialEq, Eq)]
@@ -16,4 +17,6 @@ pub enum ImageFault {
     Load(LoadFault),
     /// No image is made of what a script leaves.
     Script(ScriptFault),
+    /// The image isn't opened for a script.
+    Open(OpenFault),
 }

@@ -10,7 +10,7 @@ mod told;
 mod tool;
 
 pub use fault::ImageFault;
-pub use making::make;
+pub use making::{make, remake};
 pub use status::ImageStatus;
 pub use task::{ImageTask, task_of};
 pub use told::tell;

@@ -1,7 +1,9 @@
 ghost use Rattle.std.specs.Prelude.{◌≡◌, ◌≤◌, None, OnOk, map, vec_len};
+ghost use Rattle.vc_image_script.specs.Over.{Remakes};
 ghost use Rattle.vc_image_script.specs.Promises.{Saves};
-ghost use Rattle.vc_image_tool.specs.Making.{Makes};
+ghost use Rattle.vc_image_tool.specs.Making.{Makes, MakesOver};
 ghost use Rattle.vc_image_tool.specs.Streams.{sinks};
+ghost use Rattle.vc_image_tool.specs.Told.{over_fault};
 ghost use Rattle.vc_script.specs.declared.tool.Tool.TheVariants.{Dtrun};
 ghost use Rattle.vc_session.specs.Arming.{IsFirst, Keeps};
 ghost use Rattle.vc_session.specs.Streams.{flows, streams};
@@ -15,7 +17,7 @@ use crate::{ImageFault, ImageStatus};
 use std::alloc::Global;
 use vc_base::{MemSink, Sink, Source};
 use vc_dtdisc::DictDisc;
-use vc_image_script::{ScriptFault, image_of_script};
+use vc_image_script::{OverFault, ScriptFault, image_of_script, image_over_image};
 use vc_seg::{BoxedDisc, SegDisc, Shelf};
 
 // The prover takes a call of another crate that has no condition as one that may make a discipline, but where its caller
@@ -74,5 +76,75 @@ pub fn make<D: DictDisc, S: Source, O: Sink, E: Sink>(
     match run(alloc, shelf, kinds, source, out) {
         Ok(image) => Ok(image),
         Err(why) => Err(tell(err, ImageFault::Script(why))),
+    }
+}
+
+// The same of a script over an image.
+fn run_over<D: DictDisc, S: Source, O: Sink>(
+    alloc: Global,
+    image: &[u8],
+    place: u32,
+    shelf: &mut Shelf,
+    kinds: &mut Vec<D>,
+    source: &mut S,
+    out: &mut O,
+) -> Result<MemSink, OverFault>
+    requires { 0 ≤ vec_len shelf.old.slots }
+    ensures remakes { Remakes state D.rules D.gone place image.now shelf.old kinds.old.items result
+        shelf.new kinds.new.items
+        (flows S.left S.failures O.written O.failures source.old out.old)
+        (flows S.left S.failures O.written O.failures source.new out.new) }
+    ensures keeps { Keeps
+        (IsFirst None Dtrun (S.left source.old))
+        (moment_at_rest state D.rules D.gone shelf.old kinds.old.items)
+        (moment_at_rest state D.rules D.gone shelf.new kinds.new.items) }
+    ensures rules { KeepRules D.rules kinds.old.items kinds.new.items }
+    ensures unarmed { ArmsNone (slots_on state shelf.old) (slots_on state shelf.new) }
+{
+    image_over_image(alloc, image, place, shelf, kinds, source, out)
+}
+
+fn over_fault(why: OverFault) -> ImageFault
+    ensures { result ≡ over_fault why }
+{
+    match why {
+        OverFault::Open(why) => ImageFault::Open(why),
+        OverFault::Script(why) => ImageFault::Script(why),
+    }
+}
+
+/// Opens an image over the discipline at a place of a shelf, runs the script that a source gives over it, as dtrun does
+/// without words, writes the replies to `out`, and answers the image of what that leaves; it is sound for these kinds. The
+/// region has the name `r`, its dictionaries `d1`, `d2` and so on, and a block with a label `b` and its tag. Where there is no
+/// image, `err` gets one line, and the status of what is wrong is answered: `Unsound`, `NotLent` or `Memory`, and then
+/// nothing was run; or one of those of `make`. Whatever came of it, every region is closed at the end. This project's own.
+pub fn remake<D: DictDisc, S: Source, O: Sink, E: Sink>(
+    alloc: Global,
+    image: &[u8],
+    place: u32,
+    shelf: &mut Shelf,
+    kinds: &mut Vec<D>,
+    source: &mut S,
+    out: &mut O,
+    err: &mut E,
+) -> Result<MemSink, ImageStatus>
+    ensures makes { MakesOver state D.rules D.gone place image.now shelf.old kinds.old.items result
+        shelf.new kinds.new.items
+        (streams S.left S.failures O.written O.failures E.written E.failures
+        source.old out.old err.old)
+        (streams S.left S.failures O.written O.failures E.written E.failures
+        source.new out.new err.new) }
+    ensures quiet { OnOk result (err.new ≡ err.old) }
+    ensures keeps { Keeps
+        (IsFirst None Dtrun (S.left source.old))
+        (moment_at_rest state D.rules D.gone shelf.old kinds.old.items)
+        (moment_at_rest state D.rules D.gone shelf.new kinds.new.items) }
+    ensures rules { KeepRules D.rules kinds.old.items kinds.new.items }
+    ensures unarmed { ArmsNone (slots_on state shelf.old) (slots_on state shelf.new) }
+    ensures never_falls { E.failures err.old ≤ E.failures err.new }
+{
+    match run_over(alloc, image, place, shelf, kinds, source, out) {
+        Ok(image) => Ok(image),
+        Err(why) => Err(tell(err, over_fault(why))),
     }
 }

@@ -10,6 +10,8 @@ pub enum ImageTask {
     Show,
     /// It is made of what a script leaves: `save`.
     Save,
+    /// A script is run over it, and it is made of what that leaves: `run`.
+    Run,
 }
 
 // The task of that name.
@@ -24,6 +26,9 @@ fn named(name: &str) -> Option<ImageTask>
     }
     if name == "save" {
         return Some(ImageTask::Save);
+    }
+    if name == "run" {
+        return Some(ImageTask::Run);
     }
     None
 }

@@ -7,6 +7,7 @@ use vc_base::MemSink;
 use vc_dtdisc::{BuiltIn, Shape};
 use vc_image::LoadFault;
 use vc_image_parts::Part;
+use vc_image_session::OpenFault;
 use vc_seg::{FuseDisc, HeapDisc, SbrkDisc, SegDisc};
 
 // What comes out, and at which write to either sink one fails, from 1 on; 0 is none.
@@ -245,7 +246,13 @@ fn faults(rt: HostRuntime) -> Result<(), Fail> {
         part,
         b"vmimage: unsound: dictionary 4294967295\n",
         1,
-    )
+    )?;
+    let none = ImageFault::Open(OpenFault::NoDiscipline);
+    tells(&rt, alloc, none, b"vmimage: no discipline\n", 6)?;
+    let tags = ImageFault::Open(OpenFault::Tags);
+    tells(&rt, alloc, tags, b"vmimage: wrong tags\n", 6)?;
+    let unsound = ImageFault::Open(OpenFault::Load(LoadFault::Bad(Part::Tree)));
+    tells(&rt, alloc, unsound, b"vmimage: unsound: tree\n", 1)
 }
 
 fn asks(
@@ -267,6 +274,8 @@ fn tasks(rt: HostRuntime) -> Result<(), Fail> {
     let alloc = rt.alloc();
     asks(&rt, alloc, &["check", "a"], Some(ImageTask::Check))?;
     asks(&rt, alloc, &["show", ""], Some(ImageTask::Show))?;
+    asks(&rt, alloc, &["save", "a"], Some(ImageTask::Save))?;
+    asks(&rt, alloc, &["run", "a"], Some(ImageTask::Run))?;
     asks(&rt, alloc, &[], None)?;
     asks(&rt, alloc, &["check"], None)?;
     asks(&rt, alloc, &["check", "a", "b"], None)?;

@@ -1,7 +1,7 @@
 ghost use Rattle.std.specs.Prelude.{◌≡◌, ◌≤◌, ◌++◌, OnErr, OnOk, codes, decimal, length};
 ghost use Rattle.arrayvec.specs.ArrayString.{array_string_len};
 ghost use Rattle.vc_image_script.specs.declared.fault.ScriptFault.TheVariants.{Line as LineWrong};
-ghost use Rattle.vc_image_tool.specs.Told.{fault_line, fault_text, load_text, part_text, script_status, script_text, segment_text, status_of};
+ghost use Rattle.vc_image_tool.specs.Told.{fault_line, fault_text, load_status, load_text, open_status, open_text, part_text, script_status, script_text, segment_text, status_of};
 ghost use Rattle.vc_write.specs.Told.{Broke, Told, Tried};
 
 use crate::{ImageFault, ImageStatus};
@@ -11,6 +11,7 @@ use vc_base::{Sink, WriteFailed};
 use vc_image::LoadFault;
 use vc_image_parts::Part;
 use vc_image_script::ScriptFault;
+use vc_image_session::OpenFault;
 use vc_script::LineFault;
 use vc_write::write_all;
 
@@ -105,6 +106,19 @@ fn put_script_fault(line: &mut Line, fault: ScriptFault)
     }
 }
 
+// Puts why an image isn't opened for a script.
+fn put_open_fault(line: &mut Line, fault: OpenFault)
+    requires { array_string_len line.old ≤ 9 }
+    ensures bytes { line.new.bytes ≡ line.old.bytes ++ open_text fault }
+    ensures short { array_string_len line.new ≤ 92 }
+{
+    match fault {
+        OpenFault::NoDiscipline => line.push_str("no discipline"),
+        OpenFault::Load(fault) => put_load_fault(line, fault),
+        OpenFault::Tags => line.push_str("wrong tags"),
+    }
+}
+
 // Puts what is wrong.
 fn put_fault(line: &mut Line, fault: ImageFault)
     requires { array_string_len line.old ≤ 9 }
@@ -118,6 +132,7 @@ fn put_fault(line: &mut Line, fault: ImageFault)
         ImageFault::Memory => line.push_str("out of memory"),
         ImageFault::Load(fault) => put_load_fault(line, fault),
         ImageFault::Script(fault) => put_script_fault(line, fault),
+        ImageFault::Open(fault) => put_open_fault(line, fault),
     }
 }
 
@@ -149,6 +164,27 @@ fn script_status(fault: ScriptFault) -> ImageStatus
     }
 }
 
+// The status of an image that isn't loaded.
+fn load_status(fault: LoadFault) -> ImageStatus
+    ensures { result ≡ load_status fault }
+{
+    match fault {
+        LoadFault::Bad(_) => ImageStatus::Unsound,
+        LoadFault::OutOfMemory => ImageStatus::Memory,
+        LoadFault::Round(_) | LoadFault::Grows | LoadFault::NoSegment(_) => ImageStatus::NotLent,
+    }
+}
+
+// The status of one that isn't opened for a script.
+fn open_status(fault: OpenFault) -> ImageStatus
+    ensures { result ≡ open_status fault }
+{
+    match fault {
+        OpenFault::Load(fault) => load_status(fault),
+        OpenFault::NoDiscipline | OpenFault::Tags => ImageStatus::NotLent,
+    }
+}
+
 // The status of a fault.
 fn status_of(fault: ImageFault) -> ImageStatus
     ensures { result ≡ status_of fault }
@@ -158,13 +194,9 @@ fn status_of(fault: ImageFault) -> ImageStatus
         ImageFault::Read => ImageStatus::Read,
         ImageFault::Write => ImageStatus::Write,
         ImageFault::Memory => ImageStatus::Memory,
-        ImageFault::Load(fault) => match fault {
-            LoadFault::Bad(_) => ImageStatus::Unsound,
-            LoadFault::OutOfMemory => ImageStatus::Memory,
-            LoadFault::Round(_) | LoadFault::Grows | LoadFault::NoSegment(_) =>
-                ImageStatus::NotLent,
-        },
+        ImageFault::Load(fault) => load_status(fault),
         ImageFault::Script(fault) => script_status(fault),
+        ImageFault::Open(fault) => open_status(fault),
     }
 }
 

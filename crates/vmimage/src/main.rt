@@ -1,11 +1,12 @@
-//! Judges the image of a region in a file, shows what it holds, or writes one of what a script leaves.
+//! Judges the image of a region in a file, shows what it holds, or writes one of what a script leaves that is run over nothing or
+//! over another one.
 #![tactic(auto)]
 
 mod file;
 
 ghost use Rattle.std.specs.Prelude.{◌≡◌, map, vec_len};
 ghost use Rattle.std.specs.Process.{exit_status};
-ghost use Rattle.vc_image_tool.specs.Making.{Makes};
+ghost use Rattle.vc_image_tool.specs.Making.{Makes, MakesOver};
 ghost use Rattle.vc_image_tool.specs.Status.{number};
 ghost use Rattle.vc_session.specs.Streams.{streams};
 ghost use Rattle.vc_steps.specs.Moment.{moment_at_rest};
@@ -15,7 +16,7 @@ use std::alloc::Global;
 use std::process::ExitCode;
 use vc_base::{MemSink, Sink, Source, StdSink, StdSource};
 use vc_dtdisc::{BuiltIn, DictDisc};
-use vc_image_tool::{ImageFault, ImageStatus, ImageTask, check, make, show, task_of, tell};
+use vc_image_tool::{ImageFault, ImageStatus, ImageTask, check, make, remake, show, task_of, tell};
 use vc_main::{budgeted, growing, heap_at, kinds, relieved, words_of};
 use vc_seg::{BoxedDisc, HeapDisc, SegDisc, Shelf};
 
@@ -79,8 +80,30 @@ fn made<S: Source, O: Sink, E: Sink>(
     make(alloc, shelf, kinds, source, out, err)
 }
 
-// Runs a script over the disciplines and the kinds of dtrun, and writes the image of what it leaves to a file.
-fn save_file(rt: &HostRuntime, name: &str) -> ImageStatus {
+// The same of a script that is run over an image, whose region is opened over the first discipline.
+fn remade<S: Source, O: Sink, E: Sink>(
+    alloc: Global,
+    image: &[u8],
+    shelf: &mut Shelf,
+    kinds: &mut Vec<BuiltIn>,
+    source: &mut S,
+    out: &mut O,
+    err: &mut E,
+) -> Result<MemSink, ImageStatus>
+    requires places { vec_len shelf.old.slots ≡ 18 }
+    ensures makes { MakesOver state ⟦<BuiltIn as DictDisc>⟧.rules ⟦<BuiltIn as DictDisc>⟧.gone 1 image.now
+        shelf.old kinds.old.items result shelf.new kinds.new.items
+        (streams S.left S.failures O.written O.failures E.written E.failures
+        source.old out.old err.old)
+        (streams S.left S.failures O.written O.failures E.written E.failures
+        source.new out.new err.new) }
+{
+    remake(alloc, image, 1, shelf, kinds, source, out, err)
+}
+
+// Runs a script over the disciplines and the kinds of dtrun, over an image where there is one, and writes the image of what
+// it leaves to a file.
+fn run_and_write(rt: &HostRuntime, name: &str, image: Option<&[u8]>) -> ImageStatus {
     let alloc = rt.alloc();
     let mut source = StdSource::new(rt.stdin());
     let mut out = StdSink::new(rt.stdout());
@@ -117,19 +140,40 @@ fn save_file(rt: &HostRuntime, name: &str) -> ImageStatus {
     let Ok(_) = shelf.put(disc) else {
         return tell(&mut err, ImageFault::Memory);
     };
-    match made(
-        alloc,
-        &mut shelf,
-        &mut kinds,
-        &mut source,
-        &mut out,
-        &mut err,
-    ) {
+    let written = match image {
+        Some(image) => remade(
+            alloc,
+            image,
+            &mut shelf,
+            &mut kinds,
+            &mut source,
+            &mut out,
+            &mut err,
+        ),
+        None => made(
+            alloc,
+            &mut shelf,
+            &mut kinds,
+            &mut source,
+            &mut out,
+            &mut err,
+        ),
+    };
+    match written {
         Ok(image) => match replace(rt, name, image.bytes()) {
             Ok(()) => ImageStatus::Done,
             Err(why) => tell(&mut err, why),
         },
         Err(status) => status,
+    }
+}
+
+// Runs a script over the image in a file, and writes the image of what it leaves in its place.
+fn run_file(rt: &HostRuntime, name: &str) -> ImageStatus {
+    let mut err = StdSink::new(rt.stderr());
+    match read(rt, name) {
+        Ok(image) => run_and_write(rt, name, Some(image.as_slice())),
+        Err(why) => tell(&mut err, why),
     }
 }
 
@@ -145,6 +189,7 @@ fn main(rt: HostRuntime) -> ExitCode {
     exit(match task {
         ImageTask::Check => check_file(&rt, name),
         ImageTask::Show => show_file(&rt, name),
-        ImageTask::Save => save_file(&rt, name),
+        ImageTask::Save => run_and_write(&rt, name, None),
+        ImageTask::Run => run_file(&rt, name),
     })
 }

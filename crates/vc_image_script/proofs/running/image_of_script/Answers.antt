@@ -17,9 +17,6 @@ pub run_and_save-image-requires-clause-session : goal.run_and_save-image-require
 run_and_save-image-requires-clause-session g c =
     new-session (meaning g) g.D.DictDisc.rules g.D.DictDisc.gone c.args.shelf.now c.in-Ok-over.session c.args.kinds.now.items c.in-Ok-over.ensures.none
 
-pub run_and_save-image-requires-clause-fresh : goal.run_and_save-image-requires-clause-fresh
-run_and_save-image-requires-clause-fresh g c = record { nothing = c.in-Ok-over.ensures.none.0; unarmed = c.in-Ok-over.ensures.unarmed }
-
 pub returns-in_default-clause-saves : goal.returns-in_default-clause-saves
 returns-in_default-clause-saves g c = inl (runs-none _ _ _ refl refl)
 

@@ -1,5 +1,5 @@
 use Rattle.vc_base.proofs.Common.{◌≡◌, ◌+◌, vec_len}
-use Rattle.vmimage.proofs.save_file.Given as goal
+use Rattle.vmimage.proofs.run_and_write.Given as goal
 
 -- a discipline was put for each number
 abbrev pub invariant-loop-i : goal.invariant-loop-i
