@@ -1,10 +1,21 @@
-ghost use Rattle.std.specs.Prelude.{◌≡◌, ◌&&◌, if◌then◌else◌};
+ghost use Rattle.std.specs.Prelude.{◌≡◌, ◌&&◌, [], IfOk, if◌then◌else◌};
 ghost use Rattle.kolbista_c.specs.Memory.{IsFilled, buffer, fits};
 
-use vc_base::MemSink;
+use std::alloc::Global;
+use vc_base::{MemSink, OutOfMemory};
 
 // So many bytes hold the line of what is wrong.
-pub(crate) const LINE: usize = 128;
+const LINE: usize = 128;
+
+// Sinks for what is written, with so much room, and for the line of what is wrong.
+pub(crate) fn sinks(alloc: Global, room: usize) -> Result<(MemSink, MemSink), OutOfMemory>
+    ensures written { IfOk result (λ s. (s.0.written ≡ []) × (s.0.faults ≡ 0)) }
+    ensures told { IfOk result (λ s. (s.1.written ≡ []) × (s.1.faults ≡ 0)) }
+{
+    let written = MemSink::new(alloc, room, room.max(1), Vec::new(alloc))?;
+    let told = MemSink::new(alloc, LINE, LINE, Vec::new(alloc))?;
+    Ok((written, told))
+}
 
 // Puts as many bytes as fit at the front of a buffer, and tells how many.
 pub(crate) fn fill(room: &mut [u8], bytes: &[u8]) -> usize

@@ -3,9 +3,8 @@ ghost use Rattle.kolbista_c.specs.Images.{Does, Judges, ShowsImage, dtrun_rules}
 ghost use Rattle.kolbista_c.specs.Memory.{buffer};
 ghost use Rattle.vc_image_tool.specs.Promises.{Checks, Shows};
 
-use crate::buffers::{LINE, fill_both};
+use crate::buffers::{fill_both, sinks};
 use std::alloc::{AllocError, Global};
-use vc_base::MemSink;
 use vc_dtdisc::{BuiltIn, DictDisc};
 use vc_image_tool::{check, show};
 use vc_main::kinds;
@@ -36,10 +35,7 @@ fn check_into(
     let Ok(kinds) = own_kinds(alloc) else {
         return 5;
     };
-    let Ok(mut written) = MemSink::new(alloc, out.len(), out.len().max(1), Vec::new(alloc)) else {
-        return 5;
-    };
-    let Ok(mut told) = MemSink::new(alloc, LINE, LINE, Vec::new(alloc)) else {
+    let Ok((mut written, mut told)) = sinks(alloc, out.len()) else {
         return 5;
     };
     let status = check(alloc, &kinds, image, &mut written, &mut told);
@@ -82,10 +78,7 @@ fn show_over(
     let Ok(kinds) = own_kinds(alloc) else {
         return 5;
     };
-    let Ok(mut written) = MemSink::new(alloc, out.len(), out.len().max(1), Vec::new(alloc)) else {
-        return 5;
-    };
-    let Ok(mut told) = MemSink::new(alloc, LINE, LINE, Vec::new(alloc)) else {
+    let Ok((mut written, mut told)) = sinks(alloc, out.len()) else {
         return 5;
     };
     let status = show(alloc, &kinds, image, disc, &mut written, &mut told);

@@ -2,7 +2,7 @@ ghost use Rattle.std.specs.Prelude.{◌≡◌, ◌≤◌, ◌&&◌, Some, [], if
 ghost use Rattle.kolbista_c.specs.Memory.{IsFilled, Played, Runs, buffer, words_by};
 ghost use Rattle.vc_session.specs.Status.{number};
 
-use crate::buffers::{LINE, fill_both};
+use crate::buffers::{fill_both, sinks};
 use crate::slice_source::SliceSource;
 use std::alloc::{AllocError, Global};
 use vc_base::MemSink;
@@ -71,10 +71,7 @@ fn run_over(
     ensures { Runs (Some tool) (Some (map string_bytes words.now)) script.now result
         (buffer out.old out.new out_used.new) (buffer err.old err.new err_used.new) }
 {
-    let Ok(mut replies) = MemSink::new(alloc, out.len(), out.len().max(1), Vec::new(alloc)) else {
-        return 5;
-    };
-    let Ok(mut told) = MemSink::new(alloc, LINE, LINE, Vec::new(alloc)) else {
+    let Ok((mut replies, mut told)) = sinks(alloc, out.len()) else {
         return 5;
     };
     let Ok(status) = play(alloc, tool, words, shelf, script, &mut replies, &mut told) else {
