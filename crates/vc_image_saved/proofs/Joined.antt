@@ -1,4 +1,4 @@
--- The image of a region with dictionaries that can be saved is sound.
+-- The image of a region with dictionaries that can be saved is sound, and tells what it was made of.
 use Rattle.vc_base.proofs.Common.{◌≡◌, ℕ, zero, suc, ◌/◌, ◌≤◌, ◌<◌, ◌^◌, Bool, true, false, ◌||◌, ◌&&◌, ◌==◌, nat_lt, List, [], ◌∷◌, Some, None, Option, IfSome, IsSome, map, length, take, contains, list_any-append, option_map, unwrap_or, flat_map, slice_get, sym, refl, ap, ap₂, ◌∙◌, subst, arith, same_Some, and_parts, ltb-true, length-map, AllByRecursion, Block, place_of, find_block}
 use Rattle.vc_model.proofs.Owned.{found-has}
 use Rattle.vc_base.specs.declared.dict_method.DictMethod.{DictMethod}
@@ -12,7 +12,7 @@ use Rattle.vc_extent.proofs.Places.{named-there, there-last}
 use Rattle.vc_dict.specs.declared.dict.Dict.{Dict}
 use Rattle.vc_dict.specs.Parts.{heads_in}
 use Rattle.vc_best.specs.Blocks.{layout_by}
-use Rattle.vc_best.specs.Cells.{cell_bytes, cells_of}
+use Rattle.vc_best.specs.Cells.{cell_bytes, cells_in, cells_of}
 use Rattle.vc_best.proofs.Found.{busy-of, found-of}
 use Rattle.vc_region.specs.OfBest.{best_in}
 use Rattle.vc_region.specs.declared.region.Region.{Region}
@@ -28,10 +28,10 @@ use Rattle.vc_image_dicts.specs.Sound.{IsSoundDict, IsSoundRow, method_of, own_i
 use Rattle.vc_image_dicts.specs.Taken.{AreSoundBefore, taken_by}
 use Rattle.vc_image_dicts.specs.Whole.{IsSound}
 use Rattle.vc_image_dicts.proofs.Told.{own-told}
-use Rattle.vc_image.specs.Load.{AreApart, IsApart, own_by}
-use Rattle.vc_image.specs.Save.{contents_in, image_in, row_of}
-use Rattle.vc_image.proofs.Loads.{apart-turned}
-use Rattle.vc_image_saved.specs.Saved.{AreSavable, AreSavableIn, IsSavable}
+use Rattle.vc_image.specs.Load.{AreApart, IsApart, IsWholeAmong, dict_of, dicts_of, own_by}
+use Rattle.vc_image.specs.Save.{contents_by, contents_in, image_in, row_of}
+use Rattle.vc_image.proofs.Loads.{apart-turned, made-by}
+use Rattle.vc_image_saved.specs.Saved.{AreReadable, AreReadableIn, AreSavable, AreSavableIn, IsSavable}
 use Rattle.vc_image_saved.proofs.Begun.{AreOfBest, are-segments, front-of, of-best, root-fits}
 use Rattle.vc_image_saved.proofs.Numbers.{row-fits}
 use Rattle.vc_image_saved.proofs.Standing.{dict-back, whole-sound}
@@ -117,9 +117,28 @@ module _ (kinds : List Rules) (b : Blocks) where
         apart = λ a w. p.apart a (own-same p.dict a p.savable ∙ w);
       })
 
-  rows-fit : (ds : List Dict) → ((a : ℕ) → IsSome (b a) → a < 2 ^ 32) → AllByRecursion (IsSavable kinds b) ds → AllByRecursion FitsRow (map row_of ds)
-  rows-fit [] cells all = tt
-  rows-fit (d ∷ ds) cells all = (row-fits all.0.rules d b cells all.0.number all.0.whole, rows-fit ds cells all.1)
+  rows-fit : (ds : List Dict) → ((a : ℕ) → IsSome (b a) → a < 2 ^ 32) → AllByRecursion (λ d. d.kind < 2 ^ 32) ds → AllByRecursion (IsWholeAmong kinds b) ds → AllByRecursion FitsRow (map row_of ds)
+  rows-fit [] cells numbers all = tt
+  rows-fit (d ∷ ds) cells numbers all = (row-fits all.0.rules d b cells numbers.0 all.0.whole, rows-fit ds cells numbers.1 all.1)
+
+  -- each is made again of its numbers
+  all-back : (ds : List Dict) → AllByRecursion (IsWholeAmong kinds b) ds → map dict_of (map row_of ds) ≡ ds
+  all-back [] all = refl
+  all-back (d ∷ ds) all =
+      let w = all.0 in
+      ap₂ (λ (x : Dict) (xs : List Dict). x ∷ xs) (made-by (row_of d) d.method (numbered d.method) ∙ sym (dict-back w.rules d b w.whole)) (all-back ds all.1)
+
+  -- what can be saved can be read again
+  numbers-of : (ds : List Dict) → AllByRecursion (IsSavable kinds b) ds → AllByRecursion (λ d. d.kind < 2 ^ 32) ds
+  numbers-of [] all = tt
+  numbers-of (d ∷ ds) all = (all.0.number, numbers-of ds all.1)
+
+  among-of : (ds : List Dict) → AllByRecursion (IsSavable kinds b) ds → AllByRecursion (IsWholeAmong kinds b) ds
+  among-of [] all = tt
+  among-of (d ∷ ds) all = (record { rules = all.0.rules; kind = all.0.kind; whole = all.0.whole }, among-of ds all.1)
+
+  pub readable : (ds : List Dict) → AreSavable kinds b ds → AreReadable kinds b ds
+  readable ds s = record { few = s.few; numbers = numbers-of ds s.each; each = among-of ds s.each }
 
 pub rows-read : (image : List ℕ) (c : Contents) → contents_of image ≡ c → rows_in image ≡ c.rows
 unfolding contents_of
@@ -148,31 +167,39 @@ module _ (segs : List Bytes) (index : List ℕ) (root : ℕ) (h : AreOfBest segs
       let found = found-of segs index a h.kept (record { named = ltb-true 0 e.span p.0; busy = ltb-true 0 e.size q.0 }) in
       subst (λ (o : Option (Block ℕ)). IsSome (cell_bytes o)) (sym found) (rw q.1 refl)
 
-  module _ (kinds : List Rules) (dicts : List Dict) (s : AreSavable kinds cells dicts) where
+  module _ (kinds : List Rules) (dicts : List Dict) (s : AreReadable kinds cells dicts) where
     abbrev of : Contents
-    of = record { root = root; segs = segs; rows = map row_of dicts }
+    of = contents_by root segs dicts
 
     few : length (map row_of dicts) ≤ 256
     few = let long = length-map dicts row_of in let most = s.few in omega (arith, long, most)
 
     pub read : contents_of (image_of of) ≡ of
-    read = read-again of (record { segments = are-segments segs index root h; root = root-fits segs index root h; few = few; rows = rows-fit kinds cells dicts cells-small s.each })
+    read = read-again of (record { segments = are-segments segs index root h; root = root-fits segs index root h; few = few; rows = rows-fit kinds cells dicts cells-small s.numbers s.each })
 
     rows : rows_in (image_of of) ≡ map row_of dicts
     rows = rows-read (image_of of) of read
 
+    pub same-dicts : dicts_of (image_of of) ≡ dicts
+    same-dicts = ap (map dict_of) rows ∙ all-back kinds cells dicts s.each
+
     blocks : blocks_of (image_of of) ≡ cells
     blocks = ap (λ (c : Contents). cells_of (layout_by c.segs).blocks) read
 
-    pub sound-of : IsSound kinds (image_of of)
-    sound-of = record {
-      front = front-of segs index root h (map row_of dicts) few;
-      dicts = subst (λ (z : Blocks × List Row). AreSoundBefore kinds z.0 z.1 (length z.1)) (λ i. (sym blocks i, sym rows i)) (dicts-sound kinds cells dicts (length (map row_of dicts)) s);
-      rest = λ a w.
-          let cell : is_cell (extent_of (tiling segs) a) ≡ true = subst (λ (c : Contents). is_cell (extent_of (tiling c.segs) a) ≡ true) read w in
-          subst (λ (z : Blocks × List Row). contains (taken_by z.0 z.1) a ≡ true) (λ i. (sym blocks i, sym rows i))
-          (sym (taken-same kinds cells dicts a s.each) ∙ s.taken a (cell-some a cell));
-    }
+  module _ (kinds : List Rules) (dicts : List Dict) (s : AreSavable kinds cells dicts) where
+    pub sound-of : IsSound kinds (image_of (contents_by root segs dicts))
+    sound-of =
+        let can = readable kinds cells dicts s in
+        let there : blocks_of (image_of (contents_by root segs dicts)) ≡ cells = blocks kinds dicts can in
+        let told : rows_in (image_of (contents_by root segs dicts)) ≡ map row_of dicts = rows kinds dicts can in
+        record {
+          front = front-of segs index root h (map row_of dicts) (few kinds dicts can);
+          dicts = subst (λ (z : Blocks × List Row). AreSoundBefore kinds z.0 z.1 (length z.1)) (λ i. (sym there i, sym told i)) (dicts-sound kinds cells dicts (length (map row_of dicts)) s);
+          rest = λ a w.
+              let cell : is_cell (extent_of (tiling segs) a) ≡ true = subst (λ (c : Contents). is_cell (extent_of (tiling c.segs) a) ≡ true) (read kinds dicts can) w in
+              subst (λ (z : Blocks × List Row). contains (taken_by z.0 z.1) a ≡ true) (λ i. (sym there i, sym told i))
+              (sym (taken-same kinds cells dicts a s.each) ∙ s.taken a (cell-some a cell));
+        }
 
 pub sound-in : {I : Type 0} {V : I → Type 0} (kinds : List Rules) (region : Region I V) (dicts : List Dict) → AreSavableIn kinds region dicts → IsSound kinds (image_in region dicts)
 sound-in kinds (OfBest b) dicts s = sound-of b.extents.segs.items b.extents.index.items b.root.0 (of-best b) kinds dicts s
@@ -181,9 +208,23 @@ sound-in kinds (Last l) dicts s = absurd s
 sound-in kinds (Debug d) dicts s = absurd s
 sound-in kinds (Profile p) dicts s = absurd s
 
-pub read-in : {I : Type 0} {V : I → Type 0} (kinds : List Rules) (region : Region I V) (dicts : List Dict) → AreSavableIn kinds region dicts → IfSome (best_in region) (λ b. contents_of (image_in region dicts) ≡ contents_in b dicts)
+pub readable-in : {I : Type 0} {V : I → Type 0} (kinds : List Rules) (region : Region I V) (dicts : List Dict) → AreSavableIn kinds region dicts → AreReadableIn kinds region dicts
+readable-in kinds (OfBest b) dicts s = readable kinds (cells_in b) dicts s
+readable-in kinds (Pool p) dicts s = absurd s
+readable-in kinds (Last l) dicts s = absurd s
+readable-in kinds (Debug d) dicts s = absurd s
+readable-in kinds (Profile p) dicts s = absurd s
+
+pub read-in : {I : Type 0} {V : I → Type 0} (kinds : List Rules) (region : Region I V) (dicts : List Dict) → AreReadableIn kinds region dicts → IfSome (best_in region) (λ b. contents_of (image_in region dicts) ≡ contents_in b dicts)
 read-in kinds (OfBest b) dicts s = read b.extents.segs.items b.extents.index.items b.root.0 (of-best b) kinds dicts s
 read-in kinds (Pool p) dicts s = absurd s
 read-in kinds (Last l) dicts s = absurd s
 read-in kinds (Debug d) dicts s = absurd s
 read-in kinds (Profile p) dicts s = absurd s
+
+pub dicts-in : {I : Type 0} {V : I → Type 0} (kinds : List Rules) (region : Region I V) (dicts : List Dict) → AreReadableIn kinds region dicts → dicts_of (image_in region dicts) ≡ dicts
+dicts-in kinds (OfBest b) dicts s = same-dicts b.extents.segs.items b.extents.index.items b.root.0 (of-best b) kinds dicts s
+dicts-in kinds (Pool p) dicts s = absurd s
+dicts-in kinds (Last l) dicts s = absurd s
+dicts-in kinds (Debug d) dicts s = absurd s
+dicts-in kinds (Profile p) dicts s = absurd s

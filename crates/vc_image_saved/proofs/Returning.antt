@@ -28,10 +28,9 @@ use Rattle.vc_image_parts.specs.declared.part.Part.TheVariants.{Header, Segment,
 use Rattle.vc_image.specs.Load.{IsLoaded, IsWholeAmong, dict_of}
 use Rattle.vc_image.specs.Save.{contents_in, image_in, row_of}
 use Rattle.vc_image.proofs.Loads.{made-by}
-use Rattle.vc_image_saved.specs.Saved.{AreSame, AreSavable, AreSavableIn, IsSavable, IsWholeBy}
-use Rattle.vc_image_saved.proofs.Joined.{numbered, read-in, rows-read}
+use Rattle.vc_image_saved.specs.Saved.{AreSame, AreSavable, AreSavableIn, IsWholeBy}
+use Rattle.vc_image_saved.proofs.Joined.{dicts-in, read-in, readable-in, rows-read}
 use Rattle.vc_image_saved.proofs.Loaded.{each-at, savable-in}
-use Rattle.vc_image_saved.proofs.Standing.{dict-back}
 
 -- a sound image has no unsound part
 pub never-unsound : (kinds : List Rules) (image : List ℕ) (part : Part) → IsSound kinds image → IsFirstUnsoundPart kinds image part → ⊥
@@ -48,23 +47,16 @@ never-unsound kinds image (Dictionary n) s h =
     u.unsound (s.dicts n u.row (slice_get_within (rows_in image) n u.row u.there) u.there)
 never-unsound kinds image Rest s h = h.rest s.rest
 
-module _ (kinds : List Rules) (b : Blocks) where
-  -- a dictionary that was saved is made again of its numbers
-  all-back : (ds : List Dict) → AllByRecursion (IsSavable kinds b) ds → map dict_of (map row_of ds) ≡ ds
-  all-back [] all = refl
-  all-back (d ∷ ds) all =
-      let s = all.0 in
-      ap₂ (λ (x : Dict) (xs : List Dict). x ∷ xs) (made-by (row_of d) d.method (numbered d.method) ∙ sym (dict-back s.rules d b s.whole)) (all-back ds all.1)
-
 module _ {I J : Type 0} {V : I → Type 0} {W : J → Type 0} (kinds : List Rules) (terms : Terms) (dicts : List Dict) (new : Region J W) (news : List Dict) where
   same-of : (b : Best I V) → AreSavable kinds (cells_in b) dicts → IsLoaded kinds terms (image_of (contents_in b dicts)) new news → AreSame (OfBest b) dicts new news
   same-of b s h =
       let c : Contents = contents_in b dicts in
-      let again : contents_of (image_of c) ≡ c = read-in kinds (OfBest b) dicts s in
+      let can = readable-in kinds (OfBest b) dicts s in
+      let again : contents_of (image_of c) ≡ c = read-in kinds (OfBest b) dicts can in
       record {
         segments = ap (λ (r : Region J W). option_map (λ (x : Best J W). x.extents.segs.items) (best_in r)) h.of_best ∙ ap Some h.segments ∙ ap (λ (z : Contents). Some z.segs) again;
         root = ap (λ (r : Region J W). option_map (λ (x : Best J W). x.root.0) (best_in r)) h.of_best ∙ ap Some h.root ∙ ap (λ (z : Contents). Some z.root) again;
-        dicts = h.numbers ∙ ap (map dict_of) (rows-read (image_of c) c again) ∙ all-back kinds (cells_in b) dicts s.each;
+        dicts = h.numbers ∙ dicts-in kinds (OfBest b) dicts can;
       }
 
   pub same-in : (old : Region I V) → AreSavableIn kinds old dicts → IsLoaded kinds terms (image_in old dicts) new news → AreSame old dicts new news

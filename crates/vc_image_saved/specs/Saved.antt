@@ -1,4 +1,4 @@
--- Which dictionaries of a region can be saved with it, so that the image is sound.
+-- Which dictionaries of a region can be saved with it, so that the image is sound, and which are read again of it.
 use Rattle.std.specs.Prelude.{◌≡◌, ℕ, ◌<◌, ◌≤◌, ◌^◌, List, Some, IfSome, IsSome, true, length, map, option_map}
 use Rattle.std.specs.List.{AllByRecursion, flat_map}
 use Rattle.vc_model.specs.Numbered.{at_number}
@@ -16,7 +16,7 @@ use Rattle.vc_region.specs.declared.region.Region.{Region}
 use Rattle.vc_region.specs.declared.region.Region.TheVariants.{Best as OfBest, Pool, Last, Debug, Profile}
 use Rattle.vc_image_bytes.specs.Contents.{contents_of}
 use Rattle.vc_image_dicts.specs.Alone.{AreAlone}
-use Rattle.vc_image.specs.Load.{AreApart, own_by}
+use Rattle.vc_image.specs.Load.{AreApart, IsWholeAmong, own_by}
 use Rattle.vc_image.specs.Save.{row_of}
 
 -- a dictionary is whole over some blocks by the rules of its kind, and no two objects of a set match
@@ -42,6 +42,20 @@ AreSavableIn kinds (Pool p) dicts = ⊥
 AreSavableIn kinds (Last l) dicts = ⊥
 AreSavableIn kinds (Debug d) dicts = ⊥
 AreSavableIn kinds (Profile p) dicts = ⊥
+
+-- at most 256 dictionaries can be read again, each whole over some blocks by the rules of its kind
+pub record AreReadable (kinds : List Rules) (blocks : Blocks) (dicts : List Dict) : Type 0 where
+  pub few : length dicts ≤ 256
+  pub numbers : AllByRecursion (λ d. d.kind < 2 ^ 32) dicts
+  pub each : AllByRecursion (IsWholeAmong kinds blocks) dicts
+
+-- over the unlabelled blocks of a best region
+abbrev pub AreReadableIn : {I : Type 0} {V : I → Type 0} → List Rules → Region I V → List Dict → Type 0
+AreReadableIn kinds (OfBest b) dicts = AreReadable kinds (cells_in b) dicts
+AreReadableIn kinds (Pool p) dicts = ⊥
+AreReadableIn kinds (Last l) dicts = ⊥
+AreReadableIn kinds (Debug d) dicts = ⊥
+AreReadableIn kinds (Profile p) dicts = ⊥
 
 -- a dictionary is whole over some blocks by the rules of its kind
 abbrev pub IsWholeBy : List Rules → Blocks → Dict → Type 0
