@@ -5,17 +5,16 @@ use Rattle.vc_image.specs.declared.fault.LoadFault.TheVariants.{Bad, Round, Grow
 use Rattle.vc_image_session.specs.Opens.{IsNotOpened, StandsAgain}
 use Rattle.vc_image_session.specs.declared.fault.OpenFault.{OpenFault}
 use Rattle.vc_image_session.specs.declared.fault.OpenFault.TheVariants.{NoDiscipline, Load, Tags}
-use Rattle.vc_seg.specs.declared.shelf.Shelf.{Shelf}
 use Rattle.vc_steps.proofs.Sessions.{Slots}
 
-pub again-by : {I : Type 0} {V : I → Type 0} (meaning : (x : I) × V x → Discipline) (kinds : List Rules) (place : ℕ) (image : List ℕ) (shelf shelf' : Shelf I V) (why : OpenFault) → StandsAgain meaning kinds place image shelf shelf' why → IsNotOpened meaning kinds place image shelf shelf' why
-again-by meaning kinds place image shelf shelf' NoDiscipline a = absurd a.cause
-again-by meaning kinds place image shelf shelf' (Load (Bad part)) a = a
-again-by meaning kinds place image shelf shelf' (Load (Round number)) a = a
-again-by meaning kinds place image shelf shelf' (Load Grows) a = a
-again-by meaning kinds place image shelf shelf' (Load (NoSegment number)) a = a
-again-by meaning kinds place image shelf shelf' (Load OutOfMemory) a = tt
-again-by meaning kinds place image shelf shelf' Tags a = a
+pub again-by : (kinds : List Rules) (place : ℕ) (image : List ℕ) (slots slots' : Slots) (why : OpenFault) → StandsAgain kinds place image slots slots' why → IsNotOpened kinds place image slots slots' why
+again-by kinds place image slots slots' NoDiscipline a = absurd a.cause
+again-by kinds place image slots slots' (Load (Bad part)) a = a
+again-by kinds place image slots slots' (Load (Round number)) a = a
+again-by kinds place image slots slots' (Load Grows) a = a
+again-by kinds place image slots slots' (Load (NoSegment number)) a = a
+again-by kinds place image slots slots' (Load OutOfMemory) a = tt
+again-by kinds place image slots slots' Tags a = a
 
 -- a place that was emptied and filled
 pub slots-again : (slots : Slots) (place : ℕ) (d : Discipline) {emptied filled : Slots} → emptied ≡ set slots (place - 1) None → filled ≡ set emptied (place - 1) (Some d) → filled ≡ set slots (place - 1) (Some d)

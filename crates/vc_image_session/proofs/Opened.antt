@@ -230,7 +230,7 @@ module _ {I : Type 0} {V : I → Type 0} (meaning : (x : I) × V x → Disciplin
         allowed = loaded.allowed;
         tags = tags-are kinds d.terms image best ds loaded ∙ parts.own;
         state_is = state-here;
-        accounts = subst (KeepsAccounts (accounts slots)) (sym settled-here) (accounts-kept slots d at image kinds ds loaded lent);
+        keeps = subst (KeepsAccounts (accounts slots)) (sym settled-here) (accounts-kept slots d at image kinds ds loaded lent);
         asked = subst (SameAsked (accounts slots)) (sym settled-here) (asked-same slots d at image kinds ds loaded lent);
       };
       unarmed = unarmed;

@@ -1,7 +1,5 @@
 -- What is promised of a session over an image, and why there is none.
 use Rattle.std.specs.Prelude.{◌≡◌, ◌≢◌, ℕ, ◌-◌, List, [], Bool, Option, Some, None, true, false, map, slice_set}
-use Rattle.vc_best.specs.Blocks.{layout_by}
-use Rattle.vc_best.specs.Cells.{zeroed_layout}
 use Rattle.vc_best.specs.declared.best.Best.{Best}
 use Rattle.vc_commands.specs.Held.{IsNamed}
 use Rattle.vc_commands.specs.Labels.{kept_of, name_of}
@@ -17,7 +15,7 @@ use Rattle.vc_image_dicts.specs.Whole.{IsSound}
 use Rattle.vc_image_lends.specs.Terms.{terms_fault}
 use Rattle.vc_image_session.specs.Copies.{copy_of}
 use Rattle.vc_image_session.specs.Entries.{entries_from}
-use Rattle.vc_image_session.specs.State.{image_state}
+use Rattle.vc_image_session.specs.State.{image_state, region_of_segs}
 use Rattle.vc_image_session.specs.declared.fault.OpenFault.{OpenFault}
 use Rattle.vc_image_session.specs.declared.fault.OpenFault.TheVariants.{NoDiscipline, Load, Tags}
 use Rattle.vc_model.specs.Discipline.{Discipline, Terms, armed_as}
@@ -28,20 +26,47 @@ use Rattle.vc_region.specs.declared.region.Region.TheVariants.{Best as OfBest}
 use Rattle.vc_seg.specs.Shelf.{place_at}
 use Rattle.vc_seg.specs.declared.shelf.Shelf.{Shelf}
 use Rattle.vc_seg.specs.declared.shelf.ShelfPlace.TheVariants.{Here}
-use Rattle.vc_steps.specs.Account.{Account, KeepsAccounts, SameAsked}
-use Rattle.vc_steps.specs.Homes.{IsSessionOver, accounts_on, settled_over, slots_on, state_on, state_over}
+use Rattle.vc_steps.specs.Account.{Account, KeepsAccounts, SameAsked, accounts, state_of}
+use Rattle.vc_steps.specs.Homes.{IsSessionOver, settled_over, slots_on, state_over}
 use Rattle.vc_steps.specs.State.{State}
 use Rattle.vc_steps.specs.declared.session.Session.{Session}
 
 -- whether the blocks of an image have tags of their own
 abbrev pub has_own_tags : List ℕ → Bool
-has_own_tags image = have_own_tags (zeroed_layout (layout_by (contents_of image).segs)).blocks
+has_own_tags image = have_own_tags (blocks_of (region_of_segs (contents_of image).segs))
 
 -- why no session is made over a discipline
 abbrev pub IsUnnamed : List Rules → List ℕ → Discipline → Discipline → OpenFault → Type 0
 IsUnnamed kinds image old new NoDiscipline = ⊥
 IsUnnamed kinds image old new (Load fault) = IsNotLoaded kinds image old new fault
 IsUnnamed kinds image old new Tags = IsSound kinds image × (has_own_tags image ≡ false)
+
+module _ (kinds : List Rules) (place : ℕ) (image : List ℕ) (slots : List (Option Discipline)) where
+  -- a state is that of an image over the discipline at a place of a shelf, and so are the accounts once all is closed
+  pub record StandsForImage (state : State) (settled : List (Option Account)) : Type 0 where
+    pub disc : Discipline
+    pub here : at_number slots place ≡ Some (Some disc)
+    pub sound : IsSound kinds image
+    pub allowed : terms_fault disc.terms (pairs_of image) ≡ None
+    pub tags : has_own_tags image ≡ true
+    pub state_is : state ≡ image_state (state_of kinds slots [] []) place disc.terms image
+    -- each place has its discipline, with the segments out and the terms that it had, and no fault less; none was asked for an exception
+    pub keeps : KeepsAccounts (accounts slots) settled
+    pub asked : SameAsked (accounts slots) settled
+
+  -- a discipline stood at a place, and stands there again; over it no session was made
+  pub record StandsAgain (slots' : List (Option Discipline)) (why : OpenFault) : Type 0 where
+    pub disc : Discipline
+    pub here : at_number slots place ≡ Some (Some disc)
+    pub after : Discipline
+    pub again : slots' ≡ slice_set slots (place - 1) (Some after)
+    pub cause : IsUnnamed kinds image (armed_as false disc) after why
+
+  -- none stands at the place; or that; want of memory may come at any time
+  abbrev pub IsNotOpened : List (Option Discipline) → OpenFault → Type 0
+  IsNotOpened slots' NoDiscipline = (place_at slots place ≢ Here) × (slots' ≡ slots)
+  IsNotOpened slots' (Load OutOfMemory) = Unit {0}
+  IsNotOpened slots' why = StandsAgain slots' why
 
 module _ {I : Type 0} {V : I → Type 0} where
   -- entries are those of copies of dictionaries, and labels name the blocks of a best region by their tags
@@ -65,37 +90,9 @@ module _ {I : Type 0} {V : I → Type 0} where
     pub loaded : IsLoaded kinds terms image (OfBest best) dicts
     pub parts : AreParts best dicts entries labels
 
-  module _ (meaning : (x : I) × V x → Discipline) (kinds : List Rules) (place : ℕ) (image : List ℕ) (shelf : Shelf I V) where
-    -- a state is that of an image over the discipline at a place of a shelf, and so are the accounts once all is closed
-    pub record StandsForImage (state : State) (settled : List (Option Account)) : Type 0 where
-      pub disc : Discipline
-      pub here : at_number (slots_on meaning shelf) place ≡ Some (Some disc)
-      pub sound : IsSound kinds image
-      pub allowed : terms_fault disc.terms (pairs_of image) ≡ None
-      pub tags : has_own_tags image ≡ true
-      pub state_is : state ≡ image_state (state_on meaning kinds shelf) place disc.terms image
-      -- each place has its discipline, with the segments out and the terms that it had, and no fault less; none was asked for an exception
-      pub accounts : KeepsAccounts (accounts_on meaning shelf) settled
-      pub asked : SameAsked (accounts_on meaning shelf) settled
-
   -- a session with what an image holds, which arms no discipline
   pub record OpensImage {D : Type 0} (meaning : (x : I) × V x → Discipline) (rules : D → Rules) (place : ℕ) (image : List ℕ) (shelf : Shelf I V) (kinds : List D) (shelf' : Shelf I V) (session : Session D I V) : Type 0 where
     pub stands : IsSessionOver meaning rules shelf' session kinds
-    pub is : StandsForImage meaning (map rules kinds) place image shelf (state_over meaning (map rules kinds) shelf' session) (settled_over meaning shelf' session)
+    pub is : StandsForImage (map rules kinds) place image (slots_on meaning shelf) (state_over meaning (map rules kinds) shelf' session) (settled_over meaning shelf' session)
     pub unarmed : session.is_armed ≡ false
     pub spent : session.is_spent ≡ false
-
-  module _ (meaning : (x : I) × V x → Discipline) (kinds : List Rules) (place : ℕ) (image : List ℕ) (shelf shelf' : Shelf I V) where
-    -- a discipline stood at a place, and stands there again; over it no session was made
-    pub record StandsAgain (why : OpenFault) : Type 0 where
-      pub disc : Discipline
-      pub here : at_number (slots_on meaning shelf) place ≡ Some (Some disc)
-      pub after : Discipline
-      pub again : slots_on meaning shelf' ≡ slice_set (slots_on meaning shelf) (place - 1) (Some after)
-      pub cause : IsUnnamed kinds image (armed_as false disc) after why
-
-    -- none stands at the place; or that; want of memory may come at any time
-    abbrev pub IsNotOpened : OpenFault → Type 0
-    IsNotOpened NoDiscipline = (place_at (slots_on meaning shelf) place ≢ Here) × (slots_on meaning shelf' ≡ slots_on meaning shelf)
-    IsNotOpened (Load OutOfMemory) = Unit {0}
-    IsNotOpened why = StandsAgain why

@@ -10,7 +10,7 @@ use Rattle.vc_image_bytes.specs.Contents.{contents_of}
 use Rattle.vc_image_session.specs.Names.{dict_name, region_name}
 use Rattle.vc_model.specs.Discipline.{Terms}
 use Rattle.vc_objects.specs.Parts.{dictionary_of}
-use Rattle.vc_region.specs.Region.{OfBest, region_with_labels}
+use Rattle.vc_region.specs.Region.{OfBest, Region, region_with_labels}
 use Rattle.vc_seg.specs.Segment.{Bytes}
 use Rattle.vc_steps.specs.State.{State}
 use Rattle.vc_views.specs.Views.{DictHome}
@@ -22,13 +22,21 @@ dict_homes cells n (d ∷ ds) =
     record { name = dict_name n; home = region_name; kind = d.kind; views = None; dict = dictionary_of d cells }
     ∷ dict_homes cells (n + 1) ds
 
+-- the best region of segments, its blocks by their tags, with zeros in those without one
+abbrev pub region_of_segs : List Bytes → Region ℕ
+region_of_segs segs = OfBest (zeroed_layout (layout_by segs))
+
+-- and the cells in it, the blocks without a tag
+abbrev pub cells_of_segs : List Bytes → Blocks
+cells_of_segs segs = cells_of (layout_by segs).blocks
+
 -- a state in which nothing is open, once a best region of these segments is, over the discipline at a place, of those terms, with dictionaries
 abbrev pub state_with : State → ℕ → Terms → List Bytes → List Dict → State
 state_with s place terms segs dicts =
     record s {
       shelf = slice_set s.shelf (place - 1) None;
-      homes = record { name = region_name; place = place; terms = terms; region = region_with_labels name_by_tag (OfBest (zeroed_layout (layout_by segs))); kept = [] } ∷ [];
-      dicts = dict_homes (cells_of (layout_by segs).blocks) 1 dicts;
+      homes = record { name = region_name; place = place; terms = terms; region = region_with_labels name_by_tag (region_of_segs segs); kept = [] } ∷ [];
+      dicts = dict_homes (cells_of_segs segs) 1 dicts;
     }
 
 -- once the region of an image is, with its dictionaries

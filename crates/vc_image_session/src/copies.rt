@@ -1,11 +1,12 @@
-ghost use Rattle.std.specs.Prelude.{◌≡◌};
+ghost use Rattle.std.specs.Prelude.{◌≡◌, ◌<◌, ◌^◌};
 ghost use Rattle.vc_image_session.specs.Copies.{copy_of};
 
 use vc_dict::Dict;
 
 /// A dictionary made of the numbers of another one. This project's own.
 pub fn copy_of(dict: &Dict) -> Dict
-    ensures { result ≡ copy_of dict.now }
+    ensures same { result ≡ copy_of dict.now }
+    ensures kind { result.kind < 2 ^ 32 }
 {
     Dict::from_parts(
         dict.method,

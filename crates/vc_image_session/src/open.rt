@@ -85,8 +85,8 @@ fn open_image<D: DictDisc>(
     requires { 0 ≤ vec_len shelf.old.slots }
     ensures opens { IfOk result (OpensImage state D.rules place image.now shelf.old kinds.now.items
         shelf.new) }
-    ensures fault { IfErr result (IsNotOpened state (map D.rules kinds.now.items) place image.now
-        shelf.old shelf.new) }
+    ensures fault { IfErr result (IsNotOpened (map D.rules kinds.now.items) place image.now
+        (slots_on state shelf.old) (slots_on state shelf.new)) }
     ensures accounts { OnErr result (KeepsAccounts (accounts_on state shelf.old)
         (accounts_on state shelf.new)) }
     ensures asked { OnErr result (SameAsked (accounts_on state shelf.old)
@@ -138,8 +138,8 @@ pub fn session_of_image<D: DictDisc>(
 ) -> Result<Session<D>, OpenFault>
     ensures opens { IfOk result (OpensImage state D.rules place image.now shelf.old kinds.now.items
         shelf.new) }
-    ensures fault { IfErr result (IsNotOpened state (map D.rules kinds.now.items) place image.now
-        shelf.old shelf.new) }
+    ensures fault { IfErr result (IsNotOpened (map D.rules kinds.now.items) place image.now
+        (slots_on state shelf.old) (slots_on state shelf.new)) }
     ensures accounts { OnErr result (KeepsAccounts (accounts_on state shelf.old)
         (accounts_on state shelf.new)) }
     ensures asked { OnErr result (SameAsked (accounts_on state shelf.old)

@@ -51,7 +51,7 @@ returns-in-Ok-load_named-clause-unarmed g c =
 pub returns-in-Err-clause-fault : goal.returns-in-Err-clause-fault
 returns-in-Err-clause-fault g c =
     let M = meaning g in
-    again-by M (map g.D.DictDisc.rules c.args.kinds.now.items) c.args.place c.args.image.now c.args.shelf.now c.give_back.new.self c.in-Err.why
+    again-by (map g.D.DictDisc.rules c.args.kinds.now.items) c.args.place c.args.image.now (slots_on M c.args.shelf.now) (slots_on M c.give_back.new.self) c.in-Err.why
     (record {
       disc = disc_in_box M c.in-Some.disc;
       here = c.in-Some.ensures.taken;
