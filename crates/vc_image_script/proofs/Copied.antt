@@ -1,14 +1,17 @@
 -- Copies of dictionaries, one after the other, and how many there are.
-use Rattle.vc_base.proofs.Common.{Result, Ok, Err, IfOk, IfErr, ◌≡◌, ℕ, zero, suc, ◌+◌, ◌<◌, ◌≤◌, Bool, true, false, eqb, List, [], ◌∷◌, ◌++◌, map, length, take, slice_get, Some, bytes_eq, sym, refl, ap, ◌∙◌, subst, inl, inr, arith, add-one, append-nil, length-map, length-append, ne_eqb, eqb_tells, length-le_from_distinct_below, AllByRecursion, IsDistinct, list_any, AreDistinct, contains}
+use Rattle.vc_base.proofs.Common.{Result, Ok, Err, IfOk, IfErr, ◌≡◌, ℕ, zero, suc, ◌+◌, ◌<◌, ◌≤◌, Bool, true, false, eqb, List, [], ◌∷◌, ◌++◌, map, length, take, slice_get, Some, IsSome, bytes_eq, sym, refl, ap, ◌∙◌, subst, inl, inr, arith, add-one, append-nil, length-map, length-append, ne_eqb, eqb_tells, length-le_from_distinct_below, AllByRecursion, IsDistinct, list_any, AreDistinct, contains}
 use Rattle.std.proofs.lemmas.Grind.{flat_map-append}
 use Rattle.vc_base.proofs.Members.{apart-head, apart-tail}
 use Rattle.vc_commands.specs.declared.dict.entry.DictEntry.{DictEntry}
+use Rattle.vc_commands.specs.declared.region.home.HomeEntry.{HomeEntry}
 use Rattle.vc_dict.specs.declared.dict.Dict.{Dict}
 use Rattle.vc_dtdisc.specs.Rules.{Rules}
-use Rattle.vc_image_script.specs.Copies.{copies_in, copies_of}
+use Rattle.vc_image.specs.Save.{image_in}
+use Rattle.vc_image_script.specs.Copies.{KindsFit, copies_in, copies_of}
 use Rattle.vc_image_script.specs.Found.{IsFirstImage, IsUnsaved, WhyNone}
 use Rattle.vc_image_script.specs.declared.fault.ScriptFault.{ScriptFault}
 use Rattle.vc_image_script.specs.declared.fault.ScriptFault.TheVariants.{Line, Read, Write, Memory, NoRegion, WrongMethod, Unsound}
+use Rattle.vc_region.specs.OfBest.{best_in}
 use Rattle.vc_steps.specs.declared.session.Session.{Session}
 use Rattle.vc_paths.specs.Links.{numbers}
 use Rattle.vc_views.specs.Dicts.{HaveViewNumbers, number_in}
@@ -26,6 +29,11 @@ copies-push region es i e old new at before after =
     ∙ (ap (λ xs. copies_in region (take i es) ++ xs) (sym (append-nil (copies_of region e.1)))
     ∙ (sym (flat_map-append (λ (x : List ℕ × DictEntry). copies_of region x.1) (take i es) (e ∷ []))
     ∙ ap (λ xs. copies_in region xs) (sym (ap (λ n. take n es) (add-one i) ∙ take-push es i e at)))))
+
+-- the kinds of all fit where those of both parts do
+pub kinds-both : (xs ys : List Dict) → KindsFit xs → KindsFit ys → KindsFit (xs ++ ys)
+kinds-both [] ys first rest = rest
+kinds-both (x ∷ xs) ys first rest = (first.0, kinds-both xs ys first.1 rest)
 
 one-most : (region : List ℕ) (e : DictEntry) (t : Bool) → bytes_eq e.home region ≡ t → length (copies_of region e) ≤ 1
 one-most region e true is = rw is (omega arith)
@@ -62,6 +70,16 @@ few-entries es have =
     let few : length (map number_in es) ≤ numbers = length-le_from_distinct_below (map number_in es) numbers (distinct_all (map number_in es) have.distinct) (λ q h. below-all es q have.below h) in
     let same = length-map es number_in in
     omega (arith, few, same)
+
+-- the image of a first region with copies of its dictionaries
+pub first-image : {I : Type 0} {V : I → Type 0} {D : Type 0} (session : Session D I V) (entry : List ℕ × HomeEntry I V) (dicts : List Dict) (image : List ℕ) → slice_get session.homes.entries 0 ≡ Some entry → IsSome (best_in entry.1.region) → dicts ≡ copies_in entry.0 session.dicts.entries → KindsFit dicts → image ≡ image_in entry.1.region dicts → IsFirstImage session image
+first-image session entry dicts image first best copies fit is = record {
+  entry = entry;
+  first = first;
+  best = best;
+  kinds_fit = subst KindsFit copies fit;
+  image_is = is ∙ ap (image_in entry.1.region) copies;
+}
 
 -- and what keeps a region from being saved keeps the session's first one
 pub why-none : {I : Type 0} {V : I → Type 0} {D : Type 0} (kinds : List Rules) (session : Session D I V) (image : List ℕ) → IsFirstImage session image → (why : ScriptFault) → IsUnsaved kinds image why → WhyNone kinds session why

@@ -59,7 +59,7 @@ module _ {I : Type 0} {V : I → Type 0} {D : Type 0} (meaning : (x : I) × V x 
   abbrev last_of : Moment
   last_of = moment meaning rules gone shelf session kinds
 
-  saved-err : (why : ScriptFault) → RunsOn Dtrun no_words (Ok None) start last_of old new → WhyNone (rules_in rules kinds) session why → FailsBy meaning (rules_in rules kinds) why start (moment_at_end last_of) old new
+  saved-err : (why : ScriptFault) → RunsOn Dtrun no_words (Ok None) start last_of old new → WhyNone (rules_in rules kinds) session why → FailsBy (rules_in rules kinds) why start (moment_at_end last_of) old new
   saved-err (Line n why) on none = absurd none
   saved-err Read on none = absurd none
   saved-err Write on none = absurd none
@@ -67,12 +67,12 @@ module _ {I : Type 0} {V : I → Type 0} {D : Type 0} (meaning : (x : I) × V x 
   saved-err NoRegion on none = runs-to (λ s. s.homes ≡ []) start last_of old new on (none-open meaning rules shelf session kinds over none)
   saved-err WrongMethod on none = runs-to IsOtherFirst start last_of old new on (other-first meaning rules shelf session kinds over none)
   saved-err (Unsound part) on none =
-      runs-to (λ s. (image : List ℕ) × (IsImageOf meaning s image × IsFirstUnsoundPart (rules_in rules kinds) image part)) start last_of old new on
+      runs-to (λ s. (image : List ℕ) × (IsImageOf s image × IsFirstUnsoundPart (rules_in rules kinds) image part)) start last_of old new on
       (none.0, (image-of meaning rules shelf session kinds over none.0 none.1.0, none.1.1))
 
-  pub saved-by : (image : Result MemorySink ScriptFault) → RunsOn Dtrun no_words (Ok None) start last_of old new → IfOk image (λ i. IsFirstImage session i.written) → IfOk image (λ i. IsSound (rules_in rules kinds) i.written) → IfErr image (WhyNone (rules_in rules kinds) session) → Saves meaning (rules_in rules kinds) image start (moment_at_end last_of) old new
+  pub saved-by : (image : Result MemorySink ScriptFault) → RunsOn Dtrun no_words (Ok None) start last_of old new → IfOk image (λ i. IsFirstImage session i.written) → IfOk image (λ i. IsSound (rules_in rules kinds) i.written) → IfErr image (WhyNone (rules_in rules kinds) session) → Saves (rules_in rules kinds) image start (moment_at_end last_of) old new
   saved-by (Ok image) on first sound none =
-      runs-to (λ s. IsSaved meaning (rules_in rules kinds) s image.written) start last_of old new on
+      runs-to (λ s. IsSaved (rules_in rules kinds) s image.written) start last_of old new on
       (record { image_of = image-of meaning rules shelf session kinds over image.written first; sound = sound })
   saved-by (Err why) on first sound none = saved-err why on none
 
@@ -91,8 +91,8 @@ module _ (start before last after : Moment) (old new : Flows) (same : start ≡ 
     is = r.is;
   }
 
-  module _ {I : Type 0} {V : I → Type 0} (meaning : (x : I) × V x → Discipline) (kinds : List Rules) where
-    fails-at_rest : (why : ScriptFault) → FailsBy meaning kinds why start last old new → FailsBy meaning kinds why before after old new
+  module _ (kinds : List Rules) where
+    fails-at_rest : (why : ScriptFault) → FailsBy kinds why start last old new → FailsBy kinds why before after old new
     fails-at_rest (Line n why) r = runs-at_rest _ r
     fails-at_rest Read r = runs-at_rest _ r
     fails-at_rest Write r = runs-at_rest _ r
@@ -102,13 +102,13 @@ module _ (start before last after : Moment) (old new : Flows) (same : start ≡ 
     fails-at_rest WrongMethod r = to-at_rest _ r
     fails-at_rest (Unsound part) r = to-at_rest _ r
 
-    pub saves-at_rest : (image : Result MemorySink ScriptFault) → Saves meaning kinds image start last old new → Saves meaning kinds image before after old new
+    pub saves-at_rest : (image : Result MemorySink ScriptFault) → Saves kinds image start last old new → Saves kinds image before after old new
     saves-at_rest (Ok image) r = to-at_rest _ r
     saves-at_rest (Err why) r = fails-at_rest why r
 
 -- disciplines are armed only where the version is 2
-module _ {I : Type 0} {V : I → Type 0} (meaning : (x : I) × V x → Discipline) (kinds : List Rules) (start last : Moment) (old new : Flows) where
-  fails-arms : (why : ScriptFault) → FailsBy meaning kinds why start last old new → IfSome old.left (λ input. ArmsBy Dtrun input last)
+module _ (kinds : List Rules) (start last : Moment) (old new : Flows) where
+  fails-arms : (why : ScriptFault) → FailsBy kinds why start last old new → IfSome old.left (λ input. ArmsBy Dtrun input last)
   fails-arms (Line n why) r = r.arms
   fails-arms Read r = r.arms
   fails-arms Write r = r.arms
@@ -118,7 +118,7 @@ module _ {I : Type 0} {V : I → Type 0} (meaning : (x : I) × V x → Disciplin
   fails-arms WrongMethod r = r.runs.arms
   fails-arms (Unsound part) r = r.runs.arms
 
-  pub saves-arms : (image : Result MemorySink ScriptFault) → Saves meaning kinds image start last old new → IfSome old.left (λ input. ArmsBy Dtrun input last)
+  pub saves-arms : (image : Result MemorySink ScriptFault) → Saves kinds image start last old new → IfSome old.left (λ input. ArmsBy Dtrun input last)
   saves-arms (Ok image) r = r.runs.arms
   saves-arms (Err why) r = fails-arms why r
 

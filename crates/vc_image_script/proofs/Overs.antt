@@ -1,5 +1,5 @@
 -- A session over an image: its names are proper, and a run begins with it.
-use Rattle.vc_base.proofs.Common.{◌≡◌, ◌⊎◌, ℕ, ◌≤◌, Bool, true, false, List, [], ◌∷◌, ◌++◌, map, length, leb, decimal, Some, None, Result, sym, refl, ap, ◌∙◌, subst, arith, inl, inr, eqb_tells, and_from, and_parts, le-leb, leb-true, list_all, Block, Layout, Discipline, relabel_block}
+use Rattle.vc_base.proofs.Common.{◌≡◌, ◌⊎◌, ℕ, ◌≤◌, Bool, true, false, List, [], ◌∷◌, ◌++◌, map, length, leb, decimal, Some, None, Ok, Err, Result, sym, refl, ap, ◌∙◌, subst, arith, inl, inr, eqb_tells, and_from, and_parts, le-leb, leb-true, list_all, Block, Layout, Discipline, relabel_block}
 use Rattle.std.proofs.lemmas.Fmt.{length-decimal-le}
 use Rattle.vc_base.specs.Memory.{MemorySink}
 use Rattle.vc_best.specs.Blocks.{layout_by}
@@ -10,9 +10,11 @@ use Rattle.vc_commands.specs.Tagged.{have_own_tags, is_own_tag, name_by_tag, tex
 use Rattle.vc_dtdisc.specs.Rules.{Gone, Rules}
 use Rattle.vc_image_bytes.specs.Contents.{contents_of}
 use Rattle.vc_image_script.proofs.Ended.{saves-arms, saves-at_rest}
-use Rattle.vc_image_script.specs.Over.{BeginsWith}
+use Rattle.vc_image_script.specs.Over.{BeginsWith, Remakes}
 use Rattle.vc_image_script.specs.Promises.{Saves}
 use Rattle.vc_image_script.specs.declared.fault.ScriptFault.{ScriptFault}
+use Rattle.vc_image_script.specs.declared.over_fault.OverFault.{OverFault}
+use Rattle.vc_image_script.specs.declared.over_fault.OverFault.TheVariants.{Script}
 use Rattle.vc_image_session.specs.Opens.{OpensImage, has_own_tags}
 use Rattle.vc_image_session.specs.State.{image_state}
 use Rattle.vc_model.specs.Discipline.{Terms}
@@ -28,7 +30,7 @@ use Rattle.vc_session.specs.ProperState.{IsProperOver, IsProperState, name_or_no
 use Rattle.vc_session.specs.Streams.{Flows}
 use Rattle.vc_steps.proofs.SettledShelf.{keeps-trans}
 use Rattle.vc_steps.specs.Account.{KeepsAccounts, SameAsked}
-use Rattle.vc_steps.specs.Homes.{accounts_on, settled_over, state_on, state_over}
+use Rattle.vc_steps.specs.Homes.{accounts_on, settled_over, slots_on, state_on, state_over}
 use Rattle.vc_steps.specs.Moment.{Moment, moment, moment_at_end, moment_at_rest}
 use Rattle.vc_steps.specs.Told.{ended_told, gone_in, rules_in, tell}
 use Rattle.vc_steps.specs.State.{State}
@@ -63,6 +65,11 @@ proper-state s place terms image own =
     let r : Layout ℕ = zeroed_layout (layout_by (contents_of image).segs) in
     ((ap (λ bs. OfBest (record { segments = r.segments; blocks = bs })) (names-kept r.blocks own), tt, tt, refl), tt)
 
+-- the answer of a run over an image
+abbrev over_answer : Result MemorySink ScriptFault → Result MemorySink OverFault
+over_answer (Ok image) = Ok image
+over_answer (Err why) = Err (Script why)
+
 -- what was opened
 module _ {I : Type 0} {V : I → Type 0} {D : Type 0} {meaning : (x : I) × V x → Discipline} {rules : D → Rules} {place : ℕ} {image : List ℕ} {shelf shelf' : Shelf I V} {kinds : List D} {session : Session D I V} (o : OpensImage meaning rules place image shelf kinds shelf' session) where
   pub opened-proper : IsProperOver meaning rules shelf' session kinds
@@ -71,12 +78,12 @@ module _ {I : Type 0} {V : I → Type 0} {D : Type 0} {meaning : (x : I) × V x 
     proper = subst IsProperState (sym o.is.state_is) (proper-state (state_on meaning (map rules kinds) shelf) place o.is.disc.terms image o.is.tags);
   }
 
-  pub begins-with : (gone : D → Gone) → BeginsWith meaning rules gone place image shelf kinds (moment meaning rules gone shelf' session kinds)
+  begins-with : (gone : D → Gone) → BeginsWith rules gone place image (slots_on meaning shelf) kinds (moment meaning rules gone shelf' session kinds)
   begins-with gone = record { is = o.is; gone_is = refl; unarmed = o.unarmed }
 
   -- a run from there, and then the session's end
   module _ (gone : D → Gone) (shelf'' after : Shelf I V) (session' : Session D I V) (kinds' last : List D) (answer : Result MemorySink ScriptFault) (old new : Flows)
-      (ran : RunsArming meaning rules gone shelf' session kinds shelf'' session' kinds' (λ (s l : Moment). Saves meaning (map rules kinds') answer s (moment_at_end l) old new))
+      (ran : RunsArming meaning rules gone shelf' session kinds shelf'' session' kinds' (λ (s l : Moment). Saves (map rules kinds') answer s (moment_at_end l) old new))
       (ends : accounts_on meaning after ≡ settled_over meaning shelf'' session')
       (told : gone_in gone last ≡ tell (ended_told (state_over meaning (rules_in rules kinds') shelf'' session')) (gone_in gone kinds')) where
     abbrev start : Moment
@@ -88,19 +95,23 @@ module _ {I : Type 0} {V : I → Type 0} {D : Type 0} {meaning : (x : I) × V x 
     abbrev at_rest : Moment
     at_rest = moment_at_rest meaning rules gone after last
 
-    pub saves-over : Saves meaning (map rules kinds) answer start at_rest old new
+    saves-over : Saves (map rules kinds) answer start at_rest old new
     saves-over =
         saves-at_rest start start (moment_at_end ended) at_rest old new refl
-        (λ written. record { written = refl; accounts = ends; gone = told }) refl meaning (map rules kinds) answer
-        (subst (λ ks. Saves meaning ks answer start (moment_at_end ended) old new) ran.lasts.lasts.keeps_rules ran.runs)
+        (λ written. record { written = refl; accounts = ends; gone = told }) refl (map rules kinds) answer
+        (subst (λ ks. Saves ks answer start (moment_at_end ended) old new) ran.lasts.lasts.keeps_rules ran.runs)
+
+    pub remakes-over : (r : Result MemorySink ScriptFault) → answer ≡ r → Remakes rules gone place image (slots_on meaning shelf) kinds (over_answer r) (slots_on meaning after) last old new
+    remakes-over (Ok image) is = record { start = start; begins = begins-with gone; ran_to = subst (λ r. Saves (map rules kinds) r start at_rest old new) is saves-over }
+    remakes-over (Err why) is = record { start = start; begins = begins-with gone; ran_to = subst (λ r. Saves (map rules kinds) r start at_rest old new) is saves-over }
 
     pub keeps-over : Keeps (IsFirst None Dtrun old.left) (moment_at_rest meaning rules gone shelf kinds) at_rest
     keeps-over = record {
       accounts =
-          keeps-trans (accounts_on meaning shelf) (settled_over meaning shelf' session) (accounts_on meaning after) o.is.accounts
+          keeps-trans (accounts_on meaning shelf) (settled_over meaning shelf' session) (accounts_on meaning after) o.is.keeps
           (subst (KeepsAccounts (settled_over meaning shelf' session)) (sym ends) ran.lasts.lasts.accounts);
       asked = λ first.
           subst (SameAsked (settled_over meaning shelf' session)) (sym ends)
-          (ran.lasts.lasts.asked (first-arms Dtrun old.left ended (saves-arms meaning (map rules kinds') start (moment_at_end ended) old new answer ran.runs) first))
+          (ran.lasts.lasts.asked (first-arms Dtrun old.left ended (saves-arms (map rules kinds') start (moment_at_end ended) old new answer ran.runs) first))
           ∙ o.is.asked;
     }

@@ -1,6 +1,6 @@
 -- Copies of the dictionaries of a session.
-use Rattle.std.specs.Prelude.{ℕ, List, [], ◌∷◌, if◌then◌else◌}
-use Rattle.std.specs.List.{flat_map}
+use Rattle.std.specs.Prelude.{ℕ, ◌<◌, ◌^◌, List, [], ◌∷◌, if◌then◌else◌}
+use Rattle.std.specs.List.{AllByRecursion, flat_map}
 use Rattle.std.specs.Str.{bytes_eq}
 use Rattle.vc_commands.specs.declared.dict.entry.DictEntry.{DictEntry}
 use Rattle.vc_dict.specs.declared.dict.Dict.{Dict}
@@ -13,3 +13,7 @@ copies_of region entry = if bytes_eq entry.home region then copy_of entry.dict �
 -- those of all, in order of opening
 abbrev pub copies_in : List ℕ → List (List ℕ × DictEntry) → List Dict
 copies_in region entries = flat_map (λ e. copies_of region e.1) entries
+
+-- the number of the kind of each has a place in an image
+abbrev pub KindsFit : List Dict → Type 0
+KindsFit dicts = AllByRecursion (λ (d : Dict). d.kind < 2 ^ 32) dicts

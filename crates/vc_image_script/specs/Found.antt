@@ -1,19 +1,21 @@
 -- The image of the first open region of a session, or why there is none.
-use Rattle.std.specs.Prelude.{◌≡◌, ℕ, List, [], Some, None, slice_get}
+use Rattle.std.specs.Prelude.{◌≡◌, ℕ, List, [], Some, None, IsSome, slice_get}
 use Rattle.vc_commands.specs.declared.region.home.HomeEntry.{HomeEntry}
 use Rattle.vc_dtdisc.specs.Rules.{Rules}
 use Rattle.vc_image.specs.Save.{image_in}
 use Rattle.vc_image_dicts.specs.Whole.{IsFirstUnsoundPart}
-use Rattle.vc_image_script.specs.Copies.{copies_in}
+use Rattle.vc_image_script.specs.Copies.{KindsFit, copies_in}
 use Rattle.vc_image_script.specs.declared.fault.ScriptFault.{ScriptFault}
 use Rattle.vc_image_script.specs.declared.fault.ScriptFault.TheVariants.{Memory, NoRegion, WrongMethod, Unsound}
 use Rattle.vc_region.specs.OfBest.{best_in}
 use Rattle.vc_steps.specs.declared.session.Session.{Session}
 
--- bytes are the image of the first open region of a session with copies of the dictionaries that lie in it
+-- bytes are the image of the first open region of a session, a best one, with copies of the dictionaries that lie in it
 pub record IsFirstImage {I : Type 0} {V : I → Type 0} {D : Type 0} (session : Session D I V) (image : List ℕ) : Type 0 where
   pub entry : List ℕ × HomeEntry I V
   pub first : slice_get session.homes.entries 0 ≡ Some entry
+  pub best : IsSome (best_in entry.1.region)
+  pub kinds_fit : KindsFit (copies_in entry.0 session.dicts.entries)
   pub image_is : image ≡ image_in entry.1.region (copies_in entry.0 session.dicts.entries)
 
 -- a part of an image isn't sound, or memory is wanting

@@ -1,5 +1,5 @@
 -- What is promised of a script that is run over what an image holds.
-use Rattle.std.specs.Prelude.{◌≡◌, ℕ, List, Result, Ok, Err, false, map}
+use Rattle.std.specs.Prelude.{◌≡◌, ℕ, List, [], Option, None, Result, Ok, Err, false, map}
 use Rattle.vc_base.specs.Memory.{MemorySink}
 use Rattle.vc_dtdisc.specs.Rules.{Gone, Rules}
 use Rattle.vc_image_script.specs.Promises.{Saves}
@@ -8,15 +8,27 @@ use Rattle.vc_image_script.specs.declared.over_fault.OverFault.TheVariants.{Open
 use Rattle.vc_image_session.specs.Opens.{IsNotOpened, StandsForImage}
 use Rattle.vc_image_session.specs.declared.fault.OpenFault.{OpenFault}
 use Rattle.vc_model.specs.Discipline.{Discipline}
-use Rattle.vc_seg.specs.declared.shelf.Shelf.{Shelf}
 use Rattle.vc_session.specs.Streams.{Flows}
-use Rattle.vc_steps.specs.Moment.{Moment, moment_at_rest}
-use Rattle.vc_steps.specs.Told.{gone_in}
+use Rattle.vc_steps.specs.Account.{accounts, state_of}
+use Rattle.vc_steps.specs.Moment.{Moment}
+use Rattle.vc_steps.specs.Told.{gone_in, rules_in}
 
-module _ {I : Type 0} {V : I → Type 0} {D : Type 0} (meaning : (x : I) × V x → Discipline) (rules : D → Rules) (gone : D → Gone) (place : ℕ) (image : List ℕ) (shelf : Shelf I V) (kinds : List D) where
+-- the moment at which no region is open, over the disciplines of a shelf and kinds
+abbrev pub at_rest : {D : Type 0} → (D → Rules) → (D → Gone) → List (Option Discipline) → List D → Moment
+at_rest rules gone slots kinds =
+    record {
+      state = state_of (rules_in rules kinds) slots [] [];
+      regions = [];
+      armed = false;
+      written = None;
+      accounts = accounts slots;
+      gone = gone_in gone kinds;
+    }
+
+module _ {D : Type 0} (rules : D → Rules) (gone : D → Gone) (place : ℕ) (image : List ℕ) (slots : List (Option Discipline)) (kinds : List D) where
   -- a run begins with what the image holds: no kind was told of anything, and no discipline is armed
   pub record BeginsWith (start : Moment) : Type 0 where
-    pub is : StandsForImage meaning (map rules kinds) place image shelf start.state start.accounts
+    pub is : StandsForImage (map rules kinds) place image slots start.state start.accounts
     pub gone_is : start.gone ≡ gone_in gone kinds
     pub unarmed : start.armed ≡ false
 
@@ -27,15 +39,15 @@ module _ {I : Type 0} {V : I → Type 0} {D : Type 0} (meaning : (x : I) × V x 
     pub ran_to : ran start
 
   -- nothing was run
-  pub record RanNothing (why : OpenFault) (shelf' : Shelf I V) (kinds' : List D) (old new : Flows) : Type 0 where
-    pub cause : IsNotOpened meaning (map rules kinds) place image shelf shelf' why
+  pub record RanNothing (why : OpenFault) (slots' : List (Option Discipline)) (kinds' : List D) (old new : Flows) : Type 0 where
+    pub cause : IsNotOpened (map rules kinds) place image slots slots' why
     pub same_kinds : kinds' ≡ kinds
     pub same_flows : new ≡ old
 
   -- by what is answered
-  abbrev pub Remakes : Result MemorySink OverFault → Shelf I V → List D → Flows → Flows → Type 0
-  Remakes (Ok remade) shelf' kinds' old new =
-      RunsFromImage (λ start. Saves meaning (map rules kinds) (Ok remade) start (moment_at_rest meaning rules gone shelf' kinds') old new)
-  Remakes (Err (Script why)) shelf' kinds' old new =
-      RunsFromImage (λ start. Saves meaning (map rules kinds) (Err why) start (moment_at_rest meaning rules gone shelf' kinds') old new)
-  Remakes (Err (Open why)) shelf' kinds' old new = RanNothing why shelf' kinds' old new
+  abbrev pub Remakes : Result MemorySink OverFault → List (Option Discipline) → List D → Flows → Flows → Type 0
+  Remakes (Ok remade) slots' kinds' old new =
+      RunsFromImage (λ start. Saves (map rules kinds) (Ok remade) start (at_rest rules gone slots' kinds') old new)
+  Remakes (Err (Script why)) slots' kinds' old new =
+      RunsFromImage (λ start. Saves (map rules kinds) (Err why) start (at_rest rules gone slots' kinds') old new)
+  Remakes (Err (Open why)) slots' kinds' old new = RanNothing why slots' kinds' old new

@@ -2,7 +2,6 @@
 use Rattle.std.specs.Prelude.{◌≡◌, ℕ, ◌⊎◌, List, [], Option, Some, None, Result, Ok, Err, IfSome, IsSomeAnd, false, slice_get}
 use Rattle.vc_base.specs.Memory.{MemorySink}
 use Rattle.vc_dtdisc.specs.Rules.{Rules}
-use Rattle.vc_model.specs.Discipline.{Discipline}
 use Rattle.vc_image_dicts.specs.Whole.{IsFirstUnsoundPart, IsSound}
 use Rattle.vc_image_script.specs.Image.{IsImageOf}
 use Rattle.vc_image_script.specs.declared.fault.ScriptFault.{ScriptFault}
@@ -41,10 +40,10 @@ pub record RunsTo (holds : State → Type 0) (start last : Moment) (old new : Fl
 abbrev pub IsOtherFirst : State → Type 0
 IsOtherFirst s = IsSomeAnd (slice_get s.homes 0) (λ (h : Home). is_best h.region ≡ false)
 
-module _ {I : Type 0} {V : I → Type 0} (meaning : (x : I) × V x → Discipline) (kinds : List Rules) where
+module _ (kinds : List Rules) where
   -- a sound image of the first region with its dictionaries
   pub record IsSaved (s : State) (image : List ℕ) : Type 0 where
-    pub image_of : IsImageOf meaning s image
+    pub image_of : IsImageOf s image
     pub sound : IsSound kinds image
 
   -- why no image is made
@@ -55,7 +54,7 @@ module _ {I : Type 0} {V : I → Type 0} (meaning : (x : I) × V x → Disciplin
   FailsBy Memory start last old new = Runs (Err stop.Memory) start last old new ⊎ Runs (Ok None) start last old new
   FailsBy NoRegion start last old new = RunsTo (λ s. s.homes ≡ []) start last old new
   FailsBy WrongMethod start last old new = RunsTo IsOtherFirst start last old new
-  FailsBy (Unsound part) start last old new = RunsTo (λ s. (image : List ℕ) × (IsImageOf meaning s image × IsFirstUnsoundPart kinds image part)) start last old new
+  FailsBy (Unsound part) start last old new = RunsTo (λ s. (image : List ℕ) × (IsImageOf s image × IsFirstUnsoundPart kinds image part)) start last old new
 
   -- by what is answered
   abbrev pub Saves : Result MemorySink ScriptFault → Moment → Moment → Flows → Flows → Type 0

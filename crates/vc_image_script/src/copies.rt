@@ -1,5 +1,5 @@
-ghost use Rattle.std.specs.Prelude.{◌≡◌, ◌++◌, ◌∷◌, [], IfOk, OnOk};
-ghost use Rattle.vc_image_script.specs.Copies.{copies_in, copies_of};
+ghost use Rattle.std.specs.Prelude.{◌≡◌, ◌<◌, ◌^◌, ◌++◌, ◌∷◌, [], IfOk, OnOk};
+ghost use Rattle.vc_image_script.specs.Copies.{KindsFit, copies_in, copies_of};
 ghost use Rattle.vc_image_session.specs.Copies.{copy_of};
 
 use std::alloc::Global;
@@ -10,7 +10,8 @@ use vc_session::{DictEntry, Session};
 
 // Puts a copy of a dictionary behind the others.
 fn add(copies: &mut Dicts, dict: &Dict) -> Result<(), OutOfMemory>
-    ensures { OnOk result (copies.new ≡ copies.old ++ copy_of dict.now ∷ []) }
+    ensures put { OnOk result (copies.new ≡ copies.old ++ copy_of dict.now ∷ []) }
+    ensures kind { OnOk result (dict.now.kind < 2 ^ 32) }
 {
     match copies.add(copy_of(dict)) {
         Ok(()) => Ok(()),
@@ -20,7 +21,8 @@ fn add(copies: &mut Dicts, dict: &Dict) -> Result<(), OutOfMemory>
 
 // Puts a copy of a dictionary behind the others where it lies in the region of a name.
 fn add_if_in(copies: &mut Dicts, entry: &DictEntry, region: &Name) -> Result<(), OutOfMemory>
-    ensures { OnOk result (copies.new ≡ copies.old ++ copies_of region.now entry.now) }
+    ensures put { OnOk result (copies.new ≡ copies.old ++ copies_of region.now entry.now) }
+    ensures kind { OnOk result (KindsFit (copies_of region.now entry.now)) }
 {
     if entry.home == *region {
         return add(copies, &entry.dict);
@@ -34,7 +36,8 @@ pub(crate) fn copies_in<D>(
     session: &Session<D>,
     region: &Name,
 ) -> Result<Dicts, OutOfMemory>
-    ensures { IfOk result (λ copies. copies ≡ copies_in region.now session.now.dicts.entries) }
+    ensures copies { IfOk result (λ copies. copies ≡ copies_in region.now session.now.dicts.entries) }
+    ensures kinds { IfOk result KindsFit }
 {
     let mut copies = Dicts::new(alloc);
     for i in 0..session.dicts.len() {

@@ -32,8 +32,8 @@ fn opened<D: DictDisc>(
     requires { 0 ≤ vec_len shelf.old.slots }
     ensures opens { IfOk result (OpensImage state D.rules place image.now shelf.old kinds.now.items
         shelf.new) }
-    ensures fault { IfErr result (IsNotOpened state (map D.rules kinds.now.items) place image.now
-        shelf.old shelf.new) }
+    ensures fault { IfErr result (IsNotOpened (map D.rules kinds.now.items) place image.now
+        (slots_on state shelf.old) (slots_on state shelf.new)) }
     ensures accounts { OnErr result (KeepsAccounts (accounts_on state shelf.old)
         (accounts_on state shelf.new)) }
     ensures asked { OnErr result (SameAsked (accounts_on state shelf.old)
@@ -57,8 +57,8 @@ pub fn image_over_image<D: DictDisc, S: Source, O: Sink>(
     source: &mut S,
     out: &mut O,
 ) -> Result<MemSink, OverFault>
-    ensures remakes { Remakes state D.rules D.gone place image.now shelf.old kinds.old.items result
-        shelf.new kinds.new.items
+    ensures remakes { Remakes D.rules D.gone place image.now (slots_on state shelf.old) kinds.old.items result
+        (slots_on state shelf.new) kinds.new.items
         (flows S.left S.failures O.written O.failures source.old out.old)
         (flows S.left S.failures O.written O.failures source.new out.new) }
     ensures keeps { Keeps

@@ -44,7 +44,7 @@ pub(crate) fn run_and_save<D: DictDisc, S: Source, O: Sink>(
     requires new { cutter.old ≡ new_cutting }
     ensures { RunsArming state D.rules D.gone shelf.old session.old kinds.old.items
         shelf.new session.new kinds.new.items
-        (λ start last. Saves state (map D.rules kinds.new.items) result start (moment_at_end last)
+        (λ start last. Saves (map D.rules kinds.new.items) result start (moment_at_end last)
         (flows S.left S.failures O.written O.failures source.old out.old)
         (flows S.left S.failures O.written O.failures source.new out.new)) }
 {
@@ -82,7 +82,7 @@ pub fn image_of_script<D: DictDisc, S: Source, O: Sink>(
     source: &mut S,
     out: &mut O,
 ) -> Result<MemSink, ScriptFault>
-    ensures saves { Saves state (map D.rules kinds.old.items) result
+    ensures saves { Saves (map D.rules kinds.old.items) result
         (moment_at_rest state D.rules D.gone shelf.old kinds.old.items)
         (moment_at_rest state D.rules D.gone shelf.new kinds.new.items)
         (flows S.left S.failures O.written O.failures source.old out.old)

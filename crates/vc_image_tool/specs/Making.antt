@@ -1,5 +1,5 @@
 -- What is promised of an image that is made of what a script leaves.
-use Rattle.std.specs.Prelude.{◌≡◌, ℕ, List, Result, Ok, Err}
+use Rattle.std.specs.Prelude.{◌≡◌, ℕ, List, Option, Result, Ok, Err}
 use Rattle.vc_base.specs.Memory.{MemorySink}
 use Rattle.vc_dtdisc.specs.Rules.{Gone, Rules}
 use Rattle.vc_model.specs.Discipline.{Discipline}
@@ -10,7 +10,6 @@ use Rattle.vc_image_script.specs.declared.fault.ScriptFault.{ScriptFault}
 use Rattle.vc_image_tool.specs.Told.{fault_line, over_fault, script_status, status_of}
 use Rattle.vc_image_tool.specs.declared.fault.ImageFault.TheVariants as fault
 use Rattle.vc_image_tool.specs.declared.status.ImageStatus.{ImageStatus}
-use Rattle.vc_seg.specs.declared.shelf.Shelf.{Shelf}
 use Rattle.vc_session.specs.Streams.{Flows, Streams}
 use Rattle.vc_steps.specs.Moment.{Moment}
 use Rattle.vc_write.specs.Told.{Tried}
@@ -19,29 +18,29 @@ use Rattle.vc_write.specs.Told.{Tried}
 abbrev pub flows_of : Streams → Flows
 flows_of s = record { left = s.left; reads = s.reads; written = s.written; writes = s.writes }
 
-module _ {I : Type 0} {V : I → Type 0} (meaning : (x : I) × V x → Discipline) (kinds : List Rules) where
+module _ (kinds : List Rules) where
   -- it is told why no image is made
   pub record TellsScript (status : ImageStatus) (start last : Moment) (old new : Streams) : Type 0 where
     pub why : ScriptFault
-    pub cause : FailsBy meaning kinds why start last (flows_of old) (flows_of new)
+    pub cause : FailsBy kinds why start last (flows_of old) (flows_of new)
     pub status_is : status ≡ script_status why
     pub told : Tried old.errors new.errors old.told new.told (fault_line (fault.Script why))
 
   -- by what is answered
   abbrev pub Makes : Result MemorySink ImageStatus → Moment → Moment → Streams → Streams → Type 0
-  Makes (Ok image) start last old new = Saves meaning kinds (Ok image) start last (flows_of old) (flows_of new)
+  Makes (Ok image) start last old new = Saves kinds (Ok image) start last (flows_of old) (flows_of new)
   Makes (Err status) start last old new = TellsScript status start last old new
 
-module _ {I : Type 0} {V : I → Type 0} {D : Type 0} (meaning : (x : I) × V x → Discipline) (rules : D → Rules) (gone : D → Gone) (place : ℕ) (image : List ℕ) (shelf : Shelf I V) (kinds : List D) where
+module _ {D : Type 0} (rules : D → Rules) (gone : D → Gone) (place : ℕ) (image : List ℕ) (slots : List (Option Discipline)) (kinds : List D) where
   -- it is told why no image is made of what a script leaves that is run over this one
-  pub record TellsOver (status : ImageStatus) (shelf' : Shelf I V) (kinds' : List D) (old new : Streams) : Type 0 where
+  pub record TellsOver (status : ImageStatus) (slots' : List (Option Discipline)) (kinds' : List D) (old new : Streams) : Type 0 where
     pub why : OverFault
-    pub cause : Remakes meaning rules gone place image shelf kinds (Err why) shelf' kinds' (flows_of old) (flows_of new)
+    pub cause : Remakes rules gone place image slots kinds (Err why) slots' kinds' (flows_of old) (flows_of new)
     pub status_is : status ≡ status_of (over_fault why)
     pub told : Tried old.errors new.errors old.told new.told (fault_line (over_fault why))
 
   -- by what is answered
-  abbrev pub MakesOver : Result MemorySink ImageStatus → Shelf I V → List D → Streams → Streams → Type 0
-  MakesOver (Ok remade) shelf' kinds' old new =
-      Remakes meaning rules gone place image shelf kinds (Ok remade) shelf' kinds' (flows_of old) (flows_of new)
-  MakesOver (Err status) shelf' kinds' old new = TellsOver status shelf' kinds' old new
+  abbrev pub MakesOver : Result MemorySink ImageStatus → List (Option Discipline) → List D → Streams → Streams → Type 0
+  MakesOver (Ok remade) slots' kinds' old new =
+      Remakes rules gone place image slots kinds (Ok remade) slots' kinds' (flows_of old) (flows_of new)
+  MakesOver (Err status) slots' kinds' old new = TellsOver status slots' kinds' old new

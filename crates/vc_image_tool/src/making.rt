@@ -30,7 +30,7 @@ fn run<D: DictDisc, S: Source, O: Sink>(
     out: &mut O,
 ) -> Result<MemSink, ScriptFault>
     requires { 0 ≤ vec_len shelf.old.slots }
-    ensures saves { Saves state (map D.rules kinds.old.items) result
+    ensures saves { Saves (map D.rules kinds.old.items) result
         (moment_at_rest state D.rules D.gone shelf.old kinds.old.items)
         (moment_at_rest state D.rules D.gone shelf.new kinds.new.items)
         (flows S.left S.failures O.written O.failures source.old out.old)
@@ -57,7 +57,7 @@ pub fn make<D: DictDisc, S: Source, O: Sink, E: Sink>(
     out: &mut O,
     err: &mut E,
 ) -> Result<MemSink, ImageStatus>
-    ensures makes { Makes state (map D.rules kinds.old.items) result
+    ensures makes { Makes (map D.rules kinds.old.items) result
         (moment_at_rest state D.rules D.gone shelf.old kinds.old.items)
         (moment_at_rest state D.rules D.gone shelf.new kinds.new.items)
         (streams S.left S.failures O.written O.failures E.written E.failures
@@ -90,8 +90,8 @@ fn run_over<D: DictDisc, S: Source, O: Sink>(
     out: &mut O,
 ) -> Result<MemSink, OverFault>
     requires { 0 ≤ vec_len shelf.old.slots }
-    ensures remakes { Remakes state D.rules D.gone place image.now shelf.old kinds.old.items result
-        shelf.new kinds.new.items
+    ensures remakes { Remakes D.rules D.gone place image.now (slots_on state shelf.old) kinds.old.items result
+        (slots_on state shelf.new) kinds.new.items
         (flows S.left S.failures O.written O.failures source.old out.old)
         (flows S.left S.failures O.written O.failures source.new out.new) }
     ensures keeps { Keeps
@@ -128,8 +128,8 @@ pub fn remake<D: DictDisc, S: Source, O: Sink, E: Sink>(
     out: &mut O,
     err: &mut E,
 ) -> Result<MemSink, ImageStatus>
-    ensures makes { MakesOver state D.rules D.gone place image.now shelf.old kinds.old.items result
-        shelf.new kinds.new.items
+    ensures makes { MakesOver D.rules D.gone place image.now (slots_on state shelf.old) kinds.old.items
+        result (slots_on state shelf.new) kinds.new.items
         (streams S.left S.failures O.written O.failures E.written E.failures
         source.old out.old err.old)
         (streams S.left S.failures O.written O.failures E.written E.failures

@@ -9,6 +9,7 @@ ghost use Rattle.std.specs.Process.{exit_status};
 ghost use Rattle.vc_image_tool.specs.Making.{Makes, MakesOver};
 ghost use Rattle.vc_image_tool.specs.Status.{number};
 ghost use Rattle.vc_session.specs.Streams.{streams};
+ghost use Rattle.vc_steps.specs.Homes.{slots_on};
 ghost use Rattle.vc_steps.specs.Moment.{moment_at_rest};
 
 use crate::file::{read, replace};
@@ -69,7 +70,7 @@ fn made<S: Source, O: Sink, E: Sink>(
     err: &mut E,
 ) -> Result<MemSink, ImageStatus>
     requires places { vec_len shelf.old.slots ≡ 18 }
-    ensures makes { Makes state (map ⟦<BuiltIn as DictDisc>⟧.rules kinds.old.items) result
+    ensures makes { Makes (map ⟦<BuiltIn as DictDisc>⟧.rules kinds.old.items) result
         (moment_at_rest state ⟦<BuiltIn as DictDisc>⟧.rules ⟦<BuiltIn as DictDisc>⟧.gone shelf.old kinds.old.items)
         (moment_at_rest state ⟦<BuiltIn as DictDisc>⟧.rules ⟦<BuiltIn as DictDisc>⟧.gone shelf.new kinds.new.items)
         (streams S.left S.failures O.written O.failures E.written E.failures
@@ -91,8 +92,8 @@ fn remade<S: Source, O: Sink, E: Sink>(
     err: &mut E,
 ) -> Result<MemSink, ImageStatus>
     requires places { vec_len shelf.old.slots ≡ 18 }
-    ensures makes { MakesOver state ⟦<BuiltIn as DictDisc>⟧.rules ⟦<BuiltIn as DictDisc>⟧.gone 1 image.now
-        shelf.old kinds.old.items result shelf.new kinds.new.items
+    ensures makes { MakesOver ⟦<BuiltIn as DictDisc>⟧.rules ⟦<BuiltIn as DictDisc>⟧.gone 1 image.now
+        (slots_on state shelf.old) kinds.old.items result (slots_on state shelf.new) kinds.new.items
         (streams S.left S.failures O.written O.failures E.written E.failures
         source.old out.old err.old)
         (streams S.left S.failures O.written O.failures E.written E.failures

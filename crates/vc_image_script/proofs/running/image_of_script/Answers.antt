@@ -36,8 +36,8 @@ returns-clause-saves g c =
     let old = flows g.S.Source.left g.S.Source.failures g.O.Sink.written g.O.Sink.failures c.args.source.now c.args.out.now in
     let new = flows g.S.Source.left g.S.Source.failures g.O.Sink.written g.O.Sink.failures c.run_and_save-image.new.source c.run_and_save-image.new.out in
     saves-at_rest start before (moment_at_end last) after old new same
-    (λ written. record { written = refl; accounts = c.end.ensures.shelf; gone = c.end.ensures.gone }) refl M (map by c.args.kinds.now.items) c.run_and_save-image.result
-    (subst (λ ks. Saves M ks c.run_and_save-image.result start (moment_at_end last) old new) c.run_and_save-image.ensures.lasts.lasts.keeps_rules c.run_and_save-image.ensures.runs)
+    (λ written. record { written = refl; accounts = c.end.ensures.shelf; gone = c.end.ensures.gone }) refl (map by c.args.kinds.now.items) c.run_and_save-image.result
+    (subst (λ ks. Saves ks c.run_and_save-image.result start (moment_at_end last) old new) c.run_and_save-image.ensures.lasts.lasts.keeps_rules c.run_and_save-image.ensures.runs)
 
 pub returns-clause-keeps : goal.returns-clause-keeps
 returns-clause-keeps g c =
@@ -50,7 +50,7 @@ returns-clause-keeps g c =
     let same : start ≡ before = new-moment M by gone c.args.shelf.now c.in-Ok-over.session c.args.kinds.now.items c.in-Ok-over.ensures.none c.in-Ok-over.ensures.unarmed in
     let old = flows g.S.Source.left g.S.Source.failures g.O.Sink.written g.O.Sink.failures c.args.source.now c.args.out.now in
     let new = flows g.S.Source.left g.S.Source.failures g.O.Sink.written g.O.Sink.failures c.run_and_save-image.new.source c.run_and_save-image.new.out in
-    let arms = saves-arms M (map by c.run_and_save-image.new.kinds.items) start (moment_at_end last) old new c.run_and_save-image.result c.run_and_save-image.ensures.runs in
+    let arms = saves-arms (map by c.run_and_save-image.new.kinds.items) start (moment_at_end last) old new c.run_and_save-image.result c.run_and_save-image.ensures.runs in
     record {
       accounts =
           subst (λ a. KeepsAccounts before.accounts a) (sym c.end.ensures.shelf)
