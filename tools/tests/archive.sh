@@ -14,11 +14,29 @@ scripts_run() {
     done
 }
 
-# Programs that are linked with the archive, and whose allocations it counts.
+# counted NAME FILE FLAG..: a program that is linked with the archive, and whose allocations it counts.
+counted() {
+    name=$1
+    file=$2
+    shift 2
+    cc -O2 -Wall -Werror -I "$here/../include" -Wl,--wrap=malloc,--wrap=realloc,--wrap=free -o "$name" "$here/tests/$file" \
+        "$archive" "$@"
+}
+
+# The program with libcdt.
 beside() {
     # shellcheck disable=SC2046
-    cc -O2 -Wall -Werror -I "$here/../include" -Wl,--wrap=malloc,--wrap=realloc,--wrap=free -o kb_beside \
-        "$here/tests/beside.c" "$archive" $(pkg-config --cflags --libs libcdt)
+    counted kb_beside beside.c $(pkg-config --cflags --libs libcdt)
+}
+
+# A script that leaves an image, and one over it, through the archive and through vmimage: the images and the replies.
+states_last() {
+    "$programs/vmimage" save vm.first < kb.first > vm.out || return 1
+    ./kb_state - kb.image1 < kb.first > kb.out || return 1
+    cmp vm.first kb.image1 && cmp vm.out kb.out || return 1
+    "$programs/vmimage" run vm.first < kb.second > vm.out || return 1
+    ./kb_state kb.image1 kb.image2 < kb.second > kb.out || return 1
+    cmp vm.first kb.image2 && cmp vm.out kb.out
 }
 
 if [ ! -f "$archive" ]; then
@@ -59,6 +77,28 @@ elif cc -O2 -Wall -Werror -I "$here/../include" -o kb_script "$here/tests/kb_scr
         check "archive: the line of that doesn't fit, $task" \
             same "$(./kb_image $task 9 24 < kb.image 2>&1; echo "$?")" 'vmimage: unsound: header4'
     done
+    cc -O2 -Wall -Werror -I "$here/../include" -o kb_state "$here/tests/kb_state.c" "$archive"
+    cc -O2 -Wall -Werror -I "$here/../include" -o kb_last "$here/../examples/state.c" "$archive"
+    check "archive: the example in C of a state that lasts" same "$(./kb_last; echo "$?")" \
+        "$(printf 'r open\nd open\nnew fig\nnew pear\nnew apple\nnew fig\n4 apple fig fig pear\n4\n0')"
+    printf 'open r best 1\nalloc r a 100\ndict s set r 1\ninsert s fig\n' > kb.first
+    printf 'free r b1\ninsert d1 pear\nwalk d1\n' > kb.second
+    check "archive: a state lasts as through vmimage" states_last
+    bytes=$(wc -c < kb.image2)
+    check "archive: an image that fits exactly" same "$(./kb_state kb.image1 kb.image3 "$bytes" < kb.second > kb.out; echo "$?")" 0
+    check "archive: an image that doesn't fit" \
+        same "$(./kb_state kb.image1 kb.image3 "$((bytes - 1))" < kb.second > kb.out; echo "$?"; wc -c < kb.image3)" "$(printf '4\n%s' "$((bytes - 1))")"
+    check "archive: a line is wrong that is run over an image" \
+        same "$(./kb_state kb.image1 kb.image3 < kb.bad 2>&1; echo "$?"; wc -c < kb.image3)" "$(printf 'vmimage: line 1: wrong number of words\n7\n0')"
+    check "archive: no region is left" same "$(./kb_state - kb.image3 < /dev/null 2>&1; echo "$?")" "$(printf 'vmimage: no region\n8')"
+    check "archive: an image isn't sound that a script is run over" \
+        same "$(./kb_state kb.image kb.image3 < kb.second 2>&1; echo "$?")" "$(printf 'vmimage: unsound: header\n1')"
+    counted kb_fails kb_fails.c
+    check "archive: each allocation fails in turn where an image is made" ./kb_fails
+    if has valgrind; then
+        check "archive: no error and no leak where an image is made" \
+            valgrind -q --leak-check=full --error-exitcode=9 ./kb_fails
+    fi
     if ! has pkg-config || ! pkg-config --exists libcdt; then
         skipped "the archive beside Graphviz's libcdt: there is no libcdt"
     elif beside; then

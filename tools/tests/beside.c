@@ -11,33 +11,7 @@
 #include <stdio.h>
 #include <stdlib.h>
 #include <string.h>
-
-/* Allocations of kb_run: how many were made, how many are held, and which one fails; 0 for none. */
-static long made, held, fail_at;
-static int is_counting;
-
-void *__real_malloc(size_t size);
-void *__real_realloc(void *old, size_t size);
-void __real_free(void *block);
-
-void *__wrap_malloc(size_t size) {
-    if (is_counting && ++made == fail_at) return NULL;
-    void *block = __real_malloc(size);
-    if (is_counting && block) held++;
-    return block;
-}
-
-void *__wrap_realloc(void *old, size_t size) {
-    if (is_counting && ++made == fail_at) return NULL;
-    void *block = __real_realloc(old, size);
-    if (is_counting && block && !old) held++;
-    return block;
-}
-
-void __wrap_free(void *block) {
-    if (is_counting && block) held--;
-    __real_free(block);
-}
+#include "counted.h"
 
 /* A text that grows. */
 typedef struct {
@@ -202,15 +176,10 @@ __attribute__((noinline)) static void by_libcdt(const char *method, const Text *
 static uint32_t by_kolbista(const Text *script, Text *text) {
     uint8_t err[128];
     size_t err_used;
-    made = 0;
-    is_counting = 1;
+    begin_counting();
     uint32_t status = kb_run(KB_DTRUN, 0, (const uint8_t *)script->bytes, script->size, (uint8_t *)text->bytes, text->room,
                              &text->size, err, sizeof err, &err_used);
-    is_counting = 0;
-    if (held) {
-        printf("%ld allocations were not freed\n", held);
-        exit(1);
-    }
+    end_counting();
     return status;
 }
 

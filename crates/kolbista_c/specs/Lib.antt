@@ -1,2 +1,4 @@
 pub mod Images
+pub mod Making
 pub mod Memory
+pub mod Tasks

@@ -69,6 +69,12 @@ pub record RanInMemory (tool : Tool) (words : List (List ℕ)) (script : List �
   pub replied : IsFilled replies out
   pub faulted : IsFilled told err
 
+-- nothing was put into three buffers
+pub record AreIdle (made out err : Buffer) : Type 0 where
+  pub made_is : IsFilled [] made
+  pub out_is : IsFilled [] out
+  pub err_is : IsFilled [] err
+
 -- nothing was run
 pub record IsIdle (due answer : ℕ) (out err : Buffer) : Type 0 where
   pub code : answer ≡ due

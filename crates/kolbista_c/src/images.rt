@@ -11,7 +11,7 @@ use vc_main::kinds;
 use vc_seg::{BoxedDisc, HeapDisc, SegDisc};
 
 // The kinds of dtrun.
-fn own_kinds(alloc: Global) -> Result<Vec<BuiltIn>, AllocError>
+pub(crate) fn own_kinds(alloc: Global) -> Result<Vec<BuiltIn>, AllocError>
     ensures { IfOk result (λ kinds. map ⟦<BuiltIn as DictDisc>⟧.rules kinds.items ≡ dtrun_rules) }
 {
     let kinds = kinds(alloc)?;

@@ -1,14 +1,14 @@
-ghost use Rattle.std.specs.Prelude.{◌≡◌, ◌≤◌, ◌&&◌, Some, [], if◌then◌else◌, length, map, nat_le, string_bytes, vec_len, IfOk, OnErr};
-ghost use Rattle.kolbista_c.specs.Memory.{IsFilled, Played, Runs, buffer, words_by};
-ghost use Rattle.vc_session.specs.Status.{number};
+ghost use Rattle.std.specs.Prelude.{◌≡◌, ◌≤◌, Some, [], map, string_bytes, vec_len, IfOk, OnErr};
+ghost use Rattle.kolbista_c.specs.Memory.{IsFilled, Played, RanInMemory, Runs, buffer, words_by};
 
 use crate::buffers::{fill_both, sinks};
+use crate::own_shelf::{Task, on_own_shelf};
 use crate::slice_source::SliceSource;
 use std::alloc::{AllocError, Global};
-use vc_base::MemSink;
-use vc_main::{budgeted, growing, kinds, relieved};
+use vc_base::{MemSink, OutOfMemory};
+use vc_main::kinds;
 use vc_script::Tool;
-use vc_seg::{BoxedDisc, HeapDisc, SegDisc, Shelf};
+use vc_seg::{BoxedDisc, SegDisc, Shelf};
 use vc_session::{Status, dtrun, replay};
 
 // The words that flags stand for.
@@ -53,8 +53,8 @@ fn play(
     }
 }
 
-// Runs a tool over a shelf, and puts what it writes into two buffers.
-fn run_over(
+/// Runs a tool over a shelf, and puts what it writes into two buffers.
+pub(crate) fn run_in_memory(
     alloc: Global,
     tool: Tool,
     words: &[String],
@@ -64,20 +64,18 @@ fn run_over(
     out_used: &mut usize,
     err: &mut [u8],
     err_used: &mut usize,
-) -> u32
+) -> Result<u32, OutOfMemory>
     requires shelf { vec_len shelf.old.slots ≡ 18 }
     requires out { out_used.old ≡ 0 }
     requires err { err_used.old ≡ 0 }
-    ensures { Runs (Some tool) (Some (map string_bytes words.now)) script.now result
-        (buffer out.old out.new out_used.new) (buffer err.old err.new err_used.new) }
+    ensures ok { IfOk result (λ code. RanInMemory tool (map string_bytes words.now) script.now code
+        (buffer out.old out.new out_used.new) (buffer err.old err.new err_used.new)) }
+    ensures out { OnErr result (IsFilled [] (buffer out.old out.new out_used.new)) }
+    ensures err { OnErr result (IsFilled [] (buffer err.old err.new err_used.new)) }
 {
-    let Ok((mut replies, mut told)) = sinks(alloc, out.len()) else {
-        return 5;
-    };
-    let Ok(status) = play(alloc, tool, words, shelf, script, &mut replies, &mut told) else {
-        return 5;
-    };
-    fill_both(
+    let (mut replies, mut told) = sinks(alloc, out.len())?;
+    let status = play(alloc, tool, words, shelf, script, &mut replies, &mut told)?;
+    Ok(fill_both(
         u32::from(status.number()),
         &replies,
         &told,
@@ -85,11 +83,10 @@ fn run_over(
         out_used,
         err,
         err_used,
-    )
+    ))
 }
 
-// Runs a tool over disciplines of its own: 1 to 12 never refuse a segment, 13 to 16 have a budget, 17 makes a segment
-// longer, and 18 has a budget that it raises once.
+/// Runs a tool with the words that flags stand for.
 pub(crate) fn run(
     alloc: Global,
     tool: Tool,
@@ -100,61 +97,30 @@ pub(crate) fn run(
     err: &mut [u8],
     err_used: &mut usize,
 ) -> u32
-    requires { flags ≤ 3 }
+    requires flags { flags ≤ 3 }
+    requires out { out_used.old ≡ 0 }
+    requires err { err_used.old ≡ 0 }
     ensures { Runs (Some tool) (words_by flags) script.now result
         (buffer out.old out.new out_used.new) (buffer err.old err.new err_used.new) }
 {
-    *out_used = 0;
-    *err_used = 0;
     let Ok(words) = words_of(alloc, flags) else {
         return 5;
     };
-    let mut shelf = Shelf::new(alloc);
-    for i in 0..8u32 {
-        let Ok(disc) = Box::new(alloc, HeapDisc::new(4096)) else {
-            return 5;
-        };
-        let Ok(_) = shelf.put(disc) else {
-            return 5;
-        };
-    }
-    for j in 0..4u32 {
-        let Ok(disc) = Box::new(alloc, HeapDisc::new(65_536)) else {
-            return 5;
-        };
-        let Ok(_) = shelf.put(disc) else {
-            return 5;
-        };
-    }
-    for k in 0..4u32 {
-        let Ok(disc) = Box::new(alloc, budgeted()) else {
-            return 5;
-        };
-        let Ok(_) = shelf.put(disc) else {
-            return 5;
-        };
-    }
-    let Ok(disc) = Box::new(alloc, growing()) else {
-        return 5;
-    };
-    let Ok(_) = shelf.put(disc) else {
-        return 5;
-    };
-    let Ok(disc) = Box::new(alloc, relieved()) else {
-        return 5;
-    };
-    let Ok(_) = shelf.put(disc) else {
-        return 5;
-    };
-    run_over(
+    let task = Task::Run(tool, words.as_slice());
+    let mut made_used = 0;
+    let ran = on_own_shelf(
         alloc,
-        tool,
-        words.as_slice(),
-        &mut shelf,
+        &task,
         script,
+        &mut [],
+        &mut made_used,
         out,
         out_used,
         err,
         err_used,
-    )
+    );
+    match ran {
+        Ok(code) => code,
+        Err(_) => 5,
+    }
 }
