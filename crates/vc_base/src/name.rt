@@ -1,7 +1,6 @@
-ghost use Rattle.std.specs.Prelude.{◌≡◌, ℕ, ◌≤◌, length, nat_eq};
+ghost use Rattle.std.specs.Prelude.{◌≡◌, ℕ, ◌∷◌, [], ◌≤◌, length, nat_eq};
 ghost use Rattle.std.specs.Cmp.{partial_equiv_from_equiv};
 ghost use Rattle.std.specs.Cmp.Lexicographic.{nat_list_eq_equiv};
-ghost use Rattle.std.specs.Hash as fed;
 ghost use Rattle.std.specs.Str.{bytes_eq};
 ghost use Rattle.std.proofs.Common.{ap};
 ghost use Rattle.std.proofs.lemmas.Slice.Eq.{bytes_eq-Decides};
@@ -67,11 +66,11 @@ impl Eq for Name {
 }
 
 impl Hash for Name {
-    ghost hash_input = { λ n. fed.slice fed.u8 n };
+    ghost hash_input = { λ n. n ∷ [] };
 
-    ghost respects_eq = { λ a b same. ap (fed.slice fed.u8) ((bytes_eq-Decides a b).0 same) };
+    ghost respects_eq = { λ a b same. ap (λ n. n ∷ []) ((bytes_eq-Decides a b).0 same) };
 
     fn hash<H: Hasher>(&self, state: &mut H) {
-        self.bytes().hash(state);
+        state.write(self.bytes());
     }
 }
