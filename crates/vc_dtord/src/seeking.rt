@@ -50,8 +50,8 @@ fn raised<N: Nodes>(nodes: &mut N, root: u32, at: u32) -> u32
 }
 
 // The new root, and the last node that is before what the guide seeks, or 0 where none is. It takes one step for each node
-// that it asks the guide of. The walk back from the first node that isn't before it ends at the node that is answered, and
-// is no longer than the way down to the deepest one that was read: both are made the root.
+// that it asks the guide of. The walk back from the first node that isn't before it ends at the node that is answered, which
+// is made the root then, and is no longer than the way down to the deepest one that was read, which was splayed.
 fn find_last_before<N: Nodes, G: Guide<N>, L>(
     nodes: &mut N,
     root: u32,

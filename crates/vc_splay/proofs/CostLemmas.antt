@@ -3,7 +3,7 @@ use Rattle.vc_base.proofs.Common.{◌≡◌, ℕ, ◌+◌, ◌*◌, ◌≤◌, f
 use Rattle.vc_splay.specs.Tree.{Tree, Leaf, Node}
 use Rattle.vc_splay.specs.Moves.{Context, Paid, depth, plug}
 use Rattle.vc_splay.specs.Rank.{Costs, binary_digits, level, rank, size}
-use Rattle.vc_splay.specs.Searches.{Joined, Reached}
+use Rattle.vc_splay.specs.Searches.{Joined}
 use Rattle.vc_splay.specs.Stands.{IsTree}
 use Rattle.vc_splay.specs.Store.{Store}
 use Rattle.vc_splay.proofs.DigitLemmas.{level-digits, level-few, level-rises}
@@ -19,21 +19,8 @@ size-some c l n r =
     let d = deep c (Node l n r) in
     omega arith
 
--- the deepest node was splayed, and then another one or none
-pub reached_once : (c : Context) (t after : Tree) → Paid c t after → Reached c t after
-reached_once c t after h = record { paid = let i = h.paid in omega arith }
-
-pub reached_twice : (c : Context) (t mid : Tree) (d : Context) (u after : Tree) → Paid c t mid → plug d u ≡ mid → size mid ≡ size (plug c t) → Paid d u after → Reached c t after
-reached_twice c t mid d u after h e same k = record {
-  paid =
-      let i = h.paid in
-      let j = k.paid in
-      let r = ap rank e in
-      let s = ap level (ap size e ∙ same) in
-      omega arith;
-}
-
-pub searched : (c : Context) (l : Tree) (n : ℕ) (r tree after : Tree) (before now : ℕ) → plug c (Node l n r) ≡ tree → now ≡ before + (depth c + 1) → Reached c (Node l n r) after → Costs tree after before now (12 * binary_digits (size tree))
+-- the deepest node was splayed
+pub searched : (c : Context) (l : Tree) (n : ℕ) (r tree after : Tree) (before now : ℕ) → plug c (Node l n r) ≡ tree → now ≡ before + (depth c + 1) → Paid c (Node l n r) after → Costs tree after before now (12 * binary_digits (size tree))
 searched c l n r tree after before now e deep h = record {
   cost =
       let whole = plug c (Node l n r) in

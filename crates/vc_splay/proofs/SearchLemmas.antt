@@ -5,7 +5,7 @@ use Rattle.vc_splay.specs.Store.{Store}
 use Rattle.vc_splay.specs.Stands.{IsTree, Stands, TreeAfter}
 use Rattle.vc_splay.specs.Guide.{CanFind, Rises, RisesFrom, reads_of_walk, first_at, least_at}
 use Rattle.vc_splay.specs.Moves.{Context, Top, Under, depth, name_at, one, plug, tally}
-use Rattle.vc_splay.specs.Searches.{CanReach, Search, is_found}
+use Rattle.vc_splay.specs.Searches.{Search, is_found}
 use Rattle.vc_splay.specs.Unique.{IsTree-one}
 use Rattle.vc_splay.specs.Walks.{run}
 use Rattle.vc_splay.proofs.GuideLemmas.{first_by_least, least-here, least-skip, only_equal, rises-behind, rises-front}
@@ -256,14 +256,6 @@ pub first_none : (s : Store) (side : ℕ → Ordering) (root : ℕ) (t : Tree) �
 first_none s side root t none k e = ap (λ z. first_at side (names z)) (sym (no_tree s root t none k e))
 
 -- what a search found
-pub can_reach : (s : Store) (side : ℕ → Ordering) (root deepest found least before now : ℕ) (t : Tree) → IsTree s root t → Search side t deepest least before now → (found ≢ 0 → found ≡ least) → CanReach s root deepest found
-can_reach s side root deepest found least before now t k w e = record {
-  tree = t;
-  is_tree = k;
-  deepest_in = w.deepest_in;
-  found_in = λ some. ap (contains (names t)) (e some) ∙ w.found_in (λ z. some (e some ∙ z));
-}
-
 pub least_steps : (s : Store) (side : ℕ → Ordering) (root deepest found before now : ℕ) (t : Tree) → IsTree s root t → root ≢ 0 → Search side t deepest found before now → before + 1 ≤ now
 least_steps s side root deepest found before now t k some w = let a = asked_some (λ n. is_ge (side n)) t (λ z. some (k.top ∙ z)) in let b = w.steps in omega arith
 

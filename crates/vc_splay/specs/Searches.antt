@@ -1,5 +1,5 @@
 -- What a walk down a tree ends with.
-use Rattle.std.specs.Prelude.{◌++◌, Bool, ◌≡◌, ◌≢◌, ℕ, ◌+◌, ◌*◌, ◌/◌, ◌≤◌, true, not, ◌==◌, ◌&&◌}
+use Rattle.std.specs.Prelude.{◌++◌, Bool, ◌≡◌, ◌≢◌, ℕ, ◌+◌, ◌*◌, ◌≤◌, true, not, ◌==◌, ◌&&◌}
 use Rattle.std.specs.Ordering.{is_eq, is_ge, is_gt}
 use Rattle.std.specs.declared.cmp.Ordering.{Ordering}
 use Rattle.vc_base.specs.Holders.{AreDistinct, contains, some_address}
@@ -25,18 +25,6 @@ pub record Search (side : ℕ → Ordering) (tree : Tree) (deepest found before 
 -- whether there is such a first one, and it is what is sought
 abbrev pub is_found : (ℕ → Ordering) → ℕ → Bool
 is_found side least = not (least == 0) && is_eq (side least)
-
--- it stands for a tree with this name in it, and another one that is in it too or is 0
-pub record CanReach (s : Store) (root deepest found : ℕ) : Type 0 where
-  pub tree : Tree
-  pub is_tree : IsTree s root tree
-  pub deepest_in : contains (names tree) deepest ≡ true
-  pub found_in : found ≢ 0 → contains (names tree) found ≡ true
-
--- what it cost that the deepest node and then another one were splayed, up to the root of this tree: the twofold steps of
--- the deepest one, and twice the rank
-pub record Reached (c : Context) (t after : Tree) : Type 0 where
-  pub paid : 2 * (depth c / 2) + 2 * rank after ≤ 2 * rank (plug c t) + 12 * level (size (plug c t))
 
 -- where a name is to hang: in a place with no node, below the last node that was read, on this side, by a step for each
 -- node read

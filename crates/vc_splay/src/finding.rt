@@ -2,11 +2,10 @@ ghost use Rattle.std.specs.Prelude.{◌≡◌, ◌≢◌, ℕ, ◌+◌, ◌*◌,
 ghost use Rattle.std.specs.Ordering.{is_eq, is_ge};
 ghost use Rattle.vc_base.specs.Prelude.{some_address};
 ghost use Rattle.vc_splay.specs.Guide.{CanFind, first_at, least_at};
-ghost use Rattle.vc_splay.specs.Moves.{Context, plug};
 ghost use Rattle.vc_splay.specs.Rank.{Costs, binary_digits, size};
-ghost use Rattle.vc_splay.specs.Searches.{CanReach, Reached, Search, is_found};
+ghost use Rattle.vc_splay.specs.Searches.{Search, is_found};
 ghost use Rattle.vc_splay.specs.Stands.{IsTree, TreeAfter};
-ghost use Rattle.vc_splay.specs.Tree.{Tree, Node, names};
+ghost use Rattle.vc_splay.specs.Tree.{Tree, names};
 
 use crate::sides::kid;
 use crate::splaying::splay;
@@ -42,7 +41,7 @@ pub fn find_first<N: Nodes, G: Guide<N>, L>(
     }
     let (deepest, least, equal) = descend(nodes, root, guide, steps);
     let found = chosen(equal, least, 0);
-    (reach(nodes, root, deepest, found), found)
+    (splay(nodes, root, deepest), found)
 }
 
 /// The new root, and the first node that isn't before what the guide seeks, or 0 where each is. It takes one step for
@@ -72,7 +71,7 @@ pub fn find_least_at<N: Nodes, G: Guide<N>, L>(
         return (0, 0);
     }
     let (deepest, least, _equal) = descend(nodes, root, guide, steps);
-    (reach(nodes, root, deepest, least), least)
+    (splay(nodes, root, deepest), least)
 }
 
 // Reads down to the first node that isn't before what is sought: the deepest node that was read, that one or 0, and
@@ -123,23 +122,4 @@ fn chosen(first: bool, a: u32, b: u32) -> u32
     ensures { result ≡ (if first then a else b) }
 {
     if first { a } else { b }
-}
-
-// Splays the deepest node that was read, and then the one that is answered, where there is one.
-#[inline(always)]
-fn reach<N: Nodes>(nodes: &mut N, root: u32, deepest: u32, found: u32) -> u32
-    requires { CanReach (N.store nodes.old) root deepest found }
-    ensures tree { (tree : Tree) → IsTree (N.store nodes.old) root tree
-        → TreeAfter (N.store nodes.old) (N.store nodes.new) (names tree) result (names tree) }
-    ensures law { (context : Context) (left right after : Tree)
-        → IsTree (N.store nodes.old) root (plug context (Node left deepest right))
-        → IsTree (N.store nodes.new) result after
-        → Reached context (Node left deepest right) after }
-    ensures rest { N.stays nodes.old nodes.new }
-{
-    let top = splay(nodes, root, deepest);
-    if found == 0 {
-        return top;
-    }
-    splay(nodes, top, found)
 }

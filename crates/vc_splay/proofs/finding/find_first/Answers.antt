@@ -4,7 +4,7 @@ use Rattle.vc_splay.specs.Moves.{plug}
 use Rattle.vc_splay.specs.Stands.{IsTree}
 use Rattle.vc_splay.specs.Tree.{Node}
 use Rattle.vc_splay.proofs.CostLemmas.{none_cost, searched}
-use Rattle.vc_splay.proofs.SearchLemmas.{can_reach, first_found, first_none, found_is, least_steps, most_steps, same_tree}
+use Rattle.vc_splay.proofs.SearchLemmas.{first_found, first_none, least_steps, most_steps, same_tree}
 use Rattle.vc_splay.proofs.finding.find_first.Goals as goal
 
 pub returns-then-root-eq0-clause-tree : goal.returns-then-root-eq0-clause-tree
@@ -14,12 +14,10 @@ pub returns-then-root-eq0-clause-answer : goal.returns-then-root-eq0-clause-answ
 returns-then-root-eq0-clause-answer g c = λ t k.
     first_none (g.N.Nodes.store c.args.nodes.now) (g.G.Guide.side_of c.args.guide.now c.args.nodes.now) c.args.root t (g.met.N.Nodes.none c.args.nodes.now) k c.if-root-eq0.true
 
-pub reach-requires : goal.reach-requires
-reach-requires g c =
-    let side = g.G.Guide.side_of c.args.guide.now c.args.nodes.now in
-    let is : c.chosen-found.result ≡ cond (is_found side c.descend-deepest.result.1) c.descend-deepest.result.1 0 = c.chosen-found.ensures ∙ ap (λ t. cond t c.descend-deepest.result.1 0) c.descend-deepest.ensures.equal in
-    can_reach (g.N.Nodes.store c.args.nodes.now) side c.args.root c.descend-deepest.result.0 c.chosen-found.result c.descend-deepest.result.1 c.args.steps.now c.descend-deepest.new.steps c.requires.tree c.requires.is_tree (c.descend-deepest.ensures.search c.requires.tree c.requires.is_tree)
-    (found_is side c.descend-deepest.result.1 c.chosen-found.result is)
+pub splay-requires : goal.splay-requires
+splay-requires g c =
+    let search = c.descend-deepest.ensures.search c.requires.tree c.requires.is_tree in
+    record { tree = c.requires.tree; is_tree = c.requires.is_tree; within = search.deepest_in }
 
 pub returns-clause-answer : goal.returns-clause-answer
 returns-clause-answer g c = λ t k.
@@ -49,4 +47,4 @@ returns-clause-law g c = λ t after k j.
     let deepest = c.descend-deepest.result.0 in
     let w = c.descend-deepest.ensures.search t k in
     let stands : IsTree s c.args.root (plug w.context (Node w.left deepest w.right)) = subst (λ z. IsTree s c.args.root z) (sym w.whole) k in
-    searched w.context w.left deepest w.right t after c.args.steps.now c.descend-deepest.new.steps w.whole w.deep (c.reach.ensures.law w.context w.left w.right after stands j)
+    searched w.context w.left deepest w.right t after c.args.steps.now c.descend-deepest.new.steps w.whole w.deep (c.splay.ensures.law w.context w.left w.right after stands j)
