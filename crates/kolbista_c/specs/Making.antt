@@ -5,7 +5,6 @@ use Rattle.kolbista_c.specs.Memory.{Buffer, IsFilled, IsIdle, fits, streams_over
 use Rattle.vc_base.specs.Memory.{MemorySink}
 use Rattle.vc_dtdisc.specs.Rules.{Gone, Rules}
 use Rattle.vc_dtdisc.specs.Shapes.{BuiltInKind, rules_of}
-use Rattle.vc_image_script.specs.Over.{at_rest}
 use Rattle.vc_image_tool.specs.Making.{Makes, MakesOver}
 use Rattle.vc_image_tool.specs.Status.{number}
 use Rattle.vc_image_tool.specs.declared.status.ImageStatus.{ImageStatus}
@@ -13,7 +12,7 @@ use Rattle.vc_model.specs.Discipline.{Discipline}
 use Rattle.vc_script.specs.declared.tool.Tool.TheVariants.{Dtrun}
 use Rattle.vc_session.specs.Arming.{IsFirst, Keeps}
 use Rattle.vc_session.specs.Streams.{Streams}
-use Rattle.vc_steps.specs.Moment.{Moment}
+use Rattle.vc_steps.specs.Moment.{Moment, at_rest}
 
 -- the bytes of an image that was made, and the number of the status
 abbrev pub bytes_of : Result MemorySink ImageStatus → List ℕ
@@ -52,11 +51,12 @@ pub record Saved (script : List ℕ) (image : Result MemorySink ImageStatus) (st
   pub makes : Makes dtrun_rules image start last (streams_over script) streams
   pub keeps : Keeps (IsFirst None Dtrun (Some script)) start last
 
-abbrev pub rules_in : BuiltInKind → Rules
-rules_in k = rules_of k.shape
+-- what one of dtrun's kinds means, and what it was told of
+abbrev pub kind_rules : BuiltInKind → Rules
+kind_rules k = rules_of k.shape
 
-abbrev pub gone_in : BuiltInKind → Gone
-gone_in k = k.gone
+abbrev pub kind_gone : BuiltInKind → Gone
+kind_gone k = k.gone
 
 -- the same of a script that was run over an image, whose region was opened over the first discipline
 pub record Remade (image script : List ℕ) (remade : Result MemorySink ImageStatus) (streams : Streams) : Type 0 where
@@ -65,6 +65,6 @@ pub record Remade (image script : List ℕ) (remade : Result MemorySink ImageSta
   pub slots' : List (Option Discipline)
   pub kinds' : List BuiltInKind
   pub places : length slots ≡ 18
-  pub rules : map rules_in kinds ≡ dtrun_rules
-  pub makes : MakesOver rules_in gone_in 1 image slots kinds remade slots' kinds' (streams_over script) streams
-  pub keeps : Keeps (IsFirst None Dtrun (Some script)) (at_rest rules_in gone_in slots kinds) (at_rest rules_in gone_in slots' kinds')
+  pub rules : map kind_rules kinds ≡ dtrun_rules
+  pub makes : MakesOver kind_rules kind_gone 1 image slots kinds remade slots' kinds' (streams_over script) streams
+  pub keeps : Keeps (IsFirst None Dtrun (Some script)) (at_rest kind_rules kind_gone slots kinds) (at_rest kind_rules kind_gone slots' kinds')

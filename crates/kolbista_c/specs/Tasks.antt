@@ -5,6 +5,7 @@ use Rattle.kolbista_c.specs.Memory.{Buffer, RanInMemory}
 use Rattle.kolbista_c.specs.declared.own_shelf.Task.{Task}
 use Rattle.kolbista_c.specs.declared.own_shelf.Task.TheVariants.{Run, Save, RunOver}
 
+-- by what is done, once there was memory for the disciplines
 abbrev pub Performs : Task → List ℕ → ℕ → Buffer → Buffer → Buffer → Type 0
 Performs (Run tool words) script answer made out err = RanInMemory tool (map string_bytes words.now) script answer out err
 Performs Save script answer made out err = MadeInMemory (Saved script) answer made out err

@@ -1,5 +1,5 @@
 -- A session over an image: its names are proper, and a run begins with it.
-use Rattle.vc_base.proofs.Common.{◌≡◌, ◌⊎◌, ℕ, ◌≤◌, Bool, true, false, List, [], ◌∷◌, ◌++◌, map, length, leb, decimal, Some, None, Ok, Err, Result, sym, refl, ap, ◌∙◌, subst, arith, inl, inr, eqb_tells, and_from, and_parts, le-leb, leb-true, list_all, Block, Layout, Discipline, relabel_block}
+use Rattle.vc_base.proofs.Common.{◌≡◌, ℕ, ◌≤◌, true, List, [], ◌∷◌, map, length, leb, decimal, None, Ok, Err, Result, sym, refl, ap, ◌∙◌, subst, arith, inl, inr, eqb_tells, and_from, and_parts, le-leb, leb-true, list_all, Block, Layout, Discipline, relabel_block}
 use Rattle.std.proofs.lemmas.Fmt.{length-decimal-le}
 use Rattle.vc_base.specs.Memory.{MemorySink}
 use Rattle.vc_best.specs.Blocks.{layout_by}

@@ -1,5 +1,5 @@
 -- What is promised of a script that is run over what an image holds.
-use Rattle.std.specs.Prelude.{◌≡◌, ℕ, List, [], Option, None, Result, Ok, Err, false, map}
+use Rattle.std.specs.Prelude.{◌≡◌, ℕ, List, Option, Result, Ok, Err, false, map}
 use Rattle.vc_base.specs.Memory.{MemorySink}
 use Rattle.vc_dtdisc.specs.Rules.{Gone, Rules}
 use Rattle.vc_image_script.specs.Promises.{Saves}
@@ -9,21 +9,8 @@ use Rattle.vc_image_session.specs.Opens.{IsNotOpened, StandsForImage}
 use Rattle.vc_image_session.specs.declared.fault.OpenFault.{OpenFault}
 use Rattle.vc_model.specs.Discipline.{Discipline}
 use Rattle.vc_session.specs.Streams.{Flows}
-use Rattle.vc_steps.specs.Account.{accounts, state_of}
-use Rattle.vc_steps.specs.Moment.{Moment}
-use Rattle.vc_steps.specs.Told.{gone_in, rules_in}
-
--- the moment at which no region is open, over the disciplines of a shelf and kinds
-abbrev pub at_rest : {D : Type 0} → (D → Rules) → (D → Gone) → List (Option Discipline) → List D → Moment
-at_rest rules gone slots kinds =
-    record {
-      state = state_of (rules_in rules kinds) slots [] [];
-      regions = [];
-      armed = false;
-      written = None;
-      accounts = accounts slots;
-      gone = gone_in gone kinds;
-    }
+use Rattle.vc_steps.specs.Moment.{Moment, at_rest}
+use Rattle.vc_steps.specs.Told.{gone_in}
 
 module _ {D : Type 0} (rules : D → Rules) (gone : D → Gone) (place : ℕ) (image : List ℕ) (slots : List (Option Discipline)) (kinds : List D) where
   -- a run begins with what the image holds: no kind was told of anything, and no discipline is armed

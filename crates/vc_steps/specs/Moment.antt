@@ -5,9 +5,9 @@ use Rattle.vc_dtdisc.specs.Rules.{Gone, Rules}
 use Rattle.vc_seg.specs.declared.shelf.Shelf.{Shelf}
 use Rattle.vc_steps.specs.declared.session.Session.{Session}
 use Rattle.vc_steps.specs.State.{State}
-use Rattle.vc_steps.specs.Account.{Account}
+use Rattle.vc_steps.specs.Account.{Account, accounts, state_of}
 use Rattle.vc_commands.specs.Held.{Held}
-use Rattle.vc_steps.specs.Homes.{accounts_on, held_in_session, settled_over, state_on, state_over}
+use Rattle.vc_steps.specs.Homes.{held_in_session, settled_over, slots_on, state_over}
 use Rattle.vc_steps.specs.Told.{ended_told, gone_in, rules_in, tell}
 
 -- the state, the open regions with their disciplines, whether these are armed, what the replies' sink tells, the accounts of the disciplines once every open region is closed, and what each kind was told of so far
@@ -35,17 +35,25 @@ moment_by meaning kinds gone shelf session =
 abbrev pub moment : {I : Type 0} {V : I → Type 0} {D : Type 0} → ((x : I) × V x → Discipline) → (D → Rules) → (D → Gone) → Shelf I V → Session D I V → List D → Moment
 moment meaning rules gone shelf session kinds = moment_by meaning (rules_in rules kinds) (gone_in gone kinds) shelf session
 
--- of a shelf over which no region is open, and kinds of these rules that were told so
-abbrev pub moment_at_rest_by : {I : Type 0} {V : I → Type 0} → ((x : I) × V x → Discipline) → List Rules → List Gone → Shelf I V → Moment
-moment_at_rest_by meaning kinds gone shelf =
+-- at which no region is open, over these disciplines and kinds of these rules that were told so
+abbrev pub at_rest_by : List Rules → List Gone → List (Option Discipline) → Moment
+at_rest_by kinds gone slots =
     record {
-      state = state_on meaning kinds shelf;
+      state = state_of kinds slots [] [];
       regions = [];
       armed = false;
       written = None;
-      accounts = accounts_on meaning shelf;
+      accounts = accounts slots;
       gone = gone;
     }
+
+-- over these disciplines and kinds
+abbrev pub at_rest : {K : Type 0} → (K → Rules) → (K → Gone) → List (Option Discipline) → List K → Moment
+at_rest rules gone slots kinds = at_rest_by (rules_in rules kinds) (gone_in gone kinds) slots
+
+-- of a shelf over which no region is open, and kinds of these rules that were told so
+abbrev pub moment_at_rest_by : {I : Type 0} {V : I → Type 0} → ((x : I) × V x → Discipline) → List Rules → List Gone → Shelf I V → Moment
+moment_at_rest_by meaning kinds gone shelf = at_rest_by kinds gone (slots_on meaning shelf)
 
 -- of a shelf over which no region is open, and kinds
 abbrev pub moment_at_rest : {I : Type 0} {V : I → Type 0} {K : Type 0} → ((x : I) × V x → Discipline) → (K → Rules) → (K → Gone) → Shelf I V → List K → Moment

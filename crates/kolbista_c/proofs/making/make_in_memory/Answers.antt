@@ -1,5 +1,5 @@
 use Rattle.vc_base.proofs.Common.{◌≡◌, List, Some, arith, length, length-map, option_map, refl, ◌∙◌, subst, Discipline}
-use Rattle.kolbista_c.specs.Making.{gone_in, rules_in}
+use Rattle.kolbista_c.specs.Making.{kind_gone, kind_rules}
 use Rattle.vc_dtdisc.specs.Rules.{Rules}
 use Rattle.vc_image_tool.specs.Making.{Makes}
 use Rattle.vc_seg.specs.Boxed.{disc_in_box}
@@ -17,8 +17,8 @@ pub returns-clause-ok : goal.returns-clause-ok
 returns-clause-ok g c =
     let M = meaning g in
     let all : length c.args.shelf.now.slots.items ≡ 18 = omega (arith, c.requires.shelf, c.args.shelf.now.slots.ok.0) in
-    let start = moment_at_rest M rules_in gone_in c.args.shelf.now c.in_ok-kinds.kinds.items in
-    let last = moment_at_rest M rules_in gone_in c.make-image.new.shelf c.make-image.new.kinds.items in
+    let start = moment_at_rest M kind_rules kind_gone c.args.shelf.now c.in_ok-kinds.kinds.items in
+    let last = moment_at_rest M kind_rules kind_gone c.make-image.new.shelf c.make-image.new.kinds.items in
     let streams : Streams = record {
       left = Some c.make-image.new.source.left.now;
       reads = 0;

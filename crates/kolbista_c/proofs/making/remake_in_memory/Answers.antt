@@ -1,5 +1,5 @@
 use Rattle.vc_base.proofs.Common.{◌≡◌, Some, arith, length, length-map, option_map, refl, ◌∙◌, subst, Discipline}
-use Rattle.kolbista_c.specs.Making.{gone_in, rules_in}
+use Rattle.kolbista_c.specs.Making.{kind_gone, kind_rules}
 use Rattle.vc_image_tool.specs.Making.{MakesOver}
 use Rattle.vc_seg.specs.Boxed.{disc_in_box}
 use Rattle.vc_session.specs.Streams.{Streams}
@@ -36,7 +36,7 @@ returns-clause-ok g c =
         kinds' = c.remake-remade.new.kinds.items;
         places = length-map c.args.shelf.now.slots.items (option_map (disc_in_box M)) ∙ all;
         rules = c.in_ok-kinds.ensures;
-        makes = subst (λ (z : Streams). MakesOver rules_in gone_in 1 c.args.image.now slots c.in_ok-kinds.kinds.items c.remake-remade.result after c.remake-remade.new.kinds.items z streams)
+        makes = subst (λ (z : Streams). MakesOver kind_rules kind_gone 1 c.args.image.now slots c.in_ok-kinds.kinds.items c.remake-remade.result after c.remake-remade.new.kinds.items z streams)
             (λ i. record { left = Some c.args.script.now; reads = 0; written = Some (c.in_ok-written.ensures.written.0 i); writes = c.in_ok-written.ensures.written.1 i; told = Some (c.in_ok-written.ensures.told.0 i); errors = c.in_ok-written.ensures.told.1 i })
             c.remake-remade.ensures.makes;
         keeps = c.remake-remade.ensures.keeps;
