@@ -7,6 +7,7 @@ pub mod FirstRows
 pub mod Slots
 pub mod WordSteps
 pub mod PrintSteps
+pub mod EndSteps
 pub mod ProperWords
 pub mod ProperCommands
 pub mod Newlines

@@ -7,6 +7,7 @@ pub mod Judged
 pub mod Cutting
 pub mod Cutter
 pub mod Pieces
+pub mod Ends
 pub mod Words
 pub mod Forms
 pub mod Table

@@ -268,7 +268,7 @@ pub(crate) fn put_rows(line: &mut Vec<u8>, items: &RowItems) -> Result<(), Alloc
 pub(crate) fn put_objects(line: &mut Vec<u8>, items: &ObjectItems) -> Result<(), AllocError>
     ensures { Puts line.old.items line.new.items result (line_of (reply.Objects items.now)) }
 {
-    put_labelled(line, b"", items.as_slice().len() as u64)?;
+    put_labelled(line, b"", items.len() as u64)?;
     put_each_object(line, items)?;
     put(line, b"\n")
 }

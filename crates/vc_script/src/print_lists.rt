@@ -7,7 +7,7 @@ ghost use Rattle.vc_script.specs.Puts.{Puts};
 use crate::line_end::{number_before, text_before};
 use crate::print_parts::{put, put_object_between};
 use crate::print_texts::label_text;
-use crate::{BlockItems, Bytes, DamageItems, ObjectItems, Place, RowItems, SegmentItems};
+use crate::{BlockItems, DamageItems, ObjectItems, Place, RowItems, SegmentItems};
 use itoa::Buffer;
 use std::alloc::AllocError;
 use vc_base::Name;
@@ -108,14 +108,14 @@ fn put_row(line: &mut Vec<u8>, row: &ProfileRow) -> Result<(), AllocError>
 pub(crate) fn put_each_object(line: &mut Vec<u8>, items: &ObjectItems) -> Result<(), AllocError>
     ensures { Puts line.old.items line.new.items result (flat_map object_text items.now) }
 {
-    for item in items.as_slice() {
-        put_spaced_object(line, item)?;
+    for i in 0..items.len() {
+        put_spaced_object(line, items.get(i))?;
     }
     Ok(())
 }
 
-fn put_spaced_object(line: &mut Vec<u8>, item: &Bytes) -> Result<(), AllocError>
+fn put_spaced_object(line: &mut Vec<u8>, item: &[u8]) -> Result<(), AllocError>
     ensures { Puts line.old.items line.new.items result (object_text item.now) }
 {
-    put_object_between(line, b" ", item.as_slice(), b"")
+    put_object_between(line, b" ", item, b"")
 }

@@ -131,13 +131,13 @@ fn walk<Y: Layers>(
 {
     paths.show_invariant();
     let mut steps = Steps::<Uncounted>::new(alloc);
-    let mut items: Vec<Bytes> = Vec::new(alloc);
+    let mut items = ObjectItems::new(alloc);
     let mut at = vc_dict::first(paths, layers, d, &mut steps);
     while let Some(here) = at {
-        items.push(copied(alloc, layers, here.0, here.1)?)?;
+        items.push(layers.object(here.0, here.1))?;
         at = vc_dict::walk_next(paths, layers, d, here, &mut steps);
     }
-    Ok(Reply::Objects(ObjectItems::from_vec(items)))
+    Ok(Reply::Objects(items))
 }
 
 /// Puts in place of a reply the one to a command that looks for an object, or walks over all, through the view path of

@@ -10,17 +10,17 @@ use Rattle.vc_image_text.proofs.objects.objects.Goals as goal
 use Rattle.vc_image_text.proofs.objects.objects.Goals.{In-Some}
 
 -- where the walk is
-here-of : (g : Over) (c : In-Some g) → IsHere (cells_in c.args.best.now) (holders_of c.args.dict.now (cells_in c.args.best.now)) c.in-Some.here.0 c.loop-at.items.items
+here-of : (g : Over) (c : In-Some g) → IsHere (cells_in c.args.best.now) (holders_of c.args.dict.now (cells_in c.args.best.now)) c.in-Some.here.0 c.loop-at.items
 here-of g c =
     let b : Blocks = cells_in c.args.best.now in
     let hs = holders_of c.args.dict.now b in
-    here b hs c.in-Some.here.0 c.loop-at.items.items (subst (λ o. Walked b hs (option_map number_of o) c.loop-at.items.items) c.in-Some.is c.loop-at.invariant)
+    here b hs c.in-Some.here.0 c.loop-at.items (subst (λ o. Walked b hs (option_map number_of o) c.loop-at.items) c.in-Some.is c.loop-at.invariant)
 
-pub copied-requires : goal.copied-requires
-copied-requires g c =
+pub body-requires : goal.body-requires
+body-requires g c =
     let b : Blocks = cells_in c.args.best.now in
     let hs = holders_of c.args.dict.now b in
-    let h = holder-there c.requires.rules c.args.dict.now b hs c.in-Some.here.0 c.requires.whole.stands (here-within b hs c.in-Some.here.0 c.loop-at.items.items (here-of g (goal.at.copied-requires g c).In-Some)) in
+    let h = holder-there c.requires.rules c.args.dict.now b hs c.in-Some.here.0 c.requires.whole.stands (here-within b hs c.in-Some.here.0 c.loop-at.items (here-of g (goal.at.body-requires g c).In-Some)) in
     let enough = h.enough in
     record { there = h.there; enough = omega (arith, enough) }
 
@@ -28,13 +28,13 @@ pub loop-at-preserved : goal.loop-at-preserved
 loop-at-preserved g c =
     let b : Blocks = cells_in c.args.best.now in
     let hs = holders_of c.args.dict.now b in
-    walked-next b hs c.in-Some.here.0 c.loop-at.items.items (here-of g (goal.at.loop-at-preserved g c).In-Some) (option_map number_of c.next-at.result) c.push.new.self.items
+    walked-next b hs c.in-Some.here.0 c.loop-at.items (here-of g (goal.at.loop-at-preserved g c).In-Some) (option_map number_of c.next-at.result) c.push.new.self
     (holders-distinct c.requires.rules c.args.dict.now b hs c.requires.whole.stands)
     (c.next-at.ensures c.requires.rules hs c.requires.whole.stands)
-    (c.in_ok-push.ensures.items ∙ ap (λ o. c.loop-at.items.items ++ o ∷ []) c.in_ok-copied.ensures)
+    (c.in_ok-push.ensures.pushed ∙ ap (λ o. c.loop-at.items ++ o ∷ []) c.body.ensures)
 
 pub returns : goal.returns
 returns g c =
     let b : Blocks = cells_in c.args.best.now in
     let hs = holders_of c.args.dict.now b in
-    ap Objects (c.from_vec.ensures ∙ walked-end b hs c.loop-at.items.items (subst (λ o. Walked b hs (option_map number_of o) c.loop-at.items.items) c.in_default.is c.loop-at.invariant))
+    ap Objects (walked-end b hs c.loop-at.items (subst (λ o. Walked b hs (option_map number_of o) c.loop-at.items) c.in_default.is c.loop-at.invariant))

@@ -8,7 +8,7 @@ use Rattle.vc_image_text.proofs.objects.objects.Given as goal
 -- the objects so far, and the holder behind them
 abbrev pub invariant-loop-at : goal.invariant-loop-at
 invariant-loop-at g l =
-    Walked (cells_in l.best) (holders_of l.dict (cells_in l.best)) (option_map number_of l.at) l.items.items
+    Walked (cells_in l.best) (holders_of l.dict (cells_in l.best)) (option_map number_of l.at) l.items
 
 abbrev pub decreases-loop-at : goal.decreases-loop-at
-decreases-loop-at g l = length (holders_of l.dict (cells_in l.best)) - length l.items.items
+decreases-loop-at g l = length (holders_of l.dict (cells_in l.best)) - length l.items
