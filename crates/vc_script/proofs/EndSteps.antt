@@ -1,5 +1,5 @@
 -- Lists of bytes that stand in one: one more of them, and the one at a place.
-use Rattle.vc_base.proofs.Common.{◌≡◌, ℕ, zero, suc, ◌+◌, ◌-◌, ◌<◌, ◌≤◌, List, [], ◌∷◌, ◌++◌, Some, length, get_or, take, drop, slice_get, slice_range, sym, refl, ap, ap₂, ◌∙◌, subst, arith, length-append, le_trans, take-append-le, take_all, length-drop}
+use Rattle.vc_base.proofs.Common.{◌≡◌, ℕ, zero, suc, ◌-◌, ◌<◌, ◌≤◌, List, [], ◌∷◌, ◌++◌, Some, length, get_or, take, drop, slice_get, slice_range, sym, refl, ap, ap₂, ◌∙◌, arith, length-append, le_trans, take-append-le, take_all, length-drop}
 use Rattle.std.proofs.Math.Seq.{drop-append_seam}
 use Rattle.std.proofs.lemmas.Grind.{get_or_default_zero}
 use Rattle.std.proofs.lemmas.List.{drop-append-le}

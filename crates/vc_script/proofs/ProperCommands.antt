@@ -1,5 +1,5 @@
 -- The commands that a line gives are proper.
-use Rattle.vc_base.proofs.Common.{◌≡◌, ℕ, Bool, true, false, cond, cases_Bool, inl, inr, ◌==◌, ◌&&◌, ◌||◌, ◌≤◌, arith, nat_tests, codes, ◌≢◌, List, [], ◌∷◌, length, nat_abs, IfOk, OnOk, Some, None, Ok, Err, Option, Result, bytes_eq, sym, subst, AllByRecursion}
+use Rattle.vc_base.proofs.Common.{◌≡◌, ℕ, Bool, true, false, cond, cases_Bool, inl, inr, ◌==◌, ◌&&◌, ◌||◌, arith, nat_tests, codes, ◌≢◌, List, [], ◌∷◌, length, nat_abs, IfOk, OnOk, Some, None, Ok, Err, Option, Result, bytes_eq, sym, subst, AllByRecursion}
 use Rattle.vc_script.specs.declared.command.Command.{Command}
 use Rattle.vc_script.specs.declared.line_fault.LineFault.{LineFault}
 use Rattle.vc_script.specs.declared.line_fault.LineFault.TheVariants.{UnknownVersion, WordCount}
@@ -11,7 +11,7 @@ use Rattle.vc_base.specs.declared.fault.OutOfMemory.{OutOfMemory}
 use Rattle.vc_script.specs.Words.{words}
 use Rattle.vc_script.specs.Forms.{Form, Name, Site, Number, SignedNumber, Address, Bytes, RegionMethod, DictionaryMethod, Mode, NameOrDash, Value, number_of, value_of}
 use Rattle.vc_script.specs.Table.{Row, Values, command_of, dictionary_rows, command_made, own_rows, read_words, table, takes, values_of}
-use Rattle.vc_script.specs.Answer.{answer, answer_of, answer_to, command_in, is_comment, is_version_line, version_in, version_of}
+use Rattle.vc_script.specs.Answer.{answer, answer_of, answer_to, command_in, is_comment, version_in, version_of}
 use Rattle.vc_script.specs.Proper.{IsProperAddress, IsFaultOfWords, IsName, IsNumber, IsProperAnswer, IsProperCommand, IsSite, IsVersion}
 use Rattle.vc_script.proofs.ProperWords.{Gives, Gives-address_of, Gives-bytes_of, Gives-dict_method_of, Gives-if, Gives-method_of, Gives-mode_of, Gives-name_of, Gives-name_or_dash_of, Gives-number_of, Gives-signed_of, Gives-site_of, Gives-then}
 

@@ -1,4 +1,4 @@
-use Rattle.vc_base.proofs.Common.{[], ◌++◌, refl, ap, sym, ◌∙◌, arith, length}
+use Rattle.vc_base.proofs.Common.{[], ◌++◌, refl, ap, sym, ◌∙◌, arith}
 use Rattle.std.proofs.lemmas.Option.{get_or_from_slice_get}
 use Rattle.vc_script.specs.Print.{object_text}
 use Rattle.vc_script.proofs.PrintSteps.{one-more}

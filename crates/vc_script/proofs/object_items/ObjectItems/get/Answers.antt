@@ -1,4 +1,4 @@
-use Rattle.vc_base.proofs.Common.{◌≡◌, ◌≤◌, ℕ, List, ◌∷◌, length, arith, ap, ◌∙◌, sym, get_or, slice_range, Some, rules}
+use Rattle.vc_base.proofs.Common.{◌≤◌, ℕ, List, ◌∷◌, length, arith, ap, ◌∙◌, sym, get_or, slice_range, Some, rules}
 use Rattle.vc_script.proofs.EndSteps.{IsBetween, ends-enough, is-between}
 use Rattle.vc_script.proofs.object_items.ObjectItems.get.Goals as goal
 use Rattle.vc_script.proofs.object_items.ObjectItems.get.Goals.{After-index}
