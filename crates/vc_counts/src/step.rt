@@ -1,4 +1,4 @@
-ghost use Rattle.std.specs.Prelude.{◌≡◌, ◌<◌, ◌^◌, ◌≤◌, bytes_eq, length};
+ghost use Rattle.std.specs.Prelude.{◌≡◌, ◌-◌, ◌<◌, ◌^◌, ◌≤◌, bytes_eq, length};
 ghost use Rattle.std.specs.List.{IsDistinct};
 ghost use Rattle.std.specs.Map.{keys_of};
 ghost use Rattle.vc_commands.specs.Answered.{answered};
@@ -133,21 +133,29 @@ fn reached_at<D>(session: &Session<D>, reach: &Reach, region: &Option<Name>) -> 
     }
 }
 
-// How many segments the region of that name has, where it is open.
-fn segment_count_at<D>(session: &Session<D>, region: &Option<Name>) -> usize
+// The place of the last segment of the region of that name, from 0 on, and the segments from it on, in order of lending:
+// place 0 and none, where it has none or isn't open.
+fn last_tally<D>(session: &Session<D>, region: &Option<Name>) -> (usize, Tally)
     requires { length session.now.labels.items ≡ length session.now.homes.entries }
-    ensures { result ≡ length (segments_at region.now (open_state state session.now).homes) }
+    ensures place { result.0
+        ≡ length (segments_at region.now (open_state state session.now).homes) - 1 }
+    ensures value { result.1 ≡ tally_behind result.0
+        (segments_at region.now (open_state state session.now).homes) }
 {
     let Some(name) = region else {
-        return 0;
+        return (0, Tally::new());
     };
     match session.region_index(name) {
-        Some(i) => session.homes[i].region.segment_count(),
-        None => 0,
+        Some(i) => {
+            let open = &session.homes[i].region;
+            let from = open.segment_count().saturating_sub(1);
+            (from, open.tally_behind(from))
+        }
+        None => (0, Tally::new()),
     }
 }
 
-// Those behind the first ones, in order of lending: none where there are no more than these.
+// The segments behind the first ones, in order of lending: none where there are no more than these.
 fn tally_behind_at<D>(session: &Session<D>, region: &Option<Name>, first: usize) -> Tally
     requires { length session.now.labels.items ≡ length session.now.homes.entries }
     ensures value { result ≡ tally_behind first
@@ -196,8 +204,7 @@ pub fn counted_step<D: DictDisc>(
     show_names(&session.homes, &session.dicts);
     let reach = reach_of(command);
     let region = region_worked(session, command);
-    let from = segment_count_at(session, &region).saturating_sub(1);
-    let last = tally_behind_at(session, &region, from);
+    let (from, last) = last_tally(session, &region);
     let held = reached_at(session, &reach, &region);
     session.step_into(shelf, kinds, line, command, reply)?;
     let before = held as u128 + freed_by(&reach, reply) as u128;

@@ -1,4 +1,4 @@
-use Rattle.vc_base.proofs.Common.{◌-◌, refl, ap, ◌∙◌, Discipline}
+use Rattle.vc_base.proofs.Common.{refl, ◌∙◌, Discipline}
 use Rattle.vc_steps.specs.Homes.{held_in_session, slots_on, state_over}
 use Rattle.vc_steps.specs.State.{State}
 use Rattle.vc_steps.specs.Told.{rules_in}
@@ -79,8 +79,8 @@ returns-clause-runs g c =
     c.add.ensures.value
     ∙ counts-step c.args.counts.now (before g at) (after g at) c.args.line c.args.command.now c.step_into.new.reply c.requires.counts (was-run g at)
     c.region_worked-region.result c.reach_of-reach.result c.reached_at-held.result c.freed_by.result c.reached_at-holds.result c.put_by.result (was-read g at)
-    c.is_refusal.result c.saturating_sub-from.result (segments_at c.region_worked-region.result (before g at).homes) (segments_at c.region_worked-region.result (after g at).homes) c.tally_behind_at-last.result c.tally_behind_at-now.result
-    c.is_refusal.ensures refl refl (c.saturating_sub-from.ensures ∙ ap (λ n. n - 1) c.segment_count_at.ensures) c.tally_behind_at-last.ensures.value c.tally_behind_at-now.ensures.value in
+    c.is_refusal.result c.last_tally-from.result.0 (segments_at c.region_worked-region.result (before g at).homes) (segments_at c.region_worked-region.result (after g at).homes) c.last_tally-from.result.1 c.tally_behind_at-now.result
+    c.is_refusal.ensures refl refl c.last_tally-from.ensures.place c.last_tally-from.ensures.value c.tally_behind_at-now.ensures.value in
     record {
       lasts = c.step_into.ensures.lasts;
       runs = record {
