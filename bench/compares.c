@@ -1,7 +1,7 @@
 /* Counts the compares of calls on an ordered bag, or the heads that calls on a best region read, by a simulation of its tree:
    bench/compares.sh says of what. Each node is a number, and stands in the tree in order of it; a compare, or a head, is a
-   node that a call reads on its way down. A link splays the new leaf. A search splays the deepest node that it read, and
-   then the one that it found. An unlink splays the node, and then the last one on the left of it. */
+   node that a call reads on its way down. A link splays the new leaf. A search splays the deepest node that it read. An
+   unlink splays the node, and then the last one on the left of it. */
 #include <stdint.h>
 #include <stdio.h>
 #include <stdlib.h>
@@ -61,18 +61,12 @@ static void link_number(uint32_t number)
 /* reads on to the left of what is sought, so that the first of equal ones is found */
 static void find(uint32_t number)
 {
-    uint32_t deepest = root, found = 0;
-    for (uint32_t at = root; at;) {
-        int left = at >= number;
+    uint32_t deepest = root;
+    for (uint32_t at = root; at; at = kid[at < number][at]) {
         deepest = at;
         compares++;
-        if (at == number)
-            found = at;
-        at = kid[!left][at];
     }
     splay(deepest);
-    if (found)
-        splay(found);
 }
 
 static void unlink_number(uint32_t number)
