@@ -79,6 +79,7 @@ impl AddrMap {
             &mut self.entries,
             self.root,
             &ByAddr { at: a.0 },
+            false,
             &mut steps,
         );
         self.root = root;

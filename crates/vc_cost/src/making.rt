@@ -32,7 +32,7 @@ fn take_out<C: Cells, D: DictDisc, L>(
     ensures cost { TakeCosts ord.old (C.blocks cells.old) ord.new (C.blocks cells.new) steps.old
         steps.new }
 {
-    if let Some(at) = ord.find(cells, kind, key, steps) {
+    if let Some(at) = ord.find(cells, kind, key, true, steps) {
         ord.unlink(cells, at);
         return true;
     }
@@ -78,7 +78,10 @@ pub(crate) fn make_call<C: Cells, D: DictDisc, L>(
             Made::Linked
         }
         OrdCall::Take(key) => taking(take_out(cells, kind, ord, key.as_slice(), steps)),
-        OrdCall::Find(key) => searching(ord.find(cells, kind, key.as_slice(), steps).is_some()),
+        OrdCall::Find(key) => searching(
+            ord.find(cells, kind, key.as_slice(), false, steps)
+                .is_some(),
+        ),
         OrdCall::AtLeast(key) => {
             searching(ord.at_least(cells, kind, key.as_slice(), steps).is_some())
         }

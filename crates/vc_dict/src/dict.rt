@@ -26,7 +26,8 @@ pub struct Dict {
     pub count: u64,
     /// The current holder, or `Addr::NONE`.
     pub current: Addr,
-    pub(crate) heads: Form,
+    /// What leads to its holders.
+    pub heads: Form,
 }
 
 /// What a change of method leaves over for the caller to free. This project's own.
@@ -166,7 +167,34 @@ impl Dict {
             (C.blocks cells.new) holders self.old.current.0 }
         ensures rest { C.RestStays cells.old cells.new }
     {
-        self.heads.find(cells, kind, key, steps)
+        self.look(cells, kind, key, false, steps)
+    }
+
+    // The same, for a caller that unlinks what is found or not.
+    fn look<C: Cells, D: DictDisc, L>(
+        &mut self,
+        cells: &mut C,
+        kind: &D,
+        key: &[u8],
+        unlinks: bool,
+        steps: &mut Steps<L>,
+    ) -> Option<Addr>
+        requires { IsDict (D.rules kind.now) self.old (C.blocks cells.old) }
+        ensures found { (holders : List ℕ)
+            → Stands (D.rules kind.now) self.old (C.blocks cells.old) holders
+            → Finds (D.rules kind.now) (C.blocks cells.old) key.now holders result
+            steps.old steps.new }
+        ensures compares { (holders : List ℕ)
+            → Stands (D.rules kind.now) self.old (C.blocks cells.old) holders
+            → steps.new ≤ steps.old
+            + compares_by (D.rules kind.now) self.old (C.blocks cells.old) key.now holders }
+        ensures dict { (holders : List ℕ)
+            → Stands (D.rules kind.now) self.old (C.blocks cells.old) holders
+            → Became (D.rules kind.now) holders self.old (C.blocks cells.old) self.new
+            (C.blocks cells.new) holders self.old.current.0 }
+        ensures rest { C.RestStays cells.old cells.new }
+    {
+        self.heads.find(cells, kind, key, unlinks, steps)
     }
 
     /// The first holder, or none where there are none. It isn't made current. After Cdt's dtfirst.
@@ -277,7 +305,7 @@ impl Dict {
             (current_without (option_map number_of result) self.old.current.0 holders) }
         ensures rest { C.RestStays cells.old cells.new }
     {
-        let found = self.find(cells, kind, key, steps);
+        let found = self.look(cells, kind, key, true, steps);
         self.remove(cells, kind, found);
         found
     }

@@ -18,14 +18,14 @@ use vc_dthash::DtHash;
 use vc_dtlist::DtList;
 use vc_dtord::DtOrd;
 
-// The heads of a dictionary in the form that its method has.
+/// The heads of a dictionary in the form that its method has. This project's own.
 #[derive(Clone, Copy, Debug)]
-pub(crate) enum Form {
-    // Of a set or bag.
+pub enum Form {
+    /// Of a set or bag.
     Hash(DtHash),
-    // Of an ordered set or bag.
+    /// Of an ordered set or bag.
     Order(DtOrd),
-    // Of a list, stack or queue.
+    /// Of a list, stack or queue.
     Links(DtList),
 }
 
@@ -166,12 +166,13 @@ impl Form {
         }
     }
 
-    // The first holder whose object has a key. A search in a tree turns it.
+    // The first holder whose object has a key, for a caller that unlinks it or not. A search in a tree turns it.
     pub(crate) fn find<C: Cells, D: DictDisc, L>(
         &mut self,
         cells: &mut C,
         kind: &D,
         key: &[u8],
+        unlinks: bool,
         steps: &mut Steps<L>,
     ) -> Option<Addr>
         requires { IsHeads (D.rules kind.now) self.old (C.blocks cells.old) }
@@ -189,7 +190,7 @@ impl Form {
     {
         match self {
             Form::Hash(hash) => hash.find(cells, kind, key, steps),
-            Form::Order(ord) => ord.find(cells, kind, key, steps),
+            Form::Order(ord) => ord.find(cells, kind, key, unlinks, steps),
             Form::Links(list) => list.find(cells, kind, key, steps),
         }
     }

@@ -21,6 +21,7 @@ mod weeded;
 
 pub use dict::{Dict, Dropped, after_dropped};
 pub use dicts::Dicts;
+pub use form::Form;
 pub use heads::Heads;
 pub use rows::{insert_rows, list_rows, order_rows, remove_rows, table_rows};
 pub use vc_base::DictMethod;

@@ -57,13 +57,14 @@ pub(crate) fn unlink_in<'a, C: Cells>(nodes: &mut Holders<'a, C>, ord: DtOrd) ->
     DtOrd { root: Addr(root) }
 }
 
-// The first holder whose object has that key. The mark is at the root.
+// The first holder whose object has that key, for a caller that unlinks it or not. The mark is at the root.
 #[inline(always)]
 pub(crate) fn find_in<'a, C: Cells, D: DictDisc, L>(
     nodes: &mut Holders<'a, C>,
     ord: DtOrd,
     kind: &D,
     key: &[u8],
+    unlinks: bool,
     steps: &mut Steps<L>,
 ) -> (DtOrd, Option<Addr>)
     requires ord { IsOrd (D.rules kind.now) ord (C.blocks nodes.old.cells.now) }
@@ -76,7 +77,7 @@ pub(crate) fn find_in<'a, C: Cells, D: DictDisc, L>(
         (C.blocks nodes.new.cells.now) 0 steps.old steps.new }
     ensures same { nodes.new.cells.ghost_name ≡ nodes.old.cells.ghost_name }
 {
-    let (root, at) = find_first(nodes, ord.root.0, &ByKey { kind, key }, steps);
+    let (root, at) = find_first(nodes, ord.root.0, &ByKey { kind, key }, unlinks, steps);
     (DtOrd { root: Addr(root) }, found(Addr(at)))
 }
 
@@ -99,6 +100,6 @@ pub(crate) fn at_least_in<'a, C: Cells, D: DictDisc, L>(
         (C.blocks nodes.new.cells.now) 0 steps.old steps.new }
     ensures same { nodes.new.cells.ghost_name ≡ nodes.old.cells.ghost_name }
 {
-    let (root, at) = find_least_at(nodes, ord.root.0, &ByKey { kind, key }, steps);
+    let (root, at) = find_least_at(nodes, ord.root.0, &ByKey { kind, key }, false, steps);
     (DtOrd { root: Addr(root) }, found(Addr(at)))
 }

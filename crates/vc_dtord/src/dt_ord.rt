@@ -71,12 +71,13 @@ impl DtOrd {
     }
 
     /// The first holder whose object has that key, by at most as many compares as there are holders; none where no
-    /// object has it.
+    /// object has it. A caller that unlinks it tells so: a short way down is left as it is then.
     pub fn find<C: Cells, D: DictDisc, L>(
         &mut self,
         cells: &mut C,
         kind: &D,
         key: &[u8],
+        unlinks: bool,
         steps: &mut Steps<L>,
     ) -> Option<Addr>
         requires { IsOrd (D.rules kind.now) self.old (C.blocks cells.old) }
@@ -91,7 +92,14 @@ impl DtOrd {
             steps.new }
     {
         let mark = self.root;
-        let (ord, at) = find_in(&mut Holders { cells, mark }, *self, kind, key, steps);
+        let (ord, at) = find_in(
+            &mut Holders { cells, mark },
+            *self,
+            kind,
+            key,
+            unlinks,
+            steps,
+        );
         *self = ord;
         at
     }

@@ -4,13 +4,13 @@ use vc_base::{Addr, Cells, Steps};
 use vc_dtdisc::DictDisc;
 use vc_splay::{Guide, Nodes};
 
-// Seeks the holders whose objects have this key.
+/// Seeks the holders whose objects have this key. This project's own.
 #[derive(Drop)]
-pub(crate) struct ByKey<'k, D: DictDisc> {
-    // The kind, which orders keys.
-    pub(crate) kind: &'k D,
-    // The key.
-    pub(crate) key: &'k [u8],
+pub struct ByKey<'k, D: DictDisc> {
+    /// The kind, which orders keys.
+    pub kind: &'k D,
+    /// The key.
+    pub key: &'k [u8],
 }
 
 impl<'a, 'k, C: Cells, D: DictDisc> Guide<Holders<'a, C>> for ByKey<'k, D> {

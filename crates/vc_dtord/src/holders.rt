@@ -2,15 +2,15 @@ use crate::words::{link_at, write_word};
 use vc_base::{Addr, Cells};
 use vc_splay::Nodes;
 
-// The holders in cells that are lent, as a store of nodes: a node's name is its address, and its left child, its right
-// child and its parent are its words 0, 1 and 2. A holder at `mark` is there besides each of them, so that a guide may
-// read its key.
+/// The holders in cells that are lent, as a store of nodes: a node's name is its address, and its left child, its right
+/// child and its parent are its words 0, 1 and 2. A holder at `mark` is there besides each of them, so that a guide may
+/// read its key. This project's own.
 #[derive(Drop)]
-pub(crate) struct Holders<'a, C: Cells> {
-    // The cells.
-    pub(crate) cells: &'a mut C,
-    // The address of that holder.
-    pub(crate) mark: Addr,
+pub struct Holders<'a, C: Cells> {
+    /// The cells.
+    pub cells: &'a mut C,
+    /// The address of that holder.
+    pub mark: Addr,
 }
 
 impl<'a, C: Cells> Nodes for Holders<'a, C> {

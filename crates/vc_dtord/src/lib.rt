@@ -12,4 +12,7 @@ mod seen;
 mod words;
 
 pub use dt_ord::DtOrd;
+pub use guides::ByKey;
+pub use holders::Holders;
 pub use rows::{one_list, place_rows};
+pub use words::clear_words;

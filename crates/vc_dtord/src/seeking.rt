@@ -70,7 +70,7 @@ fn find_last_before<N: Nodes, G: Guide<N>, L>(
         → Costs tree after steps.old steps.new (18 * binary_digits (size tree)) }
     ensures rest { N.stays nodes.old nodes.new }
 {
-    let (top, least) = find_least_at(nodes, root, guide, steps);
+    let (top, least) = find_least_at(nodes, root, guide, false, steps);
     let at = node_before(nodes, top, least);
     (raised(nodes, top, at), at)
 }
@@ -95,7 +95,7 @@ pub(crate) fn behind_in<'a, C: Cells, D: DictDisc, L>(
     ensures same { nodes.new.cells.ghost_name ≡ nodes.old.cells.ghost_name }
 {
     let by_key = ByKey { kind, key };
-    let (root, at) = find_least_at(nodes, ord.root.0, &Past { guide: &by_key }, steps);
+    let (root, at) = find_least_at(nodes, ord.root.0, &Past { guide: &by_key }, false, steps);
     (DtOrd { root: Addr(root) }, found(Addr(at)))
 }
 

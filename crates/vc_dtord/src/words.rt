@@ -28,8 +28,8 @@ pub(crate) fn write_word<C: Cells>(cells: &mut C, at: Addr, k: u32, value: u32)
     cells.store(at, k, value as u64);
 }
 
-// Makes the four words of a holder 0, whatever they were.
-pub(crate) fn clear_words<C: Cells>(cells: &mut C, at: Addr)
+/// Makes the four words of a holder 0, whatever they were. The block has 33 bytes at least.
+pub fn clear_words<C: Cells>(cells: &mut C, at: Addr)
     requires { IsHolder (C.blocks cells.old) at.0 }
     ensures { ChangesIn C.blocks C.RestStays cells.old cells.new
         (λ old new. IsHolderCleared old new at.0) }

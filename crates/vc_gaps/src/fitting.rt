@@ -76,7 +76,7 @@ fn fit_in<'a, L>(
     ensures rest { StaysButLinks gaps.old.extents.now.segs.items
         gaps.new.extents.now.segs.items }
 {
-    let (top, first) = find_least_at(gaps, root, &BySpan { span, at: 0 }, steps);
+    let (top, first) = find_least_at(gaps, root, &BySpan { span, at: 0 }, true, steps);
     if align == 32 {
         return (top, first);
     }

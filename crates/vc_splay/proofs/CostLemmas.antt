@@ -1,12 +1,12 @@
 -- What a search of a tree costs, a link, and an unlink.
-use Rattle.vc_base.proofs.Common.{◌≡◌, ℕ, ◌+◌, ◌*◌, ◌≤◌, false, refl, ap, ◌∙◌, arith}
-use Rattle.vc_splay.specs.Tree.{Tree, Leaf, Node}
+use Rattle.vc_base.proofs.Common.{◌≡◌, ℕ, ◌+◌, ◌-◌, ◌*◌, ◌≤◌, false, length, refl, ap, ◌∙◌, inl, inr, arith, cases_lt}
+use Rattle.vc_splay.specs.Tree.{Tree, Leaf, Node, names}
 use Rattle.vc_splay.specs.Moves.{Context, Paid, depth, plug}
 use Rattle.vc_splay.specs.Rank.{Costs, binary_digits, level, rank, size}
 use Rattle.vc_splay.specs.Searches.{Joined}
 use Rattle.vc_splay.specs.Stands.{IsTree}
 use Rattle.vc_splay.specs.Store.{Store}
-use Rattle.vc_splay.proofs.DigitLemmas.{level-digits, level-few, level-rises}
+use Rattle.vc_splay.proofs.DigitLemmas.{digits-rise, digits-some, level-digits, level-few, level-rises}
 use Rattle.vc_splay.proofs.FewLemmas.{deep}
 use Rattle.vc_splay.proofs.RankLemmas.{rank-leaf, size-leaf, size-node, size-grown}
 use Rattle.vc_splay.proofs.SearchLemmas.{no_tree}
@@ -95,5 +95,28 @@ unlinked_cost c t top tree front back after at e h whole same k = record {
       let w = ap level z in
       let v = level-rises (size front + size back) (size tree) (omega arith) in
       let few = level-few (size tree) in
+      omega arith;
+}
+
+-- few nodes were read, and the tree stayed
+digits-eight : binary_digits 8 ≡ 4
+unfolding binary_digits
+digits-eight = refl
+
+shallow : (read n : ℕ) → read ≤ n → read ≤ 48 → read ≤ 12 * binary_digits n
+shallow read n within few = elim (cases_lt 12 read) as (λ _. read ≤ 12 * binary_digits n) [
+  | inl many ↦ let a = digits-rise 8 n (omega arith) in let b = digits-eight in omega arith
+  | inr less ↦ elim (cases_lt 0 read) as (λ _. read ≤ 12 * binary_digits n) [
+    | inl some ↦ let a = digits-some n (omega arith) in omega arith
+    | inr none ↦ omega arith
+  ]
+]
+
+pub looked : (tree after : Tree) (before now : ℕ) → tree ≡ after → now ≤ before + length (names tree) → now ≤ before + 48 → Costs tree after before now (12 * binary_digits (size tree))
+unfolding size
+looked tree after before now e within few = record {
+  cost =
+      let a = shallow (now - before) (length (names tree)) (omega arith) (omega arith) in
+      let b = ap rank e in
       omega arith;
 }

@@ -227,7 +227,6 @@ search_end s side tree deepest least at before now none w e =
     let d = deepest_at tree deepest before now w.context (ap (plug w.context) (sym leaf) ∙ w.whole) w.deepest_in w.deepest_is w.deep in
     record {
       first = sym (w.first ∙ ap (λ z. option_or (least_at side (names z)) (some_address least)) leaf);
-      found_in = λ some. within_tally least tree (w.least_in some);
       deepest_in = within_tally deepest tree w.deepest_in;
       steps = omega arith;
       context = d.context;
@@ -245,6 +244,14 @@ pub same_tree : (s : Store) (root : ℕ) (t : Tree) → IsTree s root t → root
 same_tree s root t k e = record {
   tree = t;
   is_tree = subst (λ z. IsTree s z t) e k;
+  list = refl;
+  others = λ n h. SameLinks-same s n;
+}
+
+pub stayed_tree : (s : Store) (root : ℕ) (t : Tree) → IsTree s root t → TreeAfter s s (names t) root (names t)
+stayed_tree s root t k = record {
+  tree = t;
+  is_tree = k;
   list = refl;
   others = λ n h. SameLinks-same s n;
 }
@@ -284,10 +291,3 @@ found_next side at least before some e = by (is_ge (side at))
     by : (t : Bool) → cond t (is_eq (side at)) before ≡ is_found side (cond t at least)
     by true = rw (ne_eqb at 0 some) refl
     by false = e
-
-pub found_is : (side : ℕ → Ordering) (least found : ℕ) → found ≡ cond (not (least == 0) && is_eq (side least)) least 0 → found ≢ 0 → found ≡ least
-found_is side least found e some = e ∙ by (not (least == 0) && is_eq (side least)) (λ z. some (e ∙ z))
-  where
-    by : (t : Bool) → (cond t least 0 ≢ 0) → cond t least 0 ≡ least
-    by true ne = refl
-    by false ne = absurd (ne refl)

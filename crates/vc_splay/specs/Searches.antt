@@ -13,7 +13,6 @@ use Rattle.vc_splay.specs.Rank.{level, rank, size}
 -- the deepest node that was read and the first that isn't before what is sought, or 0, by a step for each node read
 pub record Search (side : ℕ → Ordering) (tree : Tree) (deepest found before now : ℕ) : Type 0 where
   pub first : some_address found ≡ least_at side (names tree)
-  pub found_in : found ≢ 0 → contains (names tree) found ≡ true
   pub deepest_in : contains (names tree) deepest ≡ true
   pub steps : now ≡ before + reads_of_walk (λ n. is_ge (side n)) tree
   pub context : Context

@@ -1,4 +1,4 @@
-ghost use Rattle.std.specs.Prelude.{◌≡◌, ◌≢◌, ℕ, ◌+◌, ◌*◌, ◌≤◌, length, if◌then◌else◌};
+ghost use Rattle.std.specs.Prelude.{◌≡◌, ◌≢◌, ℕ, ◌+◌, ◌*◌, ◌<◌, ◌≤◌, length, true, if◌then◌else◌};
 ghost use Rattle.std.specs.Ordering.{is_eq, is_ge};
 ghost use Rattle.vc_base.specs.Prelude.{some_address};
 ghost use Rattle.vc_splay.specs.Guide.{CanFind, first_at, least_at};
@@ -14,12 +14,14 @@ use std::cmp::Ordering;
 use vc_base::Steps;
 
 /// The new root, and the first node that is what the guide seeks, or 0 where none is. It takes one step for each node
-/// that it asks the guide of: at least one where there is a node, and at most as many as there are. Condition: along the
-/// tree the guide's answers never fall.
+/// that it asks the guide of: at least one where there is a node, and at most as many as there are. For a caller that splays
+/// what is found, no node is splayed here after at most 24 were read: the binary digits of their number pay for so many.
+/// Condition: along the tree the guide's answers never fall.
 pub fn find_first<N: Nodes, G: Guide<N>, L>(
     nodes: &mut N,
     root: u32,
     guide: &G,
+    splays: bool,
     steps: &mut Steps<L>,
 ) -> (u32, u32)
     requires { CanFind (N.store nodes.old) (G.side_of guide.now nodes.old) root }
@@ -39,18 +41,23 @@ pub fn find_first<N: Nodes, G: Guide<N>, L>(
     if root == 0 {
         return (0, 0);
     }
-    let (deepest, least, equal) = descend(nodes, root, guide, steps);
+    let (deepest, least, equal, read) = descend(nodes, root, guide, steps);
     let found = chosen(equal, least, 0);
+    if is_short(splays, read) {
+        return (root, found);
+    }
     (splay(nodes, root, deepest), found)
 }
 
 /// The new root, and the first node that isn't before what the guide seeks, or 0 where each is. It takes one step for
-/// each node that it asks the guide of: at least one where there is a node, and at most as many as there are.
-/// Condition: along the tree the guide's answers never fall.
+/// each node that it asks the guide of: at least one where there is a node, and at most as many as there are. For a caller
+/// that splays what is found, no node is splayed here after at most 24 were read. Condition: along the tree the guide's
+/// answers never fall.
 pub fn find_least_at<N: Nodes, G: Guide<N>, L>(
     nodes: &mut N,
     root: u32,
     guide: &G,
+    splays: bool,
     steps: &mut Steps<L>,
 ) -> (u32, u32)
     requires { CanFind (N.store nodes.old) (G.side_of guide.now nodes.old) root }
@@ -70,38 +77,52 @@ pub fn find_least_at<N: Nodes, G: Guide<N>, L>(
     if root == 0 {
         return (0, 0);
     }
-    let (deepest, least, _equal) = descend(nodes, root, guide, steps);
+    let (deepest, least, _equal, read) = descend(nodes, root, guide, steps);
+    if is_short(splays, read) {
+        return (root, least);
+    }
     (splay(nodes, root, deepest), least)
 }
 
-// Reads down to the first node that isn't before what is sought: the deepest node that was read, that one or 0, and
-// whether there is one and it is what is sought.
+// Whether a way down of so many nodes is left as it is, by whether the caller splays what is found.
+#[inline(always)]
+fn is_short(splays: bool, read: u32) -> bool
+    ensures { result ≡ true → read ≤ 24 }
+{
+    splays && read <= 24
+}
+
+// Reads down to the first node that isn't before what is sought: the deepest node that was read, that one or 0, whether
+// there is one and it is what is sought, and how many were read, as far as a u32 counts.
 #[inline(always)]
 fn descend<N: Nodes, G: Guide<N>, L>(
     nodes: &N,
     root: u32,
     guide: &G,
     steps: &mut Steps<L>,
-) -> (u32, u32, bool)
+) -> (u32, u32, bool, u32)
     requires tree { CanFind (N.store nodes.now) (G.side_of guide.now nodes.now) root }
     requires some { root ≢ 0 }
     ensures search { (tree : Tree) → IsTree (N.store nodes.now) root tree
         → Search (G.side_of guide.now nodes.now) tree result.0 result.1 steps.old steps.new }
     ensures equal { result.2 ≡ is_found (G.side_of guide.now nodes.now) result.1 }
+    ensures read { result.3 < 4294967295 → steps.new ≤ steps.old + result.3 }
 {
     let mut deepest = root;
     let mut least = 0;
     let mut equal = false;
+    let mut read: u32 = 0;
     let mut at = root;
     while at != 0 {
         deepest = at;
+        read = read.saturating_add(1);
         let answer = guide.side(nodes, at, steps);
         let left = answer.is_ge();
         least = chosen(left, at, least);
         equal = equal_by(answer, equal);
         at = kid(nodes, left, at);
     }
-    (deepest, least, equal)
+    (deepest, least, equal, read)
 }
 
 // Whether the first node that isn't before what is sought is what is sought, after one more answer on the way down.

@@ -21,6 +21,8 @@ pub use linking::link_after_equals;
 pub use links::Links;
 pub use neighbours::{next, prev};
 pub use nodes::Nodes;
+pub use rising::{Rising, rise};
 pub use rows::{rank_rows, step_laws};
+pub use sides::{kid, set_kid_of};
 pub use splaying::splay;
 pub use unlinking::unlink;

@@ -6,17 +6,18 @@ ghost use Rattle.vc_splay.specs.Writes.{AreTurned, Becomes, CanSettleNode, CanTu
 use crate::Nodes;
 use crate::sides::{hang, kid, side_of, turned};
 
-// A node in hand on its way up. No link between it and another node is written before it is the root, so that each link
-// is written once.
+/// A node in hand on its way up. No link between it and another node is written before it is the root, so that each link
+/// is written once. This project's own.
 #[derive(Clone, Copy)]
-pub(crate) struct Rising {
-    // The node that the one right above it still names as its child.
-    pub(crate) below: u32,
-    // The node right above it, 0 at the top.
-    pub(crate) above: u32,
-    // The roots of its two subtrees, 0 for none.
-    pub(crate) left: u32,
-    pub(crate) right: u32,
+pub struct Rising {
+    /// The node that the one right above it still names as its child.
+    pub below: u32,
+    /// The node right above it, 0 at the top.
+    pub above: u32,
+    /// The root of its left subtree, 0 for none.
+    pub left: u32,
+    /// The root of its right subtree, 0 for none.
+    pub right: u32,
 }
 
 // Takes a node in hand where it is.
@@ -33,9 +34,9 @@ pub(crate) fn in_hand<N: Nodes>(nodes: &N, at: u32) -> Rising
     }
 }
 
-// Makes a node in hand the root of the tree that it is on its way up in.
+/// Makes a node in hand the root of the tree that it is on its way up in. Condition: it is on its way up in some tree.
 #[inline(always)]
-pub(crate) fn rise<N: Nodes>(nodes: &mut N, at: u32, from: Rising)
+pub fn rise<N: Nodes>(nodes: &mut N, at: u32, from: Rising)
     requires { CanRise (N.store nodes.old) at from.below from.above from.left from.right }
     ensures tree { (context : Context) (tree : Tree)
         → IsRising (N.store nodes.old) at from.below from.above from.left from.right context tree

@@ -4,9 +4,9 @@ ghost use Rattle.vc_splay.specs.Writes.{AreTurned, Becomes, CanHang, with_child,
 
 use crate::{Links, Nodes};
 
-// A node's child on one side: the left one at true.
+/// A node's child on one side: the left one at true. Condition: its name is there.
 #[inline(always)]
-pub(crate) fn kid<N: Links>(nodes: &N, side: bool, n: u32) -> u32
+pub fn kid<N: Links>(nodes: &N, side: bool, n: u32) -> u32
     requires { (N.store nodes.now).has n ≡ true }
     ensures { result ≡ (N.store nodes.now).kid side n }
 {
@@ -36,9 +36,9 @@ pub(crate) fn set_kid<N: Nodes>(nodes: &mut N, side: bool, n: u32, v: u32)
     }
 }
 
-// Gives a node another child on one side, where there is a node.
+/// Gives a node another child on one side, the left one at true, where there is a node. Condition: its name is there, or 0.
 #[inline(always)]
-pub(crate) fn set_kid_of<N: Nodes>(nodes: &mut N, side: bool, n: u32, v: u32)
+pub fn set_kid_of<N: Nodes>(nodes: &mut N, side: bool, n: u32, v: u32)
     requires { n ≢ 0 → (N.store nodes.old).has n ≡ true }
     ensures { Becomes N.store N.stays nodes.old nodes.new
         (with_kid_of side n v (N.store nodes.old)) }

@@ -53,7 +53,7 @@ fn found<C: Cells, D: DictDisc>(
     ensures { IsBefore (D.rules kind.now) ord.new (C.blocks cells.new) 4 }
 {
     let mut steps: Steps<Compares> = Steps::new(alloc);
-    let c = ord.find(cells, kind, b"c", &mut steps);
+    let c = ord.find(cells, kind, b"c", false, &mut steps);
     let bb = ord.at_least(cells, kind, b"bb", &mut steps);
     same(rt, [number(c), number(bb)], [1, 1]);
 }

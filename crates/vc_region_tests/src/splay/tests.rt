@@ -53,8 +53,8 @@ fn seen<'a>(nodes: &mut Lent<'a>, root: u32, key: u32, steps: &mut Steps<Asks>) 
     ensures same { nodes.new.rows.ghost_name ≡ nodes.old.rows.ghost_name }
 {
     let guide = ByKey { key };
-    let (top, equal) = find_first(nodes, root, &guide, steps);
-    let (above, least) = find_least_at(nodes, top, &guide, steps);
+    let (top, equal) = find_first(nodes, root, &guide, false, steps);
+    let (above, least) = find_least_at(nodes, top, &guide, false, steps);
     (above, [equal, least])
 }
 

@@ -1,10 +1,11 @@
-use Rattle.vc_base.proofs.Common.{◌≡◌, cond, sym, ap, ◌∙◌, arith, subst}
+use Rattle.vc_base.proofs.Common.{◌≤◌, ◌+◌, ◌≡◌, cond, sym, ap, ◌∙◌, arith, subst, refl}
 use Rattle.vc_splay.specs.Searches.{is_found}
 use Rattle.vc_splay.specs.Moves.{plug}
 use Rattle.vc_splay.specs.Stands.{IsTree}
 use Rattle.vc_splay.specs.Tree.{Node}
-use Rattle.vc_splay.proofs.CostLemmas.{none_cost, searched}
-use Rattle.vc_splay.proofs.SearchLemmas.{first_found, first_none, least_steps, most_steps, same_tree}
+use Rattle.vc_splay.specs.Unique.{IsTree-one}
+use Rattle.vc_splay.proofs.CostLemmas.{looked, none_cost, searched}
+use Rattle.vc_splay.proofs.SearchLemmas.{first_found, first_none, least_steps, most_steps, same_tree, stayed_tree}
 use Rattle.vc_splay.proofs.finding.find_first.Goals as goal
 
 pub returns-then-root-eq0-clause-tree : goal.returns-then-root-eq0-clause-tree
@@ -48,3 +49,32 @@ returns-clause-law g c = λ t after k j.
     let w = c.descend-deepest.ensures.search t k in
     let stands : IsTree s c.args.root (plug w.context (Node w.left deepest w.right)) = subst (λ z. IsTree s c.args.root z) (sym w.whole) k in
     searched w.context w.left deepest w.right t after c.args.steps.now c.descend-deepest.new.steps w.whole w.deep (c.splay.ensures.law w.context w.left w.right after stands j)
+
+-- few nodes were read
+pub returns-then-is_short-clause-tree : goal.returns-then-is_short-clause-tree
+returns-then-is_short-clause-tree g c = λ t k. stayed_tree (g.N.Nodes.store c.args.nodes.now) c.args.root t k
+
+pub returns-then-is_short-clause-answer : goal.returns-then-is_short-clause-answer
+returns-then-is_short-clause-answer g c = λ t k.
+    let side = g.G.Guide.side_of c.args.guide.now c.args.nodes.now in
+    let is : c.chosen-found.result ≡ cond (is_found side c.descend-deepest.result.1) c.descend-deepest.result.1 0 = c.chosen-found.ensures ∙ ap (λ t. cond t c.descend-deepest.result.1 0) c.descend-deepest.ensures.equal in
+    first_found (g.N.Nodes.store c.args.nodes.now) side c.args.root c.descend-deepest.result.0 c.descend-deepest.result.1 c.chosen-found.result c.args.steps.now c.descend-deepest.new.steps t
+    (g.met.N.Nodes.none c.args.nodes.now) c.requires k (c.descend-deepest.ensures.search t k) is
+
+pub returns-then-is_short-clause-rises : goal.returns-then-is_short-clause-rises
+returns-then-is_short-clause-rises g c = let deep = (c.descend-deepest.ensures.search c.requires.tree c.requires.is_tree).deep in omega arith
+
+pub returns-then-is_short-clause-least_steps : goal.returns-then-is_short-clause-least_steps
+returns-then-is_short-clause-least_steps g c = λ some.
+    least_steps (g.N.Nodes.store c.args.nodes.now) (g.G.Guide.side_of c.args.guide.now c.args.nodes.now) c.args.root c.descend-deepest.result.0 c.descend-deepest.result.1 c.args.steps.now c.descend-deepest.new.steps c.requires.tree c.requires.is_tree some (c.descend-deepest.ensures.search c.requires.tree c.requires.is_tree)
+
+pub returns-then-is_short-clause-most_steps : goal.returns-then-is_short-clause-most_steps
+returns-then-is_short-clause-most_steps g c = λ t k.
+    most_steps (g.G.Guide.side_of c.args.guide.now c.args.nodes.now) c.descend-deepest.result.0 c.descend-deepest.result.1 c.args.steps.now c.descend-deepest.new.steps t (c.descend-deepest.ensures.search t k)
+
+pub returns-then-is_short-clause-law : goal.returns-then-is_short-clause-law
+returns-then-is_short-clause-law g c = λ t after k j.
+    let s = g.N.Nodes.store c.args.nodes.now in
+    let most = most_steps (g.G.Guide.side_of c.args.guide.now c.args.nodes.now) c.descend-deepest.result.0 c.descend-deepest.result.1 c.args.steps.now c.descend-deepest.new.steps t (c.descend-deepest.ensures.search t k) in
+    let few : c.descend-deepest.new.steps ≤ c.args.steps.now + 48 = let r = c.descend-deepest.ensures.read (let few = c.if-is_short.ensures refl in omega (arith, few)) in let few = c.if-is_short.ensures refl in omega (arith, r, few) in
+    looked t after c.args.steps.now c.descend-deepest.new.steps (IsTree-one s c.args.root t after (g.met.N.Nodes.none c.args.nodes.now) k j) most few

@@ -8,7 +8,7 @@ remove-requires-clause-found g c = λ at e.
     let r = c.requires in
     record {
       holders = r.holders;
-      stands = (c.find-found.ensures.dict r.holders r.stands).stands;
+      stands = (c.look-found.ensures.dict r.holders r.stands).stands;
       within = found-within (has_key (g.D.DictDisc.rules c.args.kind.now) (g.C.Cells.blocks c.args.cells.now) c.args.key.now) r.holders at
-          (sym (c.find-found.ensures.found r.holders r.stands).first ∙ e);
+          (sym (c.look-found.ensures.found r.holders r.stands).first ∙ e);
     }

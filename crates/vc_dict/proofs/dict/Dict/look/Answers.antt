@@ -1,5 +1,5 @@
 use Rattle.vc_dict.proofs.DictLemmas.{Became-heads}
-use Rattle.vc_dict.proofs.dict.Dict.find.Goals as goal
+use Rattle.vc_dict.proofs.dict.Dict.look.Goals as goal
 
 pub returns-clause-dict : goal.returns-clause-dict
 returns-clause-dict g c = λ holders s.
