@@ -1,5 +1,5 @@
 -- Dictionaries of a region that get objects: what one is asked for, and what it leaves of them all.
-use Rattle.vc_base.proofs.Common.{◌≡◌, ◌≢◌, ℕ, Bool, true, false, ◌&&◌, ◌++◌, List, [], ◌∷◌, map, set, length, zero, suc, nat_lt, ◌==◌, ◌<◌, slice_get, option_map, Some, None, Option, IsSome, is_some, Result, Ok, Err, sym, refl, ap, ◌∙◌, subst, inl, inr, none-some, same_Some, slice_get-map, map-append, true≢false, eqb_tells, eq-eqb, eqb-true, and_parts, and_from, ltb-true, lt-ltb, list_all, AllByRecursion, Blocks, contains, some_address, at_number, has_table, is_set, method_number, Discipline, HasOut, Layout, Terms}
+use Rattle.vc_base.proofs.Common.{◌≡◌, ◌≢◌, ℕ, Bool, true, false, ◌&&◌, ◌++◌, List, [], ◌∷◌, map, set, length, zero, suc, nat_lt, ◌==◌, ◌<◌, slice_get, option_map, Some, None, Option, IfNone, IfSome, IsSome, is_some, not, Result, Ok, Err, sym, refl, ap, ◌∙◌, subst, inl, inr, none-some, same_Some, slice_get-map, map-append, true≢false, eqb_tells, eq-eqb, eqb-true, and_parts, and_from, ltb-true, lt-ltb, list_all, AllByRecursion, Blocks, contains, some_address, at_number, has_table, is_set, method_number, Discipline, HasOut, Layout, Terms}
 use Rattle.vc_base.specs.declared.fault.OutOfMemory.{OutOfMemory}
 use Rattle.vc_base.proofs.Members.{within-head, within-tail}
 use Rattle.vc_base.proofs.Methods.{same-method}
@@ -13,9 +13,10 @@ use Rattle.vc_dict.specs.declared.dict.Dict.{Dict}
 use Rattle.vc_dict.proofs.OwnLemmas.{holders-told}
 use Rattle.vc_dtdisc.specs.Shapes.{rules_of}
 use Rattle.vc_dtdisc.specs.declared.shape.Shape.TheVariants.{Whole}
-use Rattle.vc_objects.specs.Leaves.{GivesInserted, IsHalted, LeavesRest, Looks, no_holder, no_table}
+use Rattle.std.specs.Option.{option_transpose}
+use Rattle.vc_objects.specs.Leaves.{LeavesRest, Looks}
 use Rattle.vc_objects.specs.Insert.{empty_dictionary, grow, insert}
-use Rattle.vc_objects.specs.Promises.{CanAsk}
+use Rattle.vc_objects.specs.Promises.{CanAsk, Inserts}
 use Rattle.vc_objects.specs.Objects.{Dictionary, own_blocks}
 use Rattle.vc_objects.specs.Parts.{IsWhole, dictionary_in, dictionary_of, object_of, table_of}
 use Rattle.vc_objects.specs.declared.fate.Fate.{Fate}
@@ -34,7 +35,9 @@ use Rattle.vc_region.specs.Region as model
 use Rattle.vc_region.specs.declared.region.Region as code
 use Rattle.vc_region.specs.declared.region.Region.TheVariants.{Best}
 use Rattle.vc_seg.specs.Boxed.{disc_in_box}
-use Rattle.vc_algebra.specs.Filling.{CanFill, Fills, IsPut, IsSettled, is_like, is_matched}
+use Rattle.vc_algebra.specs.Filling.{CanFill, Fills, IsPut, IsSettled, is_like}
+use Rattle.vc_put.specs.Puts.{is_matched}
+use Rattle.vc_put.proofs.PutLemmas.{matched-told}
 use Rattle.vc_algebra.specs.InRegion.{AreApart, AreDictsIn, HasLayer, Held, IsDictIn, KeepsDicts, held, layered_in, layers_in}
 use Rattle.vc_algebra.specs.RegionLaws.{dict-at}
 use Rattle.vc_algebra.proofs.LookLemmas.{Changed, all-at, by-rules, changed}
@@ -95,41 +98,14 @@ all-last : {A : Type 0} (P : A → Type 0) (xs : List A) (x : A) → P x → All
 all-last P [] x p h = (p, tt)
 all-last P (y ∷ ys) x p h = (h.0, all-last P ys x p h.1)
 
--- what putting gives, with a look before it
-module _ {I : Type 0} {V : I → Type 0} (meaning : (x : I) × V x → Discipline) (rules : Rules) (before mid after : best.Best I V) (old d new : Dict) (l : Looks meaning rules before old mid d) where
-  pub leaves-looked : LeavesRest meaning rules mid d after new → LeavesRest meaning rules before old after new
-  leaves-looked h = record {
-    whole = h.whole;
-    kind = h.kind ∙ l.leaves.kind;
-    rest =
-        leaves-trans meaning before mid after (own_blocks (dictionary_in old before)) (own_blocks (dictionary_in d mid)) (own_blocks (dictionary_in new after)) l.leaves.rest h.rest
-        (λ a apart _. ap (λ (c : Dictionary). contains (own_blocks c) a) l.dict ∙ apart);
-  }
-
-  abbrev terms : Terms
-  terms = (best_parts.disc_in meaning before).terms
-
-  pub put-ok : (bytes : List ℕ) (fate : Fate) → is_matched rules bytes (dictionary_in old before) ≡ false
-      → GivesInserted (insert rules (best_parts.disc_in meaning mid).terms (best_cells.rest_in mid) 0 (dictionary_in d mid) false bytes (no_table fate) (no_holder fate)) (best_cells.rest_in after) (dictionary_in new after) fate
-      → IsPut (Ok (Some fate)) terms rules bytes (best_cells.rest_in before) (dictionary_in old before) (best_cells.rest_in after) (dictionary_in new after)
-  put-ok bytes fate apart gives =
-      let Gives : Discipline → Layout ℕ → Dictionary → Type 0 = λ x r e. GivesInserted (insert rules x.terms r 0 e false bytes (no_table fate) (no_holder fate)) (best_cells.rest_in after) (dictionary_in new after) fate in (
-        apart,
-        subst (λ x. Gives x (best_cells.rest_in before) (dictionary_in old before)) l.disc
-            (subst (λ r. Gives (best_parts.disc_in meaning mid) r (dictionary_in old before)) l.region
-            (subst (λ e. Gives (best_parts.disc_in meaning mid) (best_cells.rest_in mid) e) l.dict gives)),
-      )
-
-  pub put-err : (bytes : List ℕ) (why : OutOfMemory) → is_matched rules bytes (dictionary_in old before) ≡ false
-      → IsHalted (grow (best_parts.disc_in meaning mid).terms (best_cells.rest_in mid) 0 (dictionary_in d mid) false) (best_cells.rest_in mid) (dictionary_in d mid) (best_cells.rest_in after) (dictionary_in new after)
-      → IsPut (Err why) terms rules bytes (best_cells.rest_in before) (dictionary_in old before) (best_cells.rest_in after) (dictionary_in new after)
-  put-err bytes why apart halted =
-      let Halted : Discipline → Layout ℕ → Dictionary → Type 0 = λ x r e. IsHalted (grow x.terms r 0 e false) r e (best_cells.rest_in after) (dictionary_in new after) in (
-        apart,
-        subst (λ x. Halted x (best_cells.rest_in before) (dictionary_in old before)) l.disc
-            (subst (λ r. Halted (best_parts.disc_in meaning mid) r (dictionary_in old before)) l.region
-            (subst (λ e. Halted (best_parts.disc_in meaning mid) (best_cells.rest_in mid) e) l.dict halted)),
-      )
+-- what putting gives
+module _ {I : Type 0} {V : I → Type 0} (meaning : (x : I) × V x → Discipline) (rules : Rules) (bytes : List ℕ) (before after : best.Best I V) (old new : Dict) where
+  pub put-told : (told : Option (Result Fate OutOfMemory)) → is_some told ≡ not (is_matched rules bytes (dictionary_in old before)) → IfNone told (Looks meaning rules before old after new)
+      → IfSome told (λ r. Inserts meaning r rules false bytes before old after new)
+      → IsPut (option_transpose told) (best_parts.disc_in meaning before).terms rules bytes (best_cells.rest_in before) (dictionary_in old before) (best_cells.rest_in after) (dictionary_in new after)
+  put-told None e looks inserts = (matched-told (is_matched rules bytes (dictionary_in old before)) false e, looks.region, looks.dict)
+  put-told (Some (Ok fate)) e looks inserts = (matched-told (is_matched rules bytes (dictionary_in old before)) true e, inserts.ok)
+  put-told (Some (Err why)) e looks inserts = (matched-told (is_matched rules bytes (dictionary_in old before)) true e, inserts.err)
 
 -- one of a best region's dictionaries
 module _ {I : Type 0} {V : I → Type 0} (meaning : (x : I) × V x → Discipline) (kinds : List Rules) (b : best.Best I V) (ds : List Dict) (i : ℕ) (d : Dict) (rules : Rules)
@@ -301,20 +277,6 @@ module _ {I : Type 0} {V : I → Type 0} (kinds : List Rules) (r : code.Region I
   pub all-like : (es : List ℕ) → AllByRecursion (IsAlike (layered_in kinds r ds) d) es → list_all test es ≡ true
   all-like [] h = refl
   all-like (e ∷ es) h = and_from (test e) (list_all test es) (alike-like e h.0) (all-like es h.1)
-
--- none of a set matches
-pub lone : (rules : Rules) (bytes : List ℕ) (d e : Dictionary) → e ≡ d → is_matched rules bytes d ≡ false → is_set e.method ≡ true → first_with bytes_of rules (rules.key bytes) e.objects ≡ None
-lone rules bytes d e same apart set =
-    let first = first_with bytes_of rules (rules.key bytes) e.objects in
-    none-of first (sym (ap (λ t. t && is_some first) set) ∙ ap (is_matched rules bytes) same ∙ apart)
-  where
-    none-of : {A : Type 0} (o : Option A) → is_some o ≡ false → o ≡ None
-    none-of None h = refl
-    none-of (Some x) h = absurd (true≢false h)
-
--- whether there is one is whether one is found
-pub found-is : {A B : Type 0} (f : A → ℕ) (g : B → ℕ) (o : Option A) (first : Option B) → option_map f o ≡ option_map g first → is_some o ≡ is_some first
-found-is f g o first e = sym (is_some-map f o) ∙ ap is_some e ∙ is_some-map g first
 
 -- a region of which no dictionary is known
 pub can-begin : {I : Type 0} {V : I → Type 0} (meaning : (x : I) × V x → Discipline) (kinds : List Rules) (b : best.Best I V) (ds : List Dict) → ds ≡ [] → HasOut (best_parts.disc_in meaning b) (best_parts.segments_in b) → CanFill meaning kinds (Best b) ds

@@ -14,6 +14,7 @@ use Rattle.vc_objects.specs.Insert.{grow, insert}
 use Rattle.vc_objects.specs.Leaves.{GivesInserted, IsHalted, no_holder, no_table}
 use Rattle.vc_objects.specs.Objects.{Dictionary}
 use Rattle.vc_objects.specs.declared.fate.Fate.{Fate}
+use Rattle.vc_put.specs.Puts.{is_matched}
 use Rattle.vc_paths.specs.Layers.{Layer}
 use Rattle.vc_region.specs.Cells.{cells_in, rest_in}
 use Rattle.vc_region.specs.Parts.{disc_in, segments_in}
@@ -37,10 +38,6 @@ pub record CanFill {I : Type 0} {V : I → Type 0} (meaning : (x : I) × V x →
   pub dicts : AreDictsIn kinds (cells_in r) ds
   pub settled : AllByRecursion (λ h. IsSettled h.dict) (helds r ds)
   pub lent : HasOut (disc_in meaning r) (segments_in r)
-
--- whether an object of a set matches
-abbrev pub is_matched : Rules → List ℕ → Dictionary → Bool
-is_matched rules bytes d = is_set d.method && is_some (first_with bytes_of rules (rules.key bytes) d.objects)
 
 -- what becomes of an object, the region and the dictionary, by the terms of the discipline: nothing, with a set that has one
 -- which matches, and else what an object's putting gives

@@ -12,8 +12,9 @@ use vc_seg::{BoxedDisc, RegionFault, SegDisc};
 // Marks a counter of steps that no one reads.
 struct Uncounted;
 
-// An unlabelled block of zeros, of 1 to 16,777,216 bytes.
-pub(crate) fn alloc_cell(best: &mut Best, size: u32) -> Result<Addr, RegionFault>
+/// An unlabelled block of zeros, of 1 to 16,777,216 bytes. The region's segments are out of its discipline. Refused as
+/// `Best::alloc` tells.
+pub fn alloc_cell(best: &mut Best, size: u32) -> Result<Addr, RegionFault>
     requires size { IsSize size }
     requires lent { HasOut (disc_in state best.old) (segments_in best.old) }
     ensures puts { PutsCell state result best.old size best.new }

@@ -14,8 +14,8 @@ use vc_dict::Dict;
 use vc_dtdisc::DictDisc;
 use vc_seg::{BoxedDisc, RegionFault, SegDisc};
 
-// What a block wants by the fault of a best region; want of memory is none.
-fn want_of(fault: RegionFault) -> Option<Want>
+/// What a block wants by the fault of a best region; want of memory is none.
+pub fn want_of(fault: RegionFault) -> Option<Want>
     ensures { result ≡ want_by fault }
 {
     match fault {

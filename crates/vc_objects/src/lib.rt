@@ -13,10 +13,11 @@ mod rows;
 mod tables;
 mod turning;
 
+pub use cells::alloc_cell;
 pub use emptying::{empty, shut};
 pub use fate::{Fate, Want};
 pub use finding::find;
-pub use inserting::insert;
+pub use inserting::{insert, want_of};
 pub use opening::open;
 pub use removing::{remove, remove_unnamed};
 pub use turning::turn;

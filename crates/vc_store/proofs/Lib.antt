@@ -5,3 +5,4 @@ pub mod Removing
 pub mod Shown
 pub mod Staying
 pub mod Moving
+pub mod Told

@@ -142,35 +142,11 @@ module _ (rules : Rules) (object : List ℕ) (old new : Discipline) (r r' : Layo
   pub tried-shown : (answer : Answer) → TriesBy answer rules object old r d new r' d' → AfterPut answer rules object (contents_of d) (bytes_of d'.objects) × (d'.method ≡ d.method)
   tried-shown answer t = fates t.fate answer t.told t.ok t.err
 
--- so behind a look
-pub tries-from : (answer : Answer) (rules : Rules) (object : List ℕ) (old old' new : Discipline) (r r1 r' : Layout ℕ) (d d1 d' : Dictionary) → old' ≡ old → r1 ≡ r → d1 ≡ d
-    → TriesBy answer rules object old' r1 d1 new r' d' → TriesBy answer rules object old r d new r' d'
-tries-from answer rules object old old' new r r1 r' d d1 d' e f g t =
-    subst (λ x. TriesBy answer rules object x r d new r' d') e
-    (subst (λ q. TriesBy answer rules object old' q d new r' d') f
-    (subst (λ c. TriesBy answer rules object old' r1 c new r' d') g t))
-
-module _ {I : Type 0} {V : I → Type 0} (meaning : (x : I) × V x → Discipline) (rules : Rules) (before mid after : Best I V) (old d new : Dict) (l : Looks meaning rules before old mid d) where
-  -- what a call leaves behind one that only looks
-  pub leaves-looked : LeavesRest meaning rules mid d after new → LeavesRest meaning rules before old after new
-  leaves-looked h = record {
-    whole = h.whole;
-    kind = h.kind ∙ l.leaves.kind;
-    rest =
-        leaves-trans meaning before mid after (own_blocks (dictionary_in old before)) (own_blocks (dictionary_in d mid)) (own_blocks (dictionary_in new after)) l.leaves.rest h.rest
-        (λ a apart _. ap (λ (c : Dictionary). contains (own_blocks c) a) l.dict ∙ apart);
-  }
-
-  pub tries-looked : (answer : Answer) (object : List ℕ) → Tries meaning answer rules object mid d after new → Tries meaning answer rules object before old after new
-  tries-looked answer object t =
-      tries-from answer rules object (disc_in meaning before) (disc_in meaning mid) (disc_in meaning after) (rest_in before) (rest_in mid) (rest_in after)
-      (dictionary_in old before) (dictionary_in d mid) (dictionary_in new after) l.disc l.region l.dict t
-
 -- the first that passes a test, and whether there is one
 find-shown : (test : List ℕ → Bool) (xs : List Object) → find test (bytes_of xs) ≡ option_map objects.bytes_of (find (λ o. test o.bytes) xs)
 find-shown test xs = find-map objects.bytes_of test xs
 
-pub found-some : (test : List ℕ → Bool) (xs : List Object) (o : Option Addr) → option_map number_of o ≡ option_map address_of (find (λ o. test o.bytes) xs)
+found-some : (test : List ℕ → Bool) (xs : List Object) (o : Option Addr) → option_map number_of o ≡ option_map address_of (find (λ o. test o.bytes) xs)
     → is_some o ≡ is_some (find test (bytes_of xs))
 found-some test xs o e =
     let first = find (λ o. test o.bytes) xs in
@@ -373,20 +349,6 @@ object-is object e =
     let least : nat_le 1 (length object) ≡ true = parts.0 in
     let most : nat_le (length object) 1024 ≡ true = parts.1 in
     record { least = grind (arith, common_steps, least); most = grind (arith, common_steps, most) }
-
-none-of : {A : Type 0} (o : Option A) → is_some o ≡ false → o ≡ None
-none-of None e = refl
-none-of (Some x) e = absurd (true≢false e)
-
--- none of a set matches it where the test says so
-pub lone-put : (rules : Rules) (object : List ℕ) (d e : Dictionary) → e ≡ d → has_match rules object (contents_of d) ≡ false → is_set e.method ≡ true
-    → first_with objects.bytes_of rules (rules.key object) e.objects ≡ None
-lone-put rules object d e same apart set =
-    let key = rules.key object in
-    let here : has_match rules object (contents_of e) ≡ false = ap (λ (c : Dictionary). has_match rules object (contents_of c)) same ∙ apart in
-    let none : is_some (found rules key (bytes_of e.objects)) ≡ false = sym (ap (λ t. t && is_some (found rules key (bytes_of e.objects))) set) ∙ here in
-    let first = first_with objects.bytes_of rules key e.objects in
-    none-of first (sym (is_some-map objects.bytes_of first) ∙ (ap is_some (sym (found-shown rules key e.objects)) ∙ none))
 
 -- where a call changed nothing, what a dictionary shows stays
 pub contents-still : {I : Type 0} {V : I → Type 0} {A E : Type 0} (result : Result A E) (before after : Best I V) (old new : Dict) (P : Type 0)

@@ -1,5 +1,5 @@
 -- Putting an object into a dictionary: what it takes of the region, and what refuses it.
-use Rattle.std.specs.Prelude.{◌≡◌, ℕ, List, Result, Ok, Err, IfOk, OnErr, false}
+use Rattle.std.specs.Prelude.{◌≡◌, ℕ, List, Option, Some, None, Result, Ok, Err, IfOk, OnErr, false}
 use Rattle.vc_base.specs.declared.fault.OutOfMemory.{OutOfMemory}
 use Rattle.vc_model.specs.Discipline.{Discipline}
 use Rattle.vc_model.specs.Layout.{Layout}
@@ -23,6 +23,11 @@ told_as (Ok Stored) = put.New
 told_as (Ok (NoTable want)) = put.NoSegment
 told_as (Ok (NoHolder want)) = put.NoSegment
 told_as (Err why) = put.OutOfMemory
+
+-- so where one of a set may match it: then nothing becomes of it
+abbrev pub told_by : Option (Result Fate OutOfMemory) → Put
+told_by None = put.Old
+told_by (Some fate) = told_as fate
 
 -- an object was put into a dictionary of a region, or what it wants was refused: the table grows first where it must, then comes the holder, each by the region's rules
 pub record TriesBy (answer : Put) (rules : Rules) (object : List ℕ)

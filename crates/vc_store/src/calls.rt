@@ -6,17 +6,17 @@ ghost use Rattle.vc_best.specs.Cells.{cells_in};
 ghost use Rattle.vc_best.specs.Parts.{disc_in};
 ghost use Rattle.vc_objects.specs.Leaves.{Looks, LeavesRest, told_if};
 ghost use Rattle.vc_objects.specs.Parts.{IsWhole, dictionary_in};
-ghost use Rattle.vc_objects.specs.Promises.{CanAsk, CanPut};
+ghost use Rattle.vc_objects.specs.Promises.{CanAsk};
 ghost use Rattle.vc_store.specs.Contents.{contents_in, with_current};
-ghost use Rattle.vc_store.specs.Reading.{AfterPut, LacksKey, Sought, found, has_match, is_from, is_object, place_after};
-ghost use Rattle.vc_store.specs.Tries.{IsTried, Tries, told_as};
+ghost use Rattle.vc_store.specs.Reading.{AfterPut, LacksKey, Sought, found, is_from, is_object, place_after};
+ghost use Rattle.vc_store.specs.Tries.{IsTried, Tries, told_by};
 
 use crate::put::Put;
 use vc_base::{Addr, OutOfMemory, Steps};
 use vc_best::Best;
 use vc_dict::Dict;
 use vc_dtdisc::DictDisc;
-use vc_objects::{Fate, find, insert, remove};
+use vc_objects::{Fate, find, remove};
 use vc_seg::{BoxedDisc, SegDisc};
 
 // Marks a counter of steps that no one reads.
@@ -29,43 +29,16 @@ fn is_object(bytes: &[u8]) -> bool
     1 <= bytes.len() && bytes.len() <= 1024
 }
 
-// Whether one of a set's objects has the key of another one.
-fn has_match<D: DictDisc>(best: &mut Best, dict: &mut Dict, kind: &D, object: &[u8]) -> bool
-    requires whole { IsWhole (D.rules kind.now) dict.old (cells_in best.old) }
-
-    ensures found { result
-        ≡ has_match (D.rules kind.now) object.now (contents_in dict.old best.old) }
-    ensures looks { Looks state (D.rules kind.now) best.old dict.old best.new dict.new }
-{
-    if dict.method.is_set() {
-        let mut steps = Steps::<Uncounted>::new(best.alloc);
-        find(best, dict, kind, kind.key(object), &mut steps).is_some()
-    } else {
-        false
-    }
-}
-
-// The answer to an object, by what became of it.
-fn told_as(fate: Result<Fate, OutOfMemory>) -> Put
-    ensures { result ≡ told_as fate }
+// The answer to an object, by what became of it: none where one of a set matches it.
+fn told_by(fate: Option<Result<Fate, OutOfMemory>>) -> Put
+    ensures { result ≡ told_by fate }
 {
     match fate {
-        Ok(Fate::Stored) => Put::New,
-        Ok(_) => Put::NoSegment,
-        Err(_) => Put::OutOfMemory,
+        None => Put::Old,
+        Some(Ok(Fate::Stored)) => Put::New,
+        Some(Ok(_)) => Put::NoSegment,
+        Some(Err(_)) => Put::OutOfMemory,
     }
-}
-
-// Puts an object that none of a set matches.
-fn put_new<D: DictDisc>(best: &mut Best, dict: &mut Dict, kind: &D, object: &[u8]) -> Put
-    requires can { CanPut state (D.rules kind.now) best.old dict.old object.now false }
-
-    ensures tries { Tries state result (D.rules kind.now) object.now
-        best.old dict.old best.new dict.new }
-    ensures leaves { LeavesRest state (D.rules kind.now) best.old dict.old best.new dict.new }
-{
-    let mut steps = Steps::<Uncounted>::new(best.alloc);
-    told_as(insert(best, dict, kind, object, false, &mut steps))
 }
 
 /// Puts an object, unless one of a set matches it.
@@ -84,10 +57,8 @@ pub fn put<D: DictDisc>(best: &mut Best, dict: &mut Dict, kind: &D, object: &[u8
     if !is_object(object) {
         return Put::WrongSize;
     }
-    if has_match(best, dict, kind, object) {
-        return Put::Old;
-    }
-    put_new(best, dict, kind, object)
+    let mut steps = Steps::<Uncounted>::new(best.alloc);
+    told_by(vc_put::put(best, dict, kind, object, &mut steps))
 }
 
 // Makes the object of a holder current, and answers whether there is one.
