@@ -13,6 +13,7 @@ use Rattle.vc_store.specs.Contents.{contents_in, contents_of}
 use Rattle.vc_store.specs.Reading.{Contents}
 use Rattle.vc_store.specs.Tries.{IsTried, Tries}
 use Rattle.vc_store.specs.declared.put.Put.{Put}
+use Rattle.vc_stores.specs.Alike.{held_at}
 use Rattle.vc_stores.specs.Stores.{AreApart, HasDict, IsOpen, OthersStay, StaysOpen, TriesAt, contents, contents_or, dict_at, dicts_of, disc_of, gone_at, gone_or, joined, kind_at, kinds_of, numbers_of, rules_at, rules_or}
 use Rattle.vc_stores.specs.declared.store.Store.{Store}
 use Rattle.vc_stores.proofs.Kept.{Kept, apart-new, other-kept}
@@ -63,6 +64,13 @@ module _ {D : Type 0} {I : Type 0} {V : I → Type 0} (rules_by : D → Rules) (
         each : (m : ℕ) → m ≢ n → (o : Option Dict) → dict_at s m ≡ o → option_map (λ d. contents_in d s'.best) o ≡ option_map (λ d. contents_in d s.best) o
         each m ne None at = refl
         each m ne (Some e) at = ap (λ x. Some (contents_of x)) (kept m e ne at).same
+
+    pub others-kept : (m : ℕ) → m ≢ n → held_at s' m ≡ held_at s m
+    others-kept m ne = ap (option_map (λ d. dictionary_in d s'.best)) (c.same m ne) ∙ each m ne (dict_at s m) refl
+      where
+        each : (m : ℕ) → m ≢ n → (o : Option Dict) → dict_at s m ≡ o → option_map (λ d. dictionary_in d s'.best) o ≡ option_map (λ d. dictionary_in d s.best) o
+        each m ne None at = refl
+        each m ne (Some e) at = ap (λ x. Some x) (kept m e ne at).same
 
     -- an address that another one has is none of this one's
     apart-from : (m : ℕ) (d e : Dict) → m ≢ n → dict_at s' m ≡ Some e → dict_at s' n ≡ Some d → AreApart cells' e d
@@ -115,7 +123,7 @@ module _ {D : Type 0} {I : Type 0} {V : I → Type 0} {meaning : (x : I) × V x 
   abbrev after : Blocks
   after = cells_in s'.best
 
-  there-now : dict_at s' n ≡ Some d'
+  pub there-now : dict_at s' n ≡ Some d'
   there-now =
       ap (λ xs. joined (slice_get xs n)) c.dicts
       ∙ ap joined (slice_get-set (dicts_of s) n (Some d) (Some d') (joined-there (slice_get (dicts_of s) n) d c.at))
@@ -155,8 +163,11 @@ module _ {D : Type 0} {I : Type 0} {V : I → Type 0} {meaning : (x : I) × V x 
   pub others-there : OthersStay s s' n
   others-there = others-stay rules_by s s' n changes c.is
 
+  pub others-held : (m : ℕ) → m ≢ n → held_at s' m ≡ held_at s m
+  others-held = others-kept rules_by s s' n changes c.is
+
   -- at its number, and at another one
-  by-number : (P : ℕ → Type 0) → P n → ((m : ℕ) → m ≢ n → P m) → (m : ℕ) → P m
+  pub by-number : (P : ℕ → Type 0) → P n → ((m : ℕ) → m ≢ n → P m) → (m : ℕ) → P m
   by-number P here other m = elim (eqb_tells m n) as (λ _. P m) [
     | inl same ↦ subst P (sym same.1) here
     | inr apart ↦ other m apart.1

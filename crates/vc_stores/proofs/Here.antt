@@ -18,17 +18,12 @@ use Rattle.vc_objects.specs.Remove.{bytes_of}
 use Rattle.vc_store.specs.Contents.{contents_in, place_of}
 use Rattle.vc_store.specs.Reading.{Contents, current, object_at, with_place}
 use Rattle.vc_store.proofs.Shown.{current-there, pointed-shown, within-rest}
+pub use Rattle.vc_stores.specs.AlikeLaws.{below-there}
 use Rattle.vc_stores.specs.Stores.{HasDict, IsOpen, OthersStay, StaysOpen, contents, contents_or, dict_at, dicts_of, disc_of, joined, kind_at, kinds_of, lent_to, numbers_of, rules_at, rules_or}
 use Rattle.vc_stores.specs.declared.store.Store.{Store}
 use Rattle.vc_store.specs.Moves.{IsWholeBy, Moves}
 use Rattle.vc_stores.proofs.Changed.{Call, moved, others-there, same-numbers, stays-there}
 use Rattle.vc_stores.proofs.Numbers.{at-below, set-itself}
-
--- a number that has something is one of a list's
-pub below-there : {A : Type 0} (xs : List (Option A)) (n : ℕ) → IsSome (joined (slice_get xs n)) → n < length xs
-below-there [] n h = cc
-below-there (x ∷ xs) zero h = omega arith
-below-there (x ∷ xs) (suc n) h = let rest = below-there xs n h in omega (arith, rest)
 
 -- what is read there
 pub read-there : {A : Type 0} (xs : List (Option A)) (n : ℕ) (o : Option A) → n < length xs → o ≡ get_or xs n o → joined (slice_get xs n) ≡ o

@@ -8,3 +8,7 @@ pub mod Copied
 pub mod Placed
 pub mod Loaded
 pub mod Returned
+pub mod Told
+pub mod Looked
+pub mod Along
+pub mod Carried

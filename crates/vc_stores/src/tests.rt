@@ -1,4 +1,5 @@
-ghost use Rattle.vc_stores.specs.Stores.{IsOpen, disc_of};
+ghost use Rattle.std.specs.Prelude.{◌≡◌};
+ghost use Rattle.vc_stores.specs.Stores.{IsOpen, disc_of, kinds_of};
 
 use crate::Store;
 use std::process::Abort;
@@ -12,7 +13,8 @@ use vc_store::Put;
 // Puts an object into the dictionary of a number, where there is one.
 pub(crate) fn put<D: DictDisc + Drop>(store: &mut Store<D>, n: usize, object: &[u8]) -> Option<Put>
     requires { IsOpen D.rules store.old (disc_of store.old state) }
-    ensures { IsOpen D.rules store.new (disc_of store.new state) }
+    ensures open { IsOpen D.rules store.new (disc_of store.new state) }
+    ensures kinds { kinds_of store.new ≡ kinds_of store.old }
 {
     if store.has(n) {
         Some(store.insert(n, object))
