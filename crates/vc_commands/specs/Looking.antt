@@ -1,5 +1,5 @@
 -- What the commands that look through a view path find, and what they reply. N names the dictionaries of the path.
-use Rattle.std.specs.Prelude.{ℕ, List, Bool, true, false, Option, Some, None, map, if◌then◌else◌}
+use Rattle.std.specs.Prelude.{ℕ, List, Bool, true, Option, Some, None, map, if◌then◌else◌}
 use Rattle.vc_dtdisc.specs.Finding.{first_of, last_of}
 use Rattle.vc_dtdisc.specs.Objects.{before_key, behind_key, first_with}
 use Rattle.vc_dtdisc.specs.Rules.{Rules}

@@ -6,7 +6,6 @@ use crate::block::take_command;
 use crate::fixed::{closing_command, opening_command};
 use crate::object::object_command;
 use crate::words::Words;
-use std::alloc::Global;
 use std::marker::Model;
 use vc_base::OutOfMemory;
 use vc_script::{Command, Tool};
@@ -50,11 +49,12 @@ impl Generator {
         }
     }
 
-    /// The next command, or None behind the last one and at each later call. Takes memory for the bytes of an object.
+    /// The next command, or None behind the last one and at each later call. An object lies in the memory of `room`, which
+    /// is made larger where it must be; what was in it doesn't matter.
     ///
     /// # Errors
     /// [`OutOfMemory`] where there's none for the object of the next command, which is then still to come.
-    pub fn next(&mut self, alloc: Global) -> Result<Option<Command>, OutOfMemory>
+    pub fn next(&mut self, room: Vec<u8>) -> Result<Option<Command>, OutOfMemory>
         ensures next { IfOk result (λ command. IsNext command self.old self.new) }
         ensures stays { OnErr result (self.new ≡ self.old) }
         ensures memory { OnErr result (is_object_next self.old ≡ true) }
@@ -66,7 +66,7 @@ impl Generator {
         if let Some(word) = self.words.first() {
             let command = match self.tool {
                 Tool::Vmreplay => take_command(&mut self.taken, word),
-                Tool::Dtrun => object_command(alloc, word)?,
+                Tool::Dtrun => object_command(room, word)?,
             };
             self.words.advance();
             return Ok(Some(command));

@@ -25,18 +25,19 @@ pub(crate) fn object_word_in<'a>(
     }
 }
 
-// `D [OBJ]`.
+// `D [OBJ]`, with the object in the memory of an empty vector.
 pub(crate) fn delete_in<'a>(
-    alloc: Global,
+    room: Vec<u8>,
     others: &[&'a [u8]],
 ) -> Result<Result<(NameWord<'a>, Option<Bytes>), LineFault>, OutOfMemory>
+    requires { room.items ≡ [] }
     ensures { IfOk result (λ read. result_map_both (λ t. (t.0, t.1)) (λ e. e) read
         ≡ read_words (form.Name ∷ []) (Some form.Bytes) (map (λ w. w.now) others.now)) }
 {
     match others {
         [dict] => Ok(name_of(dict).map(|dict| (dict, None))),
         [_, _] => match object_word_in(others) {
-            Ok((dict, object)) => Ok(Ok((dict, Some(decoded(alloc, object)?)))),
+            Ok((dict, object)) => Ok(Ok((dict, Some(decoded(room, object)?)))),
             Err(fault) => Ok(Err(fault)),
         },
         _ => Ok(Err(LineFault::WordCount)),
@@ -75,7 +76,12 @@ pub(crate) fn write_in<'a>(
         (map (λ w. w.now) others.now)) }
 {
     match write_word_in(others) {
-        Ok((region, block, off, bytes)) => Ok(Ok((region, block, off, decoded(alloc, bytes)?))),
+        Ok((region, block, off, bytes)) => Ok(Ok((
+            region,
+            block,
+            off,
+            decoded(Vec::new(alloc), bytes)?,
+        ))),
         Err(fault) => Ok(Err(fault)),
     }
 }

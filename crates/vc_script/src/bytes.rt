@@ -1,9 +1,11 @@
-ghost use Rattle.std.specs.Prelude.{◌≡◌};
+ghost use Rattle.std.specs.Prelude.{◌≡◌, []};
 ghost use Rattle.std.specs.Cmp.{partial_equiv_from_equiv};
 ghost use Rattle.std.specs.Cmp.Lexicographic.{nat_list_eq_equiv};
 ghost use Rattle.std.specs.Str.{bytes_eq};
 
+use std::alloc::Global;
 use std::marker::Model;
+use std::mem;
 
 /// A list of bytes.
 #[derive(Debug, Drop)]
@@ -32,6 +34,16 @@ impl Bytes {
         ensures { result.now ≡ self.now }
     {
         self.bytes.as_slice()
+    }
+
+    /// Takes their memory, to be used again: an empty vector with room for as many bytes at least. No bytes are left. Takes
+    /// no memory.
+    pub fn take_room(&mut self, alloc: Global) -> Vec<u8>
+        ensures { result.items ≡ [] }
+    {
+        let mut room = mem::replace(&mut self.bytes, Vec::new(alloc));
+        room.clear();
+        room
     }
 }
 

@@ -1,4 +1,7 @@
+ghost use Rattle.std.specs.Prelude.{◌≡◌, []};
+
 use crate::{Bytes, Place};
+use std::alloc::Global;
 use vc_base::{DictMethod, Name};
 use vc_seg::Method;
 
@@ -82,4 +85,25 @@ pub enum Command {
     Empty(Name),
     /// `shut D`: ends the dictionary.
     Shut(Name),
+}
+
+impl Command {
+    /// Takes the memory of the object or key that a command has, to be used for that of the next one: an empty vector, with
+    /// no room where there is none. Another command may stand then. Takes no memory.
+    pub fn take_room(&mut self, alloc: Global) -> Vec<u8>
+        ensures { result.items ≡ [] }
+    {
+        match self {
+            Command::Insert(_, object) => object.take_room(alloc),
+            Command::Append(_, object) => object.take_room(alloc),
+            Command::Attach(_, object) => object.take_room(alloc),
+            Command::Delete(_, Some(object)) => object.take_room(alloc),
+            Command::Detach(_, object) => object.take_room(alloc),
+            Command::Search(_, object) => object.take_room(alloc),
+            Command::MatchKey(_, key) => key.take_room(alloc),
+            Command::Next(_, object) => object.take_room(alloc),
+            Command::Prev(_, object) => object.take_room(alloc),
+            _ => Vec::new(alloc),
+        }
+    }
 }

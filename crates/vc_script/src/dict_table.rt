@@ -1,4 +1,4 @@
-ghost use Rattle.std.specs.Prelude.{◌≡◌, codes, map, OnErr, OnOk};
+ghost use Rattle.std.specs.Prelude.{◌≡◌, codes, map, OnOk};
 ghost use Rattle.vc_script.specs.FirstWords.{answer_in, dictionary_spelling, object_spelling, one_dictionary_spelling};
 ghost use Rattle.vc_script.specs.Table.{dictionary_rows};
 
@@ -18,9 +18,8 @@ pub(crate) fn dictionary_answer(
     others: &[&[u8]],
     asked: &mut LineAnswer,
 ) -> Result<(), OutOfMemory>
-    ensures value { OnOk result (asked.new
+    ensures { OnOk result (asked.new
         ≡ answer_in dictionary_rows (dictionary_spelling first) (map (λ w. w.now) others.now)) }
-    ensures same { OnErr result (asked.new ≡ asked.old) }
 {
     match first {
         DictionaryWord::Dict => dict_answer(others, asked),
@@ -51,11 +50,10 @@ fn dict_answer(others: &[&[u8]], asked: &mut LineAnswer)
 
 #[inline(never)]
 fn delete_answer(alloc: Global, others: &[&[u8]], asked: &mut LineAnswer) -> Result<(), OutOfMemory>
-    ensures value { OnOk result (asked.new
+    ensures { OnOk result (asked.new
         ≡ answer_in dictionary_rows (codes "delete") (map (λ w. w.now) others.now)) }
-    ensures same { OnErr result (asked.new ≡ asked.old) }
 {
-    match delete_in(alloc, others)? {
+    match delete_in(asked.take_room(alloc), others)? {
         Ok((dict, object)) => *asked = LineAnswer::Is(Command::Delete(dict.name(), object)),
         Err(fault) => *asked = LineAnswer::Bad(fault),
     }
@@ -117,13 +115,12 @@ fn object_answer(
     others: &[&[u8]],
     asked: &mut LineAnswer,
 ) -> Result<(), OutOfMemory>
-    ensures value { OnOk result (asked.new
+    ensures { OnOk result (asked.new
         ≡ answer_in dictionary_rows (object_spelling first) (map (λ w. w.now) others.now)) }
-    ensures same { OnErr result (asked.new ≡ asked.old) }
 {
     match object_word_in(others) {
         Ok((dict, object)) => {
-            let object = decoded(alloc, object)?;
+            let object = decoded(asked.take_room(alloc), object)?;
             let dict = dict.name();
             match first {
                 ObjectWord::Insert => *asked = LineAnswer::Is(Command::Insert(dict, object)),

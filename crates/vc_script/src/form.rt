@@ -1,4 +1,4 @@
-ghost use Rattle.std.specs.Prelude.{◌≡◌, IfOk};
+ghost use Rattle.std.specs.Prelude.{◌≡◌, [], IfOk};
 ghost use Rattle.std.specs.Result.{result_map_both};
 ghost use Rattle.vc_script.specs.Forms.{address_of, address_of_parts, bytes_of, dict_method_of, region_method_of, mode_of, name_or_dash_of, number_of, signed_of, site_of, some_site_of};
 ghost use Rattle.vc_script.specs.Spelled.{spelled_bytes};
@@ -85,19 +85,20 @@ pub(crate) fn spelled_of(word: &[u8]) -> Result<Spelled<'_>, LineFault>
     }
 }
 
-// The bytes that a word spells, in one piece of their number.
-pub(crate) fn decoded(alloc: Global, spelled: Spelled<'_>) -> Result<Bytes, AllocError>
+// The bytes that a word spells, in the memory of an empty vector.
+pub(crate) fn decoded(room: Vec<u8>, spelled: Spelled<'_>) -> Result<Bytes, AllocError>
+    requires { room.items ≡ [] }
     ensures { IfOk result (λ bytes. bytes ≡ spelled_bytes spelled.entry) }
 {
+    let mut bytes = room;
     match spelled {
-        Spelled::Plain(word) => Ok(Bytes::from_vec(Vec::from_slice(alloc, word)?)),
+        Spelled::Plain(word) => bytes.extend_from_slice(word)?,
         Spelled::Escaped(word, escapes) => {
-            let len = word.len().saturating_sub(escapes).saturating_sub(escapes);
-            let mut bytes = Vec::with_capacity(alloc, len)?;
+            bytes.reserve(word.len().saturating_sub(escapes).saturating_sub(escapes))?;
             percent_decode(word).append_to(&mut bytes)?;
-            Ok(Bytes::from_vec(bytes))
         }
     }
+    Ok(Bytes::from_vec(bytes))
 }
 
 pub(crate) fn method_of(word: &[u8]) -> Result<Method, LineFault>

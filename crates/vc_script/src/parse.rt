@@ -1,4 +1,4 @@
-ghost use Rattle.std.specs.Prelude.{◌≡◌, ◌≢◌, ◌∷◌, map, IfOk, OnErr, OnOk};
+ghost use Rattle.std.specs.Prelude.{◌≡◌, ◌≢◌, ◌∷◌, map, IfOk, OnOk};
 ghost use Rattle.vc_script.specs.Answer.{answer, answer_to, is_comment, is_version_line, version_in};
 ghost use Rattle.vc_script.specs.Proper.{IsProperAnswer};
 
@@ -30,7 +30,8 @@ pub fn read_line(
     Ok(asked)
 }
 
-/// The same, put in place of an answer. Where memory is wanting, that one stays.
+/// The same, put in place of an answer, whose object gives its memory to that of the line. Where memory is wanting, any may
+/// stand there.
 pub fn read_into(
     alloc: Global,
     tool: Tool,
@@ -40,7 +41,6 @@ pub fn read_into(
 ) -> Result<(), OutOfMemory>
     ensures value { OnOk result (asked.new ≡ answer tool first line.now) }
     ensures proper { OnOk result (IsProperAnswer first asked.new) }
-    ensures same { OnErr result (asked.new ≡ asked.old) }
 {
     let mut words = ArrayVec::new();
     put_words(line, &mut words);
@@ -62,9 +62,8 @@ fn answer_to(
     others: &[&[u8]],
     asked: &mut LineAnswer,
 ) -> Result<(), OutOfMemory>
-    ensures value { OnOk result (asked.new
+    ensures { OnOk result (asked.new
         ≡ answer_to tool first (word.now ∷ map (λ w. w.now) others.now)) }
-    ensures same { OnErr result (asked.new ≡ asked.old) }
 {
     if is_comment(word) {
         *asked = LineAnswer::Blank;

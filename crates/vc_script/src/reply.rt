@@ -1,4 +1,7 @@
+ghost use Rattle.std.specs.Prelude.{◌≡◌, []};
+
 use crate::{BlockItems, Bytes, DamageItems, ObjectItems, Place, Refusal, RowItems, SegmentItems};
+use std::alloc::Global;
 use vc_base::{DictMethod, Name};
 use vc_seg::Stat;
 
@@ -71,4 +74,21 @@ pub enum Reply {
     ShutDown(Name),
     /// Nothing was done.
     Refused(Refusal),
+}
+
+impl Reply {
+    /// Takes the memory of the object that a reply tells of, to be used for that of the next one: an empty vector, with no
+    /// room where there is no object. Another reply may stand then. Takes no memory.
+    pub fn take_room(&mut self, alloc: Global) -> Vec<u8>
+        ensures { result.items ≡ [] }
+    {
+        match self {
+            Reply::New(object) => object.take_room(alloc),
+            Reply::Old(object) => object.take_room(alloc),
+            Reply::Gone(object) => object.take_room(alloc),
+            Reply::Out(object) => object.take_room(alloc),
+            Reply::Found(object) => object.take_room(alloc),
+            _ => Vec::new(alloc),
+        }
+    }
 }

@@ -1,4 +1,4 @@
-ghost use Rattle.std.specs.Prelude.{◌≡◌, codes, map, OnErr, OnOk};
+ghost use Rattle.std.specs.Prelude.{◌≡◌, codes, map, OnOk};
 ghost use Rattle.vc_script.specs.FirstWords.{answer_in, block_spelling, dictionary_spelling, numbers_spelling, one_region_spelling, place_spelling, region_spelling};
 ghost use Rattle.vc_script.specs.Table.{own_rows, region_rows, table};
 
@@ -24,9 +24,8 @@ pub(crate) fn answer_in(
     others: &[&[u8]],
     asked: &mut LineAnswer,
 ) -> Result<(), OutOfMemory>
-    ensures value { OnOk result (asked.new
+    ensures { OnOk result (asked.new
         ≡ answer_in (table tool) first.now (map (λ w. w.now) others.now)) }
-    ensures same { OnErr result (asked.new ≡ asked.old) }
 {
     match first_word(first) {
         Some(FirstWord::Region(word)) => region_answer(alloc, word, others, asked),
@@ -46,9 +45,8 @@ fn own_answer(
     others: &[&[u8]],
     asked: &mut LineAnswer,
 ) -> Result<(), OutOfMemory>
-    ensures value { OnOk result (asked.new
+    ensures { OnOk result (asked.new
         ≡ answer_in (own_rows tool) (dictionary_spelling first) (map (λ w. w.now) others.now)) }
-    ensures same { OnErr result (asked.new ≡ asked.old) }
 {
     match tool {
         Tool::Vmreplay => {
@@ -67,9 +65,8 @@ fn region_answer(
     others: &[&[u8]],
     asked: &mut LineAnswer,
 ) -> Result<(), OutOfMemory>
-    ensures value { OnOk result (asked.new
+    ensures { OnOk result (asked.new
         ≡ answer_in region_rows (region_spelling first) (map (λ w. w.now) others.now)) }
-    ensures same { OnErr result (asked.new ≡ asked.old) }
 {
     match first {
         RegionWord::Open => open_answer(others, asked),
@@ -134,9 +131,8 @@ fn resize_answer(others: &[&[u8]], asked: &mut LineAnswer)
 
 #[inline(never)]
 fn write_answer(alloc: Global, others: &[&[u8]], asked: &mut LineAnswer) -> Result<(), OutOfMemory>
-    ensures value { OnOk result (asked.new
+    ensures { OnOk result (asked.new
         ≡ answer_in region_rows (codes "write") (map (λ w. w.now) others.now)) }
-    ensures same { OnErr result (asked.new ≡ asked.old) }
 {
     match write_in(alloc, others)? {
         Ok((region, block, off, bytes)) => *asked = LineAnswer::Is(Command::WriteBlock(

@@ -8,7 +8,7 @@ use arrayvec::ArrayVec;
 fn is_blank(b: u8) -> bool
     ensures { result ≡ is_blank b }
 {
-    b == b' ' || b == b'\t'
+    b <= b' ' && (b == b' ' || b == b'\t')
 }
 
 fn is_digit(b: u8) -> bool

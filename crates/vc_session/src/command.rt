@@ -43,8 +43,8 @@ fn run_command<D: DictDisc>(
     session.step_into(shelf, kinds, n, command, reply)
 }
 
-// Runs the command of the line of that number, and gathers what is written of its reply. A quiet run counts it, and a
-// session that arms disciplines is of a script of version 2.
+// Runs the command of the line of that number, puts its reply in place of another one, and gathers what is written of it. A
+// quiet run counts it, and a session that arms disciplines is of a script of version 2.
 pub(crate) fn run_answer<D: DictDisc>(
     quiet: bool,
     session: &mut Session<D>,
@@ -53,6 +53,7 @@ pub(crate) fn run_answer<D: DictDisc>(
     n: u32,
     command: &Command,
     counts: &mut Counts,
+    reply: &mut Reply,
     replies: &mut Vec<u8>,
 ) -> Result<(), OutOfMemory>
     requires session { IsSessionOver state D.rules shelf.old session.old kinds.old.items }
@@ -66,9 +67,8 @@ pub(crate) fn run_answer<D: DictDisc>(
     ensures same { OnErr result (replies.new.items ≡ replies.old.items) }
 {
     let style = style_by(quiet, session.is_armed());
-    let mut reply = Reply::Nothing;
-    match run_command(quiet, session, shelf, kinds, n, command, counts, &mut reply) {
-        Ok(()) => gather(style, n, &reply, replies),
+    match run_command(quiet, session, shelf, kinds, n, command, counts, reply) {
+        Ok(()) => gather(style, n, reply, replies),
         Err(_) => Err(OutOfMemory),
     }
 }

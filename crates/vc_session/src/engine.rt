@@ -17,7 +17,7 @@ use std::alloc::Global;
 use vc_base::{OutOfMemory, ReadFailed, Sink, Source, WriteFailed};
 use vc_counts::Counts;
 use vc_dtdisc::DictDisc;
-use vc_script::{Cut, LineAnswer, LineCutter, LineFault, Tool, read_into};
+use vc_script::{Cut, LineAnswer, LineCutter, LineFault, Reply, Tool, read_into};
 use vc_seg::{BoxedDisc, SegDisc, Shelf};
 use vc_steps::Session;
 use vc_write::write_all;
@@ -66,7 +66,7 @@ impl From<WriteFailed> for Stop {
 }
 
 // Runs the line of that number and gathers what is written of its reply, or answers what is wrong with it. Line 1 may tell
-// the version instead.
+// the version instead. What the line asks for and its reply are put in place of those of another line.
 fn run_line<D: DictDisc>(
     alloc: Global,
     tool: Tool,
@@ -77,6 +77,8 @@ fn run_line<D: DictDisc>(
     n: u32,
     line: &[u8],
     counts: &mut Counts,
+    asked: &mut LineAnswer,
+    reply: &mut Reply,
     replies: &mut Vec<u8>,
 ) -> Result<Option<LineFault>, OutOfMemory>
     requires session { IsSessionOver state D.rules shelf.old session.old kinds.old.items }
@@ -91,9 +93,8 @@ fn run_line<D: DictDisc>(
     ensures same { OnErr result (replies.new.items ≡ replies.old.items) }
     ensures armed { OnErr result (session.new.is_armed ≡ session.old.is_armed) }
 {
-    let mut read = LineAnswer::Blank;
-    match read_into(alloc, tool, n == 1, line, &mut read) {
-        Ok(()) => match &read {
+    match read_into(alloc, tool, n == 1, line, asked) {
+        Ok(()) => match asked {
             LineAnswer::Blank => Ok(None),
             LineAnswer::Version(version) => {
                 session.set_version(*version);
@@ -101,7 +102,9 @@ fn run_line<D: DictDisc>(
             }
             LineAnswer::Bad(fault) => Ok(Some(*fault)),
             LineAnswer::Is(command) => {
-                run_answer(quiet, session, shelf, kinds, n, command, counts, replies)?;
+                run_answer(
+                    quiet, session, shelf, kinds, n, command, counts, reply, replies,
+                )?;
                 Ok(None)
             }
         },
@@ -121,6 +124,8 @@ fn run_piece<D: DictDisc>(
     cutter: &mut LineCutter,
     piece: &[u8],
     counts: &mut Counts,
+    asked: &mut LineAnswer,
+    reply: &mut Reply,
     replies: &mut Vec<u8>,
 ) -> Result<Option<(u32, LineFault)>, OutOfMemory>
     requires session { IsSessionOver state D.rules shelf.old session.old kinds.old.items }
@@ -153,6 +158,8 @@ fn run_piece<D: DictDisc>(
                     cutter.number(),
                     cutter.line(),
                     counts,
+                    asked,
+                    reply,
                     replies,
                 )? {
                     Some(fault) => return Ok(Some((cutter.number(), fault))),
@@ -174,6 +181,8 @@ fn run_last<D: DictDisc>(
     kinds: &mut Vec<D>,
     cutter: &mut LineCutter,
     counts: &mut Counts,
+    asked: &mut LineAnswer,
+    reply: &mut Reply,
     replies: &mut Vec<u8>,
 ) -> Result<Option<(u32, LineFault)>, OutOfMemory>
     requires session { IsSessionOver state D.rules shelf.old session.old kinds.old.items }
@@ -198,6 +207,8 @@ fn run_last<D: DictDisc>(
             cutter.number(),
             cutter.line(),
             counts,
+            asked,
+            reply,
             replies,
         )? {
             Some(fault) => Ok(Some((cutter.number(), fault))),
@@ -221,6 +232,8 @@ pub(crate) fn run_lines<D: DictDisc, S: Source, O: Sink>(
     out: &mut O,
     cutter: &mut LineCutter,
     counts: &mut Counts,
+    asked: &mut LineAnswer,
+    reply: &mut Reply,
     replies: &mut Vec<u8>,
 ) -> Result<Option<(u32, LineFault)>, Stop>
     requires begins { CanBegin quiet state D.rules shelf.old session.old kinds.old.items counts.old }
@@ -249,6 +262,8 @@ pub(crate) fn run_lines<D: DictDisc, S: Source, O: Sink>(
             cutter,
             &buf[..n],
             counts,
+            asked,
+            reply,
             replies,
         );
         write_all(out, replies.as_slice())?;
@@ -259,7 +274,7 @@ pub(crate) fn run_lines<D: DictDisc, S: Source, O: Sink>(
         replies.clear();
     }
     let ran = run_last(
-        alloc, tool, quiet, session, shelf, kinds, cutter, counts, replies,
+        alloc, tool, quiet, session, shelf, kinds, cutter, counts, asked, reply, replies,
     );
     write_all(out, replies.as_slice())?;
     Ok(ran?)

@@ -23,11 +23,12 @@ use crate::engine::Stop;
 use crate::tail::gather_tail;
 use indexmap::IndexMap;
 use std::alloc::Global;
+use std::mem;
 use vc_base::{OutOfMemory, Sink, WriteFailed};
 use vc_counts::Counts;
 use vc_dtdisc::DictDisc;
 use vc_generate::Generator;
-use vc_script::{Command, Tool};
+use vc_script::{Command, Reply, Tool};
 use vc_seg::{BoxedDisc, SegDisc, Shelf};
 use vc_steps::Session;
 use vc_words::Words;
@@ -45,7 +46,7 @@ pub fn generate(alloc: Global, tool: Tool, n: u32, seed: u32) -> Result<Vec<Comm
 {
     let mut generator = Generator::new(tool, n, seed);
     let mut commands = Vec::new(alloc);
-    while let Some(command) = generator.next(alloc)? {
+    while let Some(command) = generator.next(Vec::new(alloc))? {
         commands.push(command)?;
     }
     Ok(commands)
@@ -72,14 +73,18 @@ fn write_full<O: Sink>(out: &mut O, gathered: &mut Vec<u8>) -> Result<(), WriteF
     Ok(())
 }
 
-// Runs a command quietly on the line of that number, gathers what is written of its reply, and lets the command go.
+// Runs a command quietly on the line of that number, puts its reply in place of another one, gathers what is written of it,
+// and lets the command go, but for the memory of its object.
 fn run_made<D: DictDisc>(
+    alloc: Global,
     session: &mut Session<D>,
     shelf: &mut Shelf,
     kinds: &mut Vec<D>,
     line: u32,
     command: Command,
     counts: &mut Counts,
+    reply: &mut Reply,
+    room: &mut Vec<u8>,
     gathered: &mut Vec<u8>,
 ) -> Result<(), OutOfMemory>
     requires session { IsSessionOver state D.rules shelf.old session.old kinds.old.items }
@@ -91,9 +96,12 @@ fn run_made<D: DictDisc>(
         (over_sink now (Some gathered.old.items)) (over_sink next (Some gathered.new.items))
         counts.old counts.new line command)) }
 {
-    run_answer(
-        true, session, shelf, kinds, line, &command, counts, gathered,
-    )
+    let ran = run_answer(
+        true, session, shelf, kinds, line, &command, counts, reply, gathered,
+    );
+    let mut done = command;
+    *room = done.take_room(alloc);
+    ran
 }
 
 // Runs the commands of a generator quietly and counts them, each on the line of its number from 1 on, and answers how
@@ -107,6 +115,8 @@ fn run_commands<D: DictDisc, O: Sink>(
     generator: &mut Generator,
     out: &mut O,
     counts: &mut Counts,
+    reply: &mut Reply,
+    room: &mut Vec<u8>,
     gathered: &mut Vec<u8>,
 ) -> Result<u32, Stop>
     requires begins { CanBegin true state D.rules shelf.old session.old kinds.old.items counts.old }
@@ -119,9 +129,11 @@ fn run_commands<D: DictDisc, O: Sink>(
         (O.written out.old) (O.written out.new) (O.failures out.old) (O.failures out.new)) }
 {
     let mut line = 0;
-    while let Some(command) = generator.next(alloc)? {
+    while let Some(command) = generator.next(mem::replace(room, Vec::new(alloc)))? {
         line += 1;
-        run_made(session, shelf, kinds, line, command, counts, gathered)?;
+        run_made(
+            alloc, session, shelf, kinds, line, command, counts, reply, room, gathered,
+        )?;
         write_full(out, gathered)?;
     }
     write_all(out, gathered.as_slice())?;
@@ -152,6 +164,9 @@ fn run_all<D: DictDisc, O: Sink>(
 {
     let mut generator = Generator::new(tool, n, words.seed);
     let mut counts = Counts::new();
+    // The objects of one command and its reply give their memory to those of the next.
+    let mut reply = Reply::Nothing;
+    let mut room = Vec::new(alloc);
     let mut gathered = Vec::new(alloc);
     let lines = run_commands(
         alloc,
@@ -161,6 +176,8 @@ fn run_all<D: DictDisc, O: Sink>(
         &mut generator,
         out,
         &mut counts,
+        &mut reply,
+        &mut room,
         &mut gathered,
     )?;
     let mut tail = Vec::new(alloc);

@@ -18,7 +18,7 @@ use std::alloc::Global;
 use vc_base::{Sink, Source};
 use vc_counts::Counts;
 use vc_dtdisc::DictDisc;
-use vc_script::{LineCutter, LineFault, Tool};
+use vc_script::{LineAnswer, LineCutter, LineFault, Reply, Tool};
 use vc_seg::{BoxedDisc, SegDisc, Shelf};
 use vc_steps::Session;
 use vc_words::Words;
@@ -62,6 +62,9 @@ pub fn run_script<D: DictDisc, S: Source, O: Sink>(
         (flows S.left S.failures O.written O.failures source.new out.new)) }
 {
     let mut counts = Counts::new();
+    // The objects of one line and its reply give their memory to those of the next.
+    let mut asked = LineAnswer::Blank;
+    let mut reply = Reply::Nothing;
     let mut replies = Vec::new(alloc);
     let ran = run_lines(
         alloc,
@@ -74,6 +77,8 @@ pub fn run_script<D: DictDisc, S: Source, O: Sink>(
         out,
         cutter,
         &mut counts,
+        &mut asked,
+        &mut reply,
         &mut replies,
     );
     let bad = ran?;

@@ -36,14 +36,14 @@ fn is_command(alloc: Global, tool: Tool, line: &[u8], command: &Command) -> bool
 
 // Whether the next command is that of the line.
 fn is_next(alloc: Global, tool: Tool, line: &[u8], generator: &mut Generator) -> bool {
-    match generator.next(alloc) {
+    match generator.next(Vec::new(alloc)) {
         Ok(Some(command)) => is_command(alloc, tool, line, &command),
         _ => false,
     }
 }
 
 fn is_at_end(alloc: Global, generator: &mut Generator) -> bool {
-    matches!(generator.next(alloc), Ok(None))
+    matches!(generator.next(Vec::new(alloc)), Ok(None))
 }
 
 fn are_made(rt: &impl Abort, alloc: Global, tool: Tool, lines: &[&[u8]]) {

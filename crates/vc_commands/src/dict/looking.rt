@@ -36,15 +36,24 @@ fn is_askable(command: &Command) -> bool
     }
 }
 
-// A copy of the object at a place.
-fn copied<Y: Layers>(alloc: Global, layers: &Y, e: u32, at: Addr) -> Result<Bytes, OutOfMemory>
+// These bytes, in the memory of others.
+pub(crate) fn filled(room: Vec<u8>, bytes: &[u8]) -> Result<Vec<u8>, OutOfMemory>
+    ensures { IfOk result (λ out. out.items ≡ bytes.now) }
+{
+    let mut out = room;
+    out.clear();
+    out.extend_from_slice(bytes)?;
+    Ok(out)
+}
+
+// A copy of the object at a place, in the memory of other bytes.
+fn copied<Y: Layers>(room: Vec<u8>, layers: &Y, e: u32, at: Addr) -> Result<Bytes, OutOfMemory>
     requires dict { (Y.layered layers.now).Has e }
     requires place { IsSome (bytes_there at.0 ((Y.layered layers.now).layer e).objects) }
     ensures { IfOk result (λ bytes.
         bytes_there at.0 ((Y.layered layers.now).layer e).objects ≡ Some bytes) }
 {
-    let bytes = layers.object(e, at).to_vec(alloc)?;
-    Ok(Bytes::from_vec(bytes))
+    Ok(Bytes::from_vec(filled(room, layers.object(e, at))?))
 }
 
 // The address of a place in a dictionary; none where it is in another one.
@@ -70,7 +79,7 @@ fn show<Y: Layers>(
 {
     match found {
         Some(at) => {
-            let bytes = copied(alloc, layers, at.0, at.1)?;
+            let bytes = copied(reply.take_room(alloc), layers, at.0, at.1)?;
             *reply = Reply::Found(bytes);
             Ok(own_at(d, at.0, at.1))
         }

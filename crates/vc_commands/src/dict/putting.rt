@@ -1,4 +1,4 @@
-ghost use Rattle.std.specs.Prelude.{◌≡◌, None, true, false, IfOk, OnErr, OnOk};
+ghost use Rattle.std.specs.Prelude.{◌≡◌, [], None, true, false, IfOk, OnErr, OnOk};
 ghost use Rattle.vc_base.specs.Prelude.{is_set};
 ghost use Rattle.vc_base.specs.Methods.{is_list};
 ghost use Rattle.vc_dtdisc.specs.Rules.{Gone, IsObject, Rules};
@@ -13,7 +13,7 @@ ghost use Rattle.vc_commands.specs.DictCommands.{put_object, standing};
 ghost use Rattle.vc_commands.specs.DictRun.{IsOfHolder, IsSpent, RunsDict, object_there, seat_in};
 
 use crate::Uncounted;
-use crate::dict::looking::is_object;
+use crate::dict::looking::{filled, is_object};
 use std::alloc::Global;
 use vc_base::{Addr, Cells, OutOfMemory, Steps};
 use vc_best::Best;
@@ -106,19 +106,19 @@ fn put_unless<D: DictDisc>(
 {
     match standing(alloc, best, dict, kind, &object) {
         Some(at) => {
-            let bytes = best.body(at).to_vec(alloc)?;
-            *reply = Reply::Old(Bytes::from_vec(bytes));
+            *reply = Reply::Old(Bytes::from_vec(filled(object, best.body(at))?));
             Ok(())
         }
         None => put(alloc, best, dict, kind, object, false, reply),
     }
 }
 
-// The object that is made of these bytes.
-fn made_object<D: DictDisc>(alloc: Global, kind: &D, bytes: &[u8]) -> Result<Vec<u8>, OutOfMemory>
+// The object that is made of these bytes, in the memory of an empty vector.
+fn made_object<D: DictDisc>(room: Vec<u8>, kind: &D, bytes: &[u8]) -> Result<Vec<u8>, OutOfMemory>
+    requires { room.items ≡ [] }
     ensures { IfOk result (λ out. out.items ≡ (D.rules kind.now).made bytes.now) }
 {
-    let mut out = Vec::new(alloc);
+    let mut out = room;
     kind.make(bytes, &mut out)?;
     Ok(out)
 }
@@ -145,7 +145,7 @@ pub(crate) fn insert<D: DictDisc>(
         *reply = Reply::Refused(Refusal::Size);
         return Ok(());
     }
-    let out = made_object(alloc, kind, object)?;
+    let out = made_object(reply.take_room(alloc), kind, object)?;
     put_unless(alloc, best, dict, kind, out, reply)
 }
 
@@ -171,7 +171,7 @@ pub(crate) fn attach<D: DictDisc>(
         *reply = Reply::Refused(Refusal::Size);
         return Ok(());
     }
-    let out = object.to_vec(alloc)?;
+    let out = filled(reply.take_room(alloc), object)?;
     put_unless(alloc, best, dict, kind, out, reply)
 }
 
@@ -200,6 +200,6 @@ pub(crate) fn append<D: DictDisc>(
         *reply = Reply::Refused(Refusal::Size);
         return Ok(());
     }
-    let out = made_object(alloc, kind, object)?;
+    let out = made_object(reply.take_room(alloc), kind, object)?;
     put(alloc, best, dict, kind, out, true, reply)
 }

@@ -18,12 +18,13 @@ use vc_dtdisc::DictDisc;
 use vc_script::{Bytes, Refusal, Reply};
 use vc_seg::{BoxedDisc, SegDisc};
 
-// An empty vector with room for an object.
-fn with_room(alloc: Global) -> Result<Vec<u8>, OutOfMemory>
+// An empty vector that has room for an object now.
+fn with_room(room: Vec<u8>) -> Result<Vec<u8>, OutOfMemory>
+    requires { room.items ≡ [] }
     ensures empty { IfOk result (λ out. out.items ≡ []) }
     ensures room { IfOk result (λ out. 1024 ≤ vec_capacity out) }
 {
-    let mut out = Vec::new(alloc);
+    let mut out = room;
     out.reserve(1024)?;
     Ok(out)
 }
@@ -64,7 +65,7 @@ pub(crate) fn take<D: DictDisc>(
         *reply = Reply::Refused(Refusal::Size);
         return Ok(());
     }
-    let mut out = with_room(alloc)?;
+    let mut out = with_room(reply.take_room(alloc))?;
     let mut steps = Steps::<Uncounted>::new(alloc);
     let key = kind.key(object);
     let is_gone = vc_objects::remove(best, dict, kind, key, tells, &mut out, &mut steps);
@@ -87,7 +88,7 @@ fn take_unnamed<D: DictDisc>(
         best.old dict.old (D.gone kind.old) best.new dict.new (D.gone kind.new) }
     ensures rules { D.rules kind.new ≡ D.rules kind.old }
 {
-    let mut out = with_room(alloc)?;
+    let mut out = with_room(reply.take_room(alloc))?;
     let is_gone = vc_objects::remove_unnamed(best, dict, kind, &mut out);
     *reply = gone_reply(is_gone, out, true);
     Ok(())

@@ -16,8 +16,8 @@ use Rattle.vc_session.proofs.engine.run_line.Goals as goal
 abbrev meaning : (g : given.Over) → (x : g.dyn-1.0.I) × (g.dyn-1.0.entry x).0.Denot → Discipline
 meaning g p = (g.dyn-1.0.entry p.0).1.state p.1
 
-pub returns : goal.returns
-returns g c = record { runs = record { lasts = arming-same c.requires.session; runs = search rules }; same = refl; armed = refl }
+pub returns-in-Err : goal.returns-in-Err
+returns-in-Err g c = record { runs = record { lasts = arming-same c.requires.session; runs = search rules }; same = refl; armed = refl }
 
 pub returns-in-Blank : goal.returns-in-Blank
 returns-in-Blank g c =
@@ -51,8 +51,8 @@ returns-in-Bad g c =
       armed = tt;
     }
 
-pub returns-in-Ok : goal.returns-in-Ok
-returns-in-Ok g c =
+pub returns-in_ok-run_answer-in-Is : goal.returns-in_ok-run_answer-in-Is
+returns-in_ok-run_answer-in-Is g c =
     record {
       runs = record {
         lasts = arming-of c.run_answer.ensures.runs.lasts;
