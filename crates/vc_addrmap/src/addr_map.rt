@@ -145,6 +145,7 @@ impl AddrMap {
             self.root,
             name,
             &ByAddr { at: a.0 },
+            false,
             &mut steps,
         );
     }

@@ -37,7 +37,7 @@ pub(crate) fn link_in<'a, C: Cells, D: DictDisc, L>(
 {
     let at = nodes.mark;
     clear_words(nodes.cells, at);
-    let root = link_after_equals(nodes, ord.root.0, at.0, &ByMark { kind }, steps);
+    let root = link_after_equals(nodes, ord.root.0, at.0, &ByMark { kind }, false, steps);
     DtOrd { root: Addr(root) }
 }
 

@@ -9,13 +9,12 @@ use vc_base::{Addr, Steps};
 use vc_extent::Extents;
 use vc_splay::{link_after_equals, unlink};
 
-/// Puts a free extent that isn't in the tree in, and makes it the root: it and the root that is answered are one. It takes
-/// a step for its own span, and one for each gap that it reads: at most as many as there are in the tree.
+/// Puts a free extent that isn't in the tree in, and answers the new root. It takes a step for its own span, and one for
+/// each gap that it reads: at most as many as there are in the tree. Where few are read none is splayed.
 pub fn link_gap<L>(extents: &mut Extents, root: Addr, a: Addr, steps: &mut Steps<L>) -> Addr
     requires { CanLinkGap (tiling extents.old.segs.items) root.0 a.0 }
     ensures linked { GapLinked (tiling extents.old.segs.items) (tiling extents.new.segs.items)
         root.0 a.0 result.0 }
-    ensures root { result.0 ≡ a.0 }
     ensures rises { steps.old + 1 ≤ steps.new }
     ensures least_steps { root.0 ≢ 0 → steps.old + 2 ≤ steps.new }
     ensures most_steps { (xs : List ℕ) → HasGapTree (tiling extents.old.segs.items) root.0 xs
@@ -33,7 +32,6 @@ fn link_in<'a, L>(gaps: &mut Gaps<'a>, root: u32, a: u32, steps: &mut Steps<L>) 
     requires { CanLinkGap (tiling gaps.old.extents.now.segs.items) root a }
     ensures linked { GapLinked (tiling gaps.old.extents.now.segs.items)
         (tiling gaps.new.extents.now.segs.items) root a result }
-    ensures root { result ≡ a }
     ensures rises { steps.old + 1 ≤ steps.new }
     ensures least_steps { root ≢ 0 → steps.old + 2 ≤ steps.new }
     ensures most_steps { (xs : List ℕ)
@@ -46,7 +44,7 @@ fn link_in<'a, L>(gaps: &mut Gaps<'a>, root: u32, a: u32, steps: &mut Steps<L>) 
         gaps.new.extents.now.segs.items }
 {
     let span = gaps.extents.span_at(Addr(a), steps);
-    link_after_equals(gaps, root, a, &BySpan { span, at: a }, steps)
+    link_after_equals(gaps, root, a, &BySpan { span, at: a }, true, steps)
 }
 
 /// Takes a free extent out of the tree that it is in, and answers the new root, `NONE` where no free extent is left in

@@ -8,7 +8,7 @@ use Rattle.vc_splay.specs.Stands.{IsTree}
 use Rattle.vc_splay.specs.Store.{Store}
 use Rattle.vc_splay.proofs.DigitLemmas.{digits-rise, digits-some, level-digits, level-few, level-rises}
 use Rattle.vc_splay.proofs.FewLemmas.{deep}
-use Rattle.vc_splay.proofs.RankLemmas.{rank-leaf, size-leaf, size-node, size-grown}
+use Rattle.vc_splay.proofs.RankLemmas.{rank-leaf, rank-less, size-leaf, size-node, size-grown, size-within}
 use Rattle.vc_splay.proofs.SearchLemmas.{no_tree}
 
 -- a tree of a node and what is round it has a node
@@ -18,6 +18,10 @@ size-some c l n r =
     let e = size-node l n r in
     let d = deep c (Node l n r) in
     omega arith
+
+size-deep : (c : Context) (t : Tree) → depth c + size t ≤ size (plug c t)
+unfolding size
+size-deep c t = deep c t
 
 -- the deepest node was splayed
 pub searched : (c : Context) (l : Tree) (n : ℕ) (r tree after : Tree) (before now : ℕ) → plug c (Node l n r) ≡ tree → now ≡ before + (depth c + 1) → Paid c (Node l n r) after → Costs tree after before now (12 * binary_digits (size tree))
@@ -38,6 +42,17 @@ none_cost s root t after now most none k e j =
     let b = ap rank (no_tree s 0 after none j refl) in
     record { cost = omega arith }
 
+-- where a number is 2 or more it has two digits
+digits-two : binary_digits 2 ≡ 2
+unfolding binary_digits
+digits-two = refl
+
+two_digits : (d n : ℕ) → d + 1 ≤ n → d ≤ 8 → d ≤ 6 * binary_digits n
+two_digits d n within few = elim (cases_lt 1 n) as (λ _. d ≤ 6 * binary_digits n) [
+  | inl many ↦ let a = digits-rise 2 n (omega arith) in let b = digits-two in omega arith
+  | inr less ↦ omega arith
+]
+
 -- a new leaf rose
 pub linked_cost : (c : Context) (at : ℕ) (tree after : Tree) (start now : ℕ) → plug c Leaf ≡ tree → now ≡ start + depth c → Paid c (Node Leaf at Leaf) after → Costs tree after start now (8 * binary_digits (size tree + 1))
 linked_cost c at tree after start now e deep h = record {
@@ -51,6 +66,26 @@ linked_cost c at tree after start now e deep h = record {
       let a = level-digits (size whole) (omega arith) in
       let b = ap rank e in
       let s = ap binary_digits grown in
+      omega arith;
+}
+
+-- a new leaf stayed one, and few nodes were read
+pub leaf_cost : (c : Context) (at : ℕ) (tree after : Tree) (start now : ℕ) → plug c Leaf ≡ tree → after ≡ plug c (Node Leaf at Leaf) → now ≡ start + depth c → now ≤ start + 8 → Costs tree after start now (8 * binary_digits (size tree + 1))
+leaf_cost c at tree after start now e is deep few = record {
+  cost =
+      let whole = plug c (Node Leaf at Leaf) in
+      let k = rank-leaf c at in
+      let one = size-node Leaf at Leaf in
+      let zero = size-leaf in
+      let grown : size whole ≡ size tree + 1 = size-grown c Leaf (Node Leaf at Leaf) (omega arith) ∙ ap (λ z. size z + 1) e in
+      let a = level-digits (size whole) (omega arith) in
+      let b = ap rank e in
+      let s = ap binary_digits grown in
+      let r = ap rank is in
+      let within = size-deep c Leaf in
+      let same = ap size e in
+      let some = digits-some (size tree + 1) (omega arith) in
+      let two = two_digits (depth c) (size tree + 1) (omega arith) in
       omega arith;
 }
 
@@ -79,21 +114,20 @@ joined_both c l end r a b mid rest after top e h front same is = record {
       omega arith;
 }
 
--- a node came to the top, and its subtrees were joined
-pub unlinked_cost : (c : Context) (t top tree front back after : Tree) (at : ℕ) → plug c t ≡ tree → Paid c t top → top ≡ Node front at back → size top ≡ size (plug c t) → Joined front back after → Costs tree after 0 0 (12 * binary_digits (size tree))
-unlinked_cost c t top tree front back after at e h whole same k = record {
+-- a node's subtrees were joined in its place
+pub unlinked_cost : (c : Context) (l : Tree) (at : ℕ) (r part tree after : Tree) → plug c (Node l at r) ≡ tree → size part ≡ size l + size r → Joined l r part → after ≡ plug c part → Costs tree after 0 0 (12 * binary_digits (size tree))
+unlinked_cost c l at r part tree after e parts k is = record {
   cost =
-      let i = h.paid in
       let j = k.paid in
-      let parts = size-node front at back in
-      let sizes = ap size whole in
-      let x = ap rank whole in
+      let t = Node l at r in
+      let whole = size-node l at r in
+      let x = ap rank is in
       let y = ap rank e in
       let z = ap size e in
-      let all : size (Node front at back) ≡ size tree = omega arith in
-      let u = ap level all in
-      let w = ap level z in
-      let v = level-rises (size front + size back) (size tree) (omega arith) in
+      let all = ap level z in
+      let less = rank-less c t part (omega arith) in
+      let within = size-within c t in
+      let v = level-rises (size l + size r) (size (plug c t)) (omega arith) in
       let few = level-few (size tree) in
       omega arith;
 }

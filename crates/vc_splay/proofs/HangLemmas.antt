@@ -17,7 +17,7 @@ kids-child : (side : Bool) (n child : ℕ) (s : Store) → (with_child side n ch
 unfolding with_child with_parent_of
 kids-child side n child s = refl
 
-parents-child : (side : Bool) (n child : ℕ) (s : Store) → (with_child side n child s).parent ≡ (with_parent_of child n s).parent
+pub parents-child : (side : Bool) (n child : ℕ) (s : Store) → (with_child side n child s).parent ≡ (with_parent_of child n s).parent
 unfolding with_child with_kid with_parent_of
 parents-child side n child s = refl
 

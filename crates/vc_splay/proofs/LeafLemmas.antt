@@ -157,7 +157,7 @@ pub parents_kid : (d : Bool) (n v : ℕ) (s : Store) (m : ℕ) → (with_kid d n
 unfolding with_kid
 parents_kid d n v s m = refl
 
-same_kid : (d : Bool) (n v : ℕ) (s : Store) (m : ℕ) → m ≢ n → SameLinks s (with_kid d n v s) m
+pub same_kid : (d : Bool) (n v : ℕ) (s : Store) (m : ℕ) → m ≢ n → SameLinks s (with_kid d n v s) m
 same_kid d n v s m ne = record { kid = λ e. kid-other d n v s e m ne; parent = parents_kid d n v s m }
 
 pub has_kid_of : (d : Bool) (n v : ℕ) (s : Store) → (with_kid_of d n v s).has ≡ s.has
@@ -170,7 +170,7 @@ pub apart_tally : (n : ℕ) (t : Tree) → tally n t ≡ 0 → contains (names t
 unfolding tally
 apart_tally n t h = apart-count n (names t) h
 
-apart_cons : (n at : ℕ) (xs : List ℕ) → contains (at ∷ xs) n ≡ false → (n ≢ at) × (contains xs n ≡ false)
+pub apart_cons : (n at : ℕ) (xs : List ℕ) → contains (at ∷ xs) n ≡ false → (n ≢ at) × (contains xs n ≡ false)
 apart_cons n at xs h = elim (eqb_tells at n) as (λ _. (n ≢ at) × (contains xs n ≡ false)) [
   | inl same ↦ absurd (true≢false (rw same.0 at h))
   | inr apart ↦ (λ e. apart.1 (sym e), rw apart.0 at h)
@@ -189,7 +189,7 @@ in_hand s at held =
 leaf_among : (at : ℕ) → 1 ≤ tally at (Node Leaf at Leaf)
 leaf_among at = let a = tally-node at at Leaf Leaf in let b = one-same at at refl in omega arith
 
-leaf_once : (at : ℕ) (c : Context) → ((m : ℕ) → tally_round m c ≤ 1) → tally_round at c ≡ 0 → (m : ℕ) → tally m (Node Leaf at Leaf) + tally_round m c ≤ 1
+pub leaf_once : (at : ℕ) (c : Context) → ((m : ℕ) → tally_round m c ≤ 1) → tally_round at c ≡ 0 → (m : ℕ) → tally m (Node Leaf at Leaf) + tally_round m c ≤ 1
 leaf_once at c once apart m =
     let a = tally-node m at Leaf Leaf in
     let b = tally-leaf m in
@@ -239,7 +239,7 @@ hung_by s at above left (Under d n sibling c) none held stands once apart e f =
     (hung_at s at d n sibling c none held stands once apart)))
 
 -- where a walk found the place
-round_of : (t : Tree) (c : Context) → plug c Leaf ≡ t → (m : ℕ) → tally m t ≡ tally_round m c
+pub round_of : (t : Tree) (c : Context) → plug c Leaf ≡ t → (m : ℕ) → tally m t ≡ tally_round m c
 round_of t c whole m = let a = tally-plug m c Leaf in let b = tally-leaf m in let e = ap (tally m) whole in omega arith
 
 pub hung : (s : Store) (side : ℕ → Ordering) (root at : ℕ) (t : Tree) (above : ℕ) (left : Bool) (start now : ℕ) → s.has 0 ≡ false → s.has at ≡ true → contains (names t) at ≡ false → IsTree s root t → (w : Gap side t above left start now)

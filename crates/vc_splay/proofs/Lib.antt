@@ -14,6 +14,9 @@ pub mod GuideLemmas
 pub mod SearchLemmas
 pub mod LeafLemmas
 pub mod UnlinkLemmas
+pub mod PutLemmas
+pub mod PlaceLemmas
+pub mod StayLemmas
 pub mod DigitLemmas
 pub mod RankLemmas
 pub mod CostLemmas

@@ -51,6 +51,25 @@ rank-plug (Under d n sibling c) t u e =
     let y = rank-joined d u n sibling k (ap (λ z. z + size sibling + 1) e) in
     omega arith
 
+-- a smaller part in the same place
+pub rank-less : (c : Context) (t u : Tree) → size u ≤ size t → rank (plug c u) + rank t ≤ rank (plug c t) + rank u
+rank-less Top t u h = omega arith
+rank-less (Under d n sibling c) t u h =
+    let a = size-joined d t n sibling in
+    let b = size-joined d u n sibling in
+    let k = rank-less c (joined_tree d t n sibling) (joined_tree d u n sibling) (omega arith) in
+    let x = rank-joined d t n sibling (size t + size sibling + 1) refl in
+    let y = rank-joined d u n sibling (size u + size sibling + 1) refl in
+    let z = level-rises (size u + size sibling + 1) (size t + size sibling + 1) (omega arith) in
+    omega arith
+
+pub size-within : (c : Context) (t : Tree) → size t ≤ size (plug c t)
+size-within Top t = omega arith
+size-within (Under d n sibling c) t =
+    let a = size-joined d t n sibling in
+    let k = size-within c (joined_tree d t n sibling) in
+    omega arith
+
 -- each step keeps the law
 pub zig-law : (d : Bool) (near : Tree) (x : ℕ) (inner : Tree) (p : ℕ) (sibling : Tree)
     → Law (Under d p sibling Top) (joined_tree d near x inner) Top (joined_tree d near x (joined_tree d inner p sibling))

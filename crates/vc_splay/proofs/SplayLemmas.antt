@@ -197,7 +197,7 @@ settle s at left right t none l once =
           (other_parent s2 at n (λ f. let a = one-same n at f in absurd (omega arith)));
     }
 
-distinct_once : (t : Tree) → ((n : ℕ) → tally n t ≤ 1) → AreDistinct (names t)
+pub distinct_once : (t : Tree) → ((n : ℕ) → tally n t ≤ 1) → AreDistinct (names t)
 unfolding tally
 distinct_once t once = count-distinct (names t) once
 

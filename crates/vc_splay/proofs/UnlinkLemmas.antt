@@ -1,12 +1,11 @@
 -- Two trees joined, and a tree without its root.
-use Rattle.vc_base.proofs.Common.{◌≡◌, ℕ, ◌+◌, ◌≤◌, Bool, true, false, cond, ◌≢◌, List, [], ◌∷◌, ◌++◌, ◌==◌, Some, None, sym, refl, ap, ◌∙◌, subst, append_assoc, arith, ne_eqb, AreDistinct, contains, last_in, some_address, without}
+use Rattle.vc_base.proofs.Common.{◌≡◌, ℕ, ◌+◌, ◌≤◌, Bool, true, false, cond, ◌≢◌, List, [], ◌∷◌, ◌++◌, ◌==◌, Some, None, sym, refl, ap, ◌∙◌, subst, append_assoc, arith, ne_eqb, AreDistinct, contains, last_in, some_address}
 use Rattle.vc_base.specs.Holders.{last_of}
-use Rattle.vc_base.proofs.Members.{first-apart, without-split}
 use Rattle.vc_base.proofs.Options.{some_same}
 use Rattle.vc_splay.specs.Tree.{Tree, Leaf, Node, names, name_of}
 use Rattle.vc_splay.specs.Store.{Store, SameLinks, with_kid, with_parent}
 use Rattle.vc_splay.specs.Stands.{IsNode, IsTree, Stands, TreeAfter}
-use Rattle.vc_splay.specs.Moves.{Topped, count, one, tally}
+use Rattle.vc_splay.specs.Moves.{count, one, tally}
 use Rattle.vc_splay.specs.Searches.{IsPair}
 use Rattle.vc_splay.specs.Unique.{one_tree}
 use Rattle.vc_splay.specs.Writes.{with_parent_of}
@@ -14,11 +13,11 @@ use Rattle.vc_splay.proofs.HangLemmas.{SameLinks-on, SameLinks-same}
 use Rattle.vc_splay.proofs.LeafLemmas.{apart_tally, parents_kid}
 use Rattle.vc_splay.proofs.NeighbourLemmas.{last_both}
 use Rattle.vc_splay.proofs.SearchLemmas.{search_leaf}
-use Rattle.vc_splay.proofs.SplayLemmas.{tally-apart, tally-once, tally-within}
+use Rattle.vc_splay.proofs.SplayLemmas.{tally-once, tally-within}
 use Rattle.vc_splay.proofs.StandsLemmas.{Stands-kept, Stands-moved, some_held}
 use Rattle.vc_splay.proofs.StepLemmas.{Stands-held}
 use Rattle.vc_splay.proofs.StoreLemmas.{kid-here, kid-opposite, kid-other, parent-here, parent-other, parent_of-here, parent_of-other}
-use Rattle.vc_splay.proofs.TallyLemmas.{apart-count, count-append, count-apart, count-distinct, distinct-count, one-same, tally-leaf, tally-list, tally-node, tally-root, within-count}
+use Rattle.vc_splay.proofs.TallyLemmas.{count-append, count-apart, count-distinct, distinct-count, one-same, tally-leaf, tally-list, tally-node, tally-root, within-count}
 
 pub has_parent_of : (n v : ℕ) (s : Store) → (with_parent_of n v s).has ≡ s.has
 unfolding with_parent_of
@@ -49,21 +48,21 @@ root_in t top n e some zero z =
     absurd (omega arith)
 
 -- the two parts of a list
-parts_count : (n : ℕ) (a b : Tree) → count n (names a ++ names b) ≡ tally n a + tally n b
+pub parts_count : (n : ℕ) (a b : Tree) → count n (names a ++ names b) ≡ tally n a + tally n b
 unfolding tally
 parts_count n a b = count-append n (names a) (names b)
 
 pair_once : (s : Store) (left right : ℕ) (a b : Tree) → IsPair s left right a b → (n : ℕ) → tally n a + tally n b ≤ 1
 pair_once s left right a b p n = let k = distinct-count n (names a ++ names b) p.distinct in let e = parts_count n a b in omega arith
 
-pair_apart : (a b : Tree) (n : ℕ) → contains (names a ++ names b) n ≡ false → tally n a + tally n b ≡ 0
+pub pair_apart : (a b : Tree) (n : ℕ) → contains (names a ++ names b) n ≡ false → tally n a + tally n b ≡ 0
 pair_apart a b n h = let k = count-apart n (names a ++ names b) h in let e = parts_count n a b in omega arith
 
 append_none : (xs : List ℕ) → xs ≡ xs ++ []
 append_none [] = refl
 append_none (x ∷ xs) = ap (λ z. x ∷ z) (append_none xs)
 
-distinct_of : (t : Tree) → ((n : ℕ) → tally n t ≤ 1) → AreDistinct (names t)
+pub distinct_of : (t : Tree) → ((n : ℕ) → tally n t ≤ 1) → AreDistinct (names t)
 unfolding tally
 distinct_of t once = count-distinct (names t) once
 
@@ -229,59 +228,6 @@ join_both old s left right top end a b none has p left_some right_some e same af
       front_is = r.whole;
       is = refl;
     }
-
--- once the root is out, its subtrees are two trees
-pub record Split (old s new : Store) (at left right : ℕ) (t top : Tree) : Type 0 where
-  pub front : Tree
-  pub back : Tree
-  pub whole : top ≡ Node front at back
-  pub pair : IsPair new left right front back
-  pub list : without at (names t) ≡ names front ++ names back
-  pub others : (n : ℕ) → contains (names t) n ≡ false → SameLinks old new n
-  pub apart : (n : ℕ) → contains (names t) n ≡ false → contains (names front ++ names back) n ≡ false
-
-pub split_at : (old s : Store) (at left right : ℕ) (t : Tree) → s.has 0 ≡ false → AreDistinct (names t) → (k : Topped old s at (names t) left right) → Split old s (with_parent_of left 0 s) at left right t k.tree
-split_at old s at left right t none distinct k =
-    let front = k.hand.left_tree in
-    let back = k.hand.right_tree in
-    let cut = k.hand.left_cut in
-    let new = with_parent_of left 0 s in
-    let list : names t ≡ names front ++ at ∷ names back = sym k.list ∙ ap names k.hand.whole in
-    let w : (n : ℕ) → tally n t ≡ tally n front + (one n at + tally n back) = λ n. let q = tally-list n k.tree t k.list in let u = ap (tally n) k.hand.whole in let v = tally-node n at front back in omega arith in
-    let once : (n : ℕ) → tally n t ≤ 1 = λ n. tally-once n t distinct in
-    let left_in : left ≢ 0 → 1 ≤ tally left front = λ f. subst (λ z. 1 ≤ tally z front) (sym cut.top_is) (tally-root front (λ z. f (cut.top_is ∙ z))) in
-    record {
-      front = front;
-      back = back;
-      whole = k.hand.whole;
-      pair = record {
-        up = k.hand.right_cut.up;
-        front_is = record {
-          top = cut.top_is;
-          stands = raised s cut.up 0 left front none cut.stands cut.top_is (λ n. let a = once n in let b = w n in omega arith);
-          distinct = distinct_of front (λ n. let a = once n in let b = w n in omega arith);
-        };
-        back_stands = Stands-kept s new k.hand.right_cut.up back (has_parent_of left 0 s)
-            (λ n i. other_parents s left 0 n (λ f z. let g = left_in f in let q : 1 ≤ tally n front = subst (λ y. 1 ≤ tally y front) (sym z) g in let a = once n in let b = w n in absurd (omega arith)))
-            k.hand.right_cut.stands;
-        back_top = k.hand.right_cut.top_is;
-        distinct = count-distinct (names front ++ names back) (λ n. let a = once n in let b = w n in let c = parts_count n front back in omega arith);
-      };
-      list = ap (without at) list ∙ without-split (names front) at (names back) (first-apart (names front) at (names back) (subst AreDistinct list distinct));
-      others = λ n i.
-          SameLinks-on old s new n (k.others n i)
-          (other_parents s left 0 n (λ f z. let g = left_in f in let q : 1 ≤ tally n front = subst (λ y. 1 ≤ tally y front) (sym z) g in let a = tally-apart n t i in let b = w n in absurd (omega arith)));
-      apart = λ n i. apart-count n (names front ++ names back) (let a = tally-apart n t i in let b = w n in let c = parts_count n front back in omega arith);
-    }
-
--- the two are joined
-pub unlink_end : (old s mid new : Store) (at left right : ℕ) (t top : Tree) (result : ℕ) (h : Split old s mid at left right t top) → TreeAfter mid new (names h.front ++ names h.back) result (names h.front ++ names h.back) → TreeAfter old new (names t) result (without at (names t))
-unlink_end old s mid new at left right t top result h a = record {
-  tree = a.tree;
-  is_tree = a.is_tree;
-  list = a.list ∙ sym h.list;
-  others = λ n i. SameLinks-on old mid new n (h.others n i) (a.others n (h.apart n i));
-}
 
 pub back_held : (s : Store) (left right : ℕ) (a b : Tree) → IsPair s left right a b → right ≢ 0 → s.has right ≡ true
 back_held s left right a b p some = Stands-held s p.up b right p.back_stands (subst (λ z. 1 ≤ tally z b) (sym p.back_top) (tally-root b (λ z. some (p.back_top ∙ z))))

@@ -8,3 +8,4 @@ pub mod Unique
 pub mod Walks
 pub mod Guide
 pub mod Searches
+pub mod Puts

@@ -1,5 +1,5 @@
 -- What a walk down a tree ends with.
-use Rattle.std.specs.Prelude.{◌++◌, Bool, ◌≡◌, ◌≢◌, ℕ, ◌+◌, ◌*◌, ◌≤◌, true, not, ◌==◌, ◌&&◌}
+use Rattle.std.specs.Prelude.{◌++◌, Bool, ◌≡◌, ℕ, ◌+◌, ◌*◌, ◌≤◌, true, not, ◌==◌, ◌&&◌}
 use Rattle.std.specs.Ordering.{is_eq, is_ge, is_gt}
 use Rattle.std.specs.declared.cmp.Ordering.{Ordering}
 use Rattle.vc_base.specs.Holders.{AreDistinct, contains, some_address}

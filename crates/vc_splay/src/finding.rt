@@ -7,6 +7,7 @@ ghost use Rattle.vc_splay.specs.Searches.{Search, is_found};
 ghost use Rattle.vc_splay.specs.Stands.{IsTree, TreeAfter};
 ghost use Rattle.vc_splay.specs.Tree.{Tree, names};
 
+use crate::short::is_short;
 use crate::sides::kid;
 use crate::splaying::splay;
 use crate::{Guide, Nodes};
@@ -14,14 +15,14 @@ use std::cmp::Ordering;
 use vc_base::Steps;
 
 /// The new root, and the first node that is what the guide seeks, or 0 where none is. It takes one step for each node
-/// that it asks the guide of: at least one where there is a node, and at most as many as there are. For a caller that splays
-/// what is found, no node is splayed here after at most 24 were read: the binary digits of their number pay for so many.
-/// Condition: along the tree the guide's answers never fall.
+/// that it asks the guide of: at least one where there is a node, and at most as many as there are. The deepest node that it
+/// read is splayed; where `lazy`, none is after at most 24 were read: the binary digits of the number of nodes pay for so
+/// many. Condition: along the tree the guide's answers never fall.
 pub fn find_first<N: Nodes, G: Guide<N>, L>(
     nodes: &mut N,
     root: u32,
     guide: &G,
-    splays: bool,
+    lazy: bool,
     steps: &mut Steps<L>,
 ) -> (u32, u32)
     requires { CanFind (N.store nodes.old) (G.side_of guide.now nodes.old) root }
@@ -43,21 +44,21 @@ pub fn find_first<N: Nodes, G: Guide<N>, L>(
     }
     let (deepest, least, equal, read) = descend(nodes, root, guide, steps);
     let found = chosen(equal, least, 0);
-    if is_short(splays, read) {
+    if is_short(lazy, read, 24) {
         return (root, found);
     }
     (splay(nodes, root, deepest), found)
 }
 
 /// The new root, and the first node that isn't before what the guide seeks, or 0 where each is. It takes one step for
-/// each node that it asks the guide of: at least one where there is a node, and at most as many as there are. For a caller
-/// that splays what is found, no node is splayed here after at most 24 were read. Condition: along the tree the guide's
+/// each node that it asks the guide of: at least one where there is a node, and at most as many as there are. The deepest
+/// node that it read is splayed; where `lazy`, none is after at most 24 were read. Condition: along the tree the guide's
 /// answers never fall.
 pub fn find_least_at<N: Nodes, G: Guide<N>, L>(
     nodes: &mut N,
     root: u32,
     guide: &G,
-    splays: bool,
+    lazy: bool,
     steps: &mut Steps<L>,
 ) -> (u32, u32)
     requires { CanFind (N.store nodes.old) (G.side_of guide.now nodes.old) root }
@@ -78,18 +79,10 @@ pub fn find_least_at<N: Nodes, G: Guide<N>, L>(
         return (0, 0);
     }
     let (deepest, least, _equal, read) = descend(nodes, root, guide, steps);
-    if is_short(splays, read) {
+    if is_short(lazy, read, 24) {
         return (root, least);
     }
     (splay(nodes, root, deepest), least)
-}
-
-// Whether a way down of so many nodes is left as it is, by whether the caller splays what is found.
-#[inline(always)]
-fn is_short(splays: bool, read: u32) -> bool
-    ensures { result ≡ true → read ≤ 24 }
-{
-    splays && read <= 24
 }
 
 // Reads down to the first node that isn't before what is sought: the deepest node that was read, that one or 0, whether

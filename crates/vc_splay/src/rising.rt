@@ -48,7 +48,7 @@ pub fn rise<N: Nodes>(nodes: &mut N, at: u32, from: Rising)
 }
 
 // Moves a node in hand up to the top, and answers its two subtrees.
-pub(crate) fn climb<N: Nodes>(nodes: &mut N, at: u32, from: Rising) -> (u32, u32)
+fn climb<N: Nodes>(nodes: &mut N, at: u32, from: Rising) -> (u32, u32)
     requires { CanRise (N.store nodes.old) at from.below from.above from.left from.right }
     ensures top { (context : Context) (tree : Tree)
         → IsRising (N.store nodes.old) at from.below from.above from.left from.right context tree

@@ -7,13 +7,14 @@ ghost use Rattle.vc_splay.specs.Tree.{Tree, names};
 
 use crate::Nodes;
 use crate::ends::last;
-use crate::rising::{climb, in_hand};
+use crate::putting::{put, side_below};
+use crate::rising::in_hand;
 use crate::sides::set_up_of;
 use crate::splaying::splay;
 
-/// Takes a node out, and answers the new root, 0 where no node is left: the last node before it, or the tree that is
-/// left on one side where there is none on the other. What its links are then isn't said. Condition: its name is in the
-/// tree.
+/// Takes a node out, and answers the new root, 0 where no node is left. The node's two subtrees are joined in its place: the
+/// last node before it comes to the top of them, and what is above it stays as it is. What its links are then isn't said.
+/// Condition: its name is in the tree.
 pub fn unlink<N: Nodes>(nodes: &mut N, root: u32, at: u32) -> u32
     requires { IsIn (N.store nodes.old) root at }
     ensures tree { (tree : Tree) → IsTree (N.store nodes.old) root tree
@@ -25,9 +26,10 @@ pub fn unlink<N: Nodes>(nodes: &mut N, root: u32, at: u32) -> u32
     ensures rest { N.stays nodes.old nodes.new }
 {
     let hand = in_hand(nodes, at);
-    let (left, right) = climb(nodes, at, hand);
-    set_up_of(nodes, left, 0);
-    join(nodes, left, right)
+    let side = side_below(nodes, hand.above, at);
+    set_up_of(nodes, hand.left, 0);
+    let top = join(nodes, hand.left, hand.right);
+    put(nodes, root, side, hand.above, top)
 }
 
 // Joins two trees, of which the second stands behind the first and is below some node: the first one's last node gets

@@ -12,14 +12,14 @@ use vc_splay::{
 
 struct Asks;
 
-// Puts one node in.
+// Puts one node in. Those of key 10 stay leaves.
 fn put<'a>(nodes: &mut Lent<'a>, root: u32, at: u32, key: u32, steps: &mut Steps<Asks>) -> u32
     requires { CanPut nodes.old.rows.now root at key }
     ensures tree { (xs : List ℕ) → Holds nodes.old.rows.now root xs
         → Holds nodes.new.rows.now result (order_with_name (key_side keys key) at xs) }
     ensures same { nodes.new.rows.ghost_name ≡ nodes.old.rows.ghost_name }
 {
-    link_after_equals(nodes, root, at, &ByKey { key }, steps)
+    link_after_equals(nodes, root, at, &ByKey { key }, key == 10, steps)
 }
 
 // The four nodes, in the order of their keys: 4 behind 2, which has the same key.
