@@ -30,6 +30,17 @@ asked_some left Leaf some = absurd (some refl)
 asked_some left (Node l n r) some = omega arith
 
 -- a walk by the links reads so many nodes
+-- a walk meets as many names as it may, at most
+run-on : (fuel : ℕ) (next : ℕ → ℕ) (at : ℕ) (t : Bool) → (at == 0) ≡ t → run fuel next (next at) ≤ fuel → run (suc fuel) next at ≤ suc fuel
+unfolding run
+run-on fuel next at true e k = rw e (omega arith)
+run-on fuel next at false e k = rw e (omega arith)
+
+pub run-fuel : (fuel : ℕ) (next : ℕ → ℕ) (at : ℕ) → run fuel next at ≤ fuel
+unfolding run
+run-fuel zero next at = omega arith
+run-fuel (suc fuel) next at = run-on fuel next at (at == 0) refl (run-fuel fuel next (next at))
+
 pub run-asked : (fuel : ℕ) (s : Store) (left : ℕ → Bool) (up : ℕ) (t : Tree) → s.has 0 ≡ false → Stands s up t → reads_of_walk left t ≤ fuel → run fuel (λ n. s.kid (left n) n) (name_of t) ≡ reads_of_walk left t
 unfolding run
 run-asked zero s left up Leaf none h k = refl

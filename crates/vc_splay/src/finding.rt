@@ -86,29 +86,29 @@ pub fn find_least_at<N: Nodes, G: Guide<N>, L>(
 }
 
 // Reads down to the first node that isn't before what is sought: the deepest node that was read, that one or 0, whether
-// there is one and it is what is sought, and how many were read, as far as a u32 counts.
+// there is one and it is what is sought, and how many were read.
 #[inline(always)]
 fn descend<N: Nodes, G: Guide<N>, L>(
     nodes: &N,
     root: u32,
     guide: &G,
     steps: &mut Steps<L>,
-) -> (u32, u32, bool, u32)
+) -> (u32, u32, bool, u64)
     requires tree { CanFind (N.store nodes.now) (G.side_of guide.now nodes.now) root }
     requires some { root ≢ 0 }
     ensures search { (tree : Tree) → IsTree (N.store nodes.now) root tree
         → Search (G.side_of guide.now nodes.now) tree result.0 result.1 steps.old steps.new }
     ensures equal { result.2 ≡ is_found (G.side_of guide.now nodes.now) result.1 }
-    ensures read { result.3 < 4294967295 → steps.new ≤ steps.old + result.3 }
+    ensures read { steps.new ≤ steps.old + result.3 }
 {
     let mut deepest = root;
     let mut least = 0;
     let mut equal = false;
-    let mut read: u32 = 0;
+    let mut read: u64 = 0;
     let mut at = root;
     while at != 0 {
         deepest = at;
-        read = read.saturating_add(1);
+        read += 1;
         let answer = guide.side(nodes, at, steps);
         let left = answer.is_ge();
         least = chosen(left, at, least);

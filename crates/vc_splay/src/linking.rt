@@ -60,26 +60,26 @@ pub fn link_after_equals<N: Nodes, G: Guide<N>, L>(
 }
 
 // Reads down to the place right behind the last node that isn't behind what is sought: the node above that place, 0
-// where there is none, whether the place is on the left of it, and how many nodes were read, as far as a u32 counts.
+// where there is none, whether the place is on the left of it, and how many nodes were read.
 #[inline(always)]
 fn descend_behind<N: Nodes, G: Guide<N>, L>(
     nodes: &N,
     root: u32,
     guide: &G,
     steps: &mut Steps<L>,
-) -> (u32, bool, u32)
+) -> (u32, bool, u64)
     requires { CanFind (N.store nodes.now) (G.side_of guide.now nodes.now) root }
     ensures gap { (tree : Tree) → IsTree (N.store nodes.now) root tree
         → Gap (G.side_of guide.now nodes.now) tree result.0 result.1 steps.old steps.new }
-    ensures read { result.2 < 4294967295 → steps.new ≤ steps.old + result.2 }
+    ensures read { steps.new ≤ steps.old + result.2 }
 {
     let mut above = 0;
     let mut left = false;
-    let mut read: u32 = 0;
+    let mut read: u64 = 0;
     let mut at = root;
     while at != 0 {
         above = at;
-        read = read.saturating_add(1);
+        read += 1;
         left = guide.side(nodes, at, steps).is_gt();
         at = kid(nodes, left, at);
     }

@@ -1,4 +1,4 @@
-use Rattle.vc_base.proofs.Common.{◌≡◌, ◌^◌, ◌+◌, ◌<◌, ◌≤◌, is_ge}
+use Rattle.vc_base.proofs.Common.{◌≡◌, ◌^◌, ◌+◌, ◌≤◌, is_ge}
 use Rattle.vc_splay.specs.Searches.{is_found}
 use Rattle.vc_splay.specs.Stands.{IsTree}
 use Rattle.vc_splay.specs.Tree.{Tree}
@@ -9,7 +9,8 @@ use Rattle.vc_splay.proofs.finding.descend.Given as goal
 abbrev pub invariant-loop-at : goal.invariant-loop-at
 invariant-loop-at g l =
     (l.equal ≡ is_found (g.G.Guide.side_of l.guide l.nodes) l.least)
-    × (l.read < 4294967295 → l.steps ≤ l.initial.steps + l.read)
+    × (l.steps ≤ l.initial.steps + l.read)
+    × (l.read + run (2 ^ 32) (λ n. (g.N.Nodes.store l.nodes).kid (is_ge (g.G.Guide.side_of l.guide l.nodes n)) n) l.at ≤ 2 ^ 32)
     × ((t : Tree) → IsTree (g.N.Nodes.store l.nodes) l.root t → Searching (g.N.Nodes.store l.nodes) (g.G.Guide.side_of l.guide l.nodes) t l.deepest l.least l.at l.initial.steps l.steps)
 
 abbrev pub decreases-loop-at : goal.decreases-loop-at

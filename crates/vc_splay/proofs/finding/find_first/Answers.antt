@@ -76,5 +76,5 @@ pub returns-then-is_short-clause-law : goal.returns-then-is_short-clause-law
 returns-then-is_short-clause-law g c = λ t after k j.
     let s = g.N.Nodes.store c.args.nodes.now in
     let most = most_steps (g.G.Guide.side_of c.args.guide.now c.args.nodes.now) c.descend-deepest.result.0 c.descend-deepest.result.1 c.args.steps.now c.descend-deepest.new.steps t (c.descend-deepest.ensures.search t k) in
-    let few : c.descend-deepest.new.steps ≤ c.args.steps.now + 48 = let r = c.descend-deepest.ensures.read (let few = c.is_short.ensures.few c.if-is_short.true in omega (arith, few)) in let few = c.is_short.ensures.few c.if-is_short.true in omega (arith, r, few) in
+    let few : c.descend-deepest.new.steps ≤ c.args.steps.now + 48 = let r = c.descend-deepest.ensures.read in let few = c.is_short.ensures.few c.if-is_short.true in omega (arith, r, few) in
     looked t after c.args.steps.now c.descend-deepest.new.steps (IsTree-one s c.args.root t after (g.met.N.Nodes.none c.args.nodes.now) k j) most few

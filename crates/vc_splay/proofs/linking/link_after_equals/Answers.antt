@@ -124,5 +124,5 @@ returns-then-is_short-clause-law g c = λ tree after k j.
     (c.put.ensures.tree w.context (Node Leaf at Leaf) (subst (λ z. IsPut z c.args.root left above at w.context (Node Leaf at Leaf)) (sym mid) can)) in
     let one = IsTree-one (g.N.Nodes.store c.put.new.nodes) c.put.result after (plug w.context (Node Leaf at Leaf)) (g.met.N.Nodes.none c.put.new.nodes) j was.is_tree in
     let few = c.is_short.ensures.few c.if-is_short.true in
-    let read = c.descend_behind-above.ensures.read (omega (arith, few)) in
+    let read = c.descend_behind-above.ensures.read in
     leaf_cost w.context at tree after c.args.steps.now c.descend_behind-above.new.steps w.whole one w.deep (omega (arith, read, few))
