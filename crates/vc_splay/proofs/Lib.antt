@@ -20,3 +20,4 @@ pub mod StayLemmas
 pub mod DigitLemmas
 pub mod RankLemmas
 pub mod CostLemmas
+pub mod SeatLemmas

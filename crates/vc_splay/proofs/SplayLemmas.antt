@@ -164,12 +164,12 @@ unfolding with_parent
 kid_kept s at d t apart k = HasKid-kept s (with_parent at 0 s) d at t refl refl (λ n i. other_parent s at n (apart n i)) k
 
 -- a settled node: its tree stands, and other names keep their links
-record Settled (old new : Store) (at : ℕ) (t : Tree) : Type 0 where
-  stands : Stands new 0 t
-  top : at ≡ name_of t
-  others : (n : ℕ) → tally n t ≡ 0 → SameLinks old new n
+pub record Settled (old new : Store) (at : ℕ) (t : Tree) : Type 0 where
+  pub stands : Stands new 0 t
+  pub top : at ≡ name_of t
+  pub others : (n : ℕ) → tally n t ≡ 0 → SameLinks old new n
 
-settle : (s : Store) (at left right : ℕ) (t : Tree) → s.has 0 ≡ false → IsInHand s at left right t → ((n : ℕ) → tally n t ≤ 1) → Settled s (store_with_root at left right s) at t
+pub settle : (s : Store) (at left right : ℕ) (t : Tree) → s.has 0 ≡ false → IsInHand s at left right t → ((n : ℕ) → tally n t ≤ 1) → Settled s (store_with_root at left right s) at t
 unfolding store_with_root
 settle s at left right t none l once =
     let w : (n : ℕ) → tally n l.left_tree + (one n at + tally n l.right_tree) ≤ 1 = λ n. let k = once n in let e = ap (tally n) l.whole ∙ tally-node n at l.left_tree l.right_tree in omega arith in

@@ -9,3 +9,4 @@ pub mod Walks
 pub mod Guide
 pub mod Searches
 pub mod Puts
+pub mod Seats

@@ -135,7 +135,7 @@ fn zig_zag<N: Nodes>(nodes: &mut N, side: bool, near: u32, inner: u32, above: u3
 
 // Writes the links between a node in hand and its two subtrees, and makes it a root.
 #[inline(always)]
-fn settle<N: Nodes>(nodes: &mut N, at: u32, left: u32, right: u32)
+pub(crate) fn settle<N: Nodes>(nodes: &mut N, at: u32, left: u32, right: u32)
     requires { CanSettleNode (N.store nodes.old) at left right }
     ensures { Becomes N.store N.stays nodes.old nodes.new
         (store_with_root at left right (N.store nodes.old)) }
