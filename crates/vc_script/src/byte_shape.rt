@@ -13,6 +13,7 @@ use std::alloc::Global;
 use vc_base::OutOfMemory;
 
 // `D OBJ`, with the word that spells the object.
+#[inline(always)]
 pub(crate) fn object_word_in<'a>(
     others: &[&'a [u8]],
 ) -> Result<(NameWord<'a>, Spelled<'a>), LineFault>
@@ -25,22 +26,21 @@ pub(crate) fn object_word_in<'a>(
     }
 }
 
-// `D [OBJ]`, with the object in the memory of an empty vector.
-pub(crate) fn delete_in<'a>(
-    room: Vec<u8>,
+// `D [OBJ]`, with the word that spells the object.
+#[inline(always)]
+pub(crate) fn delete_words_in<'a>(
     others: &[&'a [u8]],
-) -> Result<Result<(NameWord<'a>, Option<Bytes>), LineFault>, OutOfMemory>
-    requires { room.items ≡ [] }
-    ensures { IfOk result (λ read. result_map_both (λ t. (t.0, t.1)) (λ e. e) read
-        ≡ read_words (form.Name ∷ []) (Some form.Bytes) (map (λ w. w.now) others.now)) }
+) -> Result<(NameWord<'a>, Option<Spelled<'a>>), LineFault>
+    ensures { result_map_both (λ t. (t.0, option_map spelled_bytes t.1)) (λ e. e) result
+        ≡ read_words (form.Name ∷ []) (Some form.Bytes) (map (λ w. w.now) others.now) }
 {
     match others {
-        [dict] => Ok(name_of(dict).map(|dict| (dict, None))),
+        [dict] => Ok((name_of(dict)?, None)),
         [_, _] => match object_word_in(others) {
-            Ok((dict, object)) => Ok(Ok((dict, Some(decoded(room, object)?)))),
-            Err(fault) => Ok(Err(fault)),
+            Ok((dict, object)) => Ok((dict, Some(object))),
+            Err(fault) => Err(fault),
         },
-        _ => Ok(Err(LineFault::WordCount)),
+        _ => Err(LineFault::WordCount),
     }
 }
 

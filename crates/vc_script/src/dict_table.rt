@@ -2,7 +2,7 @@ ghost use Rattle.std.specs.Prelude.{◌≡◌, codes, map, OnOk};
 ghost use Rattle.vc_script.specs.FirstWords.{answer_in, dictionary_spelling, object_spelling, one_dictionary_spelling};
 ghost use Rattle.vc_script.specs.Table.{dictionary_rows};
 
-use crate::byte_shape::{delete_in, object_word_in};
+use crate::byte_shape::{delete_words_in, object_word_in};
 use crate::first_word::{DictionaryWord, ObjectWord, OneDictionary};
 use crate::form::decoded;
 use crate::name_word::some_name;
@@ -53,8 +53,14 @@ fn delete_answer(alloc: Global, others: &[&[u8]], asked: &mut LineAnswer) -> Res
     ensures { OnOk result (asked.new
         ≡ answer_in dictionary_rows (codes "delete") (map (λ w. w.now) others.now)) }
 {
-    match delete_in(asked.take_room(alloc), others)? {
-        Ok((dict, object)) => *asked = LineAnswer::Is(Command::Delete(dict.name(), object)),
+    match delete_words_in(others) {
+        Ok((dict, object)) => match object {
+            None => *asked = LineAnswer::Is(Command::Delete(dict.name(), None)),
+            Some(object) => {
+                let object = decoded(asked.take_room(alloc), object)?;
+                *asked = LineAnswer::Is(Command::Delete(dict.name(), Some(object)));
+            }
+        },
         Err(fault) => *asked = LineAnswer::Bad(fault),
     }
     Ok(())

@@ -86,6 +86,7 @@ pub(crate) fn spelled_of(word: &[u8]) -> Result<Spelled<'_>, LineFault>
 }
 
 // The bytes that a word spells, in the memory of an empty vector.
+#[inline(always)]
 pub(crate) fn decoded(room: Vec<u8>, spelled: Spelled<'_>) -> Result<Bytes, AllocError>
     requires { room.items ≡ [] }
     ensures { IfOk result (λ bytes. bytes ≡ spelled_bytes spelled.entry) }

@@ -220,7 +220,7 @@ pub(crate) fn put_hex_line(
 }
 
 // A short text and an object.
-#[inline(never)]
+#[inline(always)]
 pub(crate) fn put_object_line(
     line: &mut Vec<u8>,
     text: &[u8],

@@ -92,6 +92,24 @@ fn put_texts(line: &mut Vec<u8>, front: &[u8], middle: &[u8], back: &[u8]) -> Re
     put(line, &buf[at..])
 }
 
+// An object that is long, or has bytes to be escaped, between two short texts.
+#[inline(never)]
+fn put_long_object_between(
+    line: &mut Vec<u8>,
+    front: &[u8],
+    object: &[u8],
+    back: &[u8],
+) -> Result<(), AllocError>
+    requires front { length front.now ≤ 8 }
+    requires back { length back.now ≤ 8 }
+    ensures { Puts line.old.items line.new.items result
+        (front.now ++ shown_bytes object.now ++ back.now) }
+{
+    put(line, front)?;
+    put_object(line, object)?;
+    put(line, back)
+}
+
 // An object between two short texts.
 #[inline(always)]
 pub(crate) fn put_object_between(
@@ -108,7 +126,5 @@ pub(crate) fn put_object_between(
     if object.len() <= 64 && are_plain(object) {
         return put_texts(line, front, object, back);
     }
-    put(line, front)?;
-    put_object(line, object)?;
-    put(line, back)
+    put_long_object_between(line, front, object, back)
 }

@@ -8,7 +8,7 @@ use arrayvec::ArrayVec;
 fn is_blank(b: u8) -> bool
     ensures { result ≡ is_blank b }
 {
-    b <= b' ' && (b == b' ' || b == b'\t')
+    b == b' ' || b == b'\t'
 }
 
 fn is_digit(b: u8) -> bool
@@ -37,14 +37,17 @@ pub(crate) fn put_words<'a>(line: &'a [u8], found: &mut ArrayVec<&'a [u8], 6>)
 {
     let mut start = 0;
     for (i, b) in line.iter().enumerate() {
-        if is_blank(*b) {
-            if start < i {
-                found.push(&line[start..i]);
-                if found.is_full() {
-                    return;
+        // One compare passes over the bytes of words.
+        if *b <= b' ' {
+            if is_blank(*b) {
+                if start < i {
+                    found.push(&line[start..i]);
+                    if found.is_full() {
+                        return;
+                    }
                 }
+                start = i + 1;
             }
-            start = i + 1;
         }
     }
     if start < line.len() {
