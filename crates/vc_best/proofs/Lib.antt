@@ -72,3 +72,4 @@ pub mod EmptyGaps
 pub mod Bests
 pub mod BlockCounts
 pub mod Writes
+pub mod Starting

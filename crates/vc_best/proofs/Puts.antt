@@ -1,6 +1,6 @@
 -- A block of zeros in the least free run that holds it.
 use Rattle.vc_base.proofs.Common.{◌≡◌, ℕ, ◌+◌, ◌%◌, ◌≤◌, false, List, map, Some, All, filter, option_map, sym, ap, ◌∙◌, subst, arith, leb-true, ∥∥₁_elim, address, place_of, place_in, zeros, Run, Block, Layout, is_at, holds, least, lowest_offset, round_up, span}
-use Rattle.vc_best.proofs.Common.{AreExtents, Bytes, CanPutBlock, IsFree, IsLeastOut, IsMerged, IsPutInGap, behind_of, carve, change_extent, extent_of, free_runs, layout_by, pair_of, run_at, tiling}
+use Rattle.vc_best.proofs.Common.{AreAllowed, AreExtents, Bytes, CanPutBlock, IsFree, IsLeastHolding, IsLeastOut, IsMerged, IsPutInGap, behind_of, carve, change_extent, extent_of, free_runs, layout_by, pair_of, run_at, tiling}
 use Rattle.vc_base.proofs.Places.{span-least}
 use Rattle.vc_seg.proofs.Rounding.{round_up-least, round_up-mod_32}
 use Rattle.vc_layouts.specs.Put.{with_zeros}
@@ -40,8 +40,18 @@ module _ (old new : List Bytes) (i j : List ℕ) (k : ∥ AreExtents old i ∥�
       subst IsMerged (sym changed)
       (∥∥₁_elim k (merged-prop _) (λ h. merged-carved (tiling old) a off size tag (cut-of old i a h free.named) free some m))
 
+-- the least free extent that holds such a block, in the tree of gaps or out of it
+pub record IsLeastGap (segs : List Bytes) (size align a : ℕ) : Type 0 where
+  pub allowed : AreAllowed size align
+  pub least : IsLeastHolding (tiling segs) size align a
+  pub merged : IsMerged (tiling segs)
+  pub sizes : AreMost (layout_by segs).blocks
+
+pub least-out : {segs : List Bytes} {root size align a : ℕ} → IsLeastOut segs root size align a → IsLeastGap segs size align a
+least-out o = record { allowed = o.allowed; least = o.least; merged = o.merged; sizes = o.sizes }
+
 -- a block of zeros in the least free extent that holds it, at the lowest offset that the alignment divides
-module _ (old : List Bytes) (i : List ℕ) (k : ∥ AreExtents old i ∥₁) (root size align tag a off : ℕ) (out : IsLeastOut old root size align a) (low : off ≡ round_up (place_of a).1 align) where
+module _ (old : List Bytes) (i : List ℕ) (k : ∥ AreExtents old i ∥₁) (size align tag a off : ℕ) (out : IsLeastGap old size align a) (low : off ≡ round_up (place_of a).1 align) where
   abbrev run : Run
   run = run_at (tiling old) a
 

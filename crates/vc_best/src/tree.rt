@@ -1,8 +1,8 @@
-ghost use Rattle.std.specs.Prelude.{◌≡◌, ◌≢◌, ℕ, ◌+◌, ◌≤◌, IfSome, List, [], ◌∷◌, ◌++◌, false};
+ghost use Rattle.std.specs.Prelude.{◌≡◌, ◌≢◌, ℕ, ◌+◌, ◌*◌, ◌≤◌, IfSome, None, List, [], ◌∷◌, ◌++◌, false};
 ghost use Rattle.vc_base.specs.Prelude.{contains, address, place_of, without_block_at, resize_there, span};
 ghost use Rattle.vc_seg.specs.OneBlock.{IsGuardedSize};
 ghost use Rattle.vc_layouts.specs.Put.{with_zeros};
-ghost use Rattle.vc_extent.specs.Tiling.{IsBusy, IsNamed, tiling};
+ghost use Rattle.vc_extent.specs.Tiling.{IsBusy, IsNamed, extent_of, tiling};
 ghost use Rattle.vc_gaps.specs.ButLinks.{StaysButLinks};
 ghost use Rattle.vc_gaps.specs.Cost.{GapsCost};
 ghost use Rattle.vc_gaps.specs.GapTree.{CanLinkGap, HasGaps};
@@ -17,7 +17,7 @@ use crate::release::{absorb_before, release};
 use crate::stay::resize_there;
 use vc_base::{Addr, Steps};
 use vc_extent::Extents;
-use vc_gaps::{link_gap, unlink_gap};
+use vc_gaps::{gap_seat, link_gap, take_gap_seat, unlink_gap};
 use vc_seg::{rounded_up, span_of};
 
 // Before the bytes of free extents change these are taken out of the tree of gaps, and then those that are left are put in.
@@ -85,6 +85,8 @@ fn link_some<L>(extents: &mut Extents, root: &mut Addr, some: Option<Addr>, step
         → HasGaps (tiling extents.old.segs.items) root.old.0 (some_name some ++ out)
         → HasGaps (tiling extents.new.segs.items) root.new.0 out }
     ensures rises { steps.old ≤ steps.new }
+    ensures none { some ≡ None → GapsCost (tiling extents.old.segs.items)
+        (tiling extents.new.segs.items) root.old.0 root.new.0 steps.old steps.new 0 0 0 }
     ensures cost { GapsCost (tiling extents.old.segs.items) (tiling extents.new.segs.items)
         root.old.0 root.new.0 steps.old steps.new 8 1 1 }
     ensures rest { StaysButLinks extents.old.segs.items extents.new.segs.items }
@@ -115,6 +117,8 @@ fn put_block<L>(
     ensures least_steps { steps.old + 1 ≤ steps.new }
     ensures cost { GapsCost (tiling extents.old.segs.items) (tiling extents.new.segs.items)
         root.old.0 root.new.0 steps.old steps.new 16 3 2 }
+    ensures cost_at_start { off ≡ (place_of a.0).1 → GapsCost (tiling extents.old.segs.items)
+        (tiling extents.new.segs.items) root.old.0 root.new.0 steps.old steps.new 8 2 1 }
 {
     let (front, to) = cut_front(extents, a, off);
     let rest = cut_back(extents, to, span_of(size), steps);
@@ -142,6 +146,8 @@ pub(crate) fn put_in_out<L>(
     ensures least_steps { steps.old + 1 ≤ steps.new }
     ensures cost { GapsCost (tiling extents.old.segs.items) (tiling extents.new.segs.items)
         root.old.0 root.new.0 steps.old steps.new 16 3 2 }
+    ensures cost_by_32 { align ≡ 32 → GapsCost (tiling extents.old.segs.items)
+        (tiling extents.new.segs.items) root.old.0 root.new.0 steps.old steps.new 8 2 1 }
 {
     let off = rounded_up(a.off(), align);
     put_block(extents, root, a, off, size, tag, steps)
@@ -171,6 +177,52 @@ pub(crate) fn put_at_end<L>(
     put_in_out(extents, root, gap, size, align, tag, steps)
 }
 
+// Puts a block of zeros at the start of the least gap that holds it, where what is left holds another one: no gap before this
+// one does, so what is left takes its place in the tree.
+fn put_at_start(extents: &mut Extents, root: &mut Addr, a: Addr, size: u32, tag: u32)
+    requires sized { IsGuardedSize size }
+    requires least { IsLeastHolding (tiling extents.old.segs.items) size 32 a.0 }
+    requires left { 2 * span size ≤ (extent_of (tiling extents.old.segs.items) a.0).span }
+    requires kept { AreKept extents.old.segs.items root.old.0 }
+    ensures layout { layout_by extents.new.segs.items
+        ≡ with_zeros (layout_by extents.old.segs.items) tag size ((place_of a.0).0, (place_of a.0).1) }
+    ensures kept { AreKept extents.new.segs.items root.new.0 }
+    ensures cost { GapsCost (tiling extents.old.segs.items) (tiling extents.new.segs.items)
+        root.old.0 root.new.0 0 0 0 0 0 }
+{
+    let seat = gap_seat(extents, a);
+    let rest = extents.split(a, span_of(size));
+    lay_zeros(extents, a, size, tag);
+    *root = take_gap_seat(extents, *root, seat, rest);
+}
+
+// Puts a block of zeros into the least gap that holds it at an alignment of 32, as `put_in_gap` does.
+fn put_by_32<L>(
+    extents: &mut Extents,
+    root: &mut Addr,
+    a: Addr,
+    size: u32,
+    tag: u32,
+    steps: &mut Steps<L>,
+) -> Addr
+    requires allowed { AreAllowed size 32 }
+    requires least { IsLeastHolding (tiling extents.old.segs.items) size 32 a.0 }
+    requires whole { AreWhole extents.old.segs.items root.old.0 }
+    ensures put { IsPutInGap (layout_by extents.old.segs.items) (layout_by extents.new.segs.items)
+        tag size 32 result.0 }
+    ensures whole { AreWhole extents.new.segs.items root.new.0 }
+    ensures least_steps { steps.old + 1 ≤ steps.new }
+    ensures cost { GapsCost (tiling extents.old.segs.items) (tiling extents.new.segs.items)
+        root.old.0 root.new.0 steps.old steps.new 28 3 2 }
+{
+    if 2 * span_of(size) <= extents.span_at(a, steps) {
+        put_at_start(extents, root, a, size, tag);
+        return a;
+    }
+    *root = unlink_gap(extents, *root, a);
+    put_in_out(extents, root, a, size, 32, tag, steps)
+}
+
 // Puts a block of zeros into the least gap that holds it. It answers the block's address.
 pub(crate) fn put_in_gap<L>(
     extents: &mut Extents,
@@ -191,6 +243,9 @@ pub(crate) fn put_in_gap<L>(
     ensures cost { GapsCost (tiling extents.old.segs.items) (tiling extents.new.segs.items)
         root.old.0 root.new.0 steps.old steps.new 28 3 2 }
 {
+    if align == 32 {
+        return put_by_32(extents, root, a, size, tag, steps);
+    }
     *root = unlink_gap(extents, *root, a);
     put_in_out(extents, root, a, size, align, tag, steps)
 }

@@ -16,7 +16,7 @@ module _ (old new : Tiling) where
     right_kid = ap (λ (x : Extent). x.links.second) e ∙ k.right_kid;
   }
 
-  stands-carried : (up : ℕ) (u : Tree) → ((n : ℕ) → contains (names u) n ≡ true → extent_of new n ≡ extent_of old n) → Stands (gap_store old) up u → Stands (gap_store new) up u
+  pub stands-carried : (up : ℕ) (u : Tree) → ((n : ℕ) → contains (names u) n ≡ true → extent_of new n ≡ extent_of old n) → Stands (gap_store old) up u → Stands (gap_store new) up u
   stands-carried up Leaf same h = tt
   stands-carried up (Node l m r) same h = (
     node-carried up m (name_of l) (name_of r) (same m (within-rest (names l) (m ∷ names r) m (within-head m (names r)))) h.0,

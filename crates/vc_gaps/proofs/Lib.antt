@@ -17,3 +17,4 @@ pub mod Added
 pub mod Widened
 pub mod Bordered
 pub mod Staying
+pub mod Seated

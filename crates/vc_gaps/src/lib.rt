@@ -5,8 +5,10 @@ mod by_span;
 mod fitting;
 mod gaps;
 mod linking;
+mod replacing;
 
 pub use by_span::BySpan;
 pub use fitting::fit;
 pub use gaps::Gaps;
 pub use linking::{link_gap, unlink_gap};
+pub use replacing::{gap_seat, take_gap_seat};

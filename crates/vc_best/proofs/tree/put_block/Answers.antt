@@ -1,4 +1,4 @@
-use Rattle.vc_base.proofs.Common.{◌≡◌, ◌+◌, ◌<◌, false, [], ◌∷◌, ◌++◌, IfSome, Some, None, Option, refl, ◌∙◌, arith, contains, address, place_of, span}
+use Rattle.vc_base.proofs.Common.{◌≡◌, ℕ, ◌+◌, ◌<◌, false, [], ◌∷◌, ◌++◌, IfSome, Some, None, Option, refl, ◌∙◌, arith, contains, address, place_of, span}
 use Rattle.vc_best.proofs.Common.{Addr, GapsChange, HasGaps, carve, change_extent, cut_back, extent_of, some_name, tiling}
 use Rattle.vc_best.proofs.Carves.{back-free, back-span, carved-whole, front-apart, front-can, front-free, rest-can}
 use Rattle.vc_best.proofs.Costs.{changed_cost, then_cost}
@@ -97,3 +97,15 @@ returns-clause-cost g c =
     then_cost (out g at.After-lay_zeros)
     (changed_cost _ _ _ _ c.args.extents.now.kept c.lay_zeros.new.extents.kept c.args.root.now.0 c.args.steps.now c.cut_back-rest.new.steps 1 _ _ (change g at.After-lay_zeros) c.requires.gaps (let one = c.cut_back-rest.ensures.counter in omega arith))
     (then_cost (left g at.After-link_some) c.link_some.ensures.cost c.link_some-2.ensures.cost)
+
+-- nothing is before a block at the start
+no-front : (a p off : ℕ) (o : Option Addr) → IfSome o (λ f. (f.0 ≡ a) × (p < off)) → off ≡ p → o ≡ None
+no-front a p off None h e = refl
+no-front a p off (Some f) h e = let low = h.1 in absurd (omega arith)
+
+pub returns-clause-cost_at_start : goal.returns-clause-cost_at_start
+returns-clause-cost_at_start g c = λ start.
+    let at = goal.at.returns-clause-cost_at_start g c in
+    then_cost (out g at.After-lay_zeros)
+    (changed_cost _ _ _ _ c.args.extents.now.kept c.lay_zeros.new.extents.kept c.args.root.now.0 c.args.steps.now c.cut_back-rest.new.steps 1 _ _ (change g at.After-lay_zeros) c.requires.gaps (let one = c.cut_back-rest.ensures.counter in omega arith))
+    (then_cost (left g at.After-link_some) (c.link_some.ensures.none (no-front c.args.a.0 (place_of c.args.a.0).1 c.args.off c.cut_front-front.result.0 c.cut_front-front.ensures.front start)) c.link_some-2.ensures.cost)
