@@ -86,6 +86,7 @@ fn standing<D: DictDisc>(
 }
 
 // Puts an object, unless one of a set matches it.
+#[inline(always)]
 fn put_unless<D: DictDisc>(
     alloc: Global,
     best: &mut Best,
@@ -114,6 +115,7 @@ fn put_unless<D: DictDisc>(
 }
 
 // The object that is made of these bytes, in the memory of an empty vector.
+#[inline(always)]
 fn made_object<D: DictDisc>(room: Vec<u8>, kind: &D, bytes: &[u8]) -> Result<Vec<u8>, OutOfMemory>
     requires { room.items ≡ [] }
     ensures { IfOk result (λ out. out.items ≡ (D.rules kind.now).made bytes.now) }
