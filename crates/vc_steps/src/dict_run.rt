@@ -20,6 +20,7 @@ use vc_views::{index_near, is_barred, show_names};
 
 impl<D: DictDisc> Session<D> {
     // Runs a command on the dictionary of that name. With no memory its table may have grown.
+    #[inline(always)]
     pub(crate) fn run_on_dict(
         &mut self,
         shelf: &Shelf,
@@ -64,6 +65,7 @@ impl<D: DictDisc> Session<D> {
 
     // Runs a command on the dictionary of that name and index, from 0 on, alone: it neither ends it, nor lets it view another
     // one, nor looks through its path. It turns none that is viewed or views another one.
+    #[inline(always)]
     fn run_at(
         &mut self,
         shelf: &Shelf,

@@ -10,6 +10,7 @@ use vc_views::index_near;
 
 impl<D> Session<D> {
     /// The index of the region of that name among those that are open, from 0 on, in order of opening.
+    #[inline(always)]
     pub fn region_index(&self, name: &Name) -> Option<usize>
         ensures index { result ≡ position (bytes_eq name.now) (keys_of self.now.homes.entries) }
         ensures found { is_some result ≡ is_some (get bytes_eq self.now.homes name.now) }
@@ -21,6 +22,7 @@ impl<D> Session<D> {
     }
 
     /// The index of the dictionary of that name among those that are open, from 0 on, in order of opening.
+    #[inline(always)]
     pub fn dict_index(&self, name: &Name) -> Option<usize>
         ensures index { result ≡ position (bytes_eq name.now) (keys_of self.now.dicts.entries) }
         ensures found { is_some result ≡ is_some (get bytes_eq self.now.dicts name.now) }

@@ -1,6 +1,9 @@
-ghost use Rattle.std.specs.Prelude.{◌≡◌, ◌⊎◌, ◌==◌, ◌&&◌, [], List, None, Some, false, IfOk, OnErr, OnOk, IsTrue};
+ghost use Rattle.std.specs.Prelude.{◌≡◌, ◌⊎◌, ◌==◌, ◌&&◌, [], List, None, Some, false, IfOk, IfSome, OnErr, OnOk, IsTrue};
 ghost use Rattle.vc_dtdisc.specs.Rules.{Gone, Rules};
 ghost use Rattle.vc_commands.specs.Answered.{answered};
+ghost use Rattle.vc_script.specs.Target.{target_of};
+ghost use Rattle.vc_script.specs.declared.target.Target.TheVariants.{Dict};
+ghost use Rattle.vc_script.specs.declared.target.Work.TheVariants.{Own};
 ghost use Rattle.vc_steps.specs.Account.{ArmsNone};
 ghost use Rattle.vc_steps.specs.Arms.{ArmsAll};
 ghost use Rattle.vc_steps.specs.Homes.{HoldsDicts, HoldsRegions, IsSessionOver, KeepsRegions, StandsOverAny, accounts_on, settled_over, slots_on, state_over};
@@ -20,7 +23,7 @@ use vc_base::{Name, OutOfMemory};
 use vc_commands::{DictEntry, HomeEntry, Labels, put_answer};
 use vc_dict::Paths;
 use vc_dtdisc::DictDisc;
-use vc_script::{Command, Refusal, Reply, Target, Tool};
+use vc_script::{Command, Refusal, Reply, Target, Tool, Work};
 use vc_seg::{BoxedDisc, SegDisc, Shelf};
 use vc_views::end_views;
 
@@ -60,6 +63,23 @@ impl<D> Drop for Session<D> {
             last_dict: _,
             kind: _,
         } = self;
+    }
+}
+
+// The name of the dictionary that a command works on, where that is on its own objects.
+#[inline(always)]
+fn own_dict(command: &Command) -> Option<&Name>
+    ensures { IfSome result (λ name. target_of command.now ≡ Dict name.now Own) }
+{
+    match command {
+        Command::Insert(name, _)
+        | Command::Append(name, _)
+        | Command::Attach(name, _)
+        | Command::Delete(name, _)
+        | Command::Detach(name, _)
+        | Command::Count(name)
+        | Command::Empty(name) => Some(name),
+        _ => None,
     }
 }
 
@@ -224,8 +244,10 @@ impl<D: DictDisc> Session<D> {
         self.homes[i].run(self.alloc, &mut self.labels[i], line, command, reply)
     }
 
-    // Runs one command. With no memory the state stays, but that a table may have grown.
-    fn run_command(
+    // Runs one command where it works. With no memory the state stays, but that a table may have grown. It stands apart, since
+    // it copies the name of that place.
+    #[inline(never)]
+    fn run_at_target(
         &mut self,
         shelf: &mut Shelf,
         kinds: &mut Vec<D>,
@@ -246,6 +268,30 @@ impl<D: DictDisc> Session<D> {
             Target::Shelf => self.run_on_shelf(shelf, kinds, command, reply),
             Target::Region(name) => self.run_in_region(shelf, name, line, command, reply),
             Target::Dict(name, work) => self.run_on_dict(shelf, kinds, name, *work, command, reply),
+        }
+    }
+
+    // The same. Commands on a dictionary's own objects take no copy of its name.
+    #[inline(always)]
+    fn run_command(
+        &mut self,
+        shelf: &mut Shelf,
+        kinds: &mut Vec<D>,
+        line: u32,
+        command: &Command,
+        reply: &mut Reply,
+    ) -> Result<(), OutOfMemory>
+        requires { IsSessionOver state D.rules shelf.old self.old kinds.old.items }
+        ensures steps { StepsBy (answered result reply.new)
+            (moment state D.rules D.gone shelf.old self.old kinds.old.items)
+            (moment state D.rules D.gone shelf.new self.new kinds.new.items)
+            command.now (λ s. step s line command.now) }
+        ensures stays { Stays state D.rules shelf.old self.old kinds.old.items
+            shelf.new self.new kinds.new.items }
+    {
+        match own_dict(command) {
+            Some(name) => self.run_on_dict(shelf, kinds, name, Work::Own, command, reply),
+            None => self.run_at_target(shelf, kinds, line, command, reply),
         }
     }
 
@@ -276,6 +322,7 @@ impl<D: DictDisc> Session<D> {
     }
 
     /// The same, with the reply put in place of another one. Where memory is wanting any may stand there.
+    #[inline(always)]
     pub fn step_into(
         &mut self,
         shelf: &mut Shelf,
