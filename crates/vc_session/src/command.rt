@@ -1,6 +1,7 @@
 ghost use Rattle.std.specs.Prelude.{◌≡◌, Some, IsTrue, OnErr};
 ghost use Rattle.vc_commands.specs.Answered.{answered};
 ghost use Rattle.vc_counts.specs.CanCount.{CanCount};
+ghost use Rattle.vc_counts.specs.Counting.{CountsStep};
 ghost use Rattle.vc_counts.specs.Counts.{live_bytes};
 ghost use Rattle.vc_session.specs.Engine.{IsStep, RunsLine};
 ghost use Rattle.vc_session.specs.Progress.{CountsOn};
@@ -18,7 +19,30 @@ use vc_script::{Command, Reply};
 use vc_seg::{BoxedDisc, SegDisc, Shelf};
 use vc_steps::Session;
 
+// Runs the command of the line of that number and counts it. It stands apart, so that a run that isn't quiet is short.
+#[inline(never)]
+fn run_counted<D: DictDisc>(
+    session: &mut Session<D>,
+    shelf: &mut Shelf,
+    kinds: &mut Vec<D>,
+    n: u32,
+    command: &Command,
+    counts: &mut Counts,
+    reply: &mut Reply,
+) -> Result<(), OutOfMemory>
+    requires session { IsSessionOver state D.rules shelf.old session.old kinds.old.items }
+    requires counts { CanCount counts.old (live_bytes
+        (state_over state (rules_in D.rules kinds.old.items) shelf.old session.old)) n }
+    ensures { RunsOver state D.rules D.gone shelf.old session.old kinds.old.items
+        shelf.new session.new kinds.new.items
+        (λ now next. CountsStep (answered result reply.new) now next n command.now
+        counts.old counts.new) }
+{
+    counted_step(session, shelf, kinds, n, command, counts, reply)
+}
+
 // Runs the command of the line of that number. A quiet run counts it.
+#[inline(always)]
 fn run_command<D: DictDisc>(
     quiet: bool,
     session: &mut Session<D>,
@@ -38,13 +62,14 @@ fn run_command<D: DictDisc>(
         counts.old counts.new n command.now) }
 {
     if quiet {
-        return counted_step(session, shelf, kinds, n, command, counts, reply);
+        return run_counted(session, shelf, kinds, n, command, counts, reply);
     }
     session.step_into(shelf, kinds, n, command, reply)
 }
 
 // Runs the command of the line of that number, puts its reply in place of another one, and gathers what is written of it. A
 // quiet run counts it, and a session that arms disciplines is of a script of version 2.
+#[inline(always)]
 pub(crate) fn run_answer<D: DictDisc>(
     quiet: bool,
     session: &mut Session<D>,

@@ -67,6 +67,7 @@ impl From<WriteFailed> for Stop {
 
 // Runs the line of that number and gathers what is written of its reply, or answers what is wrong with it. Line 1 may tell
 // the version instead. What the line asks for and its reply are put in place of those of another line.
+#[inline(always)]
 fn run_line<D: DictDisc>(
     alloc: Global,
     tool: Tool,
@@ -171,7 +172,9 @@ fn run_piece<D: DictDisc>(
     Ok(None)
 }
 
-// Runs the line that the input's end ends, where one has begun, and answers it where it is bad.
+// Runs the line that the input's end ends, where one has begun, and answers it where it is bad. It comes once, so it stands
+// apart.
+#[inline(never)]
 fn run_last<D: DictDisc>(
     alloc: Global,
     tool: Tool,

@@ -44,6 +44,7 @@ fn put_numbered(replies: &mut Vec<u8>, n: u32, reply: &Reply) -> Result<(), OutO
 }
 
 // The same, whole or not at all.
+#[inline(never)]
 fn gather_numbered(replies: &mut Vec<u8>, n: u32, reply: &Reply) -> Result<(), OutOfMemory>
     ensures put { OnOk result (replies.new.items
         ≡ replies.old.items ++ decimal n ++ codes " " ++ line_of reply.now) }
