@@ -30,13 +30,6 @@ should-above b above =
 should-plain : (b : ℕ) → should_percent_encode ESCAPED b ≡ not (is_plain b)
 should-plain b = ⊎_elim (should-below b) (should-above b) (cases_lt b 128)
 
-not-not : (t : Bool) → not (not t) ≡ t
-not-not true = refl
-not-not false = refl
-
-pub kept-plain : (b : ℕ) → not (should_percent_encode ESCAPED b) ≡ is_plain b
-kept-plain b = ap not (should-plain b) ∙ not-not (is_plain b)
-
 cond-not : {A : Type 0} (t : Bool) (x y : A) → cond (not t) x y ≡ cond t y x
 cond-not true x y = refl
 cond-not false x y = refl

@@ -68,7 +68,7 @@ fn put_object(line: &mut Vec<u8>, object: &[u8]) -> Result<(), AllocError>
 fn is_plain(b: u8) -> bool
     ensures { result ≡ is_plain b }
 {
-    !ESCAPED.should_percent_encode(b)
+    b.is_ascii_alphanumeric() || matches!(b, b'-' | b'.' | b'_' | b'~')
 }
 
 fn are_plain(bytes: &[u8]) -> bool

@@ -79,6 +79,7 @@ pub enum Reply {
 impl Reply {
     /// Takes the memory of the object that a reply tells of, to be used for that of the next one: an empty vector, with no
     /// room where there is no object. Another reply may stand then. Takes no memory.
+    #[inline(always)]
     pub fn take_room(&mut self, alloc: Global) -> Vec<u8>
         ensures { result.items ≡ [] }
     {
