@@ -1,7 +1,8 @@
 /* Counts the compares of calls on an ordered bag, or the heads that calls on a best region read, by a simulation of its tree:
    bench/compares.sh says of what. Each node is a number, and stands in the tree in order of it; a compare, or a head, is a
-   node that a call reads on its way down. A link splays the new leaf. A search splays the deepest node that it read. An
-   unlink splays the node, and then the last one on the left of it. */
+   node that a call reads on its way down. A link splays the new leaf, but of a gap only where more than 8 were read. A
+   search splays the deepest node that it read, one for a gap only where more than 24 were. An unlink joins the node's
+   subtrees in its place, for which it splays the last one of the left subtree to the top of that. */
 #include <stdint.h>
 #include <stdio.h>
 #include <stdlib.h>
@@ -26,6 +27,7 @@ static void rotate(uint32_t at)
         kid[kid[1][top] == above][top] = at;
 }
 
+/* makes a node the top of the tree that it is in */
 static void splay(uint32_t at)
 {
     while (parent[at]) {
@@ -34,7 +36,6 @@ static void splay(uint32_t at)
             rotate((kid[1][above] == at) == (kid[1][top] == above) ? above : at);
         rotate(at);
     }
-    root = at;
 }
 
 static void count(void)
@@ -44,61 +45,71 @@ static void count(void)
         greatest = compares;
 }
 
-static void link_number(uint32_t number)
+/* splays where more nodes were read than that */
+static void link_number(uint32_t number, uint32_t short_way)
 {
-    uint32_t above = 0;
+    uint32_t above = 0, read = 0;
     for (uint32_t at = root; at; at = kid[number > at][at]) {
         above = at;
-        compares++;
+        read++;
     }
+    compares += read;
     kid[0][number] = kid[1][number] = 0;
     parent[number] = above;
     if (above)
         kid[number > above][above] = number;
+    if (above && read <= short_way)
+        return;
     splay(number);
+    root = number;
 }
 
 /* reads on to the left of what is sought, so that the first of equal ones is found */
-static void find(uint32_t number)
+static void find(uint32_t number, uint32_t short_way)
 {
-    uint32_t deepest = root;
+    uint32_t deepest = root, read = 0;
     for (uint32_t at = root; at; at = kid[at < number][at]) {
         deepest = at;
-        compares++;
+        read++;
     }
+    compares += read;
+    if (read <= short_way)
+        return;
     splay(deepest);
+    root = deepest;
 }
 
 static void unlink_number(uint32_t number)
 {
-    uint32_t left, right, last;
-    splay(number);
-    left = kid[0][number];
-    right = kid[1][number];
-    root = left ? left : right;
-    if (root)
-        parent[root] = 0;
-    if (!left || !right)
-        return;
-    for (last = left; kid[1][last];)
-        last = kid[1][last];
-    splay(last);
-    kid[1][last] = right;
-    parent[right] = last;
+    uint32_t left = kid[0][number], right = kid[1][number], above = parent[number], top = left ? left : right;
+    if (left && right) {
+        parent[left] = 0;
+        for (top = left; kid[1][top];)
+            top = kid[1][top];
+        splay(top);
+        kid[1][top] = right;
+        parent[right] = top;
+    }
+    if (top)
+        parent[top] = above;
+    if (above)
+        kid[kid[1][above] == number][above] = top;
+    else
+        root = top;
 }
 
 /* a compare for each node that is read */
 static void link_call(uint32_t number)
 {
     compares = 0;
-    link_number(number);
+    link_number(number, 0);
     count();
 }
 
 static void find_call(uint32_t number)
 {
     compares = 0;
-    find(number);
+    find(number, 0);
     count();
 }
 
@@ -106,15 +117,16 @@ static void find_call(uint32_t number)
 static void free_call(uint32_t number)
 {
     compares = 1;
-    link_number(number);
+    link_number(number, 8);
     count();
 }
 
-/* an alloc that fills a gap reads those on the way down to the gap, and that one when it cuts it */
+/* an alloc that fills a gap reads those on the way down to the gap, and that one twice: whether what is left holds another
+   such block, and when it cuts it */
 static void alloc_call(uint32_t number)
 {
-    compares = 1;
-    find(number);
+    compares = 2;
+    find(number, 24);
     unlink_number(number);
     count();
 }

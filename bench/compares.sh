@@ -253,7 +253,7 @@ impl Bag {
     fn find(&mut self, number: u32) {
         let before = self.compares.get();
         let key = number.to_be_bytes();
-        let _at = self.ord.find(&mut self.cells, &self.kind, &key, &mut self.steps);
+        let _at = self.ord.find(&mut self.cells, &self.kind, &key, false, &mut self.steps);
         self.note(before);
     }
 
