@@ -10,11 +10,12 @@ ghost use Rattle.vc_dtord.specs.Ordered.{CanLink, IsLinked, IsOrd, OrdFor, OrdTu
 use crate::DtOrd;
 use crate::guides::{ByKey, ByMark};
 use crate::holders::Holders;
+use crate::taking::take_out;
 use crate::words::clear_words;
 use vc_base::{Addr, Cells, Steps};
 use vc_dtdisc::DictDisc;
 use vc_dtlist::{Sought, found};
-use vc_splay::{find_first, find_least_at, link_after_equals, unlink};
+use vc_splay::{find_first, find_least_at, link_after_equals};
 
 // Puts the holder at the mark in.
 #[inline(always)]
@@ -53,7 +54,7 @@ pub(crate) fn unlink_in<'a, C: Cells>(nodes: &mut Holders<'a, C>, ord: DtOrd) ->
     ensures same { nodes.new.cells.ghost_name ≡ nodes.old.cells.ghost_name }
 {
     let at = nodes.mark;
-    let root = unlink(nodes, ord.root.0, at.0);
+    let root = take_out(nodes, ord.root.0, at.0);
     DtOrd { root: Addr(root) }
 }
 

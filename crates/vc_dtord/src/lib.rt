@@ -9,6 +9,7 @@ mod holders;
 mod rows;
 mod seeking;
 mod seen;
+mod taking;
 mod words;
 
 pub use dt_ord::DtOrd;
