@@ -13,3 +13,4 @@ pub mod Quantifiers
 pub mod Sets
 pub mod StepsWalks
 pub mod Texts
+pub mod Written

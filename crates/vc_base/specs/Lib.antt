@@ -10,3 +10,4 @@ pub mod Name
 pub mod Prelude
 pub mod Standard
 pub mod Steps
+pub mod Told

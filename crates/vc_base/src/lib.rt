@@ -17,6 +17,7 @@ mod sink;
 mod source;
 mod standard;
 mod steps;
+mod writing;
 
 pub use addr::Addr;
 pub use appending::append;
@@ -34,3 +35,4 @@ pub use sink::Sink;
 pub use source::Source;
 pub use standard::{StdSink, StdSource};
 pub use steps::Steps;
+pub use writing::write_all;

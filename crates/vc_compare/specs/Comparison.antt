@@ -15,7 +15,7 @@ use Rattle.vc_compare.specs.Refusal.{IsRefused, NoneRose, Stays}
 use Rattle.vc_compare.specs.Streams.{Sinks}
 use Rattle.vc_compare.specs.Terms.{terms_on}
 use Rattle.vc_compare.specs.Told.{err_line, message}
-use Rattle.vc_write.specs.Told.{Broke, Told, Tried}
+use Rattle.vc_base.specs.Told.{Broke, Told, Tried}
 use Rattle.vc_ways.specs.Compare.{BadLine, Compared, Finished, OutsideAt, StoppedAt, compare_input}
 use Rattle.vc_ways.specs.Lends.{HasAllBack}
 use Rattle.vc_ways.specs.Step.{start}

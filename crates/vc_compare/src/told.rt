@@ -1,12 +1,11 @@
 ghost use Rattle.std.specs.Prelude.{◌≡◌, ◌≤◌, OnErr, OnOk, length};
 ghost use Rattle.vc_compare.specs.Told.{err_line, fault_text, message};
-ghost use Rattle.vc_write.specs.Told.{Broke, Told};
+ghost use Rattle.vc_base.specs.Told.{Broke, Told};
 
 use crate::ending::Fault;
 use arrayvec::ArrayString;
 use itoa::Buffer;
-use vc_base::{Sink, WriteFailed};
-use vc_write::write_all;
+use vc_base::{Sink, WriteFailed, write_all};
 
 // The longest line of err has 51 bytes: `vmcompare: line 2147483647: unknown method or mode` with its newline.
 const LINE_BYTES: usize = 96;

@@ -8,10 +8,9 @@ use crate::ending::{Ending, Fault};
 use crate::run::run;
 use crate::told::{tell, tell_fault};
 use std::alloc::Global;
-use vc_base::{Sink, Source};
+use vc_base::{Sink, Source, write_all};
 use vc_seg::{SegDisc, Shelf};
 use vc_ways::{Tally, report};
-use vc_write::write_all;
 
 // Writes the report of a trace, and ends with a status.
 fn finish<O: Sink, E: Sink>(alloc: Global, tally: &Tally, out: &mut O, err: &mut E) -> CompareStatus

@@ -9,12 +9,11 @@ use crate::SaveFault;
 use crate::head::head_bytes;
 use crate::segments::write_segments;
 use std::alloc::Global;
-use vc_base::Sink;
+use vc_base::{Sink, write_all};
 use vc_best::Best;
 use vc_dict::Dict;
 use vc_dtdisc::DictDisc;
 use vc_region::Region;
-use vc_write::write_all;
 
 /// Writes the image of a best region with at most 256 dictionaries, as `save` does, where it isn't held as a `Region`, and
 /// answers how many bytes it has. After a fault a front of the image is written, and nothing of the region, its discipline

@@ -3,9 +3,8 @@ ghost use Rattle.vc_model.specs.Count.{Rose};
 ghost use Rattle.vc_seg.specs.Segment.{AreSegments};
 ghost use Rattle.vc_image.specs.Save.{body_of};
 
-use vc_base::{Sink, WriteFailed};
+use vc_base::{Sink, WriteFailed, write_all};
 use vc_seg::Segment;
-use vc_write::write_all;
 
 // Writes the bytes of each segment, and tells how many they are. It fails with the first write that does; then a front of
 // them is written.

@@ -30,7 +30,7 @@ use Rattle.vc_steps.specs.Moment.{Moment, moment, moment_at_end, over_sink}
 use Rattle.vc_steps.specs.Told.{rules_in}
 use Rattle.vc_steps.specs.declared.session.Session.{Session}
 use Rattle.vc_steps.specs.State.{State}
-use Rattle.vc_write.specs.Told.{Told}
+use Rattle.vc_base.specs.Told.{Told}
 
 -- what a run leaves is that of its last moment's state and sink alone
 leaves-here : {quiet second : Bool} {said : Ran → List ℕ} {before last : Moment} {commands : List (ℕ × Command)} (after : Moment) → after.written ≡ last.written → after.state ≡ last.state → LeavesRun quiet second said before last commands → LeavesRun quiet second said before after commands

@@ -12,7 +12,7 @@ use Rattle.vc_image_tool.specs.declared.fault.ImageFault.TheVariants as fault
 use Rattle.vc_image_tool.specs.declared.status.ImageStatus.{ImageStatus}
 use Rattle.vc_session.specs.Streams.{Flows, Streams}
 use Rattle.vc_steps.specs.Moment.{Moment}
-use Rattle.vc_write.specs.Told.{Tried}
+use Rattle.vc_base.specs.Told.{Tried}
 
 -- the source and the sink of replies among the streams
 abbrev pub flows_of : Streams → Flows

@@ -14,7 +14,7 @@ use Rattle.vc_image_tool.specs.declared.status.ImageStatus.TheVariants.{Done, Un
 use Rattle.vc_image_tool.specs.Shown.{shown_of}
 use Rattle.vc_image_tool.specs.Streams.{Sinks}
 use Rattle.vc_image_tool.specs.Told.{fault_line, load_status, message}
-use Rattle.vc_write.specs.Told.{Broke, Told, Tried}
+use Rattle.vc_base.specs.Told.{Broke, Told, Tried}
 
 -- one line was tried on err
 abbrev pub Tries : Sinks → Sinks → List ℕ → Type 0

@@ -2,18 +2,17 @@ ghost use Rattle.std.specs.Prelude.{◌≡◌, ◌≤◌, ◌++◌, OnErr, OnOk,
 ghost use Rattle.arrayvec.specs.ArrayString.{array_string_len};
 ghost use Rattle.vc_image_script.specs.declared.fault.ScriptFault.TheVariants.{Line as LineWrong};
 ghost use Rattle.vc_image_tool.specs.Told.{fault_line, fault_text, load_status, load_text, open_status, open_text, part_text, script_status, script_text, segment_text, status_of};
-ghost use Rattle.vc_write.specs.Told.{Broke, Told, Tried};
+ghost use Rattle.vc_base.specs.Told.{Broke, Told, Tried};
 
 use crate::{ImageFault, ImageStatus};
 use arrayvec::ArrayString;
 use itoa::Buffer;
-use vc_base::{Sink, WriteFailed};
+use vc_base::{Sink, WriteFailed, write_all};
 use vc_image::LoadFault;
 use vc_image_parts::Part;
 use vc_image_script::ScriptFault;
 use vc_image_session::OpenFault;
 use vc_script::LineFault;
-use vc_write::write_all;
 
 // The longest line of err has 49 bytes: `vmimage: line 4294967295: unknown method or mode` with its newline.
 const LINE_BYTES: usize = 96;

@@ -11,13 +11,12 @@ ghost use Rattle.vc_region.specs.OfBest.{best_in};
 use crate::told::tell;
 use crate::{ImageFault, ImageStatus};
 use std::alloc::Global;
-use vc_base::Sink;
+use vc_base::{Sink, write_all};
 use vc_dtdisc::DictDisc;
 use vc_image::{LoadFault, Loaded, load};
 use vc_image_dicts::unsound_part;
 use vc_image_text::text_of;
 use vc_seg::{BoxedDisc, SegDisc};
-use vc_write::write_all;
 
 // Writes what was asked for, and ends with a status.
 fn put<O: Sink, E: Sink>(text: &[u8], out: &mut O, err: &mut E) -> ImageStatus

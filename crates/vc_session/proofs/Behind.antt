@@ -29,7 +29,7 @@ use Rattle.vc_session.specs.Engine.{RunsLines, RunsOn}
 use Rattle.vc_session.specs.ProperState.{IsProperHome}
 use Rattle.vc_session.specs.Progress.{Progress}
 use Rattle.vc_session.specs.Replay.{IsReplay, IsRunOf, LeavesReplay, LeavesRun}
-use Rattle.vc_write.specs.Told.{Told}
+use Rattle.vc_base.specs.Told.{Told}
 use Rattle.vc_session.specs.Run.{script}
 use Rattle.vc_session.specs.SoFar.{AtEnd}
 use Rattle.vc_session.specs.Streams.{Flows}

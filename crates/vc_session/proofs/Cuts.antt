@@ -19,7 +19,7 @@ use Rattle.vc_session.specs.Progress.{Progress}
 use Rattle.vc_session.specs.declared.style.Style.{Style}
 use Rattle.vc_session.specs.QuietText.{body_by, line_by, needs_by_text, style_by}
 use Rattle.vc_session.specs.Replay.{FaultsStayed, IsRunOf}
-use Rattle.vc_write.specs.Told.{Told}
+use Rattle.vc_base.specs.Told.{Told}
 use Rattle.vc_session.specs.Run.{Ran, lines_of, nothing_ran, run_from}
 use Rattle.vc_session.specs.Text.{replies_text}
 use Rattle.vc_session.proofs.FirstRuns.{FirstRan, LineParts, first-ran, line-parts, replies-append}

@@ -12,7 +12,7 @@ use Rattle.vc_session.specs.Far.{AreLines, WrotePart}
 use Rattle.vc_session.specs.Generating.{Generating, RunsCommands}
 use Rattle.vc_session.specs.Progress.{Progress}
 use Rattle.vc_session.specs.Replay.{on_lines}
-use Rattle.vc_write.specs.Told.{Told}
+use Rattle.vc_base.specs.Told.{Told}
 use Rattle.vc_session.specs.declared.engine.Stop.{Stop}
 use Rattle.vc_session.specs.declared.engine.Stop.TheVariants.{Write, Memory}
 use Rattle.vc_session.specs.QuietText.{style_by}

@@ -19,7 +19,7 @@ use Rattle.vc_session.specs.ProperState.{IsProperState}
 use Rattle.vc_session.specs.QuietText.{line_by}
 use Rattle.vc_session.specs.declared.style.Style.TheVariants.{Quiet}
 use Rattle.vc_session.specs.Replay.{IsGenerated, IsRunOf, on_lines}
-use Rattle.vc_write.specs.Told.{Told}
+use Rattle.vc_base.specs.Told.{Told}
 use Rattle.vc_session.specs.Run.{nothing_ran}
 use Rattle.vc_session.specs.declared.engine.Stop.{Stop}
 use Rattle.vc_session.specs.Text.{counts_of, is_quiet, lines_text, tail_lines, text_of}

@@ -22,7 +22,7 @@ use Rattle.vc_session.specs.Progress.{Progress}
 use Rattle.vc_session.specs.declared.style.Style.{Style}
 use Rattle.vc_session.specs.QuietText.{body_by, needs_by_text, style_by}
 use Rattle.vc_session.specs.Replay.{IsRunOf, run_by}
-use Rattle.vc_write.specs.Told.{Told}
+use Rattle.vc_base.specs.Told.{Told}
 use Rattle.vc_session.specs.Run.{Ran, commands_in, is_second, is_second_in, lines_of, script, wholly_read}
 use Rattle.vc_session.specs.SoFar.{ArmsBy, FoundSoFar, GoesFar, GoesOn, RanPartBy, Reading, Running, RunsPiece, SoFar, judged_rest}
 use Rattle.vc_session.proofs.Cuts.{BeginsWithReplies, far-front, far-none, far-of, far-on}

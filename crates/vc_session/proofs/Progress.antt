@@ -26,7 +26,7 @@ use Rattle.vc_session.specs.ProperState.{IsProperState}
 use Rattle.vc_session.specs.declared.style.Style.{Style}
 use Rattle.vc_session.specs.QuietText.{body_by, line_by, needs_by_text, style_by}
 use Rattle.vc_session.specs.Replay.{FaultsStayed, IsRunOf, LeavesRun, all_told, run_by}
-use Rattle.vc_write.specs.Told.{Told}
+use Rattle.vc_base.specs.Told.{Told}
 use Rattle.vc_session.specs.Run.{Ran, lines_of, nothing_ran, run_from}
 use Rattle.vc_session.specs.Text.{replies_text, counts_of}
 use Rattle.vc_session.proofs.NoneRefused.{run-none, shown-none, stayed-none}

@@ -15,7 +15,7 @@ use Rattle.vc_steps.specs.Homes.{held_in_session, slots_on}
 use Rattle.vc_steps.specs.Moment.{Moment, moment, over_sink, moment_at_rest_by, moment_at_rest}
 use Rattle.vc_session.specs.ProperState.{IsProperHome, IsProperOver}
 use Rattle.vc_session.specs.Replay.{IsCutShort, IsGenerated, IsReplay, IsRunOf, run_by}
-use Rattle.vc_write.specs.Told.{Told}
+use Rattle.vc_base.specs.Told.{Told}
 use Rattle.vc_session.specs.Engine.{RunsScript}
 use Rattle.vc_session.specs.Run.{Ran, first_bad, is_second, script}
 use Rattle.vc_script.specs.Judged.{judged_lines}

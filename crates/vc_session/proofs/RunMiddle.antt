@@ -15,7 +15,7 @@ use Rattle.vc_session.specs.Progress.{Progress}
 use Rattle.vc_session.specs.Engine.{IsIdle, IsStep, TakesVersion, LineRan}
 use Rattle.vc_session.specs.ProperState.{IsProperState}
 use Rattle.vc_session.specs.QuietText.{line_by, style_by}
-use Rattle.vc_write.specs.Told.{Told}
+use Rattle.vc_base.specs.Told.{Told}
 use Rattle.vc_session.specs.Run.{command_then, commands_in, fault_in, fault_then, is_second_in, nothing_ran, version_in, version_told}
 use Rattle.vc_session.specs.SoFar.{FoundSoFar, Running}
 use Rattle.vc_session.specs.Text.{counts_of}

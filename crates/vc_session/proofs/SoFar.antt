@@ -20,7 +20,7 @@ use Rattle.vc_session.specs.Progress.{Progress}
 use Rattle.vc_session.specs.ProperState.{IsProperState}
 use Rattle.vc_session.specs.QuietText.{style_by}
 use Rattle.vc_session.specs.Replay.{IsCutShort, IsRunOf, ShowsNoFault, Stops, StopsAtFault}
-use Rattle.vc_write.specs.Told.{Told}
+use Rattle.vc_base.specs.Told.{Told}
 use Rattle.vc_session.specs.Run.{commands_in, fault_in, is_second_in, nothing_ran, script, version_in, wholly_read}
 use Rattle.vc_session.specs.SoFar.{AtEnd, FoundSoFar, Reading, Running, SoFar, ended_rest, fuel, judged_rest}
 use Rattle.vc_session.specs.Text.{replies_text, counts_of}

@@ -13,7 +13,7 @@ use Rattle.vc_script.specs.Judged.{judged_lines}
 use Rattle.vc_script.specs.Lines.{ended_lines}
 use Rattle.vc_generate.specs.Generated.{commands_of_seed}
 use Rattle.vc_session.specs.Replay.{FaultsStayed, ShowsNone, generated_script}
-use Rattle.vc_write.specs.Told.{Told}
+use Rattle.vc_base.specs.Told.{Told}
 use Rattle.vc_session.specs.Run.{Ran, commands_in, first_bad, is_second, lines_of, run_from, script, wholly_read}
 use Rattle.vc_session.specs.Text.{good_lines, is_quiet, text_of}
 use Rattle.vc_session.specs.declared.style.Style.{Style}

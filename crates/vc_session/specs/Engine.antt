@@ -15,7 +15,7 @@ use Rattle.vc_session.specs.Far.{WrotePart}
 use Rattle.vc_session.specs.Progress.{CountsOn}
 use Rattle.vc_session.specs.QuietText.{line_by, style_by}
 use Rattle.vc_session.specs.Replay.{IsCutShort, IsGenerated, IsReplay, LeavesReplay, ReplaysBy}
-use Rattle.vc_write.specs.Told.{Told}
+use Rattle.vc_base.specs.Told.{Told}
 use Rattle.vc_session.specs.Run.{is_second, script}
 use Rattle.vc_session.specs.SoFar.{ArmsBy, AtEnd}
 use Rattle.vc_session.specs.Streams.{Flows}

@@ -8,7 +8,7 @@ use Rattle.vc_script.specs.Needs.{AreAscending, Need, ShowsNeeds}
 use Rattle.vc_session.specs.Cut.{RoseAsRefused}
 use Rattle.vc_session.specs.Run.{Ran, lines_of, run_from}
 use Rattle.vc_session.specs.Text.{replies_text}
-use Rattle.vc_write.specs.Told.{Told}
+use Rattle.vc_base.specs.Told.{Told}
 use Rattle.vc_session.specs.declared.style.Style.{Style}
 
 -- these commands were run for the needs that their replies show, each refusal was counted, and a front of what is written of the replies is this text

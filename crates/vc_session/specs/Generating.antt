@@ -6,7 +6,7 @@ use Rattle.vc_script.specs.declared.command.Command.{Command}
 use Rattle.vc_session.specs.Far.{WrotePart}
 use Rattle.vc_session.specs.Progress.{Progress}
 use Rattle.vc_session.specs.Replay.{on_lines}
-use Rattle.vc_write.specs.Told.{Told}
+use Rattle.vc_base.specs.Told.{Told}
 use Rattle.vc_session.specs.declared.engine.Stop.{Stop}
 use Rattle.vc_session.specs.declared.engine.Stop.TheVariants.{Read, Write}
 use Rattle.vc_session.specs.declared.style.Style.TheVariants.{Quiet}

@@ -8,7 +8,7 @@ use Rattle.vc_session.specs.declared.status.Status.TheVariants.{Ok, Script, Usag
 use Rattle.vc_session.specs.Arming.{AsksFirst, Keeps}
 use Rattle.vc_session.specs.Cut.{Cuts, NotAhead}
 use Rattle.vc_session.specs.Replay.{IsCutShort, ReplaysBy, err_line, message}
-use Rattle.vc_write.specs.Told.{Broke, Told, Tried}
+use Rattle.vc_base.specs.Told.{Broke, Told, Tried}
 use Rattle.vc_session.specs.Streams.{Streams}
 use Rattle.vc_session.specs.Text.{is_quiet}
 use Rattle.vc_steps.specs.Moment.{Moment, over_sink}

@@ -19,7 +19,7 @@ use Rattle.vc_session.specs.QuietText.{needs_by_text, style_by}
 use Rattle.vc_session.specs.Run.{Ran, commands_in, fault_in, first_bad, is_second, is_second_in, lines_of, run_from, script, wholly_read}
 use Rattle.vc_session.specs.Text.{replies_text, good_lines, is_quiet, text_of}
 use Rattle.vc_session.specs.declared.style.Style.{Style}
-use Rattle.vc_write.specs.Told.{Told}
+use Rattle.vc_base.specs.Told.{Told}
 use Rattle.vc_words.specs.declared.words.Words.{Words}
 
 abbrev pub tool_name : Tool → List ℕ

@@ -16,7 +16,7 @@ use Rattle.vc_session.specs.Far.{RanPart}
 use Rattle.vc_session.specs.Progress.{CanCountOn, Progress}
 use Rattle.vc_session.specs.QuietText.{style_by}
 use Rattle.vc_session.specs.Replay.{ShowsNoFault, Stops}
-use Rattle.vc_write.specs.Told.{Told}
+use Rattle.vc_base.specs.Told.{Told}
 use Rattle.vc_session.specs.Run.{commands_in, fault_in, first_bad, is_second, is_second_in, script, version_of, wholly_read}
 
 -- lines by their numbers, or what is wrong with them

@@ -14,13 +14,12 @@ ghost use Rattle.vc_steps.specs.Told.{rules_in};
 
 use crate::command::run_answer;
 use std::alloc::Global;
-use vc_base::{OutOfMemory, ReadFailed, Sink, Source, WriteFailed};
+use vc_base::{OutOfMemory, ReadFailed, Sink, Source, WriteFailed, write_all};
 use vc_counts::Counts;
 use vc_dtdisc::DictDisc;
 use vc_script::{Cut, LineAnswer, LineCutter, LineFault, Reply, Tool, read_into};
 use vc_seg::{BoxedDisc, SegDisc, Shelf};
 use vc_steps::Session;
-use vc_write::write_all;
 
 /// Why a run ended before its lines did. This project's own.
 #[derive(Clone, Copy, Debug, PartialEq, Eq)]

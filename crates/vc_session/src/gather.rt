@@ -3,7 +3,7 @@ ghost use Rattle.std.specs.Io.{StartsWith};
 ghost use Rattle.vc_script.specs.Needs.{need_for, need_shown};
 ghost use Rattle.vc_script.specs.Print.{line_of};
 ghost use Rattle.vc_session.specs.QuietText.{is_need, line_by};
-ghost use Rattle.vc_write.specs.Told.{Told};
+ghost use Rattle.vc_base.specs.Told.{Told};
 
 use crate::style::Style;
 use itoa::Buffer;

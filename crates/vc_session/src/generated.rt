@@ -10,7 +10,7 @@ ghost use Rattle.vc_session.specs.Engine.{IsStep, RunsGenerated};
 ghost use Rattle.vc_session.specs.Generating.{RunsCommands};
 ghost use Rattle.vc_session.specs.Progress.{CanBegin, CountsOn};
 ghost use Rattle.vc_session.specs.ProperState.{IsProperOver};
-ghost use Rattle.vc_write.specs.Told.{Told};
+ghost use Rattle.vc_base.specs.Told.{Told};
 ghost use Rattle.vc_steps.specs.Account.{ArmsNone};
 ghost use Rattle.vc_steps.specs.Homes.{IsSessionOver, slots_on, state_over};
 ghost use Rattle.vc_steps.specs.Moment.{moment_at_end, over_sink, moment_at_rest};
@@ -24,7 +24,7 @@ use crate::tail::gather_tail;
 use indexmap::IndexMap;
 use std::alloc::Global;
 use std::mem;
-use vc_base::{OutOfMemory, Sink, WriteFailed};
+use vc_base::{OutOfMemory, Sink, WriteFailed, write_all};
 use vc_counts::Counts;
 use vc_dtdisc::DictDisc;
 use vc_generate::Generator;
@@ -32,7 +32,6 @@ use vc_script::{Command, Reply, Tool};
 use vc_seg::{BoxedDisc, SegDisc, Shelf};
 use vc_steps::Session;
 use vc_words::Words;
-use vc_write::write_all;
 
 /// All commands that a tool makes of a seed, with one for each of `n` words, which are 1 to 1,000,000 (this project's
 /// own rule). vmreplay has two commands more, and dtrun four.

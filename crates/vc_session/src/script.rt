@@ -15,14 +15,13 @@ use crate::engine::{Stop, run_lines};
 use crate::tail::{gather_tail, is_quiet};
 use indexmap::IndexMap;
 use std::alloc::Global;
-use vc_base::{Sink, Source};
+use vc_base::{Sink, Source, write_all};
 use vc_counts::Counts;
 use vc_dtdisc::DictDisc;
 use vc_script::{LineAnswer, LineCutter, LineFault, Reply, Tool};
 use vc_seg::{BoxedDisc, SegDisc, Shelf};
 use vc_steps::Session;
 use vc_words::Words;
-use vc_write::write_all;
 
 // How many of so many lines are before the first bad one.
 fn good_lines(bad: Option<(u32, LineFault)>, lines: u32) -> u32

@@ -1,12 +1,11 @@
 ghost use Rattle.std.specs.Prelude.{◌≡◌, ◌≤◌, OnErr, OnOk, length};
 ghost use Rattle.vc_session.specs.Replay.{err_line, message, tool_name};
-ghost use Rattle.vc_write.specs.Told.{Broke, Told};
+ghost use Rattle.vc_base.specs.Told.{Broke, Told};
 
 use arrayvec::ArrayString;
 use itoa::Buffer;
-use vc_base::{Sink, WriteFailed};
+use vc_base::{Sink, WriteFailed, write_all};
 use vc_script::{LineFault, Tool};
-use vc_write::write_all;
 
 // The longest line of err has 50 bytes: `vmreplay: line 2147483647: unknown method or mode` with its newline.
 const LINE_BYTES: usize = 96;

@@ -1,6 +1,6 @@
 use Rattle.vc_base.proofs.Common.{◌≡◌, ◌++◌, List, ℕ, OnErr, OnOk, codes, decimal, subst, rules}
 use Rattle.vc_compare.specs.Told.{fault_text, message}
-use Rattle.vc_write.specs.Told.{Broke, Told}
+use Rattle.vc_base.specs.Told.{Broke, Told}
 use Rattle.vc_compare.proofs.told.tell_fault.Goals as goal
 
 pub returns-clause-told : goal.returns-clause-told

@@ -1,6 +1,6 @@
 use Rattle.vc_base.proofs.Common.{◌≡◌, ℕ, ◌≤◌, false, List, [], length}
 use Rattle.vc_steps.specs.Moment.{moment, over_sink}
-use Rattle.vc_write.specs.Told.{Told}
+use Rattle.vc_base.specs.Told.{Told}
 use Rattle.vc_session.specs.SoFar.{CanFeed, SoFar, fuel}
 use Rattle.vc_session.specs.Progress.{CanCountOn}
 use Rattle.vc_steps.specs.Homes.{state_over}

@@ -1,6 +1,6 @@
 use Rattle.vc_base.proofs.Common.{arith, length-drop, take_rest}
-use Rattle.vc_write.proofs.Written.{written-more}
-use Rattle.vc_write.proofs.write_all.Goals as goal
+use Rattle.vc_base.proofs.Written.{written-more}
+use Rattle.vc_base.proofs.writing.write_all.Goals as goal
 
 pub loop-done-preserved : goal.loop-done-preserved
 loop-done-preserved g c =

@@ -1,5 +1,5 @@
 use Rattle.vc_base.proofs.Common.{◌≡◌, ◌-◌, ◌≤◌, ◌++◌, length, take, IfSome, Some}
-use Rattle.vc_write.proofs.write_all.Given as goal
+use Rattle.vc_base.proofs.writing.write_all.Given as goal
 
 -- a front of the piece is written
 abbrev pub invariant-loop-done : goal.invariant-loop-done

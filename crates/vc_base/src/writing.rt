@@ -1,10 +1,9 @@
 //! Writes all of a piece to a sink.
-#![tactic(auto)]
 
 ghost use Rattle.std.specs.Prelude.{◌≡◌, ℕ, ◌≤◌, ◌++◌, Some, IfSome, OnOk, OnErr, take};
 ghost use Rattle.vc_model.specs.Count.{Rose};
 
-use vc_base::{Sink, WriteFailed};
+use crate::{Sink, WriteFailed};
 
 /// Writes all of a piece, in as many writes as the sink wants. It fails with the first write that does; then a front of the
 /// piece is written.
