@@ -3,9 +3,9 @@ use Rattle.vc_base.proofs.Common.{◌≡◌, ℕ, ◌<◌, ◌≤◌, true, fals
 use Rattle.vc_best.proofs.Common.{in_order}
 use Rattle.vc_model.proofs.Pairs.{AllPairs-head, AllPairs-tail}
 use Rattle.vc_base.proofs.Places.{span-least}
-use Rattle.vc_layouts.proofs.Blocks.{All-with}
-use Rattle.vc_layouts.proofs.InOrder.{All-in_order}
-use Rattle.vc_layouts.proofs.Lists.{AllPairs-nil}
+use Rattle.vc_seg.proofs.Blocks.{All-with}
+use Rattle.vc_seg.proofs.InOrder.{All-in_order}
+use Rattle.vc_seg.proofs.Lists.{AllPairs-nil}
 
 -- one block stands before another and doesn't overlap it
 abbrev pub Before : Block ℕ → Block ℕ → Type 0

@@ -7,7 +7,7 @@ use Rattle.vc_seg.specs.declared.fault.RegionFault.{RegionFault}
 use Rattle.vc_seg.specs.declared.fault.RegionFault.TheVariants as code
 use Rattle.vc_seg.specs.Answer.{Answers, Asks, IsPut}
 use Rattle.vc_seg.specs.Lend.{IsNoGrant}
-use Rattle.vc_layouts.proofs.Segments.{Served-unasked}
+use Rattle.vc_seg.proofs.Segments.{Served-unasked}
 
 -- before it the layout was the same, but for links
 pub IsPutByAsking-same : (old mid new : Layout ℕ) (terms : Terms) (label size align : ℕ) (result : Result Addr RegionFault) → mid ≡ old →

@@ -1,7 +1,7 @@
 -- How many blocks there are after a call.
 use Rattle.vc_base.proofs.Common.{◌≡◌, ℕ, ◌+◌, true, false, List, [], ◌∷◌, length, refl, ap, ◌∙◌, ⊎_elim, arith, ∥∥₁_elim, ℕ_set, cases_Bool, place_of, without_block_at, zeros, Block, Layout, is_at, resize_there, sized_block, HasBlock, change_block, rewritten_block, with_bytes_at}
 use Rattle.vc_best.proofs.Common.{AreExtents, Bytes, layout_by}
-use Rattle.vc_layouts.specs.Put.{with_zeros}
+use Rattle.vc_seg.specs.Put.{with_zeros}
 use Rattle.vc_best.proofs.Counting.{with-length}
 use Rattle.vc_best.proofs.Held.{AreMost}
 use Rattle.vc_best.proofs.Stands.{one-less}

@@ -1,7 +1,7 @@
 -- The border behind a block, moved.
 use Rattle.vc_base.proofs.Common.{◌≡◌, ℕ, ◌+◌, ◌-◌, ◌<◌, ◌≤◌, true, false, not, ◌&&◌, eqb, ltb, List, [], ◌∷◌, length, take, Some, Option, sym, refl, ap, ◌∙◌, ⊎_elim, arith, length-take-le, take-take, ltb-false, le-ltb, lt-ltb, eq-eqb, ne_eqb, and_from, cases_Bool, eqb-false, address, place_of, span}
 use Rattle.vc_best.proofs.Common.{Extent, IsBusy, IsFree, absorb, behind, behind_of, busy_extent, busy_in, change_extent, extent_of, first_of, free_bytes, free_extent, free_name, free_next, is_busy, is_free, is_merged, move_border, next_of, no_links, room_of, set_size, shrink, stretch, stretch_rest}
-use Rattle.vc_layouts.proofs.Blocks.{place_of-address}
+use Rattle.vc_seg.proofs.Blocks.{place_of-address}
 use Rattle.vc_best.proofs.Cuts.{behind-here, change_at-here, extent_in-here}
 use Rattle.vc_best.proofs.Known.{IsCut, end-of, now-same, off-of, then-behind, then-extent, then-steps}
 use Rattle.vc_best.proofs.Merges.{merged-weaker}

@@ -1,7 +1,7 @@
 -- A block of zeros in a free extent, call by call.
 use Rattle.vc_base.proofs.Common.{◌≡◌, ℕ, ◌+◌, ◌-◌, ◌%◌, ◌<◌, ◌≤◌, true, false, cond, ◌||◌, ltb, ◌≢◌, List, [], ◌∷◌, ◌++◌, length, replicate, IfSome, Some, None, All, Option, sym, refl, ap, ◌∙◌, subst, ⊎_elim, append-nil, arith, drop_of_length-le, ltb-false, ltb-true, le-ltb, lt-ltb, ne_eqb, le_prop, ∥∥₁_elim, ℕ_set, cases_Bool, All-cons, All-nil, length-replicate, contains, address, place_of, with_bytes, span}
 use Rattle.vc_best.proofs.Common.{Addr, AreExtents, Bytes, CanLinkGap, CanPutBlock, Extent, HasGaps, IsFree, Tiling, behind_of, busy_extent, carve, change_at, change_extent, cut_back, cut_front, extent_in, extent_of, free_extent, free_part, lay_zeros, mark_busy, no_links, plain, some_name, split, tiling, write}
-use Rattle.vc_layouts.proofs.Blocks.{place_of-address}
+use Rattle.vc_seg.proofs.Blocks.{place_of-address}
 use Rattle.vc_base.proofs.Members.{within-head}
 use Rattle.vc_base.proofs.Places.{span-least}
 use Rattle.vc_gaps.proofs.GapTrees.{can_link-out}

@@ -1,7 +1,7 @@
 -- The words of segments, extents, gaps and blocks that most proofs cite, passed on from one place. Declares nothing.
 pub use Rattle.vc_base.specs.declared.addr.Addr.{Addr}
 pub use Rattle.vc_seg.specs.Segment.{AreSegments, Bytes, IsRegionSegment, pair_of}
-pub use Rattle.vc_layouts.specs.InOrder.{in_order}
+pub use Rattle.vc_seg.specs.InOrder.{in_order}
 pub use Rattle.vc_extent.specs.Extent.{Extent, busy_extent, free_extent, no_links}
 unfoldable pub use Rattle.vc_extent.specs.Extent.{extents}
 pub use Rattle.vc_extent.specs.Tiles.{IsLegal, IsTiled, Tiles}

@@ -3,8 +3,8 @@ use Rattle.vc_base.proofs.Common.{◌≡◌, ℕ, suc, ◌+◌, ◌-◌, ◌*◌
 use Rattle.vc_best.proofs.Common.{AreExtents, Bytes, Extent, HaveRoom, IsLegal, IsMerged, all_busy, all_extents, block_of, busy_in, busy_sizes, counts_of_none, counts_with, extents, free_in, free_runs, free_spans, in_order, is_busy, is_free, layout_by, pair_of, run_of_extent, tiling}
 use Rattle.vc_best.proofs.Counts.{shown-append}
 use Rattle.vc_model.specs.Numbers.{block_bytes, gap_bytes, gap_count, greatest_block, greatest_gap}
-use Rattle.vc_layouts.specs.Tally.{HasRoom, tally_of}
-use Rattle.vc_layouts.proofs.Tallies.{sizes-most, tallied-order, tally_of-bytes, tally_of-count, tally_of-most}
+use Rattle.vc_seg.specs.Tally.{HasRoom, tally_of}
+use Rattle.vc_seg.proofs.Tallies.{sizes-most, tallied-order, tally_of-bytes, tally_of-count, tally_of-most}
 use Rattle.vc_extent.proofs.Tiled.{inside}
 use Rattle.vc_best.proofs.Frees.{gaps-of}
 use Rattle.vc_best.proofs.Lies.{Lies, Tiled, lies-tiled}

@@ -1,10 +1,10 @@
 -- Counts, taken on extent by extent.
 use Rattle.vc_base.proofs.Common.{◌≡◌, ℕ, Bool, List, ◌++◌, map, filter, ap, ◌∙◌, subst, arith, length-append, filter-append, sum_by-append, map-append}
 use Rattle.vc_best.proofs.Common.{Extent, HaveRoom, busy_sizes, counts_with, free_spans, is_busy, is_free}
-use Rattle.vc_layouts.specs.Tally.{HasRoom, tallied_all}
-use Rattle.vc_layouts.proofs.Tallies.{HasRoom-rest, tallied_all-append}
+use Rattle.vc_seg.specs.Tally.{HasRoom, tallied_all}
+use Rattle.vc_seg.proofs.Tallies.{HasRoom-rest, tallied_all-append}
 use Rattle.vc_best.specs.declared.stat.Counts.{Counts}
-use Rattle.vc_layouts.specs.declared.tally.Tally.{Tally}
+use Rattle.vc_seg.specs.declared.tally.Tally.{Tally}
 
 -- what is shown of those of two lists that pass a test
 pub shown-append : (p : Extent → Bool) (g : Extent → ℕ) (xs ys : List Extent) → map g (filter p (xs ++ ys)) ≡ map g (filter p xs) ++ map g (filter p ys)

@@ -1,7 +1,7 @@
 -- Segments that become one free extent each, by ascending number.
 use Rattle.vc_base.proofs.Common.{◌≡◌, ℕ, ◌+◌, ◌<◌, ◌≤◌, Bool, true, false, eqb, ◌≢◌, List, [], ◌∷◌, map, length, get_or, is_some, Some, None, All, Option, AllPairs, sym, refl, ap, ◌∙◌, ⊎_elim, arith, ne_eqb, eqb-true, le_prop, ∥∥₁_elim, ℕ_set, cases_Bool, eqb-false, All-cons, All-head, All-map, All-nil, All-tail, cleared_layout}
 use Rattle.vc_best.proofs.Common.{AreExtents, AreSegments, Bytes, Extent, IsMerged, IsOneFree, change_in, extents, is_merged, layout_by, one_free, pair_of, size_of, tiling}
-use Rattle.vc_layouts.proofs.Lists.{AllPairs-map}
+use Rattle.vc_seg.proofs.Lists.{AllPairs-map}
 use Rattle.vc_model.proofs.Pairs.{AllPairs-head, AllPairs-tail}
 use Rattle.vc_best.proofs.Lends.{segments-by}
 use Rattle.vc_best.proofs.Segments.{layout-none}

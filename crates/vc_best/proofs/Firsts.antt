@@ -5,7 +5,7 @@ use Rattle.vc_gaps.proofs.Joined.{first-cons}
 use mathlib.Core.Sum.{⊎_set}
 use Rattle.vc_base.proofs.Places.{span-least}
 use Rattle.vc_model.proofs.Pairs.{AllPairs-head, AllPairs-tail}
-use Rattle.vc_layouts.proofs.InOrder.{All-in_order}
+use Rattle.vc_seg.proofs.InOrder.{All-in_order}
 use Rattle.vc_best.proofs.Apart.{Before, order-before}
 use Rattle.vc_best.proofs.Found.{has-of}
 use Rattle.vc_best.proofs.Frees.{own-blocks}

@@ -3,8 +3,8 @@ use Rattle.vc_base.proofs.Common.{◌≡◌, ℕ, suc, ◌+◌, ◌-◌, ◌%◌
 use Rattle.vc_best.proofs.Common.{AreExtents, Bytes, Extent, IsBusy, IsTiled, all_busy, block_of, busy_in, extent_in, extent_of, extents, extents_of, in_order, layout_by, tiling}
 use Rattle.vc_gaps.proofs.Named.{extent_in-off}
 use Rattle.vc_model.proofs.Pairs.{AllPairs-head, AllPairs-tail}
-use Rattle.vc_layouts.proofs.Blocks.{place_of-address}
-use Rattle.vc_layouts.proofs.InOrder.{All-in_order, find-with}
+use Rattle.vc_seg.proofs.Blocks.{place_of-address}
+use Rattle.vc_seg.proofs.InOrder.{All-in_order, find-with}
 use Rattle.vc_best.proofs.Layouts.{blocks-busy, none-other, other_blocks, own-at}
 use Rattle.vc_best.proofs.Lies.{Lies, lies-behind, lies-tiled, lies-within}
 use Rattle.vc_best.proofs.Sets.{found-set}

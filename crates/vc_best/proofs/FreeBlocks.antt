@@ -2,7 +2,7 @@
 use Rattle.vc_base.proofs.Common.{◌≡◌, ℕ, ◌+◌, ◌-◌, ◌%◌, ◌<◌, ◌≤◌, true, false, not, ◌&&◌, eqb, ◌⊎◌, List, [], ◌∷◌, Some, None, filter, Option, sym, refl, ap, ◌∙◌, subst, inl, inr, ⊎_elim, arith, le-ltb, lt-ltb, eq-eqb, ne_eqb, and_from, cases_Bool, address, place_of}
 use Rattle.vc_best.proofs.Common.{Extent, IsFree, IsNamed, absorb, behind, behind_of, busy_in, change_extent, extent_in, extent_of, extents_of, first_of, free_extent, free_name, free_next, is_busy, is_free, is_merged, join, last_before, mark_free, next_of, no_links, previous_of}
 use Rattle.vc_gaps.proofs.Joined.{first-cons}
-use Rattle.vc_layouts.proofs.Blocks.{place_of-address}
+use Rattle.vc_seg.proofs.Blocks.{place_of-address}
 use Rattle.vc_best.proofs.Cuts.{behind-here, change_at-here, cut, extent_in-here}
 use Rattle.vc_best.proofs.Known.{IsCut, now-none, now-same, off-of, then-behind, then-extent, then-steps}
 use Rattle.vc_best.proofs.Nexts.{none-first}

@@ -1,7 +1,7 @@
 -- What is true of each free run.
 use Rattle.vc_base.proofs.Common.{◌≡◌, ℕ, ◌+◌, ◌-◌, ◌%◌, ◌<◌, ◌≤◌, true, false, not, List, [], ◌∷◌, length, get_or, Some, None, All, filter, sym, refl, ap, ◌∙◌, arith, ltb-false, eq-eqb, ne_eqb, le_prop, ∥∥₁_elim, ℕ_set, All-cons, All-filter, All-map, All-nil, All-weaker, filter_passes, address, place_of, Run, holds, least}
 use Rattle.vc_best.proofs.Common.{AreExtents, Bytes, Extent, IsFree, extent_in, extent_of, extents, extents_of, free_in, free_runs, is_busy, is_free, run_of_extent, tiling}
-use Rattle.vc_layouts.proofs.Blocks.{place_of-address}
+use Rattle.vc_seg.proofs.Blocks.{place_of-address}
 use Rattle.vc_best.proofs.Along.{own-from}
 use Rattle.vc_best.proofs.Gaps.{All-flat_map, least-from}
 use Rattle.vc_best.proofs.Lies.{Lies, lies-tiled}

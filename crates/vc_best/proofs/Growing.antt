@@ -6,7 +6,7 @@ use Rattle.vc_model.specs.Discipline.{CanExtend, Extended}
 use Rattle.vc_model.specs.Segments.{growing, with_more}
 use Rattle.vc_model.proofs.Pairs.{AllPairs-head, AllPairs-tail}
 use Rattle.vc_extent.specs.Tiling.{longer, size_in, size_of}
-use Rattle.vc_layouts.proofs.Segments.{HaveOwnNumbers-segments, Served-extended, with_more-push}
+use Rattle.vc_seg.proofs.Segments.{HaveOwnNumbers-segments, Served-extended, with_more-push}
 use Rattle.vc_seg.proofs.Backs.{Contains-ends}
 use Rattle.vc_seg.specs.Numbered.{IsRegionPair}
 use Rattle.vc_best.proofs.Common.{AreExtents, Bytes, IsThere, pair_of}

@@ -1,6 +1,6 @@
 -- What is true of blocks with heads.
 use Rattle.vc_base.proofs.Common.{ℕ, get_or, inl, Layout, IsSound}
-use Rattle.vc_layouts.proofs.Blocks.{place_of-address}
+use Rattle.vc_seg.proofs.Blocks.{place_of-address}
 use Rattle.vc_best.proofs.HaveHeads.{HaveHeads}
 
 -- they don't overlap, and lie in the usable parts of segments

@@ -1,7 +1,7 @@
 -- What a best region keeps true of its blocks.
 use Rattle.vc_base.proofs.Common.{◌≡◌, ℕ, ◌+◌, ◌≤◌, Bool, true, false, List, [], ◌∷◌, map, IfSome, Some, All, Option, find, sym, refl, subst, ⊎_elim, lt-ltb, le_prop, ∥∥₁_elim, cases_Bool, All-head, All-tail, place_of, without_block_at, Block, Layout, is_at, HasWholeBlocks, IsSound, HasBlock, HasRange, find_block, rewritten_block, with_bytes_at}
 use Rattle.vc_best.proofs.Common.{AreExtents, AreKept, Bytes, Extent, HasGaps, IsBusy, IsMerged, block_of, change_extent, extent_of, is_busy, layout_by, pair_of, tiling, write}
-use Rattle.vc_layouts.proofs.Blocks.{All-change, All-without}
+use Rattle.vc_seg.proofs.Blocks.{All-change, All-without}
 use Rattle.vc_gaps.specs.GapLaws.{gap_none}
 use Rattle.vc_gaps.specs.GapUnique.{HasGaps-prop}
 use Rattle.vc_best.proofs.Found.{busy-of, found-of}

@@ -2,7 +2,7 @@
 use Rattle.vc_base.proofs.Common.{◌≡◌, ℕ, ◌+◌, ◌≤◌, Bool, true, false, ◌&&◌, eqb, ltb, leb, List, get_or, ◌==◌, All, ap, ◌∙◌, inl, inr, ⊎_elim, arith, ltb-false, ltb-true, eq-eqb, le-leb, le_prop, ∥∥₁_elim, ℕ_set, and_from, cases_Bool, list_any_at, Run, Block, footprint, is_usable, IsUsable}
 use Rattle.vc_best.proofs.Common.{AreExtents, Bytes, layout_by}
 use Rattle.std.proofs.Math.Bool.{Bool-set}
-use Rattle.vc_layouts.proofs.Resizes.{usable-any}
+use Rattle.vc_seg.proofs.Resizes.{usable-any}
 use Rattle.vc_best.proofs.HaveHeads.{HaveHeads}
 use Rattle.vc_best.proofs.Tilings.{heads-of}
 

@@ -3,7 +3,7 @@ use Rattle.vc_base.proofs.Common.{◌≡◌, ℕ, ◌+◌, ◌-◌, ◌%◌, ◌
 use Rattle.vc_best.proofs.Common.{AreExtents, Bytes, Extent, IsNamed, IsTiled, all_busy, behind_of, block_of, busy_in, change_at, change_extent, extent_in, extent_of, extents, extents_of, in_order, is_busy, layout_by, pair_of, tiling}
 use Rattle.vc_gaps.proofs.Named.{extent_in-off, extents_of-here}
 use Rattle.vc_model.proofs.Pairs.{AllPairs-head, AllPairs-tail}
-use Rattle.vc_layouts.proofs.InOrder.{All-in_order, NoneAt, change-with, order-middle, own-place, without-with}
+use Rattle.vc_seg.proofs.InOrder.{All-in_order, NoneAt, change-with, order-middle, own-place, without-with}
 use Rattle.vc_best.proofs.Lies.{Differ, Ends, IsWithin, Lies, Tiled, lies-behind, lies-tiled, lies-within}
 use Rattle.vc_best.proofs.Sets.{layout-set}
 use Rattle.vc_best.proofs.Parts.{above, below, busy-are, busy-changed, busy-none, busy-one, front, front-changed, front-is, lead, none-above, none-lead, none-others, rear}

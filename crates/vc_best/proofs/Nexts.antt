@@ -2,7 +2,7 @@
 use Rattle.vc_base.proofs.Common.{◌≡◌, ℕ, zero, suc, ◌+◌, ◌-◌, ◌<◌, Bool, true, false, ◌≢◌, List, [], ◌∷◌, ◌++◌, IsTrue, Some, None, All, Option, option_map, sym, refl, ap, ◌∙◌, subst, arith, ne_eqb, address, place_of}
 use Rattle.vc_best.proofs.Common.{Extent, behind, behind_of, extent_in, extent_of, extents_of, first_of, next_of}
 use Rattle.vc_gaps.proofs.Joined.{first-cons}
-use Rattle.vc_layouts.proofs.Blocks.{place_of-address}
+use Rattle.vc_seg.proofs.Blocks.{place_of-address}
 use Rattle.vc_best.proofs.Cuts.{behind-here, behind-skip, extent_in-here, extent_in-skip, lower-other}
 use Rattle.vc_best.proofs.Known.{IsCut, off-of}
 use Rattle.vc_best.proofs.Lies.{Lies}

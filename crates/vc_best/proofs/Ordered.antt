@@ -4,7 +4,7 @@ use Rattle.vc_model.specs.Gap.{runs_in}
 use Rattle.vc_model.specs.Order.{sorted_by}
 use Rattle.vc_model.proofs.Pairs.{AllPairs-head, AllPairs-tail}
 use Rattle.vc_base.proofs.Places.{span-least}
-use Rattle.vc_layouts.proofs.Lists.{AllPairs-map}
+use Rattle.vc_seg.proofs.Lists.{AllPairs-map}
 use Rattle.vc_best.proofs.LeftGaps.{gaps_left, gaps_left_in}
 use Rattle.vc_best.proofs.Apart.{Before}
 

@@ -4,8 +4,8 @@ use Rattle.vc_best.proofs.Common.{Addr, IsPutByAsking, IsPutInGap}
 use Rattle.vc_seg.specs.Answer.{IsPut}
 use Rattle.vc_base.proofs.Places.{at-place}
 use Rattle.vc_seg.specs.declared.fault.RegionFault.{RegionFault}
-use Rattle.vc_layouts.proofs.InOrder.{own-place, without-with}
-use Rattle.vc_layouts.proofs.Resizes.{others-written}
+use Rattle.vc_seg.proofs.InOrder.{own-place, without-with}
+use Rattle.vc_seg.proofs.Resizes.{others-written}
 use Rattle.vc_best.proofs.Asking.{Answers-in_gap}
 use Rattle.vc_best.proofs.ResizeAnswers.{IsNew, none-at, place-new}
 

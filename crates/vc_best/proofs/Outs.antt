@@ -3,7 +3,7 @@ use Rattle.vc_base.proofs.Common.{◌≡◌, ℕ, ◌+◌, ◌-◌, ◌/◌, ◌
 use Rattle.vc_best.proofs.Common.{AreExtents, Bytes, Extent, GapsChange, HasGapsBy, IsBusy, IsNamed, Tiling, behind, behind_of, busy_extent, change_extent, extent_of, extents_of, first_of, free_name, free_next, mark_busy, split, tiling, write}
 use Rattle.vc_base.proofs.Booleans.{or-swap}
 use Rattle.vc_base.proofs.Sets.{bytes-set}
-use Rattle.vc_layouts.proofs.Blocks.{place_of-address}
+use Rattle.vc_seg.proofs.Blocks.{place_of-address}
 use Rattle.vc_splay.specs.Tree.{Tree}
 use Rattle.vc_gaps.specs.GapStore.{is_free}
 use Rattle.vc_gaps.proofs.GapTrees.{gaps-same}

@@ -2,7 +2,7 @@
 use Rattle.vc_base.proofs.Common.{◌≡◌, ℕ, ◌<◌, true, false, eqb, List, [], ◌∷◌, ◌++◌, map, get_or, if◌then◌else◌, All, filter, sym, refl, ap, ◌∙◌, ⊎_elim, append_assoc, arith, le-ltb, lt-ltb, eqb-true, and_left, and_right, cases_Bool, All-append, All-cons, All-filter, All-head, All-map, All-nil, All-tail, All-weaker, filter-append, map-append, place_of, Block, is_at}
 use Rattle.vc_best.proofs.Common.{Extent, IsNamed, all_busy, behind, block_of, busy_in, change_at, change_extent, change_in, extent_in, extent_of, extents_of, is_busy}
 use Rattle.std.proofs.lemmas.Grind.{flat_map-append}
-use Rattle.vc_layouts.proofs.InOrder.{NoneAt}
+use Rattle.vc_seg.proofs.InOrder.{NoneAt}
 
 -- the extents before the one that an offset names
 abbrev pub front : ℕ → List Extent → List Extent

@@ -3,8 +3,8 @@ use Rattle.vc_base.proofs.Common.{◌≡◌, ℕ, ◌+◌, ◌%◌, ◌≤◌, f
 use Rattle.vc_best.proofs.Common.{AreAllowed, AreExtents, Bytes, CanPutBlock, IsFree, IsLeastHolding, IsLeastOut, IsMerged, IsPutInGap, behind_of, carve, change_extent, extent_of, free_runs, layout_by, pair_of, run_at, tiling}
 use Rattle.vc_base.proofs.Places.{span-least}
 use Rattle.vc_seg.proofs.Rounding.{round_up-least, round_up-mod_32}
-use Rattle.vc_layouts.specs.Put.{with_zeros}
-use Rattle.vc_layouts.proofs.Blocks.{All-with, place_of-address}
+use Rattle.vc_seg.specs.Put.{with_zeros}
+use Rattle.vc_seg.proofs.Blocks.{All-with, place_of-address}
 use Rattle.vc_best.proofs.Bests.{best-address, best-free, best-from, least-by}
 use Rattle.vc_best.proofs.ZeroBlocks.{carve-busy, merged-carved}
 use Rattle.vc_best.proofs.FreeRuns.{IsGap, gap-holds, gap-is}

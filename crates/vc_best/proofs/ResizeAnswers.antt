@@ -7,8 +7,8 @@ use Rattle.vc_model.proofs.Owned.{address-place_of}
 use Rattle.vc_seg.specs.declared.fault.RegionFault.{RegionFault}
 use Rattle.vc_seg.specs.declared.fault.RegionFault.TheVariants as code
 use Rattle.vc_seg.specs.Answer.{IsPut, IsRefusal}
-use Rattle.vc_layouts.proofs.InOrder.{find-with, own-place}
-use Rattle.vc_layouts.proofs.Resizes.{moved-put}
+use Rattle.vc_seg.proofs.InOrder.{find-with, own-place}
+use Rattle.vc_seg.proofs.Resizes.{moved-put}
 
 -- one block more
 find_with-other : (at : ℕ × ℕ) (b : Block ℕ) (bs : List (Block ℕ)) → is_at at b ≡ false → find_block at (with_block b bs) ≡ find_block at bs

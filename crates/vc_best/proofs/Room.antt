@@ -5,7 +5,7 @@ use Rattle.vc_gaps.proofs.Named.{extent_in-off}
 use mathlib.Core.Bool.{Bool-set}
 use Rattle.vc_model.specs.Resize.{meets}
 use Rattle.vc_model.proofs.Pairs.{AllPairs-head, AllPairs-tail}
-use Rattle.vc_layouts.proofs.InOrder.{All-in_order, any-order, own-place}
+use Rattle.vc_seg.proofs.InOrder.{All-in_order, any-order, own-place}
 use Rattle.vc_best.proofs.Layouts.{below-others, busy-seg, lies-front}
 use Rattle.vc_best.proofs.Lies.{Differ, Ends, IsWithin, Lies, Tiled, lies-behind, lies-tiled, lies-within}
 use Rattle.vc_best.proofs.Parts.{above, above-others, below, busy-are, busy-one, front, front-is, lead, rear}

@@ -3,7 +3,7 @@ use Rattle.vc_base.proofs.Common.{◌≡◌, ℕ, ◌+◌, ◌-◌, ◌<◌, Boo
 use Rattle.vc_best.proofs.Common.{AreExtents, Bytes, Extent, IsMerged, IsOneFree, IsThere, all_busy, busy_in, extents, extents_of, free_extent, in_order, is_merged, layout_by, no_links, pair_of, size_of, tiling}
 use Rattle.std.proofs.lemmas.Grind.{flat_map-append}
 use Rattle.vc_model.proofs.Pairs.{AllPairs-head, AllPairs-tail}
-use Rattle.vc_layouts.proofs.InOrder.{All-in_order, any-order}
+use Rattle.vc_seg.proofs.InOrder.{All-in_order, any-order}
 use Rattle.vc_best.proofs.Layouts.{busy-seg}
 use Rattle.vc_best.proofs.Lies.{Differ, Lies, Tiled, lies-tiled}
 use Rattle.vc_best.proofs.Parts.{busy-none}

@@ -3,7 +3,7 @@ use Rattle.vc_base.proofs.Common.{◌≡◌, ℕ, zero, suc, ◌+◌, ◌<◌, t
 use Rattle.std.proofs.lemmas.List.Edits.{length-remove}
 use Rattle.vc_model.proofs.Pairs.{AllPairs-head, AllPairs-tail}
 use Rattle.vc_base.proofs.Places.{at-itself, span-least}
-use Rattle.vc_layouts.proofs.Blocks.{All-without, place_of-address}
+use Rattle.vc_seg.proofs.Blocks.{All-without, place_of-address}
 use Rattle.vc_best.proofs.HaveHeads.{AreApart, HasHead, HaveHeads}
 use Rattle.vc_best.proofs.Apart.{Before}
 

@@ -3,7 +3,7 @@ use Rattle.vc_base.proofs.Common.{◌≡◌, ℕ, ◌+◌, ◌-◌, ◌*◌, ◌
 use Rattle.vc_best.proofs.Common.{AreExtents, Bytes, CanPutBlock, Extent, HasGaps, IsFree, IsLeastHolding, Tiling, behind_of, busy_extent, carve, change_extent, cut_back, cut_front, extent_in, extent_of, extents_of, free_extent, lay_zeros, no_links, plain, split, tiling}
 use Rattle.vc_seg.specs.OneBlock.{IsGuardedSize}
 use Rattle.vc_base.proofs.Places.{span-least}
-use Rattle.vc_layouts.proofs.Blocks.{place_of-address}
+use Rattle.vc_seg.proofs.Blocks.{place_of-address}
 use Rattle.vc_model.proofs.Owned.{address-place_of}
 use Rattle.vc_splay.specs.Moves.{Context, plug, tally}
 use Rattle.vc_splay.specs.Puts.{WasPut}

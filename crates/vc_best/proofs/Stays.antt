@@ -1,7 +1,7 @@
 -- Whether a block stays where it is, and what is true of the blocks where it does or where it moved.
 use Rattle.vc_base.proofs.Common.{◌≡◌, ℕ, ◌≤◌, Bool, true, false, leb, List, take, IfSome, IsTrue, Some, Option, option_map, sym, refl, ap, ◌∙◌, subst, ⊎_elim, le-leb, leb-true, cases_Bool, place_of, without_block_at, Block, Layout, can_stay, resize_there, sized_block, span, HasBlock, find_block, rewritten_block, with_bytes_at}
 use Rattle.vc_best.proofs.Common.{AreExtents, Bytes, IsMerged, block_of, extent_of, layout_by, room_of, tiling}
-use Rattle.vc_layouts.proofs.Blocks.{All-change, All-without}
+use Rattle.vc_seg.proofs.Blocks.{All-change, All-without}
 use Rattle.vc_best.proofs.Found.{busy-of, found-of}
 use Rattle.vc_best.proofs.Held.{AreMost}
 use Rattle.vc_best.proofs.Room.{can_stay-room}

@@ -2,9 +2,9 @@
 use Rattle.vc_base.proofs.Common.{◌≡◌, ℕ, suc, ◌+◌, ◌-◌, ◌%◌, ◌<◌, ◌≤◌, true, false, ltb, ◌≢◌, List, [], ◌∷◌, map, length, get_or, All, filter, AllPairs, sym, refl, ◌∙◌, inl, inr, ⊎_elim, arith, ltb-true, ∥∥₁_elim, cases_Bool, All-append, All-filter, All-head, All-map, All-nil, All-tail, All-weaker, filter_passes, AllPairs-cons, IsSegmentSize, Block, footprint, span, HasWholeBlocks, HaveOwnNumbers, IsApart, IsSound, IsUsable}
 use Rattle.vc_best.proofs.Common.{AreExtents, AreSegments, Bytes, Extent, IsRegionSegment, IsTiled, all_busy, block_of, busy_in, extents, in_order, is_busy, layout_by, pair_of, tiling}
 use Rattle.vc_model.proofs.Pairs.{AllPairs-head, AllPairs-tail}
-use Rattle.vc_layouts.proofs.Lists.{AllPairs-append, AllPairs-map, AllPairs-nil}
-use Rattle.vc_layouts.proofs.Blocks.{apart_by_seg}
-use Rattle.vc_layouts.proofs.InOrder.{All-in_order}
+use Rattle.vc_seg.proofs.Lists.{AllPairs-append, AllPairs-map, AllPairs-nil}
+use Rattle.vc_seg.proofs.Blocks.{apart_by_seg}
+use Rattle.vc_seg.proofs.InOrder.{All-in_order}
 use Rattle.vc_best.proofs.HaveHeads.{HaveHeads}
 use Rattle.vc_best.proofs.Heads.{IsSound-heads}
 use Rattle.vc_best.proofs.Layouts.{busy-seg}

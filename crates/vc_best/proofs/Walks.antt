@@ -1,7 +1,7 @@
 -- A walk along the extents of a segment.
 use Rattle.vc_base.proofs.Common.{◌≡◌, ℕ, ◌+◌, ◌-◌, ◌<◌, ◌≤◌, true, eqb, ◌≢◌, List, [], ◌∷◌, ◌++◌, IfSome, Some, None, All, Option, option_map, sym, refl, ap, ◌∙◌, subst, arith, eq-eqb, ne_eqb, le_prop, ∥∥₁_elim, ℕ_set, All-head, All-tail, address, place_of}
 use Rattle.vc_best.proofs.Common.{Addr, AreExtents, Bytes, Extent, IsNamed, IsThere, behind, behind_of, extent_in, extent_of, extents_from, extents_of, first_of, left_from, next_of, tiling}
-use Rattle.vc_layouts.proofs.Blocks.{place_of-address}
+use Rattle.vc_seg.proofs.Blocks.{place_of-address}
 use Rattle.vc_best.proofs.Cuts.{cut, lower-other}
 use Rattle.vc_best.proofs.Known.{IsCut, IsSegment, cut-of, end-of, off-of, segment-of}
 use Rattle.vc_best.proofs.Lies.{Lies}

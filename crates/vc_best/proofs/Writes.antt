@@ -8,7 +8,7 @@ use Rattle.vc_best.proofs.Held.{AreHeld, held, layout-written, merged-of, most-o
 use Rattle.vc_best.proofs.Known.{cut-of}
 use Rattle.vc_best.proofs.Linking.{gaps-changed}
 use Rattle.vc_best.proofs.Merges.{merged-one}
-use Rattle.vc_layouts.proofs.Resizes.{others-written}
+use Rattle.vc_seg.proofs.Resizes.{others-written}
 use Rattle.vc_best.proofs.Outs.{gaps-written}
 use Rattle.vc_best.proofs.Sets.{merged-prop}
 

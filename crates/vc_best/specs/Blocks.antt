@@ -3,7 +3,7 @@ use Rattle.std.specs.Prelude.{ℕ, List, Bool, filter, map, nat_lt}
 use Rattle.std.specs.List.{flat_map}
 use Rattle.vc_model.specs.Layout.{Block, Layout}
 use Rattle.vc_seg.specs.Segment.{Bytes, pair_of}
-use Rattle.vc_layouts.specs.InOrder.{in_order}
+use Rattle.vc_seg.specs.InOrder.{in_order}
 use Rattle.vc_extent.specs.Extent.{Extent}
 use Rattle.vc_extent.specs.Tiling.{tiling}
 

@@ -1,7 +1,7 @@
 -- Blocks and gaps, counted along extents.
 use Rattle.std.specs.Prelude.{ℕ, List, [], filter, map}
 use Rattle.std.specs.List.{flat_map}
-use Rattle.vc_layouts.specs.Tally.{HasRoom, tallied_all, tally_of}
+use Rattle.vc_seg.specs.Tally.{HasRoom, tallied_all, tally_of}
 use Rattle.vc_extent.specs.Extent.{Extent}
 use Rattle.vc_best.specs.Blocks.{is_busy}
 use Rattle.vc_best.specs.Free.{is_free}

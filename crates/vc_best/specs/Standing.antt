@@ -15,7 +15,7 @@ use Rattle.vc_seg.specs.OneBlock.{IsGuardedSize}
 use Rattle.vc_seg.specs.Segment.{Bytes, pair_of}
 use Rattle.vc_seg.specs.declared.fault.RegionFault.{RegionFault}
 use Rattle.vc_seg.specs.declared.fault.RegionFault.TheVariants as code
-use Rattle.vc_layouts.specs.Put.{with_zeros}
+use Rattle.vc_seg.specs.Put.{with_zeros}
 use Rattle.vc_extent.specs.Extent.{free_extent, no_links}
 use Rattle.vc_extent.specs.Change.{widen}
 use Rattle.vc_extent.specs.Tiling.{IsBusy, IsFree, IsThere, change_extent, change_in, extent_of, size_in, tiling}

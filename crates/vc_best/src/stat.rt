@@ -2,15 +2,14 @@ ghost use Rattle.std.specs.Prelude.{◌≡◌, [], ◌∷◌, map};
 ghost use Rattle.vc_seg.specs.Segment.{pair_of};
 ghost use Rattle.vc_seg.specs.Stat.{layout_stat};
 ghost use Rattle.vc_extent.specs.Tiling.{IsNamed, IsThere, extent_of, extents_of, tiling};
-ghost use Rattle.vc_layouts.specs.Tally.{HasRoom, tally_of};
+ghost use Rattle.vc_seg.specs.Tally.{HasRoom, tally_of};
 ghost use Rattle.vc_best.specs.Blocks.{layout_by};
 ghost use Rattle.vc_best.specs.Counts.{HaveRoom, all_extents, counts_with, counts_of_none};
 ghost use Rattle.vc_best.specs.Free.{IsMerged};
 
 use vc_base::{Addr, Steps};
 use vc_extent::Extents;
-use vc_layouts::Tally;
-use vc_seg::{Segment, Stat};
+use vc_seg::{Segment, Stat, Tally};
 
 // The blocks and the gaps of a region, counted.
 #[derive(Clone, Copy)]

@@ -1,7 +1,7 @@
 ghost use Rattle.std.specs.Prelude.{◌≡◌, ◌≢◌, ℕ, ◌+◌, ◌*◌, ◌≤◌, IfSome, None, List, [], ◌∷◌, ◌++◌, false};
 ghost use Rattle.vc_base.specs.Prelude.{contains, address, place_of, without_block_at, resize_there, span};
 ghost use Rattle.vc_seg.specs.OneBlock.{IsGuardedSize};
-ghost use Rattle.vc_layouts.specs.Put.{with_zeros};
+ghost use Rattle.vc_seg.specs.Put.{with_zeros};
 ghost use Rattle.vc_extent.specs.Tiling.{IsBusy, IsNamed, extent_of, tiling};
 ghost use Rattle.vc_gaps.specs.ButLinks.{StaysButLinks};
 ghost use Rattle.vc_gaps.specs.Cost.{GapsCost};

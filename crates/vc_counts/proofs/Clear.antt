@@ -2,7 +2,7 @@
 use Rattle.vc_base.proofs.Common.{◌≡◌, ℕ, zero, suc, ◌+◌, ◌-◌, ◌<◌, ◌≤◌, Bool, true, false, cond, eqb, ◌≢◌, List, [], ◌∷◌, ◌++◌, length, get_or, get_or_default, nat_le, nat_lt, Some, None, All, Contains, filter, Option, sym, refl, ap, ◌∙◌, subst, ⊎_elim, true≢false, arith, eq-eqb, eqb-true, leb-true, and_parts, cases_Bool, or_parts, All-append, All-cons, All-filter, All-head, All-nil, All-tail, All-weaker, filter_passes, none-some, list_any, best_alloc, best_need, place_in, put_in_new, put_or_ask, zeros, Terms, Run, gaps, Block, Layout, footprint, footprints, is_at, with_grant, Done, Outcome, Put, Refused, holds, lowest_offset, Asked, Grant, Granted, NotLent, TooMany, ask, lowest_unused, new_segment, numbers, span, unused_from, HaveOwnNumbers, IsUsable}
 use Rattle.std.proofs.lemmas.List.Elements.{All-contains_itself}
 use Rattle.vc_best.proofs.Gaps.{least-from}
-use Rattle.vc_layouts.proofs.Lists.{AllPairs-append}
+use Rattle.vc_seg.proofs.Lists.{AllPairs-append}
 use Rattle.vc_laws.specs.Maximal.{AreLawful, Covers}
 use Rattle.vc_laws.proofs.Maximality.{IsGap-from_gaps}
 use Rattle.vc_laws.proofs.Members.{Any-from_member, Member-append_left, Some_of-from_Any}

@@ -1,6 +1,6 @@
 -- What is counted by what is read of one region is what the step did.
 use Rattle.vc_base.proofs.Common.{◌≡◌, ℕ, ◌+◌, ◌-◌, ◌<◌, ◌≤◌, max, Bool, true, false, cond, List, [], map, length, drop, sum, count_by, sym, refl, ap, ◌∙◌, arith, length-map, Grant}
-use Rattle.vc_layouts.proofs.Tallies.{tally_of-bytes, tally_of-count}
+use Rattle.vc_seg.proofs.Tallies.{tally_of-bytes, tally_of-count}
 use Rattle.vc_commands.specs.Home.{Home}
 use Rattle.vc_script.specs.Needs.{is_refusal}
 use Rattle.vc_steps.specs.State.{State, Stepped}

@@ -1,6 +1,6 @@
 -- In an open region the block that has a name is the only one that has it, and the only one at its place.
 use Rattle.vc_base.proofs.Common.{◌≡◌, Bool, ℕ, ◌+◌, ◌≤◌, true, false, cond, ◌≢◌, List, [], ◌∷◌, map, Some, None, Option, option_map, AllPairs, find, unwrap_or, sym, refl, ap, ◌∙◌, subst, inl, inr, ⊎_elim, arith, cases_Bool, All-map, same_Some, AllByRecursion, address, place_of, Discipline, Block, address_of, is_at, relabel_block, HaveOwnPlaces}
-use Rattle.vc_layouts.proofs.Lists.{AllPairs-map}
+use Rattle.vc_seg.proofs.Lists.{AllPairs-map}
 use Rattle.vc_commands.specs.Blocks.{is_block, is_name_of}
 use Rattle.vc_commands.specs.Held.{Held, IsLive, IsNamed, home_of}
 use Rattle.vc_commands.specs.Home as home

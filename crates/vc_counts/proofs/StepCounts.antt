@@ -1,6 +1,6 @@
 -- A step's command is counted by what is read of its region before it and after it.
 use Rattle.vc_base.proofs.Common.{◌≡◌, ℕ, ◌+◌, ◌-◌, ◌<◌, ◌≤◌, Bool, List, length, Option, sym, ap, ◌∙◌, subst, arith, AllByRecursion}
-use Rattle.vc_layouts.specs.declared.tally.Tally.{Tally}
+use Rattle.vc_seg.specs.declared.tally.Tally.{Tally}
 use Rattle.vc_script.specs.Needs.{is_refusal, need_shown}
 use Rattle.vc_script.specs.declared.command.Command.{Command}
 use Rattle.vc_script.specs.declared.reply.Reply.{Reply}

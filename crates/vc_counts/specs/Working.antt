@@ -1,7 +1,7 @@
 -- The region that a command works in, and what a run reads there before it and after it.
 use Rattle.std.specs.Prelude.{ℕ, ◌+◌, ◌-◌, List, [], Option, Some, None, Bool, drop, map, max, sum, if◌then◌else◌}
-use Rattle.vc_layouts.specs.Tally.{tally_of}
-use Rattle.vc_layouts.specs.declared.tally.Tally.{Tally}
+use Rattle.vc_seg.specs.Tally.{tally_of}
+use Rattle.vc_seg.specs.declared.tally.Tally.{Tally}
 use Rattle.vc_commands.specs.Home.{Home}
 use Rattle.vc_model.specs.Discipline.{Discipline}
 use Rattle.vc_dtdisc.specs.Objects.{Object}

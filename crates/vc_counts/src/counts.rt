@@ -3,7 +3,7 @@ ghost use Rattle.vc_counts.specs.CanCount.{IsInRange, counted_commands};
 ghost use Rattle.vc_counts.specs.Counts.{nothing_counted};
 ghost use Rattle.vc_counts.specs.Working.{counts_after};
 
-use vc_layouts::Tally;
+use vc_seg::Tally;
 
 /// What a run counts of its commands.
 #[derive(Clone, Copy, Debug, PartialEq, Eq)]

@@ -26,9 +26,8 @@ use indexmap::IndexMap;
 use vc_base::{Name, OutOfMemory};
 use vc_dict::Dict;
 use vc_dtdisc::DictDisc;
-use vc_layouts::Tally;
 use vc_script::{Command, Reply, Target};
-use vc_seg::{BoxedDisc, SegDisc, Shelf};
+use vc_seg::{BoxedDisc, SegDisc, Shelf, Tally};
 use vc_steps::{DictEntry, HomeEntry, Session};
 
 // What is always true of the names of regions, and of those of dictionaries: no two are alike.

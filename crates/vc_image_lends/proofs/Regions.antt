@@ -2,7 +2,7 @@
 use Rattle.vc_base.proofs.Common.{◌≡◌, ℕ, ◌<◌, ◌≤◌, true, false, List, All, length, filter, sym, refl, ◌∙◌, subst, All-map, All-weaker, length-map, Block}
 use Rattle.vc_seg.specs.Field.{field_at}
 use Rattle.vc_seg.specs.Segment.{Bytes}
-use Rattle.vc_layouts.proofs.InOrder.{All-in_order}
+use Rattle.vc_seg.proofs.InOrder.{All-in_order}
 use Rattle.vc_extent.specs.Extent.{Extent, extents}
 use Rattle.vc_extent.specs.Tiling.{AreExtents, tiling}
 use Rattle.vc_best.specs.Blocks.{all_busy, busy_in, is_busy}
@@ -13,7 +13,7 @@ use Rattle.vc_best.specs.Standing.{AreWhole}
 use Rattle.vc_best.proofs.Counting.{blocks-count}
 use Rattle.vc_best.proofs.Gaps.{All-flat_map}
 use Rattle.vc_best.proofs.Tilings.{All-busy_in}
-use Rattle.vc_layouts.proofs.Tallies.{tally_of-count}
+use Rattle.vc_seg.proofs.Tallies.{tally_of-count}
 unfoldable use Rattle.vc_image_bytes.specs.Contents.{contents_of}
 use Rattle.vc_image_checks.specs.Sound.{AreSoundSegments, IsSoundSegment}
 use Rattle.vc_image_parts.specs.Front.{IsSoundFront}

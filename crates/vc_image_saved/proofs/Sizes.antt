@@ -2,7 +2,7 @@
 use Rattle.vc_base.proofs.Common.{◌≡◌, ℕ, ◌≤◌, Bool, true, false, ltb, ◌||◌, List, [], ◌∷◌, map, filter, All, list_any, list_any-append, sym, refl, ◌∙◌, arith, cases_lt, inl, inr, true≢false, lt-ltb, le-ltb, All-head, All-tail, Block, AllByRecursion}
 use Rattle.std.proofs.lemmas.List.Elements.{All-from_recursion}
 use Rattle.vc_seg.specs.Segment.{Bytes}
-use Rattle.vc_layouts.proofs.InOrder.{any-order}
+use Rattle.vc_seg.proofs.InOrder.{any-order}
 use Rattle.vc_extent.specs.Extent.{Extent, extents}
 use Rattle.vc_extent.specs.Tiling.{tiling}
 use Rattle.vc_best.specs.Blocks.{all_busy, block_of, busy_in, is_busy, layout_by}

@@ -1,7 +1,7 @@
 -- What each change leaves of blocks one behind another.
 use Rattle.vc_base.proofs.Common.{◌≡◌, ℕ, ◌≤◌, true, false, eqb, List, [], ◌∷◌, get_or, All, AllPairs, inl, inr, ⊎_elim, eqb-true, cases_Bool, eqb-false, All-cons, All-head, All-tail, AllPairs-cons, place_of, Block, Layout, address_of, footprint, is_at, IsApart, IsSound, IsUsable, change_block, rewritten_block, with_bytes_at}
 use Rattle.vc_model.proofs.Pairs.{AllPairs-head, AllPairs-tail}
-use Rattle.vc_layouts.proofs.Blocks.{apart_by_seg}
+use Rattle.vc_seg.proofs.Blocks.{apart_by_seg}
 use Rattle.vc_last.specs.Allocation.{EndsFirst, AreAllocated}
 
 apart-ordered : (a b : Block ℕ) → EndsFirst a b → IsApart (footprint a) (footprint b)

@@ -3,8 +3,8 @@ use Rattle.vc_base.proofs.Common.{◌≡◌, ℕ, ◌≤◌, true, false, eqb, l
 use Rattle.vc_base.proofs.Places.{span-least}
 use Rattle.vc_seg.specs.Segment.{Bytes}
 use Rattle.vc_seg.proofs.BytesByNumber.{bytes_of_number-most}
-use Rattle.vc_layouts.specs.Tally.{HasRoom, tally_of}
-use Rattle.vc_layouts.proofs.Tallies.{sizes-most}
+use Rattle.vc_seg.specs.Tally.{HasRoom, tally_of}
+use Rattle.vc_seg.proofs.Tallies.{sizes-most}
 use Rattle.vc_last.specs.Chain.{IsLast, blocks_from, most_blocks}
 use Rattle.vc_last.specs.Gaps.{gap_end_below, own_runs, run_sizes, sizes_above}
 use Rattle.vc_last.specs.Head.{before_of, block_of}

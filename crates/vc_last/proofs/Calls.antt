@@ -5,7 +5,7 @@ use Rattle.vc_base.proofs.Places.{at-place}
 use Rattle.vc_seg.specs.Answer.{IsPut}
 use Rattle.vc_seg.specs.declared.fault.RegionFault.{RegionFault}
 use Rattle.vc_seg.specs.declared.fault.RegionFault.TheVariants as code
-use Rattle.vc_layouts.proofs.Segments.{Served-same}
+use Rattle.vc_seg.proofs.Segments.{Served-same}
 use Rattle.vc_seg.specs.OneBlock.{IsBlockFreed}
 use Rattle.vc_last.specs.Call.{IsResize}
 use Rattle.vc_seg.specs.Segment.{Bytes, pair_of}
@@ -13,7 +13,7 @@ use Rattle.vc_last.specs.Chain.{IsLast, blocks_from}
 use Rattle.vc_last.specs.Head.{before_of, block_of}
 use Rattle.vc_last.specs.Read.{layout_by}
 use Rattle.vc_last.proofs.Latest.{IsExact-front, IsLatestAt, call-latest, call-other, freed-latest, none-there, without-latest}
-use Rattle.vc_layouts.proofs.Resizes.{others-sized, there-sized}
+use Rattle.vc_seg.proofs.Resizes.{others-sized, there-sized}
 use Rattle.vc_last.proofs.Resizes.{there-latest}
 use Rattle.vc_last.proofs.Allocations.{row}
 use Rattle.vc_last.proofs.Chains.{chain-heads, head-exact, latest-some}

@@ -3,7 +3,7 @@ use Rattle.vc_base.proofs.Common.{◌≡◌, ℕ, zero, suc, ◌+◌, ◌<◌, �
 use Rattle.vc_model.proofs.Pairs.{AllPairs-head, AllPairs-tail}
 use Rattle.vc_seg.specs.Segment.{AreSegments, Bytes}
 use Rattle.vc_extent.specs.Tiling.{index_from}
-use Rattle.vc_layouts.proofs.Lists.{AllPairs-nil}
+use Rattle.vc_seg.proofs.Lists.{AllPairs-nil}
 use Rattle.vc_last.specs.Allocation.{EndsFirst}
 use Rattle.vc_last.specs.Head.{HasHead, HasHeadAt, before_of, block_of}
 use Rattle.vc_last.specs.Chain.{IsChain, IsLast, IsLastOf, LiesLower, blocks_back, blocks_from, most_blocks, rank}

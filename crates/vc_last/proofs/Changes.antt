@@ -12,7 +12,7 @@ use Rattle.vc_last.specs.Place.{IsBlockPlace}
 use Rattle.vc_last.specs.Read.{layout_by}
 use Rattle.vc_last.proofs.Lists.{All-front, AllPairs-last}
 use Rattle.vc_last.proofs.Latest.{at-own, change-last, ends-elsewhere, without-last}
-use Rattle.vc_layouts.proofs.Resizes.{usable-any}
+use Rattle.vc_seg.proofs.Resizes.{usable-any}
 use Rattle.vc_last.proofs.Allocations.{row}
 use Rattle.vc_last.proofs.Chains.{HasLatest, chain-heads, chain-last, head-exact, last-from, last-front, last-push, latest-some}
 use Rattle.vc_last.proofs.Writes.{LiesClear, head-made, last-stays, rank-same, size-same}

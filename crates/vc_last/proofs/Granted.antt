@@ -11,7 +11,7 @@ use Rattle.vc_seg.specs.declared.fault.RegionFault.TheVariants as code
 use Rattle.vc_seg.proofs.Backs.{Apart, Contains-ends, Contains-own}
 use Rattle.vc_seg.proofs.Grants.{AreSegments-granted}
 use Rattle.vc_seg.proofs.Growing.{more-asked, more-may, more_of}
-use Rattle.vc_layouts.proofs.Segments.{Served-extended, Served-lent}
+use Rattle.vc_seg.proofs.Segments.{Served-extended, Served-lent}
 use Rattle.vc_last.specs.Chain.{IsLast, IsLastOf, blocks_from}
 use Rattle.vc_last.specs.Granted.{IsGranted, IsObtained, with_granted, with_zeros}
 use Rattle.vc_last.specs.Read.{layout_by}

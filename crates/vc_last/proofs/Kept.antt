@@ -9,7 +9,7 @@ use Rattle.vc_seg.specs.Memory.{bytes_of_number}
 use Rattle.vc_seg.proofs.BytesByNumber.{bytes_of_number-at, bytes_of_number-most}
 use Rattle.vc_seg.specs.Field.{field_at}
 use Rattle.vc_extent.specs.Tiling.{index_from}
-use Rattle.vc_layouts.proofs.Segments.{HaveOwnNumbers-segments}
+use Rattle.vc_seg.proofs.Segments.{HaveOwnNumbers-segments}
 use Rattle.vc_last.specs.Allocation.{AreAllocated}
 use Rattle.vc_last.specs.Head.{HasHead, LiesThere, StaysBut, before_of, block_of}
 use Rattle.vc_last.specs.Chain.{IsLast, IsLastOf, LiesLower, blocks_from, rank}

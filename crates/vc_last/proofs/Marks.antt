@@ -6,7 +6,7 @@ use Rattle.vc_seg.specs.Segment.{AreSegments, Bytes, IsRegionSegment, pair_of}
 use Rattle.vc_seg.proofs.Backs.{Apart}
 use Rattle.vc_seg.proofs.Filters.{filter-agree_on}
 use Rattle.vc_seg.specs.Memory.{bytes_of_number}
-use Rattle.vc_layouts.proofs.Lists.{AllPairs-nil}
+use Rattle.vc_seg.proofs.Lists.{AllPairs-nil}
 use Rattle.vc_last.specs.Head.{HasHead}
 use Rattle.vc_last.specs.Chain.{IsLast, IsLastOf, blocks_from}
 use Rattle.vc_last.specs.Read.{layout_by}

@@ -3,7 +3,7 @@ use Rattle.vc_base.proofs.Common.{◌≡◌, ℕ, ◌+◌, ◌-◌, ◌%◌, ◌
 use Rattle.vc_model.specs.Last.{last_of, next_offset, place_behind_latest}
 use Rattle.vc_model.specs.Segments.{Grant, with_more}
 use Rattle.vc_base.proofs.Places.{some-span, at-place}
-use Rattle.vc_layouts.proofs.Segments.{only-one, with_more-push}
+use Rattle.vc_seg.proofs.Segments.{only-one, with_more-push}
 use Rattle.vc_last.specs.Allocation.{EndsFirst, AreAllocated}
 use Rattle.vc_last.specs.Place.{EndBefore, IsBlockPlace}
 use Rattle.vc_last.proofs.Lists.{get_or-last, last_of-push, last_of-split}

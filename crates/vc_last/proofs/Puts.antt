@@ -8,7 +8,7 @@ use Rattle.vc_seg.specs.declared.fault.RegionFault.TheVariants as code
 use Rattle.vc_seg.specs.Lend.{IsAsked, IsNoGrant}
 use Rattle.vc_seg.specs.Memory.{bytes_of_number}
 use Rattle.vc_seg.proofs.BytesByNumber.{bytes_of_number-most}
-use Rattle.vc_layouts.proofs.Segments.{Asks-fault, Served-same}
+use Rattle.vc_seg.proofs.Segments.{Asks-fault, Served-same}
 use Rattle.vc_last.specs.Head.{LiesThere, StaysBut}
 use Rattle.vc_last.specs.Chain.{IsLast, IsLastOf, blocks_from}
 use Rattle.vc_last.specs.Place.{IsBlockPlace, with_latest}

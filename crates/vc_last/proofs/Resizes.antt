@@ -2,7 +2,7 @@
 use Rattle.vc_base.proofs.Common.{◌≡◌, ℕ, Bool, true, false, List, [], ◌∷◌, ◌++◌, take, IfSome, Some, Option, option_map, sym, refl, ap, ◌∙◌, subst, same_Some, place_of, without_block_at, zeros, Terms, can_end, last_alloc, last_resize, latest, resize_latest, Block, Layout, is_at, without_block, Outcome, Put, outcome_of_move, HasBlock, change_block, find_block, rewritten_block, with_bytes_at}
 use Rattle.vc_base.proofs.Places.{at-place}
 use Rattle.vc_seg.specs.Answer.{IsPut}
-use Rattle.vc_layouts.proofs.Resizes.{moved-put}
+use Rattle.vc_seg.proofs.Resizes.{moved-put}
 use Rattle.vc_last.proofs.Allocs.{IsNew, new-elsewhere}
 use Rattle.vc_last.proofs.Latest.{AreElsewhere, IsLatestAt, at-own, call-latest, change-last, find-before, find-last, without-last, without-latest}
 use Rattle.vc_last.proofs.Lists.{All-front}

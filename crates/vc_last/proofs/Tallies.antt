@@ -5,9 +5,9 @@ use Rattle.vc_model.specs.Numbers.{gap_sizes}
 use Rattle.vc_model.specs.Order.{sorted_by}
 use Rattle.vc_model.proofs.Pairs.{AllPairs-head, AllPairs-tail}
 use Rattle.vc_seg.specs.Segment.{AreSegments, Bytes, pair_of}
-use Rattle.vc_layouts.specs.Tally.{HasRoom, tally_of}
-use Rattle.vc_layouts.proofs.Lists.{AllPairs-map}
-use Rattle.vc_layouts.proofs.Segments.{only-one}
+use Rattle.vc_seg.specs.Tally.{HasRoom, tally_of}
+use Rattle.vc_seg.proofs.Lists.{AllPairs-map}
+use Rattle.vc_seg.proofs.Segments.{only-one}
 use Rattle.vc_last.specs.Allocation.{AreAllocated}
 use Rattle.vc_last.specs.Gaps.{gaps_left, gaps_left_in}
 

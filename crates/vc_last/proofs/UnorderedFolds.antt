@@ -1,9 +1,9 @@
 -- Folds that don't ask for an order.
 use Rattle.vc_base.proofs.Common.{◌≡◌, ℕ, ◌+◌, min, max, Bool, true, false, ltb, List, [], ◌∷◌, ◌++◌, Some, None, fold, All, filter, Option, find, sym, refl, ap, ◌∙◌, subst, ⊎_elim, append-nil, arith, length-append, ltb-false, ltb-true, cases_Bool, All-head, All-tail, sum_by-append, lesser_by}
-use Rattle.vc_layouts.specs.declared.tally.Tally.{Tally}
+use Rattle.vc_seg.specs.declared.tally.Tally.{Tally}
 use Rattle.std.proofs.lemmas.List.Sums.{fold-append}
-use Rattle.vc_layouts.specs.Tally.{HasRoom, tally_with, tallied_all}
-use Rattle.vc_layouts.proofs.Tallies.{tallied_all-bytes, tallied_all-count}
+use Rattle.vc_seg.specs.Tally.{HasRoom, tally_with, tallied_all}
+use Rattle.vc_seg.proofs.Tallies.{tallied_all-bytes, tallied_all-count}
 
 module _ {S A : Type 0} (f : S → A → S) (swap : (s : S) (x y : A) → f (f s x) y ≡ f (f s y) x) where
   -- the last item may come first

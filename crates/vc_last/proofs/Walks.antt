@@ -2,7 +2,7 @@
 use Rattle.vc_base.proofs.Common.{◌≡◌, ℕ, suc, ◌+◌, ◌-◌, ◌<◌, Bool, true, false, eqb, ltb, leb, ◌≢◌, List, [], ◌∷◌, ◌++◌, map, length, get_or, Some, None, fold, All, Contains, filter, Option, option_map, find, sym, ap, ◌∙◌, subst, ⊎_elim, arith, ltb-true, eqb-true, leb-true, and_parts, cases_Bool, get_or-map, length-map, length_push, map_push, Block, Layout, address_of, lesser_by, HasBlock, block_at, holds_byte, next_block}
 use Rattle.vc_base.proofs.Places.{span-least}
 use Rattle.vc_seg.specs.Segment.{Bytes}
-use Rattle.vc_layouts.proofs.Walks.{least_above-among, least_above-key}
+use Rattle.vc_seg.proofs.LayoutWalks.{least_above-among, least_above-key}
 use Rattle.vc_last.specs.Chain.{IsLast, blocks_from}
 use Rattle.vc_last.specs.Head.{before_of, block_of}
 use Rattle.vc_last.specs.Read.{layout_by}

@@ -5,7 +5,7 @@ use Rattle.vc_seg.specs.Memory.{bytes_of_number, write_segment}
 use Rattle.vc_seg.specs.Field.{field_at}
 use Rattle.vc_extent.specs.Tiling.{index_from}
 use Rattle.vc_seg.proofs.Frames.{drop-back, field-back, field-front, part-back, part-front, take-front, written-above, written-below}
-use Rattle.vc_layouts.proofs.Segments.{bytes_of_number-other, bytes_of_number-write, pairs-write}
+use Rattle.vc_seg.proofs.Segments.{bytes_of_number-other, bytes_of_number-write, pairs-write}
 use Rattle.vc_last.specs.Head.{HasHead, StaysBut, before_of, block_in_bytes, block_of}
 use Rattle.vc_last.specs.Chain.{IsChain, IsLastOf, LiesLower, rank}
 use Rattle.vc_last.proofs.Chains.{head-exact}

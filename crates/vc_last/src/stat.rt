@@ -1,7 +1,7 @@
 ghost use Rattle.std.specs.Prelude.{◌≡◌, ◌≤◌, ℕ, ◌+◌, ◌-◌, [], map};
 ghost use Rattle.vc_model.specs.Gap.{bytes_of};
 ghost use Rattle.vc_model.specs.Layout.{footprints};
-ghost use Rattle.vc_layouts.specs.Tally.{HasRoom, tallied_all, tally_of};
+ghost use Rattle.vc_seg.specs.Tally.{HasRoom, tallied_all, tally_of};
 ghost use Rattle.vc_seg.specs.Segment.{pair_of};
 ghost use Rattle.vc_seg.specs.Stat.{layout_stat};
 ghost use Rattle.vc_last.specs.Chain.{IsLast, blocks_from};
@@ -11,8 +11,7 @@ ghost use Rattle.vc_last.specs.Gaps.{gap_end_below, gaps_left, gaps_left_in, run
 
 use crate::head::{before_at, size_at};
 use vc_base::Addr;
-use vc_layouts::{Tally, tally_segments};
-use vc_seg::{Segment, Stat, span_of};
+use vc_seg::{Segment, Stat, Tally, span_of, tally_segments};
 
 // The sizes of the blocks from the latest back.
 fn tally_blocks(segs: &[Segment], latest: Addr) -> Tally

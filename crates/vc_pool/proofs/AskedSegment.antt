@@ -1,7 +1,7 @@
 -- What asking for a segment gives, by the segments of a pool.
 use Rattle.vc_base.proofs.Common.{◌≡◌, ℕ, ◌≢◌, List, [], ◌∷◌, ◌++◌, map, length, All, sym, refl, ap, ◌∙◌, subst, arith, place_of, Discipline, Lent, Terms, carved_in, cell_for, cell_offset, new_segment}
 use Rattle.vc_base.proofs.Quantifiers.{All-unmap}
-use Rattle.vc_layouts.proofs.Segments.{Served-lent}
+use Rattle.vc_seg.proofs.Segments.{Served-lent}
 use Rattle.vc_seg.specs.Lend.{IsGrantOf}
 use Rattle.vc_seg.specs.Segment.{Bytes}
 use Rattle.vc_pool_cells.specs.Blocks.{carved_by, pair_of}

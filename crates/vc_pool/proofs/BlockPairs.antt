@@ -2,10 +2,10 @@
 use Rattle.vc_base.proofs.Common.{◌≡◌, ℕ, ◌+◌, ◌≤◌, true, false, eqb, ◌≢◌, List, [], ◌∷◌, take, drop, All, AllPairs, flat_map, sym, refl, ◌∙◌, inl, inr, ⊎_elim, arith, cases_Bool, All-append, All-head, All-nil, All-tail, All-weaker, AllPairs-cons, Block, lies_before, with_block, IsApart}
 use Rattle.vc_model.specs.Pool.{cell_run}
 use Rattle.vc_model.proofs.Pairs.{AllPairs-head, AllPairs-tail}
-use Rattle.vc_layouts.proofs.Lists.{AllPairs-append, AllPairs-nil}
-use Rattle.vc_layouts.proofs.Blocks.{All-with, apart_by_seg}
-use Rattle.vc_layouts.specs.InOrder.{in_order}
-use Rattle.vc_layouts.proofs.InOrder.{All-in_order}
+use Rattle.vc_seg.proofs.Lists.{AllPairs-append, AllPairs-nil}
+use Rattle.vc_seg.proofs.Blocks.{All-with, apart_by_seg}
+use Rattle.vc_seg.specs.InOrder.{in_order}
+use Rattle.vc_seg.proofs.InOrder.{All-in_order}
 use Rattle.vc_pool_cells.specs.Blocks.{block_of_cell, cell_blocks, segment_blocks}
 use Rattle.vc_pool_cells.specs.Cells.{Cells}
 use Rattle.vc_pool_cells.specs.Kept.{IsCellular}

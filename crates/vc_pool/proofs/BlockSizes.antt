@@ -2,9 +2,9 @@
 use Rattle.vc_base.proofs.Common.{◌≡◌, ℕ, ◌+◌, ◌-◌, ◌*◌, ◌/◌, ◌<◌, ◌≤◌, min, true, false, eqb, List, [], ◌∷◌, ◌++◌, map, length, get_or, take, drop, All, sum, flat_map, sym, refl, ap, ◌∙◌, ⊎_elim, append-nil, mul-le-mul_left, div-mul-le_self, arith, length-append, length-drop, take-append-drop, get_or-drop, eq-eqb, ne_eqb, cases_Bool, cases_eq, All-append, All-cons, All-head, All-map, All-nil, All-tail, sum_by-cons, drop-map, drop_more, length-map, map-append, take_rest, Block, block_sizes, cell_count, cell_for}
 use Rattle.std.proofs.lemmas.List.{drop_min}
 use Rattle.std.proofs.lemmas.List.Elements.{All-drop}
-use Rattle.vc_layouts.specs.Tally.{HasRoom, tally_of}
-use Rattle.vc_layouts.specs.declared.tally.Tally.{Tally}
-use Rattle.vc_layouts.proofs.Tallies.{sizes-most, tallied-order, tally_of-bytes, tally_of-count}
+use Rattle.vc_seg.specs.Tally.{HasRoom, tally_of}
+use Rattle.vc_seg.specs.declared.tally.Tally.{Tally}
+use Rattle.vc_seg.proofs.Tallies.{sizes-most, tallied-order, tally_of-bytes, tally_of-count}
 use Rattle.vc_pool_cells.specs.Blocks.{cell_blocks, segment_blocks, layout_by, pair_of}
 use Rattle.vc_pool_cells.specs.Cells.{Cells, cells_of}
 use Rattle.vc_pool_cells.specs.Freed.{cell_total}

@@ -1,7 +1,7 @@
 -- Which segments have a block, by their pairs and by the blocks of the pool.
 use Rattle.vc_base.proofs.Common.{◌≡◌, ℕ, zero, suc, ◌+◌, ◌<◌, Bool, true, false, ◌&&◌, ◌||◌, eqb, ltb, List, [], ◌∷◌, map, get_or, All, flat_map, sym, refl, ap, ◌∙◌, ⊎_elim, arith, le-ltb, lt-ltb, eqb-true, and-false, or-false, cases_Bool, eqb-false, All-head, All-tail, list_any-append, get_or-map, length-map, list_any, is_occupied, Block}
 use Rattle.std.proofs.Math.Bool.{and-true}
-use Rattle.vc_layouts.proofs.InOrder.{any-order}
+use Rattle.vc_seg.proofs.InOrder.{any-order}
 use Rattle.vc_pool_cells.specs.Blocks.{block_of_cell, cell_blocks, segment_blocks, layout_by}
 use Rattle.vc_pool_cells.specs.Cells.{Cells}
 use Rattle.vc_seg.specs.Segment.{AreSegments}

@@ -1,7 +1,7 @@
 -- Each cell with a size has a block.
 use Rattle.vc_base.proofs.Common.{◌≡◌, ℕ, ◌%◌, ◌<◌, ◌≤◌, List, length, get_or, take, drop, Some, HoldsAt, sym, ap, ◌∙◌, subst, arith, length-map, address, Block, is_at, cell_for, cell_offset, HasBlock, find_block}
 use Rattle.vc_seg.specs.Segment.{IsRegionSegment}
-use Rattle.vc_layouts.proofs.InOrder.{own-place}
+use Rattle.vc_seg.proofs.InOrder.{own-place}
 use Rattle.vc_pool_cells.specs.Blocks.{block_of_cell, layout_by}
 use Rattle.vc_pool_cells.specs.Cells.{Cells, cells_of, pair_at}
 use Rattle.vc_pool_cells.specs.Freed.{cells_at}

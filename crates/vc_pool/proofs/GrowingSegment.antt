@@ -3,7 +3,7 @@ use Rattle.vc_base.proofs.Common.{◌≡◌, ◌≢◌, ℕ, zero, suc, ◌+◌,
 use Rattle.std.specs.List.{last_or}
 use Rattle.vc_model.specs.Discipline.{CanExtend, Extended}
 use Rattle.vc_model.specs.Segments.{growing, size_limit, with_more}
-use Rattle.vc_layouts.proofs.Segments.{Served-extended, with_more-push}
+use Rattle.vc_seg.proofs.Segments.{Served-extended, with_more-push}
 use Rattle.vc_seg.proofs.Backs.{Contains-ends}
 use Rattle.vc_seg.proofs.Growing.{more-asked, more-may, more-too_many, more_of}
 use Rattle.vc_seg.specs.Lend.{IsNoGrant}

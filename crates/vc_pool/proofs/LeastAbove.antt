@@ -1,6 +1,6 @@
 -- The least of some numbers above one.
 use Rattle.vc_base.proofs.Common.{◌≡◌, ℕ, ◌<◌, ◌≤◌, true, false, cond, ltb, List, [], ◌∷◌, get_or, IfSome, Some, None, fold, All, Contains, filter, Option, sym, refl, ap, subst, ⊎_elim, arith, lt-ltb, ltb-false, ltb-true, cases_Bool, cases_lt, All-cons, All-nil, least_above, lesser_by}
-use Rattle.vc_layouts.proofs.Walks.{least_above-among}
+use Rattle.vc_seg.proofs.LayoutWalks.{least_above-among}
 
 -- it is above that, and no other is less
 pub record IsLeast (after : ℕ) (ns : List ℕ) (n : ℕ) : Type 0 where

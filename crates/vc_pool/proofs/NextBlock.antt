@@ -3,7 +3,7 @@ use Rattle.vc_base.proofs.Common.{◌≡◌, ℕ, ◌*◌, ◌/◌, ◌%◌, ◌
 use Rattle.vc_base.specs.declared.addr.Addr.{Addr}
 use Rattle.vc_base.proofs.Quantifiers.{All-unmap}
 use Rattle.vc_seg.specs.Segment.{AreSegments}
-use Rattle.vc_layouts.proofs.Walks.{least_above-among, least_above-key}
+use Rattle.vc_seg.proofs.LayoutWalks.{least_above-among, least_above-key}
 use Rattle.vc_pool_cells.specs.Blocks.{layout_by, pair_of}
 use Rattle.vc_pool_cells.specs.Cells.{Cells, pair_at}
 use Rattle.vc_pool_cells.specs.Freed.{cells_at}

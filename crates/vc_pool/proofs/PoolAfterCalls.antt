@@ -3,7 +3,7 @@ use Rattle.vc_base.proofs.Common.{◌≡◌, ℕ, List, [], map, length, sym, re
 use Rattle.vc_model.specs.Pool.{empty_pool, pool_clear, pool_compact}
 use Rattle.vc_seg.specs.Segment.{IsRegionSegment}
 use Rattle.vc_seg.proofs.Backs.{Apart}
-use Rattle.vc_layouts.proofs.Lists.{AllPairs-nil}
+use Rattle.vc_seg.proofs.Lists.{AllPairs-nil}
 use Rattle.vc_pool_cells.specs.Blocks.{layout_by, pair_of}
 use Rattle.vc_pool_cells.specs.Call.{Becomes, IsPutBack}
 use Rattle.vc_pool_cells.specs.Cells.{cells_of}

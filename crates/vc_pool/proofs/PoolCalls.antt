@@ -2,8 +2,8 @@
 use Rattle.vc_base.proofs.Common.{◌≡◌, ℕ, ◌+◌, ◌<◌, ◌≤◌, Bool, true, false, ◌≢◌, List, [], ◌∷◌, map, length, Some, None, Option, sym, refl, ap, ◌∙◌, subst, ⊎_elim, arith, eq-eqb, ne_eqb, cases_eq, address, place_of, Discipline, Served, Terms, Layout, with_grant, Done, Outcome, Put, Pool, carve, carved_in, cell_for, cell_offset, element_with, pool_alloc, pool_need, uncarved, Grant, Granted, TooMany, ask, round_up}
 use Rattle.vc_model.proofs.Owned.{address-place_of}
 use Rattle.vc_model.specs.Segments.{segments_with}
-use Rattle.vc_layouts.proofs.Segments.{Served-same}
-use Rattle.vc_layouts.specs.Put.{with_zeros}
+use Rattle.vc_seg.proofs.Segments.{Served-same}
+use Rattle.vc_seg.specs.Put.{with_zeros}
 use Rattle.vc_seg.specs.Answer.{IsPut, IsRefusal}
 use Rattle.vc_seg.specs.declared.fault.RegionFault.{RegionFault}
 use Rattle.vc_seg.specs.declared.fault.RegionFault.TheVariants as code

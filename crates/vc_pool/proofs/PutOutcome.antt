@@ -1,7 +1,7 @@
 -- What putting a block into a pool answers, by what the pool has.
 use Rattle.vc_base.proofs.Common.{◌≡◌, ℕ, ◌<◌, ◌≤◌, Bool, true, false, ltb, List, [], ◌∷◌, Some, None, refl, sym, ap, ◌∙◌, le-ltb, lt-ltb, Terms, Layout, with_grant, Done, PoolSize, Refused, Pool, carve, carved_in, cell_for, cell_offset, element_with, pool_alloc, pool_need, pool_resize, put_asked, put_carving, put_free, uncarved, resize_there, Grant, Granted, NotLent, TooMany, ask}
 use Rattle.vc_model.specs.Outcome.{TooManySegments, NoSegment}
-use Rattle.vc_layouts.specs.Put.{with_zeros}
+use Rattle.vc_seg.specs.Put.{with_zeros}
 
 module _ (terms : Terms) (p : Pool ℕ) (tag size : ℕ) (refused : Bool) where
   -- the pool after it

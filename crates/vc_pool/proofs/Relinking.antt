@@ -1,6 +1,6 @@
 -- What a pool's segments are where a freed cell names another.
 use Rattle.vc_base.proofs.Common.{◌≡◌, ℕ, ◌^◌, ◌<◌, ◌≤◌, true, false, ◌≢◌, List, map, length, get_or, set, All, flat_map, sym, refl, ap, ◌∙◌, subst, ⊎_elim, arith, length-set, get_or-set_same, cases_Bool, false≢true, All-set, All-weaker, get_or_default, place_of, same_pair, cell_for, cell_offset}
-use Rattle.vc_layouts.specs.InOrder.{in_order}
+use Rattle.vc_seg.specs.InOrder.{in_order}
 use Rattle.vc_pool_cells.specs.Blocks.{segment_blocks, layout_by, pair_of}
 use Rattle.vc_pool_cells.specs.Cells.{Cells, HasCell, pair_at, with_free_cell}
 use Rattle.vc_pool_cells.specs.Freed.{IsFreeCell, cells_at, index_at, freed_link, link_word}

@@ -1,8 +1,8 @@
 -- The blocks in the cells of segments don't overlap, lie in their segments and have places of their own.
 use Rattle.vc_base.proofs.Common.{◌≡◌, ℕ, suc, ◌+◌, ◌<◌, ◌≤◌, List, [], ◌∷◌, map, length, get_or, Some, All, Option, Any, AllPairs, flat_map, sym, refl, ap, ◌∙◌, subst, ⊎_elim, arith, eq-eqb, ne_eqb, cases_eq, get_or-map, length-map, address, place_of, Block, address_of, IsPoolSound, cell_for, cell_offset, HaveOwnNumbers, HaveOwnPlaces}
 use Rattle.vc_model.specs.Pool.{IsInside, cell_run}
-use Rattle.vc_layouts.specs.InOrder.{in_order}
-use Rattle.vc_layouts.proofs.InOrder.{All-in_order}
+use Rattle.vc_seg.specs.InOrder.{in_order}
+use Rattle.vc_seg.proofs.InOrder.{All-in_order}
 use Rattle.vc_pool_cells.specs.Blocks.{segment_blocks, layout_by, pair_of}
 use Rattle.vc_pool_cells.specs.Cells.{Cells}
 use Rattle.vc_pool_cells.specs.Freed.{cells_at}

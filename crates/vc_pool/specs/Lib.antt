@@ -7,7 +7,7 @@ pub use Rattle.vc_model.specs.Order
 pub use Rattle.vc_model.specs.Pool
 pub use Rattle.vc_model.specs.Touch
 pub use Rattle.vc_model.specs.Walk
-pub use Rattle.vc_layouts.specs.Tally
+pub use Rattle.vc_seg.specs.Tally
 pub use Rattle.vc_seg.specs.Answer
 pub use Rattle.vc_seg.specs.Boxed
 pub use Rattle.vc_seg.specs.OneBlock

@@ -5,9 +5,8 @@ ghost use Rattle.vc_pool_cells.specs.Kept.{AreCellular};
 ghost use Rattle.vc_pool_cells.specs.Place.{cells_in};
 
 use crate::walks::{count_cells, tally_blocks};
-use vc_layouts::tally_segments;
 use vc_pool_cells::PoolSegment;
-use vc_seg::{Stat, rounded_up};
+use vc_seg::{Stat, rounded_up, tally_segments};
 
 // The numbers of blocks, cells and segments, and their sizes in bytes.
 pub(crate) fn stat_of(segs: &[PoolSegment], element: u32) -> Stat

@@ -1,10 +1,10 @@
 ghost use Rattle.std.specs.Prelude.{◌≡◌, ◌≤◌, drop, length, map};
-ghost use Rattle.vc_layouts.specs.Tally.{tally_of};
+ghost use Rattle.vc_seg.specs.Tally.{tally_of};
 ghost use Rattle.vc_pool.specs.Parts.{segments_in};
 
 use crate::pool::Pool;
 use crate::walks::tally_behind;
-use vc_layouts::Tally;
+use vc_seg::Tally;
 
 impl Pool {
     /// How many segments it has, at most 1,023.

@@ -4,8 +4,8 @@ use Rattle.std.proofs.lemmas.Nat.{div-mul-add}
 use Rattle.std.proofs.Math.Nat.{mul-mod_right}
 use Rattle.vc_model.proofs.Pairs.{AllPairs-head, AllPairs-tail}
 use Rattle.vc_seg.specs.Segment.{AreSegments, IsRegionSegment}
-use Rattle.vc_layouts.proofs.Blocks.{place_of-address}
-use Rattle.vc_layouts.proofs.InOrder.{All-in_order}
+use Rattle.vc_seg.proofs.Blocks.{place_of-address}
+use Rattle.vc_seg.proofs.InOrder.{All-in_order}
 use Rattle.vc_pool_cells.specs.Blocks.{block_of_cell, cell_blocks, segment_blocks, layout_by}
 use Rattle.vc_pool_cells.specs.Cells.{Cells, HasCell, IsCell, pair_at}
 use Rattle.vc_pool_cells.specs.Freed.{IsFreeCell, cells_at, index_at}

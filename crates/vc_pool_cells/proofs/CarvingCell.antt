@@ -1,7 +1,7 @@
 -- What carving a cell leaves of a pool's segments.
 use Rattle.vc_base.proofs.Common.{◌≡◌, ℕ, ◌+◌, ◌<◌, ◌≤◌, ◌≢◌, List, length, get_or, drop, set, All, sym, refl, ap, ◌∙◌, subst, arith, All-head, All-weaker, drop_more, get_or_default, length-map, place_of, zeros, carve, cell_for, cell_offset}
 use Rattle.vc_seg.specs.Segment.{IsRegionSegment}
-use Rattle.vc_layouts.specs.Put.{with_zeros}
+use Rattle.vc_seg.specs.Put.{with_zeros}
 use Rattle.vc_pool_cells.specs.Blocks.{block_of_cell, carved_by, layout_by}
 use Rattle.vc_pool_cells.specs.Cells.{Cells, HasCell, carved_with, cells_of, pair_at}
 use Rattle.vc_pool_cells.specs.Freed.{IsFreeCell, cells_at, freed_cells, index_at}

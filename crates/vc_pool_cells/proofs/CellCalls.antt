@@ -1,7 +1,7 @@
 -- What the calls on one cell leave of a pool's segments.
 use Rattle.vc_base.proofs.Common.{◌≡◌, ℕ, ◌+◌, ◌^◌, ◌<◌, ◌≤◌, true, ltb, ◌≢◌, List, [], ◌∷◌, length, get_or, take, drop, set, Some, All, filter, sym, refl, ap, ◌∙◌, subst, arith, length-set, get_or-set_same, All-head, All-tail, All-weaker, get_or_default, place_of, without_block_at, zeros, Block, Layout, is_at, cell_for, cell_offset, resize_there, sized_block, HasBlock, change_block, find_block, rewritten_block, with_bytes_at}
-use Rattle.vc_layouts.specs.Put.{with_zeros}
-use Rattle.vc_layouts.proofs.InOrder.{own-place}
+use Rattle.vc_seg.specs.Put.{with_zeros}
+use Rattle.vc_seg.proofs.InOrder.{own-place}
 use Rattle.vc_pool_cells.specs.Blocks.{block_of_cell, carved_by, layout_by}
 use Rattle.vc_pool_cells.specs.Call.{Becomes, IsPutBack, IsReused}
 use Rattle.vc_pool_cells.specs.Cells.{Cells, HasCell, with_zeros_in, cell_link, pair_at, with_free_cell, with_cell_size, with_cell_bytes}

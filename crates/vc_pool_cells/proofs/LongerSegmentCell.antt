@@ -1,6 +1,6 @@
 -- What carving a cell of the last segment, which was made longer, leaves of the segments.
 use Rattle.vc_base.proofs.Common.{◌≡◌, ℕ, suc, ◌+◌, ◌<◌, ◌≤◌, List, map, length, get_or, set, None, HoldsAt, false, sym, ap, ◌∙◌, subst, arith, get_or-set_same, length-map, place_of, IsSegmentSize, Layout, with_grant, carve, carved_in, cell_for, cell_offset, uncarved}
-use Rattle.vc_layouts.specs.Put.{with_zeros}
+use Rattle.vc_seg.specs.Put.{with_zeros}
 use Rattle.vc_pool_cells.specs.Blocks.{carved_by, layout_by, pair_of}
 use Rattle.vc_pool_cells.specs.Cells.{Cells, cells_of, with_more_bytes}
 use Rattle.vc_pool_cells.specs.Freed.{freed_cells}

@@ -4,7 +4,7 @@ use Rattle.std.proofs.lemmas.List.{get_or_push}
 use Rattle.std.proofs.lemmas.List.Concat.{flat_map-append}
 use Rattle.std.proofs.lemmas.List.Elements.{All-replicate}
 use Rattle.vc_seg.specs.Segment.{AreSegments, Bytes, IsRegionSegment}
-use Rattle.vc_layouts.specs.InOrder.{in_order}
+use Rattle.vc_seg.specs.InOrder.{in_order}
 use Rattle.vc_pool_cells.specs.Blocks.{cell_blocks, segment_blocks, carved_by, layout_by, pair_of}
 use Rattle.vc_pool_cells.specs.Cells.{Cells, pair_at}
 use Rattle.vc_pool_cells.specs.Freed.{IsFreeCell, cells_at, freed_cells, index_at, no_segment, link_word}

@@ -1,7 +1,7 @@
 -- What carving a cell of a segment that was put behind the others leaves of them.
 use Rattle.vc_base.proofs.Common.{◌≡◌, ℕ, ◌<◌, ◌≤◌, List, [], ◌∷◌, ◌++◌, map, length, get_or, None, All, HoldsAt, sym, refl, ap, ◌∙◌, subst, arith, length-map, map-append, place_of, Layout, carve, cell_for, cell_offset, uncarved, new_segment}
 use Rattle.std.proofs.lemmas.List.{get_or_push}
-use Rattle.vc_layouts.specs.Put.{with_zeros}
+use Rattle.vc_seg.specs.Put.{with_zeros}
 use Rattle.vc_pool_cells.specs.Blocks.{carved_by, layout_by, pair_of}
 use Rattle.vc_pool_cells.specs.Cells.{Cells, cells_of}
 use Rattle.vc_pool_cells.specs.Freed.{freed_cells}

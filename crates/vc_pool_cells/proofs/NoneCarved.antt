@@ -2,7 +2,7 @@
 use Rattle.vc_base.proofs.Common.{◌≡◌, ℕ, ◌≤◌, List, [], ◌∷◌, ◌++◌, map, length, get_or, flat_map, sym, refl, ap, ◌∙◌, subst, arith, All-map, All-nil, length-map, length-replicate, cleared_layout, Block, cell_for}
 use Rattle.std.proofs.lemmas.List.Elements.{All-replicate}
 use Rattle.vc_seg.specs.Segment.{AreSegments}
-use Rattle.vc_layouts.specs.InOrder.{in_order}
+use Rattle.vc_seg.specs.InOrder.{in_order}
 use Rattle.vc_pool_cells.specs.Blocks.{segment_blocks, layout_by, pair_of}
 use Rattle.vc_pool_cells.specs.Cells.{Cells, uncarved_all}
 use Rattle.vc_pool_cells.specs.Freed.{IsFreeCell}

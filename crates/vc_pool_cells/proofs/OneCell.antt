@@ -2,7 +2,7 @@
 use Rattle.vc_base.proofs.Common.{◌≡◌, ℕ, suc, ◌+◌, ◌*◌, ◌<◌, ◌≤◌, true, false, cond, eqb, ◌≢◌, List, [], ◌∷◌, ◌++◌, length, get_or, take, drop, set, All, flat_map, sym, refl, ap, ◌∙◌, ⊎_elim, append_assoc, arith, take-append-drop, length-take-le, ne_eqb, and_right, cases_Bool, eqb-false, All-append, All-cons, All-head, All-nil, All-tail, All-weaker, drop_more, Block, is_at, cell_offset}
 use Rattle.std.proofs.lemmas.List.{set_split}
 use Rattle.std.proofs.lemmas.List.Elements.{All-take}
-use Rattle.vc_layouts.proofs.InOrder.{NoneAt}
+use Rattle.vc_seg.proofs.InOrder.{NoneAt}
 use Rattle.vc_seg.proofs.Frames.{part-back, part-front}
 use Rattle.vc_pool_cells.specs.Blocks.{block_of_cell, cell_blocks, segment_blocks}
 use Rattle.vc_pool_cells.specs.Cells.{Cells, pair_at}

@@ -3,8 +3,8 @@ use Rattle.vc_base.proofs.Common.{◌≡◌, ℕ, zero, suc, ◌+◌, ◌<◌, �
 use Rattle.std.proofs.lemmas.List.{set_split}
 use Rattle.std.proofs.lemmas.List.Concat.{flat_map-append}
 use Rattle.vc_seg.specs.Segment.{AreSegments, Bytes}
-use Rattle.vc_layouts.specs.InOrder.{in_order}
-use Rattle.vc_layouts.proofs.InOrder.{All-in_order, NoneAt, change-with, find-with, order-middle, without-with}
+use Rattle.vc_seg.specs.InOrder.{in_order}
+use Rattle.vc_seg.proofs.InOrder.{All-in_order, NoneAt, change-with, find-with, order-middle, without-with}
 use Rattle.vc_pool_cells.specs.Blocks.{block_of_cell, segment_blocks, layout_by, pair_of}
 use Rattle.vc_pool_cells.specs.Cells.{Cells, pair_at}
 use Rattle.vc_pool_cells.specs.Freed.{cells_at}

@@ -2,7 +2,7 @@
 use Rattle.std.specs.Prelude.{ℕ, ◌+◌, List, [], ◌∷◌, ◌++◌, filter, length, map, nat_lt, take, drop, ◌==◌, if◌then◌else◌}
 use Rattle.std.specs.List.{flat_map}
 use Rattle.vc_model.specs.Layout.{Block, Layout}
-use Rattle.vc_layouts.specs.InOrder.{in_order}
+use Rattle.vc_seg.specs.InOrder.{in_order}
 use Rattle.vc_pool_cells.specs.Cells.{Cells}
 
 -- a segment as number and size

@@ -4,7 +4,7 @@ use Rattle.vc_model.specs.Addr.{place_of}
 use Rattle.vc_model.specs.Best.{without_block_at}
 use Rattle.vc_model.specs.Layout.{Layout}
 use Rattle.vc_model.specs.Pool.{cell_for}
-use Rattle.vc_layouts.specs.Put.{with_zeros}
+use Rattle.vc_seg.specs.Put.{with_zeros}
 use Rattle.vc_pool_cells.specs.Blocks.{carved_by, layout_by}
 use Rattle.vc_pool_cells.specs.Cells.{Cells}
 use Rattle.vc_pool_cells.specs.Freed.{freed_cells}

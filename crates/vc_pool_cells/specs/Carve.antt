@@ -5,7 +5,7 @@ use Rattle.vc_model.specs.Compact.{cleared_layout}
 use Rattle.vc_model.specs.Layout.{with_grant}
 use Rattle.vc_model.specs.Segments.{Grant}
 use Rattle.vc_model.specs.Pool.{carve, cell_for, uncarved}
-use Rattle.vc_layouts.specs.Put.{with_zeros}
+use Rattle.vc_seg.specs.Put.{with_zeros}
 use Rattle.vc_pool_cells.specs.Blocks.{carved_by, layout_by, pair_of}
 use Rattle.vc_pool_cells.specs.Cells.{Cells}
 use Rattle.vc_pool_cells.specs.Freed.{freed_cells}

@@ -1,10 +1,10 @@
 -- The segments behind the first ones are few enough to be counted.
 use Rattle.vc_base.proofs.Common.{◌≡◌, ℕ, zero, suc, ◌-◌, ◌*◌, ◌≤◌, min, List, [], ◌∷◌, map, length, take, drop, sum, sym, ap, ◌∙◌, subst, arith, length-drop, All-map, sum_by-cons, drop-map, length-map, take_rest}
 use Rattle.std.proofs.lemmas.List.{drop_min}
-use Rattle.vc_layouts.specs.Tally.{HasRoom, tally_of}
-use Rattle.vc_layouts.proofs.Tallies.{sizes-most, tally_of-count}
+use Rattle.vc_seg.specs.Tally.{HasRoom, tally_of}
+use Rattle.vc_seg.proofs.Tallies.{sizes-most, tally_of-count}
 use Rattle.vc_seg.specs.Segment.{AreSegments, Bytes, pair_of}
-use Rattle.vc_layouts.specs.declared.tally.Tally.{Tally}
+use Rattle.vc_seg.specs.declared.tally.Tally.{Tally}
 
 -- of segments those behind the first ones, counted and in bytes
 abbrev tally_behind : ℕ → List (ℕ × ℕ) → Tally

@@ -1,11 +1,10 @@
 ghost use Rattle.std.specs.Prelude.{◌≡◌, ◌≤◌, [], drop, length, map};
-ghost use Rattle.vc_layouts.specs.Tally.{HasRoom, tally_of};
+ghost use Rattle.vc_seg.specs.Tally.{HasRoom, tally_of};
 ghost use Rattle.vc_seg.specs.Segment.{AreSegments, pair_of};
 ghost use Rattle.vc_region.specs.Parts.{segments_in};
 
 use crate::region::Region;
-use vc_layouts::Tally;
-use vc_seg::Segment;
+use vc_seg::{Segment, Tally};
 
 // How many these are, and their sizes.
 fn tally(segments: &[Segment]) -> Tally

@@ -18,3 +18,10 @@ pub mod BytesByNumber
 pub mod FirstByNumber
 pub mod Frames
 pub mod Rooms
+pub mod Blocks
+pub mod InOrder
+pub mod Lists
+pub mod Resizes
+pub mod Segments
+pub mod Tallies
+pub mod LayoutWalks

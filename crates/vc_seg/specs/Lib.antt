@@ -1,3 +1,6 @@
+pub use Rattle.vc_model.specs.Sound
+pub use Rattle.vc_model.specs.Layout
+pub use Rattle.vc_model.specs.Best
 pub use Rattle.vc_model.specs.Addr
 pub use Rattle.vc_model.specs.Count
 pub use Rattle.vc_model.specs.Discipline
@@ -24,3 +27,6 @@ pub mod OneBlock
 pub mod Stat
 pub mod Fuse
 pub mod Shelf
+pub mod InOrder
+pub mod Put
+pub mod Tally

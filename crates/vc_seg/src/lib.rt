@@ -25,6 +25,7 @@ mod sbrk;
 mod segment;
 mod shelf;
 mod stat;
+mod tally;
 mod walk;
 mod word;
 
@@ -49,4 +50,5 @@ pub use sbrk::SbrkDisc;
 pub use segment::Segment;
 pub use shelf::{Shelf, ShelfPlace};
 pub use stat::Stat;
+pub use tally::{Tally, tally_segments};
 pub use walk::{next_segment, segment_at};

@@ -5,7 +5,7 @@ use Rattle.vc_seg.specs.declared.fault.RegionFault.TheVariants as code
 use Rattle.vc_seg.specs.Lend.{IsNoGrant}
 use Rattle.vc_gaps.specs.Cost.{GapsCost}
 use Rattle.vc_extent.specs.declared.extents.Extents.{Extents}
-use Rattle.vc_layouts.proofs.Segments.{Served-granted}
+use Rattle.vc_seg.proofs.Segments.{Served-granted}
 use Rattle.vc_best.proofs.Asking.{Answers-fault, Answers-granted}
 use Rattle.vc_best.proofs.BlockCounts.{put-count}
 use Rattle.vc_best.proofs.Costs.{changed_cost, still_cost, then_cost}

@@ -1,7 +1,7 @@
 use Rattle.vc_base.proofs.Common.{ℕ, List, [], map, length, sum, sym, ap, ◌∙◌, subst, arith, length-map}
 use Rattle.vc_best.proofs.Common.{Bytes, pair_of}
-use Rattle.vc_layouts.specs.Tally.{HasRoom, tally_of}
-use Rattle.vc_layouts.proofs.Tallies.{tally_of-bytes, tally_of-count}
+use Rattle.vc_seg.specs.Tally.{HasRoom, tally_of}
+use Rattle.vc_seg.proofs.Tallies.{tally_of-bytes, tally_of-count}
 use Rattle.vc_best.proofs.Counting.{blocks-bytes, blocks-count, blocks-most, gaps-bytes, gaps-count, gaps-most, room-all, room-segments}
 use Rattle.vc_best.proofs.EmptySegments.{segments-of}
 use Rattle.vc_best.proofs.Lends.{segments-by}

@@ -1,7 +1,7 @@
 use Rattle.vc_base.proofs.Common.{◌≡◌, ℕ, zero, suc, [], sym, refl, ap, ◌∙◌, Discipline}
 use Rattle.vc_counts.specs.Working.{open_state, segments_at, segments_at_home, tally_behind}
 use Rattle.vc_counts.proofs.FoundHome.{home-none, segments-found}
-use Rattle.vc_layouts.specs.Tally.{tally_of}
+use Rattle.vc_seg.specs.Tally.{tally_of}
 use Rattle.vc_counts.proofs.step.tally_behind_at.Given as given
 use Rattle.vc_counts.proofs.step.tally_behind_at.Goals as goal
 

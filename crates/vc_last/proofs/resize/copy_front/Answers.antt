@@ -5,7 +5,7 @@ use Rattle.vc_last.specs.Head.{block_of, bytes_at}
 use Rattle.vc_last.specs.Read.{layout_by}
 use Rattle.vc_base.proofs.Places.{span-least}
 use Rattle.vc_seg.specs.Memory.{write_segment}
-use Rattle.vc_layouts.proofs.Segments.{bytes_of_number-write}
+use Rattle.vc_seg.proofs.Segments.{bytes_of_number-write}
 use Rattle.vc_last.proofs.Bodies.{layout-written}
 use Rattle.vc_last.proofs.Moves.{among-from, found-by, found-head}
 use Rattle.vc_last.proofs.Writes.{stays-written}

@@ -8,7 +8,7 @@ use Rattle.vc_last.proofs.Calls.{ends-there}
 use Rattle.vc_last.proofs.Chains.{latest-head}
 use Rattle.vc_last.proofs.Latest.{IsLatestAt}
 use Rattle.vc_last.proofs.Moves.{IsMove, end-latest, found-layout, latest-among, latest-block, latest-found, before-copied, move-at, moved-own, refused-move}
-use Rattle.vc_layouts.proofs.Segments.{Served-later}
+use Rattle.vc_seg.proofs.Segments.{Served-later}
 use Rattle.vc_last.proofs.Resizes.{moved-is, moved-others, moved-there, resize-moves}
 use Rattle.vc_last.proofs.resize.move_latest.Goals as goal
 use Rattle.vc_last.proofs.resize.move_latest.Goals.{After-copy_front, After-tag_at-tag, After-unlink}

@@ -1,10 +1,10 @@
 use Rattle.vc_base.proofs.Common.{◌≡◌, ℕ, List, map, length, sym, refl, ap, ◌∙◌, length-map, bytes_of, Block, Layout, block_count, block_sizes, gaps_of, segment_bytes, segment_count}
 use Rattle.vc_model.specs.Numbers.{block_bytes, gap_bytes, gap_count, gap_sizes, greatest_block, greatest_gap}
 use Rattle.vc_seg.specs.Segment.{pair_of}
-use Rattle.vc_layouts.specs.declared.tally.Tally.{Tally}
-use Rattle.vc_layouts.specs.Tally.{tally_of}
+use Rattle.vc_seg.specs.declared.tally.Tally.{Tally}
+use Rattle.vc_seg.specs.Tally.{tally_of}
 use Rattle.vc_seg.proofs.Backs.{AreNumbered-segments}
-use Rattle.vc_layouts.proofs.Tallies.{HasRoom-segments, tally_of-count, tally_of-bytes, tally_of-most}
+use Rattle.vc_seg.proofs.Tallies.{HasRoom-segments, tally_of-count, tally_of-bytes, tally_of-most}
 use Rattle.vc_last.specs.Chain.{blocks_from}
 use Rattle.vc_last.proofs.Backs.{HasRoom-blocks}
 use Rattle.vc_last.proofs.Kept.{layout-from, row-of}

@@ -1,5 +1,5 @@
 use Rattle.vc_base.proofs.Common.{◌≡◌, ℕ, List, [], ◌∷◌, ◌++◌, map, sym, ap, ◌∙◌, subst, Block}
-use Rattle.vc_layouts.specs.Tally.{HasRoom, tally_with, tallied_all}
+use Rattle.vc_seg.specs.Tally.{HasRoom, tally_with, tallied_all}
 use Rattle.vc_last.specs.Head.{before_of, block_of}
 use Rattle.vc_last.proofs.Backs.{sizes-last, sizes_back}
 use Rattle.vc_last.proofs.Chains.{latest-none, latest-head}

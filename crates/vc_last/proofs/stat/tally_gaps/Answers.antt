@@ -1,7 +1,7 @@
 use Rattle.vc_base.proofs.Common.{◌≡◌, suc, ◌++◌, map, drop, sym, ap, ◌∙◌, subst, add-one, bytes_of, footprints}
 use Rattle.vc_seg.specs.Segment.{Bytes, pair_of}
-use Rattle.vc_layouts.specs.Tally.{HasRoom, tallied_all}
-use Rattle.vc_layouts.proofs.Tallies.{HasRoom-rest, tallied_all-append}
+use Rattle.vc_seg.specs.Tally.{HasRoom, tallied_all}
+use Rattle.vc_seg.proofs.Tallies.{HasRoom-rest, tallied_all-append}
 use Rattle.vc_last.specs.Chain.{blocks_from}
 use Rattle.vc_last.specs.Gaps.{gaps_left_in}
 use Rattle.vc_last.proofs.Tallies.{sizes_in, sizes_in-next}

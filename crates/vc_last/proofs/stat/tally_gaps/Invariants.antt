@@ -1,5 +1,5 @@
 use Rattle.vc_base.proofs.Common.{◌≡◌, drop, footprints}
-use Rattle.vc_layouts.specs.Tally.{HasRoom, tallied_all, tally_of}
+use Rattle.vc_seg.specs.Tally.{HasRoom, tallied_all, tally_of}
 use Rattle.vc_last.specs.Chain.{blocks_from}
 use Rattle.vc_last.proofs.Tallies.{sizes_in}
 use Rattle.vc_last.proofs.stat.tally_gaps.Given as goal

@@ -1,5 +1,5 @@
 use Rattle.vc_base.proofs.Common.{◌≡◌, ◌++◌, sym, ap, ◌∙◌, subst}
-use Rattle.vc_layouts.specs.Tally.{HasRoom, tallied_all}
+use Rattle.vc_seg.specs.Tally.{HasRoom, tallied_all}
 use Rattle.vc_last.specs.Gaps.{gap_end_below, sizes_above}
 use Rattle.vc_last.specs.Head.{before_of, block_of}
 use Rattle.vc_last.proofs.Backs.{gaps-end, gaps-last, gaps_back}

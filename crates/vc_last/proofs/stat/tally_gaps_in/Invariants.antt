@@ -1,5 +1,5 @@
 use Rattle.vc_base.proofs.Common.{◌≡◌, ◌-◌, length}
-use Rattle.vc_layouts.specs.Tally.{HasRoom, tallied_all}
+use Rattle.vc_seg.specs.Tally.{HasRoom, tallied_all}
 use Rattle.vc_last.specs.Chain.{IsLast, blocks_from}
 use Rattle.vc_last.proofs.Backs.{gaps_back}
 use Rattle.vc_last.proofs.stat.tally_gaps_in.Given as goal

@@ -1,6 +1,6 @@
 use Rattle.vc_base.proofs.Common.{◌≡◌, ◌*◌, map, ◌∙◌, arith, length-map, cell_of}
 use Rattle.vc_model.specs.Pool.{free_cells, greatest_free_cell}
-use Rattle.vc_layouts.proofs.Tallies.{HasRoom-segments}
+use Rattle.vc_seg.proofs.Tallies.{HasRoom-segments}
 use Rattle.vc_pool_cells.specs.Blocks.{layout_by, pair_of}
 use Rattle.vc_pool_cells.specs.Kept.{segment_of}
 use Rattle.vc_pool_cells.specs.Place.{cells_in, pair_in}

@@ -1,6 +1,6 @@
 use Rattle.vc_base.proofs.Common.{◌≡◌, map, drop}
 use Rattle.vc_seg.specs.Segment.{pair_of}
-use Rattle.vc_layouts.specs.Tally.{HasRoom, tallied_all, tally_of}
+use Rattle.vc_seg.specs.Tally.{HasRoom, tallied_all, tally_of}
 use Rattle.vc_region.proofs.segments.tally.Given as goal
 
 -- the tally so far, taken on over the segments that are left, is the result

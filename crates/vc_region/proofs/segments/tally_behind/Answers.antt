@@ -1,5 +1,5 @@
 use Rattle.vc_base.proofs.Common.{◌≤◌, sym, ◌∙◌, subst}
-use Rattle.vc_layouts.specs.declared.tally.Tally.{Tally}
+use Rattle.vc_seg.specs.declared.tally.Tally.{Tally}
 use Rattle.vc_region.proofs.Behind.{few-behind, slice-room, slice-tally}
 use Rattle.vc_region.proofs.segments.tally_behind.Goals as goal
 

@@ -2,8 +2,8 @@ use Rattle.vc_base.proofs.Common.{◌≡◌, ℕ, ◌+◌, ◌≤◌, min, false
 use Rattle.vc_best.proofs.Common.{HasGaps, layout_by, tiling}
 use Rattle.vc_model.specs.Numbers.{gap_count}
 use Rattle.vc_gaps.specs.Cost.{GapsCost}
-use Rattle.vc_layouts.proofs.Resizes.{others-sized}
-use Rattle.vc_layouts.proofs.Segments.{Served-later, Served-unasked}
+use Rattle.vc_seg.proofs.Resizes.{others-sized}
+use Rattle.vc_seg.proofs.Segments.{Served-later, Served-unasked}
 use Rattle.vc_best.proofs.Others.{others-moved}
 use Rattle.vc_best.proofs.ResizeAnswers.{resize-stays, resize-fixed, resize-moves, resize-refused, new-among, new-room, old-among, old-found, none-stays}
 use Rattle.vc_best.proofs.BlockCounts.{sized-count}

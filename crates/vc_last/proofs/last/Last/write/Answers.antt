@@ -5,7 +5,7 @@ use Rattle.vc_last.specs.Read.{layout_by}
 use Rattle.vc_last.proofs.Bodies.{layout-written}
 use Rattle.vc_last.proofs.Moves.{among-from}
 use Rattle.vc_last.proofs.Ranges.{range-in}
-use Rattle.vc_layouts.proofs.Resizes.{others-written}
+use Rattle.vc_seg.proofs.Resizes.{others-written}
 use Rattle.vc_last.proofs.Types.{have, have-sound}
 use Rattle.vc_last.proofs.last.Last.write.Goals as goal
 use Rattle.vc_last.proofs.last.Last.write.Goals.{After-put_in}

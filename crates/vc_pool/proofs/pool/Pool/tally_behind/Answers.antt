@@ -1,5 +1,5 @@
 use Rattle.vc_base.proofs.Common.{ℕ, List, map, drop, sym, ap, ◌∙◌}
-use Rattle.vc_layouts.specs.Tally.{tally_of}
+use Rattle.vc_seg.specs.Tally.{tally_of}
 use Rattle.vc_pool_cells.specs.Blocks.{pair_of}
 use Rattle.vc_pool_cells.specs.Place.{cells_in}
 use Rattle.vc_pool_cells.specs.declared.segment.PoolSegment.{PoolSegment}

@@ -1,7 +1,7 @@
 use Rattle.vc_base.proofs.Common.{◌≡◌, ℕ, ◌+◌, ◌≤◌, List, ◌++◌, length, drop, sym, ap, ◌∙◌, subst, drop_all, length-map, Block, block_sizes, cell_for}
-use Rattle.vc_layouts.specs.declared.tally.Tally.{Tally}
-use Rattle.vc_layouts.specs.Tally.{HasRoom, tallied_all, tally_of}
-use Rattle.vc_layouts.proofs.Tallies.{HasRoom-rest, tallied_all-append, tally_of-bytes, tally_of-count, tally_of-most}
+use Rattle.vc_seg.specs.declared.tally.Tally.{Tally}
+use Rattle.vc_seg.specs.Tally.{HasRoom, tallied_all, tally_of}
+use Rattle.vc_seg.proofs.Tallies.{HasRoom-rest, tallied_all-append, tally_of-bytes, tally_of-count, tally_of-most}
 use Rattle.vc_pool_cells.specs.Blocks.{layout_by}
 use Rattle.vc_pool_cells.specs.Place.{cells_in}
 use Rattle.vc_pool_cells.specs.declared.segment.PoolSegment.{PoolSegment}

@@ -1,5 +1,5 @@
 use Rattle.vc_base.proofs.Common.{◌≡◌, drop}
-use Rattle.vc_layouts.specs.Tally.{HasRoom, tallied_all}
+use Rattle.vc_seg.specs.Tally.{HasRoom, tallied_all}
 use Rattle.vc_pool.specs.Sizes.{sizes_in}
 use Rattle.vc_pool.proofs.walks.tally.with_cells.Given as goal
 

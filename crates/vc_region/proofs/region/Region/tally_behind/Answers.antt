@@ -1,5 +1,5 @@
 use Rattle.vc_base.proofs.Common.{ℕ, List, map, drop, sym, ap, ◌∙◌, subst}
-use Rattle.vc_layouts.specs.Tally.{tally_of}
+use Rattle.vc_seg.specs.Tally.{tally_of}
 use Rattle.vc_seg.specs.Segment.{AreSegments, pair_of}
 use Rattle.vc_region.specs.Parts.{segments_in}
 use Rattle.vc_region.proofs.KeptSegments.{best-legal, best-segments, last-legal, last-segments}

@@ -4,7 +4,7 @@ use Rattle.std.proofs.Common.{inl, inr}
 use Rattle.std.proofs.lemmas.List.{append_cancel_left}
 use Rattle.vc_model.specs.Discipline.{Excused, Extended, LentNothing, extend_last}
 use Rattle.vc_model.specs.Segments.{with_more}
-use Rattle.vc_layouts.proofs.Lists.{AllPairs-map}
+use Rattle.vc_seg.proofs.Lists.{AllPairs-map}
 use Rattle.vc_model.proofs.Keeping.{Kept-same}
 use Rattle.vc_base.proofs.Overwrites.{length-with_bytes}
 use Rattle.vc_seg.proofs.Backs.{extend_last-push}

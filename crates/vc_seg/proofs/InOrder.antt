@@ -1,8 +1,8 @@
 -- Blocks that are put by address one after another.
 use Rattle.vc_base.proofs.Common.{◌≡◌, ℕ, ◌<◌, Bool, true, false, ◌&&◌, ◌||◌, eqb, ltb, ◌⊎◌, List, [], ◌∷◌, ◌++◌, ◌==◌, Some, All, sym, refl, ap, ◌∙◌, inl, inr, ⊎_elim, arith, ltb-false, ltb-true, lt-ltb, eq-eqb, eqb-true, and_from, and_parts, cases_Bool, false≢true, or_cases, or_left, or_right, All-head, All-tail, list_any, Block, is_at, lies_before, place_of_block, with_block, without_block, change_block, find_block}
 use Rattle.vc_base.proofs.Booleans.{or-swap}
-use Rattle.vc_layouts.specs.InOrder.{in_order}
-use Rattle.vc_layouts.proofs.Blocks.{All-with}
+use Rattle.vc_seg.specs.InOrder.{in_order}
+use Rattle.vc_seg.proofs.Blocks.{All-with}
 
 -- the order of places
 abbrev Lower : Block ℕ → Block ℕ → Type 0

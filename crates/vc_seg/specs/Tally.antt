@@ -1,6 +1,6 @@
 -- Tallies of sizes in bytes.
 use Rattle.std.specs.Prelude.{List, fold, length, max, sum, ℕ, ◌+◌, ◌<◌}
-use Rattle.vc_layouts.specs.declared.tally.Tally.{Tally}
+use Rattle.vc_seg.specs.declared.tally.Tally.{Tally}
 
 -- one more size
 abbrev pub tally_with : Tally → ℕ → Tally

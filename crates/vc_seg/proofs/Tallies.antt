@@ -1,9 +1,9 @@
 -- Tallies of the blocks and segments of a layout.
 use Rattle.vc_base.proofs.Common.{◌≡◌, ℕ, ◌+◌, ◌*◌, ◌≤◌, max, true, false, List, [], ◌∷◌, ◌++◌, map, length, fold, All, sum, refl, ap, ◌∙◌, ⊎_elim, arith, length-append, cases_Bool, All-head, All-map, All-tail, sum_by-append, sum_by-cons, length-map, Block, lies_before, with_block, greatest}
 use Rattle.std.proofs.lemmas.List.Sums.{fold-append}
-use Rattle.vc_layouts.specs.InOrder.{in_order}
-use Rattle.vc_layouts.specs.Tally.{HasRoom, tally_with, tallied_all, tally_of}
-use Rattle.vc_layouts.specs.declared.tally.Tally.{Tally}
+use Rattle.vc_seg.specs.InOrder.{in_order}
+use Rattle.vc_seg.specs.Tally.{HasRoom, tally_with, tallied_all, tally_of}
+use Rattle.vc_seg.specs.declared.tally.Tally.{Tally}
 use Rattle.vc_seg.specs.Numbered.{AreNumbered}
 
 pub tallied_all-append : (t : Tally) (xs ys : List ℕ) → tallied_all t (xs ++ ys) ≡ tallied_all (tallied_all t xs) ys

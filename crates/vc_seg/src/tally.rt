@@ -1,7 +1,7 @@
 ghost use Rattle.std.specs.Prelude.{◌≡◌, [], ◌∷◌, map};
-ghost use Rattle.vc_layouts.specs.Tally.{HasRoom, tally_with, tally_of};
+ghost use Rattle.vc_seg.specs.Tally.{HasRoom, tally_with, tally_of};
 
-use vc_seg::Numbered;
+use crate::Numbered;
 
 /// How many sizes there are, their sum and the greatest, in bytes.
 #[derive(Clone, Copy)]
