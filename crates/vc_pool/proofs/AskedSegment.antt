@@ -4,14 +4,14 @@ use Rattle.vc_base.proofs.Quantifiers.{All-unmap}
 use Rattle.vc_seg.proofs.Segments.{Served-lent}
 use Rattle.vc_seg.specs.Lend.{IsGrantOf}
 use Rattle.vc_seg.specs.Segment.{Bytes}
-use Rattle.vc_pool_cells.specs.Blocks.{carved_by, pair_of}
-use Rattle.vc_pool_cells.specs.Carve.{CarvesIn}
-use Rattle.vc_pool_cells.specs.Cells.{Cells}
-use Rattle.vc_pool_cells.specs.Place.{IsOther, cells_in, pair_in}
-use Rattle.vc_pool_cells.specs.declared.segment.PoolSegment.{PoolSegment}
-use Rattle.vc_pool_cells.proofs.CarvedCounts.{none-carved}
-use Rattle.vc_pool_cells.proofs.ElementSize.{zeroed-pair}
-use Rattle.vc_pool_cells.proofs.SegmentList.{pairs-in}
+use Rattle.vc_pool.specs.Cells.Blocks.{carved_by, pair_of}
+use Rattle.vc_pool.specs.Cells.Carve.{CarvesIn}
+use Rattle.vc_pool.specs.Cells.Cells.{Cells}
+use Rattle.vc_pool.specs.Cells.Place.{IsOther, cells_in, pair_in}
+use Rattle.vc_pool.specs.declared.cells.segment.PoolSegment.{PoolSegment}
+use Rattle.vc_pool.proofs.CarvedCounts.{none-carved}
+use Rattle.vc_pool.proofs.ElementSize.{zeroed-pair}
+use Rattle.vc_pool.proofs.SegmentList.{pairs-in}
 use Rattle.vc_pool.specs.Ask.{IsGranted}
 
 -- of a pool's segments, by those that were looked through for a number

@@ -1,11 +1,11 @@
 -- The block that holds a byte is the one in the cell that the offset falls in.
 use Rattle.vc_base.proofs.Common.{◌≡◌, ℕ, ◌+◌, ◌-◌, ◌*◌, ◌/◌, ◌%◌, ◌<◌, ◌≤◌, true, false, ◌&&◌, eqb, ltb, leb, List, length, get_or, Some, None, option_map, sym, ap, ◌∙◌, subst, ⊎_elim, div-add-mod', arith, ltb-true, lt-ltb, eq-eqb, eqb-true, le-leb, leb-true, and_from, and_parts, cases_Bool, false≢true, Block, is_at, cell_for, cell_offset, find_block, block_at, holds_byte}
 use Rattle.std.proofs.lemmas.Nat.{div-mul-add}
-use Rattle.vc_pool_cells.specs.Blocks.{layout_by}
-use Rattle.vc_pool_cells.specs.Cells.{Cells, pair_at}
-use Rattle.vc_pool_cells.specs.Freed.{cells_at}
-use Rattle.vc_pool_cells.specs.Kept.{AreCellular, IsCellular}
-use Rattle.vc_pool_cells.proofs.BlockPlaces.{IsIn, at-number, blocks-in, fits-cell, index-same}
+use Rattle.vc_pool.specs.Cells.Blocks.{layout_by}
+use Rattle.vc_pool.specs.Cells.Cells.{Cells, pair_at}
+use Rattle.vc_pool.specs.Cells.Freed.{cells_at}
+use Rattle.vc_pool.specs.Cells.Kept.{AreCellular, IsCellular}
+use Rattle.vc_pool.proofs.BlockPlaces.{IsIn, at-number, blocks-in, fits-cell, index-same}
 use Rattle.vc_pool.proofs.FoundBlock.{find-none, find-same}
 
 -- the byte at an offset is in a cell's block

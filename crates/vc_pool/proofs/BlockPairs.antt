@@ -6,10 +6,10 @@ use Rattle.vc_seg.proofs.Lists.{AllPairs-append, AllPairs-nil}
 use Rattle.vc_seg.proofs.Blocks.{All-with, apart_by_seg}
 use Rattle.vc_seg.specs.InOrder.{in_order}
 use Rattle.vc_seg.proofs.InOrder.{All-in_order}
-use Rattle.vc_pool_cells.specs.Blocks.{block_of_cell, cell_blocks, segment_blocks}
-use Rattle.vc_pool_cells.specs.Cells.{Cells}
-use Rattle.vc_pool_cells.specs.Kept.{IsCellular}
-use Rattle.vc_pool_cells.proofs.OneCell.{All-block, blocks-seg, others-of}
+use Rattle.vc_pool.specs.Cells.Blocks.{block_of_cell, cell_blocks, segment_blocks}
+use Rattle.vc_pool.specs.Cells.Cells.{Cells}
+use Rattle.vc_pool.specs.Cells.Kept.{IsCellular}
+use Rattle.vc_pool.proofs.OneCell.{All-block, blocks-seg, others-of}
 
 -- what is true of each two blocks is so in whichever order they are put
 module _ (R : Block ℕ → Block ℕ → Type 0) (turn : (a b : Block ℕ) → R a b → R b a) where

@@ -5,14 +5,14 @@ use Rattle.std.proofs.lemmas.List.Elements.{All-drop}
 use Rattle.vc_seg.specs.Tally.{HasRoom, tally_of}
 use Rattle.vc_seg.specs.declared.tally.Tally.{Tally}
 use Rattle.vc_seg.proofs.Tallies.{sizes-most, tallied-order, tally_of-bytes, tally_of-count}
-use Rattle.vc_pool_cells.specs.Blocks.{cell_blocks, segment_blocks, layout_by, pair_of}
-use Rattle.vc_pool_cells.specs.Cells.{Cells, cells_of}
-use Rattle.vc_pool_cells.specs.Freed.{cell_total}
-use Rattle.vc_pool_cells.specs.Kept.{AreCellular, IsCellular, segment_of}
-use Rattle.vc_pool_cells.specs.Place.{cells_in, pair_in}
-use Rattle.vc_pool_cells.specs.declared.segment.PoolSegment.{PoolSegment}
-use Rattle.vc_pool_cells.proofs.BlockPlaces.{IsCell-for, all-legal, element-some}
-use Rattle.vc_pool_cells.proofs.SegmentList.{pairs-in}
+use Rattle.vc_pool.specs.Cells.Blocks.{cell_blocks, segment_blocks, layout_by, pair_of}
+use Rattle.vc_pool.specs.Cells.Cells.{Cells, cells_of}
+use Rattle.vc_pool.specs.Cells.Freed.{cell_total}
+use Rattle.vc_pool.specs.Cells.Kept.{AreCellular, IsCellular, segment_of}
+use Rattle.vc_pool.specs.Cells.Place.{cells_in, pair_in}
+use Rattle.vc_pool.specs.declared.cells.segment.PoolSegment.{PoolSegment}
+use Rattle.vc_pool.proofs.BlockPlaces.{IsCell-for, all-legal, element-some}
+use Rattle.vc_pool.proofs.SegmentList.{pairs-in}
 use Rattle.vc_seg.specs.Segment.{AreSegments}
 use Rattle.vc_pool.specs.Sizes.{element_of, sizes_in}
 

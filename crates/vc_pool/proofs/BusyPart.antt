@@ -5,14 +5,14 @@ use Rattle.vc_seg.specs.Segment.{AreSegments, Bytes}
 use Rattle.vc_seg.proofs.Backs.{AreSegments-filter}
 use Rattle.vc_seg.proofs.Filters.{filter-filter}
 use Rattle.vc_seg.specs.InOrder.{in_order}
-use Rattle.vc_pool_cells.specs.Blocks.{segment_blocks, carved_by, layout_by, pair_of}
-use Rattle.vc_pool_cells.specs.Cells.{Cells, cells_of, pair_at}
-use Rattle.vc_pool_cells.specs.Freed.{IsFreeCell, cells_at, freed_cells, index_at, link_word}
-use Rattle.vc_pool_cells.specs.Kept.{AreCellular, IsCellular, IsFront, IsFull, IsPool, IsPoolOf, segment_of}
-use Rattle.vc_pool_cells.specs.Place.{cells_in}
-use Rattle.vc_pool_cells.specs.declared.segment.PoolSegment.{PoolSegment}
-use Rattle.vc_pool_cells.proofs.Chains.{chain-same}
-use Rattle.vc_pool_cells.proofs.PoolChange.{pool-freed, pool-of}
+use Rattle.vc_pool.specs.Cells.Blocks.{segment_blocks, carved_by, layout_by, pair_of}
+use Rattle.vc_pool.specs.Cells.Cells.{Cells, cells_of, pair_at}
+use Rattle.vc_pool.specs.Cells.Freed.{IsFreeCell, cells_at, freed_cells, index_at, link_word}
+use Rattle.vc_pool.specs.Cells.Kept.{AreCellular, IsCellular, IsFront, IsFull, IsPool, IsPoolOf, segment_of}
+use Rattle.vc_pool.specs.Cells.Place.{cells_in}
+use Rattle.vc_pool.specs.declared.cells.segment.PoolSegment.{PoolSegment}
+use Rattle.vc_pool.proofs.Chains.{chain-same}
+use Rattle.vc_pool.proofs.PoolChange.{pool-freed, pool-of}
 use Rattle.vc_pool.specs.Compacting.{IsCompacted}
 use Rattle.vc_pool.specs.Marks.{has_block, has_block_at}
 use Rattle.vc_pool.specs.Relink.{KeepsAll}

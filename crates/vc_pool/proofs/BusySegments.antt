@@ -2,13 +2,13 @@
 use Rattle.vc_base.proofs.Common.{◌≡◌, ℕ, zero, suc, ◌+◌, ◌<◌, Bool, true, false, ◌&&◌, ◌||◌, eqb, ltb, List, [], ◌∷◌, map, get_or, All, flat_map, sym, refl, ap, ◌∙◌, ⊎_elim, arith, le-ltb, lt-ltb, eqb-true, and-false, or-false, cases_Bool, eqb-false, All-head, All-tail, list_any-append, get_or-map, length-map, list_any, is_occupied, Block}
 use Rattle.std.proofs.Math.Bool.{and-true}
 use Rattle.vc_seg.proofs.InOrder.{any-order}
-use Rattle.vc_pool_cells.specs.Blocks.{block_of_cell, cell_blocks, segment_blocks, layout_by}
-use Rattle.vc_pool_cells.specs.Cells.{Cells}
+use Rattle.vc_pool.specs.Cells.Blocks.{block_of_cell, cell_blocks, segment_blocks, layout_by}
+use Rattle.vc_pool.specs.Cells.Cells.{Cells}
 use Rattle.vc_seg.specs.Segment.{AreSegments}
-use Rattle.vc_pool_cells.specs.Kept.{segment_of}
-use Rattle.vc_pool_cells.specs.Place.{cells_in, pair_in}
-use Rattle.vc_pool_cells.specs.declared.segment.PoolSegment.{PoolSegment}
-use Rattle.vc_pool_cells.proofs.SegmentList.{numbered-in}
+use Rattle.vc_pool.specs.Cells.Kept.{segment_of}
+use Rattle.vc_pool.specs.Cells.Place.{cells_in, pair_in}
+use Rattle.vc_pool.specs.declared.cells.segment.PoolSegment.{PoolSegment}
+use Rattle.vc_pool.proofs.SegmentList.{numbered-in}
 use Rattle.vc_pool.specs.Marks.{has_block, has_block_at}
 
 and-or : (a x y : Bool) → ((a && x) || (a && y)) ≡ (a && (x || y))

@@ -1,11 +1,11 @@
 -- What a look-up of a byte's block answers, by the segment that was found.
 use Rattle.vc_base.proofs.Common.{◌≡◌, ℕ, ◌-◌, ◌/◌, ◌%◌, ◌<◌, ◌≤◌, List, length, get_or, Some, None, Option, option_map, HoldsAt, sym, ap, ◌∙◌, subst, div-add-mod', arith, address, Block, address_of, cell_for, cell_offset, block_at}
-use Rattle.vc_pool_cells.specs.Blocks.{layout_by}
-use Rattle.vc_pool_cells.specs.Cells.{Cells, cells_of, pair_at}
-use Rattle.vc_pool_cells.specs.Freed.{cells_at}
-use Rattle.vc_pool_cells.specs.Kept.{AreCellular}
-use Rattle.vc_pool_cells.specs.Place.{cells_in}
-use Rattle.vc_pool_cells.specs.declared.segment.PoolSegment.{PoolSegment}
+use Rattle.vc_pool.specs.Cells.Blocks.{layout_by}
+use Rattle.vc_pool.specs.Cells.Cells.{Cells, cells_of, pair_at}
+use Rattle.vc_pool.specs.Cells.Freed.{cells_at}
+use Rattle.vc_pool.specs.Cells.Kept.{AreCellular}
+use Rattle.vc_pool.specs.Cells.Place.{cells_in}
+use Rattle.vc_pool.specs.declared.cells.segment.PoolSegment.{PoolSegment}
 use Rattle.vc_pool.proofs.BlockOfByte.{HasByte, byte-none, byte-some, byte-there, never-listed, never-within}
 use Rattle.vc_pool.proofs.CellsWithBlocks.{block_of, found-block, found-element, found-is}
 

@@ -2,16 +2,16 @@
 use Rattle.vc_base.proofs.Common.{◌≡◌, ℕ, ◌%◌, ◌<◌, ◌≤◌, List, length, get_or, take, drop, Some, HoldsAt, sym, ap, ◌∙◌, subst, arith, length-map, address, Block, is_at, cell_for, cell_offset, HasBlock, find_block}
 use Rattle.vc_seg.specs.Segment.{IsRegionSegment}
 use Rattle.vc_seg.proofs.InOrder.{own-place}
-use Rattle.vc_pool_cells.specs.Blocks.{block_of_cell, layout_by}
-use Rattle.vc_pool_cells.specs.Cells.{Cells, cells_of, pair_at}
-use Rattle.vc_pool_cells.specs.Freed.{cells_at}
-use Rattle.vc_pool_cells.specs.Kept.{AreCellular, IsCellular, segment_of}
-use Rattle.vc_pool_cells.specs.Place.{cells_in}
-use Rattle.vc_pool_cells.specs.declared.segment.PoolSegment.{PoolSegment}
-use Rattle.vc_pool_cells.proofs.SegmentList.{alone-in, cells-get}
-use Rattle.vc_pool_cells.proofs.OneSegment.{cells-first, layout-found}
-use Rattle.vc_pool_cells.proofs.BlockPlaces.{IsCell-for, all-legal, cell-there, element-some, offset-multiple}
-use Rattle.vc_pool_cells.proofs.CellBytes.{one-block}
+use Rattle.vc_pool.specs.Cells.Blocks.{block_of_cell, layout_by}
+use Rattle.vc_pool.specs.Cells.Cells.{Cells, cells_of, pair_at}
+use Rattle.vc_pool.specs.Cells.Freed.{cells_at}
+use Rattle.vc_pool.specs.Cells.Kept.{AreCellular, IsCellular, segment_of}
+use Rattle.vc_pool.specs.Cells.Place.{cells_in}
+use Rattle.vc_pool.specs.declared.cells.segment.PoolSegment.{PoolSegment}
+use Rattle.vc_pool.proofs.SegmentList.{alone-in, cells-get}
+use Rattle.vc_pool.proofs.OneSegment.{cells-first, layout-found}
+use Rattle.vc_pool.proofs.BlockPlaces.{IsCell-for, all-legal, cell-there, element-some, offset-multiple}
+use Rattle.vc_pool.proofs.CellBytes.{one-block}
 use Rattle.vc_pool.proofs.FoundBlock.{find-has}
 
 -- the block in a cell

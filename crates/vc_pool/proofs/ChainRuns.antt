@@ -1,9 +1,9 @@
 -- Runs of freed cells.
 use Rattle.vc_base.proofs.Common.{◌≡◌, ℕ, ◌+◌, ◌<◌, ◌≤◌, ◌≢◌, List, [], ◌∷◌, ◌++◌, length, get_or, All, sym, refl, ap, ◌∙◌, subst, arith, All-cons, All-head, All-nil, All-tail, place_of}
-use Rattle.vc_pool_cells.specs.Cells.{Cells}
-use Rattle.vc_pool_cells.specs.Freed.{IsFreedChain, freed_link, times}
-use Rattle.vc_pool_cells.proofs.Chains.{KeepsWord}
-use Rattle.vc_pool_cells.proofs.PlaceCounts.{none-times, same_pair-self, times-append}
+use Rattle.vc_pool.specs.Cells.Cells.{Cells}
+use Rattle.vc_pool.specs.Cells.Freed.{IsFreedChain, freed_link, times}
+use Rattle.vc_pool.proofs.Chains.{KeepsWord}
+use Rattle.vc_pool.proofs.PlaceCounts.{none-times, same_pair-self, times-append}
 use Rattle.vc_pool.specs.Relink.{IsChainRun}
 
 -- a run goes on by one cell

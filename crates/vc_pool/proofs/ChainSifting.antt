@@ -1,14 +1,14 @@
 -- The chain of freed cells, of which one leaves or stays.
 use Rattle.vc_base.proofs.Common.{◌≡◌, ℕ, ◌^◌, ◌<◌, ◌≤◌, Bool, true, false, ◌≢◌, List, [], ◌∷◌, ◌++◌, length, get_or, set, filter, sym, refl, ap, ◌∙◌, subst, append_assoc, arith, All-head, get_or_default, place_of, cell_for}
-use Rattle.vc_pool_cells.specs.Cells.{Cells, with_free_cell}
-use Rattle.vc_pool_cells.specs.Freed.{IsFreedChain, IsFreeCell, cells_at, freed_cells, freed_link, no_segment, times}
-use Rattle.vc_pool_cells.specs.Kept.{AreCellular, IsPool, IsPoolOf}
-use Rattle.vc_pool_cells.specs.Place.{IsListed}
-use Rattle.vc_pool_cells.proofs.CellCalls.{freed-listed, link-small}
-use Rattle.vc_pool_cells.proofs.Chains.{chain-same}
-use Rattle.vc_pool_cells.proofs.PoolChange.{pool-freed, pool-of}
-use Rattle.vc_pool_cells.proofs.BlockPlaces.{element-some, number-legal}
-use Rattle.vc_pool_cells.proofs.PlaceCounts.{times-append}
+use Rattle.vc_pool.specs.Cells.Cells.{Cells, with_free_cell}
+use Rattle.vc_pool.specs.Cells.Freed.{IsFreedChain, IsFreeCell, cells_at, freed_cells, freed_link, no_segment, times}
+use Rattle.vc_pool.specs.Cells.Kept.{AreCellular, IsPool, IsPoolOf}
+use Rattle.vc_pool.specs.Cells.Place.{IsListed}
+use Rattle.vc_pool.proofs.CellCalls.{freed-listed, link-small}
+use Rattle.vc_pool.proofs.Chains.{chain-same}
+use Rattle.vc_pool.proofs.PoolChange.{pool-freed, pool-of}
+use Rattle.vc_pool.proofs.BlockPlaces.{element-some, number-legal}
+use Rattle.vc_pool.proofs.PlaceCounts.{times-append}
 use Rattle.vc_pool.specs.Relink.{HasSplit, IsRelinked, IsChainRun, IsSifted, IsSplit, KeepsAll}
 use Rattle.vc_pool.proofs.Relinking.{free-listed, linked-cells, linked-free, linked-front, linked-keeps, linked-link, linked-word}
 use Rattle.vc_pool.proofs.ChainRuns.{All-behind, All-front, All-less, front-others, run-chain, run-last, run-push, run-relinked, run-some}

@@ -9,17 +9,17 @@ use Rattle.vc_seg.proofs.Growing.{more-asked, more-may, more-too_many, more_of}
 use Rattle.vc_seg.specs.Lend.{IsNoGrant}
 use Rattle.vc_seg.specs.declared.fault.RegionFault.{RegionFault}
 use Rattle.vc_seg.specs.declared.fault.RegionFault.TheVariants as code
-use Rattle.vc_pool_cells.specs.Blocks.{carved_by, pair_of}
-use Rattle.vc_pool_cells.specs.Carve.{IsCarvedAt, IsCarvedIn}
-use Rattle.vc_pool_cells.specs.Cells.{Cells, cells_of, with_more_bytes}
-use Rattle.vc_pool_cells.specs.Kept.{AreCellular, IsCellular, IsPool}
-use Rattle.vc_pool_cells.specs.Open.{IsFirstOpen}
-use Rattle.vc_pool_cells.specs.Place.{cells_in, pair_in}
-use Rattle.vc_pool_cells.specs.declared.segment.PoolSegment.{PoolSegment}
-use Rattle.vc_pool_cells.proofs.BlockPlaces.{all-legal}
-use Rattle.vc_pool_cells.proofs.LongerSegment.{more-cells}
-use Rattle.vc_pool_cells.proofs.LongerSegmentCell.{carved-longer, first-longer, kept-longer, place-longer}
-use Rattle.vc_pool_cells.proofs.SegmentList.{cells-get}
+use Rattle.vc_pool.specs.Cells.Blocks.{carved_by, pair_of}
+use Rattle.vc_pool.specs.Cells.Carve.{IsCarvedAt, IsCarvedIn}
+use Rattle.vc_pool.specs.Cells.Cells.{Cells, cells_of, with_more_bytes}
+use Rattle.vc_pool.specs.Cells.Kept.{AreCellular, IsCellular, IsPool}
+use Rattle.vc_pool.specs.Cells.Open.{IsFirstOpen}
+use Rattle.vc_pool.specs.Cells.Place.{cells_in, pair_in}
+use Rattle.vc_pool.specs.declared.cells.segment.PoolSegment.{PoolSegment}
+use Rattle.vc_pool.proofs.BlockPlaces.{all-legal}
+use Rattle.vc_pool.proofs.LongerSegment.{more-cells}
+use Rattle.vc_pool.proofs.LongerSegmentCell.{carved-longer, first-longer, kept-longer, place-longer}
+use Rattle.vc_pool.proofs.SegmentList.{cells-get}
 use Rattle.vc_pool.specs.Ask.{IsGranted}
 
 -- the last of some

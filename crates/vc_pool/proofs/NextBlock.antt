@@ -4,11 +4,11 @@ use Rattle.vc_base.specs.declared.addr.Addr.{Addr}
 use Rattle.vc_base.proofs.Quantifiers.{All-unmap}
 use Rattle.vc_seg.specs.Segment.{AreSegments}
 use Rattle.vc_seg.proofs.LayoutWalks.{least_above-among, least_above-key}
-use Rattle.vc_pool_cells.specs.Blocks.{layout_by, pair_of}
-use Rattle.vc_pool_cells.specs.Cells.{Cells, pair_at}
-use Rattle.vc_pool_cells.specs.Freed.{cells_at}
-use Rattle.vc_pool_cells.specs.Kept.{AreCellular, segment_of}
-use Rattle.vc_pool_cells.proofs.BlockPlaces.{IsIn, all-legal, at-number, blocks-in, number-there}
+use Rattle.vc_pool.specs.Cells.Blocks.{layout_by, pair_of}
+use Rattle.vc_pool.specs.Cells.Cells.{Cells, pair_at}
+use Rattle.vc_pool.specs.Cells.Freed.{cells_at}
+use Rattle.vc_pool.specs.Cells.Kept.{AreCellular, segment_of}
+use Rattle.vc_pool.proofs.BlockPlaces.{IsIn, all-legal, at-number, blocks-in, number-there}
 use Rattle.vc_pool.specs.First.{AreEmpty, IsBare, IsFirstAbove, IsFirstIn}
 use Rattle.vc_pool.proofs.LeastAbove.{IsLeast, least-found, least-is, least-no, least-none}
 use Rattle.vc_pool.proofs.CellsWithBlocks.{cell-multiple, cell-small}

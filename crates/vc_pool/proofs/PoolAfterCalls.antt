@@ -4,16 +4,16 @@ use Rattle.vc_model.specs.Pool.{empty_pool, pool_clear, pool_compact}
 use Rattle.vc_seg.specs.Segment.{IsRegionSegment}
 use Rattle.vc_seg.proofs.Backs.{Apart}
 use Rattle.vc_seg.proofs.Lists.{AllPairs-nil}
-use Rattle.vc_pool_cells.specs.Blocks.{layout_by, pair_of}
-use Rattle.vc_pool_cells.specs.Call.{Becomes, IsPutBack}
-use Rattle.vc_pool_cells.specs.Cells.{cells_of}
-use Rattle.vc_pool_cells.specs.Freed.{IsFreeCell, freed_cells, freed_from}
-use Rattle.vc_pool_cells.specs.Kept.{IsCellular, IsPool, IsPoolOf}
-use Rattle.vc_pool_cells.specs.Place.{cells_in, pair_in}
-use Rattle.vc_pool_cells.specs.declared.segment.PoolSegment.{PoolSegment}
-use Rattle.vc_pool_cells.proofs.SegmentList.{pairs-in}
-use Rattle.vc_pool_cells.proofs.PoolChange.{pool-of}
-use Rattle.vc_pool_cells.specs.Carve.{IsUncarved}
+use Rattle.vc_pool.specs.Cells.Blocks.{layout_by, pair_of}
+use Rattle.vc_pool.specs.Cells.Call.{Becomes, IsPutBack}
+use Rattle.vc_pool.specs.Cells.Cells.{cells_of}
+use Rattle.vc_pool.specs.Cells.Freed.{IsFreeCell, freed_cells, freed_from}
+use Rattle.vc_pool.specs.Cells.Kept.{IsCellular, IsPool, IsPoolOf}
+use Rattle.vc_pool.specs.Cells.Place.{cells_in, pair_in}
+use Rattle.vc_pool.specs.declared.cells.segment.PoolSegment.{PoolSegment}
+use Rattle.vc_pool.proofs.SegmentList.{pairs-in}
+use Rattle.vc_pool.proofs.PoolChange.{pool-of}
+use Rattle.vc_pool.specs.Cells.Carve.{IsUncarved}
 use Rattle.vc_pool.specs.Compacting.{IsCompacted}
 use Rattle.vc_pool.specs.Sizes.{element_of}
 use Rattle.vc_pool.specs.Read.{pool_by}

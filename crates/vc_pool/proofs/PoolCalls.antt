@@ -8,17 +8,17 @@ use Rattle.vc_seg.specs.Answer.{IsPut, IsRefusal}
 use Rattle.vc_seg.specs.declared.fault.RegionFault.{RegionFault}
 use Rattle.vc_seg.specs.declared.fault.RegionFault.TheVariants as code
 use Rattle.vc_seg.specs.Lend.{IsNoGrant}
-use Rattle.vc_pool_cells.specs.Blocks.{carved_by, layout_by, pair_of}
-use Rattle.vc_pool_cells.specs.Call.{IsReused}
-use Rattle.vc_pool_cells.specs.Cells.{Cells}
-use Rattle.vc_pool_cells.specs.Freed.{cells_at, freed_cells}
-use Rattle.vc_pool_cells.specs.Kept.{AreCellular, IsPool}
-use Rattle.vc_pool_cells.specs.Place.{cells_in}
-use Rattle.vc_pool_cells.specs.declared.segment.PoolSegment.{PoolSegment}
-use Rattle.vc_pool_cells.proofs.CellCalls.{freed-listed}
-use Rattle.vc_pool_cells.proofs.Chains.{freed-is}
-use Rattle.vc_pool_cells.specs.Carve.{IsCarvedAt}
-use Rattle.vc_pool_cells.proofs.ElementSize.{layout-set_from, pool-set_from}
+use Rattle.vc_pool.specs.Cells.Blocks.{carved_by, layout_by, pair_of}
+use Rattle.vc_pool.specs.Cells.Call.{IsReused}
+use Rattle.vc_pool.specs.Cells.Cells.{Cells}
+use Rattle.vc_pool.specs.Cells.Freed.{cells_at, freed_cells}
+use Rattle.vc_pool.specs.Cells.Kept.{AreCellular, IsPool}
+use Rattle.vc_pool.specs.Cells.Place.{cells_in}
+use Rattle.vc_pool.specs.declared.cells.segment.PoolSegment.{PoolSegment}
+use Rattle.vc_pool.proofs.CellCalls.{freed-listed}
+use Rattle.vc_pool.proofs.Chains.{freed-is}
+use Rattle.vc_pool.specs.Cells.Carve.{IsCarvedAt}
+use Rattle.vc_pool.proofs.ElementSize.{layout-set_from, pool-set_from}
 use Rattle.vc_pool.specs.Sizes.{element_of}
 use Rattle.vc_pool.specs.Ask.{IsGranted, LacksCell, cell_need}
 use Rattle.vc_pool.specs.Read.{pool_by}

@@ -1,9 +1,9 @@
 -- The numbers of a pool by what it keeps.
 use Rattle.vc_base.proofs.Common.{◌≡◌, ℕ, ◌-◌, true, false, eqb, ◌≢◌, List, map, sym, refl, ap, ◌∙◌, ⊎_elim, arith, eq-eqb, ne_eqb, eqb-true, cases_Bool, block_count, cell_count, cell_for, cell_of}
 use Rattle.vc_model.specs.Pool.{free_cells, greatest_free_cell}
-use Rattle.vc_pool_cells.specs.Blocks.{layout_by, pair_of}
-use Rattle.vc_pool_cells.specs.Place.{cells_in}
-use Rattle.vc_pool_cells.specs.declared.segment.PoolSegment.{PoolSegment}
+use Rattle.vc_pool.specs.Cells.Blocks.{layout_by, pair_of}
+use Rattle.vc_pool.specs.Cells.Place.{cells_in}
+use Rattle.vc_pool.specs.declared.cells.segment.PoolSegment.{PoolSegment}
 use Rattle.vc_pool.specs.Sizes.{element_of}
 use Rattle.vc_pool.specs.Read.{pool_by}
 

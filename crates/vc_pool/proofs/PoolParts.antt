@@ -1,13 +1,13 @@
 -- What is always true of a pool, by its segments with their cells, its element size and the address of the cell freed last.
 use Rattle.vc_base.proofs.Common.{◌≡◌, ℕ, ◌≤◌, List, Some, refl, arith, ne_eqb, IsPoolSound, Pool, cell_for, HasBlock}
-use Rattle.vc_pool_cells.specs.Blocks.{carved_by, layout_by}
-use Rattle.vc_pool_cells.specs.Freed.{freed_cells}
-use Rattle.vc_pool_cells.specs.Kept.{AreCellular, IsPool}
-use Rattle.vc_pool_cells.specs.Place.{cells_in}
-use Rattle.vc_pool_cells.specs.declared.segment.PoolSegment.{PoolSegment}
+use Rattle.vc_pool.specs.Cells.Blocks.{carved_by, layout_by}
+use Rattle.vc_pool.specs.Cells.Freed.{freed_cells}
+use Rattle.vc_pool.specs.Cells.Kept.{AreCellular, IsPool}
+use Rattle.vc_pool.specs.Cells.Place.{cells_in}
+use Rattle.vc_pool.specs.declared.cells.segment.PoolSegment.{PoolSegment}
 use Rattle.vc_pool.specs.Sizes.{element_of}
 use Rattle.vc_pool.specs.Read.{pool_by}
-use Rattle.vc_pool_cells.proofs.BlockPlaces.{block-some}
+use Rattle.vc_pool.proofs.BlockPlaces.{block-some}
 use Rattle.vc_pool.proofs.SoundBlocks.{sound-by}
 
 -- the parts of a pool

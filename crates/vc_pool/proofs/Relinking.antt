@@ -1,19 +1,19 @@
 -- What a pool's segments are where a freed cell names another.
 use Rattle.vc_base.proofs.Common.{◌≡◌, ℕ, ◌^◌, ◌<◌, ◌≤◌, true, false, ◌≢◌, List, map, length, get_or, set, All, flat_map, sym, refl, ap, ◌∙◌, subst, ⊎_elim, arith, length-set, get_or-set_same, cases_Bool, false≢true, All-set, All-weaker, get_or_default, place_of, same_pair, cell_for, cell_offset}
 use Rattle.vc_seg.specs.InOrder.{in_order}
-use Rattle.vc_pool_cells.specs.Blocks.{segment_blocks, layout_by, pair_of}
-use Rattle.vc_pool_cells.specs.Cells.{Cells, HasCell, pair_at, with_free_cell}
-use Rattle.vc_pool_cells.specs.Freed.{IsFreeCell, cells_at, index_at, freed_link, link_word}
-use Rattle.vc_pool_cells.specs.Kept.{AreCellular, IsCellular, IsFront}
-use Rattle.vc_pool_cells.specs.Place.{IsCellAt, IsListed}
-use Rattle.vc_pool_cells.proofs.OneCell.{ChangesCell}
-use Rattle.vc_pool_cells.proofs.Chains.{KeepsWord, keeps-free, keeps-word}
-use Rattle.vc_pool_cells.proofs.CellCalls.{carved-stays}
-use Rattle.vc_pool_cells.proofs.CellularSegments.{cellular-set, front-set, segments-set}
-use Rattle.vc_pool_cells.proofs.OneSegment.{all-new, all-old, cells-first, cells-set, map-stays, others, with_cell}
-use Rattle.vc_pool_cells.proofs.BlockPlaces.{all-few, cell-there, fits-cell, index-same}
-use Rattle.vc_pool_cells.proofs.PlaceCounts.{same_pair-is, same_pair-self}
-use Rattle.vc_pool_cells.proofs.CellBytes.{no-block, released-changes, word-released}
+use Rattle.vc_pool.specs.Cells.Blocks.{segment_blocks, layout_by, pair_of}
+use Rattle.vc_pool.specs.Cells.Cells.{Cells, HasCell, pair_at, with_free_cell}
+use Rattle.vc_pool.specs.Cells.Freed.{IsFreeCell, cells_at, index_at, freed_link, link_word}
+use Rattle.vc_pool.specs.Cells.Kept.{AreCellular, IsCellular, IsFront}
+use Rattle.vc_pool.specs.Cells.Place.{IsCellAt, IsListed}
+use Rattle.vc_pool.proofs.OneCell.{ChangesCell}
+use Rattle.vc_pool.proofs.Chains.{KeepsWord, keeps-free, keeps-word}
+use Rattle.vc_pool.proofs.CellCalls.{carved-stays}
+use Rattle.vc_pool.proofs.CellularSegments.{cellular-set, front-set, segments-set}
+use Rattle.vc_pool.proofs.OneSegment.{all-new, all-old, cells-first, cells-set, map-stays, others, with_cell}
+use Rattle.vc_pool.proofs.BlockPlaces.{all-few, cell-there, fits-cell, index-same}
+use Rattle.vc_pool.proofs.PlaceCounts.{same_pair-is, same_pair-self}
+use Rattle.vc_pool.proofs.CellBytes.{no-block, released-changes, word-released}
 use Rattle.vc_pool.specs.Relink.{KeepsAll}
 
 -- a freed cell is one of its segment's

@@ -1,8 +1,8 @@
 -- Every pool has blocks at places of their own, in segments with numbers of their own.
 use Rattle.vc_base.proofs.Common.{IsPoolSound, HaveOwnNumbers, HaveOwnPlaces}
-use Rattle.vc_pool_cells.specs.Kept.{IsPool}
-use Rattle.vc_pool_cells.specs.Place.{cells_in}
-use Rattle.vc_pool_cells.proofs.Propositions.{have}
+use Rattle.vc_pool.specs.Cells.Kept.{IsPool}
+use Rattle.vc_pool.specs.Cells.Place.{cells_in}
+use Rattle.vc_pool.proofs.Propositions.{have}
 use Rattle.vc_pool.specs.Parts.{blocks_in, pool_of, segments_in}
 use Rattle.vc_pool.specs.declared.pool.Pool.{Pool}
 use Rattle.vc_pool.proofs.PoolParts.{sound-of}

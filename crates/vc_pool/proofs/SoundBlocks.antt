@@ -3,13 +3,13 @@ use Rattle.vc_base.proofs.Common.{◌≡◌, ℕ, suc, ◌+◌, ◌<◌, ◌≤�
 use Rattle.vc_model.specs.Pool.{IsInside, cell_run}
 use Rattle.vc_seg.specs.InOrder.{in_order}
 use Rattle.vc_seg.proofs.InOrder.{All-in_order}
-use Rattle.vc_pool_cells.specs.Blocks.{segment_blocks, layout_by, pair_of}
-use Rattle.vc_pool_cells.specs.Cells.{Cells}
-use Rattle.vc_pool_cells.specs.Freed.{cells_at}
-use Rattle.vc_pool_cells.specs.Kept.{AreCellular}
-use Rattle.vc_pool_cells.specs.Place.{IsBlockCell}
-use Rattle.vc_pool_cells.proofs.OneSegment.{numbers-apart}
-use Rattle.vc_pool_cells.proofs.BlockPlaces.{all-legal, all-live, cell-some, cell-there, fits-cell, number-legal, place-there}
+use Rattle.vc_pool.specs.Cells.Blocks.{segment_blocks, layout_by, pair_of}
+use Rattle.vc_pool.specs.Cells.Cells.{Cells}
+use Rattle.vc_pool.specs.Cells.Freed.{cells_at}
+use Rattle.vc_pool.specs.Cells.Kept.{AreCellular}
+use Rattle.vc_pool.specs.Cells.Place.{IsBlockCell}
+use Rattle.vc_pool.proofs.OneSegment.{numbers-apart}
+use Rattle.vc_pool.proofs.BlockPlaces.{all-legal, all-live, cell-some, cell-there, fits-cell, number-legal, place-there}
 use Rattle.vc_pool.specs.Sizes.{element_of}
 use Rattle.vc_pool.proofs.BlockPairs.{Beside, beside-turn, pairs-all, pairs-order, sizes-all}
 

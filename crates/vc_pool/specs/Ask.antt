@@ -4,9 +4,9 @@ use Rattle.vc_model.specs.Addr.{place_of}
 use Rattle.vc_model.specs.Discipline.{Discipline, Served, Terms}
 use Rattle.vc_model.specs.Pool.{Pool, carved_in, cell_for, cell_offset, element_with, pool_need, uncarved}
 use Rattle.vc_model.specs.Segments.{Grant, Granted, TooMany, ask, round_up, segments_with}
-use Rattle.vc_pool_cells.specs.Blocks.{carved_by, pair_of}
-use Rattle.vc_pool_cells.specs.Carve.{CarvesIn}
-use Rattle.vc_pool_cells.specs.Cells.{Cells}
+use Rattle.vc_pool.specs.Cells.Blocks.{carved_by, pair_of}
+use Rattle.vc_pool.specs.Cells.Carve.{CarvesIn}
+use Rattle.vc_pool.specs.Cells.Cells.{Cells}
 
 -- the block fits the element size, no cell is free for it, neither a freed one nor an uncarved one, and the region may be granted what it needs
 pub record LacksCell {L : Type 0} (terms : Terms) (pool : Pool L) (size : ℕ) : Type 0 where

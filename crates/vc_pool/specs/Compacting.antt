@@ -2,10 +2,10 @@
 use Rattle.std.specs.Prelude.{◌≡◌, ℕ, List, filter}
 use Rattle.vc_model.specs.Compact.{compacted_layout, is_occupied}
 use Rattle.vc_model.specs.Pool.{cell_for}
-use Rattle.vc_pool_cells.specs.Blocks.{carved_by, layout_by}
-use Rattle.vc_pool_cells.specs.Cells.{Cells}
-use Rattle.vc_pool_cells.specs.Freed.{freed_cells}
-use Rattle.vc_pool_cells.specs.Kept.{IsPool}
+use Rattle.vc_pool.specs.Cells.Blocks.{carved_by, layout_by}
+use Rattle.vc_pool.specs.Cells.Cells.{Cells}
+use Rattle.vc_pool.specs.Cells.Freed.{freed_cells}
+use Rattle.vc_pool.specs.Cells.Kept.{IsPool}
 
 -- the segments without a block are gone, and their cells with them; the order of the others stays. The cell freed last stood at one address, and stands at another
 pub record IsCompacted (element : ℕ) (old new : List Cells) (before after : ℕ) : Type 0 where

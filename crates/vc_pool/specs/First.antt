@@ -2,8 +2,8 @@
 use Rattle.std.specs.Prelude.{◌≡◌, ℕ, ◌<◌, ◌≤◌, List, length}
 use Rattle.vc_model.specs.Addr.{address}
 use Rattle.vc_model.specs.Pool.{cell_offset}
-use Rattle.vc_pool_cells.specs.Cells.{Cells, pair_at}
-use Rattle.vc_pool_cells.specs.Freed.{cells_at}
+use Rattle.vc_pool.specs.Cells.Cells.{Cells, pair_at}
+use Rattle.vc_pool.specs.Cells.Freed.{cells_at}
 
 -- no block is in the cells from one index up to another
 abbrev pub AreEmpty : ℕ → ℕ → Cells → Type 0

@@ -1,3 +1,6 @@
+pub use Rattle.vc_model.specs.Resize
+pub use Rattle.vc_model.specs.Bytes
+pub use Rattle.vc_model.specs.Best
 pub use Rattle.vc_model.specs.Addr
 pub use Rattle.vc_model.specs.Compact
 pub use Rattle.vc_model.specs.Discipline
@@ -12,11 +15,6 @@ pub use Rattle.vc_seg.specs.Answer
 pub use Rattle.vc_seg.specs.Boxed
 pub use Rattle.vc_seg.specs.OneBlock
 pub use Rattle.vc_seg.specs.Segment
-pub use Rattle.vc_pool_cells.specs.Blocks
-pub use Rattle.vc_pool_cells.specs.Cells
-pub use Rattle.vc_pool_cells.specs.Freed
-pub use Rattle.vc_pool_cells.specs.Kept
-pub use Rattle.vc_pool_cells.specs.Place
 pub mod First
 pub mod Sizes
 pub mod Marks
@@ -26,3 +24,4 @@ pub mod Stat
 pub mod Read
 pub mod Parts
 pub mod Ask
+pub mod Cells

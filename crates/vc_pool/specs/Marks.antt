@@ -1,7 +1,7 @@
 -- Which segments of a pool have a block.
 use Rattle.std.specs.Prelude.{ℕ, List, Bool, nat_lt, ◌==◌, ◌&&◌}
 use Rattle.std.specs.List.{list_any}
-use Rattle.vc_pool_cells.specs.Cells.{Cells}
+use Rattle.vc_pool.specs.Cells.Cells.{Cells}
 
 -- whether a block is in a cell of a segment
 abbrev pub has_block : Cells → Bool

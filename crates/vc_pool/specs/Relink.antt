@@ -1,11 +1,11 @@
 -- A chain of freed cells of which some leave.
 use Rattle.std.specs.Prelude.{◌≡◌, ℕ, ◌≤◌, List, [], ◌∷◌, ◌++◌, Bool, filter, set, get_or}
 use Rattle.vc_model.specs.Addr.{place_of}
-use Rattle.vc_pool_cells.specs.Blocks.{carved_by, layout_by}
-use Rattle.vc_pool_cells.specs.Cells.{Cells, with_free_cell}
-use Rattle.vc_pool_cells.specs.Freed.{IsFreedChain, freed_link}
-use Rattle.vc_pool_cells.specs.Kept.{IsPoolOf}
-use Rattle.vc_pool_cells.specs.Place.{IsCellAt}
+use Rattle.vc_pool.specs.Cells.Blocks.{carved_by, layout_by}
+use Rattle.vc_pool.specs.Cells.Cells.{Cells, with_free_cell}
+use Rattle.vc_pool.specs.Cells.Freed.{IsFreedChain, freed_link}
+use Rattle.vc_pool.specs.Cells.Kept.{IsPoolOf}
+use Rattle.vc_pool.specs.Cells.Place.{IsCellAt}
 
 -- the cells at these places are linked, from one address on to another; `before` is the address before the first of them, and `last` that of the last, or `before` where there is none
 abbrev pub IsChainRun : List Cells → ℕ → ℕ → List (ℕ × ℕ) → ℕ → ℕ → Type 0

@@ -1,7 +1,7 @@
 -- The sizes of the blocks in cells, and the element size of a pool.
 use Rattle.std.specs.Prelude.{ℕ, List, [], ◌∷◌, Option, Some, None, ◌==◌, if◌then◌else◌}
-use Rattle.vc_pool_cells.specs.Cells.{Cells}
-use Rattle.vc_pool_cells.specs.Kept.{AreCellular}
+use Rattle.vc_pool.specs.Cells.Cells.{Cells}
+use Rattle.vc_pool.specs.Cells.Kept.{AreCellular}
 
 -- the sizes of the blocks in these cells
 abbrev pub sizes_in : List (ℕ × ℕ) → List ℕ

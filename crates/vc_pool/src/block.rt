@@ -2,9 +2,9 @@ ghost use Rattle.std.specs.Prelude.{◌≡◌, Some, length, take, drop, option_
 ghost use Rattle.vc_base.specs.Prelude.{place_of, without_block, HasBlock, find_block, with_bytes_at};
 ghost use Rattle.vc_seg.specs.OneBlock.{IsInBlock};
 
+use crate::cells::{pair_at, read_at, write_at};
 use crate::pool::Pool;
 use vc_base::Addr;
-use vc_pool_cells::{pair_at, read_at, write_at};
 
 /// The calls on one block. They can't fail, and take no memory.
 impl Pool {

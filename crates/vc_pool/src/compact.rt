@@ -4,14 +4,14 @@ mod relink;
 ghost use Rattle.std.specs.Prelude.{◌≡◌, ℕ, ◌<◌, All, false, filter, length};
 ghost use Rattle.vc_base.specs.Prelude.{compact_count, HasOut, TookBack, cell_for};
 ghost use Rattle.vc_pool.specs.Compacting.{IsCompacted};
-ghost use Rattle.vc_pool_cells.specs.Blocks.{layout_by};
-ghost use Rattle.vc_pool_cells.specs.Kept.{IsPool};
-ghost use Rattle.vc_pool_cells.specs.Place.{cells_in};
+ghost use Rattle.vc_pool.specs.Cells.Blocks.{layout_by};
+ghost use Rattle.vc_pool.specs.Cells.Kept.{IsPool};
+ghost use Rattle.vc_pool.specs.Cells.Place.{cells_in};
 
+use crate::cells::PoolSegment;
 use mark::mark;
 use relink::relink;
 use vc_base::Addr;
-use vc_pool_cells::PoolSegment;
 use vc_seg::{SegDisc, give_back};
 
 // Gives back each segment without a block, in ascending order of number, and counts them. Their freed cells leave the

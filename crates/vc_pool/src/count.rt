@@ -1,11 +1,11 @@
 ghost use Rattle.std.specs.Prelude.{◌≡◌, ℕ};
 ghost use Rattle.vc_pool.specs.Read.{pool_by};
 ghost use Rattle.vc_pool.specs.Stat.{pool_stat};
-ghost use Rattle.vc_pool_cells.specs.Kept.{AreCellular};
-ghost use Rattle.vc_pool_cells.specs.Place.{cells_in};
+ghost use Rattle.vc_pool.specs.Cells.Kept.{AreCellular};
+ghost use Rattle.vc_pool.specs.Cells.Place.{cells_in};
 
+use crate::cells::PoolSegment;
 use crate::walks::{count_cells, tally_blocks};
-use vc_pool_cells::PoolSegment;
 use vc_seg::{Stat, rounded_up, tally_segments};
 
 // The numbers of blocks, cells and segments, and their sizes in bytes.

@@ -2,16 +2,16 @@ ghost use Rattle.std.specs.Prelude.{◌≡◌, ◌≢◌, ◌+◌, ◌-◌, ◌/
 ghost use Rattle.vc_base.specs.Prelude.{IsSegmentSize, TooMany, ask, cell_for};
 ghost use Rattle.vc_model.specs.Segments.{growing};
 ghost use Rattle.vc_pool.specs.Ask.{IsGranted};
-ghost use Rattle.vc_pool_cells.specs.Blocks.{pair_of};
-ghost use Rattle.vc_pool_cells.specs.Carve.{AreCarved};
-ghost use Rattle.vc_pool_cells.specs.Kept.{AreCellular, FitsElement};
-ghost use Rattle.vc_pool_cells.specs.Place.{cells_in};
+ghost use Rattle.vc_pool.specs.Cells.Blocks.{pair_of};
+ghost use Rattle.vc_pool.specs.Cells.Carve.{AreCarved};
+ghost use Rattle.vc_pool.specs.Cells.Kept.{AreCellular, FitsElement};
+ghost use Rattle.vc_pool.specs.Cells.Place.{cells_in};
 ghost use Rattle.vc_seg.specs.Lend.{IsAsked, IsNoGrant};
 
+use crate::cells::{PoolSegment, carve_new};
 use crate::room::{reserve, table_of};
 use std::alloc::Global;
 use vc_base::Addr;
-use vc_pool_cells::{PoolSegment, carve_new};
 use vc_seg::{RegionFault, SegDisc, lend_next, rounded_up};
 
 // A block of zeros in the first cell of a segment of so many bytes that is lent, under the least number that no segment has.

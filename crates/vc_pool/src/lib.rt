@@ -2,6 +2,7 @@
 #![tactic(auto, unfolding(crate::specs::Read::pool_by))]
 
 mod block;
+mod cells;
 mod compact;
 mod count;
 mod lend;
@@ -12,5 +13,5 @@ mod room;
 mod segments;
 mod walks;
 
+pub use cells::PoolSegment;
 pub use pool::Pool;
-pub use vc_pool_cells::PoolSegment;

@@ -3,17 +3,17 @@ ghost use Rattle.vc_base.specs.Prelude.{HasOut, IsSegmentSize, TooMany, ask, cel
 ghost use Rattle.vc_model.specs.Discipline.{CanExtend, Extended};
 ghost use Rattle.vc_model.specs.Segments.{growing};
 ghost use Rattle.vc_pool.specs.Ask.{IsGranted};
-ghost use Rattle.vc_pool_cells.specs.Blocks.{pair_of};
-ghost use Rattle.vc_pool_cells.specs.Carve.{AreCarved};
-ghost use Rattle.vc_pool_cells.specs.Cells.{cells_of, with_more_bytes};
-ghost use Rattle.vc_pool_cells.specs.Kept.{AreCellular, FitsElement};
-ghost use Rattle.vc_pool_cells.specs.Place.{cells_in, pair_in};
+ghost use Rattle.vc_pool.specs.Cells.Blocks.{pair_of};
+ghost use Rattle.vc_pool.specs.Cells.Carve.{AreCarved};
+ghost use Rattle.vc_pool.specs.Cells.Cells.{cells_of, with_more_bytes};
+ghost use Rattle.vc_pool.specs.Cells.Kept.{AreCellular, FitsElement};
+ghost use Rattle.vc_pool.specs.Cells.Place.{cells_in, pair_in};
 ghost use Rattle.vc_seg.specs.Lend.{IsAsked, IsNoGrant};
 
+use crate::cells::{PoolSegment, carve_at};
 use crate::room::reserve;
 use std::alloc::Global;
 use vc_base::Addr;
-use vc_pool_cells::{PoolSegment, carve_at};
 use vc_seg::{RegionFault, SegDisc, extend_segment, rounded_up};
 
 // Makes a segment longer by so many bytes, with a pair (0, 0) for each cell that comes. The memory for the pairs comes first,

@@ -5,18 +5,18 @@ ghost use Rattle.vc_model.specs.Pool.{IsPoolSound, empty_pool, pool_alloc, pool_
 ghost use Rattle.vc_pool.specs.Ask.{LacksCell};
 ghost use Rattle.vc_pool.specs.Read.{pool_by};
 ghost use Rattle.vc_pool.specs.Stat.{pool_stat};
-ghost use Rattle.vc_pool_cells.specs.Kept.{IsPool};
-ghost use Rattle.vc_pool_cells.specs.Place.{cells_in};
+ghost use Rattle.vc_pool.specs.Cells.Kept.{IsPool};
+ghost use Rattle.vc_pool.specs.Cells.Place.{cells_in};
 ghost use Rattle.vc_seg.specs.Answer.{Answers, Asks, IsRefusal};
 ghost use Rattle.vc_seg.specs.OneBlock.{IsBlockAt, IsBlockFreed, IsBlockKept, IsBlockPut, IsNextBlock, IsSize};
 
+use crate::cells::{PoolSegment, clear_all, put_back, resize_at};
 use crate::compact::compact_in;
 use crate::count::stat_of;
 use crate::put::alloc_in;
 use crate::walks::{block_in, next_in};
 use std::alloc::Global;
 use vc_base::{Addr, OutOfMemory};
-use vc_pool_cells::{PoolSegment, clear_all, put_back, resize_at};
 use vc_seg::{RegionFault, SegDisc, Stat, give_back_all, next_segment, segment_at};
 
 /// A region of cells of one size over the segments of a discipline, after Vmalloc's `Vmpool`. The first block that is

@@ -3,19 +3,19 @@ ghost use Rattle.vc_base.specs.Prelude.{HasOut, TooMany, ask};
 ghost use Rattle.vc_model.specs.Pool.{pool_alloc, pool_need};
 ghost use Rattle.vc_pool.specs.Ask.{IsGranted, LacksCell, cell_need};
 ghost use Rattle.vc_pool.specs.Read.{pool_by};
-ghost use Rattle.vc_pool_cells.specs.Blocks.{pair_of};
-ghost use Rattle.vc_pool_cells.specs.Carve.{AreCarved};
-ghost use Rattle.vc_pool_cells.specs.Kept.{AreCellular, FitsElement, IsPool};
-ghost use Rattle.vc_pool_cells.specs.Place.{cells_in};
+ghost use Rattle.vc_pool.specs.Cells.Blocks.{pair_of};
+ghost use Rattle.vc_pool.specs.Cells.Carve.{AreCarved};
+ghost use Rattle.vc_pool.specs.Cells.Kept.{AreCellular, FitsElement, IsPool};
+ghost use Rattle.vc_pool.specs.Cells.Place.{cells_in};
 ghost use Rattle.vc_seg.specs.Answer.{Answers, Asks};
 ghost use Rattle.vc_seg.specs.Lend.{IsAsked, IsNoGrant};
 ghost use Rattle.vc_seg.specs.OneBlock.{IsSize};
 
+use crate::cells::{PoolSegment, carve_lowest, reuse};
 use crate::lend::put_in_new;
 use crate::longer::put_in_longer;
 use std::alloc::Global;
 use vc_base::Addr;
-use vc_pool_cells::{PoolSegment, carve_lowest, reuse};
 use vc_seg::{RegionFault, SegDisc, growing_of, round_of, rounded_up};
 
 // The element size when a block of this size is put: the first block sets it. 0 stands for none.

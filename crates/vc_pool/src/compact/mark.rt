@@ -1,9 +1,9 @@
 ghost use Rattle.std.specs.Prelude.{◌≡◌, ℕ, ◌<◌, ◌≤◌, ◌==◌, ◌&&◌, ◌||◌, All, false, length, map, slice_index_or};
-ghost use Rattle.vc_pool_cells.specs.Cells.{cells_of};
-ghost use Rattle.vc_pool_cells.specs.Place.{cells_in};
+ghost use Rattle.vc_pool.specs.Cells.Cells.{cells_of};
+ghost use Rattle.vc_pool.specs.Cells.Place.{cells_in};
 ghost use Rattle.vc_pool.specs.Marks.{has_block, has_block_at};
 
-use vc_pool_cells::PoolSegment;
+use crate::cells::PoolSegment;
 
 // Whether a block is in a cell of a segment.
 fn has_block(segment: &PoolSegment) -> bool

@@ -1,13 +1,13 @@
 ghost use Rattle.std.specs.Prelude.{◌≡◌, ℕ, ◌<◌, ◌≤◌, List, ◌∷◌, false, filter, length, slice_index_or};
 ghost use Rattle.vc_base.specs.Prelude.{place_of, cell_for};
-ghost use Rattle.vc_pool_cells.specs.Blocks.{carved_by, layout_by};
-ghost use Rattle.vc_pool_cells.specs.Freed.{freed_cells, freed_link};
-ghost use Rattle.vc_pool_cells.specs.Kept.{AreCellular, IsPool};
-ghost use Rattle.vc_pool_cells.specs.Place.{IsListed, cells_in};
+ghost use Rattle.vc_pool.specs.Cells.Blocks.{carved_by, layout_by};
+ghost use Rattle.vc_pool.specs.Cells.Freed.{freed_cells, freed_link};
+ghost use Rattle.vc_pool.specs.Cells.Kept.{AreCellular, IsPool};
+ghost use Rattle.vc_pool.specs.Cells.Place.{IsListed, cells_in};
 ghost use Rattle.vc_pool.specs.Relink.{HasSplit, IsRelinked, IsSifted, IsSplit, KeepsAll};
 
+use crate::cells::{PoolSegment, find_cell};
 use vc_base::Addr;
-use vc_pool_cells::{PoolSegment, find_cell};
 use vc_seg::rounded_up;
 
 // The address that the cell at one names.

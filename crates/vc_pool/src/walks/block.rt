@@ -1,11 +1,11 @@
 ghost use Rattle.vc_base.specs.Prelude.{cell_for};
 ghost use Rattle.vc_seg.specs.OneBlock.{IsBlockAt};
-ghost use Rattle.vc_pool_cells.specs.Blocks.{layout_by};
-ghost use Rattle.vc_pool_cells.specs.Kept.{AreCellular};
-ghost use Rattle.vc_pool_cells.specs.Place.{cells_in};
+ghost use Rattle.vc_pool.specs.Cells.Blocks.{layout_by};
+ghost use Rattle.vc_pool.specs.Cells.Kept.{AreCellular};
+ghost use Rattle.vc_pool.specs.Cells.Place.{cells_in};
 
+use crate::cells::{PoolSegment, offset_of};
 use vc_base::Addr;
-use vc_pool_cells::{PoolSegment, offset_of};
 use vc_seg::{find_number, rounded_up};
 
 // The block whose bytes hold the byte at an offset of a segment, and the offset in it. None where no block does.

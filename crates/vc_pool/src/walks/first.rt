@@ -1,8 +1,8 @@
 ghost use Rattle.std.specs.Prelude.{◌≡◌, ◌≢◌, ℕ, ◌<◌, ◌≤◌, All, IfNone, IfSome, drop, length};
-ghost use Rattle.vc_pool_cells.specs.Cells.{cells_of};
+ghost use Rattle.vc_pool.specs.Cells.Cells.{cells_of};
 ghost use Rattle.vc_pool.specs.First.{AreEmpty, IsFirstBlock};
 
-use vc_pool_cells::PoolSegment;
+use crate::cells::PoolSegment;
 
 // The first of a segment's cells from an index on that has a block, by its index. None is in a cell that wasn't carved.
 pub(crate) fn first_block(segment: &PoolSegment, from: u32) -> Option<u32>

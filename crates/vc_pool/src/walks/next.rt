@@ -1,15 +1,15 @@
 ghost use Rattle.std.specs.Prelude.{◌≡◌, ℕ, ◌<◌, ◌≤◌, IfNone, IfSome, length};
 ghost use Rattle.vc_base.specs.Prelude.{cell_for, cell_offset, HasBlock};
 ghost use Rattle.vc_seg.specs.OneBlock.{IsNextBlock};
-ghost use Rattle.vc_pool_cells.specs.Blocks.{layout_by};
-ghost use Rattle.vc_pool_cells.specs.Freed.{cells_at};
-ghost use Rattle.vc_pool_cells.specs.Kept.{AreCellular};
-ghost use Rattle.vc_pool_cells.specs.Place.{cells_in};
+ghost use Rattle.vc_pool.specs.Cells.Blocks.{layout_by};
+ghost use Rattle.vc_pool.specs.Cells.Freed.{cells_at};
+ghost use Rattle.vc_pool.specs.Cells.Kept.{AreCellular};
+ghost use Rattle.vc_pool.specs.Cells.Place.{cells_in};
 ghost use Rattle.vc_pool.specs.First.{AreEmpty, IsBare, IsFirstAbove, IsFirstIn};
 
+use crate::cells::{PoolSegment, offset_of};
 use crate::walks::first::first_block;
 use vc_base::Addr;
-use vc_pool_cells::{PoolSegment, offset_of};
 use vc_seg::{find_number, next_segment, rounded_up};
 
 // The index of the first cell that begins behind an offset in its segment.

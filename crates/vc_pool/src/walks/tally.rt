@@ -3,13 +3,13 @@ ghost use Rattle.vc_base.specs.Prelude.{cell_for};
 ghost use Rattle.vc_seg.specs.Tally.{HasRoom, tallied_all, tally_of};
 ghost use Rattle.vc_model.specs.Numbers.{block_bytes, block_count, greatest_block};
 ghost use Rattle.vc_model.specs.Pool.{cell_count};
-ghost use Rattle.vc_pool_cells.specs.Blocks.{layout_by, pair_of};
-ghost use Rattle.vc_pool_cells.specs.Kept.{AreCellular, segment_of};
-ghost use Rattle.vc_pool_cells.specs.Place.{cells_in};
+ghost use Rattle.vc_pool.specs.Cells.Blocks.{layout_by, pair_of};
+ghost use Rattle.vc_pool.specs.Cells.Kept.{AreCellular, segment_of};
+ghost use Rattle.vc_pool.specs.Cells.Place.{cells_in};
 ghost use Rattle.vc_seg.specs.Segment.{AreSegments};
 ghost use Rattle.vc_pool.specs.Sizes.{HaveCells, element_of, sizes_in};
 
-use vc_pool_cells::PoolSegment;
+use crate::cells::PoolSegment;
 use vc_seg::{Tally, tally_segments};
 
 // A tally with the sizes of the blocks in these cells.

@@ -1,11 +1,11 @@
 use Rattle.vc_base.proofs.Common.{◌≡◌, ℕ, false, List, ◌++◌, map, length, get_or, take, drop, filter, sym, ap, ◌∙◌, subst, arith, count_by-le-length, length-filter, length-map, with_items_is, compacted_layout, Layout, cell_for}
 use Rattle.vc_seg.specs.Numbered.{AreNumbered}
-use Rattle.vc_pool_cells.specs.Blocks.{layout_by, pair_of}
-use Rattle.vc_pool_cells.specs.Cells.{cells_of}
-use Rattle.vc_pool_cells.specs.Freed.{freed_cells}
-use Rattle.vc_pool_cells.specs.Place.{cells_in, pair_in}
-use Rattle.vc_pool_cells.specs.declared.segment.PoolSegment.{PoolSegment}
-use Rattle.vc_pool_cells.proofs.SegmentList.{numbered-in, pairs-in}
+use Rattle.vc_pool.specs.Cells.Blocks.{layout_by, pair_of}
+use Rattle.vc_pool.specs.Cells.Cells.{cells_of}
+use Rattle.vc_pool.specs.Cells.Freed.{freed_cells}
+use Rattle.vc_pool.specs.Cells.Place.{cells_in, pair_in}
+use Rattle.vc_pool.specs.declared.cells.segment.PoolSegment.{PoolSegment}
+use Rattle.vc_pool.proofs.SegmentList.{numbered-in, pairs-in}
 use Rattle.vc_pool.specs.Marks.{has_block_at}
 use Rattle.vc_pool.specs.Relink.{KeepsAll}
 use Rattle.vc_pool.proofs.BusySegments.{numbers-below}

@@ -1,10 +1,10 @@
 use Rattle.vc_base.proofs.Common.{◌≡◌, ◌*◌, map, ◌∙◌, arith, length-map, cell_of}
 use Rattle.vc_model.specs.Pool.{free_cells, greatest_free_cell}
 use Rattle.vc_seg.proofs.Tallies.{HasRoom-segments}
-use Rattle.vc_pool_cells.specs.Blocks.{layout_by, pair_of}
-use Rattle.vc_pool_cells.specs.Kept.{segment_of}
-use Rattle.vc_pool_cells.specs.Place.{cells_in, pair_in}
-use Rattle.vc_pool_cells.proofs.SegmentList.{numbered-in}
+use Rattle.vc_pool.specs.Cells.Blocks.{layout_by, pair_of}
+use Rattle.vc_pool.specs.Cells.Kept.{segment_of}
+use Rattle.vc_pool.specs.Cells.Place.{cells_in, pair_in}
+use Rattle.vc_pool.proofs.SegmentList.{numbered-in}
 use Rattle.vc_pool.proofs.BlockSizes.{segments-bytes, segments-count}
 use Rattle.vc_pool.specs.Read.{pool_by}
 use Rattle.vc_pool.proofs.PoolNumbers.{cell_of-is, free-is, greatest-none, greatest-some}

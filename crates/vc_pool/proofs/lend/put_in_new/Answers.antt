@@ -1,11 +1,11 @@
 use Rattle.vc_base.proofs.Common.{◌≡◌, ℕ, List, map, length, ap, ◌∙◌, subst, Terms, new_segment}
 use Rattle.vc_model.specs.Segments.{growing}
 use Rattle.vc_seg.specs.Lend.{IsNoGrant}
-use Rattle.vc_pool_cells.specs.Blocks.{pair_of}
-use Rattle.vc_pool_cells.specs.Carve.{CarvesIn}
-use Rattle.vc_pool_cells.specs.Place.{cells_in, pair_in}
-use Rattle.vc_pool_cells.specs.declared.segment.PoolSegment.{PoolSegment}
-use Rattle.vc_pool_cells.proofs.SegmentList.{pairs-in}
+use Rattle.vc_pool.specs.Cells.Blocks.{pair_of}
+use Rattle.vc_pool.specs.Cells.Carve.{CarvesIn}
+use Rattle.vc_pool.specs.Cells.Place.{cells_in, pair_in}
+use Rattle.vc_pool.specs.declared.cells.segment.PoolSegment.{PoolSegment}
+use Rattle.vc_pool.proofs.SegmentList.{pairs-in}
 use Rattle.vc_pool.proofs.AskedSegment.{fresh-other, granted-pairs, lent-granted}
 use Rattle.vc_pool.proofs.lend.put_in_new.Goals as goal
 use Rattle.vc_pool.proofs.lend.put_in_new.Goals.{After-deref}

@@ -1,10 +1,10 @@
 use Rattle.vc_base.proofs.Common.{◌≡◌, ℕ, ◌+◌, ◌-◌, ◌/◌, ◌<◌, ◌≤◌, get_or, length, set, sym, ap, ◌∙◌, subst, arith, get_or_default, Discipline}
 use Rattle.std.proofs.lemmas.List.{set-get_or}
-use Rattle.vc_pool_cells.specs.Cells.{Cells, cells_of, with_more_bytes}
-use Rattle.vc_pool_cells.specs.Kept.{FitsElement}
-use Rattle.vc_pool_cells.specs.Place.{cells_in}
-use Rattle.vc_pool_cells.specs.declared.segment.PoolSegment.{PoolSegment}
-use Rattle.vc_pool_cells.proofs.SegmentList.{cells-get, cells-put}
+use Rattle.vc_pool.specs.Cells.Cells.{Cells, cells_of, with_more_bytes}
+use Rattle.vc_pool.specs.Cells.Kept.{FitsElement}
+use Rattle.vc_pool.specs.Cells.Place.{cells_in}
+use Rattle.vc_pool.specs.declared.cells.segment.PoolSegment.{PoolSegment}
+use Rattle.vc_pool.proofs.SegmentList.{cells-get, cells-put}
 use Rattle.vc_pool.proofs.GrowingSegment.{can, fewer, first, granted, kept, last, may, no-grant, too-many}
 use Rattle.vc_pool.proofs.longer.put_in_longer.Goals as goal
 use Rattle.vc_pool.proofs.longer.put_in_longer.Goals.{After-rounded_up}

@@ -1,10 +1,10 @@
 use Rattle.vc_base.proofs.Common.{◌≡◌, ℕ, ◌≤◌, List, ◌++◌, map, length, take, drop, Option, sym, refl, ap, ◌∙◌, subst, arith, with_items_is, Terms, cell_for, uncarved}
-use Rattle.vc_pool_cells.specs.Blocks.{carved_by, pair_of}
-use Rattle.vc_pool_cells.specs.Call.{IsReused}
-use Rattle.vc_pool_cells.specs.Kept.{IsPool}
-use Rattle.vc_pool_cells.specs.Place.{cells_in}
-use Rattle.vc_pool_cells.specs.declared.segment.PoolSegment.{PoolSegment}
-use Rattle.vc_pool_cells.specs.Carve.{IsCarvedAt}
+use Rattle.vc_pool.specs.Cells.Blocks.{carved_by, pair_of}
+use Rattle.vc_pool.specs.Cells.Call.{IsReused}
+use Rattle.vc_pool.specs.Cells.Kept.{IsPool}
+use Rattle.vc_pool.specs.Cells.Place.{cells_in}
+use Rattle.vc_pool.specs.declared.cells.segment.PoolSegment.{PoolSegment}
+use Rattle.vc_pool.specs.Cells.Carve.{IsCarvedAt}
 use Rattle.vc_pool.proofs.PoolCalls.{asked-refusal, carved-disc, freed-some, full-is, granted-disc, lacks-cell, pool-with, put-carved, put-granted, put-reused}
 use Rattle.vc_pool.proofs.AskedSegment.{granted-from}
 use Rattle.vc_pool.proofs.PoolParts.{pool-same}

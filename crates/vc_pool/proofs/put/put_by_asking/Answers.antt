@@ -2,11 +2,11 @@ use Rattle.vc_base.proofs.Common.{◌≡◌, ℕ, ◌+◌, ◌≤◌, List, Opti
 use Rattle.vc_model.specs.Discipline.{IsRound}
 use Rattle.vc_model.specs.Segments.{growing}
 use Rattle.vc_seg.proofs.Rounding.{IsSegmentSize-asked}
-use Rattle.vc_pool_cells.specs.Blocks.{pair_of}
-use Rattle.vc_pool_cells.specs.Kept.{FitsElement}
-use Rattle.vc_pool_cells.specs.Place.{cells_in, pair_in}
-use Rattle.vc_pool_cells.specs.declared.segment.PoolSegment.{PoolSegment}
-use Rattle.vc_pool_cells.proofs.SegmentList.{pairs-in}
+use Rattle.vc_pool.specs.Cells.Blocks.{pair_of}
+use Rattle.vc_pool.specs.Cells.Kept.{FitsElement}
+use Rattle.vc_pool.specs.Cells.Place.{cells_in, pair_in}
+use Rattle.vc_pool.specs.declared.cells.segment.PoolSegment.{PoolSegment}
+use Rattle.vc_pool.proofs.SegmentList.{pairs-in}
 use Rattle.vc_pool.proofs.put.put_by_asking.Goals as goal
 use Rattle.vc_pool.proofs.put.put_by_asking.Goals.{After-growing_of}
 use Rattle.vc_pool.proofs.put.put_by_asking.Given.{Over}

@@ -1,5 +1,5 @@
 use Rattle.vc_base.proofs.Common.{◌||◌, ap}
-use Rattle.vc_pool_cells.specs.Place.{cells_in}
+use Rattle.vc_pool.specs.Cells.Place.{cells_in}
 use Rattle.vc_pool.specs.Marks.{has_block_at}
 use Rattle.vc_pool.proofs.BusySegments.{none-clear}
 use Rattle.vc_pool.proofs.compact.mark.mark.Goals as goal

@@ -1,5 +1,5 @@
 use Rattle.vc_base.proofs.Common.{arith}
-use Rattle.vc_pool_cells.specs.Place.{cells_in}
+use Rattle.vc_pool.specs.Cells.Place.{cells_in}
 use Rattle.vc_pool.proofs.ChainSifting.{first-out, next-out, out-keeps, split-last, split-small}
 use Rattle.vc_pool.proofs.compact.relink.leave_out.Goals as goal
 

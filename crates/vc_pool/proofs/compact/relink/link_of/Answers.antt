@@ -1,5 +1,5 @@
 use Rattle.vc_base.proofs.Common.{◌<◌, sym, ◌∙◌, subst}
-use Rattle.vc_pool_cells.proofs.CellCallsInList.{link-there}
+use Rattle.vc_pool.proofs.CellCallsInList.{link-there}
 use Rattle.vc_pool.proofs.compact.relink.link_of.Goals as goal
 
 pub link-requires-clause-fits : goal.link-requires-clause-fits

@@ -1,7 +1,7 @@
 use Rattle.vc_base.proofs.Common.{false, get_or, cell_for}
-use Rattle.vc_pool_cells.specs.Freed.{freed_cells}
-use Rattle.vc_pool_cells.specs.Place.{cells_in}
-use Rattle.vc_pool_cells.proofs.PoolChange.{pool-freed, pool-of}
+use Rattle.vc_pool.specs.Cells.Freed.{freed_cells}
+use Rattle.vc_pool.specs.Cells.Place.{cells_in}
+use Rattle.vc_pool.proofs.PoolChange.{pool-freed, pool-of}
 use Rattle.vc_pool.proofs.ChainSifting.{keeps-more, keeps-same, sift-first, sift-last}
 use Rattle.vc_pool.proofs.compact.relink.relink.Goals as goal
 

@@ -1,6 +1,6 @@
 use Rattle.vc_base.proofs.Common.{false, length, get_or, cell_for}
-use Rattle.vc_pool_cells.specs.Freed.{freed_cells}
-use Rattle.vc_pool_cells.specs.Place.{cells_in}
+use Rattle.vc_pool.specs.Cells.Freed.{freed_cells}
+use Rattle.vc_pool.specs.Cells.Place.{cells_in}
 use Rattle.vc_pool.specs.Relink.{IsSifted, KeepsAll}
 use Rattle.vc_pool.proofs.compact.relink.relink.Given as goal
 

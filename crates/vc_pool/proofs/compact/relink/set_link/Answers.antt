@@ -1,7 +1,7 @@
 use Rattle.vc_base.proofs.Common.{get_or, set, sym, ap, ◌∙◌, cell_for}
-use Rattle.vc_pool_cells.specs.Cells.{cells_of, with_free_cell}
-use Rattle.vc_pool_cells.specs.Place.{cells_in}
-use Rattle.vc_pool_cells.proofs.SegmentList.{cells-get, cells-put}
+use Rattle.vc_pool.specs.Cells.Cells.{cells_of, with_free_cell}
+use Rattle.vc_pool.specs.Cells.Place.{cells_in}
+use Rattle.vc_pool.proofs.SegmentList.{cells-get, cells-put}
 use Rattle.vc_pool.proofs.compact.relink.set_link.Goals as goal
 
 pub returns : goal.returns

@@ -1,5 +1,5 @@
 use Rattle.vc_base.proofs.Common.{false, get_or, sym, ap, ◌∙◌, arith}
-use Rattle.vc_pool_cells.specs.Place.{cells_in}
+use Rattle.vc_pool.specs.Cells.Place.{cells_in}
 use Rattle.vc_pool.proofs.ChainSifting.{drop-less, keep-less, sift-drop, sift-keep, split-cells, split-listed, split-number, split-small}
 use Rattle.vc_pool.proofs.compact.relink.sift.Goals as goal
 

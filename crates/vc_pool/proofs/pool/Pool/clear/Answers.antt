@@ -1,8 +1,8 @@
 use Rattle.vc_base.proofs.Common.{◌≡◌, ℕ, List, ◌++◌, length, take, drop, sym, ap, ◌∙◌, subst, arith, with_items_is}
-use Rattle.vc_pool_cells.specs.Kept.{AreCellular, IsPool}
-use Rattle.vc_pool_cells.specs.Place.{cells_in}
-use Rattle.vc_pool_cells.specs.declared.segment.PoolSegment.{PoolSegment}
-use Rattle.vc_pool_cells.specs.Carve.{IsUncarved}
+use Rattle.vc_pool.specs.Cells.Kept.{AreCellular, IsPool}
+use Rattle.vc_pool.specs.Cells.Place.{cells_in}
+use Rattle.vc_pool.specs.declared.cells.segment.PoolSegment.{PoolSegment}
+use Rattle.vc_pool.specs.Cells.Carve.{IsUncarved}
 use Rattle.vc_pool.specs.Read.{pool_by}
 use Rattle.vc_pool.proofs.PoolParts.{sound-kept}
 use Rattle.vc_pool.proofs.PoolAfterCalls.{cleared-pool}

@@ -1,5 +1,5 @@
 use Rattle.vc_base.proofs.Common.{◌++◌, length, sym, refl, ap, ◌∙◌}
-use Rattle.vc_pool_cells.proofs.SegmentList.{numbered-in}
+use Rattle.vc_pool.proofs.SegmentList.{numbered-in}
 use Rattle.vc_pool.proofs.BusyPart.{took-by}
 use Rattle.vc_pool.proofs.PoolAfterCalls.{pairs-of-list}
 use Rattle.vc_pool.proofs.Sound.{kept-of}

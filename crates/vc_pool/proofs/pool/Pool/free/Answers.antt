@@ -1,9 +1,9 @@
 use Rattle.vc_base.proofs.Common.{◌≡◌, ℕ, List, ◌++◌, length, take, drop, sym, ap, ◌∙◌, subst, arith, with_items_is, place_of, Pool, pool_free}
 use Rattle.vc_model.proofs.Owned.{free-freed, free-none_left, free-one_less}
-use Rattle.vc_pool_cells.specs.Call.{IsPutBack}
-use Rattle.vc_pool_cells.specs.Kept.{IsPool}
-use Rattle.vc_pool_cells.specs.Place.{cells_in}
-use Rattle.vc_pool_cells.specs.declared.segment.PoolSegment.{PoolSegment}
+use Rattle.vc_pool.specs.Cells.Call.{IsPutBack}
+use Rattle.vc_pool.specs.Cells.Kept.{IsPool}
+use Rattle.vc_pool.specs.Cells.Place.{cells_in}
+use Rattle.vc_pool.specs.declared.cells.segment.PoolSegment.{PoolSegment}
 use Rattle.vc_pool.specs.Read.{pool_by}
 use Rattle.vc_pool.proofs.PoolParts.{sound-kept, sound-of}
 use Rattle.vc_pool.proofs.PoolAfterCalls.{freed-pool}

@@ -1,6 +1,6 @@
 use Rattle.vc_base.proofs.Common.{List, map, sym, ap, ◌∙◌, next_segment}
-use Rattle.vc_pool_cells.specs.Place.{pair_in}
-use Rattle.vc_pool_cells.specs.declared.segment.PoolSegment.{PoolSegment}
+use Rattle.vc_pool.specs.Cells.Place.{pair_in}
+use Rattle.vc_pool.specs.declared.cells.segment.PoolSegment.{PoolSegment}
 use Rattle.vc_pool.proofs.PoolAfterCalls.{pairs-of-list}
 use Rattle.vc_pool.proofs.pool.Pool.next_segment.Goals as goal
 

@@ -1,5 +1,5 @@
 use Rattle.vc_base.proofs.Common.{List, ap, ◌∙◌}
-use Rattle.vc_pool_cells.specs.declared.segment.PoolSegment.{PoolSegment}
+use Rattle.vc_pool.specs.declared.cells.segment.PoolSegment.{PoolSegment}
 use Rattle.vc_pool.specs.Read.{pool_by}
 use Rattle.vc_pool.specs.Stat.{pool_stat}
 use Rattle.vc_pool.proofs.Sound.{kept-of}

@@ -1,8 +1,8 @@
 use Rattle.vc_base.proofs.Common.{ℕ, List, map, drop, sym, ap, ◌∙◌}
 use Rattle.vc_seg.specs.Tally.{tally_of}
-use Rattle.vc_pool_cells.specs.Blocks.{pair_of}
-use Rattle.vc_pool_cells.specs.Place.{cells_in}
-use Rattle.vc_pool_cells.specs.declared.segment.PoolSegment.{PoolSegment}
+use Rattle.vc_pool.specs.Cells.Blocks.{pair_of}
+use Rattle.vc_pool.specs.Cells.Place.{cells_in}
+use Rattle.vc_pool.specs.declared.cells.segment.PoolSegment.{PoolSegment}
 use Rattle.vc_pool.proofs.PoolAfterCalls.{pairs-of}
 use Rattle.vc_pool.proofs.Sound.{kept-of}
 use Rattle.vc_pool.proofs.pool.Pool.tally_behind.Goals as goal

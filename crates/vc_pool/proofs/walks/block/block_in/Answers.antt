@@ -1,8 +1,8 @@
 use Rattle.vc_base.proofs.Common.{◌≡◌, ℕ, ◌-◌, ◌/◌, ◌%◌, ◌<◌, ◌≤◌, length, vec_len, sym, refl, ap, ◌∙◌, subst, arith, get_or_default, address, cell_offset}
-use Rattle.vc_pool_cells.specs.Cells.{Cells, cells_of, pair_at}
-use Rattle.vc_pool_cells.specs.Place.{cells_in}
-use Rattle.vc_pool_cells.specs.declared.segment.PoolSegment.{PoolSegment}
-use Rattle.vc_pool_cells.proofs.SegmentList.{cells-none}
+use Rattle.vc_pool.specs.Cells.Cells.{Cells, cells_of, pair_at}
+use Rattle.vc_pool.specs.Cells.Place.{cells_in}
+use Rattle.vc_pool.specs.declared.cells.segment.PoolSegment.{PoolSegment}
+use Rattle.vc_pool.proofs.SegmentList.{cells-none}
 use Rattle.vc_pool.proofs.ByteLookup.{none-listed, none-within, some-within}
 use Rattle.vc_pool.proofs.BlockOfByte.{byte-none}
 use Rattle.vc_pool.proofs.CellsWithBlocks.{found-first, found-last, found-live, found-multiple, found-small}

@@ -1,4 +1,4 @@
-use Rattle.vc_pool_cells.specs.Cells.{cells_of}
+use Rattle.vc_pool.specs.Cells.Cells.{cells_of}
 use Rattle.vc_pool.specs.First.{AreEmpty}
 use Rattle.vc_pool.proofs.walks.first.first_block.Given as goal
 

@@ -1,6 +1,6 @@
 use Rattle.vc_base.proofs.Common.{◌≡◌, ◌<◌, ◌≤◌, sym, ap, ◌∙◌, subst, ⊎_elim, arith, cases_lt, next_segment}
-use Rattle.vc_pool_cells.specs.Place.{cells_in}
-use Rattle.vc_pool_cells.proofs.SegmentList.{pairs-in}
+use Rattle.vc_pool.specs.Cells.Place.{cells_in}
+use Rattle.vc_pool.proofs.SegmentList.{pairs-in}
 use Rattle.vc_pool.specs.First.{IsBare}
 use Rattle.vc_pool.proofs.NextBlock.{bare-above, bare-before, next-above, next-last}
 use Rattle.vc_pool.proofs.walks.next.first_above.Goals as goal

@@ -1,5 +1,5 @@
 use Rattle.vc_base.proofs.Common.{ℕ, ◌-◌, ◌<◌, ◌≤◌}
-use Rattle.vc_pool_cells.specs.Place.{cells_in}
+use Rattle.vc_pool.specs.Cells.Place.{cells_in}
 use Rattle.vc_pool.specs.First.{IsBare}
 use Rattle.vc_pool.proofs.walks.next.first_above.Given as goal
 

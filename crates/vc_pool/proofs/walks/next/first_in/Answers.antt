@@ -1,6 +1,6 @@
 use Rattle.vc_base.proofs.Common.{◌≡◌, ℕ, ◌%◌, ◌<◌, length, sym, ap, ◌∙◌, subst, arith, address, cell_for, cell_offset}
-use Rattle.vc_pool_cells.specs.Cells.{Cells}
-use Rattle.vc_pool_cells.proofs.SegmentList.{cells-none}
+use Rattle.vc_pool.specs.Cells.Cells.{Cells}
+use Rattle.vc_pool.proofs.SegmentList.{cells-none}
 use Rattle.vc_pool.specs.First.{AreEmpty, IsFirstBlock}
 use Rattle.vc_pool.proofs.CellsWithBlocks.{cellular-at, found-first, found-is, found-last, found-live, found-multiple, found-small}
 use Rattle.vc_pool.proofs.walks.next.first_in.Goals as goal

@@ -1,5 +1,5 @@
 use Rattle.vc_base.proofs.Common.{arith}
-use Rattle.vc_pool_cells.specs.Place.{cells_in}
+use Rattle.vc_pool.specs.Cells.Place.{cells_in}
 use Rattle.vc_pool.proofs.NextBlock.{next-unset, value-above, value-first}
 use Rattle.vc_pool.proofs.walks.next.next_in.Goals as goal
 

@@ -1,7 +1,7 @@
 use Rattle.vc_base.proofs.Common.{◌≡◌, List, drop, ap, ◌∙◌, arith, drop_all}
-use Rattle.vc_pool_cells.specs.Freed.{cell_total}
-use Rattle.vc_pool_cells.specs.Place.{cells_in}
-use Rattle.vc_pool_cells.specs.declared.segment.PoolSegment.{PoolSegment}
+use Rattle.vc_pool.specs.Cells.Freed.{cell_total}
+use Rattle.vc_pool.specs.Cells.Place.{cells_in}
+use Rattle.vc_pool.specs.declared.cells.segment.PoolSegment.{PoolSegment}
 use Rattle.vc_pool.proofs.BlockSizes.{total-count, total-most, total-next}
 use Rattle.vc_pool.proofs.walks.tally.count_cells.Goals as goal
 

@@ -1,6 +1,6 @@
 use Rattle.vc_base.proofs.Common.{◌≡◌, ◌+◌, drop}
-use Rattle.vc_pool_cells.specs.Freed.{cell_total}
-use Rattle.vc_pool_cells.specs.Place.{cells_in}
+use Rattle.vc_pool.specs.Cells.Freed.{cell_total}
+use Rattle.vc_pool.specs.Cells.Place.{cells_in}
 use Rattle.vc_pool.proofs.walks.tally.count_cells.Given as goal
 
 -- the cells so far, and those of the segments that are left, are all

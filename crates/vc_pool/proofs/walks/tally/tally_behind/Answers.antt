@@ -1,7 +1,7 @@
 use Rattle.vc_base.proofs.Common.{ℕ, ◌≤◌, List, [], map, sym, ap, ◌∙◌, subst}
 use Rattle.vc_seg.specs.declared.tally.Tally.{Tally}
 use Rattle.vc_seg.specs.Tally.{HasRoom, tally_of}
-use Rattle.vc_pool_cells.specs.Place.{cells_in}
+use Rattle.vc_pool.specs.Cells.Place.{cells_in}
 use Rattle.vc_pool.proofs.BlockSizes.{count-behind, room-behind, slice-behind}
 use Rattle.vc_pool.proofs.walks.tally.tally_behind.Goals as goal
 

@@ -2,9 +2,9 @@ use Rattle.vc_base.proofs.Common.{◌≡◌, ℕ, ◌+◌, ◌≤◌, List, ◌+
 use Rattle.vc_seg.specs.declared.tally.Tally.{Tally}
 use Rattle.vc_seg.specs.Tally.{HasRoom, tallied_all, tally_of}
 use Rattle.vc_seg.proofs.Tallies.{HasRoom-rest, tallied_all-append, tally_of-bytes, tally_of-count, tally_of-most}
-use Rattle.vc_pool_cells.specs.Blocks.{layout_by}
-use Rattle.vc_pool_cells.specs.Place.{cells_in}
-use Rattle.vc_pool_cells.specs.declared.segment.PoolSegment.{PoolSegment}
+use Rattle.vc_pool.specs.Cells.Blocks.{layout_by}
+use Rattle.vc_pool.specs.Cells.Place.{cells_in}
+use Rattle.vc_pool.specs.declared.cells.segment.PoolSegment.{PoolSegment}
 use Rattle.vc_pool.specs.Sizes.{sizes_in}
 use Rattle.vc_pool.proofs.CellsWithBlocks.{cellular-at}
 use Rattle.vc_pool.proofs.BlockSizes.{room-blocks, sizes-next, sizes_of, tally-layout}

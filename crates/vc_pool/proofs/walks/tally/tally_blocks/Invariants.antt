@@ -1,6 +1,6 @@
 use Rattle.vc_base.proofs.Common.{◌≡◌, drop}
 use Rattle.vc_seg.specs.Tally.{HasRoom, tallied_all, tally_of}
-use Rattle.vc_pool_cells.specs.Place.{cells_in}
+use Rattle.vc_pool.specs.Cells.Place.{cells_in}
 use Rattle.vc_pool.proofs.BlockSizes.{sizes_of}
 use Rattle.vc_pool.proofs.walks.tally.tally_blocks.Given as goal
 

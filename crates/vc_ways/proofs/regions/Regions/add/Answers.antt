@@ -2,8 +2,8 @@ use Rattle.vc_base.proofs.Common.{◌∙◌, ℕ, List, map, sym, ap, arith, Dis
 use Rattle.vc_seg.specs.Segment.{Bytes, pair_of}
 use Rattle.vc_best.proofs.Lends.{segments-by}
 use Rattle.vc_pool.proofs.PoolAfterCalls.{pairs-of-list}
-use Rattle.vc_pool_cells.specs.Place.{pair_in}
-use Rattle.vc_pool_cells.specs.declared.segment.PoolSegment.{PoolSegment}
+use Rattle.vc_pool.specs.Cells.Place.{pair_in}
+use Rattle.vc_pool.specs.declared.cells.segment.PoolSegment.{PoolSegment}
 use Rattle.vc_ways.specs.Extents.{with_newest}
 use Rattle.vc_ways.proofs.PoolLists.{pool-here}
 use Rattle.vc_ways.proofs.Segments.{last-segments}

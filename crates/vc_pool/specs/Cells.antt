@@ -1,0 +1,9 @@
+pub mod Cells
+pub mod Blocks
+pub mod Freed
+pub mod Kept
+pub mod Place
+pub mod Call
+pub mod Open
+pub mod Carve
+pub mod Rows
