@@ -4,3 +4,6 @@ pub mod Breaking
 pub mod Stopping
 pub mod Refusing
 pub mod Completing
+pub mod Fed
+pub mod Unread
+pub mod ToCome

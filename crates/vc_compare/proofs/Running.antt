@@ -7,10 +7,10 @@ use Rattle.vc_compare.specs.Ending.{AsksIn, EndsAs, Ran, RunsLine, ending_of}
 use Rattle.vc_compare.specs.declared.ending.Ending.{Ending}
 use Rattle.vc_compare.specs.declared.ending.Ending.TheVariants.{Finished, Faulty, Read, Memory}
 use Rattle.vc_compare.specs.declared.ending.Fault.TheVariants.{Bad, Outside, NoSegment, TooMany}
-use Rattle.vc_lines.specs.Reading.{Gives, found_behind, to_come, unread_of}
-use Rattle.vc_lines.specs.declared.LineReader.{LineReader}
-use Rattle.vc_lines.specs.declared.Next.{Next}
-use Rattle.vc_lines.specs.declared.Next.TheVariants as next
+use Rattle.vc_compare.specs.Reading.{Gives, found_behind, to_come, unread_of}
+use Rattle.vc_compare.specs.declared.lines.LineReader.{LineReader}
+use Rattle.vc_compare.specs.declared.lines.Next.{Next}
+use Rattle.vc_compare.specs.declared.lines.Next.TheVariants as next
 use Rattle.vc_ways.specs.Asking.{Asking}
 use Rattle.vc_ways.specs.Compare as compared
 use Rattle.vc_ways.specs.Compare.{compare_lines}

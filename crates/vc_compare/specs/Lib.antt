@@ -5,3 +5,4 @@ pub mod Ending
 pub mod Terms
 pub mod Refusal
 pub mod Comparison
+pub mod Reading

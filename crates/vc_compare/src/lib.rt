@@ -2,6 +2,7 @@
 #![tactic(auto)]
 
 mod ending;
+mod lines;
 mod run;
 mod status;
 mod told;

@@ -2,7 +2,7 @@ ghost use Rattle.std.specs.Prelude.{◌≡◌, ◌≢◌, ◌≤◌, IfOk, IfSom
 ghost use Rattle.vc_compare.specs.Ending.{EndsAs, RunsLine, StopsAs, ending_of};
 ghost use Rattle.vc_compare.specs.Refusal.{IsRefused};
 ghost use Rattle.vc_compare.specs.Terms.{terms_on};
-ghost use Rattle.vc_lines.specs.Reading.{CanRead, to_come};
+ghost use Rattle.vc_compare.specs.Reading.{CanRead, to_come};
 ghost use Rattle.vc_model.specs.Count.{Rose};
 ghost use Rattle.vc_script.specs.Judged.{judged_lines};
 ghost use Rattle.vc_ways.specs.Answer.{AreKept};
@@ -14,9 +14,9 @@ ghost use Rattle.vc_ways.specs.Step.{start};
 ghost use Rattle.vc_ways.specs.TraceParts.{CanClose, Stands, state_of};
 
 use crate::ending::{Ending, Fault};
+use crate::lines::{LineReader, Next};
 use std::alloc::Global;
 use vc_base::Source;
-use vc_lines::{LineReader, Next};
 use vc_seg::{RegionFault, SegDisc, Shelf};
 use vc_ways::{Regions, Stop, Trace, Wrong};
 

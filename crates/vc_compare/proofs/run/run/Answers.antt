@@ -3,7 +3,7 @@ use Rattle.vc_pool.specs.Parts.{pool_of}
 use Rattle.vc_script.specs.Judged.{judged_lines}
 use Rattle.vc_script.specs.Pieces.{FoundLines}
 use Rattle.vc_ways.specs.Answer.{AreKept}
-use Rattle.vc_lines.specs.Reading.{to_come}
+use Rattle.vc_compare.specs.Reading.{to_come}
 use Rattle.vc_ways.specs.Asking.{AreRefused, Asking}
 use Rattle.vc_ways.specs.Lends.{HasAllBack}
 use Rattle.vc_ways.specs.PoolParts.{holding_in}

@@ -1,5 +1,5 @@
 use Rattle.vc_base.proofs.Common.{Ok, Err, IfSome, subst, arith, true}
-use Rattle.vc_lines.specs.Reading.{Gives}
+use Rattle.vc_compare.specs.Reading.{Gives}
 use Rattle.vc_ways.specs.Answer.{AreKept}
 use Rattle.vc_ways.specs.Asking.{AreRefused, Refuses}
 use Rattle.vc_ways.specs.Regions.{WayTerms}

@@ -1,5 +1,5 @@
 use Rattle.vc_base.proofs.Common.{◌-◌, ◌≤◌, IfSome, Discipline, false, true}
-use Rattle.vc_lines.specs.Reading.{CanRead, to_come}
+use Rattle.vc_compare.specs.Reading.{CanRead, to_come}
 use Rattle.vc_script.specs.Judged.{last_number}
 use Rattle.vc_ways.specs.Answer.{AreKept}
 use Rattle.vc_ways.specs.RegionsParts.{all_holdings, terms_of}

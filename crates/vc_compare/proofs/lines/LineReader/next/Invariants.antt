@@ -1,6 +1,6 @@
 use Rattle.vc_base.proofs.Common.{◌≡◌, ◌-◌, ◌≤◌, length, IfSome}
-use Rattle.vc_lines.specs.Reading.{CanRead, Leaves, to_come}
-use Rattle.vc_lines.proofs.LineReader.next.Given as goal
+use Rattle.vc_compare.specs.Reading.{CanRead, Leaves, to_come}
+use Rattle.vc_compare.proofs.lines.LineReader.next.Given as goal
 
 -- the lines to come are the same
 abbrev pub invariant-loop-self : goal.invariant-loop-self

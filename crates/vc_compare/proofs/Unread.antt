@@ -7,9 +7,9 @@ use Rattle.vc_script.specs.Cutting.{Cutting, IsCutting}
 use Rattle.vc_script.specs.Cutter.{result_of_feed}
 use Rattle.vc_script.specs.Pieces.{FoundLines}
 use Rattle.vc_script.proofs.Pieces.{Tells}
-use Rattle.vc_lines.specs.Reading.{CanRead, Cuts, IsOneMore, IsUsedUp, found_behind, is_line, unread_of}
-use Rattle.vc_lines.specs.declared.LineReader.{LineReader}
-use Rattle.vc_lines.proofs.Fed.{Leaves, leaves, tells}
+use Rattle.vc_compare.specs.Reading.{CanRead, Cuts, IsOneMore, IsUsedUp, found_behind, is_line, unread_of}
+use Rattle.vc_compare.specs.declared.lines.LineReader.{LineReader}
+use Rattle.vc_compare.proofs.Fed.{Leaves, leaves, tells}
 
 -- a part without its first bytes
 pub part-drop : (xs : List ℕ) (from end used : ℕ) → used ≤ end - from → slice_range xs (from + used) end ≡ drop used (slice_range xs from end)

@@ -1,12 +1,11 @@
 //! Reads the lines of a source one after another.
-#![tactic(auto)]
 
 ghost use Rattle.std.specs.Prelude.{◌≡◌, ◌+◌, ◌<◌, ◌≤◌, [], IfOk, IfSome, IsTrue, OnErr, OnOk, false, length, true};
 ghost use Rattle.vc_model.specs.Count.{Rose};
 ghost use Rattle.vc_script.specs.Cutter.{result_of_feed};
 ghost use Rattle.vc_script.specs.Cutting.{new_cutting};
 ghost use Rattle.vc_script.specs.Judged.{last_number};
-ghost use Rattle.vc_lines.specs.Reading.{CanRead, Cuts, Fills, Gives, IsLast, IsOneMore, IsUsedUp, Readies, is_line, unread_of};
+ghost use Rattle.vc_compare.specs.Reading.{CanRead, Cuts, Fills, Gives, IsLast, IsOneMore, IsUsedUp, Readies, is_line, unread_of};
 
 use std::alloc::Global;
 use vc_base::{OutOfMemory, ReadFailed, Source};

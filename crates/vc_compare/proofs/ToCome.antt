@@ -3,10 +3,10 @@ use Rattle.vc_base.proofs.Common.{◌≡◌, ℕ, List, [], ◌++◌, Bool, fals
 use Rattle.vc_script.specs.declared.line_fault.LineFault.{LineFault}
 use Rattle.vc_script.specs.declared.cutter.Cut.TheVariants as cut
 use Rattle.vc_script.specs.Pieces.{FoundLines}
-use Rattle.vc_lines.specs.Reading.{Cuts, Gives, IsLast, Leaves, Readied, found_behind, to_come, unread_of}
-use Rattle.vc_lines.specs.declared.LineReader.{LineReader}
-use Rattle.vc_lines.specs.declared.Next.{Next}
-use Rattle.vc_lines.specs.declared.Next.TheVariants.{Line, Last, Bad, End}
+use Rattle.vc_compare.specs.Reading.{Cuts, Gives, IsLast, Leaves, Readied, found_behind, to_come, unread_of}
+use Rattle.vc_compare.specs.declared.lines.LineReader.{LineReader}
+use Rattle.vc_compare.specs.declared.lines.Next.{Next}
+use Rattle.vc_compare.specs.declared.lines.Next.TheVariants.{Line, Last, Bad, End}
 
 pub leaves-start : (r : LineReader) (left : Option (List ℕ)) → IfSome left (λ input. Leaves r left (to_come r input))
 leaves-start r None = tt

@@ -7,9 +7,9 @@ use Rattle.vc_script.specs.Lines.{lines_after}
 use Rattle.vc_script.specs.Pieces.{FoundLines}
 use Rattle.vc_script.specs.declared.cutter.Cut.{Cut}
 use Rattle.vc_script.specs.declared.cutter.Cut.TheVariants as cut
-use Rattle.vc_lines.specs.declared.LineReader.{LineReader}
-use Rattle.vc_lines.specs.declared.Next.{Next}
-use Rattle.vc_lines.specs.declared.Next.TheVariants.{Line, Last, Bad, End}
+use Rattle.vc_compare.specs.declared.lines.LineReader.{LineReader}
+use Rattle.vc_compare.specs.declared.lines.Next.{Next}
+use Rattle.vc_compare.specs.declared.lines.Next.TheVariants.{Line, Last, Bad, End}
 
 -- the bytes that were read, and that the cutter has still to take
 abbrev pub unread_of : LineReader → List ℕ

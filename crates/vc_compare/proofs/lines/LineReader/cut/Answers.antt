@@ -1,6 +1,6 @@
 use Rattle.vc_base.proofs.Common.{arith}
-use Rattle.vc_lines.proofs.Unread.{cuts, cuts-more, cuts-whole, unread-size}
-use Rattle.vc_lines.proofs.LineReader.cut.Goals as goal
+use Rattle.vc_compare.proofs.Unread.{cuts, cuts-more, cuts-whole, unread-size}
+use Rattle.vc_compare.proofs.lines.LineReader.cut.Goals as goal
 
 pub returns-clause-cuts : goal.returns-clause-cuts
 returns-clause-cuts c = cuts c.args.self.now c.feed-cut.new.self c.feed-cut.result.1 c.requires.can c.feed-cut.result.0 (rw c.deref.ensures.value at c.feed-cut.ensures.within) (rw c.deref.ensures.value at c.feed-cut.ensures.fed)

@@ -1,6 +1,6 @@
 use Rattle.vc_base.proofs.Common.{arith, refl, rules}
-use Rattle.vc_lines.proofs.Fed.{new-is}
-use Rattle.vc_lines.proofs.LineReader.new.Goals as goal
+use Rattle.vc_compare.proofs.Fed.{new-is}
+use Rattle.vc_compare.proofs.lines.LineReader.new.Goals as goal
 
 pub returns-clause-can : goal.returns-clause-can
 returns-clause-can c =

@@ -1,7 +1,7 @@
 use Rattle.vc_base.proofs.Common.{◌+◌, ◌∙◌, subst, ap, refl, arith, inl, inr}
-use Rattle.vc_lines.specs.Reading.{Cuts, is_line}
-use Rattle.vc_lines.proofs.ToCome.{leaves-start, told-bad, told-end, told-line, told-more, told-ready}
-use Rattle.vc_lines.proofs.LineReader.next.Goals as goal
+use Rattle.vc_compare.specs.Reading.{Cuts, is_line}
+use Rattle.vc_compare.proofs.ToCome.{leaves-start, told-bad, told-end, told-line, told-more, told-ready}
+use Rattle.vc_compare.proofs.lines.LineReader.next.Goals as goal
 
 pub loop-self-init : goal.loop-self-init
 loop-self-init g c = record {

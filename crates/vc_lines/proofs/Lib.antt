@@ -1,3 +1,0 @@
-pub mod Fed
-pub mod Unread
-pub mod ToCome
