@@ -36,8 +36,8 @@ use Rattle.vc_region.specs.declared.region.Region as code
 use Rattle.vc_region.specs.declared.region.Region.TheVariants.{Best}
 use Rattle.vc_seg.specs.Boxed.{disc_in_box}
 use Rattle.vc_algebra.specs.Filling.{CanFill, Fills, IsPut, IsSettled, is_like}
-use Rattle.vc_put.specs.Puts.{is_matched}
-use Rattle.vc_put.proofs.PutLemmas.{matched-told}
+use Rattle.vc_objects.specs.Puts.Puts.{is_matched}
+use Rattle.vc_objects.proofs.PutLemmas.{matched-told}
 use Rattle.vc_algebra.specs.InRegion.{AreApart, AreDictsIn, HasLayer, Held, IsDictIn, KeepsDicts, held, layered_in, layers_in}
 use Rattle.vc_algebra.specs.RegionLaws.{dict-at}
 use Rattle.vc_algebra.proofs.LookLemmas.{Changed, all-at, by-rules, changed}

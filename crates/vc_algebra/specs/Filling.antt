@@ -14,7 +14,7 @@ use Rattle.vc_objects.specs.Insert.{grow, insert}
 use Rattle.vc_objects.specs.Leaves.{GivesInserted, IsHalted, no_holder, no_table}
 use Rattle.vc_objects.specs.Objects.{Dictionary}
 use Rattle.vc_objects.specs.declared.fate.Fate.{Fate}
-use Rattle.vc_put.specs.Puts.{is_matched}
+use Rattle.vc_objects.specs.Puts.Puts.{is_matched}
 use Rattle.vc_paths.specs.Layers.{Layer}
 use Rattle.vc_region.specs.Cells.{cells_in, rest_in}
 use Rattle.vc_region.specs.Parts.{disc_in, segments_in}

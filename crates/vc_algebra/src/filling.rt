@@ -28,5 +28,5 @@ pub(crate) fn put<D: DictDisc, L>(
         (rest_in best.new) (dictionary_in dict.new best.new) }
     ensures leaves { LeavesRest state (D.rules kind.now) best.old dict.old best.new dict.new }
 {
-    vc_put::put(best, dict, kind, object, steps).transpose()
+    vc_objects::put(best, dict, kind, object, steps).transpose()
 }

@@ -18,3 +18,9 @@ pub mod Bringing
 pub mod Brought
 pub mod Remains
 pub mod Named
+pub mod WayLemmas
+pub mod JoinLemmas
+pub mod HoldLemmas
+pub mod ToldLemmas
+pub mod PutLemmas
+pub mod OpenLemmas

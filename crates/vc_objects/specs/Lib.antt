@@ -11,3 +11,4 @@ pub mod Leaves
 pub mod Turning
 pub mod Promises
 pub mod Rows
+pub mod Puts

@@ -15,8 +15,8 @@ use Rattle.vc_objects.specs.Parts.{dictionary_in}
 use Rattle.vc_objects.specs.Promises.{Inserts}
 use Rattle.vc_objects.specs.declared.fate.Fate.{Fate}
 use Rattle.vc_objects.specs.declared.fate.Fate.TheVariants.{Stored, NoTable, NoHolder}
-use Rattle.vc_put.specs.Puts.{is_matched}
-use Rattle.vc_put.proofs.PutLemmas.{matched-told}
+use Rattle.vc_objects.specs.Puts.Puts.{is_matched}
+use Rattle.vc_objects.proofs.PutLemmas.{matched-told}
 use Rattle.vc_store.specs.Contents.{contents_in, contents_of}
 use Rattle.vc_store.specs.Reading.{AfterPut, Contents, has_match, is_object, place_after}
 use Rattle.vc_store.specs.Tries.{IsTried, Tries, told_as, told_by}

@@ -58,7 +58,7 @@ pub fn put<D: DictDisc>(best: &mut Best, dict: &mut Dict, kind: &D, object: &[u8
         return Put::WrongSize;
     }
     let mut steps = Steps::<Uncounted>::new(best.alloc);
-    told_by(vc_put::put(best, dict, kind, object, &mut steps))
+    told_by(vc_objects::put(best, dict, kind, object, &mut steps))
 }
 
 // Makes the object of a holder current, and answers whether there is one.
