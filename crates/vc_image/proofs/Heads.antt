@@ -2,7 +2,7 @@
 use Rattle.vc_base.proofs.Common.{◌≡◌, ℕ, ◌+◌, ◌<◌, ◌/◌, ◌%◌, List, [], ◌∷◌, ◌++◌, length, take, get_or, map, flat_map, sym, refl, ap, ap₂, ◌∙◌, arith, length-map}
 use Rattle.std.proofs.lemmas.List.{flat_map_more, take_more}
 use Rattle.vc_seg.specs.Segment.{Bytes, pair_of}
-use Rattle.vc_image_bytes.specs.Image.{Contents, image_of, magic, number_bytes, pair_bytes, row_bytes}
+use Rattle.vc_image_check.specs.Bytes.Image.{Contents, image_of, magic, number_bytes, pair_bytes, row_bytes}
 use Rattle.vc_base.specs.Methods.{method_number}
 use Rattle.vc_dict.specs.declared.dict.Dict.{Dict}
 use Rattle.vc_dict.specs.declared.heads.Heads.{Heads}

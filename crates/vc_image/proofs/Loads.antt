@@ -16,14 +16,14 @@ use Rattle.vc_best.specs.declared.best.Best.{Best}
 use Rattle.vc_objects.specs.Parts.{IsWhole}
 use Rattle.vc_region.specs.declared.region.Region.{Region}
 use Rattle.vc_region.specs.declared.region.Region.TheVariants.{Best as OfBest}
-use Rattle.vc_image_bytes.specs.Contents.{contents_of, rows_in}
-use Rattle.vc_image_bytes.specs.Image.{Row}
-use Rattle.vc_image_blocks.specs.Blocks.{blocks_of}
-use Rattle.vc_image_dicts.specs.Sound.{IsSoundDict, IsSoundRow, heads_of, method_of, own_in, own_of}
-use Rattle.vc_image_dicts.specs.Taken.{AreSoundBefore, taken_by}
-use Rattle.vc_image_dicts.specs.Whole.{IsSound}
-use Rattle.vc_image_dicts.proofs.Told.{own-told}
-use Rattle.vc_image_dicts.proofs.Wholes.{sound-whole}
+use Rattle.vc_image_check.specs.Bytes.Contents.{contents_of, rows_in}
+use Rattle.vc_image_check.specs.Bytes.Image.{Row}
+use Rattle.vc_image_check.specs.Blocks.Blocks.{blocks_of}
+use Rattle.vc_image_check.specs.Dicts.Sound.{IsSoundDict, IsSoundRow, heads_of, method_of, own_in, own_of}
+use Rattle.vc_image_check.specs.Dicts.Taken.{AreSoundBefore, taken_by}
+use Rattle.vc_image_check.specs.Dicts.Whole.{IsSound}
+use Rattle.vc_image_check.proofs.Told.{own-told}
+use Rattle.vc_image_check.proofs.Wholes.{sound-whole}
 use Rattle.vc_image_lends.specs.Regions.{IsLoadFault}
 use Rattle.vc_image_lends.specs.Terms.{terms_fault}
 use Rattle.vc_image_lends.specs.declared.fault.ImageLendFault.{ImageLendFault}

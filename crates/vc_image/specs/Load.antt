@@ -16,10 +16,10 @@ use Rattle.vc_objects.specs.Objects.{own_blocks}
 use Rattle.vc_objects.specs.Parts.{IsWhole, dictionary_of}
 use Rattle.vc_region.specs.declared.region.Region.{Region}
 use Rattle.vc_region.specs.declared.region.Region.TheVariants.{Best as OfBest}
-use Rattle.vc_image_bytes.specs.Contents.{contents_of, rows_in}
-use Rattle.vc_image_bytes.specs.Image.{Row}
-use Rattle.vc_image_dicts.specs.Sound.{heads_of, method_of}
-use Rattle.vc_image_dicts.specs.Whole.{IsFirstUnsoundPart, IsSound}
+use Rattle.vc_image_check.specs.Bytes.Contents.{contents_of, rows_in}
+use Rattle.vc_image_check.specs.Bytes.Image.{Row}
+use Rattle.vc_image_check.specs.Dicts.Sound.{heads_of, method_of}
+use Rattle.vc_image_check.specs.Dicts.Whole.{IsFirstUnsoundPart, IsSound}
 use Rattle.vc_image_lends.specs.Regions.{IsLoadFault}
 use Rattle.vc_image_lends.specs.Terms.{terms_fault}
 use Rattle.vc_image_lends.specs.declared.fault.ImageLendFault.{ImageLendFault}

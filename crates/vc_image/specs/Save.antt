@@ -8,7 +8,7 @@ use Rattle.vc_dict.specs.Parts.{heads_in}
 use Rattle.vc_best.specs.declared.best.Best.{Best}
 use Rattle.vc_region.specs.declared.region.Region.{Region}
 use Rattle.vc_region.specs.declared.region.Region.TheVariants.{Best as OfBest, Pool, Last, Debug, Profile}
-use Rattle.vc_image_bytes.specs.Image.{Contents, Row, counts, image_of, magic, number_bytes, pair_bytes, row_bytes}
+use Rattle.vc_image_check.specs.Bytes.Image.{Contents, Row, counts, image_of, magic, number_bytes, pair_bytes, row_bytes}
 
 -- a dictionary's nine numbers
 abbrev pub row_of : Dict → Row

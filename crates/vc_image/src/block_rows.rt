@@ -9,7 +9,7 @@ use std::test::Fail;
 use vc_base::{MemSink, Steps};
 use vc_best::Best;
 use vc_dtdisc::BuiltIn;
-use vc_image_parts::Part;
+use vc_image_check::Part;
 use vc_region::Region;
 use vc_seg::{BoxedDisc, HeapDisc, SegDisc};
 

@@ -1,14 +1,13 @@
 ghost use Rattle.std.specs.Prelude.{◌≡◌, ◌+◌, ◌^◌, ◌<◌, ◌≤◌, IfOk, length};
 ghost use Rattle.std.specs.List.{AllByRecursion};
-ghost use Rattle.vc_image_bytes.specs.Contents.{row_at};
-ghost use Rattle.vc_image_bytes.specs.Header.{IsHeader};
+ghost use Rattle.vc_image_check.specs.Bytes.Contents.{row_at};
+ghost use Rattle.vc_image_check.specs.Bytes.Header.{IsHeader};
 ghost use Rattle.vc_image.specs.Load.{dict_of, dicts_of};
 
 use std::alloc::Global;
 use vc_base::{Addr, DictMethod, OutOfMemory};
 use vc_dict::{Dict, Dicts};
-use vc_image_bytes::word;
-use vc_image_dicts::{heads_of, method_of};
+use vc_image_check::{heads_of, method_of, word};
 
 // The dictionary whose nine numbers lie from a place of an image on.
 fn dict_at(image: &[u8], at: usize) -> Dict

@@ -1,5 +1,5 @@
 use thiserror::Error;
-use vc_image_parts::Part;
+use vc_image_check::Part;
 
 /// Why an image wasn't written whole. This project's own.
 #[derive(Clone, Copy, Debug, PartialEq, Eq, Error)]

@@ -2,7 +2,7 @@ ghost use Rattle.std.specs.Prelude.{◌≡◌, ◌<◌, ◌≤◌, ◌++◌, ◌
 ghost use Rattle.std.specs.List.{flat_map};
 ghost use Rattle.vc_base.specs.Methods.{method_number};
 ghost use Rattle.vc_seg.specs.Segment.{AreSegments, pair_of};
-ghost use Rattle.vc_image_bytes.specs.Image.{number_bytes, pair_bytes, row_bytes};
+ghost use Rattle.vc_image_check.specs.Bytes.Image.{number_bytes, pair_bytes, row_bytes};
 ghost use Rattle.vc_image.specs.Save.{contents_by, head_of, row_of};
 
 use std::alloc::{AllocError, Global};

@@ -6,7 +6,7 @@ use std::process::Abort;
 use std::test::Fail;
 use vc_base::{Addr, DictMethod, MemSink};
 use vc_dtdisc::{BuiltIn, Shape};
-use vc_image_parts::Part;
+use vc_image_check::Part;
 use vc_seg::{FuseDisc, HeapDisc, SbrkDisc, SegDisc};
 
 // The addresses of five blocks of the segment 1: four of 33 bytes and one of 128.

@@ -1,6 +1,6 @@
 ghost use Rattle.std.specs.Prelude.{◌≡◌, ℕ, ◌≤◌, ◌++◌, Some, IfOk, IfSome, IsErrOf, IsSome, OnOk, length, take};
 ghost use Rattle.vc_model.specs.Count.{Rose};
-ghost use Rattle.vc_image_bytes.specs.Image.{image_of};
+ghost use Rattle.vc_image_check.specs.Bytes.Image.{image_of};
 ghost use Rattle.vc_region.specs.OfBest.{best_in};
 ghost use Rattle.vc_image.specs.Save.{contents_in, image_in};
 ghost use Rattle.vc_image.specs.declared.fault.SaveFault.TheVariants.{WriteFailed as NoWrite, OutOfMemory as NoMemory};

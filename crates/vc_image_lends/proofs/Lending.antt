@@ -9,10 +9,10 @@ use Rattle.vc_seg.specs.Field.{field_at}
 use Rattle.vc_seg.specs.Segment.{Bytes, pair_of}
 use Rattle.vc_extent.specs.Tiles.{IsTiled}
 use Rattle.vc_extent.specs.Tiling.{IsThere}
-use Rattle.vc_image_bytes.specs.Contents.{body_in, contents_of, pair_at, pairs_in, segments_in}
-use Rattle.vc_image_bytes.specs.Header.{IsHeader}
-use Rattle.vc_image_bytes.proofs.Pairs.{items-get}
-use Rattle.vc_image_bytes.proofs.Segs.{legal, long, new-number, next-place, segment, segment-is, segs-are, segs-count, segs-each, segs-more, segs_in, size-is, there, within}
+use Rattle.vc_image_check.specs.Bytes.Contents.{body_in, contents_of, pair_at, pairs_in, segments_in}
+use Rattle.vc_image_check.specs.Bytes.Header.{IsHeader}
+use Rattle.vc_image_check.proofs.Pairs.{items-get}
+use Rattle.vc_image_check.proofs.Segs.{legal, long, new-number, next-place, segment, segment-is, segs-are, segs-count, segs-each, segs-more, segs_in, size-is, there, within}
 use Rattle.vc_image_lends.specs.Lends.{AreLent, IsRefused}
 use Rattle.vc_image_lends.specs.Terms.{first_uneven, is_uneven}
 use Rattle.vc_image_lends.proofs.Uneven.{pairs-many, pairs-of}

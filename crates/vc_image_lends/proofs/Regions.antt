@@ -14,9 +14,9 @@ use Rattle.vc_best.proofs.Counting.{blocks-count}
 use Rattle.vc_best.proofs.Gaps.{All-flat_map}
 use Rattle.vc_best.proofs.Tilings.{All-busy_in}
 use Rattle.vc_seg.proofs.Tallies.{tally_of-count}
-unfoldable use Rattle.vc_image_bytes.specs.Contents.{contents_of}
-use Rattle.vc_image_checks.specs.Sound.{AreSoundSegments, IsSoundSegment}
-use Rattle.vc_image_parts.specs.Front.{IsSoundFront}
+unfoldable use Rattle.vc_image_check.specs.Bytes.Contents.{contents_of}
+use Rattle.vc_image_check.specs.Segments.Sound.{AreSoundSegments, IsSoundSegment}
+use Rattle.vc_image_check.specs.Parts.Front.{IsSoundFront}
 use Rattle.vc_image_lends.specs.Regions.{busy_count}
 
 pub root-is : (b : List ℕ) → (contents_of b).root ≡ field_at 12 b

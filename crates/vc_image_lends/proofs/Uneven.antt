@@ -2,12 +2,12 @@
 use Rattle.vc_base.proofs.Common.{◌≡◌, ℕ, ◌+◌, ◌*◌, ◌%◌, ◌<◌, ◌≤◌, true, false, not, List, [], ◌∷◌, length, map, drop, find, None, Some, option_map, sym, refl, ap, ◌∙◌, arith, ne_eqb, eq-eqb, drop_all, drop_more}
 use Rattle.vc_seg.specs.Field.{field_at}
 use Rattle.vc_seg.specs.Segment.{pair_of}
-use Rattle.vc_image_bytes.specs.Contents.{contents_of, pair_at, pairs_in, segments_in}
-use Rattle.vc_image_bytes.specs.Header.{IsHeader}
-use Rattle.vc_image_bytes.specs.Image.{pair_bytes}
-use Rattle.vc_image_bytes.proofs.Pairs.{items-get}
-use Rattle.vc_image_bytes.proofs.Segs.{pairs-are, segs-are, size-is}
-use Rattle.vc_image_bytes.proofs.Words.{length-items}
+use Rattle.vc_image_check.specs.Bytes.Contents.{contents_of, pair_at, pairs_in, segments_in}
+use Rattle.vc_image_check.specs.Bytes.Header.{IsHeader}
+use Rattle.vc_image_check.specs.Bytes.Image.{pair_bytes}
+use Rattle.vc_image_check.proofs.Pairs.{items-get}
+use Rattle.vc_image_check.proofs.Segs.{pairs-are, segs-are, size-is}
+use Rattle.vc_image_check.proofs.Words.{length-items}
 use Rattle.vc_image_lends.specs.Terms.{first_uneven, is_uneven}
 
 pub pairs-many : (b : List ℕ) → length (pairs_in b) ≡ segments_in b

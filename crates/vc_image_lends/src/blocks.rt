@@ -5,7 +5,7 @@ ghost use Rattle.vc_extent.specs.Tiling.{tiling};
 ghost use Rattle.vc_best.specs.Counts.{all_extents};
 ghost use Rattle.vc_image_lends.specs.Regions.{busy_count};
 
-use vc_image_bytes::word;
+use vc_image_check::word;
 use vc_seg::Segment;
 
 // One for an extent of that size that has a block.

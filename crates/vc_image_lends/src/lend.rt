@@ -3,15 +3,15 @@ ghost use Rattle.vc_base.specs.Prelude.{HasOut, IsSegmentSize, Lent, LentNothing
 ghost use Rattle.vc_model.specs.Discipline.{Kept};
 ghost use Rattle.vc_seg.specs.Segment.{pair_of};
 ghost use Rattle.vc_extent.specs.Tiles.{IsTiled};
-ghost use Rattle.vc_image_bytes.specs.Contents.{contents_of};
-ghost use Rattle.vc_image_bytes.specs.Header.{IsHeader};
+ghost use Rattle.vc_image_check.specs.Bytes.Contents.{contents_of};
+ghost use Rattle.vc_image_check.specs.Bytes.Header.{IsHeader};
 ghost use Rattle.vc_image_lends.specs.Lends.{AreLent, IsLendFault};
 ghost use Rattle.vc_image_lends.specs.Terms.{first_uneven};
 
 use crate::ImageLendFault;
 use std::alloc::Global;
 use vc_extent::Extents;
-use vc_image_bytes::word;
+use vc_image_check::word;
 use vc_seg::{LendFault, SegDisc, Segment, give_back_all, obtain};
 
 // A segment that a discipline lends under that number, with these bytes.

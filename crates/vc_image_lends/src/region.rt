@@ -1,8 +1,8 @@
 ghost use Rattle.std.specs.Prelude.{◌≡◌, None, IfErr, IfOk, map};
 ghost use Rattle.vc_model.specs.Discipline.{Kept};
 ghost use Rattle.vc_seg.specs.Segment.{pair_of};
-ghost use Rattle.vc_image_bytes.specs.Contents.{contents_of};
-ghost use Rattle.vc_image_parts.specs.Front.{IsSoundFront};
+ghost use Rattle.vc_image_check.specs.Bytes.Contents.{contents_of};
+ghost use Rattle.vc_image_check.specs.Parts.Front.{IsSoundFront};
 ghost use Rattle.vc_image_lends.specs.Lends.{AreLent};
 ghost use Rattle.vc_image_lends.specs.Regions.{IsLoadFault};
 ghost use Rattle.vc_image_lends.specs.Terms.{terms_fault};
@@ -14,7 +14,7 @@ use crate::terms::terms_fault;
 use std::alloc::Global;
 use vc_base::Addr;
 use vc_best::Best;
-use vc_image_bytes::word;
+use vc_image_check::word;
 use vc_seg::SegDisc;
 
 /// A best region over an image's segments, obtained from a discipline and filled with the image's bytes, all of them

@@ -1,11 +1,11 @@
 ghost use Rattle.std.specs.Prelude.{◌≡◌, ◌≤◌, map};
 ghost use Rattle.vc_seg.specs.Segment.{pair_of};
-ghost use Rattle.vc_image_bytes.specs.Contents.{contents_of};
-ghost use Rattle.vc_image_bytes.specs.Header.{IsHeader};
+ghost use Rattle.vc_image_check.specs.Bytes.Contents.{contents_of};
+ghost use Rattle.vc_image_check.specs.Bytes.Header.{IsHeader};
 ghost use Rattle.vc_image_lends.specs.Terms.{first_uneven, has_too_many, terms_fault};
 
 use crate::ImageLendFault;
-use vc_image_bytes::word;
+use vc_image_check::word;
 use vc_seg::{SegDisc, grows_of, round_of};
 
 // The number of an image's first segment, in order of lending, whose size a round doesn't divide.

@@ -3,8 +3,7 @@ use crate::{ImageLendFault, region_of_image, terms_fault};
 use std::alloc::Global;
 use std::process::Abort;
 use std::test::Fail;
-use vc_image_bytes::is_header;
-use vc_image_parts::unsound_front;
+use vc_image_check::{is_header, unsound_front};
 use vc_seg::{FuseDisc, HeapDisc, SbrkDisc, SegDisc};
 
 // The image of a region with no segment.

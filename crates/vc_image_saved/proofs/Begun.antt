@@ -20,12 +20,12 @@ use Rattle.vc_region.specs.OfBest.{best_in}
 use Rattle.vc_region.specs.declared.region.Region.{Region}
 use Rattle.vc_region.specs.declared.region.Region.TheVariants.{Best as OfBest, Pool, Last, Debug, Profile}
 use Rattle.vc_dict.specs.declared.dict.Dict.{Dict}
-use Rattle.vc_image_bytes.specs.Contents.{contents_of}
-use Rattle.vc_image_bytes.specs.Header.{AreContents, IsHeader}
-use Rattle.vc_image_bytes.specs.Image.{Contents, Row, image_of}
-use Rattle.vc_image_bytes.proofs.Writing.{header-of, read-again}
-use Rattle.vc_image_checks.specs.Sound.{AreSoundSegments}
-use Rattle.vc_image_parts.specs.Front.{IsSoundFront}
+use Rattle.vc_image_check.specs.Bytes.Contents.{contents_of}
+use Rattle.vc_image_check.specs.Bytes.Header.{AreContents, IsHeader}
+use Rattle.vc_image_check.specs.Bytes.Image.{Contents, Row, image_of}
+use Rattle.vc_image_check.proofs.Writing.{header-of, read-again}
+use Rattle.vc_image_check.specs.Segments.Sound.{AreSoundSegments}
+use Rattle.vc_image_check.specs.Parts.Front.{IsSoundFront}
 use Rattle.vc_image.specs.Save.{image_in, row_of}
 use Rattle.vc_image_saved.proofs.Rows.{all-fit, low, low_contents, low-image}
 use Rattle.vc_image_saved.proofs.Sizes.{each-most}

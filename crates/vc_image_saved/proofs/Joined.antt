@@ -19,15 +19,15 @@ use Rattle.vc_region.specs.declared.region.Region.{Region}
 use Rattle.vc_region.specs.declared.region.Region.TheVariants.{Best as OfBest, Pool, Last, Debug, Profile}
 use Rattle.vc_objects.specs.Objects.{own_blocks}
 use Rattle.vc_objects.specs.Parts.{dictionary_of}
-use Rattle.vc_image_bytes.specs.Contents.{contents_of, rows_in}
-use Rattle.vc_image_bytes.specs.Header.{FitsRow}
-use Rattle.vc_image_bytes.specs.Image.{Contents, Row, image_of}
-use Rattle.vc_image_bytes.proofs.Writing.{read-again}
-use Rattle.vc_image_blocks.specs.Blocks.{blocks_of, is_cell}
-use Rattle.vc_image_dicts.specs.Sound.{IsSoundDict, IsSoundRow, method_of, own_in, own_of}
-use Rattle.vc_image_dicts.specs.Taken.{AreSoundBefore, taken_by}
-use Rattle.vc_image_dicts.specs.Whole.{IsSound}
-use Rattle.vc_image_dicts.proofs.Told.{own-told}
+use Rattle.vc_image_check.specs.Bytes.Contents.{contents_of, rows_in}
+use Rattle.vc_image_check.specs.Bytes.Header.{FitsRow}
+use Rattle.vc_image_check.specs.Bytes.Image.{Contents, Row, image_of}
+use Rattle.vc_image_check.proofs.Writing.{read-again}
+use Rattle.vc_image_check.specs.Blocks.Blocks.{blocks_of, is_cell}
+use Rattle.vc_image_check.specs.Dicts.Sound.{IsSoundDict, IsSoundRow, method_of, own_in, own_of}
+use Rattle.vc_image_check.specs.Dicts.Taken.{AreSoundBefore, taken_by}
+use Rattle.vc_image_check.specs.Dicts.Whole.{IsSound}
+use Rattle.vc_image_check.proofs.Told.{own-told}
 use Rattle.vc_image.specs.Load.{AreApart, IsApart, IsWholeAmong, dict_of, dicts_of, own_by}
 use Rattle.vc_image.specs.Save.{contents_by, contents_in, image_in, row_of}
 use Rattle.vc_image.proofs.Loads.{apart-turned, made-by}

@@ -12,15 +12,15 @@ use Rattle.vc_best.specs.Cells.{cell_bytes, cells_of}
 use Rattle.vc_best.proofs.Found.{found-of}
 use Rattle.vc_region.specs.declared.region.Region.{Region}
 use Rattle.vc_region.specs.declared.region.Region.TheVariants.{Best as OfBest, Pool, Last, Debug, Profile}
-use Rattle.vc_image_bytes.specs.Contents.{contents_of, rows_in}
-use Rattle.vc_image_bytes.specs.Image.{Row}
-use Rattle.vc_image_blocks.specs.Blocks.{blocks_of, is_cell}
-use Rattle.vc_image_dicts.specs.Alone.{AreAlone}
-use Rattle.vc_image_dicts.specs.Sound.{IsSoundBy, IsSoundDict, IsSoundRow}
-use Rattle.vc_image_dicts.specs.Taken.{AreSoundBefore, taken_by}
-use Rattle.vc_image_dicts.specs.Whole.{IsSound}
-use Rattle.vc_image_dicts.proofs.Passing.{length-rows}
-use Rattle.vc_image_dicts.proofs.Told.{set-alone}
+use Rattle.vc_image_check.specs.Bytes.Contents.{contents_of, rows_in}
+use Rattle.vc_image_check.specs.Bytes.Image.{Row}
+use Rattle.vc_image_check.specs.Blocks.Blocks.{blocks_of, is_cell}
+use Rattle.vc_image_check.specs.Dicts.Alone.{AreAlone}
+use Rattle.vc_image_check.specs.Dicts.Sound.{IsSoundBy, IsSoundDict, IsSoundRow}
+use Rattle.vc_image_check.specs.Dicts.Taken.{AreSoundBefore, taken_by}
+use Rattle.vc_image_check.specs.Dicts.Whole.{IsSound}
+use Rattle.vc_image_check.proofs.Passing.{length-rows}
+use Rattle.vc_image_check.proofs.Told.{set-alone}
 use Rattle.vc_image.specs.Load.{AreApart, IsApart, own_by}
 use Rattle.vc_image.specs.Save.{row_of}
 use Rattle.vc_image.proofs.Loads.{apart-turned, in-taken}

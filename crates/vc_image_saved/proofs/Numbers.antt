@@ -21,7 +21,7 @@ use Rattle.vc_dict.specs.Parts.{heads_at, heads_in}
 use Rattle.vc_dict.specs.Stands.{HeadsFor, slots_at, slots_in, table_at, table_in}
 use Rattle.vc_dict.proofs.OwnLemmas.{Stands-table, count-fits, holder-address}
 use Rattle.vc_objects.specs.Parts.{IsWhole}
-use Rattle.vc_image_bytes.specs.Header.{FitsRow}
+use Rattle.vc_image_check.specs.Bytes.Header.{FitsRow}
 use Rattle.vc_image.specs.Save.{row_of}
 
 method-fits : (m : DictMethod) → method_number m < 2 ^ 32

@@ -16,15 +16,15 @@ use Rattle.vc_objects.specs.Parts.{IsWhole}
 use Rattle.vc_region.specs.OfBest.{best_in}
 use Rattle.vc_region.specs.declared.region.Region.{Region}
 use Rattle.vc_region.specs.declared.region.Region.TheVariants.{Best as OfBest, Pool, Last, Debug, Profile}
-use Rattle.vc_image_bytes.specs.Contents.{contents_of, rows_in}
-use Rattle.vc_image_bytes.specs.Image.{Contents, Row, image_of}
-use Rattle.vc_image_blocks.specs.Blocks.{blocks_of}
-use Rattle.vc_image_checks.specs.Sound.{IsSoundSegment}
-use Rattle.vc_image_dicts.specs.Sound.{IsSoundRow, heads_of, method_of}
-use Rattle.vc_image_dicts.specs.Whole.{IsFirstUnsoundPart, IsSound}
-use Rattle.vc_image_dicts.proofs.Told.{heads-back}
-use Rattle.vc_image_parts.specs.declared.part.Part.{Part}
-use Rattle.vc_image_parts.specs.declared.part.Part.TheVariants.{Header, Segment, Tree, Dictionary, Rest}
+use Rattle.vc_image_check.specs.Bytes.Contents.{contents_of, rows_in}
+use Rattle.vc_image_check.specs.Bytes.Image.{Contents, Row, image_of}
+use Rattle.vc_image_check.specs.Blocks.Blocks.{blocks_of}
+use Rattle.vc_image_check.specs.Segments.Sound.{IsSoundSegment}
+use Rattle.vc_image_check.specs.Dicts.Sound.{IsSoundRow, heads_of, method_of}
+use Rattle.vc_image_check.specs.Dicts.Whole.{IsFirstUnsoundPart, IsSound}
+use Rattle.vc_image_check.proofs.Told.{heads-back}
+use Rattle.vc_image_check.specs.declared.parts.part.Part.{Part}
+use Rattle.vc_image_check.specs.declared.parts.part.Part.TheVariants.{Header, Segment, Tree, Dictionary, Rest}
 use Rattle.vc_image.specs.Load.{IsLoaded, IsWholeAmong, dict_of}
 use Rattle.vc_image.specs.Save.{contents_in, image_in, row_of}
 use Rattle.vc_image.proofs.Loads.{made-by}

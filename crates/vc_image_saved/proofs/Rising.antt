@@ -7,8 +7,8 @@ use Rattle.vc_dtdisc.specs.Finds.{find_key, has_key, object_at}
 use Rattle.vc_dtdisc.specs.Objects.{is_greater}
 use Rattle.vc_dtdisc.specs.Rules.{Rules}
 use Rattle.vc_dtord.specs.Ordered.{IsSorted}
-use Rattle.vc_image_lists.specs.Ascending.{IsAscending, is_against, stand}
-use Rattle.vc_image_dicts.specs.Alone.{AreAlone}
+use Rattle.vc_image_check.specs.Lists.Ascending.{IsAscending, is_against, stand}
+use Rattle.vc_image_check.specs.Dicts.Alone.{AreAlone}
 use Rattle.vc_image_saved.proofs.Sizes.{either-none}
 
 module _ (rules : Rules) (order : IsTotalOrder rules.compare) (b : Blocks) where

@@ -1,8 +1,8 @@
 -- An image has the lower four bytes of each number of a dictionary.
 use Rattle.vc_base.proofs.Common.{◌≡◌, ℕ, ◌%◌, ◌<◌, ◌^◌, List, [], ◌∷◌, ◌++◌, map, length, flat_map, refl, ap₂, arith, length-map, AllByRecursion}
 use Rattle.vc_seg.specs.Segment.{Bytes, pair_of}
-use Rattle.vc_image_bytes.specs.Header.{FitsRow}
-use Rattle.vc_image_bytes.specs.Image.{Contents, Row, image_of, magic, number_bytes, pair_bytes, row_bytes}
+use Rattle.vc_image_check.specs.Bytes.Header.{FitsRow}
+use Rattle.vc_image_check.specs.Bytes.Image.{Contents, Row, image_of, magic, number_bytes, pair_bytes, row_bytes}
 use Rattle.vc_image.proofs.Heads.{low-bytes}
 
 -- so many of them

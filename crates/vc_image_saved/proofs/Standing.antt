@@ -17,9 +17,9 @@ use Rattle.vc_dict.specs.Stands.{HeadsFor, IsForm, table_at}
 use Rattle.vc_dict.proofs.HeadLemmas.{ordered_plain}
 use Rattle.vc_objects.specs.Parts.{IsWhole}
 use Rattle.vc_objects.proofs.Owning.{each-object}
-use Rattle.vc_image_orders.specs.Sound.{ArePlain}
-use Rattle.vc_image_dicts.specs.Alone.{AreAlone}
-use Rattle.vc_image_dicts.specs.Sound.{AreSoundHolders, IsSoundBy, holders_in}
+use Rattle.vc_image_check.specs.Orders.Sound.{ArePlain}
+use Rattle.vc_image_check.specs.Dicts.Alone.{AreAlone}
+use Rattle.vc_image_check.specs.Dicts.Sound.{AreSoundHolders, IsSoundBy, holders_in}
 use Rattle.vc_image_saved.proofs.Rising.{ascending-of}
 
 -- heads of a method's form have 0 where it has no use for them

@@ -14,8 +14,8 @@ use Rattle.vc_objects.specs.Parts.{IsWhole}
 use Rattle.vc_region.specs.OfBest.{best_in}
 use Rattle.vc_region.specs.declared.region.Region.{Region}
 use Rattle.vc_region.specs.declared.region.Region.TheVariants.{Best as OfBest, Pool, Last, Debug, Profile}
-use Rattle.vc_image_bytes.specs.Contents.{contents_of}
-use Rattle.vc_image_dicts.specs.Alone.{AreAlone}
+use Rattle.vc_image_check.specs.Bytes.Contents.{contents_of}
+use Rattle.vc_image_check.specs.Dicts.Alone.{AreAlone}
 use Rattle.vc_image.specs.Load.{AreApart, IsWholeAmong, own_by}
 use Rattle.vc_image.specs.Save.{row_of}
 

@@ -4,8 +4,8 @@ ghost use Rattle.vc_model.specs.Discipline.{Terms};
 ghost use Rattle.vc_dtdisc.specs.Rules.{AreLawful, Rules};
 ghost use Rattle.vc_image.specs.Load.{IsLoaded};
 ghost use Rattle.vc_image.specs.Save.{image_in};
-ghost use Rattle.vc_image_dicts.specs.Whole.{IsFirstUnsoundPart, IsSound};
-ghost use Rattle.vc_image_parts.specs.declared.part.Part.{Part};
+ghost use Rattle.vc_image_check.specs.Dicts.Whole.{IsFirstUnsoundPart, IsSound};
+ghost use Rattle.vc_image_check.specs.declared.parts.part.Part.{Part};
 ghost use Rattle.vc_image_saved.specs.Saved.{AreOfImage, AreSame, AreSavableIn};
 
 use vc_dict::Dict;

@@ -1,6 +1,6 @@
 ghost use Rattle.std.specs.Prelude.{◌≡◌, ◌≤◌, IsSome, length};
 ghost use Rattle.vc_image.specs.Save.{image_in};
-ghost use Rattle.vc_image_parts.specs.Front.{IsSoundFront};
+ghost use Rattle.vc_image_check.specs.Parts.Front.{IsSoundFront};
 ghost use Rattle.vc_region.specs.OfBest.{best_in};
 
 use vc_dict::Dict;

@@ -2,7 +2,7 @@ ghost use Rattle.std.specs.Prelude.{◌≡◌, IfSome, List};
 ghost use Rattle.vc_dtdisc.specs.Rules.{Rules};
 ghost use Rattle.vc_image.specs.Load.{dicts_of};
 ghost use Rattle.vc_image.specs.Save.{contents_in, image_in};
-ghost use Rattle.vc_image_bytes.specs.Contents.{contents_of};
+ghost use Rattle.vc_image_check.specs.Bytes.Contents.{contents_of};
 ghost use Rattle.vc_image_saved.specs.Saved.{AreReadableIn};
 ghost use Rattle.vc_region.specs.OfBest.{best_in};
 

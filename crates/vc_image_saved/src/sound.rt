@@ -1,8 +1,8 @@
 ghost use Rattle.std.specs.Prelude.{◌≡◌, IfSome, List};
 ghost use Rattle.vc_dtdisc.specs.Rules.{Rules};
 ghost use Rattle.vc_image.specs.Save.{contents_in, image_in};
-ghost use Rattle.vc_image_bytes.specs.Contents.{contents_of};
-ghost use Rattle.vc_image_dicts.specs.Whole.{IsSound};
+ghost use Rattle.vc_image_check.specs.Bytes.Contents.{contents_of};
+ghost use Rattle.vc_image_check.specs.Dicts.Whole.{IsSound};
 ghost use Rattle.vc_image_saved.specs.Saved.{AreSavableIn};
 ghost use Rattle.vc_region.specs.OfBest.{best_in};
 

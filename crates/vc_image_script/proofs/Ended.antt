@@ -2,7 +2,7 @@
 use Rattle.vc_base.proofs.Common.{arith, IfOk, IfErr, ◌≡◌, ℕ, Bool, false, List, [], Some, None, Ok, Err, Option, Result, IfSome, sym, refl, ◌∙◌, subst, inl, inr, Discipline}
 use Rattle.vc_base.specs.Memory.{MemorySink}
 use Rattle.vc_dtdisc.specs.Rules.{Gone, Rules}
-use Rattle.vc_image_dicts.specs.Whole.{IsFirstUnsoundPart, IsSound}
+use Rattle.vc_image_check.specs.Dicts.Whole.{IsFirstUnsoundPart, IsSound}
 use Rattle.vc_image_script.proofs.FirstHeld.{image-of, none-open, other-first}
 use Rattle.vc_image_script.specs.Found.{IsFirstImage, WhyNone}
 use Rattle.vc_image_script.specs.Image.{IsImageOf}

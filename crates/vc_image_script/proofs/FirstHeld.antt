@@ -14,8 +14,8 @@ use Rattle.vc_dict.proofs.HeadLemmas.{dict-again}
 use Rattle.vc_dict.specs.Listed.{holders_of}
 use Rattle.vc_image.specs.Load.{IsWholeAmong, dicts_of}
 use Rattle.vc_image.specs.Save.{contents_by, contents_in, image_in}
-use Rattle.vc_image_bytes.specs.Contents.{contents_of}
-use Rattle.vc_image_bytes.specs.Image.{Contents, image_of}
+use Rattle.vc_image_check.specs.Bytes.Contents.{contents_of}
+use Rattle.vc_image_check.specs.Bytes.Image.{Contents, image_of}
 use Rattle.vc_image_saved.proofs.Begun.{front-in}
 use Rattle.vc_image_saved.proofs.Joined.{dicts-in, read-in}
 use Rattle.vc_image_saved.specs.Saved.{AreReadableIn}

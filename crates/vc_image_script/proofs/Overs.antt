@@ -8,7 +8,7 @@ use Rattle.vc_commands.specs.Blocks.{label_limit}
 use Rattle.vc_commands.specs.Home.{Label}
 use Rattle.vc_commands.specs.Tagged.{have_own_tags, is_own_tag, name_by_tag, text_by_tag}
 use Rattle.vc_dtdisc.specs.Rules.{Gone, Rules}
-use Rattle.vc_image_bytes.specs.Contents.{contents_of}
+use Rattle.vc_image_check.specs.Bytes.Contents.{contents_of}
 use Rattle.vc_image_script.proofs.Ended.{saves-arms, saves-at_rest}
 use Rattle.vc_image_script.specs.Over.{BeginsWith, Remakes}
 use Rattle.vc_image_script.specs.Promises.{Saves}

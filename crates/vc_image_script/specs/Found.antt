@@ -3,7 +3,7 @@ use Rattle.std.specs.Prelude.{◌≡◌, ℕ, List, [], Some, None, IsSome, slic
 use Rattle.vc_commands.specs.declared.region.home.HomeEntry.{HomeEntry}
 use Rattle.vc_dtdisc.specs.Rules.{Rules}
 use Rattle.vc_image.specs.Save.{image_in}
-use Rattle.vc_image_dicts.specs.Whole.{IsFirstUnsoundPart}
+use Rattle.vc_image_check.specs.Dicts.Whole.{IsFirstUnsoundPart}
 use Rattle.vc_image_script.specs.Copies.{KindsFit, copies_in}
 use Rattle.vc_image_script.specs.declared.fault.ScriptFault.{ScriptFault}
 use Rattle.vc_image_script.specs.declared.fault.ScriptFault.TheVariants.{Memory, NoRegion, WrongMethod, Unsound}

@@ -5,9 +5,9 @@ use Rattle.vc_commands.specs.Home.{Home, Label}
 use Rattle.vc_dict.specs.declared.dict.Dict.{Dict}
 use Rattle.vc_image.specs.Load.{dicts_of}
 use Rattle.vc_image.specs.Save.{contents_by}
-use Rattle.vc_image_bytes.specs.Contents.{contents_of}
-use Rattle.vc_image_bytes.specs.Image.{image_of}
-use Rattle.vc_image_parts.specs.Front.{IsSoundFront}
+use Rattle.vc_image_check.specs.Bytes.Contents.{contents_of}
+use Rattle.vc_image_check.specs.Bytes.Image.{image_of}
+use Rattle.vc_image_check.specs.Parts.Front.{IsSoundFront}
 use Rattle.vc_image_session.specs.State.{cells_of_segs, region_of_segs}
 use Rattle.vc_objects.specs.Objects.{Dictionary}
 use Rattle.vc_objects.specs.Parts.{dictionary_of}

@@ -2,7 +2,7 @@
 use Rattle.std.specs.Prelude.{◌≡◌, ℕ, ◌⊎◌, List, [], Option, Some, None, Result, Ok, Err, IfSome, IsSomeAnd, false, slice_get}
 use Rattle.vc_base.specs.Memory.{MemorySink}
 use Rattle.vc_dtdisc.specs.Rules.{Rules}
-use Rattle.vc_image_dicts.specs.Whole.{IsFirstUnsoundPart, IsSound}
+use Rattle.vc_image_check.specs.Dicts.Whole.{IsFirstUnsoundPart, IsSound}
 use Rattle.vc_image_script.specs.Image.{IsImageOf}
 use Rattle.vc_image_script.specs.declared.fault.ScriptFault.{ScriptFault}
 use Rattle.vc_image_script.specs.declared.fault.ScriptFault.TheVariants.{Line, Read, Write, Memory, NoRegion, WrongMethod, Unsound}

@@ -1,5 +1,5 @@
 use vc_base::OutOfMemory;
-use vc_image_parts::Part;
+use vc_image_check::Part;
 use vc_script::LineFault;
 use vc_session::Stop;
 

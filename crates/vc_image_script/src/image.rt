@@ -1,6 +1,6 @@
 ghost use Rattle.std.specs.Prelude.{◌≡◌, ◌≤◌, IfErr, IfOk, IsSome, length, map};
 ghost use Rattle.vc_image.specs.Save.{image_in};
-ghost use Rattle.vc_image_dicts.specs.Whole.{IsSound};
+ghost use Rattle.vc_image_check.specs.Dicts.Whole.{IsSound};
 ghost use Rattle.vc_image_script.specs.Found.{IsFirstImage, IsUnsaved, WhyNone};
 ghost use Rattle.vc_region.specs.OfBest.{best_in};
 
@@ -11,7 +11,7 @@ use vc_base::MemSink;
 use vc_dict::Dict;
 use vc_dtdisc::DictDisc;
 use vc_image::save;
-use vc_image_dicts::unsound_part;
+use vc_image_check::unsound_part;
 use vc_region::Region;
 use vc_seg::{BoxedDisc, SegDisc};
 use vc_session::Session;

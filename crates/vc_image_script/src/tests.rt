@@ -7,7 +7,7 @@ use std::test::Fail;
 use vc_base::{MemSink, MemSource, Sink, Source};
 use vc_dtdisc::{BuiltIn, Shape};
 use vc_image::LoadFault;
-use vc_image_parts::Part;
+use vc_image_check::Part;
 use vc_image_session::OpenFault;
 use vc_script::LineFault;
 use vc_seg::{FuseDisc, HeapDisc, Shelf};

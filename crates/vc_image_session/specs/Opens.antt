@@ -10,8 +10,8 @@ use Rattle.vc_dict.specs.declared.dict.Dict.{Dict}
 use Rattle.vc_dtdisc.specs.Rules.{Rules}
 use Rattle.vc_image.specs.Load.{IsLoaded, IsNotLoaded, pairs_of}
 use Rattle.vc_image.specs.declared.fault.LoadFault.TheVariants.{OutOfMemory}
-use Rattle.vc_image_bytes.specs.Contents.{contents_of}
-use Rattle.vc_image_dicts.specs.Whole.{IsSound}
+use Rattle.vc_image_check.specs.Bytes.Contents.{contents_of}
+use Rattle.vc_image_check.specs.Dicts.Whole.{IsSound}
 use Rattle.vc_image_lends.specs.Terms.{terms_fault}
 use Rattle.vc_image_session.specs.Copies.{copy_of}
 use Rattle.vc_image_session.specs.Entries.{entries_from}

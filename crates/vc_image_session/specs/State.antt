@@ -6,7 +6,7 @@ use Rattle.vc_best.specs.Cells.{cells_of, zeroed_layout}
 use Rattle.vc_commands.specs.Tagged.{name_by_tag}
 use Rattle.vc_dict.specs.declared.dict.Dict.{Dict}
 use Rattle.vc_image.specs.Load.{dicts_of}
-use Rattle.vc_image_bytes.specs.Contents.{contents_of}
+use Rattle.vc_image_check.specs.Bytes.Contents.{contents_of}
 use Rattle.vc_image_session.specs.Names.{dict_name, region_name}
 use Rattle.vc_model.specs.Discipline.{Terms}
 use Rattle.vc_objects.specs.Parts.{dictionary_of}

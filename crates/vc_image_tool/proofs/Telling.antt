@@ -2,7 +2,7 @@
 use Rattle.vc_base.proofs.Common.{◌≡◌, ℕ, List, Err, refl, sym, subst, codes, Discipline}
 use Rattle.vc_dtdisc.specs.Rules.{Rules}
 use Rattle.vc_image.specs.declared.fault.LoadFault.TheVariants as load
-use Rattle.vc_image_dicts.specs.Whole.{IsSound}
+use Rattle.vc_image_check.specs.Dicts.Whole.{IsSound}
 use Rattle.vc_image_tool.specs.Promises.{Checks, IsJudged, IsNotShown, Puts, Shows, Tells}
 use Rattle.vc_image_tool.specs.Streams.{Sinks}
 use Rattle.vc_image_tool.specs.Told.{fault_line, status_of}

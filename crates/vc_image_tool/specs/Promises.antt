@@ -5,8 +5,8 @@ use Rattle.vc_dtdisc.specs.Rules.{Rules}
 use Rattle.vc_image.specs.Load.{IsNotLoaded}
 use Rattle.vc_image.specs.declared.fault.LoadFault.{LoadFault}
 use Rattle.vc_image.specs.declared.fault.LoadFault.TheVariants as load
-use Rattle.vc_image_dicts.specs.Whole.{IsFirstUnsoundPart, IsSound}
-use Rattle.vc_image_parts.specs.declared.part.Part.{Part}
+use Rattle.vc_image_check.specs.Dicts.Whole.{IsFirstUnsoundPart, IsSound}
+use Rattle.vc_image_check.specs.declared.parts.part.Part.{Part}
 use Rattle.vc_image_tool.specs.declared.fault.ImageFault.{ImageFault}
 use Rattle.vc_image_tool.specs.declared.fault.ImageFault.TheVariants as fault
 use Rattle.vc_image_tool.specs.declared.status.ImageStatus.{ImageStatus}

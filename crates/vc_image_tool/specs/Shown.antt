@@ -8,7 +8,7 @@ use Rattle.vc_best.specs.declared.best.Best.{Best}
 use Rattle.vc_region.specs.declared.region.Region.{Region}
 use Rattle.vc_region.specs.OfBest.{best_in}
 use Rattle.vc_image.specs.Load.{dicts_of}
-use Rattle.vc_image_bytes.specs.Contents.{contents_of}
+use Rattle.vc_image_check.specs.Bytes.Contents.{contents_of}
 use Rattle.vc_image_text.specs.Text.{IsWholeIn, text_of}
 
 -- what the commands that look print of a region with its segments, and of dictionaries with its numbers

@@ -2,8 +2,8 @@
 use Rattle.std.specs.Prelude.{ℕ, List, ◌++◌, codes, decimal}
 use Rattle.vc_image.specs.declared.fault.LoadFault.{LoadFault}
 use Rattle.vc_image.specs.declared.fault.LoadFault.TheVariants as load
-use Rattle.vc_image_parts.specs.declared.part.Part.{Part}
-use Rattle.vc_image_parts.specs.declared.part.Part.TheVariants.{Header, Segment, Tree, Dictionary, Rest}
+use Rattle.vc_image_check.specs.declared.parts.part.Part.{Part}
+use Rattle.vc_image_check.specs.declared.parts.part.Part.TheVariants.{Header, Segment, Tree, Dictionary, Rest}
 use Rattle.vc_image_script.specs.declared.over_fault.OverFault.{OverFault}
 use Rattle.vc_image_script.specs.declared.over_fault.OverFault.TheVariants as over
 use Rattle.vc_image_script.specs.declared.fault.ScriptFault.{ScriptFault}

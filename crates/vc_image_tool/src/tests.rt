@@ -6,7 +6,7 @@ use std::test::Fail;
 use vc_base::MemSink;
 use vc_dtdisc::{BuiltIn, Shape};
 use vc_image::LoadFault;
-use vc_image_parts::Part;
+use vc_image_check::Part;
 use vc_image_session::OpenFault;
 use vc_seg::{FuseDisc, HeapDisc, SbrkDisc, SegDisc};
 

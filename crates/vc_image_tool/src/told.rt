@@ -9,7 +9,7 @@ use arrayvec::ArrayString;
 use itoa::Buffer;
 use vc_base::{Sink, WriteFailed, write_all};
 use vc_image::LoadFault;
-use vc_image_parts::Part;
+use vc_image_check::Part;
 use vc_image_script::ScriptFault;
 use vc_image_session::OpenFault;
 use vc_script::LineFault;

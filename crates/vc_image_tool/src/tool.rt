@@ -1,6 +1,6 @@
 ghost use Rattle.std.specs.Prelude.{◌≡◌, IfErr, IfOk, IfSome, map};
 ghost use Rattle.vc_best.specs.Parts.{layout_of};
-ghost use Rattle.vc_image_dicts.specs.Whole.{IsSound};
+ghost use Rattle.vc_image_check.specs.Dicts.Whole.{IsSound};
 ghost use Rattle.vc_image_text.specs.Text.{text_of};
 ghost use Rattle.vc_image_tool.specs.Promises.{Checks, IsJudged, IsNotShown, Puts, Shows};
 ghost use Rattle.vc_image_tool.specs.Shown.{AreShowable, shown_of};
@@ -14,7 +14,7 @@ use std::alloc::Global;
 use vc_base::{Sink, write_all};
 use vc_dtdisc::DictDisc;
 use vc_image::{LoadFault, Loaded, load};
-use vc_image_dicts::unsound_part;
+use vc_image_check::unsound_part;
 use vc_image_text::text_of;
 use vc_seg::{BoxedDisc, SegDisc};
 

@@ -13,11 +13,11 @@ use Rattle.vc_best.specs.declared.best.Best.{Best}
 use Rattle.vc_objects.specs.Parts.{IsWhole, dictionary_of}
 use Rattle.vc_store.specs.Contents.{contents_of}
 use Rattle.vc_store.specs.Reading.{Contents}
-use Rattle.vc_image_bytes.specs.Contents as bytes
-use Rattle.vc_image_bytes.specs.Header.{FitsRow}
-use Rattle.vc_image_bytes.specs.Image as image
-use Rattle.vc_image_bytes.proofs.Writing.{read-again}
-use Rattle.vc_image_blocks.specs.Blocks.{blocks_of}
+use Rattle.vc_image_check.specs.Bytes.Contents as bytes
+use Rattle.vc_image_check.specs.Bytes.Header.{FitsRow}
+use Rattle.vc_image_check.specs.Bytes.Image as image
+use Rattle.vc_image_check.proofs.Writing.{read-again}
+use Rattle.vc_image_check.specs.Blocks.Blocks.{blocks_of}
 use Rattle.vc_image.specs.Load as load
 use Rattle.vc_image.specs.Load.{dict_of}
 use Rattle.vc_image.specs.Save.{contents_in, row_of}

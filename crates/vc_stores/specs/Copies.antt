@@ -4,7 +4,7 @@ use Rattle.std.specs.List.{AllByRecursion}
 use Rattle.vc_dict.specs.Parts.{dict_by, heads_in}
 use Rattle.vc_dict.specs.declared.dict.Dict.{Dict}
 use Rattle.vc_image.specs.Save.{contents_in}
-use Rattle.vc_image_bytes.specs.Image.{image_of}
+use Rattle.vc_image_check.specs.Bytes.Image.{image_of}
 use Rattle.vc_stores.specs.Stores.{best_of, dicts_of}
 use Rattle.vc_stores.specs.declared.store.Store.{Store}
 

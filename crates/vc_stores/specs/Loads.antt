@@ -7,9 +7,9 @@ use Rattle.vc_dict.specs.declared.dict.Dict.{Dict}
 use Rattle.vc_objects.specs.Parts.{dictionary_of}
 use Rattle.vc_store.specs.Contents.{contents_of}
 use Rattle.vc_store.specs.Reading.{Contents}
-use Rattle.vc_image_bytes.specs.Contents as read
-use Rattle.vc_image_blocks.specs.Blocks.{blocks_of}
-use Rattle.vc_image_dicts.specs.Whole.{IsSound}
+use Rattle.vc_image_check.specs.Bytes.Contents as read
+use Rattle.vc_image_check.specs.Blocks.Blocks.{blocks_of}
+use Rattle.vc_image_check.specs.Dicts.Whole.{IsSound}
 use Rattle.vc_image_lends.specs.Lends.{AreLent}
 use Rattle.vc_image_lends.specs.Terms.{terms_fault}
 use Rattle.vc_image.specs.Load.{IsNotLoaded, dicts_of, pairs_of}

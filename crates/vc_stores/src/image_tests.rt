@@ -9,7 +9,7 @@ use vc_base::{DictMethod, MemSink};
 use vc_best::Best;
 use vc_dtdisc::{BuiltIn, DictDisc, Shape};
 use vc_image::LoadFault;
-use vc_image_parts::Part;
+use vc_image_check::Part;
 use vc_seg::{BoxedDisc, FuseDisc, HeapDisc, SbrkDisc, SegDisc};
 use vc_store::Put;
 

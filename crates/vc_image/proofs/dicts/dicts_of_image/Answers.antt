@@ -3,9 +3,9 @@ use Rattle.std.proofs.lemmas.Grind.{take_at_read}
 use Rattle.std.proofs.lemmas.List.{map-append}
 use Rattle.std.proofs.lemmas.Option.{get_or_from_slice_get, slice_get_within}
 use Rattle.vc_dict.specs.declared.dict.Dict.{Dict}
-use Rattle.vc_image_bytes.specs.Contents.{row_at, rows_in}
-use Rattle.vc_image_bytes.specs.Image.{Row}
-use Rattle.vc_image_dicts.proofs.Passing.{length-rows, row-there}
+use Rattle.vc_image_check.specs.Bytes.Contents.{row_at, rows_in}
+use Rattle.vc_image_check.specs.Bytes.Image.{Row}
+use Rattle.vc_image_check.proofs.Passing.{length-rows, row-there}
 use Rattle.vc_image.specs.Load.{dict_of}
 use Rattle.vc_image.proofs.dicts.dicts_of_image.Goals as goal
 

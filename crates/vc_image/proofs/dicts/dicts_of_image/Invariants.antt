@@ -1,5 +1,5 @@
 use Rattle.vc_base.proofs.Common.{◌≡◌, ◌<◌, ◌^◌, map, take, AllByRecursion}
-use Rattle.vc_image_bytes.specs.Contents.{rows_in}
+use Rattle.vc_image_check.specs.Bytes.Contents.{rows_in}
 use Rattle.vc_image.specs.Load.{dict_of}
 use Rattle.vc_image.proofs.dicts.dicts_of_image.Given as goal
 

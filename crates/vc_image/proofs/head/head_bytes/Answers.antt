@@ -1,5 +1,5 @@
 use Rattle.vc_base.proofs.Common.{◌++◌, ap, ◌∙◌}
-use Rattle.vc_image_bytes.specs.Image.{magic}
+use Rattle.vc_image_check.specs.Bytes.Image.{magic}
 use Rattle.vc_image.proofs.Heads.{head-is}
 use Rattle.vc_image.proofs.head.head_bytes.Goals as goal
 

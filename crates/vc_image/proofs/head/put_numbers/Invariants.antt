@@ -1,5 +1,5 @@
 use Rattle.vc_base.proofs.Common.{◌≡◌, ◌++◌, take, flat_map}
-use Rattle.vc_image_bytes.specs.Image.{number_bytes}
+use Rattle.vc_image_check.specs.Bytes.Image.{number_bytes}
 use Rattle.vc_image.proofs.head.put_numbers.Given as goal
 
 -- those so far are put

@@ -1,6 +1,6 @@
 use Rattle.vc_base.proofs.Common.{◌++◌, flat_map, sym, ap, ◌∙◌, arith, take_all}
 use Rattle.std.proofs.lemmas.List.Folds.{flat_map-map}
-use Rattle.vc_image_bytes.specs.Image.{pair_bytes}
+use Rattle.vc_image_check.specs.Bytes.Image.{pair_bytes}
 use Rattle.vc_seg.specs.Segment.{pair_of}
 use Rattle.vc_image.proofs.head.put_pairs.Goals as goal
 

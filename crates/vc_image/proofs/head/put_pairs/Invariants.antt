@@ -1,5 +1,5 @@
 use Rattle.vc_base.proofs.Common.{◌≡◌, ◌++◌, take, flat_map}
-use Rattle.vc_image_bytes.specs.Image.{pair_bytes}
+use Rattle.vc_image_check.specs.Bytes.Image.{pair_bytes}
 use Rattle.vc_seg.specs.Segment.{pair_of}
 use Rattle.vc_image.proofs.head.put_pairs.Given as goal
 

@@ -1,6 +1,6 @@
 use Rattle.vc_base.proofs.Common.{◌++◌, flat_map, sym, ap, ◌∙◌, arith, take_all}
 use Rattle.std.proofs.lemmas.List.Folds.{flat_map-map}
-use Rattle.vc_image_bytes.specs.Image.{row_bytes}
+use Rattle.vc_image_check.specs.Bytes.Image.{row_bytes}
 use Rattle.vc_image.specs.Save.{row_of}
 use Rattle.vc_image.proofs.head.put_rows.Goals as goal
 

@@ -1,5 +1,5 @@
 use Rattle.vc_base.proofs.Common.{◌≡◌, ◌++◌, take, flat_map}
-use Rattle.vc_image_bytes.specs.Image.{row_bytes}
+use Rattle.vc_image_check.specs.Bytes.Image.{row_bytes}
 use Rattle.vc_image.specs.Save.{row_of}
 use Rattle.vc_image.proofs.head.put_rows.Given as goal
 

@@ -1,7 +1,7 @@
 use Rattle.vc_base.proofs.Common.{◌≡◌, ℕ, ◌+◌, ◌++◌, length, take, IfSome, Some, sym, refl, ap, ap₂, ◌∙◌, subst, [], rules, append-nil, length-append}
 use Rattle.vc_best.proofs.EmptySegments.{segments-of}
 use Rattle.vc_seg.specs.Segment.{AreSegments}
-use Rattle.vc_image_bytes.specs.Image.{image_of}
+use Rattle.vc_image_check.specs.Bytes.Image.{image_of}
 use Rattle.vc_image.specs.Save.{body_of, contents_in}
 use Rattle.vc_image.proofs.Fronts.{both-written, front-first, front-written}
 use Rattle.vc_image.proofs.Heads.{whole}

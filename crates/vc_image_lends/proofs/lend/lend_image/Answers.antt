@@ -1,5 +1,5 @@
 use Rattle.vc_base.proofs.Common.{◌<◌, ◌∙◌, arith, rules}
-use Rattle.vc_image_bytes.specs.Contents.{segments_in}
+use Rattle.vc_image_check.specs.Bytes.Contents.{segments_in}
 use Rattle.vc_image_lends.proofs.Lending.{bytes-even, bytes-legal, bytes-within, first, last, lending-next, lent-all, lent-whole, refused-here, tiled, unused}
 use Rattle.vc_image_lends.proofs.lend.lend_image.Given.{Over}
 use Rattle.vc_image_lends.proofs.lend.lend_image.Goals as goal

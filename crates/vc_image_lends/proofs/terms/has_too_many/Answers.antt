@@ -1,6 +1,6 @@
 use Rattle.vc_base.proofs.Common.{◌≡◌, true, false, length, map, nat_lt, refl, arith, le-ltb, lt-ltb}
 use Rattle.vc_seg.specs.Segment.{pair_of}
-use Rattle.vc_image_bytes.specs.Contents.{contents_of}
+use Rattle.vc_image_check.specs.Bytes.Contents.{contents_of}
 use Rattle.vc_image_lends.proofs.Uneven.{segments-many}
 use Rattle.vc_image_lends.proofs.terms.has_too_many.Goals as goal
 

@@ -1,5 +1,5 @@
 use Rattle.vc_base.proofs.Common.{◌≡◌, drop, find}
-use Rattle.vc_image_bytes.specs.Contents.{pairs_in}
+use Rattle.vc_image_check.specs.Bytes.Contents.{pairs_in}
 use Rattle.vc_image_lends.specs.Terms.{is_uneven}
 use Rattle.vc_image_lends.proofs.terms.uneven_segment.Given as goal
 

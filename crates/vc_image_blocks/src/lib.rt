@@ -1,8 +1,0 @@
-//! The unlabelled blocks of an image, read from its bytes.
-#![tactic(auto)]
-
-mod blocks;
-mod taking;
-
-pub use blocks::ImageBlocks;
-pub use taking::take_block;

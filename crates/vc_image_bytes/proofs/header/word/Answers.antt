@@ -1,7 +1,0 @@
-use Rattle.vc_base.proofs.Common.{rules}
-use Rattle.vc_seg.specs.Field.{field_at}
-use Rattle.vc_image_bytes.proofs.header.word.Goals as goal
-
-pub returns : goal.returns
-unfolding field_at
-returns c = search rules

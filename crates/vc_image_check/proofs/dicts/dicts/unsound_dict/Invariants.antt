@@ -1,0 +1,12 @@
+use Rattle.vc_base.proofs.Common.{map}
+use Rattle.vc_image_check.specs.Blocks.Blocks.{HasBlockMarks, blocks_of}
+use Rattle.vc_image_check.specs.Bytes.Contents.{rows_in}
+use Rattle.vc_image_check.specs.Marking.Mark.{lists}
+use Rattle.vc_image_check.proofs.Passing.{Passed}
+use Rattle.vc_image_check.proofs.dicts.dicts.unsound_dict.Given as goal
+
+abbrev pub invariant-loop-i : goal.invariant-loop-i
+invariant-loop-i g l = record {
+  passed : Passed (map g.D.DictDisc.rules l.kinds.items) (blocks_of l.image) (rows_in l.image) (lists l.marks.rows.items) l.i;
+  known : HasBlockMarks l.image (lists l.marks.rows.items) l.marks.places.items;
+}

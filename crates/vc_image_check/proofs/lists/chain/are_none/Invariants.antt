@@ -1,0 +1,5 @@
+use Rattle.vc_base.proofs.Common.{◌≡◌, ℕ, ◌<◌, get_or}
+use Rattle.vc_image_check.proofs.lists.chain.are_none.Given as goal
+
+abbrev pub invariant-loop-k : goal.invariant-loop-k
+invariant-loop-k l = (k : ℕ) → k < l.k → get_or l.told.items k 0 ≡ 0

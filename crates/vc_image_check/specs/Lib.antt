@@ -1,0 +1,10 @@
+pub mod Bytes
+pub mod Walks
+pub mod Marking
+pub mod Segments
+pub mod Gaps
+pub mod Parts
+pub mod Lists
+pub mod Orders
+pub mod Blocks
+pub mod Dicts

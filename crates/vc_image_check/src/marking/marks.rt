@@ -1,0 +1,92 @@
+ghost use Rattle.std.specs.Prelude.{◌≡◌, ◌≢◌, ℕ, ◌+◌, ◌≤◌, ◌==◌, if◌then◌else◌, [], All, IfOk, drop, length, replicate, take};
+ghost use Rattle.vc_extent.specs.Tiles.{IsTiled};
+ghost use Rattle.vc_image_check.specs.Bytes.Contents.{contents_of};
+ghost use Rattle.vc_image_check.specs.Bytes.Header.{IsHeader};
+ghost use Rattle.vc_image_check.specs.Marking.Mark.{IsMarked, lists, mark_at};
+
+use crate::bytes::word;
+use crate::marking::row::marks_of;
+use std::alloc::Global;
+use vc_base::OutOfMemory;
+
+/// A mark for each 32 bytes of the segments of an image. This project's own.
+#[derive(Drop)]
+pub struct Marks {
+    /// By a segment's number from 0 to 1,023, the marks of its bytes, none where it isn't there.
+    pub rows: Vec<Vec<u8>>,
+    /// By a segment's number, where its bytes begin in the image, 0 where it isn't there.
+    pub places: Vec<usize>,
+    /// There are 1,024 numbers.
+    pub ghost many: { length rows.items ≡ 1024 },
+    pub ghost all: { length places.items ≡ 1024 },
+}
+
+// For each number no marks.
+fn no_rows(alloc: Global) -> Result<Vec<Vec<u8>>, OutOfMemory>
+    ensures { IfOk result (λ rows. lists rows.items ≡ replicate 1024 []) }
+{
+    let mut rows = Vec::with_capacity(alloc, 1024)?;
+    for _ in 0..1024usize {
+        rows.push(Vec::new(alloc))?;
+    }
+    Ok(rows)
+}
+
+// So many bytes from a place on.
+fn part(image: &[u8], at: usize, size: usize) -> &[u8]
+    requires { at + size ≤ length image.now }
+    ensures { result.now ≡ take size (drop at image.now) }
+{
+    &image[at..at + size]
+}
+
+impl Marks {
+    /// The marks of an image's extents: 1 where a free one is named, 2 a busy one with a label, 3 a busy one with none, and 0
+    /// where none is. The image has a head, and extents tile its segments. It takes a byte for each 32 bytes of these, and
+    /// reads each head once.
+    pub fn of(alloc: Global, image: &[u8]) -> Result<Marks, OutOfMemory>
+        requires head { IsHeader image.now }
+        requires tiled { All (λ s. IsTiled s.bytes) (contents_of image.now).segs }
+        ensures { IfOk result (λ m. IsMarked image.now (lists m.rows.items) m.places.items) }
+    {
+        let segments = word(image, 8) as usize;
+        let mut at = 20 + 8 * segments + 36 * word(image, 16) as usize;
+        let mut rows = no_rows(alloc)?;
+        let mut places = vec![in alloc; 0usize; 1024]?;
+        for i in 0..segments {
+            let number = word(image, 20 + 8 * i) as usize;
+            let size = word(image, 24 + 8 * i) as usize;
+            rows[number] = marks_of(alloc, part(image, at, size))?;
+            places[number] = at;
+            at += size;
+        }
+        Ok(Marks { rows, places })
+    }
+
+    /// The mark of an address, 0 where no segment has it.
+    pub fn get(&self, a: u32) -> u8
+        ensures { result ≡ mark_at (lists self.now.rows.items) a }
+    {
+        let number = (a / 1_048_576) as usize;
+        if number >= 1024 {
+            return 0;
+        }
+        let row = &self.rows[number];
+        let k = (a % 1_048_576) as usize;
+        if k >= row.len() {
+            return 0;
+        }
+        row[k]
+    }
+
+    /// Gives an address that has a mark another one.
+    pub fn set(&mut self, a: u32, mark: u8)
+        requires { mark_at (lists self.old.rows.items) a ≢ 0 }
+        ensures marks { (b : ℕ) → mark_at (lists self.new.rows.items) b
+            ≡ (if b == a then mark else mark_at (lists self.old.rows.items) b) }
+        ensures places { self.new.places.items ≡ self.old.places.items }
+    {
+        let row = &mut self.rows[(a / 1_048_576) as usize];
+        row[(a % 1_048_576) as usize] = mark;
+    }
+}

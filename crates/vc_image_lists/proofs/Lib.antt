@@ -1,4 +1,0 @@
-pub mod Linking
-pub mod Knotting
-pub mod Rising
-mod Doublings

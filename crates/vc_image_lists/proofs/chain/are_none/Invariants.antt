@@ -1,5 +1,0 @@
-use Rattle.vc_base.proofs.Common.{◌≡◌, ℕ, ◌<◌, get_or}
-use Rattle.vc_image_lists.proofs.chain.are_none.Given as goal
-
-abbrev pub invariant-loop-k : goal.invariant-loop-k
-invariant-loop-k l = (k : ℕ) → k < l.k → get_or l.told.items k 0 ≡ 0

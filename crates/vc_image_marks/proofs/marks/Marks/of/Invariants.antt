@@ -1,6 +1,0 @@
-use Rattle.vc_image_marks.specs.Mark.{lists}
-use Rattle.vc_image_marks.proofs.Filling.{Filled}
-use Rattle.vc_image_marks.proofs.marks.Marks.of.Given as goal
-
-abbrev pub invariant-loop-i : goal.invariant-loop-i
-invariant-loop-i l = Filled l.image (lists l.rows.items) l.places.items l.i l.at

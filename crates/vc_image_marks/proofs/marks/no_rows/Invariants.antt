@@ -1,6 +1,0 @@
-use Rattle.vc_base.proofs.Common.{◌≡◌, [], replicate}
-use Rattle.vc_image_marks.specs.Mark.{lists}
-use Rattle.vc_image_marks.proofs.marks.no_rows.Given as goal
-
-abbrev pub invariant-loop : goal.invariant-loop
-invariant-loop l = lists l.rows.items ≡ replicate l.counter []

@@ -1,7 +1,0 @@
-//! Whether ordered dictionaries are sound in blocks of which nothing is known.
-#![tactic(auto)]
-
-mod nodes;
-mod order;
-
-pub use order::sound_order;
