@@ -7,7 +7,7 @@ use Rattle.vc_best.proofs.Lends.{segments-by}
 use Rattle.vc_best.specs.Cells.{cells_in}
 use Rattle.vc_region.specs.Parts.{disc_in}
 use Rattle.vc_region.specs.declared.region.Region.{Region}
-use Rattle.vc_image_lends.specs.Lends.{AreLent}
+use Rattle.vc_image.specs.Lends.Lends.{AreLent}
 use Rattle.vc_image.specs.Load.{AreApart, IsLoaded, IsWholeAmong, pairs_of}
 use Rattle.vc_algebra.specs.Filling.{CanFill, IsSettled}
 use Rattle.vc_algebra.specs.InRegion.{AreDictsIn, held}

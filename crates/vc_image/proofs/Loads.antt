@@ -24,10 +24,10 @@ use Rattle.vc_image_check.specs.Dicts.Taken.{AreSoundBefore, taken_by}
 use Rattle.vc_image_check.specs.Dicts.Whole.{IsSound}
 use Rattle.vc_image_check.proofs.Told.{own-told}
 use Rattle.vc_image_check.proofs.Wholes.{sound-whole}
-use Rattle.vc_image_lends.specs.Regions.{IsLoadFault}
-use Rattle.vc_image_lends.specs.Terms.{terms_fault}
-use Rattle.vc_image_lends.specs.declared.fault.ImageLendFault.{ImageLendFault}
-use Rattle.vc_image_lends.specs.declared.fault.ImageLendFault.TheVariants.{Round, Grows, NoSegment, OutOfMemory}
+use Rattle.vc_image.specs.Lends.Regions.{IsLoadFault}
+use Rattle.vc_image.specs.Lends.Terms.{terms_fault}
+use Rattle.vc_image.specs.declared.lends.fault.ImageLendFault.{ImageLendFault}
+use Rattle.vc_image.specs.declared.lends.fault.ImageLendFault.TheVariants.{Round, Grows, NoSegment, OutOfMemory}
 use Rattle.vc_image.specs.Load.{AreApart, IsApart, IsLoaded, IsNotLoaded, IsWholeAmong, dict_of, dicts_of, fault_of, own_by, pairs_of}
 
 pub apart-turned : (x y : Bool) → (x ≡ true → y ≡ false) → y ≡ true → x ≡ false

@@ -1,2 +1,4 @@
 pub mod Save
 pub mod Load
+pub mod Lends
+pub mod Saved

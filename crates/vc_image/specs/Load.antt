@@ -20,10 +20,10 @@ use Rattle.vc_image_check.specs.Bytes.Contents.{contents_of, rows_in}
 use Rattle.vc_image_check.specs.Bytes.Image.{Row}
 use Rattle.vc_image_check.specs.Dicts.Sound.{heads_of, method_of}
 use Rattle.vc_image_check.specs.Dicts.Whole.{IsFirstUnsoundPart, IsSound}
-use Rattle.vc_image_lends.specs.Regions.{IsLoadFault}
-use Rattle.vc_image_lends.specs.Terms.{terms_fault}
-use Rattle.vc_image_lends.specs.declared.fault.ImageLendFault.{ImageLendFault}
-use Rattle.vc_image_lends.specs.declared.fault.ImageLendFault.TheVariants.{Round as NotRound, Grows as TooMany, NoSegment as Refused, OutOfMemory as NoMemory}
+use Rattle.vc_image.specs.Lends.Regions.{IsLoadFault}
+use Rattle.vc_image.specs.Lends.Terms.{terms_fault}
+use Rattle.vc_image.specs.declared.lends.fault.ImageLendFault.{ImageLendFault}
+use Rattle.vc_image.specs.declared.lends.fault.ImageLendFault.TheVariants.{Round as NotRound, Grows as TooMany, NoSegment as Refused, OutOfMemory as NoMemory}
 use Rattle.vc_image.specs.declared.fault.LoadFault.{LoadFault}
 use Rattle.vc_image.specs.declared.fault.LoadFault.TheVariants.{Bad, Round, Grows, NoSegment, OutOfMemory}
 

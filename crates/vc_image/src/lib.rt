@@ -6,14 +6,21 @@ mod block_rows;
 mod dicts;
 mod fault;
 mod head;
+mod lends;
 mod loading;
 #[cfg(test)]
 mod round_trips;
+mod saved;
 mod saving;
 mod segments;
 #[cfg(test)]
 mod tests;
 
 pub use fault::{LoadFault, SaveFault};
+pub use lends::ImageLendFault;
 pub use loading::{Loaded, load, load_best};
+pub use saved::{
+    loaded_can_be_saved, saved_front, saved_is_loaded, saved_is_read, saved_is_sound,
+    sound_can_be_saved,
+};
 pub use saving::{save, save_best};

@@ -4,18 +4,18 @@ ghost use Rattle.vc_dtdisc.specs.Rules.{Rules};
 ghost use Rattle.vc_region.specs.Parts.{disc_of};
 ghost use Rattle.vc_region.specs.declared.region.Region.TheVariants.{Best as OfBest};
 ghost use Rattle.vc_image_check.specs.Dicts.Whole.{IsSound};
-ghost use Rattle.vc_image_lends.specs.Lends.{AreLent};
+ghost use Rattle.vc_image.specs.Lends.Lends.{AreLent};
 ghost use Rattle.vc_image_check.specs.Parts.Front.{IsSoundFront};
 ghost use Rattle.vc_image.specs.Load.{IsLoaded, IsNotLoaded, fault_of, pairs_of};
 
 use crate::LoadFault;
 use crate::dicts::dicts_of_image;
+use crate::lends::{ImageLendFault, region_of_image};
 use std::alloc::Global;
 use vc_best::Best;
 use vc_dict::Dicts;
 use vc_dtdisc::DictDisc;
 use vc_image_check::unsound_part;
-use vc_image_lends::{ImageLendFault, region_of_image};
 use vc_region::Region;
 use vc_seg::SegDisc;
 

@@ -16,9 +16,9 @@ use Rattle.vc_image.specs.Load.{IsWholeAmong, dicts_of}
 use Rattle.vc_image.specs.Save.{contents_by, contents_in, image_in}
 use Rattle.vc_image_check.specs.Bytes.Contents.{contents_of}
 use Rattle.vc_image_check.specs.Bytes.Image.{Contents, image_of}
-use Rattle.vc_image_saved.proofs.Begun.{front-in}
-use Rattle.vc_image_saved.proofs.Joined.{dicts-in, read-in}
-use Rattle.vc_image_saved.specs.Saved.{AreReadableIn}
+use Rattle.vc_image.proofs.Begun.{front-in}
+use Rattle.vc_image.proofs.Joined.{dicts-in, read-in}
+use Rattle.vc_image.specs.Saved.Saved.{AreReadableIn}
 use Rattle.vc_image_script.proofs.Copied.{copies-fewer, few-entries}
 use Rattle.vc_image_script.specs.Copies.{KindsFit, copies_in}
 use Rattle.vc_image_session.specs.Copies.{copy_of}

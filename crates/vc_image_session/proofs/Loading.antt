@@ -9,7 +9,7 @@ use Rattle.vc_image.specs.Load.{IsLoaded, dict_of, pairs_of}
 use Rattle.vc_image.specs.declared.fault.LoadFault.TheVariants.{Bad, Round, Grows, NoSegment, OutOfMemory}
 use Rattle.vc_image_check.proofs.Passing.{length-rows}
 use Rattle.vc_image_check.specs.Bytes.Contents.{contents_of, dicts_in, rows_in}
-use Rattle.vc_image_lends.specs.Lends.{AreLent}
+use Rattle.vc_image.specs.Lends.Lends.{AreLent}
 use Rattle.vc_image_session.specs.Opens.{HasNoParts, IsUnnamed, has_own_tags}
 use Rattle.vc_commands.specs.Tagged.{have_own_tags}
 use Rattle.vc_image_session.specs.declared.fault.OpenFault.{OpenFault}

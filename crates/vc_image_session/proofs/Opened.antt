@@ -16,7 +16,7 @@ use Rattle.vc_dict.specs.declared.dict.Dict.{Dict}
 use Rattle.vc_dtdisc.specs.Rules.{Rules}
 use Rattle.vc_image.specs.Load.{AreApart, IsApart, IsLoaded, IsWholeAmong, pairs_of}
 use Rattle.vc_image_check.specs.Bytes.Contents.{contents_of}
-use Rattle.vc_image_lends.specs.Lends.{AreLent}
+use Rattle.vc_image.specs.Lends.Lends.{AreLent}
 use Rattle.vc_best.specs.Blocks.{layout_by}
 use Rattle.vc_image_session.proofs.Loading.{few-dicts, same-best, segs-are, tags-are}
 use Rattle.vc_image_session.specs.Copies.{copy_of}

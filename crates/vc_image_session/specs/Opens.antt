@@ -12,7 +12,7 @@ use Rattle.vc_image.specs.Load.{IsLoaded, IsNotLoaded, pairs_of}
 use Rattle.vc_image.specs.declared.fault.LoadFault.TheVariants.{OutOfMemory}
 use Rattle.vc_image_check.specs.Bytes.Contents.{contents_of}
 use Rattle.vc_image_check.specs.Dicts.Whole.{IsSound}
-use Rattle.vc_image_lends.specs.Terms.{terms_fault}
+use Rattle.vc_image.specs.Lends.Terms.{terms_fault}
 use Rattle.vc_image_session.specs.Copies.{copy_of}
 use Rattle.vc_image_session.specs.Entries.{entries_from}
 use Rattle.vc_image_session.specs.State.{image_state, region_of_segs}

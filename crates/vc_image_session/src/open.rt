@@ -1,7 +1,7 @@
 ghost use Rattle.std.specs.Prelude.{◌≡◌, ◌≤◌, IfErr, IfOk, OnErr, length, map, vec_len};
 ghost use Rattle.vc_dtdisc.specs.Rules.{Rules};
 ghost use Rattle.vc_image.specs.Load.{pairs_of};
-ghost use Rattle.vc_image_lends.specs.Lends.{AreLent};
+ghost use Rattle.vc_image.specs.Lends.Lends.{AreLent};
 ghost use Rattle.vc_image_session.specs.Opens.{AreParts, HasNoParts, IsNotOpened, IsUnnamed, LoadsAs, OpensImage};
 ghost use Rattle.vc_model.specs.Discipline.{Kept};
 ghost use Rattle.vc_steps.specs.Account.{ArmsNone, KeepsAccounts, SameAsked};

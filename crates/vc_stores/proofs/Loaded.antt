@@ -20,7 +20,7 @@ use Rattle.vc_objects.specs.Parts.{IsWhole, dictionary_of}
 use Rattle.vc_store.specs.Contents.{contents_of}
 use Rattle.vc_image_check.specs.Bytes.Contents as read
 use Rattle.vc_image_check.specs.Blocks.Blocks.{blocks_of}
-use Rattle.vc_image_lends.specs.Lends.{AreLent}
+use Rattle.vc_image.specs.Lends.Lends.{AreLent}
 use Rattle.vc_image.specs.Load as load
 use Rattle.vc_image.specs.Load.{IsApart, IsLoaded, IsWholeAmong, dicts_of, pairs_of}
 use Rattle.vc_image.proofs.Loads.{apart-turned}

@@ -22,10 +22,10 @@ use Rattle.vc_image.specs.Load as load
 use Rattle.vc_image.specs.Load.{dict_of}
 use Rattle.vc_image.specs.Save.{contents_in, row_of}
 use Rattle.vc_image.proofs.Loads.{made-by}
-use Rattle.vc_image_saved.proofs.Begun.{AreOfBest, are-segments, of-best, root-fits}
-use Rattle.vc_image_saved.proofs.Joined.{cell-busy, numbered, rows-read}
-use Rattle.vc_image_saved.proofs.Numbers.{row-fits}
-use Rattle.vc_image_saved.proofs.Standing.{dict-back}
+use Rattle.vc_image.proofs.Begun.{AreOfBest, are-segments, of-best, root-fits}
+use Rattle.vc_image.proofs.Joined.{cell-busy, numbered, rows-read}
+use Rattle.vc_image.proofs.Numbers.{row-fits}
+use Rattle.vc_image.proofs.Standing.{dict-back}
 use Rattle.vc_stores.specs.Copies.{AreFew, copies_from, copies_of, image_of_store, of_kind}
 use Rattle.vc_stores.specs.Loads.{shown_in, with_kind}
 use Rattle.vc_stores.specs.Stores.{IsOpen, dict_at, dicts_of, joined, shown}

@@ -10,8 +10,8 @@ use Rattle.vc_store.specs.Reading.{Contents}
 use Rattle.vc_image_check.specs.Bytes.Contents as read
 use Rattle.vc_image_check.specs.Blocks.Blocks.{blocks_of}
 use Rattle.vc_image_check.specs.Dicts.Whole.{IsSound}
-use Rattle.vc_image_lends.specs.Lends.{AreLent}
-use Rattle.vc_image_lends.specs.Terms.{terms_fault}
+use Rattle.vc_image.specs.Lends.Lends.{AreLent}
+use Rattle.vc_image.specs.Lends.Terms.{terms_fault}
 use Rattle.vc_image.specs.Load.{IsNotLoaded, dicts_of, pairs_of}
 use Rattle.vc_stores.specs.Stores.{IsOpen, best_of, kinds_of, shown}
 use Rattle.vc_stores.specs.declared.fault.StoreLoadFault.{StoreLoadFault}

@@ -1,7 +1,7 @@
 ghost use Rattle.std.specs.Prelude.{◌≡◌, ◌≤◌, IfErr, IfOk, length, map};
 ghost use Rattle.vc_model.specs.Discipline.{Kept};
 ghost use Rattle.vc_image.specs.Load.{IsLoaded, IsNotLoaded, pairs_of};
-ghost use Rattle.vc_image_lends.specs.Lends.{AreLent};
+ghost use Rattle.vc_image.specs.Lends.Lends.{AreLent};
 ghost use Rattle.vc_region.specs.declared.region.Region.TheVariants.{Best as OfBest};
 
 use crate::placing::{empty_places, place};

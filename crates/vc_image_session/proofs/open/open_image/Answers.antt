@@ -2,7 +2,7 @@ use Rattle.vc_base.proofs.Common.{◌-◌, ◌∷◌, ◌++◌, [], Some, map, s
 use Rattle.indexmap.specs.IndexMap.{insert_entry}
 use Rattle.vc_commands.proofs.Agreeing.{from_ok}
 use Rattle.vc_image.specs.Load.{IsLoaded, pairs_of}
-use Rattle.vc_image_lends.specs.Lends.{AreLent}
+use Rattle.vc_image.specs.Lends.Lends.{AreLent}
 use Rattle.vc_image_session.proofs.Opened.{asked-at, asked_by, home, kept-at, opens-image}
 use Rattle.vc_image_session.proofs.Again.{again-by, slots-again}
 use Rattle.vc_image_session.specs.Opens.{IsUnnamed}

@@ -1,4 +1,0 @@
-pub mod Uneven
-pub mod Lending
-pub mod Busy
-pub mod Regions
