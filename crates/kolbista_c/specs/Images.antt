@@ -3,10 +3,10 @@ use Rattle.std.specs.Prelude.{◌≡◌, ℕ, ◌⊎◌, List, [], Some, ◌&&�
 use Rattle.kolbista_c.specs.Memory.{Buffer, IsFilled, IsIdle, fits}
 use Rattle.vc_dtdisc.specs.Rules.{Rules}
 use Rattle.vc_dtdisc.specs.Shapes.{rules_of}
-use Rattle.vc_image_tool.specs.Promises.{Checks, Shows}
-use Rattle.vc_image_tool.specs.Status.{number}
-use Rattle.vc_image_tool.specs.Streams.{Sinks}
-use Rattle.vc_image_tool.specs.declared.status.ImageStatus.{ImageStatus}
+use Rattle.vc_image_run.specs.Tool.Promises.{Checks, Shows}
+use Rattle.vc_image_run.specs.Tool.Status.{number}
+use Rattle.vc_image_run.specs.Tool.Streams.{Sinks}
+use Rattle.vc_image_run.specs.declared.tool.status.ImageStatus.{ImageStatus}
 use Rattle.vc_main.specs.Places.{shapes}
 use Rattle.vc_model.specs.Discipline.{Discipline}
 

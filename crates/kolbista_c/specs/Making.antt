@@ -5,9 +5,9 @@ use Rattle.kolbista_c.specs.Memory.{Buffer, IsFilled, IsIdle, fits, streams_over
 use Rattle.vc_base.specs.Memory.{MemorySink}
 use Rattle.vc_dtdisc.specs.Rules.{Gone, Rules}
 use Rattle.vc_dtdisc.specs.Shapes.{BuiltInKind, rules_of}
-use Rattle.vc_image_tool.specs.Making.{Makes, MakesOver}
-use Rattle.vc_image_tool.specs.Status.{number}
-use Rattle.vc_image_tool.specs.declared.status.ImageStatus.{ImageStatus}
+use Rattle.vc_image_run.specs.Tool.Making.{Makes, MakesOver}
+use Rattle.vc_image_run.specs.Tool.Status.{number}
+use Rattle.vc_image_run.specs.declared.tool.status.ImageStatus.{ImageStatus}
 use Rattle.vc_model.specs.Discipline.{Discipline}
 use Rattle.vc_script.specs.declared.tool.Tool.TheVariants.{Dtrun}
 use Rattle.vc_session.specs.Arming.{IsFirst, Keeps}

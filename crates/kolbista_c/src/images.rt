@@ -1,12 +1,12 @@
 ghost use Rattle.std.specs.Prelude.{◌≡◌, [], false, IfOk, map};
 ghost use Rattle.kolbista_c.specs.Images.{Does, Judges, ShowsImage, dtrun_rules};
 ghost use Rattle.kolbista_c.specs.Memory.{buffer};
-ghost use Rattle.vc_image_tool.specs.Promises.{Checks, Shows};
+ghost use Rattle.vc_image_run.specs.Tool.Promises.{Checks, Shows};
 
 use crate::buffers::{fill_both, sinks};
 use std::alloc::{AllocError, Global};
 use vc_dtdisc::{BuiltIn, DictDisc};
-use vc_image_tool::{check, show};
+use vc_image_run::{check, show};
 use vc_main::kinds;
 use vc_seg::{BoxedDisc, HeapDisc, SegDisc};
 

@@ -7,7 +7,7 @@ use crate::images::own_kinds;
 use crate::slice_source::SliceSource;
 use std::alloc::Global;
 use vc_base::{MemSink, OutOfMemory};
-use vc_image_tool::{ImageStatus, make, remake};
+use vc_image_run::{ImageStatus, make, remake};
 use vc_seg::{BoxedDisc, SegDisc, Shelf};
 
 // Puts an image that was made, what was written and what was told into three buffers, and answers the number of the status, or

@@ -3,7 +3,7 @@
 use std::alloc::Global;
 use std::fs::{self, File};
 use std::io::{self, ErrorKind, Write};
-use vc_image_tool::ImageFault;
+use vc_image_run::ImageFault;
 
 // What is told where a file isn't read.
 fn unread(why: io::Error) -> ImageFault {

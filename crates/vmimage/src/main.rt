@@ -6,8 +6,8 @@ mod file;
 
 ghost use Rattle.std.specs.Prelude.{◌≡◌, map, vec_len};
 ghost use Rattle.std.specs.Process.{exit_status};
-ghost use Rattle.vc_image_tool.specs.Making.{Makes, MakesOver};
-ghost use Rattle.vc_image_tool.specs.Status.{number};
+ghost use Rattle.vc_image_run.specs.Tool.Making.{Makes, MakesOver};
+ghost use Rattle.vc_image_run.specs.Tool.Status.{number};
 ghost use Rattle.vc_session.specs.Streams.{streams};
 ghost use Rattle.vc_steps.specs.Homes.{slots_on};
 ghost use Rattle.vc_steps.specs.Moment.{moment_at_rest};
@@ -17,7 +17,7 @@ use std::alloc::Global;
 use std::process::ExitCode;
 use vc_base::{MemSink, Sink, Source, StdSink, StdSource};
 use vc_dtdisc::{BuiltIn, DictDisc};
-use vc_image_tool::{ImageFault, ImageStatus, ImageTask, check, make, remake, show, task_of, tell};
+use vc_image_run::{ImageFault, ImageStatus, ImageTask, check, make, remake, show, task_of, tell};
 use vc_main::{budgeted, growing, heap_at, kinds, relieved, words_of};
 use vc_seg::{BoxedDisc, HeapDisc, SegDisc, Shelf};
 

@@ -1,7 +1,7 @@
 use Rattle.vc_base.proofs.Common.{◌≡◌, List, Some, arith, length, length-map, option_map, refl, ◌∙◌, subst, Discipline}
 use Rattle.kolbista_c.specs.Making.{kind_gone, kind_rules}
 use Rattle.vc_dtdisc.specs.Rules.{Rules}
-use Rattle.vc_image_tool.specs.Making.{Makes}
+use Rattle.vc_image_run.specs.Tool.Making.{Makes}
 use Rattle.vc_seg.specs.Boxed.{disc_in_box}
 use Rattle.vc_session.specs.Streams.{Streams}
 use Rattle.vc_steps.specs.Account.{account}

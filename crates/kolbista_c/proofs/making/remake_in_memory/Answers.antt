@@ -1,6 +1,6 @@
 use Rattle.vc_base.proofs.Common.{◌≡◌, Some, arith, length, length-map, option_map, refl, ◌∙◌, subst, Discipline}
 use Rattle.kolbista_c.specs.Making.{kind_gone, kind_rules}
-use Rattle.vc_image_tool.specs.Making.{MakesOver}
+use Rattle.vc_image_run.specs.Tool.Making.{MakesOver}
 use Rattle.vc_seg.specs.Boxed.{disc_in_box}
 use Rattle.vc_session.specs.Streams.{Streams}
 use Rattle.vc_steps.specs.Homes.{slots_on}

@@ -1,0 +1,4 @@
+pub mod Text
+pub mod Session
+pub mod Script
+pub mod Tool

@@ -1,4 +1,0 @@
-pub mod Copied
-pub mod FirstHeld
-pub mod Ended
-pub mod Overs

@@ -1,5 +1,0 @@
-pub mod Again
-pub mod Loading
-pub mod Names
-pub mod Numbered
-pub mod Opened

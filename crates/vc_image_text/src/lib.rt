@@ -1,9 +1,0 @@
-//! The text that tells a best region and its dictionaries, as the commands that look at them print it. This project's own.
-#![tactic(auto)]
-
-mod blocks;
-mod objects;
-mod segments;
-mod text;
-
-pub use text::text_of;
