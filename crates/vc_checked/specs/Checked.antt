@@ -12,8 +12,8 @@ use Rattle.vc_seg.specs.Answer.{IsRefusal}
 use Rattle.vc_seg.specs.declared.fault.RegionFault.{RegionFault}
 use Rattle.vc_store.specs.Reading.{AfterPut, Contents, LacksKey, found, place_after}
 use Rattle.vc_store.specs.declared.put.Put.{Put}
-use Rattle.vc_stores.specs.Stores.{AllStay, OthersStay, StaysOpen, TriesAt, best_of, contents, gone_at, kind_at, numbers_of, rules_at, shown}
-use Rattle.vc_stores.specs.declared.store.Store.{Store}
+use Rattle.vc_store.specs.Stores.Stores.{AllStay, OthersStay, StaysOpen, TriesAt, best_of, contents, gone_at, kind_at, numbers_of, rules_at, shown}
+use Rattle.vc_store.specs.declared.stores.store.Store.{Store}
 use Rattle.vc_checked.specs.Answers.{fault_of, told}
 use Rattle.vc_checked.specs.Shown.{Room, Seeks}
 use Rattle.vc_checked.specs.declared.answer.Answer.{Answer}

@@ -1,5 +1,5 @@
 ghost use Rattle.std.specs.Prelude.{◌≡◌, length};
-ghost use Rattle.vc_stores.specs.Stores.{Ends, HasDict, IsOpen, StaysOpen, contents, disc_of};
+ghost use Rattle.vc_store.specs.Stores.Stores.{Ends, HasDict, IsOpen, StaysOpen, contents, disc_of};
 ghost use Rattle.vc_checked.specs.Answers.{method_of, shape_of};
 ghost use Rattle.vc_checked.specs.Checked.{Beside, Empties, Opens, rules_by};
 ghost use Rattle.vc_checked.specs.declared.answer.Answer.TheVariants.{Done, NoDict};
@@ -9,7 +9,7 @@ use crate::answer::fault_of;
 use vc_base::DictMethod;
 use vc_dtdisc::{BuiltIn, DictDisc, Shape};
 use vc_seg::{BoxedDisc, SegDisc};
-use vc_stores::Store;
+use vc_store::Store;
 
 /// The method of a number: 0 for a set, 1 for a bag, 2 for an ordered set, 3 for an ordered bag, 4 for a list, 5 for a stack and
 /// 6 for a queue; none from 7 on.

@@ -1,7 +1,7 @@
 ghost use Rattle.std.specs.Prelude.{◌≡◌};
 ghost use Rattle.vc_dtdisc.specs.Objects.{has_key};
 ghost use Rattle.vc_store.specs.Reading.{is_from};
-ghost use Rattle.vc_stores.specs.Stores.{HasDict, IsOpen, contents, disc_of, gone_at, kinds_of, rules_at};
+ghost use Rattle.vc_store.specs.Stores.Stores.{HasDict, IsOpen, contents, disc_of, gone_at, kinds_of, rules_at};
 ghost use Rattle.vc_checked.specs.Checked.{Beside, Deletes, Inserts, Takes};
 ghost use Rattle.vc_checked.specs.Shown.{IsBare, Seeks, room};
 ghost use Rattle.vc_checked.specs.declared.answer.Answer.TheVariants.{NoDict};
@@ -12,7 +12,7 @@ use crate::shown::show;
 use std::alloc::Global;
 use vc_dtdisc::DictDisc;
 use vc_seg::{BoxedDisc, SegDisc};
-use vc_stores::Store;
+use vc_store::Store;
 
 /// Puts an object of 1 to 1,024 bytes into a dictionary where its method puts it, and makes it current: `Done`. `Old` where a
 /// set has an object of its key, and else `WrongSize`, `NoSegment` or `OutOfMemory`, where the object isn't put: then no object

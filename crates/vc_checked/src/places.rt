@@ -1,6 +1,6 @@
 ghost use Rattle.std.specs.Prelude.{◌≡◌};
 ghost use Rattle.vc_store.specs.Reading.{current, with_place};
-ghost use Rattle.vc_stores.specs.Stores.{HasDict, IsOpen, contents, disc_of, kinds_of};
+ghost use Rattle.vc_store.specs.Stores.Stores.{HasDict, IsOpen, contents, disc_of, kinds_of};
 ghost use Rattle.vc_checked.specs.Checked.{Beside};
 ghost use Rattle.vc_checked.specs.Shown.{IsBare, Shows, place_by, room};
 ghost use Rattle.vc_checked.specs.declared.answer.Answer.TheVariants.{NoDict};
@@ -9,7 +9,7 @@ use crate::Answer;
 use crate::shown::show;
 use vc_dtdisc::DictDisc;
 use vc_seg::{BoxedDisc, SegDisc};
-use vc_stores::Store;
+use vc_store::Store;
 
 /// Which object becomes current.
 #[derive(Clone, Copy, Debug, PartialEq, Eq)]

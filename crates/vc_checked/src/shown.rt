@@ -1,12 +1,12 @@
 ghost use Rattle.std.specs.Prelude.{◌≡◌};
 ghost use Rattle.vc_store.specs.Reading.{current};
-ghost use Rattle.vc_stores.specs.Stores.{HasDict, IsOpen, contents, disc_of};
+ghost use Rattle.vc_store.specs.Stores.Stores.{HasDict, IsOpen, contents, disc_of};
 ghost use Rattle.vc_checked.specs.Shown.{IsShown, Shows, room};
 
 use crate::Answer;
 use vc_dtdisc::DictDisc;
 use vc_seg::{BoxedDisc, SegDisc};
-use vc_stores::Store;
+use vc_store::Store;
 
 // Puts an object at the front of a buffer, where it fits, and tells its length.
 fn put(object: &[u8], out: &mut [u8], needed: &mut usize) -> Answer

@@ -1,4 +1,4 @@
-ghost use Rattle.vc_stores.specs.Stores.{IsOpen, disc_of};
+ghost use Rattle.vc_store.specs.Stores.Stores.{IsOpen, disc_of};
 ghost use Rattle.vc_checked.specs.Checked.{rules_by};
 
 use crate::{
@@ -10,7 +10,7 @@ use std::test::Fail;
 use vc_best::Best;
 use vc_dtdisc::{BuiltIn, DictDisc};
 use vc_seg::{BoxedDisc, HeapDisc, SegDisc};
-use vc_stores::Store;
+use vc_store::Store;
 
 // Opens dictionaries by numbers, good and bad.
 fn opens(rt: &impl Abort, store: &mut Store<BuiltIn>) -> Result<(), Fail>

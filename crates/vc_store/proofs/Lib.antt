@@ -6,3 +6,17 @@ pub mod Shown
 pub mod Staying
 pub mod Moving
 pub mod Told
+pub mod Numbers
+pub mod Kept
+pub mod Changed
+pub mod Here
+pub mod Added
+pub mod Ended
+pub mod Copied
+pub mod Placed
+pub mod Loaded
+pub mod Returned
+pub mod ToldLayers
+pub mod Looked
+pub mod Along
+pub mod Carried

@@ -4,3 +4,4 @@ pub mod Answers
 pub mod Tries
 pub mod Collections
 pub mod Moves
+pub mod Stores

@@ -5,8 +5,10 @@ pub mod calls;
 mod collection;
 pub mod moves;
 mod put;
+mod stores;
 #[cfg(test)]
 mod tests;
 
 pub use collection::Collection;
 pub use put::Put;
+pub use stores::{Alike, Store, StoreLoadFault, StoreSaveFault, loaded_shows_the_same};

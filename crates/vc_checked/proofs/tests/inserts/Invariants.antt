@@ -1,4 +1,4 @@
-use Rattle.vc_stores.specs.Stores.{IsOpen, disc_of}
+use Rattle.vc_store.specs.Stores.Stores.{IsOpen, disc_of}
 use Rattle.vc_checked.proofs.tests.inserts.Given as goal
 
 abbrev pub invariant-loop-n : goal.invariant-loop-n

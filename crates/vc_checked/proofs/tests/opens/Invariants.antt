@@ -1,4 +1,4 @@
-use Rattle.vc_stores.specs.Stores.{IsOpen, disc_of}
+use Rattle.vc_store.specs.Stores.Stores.{IsOpen, disc_of}
 use Rattle.vc_checked.specs.Checked.{rules_by}
 use Rattle.vc_checked.proofs.tests.opens.Given as goal
 

@@ -1,0 +1,178 @@
+-- The dictionary and the kind that stand at a number of a store.
+use Rattle.vc_base.proofs.Common.{◌≡◌, ◌<◌, ℕ, suc, zero, List, [], ◌∷◌, Option, Some, None, IsSome, option_map, length, slice_get, get_or, refl, sym, ap, ◌∙◌, subst, arith, Bool, true, false, is_some, length-map, ◌==◌, if◌then◌else◌, Blocks, HasBytes, contains, Discipline}
+use Rattle.std.proofs.lemmas.Option.{slice_get-get_or, slice_get_read}
+use Rattle.std.specs.Vec.{with_item}
+use Rattle.vc_dtdisc.specs.Rules.{Rules}
+use Rattle.vc_dtdisc.specs.Finds as dtdisc
+use Rattle.vc_dtdisc.specs.Objects as objects
+use Rattle.vc_dict.specs.Listed.{holders_of}
+use Rattle.vc_dict.specs.declared.dict.Dict.{Dict}
+use Rattle.vc_best.specs.Cells.{cells_in}
+use Rattle.vc_best.specs.declared.best.Best.{Best}
+use Rattle.vc_objects.specs.Leaves.{LeavesRest}
+use Rattle.vc_objects.specs.Objects.{own_blocks}
+use Rattle.vc_objects.specs.Parts.{IsWhole, dictionary_in, dictionary_of}
+use Rattle.vc_objects.proofs.Leaving.{keeps-same, leaves-still}
+use Rattle.vc_objects.proofs.Remains.{counts-objects}
+use Rattle.vc_objects.specs.Remove.{bytes_of}
+use Rattle.vc_store.specs.Contents.{contents_in, place_of}
+use Rattle.vc_store.specs.Reading.{Contents, current, object_at, with_place}
+use Rattle.vc_store.proofs.Shown.{current-there, pointed-shown, within-rest}
+pub use Rattle.vc_store.specs.Stores.AlikeLaws.{below-there}
+use Rattle.vc_store.specs.Stores.Stores.{HasDict, IsOpen, OthersStay, StaysOpen, contents, contents_or, dict_at, dicts_of, disc_of, joined, kind_at, kinds_of, lent_to, numbers_of, rules_at, rules_or}
+use Rattle.vc_store.specs.declared.stores.store.Store.{Store}
+use Rattle.vc_store.specs.Moves.{IsWholeBy, Moves}
+use Rattle.vc_store.proofs.Changed.{Call, moved, others-there, same-numbers, stays-there}
+use Rattle.vc_store.proofs.Numbers.{at-below, set-itself}
+
+-- what is read there
+pub read-there : {A : Type 0} (xs : List (Option A)) (n : ℕ) (o : Option A) → n < length xs → o ≡ get_or xs n o → joined (slice_get xs n) ≡ o
+read-there xs n o below e = ap joined (slice_get-get_or xs n o below) ∙ sym e
+
+module _ {D : Type 0} {I : Type 0} {V : I → Type 0} (rules_by : D → Rules) (s : Store D I V) (n : ℕ) {disc : Discipline} (is : IsOpen rules_by s disc) (below : n < numbers_of s) (k : D) (kind : k ≡ get_or (kinds_of s) n k) where
+  pub kind-here : kind_at s n ≡ Some k
+  kind-here = slice_get_read (kinds_of s) (length (kinds_of s)) n k refl (subst (λ c. n < c) (sym is.kinds) below) kind
+
+  pub rules-here : rules_at rules_by s n ≡ rules_by k
+  rules-here = ap (λ o. rules_or (option_map rules_by o)) kind-here
+
+  pub whole-here : (d : Dict) → dict_at s n ≡ Some d → IsWhole (rules_by k) d (cells_in s.best)
+  whole-here d at = subst (λ r. IsWhole r d (cells_in s.best)) rules-here (is.whole n d at)
+
+-- the store with another region and dictionary, and with another kind as well
+abbrev pub with_dict : {D : Type 0} {I : Type 0} {V : I → Type 0} → Store D I V → ℕ → Best I V → Dict → Store D I V
+with_dict s n best d = record { best = best; dicts = with_item s.dicts n (Some d); kinds = s.kinds }
+
+abbrev pub with_both : {D : Type 0} {I : Type 0} {V : I → Type 0} → Store D I V → ℕ → Best I V → Dict → D → Store D I V
+with_both s n best d k =
+    record { best = best; dicts = with_item s.dicts n (Some d); kinds = with_item s.kinds n k }
+
+-- a call on the dictionary of a number, whose kind stays, or changes by the same rules
+module _ {D : Type 0} {I : Type 0} {V : I → Type 0} (meaning : (x : I) × V x → Discipline) (rules_by : D → Rules) (s : Store D I V) (n : ℕ) (is : IsOpen rules_by s (disc_of s meaning)) (there : HasDict s n)
+    (o : Option Dict) (d : Dict) (k : D) (read : o ≡ get_or (dicts_of s) n o) (found : o ≡ Some d) (kind : k ≡ get_or (kinds_of s) n k) (b : Best I V) (d' : Dict) (leaves : LeavesRest meaning (rules_by k) s.best d b d') where
+  below : n < numbers_of s
+  below = below-there (dicts_of s) n there
+
+  at : dict_at s n ≡ Some d
+  at = read-there (dicts_of s) n o below read ∙ found
+
+  here : kind_at s n ≡ Some k
+  here = kind-here rules_by s n is below k kind
+
+  pub call-kept : Call meaning rules_by s (with_dict s n b d') n d d' k k
+  call-kept = record {
+    is = is;
+    at = at;
+    kind = here;
+    dicts = refl;
+    kinds = sym (set-itself (kinds_of s) n k here);
+    rules = refl;
+    leaves = leaves;
+  }
+
+  pub call-changed : (k' : D) → rules_by k' ≡ rules_by k → Call meaning rules_by s (with_both s n b d' k') n d d' k k'
+  call-changed k' rules = record {
+    is = is;
+    at = at;
+    kind = here;
+    dicts = refl;
+    kinds = refl;
+    rules = rules;
+    leaves = leaves;
+  }
+
+-- what the dictionary shows, and its current object
+module _ {D : Type 0} {I : Type 0} {V : I → Type 0} (rules_by : D → Rules) (s : Store D I V) (n : ℕ) {disc : Discipline} (is : IsOpen rules_by s disc) (d : Dict) (at : dict_at s n ≡ Some d) where
+  abbrev cells : Blocks
+  cells = cells_in s.best
+
+  pub shown-here : contents s n ≡ contents_in d s.best
+  shown-here = ap (λ o. contents_or (option_map (λ e. contents_in e s.best) o)) at
+
+  pub current-none : (d.current.0 == 0) ≡ true → None ≡ current (contents s n)
+  current-none none =
+      sym (ap (λ t. object_at (place_of (if t then None else Some d.current.0) (dictionary_of d cells).objects) (bytes_of (dictionary_of d cells).objects)) none)
+      ∙ sym (ap current shown-here)
+
+  module _ (some : (d.current.0 == 0) ≡ false) where
+    within : contains (holders_of d cells) d.current.0 ≡ true
+    within = within-rest d.current.0 (holders_of d cells) some (is.whole n d at).current
+
+    pub current-block : HasBytes cells d.current.0 32
+    current-block = current-there (rules_at rules_by s n) d cells (is.whole n d at) within
+
+    pub current-some : Some (dtdisc.object_at cells d.current.0) ≡ current (contents s n)
+    current-some =
+        sym (pointed-shown (rules_at rules_by s n) d cells d.current (is.whole n d at) within) ∙ sym (ap current shown-here)
+
+-- what is told of it by its heads
+module _ {D : Type 0} {I : Type 0} {V : I → Type 0} (s : Store D I V) (n : ℕ) (d : Dict) (at : dict_at s n ≡ Some d) where
+  abbrev show : Option Dict → Contents
+  show o = contents_or (option_map (λ e. contents_in e s.best) o)
+
+  pub method-here : d.method ≡ (contents s n).method
+  method-here = ap (λ o. (show o).method) (sym at)
+
+  pub count-here : (rules : Rules) → IsWhole rules d (cells_in s.best) → d.count ≡ length (contents s n).objects
+  count-here rules whole =
+      sym (counts-objects rules d (cells_in s.best) whole)
+      ∙ (sym (length-map (dictionary_of d (cells_in s.best)).objects objects.bytes_of) ∙ ap (λ o. length (show o).objects) (sym at))
+
+-- a call that makes another object current
+module _ {D : Type 0} {I : Type 0} {V : I → Type 0} (meaning : (x : I) × V x → Discipline) (rules_by : D → Rules) (s : Store D I V) (n : ℕ) (is : IsOpen rules_by s (disc_of s meaning)) (there : HasDict s n)
+    (o : Option Dict) (d : Dict) (read : o ≡ get_or (dicts_of s) n o) (found : o ≡ Some d) where
+  inside : n < numbers_of s
+  inside = below-there (dicts_of s) n there
+
+  at-read : dict_at s n ≡ Some d
+  at-read = read-there (dicts_of s) n o inside read ∙ found
+
+  pub whole-by : IsWholeBy d (cells_in s.best)
+  whole-by = record { rules = rules_at rules_by s n; whole = is.whole n d at-read }
+
+  module _ (place : Option ℕ) (answer : Bool) (d' : Dict) (m : Moves place answer s.best d d') where
+    its_kind : (k : D) × (kind_at s n ≡ Some k)
+    its_kind = at-below (kinds_of s) n (subst (λ c. n < c) (sym is.kinds) inside)
+
+    by-kind : rules_at rules_by s n ≡ rules_by its_kind.0
+    by-kind = ap (λ k. rules_or (option_map rules_by k)) its_kind.1
+
+    leaves : LeavesRest meaning (rules_by its_kind.0) s.best d s.best d'
+    leaves = record {
+      whole = subst (λ r. IsWhole r d' (cells_in s.best)) by-kind (m.whole (rules_at rules_by s n) (is.whole n d at-read));
+      kind = m.kind;
+      rest =
+          leaves-still meaning s.best s.best (own_blocks (dictionary_in d s.best)) (own_blocks (dictionary_in d' s.best)) (keeps-same (disc_of s meaning) (disc_of s meaning) (lent_to s) (lent_to s) refl refl) refl refl m.own;
+    }
+
+    call-moved : Call meaning rules_by s (with_dict s n s.best d') n d d' its_kind.0 its_kind.0
+    call-moved = record {
+      is = is;
+      at = at-read;
+      kind = its_kind.1;
+      dicts = refl;
+      kinds = sym (set-itself (kinds_of s) n its_kind.0 its_kind.1);
+      rules = refl;
+      leaves = leaves;
+    }
+
+    pub others-moved : OthersStay s (with_dict s n s.best d') n
+    others-moved = others-there call-moved
+
+    pub stays-moved : StaysOpen meaning rules_by s (with_dict s n s.best d')
+    stays-moved = stays-there call-moved (ap (λ (x : Contents). x.method) m.moved)
+
+    pub contents-moved : contents (with_dict s n s.best d') n ≡ with_place place (contents s n)
+    contents-moved = moved call-moved (λ r x y. y ≡ with_place place x) m.moved
+
+    pub there-moved : answer ≡ is_some (contents (with_dict s n s.best d') n).place
+    there-moved = m.there ∙ ap (λ (x : Contents). is_some x.place) (sym contents-moved)
+
+    pub numbers-moved : numbers_of (with_dict s n s.best d') ≡ numbers_of s
+    numbers-moved = same-numbers call-moved
+
+  -- told by what is shown at its number
+  pub place-moved : (place : Contents → Option ℕ) (answer : Bool) (d' : Dict) → Moves (place (contents_in d s.best)) answer s.best d d' → contents (with_dict s n s.best d') n ≡ with_place (place (contents s n)) (contents s n)
+  place-moved place answer d' m =
+      contents-moved (place (contents_in d s.best)) answer d' m
+      ∙ ap (λ x. with_place (place x) (contents s n)) (sym (ap (λ o. contents_or (option_map (λ e. contents_in e s.best) o)) at-read))

@@ -1,0 +1,41 @@
+-- What is sought in a dictionary by a key, by how it stands to the key.
+use Rattle.std.specs.Prelude.{◌≡◌, ℕ, true, not, List, Option, find, IsSome}
+use Rattle.std.specs.List.{filter}
+use Rattle.std.specs.Ordering.{is_ge, is_gt, is_lt}
+use Rattle.vc_base.specs.declared.addr.Addr.{Addr}
+use Rattle.vc_base.specs.declared.dict_method.DictMethod.{DictMethod}
+use Rattle.vc_base.specs.Cells.{Blocks}
+use Rattle.vc_base.specs.Methods.{is_ordered}
+use Rattle.vc_dtdisc.specs.Finding.{first_of, last_of}
+use Rattle.vc_dtdisc.specs.Finds.{find_key, object_at}
+use Rattle.vc_dtdisc.specs.Rules.{Rules}
+use Rattle.vc_paths.specs.Layers.{Layer, Layered, bytes_there, place_in, place_with}
+use Rattle.vc_algebra.specs.Algebra.{place_at_least}
+use Rattle.vc_store.specs.declared.stores.side.Side.{Side}
+use Rattle.vc_store.specs.declared.stores.side.Side.TheVariants.{Below, Level, AtLeast, Above}
+
+-- all but what has the key is asked of an ordered dictionary alone
+abbrev pub CanAsk : Side → DictMethod → Type 0
+CanAsk Level method = Unit {0}
+CanAsk side method = is_ordered method ≡ true
+
+-- of some holders the one that is sought
+abbrev pub holder_to : Side → Rules → Blocks → List ℕ → List ℕ → Option ℕ
+holder_to Below rules b key holders = last_of (filter (λ at. is_lt (rules.compare (rules.key (object_at b at)) key)) holders)
+holder_to Level rules b key holders = find_key rules b key holders
+holder_to AtLeast rules b key holders = find (λ at. is_ge (rules.compare (rules.key (object_at b at)) key)) holders
+holder_to Above rules b key holders = find (λ at. is_gt (rules.compare (rules.key (object_at b at)) key)) holders
+
+-- the place of the object of a layer that is
+abbrev pub place_to : Side → Layer → List ℕ → Option ℕ
+place_to Below layer key = place_in (last_of (filter (λ o. is_lt (layer.rules.compare (layer.rules.key o.bytes) key)) layer.objects))
+place_to Level layer key = place_with layer.rules key layer.objects
+place_to AtLeast layer key = place_at_least layer.rules key layer.objects
+place_to Above layer key = place_in (first_of (filter (λ o. is_gt (layer.rules.compare (layer.rules.key o.bytes) key)) layer.objects))
+
+-- a dictionary is asked so for what stands to the object at a place of another one
+pub record CanCompare (all : Layered) (d : ℕ) (side : Side) (other : ℕ × Addr) : Type 0 where
+  pub dict : all.Has d
+  pub there : all.Has other.0
+  pub asked : CanAsk side (all.layer d).method
+  pub place : IsSome (bytes_there other.1.0 (all.layer other.0).objects)

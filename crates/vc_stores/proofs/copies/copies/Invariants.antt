@@ -1,5 +1,0 @@
-use Rattle.vc_stores.proofs.Copied.{Copied}
-use Rattle.vc_stores.proofs.copies.copies.Given as goal
-
-abbrev pub invariant-loop-n : goal.invariant-loop-n
-invariant-loop-n l = Copied l.dicts l.n l.copies

@@ -1,5 +1,0 @@
-use Rattle.vc_stores.specs.Stores.{IsOpen, disc_of}
-use Rattle.vc_stores.proofs.image_tests.lists.Given as goal
-
-abbrev pub invariant-loop-kind : goal.invariant-loop-kind
-invariant-loop-kind g l = IsOpen g.D.DictDisc.rules l.store (disc_of l.store (λ z. (goal.SegDisc-dyn g z).state z.1))

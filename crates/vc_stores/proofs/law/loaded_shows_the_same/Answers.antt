@@ -1,6 +1,0 @@
-use Rattle.vc_base.proofs.Common.{◌∙◌}
-use Rattle.vc_stores.proofs.Returned.{returned}
-use Rattle.vc_stores.proofs.law.loaded_shows_the_same.Goals as goal
-
-pub returns : goal.returns
-returns g c = λ lent old new kinds is few holds n. holds.shown n ∙ returned g.D.DictDisc.rules c.args.saved.now lent is few n

@@ -1,6 +1,0 @@
-use Rattle.vc_stores.specs.Stores.{dicts_of}
-use Rattle.vc_stores.proofs.Here.{below-there}
-use Rattle.vc_stores.proofs.store.Store.shut.Goals as goal
-
-pub end-requires-clause-given : goal.end-requires-clause-given
-end-requires-clause-given g c = below-there (dicts_of c.args.self.now) c.args.n c.requires.there
