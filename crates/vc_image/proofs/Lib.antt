@@ -12,5 +12,5 @@ mod Rising
 pub mod Standing
 pub mod Numbers
 pub mod Joined
-mod Loaded
+mod LoadedAgain
 mod Returning

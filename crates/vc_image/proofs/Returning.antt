@@ -30,7 +30,7 @@ use Rattle.vc_image.specs.Save.{contents_in, image_in, row_of}
 use Rattle.vc_image.proofs.Loads.{made-by}
 use Rattle.vc_image.specs.Saved.Saved.{AreSame, AreSavable, AreSavableIn, IsWholeBy}
 use Rattle.vc_image.proofs.Joined.{dicts-in, read-in, readable-in, rows-read}
-use Rattle.vc_image.proofs.Loaded.{each-at, savable-in}
+use Rattle.vc_image.proofs.LoadedAgain.{each-at, savable-in}
 
 -- a sound image has no unsound part
 pub never-unsound : (kinds : List Rules) (image : List ℕ) (part : Part) → IsSound kinds image → IsFirstUnsoundPart kinds image part → ⊥

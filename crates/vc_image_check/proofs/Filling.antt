@@ -9,7 +9,7 @@ use Rattle.vc_extent.specs.Tiling.{IsThere, extents_of, tiling}
 use Rattle.vc_image_check.specs.Bytes.Contents.{body_in, contents_of, pair_at, pairs_in, segments_in}
 use Rattle.vc_image_check.specs.Bytes.Header.{IsHeader}
 use Rattle.vc_image_check.proofs.Segs.{legal, long, new-number, next-place, segment_by, segs-are, segs-more, segs_in}
-use Rattle.vc_image_check.specs.Marking.Mark.{AreMarks, HasMark, HasMarkIn, IsMarked, lists, mark_at, mark_of}
+use Rattle.vc_image_check.specs.Marks.Mark.{AreMarks, HasMark, HasMarkIn, IsMarked, lists, mark_at, mark_of}
 
 -- one more segment under another number, or under that number, which none before it has
 extents-other : (n : ℕ) (ss : List Bytes) (s : Bytes) → s.number ≢ n → extents_of n (tiling (ss ++ s ∷ [])) ≡ extents_of n (tiling ss)

@@ -17,7 +17,7 @@ use Rattle.vc_gaps.specs.GapStore.{is_free}
 use Rattle.vc_image_check.specs.Bytes.Contents.{contents_of, pairs_in, segments_in}
 use Rattle.vc_image_check.specs.Bytes.Header.{IsHeader}
 use Rattle.vc_image_check.proofs.Segs.{segs-count, segs-many}
-use Rattle.vc_image_check.specs.Marking.Mark.{mark_of}
+use Rattle.vc_image_check.specs.Marks.Mark.{mark_of}
 use Rattle.vc_image_check.specs.Gaps.Known.{IsKnown, known-segments, start_of}
 
 -- the bytes of a segment by its number

@@ -5,7 +5,7 @@ use Rattle.vc_extent.specs.Change.{extent_in}
 use Rattle.vc_extent.specs.Extent.{Extent, extents}
 use Rattle.vc_extent.specs.Tiles.{IsTiled, Tiles}
 use Rattle.vc_extent.proofs.Tiled.{named-above, off-at, size-at, span-at, tag-at, tiles-lt}
-use Rattle.vc_image_check.specs.Marking.Mark.{AreMarks, mark_of}
+use Rattle.vc_image_check.specs.Marks.Mark.{AreMarks, mark_of}
 
 -- extents lie from a place on; what begins before it has its mark, and all else has none yet
 pub record Marking (b marks : List ℕ) (at : ℕ) : Type 0 where

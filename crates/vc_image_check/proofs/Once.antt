@@ -6,7 +6,7 @@ use Rattle.vc_base.specs.Cells.{Blocks}
 use Rattle.vc_base.proofs.Members.{first-apart, within-cases, within-either, within-head, within-rest}
 use Rattle.vc_dtdisc.specs.Rules.{Rules}
 use Rattle.vc_image_check.specs.Bytes.Image.{Row}
-use Rattle.vc_image_check.specs.Marking.Mark.{mark_at}
+use Rattle.vc_image_check.specs.Marks.Mark.{mark_at}
 use Rattle.vc_image_check.specs.Blocks.Blocks.{HasBlockMarks, blocks_of}
 use Rattle.vc_image_check.specs.Blocks.BlockLaws.{marked-none}
 use Rattle.vc_image_check.specs.Dicts.Sound.{IsSoundDict, IsSoundRow, heads_of, own_in, own_of}

@@ -11,7 +11,7 @@ use Rattle.vc_gaps.specs.GapStore.{gap_store, is_free, key_of}
 use Rattle.vc_gaps.specs.GapTree.{AscendFrom, HasGapTree, HasGaps}
 use Rattle.vc_gaps.proofs.GapTrees.{tree-free}
 use Rattle.vc_image_check.specs.Walks.Spelled.{IsSpelled}
-use Rattle.vc_image_check.specs.Marking.Mark.{HasMark, mark_at, mark_of}
+use Rattle.vc_image_check.specs.Marks.Mark.{HasMark, mark_at, mark_of}
 use Rattle.vc_image_check.proofs.Lying.{mark-free}
 
 -- the whole ascends exactly where what is left does

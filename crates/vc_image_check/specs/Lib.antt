@@ -1,6 +1,6 @@
 pub mod Bytes
 pub mod Walks
-pub mod Marking
+pub mod Marks
 pub mod Segments
 pub mod Gaps
 pub mod Parts

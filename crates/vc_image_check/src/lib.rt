@@ -6,7 +6,7 @@ mod bytes;
 mod dicts;
 mod gaps;
 mod lists;
-mod marking;
+mod marks;
 mod orders;
 mod parts;
 mod segments;

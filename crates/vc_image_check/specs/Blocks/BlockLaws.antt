@@ -16,7 +16,7 @@ use Rattle.vc_best.proofs.CellBytes.{cell-bytes}
 use Rattle.vc_best.proofs.Found.{busy-of, found-of}
 use Rattle.vc_image_check.specs.Bytes.Contents.{contents_of}
 use Rattle.vc_image_check.specs.Bytes.Header.{AreBytes, IsHeader}
-use Rattle.vc_image_check.specs.Marking.Mark.{mark_at, mark_of}
+use Rattle.vc_image_check.specs.Marks.Mark.{mark_at, mark_of}
 use Rattle.vc_image_check.specs.Gaps.Known.{IsKnown, known-segments, start_of}
 use Rattle.vc_image_check.proofs.Lying.{LiesIn, field-in, lies-in, part-in}
 use Rattle.vc_image_check.specs.Blocks.Blocks.{HasBlockMarks, blocks_of, is_cell}

@@ -9,7 +9,7 @@ use Rattle.vc_best.specs.Blocks.{layout_by}
 use Rattle.vc_best.specs.Cells.{cells_of}
 use Rattle.vc_image_check.specs.Bytes.Contents.{contents_of}
 use Rattle.vc_image_check.specs.Bytes.Header.{IsHeader}
-use Rattle.vc_image_check.specs.Marking.Mark.{mark_at}
+use Rattle.vc_image_check.specs.Marks.Mark.{mark_at}
 
 -- the unlabelled blocks of an image's segments, by their addresses
 abbrev pub blocks_of : List ℕ → Blocks

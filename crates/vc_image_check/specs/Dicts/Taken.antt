@@ -5,7 +5,7 @@ use Rattle.vc_base.specs.Cells.{Blocks}
 use Rattle.vc_base.specs.Holders.{contains}
 use Rattle.vc_dtdisc.specs.Rules.{Rules}
 use Rattle.vc_image_check.specs.Bytes.Image.{Row}
-use Rattle.vc_image_check.specs.Marking.Mark.{mark_at}
+use Rattle.vc_image_check.specs.Marks.Mark.{mark_at}
 use Rattle.vc_image_check.specs.Dicts.Sound.{IsSoundDict, own_of}
 
 -- of the marks from 3 on, 4 stands at the blocks that were taken, and 3 at the others

@@ -15,7 +15,7 @@ use Rattle.vc_gaps.specs.GapStore.{is_free}
 use Rattle.vc_image_check.specs.Bytes.Contents.{contents_of}
 use Rattle.vc_image_check.specs.Bytes.Header.{IsHeader}
 use Rattle.vc_image_check.proofs.Segs.{are-segments, segs-are}
-use Rattle.vc_image_check.specs.Marking.Mark.{IsMarked}
+use Rattle.vc_image_check.specs.Marks.Mark.{IsMarked}
 
 -- an image has a head, extents tile its segments, and these are their marks and places
 pub record IsKnown (image : List ℕ) (rows : List (List ℕ)) (places : List ℕ) : Type 0 where

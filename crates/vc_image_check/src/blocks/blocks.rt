@@ -4,11 +4,11 @@ ghost use Rattle.vc_base.specs.Cells.{HasBytes, bytes_at};
 ghost use Rattle.vc_seg.specs.Field.{field_at};
 ghost use Rattle.vc_image_check.specs.Blocks.Blocks.{HasBlockMarks, blocks_of};
 ghost use Rattle.vc_image_check.specs.Bytes.Header.{AreBytes};
-ghost use Rattle.vc_image_check.specs.Marking.Mark.{lists, mark_at};
+ghost use Rattle.vc_image_check.specs.Marks.Mark.{lists, mark_at};
 
 use crate::bytes::word;
 use crate::lists::Holders;
-use crate::marking::Marks;
+use crate::marks::Marks;
 
 /// The unlabelled blocks of an image, whose bytes may be any. This project's own.
 #[derive(Drop)]
@@ -72,7 +72,7 @@ fn number(bytes: &[u8], at: usize) -> u64
 impl<'a> Holders for ImageBlocks<'a> {
     ghost use Rattle.vc_image_check.specs.Blocks.BlockLaws.{bytes-small};
     ghost use Rattle.vc_image_check.specs.Blocks.Blocks.{blocks_of};
-    ghost use Rattle.vc_image_check.specs.Marking.Mark.{lists};
+    ghost use Rattle.vc_image_check.specs.Marks.Mark.{lists};
 
     ghost blocks = { λ s. blocks_of s.image.now };
 

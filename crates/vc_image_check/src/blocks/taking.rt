@@ -1,8 +1,8 @@
 ghost use Rattle.std.specs.Prelude.{◌≡◌, ◌↔◌, ℕ, List, IsTrue, ◌==◌, ◌&&◌, if◌then◌else◌};
 ghost use Rattle.vc_image_check.specs.Blocks.Blocks.{HasBlockMarks};
-ghost use Rattle.vc_image_check.specs.Marking.Mark.{lists, mark_at};
+ghost use Rattle.vc_image_check.specs.Marks.Mark.{lists, mark_at};
 
-use crate::marking::Marks;
+use crate::marks::Marks;
 
 /// Takes an unlabelled block for a dictionary, where it is one that none has: its mark 3 becomes 4. Whether it was. The marks still
 /// tell an image's blocks. This project's own.

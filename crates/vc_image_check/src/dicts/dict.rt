@@ -2,7 +2,7 @@ ghost use Rattle.std.specs.Prelude.{◌≡◌, ◌↔◌, ◌+◌, ◌++◌, ◌
 ghost use Rattle.vc_base.specs.Holders.{AreDistinct, contains};
 ghost use Rattle.vc_image_check.specs.Blocks.Blocks.{HasBlockMarks, blocks_of};
 ghost use Rattle.vc_image_check.specs.Bytes.Contents.{row_at};
-ghost use Rattle.vc_image_check.specs.Marking.Mark.{lists};
+ghost use Rattle.vc_image_check.specs.Marks.Mark.{lists};
 ghost use Rattle.vc_image_check.specs.Dicts.Sound.{IsSoundBy, IsSoundDict, IsSoundRow, own_in, own_of};
 ghost use Rattle.vc_image_check.specs.Dicts.Taken.{AreTaken};
 
@@ -13,7 +13,7 @@ use crate::dicts::numbers::{heads_of, kind_of, method_of};
 use crate::dicts::others::has_no_other_heads;
 use crate::dicts::taking::take_blocks;
 use crate::lists::Holders;
-use crate::marking::Marks;
+use crate::marks::Marks;
 use std::alloc::Global;
 use vc_base::{DictMethod, OutOfMemory, Steps};
 use vc_dict::Heads;

@@ -2,13 +2,13 @@ ghost use Rattle.std.specs.Prelude.{◌≡◌, [], IfNone, IfOk, IfSome, map};
 ghost use Rattle.vc_image_check.specs.Blocks.Blocks.{HasBlockMarks, blocks_of};
 ghost use Rattle.vc_image_check.specs.Bytes.Contents.{rows_in};
 ghost use Rattle.vc_image_check.specs.Bytes.Header.{IsHeader};
-ghost use Rattle.vc_image_check.specs.Marking.Mark.{lists};
+ghost use Rattle.vc_image_check.specs.Marks.Mark.{lists};
 ghost use Rattle.vc_image_check.specs.Dicts.Taken.{AreTaken, IsFirstUnsoundDict, taken_by};
 ghost use Rattle.vc_image_check.specs.Dicts.Whole.{AreSoundDicts};
 
 use crate::bytes::word;
 use crate::dicts::dict::is_sound_dict;
-use crate::marking::Marks;
+use crate::marks::Marks;
 use std::alloc::Global;
 use vc_base::{OutOfMemory, Steps};
 use vc_dtdisc::DictDisc;

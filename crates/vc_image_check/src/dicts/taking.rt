@@ -1,10 +1,10 @@
 ghost use Rattle.std.specs.Prelude.{◌≡◌, ◌↔◌, ℕ, List, IsTrue, true, if◌then◌else◌};
 ghost use Rattle.vc_base.specs.Holders.{AreDistinct, contains};
 ghost use Rattle.vc_image_check.specs.Blocks.Blocks.{HasBlockMarks};
-ghost use Rattle.vc_image_check.specs.Marking.Mark.{lists, mark_at};
+ghost use Rattle.vc_image_check.specs.Marks.Mark.{lists, mark_at};
 
 use crate::blocks::take_block;
-use crate::marking::Marks;
+use crate::marks::Marks;
 
 // Takes these blocks for a dictionary, where each is one that none has. Whether each was.
 pub(crate) fn take_blocks(marks: &mut Marks, blocks: &[u32]) -> bool

@@ -1,13 +1,13 @@
 ghost use Rattle.std.specs.Prelude.{◌≡◌, ◌↔◌, IfNone, IfOk, IfSome, IsTrue, map};
 ghost use Rattle.vc_image_check.specs.Blocks.Blocks.{HasBlockMarks, blocks_of};
 ghost use Rattle.vc_image_check.specs.Bytes.Contents.{rows_in};
-ghost use Rattle.vc_image_check.specs.Marking.Mark.{lists};
+ghost use Rattle.vc_image_check.specs.Marks.Mark.{lists};
 ghost use Rattle.vc_image_check.specs.Parts.Front.{IsSoundFront};
 ghost use Rattle.vc_image_check.specs.Dicts.Taken.{AreTaken, IsFirstUnsoundDict, taken_by};
 ghost use Rattle.vc_image_check.specs.Dicts.Whole.{AreSoundDicts, HasNoRest, IsFirstUnsoundPart, IsSound};
 
 use crate::dicts::dicts::unsound_dict;
-use crate::marking::Marks;
+use crate::marks::Marks;
 use crate::parts::{Part, unsound_front};
 use std::alloc::Global;
 use vc_base::{OutOfMemory, Steps};

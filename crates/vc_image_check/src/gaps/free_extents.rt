@@ -3,10 +3,10 @@ ghost use Rattle.vc_extent.specs.Tiling.{extent_of, tiling};
 ghost use Rattle.vc_gaps.specs.GapStore.{is_free};
 ghost use Rattle.vc_image_check.specs.Bytes.Contents.{contents_of};
 ghost use Rattle.vc_image_check.specs.Gaps.Known.{IsKnown, start_of};
-ghost use Rattle.vc_image_check.specs.Marking.Mark.{lists};
+ghost use Rattle.vc_image_check.specs.Marks.Mark.{lists};
 
 use crate::bytes::word;
-use crate::marking::Marks;
+use crate::marks::Marks;
 use crate::walks::Known;
 use vc_splay::Links;
 
@@ -46,7 +46,7 @@ impl<'a> Links for FreeExtents<'a> {
     ghost use Rattle.vc_gaps.specs.GapStore.{gap_store};
     ghost use Rattle.vc_image_check.specs.Bytes.Contents.{contents_of};
     ghost use Rattle.vc_image_check.specs.Gaps.Known.{known_fits, known_none};
-    ghost use Rattle.vc_image_check.specs.Marking.Mark.{lists};
+    ghost use Rattle.vc_image_check.specs.Marks.Mark.{lists};
 
     ghost store = { λ s. gap_store (tiling (contents_of s.image.now).segs) };
 

@@ -6,11 +6,11 @@ ghost use Rattle.vc_gaps.specs.GapTree.{AscendFrom, HasGapTree, HasGaps};
 ghost use Rattle.vc_splay.specs.Stands.{IsTree};
 ghost use Rattle.vc_image_check.specs.Bytes.Contents.{contents_of};
 ghost use Rattle.vc_image_check.specs.Gaps.Known.{AreFree, IsKnown};
-ghost use Rattle.vc_image_check.specs.Marking.Mark.{lists, mark_at};
+ghost use Rattle.vc_image_check.specs.Marks.Mark.{lists, mark_at};
 
 use crate::bytes::word;
 use crate::gaps::free_extents::FreeExtents;
-use crate::marking::Marks;
+use crate::marks::Marks;
 use crate::walks::in_order;
 use std::alloc::Global;
 use vc_base::OutOfMemory;

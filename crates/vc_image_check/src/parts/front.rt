@@ -3,7 +3,7 @@ ghost use Rattle.vc_image_check.specs.Parts.Front.{IsFirstUnsound, IsSoundFront}
 
 use crate::bytes::is_header;
 use crate::gaps::is_sound_tree;
-use crate::marking::Marks;
+use crate::marks::Marks;
 use crate::parts::Part;
 use crate::segments::unsound_segment;
 use std::alloc::Global;

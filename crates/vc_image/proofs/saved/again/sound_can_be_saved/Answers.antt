@@ -1,4 +1,4 @@
-use Rattle.vc_image.proofs.Loaded.{savable-in}
+use Rattle.vc_image.proofs.LoadedAgain.{savable-in}
 use Rattle.vc_image.proofs.saved.again.sound_can_be_saved.Goals as goal
 
 pub returns : goal.returns

@@ -1,6 +1,6 @@
 use Rattle.vc_base.proofs.Common.{◌≡◌, ◌+◌, ◌-◌, take, drop, sym, ap, ◌∙◌, arith, length-take}
 use Rattle.vc_seg.specs.Field.{field_at}
-use Rattle.vc_image_check.specs.Marking.Mark.{lists}
+use Rattle.vc_image_check.specs.Marks.Mark.{lists}
 use Rattle.vc_image_check.specs.Blocks.BlockLaws.{marked-none}
 use Rattle.vc_image_check.proofs.blocks.blocks.bytes_of.Goals as goal
 

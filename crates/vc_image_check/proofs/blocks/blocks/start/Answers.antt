@@ -1,6 +1,6 @@
 use Rattle.vc_base.proofs.Common.{◌≡◌, ℕ, List, ◌+◌, ◌-◌, ◌*◌, ◌/◌, ◌%◌, ◌≤◌, length, get_or, get_or_default, take, drop, sym, ap, ◌∙◌, subst, arith}
 use Rattle.vc_seg.specs.Field.{field_at}
-use Rattle.vc_image_check.specs.Marking.Mark.{lists}
+use Rattle.vc_image_check.specs.Marks.Mark.{lists}
 use Rattle.vc_image_check.specs.Gaps.Known.{start_of}
 use Rattle.vc_image_check.specs.Blocks.BlockLaws.{marked-there}
 use Rattle.vc_image_check.proofs.blocks.blocks.start.Goals as goal

@@ -1,6 +1,6 @@
 use Rattle.vc_base.proofs.Common.{◌≡◌, true, if◌then◌else◌, map, AreDistinct, contains, sym, ap, ◌∙◌, subst}
 use Rattle.vc_image_check.specs.Bytes.Contents.{row_at}
-use Rattle.vc_image_check.specs.Marking.Mark.{lists, mark_at}
+use Rattle.vc_image_check.specs.Marks.Mark.{lists, mark_at}
 use Rattle.vc_image_check.specs.Blocks.Blocks.{blocks_of}
 use Rattle.vc_image_check.specs.Dicts.Sound.{IsSoundRow, own_of}
 use Rattle.vc_image_check.proofs.Once.{free-sound, more-taken, row-there, sound-free}

@@ -2,7 +2,7 @@ use Rattle.vc_base.proofs.Common.{◌≡◌, ◌+◌, ◌*◌, Some, map, take, 
 use Rattle.std.specs.Prelude.{slice_get}
 use Rattle.vc_image_check.specs.Blocks.Blocks.{blocks_of}
 use Rattle.vc_image_check.specs.Bytes.Contents.{row_at, rows_in}
-use Rattle.vc_image_check.specs.Marking.Mark.{lists}
+use Rattle.vc_image_check.specs.Marks.Mark.{lists}
 use Rattle.vc_image_check.specs.Dicts.Taken.{taken_by}
 use Rattle.vc_image_check.proofs.Passing.{length-rows, passed-end, passed-next, passed-not, row-there}
 use Rattle.vc_image_check.proofs.dicts.dicts.unsound_dict.Goals as goal

@@ -1,7 +1,7 @@
 use Rattle.vc_base.proofs.Common.{map}
 use Rattle.vc_image_check.specs.Blocks.Blocks.{HasBlockMarks, blocks_of}
 use Rattle.vc_image_check.specs.Bytes.Contents.{rows_in}
-use Rattle.vc_image_check.specs.Marking.Mark.{lists}
+use Rattle.vc_image_check.specs.Marks.Mark.{lists}
 use Rattle.vc_image_check.proofs.Passing.{Passed}
 use Rattle.vc_image_check.proofs.dicts.dicts.unsound_dict.Given as goal
 

@@ -1,5 +1,5 @@
 use Rattle.vc_base.proofs.Common.{◌==◌, ◌&&◌, if◌then◌else◌, get_or, sym, refl, ap, ◌∙◌, true≢false}
-use Rattle.vc_image_check.specs.Marking.Mark.{lists, mark_at}
+use Rattle.vc_image_check.specs.Marks.Mark.{lists, mark_at}
 use Rattle.vc_image_check.proofs.Once.{taking-next, taking-not}
 use Rattle.vc_image_check.proofs.dicts.taking.take_blocks.Goals as goal
 

@@ -1,6 +1,6 @@
 use Rattle.vc_base.proofs.Common.{◌≡◌, ℕ, List}
 use Rattle.vc_image_check.specs.Blocks.Blocks.{HasBlockMarks}
-use Rattle.vc_image_check.specs.Marking.Mark.{lists}
+use Rattle.vc_image_check.specs.Marks.Mark.{lists}
 use Rattle.vc_image_check.proofs.Once.{Taking}
 use Rattle.vc_image_check.proofs.dicts.taking.take_blocks.Given as goal
 

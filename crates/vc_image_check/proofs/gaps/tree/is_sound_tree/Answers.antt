@@ -2,7 +2,7 @@ use Rattle.vc_base.proofs.Common.{ℕ, List, sym, subst, true≢false}
 use Rattle.vc_extent.specs.Tiling.{tiling}
 use Rattle.vc_gaps.specs.GapTree.{HasGapTree}
 use Rattle.vc_image_check.specs.Bytes.Contents.{contents_of}
-use Rattle.vc_image_check.specs.Marking.Mark.{lists}
+use Rattle.vc_image_check.specs.Marks.Mark.{lists}
 use Rattle.vc_image_check.specs.Gaps.Known.{known_none}
 use Rattle.vc_image_check.proofs.Sorted.{TakenOut, exact-where, marks-left}
 use Rattle.vc_image_check.proofs.gaps.tree.is_sound_tree.Goals as goal

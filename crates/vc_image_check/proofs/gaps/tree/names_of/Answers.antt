@@ -5,7 +5,7 @@ use Rattle.vc_gaps.specs.GapTree.{AscendFrom, HasGapTree}
 use Rattle.vc_gaps.proofs.GapTrees.{tree-distinct}
 use Rattle.vc_image_check.specs.Bytes.Contents.{contents_of}
 use Rattle.vc_image_check.specs.Walks.Spelled.{IsSpelled}
-use Rattle.vc_image_check.specs.Marking.Mark.{lists}
+use Rattle.vc_image_check.specs.Marks.Mark.{lists}
 use Rattle.vc_image_check.specs.Gaps.Known.{known_fits, known_none}
 use Rattle.vc_image_check.proofs.Lying.{root-is}
 use Rattle.vc_image_check.proofs.Sorted.{spelled-free, spelled-tree, tree-few, tree-same, tree-spelled}

@@ -1,5 +1,5 @@
 use Rattle.vc_base.proofs.Common.{◌≡◌, ◌==◌, if◌then◌else◌, sym, refl, ap, ◌∙◌, inl, inr, cases_eq, eq-eqb, ne_eqb}
-use Rattle.vc_image_check.specs.Marking.Mark.{lists, mark_at}
+use Rattle.vc_image_check.specs.Marks.Mark.{lists, mark_at}
 use Rattle.vc_image_check.proofs.gaps.tree.take_one.Goals as goal
 
 pub returns-then-get-eq0-clause-marks : goal.returns-then-get-eq0-clause-marks

@@ -1,5 +1,5 @@
 use Rattle.vc_base.proofs.Common.{◌≡◌, if◌then◌else◌, get_or, contains, refl, ◌∙◌, subst, arith, get_or_default, take_all}
-use Rattle.vc_image_check.specs.Marking.Mark.{lists, mark_at}
+use Rattle.vc_image_check.specs.Marks.Mark.{lists, mark_at}
 use Rattle.vc_image_check.proofs.Sorted.{taken-set}
 use Rattle.vc_image_check.proofs.gaps.tree.take_out.Goals as goal
 

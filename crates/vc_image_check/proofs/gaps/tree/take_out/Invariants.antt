@@ -1,5 +1,5 @@
 use Rattle.vc_base.proofs.Common.{◌≡◌, take}
-use Rattle.vc_image_check.specs.Marking.Mark.{lists}
+use Rattle.vc_image_check.specs.Marks.Mark.{lists}
 use Rattle.vc_image_check.proofs.Sorted.{TakenOut}
 use Rattle.vc_image_check.proofs.gaps.tree.take_out.Given as goal
 

@@ -2,7 +2,7 @@ use Rattle.vc_base.proofs.Common.{◌≡◌, ◌-◌, ◌≤◌, ap, sym, subst,
 use Rattle.vc_seg.specs.Field.{field_at}
 use Rattle.vc_extent.specs.Tiling.{extent_of, tiling}
 use Rattle.vc_image_check.specs.Bytes.Contents.{contents_of}
-use Rattle.vc_image_check.specs.Marking.Mark.{lists}
+use Rattle.vc_image_check.specs.Marks.Mark.{lists}
 use Rattle.vc_image_check.proofs.Lying.{lies}
 use Rattle.vc_image_check.proofs.gaps.free_extents.FreeExtents.span.Goals as goal
 

@@ -3,10 +3,10 @@ use Rattle.vc_extent.specs.Tiles.{IsTiled}
 use Rattle.vc_seg.specs.Segment.{Bytes}
 use Rattle.vc_image_check.specs.Bytes.Contents.{pair_at, segments_in}
 use Rattle.vc_image_check.proofs.Segs.{legal, segment, segment-is, segs-count, segs-each, size-is, there, within}
-use Rattle.vc_image_check.specs.Marking.Mark.{AreMarks, lists}
+use Rattle.vc_image_check.specs.Marks.Mark.{AreMarks, lists}
 use Rattle.vc_image_check.proofs.Filling.{filled-end, filled-next, filled-start, lists-set, row-items}
-use Rattle.vc_image_check.proofs.marking.marks.Marks.of.Goals as goal
-use Rattle.vc_image_check.proofs.marking.marks.Marks.of.Goals.{After-word-size}
+use Rattle.vc_image_check.proofs.marks.marks.Marks.of.Goals as goal
+use Rattle.vc_image_check.proofs.marks.marks.Marks.of.Goals.{After-word-size}
 
 -- there is one more segment, and its bytes lie in the image
 below : (c : After-word-size) → c.loop-i.i < segments_in c.args.image.now

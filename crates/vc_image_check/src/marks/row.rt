@@ -1,6 +1,6 @@
 ghost use Rattle.std.specs.Prelude.{◌≡◌, ◌+◌, ◌≤◌, ◌==◌, if◌then◌else◌, IfOk, length};
 ghost use Rattle.vc_extent.specs.Tiles.{IsTiled};
-ghost use Rattle.vc_image_check.specs.Marking.Mark.{AreMarks};
+ghost use Rattle.vc_image_check.specs.Marks.Mark.{AreMarks};
 
 use crate::bytes::word;
 use std::alloc::Global;

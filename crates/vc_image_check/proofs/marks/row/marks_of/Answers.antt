@@ -1,7 +1,7 @@
 use Rattle.vc_base.proofs.Common.{◌≡◌, ◌+◌, ◌/◌, ◌==◌, if◌then◌else◌, length, get_or, replicate, slice_set, sym, refl, ap, ◌∙◌, subst, arith, length-replicate}
 use Rattle.vc_seg.specs.Field.{field_at}
 use Rattle.vc_image_check.proofs.Marking.{Marking, get-zeros, here, marking-end, marking-next, marking-start}
-use Rattle.vc_image_check.proofs.marking.row.marks_of.Goals as goal
+use Rattle.vc_image_check.proofs.marks.row.marks_of.Goals as goal
 
 pub loop-at-init : goal.loop-at-init
 loop-at-init c =

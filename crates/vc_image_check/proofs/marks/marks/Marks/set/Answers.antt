@@ -1,7 +1,7 @@
 use Rattle.vc_base.proofs.Common.{◌≡◌, ◌/◌, ◌%◌, ◌==◌, if◌then◌else◌, set, sym, ap, ◌∙◌, subst}
-use Rattle.vc_image_check.specs.Marking.Mark.{lists, mark_at}
+use Rattle.vc_image_check.specs.Marks.Mark.{lists, mark_at}
 use Rattle.vc_image_check.proofs.Filling.{lists-set, marked-set, row-of, row-there}
-use Rattle.vc_image_check.proofs.marking.marks.Marks.set.Goals as goal
+use Rattle.vc_image_check.proofs.marks.marks.Marks.set.Goals as goal
 
 pub returns-clause-marks : goal.returns-clause-marks
 returns-clause-marks c = λ b.

@@ -1,7 +1,7 @@
 use Rattle.vc_base.proofs.Common.{[], get_or, sym, subst, arith, below_more}
-use Rattle.vc_image_check.specs.Marking.Mark.{HasMarkIn, lists}
+use Rattle.vc_image_check.specs.Marks.Mark.{HasMarkIn, lists}
 use Rattle.vc_image_check.proofs.Filling.{has-mark, no-mark, row-of, row-items}
-use Rattle.vc_image_check.proofs.marking.marks.Marks.has.Goals as goal
+use Rattle.vc_image_check.proofs.marks.marks.Marks.has.Goals as goal
 
 pub returns-then-has_in-clause-some : goal.returns-then-has_in-clause-some
 returns-then-has_in-clause-some c = λ _.

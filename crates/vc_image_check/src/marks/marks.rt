@@ -2,10 +2,10 @@ ghost use Rattle.std.specs.Prelude.{◌≡◌, ◌≢◌, ℕ, ◌+◌, ◌≤�
 ghost use Rattle.vc_extent.specs.Tiles.{IsTiled};
 ghost use Rattle.vc_image_check.specs.Bytes.Contents.{contents_of};
 ghost use Rattle.vc_image_check.specs.Bytes.Header.{IsHeader};
-ghost use Rattle.vc_image_check.specs.Marking.Mark.{IsMarked, lists, mark_at};
+ghost use Rattle.vc_image_check.specs.Marks.Mark.{IsMarked, lists, mark_at};
 
 use crate::bytes::word;
-use crate::marking::row::marks_of;
+use crate::marks::row::marks_of;
 use std::alloc::Global;
 use vc_base::OutOfMemory;
 

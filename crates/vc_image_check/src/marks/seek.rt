@@ -1,7 +1,7 @@
 ghost use Rattle.std.specs.Prelude.{◌≡◌, ◌≢◌, ℕ, ◌≤◌, true, false};
-ghost use Rattle.vc_image_check.specs.Marking.Mark.{HasMark, HasMarkIn, lists, mark_at};
+ghost use Rattle.vc_image_check.specs.Marks.Mark.{HasMark, HasMarkIn, lists, mark_at};
 
-use crate::marking::Marks;
+use crate::marks::Marks;
 
 // Whether a mark stands among those that a segment can have.
 fn has_in(row: &Vec<u8>, mark: u8) -> bool
