@@ -238,7 +238,7 @@ if has rsvg-convert && has python3; then
             />(rounding|what)/ { block += bytes($0) / 4 }
             />heads/ { head = bytes($0) }
             />guards/ { guard = bytes($0) }
-            function near(pixels, bytes, pieces,    due) { due = bytes * 900 / 4096 * 16; return pixels >= due - pieces * 32 && pixels <= due + 16 }
+            function near(pixels, all, pieces,    due) { due = all * 900 / 4096 * 16; return pixels >= due - pieces * 32 && pixels <= due + 16 }
             END {
                 split(counts, seen, " ")
                 if (near(seen[1], block, 9) && near(seen[2], head, 9) && near(seen[3], guard, 18)) exit 0
