@@ -123,7 +123,7 @@ sample() {
         cat "$here/crates/$1/stdin" "$dir/replies"
         return
     fi
-    awk -v replies="$dir/replies" '
+    LC_ALL=C awk -v replies="$dir/replies" '
         /^[ \t]*(#|$)/ { print; next }
         { reply = ""; getline reply < replies; printf "%-36s  %s\n", $0, reply }' "$here/crates/$1/stdin"
 }
