@@ -3,14 +3,14 @@
 # file *.words beside it, if there is one, shows each image *.image with vmimage, and compares what is written with the
 # file *.replies; and saves what each script *.save leaves with vmimage, and compares that with the image *.image:
 #   examples/run.sh [FOLDER]
-# The programs are those of bin/ where no folder is named.
+# The programs are those of bin/ where no folder is named. The last line is 'N passed, M failed, 0 skipped'.
 set -u
 here=$(cd "$(dirname "$0")" && pwd) || exit 1
 programs=${1:-$here/../bin}
 for program in vmreplay dtrun vmcompare vmimage; do
     if [ ! -x "$programs/$program" ]; then
         echo "examples/run.sh: no program $programs/$program: run make first" >&2
-        echo '0 passed, 1 failed'
+        echo '0 passed, 1 failed, 0 skipped'
         exit 1
     fi
 done
@@ -59,5 +59,5 @@ for script in "$here"/*.save; do
         failed=$((failed + 1))
     fi
 done
-echo "$passed passed, $failed failed"
+echo "$passed passed, $failed failed, 0 skipped"
 test "$failed" -eq 0 && test "$passed" -gt 0

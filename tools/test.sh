@@ -2,16 +2,19 @@
 # Tries the built programs on the runs of tools/tests/runs, and the tools beside this, and says what it checked:
 #   tools/test.sh [FOLDER [NAME..]]
 # The programs are those of bin/ where no folder is named. What is tried stands in tools/tests/NAME.sh, a file for each tool;
-# all of them are read where none is named. It needs awk, and cc for what is recorded; c++, xmllint, mandoc, rsvg-convert,
-# python3 and Chromium are used where they are there. What is left out is said, and the last line is 'N passed, M failed'.
+# all of them are read where none is named. It needs awk; what else it uses, tools/needs.sh installs. What is left out for want
+# of that is said, and the last line is 'N passed, M failed, K skipped'.
 set -u
+# What commands print is read here in the words, the order and the numbers of this locale.
+LC_ALL=C
+export LC_ALL
 here=$(cd "$(dirname "$0")" && pwd) || exit 1
 programs=${1:-$here/../bin}
 [ $# -eq 0 ] || shift
 for program in vmreplay dtrun vmcompare vmimage; do
     if [ ! -x "$programs/$program" ]; then
         echo "tools/test.sh: no program $programs/$program: run make first" >&2
-        echo '0 passed, 1 failed'
+        echo '0 passed, 1 failed, 0 skipped'
         exit 1
     fi
 done
@@ -22,6 +25,7 @@ trap 'rm -rf "$dir"' EXIT
 cd "$dir" || exit 1
 passed=0
 failed=0
+skipped=0
 
 # check WHAT COMMAND..: the command's status decides.
 check() {
@@ -38,6 +42,7 @@ check() {
 
 skipped() {
     echo "skipped: $1"
+    skipped=$((skipped + 1))
 }
 
 has() {
@@ -120,5 +125,5 @@ for cases in $names; do
     . "$here/tests/$cases.sh"
 done
 
-echo "$passed passed, $failed failed"
+echo "$passed passed, $failed failed, $skipped skipped"
 test "$failed" -eq 0

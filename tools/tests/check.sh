@@ -67,6 +67,8 @@ finds "a long line" "# $(printf '%5000s' x)\n" 'checked.vm:1:4097: line too long
 if [ -x "$here/../bin/dtrun" ]; then
     finds "a command on a dictionary" 'dict d set r 1\n' 'checked.vm:1:1: unknown command' '    dict d set r 1' '    ^~~~' \
         'hint: a command on a dictionary, with vmreplay: dtrun'
+else
+    skipped "check: a command on a dictionary: there is no bin/dtrun"
 fi
 
 # Each word of a command, made a bad one in turn, is the word that is found.

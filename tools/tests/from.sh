@@ -149,6 +149,8 @@ done
 if [ -c /dev/full ]; then
     "$from" ltrace from.some > /dev/full 2> from.said
     check "a script that can't be written" same "$?" 2
+else
+    skipped "a script that can't be written: there is no /dev/full"
 fi
 
 # What the two write on this machine.
@@ -174,4 +176,6 @@ if has cc; then
     else
         skipped "what ltrace writes here: there is no ltrace, or it can't trace"
     fi
+else
+    skipped "what mtrace and ltrace write here: there is no cc"
 fi
