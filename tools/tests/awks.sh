@@ -51,11 +51,12 @@ tell_all() {
     tell ways.nodes "$here/ways" -p "$compare" -n 7 "$here/../examples/nodes.trace"
     for script in sites bad long; do tell "check.$script" "$here/check" -p "$program" "awks/$script.vm"; done
     for form in mtrace ltrace; do tell "from.$form" "$here/from" "$form" "awks/$form.calls"; done
+    ! has cc || { compiled live && tell record.refused "$here/record" -p "$program" -d 19 live.vm -- ./live 1100 10; }
 }
 compare=$programs/vmcompare
 tell_all here
 
-# Under others, of which an awk of this name may be one.
+# Under each that is there.
 commas=de_DE.UTF-8
 if ! locale -a 2> /dev/null | grep -qi '^de_DE\.utf-\{0,1\}8$'; then
     skipped "the tools where numbers have decimal commas: there is no locale $commas"
