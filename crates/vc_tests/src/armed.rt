@@ -1,12 +1,11 @@
-use crate::asked::{Streams, run_over};
-use crate::given::put;
+use crate::given::{Streams, ample, kinds, open_streams, put, words_of};
 use crate::watched::seen;
 use std::alloc::{AllocError, Global};
 use std::process::Abort;
 use std::test::Fail;
 use vc_script::Tool;
 use vc_seg::{ReliefDisc, SegDisc, Shelf};
-use vc_session::Status;
+use vc_session::{Status, dtrun, replay};
 
 // What is run over two disciplines that their caller armed and asked for an exception; how it ends; and of each of them
 // whether it is armed behind the run, and whether it refused.
@@ -86,13 +85,30 @@ fn armed_disc() -> ReliefDisc {
     disc
 }
 
+// Runs a tool behind these words over a shelf.
+fn run_over(
+    alloc: Global,
+    tool: Tool,
+    line: &str,
+    shelf: &mut Shelf,
+    streams: &mut Streams,
+) -> Result<Status, AllocError> {
+    let words = words_of(alloc, line)?;
+    let mut kinds = kinds(alloc)?;
+    let Streams { source, out, err } = streams;
+    Ok(match tool {
+        Tool::Vmreplay => replay(alloc, words.as_slice(), shelf, source, out, err),
+        Tool::Dtrun => dtrun(alloc, words.as_slice(), shelf, &mut kinds, source, out, err),
+    })
+}
+
 // No exception was asked for beside the caller's own.
 fn is_armed(rt: &impl Abort, alloc: Global, row: &Armed) -> Result<(), AllocError> {
     let mut shelf = Shelf::new(alloc);
     for _ in 0..2 {
         put(rt, &mut shelf, Box::new(alloc, armed_disc())?);
     }
-    let mut streams = Streams::new(alloc, row.script, &[], 100_000)?;
+    let mut streams = open_streams(rt, alloc, ample(row.script, 4096))?;
     let status = run_over(alloc, row.tool, row.line, &mut shelf, &mut streams)?;
     assert!(rt; status == row.status);
     for (place, (armed, refused)) in row.places.iter().enumerate() {

@@ -1,4 +1,4 @@
-use crate::same::same_bytes;
+use crate::given::{same_bytes, words_of};
 use std::io::{ErrorKind, Read, Write};
 use std::process::Abort;
 use std::test::Fail;
@@ -6,6 +6,7 @@ use vc_base::{
     Addr, Name, NeverSink, NeverSource, Sink, Source, StdSink, StdSource, Steps, one_more,
 };
 use vc_seg::Segment;
+use vc_words::{Words, read_words};
 
 struct Mark;
 
@@ -145,4 +146,121 @@ fn failing_streams(rt: HostRuntime) {
         reads_once(&rt, kind);
         writes_once(&rt, kind);
     }
+}
+
+// Words with a blank between each two, and what they ask for; none where they are refused.
+struct Row {
+    line: &'static str,
+    read: Option<Words>,
+}
+
+const ROWS: &[Row] = &[
+    Row {
+        line: "",
+        read: Some(Words {
+            quiet: false,
+            stat: false,
+            generate: None,
+            seed: 0,
+        }),
+    },
+    Row {
+        line: "--quiet",
+        read: Some(Words {
+            quiet: true,
+            stat: false,
+            generate: None,
+            seed: 0,
+        }),
+    },
+    Row {
+        line: "--stat --quiet",
+        read: Some(Words {
+            quiet: true,
+            stat: true,
+            generate: None,
+            seed: 0,
+        }),
+    },
+    Row {
+        line: "--gen 1",
+        read: Some(Words {
+            quiet: false,
+            stat: false,
+            generate: Some(1),
+            seed: 0,
+        }),
+    },
+    Row {
+        line: "--gen=1000000",
+        read: Some(Words {
+            quiet: false,
+            stat: false,
+            generate: Some(1_000_000),
+            seed: 0,
+        }),
+    },
+    Row {
+        line: "--seed 4294967295 --gen 2",
+        read: Some(Words {
+            quiet: false,
+            stat: false,
+            generate: Some(2),
+            seed: 4_294_967_295,
+        }),
+    },
+    Row {
+        line: "--seed=7 --quiet --gen 0000000005 --stat",
+        read: Some(Words {
+            quiet: true,
+            stat: true,
+            generate: Some(5),
+            seed: 7,
+        }),
+    },
+    // A seed is judged also without a count.
+    Row {
+        line: "--seed 0",
+        read: Some(Words {
+            quiet: false,
+            stat: false,
+            generate: None,
+            seed: 0,
+        }),
+    },
+    Row {
+        line: "--seed 0000000009",
+        read: Some(Words {
+            quiet: false,
+            stat: false,
+            generate: None,
+            seed: 9,
+        }),
+    },
+    Row {
+        line: "--stat --",
+        read: Some(Words {
+            quiet: false,
+            stat: true,
+            generate: None,
+            seed: 0,
+        }),
+    },
+    Row {
+        line: "--frob",
+        read: None,
+    },
+];
+
+#[test]
+fn words(rt: HostRuntime) -> Result<(), Fail> {
+    let alloc = rt.alloc();
+    for row in ROWS {
+        let words = words_of(alloc, row.line)?;
+        match read_words(alloc, words.as_slice()) {
+            Ok(read) => assert!(&rt; read == row.read),
+            Err(_) => assert!(&rt; false),
+        }
+    }
+    Ok(())
 }

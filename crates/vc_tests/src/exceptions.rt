@@ -1,5 +1,4 @@
-use crate::given::{kinds, put, run_to};
-use crate::same::same_bytes;
+use crate::given::{kinds, put, run_to, same_bytes};
 use crate::watched::{WatchedDisc, no_lends, seen};
 use std::alloc::{AllocError, Global};
 use std::process::Abort;

@@ -1,8 +1,7 @@
 use std::alloc::{AllocError, Global};
 use std::process::Abort;
 use std::test::Fail;
-use vc_base::Name;
-use vc_script::{Bytes, Command, LineAnswer, LineFault, Tool, read_line};
+use vc_script::{Command, LineAnswer, LineFault, Tool, read_line};
 
 // The first words of the commands of both tools, and words that may stand behind each.
 const OF_BOTH: &[(&str, &str)] = &[
@@ -211,45 +210,6 @@ fn first_words(rt: HostRuntime) -> Result<(), Fail> {
                 knows_only_it(&rt, rt.alloc(), tool, word.as_bytes(), others)?;
             }
         }
-    }
-    Ok(())
-}
-
-// Words for an object, and the bytes that they spell.
-const OBJECTS: &[(&str, &[u8])] = &[
-    ("key1234", b"key1234"),
-    ("%6b%65%79", b"key"),
-    ("%25", b"%"),
-    ("%25%32%35", b"%25"),
-    ("a%00b%Ffc", b"a\0b\xffc"),
-    ("%2525", b"%25"),
-    (
-        "%41%42%43%44%45%46%47%48%49%4a%4b%4c%4d%4e%4f%50%51",
-        b"ABCDEFGHIJKLMNOPQ",
-    ),
-    ("#", b"#"),
-];
-
-#[test]
-fn objects(rt: HostRuntime) -> Result<(), Fail> {
-    let alloc = rt.alloc();
-    for (word, bytes) in OBJECTS {
-        let mut line = Vec::from_slice(alloc, b"insert d ")?;
-        line.extend_from_slice(word.as_bytes())?;
-        let object = Bytes::from_vec(Vec::from_slice(alloc, bytes)?);
-        match read_line(alloc, Tool::Dtrun, false, line.as_slice())? {
-            LineAnswer::Is(command) => {
-                assert!(rt;
-                    command == Command::Insert(Name::new(b"d"), object),
-                    "at {word}"
-                );
-            }
-            _ => assert!(rt; false, "at {word}"),
-        }
-    }
-    match read_line(alloc, Tool::Dtrun, false, b"delete d")? {
-        LineAnswer::Is(command) => assert!(rt; command == Command::Delete(Name::new(b"d"), None)),
-        _ => assert!(rt; false),
     }
     Ok(())
 }

@@ -3,8 +3,7 @@ use std::alloc::{AllocError, Global};
 use std::process::Abort;
 use vc_base::{MemSink, MemSource, Sink, Source};
 use vc_dtdisc::{BuiltIn, DictDisc, Shape};
-use vc_script::Tool;
-use vc_seg::{BudgetDisc, FuseDisc, HeapDisc, SegDisc, Shelf};
+use vc_seg::{BudgetDisc, HeapDisc, SegDisc, Shelf};
 use vc_session::{Status, dtrun, replay};
 
 // What a script is given: it comes in pieces, some reads and writes fail, by their numbers from 1 on, and there's room
@@ -78,10 +77,10 @@ pub(crate) fn front<'a>(rt: &impl Abort, bytes: &'a [u8], len: usize) -> &'a [u8
 
 // Where a script is read from, and where its replies and the line of what is wrong go.
 #[derive(Drop)]
-struct Streams {
-    source: MemSource,
-    out: MemSink,
-    err: MemSink,
+pub(crate) struct Streams {
+    pub source: MemSource,
+    pub out: MemSink,
+    pub err: MemSink,
 }
 
 fn source(rt: &impl Abort, alloc: Global, given: Given) -> Result<MemSource, AllocError> {
@@ -107,7 +106,11 @@ fn sink(
     }
 }
 
-fn open_streams(rt: &impl Abort, alloc: Global, given: Given) -> Result<Streams, AllocError> {
+pub(crate) fn open_streams(
+    rt: &impl Abort,
+    alloc: Global,
+    given: Given,
+) -> Result<Streams, AllocError> {
     Ok(Streams {
         source: source(rt, alloc, given)?,
         out: sink(rt, alloc, given.room, given.piece, given.writes)?,
@@ -121,39 +124,7 @@ fn is_run(rt: &impl Abort, status: Status, out: &[u8], err: &[u8], expected: Exp
     assert!(rt; err == expected.err);
 }
 
-// Runs a tool on the script of what is given behind these words of a command line, and looks at what comes out.
-pub(crate) fn run_tool(
-    rt: &impl Abort,
-    alloc: Global,
-    tool: Tool,
-    words: &[String],
-    shelf: &mut Shelf,
-    given: Given,
-    expected: Expected,
-) -> Result<(), AllocError> {
-    let mut kinds = kinds(alloc)?;
-    let Streams {
-        mut source,
-        mut out,
-        mut err,
-    } = open_streams(rt, alloc, given)?;
-    let status = match tool {
-        Tool::Vmreplay => replay(alloc, words, shelf, &mut source, &mut out, &mut err),
-        Tool::Dtrun => dtrun(
-            alloc,
-            words,
-            shelf,
-            &mut kinds,
-            &mut source,
-            &mut out,
-            &mut err,
-        ),
-    };
-    is_run(rt, status, out.bytes(), err.bytes(), expected);
-    Ok(())
-}
-
-// The same of vmreplay.
+// Runs a script of vmreplay behind these words of a command line, and looks at what comes out.
 pub(crate) fn run(
     rt: &impl Abort,
     alloc: Global,
@@ -162,7 +133,29 @@ pub(crate) fn run(
     given: Given,
     expected: Expected,
 ) -> Result<(), AllocError> {
-    run_tool(rt, alloc, Tool::Vmreplay, words, shelf, given, expected)
+    let Streams {
+        mut source,
+        mut out,
+        mut err,
+    } = open_streams(rt, alloc, given)?;
+    let status = replay(alloc, words, shelf, &mut source, &mut out, &mut err);
+    is_run(rt, status, out.bytes(), err.bytes(), expected);
+    Ok(())
+}
+
+// The words of a line.
+pub(crate) fn words_of(alloc: Global, line: &str) -> Result<Vec<String>, AllocError> {
+    let mut words = Vec::new(alloc);
+    for word in line.split(' ') {
+        if !word.is_empty() {
+            words.push(String::from_str(alloc, word)?)?;
+        }
+    }
+    Ok(words)
+}
+
+pub(crate) fn same_bytes(rt: &impl Abort, found: &[u8], expected: &[u8]) {
+    assert!(rt; found == expected);
 }
 
 // One kind of each shape.
@@ -219,18 +212,6 @@ pub(crate) fn run_kinds<D: DictDisc>(
     run_to(rt, alloc, shelf, kinds, script, Status::Ok, b"")
 }
 
-// The same over one kind of each shape, and two disciplines that round to 4,096 bytes and refuse these lends.
-pub(crate) fn run_dicts(
-    rt: &impl Abort,
-    alloc: Global,
-    lends: &[u64],
-    script: &[u8],
-) -> Result<Vec<u8>, AllocError> {
-    let mut shelf = fuses(rt, alloc, lends)?;
-    let mut kinds = kinds(alloc)?;
-    run_kinds(rt, alloc, &mut shelf, &mut kinds, script)
-}
-
 pub(crate) fn put(rt: &impl Abort, shelf: &mut Shelf, disc: Box<dyn SegDisc>) {
     assert!(rt; shelf.len() < u32::MAX);
     assert!(rt; shelf.put(disc).is_ok());
@@ -258,32 +239,6 @@ pub(crate) fn budgets(
     Ok(shelf)
 }
 
-// Two disciplines that round to 4,096 bytes and refuse these lends.
-fn fuses(rt: &impl Abort, alloc: Global, lends: &[u64]) -> Result<Shelf, AllocError> {
-    let mut shelf = Shelf::new(alloc);
-    for _ in 0..2 {
-        let disc = FuseDisc::new(4096, lends.to_vec(alloc)?);
-        put(rt, &mut shelf, Box::new(alloc, disc)?);
-    }
-    Ok(shelf)
-}
-
-// A script with no failing call, over two disciplines that round to 4,096 bytes and refuse these lends, in pieces of
-// seven bytes and whole.
-pub(crate) fn replies(
-    rt: &impl Abort,
-    alloc: Global,
-    lends: &[u64],
-    script: &[u8],
-    expected: Expected,
-) -> Result<(), AllocError> {
-    for piece in [7, 4096] {
-        let mut shelf = fuses(rt, alloc, lends)?;
-        run(rt, alloc, &[], &mut shelf, ample(script, piece), expected)?;
-    }
-    Ok(())
-}
-
 // A script and the replies to it, as they are put together.
 #[derive(Drop)]
 pub(crate) struct Talk {
@@ -308,10 +263,4 @@ impl Talk {
 
 pub(crate) fn put_number(text: &mut Vec<u8>, number: u32) -> Result<(), AllocError> {
     text.extend_from_slice(Buffer::new().format(number).as_bytes())
-}
-
-// A script and its replies, over disciplines that refuse nothing.
-pub(crate) fn is_said(rt: &impl Abort, alloc: Global, talk: &Talk) -> Result<(), AllocError> {
-    let expected = fine(talk.out.as_slice());
-    replies(rt, alloc, &[], talk.script.as_slice(), expected)
 }

@@ -1,5 +1,4 @@
-use crate::given::{Expected, Given, ample, fine, put, put_number, run};
-use crate::segments::{Filling, filled, guarded, unguarded};
+use crate::given::{Expected, Given, Talk, ample, fine, put, put_number, run};
 use crate::watched::{WatchedDisc, no_lends};
 use std::alloc::{AllocError, Global};
 use std::process::Abort;
@@ -140,6 +139,56 @@ fn order(rt: HostRuntime) -> Result<(), Fail> {
         assert!(rt; found == expected);
     }
     Ok(())
+}
+
+// A method, and a size of which each block takes a segment of 4,096 bytes, at that offset.
+#[derive(Clone, Copy)]
+struct Filling {
+    method: &'static [u8],
+    size: u32,
+    off: u32,
+}
+
+fn unguarded(method: &'static [u8]) -> Filling {
+    Filling {
+        method,
+        size: 4000,
+        off: 32,
+    }
+}
+
+// The same of a method with guards.
+fn guarded(method: &'static [u8]) -> Filling {
+    Filling {
+        method,
+        size: 3900,
+        off: 64,
+    }
+}
+
+// A block takes the segment of its number.
+fn takes_segment(talk: &mut Talk, filling: Filling, number: u32) -> Result<(), AllocError> {
+    talk.say(b"alloc r a", b"a")?;
+    put_number(&mut talk.script, number)?;
+    put_number(&mut talk.out, number)?;
+    talk.say(b" ", b" ")?;
+    put_number(&mut talk.script, filling.size)?;
+    put_number(&mut talk.out, number)?;
+    talk.say(b"\n", b":")?;
+    put_number(&mut talk.out, filling.off)?;
+    talk.say(b"", b"\n")
+}
+
+// A region in which the blocks a1, a2 and so on, before that number, take a segment each.
+fn filled(alloc: Global, filling: Filling, behind: u32) -> Result<Talk, AllocError> {
+    let mut talk = Talk::new(alloc);
+    talk.say(b"open r ", b"r open\n")?;
+    talk.say(filling.method, b"")?;
+    talk.say(b" 1\n", b"")?;
+    for number in 1..behind {
+        takes_segment(&mut talk, filling, number)?;
+    }
+    Ok(talk)
 }
 
 // Which of six blocks are freed, by the numbers in their names; how many segments `compact` then gives back, where

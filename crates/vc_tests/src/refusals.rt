@@ -1,5 +1,4 @@
-use crate::given::{Talk, put, put_number, run_to};
-use crate::same::same_bytes;
+use crate::given::{Talk, put, put_number, run_to, same_bytes};
 use crate::watched::{WatchedDisc, no_lends};
 use std::alloc::{AllocError, Global};
 use std::process::Abort;

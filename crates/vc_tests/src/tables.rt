@@ -1,11 +1,9 @@
-use crate::given::{Talk, kinds, put, put_number, run_kinds};
-use crate::same::same_bytes;
+use crate::given::{Talk, put, put_number, run_kinds, same_bytes};
 use std::alloc::{AllocError, Global};
-use std::process::Abort;
 use std::test::Fail;
 use vc_dict_tests::OneHash;
-use vc_dtdisc::{BuiltIn, DictDisc, Shape};
-use vc_seg::{FuseDisc, Shelf};
+use vc_dtdisc::{BuiltIn, Shape};
+use vc_seg::{HeapDisc, Shelf};
 
 // The numbers of a region of one segment once it holds the objects whose numbers are less than this one, from 1,000 on: a
 // holder of 37 bytes for each, and a table of 8 bytes for each slot.
@@ -68,32 +66,20 @@ fn grown(alloc: Global, method: &[u8]) -> Result<Talk, AllocError> {
     Ok(talk)
 }
 
-// Over a discipline that rounds to 65,536 bytes and refuses nothing.
-fn is_said<D: DictDisc>(
-    rt: &impl Abort,
-    alloc: Global,
-    kinds: &mut Vec<D>,
-    method: &[u8],
-) -> Result<(), AllocError> {
-    let mut shelf = Shelf::new(alloc);
-    let disc = FuseDisc::new(65536, Vec::new(alloc));
-    put(rt, &mut shelf, Box::new(alloc, disc)?);
-    let talk = grown(alloc, method)?;
-    let out = run_kinds(rt, alloc, &mut shelf, kinds, talk.script.as_slice())?;
-    same_bytes(rt, out.as_slice(), talk.out.as_slice());
-    Ok(())
-}
-
+// Where all keys have one hash, over a discipline that rounds to 65,536 bytes and refuses nothing.
 #[test]
 fn tables(rt: HostRuntime) -> Result<(), Fail> {
-    let mut kinds = kinds(rt.alloc())?;
-    let mut one_chain = Vec::new(rt.alloc());
-    one_chain.push(OneHash {
+    let alloc = rt.alloc();
+    let mut kinds = Vec::new(alloc);
+    kinds.push(OneHash {
         inner: BuiltIn::new(Shape::Whole),
     })?;
     for method in [b"set".as_slice(), b"bag"] {
-        is_said(&rt, rt.alloc(), &mut kinds, method)?;
-        is_said(&rt, rt.alloc(), &mut one_chain, method)?;
+        let mut shelf = Shelf::new(alloc);
+        put(&rt, &mut shelf, Box::new(alloc, HeapDisc::new(65536))?);
+        let talk = grown(alloc, method)?;
+        let out = run_kinds(&rt, alloc, &mut shelf, &mut kinds, talk.script.as_slice())?;
+        same_bytes(&rt, out.as_slice(), talk.out.as_slice());
     }
     Ok(())
 }

@@ -1,5 +1,4 @@
-use crate::given::{budgets, run_kinds};
-use crate::same::same_bytes;
+use crate::given::{budgets, run_kinds, same_bytes};
 use crate::watched::{Calls, WatchedKind, no_calls};
 use std::alloc::{AllocError, Global};
 use std::process::Abort;

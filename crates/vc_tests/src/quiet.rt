@@ -1,10 +1,11 @@
-use crate::given::{ample, budgets, ends, front, put_number, run};
-use crate::words::words_of;
+use crate::given::{ample, budgets, ends, front, put_number, run, words_of};
 use std::alloc::{AllocError, Global};
 use std::process::Abort;
 use std::test::Fail;
 use vc_script::{Command, Tool};
 use vc_session::{Status, generate};
+
+const TOO_LARGE: &[u8] = b"open r best 1\nalloc r a 1048576\n";
 
 // What is written of the first thousand commands of seed 42 where no segment is lent: a line for each block that is
 // asked for, and the counts.
@@ -47,5 +48,34 @@ fn generated(rt: HostRuntime) -> Result<(), Fail> {
         run(&rt, alloc, words.as_slice(), &mut shelf, given, expected)?;
     }
     assert!(rt; text.len() == 12_122);
+    Ok(())
+}
+
+// A failed read: nothing stands behind the lines of refused segments. A failed write of what stands there.
+#[test]
+fn summaries(rt: HostRuntime) -> Result<(), Fail> {
+    let alloc = rt.alloc();
+    let words = words_of(alloc, "--quiet --stat")?;
+    for (reads, room, status, out, err) in [
+        (
+            [2].as_slice(),
+            1000,
+            Status::Read,
+            b"2 refused: no segment\n".as_slice(),
+            b"vmreplay: read failed\n".as_slice(),
+        ),
+        (
+            &[],
+            25,
+            Status::Write,
+            b"2 refused: no segment\nlin",
+            b"vmreplay: write failed\n",
+        ),
+    ] {
+        let mut shelf = budgets(&rt, alloc, 1, 1_048_576)?;
+        let given = ample(TOO_LARGE, 4096).failing_reads(reads).with_room(room);
+        let expected = ends(status, out, err);
+        run(&rt, alloc, words.as_slice(), &mut shelf, given, expected)?;
+    }
     Ok(())
 }
