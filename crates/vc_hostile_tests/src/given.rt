@@ -1,4 +1,4 @@
-use itoa::{Buffer, Integer};
+use itoa::Buffer;
 use std::alloc::{AllocError, Global};
 use std::process::Abort;
 use vc_base::{MemSink, MemSource, Source};
@@ -42,7 +42,7 @@ pub(crate) struct Ended {
     pub left: usize,
 }
 
-fn words_of(alloc: Global, words: &[&str]) -> Result<Vec<String>, AllocError> {
+pub(crate) fn words_of(alloc: Global, words: &[&str]) -> Result<Vec<String>, AllocError> {
     let mut owned = Vec::new(alloc);
     for word in words {
         owned.push(String::from_str(alloc, word)?)?;
@@ -50,7 +50,12 @@ fn words_of(alloc: Global, words: &[&str]) -> Result<Vec<String>, AllocError> {
     Ok(owned)
 }
 
-fn sink(rt: &impl Abort, alloc: Global, room: usize, piece: usize) -> Result<MemSink, AllocError> {
+pub(crate) fn sink(
+    rt: &impl Abort,
+    alloc: Global,
+    room: usize,
+    piece: usize,
+) -> Result<MemSink, AllocError> {
     assert!(rt; 1 <= piece);
     match MemSink::new(alloc, room, piece, Vec::new(alloc)) {
         Ok(sink) => Ok(sink),
@@ -79,7 +84,7 @@ fn left_in(source: &mut MemSource, most: usize) -> usize {
 }
 
 // Runs a script over a shelf.
-pub(crate) fn run_over(
+fn run_over(
     rt: &impl Abort,
     alloc: Global,
     shelf: &mut Shelf,
@@ -155,6 +160,6 @@ pub(crate) fn front<'a>(rt: &impl Abort, bytes: &'a [u8], len: usize) -> &'a [u8
     &bytes[..len]
 }
 
-pub(crate) fn put_number(text: &mut Vec<u8>, number: impl Integer) -> Result<(), AllocError> {
+pub(crate) fn put_number(text: &mut Vec<u8>, number: u32) -> Result<(), AllocError> {
     text.extend_from_slice(Buffer::new().format(number).as_bytes())
 }

@@ -1,14 +1,13 @@
-//! Scripts through the top calls where one call of the outside after another fails, over memory.
+//! Scripts through the top calls where one call of the outside after another fails, and over a discipline that makes a
+//! segment longer, refuses by number, and is watched; over memory.
 #![tactic(auto)]
 
 #[cfg(test)]
 mod ahead;
 #[cfg(test)]
-mod damage;
-#[cfg(test)]
 mod given;
 #[cfg(test)]
-mod lends;
+mod growth;
 #[cfg(test)]
 mod reads;
 #[cfg(test)]

@@ -1,6 +1,4 @@
 use crate::given::{BUDGET, Given, ample, ends, is_fine, run};
-use std::alloc::{AllocError, Global};
-use std::process::Abort;
 use std::test::Fail;
 use vc_session::Status;
 
@@ -36,38 +34,5 @@ fn each_read(rt: HostRuntime) -> Result<(), Fail> {
 fn no_read(rt: HostRuntime) -> Result<(), Fail> {
     let ended = run(&rt, rt.alloc(), BUDGET, failing(24))?;
     is_fine(&rt, &ended, b"r open\nr closed 0\n");
-    Ok(())
-}
-
-// A line of so many letters, and behind them.
-fn is_line(
-    rt: &impl Abort,
-    alloc: Global,
-    letters: usize,
-    behind: &[u8],
-    err: &[u8],
-) -> Result<(), AllocError> {
-    let mut script = Vec::from_elem(alloc, b'a', letters)?;
-    script.extend_from_slice(behind)?;
-    let ended = run(rt, alloc, BUDGET, ample(script.as_slice()))?;
-    ends(rt, &ended, Status::Script, b"", err);
-    Ok(())
-}
-
-// A line has at most 4,096 bytes, a CR at its end among them.
-#[test]
-fn lengths(rt: HostRuntime) -> Result<(), Fail> {
-    for (letters, behind, err) in [
-        (
-            4096,
-            b"\n".as_slice(),
-            b"vmreplay: line 1: unknown command\n".as_slice(),
-        ),
-        (4095, b"\r\n", b"vmreplay: line 1: unknown command\n"),
-        (4096, b"\r\n", b"vmreplay: line 1: line too long\n"),
-        (4097, b"\n", b"vmreplay: line 1: line too long\n"),
-    ] {
-        is_line(&rt, rt.alloc(), letters, behind, err)?;
-    }
     Ok(())
 }

@@ -1,6 +1,4 @@
-use crate::given::{Row, is_run};
-use std::alloc::{AllocError, Global};
-use std::process::Abort;
+use crate::growth::given::{Row, is_run};
 use std::test::Fail;
 use vc_session::Status;
 
@@ -180,14 +178,10 @@ const ROWS: &[Row] = &[
     },
 ];
 
-fn are_run(rt: &impl Abort, alloc: Global, rows: &[Row]) -> Result<(), AllocError> {
-    for row in rows {
-        is_run(rt, alloc, row)?;
-    }
-    Ok(())
-}
-
 #[test]
 fn growth(rt: HostRuntime) -> Result<(), Fail> {
-    Ok(are_run(&rt, rt.alloc(), ROWS)?)
+    for row in ROWS {
+        is_run(&rt, rt.alloc(), row)?;
+    }
+    Ok(())
 }

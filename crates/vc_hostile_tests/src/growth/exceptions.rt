@@ -1,4 +1,4 @@
-use crate::given::{Row, is_run_by};
+use crate::growth::given::{Row, is_run_by};
 use std::alloc::{AllocError, Global};
 use std::process::Abort;
 use std::test::Fail;

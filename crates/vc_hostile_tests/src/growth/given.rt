@@ -1,8 +1,9 @@
-use crate::watched::{Seen, WatchedDisc, nothing_seen};
+use crate::given::{put, sink, words_of};
+use crate::growth::watched::{Seen, WatchedDisc, nothing_seen};
 use std::alloc::{AllocError, Global};
 use std::process::Abort;
 use std::rc::Rc;
-use vc_base::{MemSink, MemSource};
+use vc_base::MemSource;
 use vc_dtdisc::{BuiltIn, Shape};
 use vc_seg::{SegDisc, Shelf};
 use vc_session::{Status, dtrun};
@@ -22,18 +23,6 @@ pub(crate) struct Row {
     pub taken: u128,
 }
 
-fn words_of(alloc: Global, words: &[&str]) -> Result<Vec<String>, AllocError> {
-    let mut list = Vec::new(alloc);
-    for word in words {
-        list.push(String::from_str(alloc, word)?)?;
-    }
-    Ok(list)
-}
-
-fn sink(alloc: Global) -> Result<MemSink, AllocError> {
-    MemSink::new(alloc, 100_000, 4096, Vec::new(alloc)).map_err(|_| AllocError)
-}
-
 fn shelf_of(
     rt: &impl Abort,
     alloc: Global,
@@ -48,8 +37,7 @@ fn shelf_of(
         seen,
     )?;
     let mut shelf = Shelf::new(alloc);
-    assert!(rt; shelf.len() < u32::MAX);
-    assert!(rt; shelf.put(Box::new(alloc, disc)?).is_ok());
+    put(rt, &mut shelf, Box::new(alloc, disc)?);
     Ok(shelf)
 }
 
@@ -67,8 +55,8 @@ pub(crate) fn is_run_by(
     kinds.push(BuiltIn::new(Shape::Whole))?;
     let words = words_of(alloc, row.words)?;
     let mut source = MemSource::new(row.script.to_vec(alloc)?, 4096, Vec::new(alloc));
-    let mut out = sink(alloc)?;
-    let mut err = sink(alloc)?;
+    let mut out = sink(rt, alloc, 100_000, 4096)?;
+    let mut err = sink(rt, alloc, 100, 4096)?;
     let status = dtrun(
         alloc,
         words.as_slice(),

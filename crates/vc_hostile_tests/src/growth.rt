@@ -1,0 +1,4 @@
+mod exceptions;
+mod given;
+mod rows;
+mod watched;
