@@ -1,4 +1,4 @@
-use crate::given::{BUDGET, Given, ample, ends, is_fine, run};
+use crate::given::{BUDGET, Given, ample, ends, run};
 use std::test::Fail;
 use vc_session::Status;
 
@@ -12,27 +12,22 @@ fn failing(read: u64) -> Given<'static> {
     }
 }
 
+const READ_FAILED: &[u8] = b"vmreplay: read failed\n";
+
 // The script comes in 22 pieces of one byte, and its end is the read behind them. A read that fails leaves the replies
-// of the lines that were wholly read.
+// of the lines that were wholly read. No read comes behind the end.
 #[test]
 fn each_read(rt: HostRuntime) -> Result<(), Fail> {
-    for (first, behind, out) in [
-        (1, 15, b"".as_slice()),
-        (15, 23, b"r open\n"),
-        (23, 24, b"r open\nr closed 0\n"),
+    for (first, behind, status, out, err) in [
+        (1, 15, Status::Read, b"".as_slice(), READ_FAILED),
+        (15, 23, Status::Read, b"r open\n", READ_FAILED),
+        (23, 24, Status::Read, b"r open\nr closed 0\n", READ_FAILED),
+        (24, 25, Status::Ok, b"r open\nr closed 0\n", b""),
     ] {
         for read in first..behind {
             let ended = run(&rt, rt.alloc(), BUDGET, failing(read))?;
-            ends(&rt, &ended, Status::Read, out, b"vmreplay: read failed\n");
+            ends(&rt, &ended, status, out, err);
         }
     }
-    Ok(())
-}
-
-// No read comes behind the end.
-#[test]
-fn no_read(rt: HostRuntime) -> Result<(), Fail> {
-    let ended = run(&rt, rt.alloc(), BUDGET, failing(24))?;
-    is_fine(&rt, &ended, b"r open\nr closed 0\n");
     Ok(())
 }
