@@ -13,11 +13,11 @@ ghost use Rattle.vc_session.specs.Arming.{RunsArming};
 ghost use Rattle.vc_steps.specs.Told.{rules_in};
 
 use crate::command::run_answer;
+use crate::scratch::Scratch;
 use std::alloc::Global;
 use vc_base::{OutOfMemory, ReadFailed, Sink, Source, WriteFailed, write_all};
-use vc_counts::Counts;
 use vc_dtdisc::DictDisc;
-use vc_script::{Cut, LineAnswer, LineCutter, LineFault, Reply, Tool, read_into};
+use vc_script::{Cut, LineAnswer, LineCutter, LineFault, Tool, read_into};
 use vc_seg::{BoxedDisc, SegDisc, Shelf};
 use vc_steps::Session;
 
@@ -76,25 +76,22 @@ fn run_line<D: DictDisc>(
     kinds: &mut Vec<D>,
     n: u32,
     line: &[u8],
-    counts: &mut Counts,
-    asked: &mut LineAnswer,
-    reply: &mut Reply,
-    replies: &mut Vec<u8>,
+    scratch: &mut Scratch,
 ) -> Result<Option<LineFault>, OutOfMemory>
     requires session { IsSessionOver state D.rules shelf.old session.old kinds.old.items }
     requires unarmed { n ≡ 1 → session.old.is_armed ≡ false }
-    requires counts { IsTrue quiet → CanCount counts.old (live_bytes
+    requires counts { IsTrue quiet → CanCount scratch.old.counts (live_bytes
         (state_over state (rules_in D.rules kinds.old.items) shelf.old session.old)) n }
     ensures runs { RunsArming state D.rules D.gone shelf.old session.old kinds.old.items
         shelf.new session.new kinds.new.items
-        (λ now next. CountsOn quiet result counts.new next n (LineRan quiet
-        (over_sink now (Some replies.old.items)) (over_sink next (Some replies.new.items))
-        counts.old counts.new n (answer tool (n == 1) line.now))) }
-    ensures same { OnErr result (replies.new.items ≡ replies.old.items) }
+        (λ now next. CountsOn quiet result scratch.new.counts next n (LineRan quiet
+        (over_sink now (Some scratch.old.replies.items)) (over_sink next (Some scratch.new.replies.items))
+        scratch.old.counts scratch.new.counts n (answer tool (n == 1) line.now))) }
+    ensures same { OnErr result (scratch.new.replies.items ≡ scratch.old.replies.items) }
     ensures armed { OnErr result (session.new.is_armed ≡ session.old.is_armed) }
 {
-    match read_into(alloc, tool, n == 1, line, asked) {
-        Ok(()) => match asked {
+    match read_into(alloc, tool, n == 1, line, &mut scratch.asked) {
+        Ok(()) => match &mut scratch.asked {
             LineAnswer::Blank => Ok(None),
             LineAnswer::Version(version) => {
                 session.set_version(*version);
@@ -103,7 +100,15 @@ fn run_line<D: DictDisc>(
             LineAnswer::Bad(fault) => Ok(Some(*fault)),
             LineAnswer::Is(command) => {
                 run_answer(
-                    quiet, session, shelf, kinds, n, command, counts, reply, replies,
+                    quiet,
+                    session,
+                    shelf,
+                    kinds,
+                    n,
+                    command,
+                    &mut scratch.counts,
+                    &mut scratch.reply,
+                    &mut scratch.replies,
                 )?;
                 Ok(None)
             }
@@ -123,21 +128,18 @@ fn run_piece<D: DictDisc>(
     kinds: &mut Vec<D>,
     cutter: &mut LineCutter,
     piece: &[u8],
-    counts: &mut Counts,
-    asked: &mut LineAnswer,
-    reply: &mut Reply,
-    replies: &mut Vec<u8>,
+    scratch: &mut Scratch,
 ) -> Result<Option<(u32, LineFault)>, OutOfMemory>
     requires session { IsSessionOver state D.rules shelf.old session.old kinds.old.items }
-    requires goes_on { CanGoOn quiet counts.old
+    requires goes_on { CanGoOn quiet scratch.old.counts
         (state_over state (rules_in D.rules kinds.old.items) shelf.old session.old)
         session.old cutter.old }
-    requires none { replies.old.items ≡ [] }
+    requires none { scratch.old.replies.items ≡ [] }
     ensures runs { RunsArming state D.rules D.gone shelf.old session.old kinds.old.items
         shelf.new session.new kinds.new.items
         (λ now next. RunsPiece tool quiet result
-        (over_sink now (Some replies.old.items)) (over_sink next (Some replies.new.items))
-        counts.old counts.new replies.new.items cutter.old cutter.new piece.now) }
+        (over_sink now (Some scratch.old.replies.items)) (over_sink next (Some scratch.new.replies.items))
+        scratch.old.counts scratch.new.counts scratch.new.replies.items cutter.old cutter.new piece.now) }
     ensures unarmed { result ≡ Ok None → cutter.new.count ≡ 0 → session.new.is_armed ≡ false }
 {
     let mut rest = piece;
@@ -157,10 +159,7 @@ fn run_piece<D: DictDisc>(
                     kinds,
                     cutter.number(),
                     cutter.line(),
-                    counts,
-                    asked,
-                    reply,
-                    replies,
+                    scratch,
                 )? {
                     Some(fault) => return Ok(Some((cutter.number(), fault))),
                     None => {}
@@ -182,21 +181,18 @@ fn run_last<D: DictDisc>(
     shelf: &mut Shelf,
     kinds: &mut Vec<D>,
     cutter: &mut LineCutter,
-    counts: &mut Counts,
-    asked: &mut LineAnswer,
-    reply: &mut Reply,
-    replies: &mut Vec<u8>,
+    scratch: &mut Scratch,
 ) -> Result<Option<(u32, LineFault)>, OutOfMemory>
     requires session { IsSessionOver state D.rules shelf.old session.old kinds.old.items }
-    requires goes_on { CanGoOn quiet counts.old
+    requires goes_on { CanGoOn quiet scratch.old.counts
         (state_over state (rules_in D.rules kinds.old.items) shelf.old session.old)
         session.old cutter.old }
-    requires none { replies.old.items ≡ [] }
+    requires none { scratch.old.replies.items ≡ [] }
     ensures { RunsArming state D.rules D.gone shelf.old session.old kinds.old.items
         shelf.new session.new kinds.new.items
         (λ now next. RunsLast tool quiet result
-        (over_sink now (Some replies.old.items)) (over_sink next (Some replies.new.items))
-        counts.old counts.new replies.new.items cutter.old cutter.new.count) }
+        (over_sink now (Some scratch.old.replies.items)) (over_sink next (Some scratch.new.replies.items))
+        scratch.old.counts scratch.new.counts scratch.new.replies.items cutter.old cutter.new.count) }
 {
     match cutter.end() {
         Cut::Whole => match run_line(
@@ -208,10 +204,7 @@ fn run_last<D: DictDisc>(
             kinds,
             cutter.number(),
             cutter.line(),
-            counts,
-            asked,
-            reply,
-            replies,
+            scratch,
         )? {
             Some(fault) => Ok(Some((cutter.number(), fault))),
             None => Ok(None),
@@ -221,7 +214,7 @@ fn run_last<D: DictDisc>(
 }
 
 // Runs the lines before the first bad one over a new cutter, and answers that one, by its number from 1 on. What is
-// written of the replies to the lines of one read is gathered in an empty vector, and written before the next read and
+// written of the replies to the lines of one read is gathered where nothing is yet, and written before the next read and
 // before anything else. A quiet run counts its commands from 0 on.
 pub(crate) fn run_lines<D: DictDisc, S: Source, O: Sink>(
     alloc: Global,
@@ -233,18 +226,15 @@ pub(crate) fn run_lines<D: DictDisc, S: Source, O: Sink>(
     source: &mut S,
     out: &mut O,
     cutter: &mut LineCutter,
-    counts: &mut Counts,
-    asked: &mut LineAnswer,
-    reply: &mut Reply,
-    replies: &mut Vec<u8>,
+    scratch: &mut Scratch,
 ) -> Result<Option<(u32, LineFault)>, Stop>
-    requires begins { CanBegin quiet state D.rules shelf.old session.old kinds.old.items counts.old }
+    requires begins { CanBegin quiet state D.rules shelf.old session.old kinds.old.items scratch.old.counts }
     requires unarmed { session.old.is_armed ≡ false }
     requires new { cutter.old ≡ new_cutting }
-    requires none { replies.old.items ≡ [] }
+    requires none { scratch.old.replies.items ≡ [] }
     ensures { RunsArming state D.rules D.gone shelf.old session.old kinds.old.items
         shelf.new session.new kinds.new.items
-        (λ start last. RunsLines tool quiet result start last counts.new cutter.new.count
+        (λ start last. RunsLines tool quiet result start last scratch.new.counts cutter.new.count
         (flows S.left S.failures O.written O.failures source.old out.old)
         (flows S.left S.failures O.written O.failures source.new out.new)) }
 {
@@ -263,21 +253,16 @@ pub(crate) fn run_lines<D: DictDisc, S: Source, O: Sink>(
             kinds,
             cutter,
             &buf[..n],
-            counts,
-            asked,
-            reply,
-            replies,
+            scratch,
         );
-        write_all(out, replies.as_slice())?;
+        write_all(out, scratch.replies.as_slice())?;
         match ran? {
             Some(bad) => return Ok(Some(bad)),
             None => {}
         }
-        replies.clear();
+        scratch.replies.clear();
     }
-    let ran = run_last(
-        alloc, tool, quiet, session, shelf, kinds, cutter, counts, asked, reply, replies,
-    );
-    write_all(out, replies.as_slice())?;
+    let ran = run_last(alloc, tool, quiet, session, shelf, kinds, cutter, scratch);
+    write_all(out, scratch.replies.as_slice())?;
     Ok(ran?)
 }

@@ -12,6 +12,7 @@ mod generated;
 pub mod method_rows;
 pub mod quiet_rows;
 pub mod run_rows;
+mod scratch;
 mod script;
 mod status;
 mod style;

@@ -12,13 +12,13 @@ ghost use Rattle.vc_steps.specs.Moment.{moment_at_rest};
 ghost use Rattle.vc_steps.specs.Told.{KeepRules, rules_in};
 
 use crate::engine::{Stop, run_lines};
+use crate::scratch::Scratch;
 use crate::tail::{gather_tail, is_quiet};
 use indexmap::IndexMap;
 use std::alloc::Global;
 use vc_base::{Sink, Source, write_all};
-use vc_counts::Counts;
 use vc_dtdisc::DictDisc;
-use vc_script::{LineAnswer, LineCutter, LineFault, Reply, Tool};
+use vc_script::{LineCutter, LineFault, Tool};
 use vc_seg::{BoxedDisc, SegDisc, Shelf};
 use vc_steps::Session;
 use vc_words::Words;
@@ -60,11 +60,7 @@ pub fn run_script<D: DictDisc, S: Source, O: Sink>(
         (flows S.left S.failures O.written O.failures source.old out.old)
         (flows S.left S.failures O.written O.failures source.new out.new)) }
 {
-    let mut counts = Counts::new();
-    // The objects of one line and its reply give their memory to those of the next.
-    let mut asked = LineAnswer::Blank;
-    let mut reply = Reply::Nothing;
-    let mut replies = Vec::new(alloc);
+    let mut scratch = Scratch::new(alloc);
     let ran = run_lines(
         alloc,
         tool,
@@ -75,15 +71,12 @@ pub fn run_script<D: DictDisc, S: Source, O: Sink>(
         source,
         out,
         cutter,
-        &mut counts,
-        &mut asked,
-        &mut reply,
-        &mut replies,
+        &mut scratch,
     );
     let bad = ran?;
     let lines = good_lines(bad, cutter.number());
     let mut tail = Vec::new(alloc);
-    gather_tail(alloc, words, lines, &counts, session, &mut tail)?;
+    gather_tail(alloc, words, lines, &scratch.counts, session, &mut tail)?;
     write_all(out, tail.as_slice())?;
     Ok(bad)
 }

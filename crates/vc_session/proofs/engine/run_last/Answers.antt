@@ -58,7 +58,7 @@ returns-in_default g c =
       lasts = arming-same c.requires.session;
       runs = record {
         ended = record { end = λ after r at_end written. so_far-end_none is c.end.new.self.count after same (so_far-none _ c.requires.none r) at_end (end-none c.args.cutter.now c.end.result is c.end.ensures.cut c.in_default.not-Whole) written };
-        far = record { far = λ {start} {text} r at_end. so_far-part _ text c.args.replies.now.items c.args.replies.now.items refl refl (so_far-none _ c.requires.none r) (keeps-same _) };
+        far = record { far = λ {start} {text} r at_end. so_far-part _ text c.args.scratch.now.replies.items c.args.scratch.now.replies.items refl refl (so_far-none _ c.requires.none r) (keeps-same _) };
       };
     }
 

@@ -92,6 +92,6 @@ returns-in-Version-clause-runs g c =
                 same_counts = refl;
               },
             );
-        can = subst (λ busy. IsTrue c.args.quiet → (line : ℕ) → c.args.n < line → CanCount c.args.counts.now busy line) (ap live_bytes (sym state)) (can-on _ _ _ _ c.requires.counts);
+        can = subst (λ busy. IsTrue c.args.quiet → (line : ℕ) → c.args.n < line → CanCount c.args.scratch.now.counts busy line) (ap live_bytes (sym state)) (can-on _ _ _ _ c.requires.counts);
       };
     }

@@ -14,11 +14,11 @@ invariant-loop-rest g l =
       feeds : CanFeed l.cutter;
       lasts : LastsArming (λ z. (goal.SegDisc-dyn g z).state z.1) g.D.DictDisc.rules l.fn.shelf l.fn.session l.fn.kinds.items l.shelf l.session l.kinds.items;
       unarmed : l.cutter.count ≡ 0 → l.session.is_armed ≡ false;
-      counts : CanCountOn l.quiet l.counts (state_over (λ z. (goal.SegDisc-dyn g z).state z.1) (rules_in g.D.DictDisc.rules l.kinds.items) l.shelf l.session) l.cutter.count;
+      counts : CanCountOn l.quiet l.scratch.counts (state_over (λ z. (goal.SegDisc-dyn g z).state z.1) (rules_in g.D.DictDisc.rules l.kinds.items) l.shelf l.session) l.cutter.count;
       goes_on : GoesOn l.tool l.quiet
-          (over_sink (moment (λ z. (goal.SegDisc-dyn g z).state z.1) g.D.DictDisc.rules g.D.DictDisc.gone l.fn.shelf l.fn.session l.fn.kinds.items) (Some l.fn.replies.items))
-          (over_sink (moment (λ z. (goal.SegDisc-dyn g z).state z.1) g.D.DictDisc.rules g.D.DictDisc.gone l.shelf l.session l.kinds.items) (Some l.replies.items))
-          l.fn.counts l.counts l.replies.items l.fn.cutter l.cutter l.piece l.rest;
+          (over_sink (moment (λ z. (goal.SegDisc-dyn g z).state z.1) g.D.DictDisc.rules g.D.DictDisc.gone l.fn.shelf l.fn.session l.fn.kinds.items) (Some l.fn.scratch.replies.items))
+          (over_sink (moment (λ z. (goal.SegDisc-dyn g z).state z.1) g.D.DictDisc.rules g.D.DictDisc.gone l.shelf l.session l.kinds.items) (Some l.scratch.replies.items))
+          l.fn.scratch.counts l.scratch.counts l.scratch.replies.items l.fn.cutter l.cutter l.piece l.rest;
       less : fuel l.cutter + length l.piece ≤ fuel l.fn.cutter + length l.rest;
     }
 

@@ -19,8 +19,8 @@ run_lines-ran-requires-clause-begins g c =
     let none : IsTrue c.is_quiet.result → live_bytes now ≡ 0 = λ quiet. c.requires.counts (subst (λ b. IsTrue b) c.is_quiet.ensures quiet) in
     record {
       over = c.requires.session;
-      can = rw c.new-counts.ensures (λ quiet. can-first c.is_quiet.result now (none quiet) quiet);
-      zero = λ quiet. c.new-counts.ensures ∙ counts-first now (none quiet);
+      can = rw c.new-scratch.ensures.zero (λ quiet. can-first c.is_quiet.result now (none quiet) quiet);
+      zero = λ quiet. c.new-scratch.ensures.zero ∙ counts-first now (none quiet);
     }
 
 pub returns : goal.returns
@@ -28,7 +28,7 @@ returns g c =
     record {
       lasts = c.run_lines-ran.ensures.lasts;
       runs =
-          script-told c.args.tool c.args.words.now c.is_quiet.result _ _ c.run_lines-ran.new.counts _ c.number.result c.good_lines-lines.result c.in_ok-bad.bad _ _ _ c.new-tail.result.items _
+          script-told c.args.tool c.args.words.now c.is_quiet.result _ _ c.run_lines-ran.new.scratch.counts _ c.number.result c.good_lines-lines.result c.in_ok-bad.bad _ _ _ c.new-tail.result.items _
           c.is_quiet.ensures c.number.ensures.value c.good_lines-lines.ensures c.new-tail.ensures.items c.in_ok-gather_tail.ensures
           (rw c.in_ok-bad.was at c.run_lines-ran.ensures.runs) (rw c.as_slice.ensures.value at c.in_ok-write_all.ensures.ok) refl (omega arith) c.write_all.ensures.never_falls;
     }
@@ -42,7 +42,7 @@ returns-in_err-bad g c =
         script = record {
           replay = search rules;
           cut_short = search rules;
-          cut = on_err _ _ (script-failed c.args.tool c.args.words.now c.is_quiet.result _ _ _ c.run_lines-ran.new.counts _ _ _ c.is_quiet.ensures r).cut;
+          cut = on_err _ _ (script-failed c.args.tool c.args.words.now c.is_quiet.result _ _ _ c.run_lines-ran.new.scratch.counts _ _ _ c.is_quiet.ensures r).cut;
           not_ahead = search rules;
           arms = r.arms;
           read = search rules;
@@ -63,7 +63,7 @@ returns-in_err-gather_tail g c =
         script = record {
           replay = search rules;
           cut_short = search rules;
-          cut = on_err _ _ (tail-wanting c.args.tool c.args.words.now c.is_quiet.result Memory _ _ c.run_lines-ran.new.counts _ c.in_ok-bad.bad _ _ c.is_quiet.ensures refl r).cut;
+          cut = on_err _ _ (tail-wanting c.args.tool c.args.words.now c.is_quiet.result Memory _ _ c.run_lines-ran.new.scratch.counts _ c.in_ok-bad.bad _ _ c.is_quiet.ensures refl r).cut;
           not_ahead = search rules;
           arms = r.arms;
           read = search rules;
@@ -85,8 +85,8 @@ returns-in_err-write_all g c =
         script = record {
           replay = search rules;
           cut_short = search rules;
-          cut = on_err _ _ (tail-cut c.args.tool c.args.words.now c.is_quiet.result _ _ c.run_lines-ran.new.counts _ c.number.result c.good_lines-lines.result c.in_ok-bad.bad _ _ _ c.new-tail.result.items _ c.is_quiet.ensures c.number.ensures.value c.good_lines-lines.ensures c.new-tail.ensures.items c.in_ok-gather_tail.ensures r front);
-          not_ahead = if_err _ _ _ (tail-not_ahead c.args.tool c.args.words.now c.is_quiet.result _ _ c.run_lines-ran.new.counts _ c.in_ok-bad.bad _ _ _ _ _ c.is_quiet.ensures r front);
+          cut = on_err _ _ (tail-cut c.args.tool c.args.words.now c.is_quiet.result _ _ c.run_lines-ran.new.scratch.counts _ c.number.result c.good_lines-lines.result c.in_ok-bad.bad _ _ _ c.new-tail.result.items _ c.is_quiet.ensures c.number.ensures.value c.good_lines-lines.ensures c.new-tail.ensures.items c.in_ok-gather_tail.ensures r front);
+          not_ahead = if_err _ _ _ (tail-not_ahead c.args.tool c.args.words.now c.is_quiet.result _ _ c.run_lines-ran.new.scratch.counts _ c.in_ok-bad.bad _ _ _ _ _ c.is_quiet.ensures r front);
           arms = r.arms;
           read = search rules;
           write = search rules;
