@@ -1,1 +1,2 @@
 mod large;
+mod puts;

@@ -9,5 +9,3 @@ mod reading;
 
 pub use putting::put;
 
-#[cfg(test)]
-mod tests;

@@ -2,8 +2,6 @@ ghost use Rattle.vc_dtdisc.specs.ShapeLaws.{rules-lawful};
 ghost use Rattle.vc_dtdisc.specs.Shapes.{rules_of};
 ghost use Rattle.vc_objects.specs.Promises.{CanAsk};
 
-use crate::puts::put;
-use crate::{Fate, Want, open};
 use std::alloc::{AllocError, Global};
 use std::cell::Cell;
 use std::cmp::Ordering;
@@ -14,6 +12,7 @@ use vc_base::{DictMethod, OutOfMemory, Steps};
 use vc_best::Best;
 use vc_dict::Dict;
 use vc_dtdisc::{BuiltIn, DictDisc, Shape};
+use vc_objects::{Fate, Want, open, put};
 use vc_seg::{BoxedDisc, FuseDisc, HeapDisc, SegDisc};
 
 // Marks the compares of these calls.
