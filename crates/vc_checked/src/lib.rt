@@ -8,8 +8,6 @@ mod dicts;
 mod objects;
 mod places;
 mod shown;
-#[cfg(test)]
-mod tests;
 
 pub use answer::Answer;
 pub use dicts::{close_dict, count, empty_dict, method_of, open_dict, shape_of};

@@ -6,8 +6,6 @@ mod collection;
 pub mod moves;
 mod put;
 mod stores;
-#[cfg(test)]
-mod tests;
 
 pub use collection::Collection;
 pub use put::Put;

@@ -1,13 +1,9 @@
 //! Dictionaries by number in one region, to be used by a program.
 
 mod alike;
-#[cfg(test)]
-mod alike_tests;
 mod copies;
 mod cursor;
 mod fault;
-#[cfg(test)]
-mod image_tests;
 mod law;
 mod loading;
 mod placing;
@@ -15,8 +11,6 @@ mod saving;
 mod seeking;
 mod side;
 mod store;
-#[cfg(test)]
-mod tests;
 
 pub use alike::Alike;
 pub use fault::{StoreLoadFault, StoreSaveFault};
