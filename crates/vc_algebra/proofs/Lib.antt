@@ -7,6 +7,5 @@ pub mod MergeLemmas
 pub mod OwnLemmas
 pub mod RangeLemmas
 pub mod RunLemmas
-pub mod ToyLemmas
 pub mod SeenLemmas
 pub mod ToldLemmas

@@ -7,5 +7,3 @@ pub mod Rows
 pub mod Runs
 pub mod Sides
 pub mod ToCome
-pub mod Toy
-pub mod ToyLaws

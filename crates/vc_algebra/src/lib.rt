@@ -13,8 +13,6 @@ mod region_layers;
 mod rows;
 mod seeking;
 mod side;
-#[cfg(test)]
-mod tests;
 mod turn;
 
 pub use fault::AlgebraFault;

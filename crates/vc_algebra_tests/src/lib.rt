@@ -24,3 +24,5 @@ mod operations;
 mod ranges;
 #[cfg(test)]
 mod shown;
+#[cfg(test)]
+mod small;

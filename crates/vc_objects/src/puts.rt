@@ -8,4 +8,3 @@ mod putting;
 mod reading;
 
 pub use putting::put;
-

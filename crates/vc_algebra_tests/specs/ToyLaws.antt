@@ -9,7 +9,7 @@ use Rattle.vc_dtdisc.specs.ShapeLaws.{rules-lawful}
 use Rattle.vc_dtdisc.specs.Shapes.{rules_of}
 use Rattle.vc_dtdisc.specs.declared.shape.Shape.TheVariants.{Fold}
 use Rattle.vc_paths.specs.Layers.{AreLayers}
-use Rattle.vc_algebra.specs.Toy.{bytes_in, objects_from, toy_layers}
+use Rattle.vc_algebra_tests.specs.Toy.{bytes_in, objects_from, toy_layers}
 
 -- the places of objects from a number on
 toy_places : ℕ → List ℕ → List ℕ

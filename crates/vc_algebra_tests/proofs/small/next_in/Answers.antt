@@ -2,9 +2,9 @@ use Rattle.vc_base.proofs.Common.{option_copied}
 use Rattle.vc_dtdisc.specs.Shapes.{rules_of}
 use Rattle.vc_dtdisc.specs.declared.shape.Shape.TheVariants.{Fold}
 use Rattle.vc_paths.specs.Path.{numbers_of, visible_of}
-use Rattle.vc_algebra.specs.Toy.{toy_layers}
+use Rattle.vc_algebra_tests.specs.Toy.{toy_layers}
 use Rattle.vc_algebra.proofs.SeenLemmas.{next-seen}
-use Rattle.vc_algebra.proofs.tests.next_in.Goals as goal
+use Rattle.vc_algebra_tests.proofs.small.next_in.Goals as goal
 
 pub returns-in-Some : goal.returns-in-Some
 returns-in-Some c =

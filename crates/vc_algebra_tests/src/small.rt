@@ -1,15 +1,15 @@
 ghost use Rattle.std.specs.Prelude.{◌<◌, IfOk, IfSome, true};
 ghost use Rattle.vc_paths.specs.Links.{numbers};
 ghost use Rattle.vc_paths.specs.Path.{IsPathBy, IsVisible, numbers_of};
-ghost use Rattle.vc_algebra.specs.Toy.{HavePaths, toy_layers};
+ghost use Rattle.vc_algebra_tests.specs.Toy.{HavePaths, toy_layers};
 
 mod toy;
 
-use crate::tests::toy::Toy;
-use crate::{AlgebraFault, Merge, Op, range_first, range_next};
+use crate::small::toy::Toy;
 use std::alloc::Global;
 use std::process::Abort;
 use std::test::Fail;
+use vc_algebra::{AlgebraFault, Merge, Op, range_first, range_next};
 use vc_base::{Addr, OutOfMemory, Steps};
 use vc_paths::Paths;
 

@@ -8,7 +8,7 @@ use Rattle.vc_paths.specs.Layers.{place_with}
 use Rattle.vc_paths.specs.Links.{Links, below, no_links, numbers, onward, path_of}
 use Rattle.vc_paths.specs.Path.{IsAlike}
 use Rattle.vc_algebra.specs.Algebra.{place_at_least}
-use Rattle.vc_algebra.specs.Toy.{HavePaths, objects_from, toy_layers}
+use Rattle.vc_algebra_tests.specs.Toy.{HavePaths, objects_from, toy_layers}
 
 abbrev pub places : List ℕ → ℕ → List ℕ → Option ℕ
 places key n bs = place_with (rules_of Fold) key (objects_from n bs)

@@ -1,7 +1,7 @@
 use Rattle.vc_base.proofs.Common.{IfSome}
 use Rattle.vc_paths.specs.Path.{IsVisible, numbers_of}
-use Rattle.vc_algebra.specs.Toy.{toy_layers}
-use Rattle.vc_algebra.proofs.tests.ranged.Given as goal
+use Rattle.vc_algebra_tests.specs.Toy.{toy_layers}
+use Rattle.vc_algebra_tests.proofs.small.ranged.Given as goal
 
 -- the place is seen
 abbrev pub invariant-loop-own : goal.invariant-loop-own

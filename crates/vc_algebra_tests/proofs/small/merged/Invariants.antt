@@ -1,6 +1,6 @@
 use Rattle.vc_algebra.specs.ToCome.{IsMerge}
-use Rattle.vc_algebra.specs.Toy.{toy_layers}
-use Rattle.vc_algebra.proofs.tests.merged.Given as goal
+use Rattle.vc_algebra_tests.specs.Toy.{toy_layers}
+use Rattle.vc_algebra_tests.proofs.small.merged.Given as goal
 
 -- the places are seen
 abbrev pub invariant-loop-own : goal.invariant-loop-own

@@ -2,8 +2,8 @@ use Rattle.vc_base.proofs.Common.{◌≡◌, ◌+◌, drop}
 use Rattle.vc_dtdisc.specs.Shapes.{rules_of}
 use Rattle.vc_dtdisc.specs.declared.shape.Shape.TheVariants.{Fold}
 use Rattle.vc_paths.specs.Layers.{place_with}
-use Rattle.vc_algebra.specs.Toy.{objects_from}
-use Rattle.vc_algebra.proofs.tests.toy.ToyLayers.find.Given as goal
+use Rattle.vc_algebra_tests.specs.Toy.{objects_from}
+use Rattle.vc_algebra_tests.proofs.small.toy.ToyLayers.find.Given as goal
 
 -- the first match is among the objects that are left
 abbrev pub invariant-loop-i : goal.invariant-loop-i

@@ -1,7 +1,7 @@
 use Rattle.std.specs.Ordering.{is_lt}
 use Rattle.vc_base.proofs.Common.{sym, ap, ◌∙◌}
-use Rattle.vc_algebra.proofs.ToyLemmas.{least-here, least-on, places_from}
-use Rattle.vc_algebra.proofs.tests.toy.ToyOrdered.at_least.Goals as goal
+use Rattle.vc_algebra_tests.proofs.ToyLemmas.{least-here, least-on, places_from}
+use Rattle.vc_algebra_tests.proofs.small.toy.ToyOrdered.at_least.Goals as goal
 
 pub returns-then-not-is_lt-clause-found : goal.returns-then-not-is_lt-clause-found
 returns-then-not-is_lt-clause-found g c =

@@ -2,9 +2,9 @@ use Rattle.vc_base.proofs.Common.{is_eq, sym, ap, ◌∙◌}
 use Rattle.vc_dtdisc.specs.Shapes.{rules_of}
 use Rattle.vc_dtdisc.specs.declared.shape.Shape.TheVariants.{Fold}
 use Rattle.vc_paths.specs.Layers.{place_with}
-use Rattle.vc_algebra.specs.Toy.{objects_from}
-use Rattle.vc_algebra.proofs.ToyLemmas.{found-here, found-on}
-use Rattle.vc_algebra.proofs.tests.toy.ToyLayers.find.Goals as goal
+use Rattle.vc_algebra_tests.specs.Toy.{objects_from}
+use Rattle.vc_algebra_tests.proofs.ToyLemmas.{found-here, found-on}
+use Rattle.vc_algebra_tests.proofs.small.toy.ToyLayers.find.Goals as goal
 
 pub returns-then-is_eq-clause-found : goal.returns-then-is_eq-clause-found
 returns-then-is_eq-clause-found g c =

@@ -3,11 +3,11 @@ ghost use Rattle.std.proofs.Common.{refl};
 ghost use Rattle.vc_dtdisc.specs.Shapes.{order_of};
 ghost use Rattle.vc_dtdisc.specs.declared.shape.Shape.TheVariants.{Fold};
 ghost use Rattle.vc_paths.specs.Layers.{bytes_there};
-ghost use Rattle.vc_algebra.specs.Toy.{bytes_in, layer_in, toy_layers};
-ghost use Rattle.vc_algebra.specs.ToyLaws.{are-layers, same-twice};
+ghost use Rattle.vc_algebra_tests.specs.Toy.{bytes_in, layer_in, toy_layers};
+ghost use Rattle.vc_algebra_tests.specs.ToyLaws.{are-layers, same-twice};
 
-use crate::Ordered;
 use std::cmp::Ordering;
+use vc_algebra::Ordered;
 use vc_base::{Addr, DictMethod, Steps};
 use vc_dtdisc::{BuiltIn, DictDisc, Shape};
 use vc_paths::Layers;
