@@ -10,7 +10,7 @@ use Rattle.vc_image_run.specs.Tool.Status.{number}
 use Rattle.vc_image_run.specs.declared.tool.status.ImageStatus.{ImageStatus}
 use Rattle.vc_model.specs.Discipline.{Discipline}
 use Rattle.vc_script.specs.declared.tool.Tool.TheVariants.{Dtrun}
-use Rattle.vc_session.specs.Arming.{IsFirst, Keeps}
+use Rattle.vc_session.specs.Arming.{IsVersionOne, Keeps}
 use Rattle.vc_session.specs.Streams.{Streams}
 use Rattle.vc_steps.specs.Moment.{Moment, at_rest}
 
@@ -49,7 +49,7 @@ pub record Saved (script : List ℕ) (image : Result MemorySink ImageStatus) (st
   pub places : length start.accounts ≡ 18
   pub kinds : start.state.kinds ≡ dtrun_rules
   pub makes : Makes dtrun_rules image start last (streams_over script) streams
-  pub keeps : Keeps (IsFirst None Dtrun (Some script)) start last
+  pub keeps : Keeps (IsVersionOne None Dtrun (Some script)) start last
 
 -- what one of dtrun's kinds means, and what it was told of
 abbrev pub kind_rules : BuiltInKind → Rules
@@ -67,4 +67,4 @@ pub record Remade (image script : List ℕ) (remade : Result MemorySink ImageSta
   pub places : length slots ≡ 18
   pub rules : map kind_rules kinds ≡ dtrun_rules
   pub makes : MakesOver kind_rules kind_gone 1 image slots kinds remade slots' kinds' (streams_over script) streams
-  pub keeps : Keeps (IsFirst None Dtrun (Some script)) (at_rest kind_rules kind_gone slots kinds) (at_rest kind_rules kind_gone slots' kinds')
+  pub keeps : Keeps (IsVersionOne None Dtrun (Some script)) (at_rest kind_rules kind_gone slots kinds) (at_rest kind_rules kind_gone slots' kinds')

@@ -8,7 +8,7 @@ use Rattle.vc_commands.specs.declared.region.labels.Label.{Label}
 use Rattle.vc_commands.specs.declared.region.labels.Labels.{Labels}
 use Rattle.vc_commands.specs.declared.region.labels.Known.{Known}
 use Rattle.vc_commands.specs.declared.region.labels.Known.TheVariants.{Live, Freed}
-use Rattle.vc_commands.specs.FreedNames.{line_of, with_line, without_name}
+use Rattle.vc_commands.specs.FreedNames.{freed_line, with_line, without_name}
 use Rattle.vc_commands.specs.Labels.{kept_among, kept_of, known_of, label_at, line_in, line_left, tag_in, tag_of, AreLabels, FreesNames, MovesLabel, SameLabels, WithoutLabel}
 use Rattle.vc_commands.proofs.FreedNames.{by-name-among, kept-alike, kept-other, length-with, length-without, line-among, without-absent}
 
@@ -68,7 +68,7 @@ module _ (old new : Labels) (key : ℕ) (label : Label) (agree : AreLabels old) 
     all =
         all-put (length old.tags.entries) (length new.tags.entries) (slab_len old.by_tag) (slab_len new.by_tag) (length (kept_of old)) (length (kept_of new)) (known_of old label.name) fresh more one
         (ap (λ o. cond (is_some o) 1 0 + length (kept_of new)) (sym (line-among label.name old.tags.entries))
-        ∙ (ap (λ k. cond (is_some (line_of label.name (kept_of old))) 1 0 + length k) kept-put
+        ∙ (ap (λ k. cond (is_some (freed_line label.name (kept_of old))) 1 0 + length k) kept-put
         ∙ length-without label.name (kept_of old) (by-name-among old.tags.entries)))
         agree.all;
   }
@@ -160,7 +160,7 @@ pub there-ok : {T E : Type 0} (r : Result T E) (o : Option Known) (tag : ℕ) �
 there-ok (Ok v) o tag absent e = refl
 there-ok (Err x) o tag absent e = absurd (none-some tag (sym (ap tag_in absent) ∙ e))
 
-pub line-none : (old : Labels) (x : List ℕ) (tag : ℕ) → tag_of old x ≡ Some tag → line_of x (kept_of old) ≡ None
+pub line-none : (old : Labels) (x : List ℕ) (tag : ℕ) → tag_of old x ≡ Some tag → freed_line x (kept_of old) ≡ None
 line-none old x tag named = line-among x old.tags.entries ∙ known-line (known_of old x) tag named
 
 -- the count of names once a block is taken out, and its name kept
@@ -253,12 +253,12 @@ past-none (o ∷ os) zero past = absurd (omega (arith, past))
 past-none (o ∷ os) (suc k) past = past-none os k (omega (arith, past))
 
 -- the line of each name once all blocks were freed
-pub lines-left : (old new : Labels) (line : ℕ) → ((x : List ℕ) → tag_of new x ≡ None) → FreesNames old new line → (x : List ℕ) → line_of x (kept_of new) ≡ line_left old true line x
+pub lines-left : (old new : Labels) (line : ℕ) → ((x : List ℕ) → tag_of new x ≡ None) → FreesNames old new line → (x : List ℕ) → freed_line x (kept_of new) ≡ line_left old true line x
 lines-left old new line none frees x = line-among x new.tags.entries ∙ by (frees x)
   where
     by : (known_of new x ≡ known_of old x) ⊎ (IsSome (tag_of old x) × (known_of new x ≡ Some (Freed line))) → line_in (known_of new x) ≡ line_left old true line x
     by (inl same) =
         ap line_in same
         ∙ (sym (line-among x old.tags.entries)
-        ∙ sym (ap (λ o. cond (is_some o) (Some line) (line_of x (kept_of old))) (sym (ap tag_in same) ∙ none x)))
-    by (inr freed) = ap line_in freed.1 ∙ sym (ap (λ b. cond b (Some line) (line_of x (kept_of old))) freed.0)
+        ∙ sym (ap (λ o. cond (is_some o) (Some line) (freed_line x (kept_of old))) (sym (ap tag_in same) ∙ none x)))
+    by (inr freed) = ap line_in freed.1 ∙ sym (ap (λ b. cond b (Some line) (freed_line x (kept_of old))) freed.0)

@@ -15,7 +15,7 @@ use Rattle.vc_script.specs.declared.reply.Reply.TheVariants as reply
 use Rattle.vc_script.specs.declared.refusal.Refusal.{Refusal}
 use Rattle.vc_script.specs.declared.refusal.Refusal.TheVariants as why
 use Rattle.vc_commands.specs.declared.region.labels.Labels.{Labels}
-use Rattle.vc_commands.specs.Held.{Held, IsChange, IsNamed}
+use Rattle.vc_commands.specs.Held.{Held, IsChange, AreLabelsOf}
 use Rattle.vc_commands.specs.Blocks.{fault_of, script_refusal}
 use Rattle.vc_commands.specs.Naming.{NamesPut, TellsFault}
 use Rattle.vc_commands.specs.Home.{Changed, Home, Label, changed_to, refusal_alone}
@@ -33,7 +33,7 @@ abbrev pub KeepsOut : Discipline → Discipline → List (ℕ × ℕ) → List (
 KeepsOut d e segments segments' = (rest : List (ℕ × ℕ)) → d.out ≡ rest ++ segments → e.out ≡ rest ++ segments'
 
 -- a region that changed, whose discipline keeps what was out before the region's segments
-pub changed-by : (h : Held) (disc : Discipline) (region : Region ℕ) (cells : Blocks) (labels : Labels) → cells ≡ h.cells → HasOut h.disc (segments_of h.region) → Kept h.disc disc → KeepsOut h.disc disc (segments_of h.region) (segments_of region) → IsNamed region labels → IsChange h (record { name = h.name; place = h.place; disc = disc; region = region; cells = cells; labels = labels })
+pub changed-by : (h : Held) (disc : Discipline) (region : Region ℕ) (cells : Blocks) (labels : Labels) → cells ≡ h.cells → HasOut h.disc (segments_of h.region) → Kept h.disc disc → KeepsOut h.disc disc (segments_of h.region) (segments_of region) → AreLabelsOf region labels → IsChange h (record { name = h.name; place = h.place; disc = disc; region = region; cells = cells; labels = labels })
 changed-by h disc region cells labels same has kept keeps names =
     let after = keeps has.0 has.1 in
     record {
@@ -51,7 +51,7 @@ pub out-same : (d e : Discipline) (segments segments' : List (ℕ × ℕ)) → e
 out-same d e segments segments' same alike = λ rest at. ap (λ (x : Discipline). x.out) same ∙ (at ∙ ap (λ s. rest ++ s) (sym alike))
 
 -- a region that changed, whose discipline and segments stay
-pub changed-alike : (h : Held) (disc : Discipline) (region : Region ℕ) (cells : Blocks) (labels : Labels) → cells ≡ h.cells → HasOut h.disc (segments_of h.region) → disc ≡ h.disc → segments_of region ≡ segments_of h.region → IsNamed region labels → IsChange h (record { name = h.name; place = h.place; disc = disc; region = region; cells = cells; labels = labels })
+pub changed-alike : (h : Held) (disc : Discipline) (region : Region ℕ) (cells : Blocks) (labels : Labels) → cells ≡ h.cells → HasOut h.disc (segments_of h.region) → disc ≡ h.disc → segments_of region ≡ segments_of h.region → AreLabelsOf region labels → IsChange h (record { name = h.name; place = h.place; disc = disc; region = region; cells = cells; labels = labels })
 changed-alike h disc region cells labels same has alike segments names =
     changed-by h disc region cells labels same has (Kept-equal h.disc disc alike) (out-same h.disc disc (segments_of h.region) (segments_of region) alike segments) names
 
@@ -165,7 +165,7 @@ pub gives-unchanged : (h : Home) (c : Changed) (w : Refusal) → c ≡ refusal_a
 gives-unchanged h c w e = record { region_after = ap (λ (k : Changed). k.region) e; kept_after = ap (λ (k : Changed). k.kept) e; replied = ap (λ (k : Changed). k.reply) e }
 
 -- a region whose discipline and lists stay
-pub change-same : (h : Held) (labels : Labels) → HasOut h.disc (segments_of h.region) → IsNamed h.region labels → IsChange h (record { name = h.name; place = h.place; disc = h.disc; region = h.region; cells = h.cells; labels = labels })
+pub change-same : (h : Held) (labels : Labels) → HasOut h.disc (segments_of h.region) → AreLabelsOf h.region labels → IsChange h (record { name = h.name; place = h.place; disc = h.disc; region = h.region; cells = h.cells; labels = labels })
 change-same h labels has names =
     changed-by h h.disc h.region h.cells labels refl has (Kept-same h.disc) (out-same h.disc h.disc (segments_of h.region) (segments_of h.region) refl refl) names
 

@@ -19,9 +19,9 @@ use Rattle.vc_region.proofs.Writing.{poke-labels, watch-blocks}
 use Rattle.vc_seg.specs.declared.profile_row.ProfileRow.{ProfileRow}
 use Rattle.vc_script.specs.declared.refusal.Refusal.TheVariants as why
 use Rattle.vc_script.specs.declared.reply.Reply.TheVariants.{Poked, Watched}
-use Rattle.vc_commands.specs.Held.{HasName, Held, IsNamed, home_of}
+use Rattle.vc_commands.specs.Held.{HasName, Held, AreLabelsOf, home_of}
 use Rattle.vc_commands.specs.Audit.{damage_item, is_poke, poke_block, poke_byte, poke_in, watch_block, watch_in}
-use Rattle.vc_commands.specs.Labels.{MovesLabel, kept_of, name_of}
+use Rattle.vc_commands.specs.Labels.{MovesLabel, kept_of, name_of_tag}
 use Rattle.vc_commands.specs.Home as home
 use Rattle.vc_commands.specs.Home.{Home, changed_to, refusal_alone}
 use Rattle.vc_commands.specs.RegionRun.{GivesRegion}
@@ -53,7 +53,7 @@ module _ (h : Held) {x : List ℕ} {addr : Addr} (has : HasName h.region h.label
   k = home_of h
 
   abbrev f : ℕ → home.Label
-  f = name_of h.labels
+  f = name_of_tag h.labels
 
   abbrev at : ℕ × ℕ
   at = (b.block.seg, b.block.off)
@@ -62,7 +62,7 @@ module _ (h : Held) {x : List ℕ} {addr : Addr} (has : HasName h.region h.label
   p = place_of addr.0
 
   -- the names stay those of the blocks, where each block keeps its place and its label
-  named-still : (region : Region ℕ) → keeps_freed region ≡ keeps_freed h.region → option_map (λ (c : Block ℕ). c.label) (find_block p (blocks_of region)) ≡ option_map (λ (c : Block ℕ). c.label) (find_block p (blocks_of h.region)) → without_block p (blocks_of region) ≡ without_block p (blocks_of h.region) → HaveOwnPlaces (blocks_of region) → IsNamed region h.labels
+  named-still : (region : Region ℕ) → keeps_freed region ≡ keeps_freed h.region → option_map (λ (c : Block ℕ). c.label) (find_block p (blocks_of region)) ≡ option_map (λ (c : Block ℕ). c.label) (find_block p (blocks_of h.region)) → without_block p (blocks_of region) ≡ without_block p (blocks_of h.region) → HaveOwnPlaces (blocks_of region) → AreLabelsOf region h.labels
   named-still region keeps labels others places =
       let first : 1 ≤ has.tag = subst (λ t. 1 ≤ t) b.is_tag b.first in
       let still : MovesLabel h.labels h.labels has.tag (label_of x addr) = record { first = first; at = has.there; other_tags = λ other low differs. refl; names = λ y. refl; count = refl } in
@@ -78,19 +78,19 @@ module _ (h : Held) {x : List ℕ} {addr : Addr} (has : HasName h.region h.label
     pub poke-method : is_debug h.region ≡ false → poke_in (home_of h) x off byte ≡ refusal_alone (home_of h) why.WrongMethod
     poke-method other =
         on_block-there h x has.tag addr.0 b (poke_block k x off byte)
-        ∙ ap (λ v. cond v (poke_byte k x off byte (relabel_block f b.block)) (refusal_alone k why.WrongMethod)) (debug-relabelled (name_of h.labels) h.region ∙ other)
+        ∙ ap (λ v. cond v (poke_byte k x off byte (relabel_block f b.block)) (refusal_alone k why.WrongMethod)) (debug-relabelled (name_of_tag h.labels) h.region ∙ other)
 
-    poke-there : is_debug h.region ≡ true → poke_in (home_of h) x off byte ≡ poke_byte (home_of h) x off byte (relabel_block (name_of h.labels) b.block)
+    poke-there : is_debug h.region ≡ true → poke_in (home_of h) x off byte ≡ poke_byte (home_of h) x off byte (relabel_block (name_of_tag h.labels) b.block)
     poke-there is =
         on_block-there h x has.tag addr.0 b (poke_block k x off byte)
-        ∙ ap (λ v. cond v (poke_byte k x off byte (relabel_block f b.block)) (refusal_alone k why.WrongMethod)) (debug-relabelled (name_of h.labels) h.region ∙ is)
+        ∙ ap (λ v. cond v (poke_byte k x off byte (relabel_block f b.block)) (refusal_alone k why.WrongMethod)) (debug-relabelled (name_of_tag h.labels) h.region ∙ is)
 
     -- an offset out of the block's bytes and its guards, or a byte above 255
     pub poke-range : is_debug h.region ≡ true → is_poke b.block.size off byte ≡ false → poke_in (home_of h) x off byte ≡ refusal_alone (home_of h) why.Range
     poke-range is fails =
         poke-there is ∙ ap (λ v. cond v (changed_to k (region_poke k.region at off byte) (Poked x (watch_at k.region at))) (refusal_alone k why.Range)) fails
 
-    pub gives-poked : (region : Region ℕ) → is_debug h.region ≡ true → is_poke b.block.size off byte ≡ true → region ≡ region_poke h.region p off byte → (watch : Option ℕ) → watch ≡ watch_at h.region p → GivesRegion (poke_in (home_of h) x off byte) (region_with_labels (name_of h.labels) region, kept_of h.labels) (Poked x watch)
+    pub gives-poked : (region : Region ℕ) → is_debug h.region ≡ true → is_poke b.block.size off byte ≡ true → region ≡ region_poke h.region p off byte → (watch : Option ℕ) → watch ≡ watch_at h.region p → GivesRegion (poke_in (home_of h) x off byte) (region_with_labels (name_of_tag h.labels) region, kept_of h.labels) (Poked x watch)
     gives-poked region is passes put watch watched =
         let eq : poke_in k x off byte ≡ changed_to k (region_with_labels f region) (Poked x watch) =
         poke-there is
@@ -100,7 +100,7 @@ module _ (h : Held) {x : List ℕ} {addr : Addr} (has : HasName h.region h.label
         ∙ ap (λ r. changed_to k r (Poked x watch)) (poke-relabelled f h.region p off byte ∙ ap (region_with_labels f) (sym put))))) in
         subst (λ c. GivesRegion c (region_with_labels f region, kept_of h.labels) (Poked x watch)) (sym eq) (record { region_after = refl; kept_after = refl; replied = refl })
 
-    pub named-poked : (region : Region ℕ) → region ≡ region_poke h.region p off byte → without_block p (blocks_of region) ≡ without_block p (blocks_of h.region) → HaveOwnPlaces (blocks_of region) → IsNamed region h.labels
+    pub named-poked : (region : Region ℕ) → region ≡ region_poke h.region p off byte → without_block p (blocks_of region) ≡ without_block p (blocks_of h.region) → HaveOwnPlaces (blocks_of region) → AreLabelsOf region h.labels
     named-poked region is others places =
         named-still region (ap keeps_freed is ∙ poke-keeps h.region p off byte)
         (ap (λ r. option_map (λ (c : Block ℕ). c.label) (find_block p (blocks_of r))) is ∙ poke-labels h.region p p off byte) others places
@@ -109,9 +109,9 @@ module _ (h : Held) {x : List ℕ} {addr : Addr} (has : HasName h.region h.label
     pub watch-method : is_debug h.region ≡ false → watch_in (home_of h) line x ≡ refusal_alone (home_of h) why.WrongMethod
     watch-method other =
         on_block-there h x has.tag addr.0 b (watch_block k line x)
-        ∙ ap (λ v. cond v (changed_to k (region_watch k.region at line) (Watched x)) (refusal_alone k why.WrongMethod)) (debug-relabelled (name_of h.labels) h.region ∙ other)
+        ∙ ap (λ v. cond v (changed_to k (region_watch k.region at line) (Watched x)) (refusal_alone k why.WrongMethod)) (debug-relabelled (name_of_tag h.labels) h.region ∙ other)
 
-    pub gives-watched : (region : Region ℕ) → is_debug h.region ≡ true → region ≡ region_watch h.region p line → GivesRegion (watch_in (home_of h) line x) (region_with_labels (name_of h.labels) region, kept_of h.labels) (Watched x)
+    pub gives-watched : (region : Region ℕ) → is_debug h.region ≡ true → region ≡ region_watch h.region p line → GivesRegion (watch_in (home_of h) line x) (region_with_labels (name_of_tag h.labels) region, kept_of h.labels) (Watched x)
     gives-watched region is put =
         let eq : watch_in k line x ≡ changed_to k (region_with_labels f region) (Watched x) =
         on_block-there h x has.tag addr.0 b (watch_block k line x)
@@ -120,7 +120,7 @@ module _ (h : Held) {x : List ℕ} {addr : Addr} (has : HasName h.region h.label
         ∙ ap (λ r. changed_to k r (Watched x)) (marks-relabelled f h.region p line ∙ ap (region_with_labels f) (sym put)))) in
         subst (λ c. GivesRegion c (region_with_labels f region, kept_of h.labels) (Watched x)) (sym eq) (record { region_after = refl; kept_after = refl; replied = refl })
 
-    pub named-watched : (region : Region ℕ) → region ≡ region_watch h.region p line → HaveOwnPlaces (blocks_of region) → IsNamed region h.labels
+    pub named-watched : (region : Region ℕ) → region ≡ region_watch h.region p line → HaveOwnPlaces (blocks_of region) → AreLabelsOf region h.labels
     named-watched region is places =
         let blocks : blocks_of region ≡ blocks_of h.region = ap blocks_of is ∙ watch-blocks h.region p line in
         named-still region (ap keeps_freed is ∙ watch-keeps h.region p line)
@@ -153,10 +153,10 @@ row-end (r ∷ rs) (suc i) e = row-end rs i e
 
 -- the items of damaged blocks, under their names
 abbrev pub found_items : Labels → List (Block ℕ × ℤ) → List (List ℕ × ℤ)
-found_items labels fs = filter_map damage_item (map (relabel_found (name_of labels)) fs)
+found_items labels fs = filter_map damage_item (map (relabel_found (name_of_tag labels)) fs)
 
-pub list-damage : (r : Region ℕ) (labels : Labels) → filter_map damage_item (damaged_in (region_with_labels (name_of labels) r)) ≡ found_items labels (damaged_in r)
-list-damage r labels = ap (filter_map damage_item) (damaged-relabelled (name_of labels) r)
+pub list-damage : (r : Region ℕ) (labels : Labels) → filter_map damage_item (damaged_in (region_with_labels (name_of_tag labels) r)) ≡ found_items labels (damaged_in r)
+list-damage r labels = ap (filter_map damage_item) (damaged-relabelled (name_of_tag labels) r)
 
 -- the damaged blocks behind an address
 abbrev pub damaged_behind : ℕ → Region ℕ → List (Block ℕ × ℤ)
@@ -218,9 +218,9 @@ module _ {I : Type 0} {V : I → Type 0} where
   pub record NextDamage (r : made.Region I V) (labels : Labels) (after a : ℕ) (name : Option (List ℕ)) (off : ℤ) : Type 0 where
     pub it : Block ℕ × ℤ
     pub row : damaged_behind after (region_of r) ≡ it ∷ damaged_behind a (region_of r)
-    pub item_is : damage_item (relabel_found (name_of labels) it) ≡ option_map {U = List ℕ × ℤ} (λ x. (x, off)) name
+    pub item_is : damage_item (relabel_found (name_of_tag labels) it) ≡ option_map {U = List ℕ × ℤ} (λ x. (x, off)) name
 
-  pub damage-told : (r : made.Region I V) (labels : Labels) (after a tag : ℕ) (name : Option (List ℕ)) (off : ℤ) → HaveOwnPlaces (blocks_in r) → option_map {U = ℕ × ℤ} (λ f. (address_of f.0, f.1)) (next_damaged_in after (region_of r)) ≡ Some (a, off) → option_map (λ c. c.label) (find_block (place_of a) (blocks_in r)) ≡ Some tag → name ≡ name_of labels tag → NextDamage r labels after a name off
+  pub damage-told : (r : made.Region I V) (labels : Labels) (after a tag : ℕ) (name : Option (List ℕ)) (off : ℤ) → HaveOwnPlaces (blocks_in r) → option_map {U = ℕ × ℤ} (λ f. (address_of f.0, f.1)) (next_damaged_in after (region_of r)) ≡ Some (a, off) → option_map (λ c. c.label) (find_block (place_of a) (blocks_in r)) ≡ Some tag → name ≡ name_of_tag labels tag → NextDamage r labels after a name off
   damage-told r labels after a tag name off places next tagged named =
       let at : Block ℕ × ℤ → ℕ × ℤ = λ g. (address_of g.0, g.1) in
       let f = from_some at (next_damaged_in after (region_of r)) (a, off) next in
@@ -231,7 +231,7 @@ module _ {I : Type 0} {V : I → Type 0} where
         it = f.from;
         row = damaged-next r after f.from f.was ∙ ap (λ n. f.from ∷ damaged_behind n (region_of r)) here;
         item_is =
-            ap (λ (o : Option (List ℕ)). option_map {U = List ℕ × ℤ} (λ x. (x, f.from.1)) o) (ap (name_of labels) label ∙ sym named)
+            ap (λ (o : Option (List ℕ)). option_map {U = List ℕ × ℤ} (λ x. (x, f.from.1)) o) (ap (name_of_tag labels) label ∙ sym named)
             ∙ ap (λ z. option_map {U = List ℕ × ℤ} (λ x. (x, z)) name) (ap (λ (q : ℕ × ℤ). q.1) f.to);
       }
 

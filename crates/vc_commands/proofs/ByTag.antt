@@ -9,9 +9,9 @@ use Rattle.vc_model.proofs.Places.{Among, among-find, place-of}
 use Rattle.vc_region.specs.Region.{Region, blocks_of, region_with_labels}
 use Rattle.vc_region.proofs.Relabel.{relabelled-alike}
 use Rattle.vc_commands.specs.Blocks.{is_name_of}
-use Rattle.vc_commands.specs.Held.{IsLive, IsNamed, tag_count}
-use Rattle.vc_commands.specs.Labels.{name_of, tag_of}
-use Rattle.vc_commands.specs.Tagged.{AreByTag, ArePlaces, has_tag, have_own_tags, label_by_tag, name_by_tag, no_address, place_at, text_by_tag}
+use Rattle.vc_commands.specs.Held.{IsLive, AreLabelsOf, tag_count}
+use Rattle.vc_commands.specs.Labels.{name_of_tag, tag_of}
+use Rattle.vc_commands.specs.Tagged.{AreByTag, ArePlaces, has_tag, have_own_tags, label_by_tag, name_by_tag, address_of_none, place_of_tag, text_by_tag}
 use Rattle.vc_commands.specs.declared.region.labels.Label.{Label}
 use Rattle.vc_commands.specs.declared.region.labels.Labels.{Labels}
 use Rattle.vc_commands.proofs.Agreeing.{count-none}
@@ -26,10 +26,10 @@ texts-apart s t p q e = decimal_injective s t p q (append_cancel_left (codes "b"
 
 -- the places of the tags up to one, where a hole has the address that stands for none; and with those behind it, whose holes have none
 abbrev pub upto : ℕ → List (Option Addr) → ℕ → Option Addr
-upto end places tag = cond (nat_le tag end) (Some (unwrap_or (place_at places tag) no_address)) None
+upto end places tag = cond (nat_le tag end) (Some (unwrap_or (place_of_tag places tag) address_of_none)) None
 
 abbrev pub emptied : ℕ → List (Option Addr) → ℕ → Option Addr
-emptied end places tag = cond (nat_le tag end) (Some (unwrap_or (place_at places tag) no_address)) (place_at places tag)
+emptied end places tag = cond (nat_le tag end) (Some (unwrap_or (place_of_tag places tag) address_of_none)) (place_of_tag places tag)
 
 le-self : (end : ℕ) → nat_le end end ≡ true
 le-self end = grind (arith, nat_tests)
@@ -38,11 +38,11 @@ pub upto-below : (end : ℕ) (places : List (Option Addr)) (tag : ℕ) (a : Addr
 upto-below end places tag a e =
     ⊎_elim
     (λ t. let le = le-from tag end t in omega (arith, le))
-    (λ t. absurd (none-some a (sym (ap (λ b. cond b (Some (unwrap_or (place_at places tag) no_address)) None) t) ∙ e)))
+    (λ t. absurd (none-some a (sym (ap (λ b. cond b (Some (unwrap_or (place_of_tag places tag) address_of_none)) None) t) ∙ e)))
     (cases_Bool (nat_le tag end))
 
-pub emptied-at : (end : ℕ) (places : List (Option Addr)) → emptied end places end ≡ Some (unwrap_or (place_at places end) no_address)
-emptied-at end places = ap (λ b. cond b (Some (unwrap_or (place_at places end) no_address)) (place_at places end)) (le-self end)
+pub emptied-at : (end : ℕ) (places : List (Option Addr)) → emptied end places end ≡ Some (unwrap_or (place_of_tag places end) address_of_none)
+emptied-at end places = ap (λ b. cond b (Some (unwrap_or (place_of_tag places end) address_of_none)) (place_of_tag places end)) (le-self end)
 
 -- no block has the name of a tag that none has
 pub new-by-tag : (f : ℕ → Option Addr) (labels : Labels) (tag : ℕ) → AreByTag f labels → tag < 2 ^ 64 → ((t : ℕ) (a : Addr) → 1 ≤ t → f t ≡ Some a → t < tag) → tag_of labels (text_by_tag tag) ≡ None
@@ -142,13 +142,13 @@ count-slots (b ∷ bs) slots own are =
     ⊎_elim (slots-none b bs own rest slots are) (slots-some b bs own rest slots are) (zero-or b.label)
 
 -- a region's blocks under the names of their tags
-module _ (r : Region ℕ) (places : List (Option Addr)) (labels : Labels) (own_places : HaveOwnPlaces (blocks_of r)) (own : have_own_tags (blocks_of r) ≡ true) (p : ArePlaces (blocks_of r) places) (n : AreByTag (place_at places) labels) where
+module _ (r : Region ℕ) (places : List (Option Addr)) (labels : Labels) (own_places : HaveOwnPlaces (blocks_of r)) (own : have_own_tags (blocks_of r) ≡ true) (p : ArePlaces (blocks_of r) places) (n : AreByTag (place_of_tag places) labels) where
   -- where a block stands by its tag
-  placed : (b : Block ℕ) → Among b (blocks_of r) → 1 ≤ b.label → (a : Addr) × (place_at places b.label ≡ Some a) × (a.0 ≡ address_of b)
+  placed : (b : Block ℕ) → Among b (blocks_of r) → 1 ≤ b.label → (a : Addr) × (place_of_tag places b.label ≡ Some a) × (a.0 ≡ address_of b)
   placed b m first =
       let f = found-among (has_tag b.label) b (blocks_of r) m (eq-eqb b.label b.label refl) in
       let same : b ≡ f.item = own-apart (blocks_of r) b f.item own m (among-find (has_tag b.label) (blocks_of r) f.item f.found) first (sym (eqb-true f.item.label b.label f.passes)) in
-      let s = from_some (λ (a : Addr). a.0) (place_at places b.label) (address_of b) (p.at b.label first ∙ (ap (option_map address_of) f.found ∙ ap (λ (c : Block ℕ). Some (address_of c)) (sym same))) in
+      let s = from_some (λ (a : Addr). a.0) (place_of_tag places b.label) (address_of b) (p.at b.label first ∙ (ap (option_map address_of) f.found ∙ ap (λ (c : Block ℕ). Some (address_of c)) (sym same))) in
       (s.from, s.was, s.to)
 
   live-at : (b : Block ℕ) → Among b (blocks_of r) → 1 ≤ b.label → IsLive labels b
@@ -162,7 +162,7 @@ module _ (r : Region ℕ) (places : List (Option Addr)) (labels : Labels) (own_p
       }
 
   -- the block of a tag that has a place
-  block-of : (tag : ℕ) (a : Addr) → 1 ≤ tag → place_at places tag ≡ Some a → (b : Block ℕ) × Among b (blocks_of r) × (b.label ≡ tag)
+  block-of : (tag : ℕ) (a : Addr) → 1 ≤ tag → place_of_tag places tag ≡ Some a → (b : Block ℕ) × Among b (blocks_of r) × (b.label ≡ tag)
   block-of tag a first e =
       let s = from_some address_of (find (has_tag tag) (blocks_of r)) a.0 (sym (p.at tag first) ∙ ap (option_map (λ (k : Addr). k.0)) e) in
       (s.from, among-find (has_tag tag) (blocks_of r) s.from s.was, eqb-true s.from.label tag (passes-found (has_tag tag) s.from (blocks_of r) s.was))
@@ -179,18 +179,18 @@ module _ (r : Region ℕ) (places : List (Option Addr)) (labels : Labels) (own_p
   slots =
       record {
         taken = λ b m first. let s = placed b m first in ap (λ (o : Option Label). is_some o) (n.at b.label first ∙ ap (option_map (label_by_tag b.label)) s.1);
-        blocks = λ k t. by k (place_at places (k + 1)) refl (sym (ap (λ (o : Option Label). is_some o) (at-key k)) ∙ t);
+        blocks = λ k t. by k (place_of_tag places (k + 1)) refl (sym (ap (λ (o : Option Label). is_some o) (at-key k)) ∙ t);
       }
     where
-      at-key : (k : ℕ) → slice_index_or labels.by_tag.slots k None ≡ option_map (label_by_tag (k + 1)) (place_at places (k + 1))
+      at-key : (k : ℕ) → slice_index_or labels.by_tag.slots k None ≡ option_map (label_by_tag (k + 1)) (place_of_tag places (k + 1))
       at-key k = let e : (k + 1) - 1 ≡ k = omega arith in ap (λ i. slice_index_or labels.by_tag.slots i None) (sym e) ∙ n.at (k + 1) (omega arith)
 
-      by : (k : ℕ) (o : Option Addr) → place_at places (k + 1) ≡ o → is_some (option_map (label_by_tag (k + 1)) (place_at places (k + 1))) ≡ true → (b : Block ℕ) × Among b (blocks_of r) × (b.label ≡ k + 1)
+      by : (k : ℕ) (o : Option Addr) → place_of_tag places (k + 1) ≡ o → is_some (option_map (label_by_tag (k + 1)) (place_of_tag places (k + 1))) ≡ true → (b : Block ℕ) × Among b (blocks_of r) × (b.label ≡ k + 1)
       by k None e t = absurd (false≢true (sym (ap (λ (o : Option Addr). is_some (option_map (label_by_tag (k + 1)) o)) e) ∙ t))
       by k (Some a) e t = block-of (k + 1) a (omega arith) e
 
   -- the name of a block's tag
-  name-is : (b : Block ℕ) → Among b (blocks_of r) → name_of labels b.label ≡ name_by_tag b.label
+  name-is : (b : Block ℕ) → Among b (blocks_of r) → name_of_tag labels b.label ≡ name_by_tag b.label
   name-is b m =
       ⊎_elim
       (λ none. name-none labels b.label none ∙ sym (ap (λ v. cond v None (Some (text_by_tag b.label))) (eq-eqb b.label 0 none)))
@@ -201,21 +201,21 @@ module _ (r : Region ℕ) (places : List (Option Addr)) (labels : Labels) (own_p
       ∙ sym (ap (λ v. cond v None (Some (text_by_tag b.label))) (some-tag b.label first)))
       (zero-or b.label)
 
-  pub by-tag-names : region_with_labels (name_of labels) r ≡ region_with_labels name_by_tag r
-  by-tag-names = relabelled-alike (name_of labels) name_by_tag r (all-among (λ b. name_of labels b.label ≡ name_by_tag b.label) (blocks_of r) name-is)
+  pub by-tag-names : region_with_labels (name_of_tag labels) r ≡ region_with_labels name_by_tag r
+  by-tag-names = relabelled-alike (name_of_tag labels) name_by_tag r (all-among (λ b. name_of_tag labels b.label ≡ name_by_tag b.label) (blocks_of r) name-is)
 
-  known-by : (x : List ℕ) (o : Option ℕ) → tag_of labels x ≡ o → is_some o ≡ list_any (named_by (name_of labels) x) (blocks_of r)
+  known-by : (x : List ℕ) (o : Option ℕ) → tag_of labels x ≡ o → is_some o ≡ list_any (named_by (name_of_tag labels) x) (blocks_of r)
   known-by x (Some t) e =
       let was = n.agree.tagged x t e in
       let l = was.1 in
-      let s = from_some (label_by_tag t) (place_at places t) l.0 (sym (n.at t was.0) ∙ l.1) in
+      let s = from_some (label_by_tag t) (place_of_tag places t) l.0 (sym (n.at t was.0) ∙ l.1) in
       let b = block-of t s.from was.0 s.was in
-      sym (any-among (named_by (name_of labels) x) b.0 (blocks_of r) b.1
-      (ap (λ k. is_name_of x (name_of labels k)) b.2
+      sym (any-among (named_by (name_of_tag labels) x) b.0 (blocks_of r) b.1
+      (ap (λ k. is_name_of x (name_of_tag labels k)) b.2
       ∙ (ap (is_name_of x) (name-here labels t l.0 was.0 l.1)
       ∙ (bytes_eq-Decides l.0.name x).1 l.2)))
   known-by x None e =
-      sym (any-none (named_by (name_of labels) x) (blocks_of r) (λ b m.
+      sym (any-none (named_by (name_of_tag labels) x) (blocks_of r) (λ b m.
       ⊎_elim
       (λ none. ap (is_name_of x) (name-none labels b.label none))
       (λ first.
@@ -225,16 +225,16 @@ module _ (r : Region ℕ) (places : List (Option Addr)) (labels : Labels) (own_p
       let same : l.label.name ≡ x = (bytes_eq-Decides l.label.name x).0 (sym (ap (is_name_of x) (name-here labels b.label l.label first l.here)) ∙ t) in
       absurd (none-some b.label (sym e ∙ (ap (tag_of labels) (sym same) ∙ n.agree.named b.label l.label first l.here))))
       (λ t. t)
-      (cases_Bool (named_by (name_of labels) x b)))
+      (cases_Bool (named_by (name_of_tag labels) x b)))
       (zero-or b.label)))
 
-  pub by-tag-named : IsNamed r labels
+  pub by-tag-named : AreLabelsOf r labels
   by-tag-named =
       record {
         agree = n.agree;
         count = count-slots (blocks_of r) labels.by_tag.slots own slots;
         live = all-among (λ b. 1 ≤ b.label → IsLive labels b) (blocks_of r) live-at;
-        known = λ x. known-by x (tag_of labels x) refl ∙ sym (has-label-any (name_of labels) x r);
+        known = λ x. known-by x (tag_of labels x) refl ∙ sym (has-label-any (name_of_tag labels) x r);
         places = own_places;
         none = λ keeps. n.kept;
       }

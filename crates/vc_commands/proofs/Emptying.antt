@@ -7,23 +7,23 @@ use Rattle.vc_region.specs.Region.{Region, blocks_of, keeps_freed, region_clear,
 use Rattle.vc_region.proofs.Clearing.{cleared-blocks}
 use Rattle.vc_region.proofs.Relabel.{blocks-relabelled, clear-relabelled, keeps-relabelled, relabelled-alike}
 use Rattle.vc_commands.specs.declared.region.labels.Labels.{Labels}
-use Rattle.vc_commands.specs.FreedNames.{FreedNames, line_of}
+use Rattle.vc_commands.specs.FreedNames.{FreedNames, freed_line}
 use Rattle.vc_commands.specs.Home.{Label}
 use Rattle.vc_commands.specs.Whole.{kept_cleared, with_label, with_labels}
-use Rattle.vc_commands.specs.Labels.{AreLabels, kept_of, line_left, name_of, tag_of}
+use Rattle.vc_commands.specs.Labels.{AreLabels, kept_of, line_left, name_of_tag, tag_of}
 use Rattle.vc_commands.specs.Blocks.{is_block, is_name_of}
 use Rattle.vc_commands.proofs.FreedNames.{IsByName, by-name-among, by-name-with, line-with, same-kept}
-use Rattle.vc_commands.specs.Held.{Held, IsChange, IsLive, IsNamed, home_of, tag_count}
+use Rattle.vc_commands.specs.Held.{Held, IsChange, IsLive, AreLabelsOf, home_of, tag_count}
 
 -- a region without blocks is the same under all names
-pub cleared-names : (labels labels' : Labels) (r : Region ℕ) → region_clear (region_with_labels (name_of labels) r) ≡ region_with_labels (name_of labels') (region_clear r)
+pub cleared-names : (labels labels' : Labels) (r : Region ℕ) → region_clear (region_with_labels (name_of_tag labels) r) ≡ region_with_labels (name_of_tag labels') (region_clear r)
 cleared-names labels labels' r =
-    clear-relabelled (name_of labels) r
-    ∙ relabelled-alike (name_of labels) (name_of labels') (region_clear r) (subst (AllByRecursion (λ b. name_of labels b.label ≡ name_of labels' b.label)) (sym (cleared-blocks r)) tt)
+    clear-relabelled (name_of_tag labels) r
+    ∙ relabelled-alike (name_of_tag labels) (name_of_tag labels') (region_clear r) (subst (AllByRecursion (λ b. name_of_tag labels b.label ≡ name_of_tag labels' b.label)) (sym (cleared-blocks r)) tt)
 
 -- the lists after a change that keeps the discipline and the segments
 pub change-same :
-    (h : Held) (disc : Discipline) (region : Region ℕ) (cells : Blocks) (labels : Labels) → cells ≡ h.cells → disc ≡ h.disc → segments_of region ≡ segments_of h.region → HasOut h.disc (segments_of h.region) → IsNamed region labels
+    (h : Held) (disc : Discipline) (region : Region ℕ) (cells : Blocks) (labels : Labels) → cells ≡ h.cells → disc ≡ h.disc → segments_of region ≡ segments_of h.region → HasOut h.disc (segments_of h.region) → AreLabelsOf region labels
     → IsChange h (record { name = h.name; place = h.place; disc = disc; region = region; cells = cells; labels = labels })
 change-same h disc region cells labels same_cells same segments lent names =
     record {
@@ -43,7 +43,7 @@ front rest segments =
 
 -- and after one in which segments went back
 pub change-back :
-    (h : Held) (disc : Discipline) (region : Region ℕ) (cells : Blocks) (labels : Labels) → cells ≡ h.cells → TookBack h.disc disc (segments_of h.region) (segments_of region) → HasOut h.disc (segments_of h.region) → IsNamed region labels
+    (h : Held) (disc : Discipline) (region : Region ℕ) (cells : Blocks) (labels : Labels) → cells ≡ h.cells → TookBack h.disc disc (segments_of h.region) (segments_of region) → HasOut h.disc (segments_of h.region) → AreLabelsOf region labels
     → IsChange h (record { name = h.name; place = h.place; disc = disc; region = region; cells = cells; labels = labels })
 change-back h disc region cells labels same_cells took lent names =
     let now : disc.out ≡ lent.0 ++ segments_of region = took.out lent.0 lent.1 in
@@ -60,19 +60,19 @@ change-back h disc region cells labels same_cells took lent names =
       cells = same_cells;
     }
 
-pub named-cleared : (r : Region ℕ) (labels : Labels) → AreLabels labels → ((x : List ℕ) → tag_of labels x ≡ None) → slab_len labels.by_tag ≡ 0 → HaveOwnPlaces (blocks_of r) → blocks_of r ≡ [] → (keeps_freed r ≡ false → kept_of labels ≡ []) → IsNamed r labels
+pub named-cleared : (r : Region ℕ) (labels : Labels) → AreLabels labels → ((x : List ℕ) → tag_of labels x ≡ None) → slab_len labels.by_tag ≡ 0 → HaveOwnPlaces (blocks_of r) → blocks_of r ≡ [] → (keeps_freed r ≡ false → kept_of labels ≡ []) → AreLabelsOf r labels
 named-cleared r labels agree none count places empty forgets =
     record {
       agree = agree;
       count = ap tag_count empty ∙ sym count;
       live = subst (AllByRecursion (λ b. 1 ≤ b.label → IsLive labels b)) (sym empty) tt;
-      known = λ x. ap is_some (none x) ∙ sym (ap (list_any (is_block x)) (blocks-relabelled (name_of labels) r ∙ ap (map (relabel_block (name_of labels))) empty));
+      known = λ x. ap is_some (none x) ∙ sym (ap (list_any (is_block x)) (blocks-relabelled (name_of_tag labels) r ∙ ap (map (relabel_block (name_of_tag labels))) empty));
       places = places;
       none = forgets;
     }
 
 -- names of a region with the same blocks
-pub named-blocks : (r r' : Region ℕ) (labels : Labels) → blocks_of r' ≡ blocks_of r → keeps_freed r' ≡ keeps_freed r → IsNamed r labels → IsNamed r' labels
+pub named-blocks : (r r' : Region ℕ) (labels : Labels) → blocks_of r' ≡ blocks_of r → keeps_freed r' ≡ keeps_freed r → AreLabelsOf r labels → AreLabelsOf r' labels
 named-blocks r r' labels same keeps n =
     record {
       agree = n.agree;
@@ -81,26 +81,26 @@ named-blocks r r' labels same keeps n =
       known = λ x.
           n.known x
           ∙ ap (list_any (is_block x))
-          (blocks-relabelled (name_of labels) r ∙ (ap (map (relabel_block (name_of labels))) (sym same) ∙ sym (blocks-relabelled (name_of labels) r')));
+          (blocks-relabelled (name_of_tag labels) r ∙ (ap (map (relabel_block (name_of_tag labels))) (sym same) ∙ sym (blocks-relabelled (name_of_tag labels) r')));
       places = subst HaveOwnPlaces (sym same) n.places;
       none = λ e. n.none (sym keeps ∙ e);
     }
 
-line-label : (x : List ℕ) (l : Label) (line : ℕ) (k : FreedNames) → line_of x (with_label l line k) ≡ cond (is_name_of x l) (Some line) (line_of x k)
+line-label : (x : List ℕ) (l : Label) (line : ℕ) (k : FreedNames) → freed_line x (with_label l line k) ≡ cond (is_name_of x l) (Some line) (freed_line x k)
 line-label x None line k = refl
-line-label x (Some y) line k = line-with x y line k ∙ ap (λ b. cond b (Some line) (line_of x k)) (bytes_eq-swapped x y)
+line-label x (Some y) line k = line-with x y line k ∙ ap (λ b. cond b (Some line) (freed_line x k)) (bytes_eq-swapped x y)
 
 either : (a b : Bool) (line : ℕ) (o : Option ℕ) → cond a (Some line) (cond b (Some line) o) ≡ cond (a || b) (Some line) o
 either true b line o = refl
 either false b line o = refl
 
 -- the line of each name once the names of these blocks are kept with one
-line-labels : (x : List ℕ) (bs : List (Block Label)) (line : ℕ) (k : FreedNames) → line_of x (with_labels bs line k) ≡ cond (list_any (is_block x) bs) (Some line) (line_of x k)
+line-labels : (x : List ℕ) (bs : List (Block Label)) (line : ℕ) (k : FreedNames) → freed_line x (with_labels bs line k) ≡ cond (list_any (is_block x) bs) (Some line) (freed_line x k)
 line-labels x [] line k = refl
 line-labels x (b ∷ bs) line k =
     line-label x b.label line (with_labels bs line k)
     ∙ (ap (λ o. cond (is_name_of x b.label) (Some line) o) (line-labels x bs line k)
-    ∙ either (is_name_of x b.label) (list_any (is_block x) bs) line (line_of x k))
+    ∙ either (is_name_of x b.label) (list_any (is_block x) bs) line (freed_line x k))
 
 by-name-label : (l : Label) (line : ℕ) (k : FreedNames) → IsByName k → IsByName (with_label l line k)
 by-name-label None line k s = s
@@ -111,21 +111,21 @@ by-name-labels [] line k s = s
 by-name-labels (b ∷ bs) line k s = by-name-label b.label line (with_labels bs line k) (by-name-labels bs line k s)
 
 -- no name is kept where the region keeps none
-pub none-cleared : (old new : Labels) (keeps : Bool) (line : ℕ) → ((x : List ℕ) → line_of x (kept_of new) ≡ line_left old keeps line x) → keeps ≡ false → kept_of new ≡ []
+pub none-cleared : (old new : Labels) (keeps : Bool) (line : ℕ) → ((x : List ℕ) → freed_line x (kept_of new) ≡ line_left old keeps line x) → keeps ≡ false → kept_of new ≡ []
 none-cleared old new keeps line lines e =
     same-kept (kept_of new) [] (by-name-among new.tags.entries) tt
     (λ x. lines x ∙ ap (λ b. line_left old b line x) e)
 
 -- the names that are kept after a region was cleared
-pub kept-cleared : (h : Held) (line : ℕ) (new : Labels) (keeps : Bool) → keeps ≡ keeps_freed h.region → IsNamed h.region h.labels → ((x : List ℕ) → line_of x (kept_of new) ≡ line_left h.labels keeps line x) → kept_cleared (home_of h) line ≡ kept_of new
+pub kept-cleared : (h : Held) (line : ℕ) (new : Labels) (keeps : Bool) → keeps ≡ keeps_freed h.region → AreLabelsOf h.region h.labels → ((x : List ℕ) → freed_line x (kept_of new) ≡ line_left h.labels keeps line x) → kept_cleared (home_of h) line ≡ kept_of new
 kept-cleared h line new keeps is names lines =
-    ap (λ b. cond b (with_labels (blocks_of (home_of h).region) line (kept_of h.labels)) (kept_of h.labels)) (keeps-relabelled (name_of h.labels) h.region ∙ sym is)
+    ap (λ b. cond b (with_labels (blocks_of (home_of h).region) line (kept_of h.labels)) (kept_of h.labels)) (keeps-relabelled (name_of_tag h.labels) h.region ∙ sym is)
     ∙ by keeps is lines
   where
-    by : (b : Bool) → b ≡ keeps_freed h.region → ((x : List ℕ) → line_of x (kept_of new) ≡ line_left h.labels b line x) → cond b (with_labels (blocks_of (home_of h).region) line (kept_of h.labels)) (kept_of h.labels) ≡ kept_of new
+    by : (b : Bool) → b ≡ keeps_freed h.region → ((x : List ℕ) → freed_line x (kept_of new) ≡ line_left h.labels b line x) → cond b (with_labels (blocks_of (home_of h).region) line (kept_of h.labels)) (kept_of h.labels) ≡ kept_of new
     by true e l =
         same-kept (with_labels (blocks_of (home_of h).region) line (kept_of h.labels)) (kept_of new) (by-name-labels (blocks_of (home_of h).region) line (kept_of h.labels) (by-name-among h.labels.tags.entries)) (by-name-among new.tags.entries)
         (λ x.
         line-labels x (blocks_of (home_of h).region) line (kept_of h.labels)
-        ∙ (ap (λ v. cond v (Some line) (line_of x (kept_of h.labels))) (sym (names.known x)) ∙ sym (l x)))
+        ∙ (ap (λ v. cond v (Some line) (freed_line x (kept_of h.labels))) (sym (names.known x)) ∙ sym (l x)))
     by false e l = names.none (sym e) ∙ sym (none-cleared h.labels new false line l refl)

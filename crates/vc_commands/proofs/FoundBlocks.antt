@@ -14,11 +14,11 @@ use Rattle.vc_region.proofs.Relabel.{blocks-relabelled}
 use Rattle.vc_commands.specs.Home as home
 use Rattle.vc_commands.specs.Home.{Changed, Home, refusal_alone}
 use Rattle.vc_commands.specs.Blocks.{is_align, is_block, is_name_of, no_block, on_block, with_named}
-use Rattle.vc_commands.specs.FreedNames.{line_of}
+use Rattle.vc_commands.specs.FreedNames.{freed_line}
 use Rattle.vc_commands.specs.declared.region.labels.Label.{Label}
 use Rattle.vc_commands.specs.declared.region.labels.Labels.{Labels}
-use Rattle.vc_commands.specs.Labels.{kept_of, label_at, name_of, tag_of}
-use Rattle.vc_commands.specs.Held.{HasName, Held, IsLive, IsNamed, home_of}
+use Rattle.vc_commands.specs.Labels.{kept_of, label_at, name_of_tag, tag_of}
+use Rattle.vc_commands.specs.Held.{HasName, Held, IsLive, AreLabelsOf, home_of}
 use Rattle.vc_script.specs.declared.refusal.Refusal.{Refusal}
 use Rattle.vc_script.specs.declared.reply.Reply.TheVariants.{Refused}
 use Rattle.vc_commands.specs.RegionRun.{GivesRegion}
@@ -28,11 +28,11 @@ use Rattle.vc_commands.proofs.Lists.{Passes, contains-among, found-any}
 use Rattle.vc_commands.proofs.Names.{has-label-any, name-first, name-here, named_by}
 
 -- no block has the name
-pub on_block-none : (h : Held) (x : List ℕ) (act : Block home.Label → Changed) → IsNamed h.region h.labels → tag_of h.labels x ≡ None → on_block (home_of h) x act ≡ refusal_alone (home_of h) (no_block (line_of x (kept_of h.labels)))
+pub on_block-none : (h : Held) (x : List ℕ) (act : Block home.Label → Changed) → AreLabelsOf h.region h.labels → tag_of h.labels x ≡ None → on_block (home_of h) x act ≡ refusal_alone (home_of h) (no_block (freed_line x (kept_of h.labels)))
 on_block-none h x act names none =
     ap (λ o. with_named (home_of h) x o act) (find-none (is_block x) (blocks_of (home_of h).region) (sym (names.known x) ∙ ap is_some none))
 
-pub gives-none : (h : Held) (x : List ℕ) (act : Home → Block home.Label → Changed) (why : Refusal) → IsNamed h.region h.labels → tag_of h.labels x ≡ None → why ≡ no_block (line_of x (kept_of h.labels)) → GivesRegion (on_block (home_of h) x (act (home_of h))) ((home_of h).region, (home_of h).kept) (Refused why)
+pub gives-none : (h : Held) (x : List ℕ) (act : Home → Block home.Label → Changed) (why : Refusal) → AreLabelsOf h.region h.labels → tag_of h.labels x ≡ None → why ≡ no_block (freed_line x (kept_of h.labels)) → GivesRegion (on_block (home_of h) x (act (home_of h))) ((home_of h).region, (home_of h).kept) (Refused why)
 gives-none h x act why names none is =
     gives-unchanged (home_of h) (on_block (home_of h) x (act (home_of h))) why (on_block-none h x (act (home_of h)) names none ∙ ap (refusal_alone (home_of h)) (sym is))
 
@@ -45,28 +45,28 @@ pub record TheBlock (r : Region ℕ) (labels : Labels) (x : List ℕ) (tag a : �
   pub block : Block ℕ
   pub first : 1 ≤ block.label
   pub is_tag : block.label ≡ tag
-  pub name : name_of labels block.label ≡ Some x
+  pub name : name_of_tag labels block.label ≡ Some x
   pub address : address_of block ≡ a
   pub place : place_of a ≡ (block.seg, block.off)
   pub found : find_block (place_of a) (blocks_of r) ≡ Some block
   pub there : Contains (map address_of (blocks_of r)) a
-  pub named : find (is_block x) (blocks_of (region_with_labels (name_of labels) r)) ≡ Some (relabel_block (name_of labels) block)
+  pub named : find (is_block x) (blocks_of (region_with_labels (name_of_tag labels) r)) ≡ Some (relabel_block (name_of_tag labels) block)
 
 -- a name of a region's blocks, by its tag, whose label has an address
 abbrev pub label_of : List ℕ → Addr → Label
 label_of x addr = record { name = x; at = addr }
 
 -- by what the labels tell of it
-pub has-name : {r : Region ℕ} {labels : Labels} {x : List ℕ} {addr : Addr} → IsNamed r labels → (tag : ℕ) × (tag_of labels x ≡ Some tag) × (label_at labels tag ≡ Some (label_of x addr)) → HasName r labels x addr
+pub has-name : {r : Region ℕ} {labels : Labels} {x : List ℕ} {addr : Addr} → AreLabelsOf r labels → (tag : ℕ) × (tag_of labels x ≡ Some tag) × (label_at labels tag ≡ Some (label_of x addr)) → HasName r labels x addr
 has-name names found = record { names = names; tag = found.0; named = found.1; there = found.2 }
 
 module _ {r : Region ℕ} {labels : Labels} {x : List ℕ} {addr : Addr} (has : HasName r labels x addr) where
-  passes : Passes (named_by (name_of labels) x) (blocks_of r)
-  passes = found-any (named_by (name_of labels) x) (blocks_of r) (sym (has-label-any (name_of labels) x r) ∙ (sym (has.names.known x) ∙ ap is_some has.named))
+  passes : Passes (named_by (name_of_tag labels) x) (blocks_of r)
+  passes = found-any (named_by (name_of_tag labels) x) (blocks_of r) (sym (has-label-any (name_of_tag labels) x r) ∙ (sym (has.names.known x) ∙ ap is_some has.named))
 
   pub the_block : TheBlock r labels x has.tag addr.0
   the_block =
-      let f = name_of labels in
+      let f = name_of_tag labels in
       let b = passes.item in
       let among : Among b (blocks_of r) = among-find (named_by f x) (blocks_of r) b passes.found in
       let some = name-some x (f b.label) passes.passes in
@@ -101,7 +101,7 @@ if_some-map None f h = tt
 if_some-map (Some x) f h = f x h
 
 -- what is done with it
-pub on_block-there : (h : Held) (x : List ℕ) (tag a : ℕ) (b : TheBlock h.region h.labels x tag a) (act : Block home.Label → Changed) → on_block (home_of h) x act ≡ act (relabel_block (name_of h.labels) b.block)
+pub on_block-there : (h : Held) (x : List ℕ) (tag a : ℕ) (b : TheBlock h.region h.labels x tag a) (act : Block home.Label → Changed) → on_block (home_of h) x act ≡ act (relabel_block (name_of_tag h.labels) b.block)
 on_block-there h x tag a b act = ap (λ o. with_named (home_of h) x o act) b.named
 
 -- a script's alignment is one of a region

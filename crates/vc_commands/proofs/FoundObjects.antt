@@ -12,7 +12,7 @@ use Rattle.vc_best.specs.Cells.{cells_in}
 use Rattle.vc_best.specs.declared.best.Best.{Best}
 use Rattle.vc_objects.specs.Objects.{Dictionary}
 use Rattle.vc_objects.specs.Parts.{IsWhole, dictionary_in, object_of}
-use Rattle.vc_commands.specs.DictRun.{IsOfHolder, object_there}
+use Rattle.vc_commands.specs.DictRun.{IsOfHolder, object_in_holder}
 
 -- what holds of each object holds of one that is found
 module _ (P : Object → Type 0) where
@@ -42,7 +42,7 @@ module _ {I : Type 0} {V : I → Type 0} (d : Dict) (r : Best I V) where
   each-held = held-each (cells_in r) (holders_of d (cells_in r)) (holders_of d (cells_in r)) (λ a h. h)
 
   pub there-found : (o : Option Object) (at : Option Addr) → IfSome o (IsHeld (cells_in r) (holders_of d (cells_in r)))
-      → option_map number_of at ≡ option_map (λ (x : Object). x.at) o → object_there r at ≡ o
+      → option_map number_of at ≡ option_map (λ (x : Object). x.at) o → object_in_holder r at ≡ o
   there-found None None held e = refl
   there-found (Some o) (Some at) held e =
       grind (arith, e, held.same)
@@ -63,7 +63,7 @@ module _ {I : Type 0} {V : I → Type 0} (d : Dict) (r : Best I V) where
       (h ∙ ap (λ (x : Dictionary). option_map (λ (y : Object). y.at) (F x.objects)) (sym e))
 
   pub there-looked : (F : List Object → Option Object) → ((P : Object → Type 0) (os : List Object) → AllByRecursion P os → IfSome (F os) P) → (old : Dictionary) → dictionary_in d r ≡ old
-      → (at : Option Addr) → option_map number_of at ≡ option_map (λ (x : Object). x.at) (F old.objects) → object_there r at ≡ F old.objects
+      → (at : Option Addr) → option_map number_of at ≡ option_map (λ (x : Object). x.at) (F old.objects) → object_in_holder r at ≡ F old.objects
   there-looked F each old e at h =
       there-found (F (dictionary_in d r).objects) at (each (IsHeld (cells_in r) (holders_of d (cells_in r))) (dictionary_in d r).objects each-held)
       (h ∙ ap (λ (x : Dictionary). option_map (λ (y : Object). y.at) (F x.objects)) (sym e))

@@ -10,8 +10,8 @@ use Rattle.vc_commands.specs.Home as home
 use Rattle.vc_commands.specs.Home.{Home, refusal_alone}
 use Rattle.vc_commands.specs.FreedNames.{with_line}
 use Rattle.vc_commands.specs.Held.{HasName, Held, home_of}
-use Rattle.vc_commands.specs.Blocks.{free_block, free_in, change_by_free, kept_freed}
-use Rattle.vc_commands.specs.Labels.{SameLabels, WithoutLabel, kept_of, label_at, name_of, tag_of}
+use Rattle.vc_commands.specs.Blocks.{free_found, free_named, change_by_free, kept_freed}
+use Rattle.vc_commands.specs.Labels.{SameLabels, WithoutLabel, kept_of, label_at, name_of_tag, tag_of}
 use Rattle.vc_seg.specs.Answer.{IsRefusal}
 use Rattle.vc_seg.specs.declared.fault.RegionFault.{RegionFault}
 use Rattle.vc_commands.specs.Naming.{TellsFault}
@@ -30,49 +30,49 @@ module _ (h : Held) {x : List ℕ} {addr : Addr} (has : HasName h.region h.label
   k = home_of h
 
   abbrev f : ℕ → home.Label
-  f = name_of h.labels
+  f = name_of_tag h.labels
 
-  free-named : free_in (home_of h) x line ≡ change_by_free (home_of h) x (kept_freed (home_of h) x line) (watch_at h.region (place_of addr.0)) (relabel_freed (name_of h.labels) (region_free h.region (place_of addr.0)))
+  free-named : free_named (home_of h) x line ≡ change_by_free (home_of h) x (kept_freed (home_of h) x line) (watch_at h.region (place_of addr.0)) (relabel_freed (name_of_tag h.labels) (region_free h.region (place_of addr.0)))
   free-named =
       let p = place_of addr.0 in
-      on_block-there h x has.tag addr.0 b (free_block k x line)
+      on_block-there h x has.tag addr.0 b (free_found k x line)
       ∙ (ap (λ q. change_by_free k x (kept_freed k x line) (watch_at k.region q) (region_free k.region q)) (sym b.place)
       ∙ (ap (λ w. change_by_free k x (kept_freed k x line) w (region_free k.region p)) (watch-relabelled f h.region p)
       ∙ ap (change_by_free k x (kept_freed k x line) (watch_at h.region p)) (free-relabelled f h.region p)))
 
   pub gives-freed :
       (new : Labels) → WithoutLabel h.labels new has.tag (label_of x addr) → (region : Region ℕ) → region_free h.region (place_of addr.0) ≡ Done region → blocks_of region ≡ without_block (place_of addr.0) (blocks_of h.region) → kept_of new ≡ kept_freed (home_of h) x line
-      → (watch : Option ℕ) → watch ≡ watch_at h.region (place_of addr.0) → GivesRegion (free_in (home_of h) x line) (region_with_labels (name_of new) region, kept_of new) (Freed x watch)
+      → (watch : Option ℕ) → watch ≡ watch_at h.region (place_of addr.0) → GivesRegion (free_named (home_of h) x line) (region_with_labels (name_of_tag new) region, kept_of new) (Freed x watch)
   gives-freed new w region is left keeps watch watched =
       let there = watch_at h.region (place_of addr.0) in
-      let eq : free_in k x line ≡ change_by_free k x (kept_freed k x line) there (Done (region_with_labels f region)) = free-named ∙ ap (λ o. change_by_free k x (kept_freed k x line) there (relabel_freed f o)) is in
-      subst (λ c. GivesRegion c (region_with_labels (name_of new) region, kept_of new) (Freed x watch)) (sym eq)
+      let eq : free_named k x line ≡ change_by_free k x (kept_freed k x line) there (Done (region_with_labels f region)) = free-named ∙ ap (λ o. change_by_free k x (kept_freed k x line) there (relabel_freed f o)) is in
+      subst (λ c. GivesRegion c (region_with_labels (name_of_tag new) region, kept_of new) (Freed x watch)) (sym eq)
       (record {
         region_after = sym (region-less h.labels h.region has.names x has.tag (label_of x addr) has.there b new w refl region left);
         kept_after = sym keeps;
         replied = ap (λ o. Freed x o) (sym watched);
       })
 
-  pub gives-kept : (told : Reply) → Told (λ (refused : Bool). region_free h.region (place_of addr.0)) told → (region : Region ℕ) → region ≡ h.region → GivesRegion (free_in (home_of h) x line) (region_with_labels (name_of h.labels) region, kept_of h.labels) told
+  pub gives-kept : (told : Reply) → Told (λ (refused : Bool). region_free h.region (place_of addr.0)) told → (region : Region ℕ) → region ≡ h.region → GivesRegion (free_named (home_of h) x line) (region_with_labels (name_of_tag h.labels) region, kept_of h.labels) told
   gives-kept told t region same =
-      let eq : free_in k x line ≡ refusal_alone k _ = free-named ∙ ap (λ o. change_by_free k x (kept_freed k x line) (watch_at h.region (place_of addr.0)) (relabel_freed f o)) t.refused in
+      let eq : free_named k x line ≡ refusal_alone k _ = free-named ∙ ap (λ o. change_by_free k x (kept_freed k x line) (watch_at h.region (place_of addr.0)) (relabel_freed f o)) t.refused in
       subst (λ c. GivesRegion c (region_with_labels f region, kept_of h.labels) told) (sym eq) (record { region_after = ap (region_with_labels f) (sym same); kept_after = refl; replied = t.is })
 
-  pub step-kept : {E : Type 0} (fault : RegionFault) (result : Result Reply E) → TellsFault fault result → IsRefusal (λ (refused : Bool). region_free h.region (place_of addr.0)) fault → (region : Region ℕ) → region ≡ h.region → IfOk result (λ told. GivesRegion (free_in (home_of h) x line) (region_with_labels (name_of h.labels) region, kept_of h.labels) told)
+  pub step-kept : {E : Type 0} (fault : RegionFault) (result : Result Reply E) → TellsFault fault result → IsRefusal (λ (refused : Bool). region_free h.region (place_of addr.0)) fault → (region : Region ℕ) → region ≡ h.region → IfOk result (λ told. GivesRegion (free_named (home_of h) x line) (region_with_labels (name_of_tag h.labels) region, kept_of h.labels) told)
   step-kept fault (Ok told) tells refusal region same = gives-kept told (fault-told (λ (refused : Bool). region_free h.region (place_of addr.0)) fault told tells refusal) region same
   step-kept fault (Err e) tells refusal region same = tt
 
   -- the names that are kept then
   pub kept-after : (new : Labels) (keeps : Bool) → keeps ≡ keeps_freed h.region → kept_of new ≡ cond keeps (with_line x line (kept_of h.labels)) (kept_of h.labels) → kept_of new ≡ kept_freed (home_of h) x line
   kept-after new keeps is e =
-      e ∙ ap (λ v. cond v (with_line x line (kept_of h.labels)) (kept_of h.labels)) (is ∙ sym (keeps-relabelled (name_of h.labels) h.region))
+      e ∙ ap (λ v. cond v (with_line x line (kept_of h.labels)) (kept_of h.labels)) (is ∙ sym (keeps-relabelled (name_of_tag h.labels) h.region))
 
   -- none where the region keeps none
   pub none-after : (new : Labels) → kept_of new ≡ kept_freed (home_of h) x line → (region : Region ℕ) → region_free h.region (place_of addr.0) ≡ Done region → keeps_freed region ≡ false → kept_of new ≡ []
   none-after new e region is none =
       let was : keeps_freed h.region ≡ false = sym (free-keeps h.region (place_of addr.0) region is) ∙ none in
       e
-      ∙ (ap (λ v. cond v (with_line x line (kept_of h.labels)) (kept_of h.labels)) (keeps-relabelled (name_of h.labels) h.region ∙ was)
+      ∙ (ap (λ v. cond v (with_line x line (kept_of h.labels)) (kept_of h.labels)) (keeps-relabelled (name_of_tag h.labels) h.region ∙ was)
       ∙ has.names.none was)
 
 -- what holds once the block of a name was taken out

@@ -11,10 +11,10 @@ use Rattle.vc_script.specs.declared.reply.Reply.TheVariants as reply
 use Rattle.vc_script.specs.declared.refusal.Refusal.{Refusal}
 use Rattle.vc_script.specs.declared.refusal.Refusal.TheVariants as why
 use Rattle.vc_script.specs.Needs.{Need}
-use Rattle.vc_commands.specs.FreedNames.{FreedNames, line_of, without_name}
+use Rattle.vc_commands.specs.FreedNames.{FreedNames, freed_line, without_name}
 use Rattle.vc_commands.specs.Home.{Changed, Home, Label, refusal_alone}
 use Rattle.vc_commands.specs.Audit.{check_in, is_poke, poke_block, poke_byte, poke_in, profile_in, watch_block, watch_in}
-use Rattle.vc_commands.specs.Blocks.{free_block, free_in, change_by_free, has_label, has_room, is_align, is_block, is_size, kept_freed, no_block, align_refused, put_by, put_in, put_new, site_of, size_refused, read_block, read_in, resize_block, resize_in, size_in, with_named, write_block, write_in}
+use Rattle.vc_commands.specs.Blocks.{free_found, free_named, change_by_free, has_label, has_label_room, is_align, is_block, is_size, kept_freed, no_block, align_refused, put_unless_refused, put_in, put_new, site_or_hyphen, size_refused, read_found, read_named, resize_found, resize_named, size_named, with_named, write_found, write_named}
 use Rattle.vc_commands.specs.RegionCommands.{in_region, is_for_block}
 use Rattle.vc_commands.specs.Whole.{addr_in, addr_reply, segment_in, segment_reply}
 
@@ -36,7 +36,7 @@ holds-if P true a b p q = p
 holds-if P false a b p q = q
 
 pub holds-block : (P : Reply → Type 0) (h : Home) (x : List ℕ) (o : Option (Block Label)) (act : Block Label → Changed) → ((line : Option ℕ) → P (reply.Refused (no_block line))) → ((b : Block Label) → P (act b).reply) → P (with_named h x o act).reply
-holds-block P h x None act none some = none (line_of x h.kept)
+holds-block P h x None act none some = none (freed_line x h.kept)
 holds-block P h x (Some b) act none some = some b
 
 granted-none : (line : Option ℕ) → IsGranted (reply.Refused (no_block line))
@@ -47,17 +47,17 @@ plain-none : (line : Option ℕ) → IsPlain (reply.Refused (no_block line))
 plain-none None = tt
 plain-none (Some line) = tt
 
-pub granted-write : (h : Home) (x : List ℕ) (off : ℕ) (bytes : List ℕ) → IsGranted (write_in h x off bytes).reply
+pub granted-write : (h : Home) (x : List ℕ) (off : ℕ) (bytes : List ℕ) → IsGranted (write_named h x off bytes).reply
 granted-write h x off bytes =
-    holds-block IsGranted h x (find (is_block x) (blocks_of h.region)) (write_block h x off bytes) granted-none
+    holds-block IsGranted h x (find (is_block x) (blocks_of h.region)) (write_found h x off bytes) granted-none
     (λ b. holds-if IsGranted (nat_le (off + length bytes) b.size) _ (refusal_alone h why.Range) tt tt)
 
-pub granted-read : (h : Home) (x : List ℕ) (off len : ℕ) → IsGranted (read_in h x off len).reply
+pub granted-read : (h : Home) (x : List ℕ) (off len : ℕ) → IsGranted (read_named h x off len).reply
 granted-read h x off len =
-    holds-block IsGranted h x (find (is_block x) (blocks_of h.region)) (read_block h x off len) granted-none
+    holds-block IsGranted h x (find (is_block x) (blocks_of h.region)) (read_found h x off len) granted-none
     (λ b. holds-if IsGranted ((nat_le 1 len && nat_le len 4096) && nat_le (off + len) b.size) _ (refusal_alone h why.Range) tt tt)
 
-pub granted-size : (h : Home) (x : List ℕ) → IsGranted (size_in h x).reply
+pub granted-size : (h : Home) (x : List ℕ) → IsGranted (size_named h x).reply
 granted-size h x = holds-block IsGranted h x (find (is_block x) (blocks_of h.region)) _ granted-none (λ b. tt)
 
 granted-freed : (h : Home) (x : List ℕ) (kept : FreedNames) (watch : Option ℕ) (o : Outcome (Region Label)) → (o ≡ Refused model.NoSegment → ⊥) → IsGranted (change_by_free h x kept watch o).reply
@@ -69,9 +69,9 @@ granted-freed h x kept watch (Refused model.PoolSize) none = tt
 granted-freed h x kept watch (Refused model.NotLast) none = tt
 granted-freed h x kept watch (Refused model.WrongMethod) none = tt
 
-pub granted-free : (h : Home) (x : List ℕ) (line : ℕ) → IsGranted (free_in h x line).reply
+pub granted-free : (h : Home) (x : List ℕ) (line : ℕ) → IsGranted (free_named h x line).reply
 granted-free h x line =
-    holds-block IsGranted h x (find (is_block x) (blocks_of h.region)) (free_block h x line) granted-none
+    holds-block IsGranted h x (find (is_block x) (blocks_of h.region)) (free_found h x line) granted-none
     (λ b. granted-freed h x (kept_freed h x line) (watch_at h.region (b.seg, b.off)) (region_free h.region (b.seg, b.off)) (free-granted h.region (b.seg, b.off)))
 
 granted-addr_reply : (o : Option (Block Label × ℕ)) → IsGranted (addr_reply o)
@@ -124,18 +124,18 @@ plain-aligned : (aligned legal : Bool) → IfSome (let o : Option Refusal = cond
 plain-aligned true legal = plain-sized legal
 plain-aligned false legal = tt
 
-plain-by : (h : Home) (x : List ℕ) (words : Option Refusal) (o : Outcome (Put (Region Label))) → IfSome words (λ w. IsPlain (reply.Refused w)) → IsPlain (put_by h x words o).reply
+plain-by : (h : Home) (x : List ℕ) (words : Option Refusal) (o : Outcome (Put (Region Label))) → IfSome words (λ w. IsPlain (reply.Refused w)) → IsPlain (put_unless_refused h x words o).reply
 plain-by h x (Some refusal) o plain = plain
 plain-by h x None o plain =
-    holds-if IsPlain (has_room h x) (put_in h x (without_name x h.kept) None o) (refusal_alone h why.TooManyBlocks) (plain-put h x (without_name x h.kept) None o) tt
+    holds-if IsPlain (has_label_room h x) (put_in h x (without_name x h.kept) None o) (refusal_alone h why.TooManyBlocks) (plain-put h x (without_name x h.kept) None o) tt
 
 plain-new : (h : Home) (x : List ℕ) (words : Option Refusal) (o : Outcome (Put (Region Label))) → IfSome words (λ w. IsPlain (reply.Refused w)) → IsPlain (put_new h x words o).reply
 plain-new h x words o plain =
-    holds-if IsPlain (has_label x h.region) (refusal_alone h why.BlockExists) (put_by h x words o) tt (plain-by h x words o plain)
+    holds-if IsPlain (has_label x h.region) (refusal_alone h why.BlockExists) (put_unless_refused h x words o) tt (plain-by h x words o plain)
 
-plain-resize : (h : Home) (x : List ℕ) (size : ℕ) (may_move refused : Bool) → IsPlain (resize_in h x size may_move refused).reply
+plain-resize : (h : Home) (x : List ℕ) (size : ℕ) (may_move refused : Bool) → IsPlain (resize_named h x size may_move refused).reply
 plain-resize h x size may_move refused =
-    holds-block IsPlain h x (find (is_block x) (blocks_of h.region)) (resize_block h x size may_move refused) plain-none
+    holds-block IsPlain h x (find (is_block x) (blocks_of h.region)) (resize_found h x size may_move refused) plain-none
     (λ b. holds-if IsPlain (is_size size) _ (refusal_alone h why.Size) (plain-put h x h.kept (watch_at h.region (b.seg, b.off)) (region_resize h.terms h.region (b.seg, b.off) size may_move refused)) tt)
 
 plain-refusal : (w : Refusal) → IsGranted (reply.Refused w) → IsPlain (reply.Refused w)
@@ -149,13 +149,13 @@ plain-granted told g = tt
 
 -- a command in a region tells of no table and no object
 pub plain-region : (h : Home) (line : ℕ) (command : Command) (need : Need) → IsPlain (in_region h line command need).reply
-plain-region h line (Alloc r x size site) need = plain-new h x (size_refused size) (region_alloc h.terms h.region (Some x) (site_of site) size (is_for_block need)) (plain-sized (is_size size))
+plain-region h line (Alloc r x size site) need = plain-new h x (size_refused size) (region_alloc h.terms h.region (Some x) (site_or_hyphen site) size (is_for_block need)) (plain-sized (is_size size))
 plain-region h line (Align r x size align) need = plain-new h x (align_refused h.region size align) (region_align h.terms h.region (Some x) (45 ∷ []) size align (is_for_block need)) (plain-aligned (aligns h.region) (is_size size && is_align align))
 plain-region h line (Resize r x size may_move) need = plain-resize h x size may_move (is_for_block need)
-plain-region h line (Free r x) need = plain-granted (free_in h x line).reply (granted-free h x line)
-plain-region h line (WriteBlock r x off bytes) need = plain-granted (write_in h x off bytes).reply (granted-write h x off bytes)
-plain-region h line (ReadBlock r x off len) need = plain-granted (read_in h x off len).reply (granted-read h x off len)
-plain-region h line (SizeOf r x) need = plain-granted (size_in h x).reply (granted-size h x)
+plain-region h line (Free r x) need = plain-granted (free_named h x line).reply (granted-free h x line)
+plain-region h line (WriteBlock r x off bytes) need = plain-granted (write_named h x off bytes).reply (granted-write h x off bytes)
+plain-region h line (ReadBlock r x off len) need = plain-granted (read_named h x off len).reply (granted-read h x off len)
+plain-region h line (SizeOf r x) need = plain-granted (size_named h x).reply (granted-size h x)
 plain-region h line (AddrOf r at) need = plain-granted (addr_in h at).reply (granted-addr h at)
 plain-region h line (SegmentOf r at) need = plain-granted (segment_in h at).reply (granted-segment h at)
 plain-region h line (Poke r x off byte) need = plain-granted (poke_in h x off byte).reply (granted-poke h x off byte)

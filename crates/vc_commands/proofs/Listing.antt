@@ -16,7 +16,7 @@ use Rattle.vc_base.proofs.Options.{option_map-None}
 use Rattle.vc_script.specs.declared.place.Place.{Place}
 use Rattle.vc_script.specs.declared.reply.Reply.TheVariants.{AddrIn, AddrNone}
 use Rattle.vc_commands.specs.declared.region.labels.Labels.{Labels}
-use Rattle.vc_commands.specs.Labels.{name_of}
+use Rattle.vc_commands.specs.Labels.{name_of_tag}
 use Rattle.vc_commands.specs.Home.{Label}
 use Rattle.vc_commands.specs.Whole.{addr_reply, item_of}
 
@@ -35,16 +35,16 @@ abbrev pub told_at : Block ℕ × ℕ → ℕ × ℕ
 told_at f = (address_of f.0, f.1)
 
 -- no block holds a byte
-pub addr-none : (r : Region ℕ) (labels : Labels) (at : ℕ × ℕ) → option_map told_at (block_at at (blocks_of r)) ≡ None → addr_reply (block_at at (blocks_of (region_with_labels (name_of labels) r))) ≡ AddrNone
+pub addr-none : (r : Region ℕ) (labels : Labels) (at : ℕ × ℕ) → option_map told_at (block_at at (blocks_of r)) ≡ None → addr_reply (block_at at (blocks_of (region_with_labels (name_of_tag labels) r))) ≡ AddrNone
 addr-none r labels at e =
-    ap (λ bs. addr_reply (block_at at bs)) (blocks-relabelled (name_of labels) r)
-    ∙ (ap addr_reply (block_at-relabel (name_of labels) at (blocks_of r))
-    ∙ ap (λ (o : Option (Block ℕ × ℕ)). addr_reply (option_map {U = Block Label × ℕ} (λ g. (relabel_block (name_of labels) g.0, g.1)) o)) (option_map-None told_at (block_at at (blocks_of r)) e))
+    ap (λ bs. addr_reply (block_at at bs)) (blocks-relabelled (name_of_tag labels) r)
+    ∙ (ap addr_reply (block_at-relabel (name_of_tag labels) at (blocks_of r))
+    ∙ ap (λ (o : Option (Block ℕ × ℕ)). addr_reply (option_map {U = Block Label × ℕ} (λ g. (relabel_block (name_of_tag labels) g.0, g.1)) o)) (option_map-None told_at (block_at at (blocks_of r)) e))
 
 -- one block does
 pub addr-some :
     (r : Region ℕ) (labels : Labels) (at : ℕ × ℕ) (a off tag : ℕ) (name : Label) → HaveOwnPlaces (blocks_of r) → option_map told_at (block_at at (blocks_of r)) ≡ Some (a, off)
-    → option_map (λ b. b.label) (find_block (place_of a) (blocks_of r)) ≡ Some tag → name ≡ name_of labels tag → addr_reply (block_at at (blocks_of (region_with_labels (name_of labels) r))) ≡ AddrIn name off
+    → option_map (λ b. b.label) (find_block (place_of a) (blocks_of r)) ≡ Some tag → name ≡ name_of_tag labels tag → addr_reply (block_at at (blocks_of (region_with_labels (name_of_tag labels) r))) ≡ AddrIn name off
 addr-some r labels at a off tag name places told tagged named =
     let f : FromSome told_at (block_at at (blocks_of r)) (a, off) = from_some told_at (block_at at (blocks_of r)) (a, off) told in
     let within : Block ℕ → Block ℕ × ℕ = λ b. (b, at.1 - b.off) in
@@ -53,10 +53,10 @@ addr-some r labels at a off tag name places told tagged named =
     let here : address_of g.from ≡ a = ap address_of block ∙ ap (λ (x : ℕ × ℕ). x.0) f.to in
     let found : find_block (place_of a) (blocks_of r) ≡ Some g.from = found-there (blocks_of r) g.from a places (among-find (holds_byte at) (blocks_of r) g.from g.was) here in
     let is : g.from.label ≡ tag = same_Some g.from.label tag (sym (ap (option_map (λ b. b.label)) found) ∙ tagged) in
-    ap (λ bs. addr_reply (block_at at bs)) (blocks-relabelled (name_of labels) r)
-    ∙ (ap addr_reply (block_at-relabel (name_of labels) at (blocks_of r))
-    ∙ (ap (λ (o : Option (Block ℕ × ℕ)). addr_reply (option_map {U = Block Label × ℕ} (λ q. (relabel_block (name_of labels) q.0, q.1)) o)) f.was
-    ∙ (ap (λ n. AddrIn n f.from.1) (ap (λ (b : Block ℕ). name_of labels b.label) (sym block) ∙ (ap (name_of labels) is ∙ sym named))
+    ap (λ bs. addr_reply (block_at at bs)) (blocks-relabelled (name_of_tag labels) r)
+    ∙ (ap addr_reply (block_at-relabel (name_of_tag labels) at (blocks_of r))
+    ∙ (ap (λ (o : Option (Block ℕ × ℕ)). addr_reply (option_map {U = Block Label × ℕ} (λ q. (relabel_block (name_of_tag labels) q.0, q.1)) o)) f.was
+    ∙ (ap (λ n. AddrIn n f.from.1) (ap (λ (b : Block ℕ). name_of_tag labels b.label) (sym block) ∙ (ap (name_of_tag labels) is ∙ sym named))
     ∙ ap (λ k. AddrIn name k) (ap (λ (x : ℕ × ℕ). x.1) f.to))))
 
 -- segments by number
@@ -113,22 +113,22 @@ module _ {I : Type 0} {V : I → Type 0} (r : Open I V) where
 
 -- the items of blocks under their names
 abbrev pub items_of : Labels → List (Block ℕ) → List (Label × Place × ℕ)
-items_of labels bs = map item_of (map (relabel_block (name_of labels)) bs)
+items_of labels bs = map item_of (map (relabel_block (name_of_tag labels)) bs)
 
-pub list-items : (r : Region ℕ) (labels : Labels) → map item_of (by_address (blocks_of (region_with_labels (name_of labels) r))) ≡ items_of labels (by_address (blocks_of r))
+pub list-items : (r : Region ℕ) (labels : Labels) → map item_of (by_address (blocks_of (region_with_labels (name_of_tag labels) r))) ≡ items_of labels (by_address (blocks_of r))
 list-items r labels =
-    ap (λ bs. map item_of (by_address bs)) (blocks-relabelled (name_of labels) r)
-    ∙ ap (map item_of) (by_address-relabel (name_of labels) (blocks_of r))
+    ap (λ bs. map item_of (by_address bs)) (blocks-relabelled (name_of_tag labels) r)
+    ∙ ap (map item_of) (by_address-relabel (name_of_tag labels) (blocks_of r))
 
 -- the block that is next, and what is told of it
 pub record NextBlock (bs : List (Block ℕ)) (labels : Labels) (after a : ℕ) (item : Label × Place × ℕ) : Type 0 where
   pub it : Block ℕ
   pub row : blocks_above after bs ≡ it ∷ blocks_above a bs
-  pub item_is : item_of (relabel_block (name_of labels) it) ≡ item
+  pub item_is : item_of (relabel_block (name_of_tag labels) it) ≡ item
 
 pub next-told :
     (bs : List (Block ℕ)) (labels : Labels) (after a tag size : ℕ) (name : Label) (place : Place) → HaveOwnPlaces bs → option_map address_of (next_block after bs) ≡ Some a
-    → option_map (λ b. b.label) (find_block (place_of a) bs) ≡ Some tag → name ≡ name_of labels tag → place.seg ≡ (place_of a).0 → place.off ≡ (place_of a).1
+    → option_map (λ b. b.label) (find_block (place_of a) bs) ≡ Some tag → name ≡ name_of_tag labels tag → place.seg ≡ (place_of a).0 → place.off ≡ (place_of a).1
     → option_map (λ b. b.size) (find_block (place_of a) bs) ≡ Some size → NextBlock bs labels after a (name, place, size)
 next-told bs labels after a tag size name place places next tagged named seg off sized =
     let f : FromSome address_of (next_block after bs) a = from_some address_of (next_block after bs) a next in
@@ -143,7 +143,7 @@ next-told bs labels after a tag size name place places next tagged named seg off
       it = b;
       row = blocks-next after bs b a places f.was f.to;
       item_is =
-          ap (λ n. item n b.seg b.off b.size) (ap (name_of labels) label ∙ sym named)
+          ap (λ n. item n b.seg b.off b.size) (ap (name_of_tag labels) label ∙ sym named)
           ∙ (ap (λ s. item name s b.off b.size) (sym (seg ∙ ap (λ (p : ℕ × ℕ). p.0) at))
           ∙ (ap (λ o. item name place.seg o b.size) (sym (off ∙ ap (λ (p : ℕ × ℕ). p.1) at))
           ∙ ap (λ k. item name place.seg place.off k) bytes));

@@ -7,8 +7,8 @@ use Rattle.vc_commands.specs.Blocks.{is_name_of}
 use Rattle.vc_commands.specs.declared.region.labels.Label.{Label}
 use Rattle.vc_commands.specs.declared.region.labels.Labels.{Labels}
 use Rattle.vc_commands.specs.Home as home
-use Rattle.vc_commands.specs.Labels.{AreLabels, MovesLabel, WithLabel, WithoutLabel, kept_of, label_at, name_of, tag_of}
-use Rattle.vc_commands.specs.Held.{IsLive, IsNamed, tag_count}
+use Rattle.vc_commands.specs.Labels.{AreLabels, MovesLabel, WithLabel, WithoutLabel, kept_of, label_at, name_of_tag, tag_of}
+use Rattle.vc_commands.specs.Held.{IsLive, AreLabelsOf, tag_count}
 use Rattle.vc_commands.proofs.FoundBlocks.{TheBlock}
 use Rattle.vc_audit.proofs.ProfileLists.{all-join, all-without, others-apart}
 use Rattle.vc_commands.proofs.Lists.{any-alike, any-split, count-split}
@@ -26,18 +26,18 @@ lives : (old new : Labels) (bs : List (Block ℕ)) → AllByRecursion (Stays old
 lives old new [] all = tt
 lives old new (b ∷ bs) all = ((λ first. (all.0 first).0), lives old new bs all.1)
 
-name-stays : (old new : Labels) (b : Block ℕ) → Stays old new b → name_of new b.label ≡ name_of old b.label
+name-stays : (old new : Labels) (b : Block ℕ) → Stays old new b → name_of_tag new b.label ≡ name_of_tag old b.label
 name-stays old new b stays =
     ⊎_elim
     (λ none. name-none new b.label none ∙ sym (name-none old b.label none))
     (λ some. name-alike old new b.label (stays some).1)
     (zero-or b.label)
 
-pub names-stay : (old new : Labels) (bs : List (Block ℕ)) → AllByRecursion (Stays old new) bs → AllByRecursion (λ b. name_of new b.label ≡ name_of old b.label) bs
+pub names-stay : (old new : Labels) (bs : List (Block ℕ)) → AllByRecursion (Stays old new) bs → AllByRecursion (λ b. name_of_tag new b.label ≡ name_of_tag old b.label) bs
 names-stay old new [] all = tt
 names-stay old new (b ∷ bs) all = (name-stays old new b all.0, names-stay old new bs all.1)
 
-tests-stay : (old new : Labels) (y : List ℕ) (bs : List (Block ℕ)) → AllByRecursion (λ b. name_of new b.label ≡ name_of old b.label) bs → AllByRecursion (λ b. named_by (name_of new) y b ≡ named_by (name_of old) y b) bs
+tests-stay : (old new : Labels) (y : List ℕ) (bs : List (Block ℕ)) → AllByRecursion (λ b. name_of_tag new b.label ≡ name_of_tag old b.label) bs → AllByRecursion (λ b. named_by (name_of_tag new) y b ≡ named_by (name_of_tag old) y b) bs
 tests-stay old new y [] all = tt
 tests-stay old new y (b ∷ bs) all = (ap (is_name_of y) all.0, tests-stay old new y bs all.1)
 
@@ -58,12 +58,12 @@ module _ (old new : Labels) (tag : ℕ) (label : Label) (w : WithLabel old new t
     stay-new bs all.1,
   )
 
-  pub name-new : name_of new tag ≡ Some label.name
+  pub name-new : name_of_tag new tag ≡ Some label.name
   name-new = name-here new tag label w.first w.at
 
   -- one more name changes no block's name
-  pub region-more : (r : Region ℕ) → IsNamed r old → region_with_labels (name_of new) r ≡ region_with_labels (name_of old) r
-  region-more r names = relabelled-alike (name_of new) (name_of old) r (names-stay old new (blocks_of r) (stay-new (blocks_of r) names.live))
+  pub region-more : (r : Region ℕ) → AreLabelsOf r old → region_with_labels (name_of_tag new) r ≡ region_with_labels (name_of_tag old) r
+  region-more r names = relabelled-alike (name_of_tag new) (name_of_tag old) r (names-stay old new (blocks_of r) (stay-new (blocks_of r) names.live))
 
   known-more : (y : List ℕ) → is_some (tag_of new y) ≡ (bytes_eq label.name y || is_some (tag_of old y))
   known-more y =
@@ -72,7 +72,7 @@ module _ (old new : Labels) (tag : ℕ) (label : Label) (w : WithLabel old new t
       (λ e. ap is_some (w.other_names y (λ same. other_bytes label.name y e (sym same))) ∙ sym (ap (λ b. b || is_some (tag_of old y)) e))
       (cases_Bool (bytes_eq label.name y))
 
-  pub named-put : (r r' : Region ℕ) (size : ℕ) → find_block (place_of label.at.0) (blocks_of r') ≡ Some (zeros tag size (place_of label.at.0)) → without_block (place_of label.at.0) (blocks_of r') ≡ blocks_of r → label.at.0 ≡ address (place_of label.at.0) → AreLabels new → HaveOwnPlaces (blocks_of r') → (keeps_freed r' ≡ false → kept_of new ≡ []) → IsNamed r old → IsNamed r' new
+  pub named-put : (r r' : Region ℕ) (size : ℕ) → find_block (place_of label.at.0) (blocks_of r') ≡ Some (zeros tag size (place_of label.at.0)) → without_block (place_of label.at.0) (blocks_of r') ≡ blocks_of r → label.at.0 ≡ address (place_of label.at.0) → AreLabels new → HaveOwnPlaces (blocks_of r') → (keeps_freed r' ≡ false → kept_of new ≡ []) → AreLabelsOf r old → AreLabelsOf r' new
   named-put r r' size there others at agree places none n =
       let p = place_of label.at.0 in
       let z : Block ℕ = zeros tag size p in
@@ -87,24 +87,24 @@ module _ (old new : Labels) (tag : ℕ) (label : Label) (w : WithLabel old new t
         live = all-join p z (λ b. 1 ≤ b.label → IsLive new b) (blocks_of r') there (λ low. record { label = label; here = w.at; at = at; place = refl }) (lives old new (without_block p (blocks_of r')) stays);
         known = λ y.
             known-more y
-            ∙ (ap (λ v. bytes_eq label.name y || v) (n.known y ∙ has-label-any (name_of old) y r)
-            ∙ sym (has-label-any (name_of new) y r'
-            ∙ (any-split p z (named_by (name_of new) y) (blocks_of r') there
-            ∙ (ap (λ o. is_name_of y o || list_any (named_by (name_of new) y) (without_block p (blocks_of r'))) name-new
+            ∙ (ap (λ v. bytes_eq label.name y || v) (n.known y ∙ has-label-any (name_of_tag old) y r)
+            ∙ sym (has-label-any (name_of_tag new) y r'
+            ∙ (any-split p z (named_by (name_of_tag new) y) (blocks_of r') there
+            ∙ (ap (λ o. is_name_of y o || list_any (named_by (name_of_tag new) y) (without_block p (blocks_of r'))) name-new
             ∙ (ap (λ v. bytes_eq label.name y || v)
-            (ap (list_any (named_by (name_of new) y)) others
-            ∙ any-alike (named_by (name_of new) y) (named_by (name_of old) y) (blocks_of r) (tests-stay old new y (blocks_of r) (names-stay old new (blocks_of r) (stay-new (blocks_of r) n.live)))))))));
+            (ap (list_any (named_by (name_of_tag new) y)) others
+            ∙ any-alike (named_by (name_of_tag new) y) (named_by (name_of_tag old) y) (blocks_of r) (tests-stay old new y (blocks_of r) (names-stay old new (blocks_of r) (stay-new (blocks_of r) n.live)))))))));
         places = places;
         none = none;
       }
 
 -- blocks that stand elsewhere than the one of a name have other tags
-module _ (old : Labels) (r : Region ℕ) (names : IsNamed r old) (x : List ℕ) (tag : ℕ) (label : Label) (was_at : label_at old tag ≡ Some label) (b : TheBlock r old x tag label.at.0) where
+module _ (old : Labels) (r : Region ℕ) (names : AreLabelsOf r old) (x : List ℕ) (tag : ℕ) (label : Label) (was_at : label_at old tag ≡ Some label) (b : TheBlock r old x tag label.at.0) where
   abbrev p : ℕ × ℕ
   p = place_of label.at.0
 
   abbrev f : ℕ → home.Label
-  f = name_of old
+  f = name_of_tag old
 
   differs : (c : Block ℕ) → (1 ≤ c.label → IsLive old c) → address_of c ≢ address_of b.block → 1 ≤ c.label → c.label ≢ tag
   differs c live other first e =
@@ -130,20 +130,20 @@ module _ (old : Labels) (r : Region ℕ) (names : IsNamed r old) (x : List ℕ) 
 
   -- the block has another address, or another size or bytes, under its tag
   module _ (new : Labels) (to : Label) (m : MovesLabel old new tag to) (same_name : to.name ≡ label.name) where
-    pub name-moved : (t : ℕ) → name_of new t ≡ name_of old t
+    pub name-moved : (t : ℕ) → name_of_tag new t ≡ name_of_tag old t
     name-moved t =
         ⊎_elim
         (λ e.
-        subst (λ u. name_of new u ≡ name_of old u) (sym e)
+        subst (λ u. name_of_tag new u ≡ name_of_tag old u) (sym e)
         (name-here new tag to m.first m.at ∙ (ap (λ n. Some n) same_name ∙ sym (name-here old tag label m.first was_at))))
         (λ other. other-name t other)
         (cases_eq t tag)
       where
-        other-name : (u : ℕ) → u ≢ tag → name_of new u ≡ name_of old u
+        other-name : (u : ℕ) → u ≢ tag → name_of_tag new u ≡ name_of_tag old u
         other-name zero other = name-none new 0 refl ∙ sym (name-none old 0 refl)
         other-name (suc u) other = name-alike old new (suc u) (m.other_tags (suc u) (omega arith) other)
 
-    pub named-moved : (r' : Region ℕ) (b' : Block ℕ) → find_block (place_of to.at.0) (blocks_of r') ≡ Some b' → b'.label ≡ b.block.label → to.at.0 ≡ address_of b' → place_of to.at.0 ≡ (b'.seg, b'.off) → without_block (place_of to.at.0) (blocks_of r') ≡ without_block (place_of label.at.0) (blocks_of r) → AreLabels new → HaveOwnPlaces (blocks_of r') → (keeps_freed r' ≡ false → kept_of new ≡ []) → IsNamed r' new
+    pub named-moved : (r' : Region ℕ) (b' : Block ℕ) → find_block (place_of to.at.0) (blocks_of r') ≡ Some b' → b'.label ≡ b.block.label → to.at.0 ≡ address_of b' → place_of to.at.0 ≡ (b'.seg, b'.off) → without_block (place_of to.at.0) (blocks_of r') ≡ without_block (place_of label.at.0) (blocks_of r) → AreLabels new → HaveOwnPlaces (blocks_of r') → (keeps_freed r' ≡ false → kept_of new ≡ []) → AreLabelsOf r' new
     named-moved r' b' there tagged at place others agree places none =
         let q = place_of to.at.0 in
         let stays : AllByRecursion (Stays old new) (without_block q (blocks_of r')) = subst (AllByRecursion (Stays old new)) (sym others) (rest-stays new m.other_tags) in
@@ -162,27 +162,27 @@ module _ (old : Labels) (r : Region ℕ) (names : IsNamed r old) (x : List ℕ) 
               ∙ (names.known y
               ∙ (has-label-any f y r
               ∙ (any-split p b.block (named_by f y) (blocks_of r) b.found
-              ∙ sym (has-label-any (name_of new) y r'
-              ∙ (any-split q b' (named_by (name_of new) y) (blocks_of r') there
-              ∙ (ap (λ o. is_name_of y o || list_any (named_by (name_of new) y) (without_block q (blocks_of r'))) (name-moved b'.label ∙ ap f tagged)
+              ∙ sym (has-label-any (name_of_tag new) y r'
+              ∙ (any-split q b' (named_by (name_of_tag new) y) (blocks_of r') there
+              ∙ (ap (λ o. is_name_of y o || list_any (named_by (name_of_tag new) y) (without_block q (blocks_of r'))) (name-moved b'.label ∙ ap f tagged)
               ∙ ap (λ v. is_name_of y (f b.block.label) || v)
-              (ap (list_any (named_by (name_of new) y)) others
-              ∙ any-alike (named_by (name_of new) y) (named_by f y) (without_block p (blocks_of r)) (tests-stay old new y (without_block p (blocks_of r)) (names-stay old new (without_block p (blocks_of r)) (rest-stays new m.other_tags))))))))));
+              (ap (list_any (named_by (name_of_tag new) y)) others
+              ∙ any-alike (named_by (name_of_tag new) y) (named_by f y) (without_block p (blocks_of r)) (tests-stay old new y (without_block p (blocks_of r)) (names-stay old new (without_block p (blocks_of r)) (rest-stays new m.other_tags))))))))));
           places = places;
           none = none;
         }
 
   -- the block goes, and its name
   module _ (new : Labels) (w : WithoutLabel old new tag label) (is_named : label.name ≡ x) where
-    pub region-less : (r' : Region ℕ) → blocks_of r' ≡ without_block (place_of label.at.0) (blocks_of r) → region_with_labels (name_of new) r' ≡ region_with_labels (name_of old) r'
-    region-less r' left = relabelled-alike (name_of new) (name_of old) r' (names-stay old new (blocks_of r') (subst (AllByRecursion (Stays old new)) (sym left) (rest-stays new w.other_tags)))
+    pub region-less : (r' : Region ℕ) → blocks_of r' ≡ without_block (place_of label.at.0) (blocks_of r) → region_with_labels (name_of_tag new) r' ≡ region_with_labels (name_of_tag old) r'
+    region-less r' left = relabelled-alike (name_of_tag new) (name_of_tag old) r' (names-stay old new (blocks_of r') (subst (AllByRecursion (Stays old new)) (sym left) (rest-stays new w.other_tags)))
 
-    unnamed : (y : List ℕ) → AreLabels new → tag_of new y ≡ None → (bs : List (Block ℕ)) → AllByRecursion (λ c. 1 ≤ c.label → IsLive new c) bs → list_any (named_by (name_of new) y) bs ≡ false
+    unnamed : (y : List ℕ) → AreLabels new → tag_of new y ≡ None → (bs : List (Block ℕ)) → AllByRecursion (λ c. 1 ≤ c.label → IsLive new c) bs → list_any (named_by (name_of_tag new) y) bs ≡ false
     unnamed y agree none [] all = refl
     unnamed y agree none (c ∷ cs) all =
-        ap (λ v. v || list_any (named_by (name_of new) y) cs) (fails c.label all.0) ∙ unnamed y agree none cs all.1
+        ap (λ v. v || list_any (named_by (name_of_tag new) y) cs) (fails c.label all.0) ∙ unnamed y agree none cs all.1
       where
-        fails : (t : ℕ) → (1 ≤ c.label → IsLive new c) → is_name_of y (name_of new c.label) ≡ false
+        fails : (t : ℕ) → (1 ≤ c.label → IsLive new c) → is_name_of y (name_of_tag new c.label) ≡ false
         fails t live =
             ⊎_elim
             (λ zero_is. ap (is_name_of y) (name-none new c.label zero_is))
@@ -196,7 +196,7 @@ module _ (old : Labels) (r : Region ℕ) (names : IsNamed r old) (x : List ℕ) 
             (cases_Bool (bytes_eq l.label.name y)))
             (zero-or c.label)
 
-    pub named-left : (r' : Region ℕ) → blocks_of r' ≡ without_block (place_of label.at.0) (blocks_of r) → AreLabels new → HaveOwnPlaces (blocks_of r') → (keeps_freed r' ≡ false → kept_of new ≡ []) → IsNamed r' new
+    pub named-left : (r' : Region ℕ) → blocks_of r' ≡ without_block (place_of label.at.0) (blocks_of r) → AreLabels new → HaveOwnPlaces (blocks_of r') → (keeps_freed r' ≡ false → kept_of new ≡ []) → AreLabelsOf r' new
     named-left r' left agree places none =
         let stays : AllByRecursion (Stays old new) (blocks_of r') = subst (AllByRecursion (Stays old new)) (sym left) (rest-stays new w.other_tags) in
         let live = lives old new (blocks_of r') stays in
@@ -212,7 +212,7 @@ module _ (old : Labels) (r : Region ℕ) (names : IsNamed r old) (x : List ℕ) 
               ⊎_elim
               (λ e.
               let gone : tag_of new y ≡ None = ap (tag_of new) (sym (is_named ∙ same_bytes x y e)) ∙ w.name_gone in
-              ap is_some gone ∙ sym (has-label-any (name_of new) y r' ∙ unnamed y agree gone (blocks_of r') live))
+              ap is_some gone ∙ sym (has-label-any (name_of_tag new) y r' ∙ unnamed y agree gone (blocks_of r') live))
               (λ e.
               ap is_some (w.other_names y (λ same_name. other_bytes x y e (sym (same_name ∙ is_named))))
               ∙ (names.known y
@@ -221,8 +221,8 @@ module _ (old : Labels) (r : Region ℕ) (names : IsNamed r old) (x : List ℕ) 
               ∙ (ap (λ o. is_name_of y o || list_any (named_by f y) (without_block p (blocks_of r))) b.name
               ∙ (ap (λ v. v || list_any (named_by f y) (without_block p (blocks_of r))) e
               ∙ (ap (list_any (named_by f y)) (sym left)
-              ∙ (sym (any-alike (named_by (name_of new) y) (named_by f y) (blocks_of r') (tests-stay old new y (blocks_of r') (names-stay old new (blocks_of r') stays)))
-              ∙ sym (has-label-any (name_of new) y r')))))))))
+              ∙ (sym (any-alike (named_by (name_of_tag new) y) (named_by f y) (blocks_of r') (tests-stay old new y (blocks_of r') (names-stay old new (blocks_of r') stays)))
+              ∙ sym (has-label-any (name_of_tag new) y r')))))))))
               (cases_Bool (bytes_eq x y));
           places = places;
           none = none;

@@ -14,7 +14,7 @@ use Rattle.vc_script.specs.declared.command.Command.TheVariants.{Insert, Append,
 use Rattle.vc_script.specs.declared.refusal.Refusal.TheVariants.{NoSegmentForTable, NoSegmentForObject, Size, WrongMethod}
 use Rattle.vc_script.specs.declared.reply.Reply.{Reply}
 use Rattle.vc_script.specs.declared.reply.Reply.TheVariants.{Emptied, Refused}
-use Rattle.vc_commands.specs.DictCommands.{append_in, delete_in, empty_in, in_dict, insert_in, is_for_object, is_for_table, is_object, object_asked, inserted_as, put_object, put_unless, remove_in, removed_as, standing, table_asked, turned_as, where_object}
+use Rattle.vc_commands.specs.DictCommands.{append_in, delete_in, empty_in, in_dict, insert_in, is_for_object, is_for_table, is_object, object_asked, inserted_as, put_object, put_unless, remove_in, removed_as, matched_in_set, table_asked, turned_as, where_object}
 use Rattle.vc_commands.specs.DictRun.{LacksBy}
 use Rattle.vc_commands.specs.Seat.{DictChanged, Seat, seat_with_refusal}
 
@@ -44,7 +44,7 @@ module _ {L M : Type 0} (f : L → M) where
   put_unless-named s bytes need None = put_object-named s false bytes need
 
   insert_in-named : (s : Seat L) (bytes : List ℕ) (need : Need) → insert_in (relabel_seat s) bytes need ≡ relabel_changed (insert_in s bytes need)
-  insert_in-named s bytes need = put_unless-named s bytes need (standing s bytes)
+  insert_in-named s bytes need = put_unless-named s bytes need (matched_in_set s bytes)
 
   by_method : (s : Seat L) (bytes : List ℕ) (need : Need) (list : Bool) → cond list (where_object (relabel_seat s) bytes (put_object (relabel_seat s) true (s.rules.made bytes) need)) (seat_with_refusal (relabel_seat s) WrongMethod) ≡ relabel_changed (cond list (where_object s bytes (put_object s true (s.rules.made bytes) need)) (seat_with_refusal s WrongMethod))
   by_method s bytes need true = where_object-named s bytes (put_object s true (s.rules.made bytes) need) _ (put_object-named s true (s.rules.made bytes) need)

@@ -6,7 +6,7 @@ use Rattle.vc_model.proofs.Pairs.{AllPairs-head, AllPairs-tail, all-recursion}
 use Rattle.vc_model.proofs.Places.{Among, among-above, among-all, among-find, found-there}
 use Rattle.vc_model.proofs.Sorting.{is_above}
 use Rattle.vc_commands.specs.Blocks.{label_limit}
-use Rattle.vc_commands.specs.Tagged.{ArePlaces, PutsPlace, has_tag, have_own_tags, is_own_tag, is_vacant, place_at}
+use Rattle.vc_commands.specs.Tagged.{ArePlaces, PutsPlace, has_tag, have_own_tags, is_own_tag, is_vacant, place_of_tag}
 use Rattle.vc_commands.proofs.Listing.{FromSome, blocks-next, blocks_above, from_some}
 use Rattle.vc_commands.proofs.Lists.{Passes, found-any}
 
@@ -137,7 +137,7 @@ own-most (d ∷ ds) b own m first =
 -- a block stands at its tag
 pub record Has (places : List (Option Addr)) (b : Block ℕ) : Type 0 where
   pub most : b.label ≤ label_limit
-  pub at : option_map (λ (a : Addr). a.0) (place_at places b.label) ≡ Some (address_of b)
+  pub at : option_map (λ (a : Addr). a.0) (place_of_tag places b.label) ≡ Some (address_of b)
 
 -- where each does, each tag is a block's own
 own-all : (places : List (Option Addr)) (bs : List (Block ℕ)) → AllPairs (λ x y. address_of x ≢ address_of y) bs → ((b : Block ℕ) → Among b bs → 1 ≤ b.label → Has places b) → have_own_tags bs ≡ true
@@ -157,7 +157,7 @@ own-all places (b ∷ bs) pairs has =
     (λ t.
     let same : c.label ≡ b.label = eqb-true c.label b.label t in
     let there = has c (inr m) (subst (λ n. 1 ≤ n) (sym same) first) in
-    let one : address_of b ≡ address_of c = same_Some (address_of b) (address_of c) (sym here.at ∙ (ap (λ n. option_map (λ (a : Addr). a.0) (place_at places n)) (sym same) ∙ there.at)) in
+    let one : address_of b ≡ address_of c = same_Some (address_of b) (address_of c) (sym here.at ∙ (ap (λ n. option_map (λ (a : Addr). a.0) (place_of_tag places n)) (sym same) ∙ there.at)) in
     absurd (among-all (λ y. address_of b ≢ address_of y) c bs m (all-recursion (R b) bs (AllPairs-head R b bs pairs)) one))
     (λ t. t)
     (cases_Bool (has_tag b.label c)))))))
@@ -176,7 +176,7 @@ pub record Stands (bs : List (Block ℕ)) (after tag a : ℕ) : Type 0 where
 pub record Walked (bs : List (Block ℕ)) (after : ℕ) (places : List (Option Addr)) : Type 0 where
   pub most : length places ≤ label_limit
   pub past : (c : Block ℕ) → Among c bs → is_above address_of after c ≡ false → 1 ≤ c.label → Has places c
-  pub from : (tag : ℕ) (a : Addr) → 1 ≤ tag → place_at places tag ≡ Some a → Stands bs after tag a.0
+  pub from : (tag : ℕ) (a : Addr) → 1 ≤ tag → place_of_tag places tag ≡ Some a → Stands bs after tag a.0
 
 -- the block that is next
 pub record NextTagged (bs : List (Block ℕ)) (after a tag : ℕ) : Type 0 where
@@ -222,10 +222,10 @@ none-walked bs places =
         above : (n : ℕ) → 1 ≤ n → nat_lt 0 n ≡ true
         above n first = grind (arith, nat_tests, first)
 
-vacant-parts : (places : List (Option Addr)) (tag : ℕ) → 1 ≤ tag → is_vacant places tag ≡ true → (tag ≤ label_limit) × (is_some (place_at places tag) ≡ false)
+vacant-parts : (places : List (Option Addr)) (tag : ℕ) → 1 ≤ tag → is_vacant places tag ≡ true → (tag ≤ label_limit) × (is_some (place_of_tag places tag) ≡ false)
 vacant-parts places tag first e =
-    let both = and_parts (nat_le tag label_limit) (not (is_some (place_at places tag))) (sym (ap (λ v. v || (nat_le tag label_limit && not (is_some (place_at places tag)))) (some-tag tag first)) ∙ e) in
-    (le-from tag label_limit both.0, not-from (is_some (place_at places tag)) both.1)
+    let both = and_parts (nat_le tag label_limit) (not (is_some (place_of_tag places tag))) (sym (ap (λ v. v || (nat_le tag label_limit && not (is_some (place_of_tag places tag)))) (some-tag tag first)) ∙ e) in
+    (le-from tag label_limit both.0, not-from (is_some (place_of_tag places tag)) both.1)
 
 module _ (bs : List (Block ℕ)) (after a tag : ℕ) (n : NextTagged bs after a tag) where
   further : (c : Block ℕ) → is_above address_of after c ≡ false → is_above address_of a c ≡ false
@@ -255,7 +255,7 @@ module _ (bs : List (Block ℕ)) (after a tag : ℕ) (n : NextTagged bs after a 
             record {
               most = subst (λ k. k ≤ label_limit) (sym tagged) (vacant-parts old tag some vacant).0;
               at =
-                  ap (λ k. option_map (λ (x : Addr). x.0) (place_at new k)) tagged
+                  ap (λ k. option_map (λ (x : Addr). x.0) (place_of_tag new k)) tagged
                   ∙ (ap (option_map (λ (x : Addr). x.0)) (puts.here some)
                   ∙ ap (λ k. Some k) (is ∙ (sym n.at ∙ ap (λ (x : Block ℕ). address_of x) it)));
             })
@@ -265,14 +265,14 @@ module _ (bs : List (Block ℕ)) (after a tag : ℕ) (n : NextTagged bs after a 
             let h = w.past c m before first in
             ⊎_elim
             (λ same.
-            absurd (false≢true (sym (vacant-parts old tag (subst (λ k. 1 ≤ k) same first) vacant).1 ∙ (ap (λ k. is_some (place_at old k)) (sym same) ∙ has-some (place_at old c.label) (address_of c) h.at))))
+            absurd (false≢true (sym (vacant-parts old tag (subst (λ k. 1 ≤ k) same first) vacant).1 ∙ (ap (λ k. is_some (place_of_tag old k)) (sym same) ∙ has-some (place_of_tag old c.label) (address_of c) h.at))))
             (λ other. record { most = h.most; at = ap (option_map (λ (x : Addr). x.0)) (puts.others c.label first other) ∙ h.at })
             (cases_eq c.label tag))
             (cases_Bool (is_above address_of after c));
         from = λ t b first placed.
             ⊎_elim
             (λ same.
-            let here : Some at ≡ Some b = sym (puts.here (subst (λ k. 1 ≤ k) same first)) ∙ (ap (place_at new) (sym same) ∙ placed) in
+            let here : Some at ≡ Some b = sym (puts.here (subst (λ k. 1 ≤ k) same first)) ∙ (ap (place_of_tag new) (sym same) ∙ placed) in
             record {
               block = n.it;
               among = n.among;
@@ -294,17 +294,17 @@ module _ (bs : List (Block ℕ)) (after a tag : ℕ) (n : NextTagged bs after a 
   pub not-own : (places : List (Option Addr)) → Walked bs after places → is_vacant places tag ≡ false → have_own_tags bs ≡ false
   not-own places w taken =
       ⊎_elim
-      (λ own. absurd (⊎_elim (λ none. false≢true (sym taken ∙ ap (λ v. v || fits) (no-tag tag none))) (λ first. twice own first (place_at places tag) refl) (zero-or tag)))
+      (λ own. absurd (⊎_elim (λ none. false≢true (sym taken ∙ ap (λ v. v || fits) (no-tag tag none))) (λ first. twice own first (place_of_tag places tag) refl) (zero-or tag)))
       (λ t. t)
       (cases_Bool (have_own_tags bs))
     where
       fits : Bool
-      fits = nat_le tag label_limit && not (is_some (place_at places tag))
+      fits = nat_le tag label_limit && not (is_some (place_of_tag places tag))
 
-      twice : have_own_tags bs ≡ true → 1 ≤ tag → (o : Option Addr) → place_at places tag ≡ o → ⊥
+      twice : have_own_tags bs ≡ true → 1 ≤ tag → (o : Option Addr) → place_of_tag places tag ≡ o → ⊥
       twice own first None e =
           let most = subst (λ k. k ≤ label_limit) n.label (own-most bs n.it own n.among (subst (λ k. 1 ≤ k) (sym n.label) first)) in
-          false≢true (sym taken ∙ or_right (tag == 0) (nat_le tag label_limit && not (is_some (place_at places tag))) (and_from (nat_le tag label_limit) (not (is_some (place_at places tag))) (le-test tag label_limit most) (ap (λ p. not (is_some p)) e)))
+          false≢true (sym taken ∙ or_right (tag == 0) (nat_le tag label_limit && not (is_some (place_of_tag places tag))) (and_from (nat_le tag label_limit) (not (is_some (place_of_tag places tag))) (le-test tag label_limit most) (ap (λ p. not (is_some p)) e)))
       twice own first (Some at) e =
           let s = w.from tag at first e in
           let same : n.it ≡ s.block = own-apart bs n.it s.block own n.among s.among (subst (λ k. 1 ≤ k) (sym n.label) first) (n.label ∙ sym s.label) in
@@ -322,13 +322,13 @@ module _ (bs : List (Block ℕ)) (after : ℕ) (places : List (Option Addr)) (w 
   pub all-own : HaveOwnPlaces bs → have_own_tags bs ≡ true
   all-own own = own-all places bs own.distinct has-all
 
-  placed : (tag : ℕ) → 1 ≤ tag → (o : Option Addr) → place_at places tag ≡ o → option_map (λ (a : Addr). a.0) o ≡ option_map address_of (find (has_tag tag) bs)
+  placed : (tag : ℕ) → 1 ≤ tag → (o : Option Addr) → place_of_tag places tag ≡ o → option_map (λ (a : Addr). a.0) o ≡ option_map address_of (find (has_tag tag) bs)
   placed tag first None e =
       sym (ap (option_map address_of) (find-none (has_tag tag) bs (λ c m.
       ⊎_elim
       (λ t.
       let same : c.label ≡ tag = eqb-true c.label tag t in
-      absurd (none-some (address_of c) (ap (option_map (λ (a : Addr). a.0)) (sym e) ∙ (ap (λ k. option_map (λ (a : Addr). a.0) (place_at places k)) (sym same) ∙ (has-all c m (subst (λ k. 1 ≤ k) (sym same) first)).at))))
+      absurd (none-some (address_of c) (ap (option_map (λ (a : Addr). a.0)) (sym e) ∙ (ap (λ k. option_map (λ (a : Addr). a.0) (place_of_tag places k)) (sym same) ∙ (has-all c m (subst (λ k. 1 ≤ k) (sym same) first)).at))))
       (λ t. t)
       (cases_Bool (has_tag tag c)))))
   placed tag first (Some a) e =
@@ -337,7 +337,7 @@ module _ (bs : List (Block ℕ)) (after : ℕ) (places : List (Option Addr)) (w 
       let same : f.item.label ≡ tag = eqb-true f.item.label tag f.passes in
       let h = has-all f.item (among-find (has_tag tag) bs f.item f.found) (subst (λ k. 1 ≤ k) (sym same) first) in
       sym (ap (option_map address_of) f.found
-      ∙ (sym h.at ∙ (ap (λ k. option_map (λ (x : Addr). x.0) (place_at places k)) same ∙ ap (option_map (λ (x : Addr). x.0)) e)))
+      ∙ (sym h.at ∙ (ap (λ k. option_map (λ (x : Addr). x.0) (place_of_tag places k)) same ∙ ap (option_map (λ (x : Addr). x.0)) e)))
 
   pub all-walked : ArePlaces bs places
-  all-walked = record { most = w.most; at = λ tag first. placed tag first (place_at places tag) refl ∙ refl }
+  all-walked = record { most = w.most; at = λ tag first. placed tag first (place_of_tag places tag) refl ∙ refl }

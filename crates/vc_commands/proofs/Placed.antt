@@ -13,7 +13,7 @@ use Rattle.vc_script.specs.declared.refusal.Refusal.{Refusal}
 use Rattle.vc_script.specs.declared.reply.Reply.{Reply}
 use Rattle.vc_script.specs.declared.reply.Reply.TheVariants.{Refused}
 use Rattle.vc_commands.specs.Blocks.{put_new}
-use Rattle.vc_commands.specs.Held.{Held, IsNamed, home_of}
+use Rattle.vc_commands.specs.Held.{Held, AreLabelsOf, home_of}
 use Rattle.vc_commands.specs.Home as home
 use Rattle.vc_commands.specs.Home.{Home}
 use Rattle.vc_commands.specs.Labels.{AreLabels, SameLabels, label_at}
@@ -29,7 +29,7 @@ use Rattle.vc_commands.proofs.Seen.{SeenPut, seen-asks}
 
 -- it is refused before a place is looked for
 pub refused-runs : {I : Type 0} {V : I → Type 0} {E : Type 0} (meaning : (x : I) × V x → Discipline) (entry : HomeEntry I V) (labels : Labels) (x : List ℕ) (words : Home → Option Refusal) (called : Home → Bool → Outcome (Put (Region home.Label))) (asked : Option (ℕ × ℕ)) (refusal : Refusal)
-    → IsNamed (rest_in entry.region) labels → ((r : List ℕ) → IfSome (words (home_of (held_of meaning r entry labels))) IsOther) → ((r : List ℕ) → new_refused labels x (words (home_of (held_of meaning r entry labels))) ≡ Some refusal)
+    → AreLabelsOf (rest_in entry.region) labels → ((r : List ℕ) → IfSome (words (home_of (held_of meaning r entry labels))) IsOther) → ((r : List ℕ) → new_refused labels x (words (home_of (held_of meaning r entry labels))) ≡ Some refusal)
     → RunsHome meaning (let told : Result Reply E = Ok (Refused refusal) in told) (λ k need. put_new k x (words k) (called k (is_for_block need))) asked entry labels entry labels
 refused-runs meaning entry labels x words called asked refusal names other is = record {
   step = λ r.
@@ -46,7 +46,7 @@ module _ {I : Type 0} {V : I → Type 0} (meaning : (x : I) × V x → Disciplin
   pub reserved-with : region_with entry new ≡ region_with entry old
   reserved-with = both-same _ _ _ _ (relabelled-same old new (rest_in entry.region) same) same.kept
 
-  pub reserved-change : AreLabels new → IsNamed (rest_in entry.region) old → HasOut (disc_in meaning entry.region) (segments_of (rest_in entry.region)) → ChangesRegion meaning entry old entry new
+  pub reserved-change : AreLabels new → AreLabelsOf (rest_in entry.region) old → HasOut (disc_in meaning entry.region) (segments_of (rest_in entry.region)) → ChangesRegion meaning entry old entry new
   reserved-change agree names lent = λ r.
       let h = held_of meaning r entry old in
       change-same h new lent (isnamed-same h.region old new same agree names)
@@ -54,7 +54,7 @@ module _ {I : Type 0} {V : I → Type 0} (meaning : (x : I) × V x → Disciplin
 -- it is put, or a fault is told: the call on a home and the call on the region, the labels with room for the name and those after, and what is answered
 pub record IsPlaced {I : Type 0} {V : I → Type 0} {E : Type 0} (meaning : (x : I) × V x → Discipline) (entry : HomeEntry I V) (labels : Labels) (is : Open I V) (x : List ℕ) (words : Home → Option Refusal)
     (called : Home → Bool → Outcome (Put (Region home.Label))) (call : Bool → Outcome (Put (Region ℕ))) (tag size align : ℕ) (mid new : Labels) (put : Result Addr RegionFault) (result : Result Reply E) : Type 0 where
-  pub names : IsNamed (rest_in entry.region) labels
+  pub names : AreLabelsOf (rest_in entry.region) labels
   pub allowed : (r : List ℕ) → new_refused labels x (words (home_of (held_of meaning r entry labels))) ≡ None
   pub same : SameLabels labels mid
   pub agree : AreLabels mid

@@ -13,10 +13,10 @@ use Rattle.vc_script.specs.declared.reply.Reply.{Reply}
 use Rattle.vc_script.specs.declared.reply.Reply.TheVariants as reply
 use Rattle.vc_commands.specs.Home as home
 use Rattle.vc_commands.specs.Home.{Changed, Home, refusal_alone}
-use Rattle.vc_commands.specs.Held.{Held, IsChange, IsLive, IsNamed, home_of}
-use Rattle.vc_commands.specs.Blocks.{at_place, has_label, has_room, label_count, label_limit, align_refused, is_align, is_size, put_by, put_in, put_new, size_refused}
-use Rattle.vc_commands.specs.FreedNames.{FreedNames, line_of, without_name}
-use Rattle.vc_commands.specs.Labels.{AreLabels, SameLabels, WithLabel, kept_of, label_at, name_of, tag_of}
+use Rattle.vc_commands.specs.Held.{Held, IsChange, IsLive, AreLabelsOf, home_of}
+use Rattle.vc_commands.specs.Blocks.{at_place, has_label, has_label_room, label_count, label_limit, align_refused, is_align, is_size, put_unless_refused, put_in, put_new, size_refused}
+use Rattle.vc_commands.specs.FreedNames.{FreedNames, freed_line, without_name}
+use Rattle.vc_commands.specs.Labels.{AreLabels, SameLabels, WithLabel, kept_of, label_at, name_of_tag, tag_of}
 use Rattle.vc_commands.specs.Naming.{NamesPut, new_refused, new_refused_by}
 use Rattle.vc_commands.specs.RegionRun.{GivesRegion}
 use Rattle.vc_commands.specs.RegionCommands.{is_for_block}
@@ -35,21 +35,21 @@ abbrev pub put_unless : Home → List ℕ → Option Refusal → Outcome (Put (R
 put_unless h x (Some why) outcome = refusal_alone h why
 put_unless h x None outcome = put_in h x (without_name x h.kept) None outcome
 
-unless : (h : Home) (x : List ℕ) (outcome : Outcome (Put (Region home.Label))) (words : Option Refusal) (named few : Bool) → has_room h x ≡ few → cond named (refusal_alone h why.BlockExists) (put_by h x words outcome) ≡ put_unless h x (cond named (Some why.BlockExists) (words_or words few)) outcome
+unless : (h : Home) (x : List ℕ) (outcome : Outcome (Put (Region home.Label))) (words : Option Refusal) (named few : Bool) → has_label_room h x ≡ few → cond named (refusal_alone h why.BlockExists) (put_unless_refused h x words outcome) ≡ put_unless h x (cond named (Some why.BlockExists) (words_or words few)) outcome
 unless h x outcome words true few is = refl
 unless h x outcome (Some refusal) false few is = refl
 unless h x outcome None false true is = ap (λ b. cond b (put_in h x (without_name x h.kept) None outcome) (refusal_alone h why.TooManyBlocks)) is
 unless h x outcome None false false is = ap (λ b. cond b (put_in h x (without_name x h.kept) None outcome) (refusal_alone h why.TooManyBlocks)) is
 
-refused-by : (labels : Labels) (x : List ℕ) (words : Option Refusal) → new_refused_by labels x words ≡ words_or words (is_some (line_of x (kept_of labels)) || nat_lt (length labels.tags.entries) label_limit)
+refused-by : (labels : Labels) (x : List ℕ) (words : Option Refusal) → new_refused_by labels x words ≡ words_or words (is_some (freed_line x (kept_of labels)) || nat_lt (length labels.tags.entries) label_limit)
 refused-by labels x None = refl
 refused-by labels x (Some refusal) = refl
 
 -- the names tell whether a new block is refused before a place is looked for
-pub put_new-by : (h : Held) (x : List ℕ) (words : Option Refusal) (outcome : Outcome (Put (Region home.Label))) → IsNamed h.region h.labels → put_new (home_of h) x words outcome ≡ put_unless (home_of h) x (new_refused h.labels x words) outcome
+pub put_new-by : (h : Held) (x : List ℕ) (words : Option Refusal) (outcome : Outcome (Put (Region home.Label))) → AreLabelsOf h.region h.labels → put_new (home_of h) x words outcome ≡ put_unless (home_of h) x (new_refused h.labels x words) outcome
 put_new-by h x words outcome names =
     let k = home_of h in
-    let kept = is_some (line_of x (kept_of h.labels)) in
+    let kept = is_some (freed_line x (kept_of h.labels)) in
     let few = kept || nat_lt (length h.labels.tags.entries) label_limit in
     let many : label_count k.region + length (kept_of h.labels) ≡ length h.labels.tags.entries =
     ap (λ n. n + length (kept_of h.labels)) (label-count h.region h.labels names ∙ names.count) ∙ sym names.agree.all in
@@ -57,10 +57,10 @@ put_new-by h x words outcome names =
     ∙ (ap (λ b. put_unless k x (cond b (Some why.BlockExists) (words_or words few)) outcome) (sym (names.known x))
     ∙ ap (λ o. put_unless k x (cond (is_some (tag_of h.labels x)) (Some why.BlockExists) o) outcome) (sym (refused-by h.labels x words)))
 
-pub put_new-refused : (h : Held) (x : List ℕ) (legal : Option Refusal) (outcome : Outcome (Put (Region home.Label))) (refusal : Refusal) → IsNamed h.region h.labels → new_refused h.labels x legal ≡ Some refusal → put_new (home_of h) x legal outcome ≡ refusal_alone (home_of h) refusal
+pub put_new-refused : (h : Held) (x : List ℕ) (legal : Option Refusal) (outcome : Outcome (Put (Region home.Label))) (refusal : Refusal) → AreLabelsOf h.region h.labels → new_refused h.labels x legal ≡ Some refusal → put_new (home_of h) x legal outcome ≡ refusal_alone (home_of h) refusal
 put_new-refused h x legal outcome refusal names is = put_new-by h x legal outcome names ∙ ap (λ o. put_unless (home_of h) x o outcome) is
 
-pub put_new-none : (h : Held) (x : List ℕ) (legal : Option Refusal) (outcome : Outcome (Put (Region home.Label))) → IsNamed h.region h.labels → new_refused h.labels x legal ≡ None → put_new (home_of h) x legal outcome ≡ put_in (home_of h) x (without_name x (kept_of h.labels)) None outcome
+pub put_new-none : (h : Held) (x : List ℕ) (legal : Option Refusal) (outcome : Outcome (Put (Region home.Label))) → AreLabelsOf h.region h.labels → new_refused h.labels x legal ≡ None → put_new (home_of h) x legal outcome ≡ put_in (home_of h) x (without_name x (kept_of h.labels)) None outcome
 put_new-none h x legal outcome names is = put_new-by h x legal outcome names ∙ ap (λ o. put_unless (home_of h) x o outcome) is
 
 unless-new : (named : Bool) (o : Option Refusal) → cond named (Some why.BlockExists) o ≡ None → named ≡ false
@@ -81,11 +81,11 @@ put-address (Refused why) a r' is = absurd is
 
 -- names with one more, of this tag
 abbrev name_with : Labels → ℕ → List ℕ → ℕ → home.Label
-name_with labels tag x t = cond (t == tag) (Some x) (name_of labels t)
+name_with labels tag x t = cond (t == tag) (Some x) (name_of_tag labels t)
 
 -- a block that is put under a name: the labels with room for one more, its tag, and the call, that of the tags and that of the names
 pub record Putting (h : Held) (x : List ℕ) (legal : Option Refusal) : Type 0 where
-  pub names : IsNamed h.region h.labels
+  pub names : AreLabelsOf h.region h.labels
   pub allowed : new_refused h.labels x legal ≡ None
   pub mid : Labels
   pub same : SameLabels h.labels mid
@@ -100,24 +100,24 @@ pub record Putting (h : Held) (x : List ℕ) (legal : Option Refusal) : Type 0 w
 
 -- the region and the labels after the call
 module _ (h : Held) (x : List ℕ) (legal : Option Refusal) (p : Putting h x legal) (region : Region ℕ) (new : Labels) where
-  mid-names : IsNamed h.region p.mid
+  mid-names : AreLabelsOf h.region p.mid
   mid-names = isnamed-same h.region h.labels p.mid p.same p.agree p.names
 
   with-new : name_with p.mid p.tag x p.tag ≡ Some x
-  with-new = ap (λ b. cond b (Some x) (name_of p.mid p.tag)) (eq-eqb p.tag p.tag refl)
+  with-new = ap (λ b. cond b (Some x) (name_of_tag p.mid p.tag)) (eq-eqb p.tag p.tag refl)
 
-  with-other : (t : ℕ) → t ≢ p.tag → name_with p.mid p.tag x t ≡ name_of p.mid t
+  with-other : (t : ℕ) → t ≢ p.tag → name_with p.mid p.tag x t ≡ name_of_tag p.mid t
   with-other t other =
       let differs : (t == p.tag) ≡ false = grind (arith, nat_tests, other) in
-      ap (λ b. cond b (Some x) (name_of p.mid t)) differs
+      ap (λ b. cond b (Some x) (name_of_tag p.mid t)) differs
 
   -- no block has the tag, so that any name may be its name
   with-old : region_with_labels (name_with p.mid p.tag x) h.region ≡ (home_of h).region
   with-old =
-      relabelled-alike (name_with p.mid p.tag x) (name_of p.mid) h.region (go (blocks_of h.region) mid-names.live)
+      relabelled-alike (name_with p.mid p.tag x) (name_of_tag p.mid) h.region (go (blocks_of h.region) mid-names.live)
       ∙ relabelled-same h.labels p.mid h.region p.same
     where
-      go : (bs : List (Block ℕ)) → AllByRecursion (λ b. 1 ≤ b.label → IsLive p.mid b) bs → AllByRecursion (λ b. name_with p.mid p.tag x b.label ≡ name_of p.mid b.label) bs
+      go : (bs : List (Block ℕ)) → AllByRecursion (λ b. 1 ≤ b.label → IsLive p.mid b) bs → AllByRecursion (λ b. name_with p.mid p.tag x b.label ≡ name_of_tag p.mid b.label) bs
       go [] all = tt
       go (b ∷ bs) all = (
         with-other b.label (λ e.
@@ -127,19 +127,19 @@ module _ (h : Held) (x : List ℕ) (legal : Option Refusal) (p : Putting h x leg
       )
 
   -- a fault leaves the region and its names
-  back : new ≡ p.mid → region ≡ h.region → region_with_labels (name_of new) region ≡ (home_of h).region
+  back : new ≡ p.mid → region ≡ h.region → region_with_labels (name_of_tag new) region ≡ (home_of h).region
   back labels_same region_same =
-      ap (λ l. region_with_labels (name_of l) region) labels_same
-      ∙ (ap (region_with_labels (name_of p.mid)) region_same ∙ relabelled-same h.labels p.mid h.region p.same)
+      ap (λ l. region_with_labels (name_of_tag l) region) labels_same
+      ∙ (ap (region_with_labels (name_of_tag p.mid)) region_same ∙ relabelled-same h.labels p.mid h.region p.same)
 
   taken : kept_of new ≡ without_name x (kept_of p.mid) → kept_of new ≡ without_name x (kept_of h.labels)
   taken e = e ∙ ap (without_name x) p.same.kept
 
-  gives-new : (a : Addr) → WithLabel p.mid new p.tag (record { name = x; at = a }) → kept_of new ≡ without_name x (kept_of p.mid) → IsPut (p.call false) a.0 region → GivesRegion (put_new (home_of h) x legal (p.called false)) (region_with_labels (name_of new) region, kept_of new) (at_place x (place_of a.0) None)
+  gives-new : (a : Addr) → WithLabel p.mid new p.tag (record { name = x; at = a }) → kept_of new ≡ without_name x (kept_of p.mid) → IsPut (p.call false) a.0 region → GivesRegion (put_new (home_of h) x legal (p.called false)) (region_with_labels (name_of_tag new) region, kept_of new) (at_place x (place_of a.0) None)
   gives-new a w keeps is =
       let k = home_of h in
       let label : Label = record { name = x; at = a } in
-      let f = name_of new in
+      let f = name_of_tag new in
       let old : region_with_labels f h.region ≡ k.region = region-more p.mid new p.tag label w p.vacant h.region mid-names ∙ relabelled-same h.labels p.mid h.region p.same in
       let kept = without_name x (kept_of h.labels) in
       let eq : put_new k x legal (p.called false) ≡ put_in k x kept None (outcome_as (region_with_labels f) (p.call false)) =
@@ -148,35 +148,35 @@ module _ (h : Held) (x : List ℕ) (legal : Option Refusal) (p : Putting h x leg
       (subst (λ q. GivesRegion (put_in k x kept None (outcome_as (region_with_labels f) (p.call false))) (region_with_labels f region, q) (at_place x (place_of a.0) None)) (sym (taken keeps))
       (gives-put k x kept None f (p.call false) a.0 region is))
 
-  gives-refused : (told : Reply) → Told p.call told → new ≡ p.mid → region ≡ h.region → GivesRegion (put_new (home_of h) x legal (p.called (is_for_block (need_shown told)))) (region_with_labels (name_of new) region, kept_of new) told
+  gives-refused : (told : Reply) → Told p.call told → new ≡ p.mid → region ≡ h.region → GivesRegion (put_new (home_of h) x legal (p.called (is_for_block (need_shown told)))) (region_with_labels (name_of_tag new) region, kept_of new) told
   gives-refused told t labels_same region_same =
       let k = home_of h in
       let u = is_for_block (need_shown told) in
       let f = name_with p.mid p.tag x in
       let eq : put_new k x legal (p.called u) ≡ put_in k x (without_name x (kept_of h.labels)) None (outcome_as (region_with_labels f) (Refused t.fault)) =
       put_new-none h x legal (p.called u) p.names p.allowed ∙ ap (put_in k x (without_name x (kept_of h.labels)) None) (p.commutes f with-new with-old u ∙ ap (outcome_as (region_with_labels f)) t.refused) in
-      subst (λ c. GivesRegion c (region_with_labels (name_of new) region, kept_of new) told) (sym eq) (record { region_after = sym (back labels_same region_same); kept_after = sym (ap kept_of labels_same ∙ p.same.kept); replied = t.is })
+      subst (λ c. GivesRegion c (region_with_labels (name_of_tag new) region, kept_of new) told) (sym eq) (record { region_after = sym (back labels_same region_same); kept_after = sym (ap kept_of labels_same ∙ p.same.kept); replied = t.is })
 
   -- the reply is that of the definitions
-  pub step-put : {E : Type 0} (put : Result Addr RegionFault) (result : Result Reply E) → NamesPut p.tag x put p.mid new result → Answers p.call put h.region region → IfOk result (λ told. GivesRegion (put_new (home_of h) x legal (p.called (is_for_block (need_shown told)))) (region_with_labels (name_of new) region, kept_of new) told)
+  pub step-put : {E : Type 0} (put : Result Addr RegionFault) (result : Result Reply E) → NamesPut p.tag x put p.mid new result → Answers p.call put h.region region → IfOk result (λ told. GivesRegion (put_new (home_of h) x legal (p.called (is_for_block (need_shown told)))) (region_with_labels (name_of_tag new) region, kept_of new) told)
   step-put (Ok a) (Ok told) named answers =
       let is : told ≡ at_place x (place_of a.0) None = ap (get_ok told) named.0 in
-      subst (λ t. GivesRegion (put_new (home_of h) x legal (p.called (is_for_block (need_shown t)))) (region_with_labels (name_of new) region, kept_of new) t) (sym is) (gives-new a named.1 named.3 answers)
+      subst (λ t. GivesRegion (put_new (home_of h) x legal (p.called (is_for_block (need_shown t)))) (region_with_labels (name_of_tag new) region, kept_of new) t) (sym is) (gives-new a named.1 named.3 answers)
   step-put (Err fault) (Ok told) named answers = gives-refused told (fault-told p.call fault told named.0 answers.0) named.1 answers.1
   step-put put (Err e) named answers = tt
 
   -- with no memory the region stays
-  pub err-put : {E : Type 0} (put : Result Addr RegionFault) (result : Result Reply E) → NamesPut p.tag x put p.mid new result → Answers p.call put h.region region → OnErr result ((let p : Region home.Label × FreedNames = (region_with_labels (name_of new) region, kept_of new) in p) ≡ ((home_of h).region, (home_of h).kept))
+  pub err-put : {E : Type 0} (put : Result Addr RegionFault) (result : Result Reply E) → NamesPut p.tag x put p.mid new result → Answers p.call put h.region region → OnErr result ((let p : Region home.Label × FreedNames = (region_with_labels (name_of_tag new) region, kept_of new) in p) ≡ ((home_of h).region, (home_of h).kept))
   err-put (Ok a) (Err e) named answers = absurd (subst IsAn (sym named.0) tt)
-  err-put (Err fault) (Err e) named answers = both-same (region_with_labels (name_of new) region) (home_of h).region (kept_of new) (home_of h).kept (back named.1 answers.1) (ap kept_of named.1 ∙ p.same.kept)
+  err-put (Err fault) (Err e) named answers = both-same (region_with_labels (name_of_tag new) region) (home_of h).region (kept_of new) (home_of h).kept (back named.1 answers.1) (ap kept_of named.1 ∙ p.same.kept)
   err-put put (Ok told) named answers = tt
 
   module _ (disc : Discipline) (need size : ℕ) where
-    names-put : {E : Type 0} (put : Result Addr RegionFault) (result : Result Reply E) → NamesPut p.tag x put p.mid new result → Answers p.call put h.region region → IfOk put (λ a. find_block (place_of a.0) (blocks_of region) ≡ Some (zeros p.tag size (place_of a.0))) → IfOk put (λ a. without_block (place_of a.0) (blocks_of region) ≡ blocks_of h.region) → HaveOwnPlaces (blocks_of region) → IsNamed region new
+    names-put : {E : Type 0} (put : Result Addr RegionFault) (result : Result Reply E) → NamesPut p.tag x put p.mid new result → Answers p.call put h.region region → IfOk put (λ a. find_block (place_of a.0) (blocks_of region) ≡ Some (zeros p.tag size (place_of a.0))) → IfOk put (λ a. without_block (place_of a.0) (blocks_of region) ≡ blocks_of h.region) → HaveOwnPlaces (blocks_of region) → AreLabelsOf region new
     names-put (Ok a) result named answers there others places =
         named-put p.mid new p.tag (record { name = x; at = a }) named.1 p.vacant h.region region size there others (put-address (p.call false) a.0 region answers) named.2 places (λ e. taken named.3 ∙ ap (without_name x) (p.names.none (sym (p.stays a.0 region answers) ∙ e))) mid-names
     names-put (Err fault) result named answers there others places =
-        subst (λ l. IsNamed region l) (sym named.1) (subst (λ r. IsNamed r p.mid) (sym answers.1) mid-names)
+        subst (λ l. AreLabelsOf region l) (sym named.1) (subst (λ r. AreLabelsOf r p.mid) (sym answers.1) mid-names)
 
     pub change-put : {E : Type 0} (put : Result Addr RegionFault) (result : Result Reply E) → NamesPut p.tag x put p.mid new result → Answers p.call put h.region region → Asks put h.disc disc (segments_of h.region) (segments_of region) need → IfOk put (λ a. find_block (place_of a.0) (blocks_of region) ≡ Some (zeros p.tag size (place_of a.0))) → IfOk put (λ a. without_block (place_of a.0) (blocks_of region) ≡ blocks_of h.region) → HaveOwnPlaces (blocks_of region) → HasOut h.disc (segments_of h.region) → (cells : Blocks) → cells ≡ h.cells → IsChange h (record { name = h.name; place = h.place; disc = disc; region = region; cells = cells; labels = new })
     change-put put result named answers asks there others places has cells same_cells =
@@ -229,7 +229,7 @@ align-legal r size align e = align-cond (aligns r) (is_size size && is_align ali
 
 -- the refusal of the words says nothing of labels
 pub align-words : (h : Held) (size align : ℕ) → align_refused (home_of h).region size align ≡ align_refused h.region size align
-align-words h size align = ap (λ b. cond b (cond (is_size size && is_align align) None (Some why.Size)) (Some why.WrongMethod)) (aligns-relabelled (name_of h.labels) h.region)
+align-words h size align = ap (λ b. cond b (cond (is_size size && is_align align) None (Some why.Size)) (Some why.WrongMethod)) (aligns-relabelled (name_of_tag h.labels) h.region)
 
 -- a size of a script is one of a region
 pub size-range : (size : ℕ) → is_size size ≡ true → (1 ≤ size) × (size ≤ 16777216)
@@ -269,7 +269,7 @@ align-other r size align = by (aligns r) (is_size size && is_align align)
 -- no new block is refused as for want of a segment before a place is looked for
 pub refused-other : (labels : Labels) (x : List ℕ) (words : Option Refusal) (w : Refusal) → IfSome words IsOther → new_refused labels x words ≡ Some w → w ≡ why.NoSegment → ⊥
 refused-other labels x words w other is wanted =
-    let few = is_some (line_of x (kept_of labels)) || nat_lt (length labels.tags.entries) label_limit in
+    let few = is_some (freed_line x (kept_of labels)) || nat_lt (length labels.tags.entries) label_limit in
     let named = is_some (tag_of labels x) in
     let same : cond named (Some why.BlockExists) (words_or words few) ≡ Some w = ap (λ o. cond named (Some why.BlockExists) o) (sym (refused-by labels x words)) ∙ is in
     subst IsOther wanted (subst (λ o. IfSome o IsOther) same (all-other named few words other))

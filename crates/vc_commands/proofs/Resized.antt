@@ -9,7 +9,7 @@ use Rattle.vc_region.proofs.Sound.{own_places}
 use Rattle.vc_seg.specs.Answer.{Answers, Asks}
 use Rattle.vc_seg.specs.OneBlock.{IsBlockKept}
 use Rattle.vc_seg.specs.declared.fault.RegionFault.{RegionFault}
-use Rattle.vc_commands.specs.Held.{HasName, Held, IsChange, IsNamed}
+use Rattle.vc_commands.specs.Held.{HasName, Held, IsChange, AreLabelsOf}
 use Rattle.vc_commands.specs.declared.region.labels.Labels.{Labels}
 use Rattle.vc_commands.proofs.Answers.{asks-kept, asks-out, changed-by}
 use Rattle.vc_commands.proofs.FoundBlocks.{TheBlock, the_block}
@@ -38,7 +38,7 @@ module _ {I : Type 0} {V : I → Type 0} (meaning : (x : I) × V x → Disciplin
     asks = seen-asks result disc (disc_in meaning is) (region_of was) (region_of is) size 32 resizes.asks
 
     -- with the names that are left of it
-    pub resized-change : (name : List ℕ) (place : ℕ) (new : Labels) → HasOut disc (segments_of (rest_in was)) → IsNamed (rest_in is) new
+    pub resized-change : (name : List ℕ) (place : ℕ) (new : Labels) → HasOut disc (segments_of (rest_in was)) → AreLabelsOf (rest_in is) new
         → IsChange (record { name = name; place = place; disc = disc; region = rest_in was; cells = cells_in was; labels = labels }) (record { name = name; place = place; disc = disc_in meaning is; region = rest_in is; cells = cells_in is; labels = new })
     resized-change name place new lent names =
         let h : Held = record { name = name; place = place; disc = disc; region = rest_in was; cells = cells_in was; labels = labels } in

@@ -14,9 +14,9 @@ use Rattle.vc_script.specs.Needs.{need_shown}
 use Rattle.vc_script.specs.declared.refusal.Refusal.TheVariants as why
 use Rattle.vc_script.specs.declared.reply.Reply.{Reply}
 use Rattle.vc_commands.specs.Home.{Changed, Home, refusal_alone}
-use Rattle.vc_commands.specs.Held.{HasName, Held, IsNamed, home_of}
-use Rattle.vc_commands.specs.Blocks.{at_place, is_size, put_in, resize_block, resize_in}
-use Rattle.vc_commands.specs.Labels.{AreLabels, MovesLabel, kept_of, name_of}
+use Rattle.vc_commands.specs.Held.{HasName, Held, AreLabelsOf, home_of}
+use Rattle.vc_commands.specs.Blocks.{at_place, is_size, put_in, resize_found, resize_named}
+use Rattle.vc_commands.specs.Labels.{AreLabels, MovesLabel, kept_of, name_of_tag}
 use Rattle.vc_commands.specs.FreedNames.{FreedNames}
 use Rattle.vc_commands.specs.RegionRun.{GivesRegion}
 use Rattle.vc_commands.specs.RegionCommands.{is_for_block}
@@ -53,45 +53,45 @@ module _ (h : Held) {x : List ℕ} {addr : Addr} (has : HasName h.region h.label
   k = home_of h
 
   abbrev f : ℕ → home.Label
-  f = name_of h.labels
+  f = name_of_tag h.labels
 
   abbrev pub call : Bool → Outcome (Put (Region ℕ))
   call refused = region_resize h.disc.terms h.region (place_of addr.0) size may_move refused
 
   -- a size that no script can have
-  pub resize-size : (u : Bool) → is_size size ≡ false → resize_in (home_of h) x size may_move u ≡ refusal_alone (home_of h) why.Size
+  pub resize-size : (u : Bool) → is_size size ≡ false → resize_named (home_of h) x size may_move u ≡ refusal_alone (home_of h) why.Size
   resize-size u sized =
-      on_block-there h x has.tag addr.0 b (resize_block k x size may_move u)
+      on_block-there h x has.tag addr.0 b (resize_found k x size may_move u)
       ∙ ap (λ v. cond v (put_in k x k.kept (watch_at k.region (b.block.seg, b.block.off)) (region_resize k.terms k.region (b.block.seg, b.block.off) size may_move u)) (refusal_alone k why.Size)) sized
 
   module _ (sized : is_size size ≡ true) where
-    resize-named : (u : Bool) → resize_in (home_of h) x size may_move u ≡ put_in (home_of h) x (kept_of h.labels) (watch_at h.region (place_of addr.0)) (outcome_as (region_with_labels (name_of h.labels)) (call u))
+    resize-named : (u : Bool) → resize_named (home_of h) x size may_move u ≡ put_in (home_of h) x (kept_of h.labels) (watch_at h.region (place_of addr.0)) (outcome_as (region_with_labels (name_of_tag h.labels)) (call u))
     resize-named u =
-        on_block-there h x has.tag addr.0 b (resize_block k x size may_move u)
+        on_block-there h x has.tag addr.0 b (resize_found k x size may_move u)
         ∙ (ap (λ v. cond v (put_in k x k.kept (watch_at k.region (b.block.seg, b.block.off)) (region_resize k.terms k.region (b.block.seg, b.block.off) size may_move u)) (refusal_alone k why.Size)) sized
         ∙ (ap (λ p. put_in k x k.kept (watch_at k.region p) (region_resize k.terms k.region p size may_move u)) (sym b.place)
-        ∙ (ap (λ w. put_in k x k.kept w (region_resize k.terms k.region (place_of addr.0) size may_move u)) (watch-relabelled (name_of h.labels) h.region (place_of addr.0))
-        ∙ ap (put_in k x k.kept (watch_at h.region (place_of addr.0))) (resize-relabelled (name_of h.labels) h.disc.terms h.region (place_of addr.0) size may_move u))))
+        ∙ (ap (λ w. put_in k x k.kept w (region_resize k.terms k.region (place_of addr.0) size may_move u)) (watch-relabelled (name_of_tag h.labels) h.region (place_of addr.0))
+        ∙ ap (put_in k x k.kept (watch_at h.region (place_of addr.0))) (resize-relabelled (name_of_tag h.labels) h.disc.terms h.region (place_of addr.0) size may_move u))))
 
     -- a fault leaves the region and its names
-    pub gives-fault : (told : Reply) → Told call told → (region : Region ℕ) → region ≡ h.region → GivesRegion (resize_in (home_of h) x size may_move (is_for_block (need_shown told))) (region_with_labels (name_of h.labels) region, kept_of h.labels) told
+    pub gives-fault : (told : Reply) → Told call told → (region : Region ℕ) → region ≡ h.region → GivesRegion (resize_named (home_of h) x size may_move (is_for_block (need_shown told))) (region_with_labels (name_of_tag h.labels) region, kept_of h.labels) told
     gives-fault told t region same =
         let u = is_for_block (need_shown told) in
-        let eq : resize_in k x size may_move u ≡ refusal_alone k _ = resize-named u ∙ ap (λ o. put_in k x (kept_of h.labels) (watch_at h.region (place_of addr.0)) (outcome_as (region_with_labels f) o)) t.refused in
+        let eq : resize_named k x size may_move u ≡ refusal_alone k _ = resize-named u ∙ ap (λ o. put_in k x (kept_of h.labels) (watch_at h.region (place_of addr.0)) (outcome_as (region_with_labels f) o)) t.refused in
         subst (λ c. GivesRegion c (region_with_labels f region, kept_of h.labels) told) (sym eq) (record { region_after = ap (region_with_labels f) (sym same); kept_after = refl; replied = t.is })
 
     module _ (new : Labels) (to : Label) (m : MovesLabel h.labels new has.tag to) (same_name : to.name ≡ x) (same_kept : kept_of new ≡ kept_of h.labels) (region : Region ℕ) (is : IsPut (call false) to.at.0 region) where
-      pub gives-resized : (watch : Option ℕ) → watch ≡ watch_at h.region (place_of addr.0) → GivesRegion (resize_in (home_of h) x size may_move false) (region_with_labels (name_of new) region, kept_of new) (at_place x (place_of to.at.0) watch)
+      pub gives-resized : (watch : Option ℕ) → watch ≡ watch_at h.region (place_of addr.0) → GivesRegion (resize_named (home_of h) x size may_move false) (region_with_labels (name_of_tag new) region, kept_of new) (at_place x (place_of to.at.0) watch)
       gives-resized watch watched =
-          let moved : region_with_labels (name_of new) region ≡ region_with_labels f region = relabelled-names h.labels new region (name-moved h.labels h.region has.names x has.tag (label_of x addr) has.there b new to m same_name) in
+          let moved : region_with_labels (name_of_tag new) region ≡ region_with_labels f region = relabelled-names h.labels new region (name-moved h.labels h.region has.names x has.tag (label_of x addr) has.there b new to m same_name) in
           let there = watch_at h.region (place_of addr.0) in
-          subst (λ w. GivesRegion (resize_in k x size may_move false) (region_with_labels (name_of new) region, kept_of new) (at_place x (place_of to.at.0) w)) (sym watched)
-          (subst (λ c. GivesRegion c (region_with_labels (name_of new) region, kept_of new) (at_place x (place_of to.at.0) there)) (sym (resize-named false))
+          subst (λ w. GivesRegion (resize_named k x size may_move false) (region_with_labels (name_of_tag new) region, kept_of new) (at_place x (place_of to.at.0) w)) (sym watched)
+          (subst (λ c. GivesRegion c (region_with_labels (name_of_tag new) region, kept_of new) (at_place x (place_of to.at.0) there)) (sym (resize-named false))
           (subst (λ r. GivesRegion (put_in k x (kept_of h.labels) there (outcome_as (region_with_labels f) (call false))) (r, kept_of new) (at_place x (place_of to.at.0) there)) (sym moved)
           (subst (λ q. GivesRegion (put_in k x (kept_of h.labels) there (outcome_as (region_with_labels f) (call false))) (region_with_labels f region, q) (at_place x (place_of to.at.0) there)) (sym same_kept)
           (gives-put k x (kept_of h.labels) there f (call false) to.at.0 region is))))
 
-      pub named-resized : option_map (λ c. c.label) (find_block (place_of to.at.0) (blocks_of region)) ≡ option_map (λ c. c.label) (find_block (place_of addr.0) (blocks_of h.region)) → without_block (place_of to.at.0) (blocks_of region) ≡ without_block (place_of addr.0) (blocks_of h.region) → AreLabels new → HaveOwnPlaces (blocks_of region) → IsNamed region new
+      pub named-resized : option_map (λ c. c.label) (find_block (place_of to.at.0) (blocks_of region)) ≡ option_map (λ c. c.label) (find_block (place_of addr.0) (blocks_of h.region)) → without_block (place_of to.at.0) (blocks_of region) ≡ without_block (place_of addr.0) (blocks_of h.region) → AreLabels new → HaveOwnPlaces (blocks_of region) → AreLabelsOf region new
       named-resized there others agree places =
           let found = from_some (λ (c : Block ℕ). c.label) (find_block (place_of to.at.0) (blocks_of region)) b.block.label (there ∙ ap (option_map (λ (c : Block ℕ). c.label)) b.found) in
           let place : place_of to.at.0 ≡ (found.from.seg, found.from.off) = found-place (place_of to.at.0) found.from (blocks_of region) found.was in
@@ -106,7 +106,7 @@ gives-place c r x a place watch seg off gives =
     (subst (λ s. GivesRegion c r (At x (record { seg = s; off = (place_of a).1 }) watch)) (sym seg) gives)
 
 module _ (h : Held) {x : List ℕ} {addr : Addr} (has : HasName h.region h.labels x addr) (size : ℕ) (may_move : Bool) (sized : is_size size ≡ true) where
-  pub step-fault : {E : Type 0} (fault : RegionFault) (result : Result Reply E) → TellsFault fault result → IsRefusal (call h has size may_move) fault → (region : Region ℕ) → region ≡ h.region → IfOk result (λ told. GivesRegion (resize_in (home_of h) x size may_move (is_for_block (need_shown told))) (region_with_labels (name_of h.labels) region, kept_of h.labels) told)
+  pub step-fault : {E : Type 0} (fault : RegionFault) (result : Result Reply E) → TellsFault fault result → IsRefusal (call h has size may_move) fault → (region : Region ℕ) → region ≡ h.region → IfOk result (λ told. GivesRegion (resize_named (home_of h) x size may_move (is_for_block (need_shown told))) (region_with_labels (name_of_tag h.labels) region, kept_of h.labels) told)
   step-fault fault (Ok told) tells refusal region same =
       gives-fault h has size may_move sized told (fault-told (call h has size may_move) fault told tells refusal) region same
   step-fault fault (Err e) tells refusal region same = tt

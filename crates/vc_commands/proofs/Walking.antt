@@ -16,7 +16,7 @@ use Rattle.vc_script.specs.declared.command.Command.{Command}
 use Rattle.vc_script.specs.declared.command.Command.TheVariants.{Search, MatchKey, First, Last, Next, Prev, Walk}
 use Rattle.vc_script.specs.declared.refusal.Refusal.TheVariants.{Size}
 use Rattle.vc_script.specs.declared.reply.Reply.TheVariants.{Refused}
-use Rattle.vc_commands.specs.Looking.{found_by, found_reply, is_askable, look_answer, look_found, look_reply}
+use Rattle.vc_commands.specs.Looking.{found_by_command, found_reply, is_askable, look_answer, look_found, look_reply}
 use Rattle.vc_commands.proofs.Apart.{AreApart, apart-behind, visible-apart}
 
 -- what holds of each holds of one that is found
@@ -47,7 +47,7 @@ module _ {A : Type 0} (P : A → Type 0) where
   before-each o test (x ∷ xs) b h =
       either (test x) o (before_first_from (Some x) test xs) b (before-each (Some x) test xs h.0 h.1)
 
-pub found-each : {N : Type 0} (P : Seen N → Type 0) (rules : Rules) (command : Command) (xs : List (Seen N)) → AllByRecursion P xs → IfSome (found_by rules command xs) P
+pub found-each : {N : Type 0} (P : Seen N → Type 0) (rules : Rules) (command : Command) (xs : List (Seen N)) → AllByRecursion P xs → IfSome (found_by_command rules command xs) P
 found-each P rules (Search d bytes) xs h = find-each P (λ o. has_key rules (rules.key bytes) o.bytes) xs h
 found-each P rules (MatchKey d key) xs h = find-each P (λ o. has_key rules key o.bytes) xs h
 found-each P rules (First d) xs h = first-each P xs h
@@ -90,9 +90,9 @@ meant all d (Some p) (Some x) there h =
     one e a x dict at = rw (dict, at) refl
 
 pub meant-found : (all : Layered) (links : Links) (d : ℕ) (rules : Rules) (command : Command) (found : Option (ℕ × Addr)) → AreLayers all → IsPath all links d
-    → Answers found (found_by rules command (visible_of all links d)) → IsMeant all d found (found_by rules command (visible_of all links d))
+    → Answers found (found_by_command rules command (visible_of all links d)) → IsMeant all d found (found_by_command rules command (visible_of all links d))
 meant-found all links d rules command found lawful p h =
-    meant all d found (found_by rules command (visible_of all links d))
+    meant all d found (found_by_command rules command (visible_of all links d))
     (found-each (IsThere all d) rules command (visible_of all links d) (visible-there all links d lawful p)) h
 
 -- so it is in dictionaries that stayed
@@ -109,16 +109,16 @@ meant-kept d (Some p) o s m = record {
 }
 
 -- what may be asked, and is no walk, is answered by what is found
-answer-found : {N : Type 0} (rules : Rules) (command : Command) (xs : List (Seen N)) → ((d : List ℕ) → command ≡ Walk d → ⊥) → look_answer rules command xs ≡ found_reply (found_by rules command xs)
+answer-found : {N : Type 0} (rules : Rules) (command : Command) (xs : List (Seen N)) → ((d : List ℕ) → command ≡ Walk d → ⊥) → look_answer rules command xs ≡ found_reply (found_by_command rules command xs)
 answer-found rules (Walk d) xs n = absurd (n d refl)
 answer-found rules command xs n = refl
 
-pub reply-found : {N : Type 0} (rules : Rules) (command : Command) (xs : List (Seen N)) → is_askable command ≡ true → ((d : List ℕ) → command ≡ Walk d → ⊥) → look_reply rules command xs ≡ found_reply (found_by rules command xs)
+pub reply-found : {N : Type 0} (rules : Rules) (command : Command) (xs : List (Seen N)) → is_askable command ≡ true → ((d : List ℕ) → command ≡ Walk d → ⊥) → look_reply rules command xs ≡ found_reply (found_by_command rules command xs)
 reply-found rules command xs asked n =
     ap (λ z. if z then look_answer rules command xs else Refused Size) asked ∙ answer-found rules command xs n
 
-pub found-asked : {N : Type 0} (rules : Rules) (command : Command) (xs : List (Seen N)) → is_askable command ≡ true → look_found rules command xs ≡ found_by rules command xs
-found-asked rules command xs asked = ap (λ z. if z then found_by rules command xs else None) asked
+pub found-asked : {N : Type 0} (rules : Rules) (command : Command) (xs : List (Seen N)) → is_askable command ≡ true → look_found rules command xs ≡ found_by_command rules command xs
+found-asked rules command xs asked = ap (λ z. if z then found_by_command rules command xs else None) asked
 
 -- the items so far and the objects from here on are what is seen
 pub record Walked (all : Layered) (links : Links) (d : ℕ) (at : Option (ℕ × Addr)) (items : List (List ℕ)) : Type 0 where

@@ -12,7 +12,7 @@ use Rattle.vc_script.specs.declared.reply.Reply.{Reply}
 use Rattle.vc_script.specs.declared.reply.Reply.TheVariants.{At, Freed, Written, Hex, Size}
 use Rattle.vc_script.specs.declared.refusal.Refusal.{Refusal}
 use Rattle.vc_script.specs.declared.refusal.Refusal.TheVariants as why
-use Rattle.vc_commands.specs.FreedNames.{FreedNames, line_of, with_line, without_name}
+use Rattle.vc_commands.specs.FreedNames.{FreedNames, freed_line, with_line, without_name}
 use Rattle.vc_commands.specs.Home.{Changed, Home, Label, changed_to, reply_alone, refusal_alone}
 
 -- whether a label is that name
@@ -37,7 +37,7 @@ no_block (Some line) = why.FreedAt line
 
 -- what is done with the block of that name
 abbrev pub with_named : Home → List ℕ → Option (Block Label) → (Block Label → Changed) → Changed
-with_named h x None act = refusal_alone h (no_block (line_of x h.kept))
+with_named h x None act = refusal_alone h (no_block (freed_line x h.kept))
 with_named h x (Some b) act = act b
 
 abbrev pub on_block : Home → List ℕ → (Block Label → Changed) → Changed
@@ -56,8 +56,8 @@ abbrev pub label_limit : ℕ
 label_limit = 1000000
 
 -- whether there is room for that name: one that is kept may be taken again
-abbrev pub has_room : Home → List ℕ → Bool
-has_room h x = is_some (line_of x h.kept) || nat_lt (label_count h.region + length h.kept) label_limit
+abbrev pub has_label_room : Home → List ℕ → Bool
+has_label_room h x = is_some (freed_line x h.kept) || nat_lt (label_count h.region + length h.kept) label_limit
 
 -- the reply that tells a block's place, and the line of its watch
 abbrev pub at_place : List ℕ → ℕ × ℕ → Option ℕ → Reply
@@ -88,14 +88,14 @@ put_in h x kept watch (Done p) = record { region = p.region; kept = kept; reply 
 put_in h x kept watch (Refused fault) = refusal_alone h (script_refusal fault)
 
 -- a new block whose name no block has
-abbrev pub put_by : Home → List ℕ → Option Refusal → Outcome (Put (Region Label)) → Changed
-put_by h x (Some refusal) outcome = refusal_alone h refusal
-put_by h x None outcome =
-    if has_room h x then put_in h x (without_name x h.kept) None outcome else refusal_alone h why.TooManyBlocks
+abbrev pub put_unless_refused : Home → List ℕ → Option Refusal → Outcome (Put (Region Label)) → Changed
+put_unless_refused h x (Some refusal) outcome = refusal_alone h refusal
+put_unless_refused h x None outcome =
+    if has_label_room h x then put_in h x (without_name x h.kept) None outcome else refusal_alone h why.TooManyBlocks
 
 -- a new block needs a name that no block has, words that are not refused, and room for the name; the name is kept as freed no more
 abbrev pub put_new : Home → List ℕ → Option Refusal → Outcome (Put (Region Label)) → Changed
-put_new h x words outcome = if has_label x h.region then refusal_alone h why.BlockExists else put_by h x words outcome
+put_new h x words outcome = if has_label x h.region then refusal_alone h why.BlockExists else put_unless_refused h x words outcome
 
 -- the refusal of the size of a new block
 abbrev pub size_refused : ℕ → Option Refusal
@@ -107,14 +107,14 @@ align_refused r size align =
     if aligns r then (if is_size size && is_align align then None else Some why.Size) else Some why.WrongMethod
 
 -- the site of an allocation; a hyphen where the command has none
-abbrev pub site_of : Option (List ℕ) → List ℕ
-site_of None = 45 ∷ []
-site_of (Some site) = site
+abbrev pub site_or_hyphen : Option (List ℕ) → List ℕ
+site_or_hyphen None = 45 ∷ []
+site_or_hyphen (Some site) = site
 
 -- a block is allocated; whether a segment is refused is the one free choice
 abbrev pub alloc_in : Home → List ℕ → Option (List ℕ) → ℕ → Bool → Changed
 alloc_in h x site size not_lent =
-    put_new h x (size_refused size) (region_alloc h.terms h.region (Some x) (site_of site) size not_lent)
+    put_new h x (size_refused size) (region_alloc h.terms h.region (Some x) (site_or_hyphen site) size not_lent)
 
 -- and at an offset that the alignment divides
 abbrev pub align_in : Home → List ℕ → ℕ → ℕ → Bool → Changed
@@ -129,45 +129,45 @@ abbrev pub change_by_free : Home → List ℕ → FreedNames → Option ℕ → 
 change_by_free h x kept watch (Done region) = record { region = region; kept = kept; reply = Freed x watch; granted = None }
 change_by_free h x kept watch (Refused fault) = refusal_alone h (script_refusal fault)
 
-abbrev pub free_block : Home → List ℕ → ℕ → Block Label → Changed
-free_block h x line b =
+abbrev pub free_found : Home → List ℕ → ℕ → Block Label → Changed
+free_found h x line b =
     change_by_free h x (kept_freed h x line) (watch_at h.region (b.seg, b.off)) (region_free h.region (b.seg, b.off))
 
 -- a block is freed at a line
-abbrev pub free_in : Home → List ℕ → ℕ → Changed
-free_in h x line = on_block h x (free_block h x line)
+abbrev pub free_named : Home → List ℕ → ℕ → Changed
+free_named h x line = on_block h x (free_found h x line)
 
-abbrev pub resize_block : Home → List ℕ → ℕ → Bool → Bool → Block Label → Changed
-resize_block h x size may_move not_lent b =
+abbrev pub resize_found : Home → List ℕ → ℕ → Bool → Bool → Block Label → Changed
+resize_found h x size may_move not_lent b =
     if is_size size
     then put_in h x h.kept (watch_at h.region (b.seg, b.off))
     (region_resize h.terms h.region (b.seg, b.off) size may_move not_lent)
     else refusal_alone h why.Size
 
 -- a block gets another size, where it is or where it moves to
-abbrev pub resize_in : Home → List ℕ → ℕ → Bool → Bool → Changed
-resize_in h x size may_move not_lent = on_block h x (resize_block h x size may_move not_lent)
+abbrev pub resize_named : Home → List ℕ → ℕ → Bool → Bool → Changed
+resize_named h x size may_move not_lent = on_block h x (resize_found h x size may_move not_lent)
 
-abbrev pub write_block : Home → List ℕ → ℕ → List ℕ → Block Label → Changed
-write_block h x off bytes b =
+abbrev pub write_found : Home → List ℕ → ℕ → List ℕ → Block Label → Changed
+write_found h x off bytes b =
     if nat_le (off + length bytes) b.size
     then changed_to h (region_write h.region (b.seg, b.off) off bytes)
     (Written x (length bytes) (watch_at h.region (b.seg, b.off)))
     else refusal_alone h why.Range
 
 -- bytes are written into a block, from an offset on
-abbrev pub write_in : Home → List ℕ → ℕ → List ℕ → Changed
-write_in h x off bytes = on_block h x (write_block h x off bytes)
+abbrev pub write_named : Home → List ℕ → ℕ → List ℕ → Changed
+write_named h x off bytes = on_block h x (write_found h x off bytes)
 
-abbrev pub read_block : Home → List ℕ → ℕ → ℕ → Block Label → Changed
-read_block h x off len b =
+abbrev pub read_found : Home → List ℕ → ℕ → ℕ → Block Label → Changed
+read_found h x off len b =
     if (nat_le 1 len && nat_le len 4096) && nat_le (off + len) b.size
     then reply_alone h (Hex x (take len (drop off b.bytes)))
     else refusal_alone h why.Range
 
 -- 1 to 4,096 bytes of a block, from an offset on
-abbrev pub read_in : Home → List ℕ → ℕ → ℕ → Changed
-read_in h x off len = on_block h x (read_block h x off len)
+abbrev pub read_named : Home → List ℕ → ℕ → ℕ → Changed
+read_named h x off len = on_block h x (read_found h x off len)
 
-abbrev pub size_in : Home → List ℕ → Changed
-size_in h x = on_block h x (λ b. reply_alone h (Size x b.size))
+abbrev pub size_named : Home → List ℕ → Changed
+size_named h x = on_block h x (λ b. reply_alone h (Size x b.size))

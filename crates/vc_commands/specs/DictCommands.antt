@@ -66,8 +66,8 @@ put_object s append bytes need =
     inserted_as bytes (insert s.rules s.terms s.region s.none s.dict append bytes (is_for_table need) (is_for_object need))
 
 -- the object of a set that an object matches
-abbrev pub standing : {L : Type 0} → Seat L → List ℕ → Option Object
-standing s bytes =
+abbrev pub matched_in_set : {L : Type 0} → Seat L → List ℕ → Option Object
+matched_in_set s bytes =
     if is_set s.dict.method
     then first_with objects.bytes_of s.rules (s.rules.key bytes) s.dict.objects
     else None
@@ -78,7 +78,7 @@ put_unless s bytes need None = put_object s false bytes need
 
 -- an object is put, unless one of a set matches it
 abbrev pub insert_in : {L : Type 0} → Seat L → List ℕ → Need → DictChanged L
-insert_in s bytes need = put_unless s bytes need (standing s bytes)
+insert_in s bytes need = put_unless s bytes need (matched_in_set s bytes)
 
 -- so is the object itself, or the one that is made of these bytes
 abbrev pub attach_in : {L : Type 0} → Seat L → List ℕ → Need → DictChanged L

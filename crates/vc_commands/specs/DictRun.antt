@@ -50,8 +50,8 @@ abbrev pub Gives : {I : Type 0} {V : I → Type 0} → DictChanged ℕ → Best 
 Gives c region dict answer gone gone' = GivesDict c (rest_in region) (dictionary_in dict region) answer gone gone'
 
 -- the object in a holder, where there is one
-abbrev pub object_there : {I : Type 0} {V : I → Type 0} → Best I V → Option Addr → Option Object
-object_there region at = option_map (object_of (cells_in region)) (option_map number_of at)
+abbrev pub object_in_holder : {I : Type 0} {V : I → Type 0} → Best I V → Option Addr → Option Object
+object_in_holder region at = option_map (object_of (cells_in region)) (option_map number_of at)
 
 -- where there is an address, it is that of one of the dictionary's holders
 abbrev pub IsOfHolder : {I : Type 0} {V : I → Type 0} → Dict → Best I V → Option Addr → Type 0

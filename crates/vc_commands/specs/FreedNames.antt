@@ -13,8 +13,8 @@ abbrev pub by_name : List ℕ → List ℕ → Ordering
 by_name = slice_cmp nat_cmp
 
 -- the line at which a name was freed, where it is kept
-abbrev pub line_of : List ℕ → FreedNames → Option ℕ
-line_of x kept = find by_name x kept
+abbrev pub freed_line : List ℕ → FreedNames → Option ℕ
+freed_line x kept = find by_name x kept
 
 -- a name is kept with a line, in place of any line of before
 abbrev pub with_line : List ℕ → ℕ → FreedNames → FreedNames

@@ -12,7 +12,7 @@ use Rattle.vc_model.specs.Sound.{HaveOwnPlaces}
 use Rattle.slab.specs.Slab.{slab_len}
 use Rattle.vc_commands.specs.declared.region.labels.Label.{Label}
 use Rattle.vc_commands.specs.declared.region.labels.Labels.{Labels}
-use Rattle.vc_commands.specs.Labels.{AreLabels, kept_of, label_at, name_of, tag_of}
+use Rattle.vc_commands.specs.Labels.{AreLabels, kept_of, label_at, name_of_tag, tag_of}
 use Rattle.vc_commands.specs.Home.{Home}
 use Rattle.vc_commands.specs.Blocks.{has_label}
 use Rattle.vc_script.specs.declared.command.Command.{Command}
@@ -34,7 +34,7 @@ home_of h =
       name = h.name;
       place = h.place;
       terms = h.disc.terms;
-      region = region_with_labels (name_of h.labels) h.region;
+      region = region_with_labels (name_of_tag h.labels) h.region;
       kept = kept_of h.labels;
     }
 
@@ -50,17 +50,17 @@ abbrev pub tag_count : List (Block ℕ) → ℕ
 tag_count blocks = count_by (λ b. nat_lt 0 b.label) blocks
 
 -- the live names are those of the blocks that have one, and each block has a place of its own; none is kept as freed where the region keeps none
-pub record IsNamed (region : Region ℕ) (labels : Labels) : Type 0 where
+pub record AreLabelsOf (region : Region ℕ) (labels : Labels) : Type 0 where
   pub agree : AreLabels labels
   pub count : tag_count (blocks_of region) ≡ slab_len labels.by_tag
   pub live : AllByRecursion (λ b. 1 ≤ b.label → IsLive labels b) (blocks_of region)
-  pub known : (x : List ℕ) → is_some (tag_of labels x) ≡ has_label x (region_with_labels (name_of labels) region)
+  pub known : (x : List ℕ) → is_some (tag_of labels x) ≡ has_label x (region_with_labels (name_of_tag labels) region)
   pub places : HaveOwnPlaces (blocks_of region)
   pub none : keeps_freed region ≡ false → kept_of labels ≡ []
 
 -- the block of a name has a tag, whose label tells the block's address
 pub record HasName (region : Region ℕ) (labels : Labels) (x : List ℕ) (addr : Addr) : Type 0 where
-  pub names : IsNamed region labels
+  pub names : AreLabelsOf region labels
   pub tag : ℕ
   pub named : tag_of labels x ≡ Some tag
   pub there : label_at labels tag ≡ Some (record { name = x; at = addr })
@@ -76,7 +76,7 @@ pub record IsChange (before after : Held) : Type 0 where
   pub kept : Kept before.disc after.disc
   pub lent : HasOut after.disc (segments_of after.region)
   pub out : out_without after.disc (segments_of after.region) ≡ out_without before.disc (segments_of before.region)
-  pub names : IsNamed after.region after.labels
+  pub names : AreLabelsOf after.region after.labels
   pub cells : after.cells ≡ before.cells
 
 -- what a command leaves of a region's cells: clearing it leaves none

@@ -7,15 +7,15 @@ use Rattle.vc_commands.specs.declared.region.labels.Label.{Label}
 use Rattle.vc_commands.specs.declared.region.labels.Labels.{Labels}
 use Rattle.vc_commands.specs.declared.region.labels.Known.{Known}
 use Rattle.vc_commands.specs.declared.region.labels.Known.TheVariants.{Live, Freed}
-use Rattle.vc_commands.specs.FreedNames.{FreedNames, line_of, with_line, without_name}
+use Rattle.vc_commands.specs.FreedNames.{FreedNames, freed_line, with_line, without_name}
 
 -- the block of a tag, from 1 on
 abbrev pub label_at : Labels → ℕ → Option Label
 label_at labels tag = get labels.by_tag (tag - 1)
 
 -- the name of a tag; 0 is the tag of a block without one
-abbrev pub name_of : Labels → ℕ → Option (List ℕ)
-name_of labels tag = if tag == 0 then None else option_map (λ l. l.name) (label_at labels tag)
+abbrev pub name_of_tag : Labels → ℕ → Option (List ℕ)
+name_of_tag labels tag = if tag == 0 then None else option_map (λ l. l.name) (label_at labels tag)
 
 -- the tag of a live block; the line of the free of one that is gone
 abbrev pub tag_in : Option Known → Option ℕ
@@ -97,4 +97,4 @@ FreesNames old new line =
 -- the line with which a name is kept once all blocks are gone
 abbrev pub line_left : Labels → Bool → ℕ → List ℕ → Option ℕ
 line_left old keeps line x =
-    if keeps then (if is_some (tag_of old x) then Some line else line_of x (kept_of old)) else None
+    if keeps then (if is_some (tag_of old x) then Some line else freed_line x (kept_of old)) else None

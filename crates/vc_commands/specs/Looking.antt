@@ -25,18 +25,18 @@ is_askable (Prev d bytes) = is_object bytes
 is_askable command = true
 
 -- the object that a command finds among those that are seen; a walk finds none
-abbrev pub found_by : {N : Type 0} → Rules → Command → List (Seen N) → Option (Seen N)
-found_by rules (Search d bytes) seen = first_with seen_bytes rules (rules.key bytes) seen
-found_by rules (MatchKey d key) seen = first_with seen_bytes rules key seen
-found_by rules (First d) seen = first_of seen
-found_by rules (Last d) seen = last_of seen
-found_by rules (Next d bytes) seen = behind_key seen_bytes rules (rules.key bytes) seen
-found_by rules (Prev d bytes) seen = before_key seen_bytes rules (rules.key bytes) seen
-found_by rules command seen = None
+abbrev pub found_by_command : {N : Type 0} → Rules → Command → List (Seen N) → Option (Seen N)
+found_by_command rules (Search d bytes) seen = first_with seen_bytes rules (rules.key bytes) seen
+found_by_command rules (MatchKey d key) seen = first_with seen_bytes rules key seen
+found_by_command rules (First d) seen = first_of seen
+found_by_command rules (Last d) seen = last_of seen
+found_by_command rules (Next d bytes) seen = behind_key seen_bytes rules (rules.key bytes) seen
+found_by_command rules (Prev d bytes) seen = before_key seen_bytes rules (rules.key bytes) seen
+found_by_command rules command seen = None
 
 -- none where the command may not be asked
 abbrev pub look_found : {N : Type 0} → Rules → Command → List (Seen N) → Option (Seen N)
-look_found rules command seen = if is_askable command then found_by rules command seen else None
+look_found rules command seen = if is_askable command then found_by_command rules command seen else None
 
 -- the object, if one is found
 abbrev pub found_reply : {N : Type 0} → Option (Seen N) → Reply
@@ -46,7 +46,7 @@ found_reply (Some o) = Found o.bytes
 -- a walk tells all objects in order
 abbrev pub look_answer : {N : Type 0} → Rules → Command → List (Seen N) → Reply
 look_answer rules (Walk d) seen = Objects (map seen_bytes seen)
-look_answer rules command seen = found_reply (found_by rules command seen)
+look_answer rules command seen = found_reply (found_by_command rules command seen)
 
 abbrev pub look_reply : {N : Type 0} → Rules → Command → List (Seen N) → Reply
 look_reply rules command seen = if is_askable command then look_answer rules command seen else Refused why.Size

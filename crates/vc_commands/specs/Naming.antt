@@ -9,14 +9,14 @@ use Rattle.vc_script.specs.declared.reply.Reply.{Reply}
 use Rattle.vc_script.specs.declared.reply.Reply.TheVariants as reply
 use Rattle.vc_commands.specs.declared.region.labels.Labels.{Labels}
 use Rattle.vc_commands.specs.Blocks.{at_place, fault_of, label_limit, script_refusal}
-use Rattle.vc_commands.specs.FreedNames.{line_of, without_name}
+use Rattle.vc_commands.specs.FreedNames.{freed_line, without_name}
 use Rattle.vc_commands.specs.Labels.{AreLabels, WithLabel, kept_of, tag_of}
 
 -- why a new block is refused before a place is looked for, by the refusal of its words
 abbrev pub new_refused_by : Labels → List ℕ → Option Refusal → Option Refusal
 new_refused_by labels x (Some refusal) = Some refusal
 new_refused_by labels x None =
-    if is_some (line_of x (kept_of labels)) || nat_lt (length labels.tags.entries) label_limit then None
+    if is_some (freed_line x (kept_of labels)) || nat_lt (length labels.tags.entries) label_limit then None
     else Some TooManyBlocks
 
 abbrev pub new_refused : Labels → List ℕ → Option Refusal → Option Refusal

@@ -12,7 +12,7 @@ use Rattle.vc_model.specs.Discipline.{Discipline, NoneRefused}
 use Rattle.vc_region.specs.Cells.{cells_in, rest_in}
 use Rattle.vc_region.specs.Parts.{disc_in}
 use Rattle.vc_commands.specs.Held.{Held, IsChange, LacksSegment, home_of, left_by}
-use Rattle.vc_commands.specs.Labels.{kept_of, name_of}
+use Rattle.vc_commands.specs.Labels.{kept_of, name_of_tag}
 use Rattle.vc_commands.specs.declared.region.home.HomeEntry.{HomeEntry}
 use Rattle.vc_commands.specs.declared.region.labels.Labels.{Labels}
 
@@ -36,7 +36,7 @@ held_of meaning name h labels =
 
 -- a region with names for its tags, but for the bytes in its cells, and the names that it keeps as freed
 abbrev pub region_with : {I : Type 0} {V : I → Type 0} → HomeEntry I V → Labels → Region Label × FreedNames
-region_with h labels = (region_with_labels (name_of labels) (rest_in h.region), kept_of labels)
+region_with h labels = (region_with_labels (name_of_tag labels) (rest_in h.region), kept_of labels)
 
 -- by a definition, a command on a region gives this reply and leaves the region so, whatever its name
 abbrev pub RunsRegion : {I : Type 0} {V : I → Type 0} → ((x : I) × V x → Discipline) → (Home → Changed) → HomeEntry I V → Labels → Region Label × FreedNames → Reply → Type 0

@@ -32,31 +32,31 @@ have_own_tags [] = true
 have_own_tags (b ∷ bs) = is_own_tag b.label bs && have_own_tags bs
 
 -- where the block of a tag stands, by a list whose first item is of the tag 1
-abbrev pub place_at : List (Option Addr) → ℕ → Option Addr
-place_at places tag = slice_index_or places (tag - 1) None
+abbrev pub place_of_tag : List (Option Addr) → ℕ → Option Addr
+place_of_tag places tag = slice_index_or places (tag - 1) None
 
 -- each tag has the place of its block, or none, and there are at most as many places as a region has labels
 pub record ArePlaces (blocks : List (Block ℕ)) (places : List (Option Addr)) : Type 0 where
   pub most : length places ≤ label_limit
-  pub at : (tag : ℕ) → 1 ≤ tag → option_map (λ a. a.0) (place_at places tag) ≡ option_map address_of (find (has_tag tag) blocks)
+  pub at : (tag : ℕ) → 1 ≤ tag → option_map (λ a. a.0) (place_of_tag places tag) ≡ option_map address_of (find (has_tag tag) blocks)
 
 -- whether a tag is of no label, or has no place yet and is at most as great as a region has labels
 abbrev pub is_vacant : List (Option Addr) → ℕ → Bool
-is_vacant places tag = tag == 0 || (nat_le tag label_limit && not (is_some (place_at places tag)))
+is_vacant places tag = tag == 0 || (nat_le tag label_limit && not (is_some (place_of_tag places tag)))
 
 -- new has this place at the tag, and every other tag is as in old
 pub record PutsPlace (old new : List (Option Addr)) (tag : ℕ) (at : Addr) : Type 0 where
-  pub here : 1 ≤ tag → place_at new tag ≡ Some at
-  pub others : (other : ℕ) → 1 ≤ other → other ≢ tag → place_at new other ≡ place_at old other
+  pub here : 1 ≤ tag → place_of_tag new tag ≡ Some at
+  pub others : (other : ℕ) → 1 ≤ other → other ≢ tag → place_of_tag new other ≡ place_of_tag old other
 
 -- the address that stands for none
-abbrev pub no_address : Addr
-no_address = record { 0 = 0 }
+abbrev pub address_of_none : Addr
+address_of_none = record { 0 = 0 }
 
 -- the places of the tags up to the last one, where that of a tag without a block is the address that stands for none
 abbrev pub filled : List (Option Addr) → ℕ → Option Addr
 filled places tag =
-    if nat_le tag (length places) then Some (unwrap_or (place_at places tag) no_address) else None
+    if nat_le tag (length places) then Some (unwrap_or (place_of_tag places tag) address_of_none) else None
 
 -- the block of a tag, by its name
 abbrev pub label_by_tag : ℕ → Addr → Live

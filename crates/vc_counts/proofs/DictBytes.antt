@@ -3,7 +3,7 @@
 use Rattle.vc_base.proofs.Common.{◌≡◌, ℕ, ◌+◌, Bool, true, false, cond, List, [], ◌∷◌, map, Some, None, Option, refl, inl, arith, none-some, same_Some, AllByRecursion, AreDistinct, contains, has_table, is_list, best_alloc, best_need, place_in, put_in_new, put_or_ask, zeros, Terms, Layout, footprints, with_grant, Done, Outcome, Put, Refused, Asked, Grant, Granted, NotLent, TooMany, ask}
 use Rattle.vc_base.specs.declared.dict_method.DictMethod.{DictMethod}
 use Rattle.vc_base.specs.declared.dict_method.DictMethod.TheVariants.{DtSet, DtBag, DtOset, DtObag, DtList, DtStack, DtQueue}
-use Rattle.vc_commands.specs.DictCommands.{append_in, delete_in, fate_reply, insert_in, is_for_object, is_for_table, is_object, put_object, put_unless, removed_as, standing}
+use Rattle.vc_commands.specs.DictCommands.{append_in, delete_in, fate_reply, insert_in, is_for_object, is_for_table, is_object, put_object, put_unless, removed_as, matched_in_set}
 use Rattle.vc_commands.specs.Seat.{DictChanged, Seat, seat_with_refusal}
 use Rattle.vc_dtdisc.specs.Finding.{first_of}
 use Rattle.vc_dtdisc.specs.Objects as objects
@@ -164,7 +164,7 @@ module _ {L : Type 0} where
     where-bytes object c e = either (ChangesBytes s) (is_object object) c (seat_with_refusal s why.Size) e refl
 
     pub insert-bytes : (given object : List ℕ) (need : Need) → ChangesBytes s (cond (is_object given) (insert_in s object need) (seat_with_refusal s why.Size))
-    insert-bytes given object need = where-bytes given (insert_in s object need) (unless-bytes object need (standing s object))
+    insert-bytes given object need = where-bytes given (insert_in s object need) (unless-bytes object need (matched_in_set s object))
 
     pub append-bytes : (object : List ℕ) (need : Need) → ChangesBytes s (append_in s object need)
     append-bytes object need =

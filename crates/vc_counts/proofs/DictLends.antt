@@ -1,7 +1,7 @@
 -- What a command on a dictionary lends: the segments that it is granted stand behind those of the region.
 use Rattle.vc_base.proofs.Common.{◌≡◌, ℕ, Bool, true, false, cond, List, [], ◌∷◌, length, ◌==◌, Some, None, Option, refl, ◌∙◌, has_table, is_list, method_number, Terms, Layout, Outcome, Put}
 use Rattle.vc_base.specs.declared.dict_method.DictMethod.{DictMethod}
-use Rattle.vc_commands.specs.DictCommands.{append_in, delete_in, in_dict, insert_in, is_for_object, is_for_table, is_object, put_object, put_unless, removed_as, standing, turned_as}
+use Rattle.vc_commands.specs.DictCommands.{append_in, delete_in, in_dict, insert_in, is_for_object, is_for_table, is_object, put_object, put_unless, removed_as, matched_in_set, turned_as}
 use Rattle.vc_commands.specs.Seat.{DictChanged, Seat, seat_with_refusal}
 use Rattle.vc_dict.specs.Methods.{slots_between}
 use Rattle.vc_dtdisc.specs.Objects as objects
@@ -109,7 +109,7 @@ module _ {L : Type 0} where
 
   insert-changes : (s : Seat L) (given bytes : List ℕ) (need : Need) → ChangesDict s (cond (is_object given) (insert_in s bytes need) (seat_with_refusal s why.Size))
   insert-changes s given bytes need =
-      either (ChangesDict s) (is_object given) (insert_in s bytes need) (seat_with_refusal s why.Size) (unless-changes s bytes need (standing s bytes)) (same s)
+      either (ChangesDict s) (is_object given) (insert_in s bytes need) (seat_with_refusal s why.Size) (unless-changes s bytes need (matched_in_set s bytes)) (same s)
 
   append-changes : (s : Seat L) (bytes : List ℕ) (need : Need) → ChangesDict s (append_in s bytes need)
   append-changes s bytes need =

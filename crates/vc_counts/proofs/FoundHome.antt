@@ -3,7 +3,7 @@ use Rattle.vc_base.proofs.Common.{◌≡◌, ℕ, ◌+◌, Bool, true, false, co
 use Rattle.vc_commands.proofs.Firsts.{find-none}
 use Rattle.vc_commands.specs.Held.{Held, home_of}
 use Rattle.vc_commands.specs.Home.{is_home}
-use Rattle.vc_commands.specs.Labels.{name_of}
+use Rattle.vc_commands.specs.Labels.{name_of_tag}
 use Rattle.vc_commands.specs.declared.dict.entry.DictEntry.{DictEntry}
 use Rattle.vc_commands.specs.declared.region.home.HomeEntry.{HomeEntry}
 use Rattle.vc_commands.specs.declared.region.labels.Labels.{Labels}
@@ -56,10 +56,10 @@ module _ {I : Type 0} {V : I → Type 0} (meaning : (x : I) × V x → Disciplin
 
     -- the region of an index has the name: its blocks' bytes, and its segments
     pub busy-found : (stat_of (region_of h.region)).sbusy ≡ busy_in_home (home_named r (map home_of hs))
-    busy-found = sym (ap busy_in_home there ∙ ap (λ (t : Stat). t.sbusy) (stat-relabelled (name_of own.l) (rest_in h.region) ∙ rest-stat (region_of h.region)))
+    busy-found = sym (ap busy_in_home there ∙ ap (λ (t : Stat). t.sbusy) (stat-relabelled (name_of_tag own.l) (rest_in h.region) ∙ rest-stat (region_of h.region)))
 
     pub segments-found : segments_of (region_of h.region) ≡ segments_at (Some r) (map home_of hs)
-    segments-found = sym (ap segments_at_home there ∙ (segments-relabelled (name_of own.l) (rest_in h.region) ∙ rest-segments (region_of h.region)))
+    segments-found = sym (ap segments_at_home there ∙ (segments-relabelled (name_of_tag own.l) (rest_in h.region) ∙ rest-segments (region_of h.region)))
 
 -- what the entry of a name tells of its dictionary, whatever the cells of its region
 module _ (hs : List Held) (views : ℕ → Option (List ℕ)) {A : Type 0} (told : DictHome → A) (by_entry : DictEntry → A) (same : (e : List ℕ × DictEntry) → told (dict_home hs views e) ≡ by_entry e.1) (d : List ℕ) where

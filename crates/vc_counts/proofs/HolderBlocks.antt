@@ -8,7 +8,7 @@ use Rattle.vc_best.proofs.CellBytes.{cell, cell-length}
 use Rattle.vc_best.proofs.RestBlocks.{footprints-zeroed}
 use Rattle.vc_commands.specs.Held.{Held, home_of}
 use Rattle.vc_commands.specs.Home.{Home, Label, is_home}
-use Rattle.vc_commands.specs.Labels.{name_of}
+use Rattle.vc_commands.specs.Labels.{name_of_tag}
 use Rattle.vc_commands.specs.declared.region.home.HomeEntry.{HomeEntry}
 use Rattle.vc_commands.specs.declared.region.labels.Labels.{Labels}
 use Rattle.vc_dict.specs.Listed.{holders_of}
@@ -80,7 +80,7 @@ are-celled : {I : Type 0} {V : I → Type 0} (meaning : (x : I) × V x → Disci
 are-celled meaning [] labels = tt
 are-celled meaning (e ∷ es) [] = tt
 are-celled meaning (e ∷ es) (l ∷ ls) =
-    (record { sized = cell-sized (name_of l) e.1.region; lawful = best-lawful (name_of l) e.1.region }, are-celled meaning es ls)
+    (record { sized = cell-sized (name_of_tag l) e.1.region; lawful = best-lawful (name_of_tag l) e.1.region }, are-celled meaning es ls)
 
 -- the blocks of a whole dictionary
 module _ (rules : Rules) (d : Dict) (cells : Blocks) (whole : IsWhole rules d cells) (r : Layout Label) (sized : (a : ℕ) → IsSome (cells a) → HasSized r.blocks a (length (bytes_at cells a))) where

@@ -2,10 +2,10 @@
 use Rattle.vc_base.proofs.Common.{◌≡◌, Bool, ℕ, ◌+◌, ◌≤◌, true, false, cond, ◌≢◌, List, [], ◌∷◌, map, Some, None, Option, option_map, AllPairs, find, unwrap_or, sym, refl, ap, ◌∙◌, subst, inl, inr, ⊎_elim, arith, cases_Bool, All-map, same_Some, AllByRecursion, address, place_of, Discipline, Block, address_of, is_at, relabel_block, HaveOwnPlaces}
 use Rattle.vc_seg.proofs.Lists.{AllPairs-map}
 use Rattle.vc_commands.specs.Blocks.{is_block, is_name_of}
-use Rattle.vc_commands.specs.Held.{Held, IsLive, IsNamed, home_of}
+use Rattle.vc_commands.specs.Held.{Held, IsLive, AreLabelsOf, home_of}
 use Rattle.vc_commands.specs.Home as home
 use Rattle.vc_commands.specs.Home.{Home, is_home}
-use Rattle.vc_commands.specs.Labels.{AreLabels, label_at, name_of, tag_of}
+use Rattle.vc_commands.specs.Labels.{AreLabels, label_at, name_of_tag, tag_of}
 use Rattle.vc_commands.specs.Sizes.{size_named}
 use Rattle.vc_commands.specs.declared.region.labels.Label.{Label}
 use Rattle.vc_commands.specs.declared.region.labels.Labels.{Labels}
@@ -33,7 +33,7 @@ found o = unwrap_or (option_map (λ b. b.size) o) 0
 
 module _ (labels : Labels) (agree : AreLabels labels) (x : List ℕ) where
   abbrev named : Block ℕ → Block home.Label
-  named b = relabel_block (name_of labels) b
+  named b = relabel_block (name_of_tag labels) b
 
   abbrev IsKnown : Block ℕ → Type 0
   IsKnown b = 1 ≤ b.label → IsLive labels b
@@ -43,7 +43,7 @@ module _ (labels : Labels) (agree : AreLabels labels) (x : List ℕ) where
     tag : tag_of labels x ≡ Some b.label
     live : IsLive labels b
 
-  tag-by : (b : Block ℕ) → IsKnown b → (o : home.Label) → name_of labels b.label ≡ o → is_name_of x o ≡ true → HasTag b
+  tag-by : (b : Block ℕ) → IsKnown b → (o : home.Label) → name_of_tag labels b.label ≡ o → is_name_of x o ≡ true → HasTag b
   tag-by b known None name is = absurd cc
   tag-by b known (Some y) name is =
       let first : 1 ≤ b.label = name-first labels b.label y name in
@@ -52,7 +52,7 @@ module _ (labels : Labels) (agree : AreLabels labels) (x : List ℕ) where
       record { tag = ap (tag_of labels) (sym same) ∙ agree.named b.label l.label first l.here; live = l }
 
   has-tag : (b : Block ℕ) → IsKnown b → is_block x (named b) ≡ true → HasTag b
-  has-tag b known is = tag-by b known (name_of labels b.label) refl is
+  has-tag b known is = tag-by b known (name_of_tag labels b.label) refl is
 
   -- blocks of the name stand at one address
   one-address : (b c : Block ℕ) → IsKnown b → IsKnown c → is_block x (named b) ≡ true → is_block x (named c) ≡ true → address_of b ≡ address_of c
@@ -126,9 +126,9 @@ named-places f bs places =
       exact = All-map (λ c. place_of (address_of c) ≡ (c.seg, c.off)) (relabel_block f) bs places.exact;
     }
 
-pub proper-held : (h : Held) → IsNamed h.region h.labels → IsProper (home_of h)
+pub proper-held : (h : Held) → AreLabelsOf h.region h.labels → IsProper (home_of h)
 proper-held h names =
-    let f = name_of h.labels in
+    let f = name_of_tag h.labels in
     let blocks = blocks-relabelled f h.region in
     record {
       split = λ x.

@@ -20,7 +20,7 @@ use Rattle.vc_dict.proofs.CurrentLemmas.{apart-linked, current-removed, within-l
 use Rattle.vc_dict.proofs.OwnLemmas.{table-apart}
 use Rattle.vc_dict.proofs.TurnedLemmas.{within_kept_by, within_ordered}
 use Rattle.vc_dict_tests.specs.Five.{AreGiven, AreSized, five}
-use Rattle.vc_dict_tests.specs.Ready.{IsReady}
+use Rattle.vc_dict_tests.specs.Ready.{IsReadyFor}
 
 -- the blocks have their sizes at first, and after each call
 by_one : (P : ℕ → Type 0) (a n : ℕ) → (a ≢ n → P a) → P n → P a
@@ -47,14 +47,14 @@ sized-kept tables holders b b' k s = record {
   sizes = λ a l m. k.sizes a ∙ s.sizes a l m;
 }
 
-pub dict-ready : (rules : Rules) (d : Dict) (b : Blocks) (n : ℕ) → IsReady rules d b n → IsDict rules d b
+pub dict-ready : (rules : Rules) (d : Dict) (b : Blocks) (n : ℕ) → IsReadyFor rules d b n → IsDict rules d b
 dict-ready rules d b n r = record { holders = r.holders; stands = r.stands }
 
-pub kept-ready : (rules : Rules) (d : Dict) (b : Blocks) (n : ℕ) → IsReady rules d b n → IsKept d b
+pub kept-ready : (rules : Rules) (d : Dict) (b : Blocks) (n : ℕ) → IsReadyFor rules d b n → IsKept d b
 kept-ready rules d b n r = record { rules = rules; is = dict-ready rules d b n r }
 
 -- a found holder changes nothing of it
-unfoldable pub ready-found : (rules : Rules) (d d' : Dict) (b b' : Blocks) (n : ℕ) (r : IsReady rules d b n) → Became rules r.holders d b d' b' r.holders d.current.0 → IsReady rules d' b' n
+unfoldable pub ready-found : (rules : Rules) (d d' : Dict) (b b' : Blocks) (n : ℕ) (r : IsReadyFor rules d b n) → Became rules r.holders d b d' b' r.holders d.current.0 → IsReadyFor rules d' b' n
 ready-found rules d d' b b' n r t = record {
   holders = r.holders;
   stands = t.stands;
@@ -64,7 +64,7 @@ ready-found rules d d' b b' n r t = record {
   sized = sized-kept ((table_in d).0 ∷ []) r.holders b b' t.keeps r.sized;
 }
 
-pub ready-linked : (rules : Rules) (d d' : Dict) (b b' : Blocks) (at : ℕ) (append : Bool) (r : IsReady rules d b at) → at ≤ 3 → Became rules (at ∷ r.holders) d b d' b' (order_by_link append d.method rules b d.current.0 at r.holders) at → IsReady rules d' b' (at + 1)
+pub ready-linked : (rules : Rules) (d d' : Dict) (b b' : Blocks) (at : ℕ) (append : Bool) (r : IsReadyFor rules d b at) → at ≤ 3 → Became rules (at ∷ r.holders) d b d' b' (order_by_link append d.method rules b d.current.0 at r.holders) at → IsReadyFor rules d' b' (at + 1)
 ready-linked rules d d' b b' at append r few t =
     let ys = order_by_link append d.method rules b d.current.0 at r.holders in
     record {
@@ -80,7 +80,7 @@ apart-removed_one : (found : Option ℕ) (xs : List ℕ) (a : ℕ) → contains 
 apart-removed_one None xs a h = h
 apart-removed_one (Some at) xs a h = apart-without xs at a h
 
-pub ready-removed : (rules : Rules) (d d' : Dict) (b b' : Blocks) (n : ℕ) (found : Option ℕ) (r : IsReady rules d b n) → Became rules r.holders d b d' b' (order_without found r.holders) (current_without found d.current.0 r.holders) → IsReady rules d' b' n
+pub ready-removed : (rules : Rules) (d d' : Dict) (b b' : Blocks) (n : ℕ) (found : Option ℕ) (r : IsReadyFor rules d b n) → Became rules r.holders d b d' b' (order_without found r.holders) (current_without found d.current.0 r.holders) → IsReadyFor rules d' b' n
 ready-removed rules d d' b b' n found r t =
     let ys = order_without found r.holders in
     record {
@@ -92,7 +92,7 @@ ready-removed rules d d' b b' n found r t =
       sized = sized-kept ((table_in d).0 ∷ []) r.holders b b' t.keeps r.sized;
     }
 
-pub ready-adopted : (rules : Rules) (d d' : Dict) (b b' : Blocks) (n block size : ℕ) (r : IsReady rules d b n) → Adopted rules block size r.holders d b d' b' → IsReady rules d' b' n
+pub ready-adopted : (rules : Rules) (d d' : Dict) (b b' : Blocks) (n block size : ℕ) (r : IsReadyFor rules d b n) → Adopted rules block size r.holders d b d' b' → IsReadyFor rules d' b' n
 ready-adopted rules d d' b b' n block size r t = record {
   holders = r.holders;
   stands = t.stands;
@@ -102,7 +102,7 @@ ready-adopted rules d d' b b' n block size r t = record {
   sized = sized-kept ((table_in d).0 ∷ block ∷ []) r.holders b b' t.keeps r.sized;
 }
 
-pub ready-turned : (rules : Rules) (method : DictMethod) (d d' : Dict) (b b' : Blocks) (n block size : ℕ) (answer : Dropped) (r : IsReady rules d b n) → Remethoded rules method block size r.holders d b d' b' answer → IsReady rules d' b' n
+pub ready-turned : (rules : Rules) (method : DictMethod) (d d' : Dict) (b b' : Blocks) (n block size : ℕ) (answer : Dropped) (r : IsReadyFor rules d b n) → Remethoded rules method block size r.holders d b d' b' answer → IsReadyFor rules d' b' n
 ready-turned rules method d d' b b' n block size answer r t =
     let ordered = ordered_by method rules b r.holders in
     let ys = kept_by method rules b ordered in
@@ -115,12 +115,12 @@ ready-turned rules method d d' b b' n block size answer r t =
       sized = sized-kept ((table_in d).0 ∷ block ∷ []) r.holders b b' t.keeps r.sized;
     }
 
-pub ready-unchanged : (rules : Rules) (d d' : Dict) (b b' : Blocks) (n : ℕ) (answer : Dropped) → Unchanged d b d' b' answer → IsReady rules d b n → IsReady rules d' b' n
+pub ready-unchanged : (rules : Rules) (d d' : Dict) (b b' : Blocks) (n : ℕ) (answer : Dropped) → Unchanged d b d' b' answer → IsReadyFor rules d b n → IsReadyFor rules d' b' n
 ready-unchanged rules d d' b b' n answer u r =
-    subst (λ e. IsReady rules e b' n) (sym u.dict) (subst (λ c. IsReady rules d c n) (sym u.blocks) r)
+    subst (λ e. IsReadyFor rules e b' n) (sym u.dict) (subst (λ c. IsReadyFor rules d c n) (sym u.blocks) r)
 
 -- a block for tables is a table of 16 slots
-pub table-fits : (rules : Rules) (d : Dict) (b : Blocks) (n table : ℕ) (r : IsReady rules d b n) → 4 ≤ table → table ≤ 5 → d.count ≤ 32 → IsTable b r.holders table 16
+pub table-fits : (rules : Rules) (d : Dict) (b : Blocks) (n table : ℕ) (r : IsReadyFor rules d b n) → 4 ≤ table → table ≤ 5 → d.count ≤ 32 → IsTable b r.holders table 16
 table-fits rules d b n table r least most few = record {
   slots_allowed = record { doublings = 0; few = omega arith; value = refl };
   there = r.sized.there table least most;
@@ -174,9 +174,9 @@ in-previous at [] x e = cc
 in-previous at (y ∷ ys) x e = previous_first (y == at) at y ys x (in-behind y at ys x) e
 
 -- a change of method leaves it ready, whether or not it is to another one
-pub ready-remethoded : (rules : Rules) (method : DictMethod) (d d' : Dict) (b b' : Blocks) (n block size : ℕ) (answer : Dropped) (r : IsReady rules d b n) → (method ≢ d.method → Remethoded rules method block size r.holders d b d' b' answer) → (method ≡ d.method → Unchanged d b d' b' answer) → IsReady rules d' b' n
+pub ready-remethoded : (rules : Rules) (method : DictMethod) (d d' : Dict) (b b' : Blocks) (n block size : ℕ) (answer : Dropped) (r : IsReadyFor rules d b n) → (method ≢ d.method → Remethoded rules method block size r.holders d b d' b' answer) → (method ≡ d.method → Unchanged d b d' b' answer) → IsReadyFor rules d' b' n
 ready-remethoded rules method d d' b b' n block size answer r turned same =
-    elim (eqb_tells (method_number method) (method_number d.method)) as (λ _. IsReady rules d' b' n) [
+    elim (eqb_tells (method_number method) (method_number d.method)) as (λ _. IsReadyFor rules d' b' n) [
       | inl equal ↦ ready-unchanged rules d d' b b' n answer (same (same-method method d.method equal.0)) r
       | inr differs ↦ ready-turned rules method d d' b b' n block size answer r (turned (λ e. differs.1 (ap method_number e)))
     ]

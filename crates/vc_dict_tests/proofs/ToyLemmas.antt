@@ -3,10 +3,10 @@ use Rattle.vc_base.proofs.Common.{◌≡◌, ℕ, ◌+◌, ◌-◌, ◌<◌, Boo
 use Rattle.vc_dtdisc.specs.Shapes.{order_of, rules_of}
 use Rattle.vc_dtdisc.specs.declared.shape.Shape.TheVariants.{Fold}
 use Rattle.vc_paths.specs.Layers.{place_with}
-use Rattle.vc_dict_tests.specs.Toy.{objects_from}
+use Rattle.vc_dict_tests.specs.Toy.{one_byte_objects}
 
 abbrev places : List ℕ → ℕ → List ℕ → Option ℕ
-places key n bs = place_with (rules_of Fold) key (objects_from n bs)
+places key n bs = place_with (rules_of Fold) key (one_byte_objects n bs)
 
 found-head : (key : List ℕ) (n b : ℕ) (bs : List ℕ) → is_eq (order_of Fold (b ∷ []) key) ≡ true → places key n (b ∷ bs) ≡ Some n
 found-head key n b bs is = rw is refl

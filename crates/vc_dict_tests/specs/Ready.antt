@@ -8,7 +8,7 @@ use Rattle.vc_dict.specs.Stands.{Stands}
 use Rattle.vc_dict_tests.specs.Five.{AreSized}
 
 -- it stands for holders before the next, its current one is none or one of them, and the blocks have their sizes
-pub record IsReady (rules : Rules) (dict : Dict) (blocks : Blocks) (next : ℕ) : Type 0 where
+pub record IsReadyFor (rules : Rules) (dict : Dict) (blocks : Blocks) (next : ℕ) : Type 0 where
   pub holders : List ℕ
   pub stands : Stands rules dict blocks holders
   pub current : contains (0 ∷ holders) dict.current.0 ≡ true
@@ -17,7 +17,7 @@ pub record IsReady (rules : Rules) (dict : Dict) (blocks : Blocks) (next : ℕ) 
   pub sized : AreSized blocks
 
 -- it stands for some holders, of which this is one, if any
-pub record IsAt (rules : Rules) (dict : Dict) (blocks : Blocks) (at : Option ℕ) : Type 0 where
+pub record IsAtHolder (rules : Rules) (dict : Dict) (blocks : Blocks) (at : Option ℕ) : Type 0 where
   pub holders : List ℕ
   pub stands : Stands rules dict blocks holders
   pub within : (x : ℕ) → at ≡ Some x → contains holders x ≡ true

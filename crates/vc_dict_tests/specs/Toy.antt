@@ -10,9 +10,9 @@ use Rattle.vc_paths.specs.Layers.{Layer, Layered}
 use Rattle.vc_paths.specs.Links.{numbers}
 
 -- objects of one byte each, at places from a number on
-abbrev pub objects_from : ℕ → List ℕ → List Object
-objects_from at [] = []
-objects_from at (b ∷ bs) = record { at = at; bytes = b ∷ [] } ∷ objects_from (at + 1) bs
+abbrev pub one_byte_objects : ℕ → List ℕ → List Object
+one_byte_objects at [] = []
+one_byte_objects at (b ∷ bs) = record { at = at; bytes = b ∷ [] } ∷ one_byte_objects (at + 1) bs
 
 -- the bytes of the dictionaries 0, 1 and 2 where the method is ordered: bD, acD and AbEe; the
 -- others are empty
@@ -46,7 +46,7 @@ layer_in method d = record {
   method = method_in method d;
   kind = kind_in d;
   rules = rules_of Fold;
-  objects = objects_from 1 (bytes_in method d);
+  objects = one_byte_objects 1 (bytes_in method d);
 }
 
 -- each number from 0 to 255 is a dictionary

@@ -13,11 +13,11 @@ use Rattle.vc_dtdisc.specs.ShapeLaws.{rules-lawful}
 use Rattle.vc_dtdisc.specs.Shapes.{rules_of}
 use Rattle.vc_dtdisc.specs.declared.shape.Shape.TheVariants.{Fold}
 use Rattle.vc_paths.specs.Layers.{AreLayers}
-use Rattle.vc_dict_tests.specs.Toy.{bytes_in, bytes_in_none, bytes_in_order, layers_in, method_in, objects_from}
+use Rattle.vc_dict_tests.specs.Toy.{bytes_in, bytes_in_none, bytes_in_order, layers_in, method_in, one_byte_objects}
 
 -- the places of objects from a number on
 toy_places : ℕ → List ℕ → List ℕ
-toy_places n bs = map (λ (o : Object). o.at) (objects_from n bs)
+toy_places n bs = map (λ (o : Object). o.at) (one_byte_objects n bs)
 
 -- are above each lower one, and distinct
 none-low : (at n : ℕ) (bs : List ℕ) → at < n → contains (toy_places n bs) at ≡ false
@@ -38,7 +38,7 @@ distinct n (b ∷ bs) = (none-low n (n + 1) bs (omega arith), distinct (n + 1) b
 
 -- the objects stand in order where the method is ordered
 Sorted : List ℕ → Type 0
-Sorted bs = IsSorted bytes_of (rules_of Fold) (objects_from 1 bs)
+Sorted bs = IsSorted bytes_of (rules_of Fold) (one_byte_objects 1 bs)
 
 sorted-by : (t : Bool) (xs ys : List ℕ) → Sorted xs → Sorted ys → Sorted (cond t xs ys)
 sorted-by true xs ys h k = h

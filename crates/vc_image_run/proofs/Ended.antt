@@ -13,7 +13,7 @@ use Rattle.vc_script.specs.declared.command.Command.{Command}
 use Rattle.vc_script.specs.declared.line_fault.LineFault.{LineFault}
 use Rattle.vc_script.specs.declared.tool.Tool.TheVariants.{Dtrun}
 use Rattle.vc_session.proofs.Rest.{Rests, runs-rest}
-use Rattle.vc_session.specs.Engine.{RunsOn}
+use Rattle.vc_session.specs.Engine.{RunsScriptOn}
 use Rattle.vc_session.specs.Replay.{LeavesReplay, LeavesRun}
 use Rattle.vc_session.specs.Rows.{no_words}
 use Rattle.vc_session.specs.Run.{Ran}
@@ -46,7 +46,7 @@ some-each None f p = tt
 some-each (Some x) f p = f x p
 
 -- a script was run to its end over a session that goes on
-pub runs-to : (holds : State → Type 0) (start last : Moment) (old new : Flows) → RunsOn Dtrun no_words (Ok None) start last old new → holds last.state → RunsTo holds start (moment_at_end last) old new
+pub runs-to : (holds : State → Type 0) (start last : Moment) (old new : Flows) → RunsScriptOn Dtrun no_words (Ok None) start last old new → holds last.state → RunsTo holds start (moment_at_end last) old new
 runs-to holds start last old new on is = record {
   runs = on.script;
   state = last.state;
@@ -59,7 +59,7 @@ module _ {I : Type 0} {V : I → Type 0} {D : Type 0} (meaning : (x : I) × V x 
   abbrev last_of : Moment
   last_of = moment meaning rules gone shelf session kinds
 
-  saved-err : (why : ScriptFault) → RunsOn Dtrun no_words (Ok None) start last_of old new → WhyNone (rules_in rules kinds) session why → FailsBy (rules_in rules kinds) why start (moment_at_end last_of) old new
+  saved-err : (why : ScriptFault) → RunsScriptOn Dtrun no_words (Ok None) start last_of old new → WhyNone (rules_in rules kinds) session why → FailsBy (rules_in rules kinds) why start (moment_at_end last_of) old new
   saved-err (Line n why) on none = absurd none
   saved-err Read on none = absurd none
   saved-err Write on none = absurd none
@@ -70,7 +70,7 @@ module _ {I : Type 0} {V : I → Type 0} {D : Type 0} (meaning : (x : I) × V x 
       runs-to (λ s. (image : List ℕ) × (IsImageOf s image × IsFirstUnsoundPart (rules_in rules kinds) image part)) start last_of old new on
       (none.0, (image-of meaning rules shelf session kinds over none.0 none.1.0, none.1.1))
 
-  pub saved-by : (image : Result MemorySink ScriptFault) → RunsOn Dtrun no_words (Ok None) start last_of old new → IfOk image (λ i. IsFirstImage session i.written) → IfOk image (λ i. IsSound (rules_in rules kinds) i.written) → IfErr image (WhyNone (rules_in rules kinds) session) → Saves (rules_in rules kinds) image start (moment_at_end last_of) old new
+  pub saved-by : (image : Result MemorySink ScriptFault) → RunsScriptOn Dtrun no_words (Ok None) start last_of old new → IfOk image (λ i. IsFirstImage session i.written) → IfOk image (λ i. IsSound (rules_in rules kinds) i.written) → IfErr image (WhyNone (rules_in rules kinds) session) → Saves (rules_in rules kinds) image start (moment_at_end last_of) old new
   saved-by (Ok image) on first sound none =
       runs-to (λ s. IsSaved (rules_in rules kinds) s image.written) start last_of old new on
       (record { image_of = image-of meaning rules shelf session kinds over image.written first; sound = sound })

@@ -7,7 +7,7 @@ use Rattle.vc_commands.specs.declared.dict.entry.DictEntry.{DictEntry}
 use Rattle.vc_commands.specs.declared.region.home.HomeEntry.{HomeEntry}
 use Rattle.vc_commands.specs.declared.region.labels.Labels.{Labels}
 use Rattle.vc_commands.specs.Held.{Held, home_of}
-use Rattle.vc_commands.specs.Labels.{name_of}
+use Rattle.vc_commands.specs.Labels.{name_of_tag}
 use Rattle.vc_commands.specs.RegionRun.{held_of}
 use Rattle.vc_dict.specs.declared.dict.Dict.{Dict}
 use Rattle.vc_dict.proofs.HeadLemmas.{dict-again}
@@ -151,7 +151,7 @@ module _ {I : Type 0} {V : I → Type 0} {D : Type 0} (meaning : (x : I) × V x 
       record {
         home = home_of (held_of meaning e.0 e.1 first.0);
         first = slice_get-map home_of held 0 ∙ ap (option_map home_of) first.1;
-        name_of = name_of first.0;
+        name_of = name_of_tag first.0;
         region = refl;
         whole = copies-whole meaning held views e first.0 first.1 (rules_in rules kinds) session.dicts.entries over.dicts;
         dicts = each-copy meaning held views e first.0 first.1 (rules_in rules kinds) session.dicts.entries over.dicts;

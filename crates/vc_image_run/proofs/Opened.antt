@@ -4,9 +4,9 @@ use Rattle.vc_base.proofs.Lists.{slice_get-set}
 use Rattle.vc_best.specs.Cells.{cells_in as best_cells, cells_of}
 use Rattle.vc_best.specs.declared.best.Best.{Best}
 use Rattle.vc_commands.proofs.Answers.{front-out}
-use Rattle.vc_commands.specs.Held.{Held, IsNamed, home_of}
+use Rattle.vc_commands.specs.Held.{Held, AreLabelsOf, home_of}
 use Rattle.vc_commands.specs.Home.{Home, Label}
-use Rattle.vc_commands.specs.Labels.{kept_of, name_of}
+use Rattle.vc_commands.specs.Labels.{kept_of, name_of_tag}
 use Rattle.vc_commands.specs.RegionRun.{held_of}
 use Rattle.vc_commands.specs.declared.region.home.HomeEntry.{HomeEntry}
 use Rattle.vc_commands.specs.declared.region.labels.Labels.{Labels}
@@ -131,7 +131,7 @@ module _ {I : Type 0} {V : I → Type 0} (meaning : (x : I) × V x → Disciplin
         at_number-from_one (set slots (place - 1) None) place (at_number_some slots place (Some d) at).0
         ∙ slice_get-set slots (place - 1) (Some d) None (at_number_some slots place (Some d) at).1
 
-    pub held-from : IsNamed (rest_in (OfBest best)) labels → IsHeldFrom false (set slots (place - 1) None) held
+    pub held-from : AreLabelsOf (rest_in (OfBest best)) labels → IsHeldFrom false (set slots (place - 1) None) held
     held-from named = record { place = emptied; armed_so = lent.kept.armed; lent = (d.out, out-is); names = named }
 
     -- once it is closed
@@ -150,7 +150,7 @@ module _ {I : Type 0} {V : I → Type 0} (meaning : (x : I) × V x → Disciplin
     asked-same = subst (SameAsked (accounts slots)) (sym settled-is) (asked-at slots place d at closed (ap asked_by (lent.kept.unarmed refl)))
 
     -- the state
-    pub state-is : (views : ℕ → Option (List ℕ)) → ((n : ℕ) → views n ≡ None) → region_with_labels (name_of labels) (rest_in (OfBest best)) ≡ region_with_labels name_by_tag (rest_in (OfBest best)) → kept_of labels ≡ []
+    pub state-is : (views : ℕ → Option (List ℕ)) → ((n : ℕ) → views n ≡ None) → region_with_labels (name_of_tag labels) (rest_in (OfBest best)) ≡ region_with_labels name_by_tag (rest_in (OfBest best)) → kept_of labels ≡ []
         → state_of kinds (set slots (place - 1) None) (held ∷ []) (dicts_in (held ∷ []) views (entries_from 0 ds)) ≡ image_state (state_of kinds slots [] []) place d.terms image
     state-is views none named kept =
         ap (λ hs. state_of kinds (set slots (place - 1) None) (held ∷ []) hs) (homes-are views none 0 ds)
@@ -167,7 +167,7 @@ module _ {I : Type 0} {V : I → Type 0} (meaning : (x : I) × V x → Disciplin
 
         home-is : home_of held ≡ home_by d.terms (region_with_labels name_by_tag (rest_in (OfBest best))) []
         home-is =
-            ap (λ t. home_by t (region_with_labels (name_of labels) (rest_in (OfBest best))) (kept_of labels)) lent.kept.terms
+            ap (λ t. home_by t (region_with_labels (name_of_tag labels) (rest_in (OfBest best))) (kept_of labels)) lent.kept.terms
             ∙ (ap (λ r. home_by d.terms r (kept_of labels)) named ∙ ap (home_by d.terms (region_with_labels name_by_tag (rest_in (OfBest best)))) kept)
 
   -- a session of these parts

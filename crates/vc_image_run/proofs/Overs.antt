@@ -25,7 +25,7 @@ use Rattle.vc_script.specs.Words.{is_name, is_name_byte}
 use Rattle.vc_script.specs.declared.tool.Tool.TheVariants.{Dtrun}
 use Rattle.vc_seg.specs.declared.shelf.Shelf.{Shelf}
 use Rattle.vc_session.proofs.HowFar.{first-arms}
-use Rattle.vc_session.specs.Arming.{IsFirst, Keeps, RunsArming}
+use Rattle.vc_session.specs.Arming.{IsVersionOne, Keeps, RunsArming}
 use Rattle.vc_session.specs.ProperState.{IsProperOver, IsProperState, name_or_none}
 use Rattle.vc_session.specs.Streams.{Flows}
 use Rattle.vc_steps.proofs.SettledShelf.{keeps-trans}
@@ -105,7 +105,7 @@ module _ {I : Type 0} {V : I → Type 0} {D : Type 0} {meaning : (x : I) × V x 
     remakes-over (Ok image) is = record { start = start; begins = begins-with gone; ran_to = subst (λ r. Saves (map rules kinds) r start at_rest old new) is saves-over }
     remakes-over (Err why) is = record { start = start; begins = begins-with gone; ran_to = subst (λ r. Saves (map rules kinds) r start at_rest old new) is saves-over }
 
-    pub keeps-over : Keeps (IsFirst None Dtrun old.left) (moment_at_rest meaning rules gone shelf kinds) at_rest
+    pub keeps-over : Keeps (IsVersionOne None Dtrun old.left) (moment_at_rest meaning rules gone shelf kinds) at_rest
     keeps-over = record {
       accounts =
           keeps-trans (accounts_on meaning shelf) (settled_over meaning shelf' session) (accounts_on meaning after) o.is.keeps

@@ -15,12 +15,12 @@ abbrev pub budgeted : Budget
 budgeted = record { budget = 1048576; out = []; faults = 0; terms = record { round = 4096; grows = false }; exceptions = no_exceptions }
 
 -- at place 17 one that makes a segment longer, rounds to 4,096 bytes and has at most 33,554,432 bytes out
-abbrev pub growing : Budget
-growing = record { budget = 33554432; out = []; faults = 0; terms = record { round = 4096; grows = true }; exceptions = no_exceptions }
+abbrev pub growing_budget : Budget
+growing_budget = record { budget = 33554432; out = []; faults = 0; terms = record { round = 4096; grows = true }; exceptions = no_exceptions }
 
 -- at place 18 one with a budget of 1,048,576, which its first exception raises by as much
-abbrev pub relieved : Relief
-relieved = record { budget = budgeted; relief = Some 1048576 }
+abbrev pub relieved_budget : Relief
+relieved_budget = record { budget = budgeted; relief = Some 1048576 }
 
 -- the shapes of the kinds, from kind 1 on
 abbrev pub shapes : List Shape

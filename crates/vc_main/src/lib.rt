@@ -3,7 +3,7 @@
 #![tactic(auto)]
 
 ghost use Rattle.std.specs.Prelude.{◌≡◌, map, IfOk};
-ghost use Rattle.vc_main.specs.Places.{budgeted, growing, heap_at, relieved, shapes};
+ghost use Rattle.vc_main.specs.Places.{budgeted, growing_budget, heap_at, relieved_budget, shapes};
 
 use std::alloc::{AllocError, Global};
 use std::env::{self, Env};
@@ -44,7 +44,7 @@ pub fn budgeted() -> BudgetDisc
 /// The discipline at place 17: it makes a segment longer where more is asked for, rounds to 4,096 bytes, and has at most
 /// 33,554,432 bytes out, as many as a segment can have.
 pub fn growing() -> SbrkDisc
-    ensures { result ≡ growing }
+    ensures { result ≡ growing_budget }
 {
     SbrkDisc::new(4096, 33_554_432)
 }
@@ -52,7 +52,7 @@ pub fn growing() -> SbrkDisc
 /// The discipline at place 18: it rounds to 4,096 bytes, and has a budget of 1,048,576 bytes, which is raised by as much
 /// where it is asked for an exception first.
 pub fn relieved() -> ReliefDisc
-    ensures { result ≡ relieved }
+    ensures { result ≡ relieved_budget }
 {
     ReliefDisc::new(4096, 1_048_576, 1_048_576)
 }

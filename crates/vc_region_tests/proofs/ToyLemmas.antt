@@ -6,7 +6,7 @@ use Rattle.vc_splay.specs.Stands.{HasTree, IsIn, IsWithin, TreeAfter}
 use Rattle.vc_splay.specs.Tree.{Leaf, names}
 use Rattle.vc_splay.proofs.StoreLemmas.{with_kid-is, with_parent-is}
 use Rattle.vc_region_tests.specs.declared.splay.rows.Rows.{Rows}
-use Rattle.vc_region_tests.specs.Toy.{CanPut, Holds, key_side, keys, store_of}
+use Rattle.vc_region_tests.specs.Toy.{CanPutKey, Holds, key_side, keys, store_of}
 
 pub left-set : (left right up : List ℕ) (n v : ℕ) → slice_index (slice_set left n v) n ≡ v → store_of (slice_set left n v) right up ≡ with_kid true n v (store_of left right up)
 left-set left right up n v h = with_kid-is (store_of left right up) (store_of (slice_set left n v) right up) true n v (λ m. refl) h (λ m. refl) (λ m ne d. elim d as (λ z. cond z (slice_index (slice_set left n v) m) (slice_index right m) ≡ cond z (slice_index left m) (slice_index right m)) [ true ↦ get_or-set_other left n m v 0 ne | false ↦ refl ]) (λ m. refl)
@@ -31,7 +31,7 @@ can_find rows root key xs h r = record {
   rises = rises_in rows root key xs h r;
 }
 
-pub can_link : (rows : Rows) (root at key : ℕ) → CanPut rows root at key → CanLink (of rows) (key_side rows.key key) root at
+pub can_link : (rows : Rows) (root at key : ℕ) → CanPutKey rows root at key → CanLink (of rows) (key_side rows.key key) root at
 can_link rows root at key c = record {
   tree = c.holds.tree;
   is_tree = c.holds.is_tree;

@@ -60,7 +60,7 @@ pub record Holds (rows : Rows) (root : ℕ) (xs : List ℕ) : Type 0 where
   pub keys_are : rows.key ≡ keys
 
 -- this name may be put behind the last one whose key isn't above this key
-pub record CanPut (rows : Rows) (root at key : ℕ) : Type 0 where
+pub record CanPutKey (rows : Rows) (root at key : ℕ) : Type 0 where
   pub list : List ℕ
   pub holds : Holds rows root list
   pub rises : Rises (key_side keys key) list
@@ -68,7 +68,7 @@ pub record CanPut (rows : Rows) (root at key : ℕ) : Type 0 where
   pub apart : contains list at ≡ false
 
 -- along the names of the tree the keys never fall from below this one to above it
-pub record CanSeek (rows : Rows) (root key : ℕ) : Type 0 where
+pub record CanSeekKey (rows : Rows) (root key : ℕ) : Type 0 where
   pub list : List ℕ
   pub holds : Holds rows root list
   pub rises : Rises (key_side keys key) list

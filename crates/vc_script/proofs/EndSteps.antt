@@ -3,20 +3,20 @@ use Rattle.vc_base.proofs.Common.{◌≡◌, ℕ, zero, suc, ◌-◌, ◌<◌, �
 use Rattle.std.proofs.Math.Seq.{drop-append_seam}
 use Rattle.std.proofs.lemmas.Grind.{get_or_default_zero}
 use Rattle.std.proofs.lemmas.List.{drop-append-le}
-use Rattle.vc_script.specs.Ends.{AreEnds, objects_from}
+use Rattle.vc_script.specs.Ends.{AreEnds, slices_by_ends}
 
 -- none begins behind the end of the bytes
 ends-within : (begun total : ℕ) (ends : List ℕ) → AreEnds begun total ends → begun ≤ total
 ends-within begun total [] are = omega arith
 ends-within begun total (end ∷ ends) are = let rest = ends-within end total ends are.1 in le_trans are.0 rest
 
-pub length-objects : (begun : ℕ) (bytes ends : List ℕ) → length (objects_from begun bytes ends) ≡ length ends
+pub length-objects : (begun : ℕ) (bytes ends : List ℕ) → length (slices_by_ends begun bytes ends) ≡ length ends
 length-objects begun bytes [] = refl
 length-objects begun bytes (end ∷ ends) = ap suc (length-objects end bytes ends)
 
 -- what stands between where it begins and where it ends
 pub object-at : (begun : ℕ) (bytes ends : List ℕ) (i : ℕ) → i < length ends
-    → slice_get (objects_from begun bytes ends) i ≡ Some (slice_range bytes (get_or (begun ∷ ends) i 0) (get_or ends i 0))
+    → slice_get (slices_by_ends begun bytes ends) i ≡ Some (slice_range bytes (get_or (begun ∷ ends) i 0) (get_or ends i 0))
 object-at begun bytes [] i within = absurd (omega arith)
 object-at begun bytes (end ∷ ends) zero within = refl
 object-at begun bytes (end ∷ ends) (suc i) within = object-at end bytes ends i (omega arith)
@@ -51,7 +51,7 @@ range-pushed bytes more begun at =
     ∙ take_all (length (bytes ++ more) - begun) more all
 
 pub objects-pushed : (begun : ℕ) (bytes more ends : List ℕ) → AreEnds begun (length bytes) ends
-    → objects_from begun (bytes ++ more) (ends ++ length (bytes ++ more) ∷ []) ≡ objects_from begun bytes ends ++ more ∷ []
+    → slices_by_ends begun (bytes ++ more) (ends ++ length (bytes ++ more) ∷ []) ≡ slices_by_ends begun bytes ends ++ more ∷ []
 objects-pushed begun bytes more [] are = ap (λ o. o ∷ []) (range-pushed bytes more begun are)
 objects-pushed begun bytes more (end ∷ ends) are =
     ap₂ (λ o os. o ∷ os) (range-kept bytes more begun end are.0 (ends-within end (length bytes) ends are.1)) (objects-pushed end bytes more ends are.1)
@@ -62,10 +62,10 @@ pub record IsBetween (bytes : List ℕ) (objects : List (List ℕ)) (i begun end
   pub ends : end ≤ length bytes
   pub object : slice_get objects i ≡ Some (slice_range bytes begun end)
 
-pub ends-enough : (bytes ends : List ℕ) (objects : List (List ℕ)) (i : ℕ) → objects_from 0 bytes ends ≡ objects → i < length objects → i < length ends
+pub ends-enough : (bytes ends : List ℕ) (objects : List (List ℕ)) (i : ℕ) → slices_by_ends 0 bytes ends ≡ objects → i < length objects → i < length ends
 ends-enough bytes ends objects i view within = let more = ap length view in omega (arith, length-objects 0 bytes ends, more)
 
-pub is-between : (bytes ends : List ℕ) (objects : List (List ℕ)) (i begun end : ℕ) → AreEnds 0 (length bytes) ends → objects_from 0 bytes ends ≡ objects → i < length objects
+pub is-between : (bytes ends : List ℕ) (objects : List (List ℕ)) (i begun end : ℕ) → AreEnds 0 (length bytes) ends → slices_by_ends 0 bytes ends ≡ objects → i < length objects
     → begun ≡ get_or (0 ∷ ends) i 0 → end ≡ get_or ends i end → IsBetween bytes objects i begun end
 is-between bytes ends objects i begun end are view within from to =
     let enough = ends-enough bytes ends objects i view within in

@@ -18,7 +18,7 @@ use Rattle.vc_script.specs.declared.first_word.DictionaryWord.TheVariants.{Dict,
 use Rattle.vc_script.specs.declared.first_word.FirstWord.{FirstWord}
 use Rattle.vc_script.specs.declared.first_word.FirstWord.TheVariants.{Region, Dictionary}
 use Rattle.vc_script.specs.Table.{Row, table, region_rows, own_rows, takes, command_of}
-use Rattle.vc_script.specs.Answer.{answer_of, answer_to, command_in, is_comment, is_version_line, version_in}
+use Rattle.vc_script.specs.Answer.{answer_of, answer_to, command_in, is_comment, is_version_line, version_by_words}
 use Rattle.vc_script.specs.FirstWords.{dictionary_spelling, region_spelling, spelling}
 
 -- a word of both tools is found among the rows of regions
@@ -125,12 +125,12 @@ short-rows Vmreplay = refl
 short-rows Dtrun = refl
 
 -- more than one word behind `vc` is too many
-version_in-many : (others more : List (List ℕ)) → 2 ≤ length others → 2 ≤ length more → version_in others ≡ version_in more
-version_in-many [] more many far = absurd (grind (arith, many))
-version_in-many (word ∷ []) more many far = absurd (grind (arith, many))
-version_in-many (word ∷ another ∷ others) [] many far = absurd (grind (arith, far))
-version_in-many (word ∷ another ∷ others) (one ∷ []) many far = absurd (grind (arith, far))
-version_in-many (word ∷ another ∷ others) (one ∷ two ∷ more) many far = refl
+version_by_words-many : (others more : List (List ℕ)) → 2 ≤ length others → 2 ≤ length more → version_by_words others ≡ version_by_words more
+version_by_words-many [] more many far = absurd (grind (arith, many))
+version_by_words-many (word ∷ []) more many far = absurd (grind (arith, many))
+version_by_words-many (word ∷ another ∷ others) [] many far = absurd (grind (arith, far))
+version_by_words-many (word ∷ another ∷ others) (one ∷ []) many far = absurd (grind (arith, far))
+version_by_words-many (word ∷ another ∷ others) (one ∷ two ∷ more) many far = refl
 
 -- six words of a line tell its answer
 pub answer_to-front : (tool : Tool) (first : Bool) (words : List (List ℕ)) → answer_to tool first (take 6 words) ≡ answer_to tool first words
@@ -140,6 +140,6 @@ answer_to-front tool first (word ∷ others) =
     (λ few. ap (λ ws. answer_to tool first (word ∷ ws)) (take_all 5 others (omega arith)))
     (λ many.
     ap (λ version. cond (is_comment word) Blank (cond (is_version_line first word) version (answer_of (command_in (table tool) word (take 5 others)))))
-    (version_in-many (take 5 others) others (omega (arith, length-take-le 5 others, many)) (omega (arith, many)))
-    ∙ ap (λ read. cond (is_comment word) Blank (cond (is_version_line first word) (version_in others) (answer_of read))) (command_in-many (table tool) word (take 5 others) others (short-rows tool) (omega (arith, length-take-le 5 others)) (omega arith)))
+    (version_by_words-many (take 5 others) others (omega (arith, length-take-le 5 others, many)) (omega (arith, many)))
+    ∙ ap (λ read. cond (is_comment word) Blank (cond (is_version_line first word) (version_by_words others) (answer_of read))) (command_in-many (table tool) word (take 5 others) others (short-rows tool) (omega (arith, length-take-le 5 others)) (omega arith)))
     (cases_lt (length others) 6)

@@ -9,11 +9,11 @@ use Rattle.vc_script.specs.declared.tool.Tool.{Tool}
 use Rattle.vc_script.specs.declared.tool.Tool.TheVariants.{Vmreplay, Dtrun}
 use Rattle.vc_base.specs.declared.fault.OutOfMemory.{OutOfMemory}
 use Rattle.vc_script.specs.Words.{words}
-use Rattle.vc_script.specs.Forms.{Form, Name, Site, Number, SignedNumber, Address, Bytes, RegionMethod, DictionaryMethod, Mode, NameOrDash, Value, number_of, value_of}
+use Rattle.vc_script.specs.Forms.{Form, Name, Site, Number, SignedNumber, Address, Bytes, RegionMethod, DictionaryMethod, Mode, NameOrDash, Value, read_number, read_value}
 use Rattle.vc_script.specs.Table.{Row, Values, command_of, dictionary_rows, command_made, own_rows, read_words, table, takes, values_of}
-use Rattle.vc_script.specs.Answer.{answer, answer_of, answer_to, command_in, is_comment, version_in, version_of}
+use Rattle.vc_script.specs.Answer.{answer, answer_of, answer_to, command_in, is_comment, version_by_words, version_answer}
 use Rattle.vc_script.specs.Proper.{IsProperAddress, IsFaultOfWords, IsName, IsNumber, IsProperAnswer, IsProperCommand, IsSite, IsVersion}
-use Rattle.vc_script.proofs.ProperWords.{Gives, Gives-address_of, Gives-bytes_of, Gives-dict_method_of, Gives-if, Gives-method_of, Gives-mode_of, Gives-name_of, Gives-name_or_dash_of, Gives-number_of, Gives-signed_of, Gives-site_of, Gives-then}
+use Rattle.vc_script.proofs.ProperWords.{Gives, Gives-read_address, Gives-read_bytes, Gives-read_dict_method, Gives-if, Gives-read_region_method, Gives-read_mode, Gives-read_name, Gives-read_name_or_dash, Gives-read_number, Gives-read_signed, Gives-read_site, Gives-then}
 
 -- the value of a word of a form
 abbrev IsProperValue : (form : Form) → Value form → Type 0
@@ -36,26 +36,26 @@ AreProper [] None values = Unit {0}
 AreProper [] (Some form) value = IsProperLast form value
 AreProper (form ∷ forms) last values = IsProperValue form values.0 × AreProper forms last values.1
 
-Gives-value_of : (form : Form) (word : List ℕ) → Gives (IsProperValue form) (value_of form word)
-Gives-value_of Name word = Gives-name_of word
-Gives-value_of Site word = Gives-site_of word
-Gives-value_of Number word = Gives-number_of word
-Gives-value_of SignedNumber word = Gives-signed_of word
-Gives-value_of Address word = Gives-address_of word
-Gives-value_of Bytes word = Gives-bytes_of word
-Gives-value_of RegionMethod word = Gives-method_of word
-Gives-value_of DictionaryMethod word = Gives-dict_method_of word
-Gives-value_of Mode word = Gives-mode_of word
-Gives-value_of NameOrDash word = Gives-name_or_dash_of word
+Gives-read_value : (form : Form) (word : List ℕ) → Gives (IsProperValue form) (read_value form word)
+Gives-read_value Name word = Gives-read_name word
+Gives-read_value Site word = Gives-read_site word
+Gives-read_value Number word = Gives-read_number word
+Gives-read_value SignedNumber word = Gives-read_signed word
+Gives-read_value Address word = Gives-read_address word
+Gives-read_value Bytes word = Gives-read_bytes word
+Gives-read_value RegionMethod word = Gives-read_region_method word
+Gives-read_value DictionaryMethod word = Gives-read_dict_method word
+Gives-read_value Mode word = Gives-read_mode word
+Gives-read_value NameOrDash word = Gives-read_name_or_dash word
 
 Gives-values_of : (forms : List Form) (last : Option Form) (others : List (List ℕ)) → Gives (AreProper forms last) (values_of forms last others)
 Gives-values_of [] None others = tt
 Gives-values_of [] (Some form) [] = tt
 Gives-values_of [] (Some form) (word ∷ others) =
-    Gives-then (IsProperValue form) (AreProper [] (Some form)) (value_of form word) (λ value. Ok (Some value)) (Gives-value_of form word) (λ value proper. proper)
+    Gives-then (IsProperValue form) (AreProper [] (Some form)) (read_value form word) (λ value. Ok (Some value)) (Gives-read_value form word) (λ value proper. proper)
 Gives-values_of (form ∷ forms) last [] = tt
 Gives-values_of (form ∷ forms) last (word ∷ others) =
-    Gives-then (IsProperValue form) (AreProper (form ∷ forms) last) (value_of form word) _ (Gives-value_of form word) (λ value proper_value.
+    Gives-then (IsProperValue form) (AreProper (form ∷ forms) last) (read_value form word) _ (Gives-read_value form word) (λ value proper_value.
     Gives-then (AreProper forms last) (AreProper (form ∷ forms) last) (values_of forms last others) _ (Gives-values_of forms last others) (λ values proper_values.
     (proper_value, proper_values)))
 
@@ -212,18 +212,18 @@ IsProperAnswer-answer_of first (Err fault) given = given
 is-version : (n : ℕ) → (n == 1) || (n == 2) ≡ true → IsVersion true n
 is-version n is = (grind (arith, nat_tests, is), grind (arith, nat_tests, is))
 
-IsProperAnswer-version_of : (read : Result ℕ LineFault) → Gives IsNumber read → IsProperAnswer true (version_of read)
-IsProperAnswer-version_of (Ok n) given =
+IsProperAnswer-version_answer : (read : Result ℕ LineFault) → Gives IsNumber read → IsProperAnswer true (version_answer read)
+IsProperAnswer-version_answer (Ok n) given =
     elim (cases_Bool ((n == 1) || (n == 2))) [
       | inl is ↦ subst (λ test. IsProperAnswer true (cond test (Version n) (Bad UnknownVersion))) (sym is) (is-version n is)
       | inr other ↦ subst (λ test. IsProperAnswer true (cond test (Version n) (Bad UnknownVersion))) (sym other) tt
     ]
-IsProperAnswer-version_of (Err fault) given = given
+IsProperAnswer-version_answer (Err fault) given = given
 
-IsProperAnswer-version_in : (others : List (List ℕ)) → IsProperAnswer true (version_in others)
-IsProperAnswer-version_in [] = tt
-IsProperAnswer-version_in (word ∷ []) = IsProperAnswer-version_of (number_of word) (Gives-number_of word)
-IsProperAnswer-version_in (word ∷ more ∷ others) = tt
+IsProperAnswer-version_by_words : (others : List (List ℕ)) → IsProperAnswer true (version_by_words others)
+IsProperAnswer-version_by_words [] = tt
+IsProperAnswer-version_by_words (word ∷ []) = IsProperAnswer-version_answer (read_number word) (Gives-read_number word)
+IsProperAnswer-version_by_words (word ∷ more ∷ others) = tt
 
 -- by whether the line is a comment, and whether it tells a version
 IsProperAnswer-cond : (first comment is : Bool) (version read : LineAnswer) → IsProperAnswer true version → IsProperAnswer first read → IsProperAnswer first (cond comment Blank (cond (first && is) version read))
@@ -235,7 +235,7 @@ IsProperAnswer-cond false false is version read told proper = proper
 IsProperAnswer-answer_to : (tool : Tool) (first : Bool) (ws : List (List ℕ)) → IsProperAnswer first (answer_to tool first ws)
 IsProperAnswer-answer_to tool first [] = tt
 IsProperAnswer-answer_to tool first (word ∷ others) =
-    IsProperAnswer-cond first (is_comment word) (bytes_eq word (codes "vc")) (version_in others) (answer_of (command_in (table tool) word others)) (IsProperAnswer-version_in others)
+    IsProperAnswer-cond first (is_comment word) (bytes_eq word (codes "vc")) (version_by_words others) (answer_of (command_in (table tool) word others)) (IsProperAnswer-version_by_words others)
     (IsProperAnswer-answer_of first (command_in (table tool) word others) (Gives-command_in (table tool) word others (proper_rows tool)))
 
 pub IsProperAnswer-answer : (tool : Tool) (first : Bool) (line : List ℕ) → IsProperAnswer first (answer tool first line)

@@ -6,7 +6,7 @@ use Rattle.percent_encoding.specs.Percent.{percent_decode}
 use Rattle.percent_encoding.proofs.PercentLemmas.{percent_decode-nil, percent_decode_not_percent}
 use Rattle.vc_script.specs.declared.line_fault.LineFault.TheVariants.{BadAddress}
 use Rattle.vc_script.specs.Words.{begins_with_byte, digits_value, is_between, is_escaped, is_number}
-use Rattle.vc_script.specs.Forms.{address_of, address_of_parts, is_colon}
+use Rattle.vc_script.specs.Forms.{read_address, read_address_parts, is_colon}
 
 -- the rest of a word at a byte
 is_escaped-at : (xs : List ℕ) (i : ℕ) → i < length xs → is_escaped (drop i xs) ≡ (cond (eqb (get_or xs i 0) 37) (begins_with_byte (drop (i + 1) xs)) true && is_escaped (drop (i + 1) xs))
@@ -47,20 +47,20 @@ pub plain-word : (xs : List ℕ) (n : ℕ) → (n ≡ 0 → (k : ℕ) → k < le
 plain-word xs n plain none = decoded-plain xs (plain (cc))
 
 -- an address is cut at its first colon
-pub address_of-colon : (xs : List ℕ) (i : ℕ) → i < length xs → ((k : ℕ) → k < i → is_colon (get_or xs k 0) ≡ false) → get_or xs i 0 ≡ 58 → address_of xs ≡ address_of_parts (take i xs) (drop (i + 1) xs)
-address_of-colon xs i within before colon =
-    ap (λ k. address_of_parts (take k xs) (drop (k + 1) xs)) (position_or_len_is is_colon xs i 0 (omega arith) before (λ _. ap is_colon colon))
+pub read_address-colon : (xs : List ℕ) (i : ℕ) → i < length xs → ((k : ℕ) → k < i → is_colon (get_or xs k 0) ≡ false) → get_or xs i 0 ≡ 58 → read_address xs ≡ read_address_parts (take i xs) (drop (i + 1) xs)
+read_address-colon xs i within before colon =
+    ap (λ k. read_address_parts (take k xs) (drop (k + 1) xs)) (position_or_len_is is_colon xs i 0 (omega arith) before (λ _. ap is_colon colon))
 
 -- an offset has a digit
-address_of_parts-no_offset : (seg : List ℕ) → address_of_parts seg [] ≡ Err BadAddress
-address_of_parts-no_offset seg =
+read_address_parts-no_offset : (seg : List ℕ) → read_address_parts seg [] ≡ Err BadAddress
+read_address_parts-no_offset seg =
     ap (λ test. cond test (Ok (record { seg = digits_value seg; off = 0 })) (Err BadAddress)) (and-false (is_number seg && is_between 1 1023 (digits_value seg)))
 
 -- a word without a colon is none
-pub address_of-none : (xs : List ℕ) → ((k : ℕ) → k < length xs → is_colon (get_or xs k 0) ≡ false) → address_of xs ≡ Err BadAddress
-address_of-none xs none =
-    ap (λ k. address_of_parts (take k xs) (drop (k + 1) xs)) (position_or_len_is is_colon xs (length xs) 0 (omega arith) none (λ within. absurd (omega arith)))
-    ∙ at_drop_all (address_of_parts (take (length xs) xs)) xs (length xs + 1) (omega arith)
-    ∙ address_of_parts-no_offset (take (length xs) xs)
+pub read_address-none : (xs : List ℕ) → ((k : ℕ) → k < length xs → is_colon (get_or xs k 0) ≡ false) → read_address xs ≡ Err BadAddress
+read_address-none xs none =
+    ap (λ k. read_address_parts (take k xs) (drop (k + 1) xs)) (position_or_len_is is_colon xs (length xs) 0 (omega arith) none (λ within. absurd (omega arith)))
+    ∙ at_drop_all (read_address_parts (take (length xs) xs)) xs (length xs + 1) (omega arith)
+    ∙ read_address_parts-no_offset (take (length xs) xs)
 
-pub ruleset address_steps = (address_of-colon, address_of-none)
+pub ruleset address_steps = (read_address-colon, read_address-none)

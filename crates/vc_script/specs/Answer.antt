@@ -6,7 +6,7 @@ use Rattle.vc_script.specs.declared.line_fault.LineFault.TheVariants.{UnknownCom
 use Rattle.vc_script.specs.declared.line_answer.LineAnswer.{LineAnswer}
 use Rattle.vc_script.specs.declared.line_answer.LineAnswer.TheVariants.{Blank, Is, Version, Bad}
 use Rattle.vc_script.specs.declared.tool.Tool.{Tool}
-use Rattle.vc_script.specs.Forms.{number_of}
+use Rattle.vc_script.specs.Forms.{read_number}
 use Rattle.vc_script.specs.Words.{words}
 use Rattle.vc_script.specs.Table.{Row, command_of, table}
 
@@ -26,14 +26,14 @@ answer_of (Ok command) = Is command
 answer_of (Err fault) = Bad fault
 
 -- the version that a number tells
-abbrev pub version_of : Result ℕ LineFault → LineAnswer
-version_of (Ok n) = if (n == 1) || (n == 2) then Version n else Bad UnknownVersion
-version_of (Err fault) = Bad fault
+abbrev pub version_answer : Result ℕ LineFault → LineAnswer
+version_answer (Ok n) = if (n == 1) || (n == 2) then Version n else Bad UnknownVersion
+version_answer (Err fault) = Bad fault
 
 -- one word stands behind `vc`, a number
-abbrev pub version_in : List (List ℕ) → LineAnswer
-version_in (word ∷ []) = version_of (number_of word)
-version_in others = Bad WordCount
+abbrev pub version_by_words : List (List ℕ) → LineAnswer
+version_by_words (word ∷ []) = version_answer (read_number word)
+version_by_words others = Bad WordCount
 
 -- `vc` is the first word of a line that tells the version; only the first line can be one
 abbrev pub is_version_line : Bool → List ℕ → Bool
@@ -44,7 +44,7 @@ abbrev pub answer_to : Tool → Bool → List (List ℕ) → LineAnswer
 answer_to tool first [] = Blank
 answer_to tool first (word ∷ others) =
     if is_comment word then Blank
-    else (if is_version_line first word then version_in others else answer_of (command_in (table tool) word others))
+    else (if is_version_line first word then version_by_words others else answer_of (command_in (table tool) word others))
 
 -- the answer to a line; `first` says that it is the line numbered 1
 abbrev pub answer : Tool → Bool → List ℕ → LineAnswer

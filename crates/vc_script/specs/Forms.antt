@@ -17,27 +17,27 @@ abbrev pub ◌>>=◌ : {A B : Type 0} → Result A LineFault → (A → Result B
 Ok a >>= next = next a
 Err fault >>= next = Err fault
 
-abbrev pub name_of : List ℕ → Result (List ℕ) LineFault
-name_of word = if is_name word then Ok word else Err BadName
+abbrev pub read_name : List ℕ → Result (List ℕ) LineFault
+read_name word = if is_name word then Ok word else Err BadName
 
 -- a site is `@` and a name, and is kept without its `@`
-abbrev pub site_of : List ℕ → Result (List ℕ) LineFault
-site_of [] = Err BadName
-site_of (b ∷ bs) = if b == 64 then name_of bs else Err BadName
+abbrev pub read_site : List ℕ → Result (List ℕ) LineFault
+read_site [] = Err BadName
+read_site (b ∷ bs) = if b == 64 then read_name bs else Err BadName
 
 -- the site of a last word that may be missing
-abbrev pub some_site_of : List ℕ → Result (Option (List ℕ)) LineFault
-some_site_of word = site_of word >>= λ site. Ok (Some site)
+abbrev pub read_some_site : List ℕ → Result (Option (List ℕ)) LineFault
+read_some_site word = read_site word >>= λ site. Ok (Some site)
 
-abbrev pub number_of : List ℕ → Result ℕ LineFault
-number_of word = if is_number word then Ok (digits_value word) else Err BadNumber
+abbrev pub read_number : List ℕ → Result ℕ LineFault
+read_number word = if is_number word then Ok (digits_value word) else Err BadNumber
 
 -- a signed number is a number, or `-` and a number
-abbrev pub signed_of : List ℕ → Result ℤ LineFault
-signed_of [] = Err BadNumber
-signed_of (b ∷ bs) =
-    if b == 45 then (number_of bs >>= λ n. Ok (neg_ℤ (pos n)))
-    else (number_of (b ∷ bs) >>= λ n. Ok (pos n))
+abbrev pub read_signed : List ℕ → Result ℤ LineFault
+read_signed [] = Err BadNumber
+read_signed (b ∷ bs) =
+    if b == 45 then (read_number bs >>= λ n. Ok (neg_ℤ (pos n)))
+    else (read_number (b ∷ bs) >>= λ n. Ok (pos n))
 
 abbrev pub is_colon : ℕ → Bool
 is_colon b = b == 58
@@ -48,23 +48,23 @@ is_address seg off =
     (is_number seg && is_between 1 1023 (digits_value seg))
     && (is_number off && nat_le (digits_value off) 33554431)
 
-abbrev pub address_of_parts : List ℕ → List ℕ → Result Place LineFault
-address_of_parts seg off =
+abbrev pub read_address_parts : List ℕ → List ℕ → Result Place LineFault
+read_address_parts seg off =
     if is_address seg off
     then Ok (record { seg = digits_value seg; off = digits_value off })
     else Err BadAddress
 
 -- an address is a number, `:` and a number
-abbrev pub address_of : List ℕ → Result Place LineFault
-address_of word = address_of_parts (before_first is_colon word) (after_first is_colon word)
+abbrev pub read_address : List ℕ → Result Place LineFault
+read_address word = read_address_parts (before_first is_colon word) (after_first is_colon word)
 
 -- `%` and two hexadecimal digits stand for that byte, and every other byte for itself
-abbrev pub bytes_of : List ℕ → Result (List ℕ) LineFault
-bytes_of word = if is_escaped word then Ok (percent_decode word) else Err BadBytes
+abbrev pub read_bytes : List ℕ → Result (List ℕ) LineFault
+read_bytes word = if is_escaped word then Ok (percent_decode word) else Err BadBytes
 
 -- the methods of regions
-abbrev pub region_method_of : List ℕ → Result Method LineFault
-region_method_of word =
+abbrev pub read_region_method : List ℕ → Result Method LineFault
+read_region_method word =
     if bytes_eq word (codes "best") then Ok VmBest
     else (if bytes_eq word (codes "pool") then Ok VmPool
     else (if bytes_eq word (codes "last") then Ok VmLast
@@ -73,8 +73,8 @@ region_method_of word =
     else Err UnknownMethod))))
 
 -- the methods of dictionaries
-abbrev pub dict_method_of : List ℕ → Result DictMethod LineFault
-dict_method_of word =
+abbrev pub read_dict_method : List ℕ → Result DictMethod LineFault
+read_dict_method word =
     if bytes_eq word (codes "set") then Ok DtSet
     else (if bytes_eq word (codes "bag") then Ok DtBag
     else (if bytes_eq word (codes "oset") then Ok DtOset
@@ -85,16 +85,16 @@ dict_method_of word =
     else Err UnknownMethod))))))
 
 -- whether a block may move
-abbrev pub mode_of : List ℕ → Result Bool LineFault
-mode_of word =
+abbrev pub read_mode : List ℕ → Result Bool LineFault
+read_mode word =
     if bytes_eq word (codes "move") then Ok true
     else (if bytes_eq word (codes "fixed") then Ok false
     else Err UnknownMethod)
 
 -- a name, or `-` for none
-abbrev pub name_or_dash_of : List ℕ → Result (Option (List ℕ)) LineFault
-name_or_dash_of word =
-    if bytes_eq word (codes "-") then Ok None else (name_of word >>= λ name. Ok (Some name))
+abbrev pub read_name_or_dash : List ℕ → Result (Option (List ℕ)) LineFault
+read_name_or_dash word =
+    if bytes_eq word (codes "-") then Ok None else (read_name word >>= λ name. Ok (Some name))
 
 -- the forms of words
 pub data Form : Type 0 where
@@ -122,14 +122,14 @@ Value DictionaryMethod = DictMethod
 Value Mode = Bool
 Value NameOrDash = Option (List ℕ)
 
-abbrev pub value_of : (form : Form) → List ℕ → Result (Value form) LineFault
-value_of Name word = name_of word
-value_of Site word = site_of word
-value_of Number word = number_of word
-value_of SignedNumber word = signed_of word
-value_of Address word = address_of word
-value_of Bytes word = bytes_of word
-value_of RegionMethod word = region_method_of word
-value_of DictionaryMethod word = dict_method_of word
-value_of Mode word = mode_of word
-value_of NameOrDash word = name_or_dash_of word
+abbrev pub read_value : (form : Form) → List ℕ → Result (Value form) LineFault
+read_value Name word = read_name word
+read_value Site word = read_site word
+read_value Number word = read_number word
+read_value SignedNumber word = read_signed word
+read_value Address word = read_address word
+read_value Bytes word = read_bytes word
+read_value RegionMethod word = read_region_method word
+read_value DictionaryMethod word = read_dict_method word
+read_value Mode word = read_mode word
+read_value NameOrDash word = read_name_or_dash word

@@ -6,7 +6,7 @@ use Rattle.vc_script.specs.declared.line_fault.LineFault.{LineFault}
 use Rattle.vc_script.specs.declared.line_fault.LineFault.TheVariants.{WordCount}
 use Rattle.vc_script.specs.declared.tool.Tool.{Tool}
 use Rattle.vc_script.specs.declared.tool.Tool.TheVariants.{Vmreplay, Dtrun}
-use Rattle.vc_script.specs.Forms.{◌>>=◌, Form, Name, Site, Number, SignedNumber, Address, Bytes, RegionMethod, DictionaryMethod, Mode, NameOrDash, Value, value_of}
+use Rattle.vc_script.specs.Forms.{◌>>=◌, Form, Name, Site, Number, SignedNumber, Address, Bytes, RegionMethod, DictionaryMethod, Mode, NameOrDash, Value, read_value}
 
 -- what takes a value for each form, and one or none for the form of a last word that may be missing, and gives a command
 abbrev pub Makes : List Form → Option Form → Type 0
@@ -107,10 +107,10 @@ no_more = Ok tt
 abbrev pub values_of : (forms : List Form) (last : Option Form) → List (List ℕ) → Result (Values forms last) LineFault
 values_of [] None others = no_more
 values_of [] (Some form) [] = Ok None
-values_of [] (Some form) (word ∷ others) = value_of form word >>= λ value. Ok (Some value)
+values_of [] (Some form) (word ∷ others) = read_value form word >>= λ value. Ok (Some value)
 values_of (form ∷ forms) last [] = Err WordCount
 values_of (form ∷ forms) last (word ∷ others) =
-    before (value_of form word) (values_of forms last others)
+    before (read_value form word) (values_of forms last others)
 
 -- the number of the words is judged before their forms
 abbrev pub read_words : (forms : List Form) (last : Option Form) → List (List ℕ) → Result (Values forms last) LineFault

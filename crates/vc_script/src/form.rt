@@ -1,6 +1,6 @@
 ghost use Rattle.std.specs.Prelude.{◌≡◌, [], IfOk};
 ghost use Rattle.std.specs.Result.{result_map_both};
-ghost use Rattle.vc_script.specs.Forms.{address_of, address_of_parts, bytes_of, dict_method_of, region_method_of, mode_of, name_or_dash_of, number_of, signed_of, site_of, some_site_of};
+ghost use Rattle.vc_script.specs.Forms.{read_address, read_address_parts, read_bytes, read_dict_method, read_region_method, read_mode, read_name_or_dash, read_number, read_signed, read_site, read_some_site};
 ghost use Rattle.vc_script.specs.Spelled.{spelled_bytes};
 
 use crate::name_word::{NameWord, name_of};
@@ -13,7 +13,7 @@ use vc_base::DictMethod;
 use vc_seg::Method;
 
 pub(crate) fn site_of(word: &[u8]) -> Result<NameWord<'_>, LineFault>
-    ensures { result ≡ site_of word.now }
+    ensures { result ≡ read_site word.now }
 {
     match word.split_first() {
         Some((b'@', rest)) => name_of(rest),
@@ -23,7 +23,7 @@ pub(crate) fn site_of(word: &[u8]) -> Result<NameWord<'_>, LineFault>
 
 // A site that stands there.
 pub(crate) fn some_site_of(word: &[u8]) -> Result<Option<NameWord<'_>>, LineFault>
-    ensures { result ≡ some_site_of word.now }
+    ensures { result ≡ read_some_site word.now }
 {
     Ok(Some(site_of(word)?))
 }
@@ -31,7 +31,7 @@ pub(crate) fn some_site_of(word: &[u8]) -> Result<Option<NameWord<'_>>, LineFaul
 /// The number that a word spells: 1 to 10 decimal digits, at most 4,294,967,295. Any other word is a `BadNumber`. This
 /// project's own.
 pub fn number_of(word: &[u8]) -> Result<u32, LineFault>
-    ensures { result ≡ number_of word.now }
+    ensures { result ≡ read_number word.now }
 {
     if word.is_empty() || 10 < word.len() {
         return Err(LineFault::BadNumber);
@@ -43,7 +43,7 @@ pub fn number_of(word: &[u8]) -> Result<u32, LineFault>
 }
 
 pub(crate) fn signed_of(word: &[u8]) -> Result<i64, LineFault>
-    ensures { result ≡ signed_of word.now }
+    ensures { result ≡ read_signed word.now }
 {
     match word.split_first() {
         Some((b'-', rest)) => Ok(-i64::from(number_of(rest)?)),
@@ -53,7 +53,7 @@ pub(crate) fn signed_of(word: &[u8]) -> Result<i64, LineFault>
 
 #[tactic(auto, using(crate::proofs::WordSteps::address_steps))]
 pub(crate) fn address_of(word: &[u8]) -> Result<Place, LineFault>
-    ensures { result ≡ address_of word.now }
+    ensures { result ≡ read_address word.now }
 {
     for (i, b) in word.iter().enumerate() {
         if *b == b':' {
@@ -64,7 +64,7 @@ pub(crate) fn address_of(word: &[u8]) -> Result<Place, LineFault>
 }
 
 fn address_of_parts(seg: &[u8], off: &[u8]) -> Result<Place, LineFault>
-    ensures { result ≡ address_of_parts seg.now off.now }
+    ensures { result ≡ read_address_parts seg.now off.now }
 {
     match (number_of(seg), number_of(off)) {
         (Ok(seg), Ok(off)) if 1 <= seg && seg <= 1_023 && off <= 33_554_431 => {
@@ -76,7 +76,7 @@ fn address_of_parts(seg: &[u8], off: &[u8]) -> Result<Place, LineFault>
 
 // The word, where it spells bytes.
 pub(crate) fn spelled_of(word: &[u8]) -> Result<Spelled<'_>, LineFault>
-    ensures { result_map_both spelled_bytes (λ e. e) result ≡ bytes_of word.now }
+    ensures { result_map_both spelled_bytes (λ e. e) result ≡ read_bytes word.now }
 {
     match escapes_in(word) {
         None => Err(LineFault::BadBytes),
@@ -103,7 +103,7 @@ pub(crate) fn decoded(room: Vec<u8>, spelled: Spelled<'_>) -> Result<Bytes, Allo
 }
 
 pub(crate) fn method_of(word: &[u8]) -> Result<Method, LineFault>
-    ensures { result ≡ region_method_of word.now }
+    ensures { result ≡ read_region_method word.now }
 {
     if word == b"best".as_slice() {
         Ok(Method::VmBest)
@@ -121,7 +121,7 @@ pub(crate) fn method_of(word: &[u8]) -> Result<Method, LineFault>
 }
 
 pub(crate) fn dict_method_of(word: &[u8]) -> Result<DictMethod, LineFault>
-    ensures { result ≡ dict_method_of word.now }
+    ensures { result ≡ read_dict_method word.now }
 {
     if word == b"set".as_slice() {
         Ok(DictMethod::DtSet)
@@ -144,7 +144,7 @@ pub(crate) fn dict_method_of(word: &[u8]) -> Result<DictMethod, LineFault>
 
 // Whether a block may move.
 pub(crate) fn mode_of(word: &[u8]) -> Result<bool, LineFault>
-    ensures { result ≡ mode_of word.now }
+    ensures { result ≡ read_mode word.now }
 {
     if word == b"move".as_slice() {
         Ok(true)
@@ -157,7 +157,7 @@ pub(crate) fn mode_of(word: &[u8]) -> Result<bool, LineFault>
 
 // A name, or `-` for none.
 pub(crate) fn name_or_dash_of(word: &[u8]) -> Result<Option<NameWord<'_>>, LineFault>
-    ensures { result ≡ name_or_dash_of word.now }
+    ensures { result ≡ read_name_or_dash word.now }
 {
     if word == b"-".as_slice() {
         Ok(None)

@@ -1,5 +1,5 @@
 ghost use Rattle.std.specs.Prelude.{◌≡◌};
-ghost use Rattle.vc_script.specs.Forms.{name_of};
+ghost use Rattle.vc_script.specs.Forms.{read_name};
 
 use crate::LineFault;
 use crate::word::is_name;
@@ -34,7 +34,7 @@ impl<'a> NameWord<'a> {
 }
 
 pub(crate) fn name_of(word: &[u8]) -> Result<NameWord<'_>, LineFault>
-    ensures { result ≡ name_of word.now }
+    ensures { result ≡ read_name word.now }
 {
     if is_name(word) {
         Ok(NameWord { word })

@@ -14,11 +14,11 @@ pub struct ObjectItems {
 
 impl Model for ObjectItems {
     ghost use Rattle.std.specs.Prelude.{ℕ, List, length};
-    ghost use Rattle.vc_script.specs.Ends.{AreEnds, objects_from};
+    ghost use Rattle.vc_script.specs.Ends.{AreEnds, slices_by_ends};
 
     ghost Value = { List (List ℕ) };
 
-    ghost view = { λ list. objects_from 0 list.bytes.items list.ends.items };
+    ghost view = { λ list. slices_by_ends 0 list.bytes.items list.ends.items };
 
     ghost invariant = { λ list. AreEnds 0 (length list.bytes.items) list.ends.items };
 }

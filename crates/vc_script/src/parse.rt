@@ -1,5 +1,5 @@
 ghost use Rattle.std.specs.Prelude.{◌≡◌, ◌≢◌, ◌∷◌, map, IfOk, OnOk};
-ghost use Rattle.vc_script.specs.Answer.{answer, answer_to, is_comment, is_version_line, version_in};
+ghost use Rattle.vc_script.specs.Answer.{answer, answer_to, is_comment, is_version_line, version_by_words};
 ghost use Rattle.vc_script.specs.Proper.{IsProperAnswer};
 
 use crate::form::number_of;
@@ -84,7 +84,7 @@ fn is_version_line(first: bool, word: &[u8]) -> bool
 
 // The version that the words behind `vc` tell.
 fn version_in(others: &[&[u8]]) -> LineAnswer
-    ensures { result ≡ version_in (map (λ w. w.now) others.now) }
+    ensures { result ≡ version_by_words (map (λ w. w.now) others.now) }
 {
     match others {
         [word] => match number_of(word) {

@@ -2,7 +2,7 @@ ghost use Rattle.std.specs.Prelude.{◌≡◌, ◌++◌, [], ◌∷◌, Some, No
 ghost use Rattle.vc_base.specs.declared.dict_method.DictMethod.TheVariants.{DtSet, DtBag, DtOset, DtObag, DtList, DtStack, DtQueue};
 ghost use Rattle.vc_seg.specs.declared.method.Method.TheVariants.{VmBest, VmPool, VmLast, VmDebug, VmProfile};
 ghost use Rattle.vc_script.specs.Answer.{answer};
-ghost use Rattle.vc_script.specs.Forms.{address_of, bytes_of, dict_method_of, region_method_of, mode_of, name_of, name_or_dash_of, number_of, signed_of, site_of};
+ghost use Rattle.vc_script.specs.Forms.{read_address, read_bytes, read_dict_method, read_region_method, read_mode, read_name, read_name_or_dash, read_number, read_signed, read_site};
 ghost use Rattle.vc_script.specs.Words.{words};
 ghost use Rattle.vc_script.specs.declared.command.Command.TheVariants.{OpenRegion, CloseRegion, ClearRegion, Compact, Alloc, Align, Resize, Free, WriteBlock, ReadBlock, SizeOf, AddrOf, SegmentOf, StatOf, Segments, Blocks, Poke, Check, Watch, ProfileOf, OpenDict, Insert, Append, Attach, Delete, Detach, Search, MatchKey, First, Last, Next, Prev, Walk, Count, View, Remethod, Empty, Shut};
 ghost use Rattle.vc_script.specs.declared.line_answer.LineAnswer.TheVariants.{Blank, Is, Bad};
@@ -148,117 +148,117 @@ pub fn dictionary_commands()
 
 /// A name has 1 to 32 bytes: a letter, then letters, digits, `_` and `.`.
 pub fn names()
-    ensures mixed { name_of (codes "r.1_Z") ≡ Ok (codes "r.1_Z") }
-    ensures bytes_32 { name_of (replicate 32 97) ≡ Ok (replicate 32 97) }
-    ensures bytes_33 { name_of (replicate 33 97) ≡ Err BadName }
-    ensures underscore_first { name_of (codes "_a") ≡ Err BadName }
-    ensures dash { name_of (codes "a-b") ≡ Err BadName }
-    ensures high_byte { name_of (97 ∷ 228 ∷ []) ≡ Err BadName }
-    ensures empty { name_of [] ≡ Err BadName }
+    ensures mixed { read_name (codes "r.1_Z") ≡ Ok (codes "r.1_Z") }
+    ensures bytes_32 { read_name (replicate 32 97) ≡ Ok (replicate 32 97) }
+    ensures bytes_33 { read_name (replicate 33 97) ≡ Err BadName }
+    ensures underscore_first { read_name (codes "_a") ≡ Err BadName }
+    ensures dash { read_name (codes "a-b") ≡ Err BadName }
+    ensures high_byte { read_name (97 ∷ 228 ∷ []) ≡ Err BadName }
+    ensures empty { read_name [] ≡ Err BadName }
 {}
 
 /// A site is `@` and a name, and is kept without its `@`.
 pub fn sites()
-    ensures kept { site_of (codes "@main.c") ≡ Ok (codes "main.c") }
-    ensures bytes_33 { site_of (64 ∷ replicate 32 97) ≡ Ok (replicate 32 97) }
-    ensures bytes_34 { site_of (64 ∷ replicate 33 97) ≡ Err BadName }
-    ensures two { site_of (codes "@@a") ≡ Err BadName }
-    ensures alone { site_of (codes "@") ≡ Err BadName }
-    ensures empty { site_of [] ≡ Err BadName }
+    ensures kept { read_site (codes "@main.c") ≡ Ok (codes "main.c") }
+    ensures bytes_33 { read_site (64 ∷ replicate 32 97) ≡ Ok (replicate 32 97) }
+    ensures bytes_34 { read_site (64 ∷ replicate 33 97) ≡ Err BadName }
+    ensures two { read_site (codes "@@a") ≡ Err BadName }
+    ensures alone { read_site (codes "@") ≡ Err BadName }
+    ensures empty { read_site [] ≡ Err BadName }
 {}
 
 /// A number has 1 to 10 digits and is at most 4,294,967,295; leading zeros count as digits.
 pub fn numbers()
-    ensures zero { number_of (codes "0") ≡ Ok 0 }
-    ensures ten_with_zeros { number_of (codes "0000000001") ≡ Ok 1 }
-    ensures eleven_with_zeros { number_of (codes "00000000001") ≡ Err BadNumber }
-    ensures greatest { number_of (codes "4294967295") ≡ Ok 4294967295 }
-    ensures too_great { number_of (codes "4294967296") ≡ Err BadNumber }
-    ensures sign { number_of (codes "+1") ≡ Err BadNumber }
-    ensures minus { number_of (codes "-1") ≡ Err BadNumber }
-    ensures hexadecimal { number_of (codes "1f") ≡ Err BadNumber }
-    ensures empty { number_of [] ≡ Err BadNumber }
+    ensures zero { read_number (codes "0") ≡ Ok 0 }
+    ensures ten_with_zeros { read_number (codes "0000000001") ≡ Ok 1 }
+    ensures eleven_with_zeros { read_number (codes "00000000001") ≡ Err BadNumber }
+    ensures greatest { read_number (codes "4294967295") ≡ Ok 4294967295 }
+    ensures too_great { read_number (codes "4294967296") ≡ Err BadNumber }
+    ensures sign { read_number (codes "+1") ≡ Err BadNumber }
+    ensures minus { read_number (codes "-1") ≡ Err BadNumber }
+    ensures hexadecimal { read_number (codes "1f") ≡ Err BadNumber }
+    ensures empty { read_number [] ≡ Err BadNumber }
 {}
 
 /// A signed number is a number, or `-` and a number.
 pub fn signed_numbers()
-    ensures plain { signed_of (codes "7") ≡ Ok (pos 7) }
-    ensures negative { signed_of (codes "-7") ≡ Ok (negsuc 6) }
-    ensures minus_zero { signed_of (codes "-0") ≡ Ok (pos 0) }
-    ensures least { signed_of (codes "-4294967295") ≡ Ok (negsuc 4294967294) }
-    ensures too_small { signed_of (codes "-4294967296") ≡ Err BadNumber }
-    ensures plus { signed_of (codes "+1") ≡ Err BadNumber }
-    ensures twice { signed_of (codes "--1") ≡ Err BadNumber }
-    ensures alone { signed_of (codes "-") ≡ Err BadNumber }
-    ensures empty { signed_of [] ≡ Err BadNumber }
+    ensures plain { read_signed (codes "7") ≡ Ok (pos 7) }
+    ensures negative { read_signed (codes "-7") ≡ Ok (negsuc 6) }
+    ensures minus_zero { read_signed (codes "-0") ≡ Ok (pos 0) }
+    ensures least { read_signed (codes "-4294967295") ≡ Ok (negsuc 4294967294) }
+    ensures too_small { read_signed (codes "-4294967296") ≡ Err BadNumber }
+    ensures plus { read_signed (codes "+1") ≡ Err BadNumber }
+    ensures twice { read_signed (codes "--1") ≡ Err BadNumber }
+    ensures alone { read_signed (codes "-") ≡ Err BadNumber }
+    ensures empty { read_signed [] ≡ Err BadNumber }
 {}
 
 /// An address is a segment from 1 to 1,023, `:` and an offset of at most 33,554,431.
 pub fn addresses()
-    ensures least { address_of (codes "1:0") ≡ Ok (record { seg = 1; off = 0 }) }
-    ensures greatest { address_of (codes "1023:33554431")
+    ensures least { read_address (codes "1:0") ≡ Ok (record { seg = 1; off = 0 }) }
+    ensures greatest { read_address (codes "1023:33554431")
         ≡ Ok (record { seg = 1023; off = 33554431 }) }
-    ensures zeros { address_of (codes "0000000001:05") ≡ Ok (record { seg = 1; off = 5 }) }
-    ensures segment_0 { address_of (codes "0:5") ≡ Err BadAddress }
-    ensures segment_1024 { address_of (codes "1024:5") ≡ Err BadAddress }
-    ensures offset_too_great { address_of (codes "1:33554432") ≡ Err BadAddress }
-    ensures no_number { address_of (codes "1:99999999999") ≡ Err BadAddress }
-    ensures no_colon { address_of (codes "1") ≡ Err BadAddress }
-    ensures no_segment { address_of (codes ":1") ≡ Err BadAddress }
-    ensures no_offset { address_of (codes "1:") ≡ Err BadAddress }
-    ensures two_colons { address_of (codes "1:2:3") ≡ Err BadAddress }
-    ensures sign { address_of (codes "1:-0") ≡ Err BadAddress }
-    ensures empty { address_of [] ≡ Err BadAddress }
+    ensures zeros { read_address (codes "0000000001:05") ≡ Ok (record { seg = 1; off = 5 }) }
+    ensures segment_0 { read_address (codes "0:5") ≡ Err BadAddress }
+    ensures segment_1024 { read_address (codes "1024:5") ≡ Err BadAddress }
+    ensures offset_too_great { read_address (codes "1:33554432") ≡ Err BadAddress }
+    ensures no_number { read_address (codes "1:99999999999") ≡ Err BadAddress }
+    ensures no_colon { read_address (codes "1") ≡ Err BadAddress }
+    ensures no_segment { read_address (codes ":1") ≡ Err BadAddress }
+    ensures no_offset { read_address (codes "1:") ≡ Err BadAddress }
+    ensures two_colons { read_address (codes "1:2:3") ≡ Err BadAddress }
+    ensures sign { read_address (codes "1:-0") ≡ Err BadAddress }
+    ensures empty { read_address [] ≡ Err BadAddress }
 {}
 
 /// `%` and two hexadecimal digits of either case stand for that byte, every other byte for itself.
 #[tactic(auto, unfolding(percent_encoding::specs::Percent::percent_decode))]
 pub fn bytes()
-    ensures plain { bytes_of (codes "a+b") ≡ Ok (codes "a+b") }
-    ensures either_case { bytes_of (codes "%2f%2F%0a") ≡ Ok (47 ∷ 47 ∷ 10 ∷ []) }
-    ensures once { bytes_of (codes "%2541") ≡ Ok (codes "%41") }
-    ensures zero { bytes_of (codes "%00") ≡ Ok (0 ∷ []) }
-    ensures high_byte { bytes_of (200 ∷ []) ≡ Ok (200 ∷ []) }
-    ensures other_digits { bytes_of (codes "%zz") ≡ Err BadBytes }
-    ensures percent_twice { bytes_of (codes "%%41") ≡ Err BadBytes }
-    ensures one_digit { bytes_of (codes "a%4") ≡ Err BadBytes }
-    ensures no_digit { bytes_of (codes "a%") ≡ Err BadBytes }
-    ensures later { bytes_of (codes "%41%4g") ≡ Err BadBytes }
+    ensures plain { read_bytes (codes "a+b") ≡ Ok (codes "a+b") }
+    ensures either_case { read_bytes (codes "%2f%2F%0a") ≡ Ok (47 ∷ 47 ∷ 10 ∷ []) }
+    ensures once { read_bytes (codes "%2541") ≡ Ok (codes "%41") }
+    ensures zero { read_bytes (codes "%00") ≡ Ok (0 ∷ []) }
+    ensures high_byte { read_bytes (200 ∷ []) ≡ Ok (200 ∷ []) }
+    ensures other_digits { read_bytes (codes "%zz") ≡ Err BadBytes }
+    ensures percent_twice { read_bytes (codes "%%41") ≡ Err BadBytes }
+    ensures one_digit { read_bytes (codes "a%4") ≡ Err BadBytes }
+    ensures no_digit { read_bytes (codes "a%") ≡ Err BadBytes }
+    ensures later { read_bytes (codes "%41%4g") ≡ Err BadBytes }
 {}
 
 /// The methods of regions and the modes of `resize`, in lower case.
 pub fn methods()
-    ensures best { region_method_of (codes "best") ≡ Ok VmBest }
-    ensures pool { region_method_of (codes "pool") ≡ Ok VmPool }
-    ensures last { region_method_of (codes "last") ≡ Ok VmLast }
-    ensures debug { region_method_of (codes "debug") ≡ Ok VmDebug }
-    ensures profile { region_method_of (codes "profile") ≡ Ok VmProfile }
-    ensures upper_case { region_method_of (codes "Best") ≡ Err UnknownMethod }
-    ensures longer { region_method_of (codes "bests") ≡ Err UnknownMethod }
-    ensures of_dictionaries { region_method_of (codes "set") ≡ Err UnknownMethod }
-    ensures moves { mode_of (codes "move") ≡ Ok true }
-    ensures stays { mode_of (codes "fixed") ≡ Ok false }
-    ensures other_mode { mode_of (codes "best") ≡ Err UnknownMethod }
+    ensures best { read_region_method (codes "best") ≡ Ok VmBest }
+    ensures pool { read_region_method (codes "pool") ≡ Ok VmPool }
+    ensures last { read_region_method (codes "last") ≡ Ok VmLast }
+    ensures debug { read_region_method (codes "debug") ≡ Ok VmDebug }
+    ensures profile { read_region_method (codes "profile") ≡ Ok VmProfile }
+    ensures upper_case { read_region_method (codes "Best") ≡ Err UnknownMethod }
+    ensures longer { read_region_method (codes "bests") ≡ Err UnknownMethod }
+    ensures of_dictionaries { read_region_method (codes "set") ≡ Err UnknownMethod }
+    ensures moves { read_mode (codes "move") ≡ Ok true }
+    ensures stays { read_mode (codes "fixed") ≡ Ok false }
+    ensures other_mode { read_mode (codes "best") ≡ Err UnknownMethod }
 {}
 
 /// The methods of dictionaries, in lower case.
 pub fn dictionary_methods()
-    ensures set { dict_method_of (codes "set") ≡ Ok DtSet }
-    ensures bag { dict_method_of (codes "bag") ≡ Ok DtBag }
-    ensures oset { dict_method_of (codes "oset") ≡ Ok DtOset }
-    ensures obag { dict_method_of (codes "obag") ≡ Ok DtObag }
-    ensures list { dict_method_of (codes "list") ≡ Ok DtList }
-    ensures stack { dict_method_of (codes "stack") ≡ Ok DtStack }
-    ensures queue { dict_method_of (codes "queue") ≡ Ok DtQueue }
-    ensures upper_case { dict_method_of (codes "Set") ≡ Err UnknownMethod }
-    ensures longer { dict_method_of (codes "osets") ≡ Err UnknownMethod }
-    ensures of_regions { dict_method_of (codes "best") ≡ Err UnknownMethod }
+    ensures set { read_dict_method (codes "set") ≡ Ok DtSet }
+    ensures bag { read_dict_method (codes "bag") ≡ Ok DtBag }
+    ensures oset { read_dict_method (codes "oset") ≡ Ok DtOset }
+    ensures obag { read_dict_method (codes "obag") ≡ Ok DtObag }
+    ensures list { read_dict_method (codes "list") ≡ Ok DtList }
+    ensures stack { read_dict_method (codes "stack") ≡ Ok DtStack }
+    ensures queue { read_dict_method (codes "queue") ≡ Ok DtQueue }
+    ensures upper_case { read_dict_method (codes "Set") ≡ Err UnknownMethod }
+    ensures longer { read_dict_method (codes "osets") ≡ Err UnknownMethod }
+    ensures of_regions { read_dict_method (codes "best") ≡ Err UnknownMethod }
 {}
 
 /// The dictionary that another is to view is a name, or `-` for none.
 pub fn viewed_names()
-    ensures name { name_or_dash_of (codes "e") ≡ Ok (Some (codes "e")) }
-    ensures dash { name_or_dash_of (codes "-") ≡ Ok None }
-    ensures two_dashes { name_or_dash_of (codes "--") ≡ Err BadName }
-    ensures other { name_or_dash_of (codes "9") ≡ Err BadName }
+    ensures name { read_name_or_dash (codes "e") ≡ Ok (Some (codes "e")) }
+    ensures dash { read_name_or_dash (codes "-") ≡ Ok None }
+    ensures two_dashes { read_name_or_dash (codes "--") ≡ Err BadName }
+    ensures other { read_name_or_dash (codes "9") ≡ Err BadName }
 {}

@@ -5,7 +5,7 @@ use Rattle.vc_commands.specs.Held.{home_of}
 use Rattle.vc_commands.specs.Home.{Home}
 use Rattle.vc_commands.specs.declared.region.home.HomeEntry.{HomeEntry}
 use Rattle.vc_commands.specs.declared.region.labels.Labels.{Labels}
-use Rattle.vc_commands.specs.Labels.{name_of}
+use Rattle.vc_commands.specs.Labels.{name_of_tag}
 use Rattle.vc_counts.specs.declared.counts.Counts.{Counts}
 use Rattle.vc_base.proofs.Quantifiers.{all-append}
 use Rattle.vc_region.specs.Cells.{rest_in}
@@ -25,7 +25,7 @@ use Rattle.vc_script.proofs.Newlines.{OneLine, line-printed, line-both, line-dec
 use Rattle.vc_seg.specs.declared.stat.Stat.{Stat}
 use Rattle.vc_steps.specs.Homes.{held_all}
 use Rattle.vc_steps.specs.Moment.{Moment, moment_at_end, over_sink}
-use Rattle.vc_session.specs.Engine.{RunsLines, RunsOn}
+use Rattle.vc_session.specs.Engine.{RunsLines, RunsScriptOn}
 use Rattle.vc_session.specs.ProperState.{IsProperHome}
 use Rattle.vc_session.specs.Progress.{Progress}
 use Rattle.vc_session.specs.Replay.{IsReplay, IsRunOf, LeavesReplay, LeavesRun}
@@ -127,7 +127,7 @@ script-leaves tool w start now counts lines bad (Some input) left after tail is 
     (text-leaves w (good_lines bad lines) tail e.progress is after (omega (arith, e.few)) (told-more start.written now.written after e.text tail e.told written)))
 
 -- what a run of a source's lines promises once what stands behind the replies is written
-pub script-told : (tool : Tool) (w : Words) (quiet : Bool) (start last : Moment) (counts : Counts) (count number lines : ℕ) (bad : Option (ℕ × LineFault)) (old mid new : Flows) (none tail : List ℕ) → quiet ≡ is_quiet w → number ≡ count → lines ≡ good_lines bad number → none ≡ [] → tail ≡ none ++ lines_text (tail_lines w lines counts last.state.homes) → RunsLines tool quiet (Ok bad) start last counts count old mid → Told mid.written new.written tail → new.left ≡ mid.left → mid.reads ≤ new.reads → mid.writes ≤ new.writes → RunsOn tool w (Ok bad) start last old new
+pub script-told : (tool : Tool) (w : Words) (quiet : Bool) (start last : Moment) (counts : Counts) (count number lines : ℕ) (bad : Option (ℕ × LineFault)) (old mid new : Flows) (none tail : List ℕ) → quiet ≡ is_quiet w → number ≡ count → lines ≡ good_lines bad number → none ≡ [] → tail ≡ none ++ lines_text (tail_lines w lines counts last.state.homes) → RunsLines tool quiet (Ok bad) start last counts count old mid → Told mid.written new.written tail → new.left ≡ mid.left → mid.reads ≤ new.reads → mid.writes ≤ new.writes → RunsScriptOn tool w (Ok bad) start last old new
 script-told tool w quiet start last counts count number lines bad old mid new none tail by_words counted good empty is runs written left reads writes =
     let behind : tail ≡ lines_text (tail_lines w (good_lines bad count) counts last.state.homes) =
     is
@@ -160,7 +160,7 @@ stats-entries meaning [] [] same = refl
 stats-entries meaning [] (l ∷ ls) same = absurd (omega (arith, same))
 stats-entries meaning (e ∷ es) [] same = absurd (omega (arith, same))
 stats-entries meaning (e ∷ es) (l ∷ ls) same =
-    ap (λ stat. numbers_text e.0 stat ∷ map stat_line (map home_of (held_all meaning es ls))) (stat-relabelled (name_of l) (rest_in e.1.region) ∙ rest-stat (region_of e.1.region))
+    ap (λ stat. numbers_text e.0 stat ∷ map stat_line (map home_of (held_all meaning es ls))) (stat-relabelled (name_of_tag l) (rest_in e.1.region) ∙ rest-stat (region_of e.1.region))
     ∙ ap (λ texts. entry_text e ∷ texts) (stats-entries meaning es ls (omega (arith, same)))
 
 -- one more item

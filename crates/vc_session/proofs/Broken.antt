@@ -6,7 +6,7 @@ use Rattle.vc_script.specs.declared.tool.Tool.{Tool}
 use Rattle.vc_script.specs.Judged.{judged_lines}
 use Rattle.vc_steps.specs.Account.{KeepsAccounts}
 use Rattle.vc_steps.specs.Moment.{Moment, moment_at_end, over_sink}
-use Rattle.vc_session.specs.Cut.{Cuts, IsCut, NotAhead}
+use Rattle.vc_session.specs.Cut.{Cuts, IsCutText, NotAhead}
 use Rattle.vc_session.specs.Engine.{RunsLines, RunsScript}
 use Rattle.vc_session.specs.Far.{RanFar, WrotePart}
 use Rattle.vc_session.specs.Replay.{IsCutShort}
@@ -100,13 +100,13 @@ module _ (tool : Tool) (w : Words) (quiet : Bool) (start last : Moment) (counts 
   tail-end : (bad : Option (ℕ × LineFault)) (old mid : Flows) → quiet ≡ is_quiet w → RunsLines tool quiet (Ok bad) start last counts count old mid → IfSome old.left (λ input. AtEnd tool (is_quiet w) (over_sink start old.written) (over_sink last mid.written) counts count input bad mid.left)
   tail-end bad old mid by_words r = subst (λ q. IfSome old.left (λ input. AtEnd tool q (over_sink start old.written) (over_sink last mid.written) counts count input bad mid.left)) by_words r.at_end
 
-  cut-end : (bad : Option (ℕ × LineFault)) (old mid : Flows) (after : Option (List ℕ)) (tail : List ℕ) → tail ≡ lines_text (tail_lines w (good_lines bad count) counts last.state.homes) → IfSome mid.written (λ bytes. (k : ℕ) × (after ≡ Some (bytes ++ take k tail))) → (input : List ℕ) → AtEnd tool (is_quiet w) (over_sink start old.written) (over_sink last mid.written) counts count input bad mid.left → IsCut (style_by (is_quiet w) (is_second tool input)) (text_of w (is_second tool input) (good_lines (first_bad tool input) (length (judged_lines input)))) (over_sink start old.written) (over_sink (moment_at_end last) after) (script tool input)
+  cut-end : (bad : Option (ℕ × LineFault)) (old mid : Flows) (after : Option (List ℕ)) (tail : List ℕ) → tail ≡ lines_text (tail_lines w (good_lines bad count) counts last.state.homes) → IfSome mid.written (λ bytes. (k : ℕ) × (after ≡ Some (bytes ++ take k tail))) → (input : List ℕ) → AtEnd tool (is_quiet w) (over_sink start old.written) (over_sink last mid.written) counts count input bad mid.left → IsCutText (style_by (is_quiet w) (is_second tool input)) (text_of w (is_second tool input) (good_lines (first_bad tool input) (length (judged_lines input)))) (over_sink start old.written) (over_sink (moment_at_end last) after) (script tool input)
   cut-end bad old mid after tail behind front input e =
       let wrote = told-front old.written mid.written after e.text tail e.told front in
       let numbers : good_lines bad count ≡ good_lines (first_bad tool input) (length (judged_lines input)) =
       good-same bad count (length (judged_lines input)) e.whole ∙ ap (λ b. good_lines b (length (judged_lines input))) e.first in
-      subst (λ second. IsCut (style_by (is_quiet w) second) (text_of w second (good_lines (first_bad tool input) (length (judged_lines input)))) (over_sink start old.written) (over_sink (moment_at_end last) after) (script tool input)) e.armed
-      (subst (λ n. IsCut (style_by (is_quiet w) last.armed) (text_of w last.armed n) (over_sink start old.written) (over_sink (moment_at_end last) after) (script tool input)) numbers
+      subst (λ second. IsCutText (style_by (is_quiet w) second) (text_of w second (good_lines (first_bad tool input) (length (judged_lines input)))) (over_sink start old.written) (over_sink (moment_at_end last) after) (script tool input)) e.armed
+      (subst (λ n. IsCutText (style_by (is_quiet w) last.armed) (text_of w last.armed n) (over_sink start old.written) (over_sink (moment_at_end last) after) (script tool input)) numbers
       (cut-same (over_sink (moment_at_end last) after) refl refl
       (cut-tail e.progress (text_of w last.armed (good_lines bad count)) tail (take wrote.0 tail) (drop wrote.0 tail) after (omega (arith, e.few)) (tail-unnumbered w (good_lines bad count) tail e.progress behind) (text-says w (good_lines bad count) tail e.progress behind) (sym (take-append-drop wrote.0 tail)) wrote.1)))
 

@@ -13,7 +13,7 @@ use Rattle.vc_steps.specs.Account.{KeepsAccounts, Settles, faults_of}
 use Rattle.vc_model.specs.Numbered.{at_number}
 use Rattle.vc_script.specs.Lines.{ended_lines}
 use Rattle.vc_script.specs.Needs.{AreAscending, Need, NoNeed, ShowsNeeds, need_at, need_shown}
-use Rattle.vc_session.specs.Cut.{IsCut, IsFurther, RoseAsRefused, with_further}
+use Rattle.vc_session.specs.Cut.{IsCutText, IsFurther, RoseAsRefused, with_further}
 use Rattle.vc_session.specs.Far.{AreLines, RanFar, WrotePart}
 use Rattle.vc_session.specs.Progress.{Progress}
 use Rattle.vc_session.specs.declared.style.Style.{Style}
@@ -169,7 +169,7 @@ module _ {style : Style} {start now : Moment} {text : List ℕ} {done : List (�
       (all-append (λ n. need_at needs n ≡ NoNeed) (numbers_of ends.whole) behind_lines (shown-none needs ends.whole shown_needs.shows replied) shown_needs.none)
 
   -- a run that went so far was cut where the text ends
-  pub cut-of : (after : Option (List ℕ)) → Told start.written after text → IsCut style said start (over_sink now after) (done ++ rest)
+  pub cut-of : (after : Option (List ℕ)) → Told start.written after text → IsCutText style said start (over_sink now after) (done ++ rest)
   cut-of after told = record {
     written = text;
     behind = reached.behind;
@@ -255,7 +255,7 @@ far-on next f keeps = record {
 }
 
 -- a whole run is a cut of itself
-pub cut-run : {quiet second : Bool} {said : Ran → List ℕ} {before after : Moment} {commands : List (ℕ × Command)} → IsRunOf quiet second said before after commands → IsCut (style_by quiet second) said before after commands
+pub cut-run : {quiet second : Bool} {said : Ran → List ℕ} {before after : Moment} {commands : List (ℕ × Command)} → IsRunOf quiet second said before after commands → IsCutText (style_by quiet second) said before after commands
 cut-run {commands = commands} r = record {
   written = r.written;
   behind = [];
@@ -272,7 +272,7 @@ cut-run {commands = commands} r = record {
 }
 
 -- a run at its last command, with a front of what is written behind its replies
-pub cut-tail : {quiet : Bool} {start now : Moment} {counts : Counts} {text : List ℕ} {count : ℕ} {done : List (ℕ × Command)} (p : Progress quiet start now counts text count done) (said : Ran → List ℕ) (tail front behind : List ℕ) (after : Option (List ℕ)) → count < 2 ^ 64 → ((n : ℕ) → n < 2 ^ 64 → NoLine n (ended_lines tail)) → said p.ran ≡ replies_text (style_by quiet now.armed) p.ran ++ tail → tail ≡ front ++ behind → Told start.written after (text ++ front) → IsCut (style_by quiet now.armed) said start (over_sink now after) done
+pub cut-tail : {quiet : Bool} {start now : Moment} {counts : Counts} {text : List ℕ} {count : ℕ} {done : List (ℕ × Command)} (p : Progress quiet start now counts text count done) (said : Ran → List ℕ) (tail front behind : List ℕ) (after : Option (List ℕ)) → count < 2 ^ 64 → ((n : ℕ) → n < 2 ^ 64 → NoLine n (ended_lines tail)) → said p.ran ≡ replies_text (style_by quiet now.armed) p.ran ++ tail → tail ≡ front ++ behind → Told start.written after (text ++ front) → IsCutText (style_by quiet now.armed) said start (over_sink now after) done
 cut-tail {quiet} {start} {now} {text = text} {done = done} p said tail front behind after few none says is told =
     let needs : List (ℕ × Need) = needs_by_text (style_by quiet now.armed) (lines_of done) (text ++ front) in
     let at_lines : ShowsNeeds needs p.ran.replies = shows p front few (λ n below. none-front n front behind (subst (λ xs. NoLine n (ended_lines xs)) is (none n below))) in
@@ -293,18 +293,18 @@ cut-tail {quiet} {start} {now} {text = text} {done = done} p said tail front beh
     }
 
 -- nothing was run and nothing written
-pub cut-none : (style : Style) (said : Ran → List ℕ) → BeginsWithReplies style said → (start now : Moment) (commands : List (ℕ × Command)) → AreLines commands → KeepsAccounts start.accounts now.accounts → now.written ≡ start.written → IsCut style said start now commands
+pub cut-none : (style : Style) (said : Ran → List ℕ) → BeginsWithReplies style said → (start now : Moment) (commands : List (ℕ × Command)) → AreLines commands → KeepsAccounts start.accounts now.accounts → now.written ≡ start.written → IsCutText style said start now commands
 cut-none style said begins start now commands lines keeps same =
     cut-of (far-on now (far-start style start) keeps) said begins commands lines now.written (subst (λ w. Told start.written w []) (sym same) (told-none start.written))
 
 -- so of commands that were run in part
-pub cut-part : {style : Style} {start now : Moment} {commands : List (ℕ × Command)} → WrotePart style start now commands → (said : Ran → List ℕ) → BeginsWithReplies style said → AreLines commands → IsCut style said start now commands
+pub cut-part : {style : Style} {start now : Moment} {commands : List (ℕ × Command)} → WrotePart style start now commands → (said : Ran → List ℕ) → BeginsWithReplies style said → AreLines commands → IsCutText style said start now commands
 cut-part {style} {start} {now} w said begins lines =
-    subst (IsCut style said start now) (sym w.part.split)
+    subst (IsCutText style said start now) (sym w.part.split)
     (cut-of w.part.far said begins w.part.rest (subst AreLines w.part.split lines) now.written w.told)
 
 -- the same cut at another moment, with the same accounts and over the same sink
-pub cut-same : {style : Style} {said : Ran → List ℕ} {before now : Moment} (after : Moment) {commands : List (ℕ × Command)} → after.written ≡ now.written → after.accounts ≡ now.accounts → IsCut style said before now commands → IsCut style said before after commands
+pub cut-same : {style : Style} {said : Ran → List ℕ} {before now : Moment} (after : Moment) {commands : List (ℕ × Command)} → after.written ≡ now.written → after.accounts ≡ now.accounts → IsCutText style said before now commands → IsCutText style said before after commands
 cut-same {style} {said} {before} {now} after {commands} written accounts c = record {
   written = c.written;
   behind = c.behind;

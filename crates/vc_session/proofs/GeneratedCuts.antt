@@ -6,7 +6,7 @@ use Rattle.vc_script.specs.declared.command.Command.{Command}
 use Rattle.vc_script.specs.declared.tool.Tool.{Tool}
 use Rattle.vc_steps.specs.Account.{KeepsAccounts}
 use Rattle.vc_steps.specs.Moment.{Moment, moment_at_end, over_sink}
-use Rattle.vc_session.specs.Cut.{Cuts, IsCut}
+use Rattle.vc_session.specs.Cut.{Cuts, IsCutText}
 use Rattle.vc_session.specs.Engine.{RunsGenerated}
 use Rattle.vc_session.specs.Far.{AreLines, WrotePart}
 use Rattle.vc_session.specs.Generating.{Generating, RunsCommands}
@@ -108,15 +108,15 @@ module _ (tool : Tool) (w : Words) (n : ℕ) (is : w.generate ≡ Some n) (most 
         let progress : Progress (is_quiet w) (over_sink start told) (over_sink last told') counts ran.text all (on_lines 1 commands) =
         subst (λ q. Progress q (over_sink start told) (over_sink last told') counts ran.text all (on_lines 1 commands)) quiet ran.progress in
         let tail_is : tail ≡ lines_text (tail_lines w all counts last.state.homes) = behind ∙ ap (λ xs. xs ++ lines_text (tail_lines w all counts last.state.homes)) empty in
-        let cut : IsCut (style_by (is_quiet w) last.armed) (text_of w last.armed all) (over_sink start told) (over_sink last told'') (on_lines 1 commands) =
+        let cut : IsCutText (style_by (is_quiet w) last.armed) (text_of w last.armed all) (over_sink start told) (over_sink last told'') (on_lines 1 commands) =
         cut-tail progress (text_of w last.armed all) tail (take wrote.0 tail) (drop wrote.0 tail) told'' (omega (arith, ran.count, generated-most tool n w.seed most)) (tail-unnumbered w all tail progress tail_is) (text-says w all tail progress tail_is) (sym (take-append-drop wrote.0 tail)) wrote.1 in
         record {
           run = tt;
           cut =
               cut-same (over_sink (moment_at_end last) told'') refl refl
-              (subst (λ q. IsCut (style_by q false) (text_of w false (length commands)) (over_sink start told) (over_sink last told'') (on_lines 1 commands)) (sym quiet)
-              (subst (λ k. IsCut (style_by (is_quiet w) false) (text_of w false k) (over_sink start told) (over_sink last told'') (on_lines 1 commands)) ran.count
-              (subst (λ on. IsCut (style_by (is_quiet w) on) (text_of w on all) (over_sink start told) (over_sink last told'') (on_lines 1 commands)) off cut)));
+              (subst (λ q. IsCutText (style_by q false) (text_of w false (length commands)) (over_sink start told) (over_sink last told'') (on_lines 1 commands)) (sym quiet)
+              (subst (λ k. IsCutText (style_by (is_quiet w) false) (text_of w false k) (over_sink start told) (over_sink last told'') (on_lines 1 commands)) ran.count
+              (subst (λ on. IsCutText (style_by (is_quiet w) on) (text_of w on all) (over_sink start told) (over_sink last told'') (on_lines 1 commands)) off cut)));
           read = write-read stop write;
           write = λ other. rose-from failures failures' failures'' r.writes rose;
           writes = omega (arith, r.writes, never);

@@ -11,7 +11,7 @@ use Rattle.vc_session.specs.Engine.{LineRan}
 use Rattle.vc_base.specs.declared.fault.OutOfMemory.{OutOfMemory}
 use Rattle.vc_script.specs.declared.line_fault.LineFault.{LineFault}
 use Rattle.vc_script.specs.Answer.{answer}
-use Rattle.vc_session.specs.Arming.{IsFirst}
+use Rattle.vc_session.specs.Arming.{IsVersionOne}
 use Rattle.vc_session.specs.Cut.{NotAhead, ReadsNoFurther}
 use Rattle.vc_script.specs.Cutting.{Cutting}
 use Rattle.vc_session.specs.Far.{RanFar, RanPart, WrotePart}
@@ -173,7 +173,7 @@ pub part-arms : (tool : Tool) (quiet : Bool) (start now : Moment) (told : Option
 part-arms tool quiet start now told text parts = if_some told _ _ (λ input p. p.arms) parts
 
 -- a script that is known to be of version 1 arms none
-pub first-arms : (tool : Tool) (told : Option (List ℕ)) (last : Moment) → IfSome told (λ input. ArmsBy tool input last) → IsFirst None tool told → last.armed ≡ false
+pub first-arms : (tool : Tool) (told : Option (List ℕ)) (last : Moment) → IfSome told (λ input. ArmsBy tool input last) → IsVersionOne None tool told → last.armed ≡ false
 first-arms tool None last arms first = absurd first
 first-arms tool (Some input) last arms first = arms first
 

@@ -13,7 +13,7 @@ use Rattle.vc_objects.specs.Turn.{Turned, turn}
 use Rattle.vc_objects.specs.declared.fate.Fate.{Fate}
 use Rattle.vc_objects.specs.declared.fate.Fate.TheVariants.{Stored, NoTable, NoHolder}
 use Rattle.vc_objects.proofs.Named.{open_dictionary-named, region_without-named, relabel_grown}
-use Rattle.vc_commands.specs.DictCommands.{append_in, delete_in, fate_reply, gone_reply, in_dict, insert_in, is_for_object, is_for_table, is_object, put_object, put_unless, remove_in, removed_as, standing, turned_as, where_object}
+use Rattle.vc_commands.specs.DictCommands.{append_in, delete_in, fate_reply, gone_reply, in_dict, insert_in, is_for_object, is_for_table, is_object, put_object, put_unless, remove_in, removed_as, matched_in_set, turned_as, where_object}
 use Rattle.vc_commands.specs.Seat.{DictChanged, Seat, seat_with_refusal}
 use Rattle.vc_commands.proofs.Named.{in_dict-named}
 use Rattle.vc_script.specs.Needs.{Need}
@@ -55,7 +55,7 @@ module _ (s : Seat Label) where
   good-unless bytes need None = good-put false bytes need
 
   good-insert : (bytes : List ℕ) (need : Need) → IsGood (insert_in s bytes need)
-  good-insert bytes need = good-unless bytes need (standing s bytes)
+  good-insert bytes need = good-unless bytes need (matched_in_set s bytes)
 
   good-append : (bytes : List ℕ) (need : Need) → IsGood (append_in s bytes need)
   good-append bytes need =

@@ -5,14 +5,14 @@ use Rattle.vc_audit.specs.Profile.{Profile, rows_with_peaks, profile_after, row_
 use Rattle.vc_region.specs.Region.{OfBest, OfPool, OfLast, OfDebug, OfProfile, Region, region_align, region_alloc, region_clear, region_compact, region_free, region_poke, region_resize, region_watch, region_write}
 use Rattle.vc_script.specs.Proper.{IsSite}
 use Rattle.vc_script.specs.ProperReply.{is_row_site}
-use Rattle.vc_commands.specs.Blocks.{site_of}
+use Rattle.vc_commands.specs.Blocks.{site_or_hyphen}
 use Rattle.vc_session.specs.ProperState.{HasProperSites}
 use Rattle.vc_commands.specs.Home.{Label}
 
 -- the site of a command is one of a row
-pub row-site_of : (site : Option (List ℕ)) → IsSite site → IsTrue (is_row_site (site_of site))
-row-site_of None site = refl
-row-site_of (Some x) site = ap (λ t. t || bytes_eq x (codes "-")) site
+pub row-read_site : (site : Option (List ℕ)) → IsSite site → IsTrue (is_row_site (site_or_hyphen site))
+row-read_site None site = refl
+row-read_site (Some x) site = ap (λ t. t || bytes_eq x (codes "-")) site
 
 abbrev Blocks : Type 0
 Blocks = List (Block (Label × List ℕ))

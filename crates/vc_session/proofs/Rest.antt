@@ -19,7 +19,7 @@ use Rattle.vc_base.specs.Told.{Told}
 use Rattle.vc_session.specs.Engine.{RunsScript}
 use Rattle.vc_session.specs.Run.{Ran, first_bad, is_second, script}
 use Rattle.vc_script.specs.Judged.{judged_lines}
-use Rattle.vc_session.specs.Cut.{IsCut}
+use Rattle.vc_session.specs.Cut.{IsCutText}
 use Rattle.vc_session.proofs.Cuts.{cut-same}
 use Rattle.vc_session.proofs.NoneRefused.{stayed-same}
 use Rattle.vc_session.specs.Headline.{Headline}
@@ -72,7 +72,7 @@ module _ {before now after : Moment} (rests : Rests now after) where
     run = run-rest r.run;
   }
 
-  pub cut-rest : {style : Style} {said : Ran → List ℕ} {commands : List (ℕ × Command)} → IsCut style said before now commands → IsCut style said before after commands
+  pub cut-rest : {style : Style} {said : Ran → List ℕ} {commands : List (ℕ × Command)} → IsCutText style said before now commands → IsCutText style said before after commands
   cut-rest c = cut-same after rests.written rests.accounts c
 
 some-each : (o : Option (List ℕ)) (P Q : List ℕ → Type 0) → ((x : List ℕ) → P x → Q x) → IfSome o P → IfSome o Q
@@ -105,7 +105,7 @@ runs-rest tool w start before now after old new answer same rests off r =
           (λ input ran. subst (λ m. IsCutShort tool (is_quiet w) (over_sink m old.written) (over_sink after new.written) input new.left) same (cut_short-rest (rests new.written) ran))) r.cut_short;
       cut =
           on_err-each answer
-          (some-each old.left _ _ (λ input c. subst (λ m. IsCut (style_by (is_quiet w) (is_second tool input)) (text_of w (is_second tool input) (good_lines (first_bad tool input) (length (judged_lines input)))) (over_sink m old.written) (over_sink after new.written) (script tool input)) same (cut-rest (rests new.written) c))) r.cut;
+          (some-each old.left _ _ (λ input c. subst (λ m. IsCutText (style_by (is_quiet w) (is_second tool input)) (text_of w (is_second tool input) (good_lines (first_bad tool input) (length (judged_lines input)))) (over_sink m old.written) (over_sink after new.written) (script tool input)) same (cut-rest (rests new.written) c))) r.cut;
       not_ahead = r.not_ahead;
       arms = some-all old.left _ (λ input one. off);
       read = r.read;

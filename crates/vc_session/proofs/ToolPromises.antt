@@ -4,7 +4,7 @@ use Rattle.vc_script.specs.declared.line_fault.LineFault.{LineFault}
 use Rattle.vc_script.specs.declared.tool.Tool.{Tool}
 use Rattle.vc_steps.specs.Moment.{Moment, over_sink}
 use Rattle.vc_session.proofs.StatusDue.{completes}
-use Rattle.vc_session.specs.Arming.{IsFirst, Keeps}
+use Rattle.vc_session.specs.Arming.{IsVersionOne, Keeps}
 use Rattle.vc_session.specs.Cut.{Cuts, NotAhead}
 use Rattle.vc_session.specs.Headline.{BreaksOff, Headline, Replays, Tells, Tries}
 use Rattle.vc_session.specs.Promises.{LentToTool, Promises}
@@ -25,7 +25,7 @@ DueBy tool w start last old new Write = (Rose old.writes new.writes × Tries old
 DueBy tool w start last old new Memory = Tries old new (message tool (codes "out of memory"))
 
 module _ {tool : Tool} {w : Words} {start last : Moment} {old new : Streams} {status : Status} where
-  headline-by : DueBy tool w start last old new status → ((status ≡ Write) ⊎ (status ≡ Memory) → Cuts w.generate tool w (over_sink start old.written) (over_sink last new.written) old.left) → (status ≡ Write → NotAhead tool (is_quiet w) old.left new.left old.written new.written) → old.reads ≤ new.reads → (old.writes ≤ new.writes) × (old.errors ≤ new.errors) → Keeps (IsFirst w.generate tool old.left) start last → last.state.kinds ≡ start.state.kinds → Headline tool (Some w) start last old new status
+  headline-by : DueBy tool w start last old new status → ((status ≡ Write) ⊎ (status ≡ Memory) → Cuts w.generate tool w (over_sink start old.written) (over_sink last new.written) old.left) → (status ≡ Write → NotAhead tool (is_quiet w) old.left new.left old.written new.written) → old.reads ≤ new.reads → (old.writes ≤ new.writes) × (old.errors ≤ new.errors) → Keeps (IsVersionOne w.generate tool old.left) start last → last.state.kinds ≡ start.state.kinds → Headline tool (Some w) start last old new status
   headline-by due cut not_ahead reads writes keeps rules =
       record {
         ok = λ is. subst (DueBy tool w start last old new) is due;
@@ -51,7 +51,7 @@ module _ {H K S O E : Type 0} {tool : Tool} {w : Words} {status : Status} {old n
       → (status ≡ Write → NotAhead tool (is_quiet w) (streams old.source old.out old.err).left (streams new.source new.out new.err).left (streams old.source old.out old.err).written (streams new.source new.out new.err).written)
       → (streams old.source old.out old.err).reads ≤ (streams new.source new.out new.err).reads
       → ((streams old.source old.out old.err).writes ≤ (streams new.source new.out new.err).writes) × ((streams old.source old.out old.err).errors ≤ (streams new.source new.out new.err).errors)
-      → Keeps (IsFirst w.generate tool (streams old.source old.out old.err).left) (rest old.shelf old.kinds) (rest new.shelf new.kinds) → (rest new.shelf new.kinds).state.kinds ≡ (rest old.shelf old.kinds).state.kinds
+      → Keeps (IsVersionOne w.generate tool (streams old.source old.out old.err).left) (rest old.shelf old.kinds) (rest new.shelf new.kinds) → (rest new.shelf new.kinds).state.kinds ≡ (rest old.shelf old.kinds).state.kinds
       → (status ≡ Ok → new.err ≡ old.err) → (IsSome w.generate → new.source ≡ old.source) → Promises tool (Some w) status old new rest streams
   promises-asked due cut not_ahead reads writes keeps rules quiet generated =
       let headline : Headline tool (Some w) (rest old.shelf old.kinds) (rest new.shelf new.kinds) (streams old.source old.out old.err) (streams new.source new.out new.err) status =

@@ -6,7 +6,7 @@ use Rattle.vc_script.specs.Judged.{judged_lines}
 use Rattle.vc_steps.specs.Moment.{Moment}
 use Rattle.vc_steps.proofs.SettledShelf.{keeps-same}
 use Rattle.vc_session.specs.Asked.{is_in_range}
-use Rattle.vc_session.specs.Cut.{Cuts, IsCut, NotAhead}
+use Rattle.vc_session.specs.Cut.{Cuts, IsCutText, NotAhead}
 use Rattle.vc_session.specs.Replay.{ReplaysBy}
 use Rattle.vc_session.specs.Run.{is_second, script}
 use Rattle.vc_session.specs.QuietText.{style_by}
@@ -23,7 +23,7 @@ module _ (tool : Tool) (w : Words) (before after : Moment) (told left : Option (
   -- a script that was run up to a bad line
   pub replay-cuts : (g : Option ℕ) (bad : ℕ × LineFault) → ReplaysBy g tool w before after told left (Some bad) → Cuts g tool w before after told
   replay-cuts None bad replay =
-      if_some told _ _ (λ input r. subst (λ b. IsCut (style_by (is_quiet w) (is_second tool input)) (text_of w (is_second tool input) (good_lines b (length (judged_lines input)))) before after (script tool input)) r.first (cut-run r.run)) replay
+      if_some told _ _ (λ input r. subst (λ b. IsCutText (style_by (is_quiet w) (is_second tool input)) (text_of w (is_second tool input) (good_lines b (length (judged_lines input)))) before after (script tool input)) r.first (cut-run r.run)) replay
   replay-cuts (Some n) bad replay = absurd (none-some bad (sym replay.0))
 
   pub replay-not_ahead : (g : Option ℕ) (bad : ℕ × LineFault) → ReplaysBy g tool w before after told left (Some bad) → NotAhead tool (is_quiet w) told left before.written after.written

@@ -26,14 +26,14 @@ pub record RunsArming {I : Type 0} {V : I → Type 0} {D : Type 0} (meaning : (x
   pub runs : ran (moment meaning rules gone shelf session kinds) (moment meaning rules gone shelf' session' kinds')
 
 -- that is known to be of version 1: generated commands, or a source's script by the bytes that it tells
-abbrev pub IsFirst : Option ℕ → Tool → Option (List ℕ) → Type 0
-IsFirst None tool told = IsSomeAnd told (λ input. version_of tool input ≡ 1)
-IsFirst (Some n) tool told = Unit {0}
+abbrev pub IsVersionOne : Option ℕ → Tool → Option (List ℕ) → Type 0
+IsVersionOne None tool told = IsSomeAnd told (λ input. version_of tool input ≡ 1)
+IsVersionOne (Some n) tool told = Unit {0}
 
 -- and so are refused words, with which nothing runs
 abbrev pub AsksFirst : Option Words → Tool → Option (List ℕ) → Type 0
 AsksFirst None tool told = Unit {0}
-AsksFirst (Some w) tool told = IsFirst w.generate tool told
+AsksFirst (Some w) tool told = IsVersionOne w.generate tool told
 
 -- each place has its discipline, with the segments out and the terms that it had, and no fault less
 pub record Keeps (first : Type 0) (before after : Moment) : Type 0 where

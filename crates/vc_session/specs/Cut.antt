@@ -37,7 +37,7 @@ RoseAsRefused refusals before after =
     (faults_of (at_number before.accounts place)) (faults_of (at_number after.accounts place))
 
 -- what was written is a front of the text for the needs that its whole lines show, or for these and one further
-pub record IsCut (style : Style) (said : Ran → List ℕ) (before after : Moment) (commands : List (ℕ × Command)) : Type 0 where
+pub record IsCutText (style : Style) (said : Ran → List ℕ) (before after : Moment) (commands : List (ℕ × Command)) : Type 0 where
   pub written : List ℕ
   pub behind : List ℕ
   pub further : Option (ℕ × Need)
@@ -74,6 +74,6 @@ NotAhead tool quiet told left before after =
 -- by the words of a tool what was written of the source's script, where the source told it, or of so many generated commands, is a cut
 abbrev pub Cuts : Option ℕ → Tool → Words → Moment → Moment → Option (List ℕ) → Type 0
 Cuts None tool w before after told =
-    IfSome told (λ input. IsCut (style_by (is_quiet w) (is_second tool input)) (text_of w (is_second tool input) (good_lines (first_bad tool input) (length (judged_lines input)))) before after (script tool input))
+    IfSome told (λ input. IsCutText (style_by (is_quiet w) (is_second tool input)) (text_of w (is_second tool input) (good_lines (first_bad tool input) (length (judged_lines input)))) before after (script tool input))
 Cuts (Some n) tool w before after told =
-    IsCut Quiet (text_of w false (length (commands_of_seed tool n w.seed))) before after (generated_script tool w n)
+    IsCutText Quiet (text_of w false (length (commands_of_seed tool n w.seed))) before after (generated_script tool w n)

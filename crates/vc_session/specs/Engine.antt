@@ -100,7 +100,7 @@ pub record RunsScript (tool : Tool) (w : Words) (answer : Result (Option (ℕ ×
   pub writes : old.writes ≤ new.writes
 
 -- what running it over a session promises that goes on behind it: besides, the session is as the run leaves it
-pub record RunsOn (tool : Tool) (w : Words) (answer : Result (Option (ℕ × LineFault)) Stop) (start last : Moment) (old new : Flows) : Type 0 where
+pub record RunsScriptOn (tool : Tool) (w : Words) (answer : Result (Option (ℕ × LineFault)) Stop) (start last : Moment) (old new : Flows) : Type 0 where
   pub script : RunsScript tool w answer start (moment_at_end last) old new
   pub leaves : IfOk answer (λ bad. IfSome old.left (λ input. LeavesReplay tool w (over_sink start old.written) (over_sink last new.written) input bad))
 

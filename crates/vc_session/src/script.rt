@@ -1,8 +1,8 @@
 ghost use Rattle.std.specs.Prelude.{◌≡◌, [], None, Some, IsTrue, false, length};
 ghost use Rattle.vc_counts.specs.Counts.{live_bytes};
 ghost use Rattle.vc_script.specs.Cutting.{new_cutting};
-ghost use Rattle.vc_session.specs.Arming.{IsFirst, Keeps, RunsArming};
-ghost use Rattle.vc_session.specs.Engine.{RunsOn, RunsScript};
+ghost use Rattle.vc_session.specs.Arming.{IsVersionOne, Keeps, RunsArming};
+ghost use Rattle.vc_session.specs.Engine.{RunsScriptOn, RunsScript};
 ghost use Rattle.vc_session.specs.ProperState.{IsProperOver};
 ghost use Rattle.vc_session.specs.Streams.{flows};
 ghost use Rattle.vc_session.specs.Text.{good_lines, is_quiet};
@@ -56,7 +56,7 @@ pub fn run_script<D: DictDisc, S: Source, O: Sink>(
     requires new { cutter.old ≡ new_cutting }
     ensures { RunsArming state D.rules D.gone shelf.old session.old kinds.old.items
         shelf.new session.new kinds.new.items
-        (λ start last. RunsOn tool words.now result start last
+        (λ start last. RunsScriptOn tool words.now result start last
         (flows S.left S.failures O.written O.failures source.old out.old)
         (flows S.left S.failures O.written O.failures source.new out.new)) }
 {
@@ -97,7 +97,7 @@ pub(crate) fn run_source<D: DictDisc, S: Source, O: Sink>(
         (flows S.left S.failures O.written O.failures source.old out.old)
         (flows S.left S.failures O.written O.failures source.new out.new) }
     ensures keeps { Keeps
-        (IsFirst None tool (S.left source.old))
+        (IsVersionOne None tool (S.left source.old))
         (moment_at_rest state D.rules D.gone shelf.old kinds.old.items)
         (moment_at_rest state D.rules D.gone shelf.new kinds.new.items) }
     ensures rules { KeepRules D.rules kinds.old.items kinds.new.items }

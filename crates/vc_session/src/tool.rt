@@ -1,6 +1,6 @@
 ghost use Rattle.std.specs.Prelude.{◌≡◌, [], Some, IsSome, map, string_bytes};
 ghost use Rattle.vc_script.specs.declared.tool.Tool.TheVariants.{Dtrun, Vmreplay};
-ghost use Rattle.vc_session.specs.Arming.{IsFirst, Keeps};
+ghost use Rattle.vc_session.specs.Arming.{IsVersionOne, Keeps};
 ghost use Rattle.vc_session.specs.Engine.{RunsAsked};
 ghost use Rattle.vc_session.specs.Promises.{Promises, borrowed};
 ghost use Rattle.vc_session.specs.Streams.{flows, streams};
@@ -40,7 +40,7 @@ fn run_asked<D: DictDisc, S: Source, O: Sink>(
         (flows S.left S.failures O.written O.failures source.new out.new) }
     ensures generated { IsSome asked.now.words.generate → source.new ≡ source.old }
     ensures keeps { Keeps
-        (IsFirst asked.now.words.generate tool (S.left source.old))
+        (IsVersionOne asked.now.words.generate tool (S.left source.old))
         (moment_at_rest state D.rules D.gone shelf.old kinds.old.items)
         (moment_at_rest state D.rules D.gone shelf.new kinds.new.items) }
     ensures rules { KeepRules D.rules kinds.old.items kinds.new.items }

@@ -6,7 +6,7 @@ use Rattle.vc_script.specs.declared.refusal.Refusal.TheVariants.{Busy}
 use Rattle.vc_script.specs.declared.reply.Reply.TheVariants.{Closed}
 use Rattle.vc_region.proofs.Relabel.{segments-relabelled}
 use Rattle.vc_dtdisc.specs.Rules.{Rules}
-use Rattle.vc_commands.specs.Labels.{name_of}
+use Rattle.vc_commands.specs.Labels.{name_of_tag}
 use Rattle.vc_steps.specs.State.{State, step_with_reply, close_home, close_step, step_with_close, home_named, is_home_busy, step_with_refusal, without_home}
 use Rattle.vc_views.specs.Views.{DictHome}
 use Rattle.vc_commands.specs.Home.{Home, is_home}
@@ -124,7 +124,7 @@ module _ (armed : Bool) (slots slots' : Slots) (hs : List Held) (i : ℕ) (h : H
       without_home-at r (map home_of hs) i first.item first.at first.passes first.before ∙ sym (map-remove home_of hs i) in
       ap (close_home (state_of kinds slots hs ds) r) found
       ∙ (ap (λ b. cond b (step_with_refusal (state_of kinds slots hs ds) Busy) (step_with_close (state_of kinds slots hs ds) r (home_of h))) free
-      ∙ (ap (λ ss. step_with_reply (record (state_of kinds slots hs ds) { shelf = set (state_of kinds slots hs ds).shelf (h.place - 1) (Some h.disc.terms); homes = without_home r (map home_of hs) }) (Closed r (length ss))) (segments-relabelled (name_of h.labels) h.region)
+      ∙ (ap (λ ss. step_with_reply (record (state_of kinds slots hs ds) { shelf = set (state_of kinds slots hs ds).shelf (h.place - 1) (Some h.disc.terms); homes = without_home r (map home_of hs) }) (Closed r (length ss))) (segments-relabelled (name_of_tag h.labels) h.region)
       ∙ (ap (λ rs. step_with_reply (record (state_of kinds slots hs ds) { shelf = rs; homes = without_home r (map home_of hs) }) (Closed r (length (segments_of h.region)))) (sym shelf-close)
       ∙ (ap (λ ks. step_with_reply (record (state_of kinds slots' hs ds) { homes = ks }) (Closed r (length (segments_of h.region)))) left
       ∙ ap (λ n. step_with_reply (state_of kinds slots' (remove hs i) ds) (Closed r n)) (sym counted)))))

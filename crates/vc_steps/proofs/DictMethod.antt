@@ -12,7 +12,7 @@ use Rattle.vc_script.specs.declared.command.Command.{Command}
 use Rattle.vc_script.specs.declared.command.Command.TheVariants.{Insert, Append, Attach, Delete, Detach, Remethod, Empty}
 use Rattle.vc_script.specs.declared.refusal.Refusal.TheVariants as why
 use Rattle.vc_script.specs.declared.reply.Reply.{Reply}
-use Rattle.vc_commands.specs.DictCommands.{in_dict, insert_in, is_for_object, is_for_table, is_object, put_object, put_unless, removed_as, standing, where_object}
+use Rattle.vc_commands.specs.DictCommands.{in_dict, insert_in, is_for_object, is_for_table, is_object, put_object, put_unless, removed_as, matched_in_set, where_object}
 use Rattle.vc_commands.specs.DictRun.{GivesDict, IsSpent, IsSpentBy}
 use Rattle.vc_commands.specs.Seat.{DictChanged, Seat, seat_with_refusal}
 use Rattle.vc_steps.specs.Dicts.{is_turn}
@@ -62,7 +62,7 @@ module _ {L : Type 0} where
     keeps-unless bytes need None = keeps-put false bytes need
 
     keeps-insert : (word bytes : List ℕ) (need : Need) → Keeps (where_object s word (insert_in s bytes need))
-    keeps-insert word bytes need = keeps-sized word (insert_in s bytes need) (keeps-unless bytes need (standing s bytes))
+    keeps-insert word bytes need = keeps-sized word (insert_in s bytes need) (keeps-unless bytes need (matched_in_set s bytes))
 
     keeps-removed : (tells : Bool) (o : Option Object) → Keeps (removed_as tells (remove_found s.region s.dict o))
     keeps-removed tells None = refl

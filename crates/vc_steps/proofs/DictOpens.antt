@@ -28,7 +28,7 @@ use Rattle.vc_steps.specs.Account.{Settles, accounts, held_named, settled_accoun
 use Rattle.vc_steps.specs.DictHomes.{AreDicts, IsDictOf, cells_of_held, dict_home, dicts_in, dict_over}
 use Rattle.vc_steps.specs.Dicts.{dict_opened, dict_refused, open_dict_in, open_dict_step, open_dict_unless}
 use Rattle.vc_commands.specs.FreedNames.{FreedNames}
-use Rattle.vc_commands.specs.Labels.{kept_of, name_of}
+use Rattle.vc_commands.specs.Labels.{kept_of, name_of_tag}
 use Rattle.vc_steps.specs.WantedSegments.{InHeld, StepLacksFor}
 use Rattle.vc_steps.specs.Table.{TellsTable, table_reply}
 use Rattle.vc_steps.specs.Refusals.{home_place, refusal_at}
@@ -104,13 +104,13 @@ module _ {I : Type 0} {V : I → Type 0} {meaning : (x : I) × V x → Disciplin
       gives-same (open_dict_step s d method r k need) gone (reply.Refused refusal) s
       (ap (open_dict_in s d method k need) home-found ∙ ap (open_dict_unless s (home_of h) d method k need) is)
 
-  named : (b : Bool) → open_dictionary h.disc.terms (layout_in (home_of h).region) None method b ≡ done_as (relabel_grown (name_of h.labels)) (open_dictionary h.disc.terms (layout_in h.region) 0 method b)
+  named : (b : Bool) → open_dictionary h.disc.terms (layout_in (home_of h).region) None method b ≡ done_as (relabel_grown (name_of_tag h.labels)) (open_dictionary h.disc.terms (layout_in h.region) 0 method b)
   named b =
-      ap (λ (q : Layout Label). open_dictionary h.disc.terms q None method b) (layout-relabelled (name_of h.labels) h.region)
-      ∙ (ap (λ o. open_dictionary h.disc.terms (relabel_layout (name_of h.labels) (layout_in h.region)) o method b) (sym (name-none h.labels 0 refl))
-      ∙ open_dictionary-named (name_of h.labels) h.disc.terms (layout_in h.region) 0 method b)
+      ap (λ (q : Layout Label). open_dictionary h.disc.terms q None method b) (layout-relabelled (name_of_tag h.labels) h.region)
+      ∙ (ap (λ o. open_dictionary h.disc.terms (relabel_layout (name_of_tag h.labels) (layout_in h.region)) o method b) (sym (name-none h.labels 0 refl))
+      ∙ open_dictionary-named (name_of_tag h.labels) h.disc.terms (layout_in h.region) 0 method b)
 
-  step-open : (need : Need) → dict_refused s (home_of h) d k ≡ None → open_dict_step s d method r k need ≡ dict_opened s (home_of h) d k (done_as (relabel_grown (name_of h.labels)) (open_dictionary h.disc.terms (layout_in h.region) 0 method (is_for_table need)))
+  step-open : (need : Need) → dict_refused s (home_of h) d k ≡ None → open_dict_step s d method r k need ≡ dict_opened s (home_of h) d k (done_as (relabel_grown (name_of_tag h.labels)) (open_dictionary h.disc.terms (layout_in h.region) 0 method (is_for_table need)))
   step-open need is =
       ap (open_dict_in s d method k need) home-found
       ∙ (ap (open_dict_unless s (home_of h) d method k need) is ∙ ap (dict_opened s (home_of h) d k) (named (is_for_table need)))
@@ -121,7 +121,7 @@ module _ {I : Type 0} {V : I → Type 0} {meaning : (x : I) × V x → Disciplin
       let t = table-told (open_dictionary h.disc.terms (layout_in h.region) 0 method) fault told tells refusal in
       gives-same (open_dict_step s d method r k (need_shown told)) gone told after
       (step-open (need_shown told) none
-      ∙ (ap (λ o. dict_opened s (home_of h) d k (done_as (relabel_grown (name_of h.labels)) o)) t.refused
+      ∙ (ap (λ o. dict_opened s (home_of h) d k (done_as (relabel_grown (name_of_tag h.labels)) o)) t.refused
       ∙ (ap (λ q. let x : Stepped = record { state = s; reply = q; told = []; granted = [] } in x) (sym t.is)
       ∙ ap (λ q. let x : Stepped = record { state = q; reply = told; told = []; granted = [] } in x) (sym same))))
 
@@ -161,8 +161,8 @@ module _ {I : Type 0} {V : I → Type 0} {meaning : (x : I) × V x → Disciplin
     state-failed touch region labels =
         ap (state_of kinds slots gs) (homes-kept kinds hs j h g [] [] named-first at touch vs es x.here.dicts (clear-none hs r es))
         ∙ state-same x.here.armed slots hs j h g at x.here.held change kinds (dicts_in hs vs es)
-        (ap (λ q. let p : Region Label × FreedNames = (region_with_labels (name_of g.labels) q, kept_of g.labels) in p) region
-        ∙ ap (λ l. let p : Region Label × FreedNames = (region_with_labels (name_of l) h.region, kept_of l) in p) labels)
+        (ap (λ q. let p : Region Label × FreedNames = (region_with_labels (name_of_tag g.labels) q, kept_of g.labels) in p) region
+        ∙ ap (λ l. let p : Region Label × FreedNames = (region_with_labels (name_of_tag l) h.region, kept_of l) in p) labels)
 
   -- no block is put for its table, by the answer to the fault
   module _ (g : Held) {cells : Blocks} (change : IsChange (record h { cells = cells }) g) (gone : List Gone) where
@@ -233,13 +233,13 @@ module _ {I : Type 0} {V : I → Type 0} {meaning : (x : I) × V x → Disciplin
         let one : List ℕ → ℕ → Option (List ℕ) → Dictionary → DictHome = λ n m v x. record { name = d; home = n; kind = m; views = v; dict = x } in
         ap (λ m. one r m None dict) (sym kind) ∙ (ap (λ v. one r new.kind v dict) (sym free) ∙ ap (one r new.kind (vs n)) (same ∙ sym (ap (λ o. dictionary_of new (cells_of_held o)) opened-held)))
 
-    region-opened : (region : Layout ℕ) → layout_in g.region ≡ region → with_region r (OfBest (relabel_layout (name_of h.labels) region)) (home_of h).kept s.homes ≡ map home_of after_hs
+    region-opened : (region : Layout ℕ) → layout_in g.region ≡ region → with_region r (OfBest (relabel_layout (name_of_tag h.labels) region)) (home_of h).kept s.homes ≡ map home_of after_hs
     region-opened region same =
-        ap (λ (q : Region Label). with_region r q (home_of h).kept s.homes) (best-named (name_of h.labels) g.region region touch.best (sym same))
-        ∙ (ap (λ l. with_region r (region_with_labels (name_of l) g.region) (kept_of l) s.homes) (sym labels)
+        ap (λ (q : Region Label). with_region r q (home_of h).kept s.homes) (best-named (name_of_tag h.labels) g.region region touch.best (sym same))
+        ∙ (ap (λ l. with_region r (region_with_labels (name_of_tag l) g.region) (kept_of l) s.homes) (sym labels)
         ∙ homes-change x.here.armed slots hs j h g at x.here.held change r (region-first meaning x.region))
 
-    gives-opened : (gone : List Gone) (o : Outcome (Grown ℕ)) (t : Stepped) → HasGrown o (layout_in g.region) (dictionary_of new g.cells) → t ≡ dict_opened s (home_of h) d k (done_as (relabel_grown (name_of h.labels)) o) → GivesStep t gone (reply.Opened d) opened_state gone
+    gives-opened : (gone : List Gone) (o : Outcome (Grown ℕ)) (t : Stepped) → HasGrown o (layout_in g.region) (dictionary_of new g.cells) → t ≡ dict_opened s (home_of h) d k (done_as (relabel_grown (name_of_tag h.labels)) o) → GivesStep t gone (reply.Opened d) opened_state gone
     gives-opened gone (model.Refused fault) t grown is = absurd grown
     gives-opened gone (model.Done x) t grown is =
         record {

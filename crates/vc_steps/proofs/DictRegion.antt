@@ -11,7 +11,7 @@ use Rattle.vc_region.proofs.Sound.{own_places}
 use Rattle.vc_objects.specs.Leaves.{Leaves}
 use Rattle.vc_commands.specs.declared.region.home.HomeEntry.{HomeEntry}
 use Rattle.vc_commands.specs.declared.region.labels.Labels.{Labels}
-use Rattle.vc_commands.specs.Held.{Held, IsChange, IsNamed}
+use Rattle.vc_commands.specs.Held.{Held, IsChange, AreLabelsOf}
 use Rattle.vc_commands.specs.RegionRun.{held_of}
 use Rattle.vc_commands.proofs.Answers.{KeepsOut, changed-by}
 use Rattle.vc_steps.proofs.DictChange.{Touches}
@@ -46,12 +46,12 @@ module _ {I : Type 0} {V : I → Type 0} (meaning : (x : I) × V x → Disciplin
       leaves.disc.out rest (at ∙ ap (λ s. rest ++ s) (rest-segments (region_of h.region)))
       ∙ ap (λ s. rest ++ s) (sym (rest-segments (region_of after.region)))
 
-  names-kept : IsNamed (rest_in h.region) labels → IsNamed (rest_in after.region) labels
+  names-kept : AreLabelsOf (rest_in h.region) labels → AreLabelsOf (rest_in after.region) labels
   names-kept names =
       named-labelled labels (rest_in h.region) (rest_in after.region) leaves.labelled names (rest-own (region_of after.region) (own_places after.region)) refl
 
   -- its lists change as those of a region do, whatever its cells were
-  pub region-change : HasOut (disc_in meaning (best_entry place old).region) (segments_of (rest_in (best_entry place old).region)) → IsNamed (rest_in (best_entry place old).region) labels
+  pub region-change : HasOut (disc_in meaning (best_entry place old).region) (segments_of (rest_in (best_entry place old).region)) → AreLabelsOf (rest_in (best_entry place old).region) labels
       → IsChange (let k : Held = record (held_of meaning name (best_entry place old) labels) { cells = cells_in (best_entry place new).region } in k) (held_of meaning name (best_entry place new) labels)
   region-change lent names =
       changed-by (let k : Held = record (held_of meaning name h labels) { cells = cells_in after.region } in k) (disc_in meaning after.region) (rest_in after.region) (cells_in after.region) labels refl lent leaves.disc.kept out-kept (names-kept names)

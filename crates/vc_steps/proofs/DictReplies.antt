@@ -16,7 +16,7 @@ use Rattle.vc_script.specs.declared.command.Command.TheVariants.{Insert, Append,
 use Rattle.vc_script.specs.declared.refusal.Refusal.TheVariants as why
 use Rattle.vc_script.specs.declared.reply.Reply.{Reply}
 use Rattle.vc_script.specs.declared.reply.Reply.TheVariants as reply
-use Rattle.vc_commands.specs.DictCommands.{delete_in, fate_reply, gone_reply, in_dict, insert_in, is_for_object, is_for_table, is_object, object_refusal, put_object, put_unless, removed_as, standing, table_refusal, turned_as, where_object}
+use Rattle.vc_commands.specs.DictCommands.{delete_in, fate_reply, gone_reply, in_dict, insert_in, is_for_object, is_for_table, is_object, object_refusal, put_object, put_unless, removed_as, matched_in_set, table_refusal, turned_as, where_object}
 use Rattle.vc_commands.specs.Seat.{DictChanged, Seat, seat_with_refusal}
 
 abbrev pub IsOther : Reply → Type 0
@@ -57,7 +57,7 @@ module _ {L : Type 0} (s : Seat L) where
   other-unless bytes need (Some o) = tt
 
   other-insert : (word bytes : List ℕ) (need : Need) → IsOther (where_object s word (insert_in s bytes need)).reply
-  other-insert word bytes need = other-sized word (insert_in s bytes need) (other-unless bytes need (standing s bytes))
+  other-insert word bytes need = other-sized word (insert_in s bytes need) (other-unless bytes need (matched_in_set s bytes))
 
   other-remove : (tells : Bool) (bytes : List ℕ) → IsOther (where_object s bytes (removed_as tells (remove s.rules s.region s.dict (s.rules.key bytes)))).reply
   other-remove tells bytes =

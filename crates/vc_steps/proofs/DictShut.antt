@@ -13,7 +13,7 @@ use Rattle.vc_steps.specs.Account.{IsSession, state_of, IsHeldFrom, accounts, se
 use Rattle.vc_steps.specs.DictHomes.{AreDicts, dict_home, dicts_in, dict_over}
 use Rattle.vc_steps.specs.Dicts.{shut_in, shut_state, without_dict}
 use Rattle.vc_views.specs.Views.{is_dict, DictHome}
-use Rattle.vc_commands.specs.Labels.{kept_of, name_of}
+use Rattle.vc_commands.specs.Labels.{kept_of, name_of_tag}
 use Rattle.vc_steps.specs.State.{State, with_region}
 use Rattle.vc_commands.specs.Home.{Home, Label}
 use Rattle.vc_steps.proofs.BestRegions.{best-named}
@@ -96,10 +96,10 @@ module _ {I : Type 0} {V : I → Type 0} {meaning : (x : I) × V x → Disciplin
     region-is : OfBest (region_without (layout_in (home_of h).region) d.dict) ≡ (home_of g).region
     region-is =
         ap (λ (y : Dictionary). OfBest (region_without (layout_in (home_of h).region) y)) (dict-is x)
-        ∙ (ap (λ (q : Layout Label). OfBest (region_without q was)) (layout-relabelled (name_of h.labels) h.region)
-        ∙ (ap (λ (q : Layout Label). OfBest q) (region_without-named (name_of h.labels) (layout_in h.region) was)
-        ∙ (best-named (name_of h.labels) g.region (region_without (layout_in h.region) was) touch.best (sym region)
-        ∙ ap (λ l. region_with_labels (name_of l) g.region) (sym labels))))
+        ∙ (ap (λ (q : Layout Label). OfBest (region_without q was)) (layout-relabelled (name_of_tag h.labels) h.region)
+        ∙ (ap (λ (q : Layout Label). OfBest q) (region_without-named (name_of_tag h.labels) (layout_in h.region) was)
+        ∙ (best-named (name_of_tag h.labels) g.region (region_without (layout_in h.region) was) touch.best (sym region)
+        ∙ ap (λ l. region_with_labels (name_of_tag l) g.region) (sym labels))))
 
     region-shut : with_region e.1.home (OfBest (region_without (layout_in (home_of h).region) d.dict)) (home_of h).kept (map home_of hs) ≡ map home_of gs
     region-shut =

@@ -26,8 +26,8 @@ use Rattle.vc_steps.specs.Account.{Settles, accounts, held_named, settled_accoun
 use Rattle.vc_steps.specs.DictHomes.{AreDicts, IsDictOf, cells_of_held, dict_home, dicts_in, dict_over}
 use Rattle.vc_steps.specs.Dicts.{dict_changed, dict_command, dict_of, dict_step, on_found, on_seat, region_asked_for, seat_at_home, with_dict}
 use Rattle.vc_views.specs.Views.{dict_named, is_dict, DictHome}
-use Rattle.vc_commands.specs.Labels.{kept_of, name_of}
-use Rattle.vc_steps.specs.WantedSegments.{CommandLacks, DictLacks, GrewBy, GrewFor, GrewIn, InHeld, IsCutOff, SeatLacks, StepLacksFor, dict_at}
+use Rattle.vc_commands.specs.Labels.{kept_of, name_of_tag}
+use Rattle.vc_steps.specs.WantedSegments.{CommandLacks, DictLacks, GrewBy, GrewFor, GrewIn, InHeld, IsCutOff, SeatLacks, StepLacksFor, dict_in_state}
 use Rattle.vc_steps.specs.Refusals.{home_place, place_named, refusal_at}
 use Rattle.vc_steps.specs.State.{State, Stepped, home_named, with_region}
 use Rattle.vc_commands.specs.Home.{Home, Label, is_home}
@@ -57,7 +57,7 @@ object-rose : (o : Option ℕ) (bytes : List ℕ) (old new : Discipline) → Lac
 object-rose None bytes old new lacks = lacks.rose
 object-rose (Some slots) bytes old new lacks = Rose-earlier old.faults lacks.between.faults new.faults lacks.grown.kept.faults lacks.unserved.rose
 
-command-lacks : (s : State) (command : Command) (reply : Reply) (old new : Discipline) (d : List ℕ) → dict_of command ≡ Some d → DictLacks s command reply old new (dict_at s (dict_of command)) → CommandLacks s command reply old new
+command-lacks : (s : State) (command : Command) (reply : Reply) (old new : Discipline) (d : List ℕ) → dict_of command ≡ Some d → DictLacks s command reply old new (dict_in_state s (dict_of command)) → CommandLacks s command reply old new
 command-lacks s (OpenDict x method r k) reply old new d works lacks = absurd (none-some d works)
 command-lacks s command reply old new d works lacks = lacks
 
@@ -100,12 +100,12 @@ module _ {I : Type 0} {V : I → Type 0} {meaning : (x : I) × V x → Disciplin
   abbrev pub tags : Seat ℕ
   tags = record { rules = is.rules; terms = h.disc.terms; none = 0; region = layout_in h.region; dict = was }
 
-  seat-is : seat_at_home d (home_of h) is.rules ≡ relabel_seat (name_of h.labels) tags
+  seat-is : seat_at_home d (home_of h) is.rules ≡ relabel_seat (name_of_tag h.labels) tags
   seat-is =
       let made : Label → Layout Label → Dictionary → Seat Label = λ o r x. record { rules = is.rules; terms = h.disc.terms; none = o; region = r; dict = x } in
       ap (made None (layout_in (home_of h).region)) (dict-is x)
-      ∙ (ap (λ r. made None r was) (layout-relabelled (name_of h.labels) h.region)
-      ∙ ap (λ o. made o (relabel_layout (name_of h.labels) (layout_in h.region)) was) (sym (name-none h.labels 0 refl)))
+      ∙ (ap (λ r. made None r was) (layout-relabelled (name_of_tag h.labels) h.region)
+      ∙ ap (λ o. made o (relabel_layout (name_of_tag h.labels) (layout_in h.region)) was) (sym (name-none h.labels 0 refl)))
 
   pub step-seat : (command : Command) (need : Need) → dict_step s e.0 command need ≡ dict_command s command need d (home_of h) is.rules
   step-seat command need =
@@ -113,8 +113,8 @@ module _ {I : Type 0} {V : I → Type 0} {meaning : (x : I) × V x → Disciplin
       ∙ (ap (λ o. on_seat s d (dict_command s command need) o (at_number kinds e.1.dict.kind)) found-home
       ∙ ap (λ o. on_seat s d (dict_command s command need) (Some (home_of h)) o) is.kind)
 
-  changed-is : (command : Command) (need : Need) → in_dict (seat_at_home d (home_of h) is.rules) command need ≡ relabel_changed (name_of h.labels) (in_dict tags command need)
-  changed-is command need = ap (λ q. in_dict q command need) seat-is ∙ in_dict-named (name_of h.labels) tags command need
+  changed-is : (command : Command) (need : Need) → in_dict (seat_at_home d (home_of h) is.rules) command need ≡ relabel_changed (name_of_tag h.labels) (in_dict tags command need)
+  changed-is command need = ap (λ q. in_dict q command need) seat-is ∙ in_dict-named (name_of_tag h.labels) tags command need
 
   asked-home : (command : Command) → dict_of command ≡ Some e.0 → region_asked s command ≡ Some e.1.home
   asked-home command works = ap (λ o. region_asked_for s o (opened_in command)) works ∙ ap (option_map (λ (k : DictHome). k.home)) found-dict
@@ -182,18 +182,18 @@ module _ {I : Type 0} {V : I → Type 0} {meaning : (x : I) × V x → Disciplin
         ∙ (ap (set (dicts_in hs vs es) x.i) (entry-home dict same_dict) ∙ sym homes-after) in
         ap (λ x. made x (with_dict e.0 dict s.dicts)) homes ∙ ap (made (map home_of gs)) ds
 
-    relabel-after : (region : Layout ℕ) → region ≡ layout_in g.region → OfBest (relabel_layout (name_of h.labels) region) ≡ (home_of g).region
-    relabel-after region same = best-named (name_of h.labels) g.region region touch.best same ∙ ap (λ l. region_with_labels (name_of l) g.region) (sym labels)
+    relabel-after : (region : Layout ℕ) → region ≡ layout_in g.region → OfBest (relabel_layout (name_of_tag h.labels) region) ≡ (home_of g).region
+    relabel-after region same = best-named (name_of_tag h.labels) g.region region touch.best same ∙ ap (λ l. region_with_labels (name_of_tag l) g.region) (sym labels)
 
     pub step-after : (command : Command) (reply : Reply) (gone gone' : List Gone) (old told : Gone) → dict_command s command (need_shown reply) d (home_of h) is.rules ≡ dict_changed s d (home_of h) (in_dict (seat_at_home d (home_of h) is.rules) command (need_shown reply)) → GivesDict (in_dict tags command (need_shown reply)) (layout_in g.region) now reply old told → at_number gone e.1.dict.kind ≡ Some old → gone' ≡ set gone (e.1.dict.kind - 1) told → GivesStep (dict_step s e.0 command (need_shown reply)) gone reply after gone'
     step-after command reply gone gone' old told plain gives at_gone is_gone =
         let need = need_shown reply in
         let c : DictChanged ℕ = in_dict tags command need in
-        let same : dict_step s e.0 command need ≡ dict_changed s d (home_of h) (relabel_changed (name_of h.labels) c) =
+        let same : dict_step s e.0 command need ≡ dict_changed s d (home_of h) (relabel_changed (name_of_tag h.labels) c) =
         step-seat command need ∙ (plain ∙ ap (dict_changed s d (home_of h)) (changed-is command need)) in
         record {
           replied = ap (λ (t : Stepped). t.reply) same ∙ gives.reply;
-          state_after = ap (λ (t : Stepped). t.state) same ∙ state-after (OfBest (relabel_layout (name_of h.labels) c.region)) c.dict (relabel-after c.region gives.region) gives.dict;
+          state_after = ap (λ (t : Stepped). t.state) same ∙ state-after (OfBest (relabel_layout (name_of_tag h.labels) c.region)) c.dict (relabel-after c.region gives.region) gives.dict;
           told =
               is_gone
               ∙ (ap (set gone (e.1.dict.kind - 1)) gives.told
@@ -222,12 +222,12 @@ module _ {I : Type 0} {V : I → Type 0} {meaning : (x : I) × V x → Disciplin
     in-held command reply works lacks =
         let P = CommandLacks s command reply in
         let seat : LacksBy (seat_at_home d (home_of h) is.rules) command reply h.disc g.disc =
-        subst (λ q. LacksBy q command reply h.disc g.disc) (sym seat-is) (lacks-named (name_of h.labels) tags command reply h.disc g.disc lacks) in
+        subst (λ q. LacksBy q command reply h.disc g.disc) (sym seat-is) (lacks-named (name_of_tag h.labels) tags command reply h.disc g.disc lacks) in
         let one : DictLacks s command reply h.disc g.disc (Some d) =
         subst (λ o. SeatLacks command reply h.disc g.disc d o (at_number kinds e.1.dict.kind)) (sym found-home)
         (subst (λ o. SeatLacks command reply h.disc g.disc d (Some (home_of h)) o) (sym is.kind) seat) in
-        let at_dict : DictLacks s command reply h.disc g.disc (dict_at s (dict_of command)) =
-        subst (λ o. DictLacks s command reply h.disc g.disc (dict_at s o)) (sym works)
+        let at_dict : DictLacks s command reply h.disc g.disc (dict_in_state s (dict_of command)) =
+        subst (λ o. DictLacks s command reply h.disc g.disc (dict_in_state s o)) (sym works)
         (subst (DictLacks s command reply h.disc g.disc) (sym found-dict) one) in
         subst (λ o. InHeld (held_named hs o) (held_named gs o) P) (sym (asked-home command works))
         (subst (λ o. InHeld o (held_named gs (Some e.1.home)) P) (sym (found-held x))
@@ -250,28 +250,28 @@ module _ {I : Type 0} {V : I → Type 0} {meaning : (x : I) × V x → Disciplin
         dict-set hs vs es e.0 x.i e x.there first_dict d.dict ∙ set_same s.dicts x.i d (home-at hs vs es x.i e x.there) in
         ap (λ x. made x (with_dict e.0 d.dict s.dicts)) homes ∙ ap (made s.homes) ds
 
-    grew-for : (o : Outcome (Grown ℕ)) → HasGrown o (layout_in g.region) now → GrewFor (done_as (relabel_grown (name_of h.labels)) o) s d (home_of h) after
+    grew-for : (o : Outcome (Grown ℕ)) → HasGrown o (layout_in g.region) now → GrewFor (done_as (relabel_grown (name_of_tag h.labels)) o) s d (home_of h) after
     grew-for (model.Done x) grown =
-        sym (state-after (OfBest (relabel_layout (name_of h.labels) x.region)) x.dict (relabel-after x.region (sym grown.0)) (sym grown.1))
+        sym (state-after (OfBest (relabel_layout (name_of_tag h.labels) x.region)) x.dict (relabel-after x.region (sym grown.0)) (sym grown.1))
     grew-for (model.Refused why) grown = absurd grown
 
-    grew-by : (command : Command) → dict_of command ≡ Some e.0 → HasGrown (grow tags.terms tags.region tags.none tags.dict false) (layout_in g.region) now → GrewBy s (dict_at s (dict_of command)) after
+    grew-by : (command : Command) → dict_of command ≡ Some e.0 → HasGrown (grow tags.terms tags.region tags.none tags.dict false) (layout_in g.region) now → GrewBy s (dict_in_state s (dict_of command)) after
     grew-by command works grown =
-        let named = grow-named (name_of h.labels) tags.terms tags.region tags.none tags.dict false in
+        let named = grow-named (name_of_tag h.labels) tags.terms tags.region tags.none tags.dict false in
         let seat : GrewFor (grow h.disc.terms (layout_in (home_of h).region) None d.dict false) s d (home_of h) after =
         subst (λ (q : Seat Label). GrewFor (grow q.terms q.region q.none q.dict false) s d (home_of h) after) (sym seat-is)
         (subst (λ o. GrewFor o s d (home_of h) after) (sym named) (grew-for (grow tags.terms tags.region tags.none tags.dict false) grown)) in
-        subst (λ o. GrewBy s (dict_at s o) after) (sym works)
+        subst (λ o. GrewBy s (dict_in_state s o) after) (sym works)
         (subst (λ o. GrewBy s o after) (sym found-dict)
         (subst (λ o. GrewIn s d o after) (sym found-home) seat))
 
     -- with no memory
     same-after : (layout_in g.region ≡ tags.region) × (now ≡ tags.dict) → after ≡ s
     same-after same =
-        sym (state-after (home_of h).region d.dict (ap (region_with_labels (name_of h.labels)) (best-is h.region (best-there x)) ∙ relabel-after tags.region (sym same.0)) ((dict-is x) ∙ sym same.1))
+        sym (state-after (home_of h).region d.dict (ap (region_with_labels (name_of_tag h.labels)) (best-is h.region (best-there x)) ∙ relabel-after tags.region (sym same.0)) ((dict-is x) ∙ sym same.1))
         ∙ same-state
 
-    halted-after : (command : Command) → dict_of command ≡ Some e.0 → IsSpent tags (layout_in g.region) now → (after ≡ s) ⊎ GrewBy s (dict_at s (dict_of command)) after
+    halted-after : (command : Command) → dict_of command ≡ Some e.0 → IsSpent tags (layout_in g.region) now → (after ≡ s) ⊎ GrewBy s (dict_in_state s (dict_of command)) after
     halted-after command works (inl same) = inl (same-after same)
     halted-after command works (inr grown) = inr (grew-by command works grown)
 

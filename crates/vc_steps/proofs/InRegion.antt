@@ -13,7 +13,7 @@ use Rattle.vc_commands.specs.Held.{Held, cells_left, home_of}
 use Rattle.vc_steps.specs.Account.{StepLacks}
 use Rattle.vc_steps.specs.DictHomes.{lies_in}
 use Rattle.vc_commands.specs.FreedNames.{FreedNames}
-use Rattle.vc_commands.specs.Labels.{name_of}
+use Rattle.vc_commands.specs.Labels.{name_of_tag}
 use Rattle.vc_steps.specs.WantedSegments.{StepLacksFor}
 use Rattle.vc_commands.specs.Home.{Label, is_home}
 use Rattle.vc_steps.specs.State.{State}
@@ -47,12 +47,12 @@ lacks-plain s before after command reply plain lacks = tt
 -- the region is best, if it was
 pub run-best : {E : Type 0} (h k : Held) (line : ℕ) (command : Command) (r : Result Reply E) → IfOk r (λ reply. GivesRegion (in_region (home_of h) line command (need_shown reply)) ((home_of k).region, (home_of k).kept) reply) → OnErr r ((let p : Region Label × FreedNames = ((home_of k).region, (home_of k).kept) in p) ≡ ((home_of h).region, (home_of h).kept)) → is_best k.region ≡ is_best h.region
 run-best h k line command (Ok reply) ok err =
-    sym (relabelled-best (name_of k.labels) k.region)
+    sym (relabelled-best (name_of_tag k.labels) k.region)
     ∙ (ap (λ (r : Region Label). is_best r) (sym ok.region_after)
-    ∙ (region-best (home_of h) line command (need_shown reply) ∙ relabelled-best (name_of h.labels) h.region))
+    ∙ (region-best (home_of h) line command (need_shown reply) ∙ relabelled-best (name_of_tag h.labels) h.region))
 run-best h k line command (Err e) ok err =
-    sym (relabelled-best (name_of k.labels) k.region)
-    ∙ (ap (λ (p : Region Label × FreedNames). is_best p.0) err ∙ relabelled-best (name_of h.labels) h.region)
+    sym (relabelled-best (name_of_tag k.labels) k.region)
+    ∙ (ap (λ (p : Region Label × FreedNames). is_best p.0) err ∙ relabelled-best (name_of_tag h.labels) h.region)
 
 -- and each dictionary stays
 module _ (kinds : List Rules) (es : List Entry) (hs : List Held) (i : ℕ) (h k : Held) (at : slice_get hs i ≡ Some h) (name : k.name ≡ h.name) (r : List ℕ) (first : IsFirst (is_home r) (map home_of hs) i) where

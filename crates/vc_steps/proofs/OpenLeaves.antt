@@ -16,9 +16,9 @@ use Rattle.vc_views.specs.Views.{DictHome}
 use Rattle.vc_commands.specs.Home.{Home, Label, is_home}
 use Rattle.slab.specs.Slab.{slab_len}
 use Rattle.vc_commands.specs.declared.region.labels.Labels.{Labels}
-use Rattle.vc_commands.specs.Labels.{AreLabels, kept_of, name_of, tag_of}
+use Rattle.vc_commands.specs.Labels.{AreLabels, kept_of, name_of_tag, tag_of}
 use Rattle.vc_steps.specs.Account.{Account, IsSession, account, accounts, account_after, asked_of, settled_accounts, state_of}
-use Rattle.vc_commands.specs.Held.{Held, IsLive, IsNamed, home_of, tag_count}
+use Rattle.vc_commands.specs.Held.{Held, IsLive, AreLabelsOf, home_of, tag_count}
 use Rattle.vc_steps.specs.State.{not_here as why_not}
 use Rattle.vc_steps.proofs.Cells.{at_number-from_one, at_number_some, at_number-map, set_same}
 use Rattle.vc_commands.proofs.Answers.{front-out}
@@ -76,13 +76,13 @@ none_places bs e =
     })
 
 -- no names, of no block
-pub none-named : (r : Region ℕ) (labels : Labels) → AreNone labels → blocks_of r ≡ [] → IsNamed r labels
+pub none-named : (r : Region ℕ) (labels : Labels) → AreNone labels → blocks_of r ≡ [] → AreLabelsOf r labels
 none-named r labels none e =
     record {
       agree = none.agree;
       count = ap tag_count e ∙ sym none.count;
       live = subst (AllByRecursion (λ b. 1 ≤ b.label → IsLive labels b)) (sym e) tt;
-      known = λ x. ap is_some (none.names x) ∙ sym (has-label-any (name_of labels) x r ∙ ap (list_any (named_by (name_of labels) x)) e);
+      known = λ x. ap is_some (none.names x) ∙ sym (has-label-any (name_of_tag labels) x r ∙ ap (list_any (named_by (name_of_tag labels) x)) e);
       places = none_places (blocks_of r) e;
       none = λ keeps. none.kept;
     }
@@ -125,8 +125,8 @@ module _ (armed : Bool) (slots : Slots) (hs : List Held) (name : List ℕ) (n : 
 
   pub open_step-ok : (kinds : List Rules) (ds : List DictHome) → list_any (is_home name) (map home_of hs) ≡ false → open_step (state_of kinds slots hs ds) name m n ≡ step_with_reply (state_of kinds (set slots (n - 1) None) (hs ++ fresh name n d region cells labels ∷ []) ds) (Opened name)
   open_step-ok kinds ds new =
-      let r : Region Label = region_with_labels (name_of labels) region in
-      let same : r ≡ opened_region m = ap (region_with_labels (name_of labels)) is ∙ opened-relabelled (name_of labels) m in
+      let r : Region Label = region_with_labels (name_of_tag labels) region in
+      let same : r ≡ opened_region m = ap (region_with_labels (name_of_tag labels)) is ∙ opened-relabelled (name_of_tag labels) m in
       ap (λ q. cond (list_any (is_home name) (map home_of hs)) (step_with_refusal (state_of kinds slots hs ds) RegionExists) (opened_over (state_of kinds slots hs ds) name n q (at_number (state_of kinds slots hs ds).shelf n))) (sym same)
       ∙ (ap (λ b. cond b (step_with_refusal (state_of kinds slots hs ds) RegionExists) (opened_over (state_of kinds slots hs ds) name n r (at_number (state_of kinds slots hs ds).shelf n))) new
       ∙ (ap (opened_over (state_of kinds slots hs ds) name n r) (at_number-map (option_map (λ e. e.terms)) slots n ∙ ap (option_map (option_map (λ e. e.terms))) at)

@@ -2,9 +2,9 @@
 use Rattle.vc_base.proofs.Common.{◌≡◌, ℕ, ◌≤◌, Bool, true, false, cond, ◌||◌, List, [], ◌∷◌, length, nat_lt, filter, sym, refl, ap, ◌∙◌, subst, ⊎_elim, arith, nat_tests, cases_Bool, length-filter, AllByRecursion, list_any, Block, HaveOwnPlaces}
 use Rattle.vc_region.specs.Cells.{tagged_blocks}
 use Rattle.vc_region.specs.Region.{Region, blocks_of, keeps_freed, region_with_labels}
-use Rattle.vc_commands.specs.Held.{IsLive, IsNamed, tag_count}
+use Rattle.vc_commands.specs.Held.{IsLive, AreLabelsOf, tag_count}
 use Rattle.vc_commands.specs.Blocks.{has_label, is_name_of}
-use Rattle.vc_commands.specs.Labels.{name_of}
+use Rattle.vc_commands.specs.Labels.{name_of_tag}
 use Rattle.vc_commands.specs.declared.region.labels.Labels.{Labels}
 use Rattle.vc_commands.proofs.Names.{has-label-any, name-none, named_by}
 
@@ -47,7 +47,7 @@ no-tag : (b : Block ℕ) → has_tag b ≡ false → b.label ≡ 0
 no-tag b e = grind (arith, nat_tests, e)
 
 -- a block without a tag has no name
-no-name : (labels : Labels) (x : List ℕ) (b : Block ℕ) → has_tag b ≡ false → named_by (name_of labels) x b ≡ false
+no-name : (labels : Labels) (x : List ℕ) (b : Block ℕ) → has_tag b ≡ false → named_by (name_of_tag labels) x b ≡ false
 no-name labels x b e = ap (is_name_of x) (name-none labels b.label (no-tag b e))
 
 no-live : (labels : Labels) (b : Block ℕ) → has_tag b ≡ false → 1 ≤ b.label → IsLive labels b
@@ -57,19 +57,19 @@ tags-labelled : (r : Region ℕ) → tag_count (blocks_of r) ≡ length (tagged_
 tags-labelled r = sym (length-filter has_tag (blocks_of r))
 
 -- whether a block has a name, and which is the first, by the labelled blocks
-pub has-labelled : (labels : Labels) (x : List ℕ) (r : Region ℕ) → has_label x (region_with_labels (name_of labels) r) ≡ list_any (named_by (name_of labels) x) (tagged_blocks r)
-has-labelled labels x r = has-label-any (name_of labels) x r ∙ sym (any-kept has_tag (named_by (name_of labels) x) (no-name labels x) (blocks_of r))
+pub has-labelled : (labels : Labels) (x : List ℕ) (r : Region ℕ) → has_label x (region_with_labels (name_of_tag labels) r) ≡ list_any (named_by (name_of_tag labels) x) (tagged_blocks r)
+has-labelled labels x r = has-label-any (name_of_tag labels) x r ∙ sym (any-kept has_tag (named_by (name_of_tag labels) x) (no-name labels x) (blocks_of r))
 
 -- a region with the same labelled blocks, whatever its other blocks
 module _ (labels : Labels) (r r' : Region ℕ) (same : tagged_blocks r' ≡ tagged_blocks r) where
-  pub named-labelled : IsNamed r labels → HaveOwnPlaces (blocks_of r') → keeps_freed r' ≡ keeps_freed r → IsNamed r' labels
+  pub named-labelled : AreLabelsOf r labels → HaveOwnPlaces (blocks_of r') → keeps_freed r' ≡ keeps_freed r → AreLabelsOf r' labels
   named-labelled n places keeps =
       let live : Block ℕ → Type 0 = λ b. 1 ≤ b.label → IsLive labels b in
       record {
         agree = n.agree;
         count = tags-labelled r' ∙ (ap length same ∙ (sym (tags-labelled r) ∙ n.count));
         live = all-filled has_tag live (no-live labels) (blocks_of r') (subst (AllByRecursion live) (sym same) (all-kept has_tag live (blocks_of r) n.live));
-        known = λ x. n.known x ∙ (has-labelled labels x r ∙ (ap (list_any (named_by (name_of labels) x)) (sym same) ∙ sym (has-labelled labels x r')));
+        known = λ x. n.known x ∙ (has-labelled labels x r ∙ (ap (list_any (named_by (name_of_tag labels) x)) (sym same) ∙ sym (has-labelled labels x r')));
         places = places;
         none = λ e. n.none (sym keeps ∙ e);
       }

@@ -7,7 +7,7 @@ use Rattle.vc_region.specs.Region.{is_best}
 use Rattle.vc_script.specs.declared.refusal.Refusal.{Refusal}
 use Rattle.vc_script.specs.declared.refusal.Refusal.TheVariants as why
 use Rattle.vc_commands.specs.Held.{Held, home_of}
-use Rattle.vc_commands.specs.Labels.{name_of}
+use Rattle.vc_commands.specs.Labels.{name_of_tag}
 use Rattle.vc_commands.specs.RegionRun.{held_of}
 use Rattle.vc_commands.specs.declared.region.home.HomeEntry.{HomeEntry}
 use Rattle.vc_commands.specs.declared.region.labels.Labels.{Labels}
@@ -75,7 +75,7 @@ module _ {I : Type 0} {V : I → Type 0} (meaning : (x : I) × V x → Disciplin
 
     module _ (kind : is_kind s a.kind ≡ true) (v : HomeEntry I V) (value : slice_get (values_of homes) a.j ≡ Some v) where
       best : (t : Bool) → is_best (rest_in v.region) ≡ t → is_best (home_of (region v)).region ≡ t
-      best t is = best-relabelled (name_of labels_at.0) (rest_in v.region) ∙ is
+      best t is = best-relabelled (name_of_tag labels_at.0) (rest_in v.region) ∙ is
 
       pub why-method : is_best (rest_in v.region) ≡ false → IsWhy (Some why.WrongMethod)
       why-method is = is-why (Some why.WrongMethod) v value (refused-method s (home_of (region v)) a.name a.kind (exists false new) kind (best false is))

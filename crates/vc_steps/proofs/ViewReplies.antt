@@ -7,7 +7,7 @@ use Rattle.vc_script.specs.declared.command.Command.TheVariants.{Walk}
 use Rattle.vc_script.specs.declared.refusal.Refusal.TheVariants as why
 use Rattle.vc_script.specs.declared.reply.Reply.{Reply}
 use Rattle.vc_script.specs.declared.reply.Reply.TheVariants as reply
-use Rattle.vc_commands.specs.Looking.{found_by, found_reply, is_askable, look_answer, look_reply}
+use Rattle.vc_commands.specs.Looking.{found_by_command, found_reply, is_askable, look_answer, look_reply}
 use Rattle.vc_steps.specs.Dicts.{view_found, view_set, view_step, view_unless}
 use Rattle.vc_steps.specs.State.{State, Stepped, step_with_refusal}
 use Rattle.vc_views.specs.Views.{DictHome, are_like, dict_named, is_dict, is_too_deep, path_in, with_view}
@@ -51,7 +51,7 @@ module _ (P : Reply → Type 0) (nothing : P reply.Nothing) (found : (bytes : Li
 
     answer-any : (rules : Rules) (command : Command) (seen : List (Seen N)) → P (look_answer rules command seen)
     answer-any rules (Walk d) seen = objects _
-    answer-any rules command seen = found-any (found_by rules command seen)
+    answer-any rules command seen = found-any (found_by_command rules command seen)
 
     -- each reply that a look gives
     pub look-any : (rules : Rules) (command : Command) (seen : List (Seen N)) → P (look_reply rules command seen)

@@ -12,7 +12,7 @@ use Rattle.vc_views.specs.Views.{DictHome}
 use Rattle.vc_commands.specs.RegionCommands.{block_asked}
 use Rattle.vc_steps.specs.Step.{region_of_command}
 use Rattle.vc_script.specs.declared.command.Command.{Command}
-use Rattle.vc_commands.specs.Held.{out_without, Held, home_of, IsNamed, LacksSegment}
+use Rattle.vc_commands.specs.Held.{out_without, Held, home_of, AreLabelsOf, LacksSegment}
 
 -- how often a discipline was asked for an exception, and how often it made one
 abbrev pub asked_of : Discipline → ℕ × ℕ
@@ -55,7 +55,7 @@ pub record IsHeldFrom (armed : Bool) (shelf : List (Option Discipline)) (h : Hel
   pub place : at_number shelf h.place ≡ Some None
   pub armed_so : h.disc.exceptions.armed ≡ armed
   pub lent : HasOut h.disc (segments_of h.region)
-  pub names : IsNamed h.region h.labels
+  pub names : AreLabelsOf h.region h.labels
 
 -- the open region that a command works in
 abbrev pub held_named : List Held → Option (List ℕ) → Option Held

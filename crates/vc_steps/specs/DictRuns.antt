@@ -8,7 +8,7 @@ use Rattle.vc_seg.specs.declared.shelf.Shelf.{Shelf}
 use Rattle.vc_steps.specs.Dicts.{dict_step}
 use Rattle.vc_steps.specs.Homes.{IsSessionOver, settled_over, state_over}
 use Rattle.vc_steps.specs.Moment.{moment}
-use Rattle.vc_steps.specs.Steps.{Stays, StepsBy}
+use Rattle.vc_steps.specs.Steps.{KeepsSpent, StepsBy}
 use Rattle.vc_steps.specs.Told.{KeepRules, ended_told, gone_in, rules_in, tell}
 use Rattle.vc_steps.specs.declared.session.Session.{Session}
 
@@ -17,7 +17,7 @@ pub record RunsOn {I : Type 0} {V : I → Type 0} {D E : Type 0} (meaning : (x :
   -- as the definitions give it
   pub steps : StepsBy answer (moment meaning rules gone shelf session kinds) (moment meaning rules gone shelf session' kinds') command (λ s. dict_step s name command)
   -- and the session stands over the same shelf
-  pub stays : Stays meaning rules shelf session kinds shelf session' kinds'
+  pub stays : KeepsSpent meaning rules shelf session kinds shelf session' kinds'
 
 -- every dictionary of a session was ended
 pub record ShutsAll {I : Type 0} {V : I → Type 0} {D : Type 0} (meaning : (x : I) × V x → Discipline) (rules : D → Rules) (gone : D → Gone) (shelf : Shelf I V) (session : Session D I V) (kinds : List D) (session' : Session D I V) (kinds' : List D) : Type 0 where

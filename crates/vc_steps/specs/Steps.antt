@@ -69,7 +69,7 @@ pub record RunsOver {I : Type 0} {V : I → Type 0} {D : Type 0} (meaning : (x :
   pub runs : ran (moment meaning rules gone shelf session kinds) (moment meaning rules gone shelf' session' kinds')
 
 -- and whether it found no memory
-pub record Stays {I : Type 0} {V : I → Type 0} {D : Type 0} (meaning : (x : I) × V x → Discipline) (rules : D → Rules) (shelf : Shelf I V) (session : Session D I V) (kinds : List D) (shelf' : Shelf I V) (session' : Session D I V) (kinds' : List D) : Type 0 where
+pub record KeepsSpent {I : Type 0} {V : I → Type 0} {D : Type 0} (meaning : (x : I) × V x → Discipline) (rules : D → Rules) (shelf : Shelf I V) (session : Session D I V) (kinds : List D) (shelf' : Shelf I V) (session' : Session D I V) (kinds' : List D) : Type 0 where
   pub lasts : Lasts meaning rules shelf session kinds shelf' session' kinds'
   pub spent : session'.is_spent ≡ session.is_spent
 

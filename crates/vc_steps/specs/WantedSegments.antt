@@ -33,14 +33,14 @@ DictLacks s command reply old new None = ⊥
 DictLacks s command reply old new (Some d) =
     SeatLacks command reply old new d (home_named d.home s.homes) (at_number s.kinds d.kind)
 
-abbrev pub dict_at : State → Option (List ℕ) → Option DictHome
-dict_at s None = None
-dict_at s (Some d) = dict_named d s.dicts
+abbrev pub dict_in_state : State → Option (List ℕ) → Option DictHome
+dict_in_state s None = None
+dict_in_state s (Some d) = dict_named d s.dicts
 
 -- a table of 16 slots for a new dictionary, or what a command on one needs
 abbrev pub CommandLacks : State → Command → Reply → Discipline → Discipline → Type 0
 CommandLacks s (OpenDict d method r kind) reply old new = LacksTable (Some 16) old new
-CommandLacks s command reply old new = DictLacks s command reply old new (dict_at s (dict_of command))
+CommandLacks s command reply old new = DictLacks s command reply old new (dict_in_state s (dict_of command))
 
 abbrev pub InHeld : Option Held → Option Held → (Discipline → Discipline → Type 0) → Type 0
 InHeld (Some h) (Some g) P = P h.disc g.disc

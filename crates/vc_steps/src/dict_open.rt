@@ -10,7 +10,7 @@ ghost use Rattle.vc_views.specs.Numbers.{views_by};
 ghost use Rattle.vc_steps.specs.Homes.{IsSessionOver, held_in_session};
 ghost use Rattle.vc_steps.specs.Moment.{moment};
 ghost use Rattle.vc_steps.specs.Table.{TellsTable};
-ghost use Rattle.vc_steps.specs.Steps.{Stays, StepsBy};
+ghost use Rattle.vc_steps.specs.Steps.{KeepsSpent, StepsBy};
 ghost use Rattle.vc_steps.specs.Told.{rules_in};
 
 use crate::session::Session;
@@ -92,7 +92,7 @@ impl<D: DictDisc> Session<D> {
             (moment state D.rules D.gone shelf.now self.new kinds.now.items)
             (OpenDict name method region kind)
             (λ s. open_dict_step s name method region kind) }
-        ensures stays { Stays state D.rules shelf.now self.old kinds.now.items
+        ensures stays { KeepsSpent state D.rules shelf.now self.old kinds.now.items
             shelf.now self.new kinds.now.items }
     {
         let Some(j) = self.homes.get_index_of(&region) else {

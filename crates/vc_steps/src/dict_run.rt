@@ -8,7 +8,7 @@ ghost use Rattle.vc_steps.specs.Dicts.{dict_of, dict_step, runs_alone};
 ghost use Rattle.vc_views.specs.Numbers.{is_barred};
 ghost use Rattle.vc_steps.specs.Homes.{IsSessionOver};
 ghost use Rattle.vc_steps.specs.Moment.{moment};
-ghost use Rattle.vc_steps.specs.Steps.{Stays, StepsBy};
+ghost use Rattle.vc_steps.specs.Steps.{KeepsSpent, StepsBy};
 
 use crate::session::Session;
 use vc_base::{Name, OutOfMemory};
@@ -36,7 +36,7 @@ impl<D: DictDisc> Session<D> {
             (moment state D.rules D.gone shelf.now self.old kinds.old.items)
             (moment state D.rules D.gone shelf.now self.new kinds.new.items)
             command.now (λ s. dict_step s name.now command.now) }
-        ensures stays { Stays state D.rules shelf.now self.old kinds.old.items
+        ensures stays { KeepsSpent state D.rules shelf.now self.old kinds.old.items
             shelf.now self.new kinds.new.items }
     {
         let Some(i) = self.dict_index(name) else {

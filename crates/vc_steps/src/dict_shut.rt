@@ -2,7 +2,7 @@ ghost use Rattle.std.specs.Prelude.{◌≡◌, ℕ, ◌<◌, None, IfSome, false
 ghost use Rattle.vc_paths.specs.Links.{below, is_viewed};
 ghost use Rattle.vc_steps.specs.DictRuns.{ShutsAll};
 ghost use Rattle.vc_steps.specs.Homes.{IsSessionOver};
-ghost use Rattle.vc_steps.specs.Steps.{ShutsAt, Stays};
+ghost use Rattle.vc_steps.specs.Steps.{ShutsAt, KeepsSpent};
 
 use crate::session::Session;
 use vc_dtdisc::DictDisc;
@@ -20,7 +20,7 @@ impl<D: DictDisc> Session<D> {
             (λ e. is_viewed self.old.paths e.1.number ≡ false) }
         ensures shuts { ShutsAt state D.rules D.gone shelf.now self.old kinds.old.items
             self.new kinds.new.items i }
-        ensures stays { Stays state D.rules shelf.now self.old kinds.old.items
+        ensures stays { KeepsSpent state D.rules shelf.now self.old kinds.old.items
             shelf.now self.new kinds.new.items }
     {
         self.paths.show_invariant();

@@ -10,7 +10,7 @@ ghost use Rattle.vc_steps.specs.DictRuns.{RunsOn};
 ghost use Rattle.vc_steps.specs.Dicts.{dict_of, dict_step};
 ghost use Rattle.vc_steps.specs.Homes.{IsSessionOver, state_over};
 ghost use Rattle.vc_steps.specs.Moment.{moment};
-ghost use Rattle.vc_steps.specs.Steps.{Stays, Steps};
+ghost use Rattle.vc_steps.specs.Steps.{KeepsSpent, Steps};
 ghost use Rattle.vc_steps.specs.Told.{rules_in};
 
 use crate::session::Session;
@@ -38,7 +38,7 @@ impl<D: DictDisc> Session<D> {
             (View name.now viewed.now)
             (dict_step (state_over state (rules_in D.rules kinds.now.items) shelf.now self.old) name.now
             (View name.now viewed.now) (need_shown result)) result }
-        ensures stays { Stays state D.rules shelf.now self.old kinds.now.items
+        ensures stays { KeepsSpent state D.rules shelf.now self.old kinds.now.items
             shelf.now self.new kinds.now.items }
     {
         show_names(&self.dicts);
@@ -85,7 +85,7 @@ impl<D: DictDisc> Session<D> {
             command.now
             (dict_step (state_over state (rules_in D.rules kinds.now.items) shelf.now self.old) name.now
             command.now (need_shown reply.new)) reply.new }
-        ensures stays { Stays state D.rules shelf.now self.old kinds.now.items
+        ensures stays { KeepsSpent state D.rules shelf.now self.old kinds.now.items
             shelf.now self.new kinds.now.items }
     {
         match command {

@@ -12,7 +12,7 @@ ghost use Rattle.vc_steps.specs.Dicts.{dict_of};
 ghost use Rattle.vc_paths.specs.Links.{no_links};
 ghost use Rattle.vc_steps.specs.Moment.{moment, moment_by};
 ghost use Rattle.vc_steps.specs.Step.{is_clear, region_of_command, shelf_step, step, step_of};
-ghost use Rattle.vc_steps.specs.Steps.{Lasts, Stays, StepsBy};
+ghost use Rattle.vc_steps.specs.Steps.{Lasts, KeepsSpent, StepsBy};
 ghost use Rattle.vc_steps.specs.Told.{KeepRules, ended_told, gone_in, rules_in, tell};
 
 use crate::arming::arm;
@@ -182,7 +182,7 @@ impl<D: DictDisc> Session<D> {
             (moment state D.rules D.gone shelf.old self.old kinds.now.items)
             (moment state D.rules D.gone shelf.new self.new kinds.now.items)
             command.now (λ s. shelf_step s command.now) }
-        ensures stays { Stays state D.rules shelf.old self.old kinds.now.items
+        ensures stays { KeepsSpent state D.rules shelf.old self.old kinds.now.items
             shelf.new self.new kinds.now.items }
     {
         match command {
@@ -260,7 +260,7 @@ impl<D: DictDisc> Session<D> {
             (moment state D.rules D.gone shelf.old self.old kinds.old.items)
             (moment state D.rules D.gone shelf.new self.new kinds.new.items)
             command.now (λ s. step s line command.now) }
-        ensures stays { Stays state D.rules shelf.old self.old kinds.old.items
+        ensures stays { KeepsSpent state D.rules shelf.old self.old kinds.old.items
             shelf.new self.new kinds.new.items }
     {
         let target = command.target();
@@ -286,7 +286,7 @@ impl<D: DictDisc> Session<D> {
             (moment state D.rules D.gone shelf.old self.old kinds.old.items)
             (moment state D.rules D.gone shelf.new self.new kinds.new.items)
             command.now (λ s. step s line command.now) }
-        ensures stays { Stays state D.rules shelf.old self.old kinds.old.items
+        ensures stays { KeepsSpent state D.rules shelf.old self.old kinds.old.items
             shelf.new self.new kinds.new.items }
     {
         match own_dict(command) {

@@ -13,7 +13,7 @@ use Rattle.vc_paths.specs.Links.{Links}
 use Rattle.vc_paths.specs.Path.{IsPath, visible_of}
 use Rattle.vc_paths.specs.Visible.{Seen}
 use Rattle.vc_paths.proofs.SightLemmas.{IsThere, all-found, all-last, visible-there}
-use Rattle.vc_commands.specs.Looking.{found_by, is_askable, look_found, own_place}
+use Rattle.vc_commands.specs.Looking.{found_by_command, is_askable, look_found, own_place}
 use Rattle.vc_commands.specs.declared.dict.entry.DictEntry.{DictEntry}
 use Rattle.vc_commands.specs.declared.region.home.HomeEntry.{HomeEntry}
 use Rattle.vc_script.specs.declared.command.Command.{Command}
@@ -43,7 +43,7 @@ all-before P o test [] x b h e = absurd (none-some x e)
 all-before P o test (y ∷ ys) x b h e =
     behind-by P (test y) o (before_first_from (Some y) test ys) x b (λ k. all-before P (Some y) test ys x (λ z. subst P (same_Some y x z) h.0) h.1 k) e
 
-found-one : {N : Type 0} (P : Seen N → Type 0) (rules : Rules) (command : Command) (seen : List (Seen N)) (o : Seen N) → AllByRecursion P seen → found_by rules command seen ≡ Some o → P o
+found-one : {N : Type 0} (P : Seen N → Type 0) (rules : Rules) (command : Command) (seen : List (Seen N)) (o : Seen N) → AllByRecursion P seen → found_by_command rules command seen ≡ Some o → P o
 found-one P rules (Search d bytes) seen o h e = (all-found P _ seen o h e).0
 found-one P rules (MatchKey d key) seen o h e = (all-found P _ seen o h e).0
 found-one P rules (First d) seen o h e = all-first P seen o h e
@@ -67,8 +67,8 @@ module _ (all : Layered) (links : Links) (d : ℕ) (lawful : AreLayers all) (pat
   own-one None there e = absurd (none-some a e)
   own-one (Some o) there e = own-by (o.dict == d) o refl (there o refl) e
 
-  look-one : (t : Bool) → own_place (λ e. e == d) (cond t (found_by rules command (visible_of all links d)) None) ≡ Some a → IsSome (bytes_there a (all.layer d).objects)
-  look-one true e = own-one (found_by rules command (visible_of all links d)) (λ o k. found-one (IsThere all d) rules command (visible_of all links d) o seen-there k) e
+  look-one : (t : Bool) → own_place (λ e. e == d) (cond t (found_by_command rules command (visible_of all links d)) None) ≡ Some a → IsSome (bytes_there a (all.layer d).objects)
+  look-one true e = own-one (found_by_command rules command (visible_of all links d)) (λ o k. found-one (IsThere all d) rules command (visible_of all links d) o seen-there k) e
   look-one false e = absurd (none-some a e)
 
   pub own-there : own_place (λ e. e == d) (look_found rules command (visible_of all links d)) ≡ Some a → IsSome (bytes_there a (all.layer d).objects)

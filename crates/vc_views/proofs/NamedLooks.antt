@@ -8,30 +8,30 @@ use Rattle.vc_script.specs.declared.command.Command.{Command}
 use Rattle.vc_script.specs.declared.command.Command.TheVariants.{Search, MatchKey, First, Last, Next, Prev, Walk}
 use Rattle.vc_script.specs.declared.refusal.Refusal.TheVariants as why
 use Rattle.vc_script.specs.declared.reply.Reply.TheVariants.{Objects, Refused}
-use Rattle.vc_commands.specs.Looking.{found_by, found_reply, is_askable, look_answer, look_found, look_reply, own_place}
+use Rattle.vc_commands.specs.Looking.{found_by_command, found_reply, is_askable, look_answer, look_found, look_reply, own_place}
 
 module _ {N M : Type 0} (r : N → M) where
-  found_by-renamed : (rules : Rules) (command : Command) (seen : List (Seen N)) → found_by rules command (map (rename r) seen) ≡ option_map (rename r) (found_by rules command seen)
-  found_by-renamed rules (Search d bytes) seen = first_with-map (rename r) seen_bytes rules (rules.key bytes) seen
-  found_by-renamed rules (MatchKey d key) seen = first_with-map (rename r) seen_bytes rules key seen
-  found_by-renamed rules (First d) seen = first_of-map (rename r) seen
-  found_by-renamed rules (Last d) seen = last_of-map (rename r) seen
-  found_by-renamed rules (Next d bytes) seen = behind_key-map (rename r) seen_bytes rules (rules.key bytes) seen
-  found_by-renamed rules (Prev d bytes) seen = before_key-map (rename r) seen_bytes rules (rules.key bytes) seen
-  found_by-renamed rules command seen = refl
+  found_by_command-renamed : (rules : Rules) (command : Command) (seen : List (Seen N)) → found_by_command rules command (map (rename r) seen) ≡ option_map (rename r) (found_by_command rules command seen)
+  found_by_command-renamed rules (Search d bytes) seen = first_with-map (rename r) seen_bytes rules (rules.key bytes) seen
+  found_by_command-renamed rules (MatchKey d key) seen = first_with-map (rename r) seen_bytes rules key seen
+  found_by_command-renamed rules (First d) seen = first_of-map (rename r) seen
+  found_by_command-renamed rules (Last d) seen = last_of-map (rename r) seen
+  found_by_command-renamed rules (Next d bytes) seen = behind_key-map (rename r) seen_bytes rules (rules.key bytes) seen
+  found_by_command-renamed rules (Prev d bytes) seen = before_key-map (rename r) seen_bytes rules (rules.key bytes) seen
+  found_by_command-renamed rules command seen = refl
 
   -- the same object is found, renamed
   pub look_found-renamed : (rules : Rules) (command : Command) (seen : List (Seen N)) → look_found rules command (map (rename r) seen) ≡ option_map (rename r) (look_found rules command seen)
   look_found-renamed rules command seen =
-      option_by (rename r) (is_askable command) (found_by rules command seen) None (found_by rules command (map (rename r) seen)) None
-      (found_by-renamed rules command seen) refl
+      option_by (rename r) (is_askable command) (found_by_command rules command seen) None (found_by_command rules command (map (rename r) seen)) None
+      (found_by_command-renamed rules command seen) refl
 
   found_reply-renamed : (o : Option (Seen N)) → found_reply (option_map (rename r) o) ≡ found_reply o
   found_reply-renamed None = refl
   found_reply-renamed (Some o) = refl
 
-  found-renamed : (rules : Rules) (command : Command) (seen : List (Seen N)) → found_reply (found_by rules command (map (rename r) seen)) ≡ found_reply (found_by rules command seen)
-  found-renamed rules command seen = ap (λ o. found_reply o) (found_by-renamed rules command seen) ∙ found_reply-renamed (found_by rules command seen)
+  found-renamed : (rules : Rules) (command : Command) (seen : List (Seen N)) → found_reply (found_by_command rules command (map (rename r) seen)) ≡ found_reply (found_by_command rules command seen)
+  found-renamed rules command seen = ap (λ o. found_reply o) (found_by_command-renamed rules command seen) ∙ found_reply-renamed (found_by_command rules command seen)
 
   look_answer-renamed : (rules : Rules) (command : Command) (seen : List (Seen N)) → look_answer rules command (map (rename r) seen) ≡ look_answer rules command seen
   look_answer-renamed rules (Walk d) seen = ap (λ objects. Objects objects) (map-map seen_bytes (rename r) seen)

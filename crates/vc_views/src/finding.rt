@@ -9,7 +9,7 @@ ghost use Rattle.vc_paths.specs.Layers.{bytes_there};
 ghost use Rattle.vc_views.specs.Dicts.{AreDictsOver, home_rest, layer_of, region_seen};
 ghost use Rattle.vc_views.specs.Leaves.{IsBestNamed, LooksAt};
 ghost use Rattle.vc_views.specs.Promises.{LeavesDicts, cells_under, layered_over};
-ghost use Rattle.vc_views.specs.Sides.{CanCompare, CanStand, holder_like, holder_to, last_place, place_like, place_to};
+ghost use Rattle.vc_views.specs.Sides.{CanCompare, CanStand, holder_like, holder_to, last_match_place, place_like, place_to};
 ghost use Rattle.vc_commands.specs.declared.dict.entry.DictEntry.{DictEntry as Entry};
 
 use crate::near::index_near;
@@ -216,7 +216,7 @@ pub(crate) fn last_at<D: DictDisc, L>(
     ensures found { (e : List ℕ × Entry) (bytes : List ℕ) → slice_get dicts.old.entries i ≡ Some e
         → bytes_there at.0 (layer_of (map D.rules kinds.now.items)
         (map region_seen homes.old.entries) e).objects ≡ Some bytes
-        → Some result.0 ≡ last_place (layer_of (map D.rules kinds.now.items)
+        → Some result.0 ≡ last_match_place (layer_of (map D.rules kinds.now.items)
         (map region_seen homes.old.entries) e) bytes }
     ensures leaves { LeavesDicts (map D.rules kinds.now.items)
         homes.old.entries homes.new.entries dicts.old.entries dicts.new.entries }

@@ -4,7 +4,7 @@ use Rattle.vc_base.specs.Address.{number_of}
 use Rattle.vc_base.specs.declared.addr.Addr.{Addr}
 use Rattle.vc_paths.specs.Layers.{Layered}
 use Rattle.vc_paths.specs.Links.{Links}
-use Rattle.vc_paths.specs.Path.{IsPath, IsVisible, numbers_of}
+use Rattle.vc_paths.specs.Path.{IsPath}
 use Rattle.vc_paths.specs.Shown.{IsPlaceIn}
 use Rattle.vc_commands.specs.declared.dict.entry.DictEntry.{DictEntry}
 use Rattle.vc_views.specs.Dicts.{number_in}
@@ -20,10 +20,6 @@ AreFourPaths all links = (d : ℕ) → d < 4 → IsPath all links d
 -- a place that there may be is one of an object of a dictionary
 abbrev pub IsPlaced : Layered → ℕ → Option Addr → Type 0
 IsPlaced all d at = IsPlaceIn (all.layer d).objects (option_map number_of at)
-
--- a place that there may be is one of an object that is seen
-abbrev pub IsSeen : Layered → Links → ℕ → Option (ℕ × Addr) → Type 0
-IsSeen all links d at = (p : ℕ × Addr) → at ≡ Some p → IsVisible all links d (numbers_of p)
 
 -- at each of the first indices stands the dictionary of that number
 abbrev pub AreInOrder : ℕ → List (List ℕ × DictEntry) → Type 0

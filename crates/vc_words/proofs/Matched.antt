@@ -11,7 +11,7 @@ use Rattle.clap.specs.Matches.{first_value}
 use Rattle.clap.specs.Walk.{finished, nothing_held, walk, walk_from}
 use Rattle.clap.specs.Words.{Row, Text, fault_of, first_of, is_simple, is_simple_and_free, matches_of, rows_of, takes}
 use Rattle.clap.specs.declared.parser.matches.Found.{Found}
-use Rattle.vc_words.specs.Words.{asked, command, count_of, has_flag, read_if_given, spelled, words_of}
+use Rattle.vc_words.specs.Words.{asked, command, read_count, has_flag, read_if_given, spelled, words_of}
 use Rattle.vc_words.proofs.Faultless.{none_of_both, settle_holds, walk_holds}
 use Rattle.vc_words.specs.declared.words.Words.{Words}
 
@@ -56,7 +56,7 @@ asked_by quiet stat generate seed =
 
 pub asked_is : (rows : List Row) (quiet stat : Bool) (generate seed : Option (Option ℕ))
     → quiet ≡ has_flag (codes "quiet") rows → stat ≡ has_flag (codes "stat") rows
-    → generate ≡ read_if_given count_of (first_of (codes "gen") rows) → seed ≡ read_if_given spelled (first_of (codes "seed") rows)
+    → generate ≡ read_if_given read_count (first_of (codes "gen") rows) → seed ≡ read_if_given spelled (first_of (codes "seed") rows)
     → asked_by quiet stat generate seed ≡ asked rows
 asked_is rows quiet stat generate seed q s g k = λ i. asked_by (q i) (s i) (g i) (k i)
 

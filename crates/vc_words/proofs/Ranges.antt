@@ -1,7 +1,7 @@
 -- The range of a count that is asked for.
 use Rattle.vc_base.proofs.Common.{◌≡◌, ℕ, ◌≤◌, Bool, true, false, cond, ◌&&◌, List, IfSome, nat_le, Some, None, codes, Option, option_map, option_and_then, refl, leb-true}
 use Rattle.clap.specs.Words.{Row, Text, first_of, matches_of, takes}
-use Rattle.vc_words.specs.Words.{asked, command, count_of, command_count, has_flag, read_if_given, spelled, words_of}
+use Rattle.vc_words.specs.Words.{asked, command, read_count, command_count, has_flag, read_if_given, spelled, words_of}
 use Rattle.vc_words.proofs.Matched.{asked_by}
 
 abbrev IsCount : ℕ → Type 0
@@ -19,9 +19,9 @@ count_in_range : (number : Option ℕ) → IfSome (option_and_then command_count
 count_in_range None = tt
 count_in_range (Some n) = counted_in_range n
 
-read_in_range : (text : Option Text) → IfSome (read_if_given count_of text) (λ count. IfSome count IsCount)
+read_in_range : (text : Option Text) → IfSome (read_if_given read_count text) (λ count. IfSome count IsCount)
 read_in_range None = tt
-read_in_range (Some text) = go (count_of text) (count_in_range (spelled text))
+read_in_range (Some text) = go (read_count text) (count_in_range (spelled text))
   where
     go : (count : Option ℕ) → IfSome count IsCount → IfSome (option_map (λ n. Some n) count) (λ count. IfSome count IsCount)
     go None range = tt
@@ -29,7 +29,7 @@ read_in_range (Some text) = go (count_of text) (count_in_range (spelled text))
 
 asked_in_range : (rows : List Row) → IfSome (asked rows) (λ w. IfSome w.generate IsCount)
 asked_in_range rows =
-    go (has_flag (codes "quiet") rows) (has_flag (codes "stat") rows) (read_if_given count_of (first_of (codes "gen") rows)) (read_if_given spelled (first_of (codes "seed") rows)) (read_in_range (first_of (codes "gen") rows))
+    go (has_flag (codes "quiet") rows) (has_flag (codes "stat") rows) (read_if_given read_count (first_of (codes "gen") rows)) (read_if_given spelled (first_of (codes "seed") rows)) (read_in_range (first_of (codes "gen") rows))
   where
     go : (quiet stat : Bool) (count seed : Option (Option ℕ)) → IfSome count (λ count. IfSome count IsCount)
         → IfSome (asked_by quiet stat count seed) (λ w. IfSome w.generate IsCount)

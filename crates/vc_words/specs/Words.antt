@@ -5,7 +5,7 @@ use Rattle.std.specs.Result.{result_ok}
 use Rattle.clap.specs.Words.{App, Row, Rule, Text, first_of, matches_of, new_app, new_rule, one_of, takes, with_rule}
 use Rattle.clap.specs.Simple.{on_top}
 use Rattle.clap.specs.declared.builder.action.ArgAction.TheVariants.{Set, SetTrue}
-use Rattle.vc_script.specs.Forms.{number_of}
+use Rattle.vc_script.specs.Forms.{read_number}
 use Rattle.vc_script.specs.Words.{is_between}
 use Rattle.vc_words.specs.declared.words.Words.{Words}
 
@@ -34,15 +34,15 @@ command = fold with_rule bare_command options
 
 -- the number that a text spells, by the rule of scripts
 abbrev pub spelled : Text → Option ℕ
-spelled text = result_ok (number_of text)
+spelled text = result_ok (read_number text)
 
 -- a count of commands is a number from 1 to 1,000,000
 abbrev pub command_count : ℕ → Option ℕ
 command_count n = if is_between 1 1000000 n then Some n else None
 
 -- the count that a text spells
-abbrev pub count_of : Text → Option ℕ
-count_of text = option_and_then command_count (spelled text)
+abbrev pub read_count : Text → Option ℕ
+read_count text = option_and_then command_count (spelled text)
 
 -- what is read of a text, which may be missing; none where it can't be read
 abbrev pub read_if_given : (Text → Option ℕ) → Option Text → Option (Option ℕ)
@@ -62,7 +62,7 @@ asked rows =
       generate = generate;
       seed = unwrap_or seed 0;
     }) (read_if_given spelled (first_of (codes "seed") rows)))
-    (read_if_given count_of (first_of (codes "gen") rows))
+    (read_if_given read_count (first_of (codes "gen") rows))
 
 -- what the words ask for; none where they are refused
 abbrev pub words_of : List Text → Option Words

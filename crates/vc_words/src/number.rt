@@ -1,5 +1,5 @@
 ghost use Rattle.std.specs.Prelude.{◌≡◌, option_map};
-ghost use Rattle.vc_words.specs.Words.{count_of, read_if_given, spelled};
+ghost use Rattle.vc_words.specs.Words.{read_count, read_if_given, spelled};
 
 use vc_script::number_of;
 
@@ -12,7 +12,7 @@ fn spelled(text: &str) -> Option<u32>
 
 // The count of commands that a text spells.
 fn count_of(text: &str) -> Option<u32>
-    ensures { result ≡ count_of text.now }
+    ensures { result ≡ read_count text.now }
 {
     let n = spelled(text)?;
     if 1 <= n && n <= 1_000_000 {
@@ -24,7 +24,7 @@ fn count_of(text: &str) -> Option<u32>
 
 // The count of commands, where a text is given for it.
 pub(crate) fn count_if_given(text: Option<&str>) -> Option<Option<u32>>
-    ensures { result ≡ read_if_given count_of (option_map (λ t. t.now) text.entry) }
+    ensures { result ≡ read_if_given read_count (option_map (λ t. t.now) text.entry) }
 {
     match text {
         None => Some(None),

@@ -7,7 +7,7 @@ ghost use Rattle.vc_paths.specs.Path.{Answers, IsPath, visible_of};
 ghost use Rattle.vc_paths.specs.Unchanged.{Unchanged};
 ghost use Rattle.vc_paths.specs.Visible.{seen_bytes};
 ghost use Rattle.vc_commands.specs.DictCommands.{is_object};
-ghost use Rattle.vc_commands.specs.Looking.{found_by, found_reply, is_askable, is_look, look_place, look_reply, own_place};
+ghost use Rattle.vc_commands.specs.Looking.{found_by_command, found_reply, is_askable, is_look, look_place, look_reply, own_place};
 
 use crate::Uncounted;
 use std::alloc::Global;
@@ -101,7 +101,7 @@ fn found<Y: Layers, D: DictDisc>(
 ) -> Option<(u32, Addr)>
     requires path { IsPath (Y.layered layers.old) paths.now d }
     requires rules { D.rules kind.now ≡ ((Y.layered layers.old).layer d).rules }
-    ensures found { Answers result (found_by (D.rules kind.now) command.now
+    ensures found { Answers result (found_by_command (D.rules kind.now) command.now
         (visible_of (Y.layered layers.old) paths.now d)) }
     ensures unchanged { Unchanged Y.Layers layers.old layers.new }
 {

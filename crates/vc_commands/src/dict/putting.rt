@@ -9,8 +9,8 @@ ghost use Rattle.vc_objects.specs.Parts.{IsWhole, dictionary_in};
 ghost use Rattle.vc_objects.specs.Promises.{CanAsk, CanPut, IsStill};
 ghost use Rattle.vc_commands.specs.Answered.{answered};
 ghost use Rattle.vc_commands.specs.DictCommands.{append_in, attach_in, fate_reply, insert_in, insert_made_in};
-ghost use Rattle.vc_commands.specs.DictCommands.{put_object, standing};
-ghost use Rattle.vc_commands.specs.DictRun.{IsOfHolder, IsSpent, RunsDict, object_there, seat_in};
+ghost use Rattle.vc_commands.specs.DictCommands.{put_object, matched_in_set};
+ghost use Rattle.vc_commands.specs.DictRun.{IsOfHolder, IsSpent, RunsDict, object_in_holder, seat_in};
 
 use crate::Uncounted;
 use crate::dict::looking::{filled, is_object};
@@ -72,7 +72,7 @@ fn standing<D: DictDisc>(
 ) -> Option<Addr>
     requires whole { IsWhole (D.rules kind.now) dict.old (cells_in best.old) }
 
-    ensures found { object_there best.new result ≡ standing
+    ensures found { object_in_holder best.new result ≡ matched_in_set
         (seat_in state (D.rules kind.now) best.old dict.old) object.now }
     ensures within { IsOfHolder dict.new best.new result }
     ensures looks { Looks state (D.rules kind.now) best.old dict.old best.new dict.new }

@@ -4,9 +4,9 @@ ghost use Rattle.vc_base.specs.Prelude.{HasOut, NoneRefused};
 ghost use Rattle.vc_region.specs.Cells.{rest_in};
 ghost use Rattle.vc_region.specs.Parts.{disc_in};
 ghost use Rattle.vc_region.specs.Region.{damaged_in, is_debug, is_profile, region_with_labels, rows_in, segments_of};
-ghost use Rattle.vc_commands.specs.Held.{IsNamed, home_of};
+ghost use Rattle.vc_commands.specs.Held.{AreLabelsOf, home_of};
 ghost use Rattle.vc_commands.specs.Audit.{check_in, damage_item, is_poke, poke_in, profile_in, watch_in};
-ghost use Rattle.vc_commands.specs.Labels.{name_of};
+ghost use Rattle.vc_commands.specs.Labels.{name_of_tag};
 ghost use Rattle.vc_commands.specs.Home.{reply_alone};
 
 use crate::region::blocks::no_block;
@@ -49,7 +49,7 @@ fn damage_items(
 ) -> Result<Vec<(Name, i64)>, OutOfMemory>
     requires method { is_debug (rest_in region.now) ≡ true }
     ensures { IfOk result (λ v. v.items ≡ filter_map damage_item
-        (damaged_in (region_with_labels (name_of labels.now) (rest_in region.now)))) }
+        (damaged_in (region_with_labels (name_of_tag labels.now) (rest_in region.now)))) }
 {
     let mut items = Vec::new(alloc);
     let mut after = Addr::NONE;
@@ -83,7 +83,7 @@ impl HomeEntry {
 
     // Puts one byte into a block or its guards, in a debug region.
     pub(crate) fn poke(&mut self, labels: &Labels, name: &Name, off: i64, byte: u32) -> Reply
-        requires names { IsNamed (rest_in self.old.region) labels.now }
+        requires names { AreLabelsOf (rest_in self.old.region) labels.now }
         requires lent { HasOut (disc_in state self.old.region)
             (segments_of (rest_in self.old.region)) }
 
@@ -117,7 +117,7 @@ impl HomeEntry {
         name: &Name,
         line: u32,
     ) -> Result<Reply, OutOfMemory>
-        requires names { IsNamed (rest_in self.old.region) labels.now }
+        requires names { AreLabelsOf (rest_in self.old.region) labels.now }
         requires lent { HasOut (disc_in state self.old.region)
             (segments_of (rest_in self.old.region)) }
 
@@ -137,7 +137,7 @@ impl HomeEntry {
 
     // Lists the damaged blocks by address, in a debug region.
     pub(crate) fn check(&self, labels: &Labels, alloc: Global) -> Result<Reply, OutOfMemory>
-        requires names { IsNamed (rest_in self.now.region) labels.now }
+        requires names { AreLabelsOf (rest_in self.now.region) labels.now }
         ensures { IfOk result (λ reply. (r : List ℕ)
             → check_in (home_of (held_of state r self.now labels.now))
             ≡ reply_alone (home_of (held_of state r self.now labels.now)) reply) }

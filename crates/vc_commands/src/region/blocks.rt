@@ -6,9 +6,9 @@ ghost use Rattle.vc_region.specs.Cells.{rest_in};
 ghost use Rattle.vc_region.specs.Parts.{disc_in};
 ghost use Rattle.vc_region.specs.Region.{segments_of};
 ghost use Rattle.vc_commands.specs.Answered.{answered};
-ghost use Rattle.vc_commands.specs.Held.{IsNamed};
-ghost use Rattle.vc_commands.specs.Blocks.{align_in, align_refused, alloc_in, fault_of, free_in, is_align, is_size, no_block, script_refusal, resize_in, site_of, size_refused};
-ghost use Rattle.vc_commands.specs.FreedNames.{line_of};
+ghost use Rattle.vc_commands.specs.Held.{AreLabelsOf};
+ghost use Rattle.vc_commands.specs.Blocks.{align_in, align_refused, alloc_in, fault_of, free_named, is_align, is_size, no_block, script_refusal, resize_named, site_or_hyphen, size_refused};
+ghost use Rattle.vc_commands.specs.FreedNames.{freed_line};
 ghost use Rattle.vc_commands.specs.Labels.{AreLabels, kept_of, tag_of};
 ghost use Rattle.vc_commands.specs.Naming.{NamesPut, TellsFault, new_refused};
 ghost use Rattle.vc_commands.specs.RegionCommands.{is_for_block};
@@ -63,7 +63,7 @@ fn align_refused(region: &Region, size: u32, align: u32) -> Option<Refusal>
 
 // The site of an allocation; a hyphen where the command has none.
 fn site_of(site: &Option<Name>) -> &[u8]
-    ensures value { result.now ≡ site_of site.now }
+    ensures value { result.now ≡ site_or_hyphen site.now }
     ensures least { 1 ≤ length result.now }
     ensures most { length result.now ≤ 32 }
 {
@@ -121,7 +121,7 @@ fn new_refused(labels: &Labels, name: &Name, words: Option<Refusal>) -> Option<R
 
 // Why there is no block of that name: it was freed at a line, or the name isn't kept.
 pub(crate) fn no_block(labels: &Labels, name: &Name) -> Refusal
-    ensures value { result ≡ no_block (line_of name.now (kept_of labels.now)) }
+    ensures value { result ≡ no_block (freed_line name.now (kept_of labels.now)) }
     ensures granted { result ≡ Refusal.NoSegment → ⊥ }
 {
     match labels.freed(name) {
@@ -167,7 +167,7 @@ impl HomeEntry {
         size: u32,
         reply: &mut Reply,
     ) -> Result<(), OutOfMemory>
-        requires names { IsNamed (rest_in self.old.region) labels.old }
+        requires names { AreLabelsOf (rest_in self.old.region) labels.old }
         requires lent { HasOut (disc_in state self.old.region)
             (segments_of (rest_in self.old.region)) }
 
@@ -202,7 +202,7 @@ impl HomeEntry {
         align: u32,
         reply: &mut Reply,
     ) -> Result<(), OutOfMemory>
-        requires names { IsNamed (rest_in self.old.region) labels.old }
+        requires names { AreLabelsOf (rest_in self.old.region) labels.old }
         requires lent { HasOut (disc_in state self.old.region)
             (segments_of (rest_in self.old.region)) }
 
@@ -238,12 +238,12 @@ impl HomeEntry {
         may_move: bool,
         reply: &mut Reply,
     ) -> Result<(), OutOfMemory>
-        requires names { IsNamed (rest_in self.old.region) labels.old }
+        requires names { AreLabelsOf (rest_in self.old.region) labels.old }
         requires lent { HasOut (disc_in state self.old.region)
             (segments_of (rest_in self.old.region)) }
 
         ensures runs { RunsHome state (answered result reply.new)
-            (λ h need. resize_in h name.now size may_move (is_for_block need))
+            (λ h need. resize_named h name.now size may_move (is_for_block need))
             (Some (size, 32)) self.old labels.old self.new labels.new }
         ensures change { ChangesRegion state self.old labels.old self.new labels.new }
     {
@@ -274,12 +274,12 @@ impl HomeEntry {
         line: u32,
         reply: &mut Reply,
     ) -> Result<(), OutOfMemory>
-        requires names { IsNamed (rest_in self.old.region) labels.old }
+        requires names { AreLabelsOf (rest_in self.old.region) labels.old }
         requires lent { HasOut (disc_in state self.old.region)
             (segments_of (rest_in self.old.region)) }
 
         ensures runs { RunsHome state (answered result reply.new)
-            (λ h need. free_in h name.now line) None self.old labels.old self.new labels.new }
+            (λ h need. free_named h name.now line) None self.old labels.old self.new labels.new }
         ensures change { ChangesRegion state self.old labels.old self.new labels.new }
     {
         let Some(at) = find_block(&self.region, labels, name) else {

@@ -3,8 +3,8 @@ ghost use Rattle.vc_base.specs.Prelude.{HasOut, NoneRefused};
 ghost use Rattle.vc_region.specs.Cells.{rest_in};
 ghost use Rattle.vc_region.specs.Parts.{disc_in};
 ghost use Rattle.vc_region.specs.Region.{segments_of};
-ghost use Rattle.vc_commands.specs.Held.{IsNamed};
-ghost use Rattle.vc_commands.specs.Blocks.{read_in, size_in, write_in};
+ghost use Rattle.vc_commands.specs.Held.{AreLabelsOf};
+ghost use Rattle.vc_commands.specs.Blocks.{read_named, size_named, write_named};
 
 use crate::region::blocks::no_block;
 use crate::region::home::{HomeEntry, find_block};
@@ -20,12 +20,12 @@ impl HomeEntry {
 
     // Writes bytes into a block, from an offset on.
     pub(crate) fn write(&mut self, labels: &Labels, name: &Name, off: u32, bytes: &[u8]) -> Reply
-        requires names { IsNamed (rest_in self.old.region) labels.now }
+        requires names { AreLabelsOf (rest_in self.old.region) labels.now }
         requires lent { HasOut (disc_in state self.old.region)
             (segments_of (rest_in self.old.region)) }
 
         ensures step { RunsRegion state
-            (λ h. write_in h name.now off bytes.now)
+            (λ h. write_named h name.now off bytes.now)
             self.old labels.now (region_with self.new labels.now) result }
         ensures change { ChangesRegion state
             self.old labels.now self.new labels.now }
@@ -55,9 +55,9 @@ impl HomeEntry {
         off: u32,
         len: u32,
     ) -> Result<Reply, OutOfMemory>
-        requires names { IsNamed (rest_in self.now.region) labels.now }
+        requires names { AreLabelsOf (rest_in self.now.region) labels.now }
         ensures { IfOk result (λ reply. RunsRegion state
-            (λ h. read_in h name.now off len)
+            (λ h. read_named h name.now off len)
             self.now labels.now (region_with self.now labels.now) reply) }
     {
         match find_block(&self.region, labels, name) {
@@ -74,9 +74,9 @@ impl HomeEntry {
 
     // Tells the size of a block.
     pub(crate) fn size(&self, labels: &Labels, name: &Name) -> Reply
-        requires names { IsNamed (rest_in self.now.region) labels.now }
+        requires names { AreLabelsOf (rest_in self.now.region) labels.now }
         ensures { RunsRegion state
-            (λ h. size_in h name.now)
+            (λ h. size_named h name.now)
             self.now labels.now (region_with self.now labels.now) result }
     {
         match find_block(&self.region, labels, name) {

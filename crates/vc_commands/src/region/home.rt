@@ -4,7 +4,7 @@ ghost use Rattle.vc_region.specs.Cells.{rest_in};
 ghost use Rattle.vc_region.specs.Parts.{blocks_in, disc_in};
 ghost use Rattle.vc_region.specs.Region.{segments_of};
 ghost use Rattle.vc_commands.specs.Answered.{answered};
-ghost use Rattle.vc_commands.specs.Held.{HasName, IsNamed};
+ghost use Rattle.vc_commands.specs.Held.{HasName, AreLabelsOf};
 ghost use Rattle.vc_commands.specs.Labels.{tag_of};
 ghost use Rattle.vc_commands.specs.RegionCommands.{block_asked, in_region, puts_block};
 
@@ -38,7 +38,7 @@ pub(crate) fn place_of(at: Addr) -> Place
 
 // The address of the block of a name in the region whose names these are, where it has one.
 pub(crate) fn find_block(region: &Region, labels: &Labels, name: &Name) -> Option<Addr>
-    requires { IsNamed (rest_in region.now) labels.now }
+    requires { AreLabelsOf (rest_in region.now) labels.now }
     ensures some { IfSome result (λ at. HasName (rest_in region.now) labels.now name.now at) }
     ensures there { IfSome result (λ at. HasBlock (blocks_in region.now) at.0) }
     ensures none { IfNone result (tag_of labels.now name.now ≡ None) }
@@ -60,7 +60,7 @@ impl HomeEntry {
         command: &Command,
         reply: &mut Reply,
     ) -> Result<(), OutOfMemory>
-        requires names { IsNamed (rest_in self.old.region) labels.old }
+        requires names { AreLabelsOf (rest_in self.old.region) labels.old }
         requires lent { HasOut (disc_in state self.old.region)
             (segments_of (rest_in self.old.region)) }
 
@@ -95,7 +95,7 @@ impl HomeEntry {
         line: u32,
         command: &Command,
     ) -> Result<Reply, OutOfMemory>
-        requires names { IsNamed (rest_in self.old.region) labels.old }
+        requires names { AreLabelsOf (rest_in self.old.region) labels.old }
         requires lent { HasOut (disc_in state self.old.region)
             (segments_of (rest_in self.old.region)) }
         requires other { puts_block command.now ≡ false }

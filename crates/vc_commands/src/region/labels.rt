@@ -1,8 +1,8 @@
 ghost use Rattle.std.specs.Prelude.{◌≡◌, ℕ, List, [], ◌+◌, ◌^◌, ◌<◌, ◌≤◌, ◌≢◌, Some, None, is_some, length, IsOk, IfOk, IfSome, IfNone, IsSome, OnSome, if◌then◌else◌};
 ghost use Rattle.std.specs.HashMap.{spare};
 ghost use Rattle.slab.specs.Slab.{slab_len, HasRoomFor};
-ghost use Rattle.vc_commands.specs.FreedNames.{line_of, with_line, without_name};
-ghost use Rattle.vc_commands.specs.Labels.{kept_of, label_at, line_left, name_of, tag_of, AreLabels, FreesNames, SameLabels, MovesLabel, WithLabel, WithoutLabel};
+ghost use Rattle.vc_commands.specs.FreedNames.{freed_line, with_line, without_name};
+ghost use Rattle.vc_commands.specs.Labels.{kept_of, label_at, line_left, name_of_tag, tag_of, AreLabels, FreesNames, SameLabels, MovesLabel, WithLabel, WithoutLabel};
 
 use slab::Slab;
 use std::alloc::Global;
@@ -75,7 +75,7 @@ impl Labels {
 
     // The line at which the block of this name was freed, where the name is kept.
     pub(crate) fn freed(&self, name: &Name) -> Option<u32>
-        ensures { result ≡ line_of name.now (kept_of self.now) }
+        ensures { result ≡ freed_line name.now (kept_of self.now) }
     {
         match self.tags.get(name) {
             Some(Known::Live(_)) => None,
@@ -205,7 +205,7 @@ impl Labels {
 
     // The name of a tag, where it has one.
     pub(crate) fn name(&self, tag: u32) -> Option<Name>
-        ensures { result ≡ name_of self.now tag }
+        ensures { result ≡ name_of_tag self.now tag }
     {
         if tag == 0 {
             return None;
@@ -288,7 +288,7 @@ impl Labels {
         ensures agree { AreLabels self.new }
         ensures no_names { (x : List ℕ) → tag_of self.new x ≡ None }
         ensures count { slab_len self.new.by_tag ≡ 0 }
-        ensures kept { (x : List ℕ) → line_of x (kept_of self.new)
+        ensures kept { (x : List ℕ) → freed_line x (kept_of self.new)
             ≡ line_left self.old keeps line x }
     {
         if keeps {

@@ -3,10 +3,10 @@ ghost use Rattle.vc_region.specs.Cells.{rest_in};
 ghost use Rattle.vc_region.specs.Region.{blocks_of, region_with_labels};
 ghost use Rattle.vc_region.specs.declared.region.Region.TheVariants.{Best as OfBest};
 ghost use Rattle.vc_commands.specs.Blocks.{label_limit};
-ghost use Rattle.vc_commands.specs.Held.{IsNamed};
+ghost use Rattle.vc_commands.specs.Held.{AreLabelsOf};
 ghost use Rattle.vc_commands.specs.FreedNames.{without_name};
-ghost use Rattle.vc_commands.specs.Labels.{AreLabels, WithLabel, kept_of, name_of, tag_of};
-ghost use Rattle.vc_commands.specs.Tagged.{AreByTag, ArePlaces, PutsPlace, filled, have_own_tags, is_vacant, label_by_tag, name_by_tag, place_at, text_by_tag};
+ghost use Rattle.vc_commands.specs.Labels.{AreLabels, WithLabel, kept_of, name_of_tag, tag_of};
+ghost use Rattle.vc_commands.specs.Tagged.{AreByTag, ArePlaces, PutsPlace, filled, have_own_tags, is_vacant, label_by_tag, name_by_tag, place_of_tag, text_by_tag};
 
 use crate::region::blocks::LABEL_LIMIT;
 use crate::region::labels::Labels;
@@ -19,7 +19,7 @@ use vc_best::Best;
 fn make_room(places: &mut Vec<Option<Addr>>, tag: usize) -> Result<(), OutOfMemory>
     ensures length { OnOk result (length places.new.items ≡ max (length places.old.items) tag) }
     ensures same { OnOk result ((other : ℕ)
-        → place_at places.new.items other ≡ place_at places.old.items other) }
+        → place_of_tag places.new.items other ≡ place_of_tag places.old.items other) }
 {
     while places.len() < tag {
         places.push(None)?;
@@ -117,7 +117,7 @@ fn fill_labels(alloc: Global, places: &[Option<Addr>]) -> Result<Labels, OutOfMe
 fn empty_holes(labels: &mut Labels, places: &[Option<Addr>])
     requires most { length places.now ≤ label_limit }
     requires filled { AreByTag (filled places.now) labels.old }
-    ensures { AreByTag (place_at places.now) labels.new }
+    ensures { AreByTag (place_of_tag places.now) labels.new }
 {
     let mut end = places.len();
     while end > 0 {
@@ -135,9 +135,9 @@ pub fn labels_by_tag(alloc: Global, best: &Best) -> Result<Option<Labels>, OutOf
     ensures own { IfOk result (λ o. is_some o
         ≡ have_own_tags (blocks_of (rest_in (OfBest best.now)))) }
     ensures named { IfOk result (λ o. IfSome o
-        (λ labels. IsNamed (rest_in (OfBest best.now)) labels)) }
+        (λ labels. AreLabelsOf (rest_in (OfBest best.now)) labels)) }
     ensures names { IfOk result (λ o. IfSome o
-        (λ labels. region_with_labels (name_of labels) (rest_in (OfBest best.now))
+        (λ labels. region_with_labels (name_of_tag labels) (rest_in (OfBest best.now))
         ≡ region_with_labels name_by_tag (rest_in (OfBest best.now)))) }
     ensures kept { IfOk result (λ o. IfSome o (λ labels. kept_of labels ≡ [])) }
 {

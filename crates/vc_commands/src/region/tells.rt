@@ -1,6 +1,6 @@
 ghost use Rattle.std.specs.Prelude.{◌≡◌, ℕ, List, IfOk};
 ghost use Rattle.vc_region.specs.Cells.{rest_in};
-ghost use Rattle.vc_commands.specs.Held.{IsNamed, home_of};
+ghost use Rattle.vc_commands.specs.Held.{AreLabelsOf, home_of};
 ghost use Rattle.vc_commands.specs.Home.{reply_alone};
 ghost use Rattle.vc_commands.specs.Whole.{addr_in, list_blocks, list_segments, segment_in, stat_in};
 
@@ -17,7 +17,7 @@ impl HomeEntry {
 
     // Tells the block whose bytes hold the byte at a place, and the offset in it.
     pub(crate) fn addr(&self, labels: &Labels, at: Place) -> Reply
-        requires names { IsNamed (rest_in self.now.region) labels.now }
+        requires names { AreLabelsOf (rest_in self.now.region) labels.now }
         ensures { (r : List ℕ) → addr_in (home_of (held_of state r self.now labels.now)) at
             ≡ reply_alone (home_of (held_of state r self.now labels.now)) result }
     {
@@ -65,7 +65,7 @@ impl HomeEntry {
 
     // Lists the blocks by address.
     pub(crate) fn blocks(&self, labels: &Labels, alloc: Global) -> Result<Reply, OutOfMemory>
-        requires names { IsNamed (rest_in self.now.region) labels.now }
+        requires names { AreLabelsOf (rest_in self.now.region) labels.now }
         ensures { IfOk result (λ reply. (r : List ℕ)
             → list_blocks (home_of (held_of state r self.now labels.now))
             ≡ reply_alone (home_of (held_of state r self.now labels.now)) reply) }

@@ -3,7 +3,7 @@ ghost use Rattle.vc_base.specs.Prelude.{HasOut, NoneRefused};
 ghost use Rattle.vc_region.specs.Cells.{rest_in};
 ghost use Rattle.vc_region.specs.Parts.{disc_in};
 ghost use Rattle.vc_region.specs.Region.{segments_of};
-ghost use Rattle.vc_commands.specs.Held.{IsNamed, home_of};
+ghost use Rattle.vc_commands.specs.Held.{AreLabelsOf, home_of};
 ghost use Rattle.vc_commands.specs.Home.{changed_to};
 ghost use Rattle.vc_commands.specs.Whole.{clear_in, compact_in};
 
@@ -20,7 +20,7 @@ impl HomeEntry {
 
     // Frees all blocks, at a line.
     pub(crate) fn clear(&mut self, labels: &mut Labels, name: Name, line: u32) -> Reply
-        requires names { IsNamed (rest_in self.old.region) labels.old }
+        requires names { AreLabelsOf (rest_in self.old.region) labels.old }
         requires lent { HasOut (disc_in state self.old.region)
             (segments_of (rest_in self.old.region)) }
 
@@ -45,7 +45,7 @@ impl HomeEntry {
             → compact_in (home_of (held_of state r self.old labels)) name
             ≡ changed_to (home_of (held_of state r self.old labels))
             (region_with self.new labels).0 result }
-        ensures change { (labels : Labels) → IsNamed (rest_in self.old.region) labels
+        ensures change { (labels : Labels) → AreLabelsOf (rest_in self.old.region) labels
             → ChangesRegion state
             self.old labels self.new labels }
         ensures served { NoneRefused (disc_in state self.old.region)

@@ -4,7 +4,7 @@ ghost use Rattle.vc_base.specs.Prelude.{has_table, is_set};
 ghost use Rattle.vc_dtlist.specs.Linked.{number_of};
 ghost use Rattle.vc_base.specs.Methods.{is_list};
 ghost use Rattle.vc_dict_tests.specs.Five.{AreSized};
-ghost use Rattle.vc_dict_tests.specs.Ready.{IsAt, IsReady};
+ghost use Rattle.vc_dict_tests.specs.Ready.{IsAtHolder, IsReadyFor};
 
 use crate::cells::given::number;
 use std::alloc::{AllocError, Global};
@@ -48,7 +48,7 @@ fn table_only(rt: &impl Abort, method: DictMethod)
 // A dictionary of none of the holders.
 pub(crate) fn empty<C: Cells, D: DictDisc>(cells: &C, kind: &D, method: DictMethod) -> Dict
     requires { AreSized (C.blocks cells.now) }
-    ensures { IsReady (D.rules kind.now) result (C.blocks cells.now) 1 }
+    ensures { IsReadyFor (D.rules kind.now) result (C.blocks cells.now) 1 }
 {
     Dict::new(method, 7)
 }
@@ -63,8 +63,8 @@ pub(crate) fn link<C: Cells, D: DictDisc>(
     append: bool,
     alloc: Global,
 ) -> Result<(), AllocError>
-    requires { IsReady (D.rules kind.now) dict.old (C.blocks cells.old) at.0 }
-    ensures { OnOk result (IsReady (D.rules kind.now) dict.new (C.blocks cells.new) (at.0 + 1)) }
+    requires { IsReadyFor (D.rules kind.now) dict.old (C.blocks cells.old) at.0 }
+    ensures { OnOk result (IsReadyFor (D.rules kind.now) dict.new (C.blocks cells.new) (at.0 + 1)) }
 {
     assert!(rt; 1 <= at.0);
     assert!(rt; at.0 <= 3);
@@ -88,8 +88,8 @@ pub(crate) fn adopt<C: Cells, D: DictDisc>(
     table: Addr,
     next: Addr,
 ) -> Addr
-    requires { IsReady (D.rules kind.now) dict.old (C.blocks cells.old) next.0 }
-    ensures { IsReady (D.rules kind.now) dict.new (C.blocks cells.new) next.0 }
+    requires { IsReadyFor (D.rules kind.now) dict.old (C.blocks cells.old) next.0 }
+    ensures { IsReadyFor (D.rules kind.now) dict.new (C.blocks cells.new) next.0 }
 {
     table_only(rt, dict.method);
     assert!(rt; 4 <= table.0);
@@ -101,8 +101,8 @@ pub(crate) fn adopt<C: Cells, D: DictDisc>(
 
 // Takes a first table for three holders, where one is wanted.
 fn first_table<C: Cells, D: DictDisc>(rt: &impl Abort, dict: &mut Dict, cells: &mut C, kind: &D)
-    requires { IsReady (D.rules kind.now) dict.old (C.blocks cells.old) 1 }
-    ensures { IsReady (D.rules kind.now) dict.new (C.blocks cells.new) 1 }
+    requires { IsReadyFor (D.rules kind.now) dict.old (C.blocks cells.old) 1 }
+    ensures { IsReadyFor (D.rules kind.now) dict.new (C.blocks cells.new) 1 }
 {
     match dict.wants_table(3) {
         Some(slots) => {
@@ -122,7 +122,7 @@ pub(crate) fn filled<C: Cells, D: DictDisc>(
     alloc: Global,
 ) -> Result<Dict, AllocError>
     requires { AreSized (C.blocks cells.old) }
-    ensures { IfOk result (λ d. IsReady (D.rules kind.now) d (C.blocks cells.new) 4) }
+    ensures { IfOk result (λ d. IsReadyFor (D.rules kind.now) d (C.blocks cells.new) 4) }
 {
     let mut dict = empty(cells, kind, method);
     first_table(rt, &mut dict, cells, kind);
@@ -139,8 +139,8 @@ pub(crate) fn find<C: Cells, D: DictDisc>(
     key: &[u8],
     alloc: Global,
 ) -> Option<Addr>
-    requires { IsReady (D.rules kind.now) dict.old (C.blocks cells.old) 4 }
-    ensures { IsReady (D.rules kind.now) dict.new (C.blocks cells.new) 4 }
+    requires { IsReadyFor (D.rules kind.now) dict.old (C.blocks cells.old) 4 }
+    ensures { IsReadyFor (D.rules kind.now) dict.new (C.blocks cells.new) 4 }
 {
     let mut steps: Steps<Compares> = Steps::new(alloc);
     dict.find(cells, kind, key, &mut steps)
@@ -153,8 +153,8 @@ pub(crate) fn unlink<C: Cells, D: DictDisc>(
     key: &[u8],
     alloc: Global,
 ) -> Option<Addr>
-    requires { IsReady (D.rules kind.now) dict.old (C.blocks cells.old) 4 }
-    ensures { IsReady (D.rules kind.now) dict.new (C.blocks cells.new) 4 }
+    requires { IsReadyFor (D.rules kind.now) dict.old (C.blocks cells.old) 4 }
+    ensures { IsReadyFor (D.rules kind.now) dict.new (C.blocks cells.new) 4 }
 {
     let mut steps: Steps<Compares> = Steps::new(alloc);
     dict.unlink(cells, kind, key, &mut steps)
@@ -165,8 +165,8 @@ pub(crate) fn take_first<C: Cells, D: DictDisc>(
     cells: &mut C,
     kind: &D,
 ) -> Option<Addr>
-    requires { IsReady (D.rules kind.now) dict.old (C.blocks cells.old) 4 }
-    ensures { IsReady (D.rules kind.now) dict.new (C.blocks cells.new) 4 }
+    requires { IsReadyFor (D.rules kind.now) dict.old (C.blocks cells.old) 4 }
+    ensures { IsReadyFor (D.rules kind.now) dict.new (C.blocks cells.new) 4 }
 {
     dict.take_first(cells, kind)
 }
@@ -180,8 +180,8 @@ pub(crate) fn remethod<C: Cells, D: DictDisc>(
     method: DictMethod,
     alloc: Global,
 ) -> Dropped
-    requires { IsReady (D.rules kind.now) dict.old (C.blocks cells.old) 4 }
-    ensures { IsReady (D.rules kind.now) dict.new (C.blocks cells.new) 4 }
+    requires { IsReadyFor (D.rules kind.now) dict.old (C.blocks cells.old) 4 }
+    ensures { IsReadyFor (D.rules kind.now) dict.new (C.blocks cells.new) 4 }
 {
     let mut steps: Steps<Compares> = Steps::new(alloc);
     assert!(rt; dict.count <= 32);
@@ -202,7 +202,7 @@ pub(crate) fn behind<C: Cells, D: DictDisc>(
     kind: &D,
     at: Addr,
 ) -> Addr
-    requires { IsReady (D.rules kind.now) dict.now (C.blocks cells.now) 4 }
+    requires { IsReadyFor (D.rules kind.now) dict.now (C.blocks cells.now) 4 }
 {
     assert!(rt; 1 <= at.0);
     assert!(rt; at.0 <= 3);
@@ -210,22 +210,22 @@ pub(crate) fn behind<C: Cells, D: DictDisc>(
 }
 
 fn first<C: Cells, D: DictDisc>(dict: &Dict, cells: &C, kind: &D) -> Option<Addr>
-    requires { IsReady (D.rules kind.now) dict.now (C.blocks cells.now) 4 }
-    ensures { IsAt (D.rules kind.now) dict.now (C.blocks cells.now) (option_map number_of result) }
+    requires { IsReadyFor (D.rules kind.now) dict.now (C.blocks cells.now) 4 }
+    ensures { IsAtHolder (D.rules kind.now) dict.now (C.blocks cells.now) (option_map number_of result) }
 {
     dict.first(cells)
 }
 
 fn last<C: Cells, D: DictDisc>(dict: &Dict, cells: &C, kind: &D) -> Option<Addr>
-    requires { IsReady (D.rules kind.now) dict.now (C.blocks cells.now) 4 }
-    ensures { IsAt (D.rules kind.now) dict.now (C.blocks cells.now) (option_map number_of result) }
+    requires { IsReadyFor (D.rules kind.now) dict.now (C.blocks cells.now) 4 }
+    ensures { IsAtHolder (D.rules kind.now) dict.now (C.blocks cells.now) (option_map number_of result) }
 {
     dict.last(cells)
 }
 
 fn next<C: Cells, D: DictDisc>(dict: &Dict, cells: &C, kind: &D, at: Option<Addr>) -> Option<Addr>
-    requires { IsAt (D.rules kind.now) dict.now (C.blocks cells.now) (option_map number_of at) }
-    ensures { IsAt (D.rules kind.now) dict.now (C.blocks cells.now) (option_map number_of result) }
+    requires { IsAtHolder (D.rules kind.now) dict.now (C.blocks cells.now) (option_map number_of at) }
+    ensures { IsAtHolder (D.rules kind.now) dict.now (C.blocks cells.now) (option_map number_of result) }
 {
     match at {
         Some(a) => dict.next(cells, a),
@@ -234,8 +234,8 @@ fn next<C: Cells, D: DictDisc>(dict: &Dict, cells: &C, kind: &D, at: Option<Addr
 }
 
 fn prev<C: Cells, D: DictDisc>(dict: &Dict, cells: &C, kind: &D, at: Option<Addr>) -> Option<Addr>
-    requires { IsAt (D.rules kind.now) dict.now (C.blocks cells.now) (option_map number_of at) }
-    ensures { IsAt (D.rules kind.now) dict.now (C.blocks cells.now) (option_map number_of result) }
+    requires { IsAtHolder (D.rules kind.now) dict.now (C.blocks cells.now) (option_map number_of at) }
+    ensures { IsAtHolder (D.rules kind.now) dict.now (C.blocks cells.now) (option_map number_of result) }
 {
     match at {
         Some(a) => dict.prev(cells, a),
@@ -245,7 +245,7 @@ fn prev<C: Cells, D: DictDisc>(dict: &Dict, cells: &C, kind: &D, at: Option<Addr
 
 // The holders from the first on, and 0 behind the last.
 pub(crate) fn order<C: Cells, D: DictDisc>(dict: &Dict, cells: &C, kind: &D) -> [u32; 4]
-    requires { IsReady (D.rules kind.now) dict.now (C.blocks cells.now) 4 }
+    requires { IsReadyFor (D.rules kind.now) dict.now (C.blocks cells.now) 4 }
 {
     let a = first(dict, cells, kind);
     let b = next(dict, cells, kind, a);
@@ -256,7 +256,7 @@ pub(crate) fn order<C: Cells, D: DictDisc>(dict: &Dict, cells: &C, kind: &D) -> 
 
 // The holders from the last back, and 0 before the first.
 pub(crate) fn back<C: Cells, D: DictDisc>(dict: &Dict, cells: &C, kind: &D) -> [u32; 4]
-    requires { IsReady (D.rules kind.now) dict.now (C.blocks cells.now) 4 }
+    requires { IsReadyFor (D.rules kind.now) dict.now (C.blocks cells.now) 4 }
 {
     let a = last(dict, cells, kind);
     let b = prev(dict, cells, kind, a);

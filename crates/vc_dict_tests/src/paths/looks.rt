@@ -1,5 +1,6 @@
 ghost use Rattle.std.specs.Prelude.{◌≡◌, ◌<◌, IfOk};
 ghost use Rattle.vc_paths.specs.Links.{numbers};
+ghost use Rattle.vc_dict_tests.specs.Toy.{layers_in};
 ghost use Rattle.vc_dict_tests.specs.ToyPaths.{AreJoined, IsSeen};
 
 use crate::paths::Toy;
@@ -58,7 +59,7 @@ fn found(
 fn start(paths: &Paths, toy: &mut Toy, d: u32, steps: &mut Steps<Asks>) -> Place
     requires joined { AreJoined toy.old.method paths.now }
     requires number { d < numbers }
-    ensures seen { IsSeen toy.new.method paths.now d result }
+    ensures seen { IsSeen (layers_in toy.new.method) paths.now d result }
     ensures same { toy.new.method ≡ toy.old.method }
 {
     first(paths, toy, d, steps)
@@ -68,8 +69,8 @@ fn start(paths: &Paths, toy: &mut Toy, d: u32, steps: &mut Steps<Asks>) -> Place
 fn onward(paths: &Paths, toy: &mut Toy, d: u32, at: Place, steps: &mut Steps<Asks>) -> Place
     requires joined { AreJoined toy.old.method paths.now }
     requires number { d < numbers }
-    requires seen { IsSeen toy.old.method paths.now d at }
-    ensures seen { IsSeen toy.new.method paths.now d result }
+    requires seen { IsSeen (layers_in toy.old.method) paths.now d at }
+    ensures seen { IsSeen (layers_in toy.new.method) paths.now d result }
     ensures same { toy.new.method ≡ toy.old.method }
 {
     match at {

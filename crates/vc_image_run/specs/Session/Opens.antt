@@ -1,8 +1,8 @@
 -- What is promised of a session over an image, and why there is none.
 use Rattle.std.specs.Prelude.{◌≡◌, ◌≢◌, ℕ, ◌-◌, List, [], Bool, Option, Some, None, true, false, map, slice_set}
 use Rattle.vc_best.specs.declared.best.Best.{Best}
-use Rattle.vc_commands.specs.Held.{IsNamed}
-use Rattle.vc_commands.specs.Labels.{kept_of, name_of}
+use Rattle.vc_commands.specs.Held.{AreLabelsOf}
+use Rattle.vc_commands.specs.Labels.{kept_of, name_of_tag}
 use Rattle.vc_commands.specs.Tagged.{have_own_tags, name_by_tag}
 use Rattle.vc_commands.specs.declared.dict.entry.DictEntry.{DictEntry}
 use Rattle.vc_commands.specs.declared.region.labels.Labels.{Labels}
@@ -72,8 +72,8 @@ module _ {I : Type 0} {V : I → Type 0} where
   -- entries are those of copies of dictionaries, and labels name the blocks of a best region by their tags
   pub record AreParts (best : Best I V) (dicts : List Dict) (entries : List (List ℕ × DictEntry)) (labels : Labels) : Type 0 where
     pub entries_are : entries ≡ entries_from 0 (map copy_of dicts)
-    pub named : IsNamed (rest_in (OfBest best)) labels
-    pub names : region_with_labels (name_of labels) (rest_in (OfBest best)) ≡ region_with_labels name_by_tag (rest_in (OfBest best))
+    pub named : AreLabelsOf (rest_in (OfBest best)) labels
+    pub names : region_with_labels (name_of_tag labels) (rest_in (OfBest best)) ≡ region_with_labels name_by_tag (rest_in (OfBest best))
     pub kept : kept_of labels ≡ []
     pub own : have_own_tags (blocks_of (rest_in (OfBest best))) ≡ true
 

@@ -2,7 +2,7 @@ ghost use Rattle.std.specs.Prelude.{◌≡◌, ◌≤◌, IfErr, IfOk, OnErr, ma
 ghost use Rattle.vc_image_run.specs.Script.Over.{Remakes};
 ghost use Rattle.vc_image_run.specs.Session.Opens.{IsNotOpened, OpensImage};
 ghost use Rattle.vc_script.specs.declared.tool.Tool.TheVariants.{Dtrun};
-ghost use Rattle.vc_session.specs.Arming.{IsFirst, Keeps};
+ghost use Rattle.vc_session.specs.Arming.{IsVersionOne, Keeps};
 ghost use Rattle.vc_session.specs.Streams.{flows};
 ghost use Rattle.vc_steps.specs.Account.{ArmsNone, KeepsAccounts, SameAsked};
 ghost use Rattle.vc_steps.specs.Homes.{accounts_on, slots_on};
@@ -62,7 +62,7 @@ pub fn image_over_image<D: DictDisc, S: Source, O: Sink>(
         (flows S.left S.failures O.written O.failures source.old out.old)
         (flows S.left S.failures O.written O.failures source.new out.new) }
     ensures keeps { Keeps
-        (IsFirst None Dtrun (S.left source.old))
+        (IsVersionOne None Dtrun (S.left source.old))
         (moment_at_rest state D.rules D.gone shelf.old kinds.old.items)
         (moment_at_rest state D.rules D.gone shelf.new kinds.new.items) }
     ensures rules { KeepRules D.rules kinds.old.items kinds.new.items }

@@ -2,7 +2,7 @@ ghost use Rattle.std.specs.Prelude.{◌≡◌, None, false, map};
 ghost use Rattle.vc_image_run.specs.Script.Promises.{Saves};
 ghost use Rattle.vc_script.specs.Cutting.{new_cutting};
 ghost use Rattle.vc_script.specs.declared.tool.Tool.TheVariants.{Dtrun};
-ghost use Rattle.vc_session.specs.Arming.{IsFirst, Keeps, RunsArming};
+ghost use Rattle.vc_session.specs.Arming.{IsVersionOne, Keeps, RunsArming};
 ghost use Rattle.vc_session.specs.ProperState.{IsProperOver};
 ghost use Rattle.vc_session.specs.Streams.{flows};
 ghost use Rattle.vc_steps.specs.Account.{ArmsNone};
@@ -88,7 +88,7 @@ pub fn image_of_script<D: DictDisc, S: Source, O: Sink>(
         (flows S.left S.failures O.written O.failures source.old out.old)
         (flows S.left S.failures O.written O.failures source.new out.new) }
     ensures keeps { Keeps
-        (IsFirst None Dtrun (S.left source.old))
+        (IsVersionOne None Dtrun (S.left source.old))
         (moment_at_rest state D.rules D.gone shelf.old kinds.old.items)
         (moment_at_rest state D.rules D.gone shelf.new kinds.new.items) }
     ensures rules { KeepRules D.rules kinds.old.items kinds.new.items }

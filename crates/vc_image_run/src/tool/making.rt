@@ -5,7 +5,7 @@ ghost use Rattle.vc_image_run.specs.Tool.Making.{Makes, MakesOver};
 ghost use Rattle.vc_image_run.specs.Tool.Streams.{sinks};
 ghost use Rattle.vc_image_run.specs.Tool.Told.{over_fault};
 ghost use Rattle.vc_script.specs.declared.tool.Tool.TheVariants.{Dtrun};
-ghost use Rattle.vc_session.specs.Arming.{IsFirst, Keeps};
+ghost use Rattle.vc_session.specs.Arming.{IsVersionOne, Keeps};
 ghost use Rattle.vc_session.specs.Streams.{flows, streams};
 ghost use Rattle.vc_steps.specs.Account.{ArmsNone};
 ghost use Rattle.vc_steps.specs.Homes.{slots_on};
@@ -36,7 +36,7 @@ fn run<D: DictDisc, S: Source, O: Sink>(
         (flows S.left S.failures O.written O.failures source.old out.old)
         (flows S.left S.failures O.written O.failures source.new out.new) }
     ensures keeps { Keeps
-        (IsFirst None Dtrun (S.left source.old))
+        (IsVersionOne None Dtrun (S.left source.old))
         (moment_at_rest state D.rules D.gone shelf.old kinds.old.items)
         (moment_at_rest state D.rules D.gone shelf.new kinds.new.items) }
     ensures rules { KeepRules D.rules kinds.old.items kinds.new.items }
@@ -66,7 +66,7 @@ pub fn make<D: DictDisc, S: Source, O: Sink, E: Sink>(
         source.new out.new err.new) }
     ensures quiet { OnOk result (err.new ≡ err.old) }
     ensures keeps { Keeps
-        (IsFirst None Dtrun (S.left source.old))
+        (IsVersionOne None Dtrun (S.left source.old))
         (moment_at_rest state D.rules D.gone shelf.old kinds.old.items)
         (moment_at_rest state D.rules D.gone shelf.new kinds.new.items) }
     ensures rules { KeepRules D.rules kinds.old.items kinds.new.items }
@@ -95,7 +95,7 @@ fn run_over<D: DictDisc, S: Source, O: Sink>(
         (flows S.left S.failures O.written O.failures source.old out.old)
         (flows S.left S.failures O.written O.failures source.new out.new) }
     ensures keeps { Keeps
-        (IsFirst None Dtrun (S.left source.old))
+        (IsVersionOne None Dtrun (S.left source.old))
         (moment_at_rest state D.rules D.gone shelf.old kinds.old.items)
         (moment_at_rest state D.rules D.gone shelf.new kinds.new.items) }
     ensures rules { KeepRules D.rules kinds.old.items kinds.new.items }
@@ -136,7 +136,7 @@ pub fn remake<D: DictDisc, S: Source, O: Sink, E: Sink>(
         source.new out.new err.new) }
     ensures quiet { OnOk result (err.new ≡ err.old) }
     ensures keeps { Keeps
-        (IsFirst None Dtrun (S.left source.old))
+        (IsVersionOne None Dtrun (S.left source.old))
         (moment_at_rest state D.rules D.gone shelf.old kinds.old.items)
         (moment_at_rest state D.rules D.gone shelf.new kinds.new.items) }
     ensures rules { KeepRules D.rules kinds.old.items kinds.new.items }

@@ -1,6 +1,6 @@
 ghost use Rattle.std.specs.Prelude.{◌≡◌, ℕ, List, [], ◌∷◌};
 ghost use Rattle.vc_splay.specs.Guide.{order_with_name};
-ghost use Rattle.vc_region_tests.specs.Toy.{CanPut, CanSeek, Holds, key_side, keys};
+ghost use Rattle.vc_region_tests.specs.Toy.{CanPutKey, CanSeekKey, Holds, key_side, keys};
 
 use crate::splay::{ByKey, Lent, Rows};
 use std::alloc::Global;
@@ -14,7 +14,7 @@ struct Asks;
 
 // Puts one node in. Those of key 10 stay leaves.
 fn put<'a>(nodes: &mut Lent<'a>, root: u32, at: u32, key: u32, steps: &mut Steps<Asks>) -> u32
-    requires { CanPut nodes.old.rows.now root at key }
+    requires { CanPutKey nodes.old.rows.now root at key }
     ensures tree { (xs : List ℕ) → Holds nodes.old.rows.now root xs
         → Holds nodes.new.rows.now result (order_with_name (key_side keys key) at xs) }
     ensures same { nodes.new.rows.ghost_name ≡ nodes.old.rows.ghost_name }
@@ -47,7 +47,7 @@ fn asked<'a>(rt: &impl Abort, nodes: &Lent<'a>, root: u32)
 
 // The first node with this key, and the first one that isn't before it.
 fn seen<'a>(nodes: &mut Lent<'a>, root: u32, key: u32, steps: &mut Steps<Asks>) -> (u32, [u32; 2])
-    requires { CanSeek nodes.old.rows.now root key }
+    requires { CanSeekKey nodes.old.rows.now root key }
     ensures tree { (xs : List ℕ) → Holds nodes.old.rows.now root xs
         → Holds nodes.new.rows.now result.0 xs }
     ensures same { nodes.new.rows.ghost_name ≡ nodes.old.rows.ghost_name }

@@ -4,7 +4,7 @@ use Rattle.vc_objects.specs.Parts.{IsWhole}
 use Rattle.vc_paths.specs.Layers.{Layer, bytes_there}
 use Rattle.vc_views.specs.Dicts.{AreDictsOver, cells_held, dict_seen, layer_of, region_named, region_seen}
 use Rattle.vc_views.specs.LayerLaws.{layer-is, layer_over}
-use Rattle.vc_views.specs.Sides.{holder_like, last_place}
+use Rattle.vc_views.specs.Sides.{holder_like, last_match_place}
 use Rattle.vc_views.proofs.AtHolders.{holder-here, last-stands}
 use Rattle.vc_views.proofs.Firsts.{value-set}
 use Rattle.vc_views.proofs.LookLeaves.{dict-at, dicts-looked, pair-at, seen-looked}
@@ -62,8 +62,8 @@ returns-clause-found g c = λ e bytes at h.
     ∙ ap (λ q. holder_like q held c.args.at.0 (holders_of v.dict held)) rules
     ∙ ap (λ b. holder_like is.rules b c.args.at.0 (holders_of v.dict b)) (ap cells_held is.found)
     ∙ sym (last-stands is.home.cells c.args.at.0 (layer_over is.rules v is.home.cells) bytes (holders_of v.dict is.home.cells) refl there)
-    ∙ ap (λ (l : Layer). last_place l bytes) (sym (layer-is kinds regions (p.0, v) is))
-    ∙ ap (λ x. last_place (layer_of kinds regions x) bytes) same
+    ∙ ap (λ (l : Layer). last_match_place l bytes) (sym (layer-is kinds regions (p.0, v) is))
+    ∙ ap (λ x. last_match_place (layer_of kinds regions x) bytes) same
 
 pub returns-clause-leaves : goal.returns-clause-leaves
 returns-clause-leaves g c =

@@ -1,5 +1,5 @@
 use Rattle.vc_paths.specs.Layers.{Same}
-use Rattle.vc_views_tests.specs.Four.{IsSeen}
+use Rattle.vc_dict_tests.specs.ToyPaths.{IsSeen}
 use Rattle.vc_views_tests.proofs.looks.are_walked.Given as goal
 
 abbrev pub invariant-loop-spot : goal.invariant-loop-spot

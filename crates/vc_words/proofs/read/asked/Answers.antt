@@ -1,20 +1,20 @@
 use Rattle.vc_base.proofs.Common.{◌≡◌, Some, None, codes, sym, refl, ap, ◌∙◌, rules}
 use Rattle.clap.specs.Words.{found_of, rows_of}
-use Rattle.vc_words.specs.Words.{count_of, spelled}
+use Rattle.vc_words.specs.Words.{read_count, spelled}
 use Rattle.vc_words.proofs.Matched.{asked_is, read_rows}
 use Rattle.vc_words.proofs.read.asked.Goals as goal
 
 pub returns-in_err-generate : goal.returns-in_err-generate
 returns-in_err-generate c =
     let found = found_of c.args.matches.now in
-    let generate = read_rows count_of (codes "gen") found c.get_str.result c.count_if_given.result c.get_str.ensures c.count_if_given.ensures in
+    let generate = read_rows read_count (codes "gen") found c.get_str.result c.count_if_given.result c.get_str.ensures c.count_if_given.ensures in
     let none : c.count_if_given.result ≡ None = search rules in
     c.from_residual.ensures ∙ asked_is (rows_of found) _ _ _ _ refl refl (sym none ∙ generate) refl
 
 pub returns-in_err-seed : goal.returns-in_err-seed
 returns-in_err-seed c =
     let found = found_of c.args.matches.now in
-    let generate = read_rows count_of (codes "gen") found c.get_str.result c.count_if_given.result c.get_str.ensures c.count_if_given.ensures in
+    let generate = read_rows read_count (codes "gen") found c.get_str.result c.count_if_given.result c.get_str.ensures c.count_if_given.ensures in
     let seed = read_rows spelled (codes "seed") found c.get_str-2.result c.seed_if_given.result c.get_str-2.ensures c.seed_if_given.ensures in
     let some : c.count_if_given.result ≡ Some c.in_ok-generate.generate = search rules in
     let none : c.seed_if_given.result ≡ None = search rules in
@@ -23,7 +23,7 @@ returns-in_err-seed c =
 pub returns : goal.returns
 returns c =
     let found = found_of c.args.matches.now in
-    let generate = read_rows count_of (codes "gen") found c.get_str.result c.count_if_given.result c.get_str.ensures c.count_if_given.ensures in
+    let generate = read_rows read_count (codes "gen") found c.get_str.result c.count_if_given.result c.get_str.ensures c.count_if_given.ensures in
     let seed = read_rows spelled (codes "seed") found c.get_str-2.result c.seed_if_given.result c.get_str-2.ensures c.seed_if_given.ensures in
     let some : c.count_if_given.result ≡ Some c.in_ok-generate.generate = search rules in
     let number : c.seed_if_given.result ≡ Some c.in_ok-seed.seed = search rules in

@@ -2,8 +2,8 @@ use Rattle.vc_base.proofs.Common.{◌≡◌, false, None, sym, ap, ◌∙◌, su
 use Rattle.vc_objects.proofs.Leaving.{keeps-out}
 use Rattle.vc_objects.specs.Insert.{slots_wanted}
 use Rattle.vc_commands.specs.Answered.{answered}
-use Rattle.vc_commands.specs.DictCommands.{put_object, put_unless, standing}
-use Rattle.vc_commands.specs.DictRun.{IsOfHolder, RunsDict, object_there, seat_in}
+use Rattle.vc_commands.specs.DictCommands.{put_object, put_unless, matched_in_set}
+use Rattle.vc_commands.specs.DictRun.{IsOfHolder, RunsDict, object_in_holder, seat_in}
 use Rattle.vc_commands.proofs.FoundObjects.{holder-bytes}
 use Rattle.vc_commands.proofs.Seats.{runs-looked}
 use Rattle.vc_commands.proofs.dict.putting.put_unless.Goals as goal
@@ -18,8 +18,8 @@ returns-in-None-clause-runs g c =
     let rules = g.D.DictDisc.rules c.args.kind.now in
     let seat = seat_in (λ z. (goal.SegDisc-dyn g z).state z.1) rules c.args.best.now c.args.dict.now in
     let bytes = c.args.object.items in
-    let none : standing seat bytes ≡ None =
-    ap (standing seat) (sym c.deref.ensures.value) ∙ sym c.standing.ensures.found ∙ ap (object_there c.standing.new.best) c.in-None.is in
+    let none : matched_in_set seat bytes ≡ None =
+    ap (matched_in_set seat) (sym c.deref.ensures.value) ∙ sym c.standing.ensures.found ∙ ap (object_in_holder c.standing.new.best) c.in-None.is in
     subst (λ o. RunsDict (λ z. (goal.SegDisc-dyn g z).state z.1) (answered c.put.result c.put.new.reply) rules (λ need. put_unless seat bytes need o) (slots_wanted seat.dict) bytes c.args.best.now c.args.dict.now (g.D.DictDisc.gone c.args.kind.now) c.put.new.best c.put.new.dict (g.D.DictDisc.gone c.args.kind.now))
     (sym none)
     (runs-looked (λ z. (goal.SegDisc-dyn g z).state z.1) (answered c.put.result c.put.new.reply) rules (λ s need. put_object s false bytes need) bytes c.args.best.now c.args.dict.now c.standing.new.best c.standing.new.dict c.put.new.best c.put.new.dict

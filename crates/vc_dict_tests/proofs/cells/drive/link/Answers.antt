@@ -2,7 +2,7 @@ use Rattle.vc_base.proofs.Common.{◌≡◌, ◌≤◌, true, ◌≢◌, sym, ap
 use Rattle.vc_base.specs.declared.addr.Addr.{Addr}
 use Rattle.vc_base.proofs.Members.{apart-cons}
 use Rattle.vc_dtdisc.specs.Finds.{object_at}
-use Rattle.vc_dict_tests.specs.Ready.{IsReady}
+use Rattle.vc_dict_tests.specs.Ready.{IsReadyFor}
 use Rattle.vc_dict_tests.proofs.ReadyLemmas.{lone-kept, none-by, ready-found, ready-linked}
 use Rattle.vc_dict_tests.proofs.cells.drive.link.Goals as goal
 use Rattle.vc_dict.specs.Stands.{table_in}
@@ -16,7 +16,7 @@ link-requires g c =
     let b = g.C.Cells.blocks c.args.cells.now in
     let b' = g.C.Cells.blocks c.find-found.new.cells in
     let t = c.find-found.ensures.dict c.requires.holders c.requires.stands in
-    let r' : IsReady kinds d' b' c.args.at.0 = ready-found kinds d d' b b' c.args.at.0 c.requires t in
+    let r' : IsReadyFor kinds d' b' c.args.at.0 = ready-found kinds d d' b b' c.args.at.0 c.requires t in
     let least : 1 ≤ c.args.at.0 = omega arith in
     let most : c.args.at.0 ≤ 3 = omega arith in
     let ne : (table_in d').0 ≢ c.args.at.0 = omega (arith, ap (λ (z : Addr). z.0) c.table.ensures) in
@@ -44,5 +44,5 @@ returns g c =
     let at = c.args.at.0 in
     let r = c.requires in
     let t = c.find-found.ensures.dict r.holders r.stands in
-    let r' : IsReady kinds c.find-found.new.self b' at = ready-found kinds c.args.dict.now c.find-found.new.self (g.C.Cells.blocks c.args.cells.now) b' at r t in
+    let r' : IsReadyFor kinds c.find-found.new.self b' at = ready-found kinds c.args.dict.now c.find-found.new.self (g.C.Cells.blocks c.args.cells.now) b' at r t in
     ready-linked kinds c.find-found.new.self c.link.new.self b' (g.C.Cells.blocks c.link.new.cells) at c.args.append r' (omega arith) (c.link.ensures.dict r.holders t.stands)

@@ -10,5 +10,5 @@ walk_next-requires-clause-path c = path-joined c.args.toy.now.method c.args.path
 
 pub returns-in-Some-clause-seen : goal.returns-in-Some-clause-seen
 returns-in-Some-clause-seen c =
-    subst (λ m. IsSeen m c.args.paths.now c.args.d c.walk_next.result) (sym c.walk_next.ensures.unchanged.stays)
+    subst (λ m. IsSeen (layers_in m) c.args.paths.now c.args.d c.walk_next.result) (sym c.walk_next.ensures.unchanged.stays)
     (λ p is. behind-seen (visible_of (layers_in c.args.toy.now.method) c.args.paths.now c.args.d) c.walk_next.result p is (is_at (numbers_of c.in-Some.from)) c.walk_next.ensures.found)

@@ -10,5 +10,5 @@ first-requires c = path-joined c.args.toy.now.method c.args.paths.now c.requires
 
 pub returns-clause-seen : goal.returns-clause-seen
 returns-clause-seen c =
-    subst (λ m. IsSeen m c.args.paths.now c.args.d c.first.result) (sym c.first.ensures.unchanged.stays)
+    subst (λ m. IsSeen (layers_in m) c.args.paths.now c.args.d c.first.result) (sym c.first.ensures.unchanged.stays)
     (λ p is. first-seen (visible_of (layers_in c.args.toy.now.method) c.args.paths.now c.args.d) c.first.result p is c.first.ensures.found)

@@ -1,5 +1,5 @@
 use Rattle.vc_base.proofs.Common.{◌≡◌, ◌≤◌, ℕ, List, [], ◌∷◌, ◌++◌, length, arith, ap, ap₂, ◌∙◌, sym, subst, length-append}
-use Rattle.vc_script.specs.Ends.{AreEnds, objects_from}
+use Rattle.vc_script.specs.Ends.{AreEnds, slices_by_ends}
 use Rattle.vc_script.proofs.EndSteps.{ends-pushed, objects-pushed}
 use Rattle.vc_script.proofs.object_items.ObjectItems.push.Goals as goal
 use Rattle.vc_script.proofs.object_items.ObjectItems.push.Goals.{After-push_reserved}
@@ -20,7 +20,7 @@ invariant_of-self-2 c =
 pub returns-clause-pushed : goal.returns-clause-pushed
 returns-clause-pushed c =
     let old = c.self.inside.bytes.items in
-    ap (objects_from 0 c.extend_from_slice.new.self.items) (ends-are c)
-    ∙ ap (λ (bs : List ℕ). objects_from 0 bs (c.self.inside.ends.items ++ length bs ∷ [])) c.in_ok-extend_from_slice.ensures.items
+    ap (slices_by_ends 0 c.extend_from_slice.new.self.items) (ends-are c)
+    ∙ ap (λ (bs : List ℕ). slices_by_ends 0 bs (c.self.inside.ends.items ++ length bs ∷ [])) c.in_ok-extend_from_slice.ensures.items
     ∙ objects-pushed 0 old c.args.object.now c.self.inside.ends.items c.self.invariant
     ∙ ap (λ o. o ++ c.args.object.now ∷ []) c.self.view_is

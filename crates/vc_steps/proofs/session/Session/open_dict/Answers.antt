@@ -14,7 +14,7 @@ use Rattle.vc_steps.specs.Account.{accounts, settled_accounts, state_of}
 use Rattle.vc_steps.specs.DictHomes.{AreDicts, dict_home, dicts_in}
 use Rattle.vc_steps.specs.Dicts.{dict_limit, dict_refused}
 use Rattle.vc_steps.specs.Homes.{held_in_session, slots_on, state_over}
-use Rattle.vc_commands.specs.Labels.{name_of}
+use Rattle.vc_commands.specs.Labels.{name_of_tag}
 use Rattle.vc_commands.specs.Home.{is_home}
 use Rattle.vc_steps.specs.Told.{gone_in, rules_in}
 use Rattle.vc_commands.proofs.Agreeing.{from_ok}
@@ -134,7 +134,7 @@ unreachable-requires g c =
     let at = goal.at.unreachable-requires g c in
     let x = place g at.After-index_mut in
     let best = (may g at.After-dict_refused x c.in_default-dict_refused.is).best in
-    no-other c.index_mut.result.now.region (sym (best-relabelled (name_of x.l) (rest_in c.index_mut.result.now.region)) ∙ best) c.in_default-region.not-Best
+    no-other c.index_mut.result.now.region (sym (best-relabelled (name_of_tag x.l) (rest_in c.index_mut.result.now.region)) ∙ best) c.in_default-region.not-Best
 
 pub overflow_sub-kind : goal.overflow_sub-kind
 overflow_sub-kind g c = (range g (goal.at.overflow_sub-kind g c).After-dict_refused c.in_default-dict_refused.is).0

@@ -1,6 +1,6 @@
 use Rattle.vc_base.proofs.Common.{map, sym, ap, ◌∙◌, Discipline}
 use Rattle.vc_commands.proofs.Firsts.{find-none}
-use Rattle.vc_commands.specs.Held.{IsNamed, home_of}
+use Rattle.vc_commands.specs.Held.{AreLabelsOf, home_of}
 use Rattle.vc_commands.specs.Home.{is_home}
 use Rattle.vc_views.proofs.NumbersToNames.{all-at}
 use Rattle.vc_steps.specs.Homes.{held_in_session}
@@ -31,7 +31,7 @@ pub size_named-requires : goal.size_named-requires
 size_named-requires g c =
     let M = meaning g in
     let x = region g (goal.at.size_named-requires g c).After-index-in-Some in
-    record { names = all-at (λ h. IsNamed h.region h.labels) (held_in_session M c.args.self.now) c.in-Some.i (region_at M x) c.requires.names (region-stands M x) }
+    record { names = all-at (λ h. AreLabelsOf h.region h.labels) (held_in_session M c.args.self.now) c.in-Some.i (region_at M x) c.requires.names (region-stands M x) }
 
 pub returns-in-Some : goal.returns-in-Some
 returns-in-Some g c =

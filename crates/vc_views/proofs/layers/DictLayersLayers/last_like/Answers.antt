@@ -2,7 +2,7 @@ use Rattle.vc_base.proofs.Common.{◌≡◌, IsSome, Some, map, refl, sym, ap, �
 use Rattle.vc_paths.specs.Layers.{Layer, bytes_there}
 use Rattle.vc_views.specs.Dicts.{region_seen}
 use Rattle.vc_views.specs.LayerLaws.{found-there, layer-found}
-use Rattle.vc_views.specs.Sides.{last_place}
+use Rattle.vc_views.specs.Sides.{last_match_place}
 use Rattle.vc_views.proofs.NumberLayers.{same-left}
 use Rattle.vc_views.proofs.layers.DictLayersLayers.last_like.Goals as goal
 
@@ -28,7 +28,7 @@ returns-clause-found g c = λ bytes h.
     let f = found-there kinds regions c.args.d es c.requires.dict in
     let layer = layer-found kinds regions c.args.d es f.entry f.found in
     c.last_at.ensures.found f.entry bytes (c.index_of-i.ensures.entry ∙ f.found) (subst (λ (l : Layer). bytes_there c.args.at.0 l.objects ≡ Some bytes) layer h)
-    ∙ ap (λ (l : Layer). last_place l bytes) (sym layer)
+    ∙ ap (λ (l : Layer). last_match_place l bytes) (sym layer)
 
 pub returns-clause-layers : goal.returns-clause-layers
 returns-clause-layers g c = same-left c.last_at.ensures.leaves

@@ -8,7 +8,7 @@ use Rattle.vc_region.proofs.Sound.{own_places}
 use Rattle.vc_commands.specs.Answered.{answered}
 use Rattle.vc_commands.proofs.Answered.{ok-answered}
 use Rattle.vc_commands.specs.Held.{home_of}
-use Rattle.vc_commands.specs.Blocks.{site_of, size_refused}
+use Rattle.vc_commands.specs.Blocks.{site_or_hyphen, size_refused}
 use Rattle.vc_commands.specs.RegionRun.{held_of}
 use Rattle.vc_commands.specs.Naming.{NamesPut, new_refused}
 use Rattle.vc_commands.proofs.Answers.{change-same}
@@ -26,7 +26,7 @@ meaning g p = (g.dyn-1.0.entry p.0).1.state p.1
 pub returns-in-Some : goal.returns-in-Some
 returns-in-Some g c =
     record {
-      runs = refused-runs (meaning g) c.args.self.now c.args.labels.now c.args.name.now (λ k. size_refused c.args.size) (λ k u. region_alloc k.terms k.region (Some c.args.name.now) (site_of c.args.site.now) c.args.size u) _ c.in-Some.why c.requires.names (λ r. size-other c.args.size)
+      runs = refused-runs (meaning g) c.args.self.now c.args.labels.now c.args.name.now (λ k. size_refused c.args.size) (λ k u. region_alloc k.terms k.region (Some c.args.name.now) (site_or_hyphen c.args.site.now) c.args.size u) _ c.in-Some.why c.requires.names (λ r. size-other c.args.size)
           (λ r. ap (new_refused c.args.labels.now c.args.name.now) (sym c.size_refused.ensures) ∙ (sym c.new_refused.ensures ∙ c.in-Some.is));
       change = λ r. change-same (held_of (meaning g) r c.args.self.now c.args.labels.now) c.args.labels.now c.requires.lent c.requires.names;
     }
@@ -50,7 +50,7 @@ returns-in_ok-tag-in-None g c =
     let site = c.site_of.result.now in
     let terms = (disc_in (meaning g) c.args.self.now.region).terms in
     let old = rest_in c.args.self.now.region in
-    let done : IsPlaced (meaning g) c.args.self.now c.args.labels.now c.alloc.new.self name (λ k. size_refused size) (λ k u. region_alloc k.terms k.region (Some name) (site_of c.args.site.now) size u) (region_alloc terms old tag site size) tag size 32 c.reserve.new.self c.name_put.new.labels c.alloc.result (answered c.name_put.result c.name_put.new.reply) =
+    let done : IsPlaced (meaning g) c.args.self.now c.args.labels.now c.alloc.new.self name (λ k. size_refused size) (λ k u. region_alloc k.terms k.region (Some name) (site_or_hyphen c.args.site.now) size u) (region_alloc terms old tag site size) tag size 32 c.reserve.new.self c.name_put.new.labels c.alloc.result (answered c.name_put.result c.name_put.new.reply) =
     record {
       names = c.requires.names;
       allowed = λ r. allowed g (goal.at.returns-in_ok-tag-in-None g c).In-None;

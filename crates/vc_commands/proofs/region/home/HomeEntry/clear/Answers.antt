@@ -8,7 +8,7 @@ use Rattle.vc_region.specs.Parts.{disc_in, region_of}
 use Rattle.vc_script.specs.declared.command.Command.TheVariants.{ClearRegion}
 use Rattle.vc_commands.specs.Held.{left_by}
 use Rattle.vc_commands.specs.RegionRun.{held_of}
-use Rattle.vc_commands.specs.Labels.{name_of}
+use Rattle.vc_commands.specs.Labels.{name_of_tag}
 use Rattle.vc_commands.proofs.Emptying.{change-same, cleared-names, kept-cleared, named-cleared, none-cleared}
 use Rattle.vc_region.proofs.Rest.{rest-clear}
 use Rattle.vc_region.proofs.RestCells.{clear-cells}
@@ -25,7 +25,7 @@ returns-clause-step g c = λ r.
     record {
       region_after =
           cleared-names c.args.labels.now c.clear.new.self (rest_in c.args.self.now.region)
-          ∙ ap (region_with_labels (name_of c.clear.new.self)) (sym (ap rest_of c.clear-2.ensures.region ∙ sym (rest-clear (region_of c.args.self.now.region))));
+          ∙ ap (region_with_labels (name_of_tag c.clear.new.self)) (sym (ap rest_of c.clear-2.ensures.region ∙ sym (rest-clear (region_of c.args.self.now.region))));
       kept_after = kept-cleared h c.args.line c.clear.new.self c.keeps_freed.result c.keeps_freed.ensures c.requires.names c.clear.ensures.kept;
       replied = refl;
     }

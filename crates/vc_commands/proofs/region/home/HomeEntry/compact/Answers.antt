@@ -9,7 +9,7 @@ use Rattle.vc_commands.proofs.region.home.HomeEntry.compact.Given as given
 use Rattle.vc_region.specs.Cells.{cells_in, region_cells, rest_in, rest_of}
 use Rattle.vc_region.specs.Parts.{disc_in, region_of}
 use Rattle.vc_script.specs.declared.reply.Reply.TheVariants.{Compacted}
-use Rattle.vc_commands.specs.Labels.{name_of}
+use Rattle.vc_commands.specs.Labels.{name_of_tag}
 use Rattle.vc_commands.specs.Home.{changed_to}
 use Rattle.vc_commands.proofs.Emptying.{change-back, named-blocks}
 use Rattle.vc_region.proofs.Rest.{rest-compact, rest-compact_count}
@@ -22,7 +22,7 @@ meaning g p = (g.dyn-1.0.entry p.0).1.state p.1
 
 pub returns-clause-step : goal.returns-clause-step
 returns-clause-step g c = λ labels r.
-    let f = name_of labels in
+    let f = name_of_tag labels in
     let was = region_of c.args.self.now.region in
     let old = rest_of was in
     let k = home_of (held_of (meaning g) r c.args.self.now labels) in

@@ -2,12 +2,12 @@ use Rattle.vc_base.proofs.Common.{◌≡◌, ℕ, List, None, IsSome, sym, refl,
 use Rattle.vc_model.proofs.Keeping.{NoneRefused-equal, NoneRefused-same}
 use Rattle.vc_region.specs.Region.{blocks_of, region_with_labels, segments_of}
 use Rattle.vc_commands.specs.Answered.{answered}
-use Rattle.vc_commands.specs.Labels.{kept_of, name_of}
+use Rattle.vc_commands.specs.Labels.{kept_of, name_of_tag}
 use Rattle.vc_region.specs.Cells.{cells_in, region_cells, rest_in}
 use Rattle.vc_region.specs.Parts.{disc_in, region_of}
 use Rattle.vc_region.proofs.Sound.{own_places}
-use Rattle.vc_commands.specs.Held.{IsNamed, home_of}
-use Rattle.vc_commands.specs.Blocks.{free_block, kept_freed}
+use Rattle.vc_commands.specs.Held.{AreLabelsOf, home_of}
+use Rattle.vc_commands.specs.Blocks.{free_found, kept_freed}
 use Rattle.vc_commands.specs.RegionRun.{held_of}
 use Rattle.vc_commands.proofs.Answers.{change-same, changed-alike, err-all, if_ok-all}
 use Rattle.vc_commands.proofs.FoundBlocks.{gives-none, label_of, the_block}
@@ -29,7 +29,7 @@ pub returns-in_default : goal.returns-in_default
 returns-in_default g c =
     record {
       runs = runs-granted _ _ _ _ _ _ _ None (λ h need. granted-free h c.args.name.now c.args.line)
-          (λ r. gives-none (held_of (meaning g) r c.args.self.now c.args.labels.now) c.args.name.now (λ k. free_block k c.args.name.now c.args.line) c.no_block.result c.requires.names c.in_default.ensures.none c.no_block.ensures.value)
+          (λ r. gives-none (held_of (meaning g) r c.args.self.now c.args.labels.now) c.args.name.now (λ k. free_found k c.args.name.now c.args.line) c.no_block.result c.requires.names c.in_default.ensures.none c.no_block.ensures.value)
           tt (NoneRefused-same _);
       change = λ r. change-same (held_of (meaning g) r c.args.self.now c.args.labels.now) c.args.labels.now c.requires.lent c.requires.names;
     }
@@ -74,8 +74,8 @@ returns-in-Err g c =
     record {
       runs = runs-granted _ _ _ _ _ _ _ None (λ h need. granted-free h c.args.name.now c.args.line)
           (if_ok-all (answered c.refused.result c.refused.new.reply) _ (λ r. step-kept (held_of (meaning g) r c.args.self.now c.args.labels.now) c.in-Some.ensures.some c.args.line c.in-Err.fault (answered c.refused.result c.refused.new.reply) c.refused.ensures kept.0 (rest_in c.free.new.self) kept.1))
-          (err-all (answered c.refused.result c.refused.new.reply) (ap (λ q. (region_with_labels (name_of c.args.labels.now) q, kept_of c.args.labels.now)) kept.1)) (NoneRefused-equal _ _ c.free.ensures.disc);
+          (err-all (answered c.refused.result c.refused.new.reply) (ap (λ q. (region_with_labels (name_of_tag c.args.labels.now) q, kept_of c.args.labels.now)) kept.1)) (NoneRefused-equal _ _ c.free.ensures.disc);
       change = λ r.
           changed-alike (held_of (meaning g) r c.args.self.now c.args.labels.now) (disc_in (meaning g) c.free.new.self) (rest_in c.free.new.self) (cells_in c.free.new.self) c.args.labels.now (ap region_cells c.in-Err.ensures.answer.1) c.requires.lent c.free.ensures.disc
-          (ap segments_of kept.1) (subst (λ q. IsNamed q c.args.labels.now) (sym kept.1) c.requires.names);
+          (ap segments_of kept.1) (subst (λ q. AreLabelsOf q c.args.labels.now) (sym kept.1) c.requires.names);
     }

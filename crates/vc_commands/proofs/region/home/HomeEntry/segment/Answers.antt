@@ -3,7 +3,7 @@ use Rattle.vc_region.proofs.Relabel.{segments-relabelled}
 use Rattle.vc_region.specs.Cells.{rest_in}
 use Rattle.vc_region.specs.Parts.{region_of}
 use Rattle.vc_region.proofs.Rest.{rest-segments}
-use Rattle.vc_commands.specs.Labels.{name_of}
+use Rattle.vc_commands.specs.Labels.{name_of_tag}
 use Rattle.vc_commands.specs.Home.{reply_alone}
 use Rattle.vc_commands.specs.Whole.{segment_reply}
 use Rattle.vc_commands.specs.Held.{home_of}
@@ -17,9 +17,9 @@ meaning g p = (g.dyn-1.0.entry p.0).1.state p.1
 pub returns-in-None : goal.returns-in-None
 returns-in-None g c = λ labels r.
     ap (λ o. reply_alone (home_of (held_of (meaning g) r c.args.self.now labels)) (segment_reply c.args.at.seg o))
-    (ap (segment_at (c.args.at.seg, c.args.at.off)) (segments-relabelled (name_of labels) (rest_in c.args.self.now.region) ∙ rest-segments (region_of c.args.self.now.region)) ∙ sym c.in-None.ensures)
+    (ap (segment_at (c.args.at.seg, c.args.at.off)) (segments-relabelled (name_of_tag labels) (rest_in c.args.self.now.region) ∙ rest-segments (region_of c.args.self.now.region)) ∙ sym c.in-None.ensures)
 
 pub returns-in-Some : goal.returns-in-Some
 returns-in-Some g c = λ labels r.
     ap (λ o. reply_alone (home_of (held_of (meaning g) r c.args.self.now labels)) (segment_reply c.args.at.seg o))
-    (ap (segment_at (c.args.at.seg, c.args.at.off)) (segments-relabelled (name_of labels) (rest_in c.args.self.now.region) ∙ rest-segments (region_of c.args.self.now.region)) ∙ sym c.in-Some.ensures)
+    (ap (segment_at (c.args.at.seg, c.args.at.off)) (segments-relabelled (name_of_tag labels) (rest_in c.args.self.now.region) ∙ rest-segments (region_of c.args.self.now.region)) ∙ sym c.in-Some.ensures)

@@ -6,7 +6,7 @@ use Rattle.vc_region.specs.Cells.{rest_in}
 use Rattle.vc_region.specs.Parts.{region_of, segments_in}
 use Rattle.vc_region.proofs.Rest.{rest-segments}
 use Rattle.vc_script.specs.declared.reply.Reply.TheVariants.{SegmentList}
-use Rattle.vc_commands.specs.Labels.{name_of}
+use Rattle.vc_commands.specs.Labels.{name_of_tag}
 use Rattle.vc_commands.specs.Home.{reply_alone}
 use Rattle.vc_commands.proofs.Listing.{segments-all, segments-end, segments-next, segments_above}
 use Rattle.vc_commands.specs.Held.{home_of}
@@ -41,4 +41,4 @@ returns g c = λ labels r.
     ∙ (ap (λ is. c.loop-segment.items.items ++ is) (sym (segments-end c.loop-segment.after ss numbers (sym c.in_default.ensures)))
     ∙ (c.loop-segment.invariant
     ∙ segments-all ss numbers))) in
-    ap (λ is. reply_alone (home_of (held_of (meaning g) r c.args.self.now labels)) (SegmentList is)) (ap by_number (segments-relabelled (name_of labels) (rest_in c.args.self.now.region) ∙ rest-segments (region_of c.args.self.now.region)) ∙ sym all)
+    ap (λ is. reply_alone (home_of (held_of (meaning g) r c.args.self.now labels)) (SegmentList is)) (ap by_number (segments-relabelled (name_of_tag labels) (rest_in c.args.self.now.region) ∙ rest-segments (region_of c.args.self.now.region)) ∙ sym all)
