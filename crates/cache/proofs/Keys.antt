@@ -10,11 +10,11 @@ use Rattle.vc_dtdisc.specs.Rules.{Rules}
 use Rattle.vc_dtdisc.specs.ShapeLaws.{order-total}
 use Rattle.vc_dtdisc.specs.declared.shape.Shape.TheVariants.{Whole}
 use Rattle.vc_store.specs.Answers.{is_there}
-use Rattle.vc_store.specs.Reading.{AfterPut, Contents, first_place, found, has_match, object_at, put_by, without_key}
+use Rattle.vc_store.specs.Reading.{AfterPut, Contents, first_place, found, has_same_key, object_at_index, put_by_method, without_key}
 use Rattle.vc_store.specs.declared.put.Put.{Put}
 use Rattle.vc_store.specs.declared.put.Put.TheVariants as put
-use Rattle.cache.specs.Blaming.{Blames, fault_of}
-use Rattle.cache.specs.Asking.{Admits, Asks, Drops, IsSized, Puts, Replies, Table, asked, asked_each, key_rules, line, new_table}
+use Rattle.cache.specs.Blaming.{Blames, put_fault_of}
+use Rattle.cache.specs.Asking.{Admits, AsksKey, Drops, IsSized, KeyTable, PutsKey, Replies, after_asking, asked_each, key_line, key_rules, new_table}
 
 -- a key has itself
 pub own-key : (key : List ℕ) → has_key key_rules key key ≡ true
@@ -29,11 +29,11 @@ pub first-gone : (key : List ℕ) (keys : List (List ℕ)) → without_key key_r
 first-gone key keys = first-by (has_key key_rules key key) key keys (own-key key)
 
 -- the first of them is current, and goes
-zero-place : (t : Bool) (x : List ℕ) (xs : List (List ℕ)) (o : Option ℕ) → t ≡ false → object_at (if t then None else Some 0) (x ∷ xs) ≡ Some x
+zero-place : (t : Bool) (x : List ℕ) (xs : List (List ℕ)) (o : Option ℕ) → t ≡ false → object_at_index (if t then None else Some 0) (x ∷ xs) ≡ Some x
 zero-place true x xs o e = absurd (true≢false e)
 zero-place false x xs o e = refl
 
-pub first-is : (key : List ℕ) (old new : List (List ℕ)) → Some key ≡ object_at (first_place (length old)) old → new ≡ without_key key_rules key old → old ≡ key ∷ new
+pub first-is : (key : List ℕ) (old new : List (List ℕ)) → Some key ≡ object_at_index (first_place (length old)) old → new ≡ without_key key_rules key old → old ≡ key ∷ new
 first-is key [] new shown gone = absurd (none-some key (sym shown))
 first-is key (x ∷ xs) new shown gone =
     let is : key ≡ x =
@@ -62,10 +62,10 @@ last-gone key (x ∷ keys) e =
 
 -- a key that none of them has, put by a method that puts it last
 module _ (key : List ℕ) (d : Contents) (objects : List (List ℕ)) (none : found key_rules key d.objects ≡ None) where
-  none-matches : has_match key_rules key d ≡ false
+  none-matches : has_same_key key_rules key d ≡ false
   none-matches = and_right (is_set d.method) (is_some (found key_rules key d.objects)) (ap is_some none)
 
-  puts-last : put_by d.method key_rules d.place key d.objects ≡ d.objects ++ key ∷ [] → (answer : Put) → AfterPut answer key_rules key d objects → Puts answer key d.objects objects
+  puts-last : put_by_method d.method key_rules d.place key d.objects ≡ d.objects ++ key ∷ [] → (answer : Put) → AfterPut answer key_rules key d objects → PutsKey answer key d.objects objects
   puts-last last put.New after = after.2 ∙ last
   puts-last last put.Old after = absurd (true≢false (sym after.1 ∙ none-matches))
   puts-last last put.NoSegment after = after.2
@@ -73,9 +73,9 @@ module _ (key : List ℕ) (d : Contents) (objects : List (List ℕ)) (none : fou
   puts-last last put.WrongSize after = after.1
 
 pub puts-in : (method : DictMethod) (answer : Put) (r : Rules) (key : List ℕ) (d : Contents) (objects : List (List ℕ)) → r ≡ key_rules → d.method ≡ method
-    → put_by method key_rules d.place key d.objects ≡ d.objects ++ key ∷ [] → found key_rules key d.objects ≡ None → AfterPut answer r key d objects → Puts answer key d.objects objects
+    → put_by_method method key_rules d.place key d.objects ≡ d.objects ++ key ∷ [] → found key_rules key d.objects ≡ None → AfterPut answer r key d objects → PutsKey answer key d.objects objects
 puts-in method answer r key d objects is by last none after =
-    puts-last key d objects none (ap (λ m. put_by m key_rules d.place key d.objects) by ∙ last) answer (subst (λ q. AfterPut answer q key d objects) is after)
+    puts-last key d objects none (ap (λ m. put_by_method m key_rules d.place key d.objects) by ∙ last) answer (subst (λ q. AfterPut answer q key d objects) is after)
 
 put-then : (t : Bool) (a b : List (List ℕ)) → t ≡ true → cond t a b ≡ a
 put-then true a b e = refl
@@ -86,23 +86,23 @@ put-else true a b e = absurd (true≢false e)
 put-else false a b e = refl
 
 -- what is put where it is there, and where not
-pub puts-there : (answer : Put) (key : List ℕ) (old new : List (List ℕ)) → is_there answer ≡ true → Puts answer key old new → new ≡ old ++ key ∷ []
+pub puts-there : (answer : Put) (key : List ℕ) (old new : List (List ℕ)) → is_there answer ≡ true → PutsKey answer key old new → new ≡ old ++ key ∷ []
 puts-there answer key old new is puts = puts ∙ put-then (is_there answer) (old ++ key ∷ []) old is
 
-pub puts-not : (answer : Put) (key : List ℕ) (old new : List (List ℕ)) → is_there answer ≡ false → Puts answer key old new → new ≡ old
+pub puts-not : (answer : Put) (key : List ℕ) (old new : List (List ℕ)) → is_there answer ≡ false → PutsKey answer key old new → new ≡ old
 puts-not answer key old new is puts = puts ∙ put-else (is_there answer) (old ++ key ∷ []) old is
 
-pub are-there : (answer : Put) (key : List ℕ) (old new : List (List ℕ)) → is_there answer ≡ true → new ≡ old ++ key ∷ [] → Puts answer key old new
+pub are-there : (answer : Put) (key : List ℕ) (old new : List (List ℕ)) → is_there answer ≡ true → new ≡ old ++ key ∷ [] → PutsKey answer key old new
 are-there answer key old new is e = e ∙ sym (put-then (is_there answer) (old ++ key ∷ []) old is)
 
-pub are-not : (answer : Put) (key : List ℕ) (old new : List (List ℕ)) → is_there answer ≡ false → new ≡ old → Puts answer key old new
+pub are-not : (answer : Put) (key : List ℕ) (old new : List (List ℕ)) → is_there answer ≡ false → new ≡ old → PutsKey answer key old new
 are-not answer key old new is e = e ∙ sym (put-else (is_there answer) (old ++ key ∷ []) old is)
 
 -- so many of the oldest went, and are told, while none of the others has a key
 pub record Going (key : List ℕ) (old now : List (List ℕ)) (before after : List ℕ) : Type 0 where
   pub gone : ℕ
   pub keys : now ≡ drop gone old
-  pub lines : after ≡ before ++ flat_map (line (codes "gone ")) (take gone old)
+  pub lines : after ≡ before ++ flat_map (key_line (codes "gone ")) (take gone old)
   pub none : found key_rules key now ≡ None
 
 pub going-none : (key : List ℕ) (keys : List (List ℕ)) (lines : List ℕ) → found key_rules key keys ≡ None → Going key keys keys lines lines
@@ -116,7 +116,7 @@ one-taken (suc gone) [] x rest e = cc
 one-taken (suc gone) (y ∷ old) x rest e =
     let more = one-taken gone old x rest e in (ap (λ xs. y ∷ xs) more.0, more.1)
 
-pub going-on : (key : List ℕ) (old now next : List (List ℕ)) (before after told : List ℕ) (x : List ℕ) → Going key old now before after → now ≡ x ∷ next → told ≡ after ++ line (codes "gone ") x → Going key old next before told
+pub going-on : (key : List ℕ) (old now next : List (List ℕ)) (before after told : List ℕ) (x : List ℕ) → Going key old now before after → now ≡ x ∷ next → told ≡ after ++ key_line (codes "gone ") x → Going key old next before told
 going-on key old now next before after told x g e l =
     let taken = one-taken g.gone old x next (sym g.keys ∙ e) in
     record {
@@ -124,11 +124,11 @@ going-on key old now next before after told x g e l =
       keys = sym taken.1;
       lines =
           l
-          ∙ (ap (λ xs. xs ++ line (codes "gone ") x) g.lines
-          ∙ (append_assoc before (flat_map (line (codes "gone ")) (take g.gone old)) (line (codes "gone ") x)
+          ∙ (ap (λ xs. xs ++ key_line (codes "gone ") x) g.lines
+          ∙ (append_assoc before (flat_map (key_line (codes "gone ")) (take g.gone old)) (key_line (codes "gone ") x)
           ∙ ap (λ xs. before ++ xs)
-          (ap (λ xs. flat_map (line (codes "gone ")) (take g.gone old) ++ xs) (sym (append-nil (line (codes "gone ") x)))
-          ∙ (sym (flat_map-append (line (codes "gone ")) (take g.gone old) (x ∷ [])) ∙ ap (flat_map (line (codes "gone "))) (sym taken.0)))));
+          (ap (λ xs. flat_map (key_line (codes "gone ")) (take g.gone old) ++ xs) (sym (append-nil (key_line (codes "gone ") x)))
+          ∙ (sym (flat_map-append (key_line (codes "gone ")) (take g.gone old) (x ∷ [])) ∙ ap (flat_map (key_line (codes "gone "))) (sym taken.0)))));
       none = (none-later key x next (ap (found key_rules key) (sym e) ∙ g.none)).1;
     }
 
@@ -145,27 +145,27 @@ none-from None e = refl
 none-from (Some x) e = absurd (true≢false e)
 
 -- a key that was asked for
-asked-hit : (t : Bool) (a b : Table) → t ≡ true → cond t a b ≡ a
+asked-hit : (t : Bool) (a b : KeyTable) → t ≡ true → cond t a b ≡ a
 asked-hit true a b e = refl
 asked-hit false a b e = absurd (true≢false (sym e))
 
-asked-new : (t : Bool) (a b : Table) → t ≡ false → cond t a b ≡ b
+asked-new : (t : Bool) (a b : KeyTable) → t ≡ false → cond t a b ≡ b
 asked-new true a b e = absurd (true≢false e)
 asked-new false a b e = refl
 
-pub asks-hit : (key : List ℕ) (old new : List (List ℕ)) (before after : List ℕ) → is_some (found key_rules key old) ≡ true → new ≡ old → after ≡ before ++ line (codes "hit ") key → Asks put.Old key old new before after
+pub asks-hit : (key : List ℕ) (old new : List (List ℕ)) (before after : List ℕ) → is_some (found key_rules key old) ≡ true → new ≡ old → after ≡ before ++ key_line (codes "hit ") key → AsksKey put.Old key old new before after
 asks-hit key old new before after is keys lines = λ _. (0, asked-hit (is_some (found key_rules key old)) _ _ is ∙ ap₂ (λ (k : List (List ℕ)) (l : List ℕ). record { keys = k; lines = l }) (sym keys) (sym lines))
 
-pub asks-new : (answer : Put) (key : List ℕ) (old new : List (List ℕ)) (before mid after : List ℕ) → found key_rules key old ≡ None → is_there answer ≡ true → Admits answer key old new before mid → after ≡ mid ++ line (codes "new ") key
-    → Asks answer key old new before after
+pub asks-new : (answer : Put) (key : List ℕ) (old new : List (List ℕ)) (before mid after : List ℕ) → found key_rules key old ≡ None → is_there answer ≡ true → Admits answer key old new before mid → after ≡ mid ++ key_line (codes "new ") key
+    → AsksKey answer key old new before after
 asks-new answer key old new before mid after none is admits lines = λ _. (
   admits.0,
   asked-new (is_some (found key_rules key old)) _ _ (ap is_some none)
       ∙ ap₂ (λ (k : List (List ℕ)) (l : List ℕ). record { keys = k; lines = l }) (sym (puts-there answer key (drop admits.0 old) new is admits.1))
-      (sym (lines ∙ ap (λ xs. xs ++ line (codes "new ") key) admits.2)),
+      (sym (lines ∙ ap (λ xs. xs ++ key_line (codes "new ") key) admits.2)),
 )
 
-pub asks-not : (answer : Put) (key : List ℕ) (old new : List (List ℕ)) (before after : List ℕ) → is_there answer ≡ false → Asks answer key old new before after
+pub asks-not : (answer : Put) (key : List ℕ) (old new : List (List ℕ)) (before after : List ℕ) → is_there answer ≡ false → AsksKey answer key old new before after
 asks-not answer key old new before after is = λ there. absurd (true≢false (sym there ∙ is))
 
 -- keys that were asked for, one after another
@@ -178,7 +178,7 @@ pub asked-none : (keys : List (List ℕ)) (lines : List ℕ) → keys ≡ [] →
 asked-none keys lines k l = record { runs = []; each = refl; table = ap₂ (λ (x : List (List ℕ)) (y : List ℕ). record { keys = x; lines = y }) k l }
 
 pub asked-more : (asked_for : List (List ℕ)) (answer : Put) (key : List ℕ) (old new : List (List ℕ)) (before after : List ℕ) → is_there answer ≡ true → AskedSo asked_for old before
-    → Asks answer key old new before after → AskedSo (asked_for ++ key ∷ []) new after
+    → AsksKey answer key old new before after → AskedSo (asked_for ++ key ∷ []) new after
 asked-more asked_for answer key old new before after is so asks =
     let run = asks is in
     record {
@@ -186,8 +186,8 @@ asked-more asked_for answer key old new before after is so asks =
       each = map-append (λ (run : ℕ × List ℕ). run.1) so.runs ((run.0, key) ∷ []) ∙ ap (λ xs. xs ++ key ∷ []) so.each;
       table =
           sym run.1
-          ∙ (ap (asked run.0 key) so.table
-          ∙ sym (fold-append (λ (t : Table) (run : ℕ × List ℕ). asked run.0 run.1 t) new_table so.runs ((run.0, key) ∷ [])));
+          ∙ (ap (after_asking run.0 key) so.table
+          ∙ sym (fold-append (λ (t : KeyTable) (run : ℕ × List ℕ). after_asking run.0 run.1 t) new_table so.runs ((run.0, key) ∷ [])));
     }
 
 pub map-more : {A : Type 0} (f : A → List ℕ) (xs : List A) (i : ℕ) (x : A) (key : List ℕ) → i < length xs → x ≡ get_or xs i x → key ≡ f x → map f (take i xs) ++ key ∷ [] ≡ map f (take (i + 1) xs)
@@ -197,7 +197,7 @@ map-more f xs i x key lt is e =
     ∙ ap (map f) (ap (λ y. take i xs ++ y ∷ []) is ∙ (sym (take-suc xs i x lt) ∙ ap (λ n. take n xs) (sym (add-one i)))))
 
 pub asked-replies : (asked_for keys : List (List ℕ)) (lines : List ℕ) → AskedSo asked_for keys lines → Replies asked_for lines
-asked-replies asked_for keys lines so = (so.runs, so.each, ap (λ (t : Table). t.lines) so.table)
+asked-replies asked_for keys lines so = (so.runs, so.each, ap (λ (t : KeyTable). t.lines) so.table)
 
 -- a key of a wrong size is one of those that were asked for
 key-at : {A : Type 0} (xs : List A) (i : ℕ) (x : A) → i < length xs → x ≡ get_or xs i x → slice_get xs i ≡ Some x
@@ -205,7 +205,7 @@ key-at [] i x lt is = absurd (omega (arith, lt))
 key-at (y ∷ ys) zero x lt is = ap Some (sym is)
 key-at (y ∷ ys) (suc i) x lt is = key-at ys i x (omega (arith, lt)) is
 
-pub blamed : {A : Type 0} (f : A → List ℕ) (xs : List A) (i : ℕ) (x : A) (answer : Put) (key : List ℕ) → i < length xs → x ≡ get_or xs i x → key ≡ f x → IsSized answer key → Blames (map f xs) (fault_of answer)
+pub blamed : {A : Type 0} (f : A → List ℕ) (xs : List A) (i : ℕ) (x : A) (answer : Put) (key : List ℕ) → i < length xs → x ≡ get_or xs i x → key ≡ f x → IsSized answer key → Blames (map f xs) (put_fault_of answer)
 blamed f xs i x put.WrongSize key lt is e size = record {
   place = i;
   key = key;

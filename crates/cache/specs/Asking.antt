@@ -13,37 +13,37 @@ abbrev pub key_rules : Rules
 key_rules = rules_of Whole
 
 -- the line of a key
-abbrev pub line : List ℕ → List ℕ → List ℕ
-line word key = word ++ key ++ 10 ∷ []
+abbrev pub key_line : List ℕ → List ℕ → List ℕ
+key_line word key = word ++ key ++ 10 ∷ []
 
 -- the keys that a table has, the oldest first, and the lines that were told
-pub record Table : Type 0 where
+pub record KeyTable : Type 0 where
   pub keys : List (List ℕ)
   pub lines : List ℕ
 
 -- a table of no key that told nothing
-abbrev pub new_table : Table
+abbrev pub new_table : KeyTable
 new_table = record { keys = []; lines = [] }
 
 -- one without so many of its oldest keys, each of which is told
-abbrev pub without_oldest : ℕ → Table → Table
+abbrev pub without_oldest : ℕ → KeyTable → KeyTable
 without_oldest gone t = record {
   keys = drop gone t.keys;
-  lines = t.lines ++ flat_map (line (codes "gone ")) (take gone t.keys);
+  lines = t.lines ++ flat_map (key_line (codes "gone ")) (take gone t.keys);
 }
 
 -- one that was asked for a key: where it hadn't the key, so many others went, and the key is its youngest
-abbrev pub asked : ℕ → List ℕ → Table → Table
-asked gone key t =
-    if is_some (found key_rules key t.keys) then record { keys = t.keys; lines = t.lines ++ line (codes "hit ") key }
+abbrev pub after_asking : ℕ → List ℕ → KeyTable → KeyTable
+after_asking gone key t =
+    if is_some (found key_rules key t.keys) then record { keys = t.keys; lines = t.lines ++ key_line (codes "hit ") key }
     else record {
       keys = (without_oldest gone t).keys ++ key ∷ [];
-      lines = (without_oldest gone t).lines ++ line (codes "new ") key;
+      lines = (without_oldest gone t).lines ++ key_line (codes "new ") key;
     }
 
 -- asked for keys one after another: with each the number of those that went for it
-abbrev pub asked_each : List (ℕ × List ℕ) → Table → Table
-asked_each runs t = fold (λ t run. asked run.0 run.1 t) t runs
+abbrev pub asked_each : List (ℕ × List ℕ) → KeyTable → KeyTable
+asked_each runs t = fold (λ t run. after_asking run.0 run.1 t) t runs
 
 -- the lines are those of a new table, where so many keys went for each as the discipline refused room for
 abbrev pub Replies : List (List ℕ) → List ℕ → Type 0
@@ -57,19 +57,19 @@ IsSized other key = Unit {0}
 
 -- what single calls make of the keys and of the lines: the oldest went, or there was none
 abbrev pub Drops : Bool → List (List ℕ) → List (List ℕ) → List ℕ → List ℕ → Type 0
-Drops true old new before after = (key : List ℕ) × (old ≡ key ∷ new) × (after ≡ before ++ line (codes "gone ") key)
+Drops true old new before after = (key : List ℕ) × (old ≡ key ∷ new) × (after ≡ before ++ key_line (codes "gone ") key)
 Drops false old new before after = (old ≡ []) × (new ≡ old) × (after ≡ before)
 
 -- a new key is the youngest, or not there
-abbrev pub Puts : Put → List ℕ → List (List ℕ) → List (List ℕ) → Type 0
-Puts put key old new = new ≡ (if is_there put then old ++ key ∷ [] else old)
+abbrev pub PutsKey : Put → List ℕ → List (List ℕ) → List (List ℕ) → Type 0
+PutsKey put key old new = new ≡ (if is_there put then old ++ key ∷ [] else old)
 
 -- so once some of the oldest went
 abbrev pub Admits : Put → List ℕ → List (List ℕ) → List (List ℕ) → List ℕ → List ℕ → Type 0
 Admits put key old new before after =
-    (gone : ℕ) × Puts put key (drop gone old) new × (after ≡ before ++ flat_map (line (codes "gone ")) (take gone old))
+    (gone : ℕ) × PutsKey put key (drop gone old) new × (after ≡ before ++ flat_map (key_line (codes "gone ")) (take gone old))
 
 -- a key was asked for, where it is there then
-abbrev pub Asks : Put → List ℕ → List (List ℕ) → List (List ℕ) → List ℕ → List ℕ → Type 0
-Asks put key old new before after =
-    is_there put ≡ true → (gone : ℕ) × (asked gone key (record { keys = old; lines = before }) ≡ record { keys = new; lines = after })
+abbrev pub AsksKey : Put → List ℕ → List (List ℕ) → List (List ℕ) → List ℕ → List ℕ → Type 0
+AsksKey put key old new before after =
+    is_there put ≡ true → (gone : ℕ) × (after_asking gone key (record { keys = old; lines = before }) ≡ record { keys = new; lines = after })

@@ -7,10 +7,10 @@ use Rattle.cache.specs.declared.ask.Fault.{Fault}
 use Rattle.cache.specs.declared.ask.Fault.TheVariants.{WrongSize, NoRoom, Memory}
 
 -- the fault of a key that isn't put
-abbrev pub fault_of : Put → Fault
-fault_of put.WrongSize = WrongSize
-fault_of put.NoSegment = NoRoom
-fault_of other = Memory
+abbrev pub put_fault_of : Put → Fault
+put_fault_of put.WrongSize = WrongSize
+put_fault_of put.NoSegment = NoRoom
+put_fault_of other = Memory
 
 -- one of the keys has no byte, or more than 1,024
 pub record HasWrong (keys : List (List ℕ)) : Type 0 where

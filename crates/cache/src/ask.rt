@@ -3,8 +3,8 @@ ghost use Rattle.vc_base.specs.Prelude.{HasOut};
 ghost use Rattle.vc_best.specs.Parts.{segments_in};
 ghost use Rattle.vc_objects.specs.Leaves.{KeepsDisc};
 ghost use Rattle.vc_store.specs.Collections.{contents};
-ghost use Rattle.cache.specs.Asking.{Asks, IsSized, Replies};
-ghost use Rattle.cache.specs.Blaming.{Blames, fault_of};
+ghost use Rattle.cache.specs.Asking.{AsksKey, IsSized, Replies};
+ghost use Rattle.cache.specs.Blaming.{Blames, put_fault_of};
 ghost use Rattle.cache.specs.declared.ask.Fault.TheVariants.{WrongSize};
 ghost use Rattle.cache.specs.Tables.{IsTable, StaysTable};
 
@@ -34,7 +34,7 @@ fn ask(
     lines: &mut Vec<u8>,
 ) -> Result<Put, OutOfMemory>
     requires { IsTable state set.old queue.old }
-    ensures asks { IfOk result (λ put. Asks put key.now (contents queue.old).objects
+    ensures asks { IfOk result (λ put. AsksKey put key.now (contents queue.old).objects
         (contents queue.new).objects lines.old.items lines.new.items) }
     ensures size { IfOk result (λ put. IsSized put key.now) }
     ensures same { OnOk result ((contents set.new).objects ≡ (contents queue.new).objects) }
@@ -54,7 +54,7 @@ fn ask(
 
 // The fault of a key that can't be put.
 fn fault_of(put: Put) -> Fault
-    ensures { result ≡ fault_of put }
+    ensures { result ≡ put_fault_of put }
 {
     match put {
         Put::WrongSize => Fault::WrongSize,

@@ -1,7 +1,7 @@
 ghost use Rattle.std.specs.Prelude.{◌≡◌, ◌++◌, None, IfOk, OnOk};
 ghost use Rattle.vc_store.specs.Collections.{contents};
 ghost use Rattle.vc_store.specs.Reading.{found};
-ghost use Rattle.cache.specs.Asking.{Admits, Drops, IsSized, Puts, key_rules, line};
+ghost use Rattle.cache.specs.Asking.{Admits, Drops, IsSized, PutsKey, key_line, key_rules};
 ghost use Rattle.cache.specs.Tables.{IsTable, StaysTable};
 
 use std::alloc::Global;
@@ -15,7 +15,7 @@ pub(crate) type Keys = Collection<BuiltIn>;
 
 // Puts a line of a key.
 pub(crate) fn put_line(lines: &mut Vec<u8>, word: &[u8], key: &[u8]) -> Result<(), OutOfMemory>
-    ensures { OnOk result (lines.new.items ≡ lines.old.items ++ line word.now key.now) }
+    ensures { OnOk result (lines.new.items ≡ lines.old.items ++ key_line word.now key.now) }
 {
     lines.extend_from_slice(word)?;
     lines.extend_from_slice(key)?;
@@ -53,7 +53,7 @@ fn drop_oldest(
 fn put_both(alloc: Global, set: &mut Keys, queue: &mut Keys, key: &[u8]) -> Result<Put, OutOfMemory>
     requires table { IsTable state set.old queue.old }
     requires new { found key_rules key.now (contents queue.old).objects ≡ None }
-    ensures puts { IfOk result (λ put. Puts put key.now (contents queue.old).objects
+    ensures puts { IfOk result (λ put. PutsKey put key.now (contents queue.old).objects
         (contents queue.new).objects) }
     ensures size { IfOk result (λ put. IsSized put key.now) }
     ensures same { OnOk result ((contents set.new).objects ≡ (contents queue.new).objects) }

@@ -1,10 +1,10 @@
 -- What calls on images in memory promise.
 use Rattle.std.specs.Prelude.{◌≡◌, ℕ, ◌⊎◌, List, [], Some, ◌&&◌, if◌then◌else◌, length, map}
-use Rattle.kolbista_c.specs.Memory.{Buffer, IsFilled, IsIdle, fits}
+use Rattle.kolbista_c.specs.Memory.{Buffer, IsFilled, NothingRan, fits_buffer}
 use Rattle.vc_dtdisc.specs.Rules.{Rules}
 use Rattle.vc_dtdisc.specs.Shapes.{rules_of}
-use Rattle.vc_image_run.specs.Tool.Promises.{Checks, Shows}
-use Rattle.vc_image_run.specs.Tool.Status.{number}
+use Rattle.vc_image_run.specs.Tool.Promises.{Checks, ShowsSoundImage}
+use Rattle.vc_image_run.specs.Tool.Status.{image_status_number}
 use Rattle.vc_image_run.specs.Tool.Streams.{Sinks}
 use Rattle.vc_image_run.specs.declared.tool.status.ImageStatus.{ImageStatus}
 use Rattle.vc_main.specs.Places.{shapes}
@@ -28,13 +28,13 @@ pub record DidInMemory (did : ImageStatus → Sinks → Sinks → Type 0) (answe
   pub wrote : last.written ≡ Some written
   pub said : last.told ≡ Some told
   -- where all of it fits, the answer is the status, and else that of a failed write
-  pub code : answer ≡ (if fits written out && fits told err then number status else 4)
+  pub code : answer ≡ (if fits_buffer written out && fits_buffer told err then image_status_number status else 4)
   pub replied : IsFilled written out
   pub faulted : IsFilled told err
 
 -- want of memory before the task, or the task
 abbrev pub Does : (ImageStatus → Sinks → Sinks → Type 0) → ℕ → Buffer → Buffer → Type 0
-Does did answer out err = IsIdle 5 answer out err ⊎ DidInMemory did answer out err
+Does did answer out err = NothingRan 5 answer out err ⊎ DidInMemory did answer out err
 
 -- an image is judged for dtrun's kinds; that it is sound is told by the answer, and its six bytes go nowhere
 pub record Judges (image : List ℕ) (answer : ℕ) (err : Buffer) : Type 0 where
@@ -45,4 +45,4 @@ pub record Judges (image : List ℕ) (answer : ℕ) (err : Buffer) : Type 0 wher
 -- what an image holds is shown, over some discipline
 pub record ShowsImage (image : List ℕ) (answer : ℕ) (out err : Buffer) : Type 0 where
   pub disc : Discipline
-  pub does : Does (Shows dtrun_rules image disc) answer out err
+  pub does : Does (ShowsSoundImage dtrun_rules image disc) answer out err

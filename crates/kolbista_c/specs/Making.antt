@@ -1,12 +1,12 @@
 -- What calls promise that make an image of what a script leaves.
 use Rattle.std.specs.Prelude.{◌≡◌, ℕ, ◌⊎◌, ◌&&◌, List, [], Option, Some, None, Result, Ok, Err, if◌then◌else◌, length, map}
 use Rattle.kolbista_c.specs.Images.{dtrun_rules}
-use Rattle.kolbista_c.specs.Memory.{Buffer, IsFilled, IsIdle, fits, streams_over}
+use Rattle.kolbista_c.specs.Memory.{Buffer, IsFilled, NothingRan, fits_buffer, streams_over}
 use Rattle.vc_base.specs.Memory.{MemorySink}
 use Rattle.vc_dtdisc.specs.Rules.{Gone, Rules}
 use Rattle.vc_dtdisc.specs.Shapes.{BuiltInKind, rules_of}
 use Rattle.vc_image_run.specs.Tool.Making.{Makes, MakesOver}
-use Rattle.vc_image_run.specs.Tool.Status.{number}
+use Rattle.vc_image_run.specs.Tool.Status.{image_status_number}
 use Rattle.vc_image_run.specs.declared.tool.status.ImageStatus.{ImageStatus}
 use Rattle.vc_model.specs.Discipline.{Discipline}
 use Rattle.vc_script.specs.declared.tool.Tool.TheVariants.{Dtrun}
@@ -15,13 +15,13 @@ use Rattle.vc_session.specs.Streams.{Streams}
 use Rattle.vc_steps.specs.Moment.{Moment, at_rest}
 
 -- the bytes of an image that was made, and the number of the status
-abbrev pub bytes_of : Result MemorySink ImageStatus → List ℕ
-bytes_of (Ok image) = image.written
-bytes_of (Err status) = []
+abbrev pub made_bytes : Result MemorySink ImageStatus → List ℕ
+made_bytes (Ok image) = image.written
+made_bytes (Err status) = []
 
-abbrev pub number_of : Result MemorySink ImageStatus → ℕ
-number_of (Ok image) = 0
-number_of (Err status) = number status
+abbrev pub made_status : Result MemorySink ImageStatus → ℕ
+made_status (Ok image) = 0
+made_status (Err status) = image_status_number status
 
 -- an image was made or not, and as much as fits of it, of what was written and of what was told is in the buffers
 pub record MadeInMemory (did : Result MemorySink ImageStatus → Streams → Type 0) (answer : ℕ) (made out err : Buffer) : Type 0 where
@@ -33,14 +33,14 @@ pub record MadeInMemory (did : Result MemorySink ImageStatus → Streams → Typ
   pub wrote : last.written ≡ Some written
   pub said : last.told ≡ Some told
   -- where all of it fits, the answer is the status, and else that of a failed write
-  pub code : answer ≡ (if fits (bytes_of image) made && (fits written out && fits told err) then number_of image else 4)
-  pub remade : IsFilled (bytes_of image) made
+  pub code : answer ≡ (if fits_buffer (made_bytes image) made && (fits_buffer written out && fits_buffer told err) then made_status image else 4)
+  pub remade : IsFilled (made_bytes image) made
   pub replied : IsFilled written out
   pub faulted : IsFilled told err
 
 -- want of memory before the run, or the run
 abbrev pub MakesInMemory : (Result MemorySink ImageStatus → Streams → Type 0) → ℕ → Buffer → Buffer → Buffer → Type 0
-MakesInMemory did answer made out err = (IsIdle 5 answer out err × IsFilled [] made) ⊎ MadeInMemory did answer made out err
+MakesInMemory did answer made out err = (NothingRan 5 answer out err × IsFilled [] made) ⊎ MadeInMemory did answer made out err
 
 -- over eighteen disciplines and dtrun's kinds, with nothing open, a script was run and the image of what it leaves was made, or not; and each place has its discipline again, with no segment more out
 pub record Saved (script : List ℕ) (image : Result MemorySink ImageStatus) (streams : Streams) : Type 0 where

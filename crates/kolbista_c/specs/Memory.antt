@@ -25,8 +25,8 @@ pub record IsFilled (bytes : List ℕ) (b : Buffer) : Type 0 where
   pub after : b.after ≡ take b.used bytes ++ drop b.used b.before
 
 -- whether these bytes fit into a buffer
-abbrev pub fits : List ℕ → Buffer → Bool
-fits bytes b = nat_le (length bytes) (length b.before)
+abbrev pub fits_buffer : List ℕ → Buffer → Bool
+fits_buffer bytes b = nat_le (length bytes) (length b.before)
 
 -- a word, where it is asked for
 abbrev word_if : Bool → List ℕ → List (List ℕ)
@@ -65,7 +65,7 @@ pub record RanInMemory (tool : Tool) (words : List (List ℕ)) (script : List �
   pub told : List ℕ
   pub played : Played tool words script status replies told
   -- where all of it fits, the answer is the status, and else that of a failed write
-  pub code : answer ≡ (if fits replies out && fits told err then number status else 4)
+  pub code : answer ≡ (if fits_buffer replies out && fits_buffer told err then number status else 4)
   pub replied : IsFilled replies out
   pub faulted : IsFilled told err
 
@@ -76,14 +76,14 @@ pub record AreIdle (made out err : Buffer) : Type 0 where
   pub err_is : IsFilled [] err
 
 -- nothing was run
-pub record IsIdle (due answer : ℕ) (out err : Buffer) : Type 0 where
+pub record NothingRan (due answer : ℕ) (out err : Buffer) : Type 0 where
   pub code : answer ≡ due
   pub replied : IsFilled [] out
   pub faulted : IsFilled [] err
 
 -- want of memory before the run, or the run
 abbrev pub Runs : Option Tool → Option (List (List ℕ)) → List ℕ → ℕ → Buffer → Buffer → Type 0
-Runs None words script answer out err = IsIdle 2 answer out err
-Runs (Some tool) None script answer out err = IsIdle 2 answer out err
+Runs None words script answer out err = NothingRan 2 answer out err
+Runs (Some tool) None script answer out err = NothingRan 2 answer out err
 Runs (Some tool) (Some words) script answer out err =
-    IsIdle 5 answer out err ⊎ RanInMemory tool words script answer out err
+    NothingRan 5 answer out err ⊎ RanInMemory tool words script answer out err

@@ -1,5 +1,5 @@
 ghost use Rattle.std.specs.Prelude.{◌≡◌, ◌&&◌, [], IfOk, if◌then◌else◌};
-ghost use Rattle.kolbista_c.specs.Memory.{IsFilled, buffer, fits};
+ghost use Rattle.kolbista_c.specs.Memory.{IsFilled, buffer, fits_buffer};
 
 use std::alloc::Global;
 use vc_base::{MemSink, OutOfMemory};
@@ -37,8 +37,8 @@ pub(crate) fn fill_both(
     err: &mut [u8],
     err_used: &mut usize,
 ) -> u32
-    ensures code { result ≡ (if fits written.now.written (buffer out.old out.new out_used.new)
-        && fits told.now.written (buffer err.old err.new err_used.new) then status else 4) }
+    ensures code { result ≡ (if fits_buffer written.now.written (buffer out.old out.new out_used.new)
+        && fits_buffer told.now.written (buffer err.old err.new err_used.new) then status else 4) }
     ensures written { IsFilled written.now.written (buffer out.old out.new out_used.new) }
     ensures told { IsFilled told.now.written (buffer err.old err.new err_used.new) }
 {

@@ -1,7 +1,7 @@
 ghost use Rattle.std.specs.Prelude.{◌≡◌, [], false, IfOk, map};
 ghost use Rattle.kolbista_c.specs.Images.{Does, Judges, ShowsImage, dtrun_rules};
 ghost use Rattle.kolbista_c.specs.Memory.{buffer};
-ghost use Rattle.vc_image_run.specs.Tool.Promises.{Checks, Shows};
+ghost use Rattle.vc_image_run.specs.Tool.Promises.{Checks, ShowsSoundImage};
 
 use crate::buffers::{fill_both, sinks};
 use std::alloc::{AllocError, Global};
@@ -72,7 +72,7 @@ fn show_over(
 ) -> u32
     requires out { out_used.old ≡ 0 }
     requires err { err_used.old ≡ 0 }
-    ensures { Does (Shows dtrun_rules image.now (state disc)) result
+    ensures { Does (ShowsSoundImage dtrun_rules image.now (state disc)) result
         (buffer out.old out.new out_used.new) (buffer err.old err.new err_used.new) }
 {
     let Ok(kinds) = own_kinds(alloc) else {

@@ -1,6 +1,6 @@
 ghost use Rattle.std.specs.Prelude.{◌≡◌, ◌&&◌, [], if◌then◌else◌, map, vec_len, IfOk, OnErr};
-ghost use Rattle.kolbista_c.specs.Making.{MadeInMemory, Remade, Saved, bytes_of, number_of};
-ghost use Rattle.kolbista_c.specs.Memory.{AreIdle, IsFilled, buffer, fits};
+ghost use Rattle.kolbista_c.specs.Making.{MadeInMemory, Remade, Saved, made_bytes, made_status};
+ghost use Rattle.kolbista_c.specs.Memory.{AreIdle, IsFilled, buffer, fits_buffer};
 
 use crate::buffers::{fill, fill_both, sinks};
 use crate::images::own_kinds;
@@ -24,10 +24,10 @@ fn fill_all(
     err_used: &mut usize,
 ) -> u32
     requires { made_used.old ≡ 0 }
-    ensures code { result ≡ (if fits (bytes_of image.now) (buffer made.old made.new made_used.new)
-        && (fits written.now.written (buffer out.old out.new out_used.new)
-        && fits told.now.written (buffer err.old err.new err_used.new)) then number_of image.now else 4) }
-    ensures made { IsFilled (bytes_of image.now) (buffer made.old made.new made_used.new) }
+    ensures code { result ≡ (if fits_buffer (made_bytes image.now) (buffer made.old made.new made_used.new)
+        && (fits_buffer written.now.written (buffer out.old out.new out_used.new)
+        && fits_buffer told.now.written (buffer err.old err.new err_used.new)) then made_status image.now else 4) }
+    ensures made { IsFilled (made_bytes image.now) (buffer made.old made.new made_used.new) }
     ensures written { IsFilled written.now.written (buffer out.old out.new out_used.new) }
     ensures told { IsFilled told.now.written (buffer err.old err.new err_used.new) }
 {

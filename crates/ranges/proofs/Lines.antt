@@ -2,15 +2,15 @@
 use Rattle.vc_base.proofs.Common.{◌≡◌, ℕ, List, [], ◌∷◌, ◌++◌, sym, ap, ◌∙◌, append_assoc, append-nil}
 use Rattle.vc_paths.specs.Visible.{Seen}
 use Rattle.vc_algebra.proofs.LoopLemmas.{Shows}
-use Rattle.ranges.specs.Showing.{lines_of}
+use Rattle.ranges.specs.Showing.{object_lines}
 
 -- with the line of the first, those of the rest are left
-pub line-put : (done bytes : List ℕ) (xs ys : List (Seen ℕ)) → Shows xs ys bytes → (done ++ (bytes ++ 10 ∷ [])) ++ lines_of ys ≡ done ++ lines_of xs
+pub line-put : (done bytes : List ℕ) (xs ys : List (Seen ℕ)) → Shows xs ys bytes → (done ++ (bytes ++ 10 ∷ [])) ++ object_lines ys ≡ done ++ object_lines xs
 line-put done bytes xs ys s =
-    append_assoc done (bytes ++ 10 ∷ []) (lines_of ys)
-    ∙ ap (λ z. done ++ ((z ++ 10 ∷ []) ++ lines_of ys)) (sym s.same)
-    ∙ ap (λ zs. done ++ lines_of zs) (sym s.first)
+    append_assoc done (bytes ++ 10 ∷ []) (object_lines ys)
+    ∙ ap (λ z. done ++ ((z ++ 10 ∷ []) ++ object_lines ys)) (sym s.same)
+    ∙ ap (λ zs. done ++ object_lines zs) (sym s.first)
 
 -- and at the end none
-pub lines-end : (done : List ℕ) (xs : List (Seen ℕ)) → xs ≡ [] → done ≡ done ++ lines_of xs
-lines-end done xs none = sym (ap (λ zs. done ++ lines_of zs) none ∙ append-nil done)
+pub lines-end : (done : List ℕ) (xs : List (Seen ℕ)) → xs ≡ [] → done ≡ done ++ object_lines xs
+lines-end done xs none = sym (ap (λ zs. done ++ object_lines zs) none ∙ append-nil done)

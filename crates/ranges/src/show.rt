@@ -2,7 +2,7 @@ ghost use Rattle.std.specs.Prelude.{◌≡◌, ◌∷◌, [], ◌++◌, OnOk, So
 ghost use Rattle.vc_paths.specs.Path.{IsPath, visible_of};
 ghost use Rattle.vc_paths.specs.Unchanged.{Unchanged};
 ghost use Rattle.vc_algebra.specs.Algebra.{meet, range};
-ghost use Rattle.ranges.specs.Showing.{lines_of};
+ghost use Rattle.ranges.specs.Showing.{object_lines};
 
 use crate::fault::Fault;
 use std::alloc::Global;
@@ -30,7 +30,7 @@ pub(crate) fn put_range<Y: Ordered, L>(
     steps: &mut Steps<L>,
 ) -> Result<(), Fault>
     requires { IsPath (Y.layered layers.old) paths.now d }
-    ensures lines { OnOk result (lines.new.items ≡ lines.old.items ++ lines_of
+    ensures lines { OnOk result (lines.new.items ≡ lines.old.items ++ object_lines
         (range ((Y.layered layers.old).layer d).rules (Some low.now) (Some high.now)
         (visible_of (Y.layered layers.old) paths.now d))) }
     ensures unchanged { Unchanged Y.Layers layers.old layers.new }
@@ -54,7 +54,7 @@ pub(crate) fn put_meet<Y: Ordered, L>(
 ) -> Result<(), Fault>
     requires first { IsPath (Y.layered layers.old) paths.now d }
     requires second { IsPath (Y.layered layers.old) paths.now e }
-    ensures lines { OnOk result (lines.new.items ≡ lines.old.items ++ lines_of
+    ensures lines { OnOk result (lines.new.items ≡ lines.old.items ++ object_lines
         (meet ((Y.layered layers.old).layer d).rules
         (visible_of (Y.layered layers.old) paths.now d)
         (visible_of (Y.layered layers.old) paths.now e))) }

@@ -13,7 +13,7 @@ use Rattle.vc_objects.specs.Parts.{object_of}
 use Rattle.vc_objects.proofs.Mapped.{address-mapped, first-mapped}
 use Rattle.vc_paths.proofs.StackedLemmas.{find-filter}
 use Rattle.vc_paths.specs.Layers.{Layer, bytes_there, place_before, place_behind, place_in, place_with, stands_at}
-use Rattle.vc_algebra.specs.Sides.{holder_like, holder_to, last_place, place_to}
+use Rattle.vc_algebra.specs.Sides.{holder_like, holder_to, last_place_like, place_to}
 use Rattle.vc_algebra.specs.declared.side.Side.{Side}
 use Rattle.vc_algebra.specs.declared.side.Side.TheVariants.{Above, AtLeast, Below, Level}
 
@@ -90,7 +90,7 @@ module _ (b : Blocks) where
   ]
 
   -- the last that matches one
-  pub last-stands : (at : ℕ) (l : Layer) (bytes xs : List ℕ) → l.objects ≡ map (object_of b) xs → bytes_there at l.objects ≡ Some bytes → last_place l bytes ≡ holder_like l.rules b at xs
+  pub last-stands : (at : ℕ) (l : Layer) (bytes xs : List ℕ) → l.objects ≡ map (object_of b) xs → bytes_there at l.objects ≡ Some bytes → last_place_like l bytes ≡ holder_like l.rules b at xs
   last-stands at l bytes xs objects there =
       let here : bytes_there at (map (object_of b) xs) ≡ Some bytes = subst (λ os. bytes_there at os ≡ Some bytes) objects there in
       let within = holder-here at xs (ap is_some here) in

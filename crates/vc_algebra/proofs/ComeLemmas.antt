@@ -12,7 +12,7 @@ use Rattle.vc_paths.proofs.SeekLemmas.{path-first}
 use Rattle.vc_paths.proofs.SightLemmas.{IsThere, visible-there}
 use Rattle.vc_paths.proofs.StayLemmas.{path-kept, seen-kept}
 use Rattle.vc_algebra.specs.Algebra.{by_op}
-use Rattle.vc_algebra.specs.ToCome.{Begins, IsMerge, IsOfSame, Passes, comes, from_place, from_there, left_of, right_of, takes_left, to_come, turn_of}
+use Rattle.vc_algebra.specs.ToCome.{Begins, IsMerge, IsOfSame, Passes, comes, from_place, from_there, left_of, right_of, seen_to_come, takes_left, turn_of}
 use Rattle.vc_algebra.specs.declared.merge.Merge.{Merge}
 use Rattle.vc_algebra.specs.declared.op.Op.{Op}
 use Rattle.vc_algebra.specs.declared.turn.Turn.{Turn}
@@ -128,8 +128,8 @@ merge-kept links m s h = record {
   right = seen-on links m.e m.right s h.right;
 }
 
-pub come-kept : {old new : Layered} (links : Links) (m : Merge) → Same old new → to_come new links m ≡ to_come old links m
-come-kept links m s = ap (λ (z : ℕ → Layer). to_come (bare z) links m) s.layers
+pub come-kept : {old new : Layered} (links : Links) (m : Merge) → Same old new → seen_to_come new links m ≡ seen_to_come old links m
+come-kept links m s = ap (λ (z : ℕ → Layer). seen_to_come (bare z) links m) s.layers
 
 pub left-kept : {old new : Layered} (links : Links) (m : Merge) → Same old new → left_of new links m ≡ left_of old links m
 left-kept links m s = ap (λ (z : ℕ → Layer). left_of (bare z) links m) s.layers
@@ -144,14 +144,14 @@ begin {all} {mid} {new} {links} d e op left right p q kinds same s a b =
     let m : Merge = record { d = d; e = e; op = op; left = left; right = right } in
     let b' : Answers right (first_of (visible_of all links e)) = subst (λ (z : ℕ → Layer). Answers right (first_of (visible_of (bare z) links e))) same.layers b in
     let rules = (all.layer d).rules in
-    let whole : to_come all links m ≡ by_op op rules (visible_of all links d) (visible_of all links e) =
+    let whole : seen_to_come all links m ≡ by_op op rules (visible_of all links d) (visible_of all links e) =
     ap (λ z. by_op op rules z (from_place right (visible_of all links e))) (from-first left (visible_of all links d) a) ∙ ap (by_op op rules (visible_of all links d)) (from-first right (visible_of all links e) b') in
     record {
       merge = merge-kept links m s (record { first = p; second = q; kinds = sym kinds; left = seen-first left (visible_of all links d) a; right = seen-first right (visible_of all links e) b' });
       first = refl;
       second = refl;
       operation = refl;
-      whole = subst (λ (z : ℕ → Layer). to_come (bare z) links m ≡ by_op op (z d).rules (visible_of (bare z) links d) (visible_of (bare z) links e)) (sym s.layers) whole;
+      whole = subst (λ (z : ℕ → Layer). seen_to_come (bare z) links m ≡ by_op op (z d).rules (visible_of (bare z) links d) (visible_of (bare z) links e)) (sym s.layers) whole;
     }
 
 -- which object is passed there is
@@ -193,8 +193,8 @@ right-sorted {all} {links} m laws s =
 
 -- one step of an operation, by whose turn it is
 pub record IsStep (all : Layered) (links : Links) (m new : Merge) (place : Option (ℕ × Addr)) (answered : Bool) : Type 0 where
-  pub comes : answered ≡ true → Answers place (first_of (to_come all links m)) × (to_come all links new ≡ drop 1 (to_come all links m))
-  pub goes : answered ≡ false → to_come all links new ≡ to_come all links m
+  pub comes : answered ≡ true → Answers place (first_of (seen_to_come all links m)) × (seen_to_come all links new ≡ drop 1 (seen_to_come all links m))
+  pub goes : answered ≡ false → seen_to_come all links new ≡ seen_to_come all links m
   pub fewer : length (left_of all links new) + length (right_of all links new) < length (left_of all links m) + length (right_of all links m)
 
 pub step : {all : Layered} {links : Links} (m new : Merge) (turn : Turn) (result : Option Turn) (left answered : Bool) (place : Option (ℕ × Addr)) → AreLayers all → IsMerge all links m
@@ -209,29 +209,29 @@ step {all} {links} m new turn result left answered place laws s told is l c pass
     sym (ap (λ (z : Option (Seen ℕ)). turn_of rules z (object_at all m.right)) (left-head m laws s).object ∙ ap (turn_of rules (first_of xs)) (right-head m laws s).object) ∙ sym told ∙ is in
     let t = takes_left m.op turn in
     let one = taken m.op rules xs ys turn turns in
-    let after : to_come all links new ≡ by_op m.op rules (if t then drop 1 xs else xs) (if t then ys else drop 1 ys) =
+    let after : seen_to_come all links new ≡ by_op m.op rules (if t then drop 1 xs else xs) (if t then ys else drop 1 ys) =
     ap (λ z. by_op z (all.layer new.d).rules (left_of all links new) (right_of all links new)) p.same.op
     ∙ ap (λ z. by_op m.op (all.layer z).rules (left_of all links new) (right_of all links new)) p.same.first
     ∙ ap (λ z. by_op m.op rules z (right_of all links new)) p.first
     ∙ ap (by_op m.op rules (if t then drop 1 xs else xs)) p.second in
     let front = λ (b : Bool). if b then take 1 (if t then xs else ys) else [] in
-    let before : to_come all links m ≡ front answered ++ to_come all links new =
+    let before : seen_to_come all links m ≡ front answered ++ seen_to_come all links new =
     pass-one m.op rules order xs ys turn (left-sorted m laws s) (right-sorted m laws s) turns
     ∙ ap (λ z. front z ++ by_op m.op rules (if t then drop 1 xs else xs) (if t then ys else drop 1 ys)) (sym c)
     ∙ ap (λ z. front answered ++ z) (sym after) in
-    let firsts = front-first (if t then xs else ys) (to_come all links new) one.0 one.1 in
+    let firsts = front-first (if t then xs else ys) (seen_to_come all links new) one.0 one.1 in
     record {
       comes = λ yes.
-          let whole : to_come all links m ≡ take 1 (if t then xs else ys) ++ to_come all links new = before ∙ ap (λ z. front z ++ to_come all links new) yes in (
+          let whole : seen_to_come all links m ≡ take 1 (if t then xs else ys) ++ seen_to_come all links new = before ∙ ap (λ z. front z ++ seen_to_come all links new) yes in (
             subst (Answers place) (sym (ap first_of whole ∙ firsts.0)) p.place,
             sym (ap (drop 1) whole ∙ firsts.1),
           );
-      goes = λ no. sym (before ∙ ap (λ z. front z ++ to_come all links new) no);
+      goes = λ no. sym (before ∙ ap (λ z. front z ++ seen_to_come all links new) no);
       fewer = subst (λ z. z < length xs + length ys) (sym (ap (λ z. length z + length (right_of all links new)) p.first ∙ ap (λ z. length (if t then drop 1 xs else xs) + length z) p.second)) (fewer t xs ys one.0 one.1);
     }
 
 -- where it is nobody's turn nothing is to come
-pub finished : {all : Layered} {links : Links} (m : Merge) (result : Option Turn) → AreLayers all → IsMerge all links m → result ≡ turn_of (all.layer m.d).rules (object_at all m.left) (object_at all m.right) → result ≡ None → to_come all links m ≡ []
+pub finished : {all : Layered} {links : Links} (m : Merge) (result : Option Turn) → AreLayers all → IsMerge all links m → result ≡ turn_of (all.layer m.d).rules (object_at all m.left) (object_at all m.right) → result ≡ None → seen_to_come all links m ≡ []
 finished {all} {links} m result laws s told is =
     let rules = (all.layer m.d).rules in
     let xs = left_of all links m in

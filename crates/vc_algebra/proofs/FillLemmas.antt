@@ -35,10 +35,10 @@ use Rattle.vc_region.specs.Region as model
 use Rattle.vc_region.specs.declared.region.Region as code
 use Rattle.vc_region.specs.declared.region.Region.TheVariants.{Best}
 use Rattle.vc_seg.specs.Boxed.{disc_in_box}
-use Rattle.vc_algebra.specs.Filling.{CanFill, Fills, IsPut, IsSettled, is_like}
+use Rattle.vc_algebra.specs.Filling.{CanFillRegion, FillsDict, IsPutOrMatched, IsReadyToFill, is_like}
 use Rattle.vc_objects.specs.Puts.Puts.{is_matched}
 use Rattle.vc_objects.proofs.PutLemmas.{matched-told}
-use Rattle.vc_algebra.specs.InRegion.{AreApart, AreDictsIn, HasLayer, Held, IsDictIn, KeepsDicts, held, layered_in, layers_in}
+use Rattle.vc_algebra.specs.InRegion.{AreDictsIn, HasDictInRegion, HeldDict, IsDictIn, KeepsDictsIn, ShareNoBlock, held, layered_in, layers_of_region}
 use Rattle.vc_algebra.specs.RegionLaws.{dict-at}
 use Rattle.vc_algebra.proofs.LookLemmas.{Changed, all-at, by-rules, changed}
 
@@ -74,13 +74,13 @@ module _ (rules : Rules) (d : Dict) (b : Blocks) where
   abbrev xs : List ℕ
   xs = holders_of d b
 
-  pub whole-settled : IsWhole rules d b → IsSettled (dictionary_of d b)
+  pub whole-settled : IsWhole rules d b → IsReadyToFill (dictionary_of d b)
   whole-settled whole = record {
     current = λ at is. ap (λ ys. contains ys at) (addresses-mapped b xs) ∙ current-in d.current.0 xs whole.current at is;
     table = λ h. table-is (table_in d).0 (slots_in d) (whole.table h);
   }
 
-  pub settled-whole : Stands rules d b xs → AllByRecursion (λ o. IsObject o.bytes) (dictionary_of d b).objects → IsSettled (dictionary_of d b) → IsWhole rules d b
+  pub settled-whole : Stands rules d b xs → AllByRecursion (λ o. IsObject o.bytes) (dictionary_of d b).objects → IsReadyToFill (dictionary_of d b) → IsWhole rules d b
   settled-whole stands objects settled = record {
     stands = stands;
     current = current-from d.current.0 xs (λ at is. sym (ap (λ ys. contains ys at) (addresses-mapped b xs)) ∙ settled.current at is);
@@ -102,14 +102,14 @@ all-last P (y ∷ ys) x p h = (h.0, all-last P ys x p h.1)
 module _ {I : Type 0} {V : I → Type 0} (meaning : (x : I) × V x → Discipline) (rules : Rules) (bytes : List ℕ) (before after : best.Best I V) (old new : Dict) where
   pub put-told : (told : Option (Result Fate OutOfMemory)) → is_some told ≡ not (is_matched rules bytes (dictionary_in old before)) → IfNone told (Looks meaning rules before old after new)
       → IfSome told (λ r. Inserts meaning r rules false bytes before old after new)
-      → IsPut (option_transpose told) (best_parts.disc_in meaning before).terms rules bytes (best_cells.rest_in before) (dictionary_in old before) (best_cells.rest_in after) (dictionary_in new after)
+      → IsPutOrMatched (option_transpose told) (best_parts.disc_in meaning before).terms rules bytes (best_cells.rest_in before) (dictionary_in old before) (best_cells.rest_in after) (dictionary_in new after)
   put-told None e looks inserts = (matched-told (is_matched rules bytes (dictionary_in old before)) false e, looks.region, looks.dict)
   put-told (Some (Ok fate)) e looks inserts = (matched-told (is_matched rules bytes (dictionary_in old before)) true e, inserts.ok)
   put-told (Some (Err why)) e looks inserts = (matched-told (is_matched rules bytes (dictionary_in old before)) true e, inserts.err)
 
 -- one of a best region's dictionaries
 module _ {I : Type 0} {V : I → Type 0} (meaning : (x : I) × V x → Discipline) (kinds : List Rules) (b : best.Best I V) (ds : List Dict) (i : ℕ) (d : Dict) (rules : Rules)
-    (at : slice_get ds i ≡ Some d) (can : CanFill meaning kinds (Best b) ds) (kind : at_number kinds d.kind ≡ Some rules) where
+    (at : slice_get ds i ≡ Some d) (can : CanFillRegion meaning kinds (Best b) ds) (kind : at_number kinds d.kind ≡ Some rules) where
   abbrev cells : Blocks
   cells = best_cells.cells_in b
 
@@ -122,7 +122,7 @@ module _ {I : Type 0} {V : I → Type 0} (meaning : (x : I) × V x → Disciplin
   -- it may be asked to take one
   pub can-ask : CanAsk meaning rules b d
   can-ask = record {
-    whole = settled-whole rules d cells (by-rules kinds cells d rules kind is) is.objects (all-at (λ h. IsSettled h.dict) (map (held cells) ds) i (held cells d) there can.settled);
+    whole = settled-whole rules d cells (by-rules kinds cells d rules kind is) is.objects (all-at (λ h. IsReadyToFill h.dict) (map (held cells) ds) i (held cells d) there can.settled);
     lent = can.lent;
   }
 
@@ -138,19 +138,19 @@ module _ {I : Type 0} {V : I → Type 0} (meaning : (x : I) × V x → Disciplin
       fresh = leaves.rest.fresh;
     })
 
-    pub can-filled : CanFill meaning kinds (Best c) (set ds i d')
+    pub can-filled : CanFillRegion meaning kinds (Best c) (set ds i d')
     can-filled = record {
       best = refl;
       dicts = all.dicts;
-      settled = subst (AllByRecursion (λ h. IsSettled h.dict)) (sym all.held) (all-put (λ (h : Held). IsSettled h.dict) (map (held cells) ds) i (held cells' d') (whole-settled rules d' cells' leaves.whole) can.settled);
+      settled = subst (AllByRecursion (λ h. IsReadyToFill h.dict)) (sym all.held) (all-put (λ (h : HeldDict). IsReadyToFill h.dict) (map (held cells) ds) i (held cells' d') (whole-settled rules d' cells' leaves.whole) can.settled);
       lent = keeps-out (best_parts.disc_in meaning b) (best_parts.disc_in meaning c) (best_parts.segments_in b) (best_parts.segments_in c) leaves.rest.disc can.lent;
     }
 
-    abbrev with_kind : ℕ → Held
+    abbrev with_kind : ℕ → HeldDict
     with_kind k = record { kind = k; dict = dictionary_of d' cells' }
 
-    pub fills : (result : Result (Option Fate) OutOfMemory) (bytes : List ℕ) → IsPut result (best_parts.disc_in meaning b).terms rules bytes (best_cells.rest_in b) (dictionary_in d b) (best_cells.rest_in c) (dictionary_in d' c)
-        → Fills meaning kinds result i bytes (Best b) (Best c) ds (set ds i d')
+    pub fills : (result : Result (Option Fate) OutOfMemory) (bytes : List ℕ) → IsPutOrMatched result (best_parts.disc_in meaning b).terms rules bytes (best_cells.rest_in b) (dictionary_in d b) (best_cells.rest_in c) (dictionary_in d' c)
+        → FillsDict meaning kinds result i bytes (Best b) (Best c) ds (set ds i d')
     fills result bytes put = record {
       before = best_cells.rest_in b;
       was = refl;
@@ -186,12 +186,12 @@ module _ (kinds : List Rules) (b : Blocks) (d : Dict) (stands : (rules : Rules) 
   pub dicts-last : (rules : Rules) → at_number kinds d.kind ≡ Some rules → (ds : List Dict) → AreDictsIn kinds b ds → AreDictsIn kinds b (ds ++ d ∷ [])
   dicts-last rules kind [] are = (is-empty rules kind, tt, tt)
   dicts-last rules kind (e ∷ es) are =
-      (are.0, all-last (AreApart b e) es d (λ a w. ap (λ xs. contains xs a) own-empty) are.1, dicts-last rules kind es are.2)
+      (are.0, all-last (ShareNoBlock b e) es d (λ a w. ap (λ xs. contains xs a) own-empty) are.1, dicts-last rules kind es are.2)
 
 -- so in a region
 pub can-opened : {I : Type 0} {V : I → Type 0} (meaning : (x : I) × V x → Discipline) (kinds : List Rules) (r : code.Region I V) (ds : List Dict) (d : Dict) (method : DictMethod)
     → ((rules : Rules) → Stands rules d (cells_in r) []) → d.current.0 ≡ 0 → (table_in d).0 ≡ 0 → d.method ≡ method → has_table method ≡ false → IsSome (at_number kinds d.kind)
-    → CanFill meaning kinds r ds → CanFill meaning kinds r (ds ++ d ∷ [])
+    → CanFillRegion meaning kinds r ds → CanFillRegion meaning kinds r (ds ++ d ∷ [])
 can-opened meaning kinds r ds d method stands current table same none some can =
     let rules = some-rules (at_number kinds d.kind) some in
     let b = cells_in r in
@@ -199,9 +199,9 @@ can-opened meaning kinds r ds d method stands current table same none some can =
       best = can.best;
       dicts = dicts-last kinds b d stands current table rules.0 rules.1 ds can.dicts;
       settled =
-          subst (AllByRecursion (λ h. IsSettled h.dict)) (sym (map-append (held b) ds (d ∷ [])))
-          (all-last (λ (h : Held). IsSettled h.dict) (map (held b) ds) (held b d)
-          (subst IsSettled (sym (dictionary-empty kinds b d stands current table method same)) (record {
+          subst (AllByRecursion (λ h. IsReadyToFill h.dict)) (sym (map-append (held b) ds (d ∷ [])))
+          (all-last (λ (h : HeldDict). IsReadyToFill h.dict) (map (held b) ds) (held b d)
+          (subst IsReadyToFill (sym (dictionary-empty kinds b d stands current table method same)) (record {
             current = λ at is. absurd (none-some at is);
             table = λ h. absurd (true≢false (sym h ∙ none));
           }))
@@ -213,7 +213,7 @@ can-opened meaning kinds r ds d method stands current table same none some can =
     some-rules None h = cc
     some-rules (Some rules) h = (rules, refl)
 
-abbrev held_by : ℕ → Dictionary → Held
+abbrev held_by : ℕ → Dictionary → HeldDict
 held_by k x = record { kind = k; dict = x }
 
 pub helds-opened : {I : Type 0} {V : I → Type 0} (r : code.Region I V) (ds : List Dict) (d : Dict) (method : DictMethod) (kind : ℕ) → ((rules : Rules) → Stands rules d (cells_in r) []) → d.current.0 ≡ 0 → (table_in d).0 ≡ 0 → d.method ≡ method → d.kind ≡ kind
@@ -230,24 +230,24 @@ segments-rest (model.OfLast layout) = refl
 segments-rest (model.OfDebug debug) = refl
 segments-rest (model.OfProfile profile) = refl
 
-pub can-kept : {I : Type 0} {V : I → Type 0} (meaning : (x : I) × V x → Discipline) (kinds : List Rules) {r r' : code.Region I V} {ds ds' : List Dict} → KeepsDicts r r' ds ds' → AreDictsIn kinds (cells_in r') ds' → CanFill meaning kinds r ds → CanFill meaning kinds r' ds'
+pub can-kept : {I : Type 0} {V : I → Type 0} (meaning : (x : I) × V x → Discipline) (kinds : List Rules) {r r' : code.Region I V} {ds ds' : List Dict} → KeepsDictsIn r r' ds ds' → AreDictsIn kinds (cells_in r') ds' → CanFillRegion meaning kinds r ds → CanFillRegion meaning kinds r' ds'
 can-kept meaning kinds {r} {r'} {ds} {ds'} keeps dicts can = record {
   best = ap is_best keeps.region.region ∙ can.best;
   dicts = dicts;
-  settled = subst (AllByRecursion (λ h. IsSettled h.dict)) (sym keeps.same) can.settled;
+  settled = subst (AllByRecursion (λ h. IsReadyToFill h.dict)) (sym keeps.same) can.settled;
   lent = subst (λ s. HasOut (disc_in meaning r') s) (sym (sym (segments-rest (region_of r')) ∙ ap model.segments_of keeps.region.region ∙ segments-rest (region_of r)))
       (subst (λ x. HasOut (disc_in_box meaning x) (segments_in r)) (sym keeps.region.disc) can.lent);
 }
 
 -- so behind calls on layers
-pub can-after : {I : Type 0} {V : I → Type 0} (meaning : (x : I) × V x → Discipline) {kinds kinds' : List Rules} {r r' : code.Region I V} {ds ds' : List Dict} (d : ℕ) → Same (layered_in kinds r ds) (layered_in kinds' r' ds') → KeepsDicts r r' ds ds' → kinds' ≡ kinds → HasLayer kinds r ds d → CanFill meaning kinds r ds → CanFill meaning kinds' r' ds'
+pub can-after : {I : Type 0} {V : I → Type 0} (meaning : (x : I) × V x → Discipline) {kinds kinds' : List Rules} {r r' : code.Region I V} {ds ds' : List Dict} (d : ℕ) → Same (layered_in kinds r ds) (layered_in kinds' r' ds') → KeepsDictsIn r r' ds ds' → kinds' ≡ kinds → HasDictInRegion kinds r ds d → CanFillRegion meaning kinds r ds → CanFillRegion meaning kinds' r' ds'
 can-after meaning {kinds} {kinds'} {r} {r'} {ds} {ds'} d same keeps e has can =
-    can-kept meaning kinds' keeps (same.has d has).dicts (subst (λ k. CanFill meaning k r ds) (sym e) can)
+    can-kept meaning kinds' keeps (same.has d has).dicts (subst (λ k. CanFillRegion meaning k r ds) (sym e) can)
 
 -- a path, number by number
 module _ {I : Type 0} {V : I → Type 0} (kinds : List Rules) (r : code.Region I V) (ds : List Dict) (best : is_best (rest_in r) ≡ true) (dicts : AreDictsIn kinds (cells_in r) ds) (d : ℕ) where
   abbrev layers : ℕ → Layer
-  layers = layers_in kinds (cells_in r) ds
+  layers = layers_of_region kinds (cells_in r) ds
 
   abbrev test : ℕ → Bool
   test e = is_like (length ds) layers d e
@@ -279,6 +279,6 @@ module _ {I : Type 0} {V : I → Type 0} (kinds : List Rules) (r : code.Region I
   all-like (e ∷ es) h = and_from (test e) (list_all test es) (alike-like e h.0) (all-like es h.1)
 
 -- a region of which no dictionary is known
-pub can-begin : {I : Type 0} {V : I → Type 0} (meaning : (x : I) × V x → Discipline) (kinds : List Rules) (b : best.Best I V) (ds : List Dict) → ds ≡ [] → HasOut (best_parts.disc_in meaning b) (best_parts.segments_in b) → CanFill meaning kinds (Best b) ds
+pub can-begin : {I : Type 0} {V : I → Type 0} (meaning : (x : I) × V x → Discipline) (kinds : List Rules) (b : best.Best I V) (ds : List Dict) → ds ≡ [] → HasOut (best_parts.disc_in meaning b) (best_parts.segments_in b) → CanFillRegion meaning kinds (Best b) ds
 can-begin meaning kinds b ds none lent =
-    subst (CanFill meaning kinds (Best b)) (sym none) (record { best = refl; dicts = tt; settled = tt; lent = lent })
+    subst (CanFillRegion meaning kinds (Best b)) (sym none) (record { best = refl; dicts = tt; settled = tt; lent = lent })

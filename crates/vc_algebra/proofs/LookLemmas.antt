@@ -19,11 +19,11 @@ use Rattle.vc_region.specs.Parts.{disc_of}
 use Rattle.vc_region.specs.Region.{OfBest}
 use Rattle.vc_region.specs.declared.region.Region as code
 use Rattle.vc_region.specs.declared.region.Region.TheVariants.{Best}
-use Rattle.vc_algebra.specs.InRegion.{AreApart, AreDictsIn, Held, IsDictIn, LeavesDicts, held}
+use Rattle.vc_algebra.specs.InRegion.{AreDictsIn, HeldDict, IsDictIn, LeavesDictsIn, ShareNoBlock, held}
 use Rattle.vc_algebra.specs.RegionLaws.{dict-at}
 
 -- what is held by its parts
-abbrev held_by : ℕ → Dictionary → Held
+abbrev held_by : ℕ → Dictionary → HeldDict
 held_by k d = record { kind = k; dict = d }
 
 -- one of a list, where something holds of each
@@ -126,7 +126,7 @@ module _ (kinds : List Rules) (old new : Blocks) where
   abbrev IsClear : Dict → Dict → Type 0
   IsClear d e = (a : ℕ) → contains (own e) a ≡ true → contains (own d) a ≡ false
 
-  turned : (d e : Dict) → AreApart old d e → IsClear d e
+  turned : (d e : Dict) → ShareNoBlock old d e → IsClear d e
   turned d e apart a w = false_from_ne_true (contains (own d) a) (λ t. true≢false (sym w ∙ apart a t))
 
   -- one dictionary changes: it lies there still, and nothing is written but its blocks and what was no block
@@ -146,23 +146,23 @@ module _ (kinds : List Rules) (old new : Blocks) where
       other-kept : Kept e e
       other-kept = own-kept e is (λ a some w. c.others a some (clear a w) (apart-new a w))
 
-      apart-before : AreApart new e d'
+      apart-before : ShareNoBlock new e d'
       apart-before a w = apart-new a (ap (λ z. contains (own_blocks z) a) (sym other-kept.same) ∙ w)
 
-      apart-behind : AreApart new d' e
+      apart-behind : ShareNoBlock new d' e
       apart-behind a w = false_from_ne_true (contains (own' e) a) (λ t. true≢false (sym w ∙ apart-before a t))
 
-    both-kept : (e f : Dict) → Kept e e → Kept f f → AreApart old e f → AreApart new e f
+    both-kept : (e f : Dict) → Kept e e → Kept f f → ShareNoBlock old e f → ShareNoBlock new e f
     both-kept e f k l apart a w =
         ap (λ z. contains (own_blocks z) a) l.same ∙ apart a (ap (λ z. contains (own_blocks z) a) (sym k.same) ∙ w)
 
     -- and of several, of which this is none
-    apart-all : (e : Dict) → Kept e e → (es : List Dict) → AreDictsIn kinds old es → AllByRecursion (IsClear d) es → AllByRecursion (AreApart old e) es → AllByRecursion (AreApart new e) es
+    apart-all : (e : Dict) → Kept e e → (es : List Dict) → AreDictsIn kinds old es → AllByRecursion (IsClear d) es → AllByRecursion (ShareNoBlock old e) es → AllByRecursion (ShareNoBlock new e) es
     apart-all e k [] are clear apart = tt
     apart-all e k (f ∷ fs) are clear apart =
         (both-kept e f k (other-kept f are.0 clear.0) apart.0, apart-all e k fs are.2 clear.1 apart.1)
 
-    all-behind : (es : List Dict) → AreDictsIn kinds old es → AllByRecursion (IsClear d) es → AllByRecursion (AreApart new d') es
+    all-behind : (es : List Dict) → AreDictsIn kinds old es → AllByRecursion (IsClear d) es → AllByRecursion (ShareNoBlock new d') es
     all-behind [] are clear = tt
     all-behind (f ∷ fs) are clear = (apart-behind f are.0 clear.0, all-behind fs are.2 clear.1)
 
@@ -178,16 +178,16 @@ module _ (kinds : List Rules) (old new : Blocks) where
         ap (λ z. z ∷ map (held new) es) (other-kept e are.0 clear.0).held ∙ ap (λ zs. held old e ∷ zs) (held-clear es are.2 clear.1)
 
     -- all behind it are others
-    clear-tail : (e : Dict) (es : List Dict) → e ≡ d → AllByRecursion (AreApart old e) es → AllByRecursion (IsClear d) es
-    clear-tail e es same apart = all-weaken (AreApart old d) (IsClear d) es (turned d) (subst (λ z. AllByRecursion (AreApart old z) es) same apart)
+    clear-tail : (e : Dict) (es : List Dict) → e ≡ d → AllByRecursion (ShareNoBlock old e) es → AllByRecursion (IsClear d) es
+    clear-tail e es same apart = all-weaken (ShareNoBlock old d) (IsClear d) es (turned d) (subst (λ z. AllByRecursion (ShareNoBlock old z) es) same apart)
 
-    apart-set : (e : Dict) → Kept e e → IsDictIn kinds old e → (es : List Dict) (i : ℕ) → slice_get es i ≡ Some d → AreDictsIn kinds old es → AllByRecursion (AreApart old e) es → AllByRecursion (AreApart new e) (set es i d')
+    apart-set : (e : Dict) → Kept e e → IsDictIn kinds old e → (es : List Dict) (i : ℕ) → slice_get es i ≡ Some d → AreDictsIn kinds old es → AllByRecursion (ShareNoBlock old e) es → AllByRecursion (ShareNoBlock new e) (set es i d')
     apart-set e k is [] i at are apart = absurd (none-some d at)
     apart-set e k is (f ∷ fs) zero at are apart =
         let same = same_Some f d at in
-        (apart-before e is (subst (AreApart old e) same apart.0), apart-all e k fs are.2 (clear-tail f fs same are.1) apart.1)
+        (apart-before e is (subst (ShareNoBlock old e) same apart.0), apart-all e k fs are.2 (clear-tail f fs same are.1) apart.1)
     apart-set e k is (f ∷ fs) (suc i) at are apart =
-        (both-kept e f k (other-kept f are.0 (all-at (AreApart old f) fs i d at are.1)) apart.0, apart-set e k is fs i at are.2 apart.1)
+        (both-kept e f k (other-kept f are.0 (all-at (ShareNoBlock old f) fs i d at are.1)) apart.0, apart-set e k is fs i at are.2 apart.1)
 
     -- so all lie there still, with this one at its place
     dicts-set : (es : List Dict) (i : ℕ) → slice_get es i ≡ Some d → AreDictsIn kinds old es → AreDictsIn kinds new (set es i d')
@@ -196,7 +196,7 @@ module _ (kinds : List Rules) (old new : Blocks) where
         let clear = clear-tail e es (same_Some e d at) are.1 in
         (c.is, all-behind es are.2 clear, dicts-clear es are.2 clear)
     dicts-set (e ∷ es) (suc i) at are =
-        let k = other-kept e are.0 (all-at (AreApart old e) es i d at are.1) in
+        let k = other-kept e are.0 (all-at (ShareNoBlock old e) es i d at are.1) in
         (k.is, apart-set e k are.0 es i at are.2 are.1, dicts-set es i at are.2)
 
     held-set : (es : List Dict) (i : ℕ) → slice_get es i ≡ Some d → AreDictsIn kinds old es → map (held new) (set es i d') ≡ set (map (held old) es) i (held new d')
@@ -204,11 +204,11 @@ module _ (kinds : List Rules) (old new : Blocks) where
     held-set (e ∷ es) zero at are =
         ap (λ zs. held new d' ∷ zs) (held-clear es are.2 (clear-tail e es (same_Some e d at) are.1))
     held-set (e ∷ es) (suc i) at are =
-        ap (λ z. z ∷ map (held new) (set es i d')) (other-kept e are.0 (all-at (AreApart old e) es i d at are.1)).held
+        ap (λ z. z ∷ map (held new) (set es i d')) (other-kept e are.0 (all-at (ShareNoBlock old e) es i d at are.1)).held
         ∙ ap (λ zs. held old e ∷ zs) (held-set es i at are.2)
 
   -- so with the dictionary at an index
-  pub record Changed (es fs : List Dict) (i : ℕ) (now : Held) : Type 0 where
+  pub record Changed (es fs : List Dict) (i : ℕ) (now : HeldDict) : Type 0 where
     pub dicts : AreDictsIn kinds new fs
     pub held : map (held new) fs ≡ set (map (held old) es) i now
 
@@ -236,7 +236,7 @@ module _ (kinds : List Rules) (old new : Blocks) where
 
 -- and of its region
 pub left : {I : Type 0} {V : I → Type 0} (kinds : List Rules) (region : code.Region I V) (b c : best.Best I V) → region ≡ Best b → (ds : List Dict) (i : ℕ) (d d' : Dict) (rules : Rules) → slice_get ds i ≡ Some d → AreDictsIn kinds (cells_in region) ds → at_number kinds d.kind ≡ Some rules
-    → Became rules (holders_of d (best_cells.cells_in b)) d (best_cells.cells_in b) d' (best_cells.cells_in c) (holders_of d (best_cells.cells_in b)) d.current.0 → best_cells.StaysButCells b c → LeavesDicts kinds region (Best c) ds (set ds i d')
+    → Became rules (holders_of d (best_cells.cells_in b)) d (best_cells.cells_in b) d' (best_cells.cells_in c) (holders_of d (best_cells.cells_in b)) d.current.0 → best_cells.StaysButCells b c → LeavesDictsIn kinds region (Best c) ds (set ds i d')
 left kinds region b c is ds i d d' rules at are kind t stays =
     let cells : best_cells.cells_in b ≡ cells_in region = ap cells_in (sym is) in
     let t' = subst (λ z. Became rules (holders_of d z) d z d' (best_cells.cells_in c) (holders_of d z) d.current.0) cells t in

@@ -15,7 +15,7 @@ use Rattle.vc_paths.proofs.SortedLemmas.{all_sorted}
 use Rattle.vc_paths.proofs.StayLemmas.{visible-kept}
 use Rattle.vc_algebra.specs.Algebra.{by_op, if_upto, is_from, is_over, minus, range}
 use Rattle.vc_algebra.specs.Runs.{HaveOwn, IsMergeNext, IsRangeFirst, IsRangeNext}
-use Rattle.vc_algebra.specs.ToCome.{IsMerge, from_place, from_there, left_of, right_of, to_come}
+use Rattle.vc_algebra.specs.ToCome.{IsMerge, from_place, from_there, left_of, right_of, seen_to_come}
 use Rattle.vc_algebra.specs.declared.merge.Merge.{Merge}
 use Rattle.vc_algebra.specs.declared.op.Op.{Op}
 use Rattle.vc_algebra.specs.declared.op.Op.TheVariants.{Union, Meet, Minus}
@@ -58,11 +58,11 @@ range-less {old} {new} links d from high answer laws same path seen next =
     (upto-less from (visible_of old links d) (visible-own old links d laws path.path path.method) seen (old.layer d).rules high answer (behind_last (is_at (numbers_of from)) (visible_of old links d)) refl next)
 
 -- and of an operation
-pub merge-less : {old new : Layered} {links : Links} {m n : Merge} {p : ℕ × Addr} → IsMergeNext links old new m n (Some p) → length (to_come new links n) < length (to_come old links m)
+pub merge-less : {old new : Layered} {links : Links} {m n : Merge} {p : ℕ × Addr} → IsMergeNext links old new m n (Some p) → length (seen_to_come new links n) < length (seen_to_come old links m)
 merge-less {old} {new} {links} {m} {n} {p} next =
-    let rest : length (to_come new links n) ≡ length (drop 1 (to_come old links m)) = ap length next.rest in
-    let less = length-drop 1 (to_come old links m) in
-    let some = some-first (to_come old links m) next.place in
+    let rest : length (seen_to_come new links n) ≡ length (drop 1 (seen_to_come old links m)) = ap length next.rest in
+    let less = length-drop 1 (seen_to_come old links m) in
+    let some = some-first (seen_to_come old links m) next.place in
     omega arith
   where
     some-first : (xs : List (Seen ℕ)) → Answers (Some p) (first_of xs) → 1 ≤ length xs
@@ -117,19 +117,19 @@ none-first [] a = refl
 none-first (x ∷ xs) a = absurd (none-place (place_of x) a)
 
 -- of an operation
-pub come-stands : (all : Layered) (links : Links) (m : Merge) → AreLayers all → IsMerge all links m → AllByRecursion (StandsThere all) (to_come all links m)
+pub come-stands : (all : Layered) (links : Links) (m : Merge) → AreLayers all → IsMerge all links m → AllByRecursion (StandsThere all) (seen_to_come all links m)
 come-stands all links m laws is =
     all-by (StandsThere all) m.op (all.layer m.d).rules (left_of all links m) (right_of all links m)
     (all-place (StandsThere all) m.left (visible_of all links m.d) (visible-stands all links m.d laws is.first.path))
     (all-place (StandsThere all) m.right (visible_of all links m.e) (visible-stands all links m.e laws is.second.path))
 
-pub merge-shows : {old new : Layered} (links : Links) (m n : Merge) (p : ℕ × Addr) (bytes : List ℕ) → AreLayers old → IsMerge old links m → Same old new → IsMergeNext links old new m n (Some p) → bytes_there p.1.0 (new.layer p.0).objects ≡ Some bytes → Shows (to_come old links m) (to_come new links n) bytes
+pub merge-shows : {old new : Layered} (links : Links) (m n : Merge) (p : ℕ × Addr) (bytes : List ℕ) → AreLayers old → IsMerge old links m → Same old new → IsMergeNext links old new m n (Some p) → bytes_there p.1.0 (new.layer p.0).objects ≡ Some bytes → Shows (seen_to_come old links m) (seen_to_come new links n) bytes
 merge-shows {old} {new} links m n p bytes laws is same next at =
-    shows old p bytes (to_come old links m) (to_come new links n) next.place next.rest (come-stands old links m laws is)
+    shows old p bytes (seen_to_come old links m) (seen_to_come new links n) next.place next.rest (come-stands old links m laws is)
     (subst (λ (z : ℕ → Layer). bytes_there p.1.0 (z p.0).objects ≡ Some bytes) same.layers at)
 
-pub merge-ends : {old new : Layered} (links : Links) (m n : Merge) → IsMergeNext links old new m n None → to_come old links m ≡ []
-merge-ends {old} {new} links m n next = none-first (to_come old links m) next.place
+pub merge-ends : {old new : Layered} (links : Links) (m n : Merge) → IsMergeNext links old new m n None → seen_to_come old links m ≡ []
+merge-ends {old} {new} links m n next = none-first (seen_to_come old links m) next.place
 
 -- what is left of a range, from the place of its next object on
 pub record RangeLeft (all : Layered) (links : Links) (d : ℕ) (high : Option (List ℕ)) (next : Option (ℕ × Addr)) (left : List (Seen ℕ)) : Type 0 where

@@ -13,7 +13,7 @@ use Rattle.vc_paths.proofs.SeekLemmas.{path-first}
 use Rattle.vc_paths.proofs.SortedLemmas.{AreSorted, IsUpto}
 use Rattle.vc_algebra.specs.Algebra.{by_op, if_upto, is_from, is_over, range}
 use Rattle.vc_algebra.specs.Runs.{AreListed, AreMergeNexts, AreRangeNexts, HaveOwn, IsElsewhere, IsRangeFirst, has_none, until_none}
-use Rattle.vc_algebra.specs.ToCome.{Begins, from_place, from_there, to_come}
+use Rattle.vc_algebra.specs.ToCome.{Begins, from_place, from_there, seen_to_come}
 use Rattle.vc_algebra.specs.declared.merge.Merge.{Merge}
 use Rattle.vc_algebra.specs.declared.op.Op.{Op}
 use Rattle.vc_algebra.proofs.ComeLemmas.{seen-first}
@@ -76,7 +76,7 @@ drained xs answers h = record {
 }
 
 -- an operation, call after call
-merge-drains : {L : Type 0} (layered : L → Layered) (links : Links) (layers : L) (m : Merge) (xs : List (Seen ℕ)) (answers : List (Option (ℕ × Addr))) → to_come (layered layers) links m ≡ xs → AreMergeNexts layered links layers m answers → Drains xs answers
+merge-drains : {L : Type 0} (layered : L → Layered) (links : Links) (layers : L) (m : Merge) (xs : List (Seen ℕ)) (answers : List (Option (ℕ × Addr))) → seen_to_come (layered layers) links m ≡ xs → AreMergeNexts layered links layers m answers → Drains xs answers
 unfolding Drains
 merge-drains layered links layers m xs [] e h = tt
 merge-drains layered links layers m xs (a ∷ more) e h = (

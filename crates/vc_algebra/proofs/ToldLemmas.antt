@@ -17,20 +17,20 @@ use Rattle.vc_region.specs.Region.{is_best}
 use Rattle.vc_best.specs.declared.best.Best as best
 use Rattle.vc_region.specs.declared.region.Region as code
 use Rattle.vc_region.specs.declared.region.Region.TheVariants.{Best, Pool, Last, Debug, Profile}
-use Rattle.vc_algebra.specs.InRegion.{AreDictsIn, IsDictIn, LeavesDicts, held, layer_held, layered_in, layers_in}
-use Rattle.vc_algebra.specs.RegionLaws.{dict-at, found-there, layer-is, layer_over}
+use Rattle.vc_algebra.specs.InRegion.{AreDictsIn, IsDictIn, LeavesDictsIn, held, layer_held, layered_in, layers_of_region}
+use Rattle.vc_algebra.specs.RegionLaws.{dict-at, found-there, layer-is, layer_over_cells}
 use Rattle.vc_algebra.specs.Sides.{place_to}
 use Rattle.vc_algebra.specs.declared.side.Side.TheVariants.{Below}
 use Rattle.vc_algebra.proofs.AtHolders.{before-place, behind-place, bytes-here, first-place, holder-here, last-place}
 
 module _ (kinds : List Rules) (cells : Blocks) (ds : List Dict) (d : ℕ) (are : AreDictsIn kinds cells ds) (v : Dict) (at : slice_get ds d ≡ Some v) where
   abbrev layer : Layer
-  layer = layers_in kinds cells ds d
+  layer = layers_of_region kinds cells ds d
 
   pub is-there : IsDictIn kinds cells v
   is-there = dict-at kinds cells ds d v at are
 
-  pub layer-here : layer ≡ layer_over is-there.rules v cells
+  pub layer-here : layer ≡ layer_over_cells is-there.rules v cells
   layer-here = layer-is kinds cells ds d v at is-there
 
   pub method-told : v.method ≡ layer.method
@@ -46,8 +46,8 @@ module _ (kinds : List Rules) (cells : Blocks) (ds : List Dict) (d : ℕ) (are :
     stands : Stands is-there.rules v b xs
     stands = subst (λ z. Stands is-there.rules v z (holders_of v z)) (sym same) is-there.stands
 
-    layer-over : layer ≡ layer_over is-there.rules v b
-    layer-over = layer-here ∙ ap (layer_over is-there.rules v) (sym same)
+    layer-over : layer ≡ layer_over_cells is-there.rules v b
+    layer-over = layer-here ∙ ap (layer_over_cells is-there.rules v) (sym same)
 
     objects-here : layer.objects ≡ map (object_of b) xs
     objects-here = ap (λ (l : Layer). l.objects) layer-over
@@ -86,16 +86,16 @@ module _ (kinds : List Rules) (cells : Blocks) (ds : List Dict) (d : ℕ) (are :
       prev-told o gives = gives is-there.rules xs stands ∙ sym (before-place b a xs) ∙ ap (place_before a) (sym objects-here)
 
 -- the kind of a dictionary that has a layer is there
-pub kind-there : (kinds : List Rules) (cells : Blocks) (ds : List Dict) (d : ℕ) → AreDictsIn kinds cells ds → d < length ds → at_number kinds (layers_in kinds cells ds d).kind ≡ Some (layers_in kinds cells ds d).rules
+pub kind-there : (kinds : List Rules) (cells : Blocks) (ds : List Dict) (d : ℕ) → AreDictsIn kinds cells ds → d < length ds → at_number kinds (layers_of_region kinds cells ds d).kind ≡ Some (layers_of_region kinds cells ds d).rules
 kind-there kinds cells ds d are below =
     let f = found-there kinds cells ds d are below in
     ap (λ (l : Layer). at_number kinds l.kind) f.layer ∙ f.is.kind ∙ ap (λ (l : Layer). Some l.rules) (sym f.layer)
 
-pub kind-known : (kinds : List Rules) (cells : Blocks) (ds : List Dict) (d : ℕ) → AreDictsIn kinds cells ds → d < length ds → (k : ℕ) → k ≡ (layers_in kinds cells ds d).kind → IsSome (at_number kinds k)
+pub kind-known : (kinds : List Rules) (cells : Blocks) (ds : List Dict) (d : ℕ) → AreDictsIn kinds cells ds → d < length ds → (k : ℕ) → k ≡ (layers_of_region kinds cells ds d).kind → IsSome (at_number kinds k)
 kind-known kinds cells ds d are below k same = ap (λ z. is_some (at_number kinds z)) same ∙ ap is_some (kind-there kinds cells ds d are below)
 
 -- what a look leaves are the same layers
-pub same-left : {I : Type 0} {V : I → Type 0} {kinds : List Rules} {region region' : code.Region I V} {ds ds' : List Dict} → LeavesDicts kinds region region' ds ds' → Same (layered_in kinds region ds) (layered_in kinds region' ds')
+pub same-left : {I : Type 0} {V : I → Type 0} {kinds : List Rules} {region region' : code.Region I V} {ds ds' : List Dict} → LeavesDictsIn kinds region region' ds ds' → Same (layered_in kinds region ds) (layered_in kinds region' ds')
 same-left {kinds = kinds} {region = region} {region' = region'} {ds = ds} {ds' = ds'} leaves =
     let count : length ds' ≡ length ds = sym (length-map ds' (held (cells_in region'))) ∙ ap length leaves.keeps.same ∙ length-map ds (held (cells_in region)) in
     record {

@@ -20,48 +20,48 @@ use Rattle.vc_region.specs.Cells.{cells_in, rest_in}
 use Rattle.vc_region.specs.Parts.{disc_in, segments_in}
 use Rattle.vc_region.specs.Region.{OfBest, is_best}
 use Rattle.vc_region.specs.declared.region.Region.{Region}
-use Rattle.vc_algebra.specs.InRegion.{AreDictsIn, Held, held}
+use Rattle.vc_algebra.specs.InRegion.{AreDictsIn, HeldDict, held}
 
 -- its current object is none or one of its own, and a set or bag has a table
-pub record IsSettled (d : Dictionary) : Type 0 where
+pub record IsReadyToFill (d : Dictionary) : Type 0 where
   pub current : (at : ℕ) → d.current ≡ Some at → contains (map address_of d.objects) at ≡ true
   pub table : has_table d.method ≡ true → IsSome d.table
 
 -- what a region's dictionaries hold
-abbrev pub helds : {I : Type 0} {V : I → Type 0} → Region I V → List Dict → List Held
+abbrev pub helds : {I : Type 0} {V : I → Type 0} → Region I V → List Dict → List HeldDict
 helds r ds = map (held (cells_in r)) ds
 
 -- the dictionaries of a best region may get objects: they lie there, each is settled, and the region's segments are the last
 -- that its discipline lent
-pub record CanFill {I : Type 0} {V : I → Type 0} (meaning : (x : I) × V x → Discipline) (kinds : List Rules) (r : Region I V) (ds : List Dict) : Type 0 where
+pub record CanFillRegion {I : Type 0} {V : I → Type 0} (meaning : (x : I) × V x → Discipline) (kinds : List Rules) (r : Region I V) (ds : List Dict) : Type 0 where
   pub best : is_best (rest_in r) ≡ true
   pub dicts : AreDictsIn kinds (cells_in r) ds
-  pub settled : AllByRecursion (λ h. IsSettled h.dict) (helds r ds)
+  pub settled : AllByRecursion (λ h. IsReadyToFill h.dict) (helds r ds)
   pub lent : HasOut (disc_in meaning r) (segments_in r)
 
 -- what becomes of an object, the region and the dictionary, by the terms of the discipline: nothing, with a set that has one
 -- which matches, and else what an object's putting gives
-abbrev pub IsPut : Result (Option Fate) OutOfMemory → Terms → Rules → List ℕ → Layout ℕ → Dictionary → Layout ℕ → Dictionary → Type 0
-IsPut (Ok None) terms rules bytes r d r' d' = (is_matched rules bytes d ≡ true) × (r' ≡ r) × (d' ≡ d)
-IsPut (Ok (Some fate)) terms rules bytes r d r' d' =
+abbrev pub IsPutOrMatched : Result (Option Fate) OutOfMemory → Terms → Rules → List ℕ → Layout ℕ → Dictionary → Layout ℕ → Dictionary → Type 0
+IsPutOrMatched (Ok None) terms rules bytes r d r' d' = (is_matched rules bytes d ≡ true) × (r' ≡ r) × (d' ≡ d)
+IsPutOrMatched (Ok (Some fate)) terms rules bytes r d r' d' =
     (is_matched rules bytes d ≡ false)
     × GivesInserted (insert rules terms r 0 d false bytes (no_table fate) (no_holder fate)) r' d' fate
-IsPut (Err why) terms rules bytes r d r' d' =
+IsPutOrMatched (Err why) terms rules bytes r d r' d' =
     (is_matched rules bytes d ≡ false) × IsHalted (grow terms r 0 d false) r d r' d'
 
 -- so of the dictionary of a number; the others stay
-pub record Fills {I : Type 0} {V : I → Type 0} (meaning : (x : I) × V x → Discipline) (kinds : List Rules) (result : Result (Option Fate) OutOfMemory) (d : ℕ) (bytes : List ℕ) (r r' : Region I V) (ds ds' : List Dict) : Type 0 where
+pub record FillsDict {I : Type 0} {V : I → Type 0} (meaning : (x : I) × V x → Discipline) (kinds : List Rules) (result : Result (Option Fate) OutOfMemory) (d : ℕ) (bytes : List ℕ) (r r' : Region I V) (ds ds' : List Dict) : Type 0 where
   pub before : Layout ℕ
   pub was : rest_in r ≡ OfBest before
   pub after : Layout ℕ
   pub now : rest_in r' ≡ OfBest after
-  pub old : Held
+  pub old : HeldDict
   pub there : slice_get (helds r ds) d ≡ Some old
   pub rules : Rules
   pub kind : at_number kinds old.kind ≡ Some rules
   pub new : Dictionary
   pub others : helds r' ds' ≡ slice_set (helds r ds) d (record { kind = old.kind; dict = new })
-  pub put : IsPut result (disc_in meaning r).terms rules bytes before old.dict after new
+  pub put : IsPutOrMatched result (disc_in meaning r).terms rules bytes before old.dict after new
 
 -- whether a number is that of a dictionary of the method and the kind of another one, among so many
 abbrev pub is_like : ℕ → (ℕ → Layer) → ℕ → ℕ → Bool

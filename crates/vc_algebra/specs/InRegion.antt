@@ -19,11 +19,11 @@ use Rattle.vc_region.specs.Region.{is_best}
 use Rattle.vc_region.specs.declared.region.Region.{Region}
 
 -- a dictionary over some cells: the number of its kind, and what it is
-pub record Held : Type 0 where
+pub record HeldDict : Type 0 where
   pub kind : ℕ
   pub dict : Dictionary
 
-abbrev pub held : Blocks → Dict → Held
+abbrev pub held : Blocks → Dict → HeldDict
 held cells d = record { kind = d.kind; dict = dictionary_of d cells }
 
 -- rules, or those of whole keys where there are none
@@ -32,7 +32,7 @@ rules_or None = rules_of Whole
 rules_or (Some rules) = rules
 
 -- a dictionary as a layer, and an empty one where there is none
-abbrev pub layer_held : List Rules → Option Held → Layer
+abbrev pub layer_held : List Rules → Option HeldDict → Layer
 layer_held kinds None = record { method = DtList; kind = 0; rules = rules_of Whole; objects = [] }
 layer_held kinds (Some h) =
     record {
@@ -50,38 +50,38 @@ pub record IsDictIn (kinds : List Rules) (cells : Blocks) (d : Dict) : Type 0 wh
   pub objects : AllByRecursion (λ o. IsObject o.bytes) (dictionary_of d cells).objects
 
 -- two dictionaries have no block in common
-abbrev pub AreApart : Blocks → Dict → Dict → Type 0
-AreApart cells d e =
+abbrev pub ShareNoBlock : Blocks → Dict → Dict → Type 0
+ShareNoBlock cells d e =
     (a : ℕ) → contains (own_blocks (dictionary_of d cells)) a ≡ true → contains (own_blocks (dictionary_of e cells)) a ≡ false
 
 -- each of these dictionaries lies in these cells, and no two have a block in common
 abbrev pub AreDictsIn : List Rules → Blocks → List Dict → Type 0
 AreDictsIn kinds cells [] = Unit {0}
-AreDictsIn kinds cells (d ∷ ds) = IsDictIn kinds cells d × AllByRecursion (AreApart cells d) ds × AreDictsIn kinds cells ds
+AreDictsIn kinds cells (d ∷ ds) = IsDictIn kinds cells d × AllByRecursion (ShareNoBlock cells d) ds × AreDictsIn kinds cells ds
 
 -- a best region holds all the dictionaries, and one of them has that number
-pub record HasLayer {I : Type 0} {V : I → Type 0} (kinds : List Rules) (r : Region I V) (ds : List Dict) (d : ℕ) : Type 0 where
+pub record HasDictInRegion {I : Type 0} {V : I → Type 0} (kinds : List Rules) (r : Region I V) (ds : List Dict) (d : ℕ) : Type 0 where
   pub best : is_best (rest_in r) ≡ true
   pub dicts : AreDictsIn kinds (cells_in r) ds
   pub there : d < length ds
 
 -- the dictionaries of a region as layers, by number from 0 on
-abbrev pub layers_in : List Rules → Blocks → List Dict → ℕ → Layer
-layers_in kinds cells dicts d = layer_held kinds (slice_get (map (held cells) dicts) d)
+abbrev pub layers_of_region : List Rules → Blocks → List Dict → ℕ → Layer
+layers_of_region kinds cells dicts d = layer_held kinds (slice_get (map (held cells) dicts) d)
 
 abbrev pub layered_in : {I : Type 0} {V : I → Type 0} → List Rules → Region I V → List Dict → Layered
 layered_in kinds r ds =
     record {
-      Has = HasLayer kinds r ds;
-      layer = layers_in kinds (cells_in r) ds;
+      Has = HasDictInRegion kinds r ds;
+      layer = layers_of_region kinds (cells_in r) ds;
     }
 
 -- the region but for its cells, its discipline, and each dictionary with its current object stay
-pub record KeepsDicts {I : Type 0} {V : I → Type 0} (r r' : Region I V) (ds ds' : List Dict) : Type 0 where
+pub record KeepsDictsIn {I : Type 0} {V : I → Type 0} (r r' : Region I V) (ds ds' : List Dict) : Type 0 where
   pub region : StaysButCells r r'
   pub same : map (held (cells_in r')) ds' ≡ map (held (cells_in r)) ds
 
 -- they all stay, and each dictionary still lies there
-pub record LeavesDicts {I : Type 0} {V : I → Type 0} (kinds : List Rules) (r r' : Region I V) (ds ds' : List Dict) : Type 0 where
+pub record LeavesDictsIn {I : Type 0} {V : I → Type 0} (kinds : List Rules) (r r' : Region I V) (ds ds' : List Dict) : Type 0 where
   pub dicts : AreDictsIn kinds (cells_in r') ds'
-  pub keeps : KeepsDicts r r' ds ds'
+  pub keeps : KeepsDictsIn r r' ds ds'

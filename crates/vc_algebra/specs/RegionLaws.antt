@@ -20,11 +20,11 @@ use Rattle.vc_objects.proofs.Mapped.{addresses-mapped}
 use Rattle.vc_paths.specs.Layers.{AreLayers, Layer}
 use Rattle.vc_region.specs.Cells.{cells_in}
 use Rattle.vc_region.specs.declared.region.Region.{Region}
-use Rattle.vc_algebra.specs.InRegion.{AreDictsIn, HasLayer, IsDictIn, KeepsDicts, held, layer_held, layered_in, layers_in, rules_or}
+use Rattle.vc_algebra.specs.InRegion.{AreDictsIn, HasDictInRegion, IsDictIn, KeepsDictsIn, held, layer_held, layered_in, layers_of_region, rules_or}
 
 -- a dictionary over some cells, by the rules of its kind
-abbrev pub layer_over : Rules → Dict → Blocks → Layer
-layer_over rules v b = record { method = v.method; kind = v.kind; rules = rules; objects = map (object_of b) (holders_of v b) }
+abbrev pub layer_over_cells : Rules → Dict → Blocks → Layer
+layer_over_cells rules v b = record { method = v.method; kind = v.kind; rules = rules; objects = map (object_of b) (holders_of v b) }
 
 pub at-below : {A : Type 0} (xs : List A) (i : ℕ) → i < length xs → (x : A) × (slice_get xs i ≡ Some x)
 at-below [] i below = absurd (omega arith)
@@ -40,7 +40,7 @@ module _ (kinds : List Rules) (b : Blocks) where
   abbrev layer_with : Dict → Option Rules → Layer
   layer_with v r = record { method = v.method; kind = v.kind; rules = rules_or r; objects = map (object_of b) (holders_of v b) }
 
-  pub layer-is : (ds : List Dict) (i : ℕ) (v : Dict) → slice_get ds i ≡ Some v → (is : IsDictIn kinds b v) → layers_in kinds b ds i ≡ layer_over is.rules v b
+  pub layer-is : (ds : List Dict) (i : ℕ) (v : Dict) → slice_get ds i ≡ Some v → (is : IsDictIn kinds b v) → layers_of_region kinds b ds i ≡ layer_over_cells is.rules v b
   layer-is ds i v at is =
       ap (layer_held kinds) (slice_get-map (held b) ds i ∙ ap (option_map (held b)) at) ∙ ap (layer_with v) is.kind
 
@@ -49,7 +49,7 @@ module _ (kinds : List Rules) (b : Blocks) where
     pub dict : Dict
     pub found : slice_get ds d ≡ Some dict
     pub is : IsDictIn kinds b dict
-    pub layer : layers_in kinds b ds d ≡ layer_over is.rules dict b
+    pub layer : layers_of_region kinds b ds d ≡ layer_over_cells is.rules dict b
 
   pub found-there : (ds : List Dict) (d : ℕ) → AreDictsIn kinds b ds → d < length ds → Found ds d
   found-there ds d are below =
@@ -66,23 +66,23 @@ module _ (kinds : List Rules) (b : Blocks) where
     abbrev xs : List ℕ
     xs = holders_of f.dict b
 
-    places-distinct : AreDistinct (map (λ o. o.at) (layers_in kinds b ds d).objects)
+    places-distinct : AreDistinct (map (λ o. o.at) (layers_of_region kinds b ds d).objects)
     places-distinct =
         subst (λ (l : Layer). AreDistinct (map (λ o. o.at) l.objects)) (sym f.layer)
         (subst AreDistinct (sym (addresses-mapped b xs)) (holders-distinct f.is.rules f.dict b xs f.is.stands))
 
-    objects-sorted : is_ordered (layers_in kinds b ds d).method ≡ true → IsSorted bytes_of (layers_in kinds b ds d).rules (layers_in kinds b ds d).objects
+    objects-sorted : is_ordered (layers_of_region kinds b ds d).method ≡ true → IsSorted bytes_of (layers_of_region kinds b ds d).rules (layers_of_region kinds b ds d).objects
     objects-sorted =
         subst (λ (l : Layer). is_ordered l.method ≡ true → IsSorted bytes_of l.rules l.objects) (sym f.layer)
         (λ h. ordered-there f.is.rules f.dict xs f.is.stands h)
 
-    rules-are : (layers_in kinds b ds d).rules ≡ f.is.rules
+    rules-are : (layers_of_region kinds b ds d).rules ≡ f.is.rules
     rules-are = ap (λ (l : Layer). l.rules) f.layer
 
-    kind-is : (layers_in kinds b ds d).kind ≡ f.dict.kind
+    kind-is : (layers_of_region kinds b ds d).kind ≡ f.dict.kind
     kind-is = ap (λ (l : Layer). l.kind) f.layer
 
-  same-kinds : (ds : List Dict) (d e : ℕ) → Found ds d → Found ds e → (layers_in kinds b ds d).kind ≡ (layers_in kinds b ds e).kind → (layers_in kinds b ds d).rules ≡ (layers_in kinds b ds e).rules
+  same-kinds : (ds : List Dict) (d e : ℕ) → Found ds d → Found ds e → (layers_of_region kinds b ds d).kind ≡ (layers_of_region kinds b ds e).kind → (layers_of_region kinds b ds d).rules ≡ (layers_of_region kinds b ds e).rules
   same-kinds ds d e f g same =
       let kind = sym (kind-is ds d f) ∙ same ∙ kind-is ds e g in
       rules-are ds d f ∙ same_Some f.is.rules g.is.rules (sym f.is.kind ∙ ap (at_number kinds) kind ∙ g.is.kind) ∙ sym (rules-are ds e g)
@@ -103,7 +103,7 @@ module _ {K : Type 0} (rules : K → Rules) (lawful : (k : K) → AreLawful (rul
   are-layers kinds region dicts =
       let ks = map rules kinds in
       let b = cells_in region in
-      let there : (d : ℕ) → HasLayer ks region dicts d → Found ks b dicts d = λ d has. found-there ks b dicts d has.dicts has.there in
+      let there : (d : ℕ) → HasDictInRegion ks region dicts d → Found ks b dicts d = λ d has. found-there ks b dicts d has.dicts has.there in
       record {
         distinct = λ d has. places-distinct ks b dicts d (there d has);
         sorted = λ d has. objects-sorted ks b dicts d (there d has);
@@ -113,10 +113,10 @@ module _ {K : Type 0} (rules : K → Rules) (lawful : (k : K) → AreLawful (rul
             subst AreLawful (sym (rules-are ks b dicts d f)) (number-lawful kinds f.dict.kind f.is.rules f.is.kind);
       }
 
-pub keeps-same : {I : Type 0} {V : I → Type 0} (region : Region I V) (dicts : List Dict) → KeepsDicts region region dicts dicts
+pub keeps-same : {I : Type 0} {V : I → Type 0} (region : Region I V) (dicts : List Dict) → KeepsDictsIn region region dicts dicts
 keeps-same region dicts = record { region = record { region = refl; disc = refl }; same = refl }
 
-pub keeps-after : {I : Type 0} {V : I → Type 0} {ra rb rc : Region I V} {da db dc : List Dict} → KeepsDicts ra rb da db → KeepsDicts rb rc db dc → KeepsDicts ra rc da dc
+pub keeps-after : {I : Type 0} {V : I → Type 0} {ra rb rc : Region I V} {da db dc : List Dict} → KeepsDictsIn ra rb da db → KeepsDictsIn rb rc db dc → KeepsDictsIn ra rc da dc
 keeps-after p q = record {
   region = record { region = q.region.region ∙ p.region.region; disc = q.region.disc ∙ p.region.disc };
   same = q.same ∙ p.same;

@@ -9,7 +9,7 @@ use Rattle.vc_paths.specs.Ordered.{IsStanding}
 use Rattle.vc_paths.specs.Path.{Answers, IsPathBy, IsVisible, is_at, numbers_of, place_of, visible_of}
 use Rattle.vc_paths.specs.Visible.{Seen}
 use Rattle.vc_algebra.specs.Algebra.{if_upto, range}
-use Rattle.vc_algebra.specs.ToCome.{to_come}
+use Rattle.vc_algebra.specs.ToCome.{seen_to_come}
 use Rattle.vc_algebra.specs.declared.merge.Merge.{Merge}
 
 -- the first of a range is answered
@@ -28,8 +28,8 @@ pub record IsRangeAt (all : Layered) (links : Links) (d : ℕ) (place : Option (
 
 -- the first that is still to come of an operation is answered, and the rest is left
 pub record IsMergeNext (links : Links) (old new : Layered) (m n : Merge) (answer : Option (ℕ × Addr)) : Type 0 where
-  pub place : Answers answer (first_of (to_come old links m))
-  pub rest : to_come new links n ≡ drop 1 (to_come old links m)
+  pub place : Answers answer (first_of (seen_to_come old links m))
+  pub rest : seen_to_come new links n ≡ drop 1 (seen_to_come old links m)
 
 -- answers of a range's further calls, each behind the place that the one before it answered
 abbrev pub AreRangeNexts : {L : Type 0} → (L → Layered) → Links → ℕ → Option (List ℕ) → L → Option (ℕ × Addr) → List (Option (ℕ × Addr)) → Type 0

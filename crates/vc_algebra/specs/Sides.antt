@@ -40,8 +40,8 @@ place_to Above layer key = place_in (first_of (filter (λ o. is_gt (layer.rules.
 abbrev pub holder_like : Rules → Blocks → ℕ → List ℕ → Option ℕ
 holder_like rules b at holders = last_of (filter (λ other. is_match rules (object_at b at) (object_at b other)) holders)
 
-abbrev pub last_place : Layer → List ℕ → Option ℕ
-last_place layer bytes = place_last_like layer.rules bytes layer.objects
+abbrev pub last_place_like : Layer → List ℕ → Option ℕ
+last_place_like layer bytes = place_last_like layer.rules bytes layer.objects
 
 -- a dictionary is asked so for what stands to the object at a place of another one
 pub record CanCompare (all : Layered) (d : ℕ) (side : Side) (other : ℕ × Addr) : Type 0 where

@@ -35,8 +35,8 @@ abbrev pub right_of : Layered → Links → Merge → List (Seen ℕ)
 right_of all links m = from_place m.right (visible_of all links m.e)
 
 -- the operation over what is left of the two
-abbrev pub to_come : Layered → Links → Merge → List (Seen ℕ)
-to_come all links m = by_op m.op (all.layer m.d).rules (left_of all links m) (right_of all links m)
+abbrev pub seen_to_come : Layered → Links → Merge → List (Seen ℕ)
+seen_to_come all links m = by_op m.op (all.layer m.d).rules (left_of all links m) (right_of all links m)
 
 -- two ordered dictionaries of one kind with their paths, and places that are seen through them
 pub record IsMerge (all : Layered) (links : Links) (m : Merge) : Type 0 where
@@ -52,7 +52,7 @@ pub record Begins (all : Layered) (links : Links) (d e : ℕ) (op : Op) (m : Mer
   pub first : m.d ≡ d
   pub second : m.e ≡ e
   pub operation : m.op ≡ op
-  pub whole : to_come all links m ≡ by_op op (all.layer d).rules (visible_of all links d) (visible_of all links e)
+  pub whole : seen_to_come all links m ≡ by_op op (all.layer d).rules (visible_of all links d) (visible_of all links e)
 
 -- an operation on the same two
 pub record IsOfSame (old new : Merge) : Type 0 where

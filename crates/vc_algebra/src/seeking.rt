@@ -4,8 +4,8 @@ ghost use Rattle.vc_base.specs.Prelude.{number_of};
 ghost use Rattle.vc_dict.specs.Stands.{Became, IsDict, Stands};
 ghost use Rattle.vc_paths.specs.Layers.{bytes_there};
 ghost use Rattle.vc_region.specs.Cells.{cells_in};
-ghost use Rattle.vc_algebra.specs.InRegion.{HasLayer, LeavesDicts, layered_in, layers_in};
-ghost use Rattle.vc_algebra.specs.Sides.{CanAsk, CanCompare, holder_to, last_place, place_to};
+ghost use Rattle.vc_algebra.specs.InRegion.{HasDictInRegion, LeavesDictsIn, layered_in, layers_of_region};
+ghost use Rattle.vc_algebra.specs.Sides.{CanAsk, CanCompare, holder_to, last_place_like, place_to};
 
 use crate::places::{best_of, dict_of, kind_of};
 use crate::side::Side;
@@ -53,12 +53,12 @@ pub(crate) fn sought_at<D: DictDisc, L>(
     key: &[u8],
     steps: &mut Steps<L>,
 ) -> Option<Addr>
-    requires dict { HasLayer (map D.rules kinds.now.items) region.old dicts.old d }
+    requires dict { HasDictInRegion (map D.rules kinds.now.items) region.old dicts.old d }
     requires side { CanAsk side
-        (layers_in (map D.rules kinds.now.items) (cells_in region.old) dicts.old d).method }
+        (layers_of_region (map D.rules kinds.now.items) (cells_in region.old) dicts.old d).method }
     ensures found { option_map number_of result ≡ place_to side
-        (layers_in (map D.rules kinds.now.items) (cells_in region.old) dicts.old d) key.now }
-    ensures leaves { LeavesDicts (map D.rules kinds.now.items) region.old region.new
+        (layers_of_region (map D.rules kinds.now.items) (cells_in region.old) dicts.old d) key.now }
+    ensures leaves { LeavesDictsIn (map D.rules kinds.now.items) region.old region.new
         dicts.old dicts.new }
 {
     let Region::Best(best) = region else {
@@ -91,12 +91,12 @@ pub(crate) fn sought_like<D: DictDisc, L>(
 ) -> Option<Addr>
     requires { CanCompare (layered_in (map D.rules kinds.now.items) region.old dicts.old) d side other }
     ensures found { (bytes : List ℕ)
-        → bytes_there other.1.0 (layers_in (map D.rules kinds.now.items) (cells_in region.old)
+        → bytes_there other.1.0 (layers_of_region (map D.rules kinds.now.items) (cells_in region.old)
         dicts.old other.0).objects ≡ Some bytes
         → option_map number_of result ≡ place_to side
-        (layers_in (map D.rules kinds.now.items) (cells_in region.old) dicts.old d)
-        ((layers_in (map D.rules kinds.now.items) (cells_in region.old) dicts.old d).rules.key bytes) }
-    ensures leaves { LeavesDicts (map D.rules kinds.now.items) region.old region.new
+        (layers_of_region (map D.rules kinds.now.items) (cells_in region.old) dicts.old d)
+        ((layers_of_region (map D.rules kinds.now.items) (cells_in region.old) dicts.old d).rules.key bytes) }
+    ensures leaves { LeavesDictsIn (map D.rules kinds.now.items) region.old region.new
         dicts.old dicts.new }
 {
     let kind = kind_of(kinds, dict_of(dicts, d).kind);
@@ -122,15 +122,15 @@ pub(crate) fn last_at<D: DictDisc, L>(
     at: Addr,
     steps: &mut Steps<L>,
 ) -> Addr
-    requires dict { HasLayer (map D.rules kinds.now.items) region.old dicts.old d }
-    requires place { IsSome (bytes_there at.0 (layers_in (map D.rules kinds.now.items)
+    requires dict { HasDictInRegion (map D.rules kinds.now.items) region.old dicts.old d }
+    requires place { IsSome (bytes_there at.0 (layers_of_region (map D.rules kinds.now.items)
         (cells_in region.old) dicts.old d).objects) }
     ensures found { (bytes : List ℕ)
-        → bytes_there at.0 (layers_in (map D.rules kinds.now.items) (cells_in region.old)
+        → bytes_there at.0 (layers_of_region (map D.rules kinds.now.items) (cells_in region.old)
         dicts.old d).objects ≡ Some bytes
-        → Some result.0 ≡ last_place (layers_in (map D.rules kinds.now.items)
+        → Some result.0 ≡ last_place_like (layers_of_region (map D.rules kinds.now.items)
         (cells_in region.old) dicts.old d) bytes }
-    ensures leaves { LeavesDicts (map D.rules kinds.now.items) region.old region.new
+    ensures leaves { LeavesDictsIn (map D.rules kinds.now.items) region.old region.new
         dicts.old dicts.new }
 {
     let Region::Best(best) = region else {

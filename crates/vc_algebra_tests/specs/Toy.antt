@@ -15,8 +15,8 @@ objects_from at [] = []
 objects_from at (b ∷ bs) = record { at = at; bytes = b ∷ [] } ∷ objects_from (at + 1) bs
 
 -- afp, bfq, Aab, aC, p and apz in the dictionaries from 0 to 5; the others are empty
-abbrev pub bytes_in : ℕ → List ℕ
-bytes_in d =
+abbrev pub toy_bytes : ℕ → List ℕ
+toy_bytes d =
     if d == 0 then 97 ∷ 102 ∷ 112 ∷ []
     else if d == 1 then 98 ∷ 102 ∷ 113 ∷ []
     else if d == 2 then 65 ∷ 97 ∷ 98 ∷ []
@@ -26,19 +26,19 @@ bytes_in d =
     else []
 
 -- the dictionary 6 is a list and 0 an ordered set; the others are ordered bags
-abbrev pub method_in : ℕ → DictMethod
-method_in d = if d == 6 then DtList else if d == 0 then DtOset else DtObag
+abbrev pub toy_method : ℕ → DictMethod
+toy_method d = if d == 6 then DtList else if d == 0 then DtOset else DtObag
 
 -- the dictionaries 2 and 3 are of another kind than the others
-abbrev pub kind_in : ℕ → ℕ
-kind_in d = if d == 2 then 3 else if d == 3 then 3 else 1
+abbrev pub toy_kind : ℕ → ℕ
+toy_kind d = if d == 2 then 3 else if d == 3 then 3 else 1
 
 -- each number from 0 to 255 is a dictionary
-abbrev pub layer_in : ℕ → Layer
-layer_in d = record { method = method_in d; kind = kind_in d; rules = rules_of Fold; objects = objects_from 1 (bytes_in d) }
+abbrev pub toy_layer : ℕ → Layer
+toy_layer d = record { method = toy_method d; kind = toy_kind d; rules = rules_of Fold; objects = objects_from 1 (toy_bytes d) }
 
 abbrev pub toy_layers : Layered
-toy_layers = record { Has = λ d. d < numbers; layer = layer_in }
+toy_layers = record { Has = λ d. d < numbers; layer = toy_layer }
 
 -- each dictionary has a path
 abbrev pub HavePaths : Links → Type 0

@@ -9,7 +9,7 @@ use Rattle.vc_dtdisc.specs.ShapeLaws.{rules-lawful}
 use Rattle.vc_dtdisc.specs.Shapes.{rules_of}
 use Rattle.vc_dtdisc.specs.declared.shape.Shape.TheVariants.{Fold}
 use Rattle.vc_paths.specs.Layers.{AreLayers}
-use Rattle.vc_algebra_tests.specs.Toy.{bytes_in, objects_from, toy_layers}
+use Rattle.vc_algebra_tests.specs.Toy.{objects_from, toy_bytes, toy_layers}
 
 -- the places of objects from a number on
 toy_places : ℕ → List ℕ → List ℕ
@@ -40,7 +40,7 @@ sorted-by : (t : Bool) (xs ys : List ℕ) → Sorted xs → Sorted ys → Sorted
 sorted-by true xs ys h k = h
 sorted-by false xs ys h k = k
 
-sorted-in : (d : ℕ) → Sorted (bytes_in d)
+sorted-in : (d : ℕ) → Sorted (toy_bytes d)
 unfolding Sorted
 sorted-in d =
     sorted-by (d == 0) _ _ (refl, (refl, (refl, tt)))
@@ -60,7 +60,7 @@ fold-lawful = rules-lawful (record {
 pub are-layers : AreLayers toy_layers
 unfolding Sorted toy_places
 are-layers = record {
-  distinct = λ d has. distinct 1 (bytes_in d);
+  distinct = λ d has. distinct 1 (toy_bytes d);
   sorted = λ d has ordered. sorted-in d;
   kinds = λ d e hd he same. refl;
   lawful = λ d has. fold-lawful;

@@ -12,30 +12,30 @@ use Rattle.vc_checked.specs.declared.answer.Answer.{Answer}
 use Rattle.vc_checked.specs.declared.answer.Answer.TheVariants.{Done, TooSmall, OutOfMemory, Old, NoObject, NoDict, NoMethod, NoKind, WrongSize, NoSegment}
 
 -- the number of an answer
-abbrev pub number : Answer → ℕ
-number Done = 0
-number TooSmall = 4
-number OutOfMemory = 5
-number Old = 6
-number NoObject = 7
-number NoDict = 8
-number NoMethod = 9
-number NoKind = 10
-number WrongSize = 11
-number NoSegment = 12
+abbrev pub answer_number : Answer → ℕ
+answer_number Done = 0
+answer_number TooSmall = 4
+answer_number OutOfMemory = 5
+answer_number Old = 6
+answer_number NoObject = 7
+answer_number NoDict = 8
+answer_number NoMethod = 9
+answer_number NoKind = 10
+answer_number WrongSize = 11
+answer_number NoSegment = 12
 
 -- the answer to what became of an object
-abbrev pub told : Put → Answer
-told put.New = Done
-told put.Old = Old
-told put.NoSegment = NoSegment
-told put.OutOfMemory = OutOfMemory
-told put.WrongSize = WrongSize
+abbrev pub answer_of_put : Put → Answer
+answer_of_put put.New = Done
+answer_of_put put.Old = Old
+answer_of_put put.NoSegment = NoSegment
+answer_of_put put.OutOfMemory = OutOfMemory
+answer_of_put put.WrongSize = WrongSize
 
 -- the answer where a region has no room for a table
-abbrev pub fault_of : RegionFault → Answer
-fault_of fault.OutOfMemory = OutOfMemory
-fault_of other = NoSegment
+abbrev pub answer_to_fault : RegionFault → Answer
+answer_to_fault fault.OutOfMemory = OutOfMemory
+answer_to_fault other = NoSegment
 
 -- the method of a number: a set, a bag, an ordered set, an ordered bag, a list, a stack, a queue
 abbrev pub method_of : ℕ → Option DictMethod

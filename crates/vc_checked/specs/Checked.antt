@@ -10,12 +10,12 @@ use Rattle.vc_objects.specs.Leaves.{told_each, told_if}
 use Rattle.vc_objects.specs.Promises.{opening_in}
 use Rattle.vc_seg.specs.Answer.{IsRefusal}
 use Rattle.vc_seg.specs.declared.fault.RegionFault.{RegionFault}
-use Rattle.vc_store.specs.Reading.{AfterPut, Contents, LacksKey, found, place_after}
+use Rattle.vc_store.specs.Reading.{AfterPut, Contents, LosesKey, found, place_after}
 use Rattle.vc_store.specs.declared.put.Put.{Put}
 use Rattle.vc_store.specs.Stores.Stores.{AllStay, OthersStay, StaysOpen, TriesAt, best_of, contents, gone_at, kind_at, numbers_of, rules_at, shown}
 use Rattle.vc_store.specs.declared.stores.store.Store.{Store}
-use Rattle.vc_checked.specs.Answers.{fault_of, told}
-use Rattle.vc_checked.specs.Shown.{Room, Seeks}
+use Rattle.vc_checked.specs.Answers.{answer_of_put, answer_to_fault}
+use Rattle.vc_checked.specs.Shown.{Room, SeeksFirst}
 use Rattle.vc_checked.specs.declared.answer.Answer.{Answer}
 use Rattle.vc_checked.specs.declared.answer.Answer.TheVariants.{Done, OutOfMemory, NoMethod, NoKind}
 
@@ -36,27 +36,27 @@ module _ {D : Type 0} {I : Type 0} {V : I → Type 0} (meaning : (x : I) × V x 
   -- an object was put, or wasn't
   pub record Inserts (n : ℕ) (object : List ℕ) (old new : Store D I V) (answer : Answer) : Type 0 where
     pub put : Put
-    pub answered : answer ≡ told put
+    pub answered : answer ≡ answer_of_put put
     pub objects : AfterPut put (rules_at rules_by old n) object (contents old n) (contents new n).objects
     pub place : (contents new n).place ≡ place_after put (rules_at rules_by old n) object (contents old n)
     pub tried : TriesAt meaning rules_by put n object old new
 
 -- the first object that has a key went and its kind was told of it, unless memory ran out, and then nothing changed
-abbrev pub Takes : Rules → List ℕ → Answer → Contents → Contents → Gone → Gone → Type 0
-Takes rules key Done old new gone gone' =
-    LacksKey rules key old new × (gone' ≡ told_if true (found rules key old.objects) gone)
-Takes rules key answer old new gone gone' = (answer ≡ OutOfMemory) × (new ≡ old) × (gone' ≡ gone)
+abbrev pub TakesByKey : Rules → List ℕ → Answer → Contents → Contents → Gone → Gone → Type 0
+TakesByKey rules key Done old new gone gone' =
+    LosesKey rules key old new × (gone' ≡ told_if true (found rules key old.objects) gone)
+TakesByKey rules key answer old new gone gone' = (answer ≡ OutOfMemory) × (new ≡ old) × (gone' ≡ gone)
 
 -- so where all of it was shown; nothing goes else
 abbrev pub Goes : Rules → List ℕ → Answer → Answer → Contents → Contents → Gone → Gone → Type 0
-Goes rules key Done answer looked new gone gone' = Takes rules key answer looked new gone gone'
+Goes rules key Done answer looked new gone gone' = TakesByKey rules key answer looked new gone gone'
 Goes rules key shown answer looked new gone gone' = (answer ≡ shown) × (new ≡ looked) × (gone' ≡ gone)
 
 -- the first object that has a key is current and is shown, where there is one, and then it goes
 pub record Deletes (rules : Rules) (key : List ℕ) (old new : Contents) (gone gone' : Gone) (r : Room) (answer : Answer) : Type 0 where
   pub looked : Contents
   pub shown : Answer
-  pub seeks : Seeks (has_key rules key) old looked r shown
+  pub seeks : SeeksFirst (has_key rules key) old looked r shown
   pub goes : Goes rules key shown answer looked new gone gone'
 
 -- the rules of a kind of one of the shapes, and what it was told of
@@ -81,7 +81,7 @@ module _ {I : Type 0} {V : I → Type 0} (meaning : (x : I) × V x → Disciplin
   -- there was no room for its table, or no memory, and nothing changed
   pub record IsFull (method : DictMethod) (number number' : ℕ) (old new : Store BuiltInKind I V) (answer : Answer) : Type 0 where
     pub why : RegionFault
-    pub answered : answer ≡ fault_of why
+    pub answered : answer ≡ answer_to_fault why
     pub refused : IsRefusal (opening_in meaning (best_of old) method) why
     pub same : AllStay old new
     pub untold : number' ≡ number

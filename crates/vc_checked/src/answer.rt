@@ -1,5 +1,5 @@
 ghost use Rattle.std.specs.Prelude.{◌≡◌};
-ghost use Rattle.vc_checked.specs.Answers.{fault_of, told};
+ghost use Rattle.vc_checked.specs.Answers.{answer_of_put, answer_to_fault};
 
 use vc_seg::RegionFault;
 use vc_store::Put;
@@ -31,11 +31,11 @@ pub enum Answer {
 
 impl Answer {
     ghost use Rattle.std.specs.Prelude.{◌≡◌};
-    ghost use Rattle.vc_checked.specs.Answers.{number};
+    ghost use Rattle.vc_checked.specs.Answers.{answer_number};
 
     /// Its number: 0 where it is done, and from 4 to 12 the others in their order.
     pub fn number(self) -> u32
-        ensures { result ≡ number self }
+        ensures { result ≡ answer_number self }
     {
         match self {
             Answer::Done => 0,
@@ -54,7 +54,7 @@ impl Answer {
 
 // What a call answers to what became of an object.
 pub(crate) fn told(put: Put) -> Answer
-    ensures { result ≡ told put }
+    ensures { result ≡ answer_of_put put }
 {
     match put {
         Put::New => Answer::Done,
@@ -67,7 +67,7 @@ pub(crate) fn told(put: Put) -> Answer
 
 // What a call answers where a region has no room for a table.
 pub(crate) fn fault_of(fault: RegionFault) -> Answer
-    ensures { result ≡ fault_of fault }
+    ensures { result ≡ answer_to_fault fault }
 {
     match fault {
         RegionFault::OutOfMemory => Answer::OutOfMemory,

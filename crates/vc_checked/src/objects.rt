@@ -1,9 +1,9 @@
 ghost use Rattle.std.specs.Prelude.{◌≡◌};
 ghost use Rattle.vc_dtdisc.specs.Objects.{has_key};
-ghost use Rattle.vc_store.specs.Reading.{is_from};
+ghost use Rattle.vc_store.specs.Reading.{is_sought_from};
 ghost use Rattle.vc_store.specs.Stores.Stores.{HasDict, IsOpen, contents, disc_of, gone_at, kinds_of, rules_at};
-ghost use Rattle.vc_checked.specs.Checked.{Beside, Deletes, Inserts, Takes};
-ghost use Rattle.vc_checked.specs.Shown.{IsBare, Seeks, room};
+ghost use Rattle.vc_checked.specs.Checked.{Beside, Deletes, Inserts, TakesByKey};
+ghost use Rattle.vc_checked.specs.Shown.{SeeksFirst, ShowsNothing, room};
 ghost use Rattle.vc_checked.specs.declared.answer.Answer.TheVariants.{NoDict};
 
 use crate::Answer;
@@ -42,9 +42,9 @@ pub fn search<D: DictDisc + Drop>(
 ) -> Answer
     requires { IsOpen D.rules store.old (disc_of store.old state) }
     ensures none { ¬ HasDict store.old n → (store.new ≡ store.old)
-        × IsBare NoDict (room out.old out.new needed.new) result }
+        × ShowsNothing NoDict (room out.old out.new needed.new) result }
     ensures seeks { HasDict store.old n
-        → Seeks (has_key (rules_at D.rules store.old n) key.now) (contents store.old n)
+        → SeeksFirst (has_key (rules_at D.rules store.old n) key.now) (contents store.old n)
         (contents store.new n) (room out.old out.new needed.new) result }
     ensures kinds { kinds_of store.new ≡ kinds_of store.old }
     ensures beside { Beside state D.rules n store.old store.new }
@@ -71,9 +71,9 @@ pub fn at_least<D: DictDisc + Drop>(
 ) -> Answer
     requires { IsOpen D.rules store.old (disc_of store.old state) }
     ensures none { ¬ HasDict store.old n → (store.new ≡ store.old)
-        × IsBare NoDict (room out.old out.new needed.new) result }
-    ensures seeks { HasDict store.old n → Seeks
-        (is_from (contents store.old n).method (rules_at D.rules store.old n) key.now)
+        × ShowsNothing NoDict (room out.old out.new needed.new) result }
+    ensures seeks { HasDict store.old n → SeeksFirst
+        (is_sought_from (contents store.old n).method (rules_at D.rules store.old n) key.now)
         (contents store.old n) (contents store.new n) (room out.old out.new needed.new) result }
     ensures kinds { kinds_of store.new ≡ kinds_of store.old }
     ensures beside { Beside state D.rules n store.old store.new }
@@ -92,7 +92,7 @@ pub fn at_least<D: DictDisc + Drop>(
 fn take<D: DictDisc + Drop>(alloc: Global, store: &mut Store<D>, n: usize, key: &[u8]) -> Answer
     requires open { IsOpen D.rules store.old (disc_of store.old state) }
     requires there { HasDict store.old n }
-    ensures takes { Takes (rules_at D.rules store.old n) key.now result
+    ensures takes { TakesByKey (rules_at D.rules store.old n) key.now result
         (contents store.old n) (contents store.new n)
         (gone_at D.gone store.old n) (gone_at D.gone store.new n) }
     ensures beside { Beside state D.rules n store.old store.new }
@@ -117,7 +117,7 @@ pub fn delete<D: DictDisc + Drop>(
 ) -> Answer
     requires { IsOpen D.rules store.old (disc_of store.old state) }
     ensures none { ¬ HasDict store.old n → (store.new ≡ store.old)
-        × IsBare NoDict (room out.old out.new needed.new) result }
+        × ShowsNothing NoDict (room out.old out.new needed.new) result }
     ensures deletes { HasDict store.old n → Deletes (rules_at D.rules store.old n) key.now
         (contents store.old n) (contents store.new n)
         (gone_at D.gone store.old n) (gone_at D.gone store.new n)

@@ -2,7 +2,7 @@ ghost use Rattle.std.specs.Prelude.{◌≡◌};
 ghost use Rattle.vc_store.specs.Reading.{current, with_place};
 ghost use Rattle.vc_store.specs.Stores.Stores.{HasDict, IsOpen, contents, disc_of, kinds_of};
 ghost use Rattle.vc_checked.specs.Checked.{Beside};
-ghost use Rattle.vc_checked.specs.Shown.{IsBare, Shows, place_by, room};
+ghost use Rattle.vc_checked.specs.Shown.{ShowsIfThere, ShowsNothing, place_by, room};
 ghost use Rattle.vc_checked.specs.declared.answer.Answer.TheVariants.{NoDict};
 
 use crate::Answer;
@@ -53,11 +53,11 @@ pub fn go<D: DictDisc + Drop>(
 ) -> Answer
     requires { IsOpen D.rules store.old (disc_of store.old state) }
     ensures none { ¬ HasDict store.old n → (store.new ≡ store.old)
-        × IsBare NoDict (room out.old out.new needed.new) result }
+        × ShowsNothing NoDict (room out.old out.new needed.new) result }
     ensures moved { HasDict store.old n → contents store.new n
         ≡ with_place (place_by to (contents store.old n)) (contents store.old n) }
     ensures shown { HasDict store.old n
-        → Shows (current (contents store.new n)) (room out.old out.new needed.new) result }
+        → ShowsIfThere (current (contents store.new n)) (room out.old out.new needed.new) result }
     ensures kinds { kinds_of store.new ≡ kinds_of store.old }
     ensures beside { Beside state D.rules n store.old store.new }
 {
@@ -77,9 +77,9 @@ pub fn current<D: DictDisc + Drop>(
     needed: &mut usize,
 ) -> Answer
     requires { IsOpen D.rules store.now (disc_of store.now state) }
-    ensures none { ¬ HasDict store.now n → IsBare NoDict (room out.old out.new needed.new) result }
+    ensures none { ¬ HasDict store.now n → ShowsNothing NoDict (room out.old out.new needed.new) result }
     ensures shown { HasDict store.now n
-        → Shows (current (contents store.now n)) (room out.old out.new needed.new) result }
+        → ShowsIfThere (current (contents store.now n)) (room out.old out.new needed.new) result }
 {
     if !store.has(n) {
         *needed = 0;

@@ -1,7 +1,7 @@
 ghost use Rattle.std.specs.Prelude.{◌≡◌};
 ghost use Rattle.vc_store.specs.Reading.{current};
 ghost use Rattle.vc_store.specs.Stores.Stores.{HasDict, IsOpen, contents, disc_of};
-ghost use Rattle.vc_checked.specs.Shown.{IsShown, Shows, room};
+ghost use Rattle.vc_checked.specs.Shown.{IsShown, ShowsIfThere, room};
 
 use crate::Answer;
 use vc_dtdisc::DictDisc;
@@ -30,7 +30,7 @@ pub(crate) fn show<D: DictDisc + Drop>(
 ) -> Answer
     requires open { IsOpen D.rules store.now (disc_of store.now state) }
     requires there { HasDict store.now n }
-    ensures { Shows (current (contents store.now n)) (room out.old out.new needed.new) result }
+    ensures { ShowsIfThere (current (contents store.now n)) (room out.old out.new needed.new) result }
 {
     match store.current(n) {
         Some(object) => put(object, out, needed),

@@ -1,9 +1,9 @@
 -- A trace that is run to its end, where nothing is refused and no stream fails.
 use Rattle.vc_base.proofs.Common.{◌≡◌, ◌⊎◌, ℕ, List, Option, IfSome, Rose, inl, inr, refl, subst, Discipline}
 use Rattle.vc_script.specs.Judged.{judged_lines}
-use Rattle.vc_compare.specs.Comparison.{Ends, Finishes, Flow, IsFine, IsRun, NoneFails}
+use Rattle.vc_compare.specs.Comparison.{Finishes, Flow, IsFine, IsRun, NoneFails, TellsEnd}
 use Rattle.vc_compare.specs.Ending.{EndsAs}
-use Rattle.vc_compare.specs.Refusal.{IsRefused, NoneRose}
+use Rattle.vc_compare.specs.Refusal.{NoneRose, RefusesAsked}
 use Rattle.vc_compare.specs.Streams.{Sinks}
 use Rattle.vc_compare.specs.Terms.{terms_on}
 use Rattle.vc_compare.specs.declared.ending.Ending.{Ending}
@@ -32,7 +32,7 @@ module _ (slots slots' : List (Option Discipline)) (before after : Flow) (old ne
   written tally TooMany h = absurd h
 
   module _ (input : List ℕ) (fine : IsFine (compare_input (terms_on slots) input)) (status : CompareStatus) where
-    by-ending : (how : Ending) → (how ≡ ending.Read → Rose before.reads after.reads) → Ends how status old new → EndsAs (terms_on slots) start (IsRefused slots slots') (judged_lines input) how after.left → Well status
+    by-ending : (how : Ending) → (how ≡ ending.Read → Rose before.reads after.reads) → TellsEnd how status old new → EndsAs (terms_on slots) start (RefusesAsked slots slots') (judged_lines input) how after.left → Well status
     by-ending (ending.Finished tally) read told ends = written tally status told
     by-ending ending.Read read told ends = absurd (stays-not before.reads after.reads calm.reads (read refl))
     by-ending ending.Memory read told ends = inr told.0

@@ -8,7 +8,7 @@ use Rattle.vc_script.specs.declared.command.Command.{Command}
 use Rattle.vc_script.specs.declared.line_answer.LineAnswer.TheVariants.{Is}
 use Rattle.vc_seg.specs.declared.fault.RegionFault.{RegionFault}
 use Rattle.vc_seg.specs.declared.fault.RegionFault.TheVariants as code
-use Rattle.vc_compare.specs.Ending.{AsksIn, EndsAs, RunsLine, StopsAs}
+use Rattle.vc_compare.specs.Ending.{AsksIn, EndsAs, RunsTraceLine, StopsAs}
 use Rattle.vc_compare.specs.declared.ending.Ending.{Ending}
 use Rattle.vc_compare.specs.declared.ending.Ending.TheVariants.{Finished, Faulty, Read, Memory}
 use Rattle.vc_compare.specs.declared.ending.Fault.TheVariants.{Bad, Outside, NoSegment, TooMany}
@@ -19,33 +19,33 @@ use Rattle.vc_ways.specs.Compare.{Compared, after_answer, after_command, after_l
 use Rattle.vc_ways.specs.LineParts.{LineEnds}
 use Rattle.vc_ways.specs.Regions.{WayTerms}
 use Rattle.vc_ways.specs.RegionsParts.{IsStopped}
-use Rattle.vc_ways.specs.Step.{State, Stops, step}
+use Rattle.vc_ways.specs.Step.{Stops, TraceState, trace_step}
 use Rattle.vc_ways.specs.declared.regions.Stop.{Stop}
 use Rattle.vc_ways.specs.declared.way.Way.{Way}
 
-module _ (terms : WayTerms) (s : State) (n : ℕ) (line : List ℕ) (olds news : List Holding) where
+module _ (terms : WayTerms) (s : TraceState) (n : ℕ) (line : List ℕ) (olds news : List Holding) where
   abbrev P : Asking → Type 0
   P asked = Refuses asked olds news
 
   -- too many segments
-  many : (command : Command) (at way : Way) (why : RegionFault) → answer Vmreplay (n == 1) line ≡ Is command → IsStopped (λ w f. Stops w f) (step terms s command) at why → why ≡ code.TooManySegments → at ≡ way → (behind : State → Compared) → after_line terms n s (Ok line) behind ≡ compared.StoppedAt n way outcome.TooManySegments
+  many : (command : Command) (at way : Way) (why : RegionFault) → answer Vmreplay (n == 1) line ≡ Is command → IsStopped (λ w f. Stops w f) (trace_step terms s command) at why → why ≡ code.TooManySegments → at ≡ way → (behind : TraceState → Compared) → after_line terms n s (Ok line) behind ≡ compared.StoppedAt n way outcome.TooManySegments
   many command at way why is stopped e here behind =
-      let stops : step terms s command None ≡ Stops at outcome.TooManySegments = subst (λ (f : RegionFault). IsStopped (λ w f. Stops w f) (step terms s command) at f) e stopped in
+      let stops : trace_step terms s command None ≡ Stops at outcome.TooManySegments = subst (λ (f : RegionFault). IsStopped (λ w f. Stops w f) (trace_step terms s command) at f) e stopped in
       ap (λ a. after_answer terms n s a behind) is ∙ (ap (λ o. after_command n o behind) stops ∙ ap (λ w. compared.StoppedAt n w outcome.TooManySegments) here)
 
   -- a segment is refused
-  asks : (command : Command) (stop : Stop) (way : Way) → answer Vmreplay (n == 1) line ≡ Is command → IsStopped (λ w f. Stops w f) (step terms s command) stop.way stop.fault → stop.fault ≡ code.NoSegment → stop.way ≡ way → IsUnserved terms s.regions (line_size n line) stop olds news → AsksIn terms s P n line way
+  asks : (command : Command) (stop : Stop) (way : Way) → answer Vmreplay (n == 1) line ≡ Is command → IsStopped (λ w f. Stops w f) (trace_step terms s command) stop.way stop.fault → stop.fault ≡ code.NoSegment → stop.way ≡ way → IsUnserved terms s.regions (line_size n line) stop olds news → AsksIn terms s P n line way
   asks command stop way is stopped e here unserved =
-      let stops : step terms s command (Some stop.way) ≡ Stops stop.way outcome.NoSegment = subst (λ (f : RegionFault). IsStopped (λ w f. Stops w f) (step terms s command) stop.way f) e stopped in
+      let stops : trace_step terms s command (Some stop.way) ≡ Stops stop.way outcome.NoSegment = subst (λ (f : RegionFault). IsStopped (λ w f. Stops w f) (trace_step terms s command) stop.way f) e stopped in
       let sized : P (asking terms s.regions stop.way (size_asked command)) = subst (λ k. P (asking terms s.regions stop.way k)) (ap answered_size is) (unserved e) in
       record {
         command = command;
         is = is;
-        stops = subst (λ (w : Way). step terms s command (Some w) ≡ Stops w outcome.NoSegment) here stops;
+        stops = subst (λ (w : Way). trace_step terms s command (Some w) ≡ Stops w outcome.NoSegment) here stops;
         refused = subst (λ (w : Way). P (asking terms s.regions w (size_asked command))) here sized;
       }
 
-  pub stop-runs : (stop : Stop) (how : Ending) (new : State) → StopsAs n stop how → LineEnds terms s n line (Err stop) new → IsUnserved terms s.regions (line_size n line) stop olds news → RunsLine terms s P n line (Err how) new
+  pub stop-runs : (stop : Stop) (how : Ending) (new : TraceState) → StopsAs n stop how → LineEnds terms s n line (Err stop) new → IsUnserved terms s.regions (line_size n line) stop olds news → RunsTraceLine terms s P n line (Err how) new
   stop-runs stop (Finished tally) new h ends unserved = absurd h
   stop-runs stop Read new h ends unserved = absurd h
   stop-runs stop Memory new h ends unserved = tt
@@ -64,10 +64,10 @@ module _ (terms : WayTerms) (s : State) (n : ℕ) (line : List ℕ) (olds news :
 
 -- what holds of what is refused may be said otherwise
 module _ (P Q : Asking → Type 0) (to : (a : Asking) → P a → Q a) (terms : WayTerms) where
-  asks-as : (s : State) (n : ℕ) (line : List ℕ) (way : Way) → AsksIn terms s P n line way → AsksIn terms s Q n line way
+  asks-as : (s : TraceState) (n : ℕ) (line : List ℕ) (way : Way) → AsksIn terms s P n line way → AsksIn terms s Q n line way
   asks-as s n line way h = record { command = h.command; is = h.is; stops = h.stops; refused = to (asking terms s.regions way (size_asked h.command)) h.refused }
 
-  pub runs-as : (s : State) (n : ℕ) (line : List ℕ) (r : Result Unit Ending) (new : State) → RunsLine terms s P n line r new → RunsLine terms s Q n line r new
+  pub runs-as : (s : TraceState) (n : ℕ) (line : List ℕ) (r : Result Unit Ending) (new : TraceState) → RunsTraceLine terms s P n line r new → RunsTraceLine terms s Q n line r new
   runs-as s n line (Ok done) new h = h
   runs-as s n line (Err (Finished tally)) new h = h
   runs-as s n line (Err Read) new h = h
@@ -77,7 +77,7 @@ module _ (P Q : Asking → Type 0) (to : (a : Asking) → P a → Q a) (terms : 
   runs-as s n line (Err (Faulty m (TooMany way))) new h = h
   runs-as s n line (Err (Faulty m (NoSegment way))) new h = (h.0, asks-as s n line way h.1)
 
-  pub ends-as : (s : State) (lines : FoundLines) (how : Ending) (left : Option (List ℕ)) → EndsAs terms s P lines how left → EndsAs terms s Q lines how left
+  pub ends-as : (s : TraceState) (lines : FoundLines) (how : Ending) (left : Option (List ℕ)) → EndsAs terms s P lines how left → EndsAs terms s Q lines how left
   ends-as s lines (Finished tally) left h = h
   ends-as s lines Read left h = h
   ends-as s lines Memory left h = h

@@ -7,7 +7,7 @@ use Rattle.vc_script.specs.Cutting.{Cutting, IsCutting}
 use Rattle.vc_script.specs.Cutter.{result_of_feed}
 use Rattle.vc_script.specs.Pieces.{FoundLines}
 use Rattle.vc_script.proofs.Pieces.{Tells}
-use Rattle.vc_compare.specs.Reading.{CanRead, Cuts, IsOneMore, IsUsedUp, found_behind, is_line, unread_of}
+use Rattle.vc_compare.specs.Reading.{CanRead, CutsLine, IsOneMore, IsUsedUp, found_behind, is_line, unread_of}
 use Rattle.vc_compare.specs.declared.lines.LineReader.{LineReader}
 use Rattle.vc_compare.proofs.Fed.{Leaves, leaves, tells}
 
@@ -28,7 +28,7 @@ module _ (r : LineReader) (next : Cutting) (used : ℕ) (can : CanRead r) where
   unread-drop : used ≤ length (unread_of r) → unread_of cut_off ≡ drop used (unread_of r)
   unread-drop within = part-drop r.piece.items r.from r.end used (omega (arith, within, unread-size))
 
-  tells-cuts : (cut : Cut) → used ≤ length (unread_of r) → Leaves cut next used r.cutter (unread_of r) → ((behind : List ℕ) → Tells cut next used r.cutter (unread_of r) behind) → Cuts cut r cut_off
+  tells-cuts : (cut : Cut) → used ≤ length (unread_of r) → Leaves cut next used r.cutter (unread_of r) → ((behind : List ℕ) → Tells cut next used r.cutter (unread_of r) behind) → CutsLine cut r cut_off
   tells-cuts Whole within left tells = λ behind.
       (tells behind).0 ∙ ap (λ xs. (let found : FoundLines = (next.count, Ok next.line) ∷ found_behind next (xs ++ behind) in found)) (sym (unread-drop within))
   tells-cuts More within left tells = λ behind.
@@ -46,7 +46,7 @@ module _ (r : LineReader) (next : Cutting) (used : ℕ) (can : CanRead r) where
   }
 
   module _ (cut : Cut) (within : used ≤ length (unread_of r)) (e : result_of_feed r.cutter (unread_of r) ≡ record { after = next; cut = cut; used = used }) where
-    pub cuts : Cuts cut r cut_off
+    pub cuts : CutsLine cut r cut_off
     cuts = tells-cuts cut within (leaves r.cutter (unread_of r) next cut used e) (tells r.cutter (unread_of r) next cut used e can.cutting)
 
     pub cuts-whole : is_line cut ≡ true → IsOneMore r cut_off

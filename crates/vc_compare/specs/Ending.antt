@@ -14,7 +14,7 @@ use Rattle.vc_ways.specs.Asking.{Asking, asking, size_asked}
 use Rattle.vc_ways.specs.Compare as compared
 use Rattle.vc_ways.specs.Compare.{Compared, after_line, compare_lines}
 use Rattle.vc_ways.specs.Regions.{WayTerms}
-use Rattle.vc_ways.specs.Step.{State, Stops, step}
+use Rattle.vc_ways.specs.Step.{Stops, TraceState, trace_step}
 use Rattle.vc_ways.specs.declared.line.Wrong.{Wrong}
 use Rattle.vc_ways.specs.declared.line.Wrong.TheVariants as wrong
 use Rattle.vc_ways.specs.declared.regions.Stop.{Stop}
@@ -34,38 +34,38 @@ ending_of n (Some (wrong.Bad fault)) = Err (Faulty n (Bad fault))
 ending_of n (Some wrong.Outside) = Err (Faulty n Outside)
 
 -- a command asks for a segment in a way: were it refused, the way would stop it there. What is said of a refusal holds of what it asks for
-pub record AsksIn (terms : WayTerms) (s : State) (Refused : Asking → Type 0) (n : ℕ) (line : List ℕ) (way : Way) : Type 0 where
+pub record AsksIn (terms : WayTerms) (s : TraceState) (Refused : Asking → Type 0) (n : ℕ) (line : List ℕ) (way : Way) : Type 0 where
   pub command : Command
   pub is : answer Vmreplay (n == 1) line ≡ Is command
-  pub stops : step terms s command (Some way) ≡ Stops way outcome.NoSegment
+  pub stops : trace_step terms s command (Some way) ≡ Stops way outcome.NoSegment
   pub refused : Refused (asking terms s.regions way (size_asked command))
 
 -- running one line: the trace goes on from a state, or ends there. With a refused segment, what is said of a refusal holds
-abbrev pub RunsLine : WayTerms → State → (Asking → Type 0) → ℕ → List ℕ → Result Unit Ending → State → Type 0
-RunsLine terms s Refused n line (Ok done) new = (behind : State → Compared) → after_line terms n s (Ok line) behind ≡ behind new
-RunsLine terms s Refused n line (Err (Faulty m (Bad fault))) new = (m ≡ n) × ((behind : State → Compared) → after_line terms n s (Ok line) behind ≡ compared.BadLine n fault)
-RunsLine terms s Refused n line (Err (Faulty m Outside)) new = (m ≡ n) × ((behind : State → Compared) → after_line terms n s (Ok line) behind ≡ compared.OutsideAt n)
-RunsLine terms s Refused n line (Err (Faulty m (NoSegment way))) new = (m ≡ n) × AsksIn terms s Refused n line way
-RunsLine terms s Refused n line (Err (Faulty m (TooMany way))) new = (m ≡ n) × ((behind : State → Compared) → after_line terms n s (Ok line) behind ≡ compared.StoppedAt n way outcome.TooManySegments)
-RunsLine terms s Refused n line (Err Memory) new = Unit {0}
-RunsLine terms s Refused n line (Err other) new = ⊥
+abbrev pub RunsTraceLine : WayTerms → TraceState → (Asking → Type 0) → ℕ → List ℕ → Result Unit Ending → TraceState → Type 0
+RunsTraceLine terms s Refused n line (Ok done) new = (behind : TraceState → Compared) → after_line terms n s (Ok line) behind ≡ behind new
+RunsTraceLine terms s Refused n line (Err (Faulty m (Bad fault))) new = (m ≡ n) × ((behind : TraceState → Compared) → after_line terms n s (Ok line) behind ≡ compared.BadLine n fault)
+RunsTraceLine terms s Refused n line (Err (Faulty m Outside)) new = (m ≡ n) × ((behind : TraceState → Compared) → after_line terms n s (Ok line) behind ≡ compared.OutsideAt n)
+RunsTraceLine terms s Refused n line (Err (Faulty m (NoSegment way))) new = (m ≡ n) × AsksIn terms s Refused n line way
+RunsTraceLine terms s Refused n line (Err (Faulty m (TooMany way))) new = (m ≡ n) × ((behind : TraceState → Compared) → after_line terms n s (Ok line) behind ≡ compared.StoppedAt n way outcome.TooManySegments)
+RunsTraceLine terms s Refused n line (Err Memory) new = Unit {0}
+RunsTraceLine terms s Refused n line (Err other) new = ⊥
 
 -- the first lines are run from a state to another, whatever is behind them
-abbrev pub Ran : WayTerms → State → FoundLines → State → Type 0
-Ran terms s front at = (behind : FoundLines) → compare_lines terms s (front ++ behind) ≡ compare_lines terms at behind
+abbrev pub RanTo : WayTerms → TraceState → FoundLines → TraceState → Type 0
+RanTo terms s front at = (behind : FoundLines) → compare_lines terms s (front ++ behind) ≡ compare_lines terms at behind
 
 -- the lines before one are run, and it asks for a segment in a way
-pub record AsksAt (terms : WayTerms) (s : State) (Refused : Asking → Type 0) (lines : FoundLines) (n : ℕ) (way : Way) : Type 0 where
+pub record AsksAt (terms : WayTerms) (s : TraceState) (Refused : Asking → Type 0) (lines : FoundLines) (n : ℕ) (way : Way) : Type 0 where
   pub front : FoundLines
   pub line : List ℕ
   pub behind : FoundLines
   pub split : lines ≡ front ++ (n, Ok line) ∷ behind
-  pub at : State
-  pub ran : Ran terms s front at
+  pub at : TraceState
+  pub ran : RanTo terms s front at
   pub asks : AsksIn terms at Refused n line way
 
 -- how the run of lines from a state ends, and what the source has left then. With a refused segment, what is said of a refusal holds
-abbrev pub EndsAs : WayTerms → State → (Asking → Type 0) → FoundLines → Ending → Option (List ℕ) → Type 0
+abbrev pub EndsAs : WayTerms → TraceState → (Asking → Type 0) → FoundLines → Ending → Option (List ℕ) → Type 0
 EndsAs terms s Refused lines (Finished tally) left = (compare_lines terms s lines ≡ compared.Finished tally) × (left ≡ Some [])
 EndsAs terms s Refused lines (Faulty n (Bad fault)) left = compare_lines terms s lines ≡ compared.BadLine n fault
 EndsAs terms s Refused lines (Faulty n Outside) left = compare_lines terms s lines ≡ compared.OutsideAt n

@@ -20,8 +20,8 @@ abbrev pub found_behind : Cutting → List ℕ → FoundLines
 found_behind c bytes = judged_from (c.count + 1) (lines_after c.kept bytes)
 
 -- the lines that are still to come where a source has these bytes left
-abbrev pub to_come : LineReader → List ℕ → FoundLines
-to_come r left = found_behind r.cutter (unread_of r ++ left)
+abbrev pub lines_to_come : LineReader → List ℕ → FoundLines
+lines_to_come r left = found_behind r.cutter (unread_of r ++ left)
 
 -- more may be read
 pub record CanRead (r : LineReader) : Type 0 where
@@ -32,7 +32,7 @@ pub record CanRead (r : LineReader) : Type 0 where
   pub room : length r.piece.items ≡ 4096
 
 -- a piece was read, by whether there was one: the bytes that were left are those of the piece and those that are left now
-pub record Fills (some : Bool) (input : List ℕ) (new : LineReader) (left : Option (List ℕ)) : Type 0 where
+pub record FillsReader (some : Bool) (input : List ℕ) (new : LineReader) (left : Option (List ℕ)) : Type 0 where
   pub rest : List ℕ
   pub has : left ≡ Some rest
   pub split : input ≡ unread_of new ++ rest
@@ -56,10 +56,10 @@ is_line cut.Whole = true
 is_line other = false
 
 -- the cutter took bytes of the piece, whatever is behind it
-abbrev pub Cuts : Cut → LineReader → LineReader → Type 0
-Cuts cut.Whole old new = (left : List ℕ) → to_come old left ≡ (new.cutter.count, Ok new.cutter.line) ∷ to_come new left
-Cuts cut.More old new = (left : List ℕ) → to_come old left ≡ to_come new left
-Cuts (cut.Bad fault) old new = (left : List ℕ) → to_come old left ≡ (new.cutter.count + 1, Err fault) ∷ []
+abbrev pub CutsLine : Cut → LineReader → LineReader → Type 0
+CutsLine cut.Whole old new = (left : List ℕ) → lines_to_come old left ≡ (new.cutter.count, Ok new.cutter.line) ∷ lines_to_come new left
+CutsLine cut.More old new = (left : List ℕ) → lines_to_come old left ≡ lines_to_come new left
+CutsLine (cut.Bad fault) old new = (left : List ℕ) → lines_to_come old left ≡ (new.cutter.count + 1, Err fault) ∷ []
 
 -- the cutter took all of the piece, and wants more
 pub record IsUsedUp (old new : LineReader) : Type 0 where
@@ -74,22 +74,22 @@ pub record IsOneMore (old new : LineReader) : Type 0 where
   pub count : new.cutter.count ≡ old.cutter.count + 1
 
 -- the line that the end of the source ends, where one has begun
-abbrev pub IsLast : Next → LineReader → LineReader → Type 0
-IsLast Last old new = found_behind old.cutter [] ≡ (new.cutter.count, Ok new.cutter.line) ∷ []
-IsLast End old new = found_behind old.cutter [] ≡ []
-IsLast other old new = ⊥
+abbrev pub IsLastLine : Next → LineReader → LineReader → Type 0
+IsLastLine Last old new = found_behind old.cutter [] ≡ (new.cutter.count, Ok new.cutter.line) ∷ []
+IsLastLine End old new = found_behind old.cutter [] ≡ []
+IsLastLine other old new = ⊥
 
 -- what a source has left, of which these lines come
-pub record Leaves (new : LineReader) (left : Option (List ℕ)) (behind : FoundLines) : Type 0 where
+pub record LeavesLines (new : LineReader) (left : Option (List ℕ)) (behind : FoundLines) : Type 0 where
   pub rest : List ℕ
   pub has : left ≡ Some rest
-  pub lines : behind ≡ to_come new rest
+  pub lines : behind ≡ lines_to_come new rest
 
 -- what is next of a source with these bytes left, and what it has left then; a failed read loses nothing
-abbrev pub Gives : Result Next ReadFailed → LineReader → LineReader → List ℕ → Option (List ℕ) → Type 0
-Gives (Ok Line) old new input left =
-    (behind : FoundLines) × ((to_come old input ≡ (new.cutter.count, Ok new.cutter.line) ∷ behind) × Leaves new left behind)
-Gives (Ok Last) old new input left = (to_come old input ≡ (new.cutter.count, Ok new.cutter.line) ∷ []) × (left ≡ Some [])
-Gives (Ok (Bad fault)) old new input left = to_come old input ≡ (new.cutter.count + 1, Err fault) ∷ []
-Gives (Ok End) old new input left = (to_come old input ≡ []) × (left ≡ Some [])
-Gives (Err failed) old new input left = Leaves new left (to_come old input)
+abbrev pub GivesNextLine : Result Next ReadFailed → LineReader → LineReader → List ℕ → Option (List ℕ) → Type 0
+GivesNextLine (Ok Line) old new input left =
+    (behind : FoundLines) × ((lines_to_come old input ≡ (new.cutter.count, Ok new.cutter.line) ∷ behind) × LeavesLines new left behind)
+GivesNextLine (Ok Last) old new input left = (lines_to_come old input ≡ (new.cutter.count, Ok new.cutter.line) ∷ []) × (left ≡ Some [])
+GivesNextLine (Ok (Bad fault)) old new input left = lines_to_come old input ≡ (new.cutter.count + 1, Err fault) ∷ []
+GivesNextLine (Ok End) old new input left = (lines_to_come old input ≡ []) × (left ≡ Some [])
+GivesNextLine (Err failed) old new input left = LeavesLines new left (lines_to_come old input)

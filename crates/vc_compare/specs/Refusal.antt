@@ -21,7 +21,7 @@ pub record HasRefused (entry exit : Discipline) (segments : List (ℕ × ℕ)) (
   pub room : segments ≡ [] → IfSome entry.room (λ room. room < bytes)
 
 -- the one at the place that was asked refused
-pub record IsRefused (slots slots' : List (Option Discipline)) (a : Asking) : Type 0 where
+pub record RefusesAsked (slots slots' : List (Option Discipline)) (a : Asking) : Type 0 where
   pub entry : Discipline
   pub exit : Discipline
   pub stood : slice_get slots a.place ≡ Some (Some entry)
@@ -29,9 +29,9 @@ pub record IsRefused (slots slots' : List (Option Discipline)) (a : Asking) : Ty
   pub refused : HasRefused entry exit a.segments a.bytes
 
 -- a count didn't rise, and stands below its last value
-abbrev pub Stays : ℕ → ℕ → Type 0
-Stays before after = (after ≡ before) × (before < last_count)
+abbrev pub CountStays : ℕ → ℕ → Type 0
+CountStays before after = (after ≡ before) × (before < last_count)
 
 -- no discipline at any place counted a refusal
 abbrev pub NoneRose : List (Option Discipline) → List (Option Discipline) → Type 0
-NoneRose slots slots' = (n : ℕ) (d e : Discipline) → slice_get slots n ≡ Some (Some d) → slice_get slots' n ≡ Some (Some e) → Stays d.faults e.faults
+NoneRose slots slots' = (n : ℕ) (d e : Discipline) → slice_get slots n ≡ Some (Some d) → slice_get slots' n ≡ Some (Some e) → CountStays d.faults e.faults

@@ -5,16 +5,16 @@ use Rattle.vc_compare.specs.declared.ending.Fault.{Fault}
 use Rattle.vc_compare.specs.declared.ending.Fault.TheVariants.{Bad, Outside, NoSegment, TooMany}
 
 -- the line that err gets: the program's name, and what happened
-abbrev pub message : List ℕ → List ℕ
-message text = codes "vmcompare" ++ codes ": " ++ text ++ codes "\n"
+abbrev pub vmcompare_line : List ℕ → List ℕ
+vmcompare_line text = codes "vmcompare" ++ codes ": " ++ text ++ codes "\n"
 
 -- what keeps a line from being run
-abbrev pub fault_text : Fault → List ℕ
-fault_text (Bad fault) = line_fault_text fault
-fault_text Outside = codes "not in a trace"
-fault_text (NoSegment way) = codes "no segment"
-fault_text (TooMany way) = codes "too many segments"
+abbrev pub trace_fault_text : Fault → List ℕ
+trace_fault_text (Bad fault) = line_fault_text fault
+trace_fault_text Outside = codes "not in a trace"
+trace_fault_text (NoSegment way) = codes "no segment"
+trace_fault_text (TooMany way) = codes "too many segments"
 
 -- the line that err gets for a line that isn't run
-abbrev pub err_line : ℕ → Fault → List ℕ
-err_line n fault = message (codes "line " ++ decimal n ++ codes ": " ++ fault_text fault)
+abbrev pub bad_line_text : ℕ → Fault → List ℕ
+bad_line_text n fault = vmcompare_line (codes "line " ++ decimal n ++ codes ": " ++ trace_fault_text fault)

@@ -5,7 +5,7 @@ ghost use Rattle.vc_model.specs.Count.{Rose};
 ghost use Rattle.vc_script.specs.Cutter.{result_of_feed};
 ghost use Rattle.vc_script.specs.Cutting.{new_cutting};
 ghost use Rattle.vc_script.specs.Judged.{last_number};
-ghost use Rattle.vc_compare.specs.Reading.{CanRead, Cuts, Fills, Gives, IsLast, IsOneMore, IsUsedUp, Readies, is_line, unread_of};
+ghost use Rattle.vc_compare.specs.Reading.{CanRead, CutsLine, FillsReader, GivesNextLine, IsLastLine, IsOneMore, IsUsedUp, Readies, is_line, unread_of};
 
 use std::alloc::Global;
 use vc_base::{OutOfMemory, ReadFailed, Source};
@@ -66,7 +66,7 @@ impl LineReader {
         ensures cutter { self.new.cutter ≡ self.old.cutter }
         ensures some { IfOk result (λ some. some ≡ true → self.new.from < self.new.end) }
         ensures fills { IfSome (S.left source.old) (λ input. IfOk result (λ some.
-            Fills some input self.new (S.left source.new))) }
+            FillsReader some input self.new (S.left source.new))) }
         ensures failed { OnErr result (S.left source.new ≡ S.left source.old) }
         ensures nothing { OnErr result (unread_of self.new ≡ []) }
         ensures cause { OnErr result (Rose (S.failures source.old) (S.failures source.new)) }
@@ -100,7 +100,7 @@ impl LineReader {
     fn cut(&mut self) -> Cut
         requires can { CanRead self.old }
         requires some { self.old.from < self.old.end }
-        ensures cuts { Cuts result self.old self.new }
+        ensures cuts { CutsLine result self.old self.new }
         ensures whole { is_line result ≡ true → IsOneMore self.old self.new }
         ensures more { result ≡ Cut.More → IsUsedUp self.old self.new }
     {
@@ -112,7 +112,7 @@ impl LineReader {
     // Ends the reading: answers whether the end of the source ends a line.
     fn finish(&mut self) -> Next
         requires can { CanRead self.old }
-        ensures last { IsLast result self.old self.new }
+        ensures last { IsLastLine result self.old self.new }
     {
         match self.cutter.end() {
             Cut::Whole => Next::Last,
@@ -125,7 +125,7 @@ impl LineReader {
     pub fn next<S: Source>(&mut self, source: &mut S) -> Result<Next, ReadFailed>
         requires can { CanRead self.old }
         ensures gives { IfSome (S.left source.old) (λ input.
-            Gives result self.old self.new input (S.left source.new)) }
+            GivesNextLine result self.old self.new input (S.left source.new)) }
         ensures line { IfOk result (λ next. next ≡ Next.Line → IsOneMore self.old self.new) }
         ensures cause { OnErr result (Rose (S.failures source.old) (S.failures source.new)) }
         ensures never_falls { S.failures source.old ≤ S.failures source.new }

@@ -1,17 +1,17 @@
 ghost use Rattle.std.specs.Prelude.{◌≡◌, ◌≢◌, ◌≤◌, IfOk, IfSome, IfErr, OnErr, Ok, OnOk, false, is_ok};
-ghost use Rattle.vc_compare.specs.Ending.{EndsAs, RunsLine, StopsAs, ending_of};
-ghost use Rattle.vc_compare.specs.Refusal.{IsRefused};
+ghost use Rattle.vc_compare.specs.Ending.{EndsAs, RunsTraceLine, StopsAs, ending_of};
+ghost use Rattle.vc_compare.specs.Refusal.{RefusesAsked};
 ghost use Rattle.vc_compare.specs.Terms.{terms_on};
-ghost use Rattle.vc_compare.specs.Reading.{CanRead, to_come};
+ghost use Rattle.vc_compare.specs.Reading.{CanRead, lines_to_come};
 ghost use Rattle.vc_model.specs.Count.{Rose};
 ghost use Rattle.vc_script.specs.Judged.{judged_lines};
-ghost use Rattle.vc_ways.specs.Answer.{AreKept};
+ghost use Rattle.vc_ways.specs.Answer.{KeepsHoldings};
 ghost use Rattle.vc_ways.specs.Asking.{AreRefused, Refuses};
 ghost use Rattle.vc_ways.specs.Lends.{HasAllBack};
 ghost use Rattle.vc_ways.specs.RegionsParts.{all_holdings, terms_of};
 ghost use Rattle.vc_ways.specs.Settled.{slots_on};
 ghost use Rattle.vc_ways.specs.Step.{start};
-ghost use Rattle.vc_ways.specs.TraceParts.{CanClose, Stands, state_of};
+ghost use Rattle.vc_ways.specs.TraceParts.{CanClose, StandsSoFar, trace_state};
 
 use crate::ending::{Ending, Fault};
 use crate::lines::{LineReader, Next};
@@ -46,12 +46,12 @@ fn judged(n: u32, wrong: Option<Wrong>) -> Result<(), Ending>
 
 // Runs the last line of a reader, and answers how the trace ends there, if it does.
 fn run_line(alloc: Global, trace: &mut Trace, reader: &LineReader) -> Result<(), Ending>
-    requires stands { Stands state trace.old }
-    ensures runs { RunsLine (terms_of state trace.old.regions) (state_of trace.old)
+    requires stands { StandsSoFar state trace.old }
+    ensures runs { RunsTraceLine (terms_of state trace.old.regions) (trace_state trace.old)
         (λ asked. Refuses asked (all_holdings state trace.old.regions) (all_holdings state trace.new.regions))
-        reader.now.cutter.count reader.now.cutter.line result (state_of trace.new) }
-    ensures stands { OnOk result (Stands state trace.new) }
-    ensures keeps { AreKept (is_ok result) (all_holdings state trace.old.regions)
+        reader.now.cutter.count reader.now.cutter.line result (trace_state trace.new) }
+    ensures stands { OnOk result (StandsSoFar state trace.new) }
+    ensures keeps { KeepsHoldings (is_ok result) (all_holdings state trace.old.regions)
         (all_holdings state trace.new.regions) }
     ensures closes { CanClose state trace.new }
 {
@@ -69,13 +69,13 @@ fn run_lines<S: Source>(
     reader: &mut LineReader,
     source: &mut S,
 ) -> Ending
-    requires stands { Stands state trace.old }
+    requires stands { StandsSoFar state trace.old }
     requires can { CanRead reader.old }
     ensures ends { IfSome (S.left source.old) (λ input. EndsAs (terms_of state trace.old.regions)
-        (state_of trace.old)
+        (trace_state trace.old)
         (AreRefused (all_holdings state trace.old.regions) (all_holdings state trace.new.regions))
-        (to_come reader.old input) result (S.left source.new)) }
-    ensures keeps { AreKept false (all_holdings state trace.old.regions)
+        (lines_to_come reader.old input) result (S.left source.new)) }
+    ensures keeps { KeepsHoldings false (all_holdings state trace.old.regions)
         (all_holdings state trace.new.regions) }
     ensures closes { CanClose state trace.new }
     ensures cause { result ≡ Ending.Read → Rose (S.failures source.old) (S.failures source.new) }
@@ -106,7 +106,7 @@ fn run_lines<S: Source>(
 pub(crate) fn run<S: Source>(alloc: Global, shelf: &mut Shelf, source: &mut S) -> Ending
     requires { 0 ≤ 0 }
     ensures ends { IfSome (S.left source.old) (λ input. EndsAs (terms_on (slots_on state shelf.old)) start
-        (IsRefused (slots_on state shelf.old) (slots_on state shelf.new))
+        (RefusesAsked (slots_on state shelf.old) (slots_on state shelf.new))
         (judged_lines input) result (S.left source.new)) }
     ensures keeps { HasAllBack (slots_on state shelf.old) (slots_on state shelf.new) }
     ensures cause { result ≡ Ending.Read → Rose (S.failures source.old) (S.failures source.new) }

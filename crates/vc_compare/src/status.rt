@@ -29,11 +29,11 @@ pub enum CompareStatus {
 }
 
 impl CompareStatus {
-    ghost use Rattle.vc_compare.specs.Status.{number};
+    ghost use Rattle.vc_compare.specs.Status.{compare_status_number};
 
     /// The number that a program ends with, from 0 to 7.
     pub fn number(self) -> u8
-        ensures { result ≡ number self }
+        ensures { result ≡ compare_status_number self }
     {
         match self {
             CompareStatus::Ok => 0,

@@ -1,5 +1,5 @@
 ghost use Rattle.std.specs.Prelude.{◌≡◌, ◌≤◌, OnErr, OnOk, length};
-ghost use Rattle.vc_compare.specs.Told.{err_line, fault_text, message};
+ghost use Rattle.vc_compare.specs.Told.{bad_line_text, trace_fault_text, vmcompare_line};
 ghost use Rattle.vc_base.specs.Told.{Broke, Told};
 
 use crate::ending::Fault;
@@ -12,7 +12,7 @@ const LINE_BYTES: usize = 96;
 
 // What keeps a line from being run.
 fn fault_text(fault: Fault) -> &'static str
-    ensures text { result.now ≡ fault_text fault }
+    ensures text { result.now ≡ trace_fault_text fault }
     ensures short { length result.now ≤ 22 }
 {
     match fault {
@@ -26,9 +26,9 @@ fn fault_text(fault: Fault) -> &'static str
 // Writes what happened, in one line behind the tool's name.
 pub(crate) fn tell<E: Sink>(err: &mut E, text: &str) -> Result<(), WriteFailed>
     requires { length text.now ≤ 80 }
-    ensures told { OnOk result (Told (E.written err.old) (E.written err.new) (message text.now)) }
+    ensures told { OnOk result (Told (E.written err.old) (E.written err.new) (vmcompare_line text.now)) }
     ensures broke { OnErr result (Broke (E.failures err.old) (E.failures err.new)
-        (E.written err.old) (E.written err.new) (message text.now)) }
+        (E.written err.old) (E.written err.new) (vmcompare_line text.now)) }
     ensures never_falls { E.failures err.old ≤ E.failures err.new }
 {
     let mut line = ArrayString::<LINE_BYTES>::new();
@@ -41,9 +41,9 @@ pub(crate) fn tell<E: Sink>(err: &mut E, text: &str) -> Result<(), WriteFailed>
 
 // Writes what keeps a line from being run.
 pub(crate) fn tell_fault<E: Sink>(err: &mut E, n: u32, fault: Fault) -> Result<(), WriteFailed>
-    ensures told { OnOk result (Told (E.written err.old) (E.written err.new) (err_line n fault)) }
+    ensures told { OnOk result (Told (E.written err.old) (E.written err.new) (bad_line_text n fault)) }
     ensures broke { OnErr result (Broke (E.failures err.old) (E.failures err.new)
-        (E.written err.old) (E.written err.new) (err_line n fault)) }
+        (E.written err.old) (E.written err.new) (bad_line_text n fault)) }
     ensures never_falls { E.failures err.old ≤ E.failures err.new }
 {
     let mut buffer = Buffer::new();

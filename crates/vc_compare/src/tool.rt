@@ -1,5 +1,5 @@
 ghost use Rattle.std.specs.Prelude.{◌≡◌, length};
-ghost use Rattle.vc_compare.specs.Comparison.{Comparison, Ends, Finishes, flow, status_of};
+ghost use Rattle.vc_compare.specs.Comparison.{Comparison, Finishes, TellsEnd, flow, status_of_trace_fault};
 ghost use Rattle.vc_compare.specs.Streams.{NoneFalls, sinks};
 ghost use Rattle.vc_ways.specs.Settled.{slots_on};
 
@@ -36,7 +36,7 @@ fn finish<O: Sink, E: Sink>(alloc: Global, tally: &Tally, out: &mut O, err: &mut
 
 // The status of a line that can't be run.
 fn status_of(fault: Fault) -> CompareStatus
-    ensures { result ≡ status_of fault }
+    ensures { result ≡ status_of_trace_fault fault }
 {
     match fault {
         Fault::Bad(_) | Fault::Outside => CompareStatus::Script,
@@ -47,7 +47,7 @@ fn status_of(fault: Fault) -> CompareStatus
 
 // Tells how a trace ended, and ends with a status.
 fn end<O: Sink, E: Sink>(alloc: Global, ending: Ending, out: &mut O, err: &mut E) -> CompareStatus
-    ensures ends { Ends ending result
+    ensures ends { TellsEnd ending result
         (sinks O.written O.failures E.written E.failures out.old err.old)
         (sinks O.written O.failures E.written E.failures out.new err.new) }
     ensures counts { NoneFalls

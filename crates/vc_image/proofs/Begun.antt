@@ -20,13 +20,13 @@ use Rattle.vc_region.specs.OfBest.{best_in}
 use Rattle.vc_region.specs.declared.region.Region.{Region}
 use Rattle.vc_region.specs.declared.region.Region.TheVariants.{Best as OfBest, Pool, Last, Debug, Profile}
 use Rattle.vc_dict.specs.declared.dict.Dict.{Dict}
-use Rattle.vc_image_check.specs.Bytes.Contents.{contents_of}
+use Rattle.vc_image_check.specs.Bytes.Contents.{contents_of_image}
 use Rattle.vc_image_check.specs.Bytes.Header.{AreContents, IsHeader}
-use Rattle.vc_image_check.specs.Bytes.Image.{Contents, Row, image_of}
+use Rattle.vc_image_check.specs.Bytes.Image.{DictRow, ImageContents, image_of}
 use Rattle.vc_image_check.proofs.Writing.{header-of, read-again}
 use Rattle.vc_image_check.specs.Segments.Sound.{AreSoundSegments}
 use Rattle.vc_image_check.specs.Parts.Front.{IsSoundFront}
-use Rattle.vc_image.specs.Save.{image_in, row_of}
+use Rattle.vc_image.specs.Save.{dict_row, image_in}
 use Rattle.vc_image.proofs.Rows.{all-fit, low, low_contents, low-image}
 use Rattle.vc_image.proofs.Sizes.{each-most}
 
@@ -74,8 +74,8 @@ module _ (segs : List Bytes) (index : List ℕ) (root : ℕ) (h : AreOfBest segs
   root-fits = let g = the-tree in root-by g.tree.tree g.tree.is_tree
 
   -- an image of these has a sound front, whatever its rows are
-  module _ (rows : List Row) (few : length rows ≤ 256) where
-    abbrev of : Contents
+  module _ (rows : List DictRow) (few : length rows ≤ 256) where
+    abbrev of : ImageContents
     of = record { root = root; segs = segs; rows = rows }
 
     are-contents : AreContents (low_contents of)
@@ -83,14 +83,14 @@ module _ (segs : List Bytes) (index : List ℕ) (root : ℕ) (h : AreOfBest segs
         let long = length-map rows low in
         record { segments = are-segments; root = root-fits; few = omega (arith, long, few); rows = all-fit rows }
 
-    pub read-low : contents_of (image_of of) ≡ low_contents of
-    read-low = ap contents_of (sym (low-image of)) ∙ read-again (low_contents of) are-contents
+    pub read-low : contents_of_image (image_of of) ≡ low_contents of
+    read-low = ap contents_of_image (sym (low-image of)) ∙ read-again (low_contents of) are-contents
 
     pub front-of : IsSoundFront (image_of of)
     front-of = record {
       head = subst IsHeader (low-image of) (header-of (low_contents of) are-contents);
-      segments = subst (λ (c : Contents). AreSoundSegments c.segs) (sym read-low) sound-segments;
-      tree = subst (λ (c : Contents). HasGaps (tiling c.segs) c.root []) (sym read-low) the-tree;
+      segments = subst (λ (c : ImageContents). AreSoundSegments c.segs) (sym read-low) sound-segments;
+      tree = subst (λ (c : ImageContents). HasGaps (tiling c.segs) c.root []) (sym read-low) the-tree;
     }
 
 pub of-best : {I : Type 0} {V : I → Type 0} (b : Best I V) → AreOfBest b.extents.segs.items b.extents.index.items b.root.0
@@ -98,8 +98,8 @@ of-best b = record { kept = b.extents.kept; whole = b.whole; merged = b.merged; 
 
 pub front-in : {I : Type 0} {V : I → Type 0} (region : Region I V) (dicts : List Dict) → IsSome (best_in region) → length dicts ≤ 256 → IsSoundFront (image_in region dicts)
 front-in (OfBest b) dicts h few =
-    let long = length-map dicts row_of in
-    front-of b.extents.segs.items b.extents.index.items b.root.0 (of-best b) (map row_of dicts) (omega (arith, long, few))
+    let long = length-map dicts dict_row in
+    front-of b.extents.segs.items b.extents.index.items b.root.0 (of-best b) (map dict_row dicts) (omega (arith, long, few))
 front-in (Pool p) dicts h few = absurd (cc)
 front-in (Last l) dicts h few = absurd (cc)
 front-in (Debug d) dicts h few = absurd (cc)

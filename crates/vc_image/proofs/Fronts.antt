@@ -2,7 +2,7 @@
 use Rattle.vc_base.proofs.Common.{◌≡◌, ℕ, ◌+◌, ◌<◌, List, ◌++◌, length, take, drop, get_or, IfSome, Some, None, Option, sym, refl, ap, ap₂, ◌∙◌, subst, inl, inr, arith, append_assoc, take_all, take_at, drop_at, take-add, take-append-le, take-append-drop, drop_more, cases_lt}
 use Rattle.std.proofs.lemmas.Grind.{flat_map-append}
 use Rattle.vc_seg.specs.Segment.{Bytes}
-use Rattle.vc_image.specs.Save.{body_of}
+use Rattle.vc_image.specs.Save.{image_body}
 
 -- a front of a list is one of a longer list
 front-longer : (xs ys : List ℕ) (k : ℕ) → (n : ℕ) × (take k xs ≡ take n (xs ++ ys))
@@ -41,12 +41,12 @@ both-written (Some w) now after a b one two =
     e ∙ ap (λ (z : List ℕ). Some z) (append_assoc w a b)
 
 -- the bytes of segments, with those of the one at a place
-pub body-at : (segs : List Bytes) (i : ℕ) (s : Bytes) → i < length segs → body_of segs ≡ body_of (take i segs) ++ ((get_or segs i s).bytes ++ body_of (drop (i + 1) segs))
+pub body-at : (segs : List Bytes) (i : ℕ) (s : Bytes) → i < length segs → image_body segs ≡ image_body (take i segs) ++ ((get_or segs i s).bytes ++ image_body (drop (i + 1) segs))
 body-at segs i s lt =
     let f : Bytes → List ℕ = λ x. x.bytes in
-    ap body_of (sym (take-append-drop i segs))
+    ap image_body (sym (take-append-drop i segs))
     ∙ flat_map-append f (take i segs) (drop i segs)
-    ∙ ap (λ (z : List Bytes). body_of (take i segs) ++ body_of z) (drop_more segs i s lt)
+    ∙ ap (λ (z : List Bytes). image_body (take i segs) ++ image_body z) (drop_more segs i s lt)
 
 -- all bytes of a segment
 pub whole-bytes : (b : List ℕ) (n : ℕ) → n ≡ length b → take n (drop 0 b) ≡ b

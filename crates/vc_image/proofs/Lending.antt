@@ -9,7 +9,7 @@ use Rattle.vc_seg.specs.Field.{field_at}
 use Rattle.vc_seg.specs.Segment.{Bytes, pair_of}
 use Rattle.vc_extent.specs.Tiles.{IsTiled}
 use Rattle.vc_extent.specs.Tiling.{IsThere}
-use Rattle.vc_image_check.specs.Bytes.Contents.{body_in, contents_of, pair_at, pairs_in, segments_in}
+use Rattle.vc_image_check.specs.Bytes.Contents.{body_in, contents_of_image, image_segment_count, pairs_in, segment_pair_at}
 use Rattle.vc_image_check.specs.Bytes.Header.{IsHeader}
 use Rattle.vc_image_check.proofs.Pairs.{items-get}
 use Rattle.vc_image_check.proofs.Segs.{legal, long, new-number, next-place, segment, segment-is, segs-are, segs-count, segs-each, segs-more, segs_in, size-is, there, within}
@@ -49,9 +49,9 @@ pub record Lending (b : List ℕ) (i at : ℕ) (segs : List Bytes) (old new : Di
   pub lent : AreLent old new (map pair_of (take i (segs_in b)))
   pub none : i ≡ 0 → new ≡ old
 
-module _ (b : List ℕ) (h : IsHeader b) (i at : ℕ) (segs : List Bytes) (old asked : Discipline) (l : Lending b i at segs old asked) (lt : i < segments_in b) where
+module _ (b : List ℕ) (h : IsHeader b) (i at : ℕ) (segs : List Bytes) (old asked : Discipline) (l : Lending b i at segs old asked) (lt : i < image_segment_count b) where
   abbrev pair : ℕ × ℕ
-  pair = pair_at (20 + 8 * i) b
+  pair = segment_pair_at (20 + 8 * i) b
 
   -- the bytes at hand
   module _ (size : ℕ) (is : size ≡ field_at (24 + 8 * i) b) where
@@ -70,12 +70,12 @@ module _ (b : List ℕ) (h : IsHeader b) (i at : ℕ) (segs : List Bytes) (old a
     pub bytes-legal : IsSegmentSize (length bytes)
     bytes-legal = subst IsSegmentSize (sym bytes-long) (legal b h i at l.place lt).size
 
-    pub bytes-even : first_uneven old.terms.round (map pair_of (contents_of b).segs) ≡ None → length bytes % asked.terms.round ≡ 0
+    pub bytes-even : first_uneven old.terms.round (map pair_of (contents_of_image b).segs) ≡ None → length bytes % asked.terms.round ≡ 0
     bytes-even even =
         let none = option_map-None (λ (p : ℕ × ℕ). p.0) (find (is_uneven old.terms.round) (pairs_in b)) (sym (ap (first_uneven old.terms.round) (pairs-of b h)) ∙ even) in
         let m = pairs-many b in
         let zeros = all-even old.terms.round (pairs_in b) none i pair (omega (arith, lt, m)) in
-        let same : (get_or (pairs_in b) i pair).1 ≡ length bytes = ap (λ (p : ℕ × ℕ). p.1) (items-get pair_at 8 b (segments_in b) 20 i pair lt) ∙ sym bytes-long in
+        let same : (get_or (pairs_in b) i pair).1 ≡ length bytes = ap (λ (p : ℕ × ℕ). p.1) (items-get segment_pair_at 8 b (image_segment_count b) 20 i pair lt) ∙ sym bytes-long in
         ap₂ (λ n r. n % r) (sym same) (ap (λ t. t.round) l.lent.kept.terms) ∙ zeros
 
     -- the segment at hand
@@ -98,7 +98,7 @@ module _ (b : List ℕ) (h : IsHeader b) (i at : ℕ) (segs : List Bytes) (old a
             not-there (segment b h i at l.place lt).number (take i (segs_in b)) (new-number b h i at l.place lt)
             (subst (λ k. IsThere k (take i (segs_in b))) (ap (λ (x : Bytes). x.number) (e ∙ same-segment)) (subst (IsThere s.number) l.filled used))
 
-        pub tiled : All (λ x. IsTiled x.bytes) (contents_of b).segs → IsTiled s.bytes
+        pub tiled : All (λ x. IsTiled x.bytes) (contents_of_image b).segs → IsTiled s.bytes
         tiled all =
             subst (λ (x : Bytes). IsTiled x.bytes) (segment-is b h i at l.place lt ∙ sym (e ∙ same-segment))
             (segs-each (λ x. IsTiled x.bytes) b all i (segment b h i at l.place lt) (there b h i at l.place lt))
@@ -125,11 +125,11 @@ module _ (b : List ℕ) (h : IsHeader b) (i at : ℕ) (segs : List Bytes) (old a
             }
 
       -- it was refused
-      pub refused-here : (refused new : Discipline) → Unserved asked refused (length bytes) → TookBack refused new (map pair_of segs) [] → (segs ≡ [] → new ≡ refused) → IsRefused old new (map pair_of (contents_of b).segs) number
+      pub refused-here : (refused new : Discipline) → Unserved asked refused (length bytes) → TookBack refused new (map pair_of segs) [] → (segs ≡ [] → new ≡ refused) → IsRefused old new (map pair_of (contents_of_image b).segs) number
       refused-here refused new refusal back same =
-          let ps = map pair_of (contents_of b).segs in
+          let ps = map pair_of (contents_of_image b).segs in
           let m = pairs-many b in
-          let own : get_or (pairs_in b) i pair ≡ pair = items-get pair_at 8 b (segments_in b) 20 i pair lt in
+          let own : get_or (pairs_in b) i pair ≡ pair = items-get segment_pair_at 8 b (image_segment_count b) 20 i pair lt in
           let few = ap (λ x. take i (map pair_of x)) (segs-are b) ∙ take-pairs i (segs_in b) in
           record {
             place = i;
@@ -146,20 +146,20 @@ module _ (b : List ℕ) (h : IsHeader b) (i at : ℕ) (segs : List Bytes) (old a
             first = λ only. by i refl only;
           }
         where
-          by : (k : ℕ) → k ≡ i → option_map (λ (p : ℕ × ℕ). p.0) (slice_get (map pair_of (contents_of b).segs) 0) ≡ Some number → Unserved old new pair.1
+          by : (k : ℕ) → k ≡ i → option_map (λ (p : ℕ × ℕ). p.0) (slice_get (map pair_of (contents_of_image b).segs) 0) ≡ Some number → Unserved old new pair.1
           by zero e only =
               let none : segs ≡ [] = l.filled ∙ ap (λ k. take k (segs_in b)) (sym e) in
               subst (λ d. Unserved old d pair.1) (sym (same none)) (subst (λ d. Unserved d refused pair.1) (l.none (sym e)) (subst (Unserved asked refused) bytes-long refusal))
           by (suc k) e only =
               let m = pairs-many b in
-              let top : slice_get (map pair_of (contents_of b).segs) 0 ≡ Some (get_or (pairs_in b) 0 pair) = ap (λ x. slice_get x 0) (pairs-of b h) ∙ slice_get-get_or (pairs_in b) 0 pair (omega (arith, lt, m)) in
+              let top : slice_get (map pair_of (contents_of_image b).segs) 0 ≡ Some (get_or (pairs_in b) 0 pair) = ap (λ x. slice_get x 0) (pairs-of b h) ∙ slice_get-get_or (pairs_in b) 0 pair (omega (arith, lt, m)) in
               let named : (get_or (pairs_in b) 0 pair).0 ≡ number = same_Some (get_or (pairs_in b) 0 pair).0 number (sym (ap (option_map (λ (p : ℕ × ℕ). p.0)) top) ∙ only) in
-              let own : (get_or (pairs_in b) i pair).0 ≡ number = ap (λ (p : ℕ × ℕ). p.0) (items-get pair_at 8 b (segments_in b) 20 i pair lt) ∙ sym n in
+              let own : (get_or (pairs_in b) i pair).0 ≡ number = ap (λ (p : ℕ × ℕ). p.0) (items-get segment_pair_at 8 b (image_segment_count b) 20 i pair lt) ∙ sym n in
               absurd (h.segments.distinct 0 i pair (omega (arith, e)) (omega (arith, lt, m)) (named ∙ sym own))
 
 -- all are lent
-pub lent-all : (b : List ℕ) (i at : ℕ) (segs : List Bytes) (old new : Discipline) → IsHeader b → Lending b i at segs old new → segments_in b ≤ i → take i (segs_in b) ≡ (contents_of b).segs
+pub lent-all : (b : List ℕ) (i at : ℕ) (segs : List Bytes) (old new : Discipline) → IsHeader b → Lending b i at segs old new → image_segment_count b ≤ i → take i (segs_in b) ≡ (contents_of_image b).segs
 lent-all b i at segs old new h l le = let m = segs-count b h in take_all i (segs_in b) (omega (arith, le, m)) ∙ sym (segs-are b)
 
-pub lent-whole : (b : List ℕ) (i at : ℕ) (segs : List Bytes) (old new : Discipline) → IsHeader b → Lending b i at segs old new → segments_in b ≤ i → AreLent old new (map pair_of (contents_of b).segs)
+pub lent-whole : (b : List ℕ) (i at : ℕ) (segs : List Bytes) (old new : Discipline) → IsHeader b → Lending b i at segs old new → image_segment_count b ≤ i → AreLent old new (map pair_of (contents_of_image b).segs)
 lent-whole b i at segs old new h l le = subst (λ x. AreLent old new (map pair_of x)) (lent-all b i at segs old new h l le) l.lent

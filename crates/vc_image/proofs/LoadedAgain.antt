@@ -12,17 +12,17 @@ use Rattle.vc_best.specs.Cells.{cell_bytes, cells_of}
 use Rattle.vc_best.proofs.Found.{found-of}
 use Rattle.vc_region.specs.declared.region.Region.{Region}
 use Rattle.vc_region.specs.declared.region.Region.TheVariants.{Best as OfBest, Pool, Last, Debug, Profile}
-use Rattle.vc_image_check.specs.Bytes.Contents.{contents_of, rows_in}
-use Rattle.vc_image_check.specs.Bytes.Image.{Row}
-use Rattle.vc_image_check.specs.Blocks.Blocks.{blocks_of, is_cell}
+use Rattle.vc_image_check.specs.Bytes.Contents.{contents_of_image, rows_of_image}
+use Rattle.vc_image_check.specs.Bytes.Image.{DictRow}
+use Rattle.vc_image_check.specs.Blocks.Blocks.{image_blocks, is_cell}
 use Rattle.vc_image_check.specs.Dicts.Alone.{AreAlone}
 use Rattle.vc_image_check.specs.Dicts.Sound.{IsSoundBy, IsSoundDict, IsSoundRow}
 use Rattle.vc_image_check.specs.Dicts.Taken.{AreSoundBefore, taken_by}
-use Rattle.vc_image_check.specs.Dicts.Whole.{IsSound}
+use Rattle.vc_image_check.specs.Dicts.Whole.{IsSoundImage}
 use Rattle.vc_image_check.proofs.Passing.{length-rows}
 use Rattle.vc_image_check.proofs.Told.{set-alone}
-use Rattle.vc_image.specs.Load.{AreApart, IsApart, own_by}
-use Rattle.vc_image.specs.Save.{row_of}
+use Rattle.vc_image.specs.Load.{AllShareNone, ShareNone, own_by}
+use Rattle.vc_image.specs.Save.{dict_row}
 use Rattle.vc_image.proofs.Loads.{apart-turned, in-taken}
 use Rattle.vc_image.specs.Saved.Saved.{AreOfImage, AreSavable, AreSavableIn, IsSavable, IsWholeBy}
 use Rattle.vc_image.proofs.Begun.{AreOfBest, of-best}
@@ -34,10 +34,10 @@ pub each-at : {A : Type 0} (P : A → Type 0) (xs : List A) → ((k : ℕ) (x : 
 each-at P [] f = tt
 each-at P (x ∷ xs) f = (f 0 x refl, each-at P xs (λ k y e. f (suc k) y e))
 
-apart-at : (b : Blocks) (ds : List Dict) → ((i j : ℕ) (d e : Dict) → i < j → slice_get ds i ≡ Some d → slice_get ds j ≡ Some e → IsApart b d e) → AreApart b ds
+apart-at : (b : Blocks) (ds : List Dict) → ((i j : ℕ) (d e : Dict) → i < j → slice_get ds i ≡ Some d → slice_get ds j ≡ Some e → ShareNone b d e) → AllShareNone b ds
 apart-at b [] f = tt
 apart-at b (d ∷ ds) f = (
-  each-at (IsApart b d) ds (λ k e h. f 0 (suc k) d e (omega arith) refl h),
+  each-at (ShareNone b d) ds (λ k e h. f 0 (suc k) d e (omega arith) refl h),
   apart-at b ds (λ i j x y lt h k. f (suc i) (suc j) x y (omega (arith, lt)) h k),
 )
 
@@ -50,7 +50,7 @@ lawful-at kinds n rules all e = by (n == 0) refl
     by false t = at-place AreLawful kinds (n - 1) rules all (rw t at e)
 
 module _ (kinds : List Rules) (b : Blocks) (lawful : AllByRecursion AreLawful kinds) where
-  savable-by : (d : Dict) → d.kind < 2 ^ 32 → IsWholeBy kinds b d → IsSoundRow kinds b (row_of d) → IsSavable kinds b d
+  savable-by : (d : Dict) → d.kind < 2 ^ 32 → IsWholeBy kinds b d → IsSoundRow kinds b (dict_row d) → IsSavable kinds b d
   savable-by d number whole s =
       let w = whole s.rules s.kind in
       let ok = lawful-at kinds d.kind s.rules lawful s.kind in
@@ -65,14 +65,14 @@ module _ (kinds : List Rules) (b : Blocks) (lawful : AllByRecursion AreLawful ki
         alone = λ set. subst (AreAlone s.rules b) (holders-back s.rules d b w) (set-alone d.method s.rules b d.count (heads_in d) ok set is.holders);
       }
 
-  module _ (ds : List Dict) (sound : AreSoundBefore kinds b (map row_of ds) (length (map row_of ds))) (numbers : AllByRecursion (λ d. d.kind < 2 ^ 32) ds) (whole : AllByRecursion (IsWholeBy kinds b) ds) where
-    row-at : (k : ℕ) (d : Dict) → slice_get ds k ≡ Some d → slice_get (map row_of ds) k ≡ Some (row_of d)
-    row-at k d e = slice_get-map row_of ds k ∙ ap (option_map row_of) e
+  module _ (ds : List Dict) (sound : AreSoundBefore kinds b (map dict_row ds) (length (map dict_row ds))) (numbers : AllByRecursion (λ d. d.kind < 2 ^ 32) ds) (whole : AllByRecursion (IsWholeBy kinds b) ds) where
+    row-at : (k : ℕ) (d : Dict) → slice_get ds k ≡ Some d → slice_get (map dict_row ds) k ≡ Some (dict_row d)
+    row-at k d e = slice_get-map dict_row ds k ∙ ap (option_map dict_row) e
 
-    sound-at : (k : ℕ) (d : Dict) → slice_get ds k ≡ Some d → IsSoundDict kinds b (taken_by b (take k (map row_of ds))) (row_of d)
-    sound-at k d e = sound k (row_of d) (within (map row_of ds) k (row_of d) (row-at k d e)) (row-at k d e)
+    sound-at : (k : ℕ) (d : Dict) → slice_get ds k ≡ Some d → IsSoundDict kinds b (taken_by b (take k (map dict_row ds))) (dict_row d)
+    sound-at k d e = sound k (dict_row d) (within (map dict_row ds) k (dict_row d) (row-at k d e)) (row-at k d e)
       where
-        within : (rows : List Row) (k : ℕ) (r : Row) → slice_get rows k ≡ Some r → k < length rows
+        within : (rows : List DictRow) (k : ℕ) (r : DictRow) → slice_get rows k ≡ Some r → k < length rows
         within [] k r e = let q : None ≡ Some r = e in absurd (cc)
         within (x ∷ xs) zero r e = omega arith
         within (x ∷ xs) (suc k) r e = let lt = within xs k r e in omega (arith, lt)
@@ -83,12 +83,12 @@ module _ (kinds : List Rules) (b : Blocks) (lawful : AllByRecursion AreLawful ki
     pub each-savable : AllByRecursion (IsSavable kinds b) ds
     each-savable = each-at (IsSavable kinds b) ds savable-at
 
-    pub all-apart : AreApart b ds
+    pub all-apart : AllShareNone b ds
     all-apart = apart-at b ds (λ i j d e lt di ej a w. apart-turned (contains (own_by b e) a) (contains (own_by b d) a)
         (λ there.
         let mine = own-same kinds b d a (savable-at i d di) in
         let taken = (sound-at j e ej).apart a (sym (own-same kinds b e a (savable-at j e ej)) ∙ there) in
-        absurd (true≢false (sym (in-taken b (map row_of ds) i j (row_of d) a lt (row-at i d di) (sym mine ∙ w)) ∙ taken))) w)
+        absurd (true≢false (sym (in-taken b (map dict_row ds) i j (dict_row d) a lt (row-at i d di) (sym mine ∙ w)) ∙ taken))) w)
 
 module _ (segs : List Bytes) (index : List ℕ) (root : ℕ) (h : AreOfBest segs index root) where
   abbrev cells : Blocks
@@ -104,16 +104,16 @@ module _ (segs : List Bytes) (index : List ℕ) (root : ℕ) (h : AreOfBest segs
       by busy there true t = rw (lt-ltb 0 (extent_of (tiling segs) a).span busy.named, lt-ltb 0 (extent_of (tiling segs) a).size busy.busy, t) refl
       by busy there false t = let q : false ≡ true = rw t at there in absurd (true≢false (sym q))
 
-  module _ (kinds : List Rules) (image : List ℕ) (dicts : List Dict) (lawful : AllByRecursion AreLawful kinds) (sound : IsSound kinds image) (same : segs ≡ (contents_of image).segs)
-      (read : map row_of dicts ≡ (contents_of image).rows) (numbers : AllByRecursion (λ d. d.kind < 2 ^ 32) dicts) (whole : AllByRecursion (IsWholeBy kinds cells) dicts) where
-    blocks : blocks_of image ≡ cells
+  module _ (kinds : List Rules) (image : List ℕ) (dicts : List Dict) (lawful : AllByRecursion AreLawful kinds) (sound : IsSoundImage kinds image) (same : segs ≡ (contents_of_image image).segs)
+      (read : map dict_row dicts ≡ (contents_of_image image).rows) (numbers : AllByRecursion (λ d. d.kind < 2 ^ 32) dicts) (whole : AllByRecursion (IsWholeBy kinds cells) dicts) where
+    blocks : image_blocks image ≡ cells
     blocks = ap (λ (z : List Bytes). cells_of (layout_by z).blocks) (sym same)
 
-    rows : rows_in image ≡ map row_of dicts
-    rows = rows-read image (contents_of image) refl ∙ sym read
+    rows : rows_of_image image ≡ map dict_row dicts
+    rows = rows-read image (contents_of_image image) refl ∙ sym read
 
-    before : AreSoundBefore kinds cells (map row_of dicts) (length (map row_of dicts))
-    before = subst (λ (z : Blocks × List Row). AreSoundBefore kinds z.0 z.1 (length z.1)) (λ i. (blocks i, rows i)) sound.dicts
+    before : AreSoundBefore kinds cells (map dict_row dicts) (length (map dict_row dicts))
+    before = subst (λ (z : Blocks × List DictRow). AreSoundBefore kinds z.0 z.1 (length z.1)) (λ i. (blocks i, rows i)) sound.dicts
 
     pub savable-of : AreSavable kinds cells dicts
     savable-of =
@@ -122,22 +122,22 @@ module _ (segs : List Bytes) (index : List ℕ) (root : ℕ) (h : AreOfBest segs
           few =
               let head = sound.front.head.dicts in
               let many = length-rows image in
-              let long = length-map dicts row_of in
+              let long = length-map dicts dict_row in
               let same_many = ap length rows in
               omega (arith, head, many, long, same_many);
           each = each;
           apart = all-apart kinds cells lawful dicts before numbers whole;
           taken = λ a some.
               taken-same kinds cells dicts a each
-              ∙ subst (λ (z : Blocks × List Row). contains (taken_by z.0 z.1) a ≡ true) (λ i. (blocks i, rows i))
+              ∙ subst (λ (z : Blocks × List DictRow). contains (taken_by z.0 z.1) a ≡ true) (λ i. (blocks i, rows i))
               (sound.rest a (subst (λ (z : List Bytes). is_cell (extent_of (tiling z) a) ≡ true) same (some-cell a some)));
         }
 
-pub savable-in : {I : Type 0} {V : I → Type 0} (kinds : List Rules) (image : List ℕ) (region : Region I V) (dicts : List Dict) → AllByRecursion AreLawful kinds → IsSound kinds image → AreOfImage kinds image region dicts → AreSavableIn kinds region dicts
+pub savable-in : {I : Type 0} {V : I → Type 0} (kinds : List Rules) (image : List ℕ) (region : Region I V) (dicts : List Dict) → AllByRecursion AreLawful kinds → IsSoundImage kinds image → AreOfImage kinds image region dicts → AreSavableIn kinds region dicts
 savable-in kinds image (OfBest b) dicts lawful sound h =
     savable-of b.extents.segs.items b.extents.index.items b.root.0 (of-best b) kinds image dicts lawful sound
-    (same_Some b.extents.segs.items (contents_of image).segs h.segments) h.rows h.numbers h.whole
-savable-in kinds image (Pool p) dicts lawful sound h = let q = h.segments in absurd (none-some (contents_of image).segs q)
-savable-in kinds image (Last l) dicts lawful sound h = let q = h.segments in absurd (none-some (contents_of image).segs q)
-savable-in kinds image (Debug d) dicts lawful sound h = let q = h.segments in absurd (none-some (contents_of image).segs q)
-savable-in kinds image (Profile p) dicts lawful sound h = let q = h.segments in absurd (none-some (contents_of image).segs q)
+    (same_Some b.extents.segs.items (contents_of_image image).segs h.segments) h.rows h.numbers h.whole
+savable-in kinds image (Pool p) dicts lawful sound h = let q = h.segments in absurd (none-some (contents_of_image image).segs q)
+savable-in kinds image (Last l) dicts lawful sound h = let q = h.segments in absurd (none-some (contents_of_image image).segs q)
+savable-in kinds image (Debug d) dicts lawful sound h = let q = h.segments in absurd (none-some (contents_of_image image).segs q)
+savable-in kinds image (Profile p) dicts lawful sound h = let q = h.segments in absurd (none-some (contents_of_image image).segs q)

@@ -22,7 +22,7 @@ use Rattle.vc_dict.specs.Stands.{HeadsFor, slots_at, slots_in, table_at, table_i
 use Rattle.vc_dict.proofs.OwnLemmas.{Stands-table, count-fits, holder-address}
 use Rattle.vc_objects.specs.Parts.{IsWhole}
 use Rattle.vc_image_check.specs.Bytes.Header.{FitsRow}
-use Rattle.vc_image.specs.Save.{row_of}
+use Rattle.vc_image.specs.Save.{dict_row}
 
 method-fits : (m : DictMethod) → method_number m < 2 ^ 32
 method-fits DtSet = omega arith
@@ -85,7 +85,7 @@ heads-slots (Hash hash) = refl
 heads-slots (Order ord) = refl
 heads-slots (Links list) = refl
 
-pub row-fits : (rules : Rules) (d : Dict) (b : Blocks) → ((a : ℕ) → IsSome (b a) → a < 2 ^ 32) → d.kind < 2 ^ 32 → IsWhole rules d b → FitsRow (row_of d)
+pub row-fits : (rules : Rules) (d : Dict) (b : Blocks) → ((a : ℕ) → IsSome (b a) → a < 2 ^ 32) → d.kind < 2 ^ 32 → IsWhole rules d b → FitsRow (dict_row d)
 row-fits rules d b cells kind w =
     let xs = holders_of d b in
     let few = count-fits rules d b xs w.stands in

@@ -2,11 +2,11 @@
 use Rattle.vc_base.proofs.Common.{◌≡◌, ℕ, ◌%◌, ◌<◌, ◌^◌, List, [], ◌∷◌, ◌++◌, map, length, flat_map, refl, ap₂, arith, length-map, AllByRecursion}
 use Rattle.vc_seg.specs.Segment.{Bytes, pair_of}
 use Rattle.vc_image_check.specs.Bytes.Header.{FitsRow}
-use Rattle.vc_image_check.specs.Bytes.Image.{Contents, Row, image_of, magic, number_bytes, pair_bytes, row_bytes}
+use Rattle.vc_image_check.specs.Bytes.Image.{DictRow, ImageContents, image_of, magic, number_bytes, pair_bytes, row_bytes}
 use Rattle.vc_image.proofs.Heads.{low-bytes}
 
 -- so many of them
-abbrev pub low : Row → Row
+abbrev pub low : DictRow → DictRow
 low r =
     record {
       method = r.method % 4294967296;
@@ -23,7 +23,7 @@ low r =
 below : (n : ℕ) → n % 4294967296 < 2 ^ 32
 below n = omega arith
 
-low-fits : (r : Row) → FitsRow (low r)
+low-fits : (r : DictRow) → FitsRow (low r)
 low-fits r = record {
   method = below r.method;
   kind = below r.kind;
@@ -36,7 +36,7 @@ low-fits r = record {
   root = below r.root;
 }
 
-pub all-fit : (rows : List Row) → AllByRecursion FitsRow (map low rows)
+pub all-fit : (rows : List DictRow) → AllByRecursion FitsRow (map low rows)
 all-fit [] = tt
 all-fit (r ∷ rs) = (low-fits r, all-fit rs)
 
@@ -44,18 +44,18 @@ low-numbers : (ns : List ℕ) → flat_map number_bytes (map (λ n. n % 42949672
 low-numbers [] = refl
 low-numbers (n ∷ ns) = ap₂ (λ (x y : List ℕ). x ++ y) (low-bytes n) (low-numbers ns)
 
-low-row : (r : Row) → row_bytes (low r) ≡ row_bytes r
+low-row : (r : DictRow) → row_bytes (low r) ≡ row_bytes r
 low-row r = low-numbers (r.method ∷ r.kind ∷ r.count ∷ r.current ∷ r.first ∷ r.last ∷ r.table ∷ r.slots ∷ r.root ∷ [])
 
-low-rows : (rows : List Row) → flat_map row_bytes (map low rows) ≡ flat_map row_bytes rows
+low-rows : (rows : List DictRow) → flat_map row_bytes (map low rows) ≡ flat_map row_bytes rows
 low-rows [] = refl
 low-rows (r ∷ rs) = ap₂ (λ (x y : List ℕ). x ++ y) (low-row r) (low-rows rs)
 
 -- so an image is that of rows of these
-abbrev pub low_contents : Contents → Contents
+abbrev pub low_contents : ImageContents → ImageContents
 low_contents c = record { root = c.root; segs = c.segs; rows = map low c.rows }
 
-pub low-image : (c : Contents) → image_of (low_contents c) ≡ image_of c
+pub low-image : (c : ImageContents) → image_of (low_contents c) ≡ image_of c
 unfolding image_of
 low-image c =
     let body : List ℕ = flat_map (λ (s : Bytes). s.bytes) c.segs in

@@ -1,8 +1,8 @@
 ghost use Rattle.std.specs.Prelude.{◌≡◌, ◌+◌, ◌^◌, ◌<◌, ◌≤◌, IfOk, length};
 ghost use Rattle.std.specs.List.{AllByRecursion};
-ghost use Rattle.vc_image_check.specs.Bytes.Contents.{row_at};
+ghost use Rattle.vc_image_check.specs.Bytes.Contents.{dict_row_at};
 ghost use Rattle.vc_image_check.specs.Bytes.Header.{IsHeader};
-ghost use Rattle.vc_image.specs.Load.{dict_of, dicts_of};
+ghost use Rattle.vc_image.specs.Load.{dict_of_row, dicts_of};
 
 use std::alloc::Global;
 use vc_base::{Addr, DictMethod, OutOfMemory};
@@ -12,7 +12,7 @@ use vc_image_check::{heads_of, method_of, word};
 // The dictionary whose nine numbers lie from a place of an image on.
 fn dict_at(image: &[u8], at: usize) -> Dict
     requires { at + 36 ≤ length image.now }
-    ensures made { result ≡ dict_of (row_at at image.now) }
+    ensures made { result ≡ dict_of_row (dict_row_at at image.now) }
     ensures kind { result.kind < 2 ^ 32 }
 {
     Dict::from_parts(

@@ -3,7 +3,7 @@ ghost use Rattle.std.specs.List.{flat_map};
 ghost use Rattle.vc_base.specs.Methods.{method_number};
 ghost use Rattle.vc_seg.specs.Segment.{AreSegments, pair_of};
 ghost use Rattle.vc_image_check.specs.Bytes.Image.{number_bytes, pair_bytes, row_bytes};
-ghost use Rattle.vc_image.specs.Save.{contents_by, head_of, row_of};
+ghost use Rattle.vc_image.specs.Save.{contents_by, dict_row, head_of};
 
 use std::alloc::{AllocError, Global};
 use vc_base::{DictMethod, OutOfMemory};
@@ -48,7 +48,7 @@ fn put_pairs(head: &mut Vec<u8>, segs: &[Segment]) -> Result<(), AllocError>
 
 // Puts the nine numbers of a dictionary behind what is there. Of its count the lower four bytes are put.
 fn put_row(head: &mut Vec<u8>, dict: &Dict) -> Result<(), AllocError>
-    ensures { OnOk result (head.new.items ≡ head.old.items ++ row_bytes (row_of dict.now)) }
+    ensures { OnOk result (head.new.items ≡ head.old.items ++ row_bytes (dict_row dict.now)) }
 {
     let heads = dict.heads();
     put_numbers(
@@ -70,7 +70,7 @@ fn put_row(head: &mut Vec<u8>, dict: &Dict) -> Result<(), AllocError>
 // Puts the nine numbers of each dictionary behind what is there.
 fn put_rows(head: &mut Vec<u8>, dicts: &[Dict]) -> Result<(), AllocError>
     ensures { OnOk result (head.new.items
-        ≡ head.old.items ++ flat_map row_bytes (map row_of dicts.now)) }
+        ≡ head.old.items ++ flat_map row_bytes (map dict_row dicts.now)) }
 {
     for dict in dicts {
         put_row(head, dict)?;

@@ -3,10 +3,10 @@ ghost use Rattle.vc_model.specs.Discipline.{Kept};
 ghost use Rattle.vc_dtdisc.specs.Rules.{Rules};
 ghost use Rattle.vc_region.specs.Parts.{disc_of};
 ghost use Rattle.vc_region.specs.declared.region.Region.TheVariants.{Best as OfBest};
-ghost use Rattle.vc_image_check.specs.Dicts.Whole.{IsSound};
+ghost use Rattle.vc_image_check.specs.Dicts.Whole.{IsSoundImage};
 ghost use Rattle.vc_image.specs.Lends.Lends.{AreLent};
 ghost use Rattle.vc_image_check.specs.Parts.Front.{IsSoundFront};
-ghost use Rattle.vc_image.specs.Load.{IsLoaded, IsNotLoaded, fault_of, pairs_of};
+ghost use Rattle.vc_image.specs.Load.{IsLoaded, IsNotLoaded, load_fault_of, pairs_of};
 
 use crate::LoadFault;
 use crate::dicts::dicts_of_image;
@@ -30,7 +30,7 @@ pub struct Loaded {
 
 // A fault of the lends as one of loading.
 fn fault_of(fault: ImageLendFault) -> LoadFault
-    ensures { result ≡ fault_of fault }
+    ensures { result ≡ load_fault_of fault }
 {
     match fault {
         ImageLendFault::Round(number) => LoadFault::Round(number),
@@ -47,11 +47,11 @@ fn load_sound(
     disc: Box<dyn SegDisc>,
 ) -> Result<(Best, Dicts), (LoadFault, Box<dyn SegDisc>)>
     requires { IsSoundFront image.now }
-    ensures loaded { (kinds : List Rules) → IsSound kinds image.now
+    ensures loaded { (kinds : List Rules) → IsSoundImage kinds image.now
         → IfOk result (λ l. IsLoaded kinds (state disc).terms image.now (OfBest l.0) l.1) }
     ensures lent { IfOk result (λ l. AreLent (state disc) (state l.0.disc)
         (pairs_of image.now)) }
-    ensures fault { (kinds : List Rules) → IsSound kinds image.now
+    ensures fault { (kinds : List Rules) → IsSoundImage kinds image.now
         → IfErr result (λ e. IsNotLoaded kinds image.now (state disc) (state e.1) e.0) }
     ensures out { IfErr result (λ e. (state e.1).out ≡ (state disc).out) }
     ensures kept { IfErr result (λ e. Kept (state disc) (state e.1)) }

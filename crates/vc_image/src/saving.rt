@@ -2,7 +2,7 @@ ghost use Rattle.std.specs.Prelude.{◌≡◌, ℕ, ◌≤◌, ◌++◌, Some, I
 ghost use Rattle.vc_model.specs.Count.{Rose};
 ghost use Rattle.vc_image_check.specs.Bytes.Image.{image_of};
 ghost use Rattle.vc_region.specs.OfBest.{best_in};
-ghost use Rattle.vc_image.specs.Save.{contents_in, image_in};
+ghost use Rattle.vc_image.specs.Save.{image_contents, image_in};
 ghost use Rattle.vc_image.specs.declared.fault.SaveFault.TheVariants.{WriteFailed as NoWrite, OutOfMemory as NoMemory};
 
 use crate::SaveFault;
@@ -26,10 +26,10 @@ pub fn save_best<O: Sink>(
 ) -> Result<u64, SaveFault>
     requires few { length dicts.now ≤ 256 }
     ensures ok { OnOk result (IfSome (O.written out.old) (λ w.
-        O.written out.new ≡ Some (w ++ image_of (contents_in best.now dicts.now)))) }
-    ensures length { IfOk result (λ n. n ≡ length (image_of (contents_in best.now dicts.now))) }
+        O.written out.new ≡ Some (w ++ image_of (image_contents best.now dicts.now)))) }
+    ensures length { IfOk result (λ n. n ≡ length (image_of (image_contents best.now dicts.now))) }
     ensures front { IfSome (O.written out.old) (λ w. (k : ℕ)
-        × (O.written out.new ≡ Some (w ++ take k (image_of (contents_in best.now dicts.now))))) }
+        × (O.written out.new ≡ Some (w ++ take k (image_of (image_contents best.now dicts.now))))) }
     ensures cause { IsErrOf result NoWrite → Rose (O.failures out.old) (O.failures out.new) }
     ensures nothing { IsErrOf result NoMemory → O.written out.new ≡ O.written out.old }
     ensures never_falls { O.failures out.old ≤ O.failures out.new }

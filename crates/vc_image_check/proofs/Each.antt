@@ -7,7 +7,7 @@ use Rattle.vc_model.specs.Discipline.{IsSegmentSize}
 use Rattle.vc_seg.specs.Budget.{bytes_of}
 use Rattle.vc_seg.specs.Field.{field_at}
 use Rattle.vc_seg.specs.Segment.{Bytes}
-use Rattle.vc_image_check.specs.Bytes.Contents.{body_in, contents_of, pair_at, pairs_in, segments_in, segs_from}
+use Rattle.vc_image_check.specs.Bytes.Contents.{body_in, contents_of_image, image_segment_count, pairs_in, segment_pair_at, segs_from}
 use Rattle.vc_image_check.specs.Bytes.Header.{IsHeader}
 use Rattle.vc_image_check.specs.Bytes.Image.{pair_bytes}
 use Rattle.vc_image_check.proofs.Pairs.{items-get}
@@ -38,12 +38,12 @@ pub record Sofar (b : List ℕ) (i at : ℕ) : Type 0 where
   pub place : at ≡ body_in b + bytes_of (take i (pairs_in b))
   pub sound : AreSoundSegments (take i (segs_from (pairs_in b) (body_in b) b))
 
-pub many : (b : List ℕ) → length (pairs_in b) ≡ segments_in b
-many b = length-items pair_at pair_bytes 8 (segments_in b) 20 b
+pub many : (b : List ℕ) → length (pairs_in b) ≡ image_segment_count b
+many b = length-items segment_pair_at pair_bytes 8 (image_segment_count b) 20 b
 
-module _ (b : List ℕ) (h : IsHeader b) (i at : ℕ) (s : Sofar b i at) (lt : i < segments_in b) where
+module _ (b : List ℕ) (h : IsHeader b) (i at : ℕ) (s : Sofar b i at) (lt : i < image_segment_count b) where
   abbrev pub pair : ℕ × ℕ
-  pair = pair_at (20 + 8 * i) b
+  pair = segment_pair_at (20 + 8 * i) b
 
   abbrev segs : List Bytes
   segs = segs_from (pairs_in b) (body_in b) b
@@ -55,7 +55,7 @@ module _ (b : List ℕ) (h : IsHeader b) (i at : ℕ) (s : Sofar b i at) (lt : i
   there = let m = segs-length (pairs_in b) (body_in b) b in let l = below in omega (arith, m, l)
 
   pair-is : get_or (pairs_in b) i pair ≡ pair
-  pair-is = items-get pair_at 8 b (segments_in b) 20 i pair lt
+  pair-is = items-get segment_pair_at 8 b (image_segment_count b) 20 i pair lt
 
   pub pair-size : 64 ≤ pair.1
   pair-size = let l = h.segments.legal i pair below in let e = ap (λ (q : ℕ × ℕ). q.1) pair-is in let least = l.size.least in omega (arith, least, e)
@@ -90,8 +90,8 @@ module _ (b : List ℕ) (h : IsHeader b) (i at : ℕ) (s : Sofar b i at) (lt : i
       let one : take (i + 1) segs ≡ take i segs ++ segment_at pair at b ∷ [] = (take_at_read segs i (segment_at pair at b) there).1 ∙ ap (λ z. take i segs ++ z ∷ []) segment-is in
       record { place = omega (arith, u, p); sound = subst AreSoundSegments (sym one) (All-push Sound (take i segs) (segment_at pair at b) s.sound sound) }
 
-  pub first-unsound : (n : ℕ) → n ≡ pair.0 → (IsSoundSegment (take pair.1 (drop at b)) → ⊥) → IsFirstUnsoundSegment n (contents_of b).segs
-  unfolding contents_of
+  pub first-unsound : (n : ℕ) → n ≡ pair.0 → (IsSoundSegment (take pair.1 (drop at b)) → ⊥) → IsFirstUnsoundSegment n (contents_of_image b).segs
+  unfolding contents_of_image
   first-unsound n e bad = record {
     place = i;
     segment = segment_at pair at b;
@@ -104,16 +104,16 @@ module _ (b : List ℕ) (h : IsHeader b) (i at : ℕ) (s : Sofar b i at) (lt : i
 pub sofar-none : (b : List ℕ) (at : ℕ) → at ≡ body_in b → Sofar b 0 at
 sofar-none b at e = record { place = omega (arith, e); sound = λ k d lt. absurd (omega (arith, lt)) }
 
-pub sofar-all : (b : List ℕ) (i at : ℕ) → Sofar b i at → i ≡ segments_in b → AreSoundSegments (contents_of b).segs
-unfolding contents_of
+pub sofar-all : (b : List ℕ) (i at : ℕ) → Sofar b i at → i ≡ image_segment_count b → AreSoundSegments (contents_of_image b).segs
+unfolding contents_of_image
 sofar-all b i at s e =
     let m = many b in
     let l = segs-length (pairs_in b) (body_in b) b in
     subst AreSoundSegments (take_all i (segs_from (pairs_in b) (body_in b) b) (omega (arith, m, l, e))) s.sound
 
 -- the size of a segment and its bytes, as they are read
-pub size-is : (w i : ℕ) (b : List ℕ) → w ≡ field_at (24 + 8 * i) b → w ≡ (pair_at (20 + 8 * i) b).1
+pub size-is : (w i : ℕ) (b : List ℕ) → w ≡ field_at (24 + 8 * i) b → w ≡ (segment_pair_at (20 + 8 * i) b).1
 size-is w i b e = let place : 24 + 8 * i ≡ 20 + 8 * i + 4 = omega arith in e ∙ ap (λ z. field_at z b) place
 
-pub part-is : (w i at : ℕ) (b x : List ℕ) → w ≡ field_at (24 + 8 * i) b → x ≡ take w (drop at b) → x ≡ take (pair_at (20 + 8 * i) b).1 (drop at b)
+pub part-is : (w i at : ℕ) (b x : List ℕ) → w ≡ field_at (24 + 8 * i) b → x ≡ take w (drop at b) → x ≡ take (segment_pair_at (20 + 8 * i) b).1 (drop at b)
 part-is w i at b x e f = f ∙ ap (λ k. take k (drop at b)) (size-is w i b e)

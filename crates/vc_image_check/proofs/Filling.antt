@@ -6,7 +6,7 @@ use Rattle.vc_seg.specs.Segment.{Bytes}
 use Rattle.vc_extent.specs.Change.{extent_in}
 use Rattle.vc_extent.specs.Extent.{extents}
 use Rattle.vc_extent.specs.Tiling.{IsThere, extents_of, tiling}
-use Rattle.vc_image_check.specs.Bytes.Contents.{body_in, contents_of, pair_at, pairs_in, segments_in}
+use Rattle.vc_image_check.specs.Bytes.Contents.{body_in, contents_of_image, image_segment_count, pairs_in, segment_pair_at}
 use Rattle.vc_image_check.specs.Bytes.Header.{IsHeader}
 use Rattle.vc_image_check.proofs.Segs.{legal, long, new-number, next-place, segment_by, segs-are, segs-more, segs_in}
 use Rattle.vc_image_check.specs.Marks.Mark.{AreMarks, HasMark, HasMarkIn, IsMarked, lists, mark_at, mark_of}
@@ -67,11 +67,11 @@ filled-start b rows places at e all p = record {
 }
 
 pub filled-next : (b : List ℕ) (h : IsHeader b) (rows rows' : List (List ℕ)) (places places' : List ℕ) (i at number size : ℕ) (row : List ℕ)
-    → Filled b rows places i at → i < segments_in b → number ≡ (pair_at (20 + 8 * i) b).0 → size ≡ (pair_at (20 + 8 * i) b).1
+    → Filled b rows places i at → i < image_segment_count b → number ≡ (segment_pair_at (20 + 8 * i) b).0 → size ≡ (segment_pair_at (20 + 8 * i) b).1
     → AreMarks (take size (drop at b)) row → rows' ≡ set rows number row → places' ≡ set places number at → Filled b rows' places' (i + 1) (at + size)
 filled-next b h rows rows' places places' i at number size row f lt en es marks er ep =
     let ss = take i (segs_in b) in
-    let p : ℕ × ℕ = pair_at (20 + 8 * i) b in
+    let p : ℕ × ℕ = segment_pair_at (20 + 8 * i) b in
     let s : Bytes = segment_by p at b in
     let more : take (i + 1) (segs_in b) ≡ ss ++ s ∷ [] = segs-more b h i at f.place lt in
     let new : Apart number ss = λ j d low same. new-number b h i at f.place lt j d low (same ∙ en) in
@@ -110,7 +110,7 @@ filled-next b h rows rows' places places' i at number size row f lt en es marks 
 
 pub filled-end : (b : List ℕ) (h : IsHeader b) (rows : List (List ℕ)) (places : List ℕ) (i at : ℕ) → Filled b rows places i at → length (segs_in b) ≤ i → IsMarked b rows places
 filled-end b h rows places i at f le =
-    let whole : take i (segs_in b) ≡ (contents_of b).segs = take_all i (segs_in b) le ∙ sym (segs-are b) in
+    let whole : take i (segs_in b) ≡ (contents_of_image b).segs = take_all i (segs_in b) le ∙ sym (segs-are b) in
     record {
       marks = λ a. f.marks (a / 1048576) (a % 1048576) ∙ ap (λ z. mark_of (extent_in (a % 1048576 * 32) (extents_of (a / 1048576) (tiling z)))) whole;
       bytes = λ n there. subst (λ z. Begins b places z n) whole (f.bytes n (subst (IsThere n) (sym whole) there));

@@ -14,7 +14,7 @@ use Rattle.vc_extent.proofs.Places.{named-there, there-last}
 use Rattle.vc_extent.proofs.Tiled.{IsPart, named-above, part, size-at, span-at, tiles-le}
 use Rattle.vc_gaps.specs.GapLaws.{is_free-named, is_free-size}
 use Rattle.vc_gaps.specs.GapStore.{is_free}
-use Rattle.vc_image_check.specs.Bytes.Contents.{contents_of, pairs_in, segments_in}
+use Rattle.vc_image_check.specs.Bytes.Contents.{contents_of_image, image_segment_count, pairs_in}
 use Rattle.vc_image_check.specs.Bytes.Header.{IsHeader}
 use Rattle.vc_image_check.proofs.Segs.{segs-count, segs-many}
 use Rattle.vc_image_check.specs.Marks.Mark.{mark_of}
@@ -60,7 +60,7 @@ most-bytes (p ∷ ps) h =
 
 image-small : (b : List ℕ) → IsHeader b → length b ≤ 68719476736
 image-small b h =
-    let many : length (pairs_in b) ≡ segments_in b = sym (segs-many b h) ∙ segs-count b h in
+    let many : length (pairs_in b) ≡ image_segment_count b = sym (segs-many b h) ∙ segs-count b h in
     let few = h.segments.few in
     let dicts = h.dicts in
     let size = h.size in
@@ -82,11 +82,11 @@ pub record LiesIn (image places : List ℕ) (a : ℕ) (e : Extent) : Type 0 wher
   pub part : take (length bytes) (drop first image) ≡ bytes
   pub small : length image ≤ 68719476736
 
-pub lies-in : (image places : List ℕ) → IsHeader image → All (λ s. IsTiled s.bytes) (contents_of image).segs
-    → ((n : ℕ) → IsThere n (contents_of image).segs → take (length (bytes_of_number n (contents_of image).segs)) (drop (get_or places n 0) image) ≡ bytes_of_number n (contents_of image).segs)
-    → (a : ℕ) → 0 < (extent_of (tiling (contents_of image).segs) a).span → LiesIn image places a (extent_of (tiling (contents_of image).segs) a)
+pub lies-in : (image places : List ℕ) → IsHeader image → All (λ s. IsTiled s.bytes) (contents_of_image image).segs
+    → ((n : ℕ) → IsThere n (contents_of_image image).segs → take (length (bytes_of_number n (contents_of_image image).segs)) (drop (get_or places n 0) image) ≡ bytes_of_number n (contents_of_image image).segs)
+    → (a : ℕ) → 0 < (extent_of (tiling (contents_of_image image).segs) a).span → LiesIn image places a (extent_of (tiling (contents_of_image image).segs) a)
 lies-in image places head each parts a named =
-    let segs : List Bytes = (contents_of image).segs in
+    let segs : List Bytes = (contents_of_image image).segs in
     let n : ℕ = a / 1048576 in
     let o : ℕ = a % 1048576 * 32 in
     let bs : List ℕ = bytes_of_number n segs in
@@ -135,9 +135,9 @@ pub record Lies (image places : List ℕ) (a : ℕ) (e : Extent) : Type 0 where
   pub second : field_at (start_of places a + 4) image ≡ e.links.second
   pub third : field_at (start_of places a + 8) image ≡ e.links.third
 
-pub lies : (image : List ℕ) (rows : List (List ℕ)) (places : List ℕ) (k : IsKnown image rows places) (a : ℕ) → is_free (tiling (contents_of image).segs) a ≡ true → Lies image places a (extent_of (tiling (contents_of image).segs) a)
+pub lies : (image : List ℕ) (rows : List (List ℕ)) (places : List ℕ) (k : IsKnown image rows places) (a : ℕ) → is_free (tiling (contents_of_image image).segs) a ≡ true → Lies image places a (extent_of (tiling (contents_of_image image).segs) a)
 lies image rows places k a free =
-    let segs : List Bytes = (contents_of image).segs in
+    let segs : List Bytes = (contents_of_image image).segs in
     let e : Extent = extent_of (tiling segs) a in
     let l : LiesIn image places a e = lies-in image places k.head k.tiled k.marked.bytes a (is_free-named (tiling segs) a free) in
     let empty : e.size ≡ 0 = is_free-size (tiling segs) a free in
@@ -180,6 +180,6 @@ mark-free e = elim (cases_lt 0 e.span) as (λ _. (mark_of e == 1) ≡ (nat_lt 0 
   ]
 ]
 
-pub root-is : (b : List ℕ) → (contents_of b).root ≡ field_at 12 b
-unfolding contents_of
+pub root-is : (b : List ℕ) → (contents_of_image b).root ≡ field_at 12 b
+unfolding contents_of_image
 root-is b = refl

@@ -5,12 +5,12 @@ use Rattle.std.proofs.lemmas.List.{take-append-drop}
 use Rattle.vc_base.specs.Cells.{Blocks}
 use Rattle.vc_base.proofs.Members.{first-apart, within-cases, within-either, within-head, within-rest}
 use Rattle.vc_dtdisc.specs.Rules.{Rules}
-use Rattle.vc_image_check.specs.Bytes.Image.{Row}
+use Rattle.vc_image_check.specs.Bytes.Image.{DictRow}
 use Rattle.vc_image_check.specs.Marks.Mark.{mark_at}
-use Rattle.vc_image_check.specs.Blocks.Blocks.{HasBlockMarks, blocks_of}
+use Rattle.vc_image_check.specs.Blocks.Blocks.{HasBlockMarks, image_blocks}
 use Rattle.vc_image_check.specs.Blocks.BlockLaws.{marked-none}
 use Rattle.vc_image_check.specs.Dicts.Sound.{IsSoundDict, IsSoundRow, heads_of, own_in, own_of}
-use Rattle.vc_image_check.specs.Dicts.Taken.{AreTaken}
+use Rattle.vc_image_check.specs.Dicts.Taken.{AreMarkedTaken}
 use Rattle.vc_image_check.proofs.Owning.{AreThere, own-there}
 
 -- one more at the end is in a list or not
@@ -68,7 +68,7 @@ module _ (old : List (List ℕ)) (xs : List ℕ) where
       never (ap (mark_at mid) is ∙ was d mid i lt t ∙ all (get_or xs i 0) within)
 
 -- a sound dictionary's blocks
-module _ (kinds : List Rules) (b : Blocks) (r : Row) where
+module _ (kinds : List Rules) (b : Blocks) (r : DictRow) where
   own-is : (s : IsSoundRow kinds b r) → own_of b r ≡ own_in s.method b r.count (heads_of r)
   own-is s = rw s.numbered refl
 
@@ -80,21 +80,21 @@ or-false true = refl
 or-false false = refl
 
 -- it has none that was taken exactly where the marks of all are 3
-module _ (kinds : List Rules) (image : List ℕ) (rows : List (List ℕ)) (places : List ℕ) (r : Row) (known : HasBlockMarks image rows places) (s : IsSoundRow kinds (blocks_of image) r) where
+module _ (kinds : List Rules) (image : List ℕ) (rows : List (List ℕ)) (places : List ℕ) (r : DictRow) (known : HasBlockMarks image rows places) (s : IsSoundRow kinds (image_blocks image) r) where
   abbrev own : List ℕ
-  own = own_of (blocks_of image) r
+  own = own_of (image_blocks image) r
 
   marked : (a : ℕ) → contains own a ≡ true → 3 ≤ mark_at rows a
   marked a w = elim (cases_lt (mark_at rows a) 3) as (λ _. 3 ≤ mark_at rows a) [
     | inl low ↦
         let none = ap length (marked-none image rows places a ∣ known ∣₁ low) in
-        let some = (row-there kinds (blocks_of image) r s).bytes a w in
+        let some = (row-there kinds (image_blocks image) r s).bytes a w in
         absurd (omega (arith, none, some))
     | inr high ↦ high
   ]
 
-  module _ (taken : List ℕ) (are : AreTaken rows taken) where
-    pub free-sound : ((a : ℕ) → contains own a ≡ true → mark_at rows a ≡ 3) → IsSoundDict kinds (blocks_of image) taken r
+  module _ (taken : List ℕ) (are : AreMarkedTaken rows taken) where
+    pub free-sound : ((a : ℕ) → contains own a ≡ true → mark_at rows a ≡ 3) → IsSoundDict kinds (image_blocks image) taken r
     free-sound all = record { row = s; apart = λ a w. by a w (contains taken a) refl }
       where
         by : (a : ℕ) → contains own a ≡ true → (t : Bool) → contains taken a ≡ t → contains taken a ≡ false
@@ -104,10 +104,10 @@ module _ (kinds : List Rules) (image : List ℕ) (rows : List (List ℕ)) (place
             absurd (omega (arith, free, is))
         by a w false e = e
 
-    pub sound-free : IsSoundDict kinds (blocks_of image) taken r → (a : ℕ) → contains own a ≡ true → mark_at rows a ≡ 3
+    pub sound-free : IsSoundDict kinds (image_blocks image) taken r → (a : ℕ) → contains own a ≡ true → mark_at rows a ≡ 3
     sound-free d a w = are a (marked a w) ∙ rw (d.apart a w) refl
 
-    pub more-taken : (new : List (List ℕ)) → ((a : ℕ) → mark_at new a ≡ (if contains own a then 4 else mark_at rows a)) → AreTaken new (taken ++ own)
+    pub more-taken : (new : List (List ℕ)) → ((a : ℕ) → mark_at new a ≡ (if contains own a then 4 else mark_at rows a)) → AreMarkedTaken new (taken ++ own)
     more-taken new set a high = by (contains own a) refl
       where
         by : (t : Bool) → contains own a ≡ t → mark_at new a ≡ (if contains (taken ++ own) a then 4 else 3)

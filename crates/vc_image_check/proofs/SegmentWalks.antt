@@ -8,7 +8,7 @@ use Rattle.vc_extent.specs.Extent.{Extent, extent_at, extents}
 use Rattle.vc_extent.specs.Tiles.{IsHead, Tiles}
 use Rattle.vc_extent.proofs.Tiled.{extents-are, size-at, span-at, tag-at, tiles-lt}
 use Rattle.vc_best.specs.Free.{is_free, is_merged}
-use Rattle.vc_image_check.specs.Segments.Sound.{CanStand, IsSoundSegment}
+use Rattle.vc_image_check.specs.Segments.Sound.{CanFollow, IsSoundSegment}
 
 abbrev Most : Extent → Type 0
 Most e = e.size ≤ 16777264
@@ -49,7 +49,7 @@ rest-end b stop before behind_free at e = record { es = []; tiles = e; merged = 
 
 -- before the end there is an extent, and the rest behind it
 pub record Stepped (b : List ℕ) (stop before : ℕ) (behind_free : Bool) (at : ℕ) : Type 0 where
-  pub can : CanStand b before at behind_free
+  pub can : CanFollow b before at behind_free
   pub within : at + field_at at b ≤ stop
   pub rest : Rest b stop (field_at at b) (eqb (field_at (at + 4) b) 0) (at + field_at at b)
 
@@ -97,7 +97,7 @@ not-both true true h = absurd (true≢false (h refl))
 not-both true false h = refl
 not-both false y h = refl
 
-pub rest-from : (b : List ℕ) (stop before : ℕ) (behind_free : Bool) (at : ℕ) → CanStand b before at behind_free → Rest b stop (field_at at b) (eqb (field_at (at + 4) b) 0) (at + field_at at b) → Rest b stop before behind_free at
+pub rest-from : (b : List ℕ) (stop before : ℕ) (behind_free : Bool) (at : ℕ) → CanFollow b before at behind_free → Rest b stop (field_at at b) (eqb (field_at (at + 4) b) 0) (at + field_at at b) → Rest b stop before behind_free at
 rest-from b stop before behind_free at can r =
     let e : Extent = extent_at at b in
     let s : e.span ≡ field_at at b = span-at at b in

@@ -6,7 +6,7 @@ use Rattle.vc_seg.specs.Budget.{bytes_of}
 use Rattle.vc_seg.specs.Field.{field_at}
 use Rattle.vc_seg.specs.Numbered.{IsRegionPair}
 use Rattle.vc_seg.specs.Segment.{AreSegments, Bytes, pair_of}
-use Rattle.vc_image_check.specs.Bytes.Contents.{body_in, contents_of, pair_at, pairs_in, segments_in, segs_from}
+use Rattle.vc_image_check.specs.Bytes.Contents.{body_in, contents_of_image, image_segment_count, pairs_in, segment_pair_at, segs_from}
 use Rattle.vc_image_check.specs.Bytes.Header.{IsHeader}
 use Rattle.vc_image_check.specs.Bytes.Image.{pair_bytes}
 use Rattle.vc_image_check.proofs.Pairs.{items-get}
@@ -17,8 +17,8 @@ use Rattle.vc_image_check.proofs.Words.{length-items}
 abbrev pub segs_in : List ℕ → List Bytes
 segs_in b = segs_from (pairs_in b) (body_in b) b
 
-pub segs-are : (b : List ℕ) → (contents_of b).segs ≡ segs_in b
-unfolding contents_of
+pub segs-are : (b : List ℕ) → (contents_of_image b).segs ≡ segs_in b
+unfolding contents_of_image
 segs-are b = refl
 
 -- the segment of a pair, whose bytes lie from a place on
@@ -59,21 +59,21 @@ module _ (b : List ℕ) (h : IsHeader b) where
       }
 
 -- of the segments of an image so many are passed, and the next one's bytes lie from a place on
-module _ (b : List ℕ) (h : IsHeader b) (i at : ℕ) (place : at ≡ body_in b + bytes_of (take i (pairs_in b))) (lt : i < segments_in b) where
+module _ (b : List ℕ) (h : IsHeader b) (i at : ℕ) (place : at ≡ body_in b + bytes_of (take i (pairs_in b))) (lt : i < image_segment_count b) where
   abbrev pub pair : ℕ × ℕ
-  pair = pair_at (20 + 8 * i) b
+  pair = segment_pair_at (20 + 8 * i) b
 
   abbrev pub segment : Bytes
   segment = segment_by pair at b
 
   below : i < length (pairs_in b)
-  below = let m = length-items pair_at pair_bytes 8 (segments_in b) 20 b in omega (arith, lt, m)
+  below = let m = length-items segment_pair_at pair_bytes 8 (image_segment_count b) 20 b in omega (arith, lt, m)
 
   pub there : i < length (segs_in b)
   there = let m = segs-many b h in let l = below in omega (arith, m, l)
 
   pair-is : get_or (pairs_in b) i pair ≡ pair
-  pair-is = items-get pair_at 8 b (segments_in b) 20 i pair lt
+  pair-is = items-get segment_pair_at 8 b (image_segment_count b) 20 i pair lt
 
   more : take (i + 1) (pairs_in b) ≡ take i (pairs_in b) ++ pair ∷ []
   more = (take_at_read (pairs_in b) i pair below).1 ∙ ap (λ z. take i (pairs_in b) ++ z ∷ []) pair-is
@@ -115,12 +115,12 @@ module _ (b : List ℕ) (h : IsHeader b) (i at : ℕ) (place : at ≡ body_in b 
       (are-segments b h).distinct j i d front there (one ∙ sym here)
 
 -- a part of the segment of an image, and a number in it
-pub size-is : (w i : ℕ) (b : List ℕ) → w ≡ field_at (24 + 8 * i) b → w ≡ (pair_at (20 + 8 * i) b).1
+pub size-is : (w i : ℕ) (b : List ℕ) → w ≡ field_at (24 + 8 * i) b → w ≡ (segment_pair_at (20 + 8 * i) b).1
 size-is w i b e = let place : 24 + 8 * i ≡ 20 + 8 * i + 4 = omega arith in e ∙ ap (λ z. field_at z b) place
 
-pub segs-count : (b : List ℕ) → IsHeader b → length (segs_in b) ≡ segments_in b
-segs-count b h = segs-many b h ∙ length-items pair_at pair_bytes 8 (segments_in b) 20 b
+pub segs-count : (b : List ℕ) → IsHeader b → length (segs_in b) ≡ image_segment_count b
+segs-count b h = segs-many b h ∙ length-items segment_pair_at pair_bytes 8 (image_segment_count b) 20 b
 
 -- what holds of each segment holds of the one at a place
-pub segs-each : (P : Bytes → Type 0) (b : List ℕ) → All P (contents_of b).segs → (i : ℕ) (d : Bytes) → i < length (segs_in b) → P (get_or (segs_in b) i d)
+pub segs-each : (P : Bytes → Type 0) (b : List ℕ) → All P (contents_of_image b).segs → (i : ℕ) (d : Bytes) → i < length (segs_in b) → P (get_or (segs_in b) i d)
 segs-each P b all i d lt = subst (All P) (segs-are b) all i d lt

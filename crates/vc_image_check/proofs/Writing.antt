@@ -8,9 +8,9 @@ use Rattle.vc_seg.specs.Field.{field_at}
 use Rattle.vc_seg.specs.Numbered.{AreNumbered, IsRegionPair}
 use Rattle.vc_seg.specs.Segment.{Bytes, pair_of}
 use Rattle.vc_seg.proofs.Backs.{AreNumbered-segments}
-use Rattle.vc_image_check.specs.Bytes.Contents.{body_in, contents_of, dicts_in, items_at, pair_at, pairs_in, row_at, rows_in, segments_in, segs_from}
+use Rattle.vc_image_check.specs.Bytes.Contents.{body_in, contents_of_image, dict_row_at, image_dict_count, image_segment_count, items_at, pairs_in, rows_of_image, segment_pair_at, segs_from}
 use Rattle.vc_image_check.specs.Bytes.Header.{AreContents, FitsRow, IsHeader}
-use Rattle.vc_image_check.specs.Bytes.Image.{Contents, Row, counts, image_of, magic, number_bytes, pair_bytes, row_bytes}
+use Rattle.vc_image_check.specs.Bytes.Image.{DictRow, ImageContents, counts, image_of, magic, number_bytes, pair_bytes, row_bytes}
 use Rattle.vc_image_check.proofs.Words.{field-again, items-again, length-numbers}
 
 -- a pair's two numbers fit
@@ -24,16 +24,16 @@ fits-pair p h =
     let most = h.size.most in
     record { number = omega (arith, last); size = omega (arith, most) }
 
-pair-again : (p : ℕ × ℕ) (at : ℕ) (front rest : List ℕ) → FitsPair p → length front ≡ at → pair_at at (front ++ pair_bytes p ++ rest) ≡ p
+pair-again : (p : ℕ × ℕ) (at : ℕ) (front rest : List ℕ) → FitsPair p → length front ≡ at → segment_pair_at at (front ++ pair_bytes p ++ rest) ≡ p
 pair-again p at front rest fits e =
     ap₂ (λ (x y : ℕ). (x, y))
     (field-again at at [] p.0 (p.1 ∷ []) front rest fits.number e (omega arith))
     (field-again (at + 4) at (p.0 ∷ []) p.1 [] front rest fits.size e (omega arith))
 
-abbrev row_by : ℕ → ℕ → ℕ → ℕ → ℕ → ℕ → ℕ → ℕ → ℕ → Row
+abbrev row_by : ℕ → ℕ → ℕ → ℕ → ℕ → ℕ → ℕ → ℕ → ℕ → DictRow
 row_by a b c d e f g h i = record { method = a; kind = b; count = c; current = d; first = e; last = f; table = g; slots = h; root = i }
 
-row-again : (r : Row) (at : ℕ) (front rest : List ℕ) → FitsRow r → length front ≡ at → row_at at (front ++ row_bytes r ++ rest) ≡ r
+row-again : (r : DictRow) (at : ℕ) (front rest : List ℕ) → FitsRow r → length front ≡ at → dict_row_at at (front ++ row_bytes r ++ rest) ≡ r
 row-again r at front rest fits e =
     let m = r.method in let k = r.kind in let n = r.count in let c = r.current in let f = r.first in let l = r.last in let t = r.table in let s = r.slots in let o = r.root in
     let b : List ℕ = front ++ row_bytes r ++ rest in
@@ -69,10 +69,10 @@ length-pairs (p ∷ ps) =
     let r = length-pairs ps in
     omega (arith, l, m, r)
 
-length-row : (r : Row) → length (row_bytes r) ≡ 36
+length-row : (r : DictRow) → length (row_bytes r) ≡ 36
 length-row r = length-numbers (r.method ∷ r.kind ∷ r.count ∷ r.current ∷ r.first ∷ r.last ∷ r.table ∷ r.slots ∷ r.root ∷ [])
 
-length-rows : (rs : List Row) → length (flat_map row_bytes rs) ≡ 36 * length rs
+length-rows : (rs : List DictRow) → length (flat_map row_bytes rs) ≡ 36 * length rs
 length-rows [] = refl
 length-rows (r ∷ rs) =
     let l = length-append (row_bytes r) (flat_map row_bytes rs) in
@@ -92,7 +92,7 @@ all-fit : (ps : List (ℕ × ℕ)) → AllByRecursion IsRegionPair ps → AllByR
 all-fit [] h = h
 all-fit (p ∷ ps) h = (fits-pair p h.0, all-fit ps h.1)
 
-module _ (c : Contents) (h : AreContents c) where
+module _ (c : ImageContents) (h : AreContents c) where
   abbrev A : List ℕ
   A = flat_map number_bytes (counts c)
 
@@ -121,13 +121,13 @@ module _ (c : Contents) (h : AreContents c) where
   behind-letters : img ≡ magic ++ A ++ (B ++ C ++ D)
   behind-letters = ap (λ z. z ++ D) (append_assoc (magic ++ A) B C) ∙ append_assoc (magic ++ A) (B ++ C) D
 
-  segments-is : segments_in img ≡ length c.segs
+  segments-is : image_segment_count img ≡ length c.segs
   segments-is = ap (field_at 8) behind-letters ∙ field-again 8 8 [] (length c.segs) (c.root ∷ length c.rows ∷ []) magic (B ++ C ++ D) counted refl refl
 
   root-is : field_at 12 img ≡ c.root
   root-is = ap (field_at 12) behind-letters ∙ field-again 12 8 (length c.segs ∷ []) c.root (length c.rows ∷ []) magic (B ++ C ++ D) h.root refl refl
 
-  dicts-is : dicts_in img ≡ length c.rows
+  dicts-is : image_dict_count img ≡ length c.rows
   dicts-is = ap (field_at 16) behind-letters ∙ field-again 16 8 (length c.segs ∷ c.root ∷ []) (length c.rows) [] magic (B ++ C ++ D) few refl refl
 
   long-A : length (magic ++ A) ≡ 20
@@ -146,15 +146,15 @@ module _ (c : Contents) (h : AreContents c) where
 
   pairs-are : pairs_in img ≡ map pair_of c.segs
   pairs-are =
-      let n : segments_in img ≡ length (map pair_of c.segs) = segments-is ∙ sym (length-map c.segs pair_of) in
-      ap (λ k. items_at pair_at 8 k 20 img) n
-      ∙ ap (items_at pair_at 8 (length (map pair_of c.segs)) 20) (append_assoc (magic ++ A ++ B) C D)
-      ∙ items-again pair_at pair_bytes 8 FitsPair (λ p. length-numbers (p.0 ∷ p.1 ∷ [])) pair-again (map pair_of c.segs) 20 (magic ++ A) (C ++ D) (all-fit (map pair_of c.segs) (recursion_from_All IsRegionPair (map pair_of c.segs) numbered.legal)) long-A
+      let n : image_segment_count img ≡ length (map pair_of c.segs) = segments-is ∙ sym (length-map c.segs pair_of) in
+      ap (λ k. items_at segment_pair_at 8 k 20 img) n
+      ∙ ap (items_at segment_pair_at 8 (length (map pair_of c.segs)) 20) (append_assoc (magic ++ A ++ B) C D)
+      ∙ items-again segment_pair_at pair_bytes 8 FitsPair (λ p. length-numbers (p.0 ∷ p.1 ∷ [])) pair-again (map pair_of c.segs) 20 (magic ++ A) (C ++ D) (all-fit (map pair_of c.segs) (recursion_from_All IsRegionPair (map pair_of c.segs) numbered.legal)) long-A
 
-  rows-are : rows_in img ≡ c.rows
+  rows-are : rows_of_image img ≡ c.rows
   rows-are =
-      ap₂ (λ k m. items_at row_at 36 k (20 + 8 * m) img) dicts-is segments-is
-      ∙ items-again row_at row_bytes 36 FitsRow length-row row-again c.rows (20 + 8 * length c.segs) (magic ++ A ++ B) D h.rows long-B
+      ap₂ (λ k m. items_at dict_row_at 36 k (20 + 8 * m) img) dicts-is segments-is
+      ∙ items-again dict_row_at row_bytes 36 FitsRow length-row row-again c.rows (20 + 8 * length c.segs) (magic ++ A ++ B) D h.rows long-B
 
   body-is : body_in img ≡ 20 + 8 * length c.segs + 36 * length c.rows
   body-is = ap₂ (λ k m. 20 + 8 * k + 36 * m) segments-is dicts-is
@@ -164,8 +164,8 @@ module _ (c : Contents) (h : AreContents c) where
       ap₂ (λ ps at. segs_from ps at img) pairs-are body-is
       ∙ segs-again c.segs (20 + 8 * length c.segs + 36 * length c.rows) (magic ++ A ++ B ++ C) long-C
 
-  pub read-again : contents_of (image_of c) ≡ c
-  unfolding contents_of image_of
+  pub read-again : contents_of_image (image_of c) ≡ c
+  unfolding contents_of_image image_of
   read-again = λ i. record { root = root-is i; segs = segs-are i; rows = rows-are i }
 
   pub header-of : IsHeader (image_of c)

@@ -2,11 +2,11 @@
 use Rattle.vc_base.proofs.Common.{arith, IfOk, IfErr, ◌≡◌, ℕ, Bool, false, List, [], Some, None, Ok, Err, Option, Result, IfSome, sym, refl, ◌∙◌, subst, inl, inr, Discipline}
 use Rattle.vc_base.specs.Memory.{MemorySink}
 use Rattle.vc_dtdisc.specs.Rules.{Gone, Rules}
-use Rattle.vc_image_check.specs.Dicts.Whole.{IsFirstUnsoundPart, IsSound}
+use Rattle.vc_image_check.specs.Dicts.Whole.{IsFirstUnsoundPart, IsSoundImage}
 use Rattle.vc_image_run.proofs.FirstHeld.{image-of, none-open, other-first}
 use Rattle.vc_image_run.specs.Script.Found.{IsFirstImage, WhyNone}
 use Rattle.vc_image_run.specs.Script.Image.{IsImageOf}
-use Rattle.vc_image_run.specs.Script.Promises.{FailsBy, IsOtherFirst, IsSaved, Runs, RunsTo, Saves}
+use Rattle.vc_image_run.specs.Script.Promises.{FailsBy, IsOtherFirst, IsSaved, RunsTo, RunsWithoutWords, Saves}
 use Rattle.vc_image_run.specs.declared.script.fault.ScriptFault.{ScriptFault}
 use Rattle.vc_image_run.specs.declared.script.fault.ScriptFault.TheVariants.{Line, Read, Write, Memory, NoRegion, WrongMethod, Unsound}
 use Rattle.vc_script.specs.declared.command.Command.{Command}
@@ -70,7 +70,7 @@ module _ {I : Type 0} {V : I → Type 0} {D : Type 0} (meaning : (x : I) × V x 
       runs-to (λ s. (image : List ℕ) × (IsImageOf s image × IsFirstUnsoundPart (rules_in rules kinds) image part)) start last_of old new on
       (none.0, (image-of meaning rules shelf session kinds over none.0 none.1.0, none.1.1))
 
-  pub saved-by : (image : Result MemorySink ScriptFault) → RunsScriptOn Dtrun no_words (Ok None) start last_of old new → IfOk image (λ i. IsFirstImage session i.written) → IfOk image (λ i. IsSound (rules_in rules kinds) i.written) → IfErr image (WhyNone (rules_in rules kinds) session) → Saves (rules_in rules kinds) image start (moment_at_end last_of) old new
+  pub saved-by : (image : Result MemorySink ScriptFault) → RunsScriptOn Dtrun no_words (Ok None) start last_of old new → IfOk image (λ i. IsFirstImage session i.written) → IfOk image (λ i. IsSoundImage (rules_in rules kinds) i.written) → IfErr image (WhyNone (rules_in rules kinds) session) → Saves (rules_in rules kinds) image start (moment_at_end last_of) old new
   saved-by (Ok image) on first sound none =
       runs-to (λ s. IsSaved (rules_in rules kinds) s image.written) start last_of old new on
       (record { image_of = image-of meaning rules shelf session kinds over image.written first; sound = sound })
@@ -78,7 +78,7 @@ module _ {I : Type 0} {V : I → Type 0} {D : Type 0} (meaning : (x : I) × V x 
 
 -- and then the session was ended
 module _ (start before last after : Moment) (old new : Flows) (same : start ≡ before) (rests : (written : Option (List ℕ)) → Rests (over_sink last written) (over_sink after written)) (off : after.armed ≡ false) where
-  runs-at_rest : (answer : Result (Option (ℕ × LineFault)) Stop) → Runs answer start last old new → Runs answer before after old new
+  runs-at_rest : (answer : Result (Option (ℕ × LineFault)) Stop) → RunsWithoutWords answer start last old new → RunsWithoutWords answer before after old new
   runs-at_rest answer r = runs-rest Dtrun no_words start before last after old new answer same rests off r
 
   to-at_rest : (holds : State → Type 0) → RunsTo holds start last old new → RunsTo holds before after old new
@@ -123,8 +123,8 @@ module _ (kinds : List Rules) (start last : Moment) (old new : Flows) where
   saves-arms (Err why) r = fails-arms why r
 
 -- nothing was run for want of memory
-pub runs-none : (start : Moment) (old new : Flows) → old ≡ new → start.armed ≡ false → Runs (Err stop.Memory) start start old new
-runs-none start old new same off = subst (λ (after : Flows). Runs (Err stop.Memory) start start old after) same (record {
+pub runs-none : (start : Moment) (old new : Flows) → old ≡ new → start.armed ≡ false → RunsWithoutWords (Err stop.Memory) start start old new
+runs-none start old new same off = subst (λ (after : Flows). RunsWithoutWords (Err stop.Memory) start start old after) same (record {
   replay = tt;
   cut_short = λ is. absurd (memory-read stop.Memory refl is);
   cut = cuts-source Dtrun no_words (over_sink start old.written) (over_sink start old.written) old.left (keeps-same start.accounts) refl;

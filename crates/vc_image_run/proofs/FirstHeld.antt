@@ -13,9 +13,9 @@ use Rattle.vc_dict.specs.declared.dict.Dict.{Dict}
 use Rattle.vc_dict.proofs.HeadLemmas.{dict-again}
 use Rattle.vc_dict.specs.Listed.{holders_of}
 use Rattle.vc_image.specs.Load.{IsWholeAmong, dicts_of}
-use Rattle.vc_image.specs.Save.{contents_by, contents_in, image_in}
-use Rattle.vc_image_check.specs.Bytes.Contents.{contents_of}
-use Rattle.vc_image_check.specs.Bytes.Image.{Contents, image_of}
+use Rattle.vc_image.specs.Save.{contents_by, image_contents, image_in}
+use Rattle.vc_image_check.specs.Bytes.Contents.{contents_of_image}
+use Rattle.vc_image_check.specs.Bytes.Image.{ImageContents, image_of}
 use Rattle.vc_image.proofs.Begun.{front-in}
 use Rattle.vc_image.proofs.Joined.{dicts-in, read-in}
 use Rattle.vc_image.specs.Saved.Saved.{AreReadableIn}
@@ -112,7 +112,7 @@ module _ {I : Type 0} {V : I → Type 0} (s : State) (home : Home) (first : slic
   image-of_region (OfBest b) some whole region same =
       let image = image_in (OfBest b) dicts in
       let can : AreReadableIn kinds (OfBest b) dicts = record { few = few; numbers = numbers; each = whole } in
-      let read : contents_of image ≡ contents_in b dicts = read-in kinds (OfBest b) dicts can in
+      let read : contents_of_image image ≡ image_contents b dicts = read-in kinds (OfBest b) dicts can in
       let again : dicts_of image ≡ dicts = dicts-in kinds (OfBest b) dicts can in
       record {
         home = home;
@@ -120,7 +120,7 @@ module _ {I : Type 0} {V : I → Type 0} (s : State) (home : Home) (first : slic
         front = front-in (OfBest b) dicts some few;
         is = λ i. image_of (contents_by (sym read i).root (sym read i).segs (sym again i));
         name_of = name_by;
-        blocks = ap (λ (c : Contents). region_with_labels name_by (region_of_segs c.segs)) read ∙ region;
+        blocks = ap (λ (c : ImageContents). region_with_labels name_by (region_of_segs c.segs)) read ∙ region;
         dicts = (λ i. map (what_in (cells_of_segs (read i).segs)) (again i)) ∙ same;
       }
   image-of_region (Pool p) some whole region same = absurd (cc)

@@ -5,10 +5,10 @@ use Rattle.vc_best.specs.Cells.{zeroed_layout}
 use Rattle.vc_best.specs.declared.best.Best.{Best}
 use Rattle.vc_dict.specs.declared.dict.Dict.{Dict}
 use Rattle.vc_dtdisc.specs.Rules.{Rules}
-use Rattle.vc_image.specs.Load.{IsLoaded, dict_of, pairs_of}
+use Rattle.vc_image.specs.Load.{IsLoaded, dict_of_row, pairs_of}
 use Rattle.vc_image.specs.declared.fault.LoadFault.TheVariants.{Bad, Round, Grows, NoSegment, OutOfMemory}
 use Rattle.vc_image_check.proofs.Passing.{length-rows}
-use Rattle.vc_image_check.specs.Bytes.Contents.{contents_of, dicts_in, rows_in}
+use Rattle.vc_image_check.specs.Bytes.Contents.{contents_of_image, image_dict_count, rows_of_image}
 use Rattle.vc_image.specs.Lends.Lends.{AreLent}
 use Rattle.vc_image_run.specs.Session.Opens.{HasNoParts, IsUnnamed, has_own_tags}
 use Rattle.vc_commands.specs.Tagged.{have_own_tags}
@@ -31,15 +31,15 @@ module _ {I : Type 0} {V : I → Type 0} (kinds : List Rules) (terms : Terms) (i
   unfolding best-or
   same-best = ap best-or (sym loaded.of_best)
 
-  pub segs-are : best.extents.segs.items ≡ (contents_of image).segs
-  segs-are = subst (λ (b : Best I V). b.extents.segs.items ≡ (contents_of image).segs) same-best loaded.segments
+  pub segs-are : best.extents.segs.items ≡ (contents_of_image image).segs
+  segs-are = subst (λ (b : Best I V). b.extents.segs.items ≡ (contents_of_image image).segs) same-best loaded.segments
 
   -- there are no more dictionaries than an image has
   pub few-dicts : length ds ≤ 256
   few-dicts =
-      let same : length ds ≡ dicts_in image =
+      let same : length ds ≡ image_dict_count image =
       ap (λ (xs : List Dict). length xs) loaded.numbers
-      ∙ (length-map (rows_in image) dict_of ∙ length-rows image) in
+      ∙ (length-map (rows_of_image image) dict_of_row ∙ length-rows image) in
       omega (arith, same, loaded.sound.front.head.dicts)
 
   -- its segments are the last that were lent

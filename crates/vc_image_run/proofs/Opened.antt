@@ -14,8 +14,8 @@ use Rattle.vc_dict.proofs.HeadLemmas.{dict-again}
 use Rattle.vc_dict.specs.Listed.{holders_of}
 use Rattle.vc_dict.specs.declared.dict.Dict.{Dict}
 use Rattle.vc_dtdisc.specs.Rules.{Rules}
-use Rattle.vc_image.specs.Load.{AreApart, IsApart, IsLoaded, IsWholeAmong, pairs_of}
-use Rattle.vc_image_check.specs.Bytes.Contents.{contents_of}
+use Rattle.vc_image.specs.Load.{AllShareNone, IsLoaded, IsWholeAmong, ShareNone, pairs_of}
+use Rattle.vc_image_check.specs.Bytes.Contents.{contents_of_image}
 use Rattle.vc_image.specs.Lends.Lends.{AreLent}
 use Rattle.vc_best.specs.Blocks.{layout_by}
 use Rattle.vc_image_run.proofs.Loading.{few-dicts, same-best, segs-are, tags-are}
@@ -93,11 +93,11 @@ module _ {I : Type 0} {V : I → Type 0} (meaning : (x : I) × V x → Disciplin
     dict-of : (i : ℕ) (d : Dict) → IsWholeAmong kinds (best_cells best) d → IsDictOf kinds (held ∷ []) (entry_of i d)
     dict-of i d w = record { home = held; found = refl; best = refl; rules = w.rules; kind = w.kind; whole = w.whole }
 
-    all-apart : (i j : ℕ) (d : Dict) (es : List Dict) → AllByRecursion (IsApart (best_cells best) d) es → AllByRecursion (AreApartIn (held ∷ []) (entry_of i d)) (entries_from j es)
+    all-apart : (i j : ℕ) (d : Dict) (es : List Dict) → AllByRecursion (ShareNone (best_cells best) d) es → AllByRecursion (AreApartIn (held ∷ []) (entry_of i d)) (entries_from j es)
     all-apart i j d [] all = tt
     all-apart i j d (e ∷ es) all = ((λ same a within. all.0 a within), all-apart i (j + 1) d es all.1)
 
-    pub are-dicts : (i : ℕ) (ds : List Dict) → AllByRecursion (IsWholeAmong kinds (best_cells best)) ds → AreApart (best_cells best) ds → AreDicts kinds (held ∷ []) (entries_from i ds)
+    pub are-dicts : (i : ℕ) (ds : List Dict) → AllByRecursion (IsWholeAmong kinds (best_cells best)) ds → AllShareNone (best_cells best) ds → AreDicts kinds (held ∷ []) (entries_from i ds)
     are-dicts i [] whole apart = tt
     are-dicts i (d ∷ ds) whole apart =
         (dict-of i d whole.0, all-apart i (i + 1) d ds apart.0, are-dicts (i + 1) ds whole.1 apart.1)
@@ -157,7 +157,7 @@ module _ {I : Type 0} {V : I → Type 0} (meaning : (x : I) × V x → Disciplin
         ∙ (ap (λ (shelf : List (Option Terms)). state_by shelf (home_of held)) (map-set (option_map (λ (e : Discipline). e.terms)) slots (place - 1) None)
         ∙ (ap (state_by (set (map (option_map (λ (e : Discipline). e.terms)) slots) (place - 1) None)) home-is
         ∙ (ap (λ (segs : List Bytes). state_with (state_of kinds slots [] []) place d.terms segs ds) (segs-are kinds d.terms image best ds loaded)
-        ∙ ap (state_with (state_of kinds slots [] []) place d.terms (contents_of image).segs) loaded.numbers)))
+        ∙ ap (state_with (state_of kinds slots [] []) place d.terms (contents_of_image image).segs) loaded.numbers)))
       where
         state_by : List (Option Terms) → Home → State
         state_by shelf h = record { shelf = shelf; homes = h ∷ []; kinds = kinds; dicts = dict_homes (cells_of (layout_by best.extents.segs.items).blocks) 1 ds }
@@ -187,8 +187,8 @@ module _ {I : Type 0} {V : I → Type 0} (meaning : (x : I) × V x → Disciplin
     each : AllByRecursion (IsWholeAmong kinds (best_cells best)) ds
     each = subst (λ (b : Best I V). AllByRecursion (IsWholeAmong kinds (best_cells b)) ds) (same-best kinds d.terms image best ds loaded) loaded.each
 
-    apart : AreApart (best_cells best) ds
-    apart = subst (λ (b : Best I V). AreApart (best_cells b) ds) (same-best kinds d.terms image best ds loaded) loaded.apart
+    apart : AllShareNone (best_cells best) ds
+    apart = subst (λ (b : Best I V). AllShareNone (best_cells b) ds) (same-best kinds d.terms image best ds loaded) loaded.apart
 
     dicts-is : session.dicts.entries ≡ entries_from 0 ds
     dicts-is = parts.entries_are ∙ ap (entries_from 0) (copies-same kinds (best_cells best) ds each)

@@ -8,7 +8,7 @@ use Rattle.vc_commands.specs.Blocks.{label_limit}
 use Rattle.vc_commands.specs.Home.{Label}
 use Rattle.vc_commands.specs.Tagged.{have_own_tags, is_own_tag, name_by_tag, text_by_tag}
 use Rattle.vc_dtdisc.specs.Rules.{Gone, Rules}
-use Rattle.vc_image_check.specs.Bytes.Contents.{contents_of}
+use Rattle.vc_image_check.specs.Bytes.Contents.{contents_of_image}
 use Rattle.vc_image_run.proofs.Ended.{saves-arms, saves-at_rest}
 use Rattle.vc_image_run.specs.Script.Over.{BeginsWith, Remakes}
 use Rattle.vc_image_run.specs.Script.Promises.{Saves}
@@ -62,7 +62,7 @@ names-kept (b ∷ bs) own =
 -- the state of an image
 proper-state : (s : State) (place : ℕ) (terms : Terms) (image : List ℕ) → has_own_tags image ≡ true → IsProperState (image_state s place terms image)
 proper-state s place terms image own =
-    let r : Layout ℕ = zeroed_layout (layout_by (contents_of image).segs) in
+    let r : Layout ℕ = zeroed_layout (layout_by (contents_of_image image).segs) in
     ((ap (λ bs. OfBest (record { segments = r.segments; blocks = bs })) (names-kept r.blocks own), tt, tt, refl), tt)
 
 -- the answer of a run over an image

@@ -2,10 +2,10 @@
 use Rattle.vc_base.proofs.Common.{◌≡◌, ℕ, List, Err, refl, sym, subst, codes, Discipline}
 use Rattle.vc_dtdisc.specs.Rules.{Rules}
 use Rattle.vc_image.specs.declared.fault.LoadFault.TheVariants as load
-use Rattle.vc_image_check.specs.Dicts.Whole.{IsSound}
-use Rattle.vc_image_run.specs.Tool.Promises.{Checks, IsJudged, IsNotShown, Puts, Shows, Tells}
+use Rattle.vc_image_check.specs.Dicts.Whole.{IsSoundImage}
+use Rattle.vc_image_run.specs.Tool.Promises.{Checks, IsJudged, IsNotShown, PutsText, ShowsSoundImage, TellsLine}
 use Rattle.vc_image_run.specs.Tool.Streams.{Sinks}
-use Rattle.vc_image_run.specs.Tool.Told.{fault_line, status_of}
+use Rattle.vc_image_run.specs.Tool.Told.{fault_line, status_of_image_fault}
 use Rattle.vc_image_run.specs.declared.tool.fault.ImageFault.{ImageFault}
 use Rattle.vc_image_run.specs.declared.tool.fault.ImageFault.TheVariants as fault
 use Rattle.vc_image_run.specs.declared.tool.status.ImageStatus.{ImageStatus}
@@ -13,7 +13,7 @@ use Rattle.vc_image_run.specs.declared.tool.status.ImageStatus.TheVariants.{Done
 
 module _ (kinds : List Rules) (image : List ℕ) (old new : Sinks) where
   -- a sound image is told so
-  pub put-checked : (status : ImageStatus) → IsSound kinds image → Puts (codes "sound\n") status old new → Checks kinds image status old new
+  pub put-checked : (status : ImageStatus) → IsSoundImage kinds image → PutsText (codes "sound\n") status old new → Checks kinds image status old new
   put-checked Done s p = (s, p)
   put-checked Unsound s p = absurd p
   put-checked Usage s p = (s, p)
@@ -24,7 +24,7 @@ module _ (kinds : List Rules) (image : List ℕ) (old new : Sinks) where
   put-checked Script s p = (s, p)
   put-checked NoImage s p = (s, p)
 
-  checked-by : (why : ImageFault) → IsJudged kinds image (Err why) → Tells old new (fault_line why) → Checks kinds image (status_of why) old new
+  checked-by : (why : ImageFault) → IsJudged kinds image (Err why) → TellsLine old new (fault_line why) → Checks kinds image (status_of_image_fault why) old new
   checked-by fault.Usage j t = absurd j
   checked-by fault.Read j t = absurd j
   checked-by fault.Write j t = absurd j
@@ -38,11 +38,11 @@ module _ (kinds : List Rules) (image : List ℕ) (old new : Sinks) where
   checked-by (fault.Open why) j t = absurd j
 
   -- and what is wrong with another one
-  pub told-checked : (why : ImageFault) (status : ImageStatus) → IsJudged kinds image (Err why) → status ≡ status_of why → Tells old new (fault_line why) → Checks kinds image status old new
+  pub told-checked : (why : ImageFault) (status : ImageStatus) → IsJudged kinds image (Err why) → status ≡ status_of_image_fault why → TellsLine old new (fault_line why) → Checks kinds image status old new
   told-checked why status j e t = subst (λ z. Checks kinds image z old new) (sym e) (checked-by why j t)
 
   module _ (d : Discipline) where
-    shown-by : (why : ImageFault) → IsNotShown kinds image d why → Tells old new (fault_line why) → Shows kinds image d (status_of why) old new
+    shown-by : (why : ImageFault) → IsNotShown kinds image d why → TellsLine old new (fault_line why) → ShowsSoundImage kinds image d (status_of_image_fault why) old new
     shown-by fault.Usage n t = absurd n
     shown-by fault.Read n t = absurd n
     shown-by fault.Write n t = absurd n
@@ -56,5 +56,5 @@ module _ (kinds : List Rules) (image : List ℕ) (old new : Sinks) where
     shown-by (fault.Open why) n t = absurd n
 
     -- why nothing is shown of an image
-    pub told-shown : (why : ImageFault) (status : ImageStatus) → IsNotShown kinds image d why → status ≡ status_of why → Tells old new (fault_line why) → Shows kinds image d status old new
-    told-shown why status n e t = subst (λ z. Shows kinds image d z old new) (sym e) (shown-by why n t)
+    pub told-shown : (why : ImageFault) (status : ImageStatus) → IsNotShown kinds image d why → status ≡ status_of_image_fault why → TellsLine old new (fault_line why) → ShowsSoundImage kinds image d status old new
+    told-shown why status n e t = subst (λ z. ShowsSoundImage kinds image d z old new) (sym e) (shown-by why n t)

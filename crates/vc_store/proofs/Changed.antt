@@ -11,7 +11,7 @@ use Rattle.vc_objects.specs.Parts.{IsWhole, dictionary_in, dictionary_of}
 use Rattle.vc_objects.proofs.Leaving.{keeps-out}
 use Rattle.vc_store.specs.Contents.{contents_in, contents_of}
 use Rattle.vc_store.specs.Reading.{Contents}
-use Rattle.vc_store.specs.Tries.{IsTried, Tries}
+use Rattle.vc_store.specs.Tries.{IsTried, TriesToPut}
 use Rattle.vc_store.specs.declared.put.Put.{Put}
 use Rattle.vc_store.specs.Stores.Alike.{held_at}
 use Rattle.vc_store.specs.Stores.Stores.{AreApart, HasDict, IsOpen, OthersStay, StaysOpen, TriesAt, contents, contents_or, dict_at, dicts_of, disc_of, gone_at, gone_or, joined, kind_at, kinds_of, numbers_of, rules_at, rules_or}
@@ -199,11 +199,11 @@ module _ {D : Type 0} {I : Type 0} {V : I → Type 0} {meaning : (x : I) × V x 
       (subst (λ x. P (rules_by k) x (contents s' n)) (sym shown-before)
       (subst (λ x. P (rules_by k) (contents_in d s.best) x) (sym shown-now) h))
 
-  pub tried-at : (answer : Put) (object : List ℕ) → IsTried answer (Tries meaning answer (rules_by k) object s.best d s'.best d') → TriesAt meaning rules_by answer n object s s'
+  pub tried-at : (answer : Put) (object : List ℕ) → IsTried answer (TriesToPut meaning answer (rules_by k) object s.best d s'.best d') → TriesAt meaning rules_by answer n object s s'
   tried-at answer object h e e' at at' =
-      subst (λ r. IsTried answer (Tries meaning answer r object s.best e s'.best e')) (sym rules-before)
-      (subst (λ x. IsTried answer (Tries meaning answer (rules_by k) object s.best x s'.best e')) (same_Some d e (sym c.at ∙ at))
-      (subst (λ x. IsTried answer (Tries meaning answer (rules_by k) object s.best d s'.best x)) (it-is e' at') h))
+      subst (λ r. IsTried answer (TriesToPut meaning answer r object s.best e s'.best e')) (sym rules-before)
+      (subst (λ x. IsTried answer (TriesToPut meaning answer (rules_by k) object s.best x s'.best e')) (same_Some d e (sym c.at ∙ at))
+      (subst (λ x. IsTried answer (TriesToPut meaning answer (rules_by k) object s.best d s'.best x)) (it-is e' at') h))
 
   -- and what its kind was told of
   pub told-at : (gone_by : D → Gone) (P : Gone → Gone → Type 0) → P (gone_by k) (gone_by k') → P (gone_at gone_by s n) (gone_at gone_by s' n)

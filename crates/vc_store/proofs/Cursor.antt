@@ -10,8 +10,8 @@ use Rattle.vc_dict.specs.declared.dict.Dict.{Dict}
 use Rattle.vc_dict.proofs.OwnLemmas.{holders-distinct}
 use Rattle.vc_objects.specs.Parts.{IsWhole, dictionary_of, object_of}
 use Rattle.vc_objects.specs.Remove.{bytes_of}
-use Rattle.vc_store.specs.Contents.{place_of}
-use Rattle.vc_store.specs.Reading.{first_place, last_place, next_place, previous_place}
+use Rattle.vc_store.specs.Contents.{current_place}
+use Rattle.vc_store.specs.Reading.{first_place, last_index, next_place, previous_place}
 use Rattle.vc_store.proofs.Places.{last-placed, none-first, none-last, none-previous, place, place-first, place-last, place-next, place-within, previous-placed, within-first, within-next}
 use Rattle.vc_store.proofs.Shown.{pointed-place}
 
@@ -26,7 +26,7 @@ next-within n p q e less =
 next-over : (n p : ℕ) → suc p ≡ n → None ≡ next_place n (Some p)
 next-over n p e = sym (ap (λ t. if t then Some (p + 1) else None) (le-ltb (p + 1) n (omega (arith, e))))
 
-last-some : (n p : ℕ) → suc p ≡ n → Some p ≡ last_place n
+last-some : (n p : ℕ) → suc p ≡ n → Some p ≡ last_index n
 last-some n p e =
     let same : p ≡ n - 1 = omega (arith, e) in
     ap Some same ∙ sym (ap (λ t. if t then None else Some (n - 1)) (ne_eqb n 0 (λ z. absurd (omega (arith, e, z)))))
@@ -55,7 +55,7 @@ module _ (rules : Rules) (d : Dict) (b : Blocks) (whole : IsWhole rules d b) whe
     objects = whole.objects;
   }
 
-  pub first-some : (at : Addr) → Some at.0 ≡ first_in hs → place_of (some_address at.0) os ≡ first_place (length (bytes_of os))
+  pub first-some : (at : Addr) → Some at.0 ≡ first_in hs → current_place (some_address at.0) os ≡ first_place (length (bytes_of os))
   first-some at e =
       let w = within-first hs at.0 (sym e) in
       let in_list = place-within hs at.0 w in
@@ -68,19 +68,19 @@ module _ (rules : Rules) (d : Dict) (b : Blocks) (whole : IsWhole rules d b) whe
   pub last-there : (at : Addr) → Some at.0 ≡ last_in hs → contains hs at.0 ≡ true
   last-there at e = (last-placed hs at.0 (holders-distinct rules d b hs whole.stands) (sym e)).0
 
-  pub last-moved : (at : Addr) → Some at.0 ≡ last_in hs → place_of (some_address at.0) os ≡ last_place (length (bytes_of os))
+  pub last-moved : (at : Addr) → Some at.0 ≡ last_in hs → current_place (some_address at.0) os ≡ last_index (length (bytes_of os))
   last-moved at e =
       let h = last-placed hs at.0 (holders-distinct rules d b hs whole.stands) (sym e) in
       pointed-place rules d b at whole h.0 ∙ last-some (length (bytes_of os)) (place at.0 hs) (h.1 ∙ sym counted)
 
-  pub last-none : None ≡ last_in hs → None ≡ last_place (length (bytes_of os))
-  last-none e = sym (ap last_place (counted ∙ none-last hs (sym e)))
+  pub last-none : None ≡ last_in hs → None ≡ last_index (length (bytes_of os))
+  last-none e = sym (ap last_index (counted ∙ none-last hs (sym e)))
 
   module _ (w : contains hs d.current.0 ≡ true) where
-    here : place_of (some_address d.current.0) os ≡ Some (place d.current.0 hs)
+    here : current_place (some_address d.current.0) os ≡ Some (place d.current.0 hs)
     here = pointed-place rules d b d.current whole w
 
-    pub next-some : (at : Addr) → Some at.0 ≡ next_in d.current.0 hs → place_of (some_address at.0) os ≡ next_place (length (bytes_of os)) (place_of (some_address d.current.0) os)
+    pub next-some : (at : Addr) → Some at.0 ≡ next_in d.current.0 hs → current_place (some_address at.0) os ≡ next_place (length (bytes_of os)) (current_place (some_address d.current.0) os)
     next-some at e =
         let v = within-next hs d.current.0 at.0 (sym e) in
         let in_list = place-within hs at.0 v in
@@ -89,7 +89,7 @@ module _ (rules : Rules) (d : Dict) (b : Blocks) (whole : IsWhole rules d b) whe
         ∙ (next-within (length (bytes_of os)) (place d.current.0 hs) (place at.0 hs) (place-next hs d.current.0 at.0 (holders-distinct rules d b hs whole.stands) (sym e)) (omega (arith, in_list, same))
         ∙ ap (next_place (length (bytes_of os))) (sym here))
 
-    pub next-none : None ≡ next_in d.current.0 hs → None ≡ next_place (length (bytes_of os)) (place_of (some_address d.current.0) os)
+    pub next-none : None ≡ next_in d.current.0 hs → None ≡ next_place (length (bytes_of os)) (current_place (some_address d.current.0) os)
     next-none e =
         next-over (length (bytes_of os)) (place d.current.0 hs) (place-last hs d.current.0 w (sym e) ∙ sym counted)
         ∙ ap (next_place (length (bytes_of os))) (sym here)
@@ -97,13 +97,13 @@ module _ (rules : Rules) (d : Dict) (b : Blocks) (whole : IsWhole rules d b) whe
     pub previous-there : (at : Addr) → Some at.0 ≡ previous_in None d.current.0 hs → contains hs at.0 ≡ true
     previous-there at e = (previous-placed hs d.current.0 at.0 (holders-distinct rules d b hs whole.stands) (sym e)).0
 
-    pub previous-moved : (at : Addr) → Some at.0 ≡ previous_in None d.current.0 hs → place_of (some_address at.0) os ≡ previous_place (place_of (some_address d.current.0) os)
+    pub previous-moved : (at : Addr) → Some at.0 ≡ previous_in None d.current.0 hs → current_place (some_address at.0) os ≡ previous_place (current_place (some_address d.current.0) os)
     previous-moved at e =
         let h = previous-placed hs d.current.0 at.0 (holders-distinct rules d b hs whole.stands) (sym e) in
         pointed-place rules d b at whole h.0
         ∙ (previous-some (place d.current.0 hs) (place at.0 hs) h.1 ∙ ap previous_place (sym here))
 
-    pub previous-none : None ≡ previous_in None d.current.0 hs → None ≡ previous_place (place_of (some_address d.current.0) os)
+    pub previous-none : None ≡ previous_in None d.current.0 hs → None ≡ previous_place (current_place (some_address d.current.0) os)
     previous-none e =
         sym (ap (λ p. previous_place (Some p)) (none-previous hs d.current.0 w (sym e)))
         ∙ ap previous_place (sym here)

@@ -15,13 +15,13 @@ use Rattle.vc_objects.specs.Parts.{IsWhole, dictionary_in, dictionary_of}
 use Rattle.vc_objects.proofs.Leaving.{keeps-same, leaves-still}
 use Rattle.vc_objects.proofs.Remains.{counts-objects}
 use Rattle.vc_objects.specs.Remove.{bytes_of}
-use Rattle.vc_store.specs.Contents.{contents_in, place_of}
-use Rattle.vc_store.specs.Reading.{Contents, current, object_at, with_place}
+use Rattle.vc_store.specs.Contents.{contents_in, current_place}
+use Rattle.vc_store.specs.Reading.{Contents, current, object_at_index, with_place}
 use Rattle.vc_store.proofs.Shown.{current-there, pointed-shown, within-rest}
 pub use Rattle.vc_store.specs.Stores.AlikeLaws.{below-there}
 use Rattle.vc_store.specs.Stores.Stores.{HasDict, IsOpen, OthersStay, StaysOpen, contents, contents_or, dict_at, dicts_of, disc_of, joined, kind_at, kinds_of, lent_to, numbers_of, rules_at, rules_or}
 use Rattle.vc_store.specs.declared.stores.store.Store.{Store}
-use Rattle.vc_store.specs.Moves.{IsWholeBy, Moves}
+use Rattle.vc_store.specs.Moves.{IsWholeBySome, Moves}
 use Rattle.vc_store.proofs.Changed.{Call, moved, others-there, same-numbers, stays-there}
 use Rattle.vc_store.proofs.Numbers.{at-below, set-itself}
 
@@ -91,7 +91,7 @@ module _ {D : Type 0} {I : Type 0} {V : I → Type 0} (rules_by : D → Rules) (
 
   pub current-none : (d.current.0 == 0) ≡ true → None ≡ current (contents s n)
   current-none none =
-      sym (ap (λ t. object_at (place_of (if t then None else Some d.current.0) (dictionary_of d cells).objects) (bytes_of (dictionary_of d cells).objects)) none)
+      sym (ap (λ t. object_at_index (current_place (if t then None else Some d.current.0) (dictionary_of d cells).objects) (bytes_of (dictionary_of d cells).objects)) none)
       ∙ sym (ap current shown-here)
 
   module _ (some : (d.current.0 == 0) ≡ false) where
@@ -127,7 +127,7 @@ module _ {D : Type 0} {I : Type 0} {V : I → Type 0} (meaning : (x : I) × V x 
   at-read : dict_at s n ≡ Some d
   at-read = read-there (dicts_of s) n o inside read ∙ found
 
-  pub whole-by : IsWholeBy d (cells_in s.best)
+  pub whole-by : IsWholeBySome d (cells_in s.best)
   whole-by = record { rules = rules_at rules_by s n; whole = is.whole n d at-read }
 
   module _ (place : Option ℕ) (answer : Bool) (d' : Dict) (m : Moves place answer s.best d d') where

@@ -19,14 +19,14 @@ use Rattle.vc_region.specs.declared.region.Region.TheVariants.{Best as OfBest}
 use Rattle.vc_objects.specs.Parts.{IsWhole, dictionary_of}
 use Rattle.vc_store.specs.Contents.{contents_of}
 use Rattle.vc_image_check.specs.Bytes.Contents as read
-use Rattle.vc_image_check.specs.Blocks.Blocks.{blocks_of}
+use Rattle.vc_image_check.specs.Blocks.Blocks.{image_blocks}
 use Rattle.vc_image.specs.Lends.Lends.{AreLent}
 use Rattle.vc_image.specs.Load as load
-use Rattle.vc_image.specs.Load.{IsApart, IsLoaded, IsWholeAmong, dicts_of, pairs_of}
+use Rattle.vc_image.specs.Load.{IsLoaded, IsWholeAmong, ShareNone, dicts_of, pairs_of}
 use Rattle.vc_image.proofs.Loads.{apart-turned}
 use Rattle.vc_store.specs.Stores.Copies.{of_kind}
-use Rattle.vc_store.specs.Stores.Loads.{HaveOwnKinds, HoldsImage, IsShared, shown_in, with_kind}
-use Rattle.vc_store.specs.Stores.Places.{CanStand}
+use Rattle.vc_store.specs.Stores.Loads.{HaveOwnKinds, HoldsImage, IsShared, shown_of_image, with_kind}
+use Rattle.vc_store.specs.Stores.Places.{CanStandAgain}
 use Rattle.vc_store.specs.Stores.Stores.{AreApart, IsOpen, dict_at, disc_of, kinds_of, numbers_of, rules_or, shown}
 use Rattle.vc_store.specs.declared.stores.store.Store.{Store}
 use Rattle.vc_store.proofs.Placed.{kind-of, of-each}
@@ -45,7 +45,7 @@ mapped f xs i y at = sym (slice_get-map f xs i) ∙ at
 
 module _ {D : Type 0} (rules_by : D → Rules) (kinds : List D) (cells : Blocks) where
   -- each can stand at the place before its kind
-  can-stand : (d : Dict) → IsWholeAmong (map rules_by kinds) cells d → CanStand (length kinds) d
+  can-stand : (d : Dict) → IsWholeAmong (map rules_by kinds) cells d → CanStandAgain (length kinds) d
   can-stand d w =
       let at = at-number (map rules_by kinds) d.kind w.rules w.kind in
       let low = at.0 in
@@ -57,7 +57,7 @@ module _ {D : Type 0} (rules_by : D → Rules) (kinds : List D) (cells : Blocks)
         again = dict-again w.rules d cells (holders_of d cells) w.whole.stands;
       }
 
-  pub can-stand-each : (ds : List Dict) → AllByRecursion (IsWholeAmong (map rules_by kinds) cells) ds → AllByRecursion (CanStand (length kinds)) ds
+  pub can-stand-each : (ds : List Dict) → AllByRecursion (IsWholeAmong (map rules_by kinds) cells) ds → AllByRecursion (CanStandAgain (length kinds)) ds
   can-stand-each [] all = tt
   can-stand-each (d ∷ ds) all = (can-stand d all.0, can-stand-each ds all.1)
 
@@ -72,7 +72,7 @@ module _ {D : Type 0} (rules_by : D → Rules) (kinds : List D) (cells : Blocks)
       subst (λ (o : Option Rules). IsWhole (rules_or o) d cells) (sym found) w.whole
 
 -- those of two kinds are apart
-pub apart-kinds : (cells : Blocks) (j k : ℕ) (ds : List Dict) (d e : Dict) → j ≢ k → load.AreApart cells ds → with_kind j ds ≡ Some d → with_kind k ds ≡ Some e → AreApart cells d e
+pub apart-kinds : (cells : Blocks) (j k : ℕ) (ds : List Dict) (d e : Dict) → j ≢ k → load.AllShareNone cells ds → with_kind j ds ≡ Some d → with_kind k ds ≡ Some e → AreApart cells d e
 apart-kinds cells j k [] d e ne apart hd he = absurd (none-some d hd)
 apart-kinds cells j k (x ∷ xs) d e ne apart hd he = elim (eqb_tells x.kind j) as (λ _. AreApart cells d e) [
   | inl mine ↦
@@ -81,14 +81,14 @@ apart-kinds cells j k (x ∷ xs) d e ne apart hd he = elim (eqb_tells x.kind j) 
         | inl other ↦ absurd (ne (sym mine.1 ∙ other.1))
         | inr away ↦
             let rest : with_kind k xs ≡ Some e = rw away.0 at he in
-            subst (λ (z : Dict). AreApart cells z e) (same_Some x d first) (of-each (IsApart cells x) k xs e apart.0 rest)
+            subst (λ (z : Dict). AreApart cells z e) (same_Some x d first) (of-each (ShareNone cells x) k xs e apart.0 rest)
       ]
   | inr aside ↦
       let rest : with_kind j xs ≡ Some d = rw aside.0 at hd in
       elim (eqb_tells x.kind k) as (λ _. AreApart cells d e) [
         | inl other ↦
             let first : Some x ≡ Some e = rw other.0 at he in
-            let there = of-each (IsApart cells x) j xs d apart.0 rest in
+            let there = of-each (ShareNone cells x) j xs d apart.0 rest in
             subst (λ (z : Dict). AreApart cells d z) (same_Some x e first)
             (λ a w. apart-turned (contains (load.own_by cells x) a) (contains (load.own_by cells d) a) (there a) w)
         | inr away ↦
@@ -106,14 +106,14 @@ module _ {I : Type 0} {V : I → Type 0} (meaning : (x : I) × V x → Disciplin
   pub each-whole : AllByRecursion (IsWholeAmong rules (cells_in b)) ds
   each-whole = subst (λ (z : Best I V). AllByRecursion (IsWholeAmong rules (cells_in z)) ds) same-best is.each
 
-  all-apart : load.AreApart (cells_in b) ds
-  all-apart = subst (λ (z : Best I V). load.AreApart (cells_in z) ds) same-best is.apart
+  all-apart : load.AllShareNone (cells_in b) ds
+  all-apart = subst (λ (z : Best I V). load.AllShareNone (cells_in z) ds) same-best is.apart
 
-  segs-are : b.extents.segs.items ≡ (read.contents_of image).segs
-  segs-are = subst (λ (z : Best I V). z.extents.segs.items ≡ (read.contents_of image).segs) same-best is.segments
+  segs-are : b.extents.segs.items ≡ (read.contents_of_image image).segs
+  segs-are = subst (λ (z : Best I V). z.extents.segs.items ≡ (read.contents_of_image image).segs) same-best is.segments
 
-  root-is : b.root.0 ≡ (read.contents_of image).root
-  root-is = subst (λ (z : Best I V). z.root.0 ≡ (read.contents_of image).root) same-best is.root
+  root-is : b.root.0 ≡ (read.contents_of_image image).root
+  root-is = subst (λ (z : Best I V). z.root.0 ≡ (read.contents_of_image image).root) same-best is.root
 
   pairs-are : segments_in b ≡ pairs_of image
   pairs-are = segments-by b.extents.segs.items ∙ ap (map pair_of) segs-are
@@ -121,7 +121,7 @@ module _ {I : Type 0} {V : I → Type 0} (meaning : (x : I) × V x → Disciplin
   were-lent : AreLent old (disc_in meaning b) (pairs_of image)
   were-lent = subst (λ (z : Region I V). AreLent old (region.disc_in meaning z) (pairs_of image)) best lent
 
-  cells-are : cells_in b ≡ blocks_of image
+  cells-are : cells_in b ≡ image_blocks image
   cells-are = ap (λ (z : List Bytes). cells_of (layout_by z).blocks) segs-are
 
   lent-out : (disc_in meaning b).out ≡ old.out ++ segments_in b
@@ -165,11 +165,11 @@ module _ {D : Type 0} {I : Type 0} {V : I → Type 0} (meaning : (x : I) × V x 
     lent = has-out meaning rules old image r ds is lent s.best best;
   }
 
-  shows : (n : ℕ) → shown s n ≡ shown_in image n
+  shows : (n : ℕ) → shown s n ≡ shown_of_image image n
   shows n =
       ap (option_map (λ d. contents_of (dictionary_of d (cells_in s.best)))) (placed n)
       ∙ (ap (λ (z : Blocks). option_map (λ d. contents_of (dictionary_of d z)) (with_kind (n + 1) ds)) (cells-are meaning rules old image r ds is lent s.best best)
-      ∙ ap (λ zs. option_map (λ d. contents_of (dictionary_of d (blocks_of image))) (with_kind (n + 1) zs)) is.numbers)
+      ∙ ap (λ zs. option_map (λ d. contents_of (dictionary_of d (image_blocks image))) (with_kind (n + 1) zs)) is.numbers)
 
   pub holds : HoldsImage rules_by image (kinds_of s) s old (disc_of s meaning)
   holds = record {

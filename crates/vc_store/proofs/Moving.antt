@@ -8,13 +8,13 @@ use Rattle.vc_dict.specs.declared.dict.Dict.{Dict}
 use Rattle.vc_best.specs.Cells.{cells_in}
 use Rattle.vc_best.specs.declared.best.Best.{Best}
 use Rattle.vc_objects.specs.Parts.{dictionary_of}
-use Rattle.vc_store.specs.Contents.{contents_in, place_of}
+use Rattle.vc_store.specs.Contents.{contents_in, current_place}
 use Rattle.vc_store.specs.Reading.{with_place}
 use Rattle.vc_store.proofs.Cursor.{none-whole}
 use Rattle.vc_store.proofs.Shown.{pointed-place, pointed-whole, within-rest}
-use Rattle.vc_store.specs.Moves.{IsWholeBy, Moves}
+use Rattle.vc_store.specs.Moves.{IsWholeBySome, Moves}
 
-module _ {I : Type 0} {V : I → Type 0} (best : Best I V) (d : Dict) (by : IsWholeBy d (cells_in best)) where
+module _ {I : Type 0} {V : I → Type 0} (best : Best I V) (d : Dict) (by : IsWholeBySome d (cells_in best)) where
   abbrev b : Blocks
   b = cells_in best
 
@@ -35,7 +35,7 @@ module _ {I : Type 0} {V : I → Type 0} (best : Best I V) (d : Dict) (by : IsWh
   current-in some = record { rules = by.rules; is = record { holders = xs; stands = by.whole.stands; within = current-within some } }
 
   -- one of its objects
-  pub moved-to : (at : Addr) (place : Option ℕ) → contains xs at.0 ≡ true → place_of (some_address at.0) os ≡ place → Moves place true best d (record { method = d.method; kind = d.kind; count = d.count; current = at; heads = d.heads })
+  pub moved-to : (at : Addr) (place : Option ℕ) → contains xs at.0 ≡ true → current_place (some_address at.0) os ≡ place → Moves place true best d (record { method = d.method; kind = d.kind; count = d.count; current = at; heads = d.heads })
   moved-to at place w e = record {
     moved = ap (λ p. with_place p (contents_in d best)) e;
     there = sym (ap is_some (sym e ∙ pointed-place by.rules d b at by.whole w));
@@ -57,7 +57,7 @@ module _ {I : Type 0} {V : I → Type 0} (best : Best I V) (d : Dict) (by : IsWh
   -- and where none is, it stays so
   pub moved-still : (f : Option ℕ → Option ℕ) → f None ≡ None → (d.current.0 == 0) ≡ true → Moves (f (contents_in d best).place) false best d d
   moved-still f stays none =
-      let is : (contents_in d best).place ≡ None = ap (λ t. place_of (if t then None else Some d.current.0) os) none in
+      let is : (contents_in d best).place ≡ None = ap (λ t. current_place (if t then None else Some d.current.0) os) none in
       record {
         moved = ap (λ p. with_place p (contents_in d best)) (is ∙ (sym stays ∙ sym (ap f is)));
         there = sym (ap is_some (ap f is ∙ stays));

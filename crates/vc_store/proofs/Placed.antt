@@ -5,7 +5,7 @@ use Rattle.vc_base.proofs.Lists.{slice_get-set}
 use Rattle.vc_dict.specs.declared.dict.Dict.{Dict}
 use Rattle.vc_store.specs.Stores.Copies.{of_kind}
 use Rattle.vc_store.specs.Stores.Loads.{HaveOwnKinds, with_kind}
-use Rattle.vc_store.specs.Stores.Places.{CanStand}
+use Rattle.vc_store.specs.Stores.Places.{CanStandAgain}
 use Rattle.vc_store.specs.Stores.Stores.{joined}
 use Rattle.vc_store.proofs.Here.{read-there}
 use Rattle.vc_store.proofs.Numbers.{at-below, length-put, set-other}
@@ -77,9 +77,9 @@ all-placed ds count left places was e =
     (subst HaveOwnKinds all was.own, λ n. was.placed n ∙ ap (with_kind (n + 1)) all)
 
 -- one more comes before them
-module _ (ds : List Dict) (count left i n : ℕ) (places : List (Option Dict)) (d : Dict) (was : Placed ds count left places) (next : left ≡ i + 1) (at : slice_get ds i ≡ Some d) (fit : AllByRecursion (CanStand count) ds) (place : n + 1 ≡ d.kind) where
-  stands : CanStand count d
-  stands = all-at (CanStand count) ds i d fit at
+module _ (ds : List Dict) (count left i n : ℕ) (places : List (Option Dict)) (d : Dict) (was : Placed ds count left places) (next : left ≡ i + 1) (at : slice_get ds i ≡ Some d) (fit : AllByRecursion (CanStandAgain count) ds) (place : n + 1 ≡ d.kind) where
+  stands : CanStandAgain count d
+  stands = all-at (CanStandAgain count) ds i d fit at
 
   pub place-there : n < length places
   place-there = let w = stands.within in let c = was.count in omega (arith, w, c, place)
@@ -132,7 +132,7 @@ module _ (ds : List Dict) (count left i n : ℕ) (places : List (Option Dict)) (
             ∙ (sym (not-first (m + 1) d (drop left ds) (λ e. ne (omega (arith, e, place)))) ∙ ap (with_kind (m + 1)) (sym more)))
 
 -- the dictionary before them, by the place of its kind
-module _ (ds : List Dict) (total left : ℕ) (places : List (Option Dict)) (other : Dict) (was : Placed ds total left places) (some : 0 < left) (fit : AllByRecursion (CanStand total) ds) where
+module _ (ds : List Dict) (total left : ℕ) (places : List (Option Dict)) (other : Dict) (was : Placed ds total left places) (some : 0 < left) (fit : AllByRecursion (CanStandAgain total) ds) where
   abbrev next : Dict
   next = get_or ds (left - 1) other
 
@@ -140,7 +140,7 @@ module _ (ds : List Dict) (total left : ℕ) (places : List (Option Dict)) (othe
   next-at = let low = was.left in slice_get-get_or ds (left - 1) other (omega (arith, low, some))
 
   its-place : (next.kind - 1) + 1 ≡ next.kind
-  its-place = let fits = (all-at (CanStand total) ds (left - 1) next fit next-at).some in omega (arith, fits)
+  its-place = let fits = (all-at (CanStandAgain total) ds (left - 1) next fit next-at).some in omega (arith, fits)
 
   before : left ≡ (left - 1) + 1
   before = omega (arith, some)

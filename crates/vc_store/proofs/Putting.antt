@@ -16,7 +16,7 @@ use Rattle.vc_objects.specs.Remove.{bytes_of}
 use Rattle.vc_objects.specs.declared.fate.Fate.{Fate}
 use Rattle.vc_objects.specs.declared.fate.Fate.TheVariants.{Stored, NoTable, NoHolder}
 use Rattle.vc_store.specs.declared.put.Put.{Put as Answer}
-use Rattle.vc_store.specs.Contents.{before_address, contents_of, place_of}
+use Rattle.vc_store.specs.Contents.{before_address, contents_of, current_place}
 use Rattle.vc_store.specs.Reading.{count_before, place_after, put_place}
 use Rattle.vc_store.specs.Tries.{TriesBy, told_as}
 use Rattle.vc_store.proofs.Places.{other-than}
@@ -78,7 +78,7 @@ key-placed rules o xs d =
 -- where a method puts it
 put-placed : (method : DictMethod) (rules : Rules) (current : Option ℕ) (o : Object) (xs : List Object)
     → AreDistinct (map address_of (inserted_among address_of objects.bytes_of method rules current o xs))
-    → before_address o.at (inserted_among address_of objects.bytes_of method rules current o xs) ≡ put_place method rules (place_of current xs) o.bytes (bytes_of xs)
+    → before_address o.at (inserted_among address_of objects.bytes_of method rules current o xs) ≡ put_place method rules (current_place current xs) o.bytes (bytes_of xs)
 put-placed DtSet rules current o xs d = last-placed o xs d
 put-placed DtBag rules current o xs d = last-placed o xs d
 put-placed DtOset rules current o xs d = key-placed rules o xs d
@@ -90,7 +90,7 @@ put-placed DtQueue rules current o xs d = last-placed o xs d
 
 -- the place of the current one, of a dictionary and by an object's fate
 abbrev place_in : Dictionary → Option ℕ
-place_in d = place_of d.current d.objects
+place_in d = current_place d.current d.objects
 
 abbrev place_by : Fate → Rules → List ℕ → Dictionary → Option ℕ
 place_by Stored rules bytes d = Some (put_place d.method rules (place_in d) bytes (bytes_of d.objects))

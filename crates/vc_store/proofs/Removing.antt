@@ -12,7 +12,7 @@ use Rattle.vc_dict.specs.Listed.{holders_of}
 use Rattle.vc_dict.specs.declared.dict.Dict.{Dict}
 use Rattle.vc_objects.specs.Remove.{bytes_of, remove, remove_found}
 use Rattle.vc_model.specs.Layout.{Layout}
-use Rattle.vc_store.specs.Contents.{before_address, place_of}
+use Rattle.vc_store.specs.Contents.{before_address, current_place}
 use Rattle.vc_store.specs.Reading.{count_before, place_without}
 use Rattle.vc_store.proofs.Places.{other-than}
 use Rattle.vc_store.proofs.Shown.{found-there, within-rest}
@@ -121,20 +121,20 @@ left-suc m n =
     ap (λ t. option_map (λ k. suc k) (if t then Some m else None)) (le-ltb m n more) ∙ sym (ap (λ t. if t then Some (suc m) else None) (le-ltb (suc m) (suc n) (omega (arith, more)))))
     (cases_lt m n)
 
-first-place : (xs : List Object) → place_of (option_map address_of (first_of xs)) xs ≡ if_left 0 (length xs)
+first-place : (xs : List Object) → current_place (option_map address_of (first_of xs)) xs ≡ if_left 0 (length xs)
 first-place [] = refl
 first-place (x ∷ xs) =
     ap Some (here-first x x.at xs refl) ∙ sym (ap (λ t. if t then Some 0 else None) (lt-ltb 0 (suc (length xs)) (omega arith)))
 
 under : (x : Object) (o : Option Object) (ys : List Object) → ((b : Object) → o ≡ Some b → x.at ≢ b.at)
-    → place_of (option_map address_of o) (x ∷ ys) ≡ option_map (λ k. suc k) (place_of (option_map address_of o) ys)
+    → current_place (option_map address_of o) (x ∷ ys) ≡ option_map (λ k. suc k) (current_place (option_map address_of o) ys)
 under x None ys apart = refl
 under x (Some b) ys apart = ap Some (here-behind x b.at ys (apart b refl))
 
 behind-place : (a : ℕ) (xs : List Object) → AreDistinct (ats xs) → contains (ats xs) a ≡ true
-    → place_of (option_map address_of (behind_object address_of a xs)) (without_object address_of a xs) ≡ if_left (before_address a xs) (length (without_object address_of a xs))
+    → current_place (option_map address_of (behind_object address_of a xs)) (without_object address_of a xs) ≡ if_left (before_address a xs) (length (without_object address_of a xs))
 behind-place a [] d w = absurd (true≢false (sym w))
-behind-place a (x ∷ xs) d w = elim (eqb_tells x.at a) as (λ _. place_of (option_map address_of (behind_object address_of a (x ∷ xs))) (without_object address_of a (x ∷ xs)) ≡ if_left (before_address a (x ∷ xs)) (length (without_object address_of a (x ∷ xs)))) [
+behind-place a (x ∷ xs) d w = elim (eqb_tells x.at a) as (λ _. current_place (option_map address_of (behind_object address_of a (x ∷ xs))) (without_object address_of a (x ∷ xs)) ≡ if_left (before_address a (x ∷ xs)) (length (without_object address_of a (x ∷ xs)))) [
   | inl same ↦ rw same.0 (first-place xs)
   | inr apart ↦
       rw apart.0
@@ -145,11 +145,11 @@ behind-place a (x ∷ xs) d w = elim (eqb_tells x.at a) as (λ _. place_of (opti
 
 -- the current one's place, where that one goes, and where another does
 own-place : (a : ℕ) (xs : List Object) → AreDistinct (ats xs) → contains (ats xs) a ≡ true
-    → place_of (current_without address_of a (Some a) xs) (without_object address_of a xs) ≡ place_without (before_address a xs) (length (without_object address_of a xs)) (Some (before_address a xs))
+    → current_place (current_without address_of a (Some a) xs) (without_object address_of a xs) ≡ place_without (before_address a xs) (length (without_object address_of a xs)) (Some (before_address a xs))
 own-place a xs d w =
     let n = before_address a xs in
     let left = length (without_object address_of a xs) in
-    ap (λ t. place_of (if t then option_map address_of (behind_object address_of a xs) else Some a) (without_object address_of a xs)) (eq-eqb a a refl)
+    ap (λ t. current_place (if t then option_map address_of (behind_object address_of a xs) else Some a) (without_object address_of a xs)) (eq-eqb a a refl)
     ∙ (behind-place a xs d w ∙ sym (ap (λ t. if t then Some (n - 1) else if_left n left) (le-ltb n n (omega arith))))
 
 other-place : (a c : ℕ) (xs : List Object) → c ≢ a → contains (ats xs) a ≡ true → contains (ats xs) c ≡ true
@@ -178,19 +178,19 @@ IsAmong None xs = Unit {0}
 IsAmong (Some c) xs = contains (ats xs) c ≡ true
 
 gone-place : (a : ℕ) (current : Option ℕ) (xs : List Object) → AreDistinct (ats xs) → contains (ats xs) a ≡ true → IsAmong current xs
-    → place_of (current_without address_of a current xs) (without_object address_of a xs) ≡ place_without (before_address a xs) (length (without_object address_of a xs)) (place_of current xs)
+    → current_place (current_without address_of a current xs) (without_object address_of a xs) ≡ place_without (before_address a xs) (length (without_object address_of a xs)) (current_place current xs)
 gone-place a None xs d w v = refl
-gone-place a (Some c) xs d w v = elim (eqb_tells c a) as (λ _. place_of (current_without address_of a (Some c) xs) (without_object address_of a xs) ≡ place_without (before_address a xs) (length (without_object address_of a xs)) (place_of (Some c) xs)) [
+gone-place a (Some c) xs d w v = elim (eqb_tells c a) as (λ _. current_place (current_without address_of a (Some c) xs) (without_object address_of a xs) ≡ place_without (before_address a xs) (length (without_object address_of a xs)) (current_place (Some c) xs)) [
   | inl same ↦
       subst
-      (λ z. place_of (current_without address_of a (Some z) xs) (without_object address_of a xs) ≡ place_without (before_address a xs) (length (without_object address_of a xs)) (Some (before_address z xs)))
+      (λ z. current_place (current_without address_of a (Some z) xs) (without_object address_of a xs) ≡ place_without (before_address a xs) (length (without_object address_of a xs)) (Some (before_address z xs)))
       (sym same.1) (own-place a xs d w)
   | inr apart ↦
-      ap (λ t. place_of (if t then option_map address_of (behind_object address_of a xs) else Some c) (without_object address_of a xs)) apart.0
+      ap (λ t. current_place (if t then option_map address_of (behind_object address_of a xs) else Some c) (without_object address_of a xs)) apart.0
       ∙ other-place a c xs apart.1 w v
 ]
 
-still-place : (current : Option ℕ) (xs : List Object) → IsAmong current xs → place_of current xs ≡ place_without (length xs) (length xs) (place_of current xs)
+still-place : (current : Option ℕ) (xs : List Object) → IsAmong current xs → current_place current xs ≡ place_without (length xs) (length xs) (current_place current xs)
 still-place None xs v = refl
 still-place (Some c) xs v =
     let n = before_address c xs in
@@ -225,20 +225,20 @@ module _ (rules : Rules) (key : List ℕ) (r : Layout ℕ) (d : Dictionary) (dis
   test = objects.has_key rules key
 
   found-placed : (o : Option Object) → find (λ x. test x.bytes) d.objects ≡ o
-      → place_of (remove_found r d o).dict.current (remove_found r d o).dict.objects
-      ≡ place_without (count_before test (bytes_of d.objects)) (length (bytes_of (remove_found r d o).dict.objects)) (place_of d.current d.objects)
+      → current_place (remove_found r d o).dict.current (remove_found r d o).dict.objects
+      ≡ place_without (count_before test (bytes_of d.objects)) (length (bytes_of (remove_found r d o).dict.objects)) (current_place d.current d.objects)
   found-placed None e =
       still-place d.current d.objects among
-      ∙ (ap (λ n. place_without n (length d.objects) (place_of d.current d.objects)) (none-counted test d.objects e)
-      ∙ ap (λ n. place_without (count_before test (bytes_of d.objects)) n (place_of d.current d.objects)) (sym (length-map d.objects objects.bytes_of)))
+      ∙ (ap (λ n. place_without n (length d.objects) (current_place d.current d.objects)) (none-counted test d.objects e)
+      ∙ ap (λ n. place_without (count_before test (bytes_of d.objects)) n (current_place d.current d.objects)) (sym (length-map d.objects objects.bytes_of)))
   found-placed (Some o) e =
       let ys = without_object address_of o.at d.objects in
       gone-place o.at d.current d.objects distinct (found-there (λ z. test z.bytes) d.objects o e) among
-      ∙ (ap (λ n. place_without n (length ys) (place_of d.current d.objects)) (found-counted test d.objects o distinct e)
-      ∙ ap (λ n. place_without (count_before test (bytes_of d.objects)) n (place_of d.current d.objects)) (sym (length-map ys objects.bytes_of)))
+      ∙ (ap (λ n. place_without n (length ys) (current_place d.current d.objects)) (found-counted test d.objects o distinct e)
+      ∙ ap (λ n. place_without (count_before test (bytes_of d.objects)) n (current_place d.current d.objects)) (sym (length-map ys objects.bytes_of)))
 
-  pub removed-placed : place_of (remove rules r d key).dict.current (remove rules r d key).dict.objects
-      ≡ place_without (count_before test (bytes_of d.objects)) (length (bytes_of (remove rules r d key).dict.objects)) (place_of d.current d.objects)
+  pub removed-placed : current_place (remove rules r d key).dict.current (remove rules r d key).dict.objects
+      ≡ place_without (count_before test (bytes_of d.objects)) (length (bytes_of (remove rules r d key).dict.objects)) (current_place d.current d.objects)
   removed-placed = found-placed (first_with objects.bytes_of rules key d.objects) refl
 
 among-by : (t : Bool) (c : ℕ) (xs : List Object) → (t ≡ false → contains (ats xs) c ≡ true) → IsAmong (if t then None else Some c) xs

@@ -17,17 +17,17 @@ use Rattle.vc_image_check.specs.Bytes.Contents as bytes
 use Rattle.vc_image_check.specs.Bytes.Header.{FitsRow}
 use Rattle.vc_image_check.specs.Bytes.Image as image
 use Rattle.vc_image_check.proofs.Writing.{read-again}
-use Rattle.vc_image_check.specs.Blocks.Blocks.{blocks_of}
+use Rattle.vc_image_check.specs.Blocks.Blocks.{image_blocks}
 use Rattle.vc_image.specs.Load as load
-use Rattle.vc_image.specs.Load.{dict_of}
-use Rattle.vc_image.specs.Save.{contents_in, row_of}
+use Rattle.vc_image.specs.Load.{dict_of_row}
+use Rattle.vc_image.specs.Save.{dict_row, image_contents}
 use Rattle.vc_image.proofs.Loads.{made-by}
 use Rattle.vc_image.proofs.Begun.{AreOfBest, are-segments, of-best, root-fits}
 use Rattle.vc_image.proofs.Joined.{cell-busy, numbered, rows-read}
 use Rattle.vc_image.proofs.Numbers.{row-fits}
 use Rattle.vc_image.proofs.Standing.{dict-back}
 use Rattle.vc_store.specs.Stores.Copies.{AreFew, copies_from, copies_of, image_of_store, of_kind}
-use Rattle.vc_store.specs.Stores.Loads.{shown_in, with_kind}
+use Rattle.vc_store.specs.Stores.Loads.{shown_of_image, with_kind}
 use Rattle.vc_store.specs.Stores.Stores.{IsOpen, dict_at, dicts_of, joined, shown}
 use Rattle.vc_store.specs.declared.stores.store.Store.{Store}
 use Rattle.vc_store.proofs.Copied.{Fit}
@@ -57,7 +57,7 @@ record Whole (cells : Blocks) (d : Dict) : Type 0 where
   whole : IsWhole rules d cells
 
 module _ (cells : Blocks) (small : (a : ℕ) → IsSome (cells a) → a < 2 ^ 32) where
-  rows-fit : (n : ℕ) (ds : List (Option Dict)) → ((k : ℕ) (d : Dict) → joined (slice_get ds k) ≡ Some d → Whole cells d) → Fit (copies_from n ds) → AllByRecursion FitsRow (map row_of (copies_from n ds))
+  rows-fit : (n : ℕ) (ds : List (Option Dict)) → ((k : ℕ) (d : Dict) → joined (slice_get ds k) ≡ Some d → Whole cells d) → Fit (copies_from n ds) → AllByRecursion FitsRow (map dict_row (copies_from n ds))
   rows-fit n [] each fit = tt
   rows-fit n (None ∷ ds) each fit = rows-fit (n + 1) ds (λ k d e. each (suc k) d e) fit
   rows-fit n (Some d ∷ ds) each fit =
@@ -66,14 +66,14 @@ module _ (cells : Blocks) (small : (a : ℕ) → IsSome (cells a) → a < 2 ^ 32
         rows-fit (n + 1) ds (λ k e at. each (suc k) e at) fit.1,
       )
 
-  all-back : (n : ℕ) (ds : List (Option Dict)) → ((k : ℕ) (d : Dict) → joined (slice_get ds k) ≡ Some d → Whole cells d) → map dict_of (map row_of (copies_from n ds)) ≡ copies_from n ds
+  all-back : (n : ℕ) (ds : List (Option Dict)) → ((k : ℕ) (d : Dict) → joined (slice_get ds k) ≡ Some d → Whole cells d) → map dict_of_row (map dict_row (copies_from n ds)) ≡ copies_from n ds
   all-back n [] each = refl
   all-back n (None ∷ ds) each = all-back (n + 1) ds (λ k d e. each (suc k) d e)
   all-back n (Some d ∷ ds) each =
       let w = each 0 d refl in
       let c : Dict = of_kind (n + 1) d in
       ap₂ (λ (x : Dict) (xs : List Dict). x ∷ xs)
-      (made-by (row_of c) c.method (numbered c.method) ∙ sym (dict-back w.rules c cells (copy-whole w.rules d cells w.whole (n + 1))))
+      (made-by (dict_row c) c.method (numbered c.method) ∙ sym (dict-back w.rules c cells (copy-whole w.rules d cells w.whole (n + 1))))
       (all-back (n + 1) ds (λ k e at. each (suc k) e at))
 
 -- no copy has a kind before those that are counted
@@ -110,8 +110,8 @@ module _ {D : Type 0} {I : Type 0} {V : I → Type 0} (rules_by : D → Rules) (
   each-whole : (k : ℕ) (d : Dict) → joined (slice_get (dicts_of s) k) ≡ Some d → Whole cells d
   each-whole k d at = record { rules = _; whole = is.whole k d at }
 
-  abbrev of : image.Contents
-  of = contents_in s.best (copies_of s)
+  abbrev of : image.ImageContents
+  of = image_contents s.best (copies_of s)
 
   best-is : AreOfBest s.best.extents.segs.items s.best.extents.index.items s.best.root.0
   best-is = of-best s.best
@@ -119,9 +119,9 @@ module _ {D : Type 0} {I : Type 0} {V : I → Type 0} (rules_by : D → Rules) (
   small : (a : ℕ) → IsSome (cells a) → a < 2 ^ 32
   small = cells-small s.best.extents.segs.items s.best.extents.index.items s.best.root.0 best-is
 
-  read : bytes.contents_of (image_of_store s) ≡ of
+  read : bytes.contents_of_image (image_of_store s) ≡ of
   read =
-      let long = length-map (copies_of s) row_of in
+      let long = length-map (copies_of s) dict_row in
       let most = few.count in
       read-again of (record {
         segments = are-segments s.best.extents.segs.items s.best.extents.index.items s.best.root.0 best-is;
@@ -131,16 +131,16 @@ module _ {D : Type 0} {I : Type 0} {V : I → Type 0} (rules_by : D → Rules) (
       })
 
   dicts : load.dicts_of (image_of_store s) ≡ copies_of s
-  dicts = ap (map dict_of) (rows-read (image_of_store s) of read) ∙ all-back cells small 0 (dicts_of s) each-whole
+  dicts = ap (map dict_of_row) (rows-read (image_of_store s) of read) ∙ all-back cells small 0 (dicts_of s) each-whole
 
-  blocks : blocks_of (image_of_store s) ≡ cells
-  blocks = ap (λ (c : image.Contents). cells_of (layout_by c.segs).blocks) read
+  blocks : image_blocks (image_of_store s) ≡ cells
+  blocks = ap (λ (c : image.ImageContents). cells_of (layout_by c.segs).blocks) read
 
   same-shown : (n : ℕ) (o : Option Dict) → dict_at s n ≡ o → option_map (λ d. contents_of (dictionary_of d cells)) (option_map (of_kind (n + 1)) o) ≡ option_map (λ d. contents_of (dictionary_of d cells)) o
   same-shown n None at = refl
   same-shown n (Some d) at = ap Some (copy-shown _ d cells (is.whole n d at) (n + 1))
 
-  pub returned : (n : ℕ) → shown_in (image_of_store s) n ≡ shown s n
+  pub returned : (n : ℕ) → shown_of_image (image_of_store s) n ≡ shown s n
   returned n =
       ap (λ (z : Blocks). option_map (λ d. contents_of (dictionary_of d z)) (with_kind (n + 1) (load.dicts_of (image_of_store s)))) blocks
       ∙ (ap (λ ds. option_map (λ d. contents_of (dictionary_of d cells)) (with_kind (n + 1) ds)) dicts

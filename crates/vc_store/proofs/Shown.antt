@@ -34,10 +34,10 @@ use Rattle.vc_objects.specs.Remove.{bytes_of, remove, remove_found}
 use Rattle.vc_objects.specs.declared.fate.Fate.{Fate}
 use Rattle.vc_objects.specs.declared.fate.Fate.TheVariants.{Stored, NoTable, NoHolder}
 use Rattle.vc_store.specs.declared.put.Put.{Put as Answer}
-use Rattle.vc_store.specs.Contents.{before_address, contents_in, contents_of, place_of, with_current}
+use Rattle.vc_store.specs.Contents.{before_address, contents_in, contents_of, current_place, with_holder_current}
 use Rattle.vc_store.specs.Reading as reading
-use Rattle.vc_store.specs.Reading.{AfterPut, Sought, current, found, has_match, is_from, is_object, put_at, put_by, with_place, without_key}
-use Rattle.vc_store.specs.Tries.{Tries, TriesBy, told_as}
+use Rattle.vc_store.specs.Reading.{AfterPut, Sought, current, found, has_same_key, is_object, is_sought_from, put_before_place, put_by_method, with_place, without_key}
+use Rattle.vc_store.specs.Tries.{TriesBy, TriesToPut, told_as}
 use Rattle.vc_store.proofs.Places.{object-placed, place, place-told}
 
 -- where an object stands before another one in a list of them
@@ -56,13 +56,13 @@ before-shown at o (x ∷ xs) =
 last-shown : (o : Object) (xs : List Object) → bytes_of (xs ++ o ∷ []) ≡ bytes_of xs ++ o.bytes ∷ []
 last-shown o xs = map-append objects.bytes_of xs (o ∷ [])
 
-at-shown : (current : Option ℕ) (o : Object) (xs : List Object) → bytes_of (objects.put_before_current address_of current o xs) ≡ put_at (place_of current xs) o.bytes (bytes_of xs)
+at-shown : (current : Option ℕ) (o : Object) (xs : List Object) → bytes_of (objects.put_before_current address_of current o xs) ≡ put_before_place (current_place current xs) o.bytes (bytes_of xs)
 at-shown None o xs = refl
 at-shown (Some at) o xs = before-shown at o xs
 
 -- an object that a method puts among others
 pub put-shown : (method : DictMethod) (rules : Rules) (current : Option ℕ) (o : Object) (xs : List Object)
-    → bytes_of (inserted_among address_of objects.bytes_of method rules current o xs) ≡ put_by method rules (place_of current xs) o.bytes (bytes_of xs)
+    → bytes_of (inserted_among address_of objects.bytes_of method rules current o xs) ≡ put_by_method method rules (current_place current xs) o.bytes (bytes_of xs)
 put-shown DtSet rules current o xs = last-shown o xs
 put-shown DtBag rules current o xs = last-shown o xs
 put-shown DtOset rules current o xs = sym (placed_among-map objects.bytes_of (λ b. b) rules o xs)
@@ -87,7 +87,7 @@ grown-same terms r d refused (Some slots) R E h = by (alloc_unlabelled terms r 0
 
 -- what an object's fate says of the objects: stored it stands among them, and else they stay
 abbrev pub AfterFate : Fate → Rules → List ℕ → Dictionary → Dictionary → Type 0
-AfterFate Stored rules bytes d D = bytes_of D.objects ≡ put_by d.method rules (place_of d.current d.objects) bytes (bytes_of d.objects)
+AfterFate Stored rules bytes d D = bytes_of D.objects ≡ put_by_method d.method rules (current_place d.current d.objects) bytes (bytes_of d.objects)
 AfterFate (NoTable want) rules bytes d D = bytes_of D.objects ≡ bytes_of d.objects
 AfterFate (NoHolder want) rules bytes d D = bytes_of D.objects ≡ bytes_of d.objects
 
@@ -95,10 +95,10 @@ module _ (rules : Rules) (terms : Terms) (r : Layout ℕ) (d : Dictionary) (byte
   holder-shown : (g : Grown ℕ) (o : Outcome (Put (Layout ℕ))) (R : Layout ℕ) (D : Dictionary) (fate : Fate) → g.dict ≡ record d { table = g.dict.table }
       → GivesInserted (insert_of rules false bytes g o) R D fate → AfterFate fate rules bytes d D × (D.method ≡ d.method)
   holder-shown g (Done p) R D fate same h =
-      let stored : bytes_of (with_object rules false bytes g.dict (address p.at)).objects ≡ put_by g.dict.method rules (place_of g.dict.current g.dict.objects) bytes (bytes_of g.dict.objects)
+      let stored : bytes_of (with_object rules false bytes g.dict (address p.at)).objects ≡ put_by_method g.dict.method rules (current_place g.dict.current g.dict.objects) bytes (bytes_of g.dict.objects)
       = put-shown g.dict.method rules g.dict.current (record { at = address p.at; bytes = bytes }) g.dict.objects in
-      let here : bytes_of D.objects ≡ put_by g.dict.method rules (place_of g.dict.current g.dict.objects) bytes (bytes_of g.dict.objects) = ap (λ (e : Dictionary). bytes_of e.objects) (sym h.dict) ∙ stored in
-      let now : AfterFate Stored rules bytes d D = subst (λ (e : Dictionary). bytes_of D.objects ≡ put_by e.method rules (place_of e.current e.objects) bytes (bytes_of e.objects)) same here in
+      let here : bytes_of D.objects ≡ put_by_method g.dict.method rules (current_place g.dict.current g.dict.objects) bytes (bytes_of g.dict.objects) = ap (λ (e : Dictionary). bytes_of e.objects) (sym h.dict) ∙ stored in
+      let now : AfterFate Stored rules bytes d D = subst (λ (e : Dictionary). bytes_of D.objects ≡ put_by_method e.method rules (current_place e.current e.objects) bytes (bytes_of e.objects)) same here in
       (subst (λ f. AfterFate f rules bytes d D) h.fate now, ap (λ (e : Dictionary). e.method) (sym h.dict) ∙ ap (λ (e : Dictionary). e.method) same)
   holder-shown g (Refused why) R D fate same h =
       let now : bytes_of D.objects ≡ bytes_of d.objects = ap (λ (e : Dictionary). bytes_of e.objects) (sym h.dict ∙ same) in
@@ -127,7 +127,7 @@ module _ (rules : Rules) (terms : Terms) (r : Layout ℕ) (d : Dictionary) (byte
       h
 
 -- what becomes of the objects where one was tried that none of a set matches
-module _ (rules : Rules) (object : List ℕ) (old new : Discipline) (r r' : Layout ℕ) (d d' : Dictionary) (is : is_object object ≡ true) (lone : has_match rules object (contents_of d) ≡ false) where
+module _ (rules : Rules) (object : List ℕ) (old new : Discipline) (r r' : Layout ℕ) (d d' : Dictionary) (is : is_object object ≡ true) (lone : has_same_key rules object (contents_of d) ≡ false) where
   fates : (fate : Result Fate OutOfMemory) (answer : Answer) → told_as fate ≡ answer → IfOk fate (λ f. GivesInserted (insert rules old.terms r 0 d false object (no_table f) (no_holder f)) r' d' f)
       → OnErr fate (IsHalted (grow old.terms r 0 d false) r d r' d') → AfterPut answer rules object (contents_of d) (bytes_of d'.objects) × (d'.method ≡ d.method)
   fates (Ok Stored) answer e ok err =
@@ -187,13 +187,13 @@ module _ (rules : Rules) (d : Dict) (b : Blocks) (at : Addr) (whole : IsWhole ru
     | inr apart ↦ rw apart.0 refl
   ]
 
-  pub pointed-place : place_of (some_address at.0) (dictionary_of d b).objects ≡ Some (place at.0 (holders_of d b))
+  pub pointed-place : current_place (some_address at.0) (dictionary_of d b).objects ≡ Some (place at.0 (holders_of d b))
   pointed-place =
-      ap (λ c. place_of c (dictionary_of d b).objects) pointed-address ∙ ap Some (place-told b at.0 (holders_of d b))
+      ap (λ c. current_place c (dictionary_of d b).objects) pointed-address ∙ ap Some (place-told b at.0 (holders_of d b))
 
   pub pointed-shown : current (contents_of (dictionary_of pointed b)) ≡ Some (object_at b at.0)
   pointed-shown =
-      ap (λ p. reading.object_at p (bytes_of (dictionary_of d b).objects)) pointed-place ∙ object-placed b (holders_of d b) at.0 w
+      ap (λ p. reading.object_at_index p (bytes_of (dictionary_of d b).objects)) pointed-place ∙ object-placed b (holders_of d b) at.0 w
 
 -- the one that is found
 seek-within : (test : List ℕ → Bool) (d : Dict) (b : Blocks) (at : Addr) → Some at.0 ≡ option_map address_of (find (λ o. test o.bytes) (dictionary_of d b).objects)
@@ -225,21 +225,21 @@ module _ {I : Type 0} {V : I → Type 0} (meaning : (x : I) × V x → Disciplin
   here at e = e ∙ ap (λ (os : List Object). option_map address_of (find (λ o. test o.bytes) os)) (sym same-objects)
 
   seen-current : (at : Option Addr) → option_map number_of at ≡ option_map address_of (find (λ o. test o.bytes) (dictionary_in old before).objects)
-      → is_some at ≡ true → current (contents_in (with_current at d) after) ≡ find test (contents_in old before).objects
+      → is_some at ≡ true → current (contents_in (with_holder_current at d) after) ≡ find test (contents_in old before).objects
   seen-current None e there = absurd (true≢false (sym there))
   seen-current (Some at) e there =
       seek-shown rules test d (cells_in after) at looks.leaves.whole (here at e)
       ∙ ap (λ (os : List Object). find test (bytes_of os)) same-objects
 
-  seen-same : (at : Option Addr) → contents_in (with_current at d) after ≡ with_place (contents_in (with_current at d) after).place (contents_in old before)
+  seen-same : (at : Option Addr) → contents_in (with_holder_current at d) after ≡ with_place (contents_in (with_holder_current at d) after).place (contents_in old before)
   seen-same None = ap (λ (c : Dictionary). with_place (contents_in d after).place (contents_of c)) looks.dict
-  seen-same (Some at) = ap (λ (c : Dictionary). with_place (contents_in (with_current (Some at) d) after).place (contents_of c)) looks.dict
+  seen-same (Some at) = ap (λ (c : Dictionary). with_place (contents_in (with_holder_current (Some at) d) after).place (contents_of c)) looks.dict
 
-  seen-missed : (at : Option Addr) → is_some at ≡ false → contents_in (with_current at d) after ≡ contents_in old before
+  seen-missed : (at : Option Addr) → is_some at ≡ false → contents_in (with_holder_current at d) after ≡ contents_in old before
   seen-missed None e = ap contents_of looks.dict
   seen-missed (Some at) e = absurd (true≢false e)
 
-  module _ (at : Option Addr) (e : option_map number_of at ≡ option_map address_of (find (λ o. test o.bytes) (dictionary_in old before).objects)) (new : Dict) (shown : new ≡ with_current at d) where
+  module _ (at : Option Addr) (e : option_map number_of at ≡ option_map address_of (find (λ o. test o.bytes) (dictionary_in old before).objects)) (new : Dict) (shown : new ≡ with_holder_current at d) where
     pub seen : (answer : Bool) → answer ≡ is_some at → Sought test answer (contents_in old before) (contents_in new after)
     seen answer is = subst (λ (z : Dict). Sought test answer (contents_in old before) (contents_in z after)) (sym shown) record {
       there = is ∙ found-some test (dictionary_in old before).objects at e;
@@ -252,7 +252,7 @@ module _ {I : Type 0} {V : I → Type 0} (meaning : (x : I) × V x → Disciplin
     seen-leaves = subst (λ (z : Dict). LeavesRest meaning rules before old after z) (sym shown) (by at e)
       where
         by : (at : Option Addr) → option_map number_of at ≡ option_map address_of (find (λ o. test o.bytes) (dictionary_in old before).objects)
-            → LeavesRest meaning rules before old after (with_current at d)
+            → LeavesRest meaning rules before old after (with_holder_current at d)
         by None e = looks.leaves
         by (Some at) e = pointed-leaves meaning rules before after old d at looks.leaves (seek-within test d (cells_in after) at (here at e))
 
@@ -262,10 +262,10 @@ find-none [] = refl
 find-none (x ∷ xs) = find-none xs
 
 module _ {A : Type 0} (method : DictMethod) (rules : Rules) (key : List ℕ) (bytes : A → List ℕ) (xs : List A) where
-  pub from-ordered : is_ordered method ≡ true → find (λ x. is_from method rules key (bytes x)) xs ≡ find (λ x. is_ge (rules.compare (rules.key (bytes x)) key)) xs
+  pub from-ordered : is_ordered method ≡ true → find (λ x. is_sought_from method rules key (bytes x)) xs ≡ find (λ x. is_ge (rules.compare (rules.key (bytes x)) key)) xs
   from-ordered e = ap (λ t. find (λ x. t && is_ge (rules.compare (rules.key (bytes x)) key)) xs) e
 
-  pub from-none : is_ordered method ≡ false → find (λ x. is_from method rules key (bytes x)) xs ≡ None
+  pub from-none : is_ordered method ≡ false → find (λ x. is_sought_from method rules key (bytes x)) xs ≡ None
   from-none e = ap (λ t. find (λ x. t && is_ge (rules.compare (rules.key (bytes x)) key)) xs) e ∙ find-none xs
 
 -- without the first object that has a key

@@ -15,19 +15,19 @@ before_address at [] = 0
 before_address at (o ∷ objects) = if o.at == at then 0 else suc (before_address at objects)
 
 -- the place of the current one
-abbrev pub place_of : Option ℕ → List Object → Option ℕ
-place_of None objects = None
-place_of (Some at) objects = Some (before_address at objects)
+abbrev pub current_place : Option ℕ → List Object → Option ℕ
+current_place None objects = None
+current_place (Some at) objects = Some (before_address at objects)
 
 abbrev pub contents_of : Dictionary → Contents
 contents_of d =
-    record { method = d.method; objects = bytes_of d.objects; place = place_of d.current d.objects }
+    record { method = d.method; objects = bytes_of d.objects; place = current_place d.current d.objects }
 
 abbrev pub contents_in : {I : Type 0} {V : I → Type 0} → Dict → Best I V → Contents
 contents_in dict best = contents_of (dictionary_in dict best)
 
 -- with the object of a holder current, where there is one
-abbrev pub with_current : Option Addr → Dict → Dict
-with_current None dict = dict
-with_current (Some at) dict =
+abbrev pub with_holder_current : Option Addr → Dict → Dict
+with_holder_current None dict = dict
+with_holder_current (Some at) dict =
     record { method = dict.method; kind = dict.kind; count = dict.count; current = at; heads = dict.heads }

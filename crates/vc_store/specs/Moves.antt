@@ -11,7 +11,7 @@ use Rattle.vc_store.specs.Contents.{contents_in}
 use Rattle.vc_store.specs.Reading.{with_place}
 
 -- a dictionary is whole by some kind's rules
-pub record IsWholeBy (dict : Dict) (blocks : Blocks) : Type 0 where
+pub record IsWholeBySome (dict : Dict) (blocks : Blocks) : Type 0 where
   pub rules : Rules
   pub whole : IsWhole rules dict blocks
 

@@ -18,19 +18,19 @@ pub record Contents : Type 0 where
   pub place : Option ℕ
 
 -- the object at a place, and the current one
-abbrev pub object_at : Option ℕ → List (List ℕ) → Option (List ℕ)
-object_at None objects = None
-object_at (Some place) objects = slice_get objects place
+abbrev pub object_at_index : Option ℕ → List (List ℕ) → Option (List ℕ)
+object_at_index None objects = None
+object_at_index (Some place) objects = slice_get objects place
 
 abbrev pub current : Contents → Option (List ℕ)
-current d = object_at d.place d.objects
+current d = object_at_index d.place d.objects
 
 -- the first place among so many objects, the last, the one behind another, and the one before it
 abbrev pub first_place : ℕ → Option ℕ
 first_place count = if count == 0 then None else Some 0
 
-abbrev pub last_place : ℕ → Option ℕ
-last_place count = if count == 0 then None else Some (count - 1)
+abbrev pub last_index : ℕ → Option ℕ
+last_index count = if count == 0 then None else Some (count - 1)
 
 abbrev pub next_place : ℕ → Option ℕ → Option ℕ
 next_place count None = None
@@ -53,8 +53,8 @@ abbrev pub found : Rules → List ℕ → List (List ℕ) → Option (List ℕ)
 found rules key objects = first_with (λ object. object) rules key objects
 
 -- whether an object is sought from a key on: by an ordered method, where its key isn't less
-abbrev pub is_from : DictMethod → Rules → List ℕ → List ℕ → Bool
-is_from method rules key object = is_ordered method && is_ge (rules.compare (rules.key object) key)
+abbrev pub is_sought_from : DictMethod → Rules → List ℕ → List ℕ → Bool
+is_sought_from method rules key object = is_ordered method && is_ge (rules.compare (rules.key object) key)
 
 -- the first object that passes a test is current now, where there is one; else nothing changed
 pub record Sought (test : List ℕ → Bool) (answer : Bool) (old new : Contents) : Type 0 where
@@ -68,19 +68,19 @@ abbrev pub without_key : Rules → List ℕ → List (List ℕ) → List (List �
 without_key rules key objects = without_first (has_key rules key) objects
 
 -- objects with one more directly before a place, or first where there is none
-abbrev pub put_at : Option ℕ → List ℕ → List (List ℕ) → List (List ℕ)
-put_at None object objects = object ∷ objects
-put_at (Some place) object objects = take place objects ++ object ∷ drop place objects
+abbrev pub put_before_place : Option ℕ → List ℕ → List (List ℕ) → List (List ℕ)
+put_before_place None object objects = object ∷ objects
+put_before_place (Some place) object objects = take place objects ++ object ∷ drop place objects
 
 -- objects with one more where a method puts it: before the first that is greater, in a list before the current one, in a stack first, and else last
-abbrev pub put_by : DictMethod → Rules → Option ℕ → List ℕ → List (List ℕ) → List (List ℕ)
-put_by DtSet rules place object objects = objects ++ object ∷ []
-put_by DtBag rules place object objects = objects ++ object ∷ []
-put_by DtOset rules place object objects = placed_among (λ o. o) rules object objects
-put_by DtObag rules place object objects = placed_among (λ o. o) rules object objects
-put_by DtList rules place object objects = put_at place object objects
-put_by DtStack rules place object objects = object ∷ objects
-put_by DtQueue rules place object objects = objects ++ object ∷ []
+abbrev pub put_by_method : DictMethod → Rules → Option ℕ → List ℕ → List (List ℕ) → List (List ℕ)
+put_by_method DtSet rules place object objects = objects ++ object ∷ []
+put_by_method DtBag rules place object objects = objects ++ object ∷ []
+put_by_method DtOset rules place object objects = placed_among (λ o. o) rules object objects
+put_by_method DtObag rules place object objects = placed_among (λ o. o) rules object objects
+put_by_method DtList rules place object objects = put_before_place place object objects
+put_by_method DtStack rules place object objects = object ∷ objects
+put_by_method DtQueue rules place object objects = objects ++ object ∷ []
 
 -- how many stand before the first that passes a test
 abbrev pub count_before : {A : Type 0} → (A → Bool) → List A → ℕ
@@ -98,19 +98,19 @@ put_place DtStack rules place object objects = 0
 put_place DtQueue rules place object objects = length objects
 
 -- whether one of a set's objects has the key of another one
-abbrev pub has_match : Rules → List ℕ → Contents → Bool
-has_match rules object d = is_set d.method && is_some (found rules (rules.key object) d.objects)
+abbrev pub has_same_key : Rules → List ℕ → Contents → Bool
+has_same_key rules object d = is_set d.method && is_some (found rules (rules.key object) d.objects)
 
 -- an object is put where it is one and none of a set's matches it, or it isn't for want of room; else nothing changes
 abbrev pub AfterPut : Put → Rules → List ℕ → Contents → List (List ℕ) → Type 0
 AfterPut put.WrongSize rules object d objects = (is_object object ≡ false) × (objects ≡ d.objects)
 AfterPut put.Old rules object d objects =
-    (is_object object ≡ true) × (has_match rules object d ≡ true) × (objects ≡ d.objects)
+    (is_object object ≡ true) × (has_same_key rules object d ≡ true) × (objects ≡ d.objects)
 AfterPut put.New rules object d objects =
-    (is_object object ≡ true) × (has_match rules object d ≡ false)
-    × (objects ≡ put_by d.method rules d.place object d.objects)
+    (is_object object ≡ true) × (has_same_key rules object d ≡ false)
+    × (objects ≡ put_by_method d.method rules d.place object d.objects)
 AfterPut no_room rules object d objects =
-    (is_object object ≡ true) × (has_match rules object d ≡ false) × (objects ≡ d.objects)
+    (is_object object ≡ true) × (has_same_key rules object d ≡ false) × (objects ≡ d.objects)
 
 -- the current place once an object was to be put: its own where it is new, and else the one before
 abbrev pub place_after : Put → Rules → List ℕ → Contents → Option ℕ
@@ -128,6 +128,6 @@ place_without gone left (Some place) =
     if nat_lt gone place then Some (place - 1) else if nat_lt place left then Some place else None
 
 -- an object went: the first that has a key, where one has it
-pub record LacksKey (rules : Rules) (key : List ℕ) (old new : Contents) : Type 0 where
+pub record LosesKey (rules : Rules) (key : List ℕ) (old new : Contents) : Type 0 where
   pub objects : new.objects ≡ without_key rules key old.objects
   pub place : new.place ≡ place_without (found_place rules key old.objects) (length new.objects) old.place

@@ -25,9 +25,9 @@ told_as (Ok (NoHolder want)) = put.NoSegment
 told_as (Err why) = put.OutOfMemory
 
 -- so where one of a set may match it: then nothing becomes of it
-abbrev pub told_by : Option (Result Fate OutOfMemory) → Put
-told_by None = put.Old
-told_by (Some fate) = told_as fate
+abbrev pub told_put : Option (Result Fate OutOfMemory) → Put
+told_put None = put.Old
+told_put (Some fate) = told_as fate
 
 -- an object was put into a dictionary of a region, or what it wants was refused: the table grows first where it must, then comes the holder, each by the region's rules
 pub record TriesBy (answer : Put) (rules : Rules) (object : List ℕ)
@@ -40,9 +40,9 @@ pub record TriesBy (answer : Put) (rules : Rules) (object : List ℕ)
   pub err : OnErr fate (IsHalted (grow old.terms r 0 d false) r d r' d')
   pub asked : AskedForObject fate (slots_wanted d) object old new
 
-abbrev pub Tries : {I : Type 0} {V : I → Type 0} → ((x : I) × V x → Discipline)
+abbrev pub TriesToPut : {I : Type 0} {V : I → Type 0} → ((x : I) × V x → Discipline)
     → Put → Rules → List ℕ → Best I V → Dict → Best I V → Dict → Type 0
-Tries meaning answer rules object before old after new =
+TriesToPut meaning answer rules object before old after new =
     TriesBy answer rules object
     (disc_in meaning before) (rest_in before) (dictionary_in old before)
     (disc_in meaning after) (rest_in after) (dictionary_in new after)

@@ -7,9 +7,9 @@ ghost use Rattle.vc_best.specs.Parts.{disc_in};
 ghost use Rattle.vc_objects.specs.Leaves.{Looks, LeavesRest, told_if};
 ghost use Rattle.vc_objects.specs.Parts.{IsWhole, dictionary_in};
 ghost use Rattle.vc_objects.specs.Promises.{CanAsk};
-ghost use Rattle.vc_store.specs.Contents.{contents_in, with_current};
-ghost use Rattle.vc_store.specs.Reading.{AfterPut, LacksKey, Sought, found, is_from, is_object, place_after};
-ghost use Rattle.vc_store.specs.Tries.{IsTried, Tries, told_by};
+ghost use Rattle.vc_store.specs.Contents.{contents_in, with_holder_current};
+ghost use Rattle.vc_store.specs.Reading.{AfterPut, LosesKey, Sought, found, is_object, is_sought_from, place_after};
+ghost use Rattle.vc_store.specs.Tries.{IsTried, TriesToPut, told_put};
 
 use crate::put::Put;
 use vc_base::{Addr, OutOfMemory, Steps};
@@ -31,7 +31,7 @@ fn is_object(bytes: &[u8]) -> bool
 
 // The answer to an object, by what became of it: none where one of a set matches it.
 fn told_by(fate: Option<Result<Fate, OutOfMemory>>) -> Put
-    ensures { result ≡ told_by fate }
+    ensures { result ≡ told_put fate }
 {
     match fate {
         None => Put::Old,
@@ -50,7 +50,7 @@ pub fn put<D: DictDisc>(best: &mut Best, dict: &mut Dict, kind: &D, object: &[u8
     ensures place { (contents_in dict.new best.new).place ≡ place_after result
         (D.rules kind.now) object.now (contents_in dict.old best.old) }
     ensures method { dict.new.method ≡ dict.old.method }
-    ensures tried { IsTried result (Tries state result (D.rules kind.now) object.now
+    ensures tried { IsTried result (TriesToPut state result (D.rules kind.now) object.now
         best.old dict.old best.new dict.new) }
     ensures leaves { LeavesRest state (D.rules kind.now) best.old dict.old best.new dict.new }
 {
@@ -64,7 +64,7 @@ pub fn put<D: DictDisc>(best: &mut Best, dict: &mut Dict, kind: &D, object: &[u8
 // Makes the object of a holder current, and answers whether there is one.
 fn show(dict: &mut Dict, at: Option<Addr>) -> bool
     ensures there { result ≡ is_some at }
-    ensures dict { dict.new ≡ with_current at dict.old }
+    ensures dict { dict.new ≡ with_holder_current at dict.old }
 {
     match at {
         Some(at) => {
@@ -93,7 +93,7 @@ pub fn seek<D: DictDisc>(best: &mut Best, dict: &mut Dict, kind: &D, key: &[u8])
 fn least<D: DictDisc>(best: &mut Best, dict: &mut Dict, kind: &D, key: &[u8]) -> Option<Addr>
     requires whole { IsWhole (D.rules kind.now) dict.old (cells_in best.old) }
     ensures found { option_map number_of result ≡ option_map address_of
-        (find (λ o. is_from dict.old.method (D.rules kind.now) key.now o.bytes)
+        (find (λ o. is_sought_from dict.old.method (D.rules kind.now) key.now o.bytes)
         (dictionary_in dict.old best.old).objects) }
     ensures looks { Looks state (D.rules kind.now) best.old dict.old best.new dict.new }
 {
@@ -109,7 +109,7 @@ fn least<D: DictDisc>(best: &mut Best, dict: &mut Dict, kind: &D, key: &[u8]) ->
 pub fn seek_from<D: DictDisc>(best: &mut Best, dict: &mut Dict, kind: &D, key: &[u8]) -> bool
     requires whole { IsWhole (D.rules kind.now) dict.old (cells_in best.old) }
 
-    ensures sought { Sought (is_from dict.old.method (D.rules kind.now) key.now) result
+    ensures sought { Sought (is_sought_from dict.old.method (D.rules kind.now) key.now) result
         (contents_in dict.old best.old) (contents_in dict.new best.new) }
     ensures disc { disc_in state best.new ≡ disc_in state best.old }
     ensures leaves { LeavesRest state (D.rules kind.now) best.old dict.old best.new dict.new }
@@ -131,7 +131,7 @@ pub fn take<D: DictDisc>(
 
     ensures found { IfOk result (λ gone. (if gone then Some out.new.items else None)
         ≡ found (D.rules kind.old) key.now (contents_in dict.old best.old).objects) }
-    ensures lacks { OnOk result (LacksKey (D.rules kind.old) key.now (contents_in dict.old best.old)
+    ensures lacks { OnOk result (LosesKey (D.rules kind.old) key.now (contents_in dict.old best.old)
         (contents_in dict.new best.new)) }
     ensures gone { IfOk result (λ gone. D.gone kind.new
         ≡ told_if gone (Some out.new.items) (D.gone kind.old)) }

@@ -28,8 +28,8 @@ impl<D: DictDisc + Drop> Collection<D> {
     ghost use Rattle.vc_best.specs.Parts.{disc_in, layout_of, segments_in};
     ghost use Rattle.vc_objects.specs.Leaves.{KeepsDisc, told_each, told_if};
     ghost use Rattle.vc_objects.specs.Promises.{StaysAll, opening_in};
-    ghost use Rattle.vc_store.specs.Reading.{AfterPut, LacksKey, Sought, current, first_place, found, is_from, last_place, next_place, place_after, previous_place, with_place};
-    ghost use Rattle.vc_store.specs.Tries.{IsTried, Tries};
+    ghost use Rattle.vc_store.specs.Reading.{AfterPut, LosesKey, Sought, current, first_place, found, is_sought_from, last_index, next_place, place_after, previous_place, with_place};
+    ghost use Rattle.vc_store.specs.Tries.{IsTried, TriesToPut};
     ghost use Rattle.vc_store.specs.Collections.{IsOpen, StaysOpen, best_of, contents, dict_of, disc_of, kind_of, lender, lent_to};
 
     /// A collection of no objects by a method, of a kind, in a best region, which is the collection's from then on. The
@@ -69,7 +69,7 @@ impl<D: DictDisc + Drop> Collection<D> {
         ensures stays { StaysOpen state D.rules self.old self.new }
 
         // The region's rules say when an object is refused for want of room.
-        ensures tried { IsTried result (Tries state result (D.rules (kind_of self.old)) object.now
+        ensures tried { IsTried result (TriesToPut state result (D.rules (kind_of self.old)) object.now
             (best_of self.old) (dict_of self.old) (best_of self.new) (dict_of self.new)) }
     {
         put(&mut self.best, &mut self.dict, &self.kind, object)
@@ -90,7 +90,7 @@ impl<D: DictDisc + Drop> Collection<D> {
     /// nothing changes; and there is one in an ordered set or bag alone.
     pub fn at_least(&mut self, key: &[u8]) -> bool
         requires open { IsOpen (D.rules (kind_of self.old)) self.old (disc_of self.old state) }
-        ensures sought { Sought (is_from (contents self.old).method
+        ensures sought { Sought (is_sought_from (contents self.old).method
             (D.rules (kind_of self.old)) key.now) result (contents self.old) (contents self.new) }
         ensures kind { kind_of self.new ≡ kind_of self.old }
         ensures stays { StaysOpen state D.rules self.old self.new }
@@ -114,7 +114,7 @@ impl<D: DictDisc + Drop> Collection<D> {
     pub fn last(&mut self) -> bool
         requires open { IsOpen (D.rules (kind_of self.old)) self.old (disc_of self.old state) }
         ensures moved { contents self.new ≡ with_place
-            (last_place (length (contents self.old).objects)) (contents self.old) }
+            (last_index (length (contents self.old).objects)) (contents self.old) }
         ensures there { result ≡ is_some (contents self.new).place }
         ensures kind { kind_of self.new ≡ kind_of self.old }
         ensures stays { StaysOpen state D.rules self.old self.new }
@@ -169,7 +169,7 @@ impl<D: DictDisc + Drop> Collection<D> {
         requires open { IsOpen (D.rules (kind_of self.old)) self.old (disc_of self.old state) }
         ensures found { IfOk result (λ gone. (if gone then Some out.new.items else None)
             ≡ found (D.rules (kind_of self.old)) key.now (contents self.old).objects) }
-        ensures lacks { OnOk result (LacksKey (D.rules (kind_of self.old)) key.now
+        ensures lacks { OnOk result (LosesKey (D.rules (kind_of self.old)) key.now
             (contents self.old) (contents self.new)) }
         ensures told { IfOk result (λ gone. D.gone (kind_of self.new)
             ≡ told_if gone (Some out.new.items) (D.gone (kind_of self.old))) }

@@ -3,21 +3,21 @@ use Rattle.vc_base.proofs.Common.{◌≡◌, ◌+◌, List, [], ◌∷◌, ◌++
 use Rattle.vc_model.specs.Pool.{empty_pool}
 use Rattle.vc_pool.specs.Parts.{pool_of}
 use Rattle.vc_pool.specs.declared.pool.Pool.{Pool}
-use Rattle.vc_ways.specs.Answer.{Holding, IsLent}
+use Rattle.vc_ways.specs.Answer.{HasOwnSegmentsOut, Holding}
 use Rattle.vc_ways.specs.Lends.{HasOpened, Lends, Opens}
 use Rattle.vc_ways.specs.PoolParts.{holding_in, holdings, pools_of}
 use Rattle.vc_ways.specs.Settled.{AreTaken}
 use Rattle.vc_ways.proofs.Loans.{are-taken}
 
 -- with no segment there is none to be lent
-pub lent-none : (h : Holding) → h.segments ≡ [] → IsLent h
+pub lent-none : (h : Holding) → h.segments ≡ [] → HasOwnSegmentsOut h
 lent-none h e = (h.disc.out, sym (ap (λ ss. h.disc.out ++ ss) e ∙ append-nil h.disc.out))
 
 module _ {I : Type 0} {V : I → Type 0} (meaning : (x : I) × V x → Discipline) where
-  pub empty-lent : (pools : List (Pool I V)) → All (λ p. pool_of p ≡ empty_pool) pools → All IsLent (holdings meaning pools)
-  empty-lent [] h = All-nil IsLent
+  pub empty-lent : (pools : List (Pool I V)) → All (λ p. pool_of p ≡ empty_pool) pools → All HasOwnSegmentsOut (holdings meaning pools)
+  empty-lent [] h = All-nil HasOwnSegmentsOut
   empty-lent (p ∷ pools) h =
-      All-cons IsLent (holding_in meaning p) (holdings meaning pools) (lent-none (holding_in meaning p) (ap (λ q. q.layout.segments) (All-head (λ p. pool_of p ≡ empty_pool) p pools h)))
+      All-cons HasOwnSegmentsOut (holding_in meaning p) (holdings meaning pools) (lent-none (holding_in meaning p) (ap (λ q. q.layout.segments) (All-head (λ p. pool_of p ≡ empty_pool) p pools h)))
       (empty-lent pools (All-tail (λ p. pool_of p ≡ empty_pool) p pools h))
 
   pub empty-pools : (pools : List (Pool I V)) → All (λ p. pool_of p ≡ empty_pool) pools → pools_of pools ≡ replicate (length pools) empty_pool

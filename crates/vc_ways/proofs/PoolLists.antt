@@ -13,8 +13,8 @@ use Rattle.vc_pool.specs.declared.pool.Pool.{Pool}
 use Rattle.vc_seg.specs.Answer.{Answers, IsPut, IsRefusal}
 use Rattle.vc_seg.specs.OneBlock.{IsBlockPut, IsSize}
 use Rattle.vc_seg.specs.declared.fault.RegionFault.{RegionFault}
-use Rattle.vc_ways.specs.Answer.{AreKept, Gives, Holding, IsLent, Keeps}
-use Rattle.vc_ways.specs.PoolParts.{CellComes, cells_at, holding_in, holdings, pools_of, terms_in}
+use Rattle.vc_ways.specs.Answer.{GivesOutcome, HasOwnSegmentsOut, Holding, KeepsHolding, KeepsHoldings}
+use Rattle.vc_ways.specs.PoolParts.{CellComes, class_blocks, holding_in, holdings, pools_of, terms_in}
 use Rattle.vc_ways.proofs.Cells.{comes}
 use Rattle.vc_ways.proofs.LatestBlock.{refused-as}
 use Rattle.vc_ways.proofs.PoolSteps.{kept-set}
@@ -63,7 +63,7 @@ put-cell : (pools : List (model.Pool ℕ)) (class : ℕ) (o : Outcome (Put (mode
 put-cell pools class (Done p) a new h = ap₂ (λ (at : ℕ × ℕ) (q : model.Pool ℕ). Done (at, set pools class q)) h.1 (sym h.2)
 put-cell pools class (Refused why) a new h = absurd h
 
-cell-answers : (terms : List Terms) (pools : List (model.Pool ℕ)) (size : ℕ) (result : Result Addr RegionFault) (p new : model.Pool ℕ) → Answers (pool_alloc (terms_at terms (class_of size)) (pool_at pools (class_of size)) 0 (class_bytes (class_of size))) result p new → Gives (cell_put terms pools size) (λ (a : Addr). place_of a.0) result (set pools (class_of size) new)
+cell-answers : (terms : List Terms) (pools : List (model.Pool ℕ)) (size : ℕ) (result : Result Addr RegionFault) (p new : model.Pool ℕ) → Answers (pool_alloc (terms_at terms (class_of size)) (pool_at pools (class_of size)) 0 (class_bytes (class_of size))) result p new → GivesOutcome (cell_put terms pools size) (λ (a : Addr). place_of a.0) result (set pools (class_of size) new)
 cell-answers terms pools size (Ok a) p new h = put-cell pools (class_of size) (pool_alloc (terms_at terms (class_of size)) (pool_at pools (class_of size)) 0 (class_bytes (class_of size)) false) a.0 new h
 cell-answers terms pools size (Err why) p new h = refused-as (cell_form pools (class_of size)) (pool_alloc (terms_at terms (class_of size)) (pool_at pools (class_of size)) 0 (class_bytes (class_of size))) why h.0
 
@@ -82,14 +82,14 @@ module _ {I : Type 0} {V : I → Type 0} (meaning : (x : I) × V x → Disciplin
   pub pools-set : pools_of (set xs k q) ≡ set (pools_of xs) k (pool_of q)
   pools-set = map-set pool_of xs k q
 
-  pub lent-here : All IsLent (holdings meaning xs) → IsLent (holding_in meaning p)
+  pub lent-here : All HasOwnSegmentsOut (holdings meaning xs) → HasOwnSegmentsOut (holding_in meaning p)
   lent-here all =
       let f : Pool I V → Holding = holding_in meaning in
       let within : k < length (map f xs) = omega (arith, lt, length-map xs f) in
-      subst IsLent (get_or-map f xs k p (f p) lt ∙ ap f (sym is)) (all k (f p) within)
+      subst HasOwnSegmentsOut (get_or-map f xs k p (f p) lt ∙ ap f (sym is)) (all k (f p) within)
 
-  pub kept-here : {went : Bool} → Keeps went (holding_in meaning p) (holding_in meaning q) → AreKept went (holdings meaning xs) (holdings meaning (set xs k q))
-  kept-here {went} h = kept-set _ (holding_in meaning) xs k q p lt (subst (λ (o : Pool I V). Keeps went (holding_in meaning o) (holding_in meaning q)) is h)
+  pub kept-here : {went : Bool} → KeepsHolding went (holding_in meaning p) (holding_in meaning q) → KeepsHoldings went (holdings meaning xs) (holdings meaning (set xs k q))
+  kept-here {went} h = kept-set _ (holding_in meaning) xs k q p lt (subst (λ (o : Pool I V). KeepsHolding went (holding_in meaning o) (holding_in meaning q)) is h)
 
   pub terms-here : terms_at (terms_in (holdings meaning xs)) k ≡ (disc_in meaning p).terms
   terms-here =
@@ -98,19 +98,19 @@ module _ {I : Type 0} {V : I → Type 0} (meaning : (x : I) × V x → Disciplin
       let within : k < length (map f xs) = omega (arith, lt, length-map xs f) in
       get_or-map t (map f xs) k (f p) (record { round = 32; grows = false }) within ∙ ap t (get_or-map f xs k p (f p) lt ∙ ap f (sym is))
 
-  pub answer-here : (size : ℕ) (result : Result Addr RegionFault) → k ≡ class_of size → Answers (pool_alloc (disc_in meaning p).terms (pool_of p) 0 (class_bytes k)) result (pool_of p) (pool_of q) → Gives (cell_put (terms_in (holdings meaning xs)) (pools_of xs) size) (λ (a : Addr). place_of a.0) result (pools_of (set xs k q))
+  pub answer-here : (size : ℕ) (result : Result Addr RegionFault) → k ≡ class_of size → Answers (pool_alloc (disc_in meaning p).terms (pool_of p) 0 (class_bytes k)) result (pool_of p) (pool_of q) → GivesOutcome (cell_put (terms_in (holdings meaning xs)) (pools_of xs) size) (λ (a : Addr). place_of a.0) result (pools_of (set xs k q))
   answer-here size result e h =
       let moved : Answers (pool_alloc (terms_at (terms_in (holdings meaning xs)) k) (pool_at (pools_of xs) k) 0 (class_bytes k)) result (pool_of p) (pool_of q) =
       subst (λ (o : model.Pool ℕ). Answers (pool_alloc (terms_at (terms_in (holdings meaning xs)) k) o 0 (class_bytes k)) result (pool_of p) (pool_of q)) (sym pool-here)
       (subst (λ (t : Terms). Answers (pool_alloc t (pool_of p) 0 (class_bytes k)) result (pool_of p) (pool_of q)) (sym terms-here) h) in
-      let there : Gives (cell_put (terms_in (holdings meaning xs)) (pools_of xs) size) (λ (a : Addr). place_of a.0) result (set (pools_of xs) (class_of size) (pool_of q)) =
+      let there : GivesOutcome (cell_put (terms_in (holdings meaning xs)) (pools_of xs) size) (λ (a : Addr). place_of a.0) result (set (pools_of xs) (class_of size) (pool_of q)) =
       cell-answers (terms_in (holdings meaning xs)) (pools_of xs) size result (pool_of p) (pool_of q) (subst (λ (n : ℕ). Answers (pool_alloc (terms_at (terms_in (holdings meaning xs)) n) (pool_at (pools_of xs) n) 0 (class_bytes n)) result (pool_of p) (pool_of q)) e moved) in
-      subst (Gives (cell_put (terms_in (holdings meaning xs)) (pools_of xs) size) (λ (a : Addr). place_of a.0) result) (ap (λ n. set (pools_of xs) n (pool_of q)) (sym e) ∙ sym pools-set) there
+      subst (GivesOutcome (cell_put (terms_in (holdings meaning xs)) (pools_of xs) size) (λ (a : Addr). place_of a.0) result) (ap (λ n. set (pools_of xs) n (pool_of q)) (sym e) ∙ sym pools-set) there
 
   -- the cells of another class stay
-  pub cells-other : (n : ℕ) → n ≢ k → cells_at (pools_of (set xs k q)) n ≡ cells_at (pools_of xs) n
+  pub cells-other : (n : ℕ) → n ≢ k → class_blocks (pools_of (set xs k q)) n ≡ class_blocks (pools_of xs) n
   cells-other n other =
-      ap (λ ps. cells_at ps n) pools-set ∙ ap (λ (o : model.Pool ℕ). o.layout.blocks) (get_or-set_other (pools_of xs) k n (pool_of q) model.empty_pool other)
+      ap (λ ps. class_blocks ps n) pools-set ∙ ap (λ (o : model.Pool ℕ). o.layout.blocks) (get_or-set_other (pools_of xs) k n (pool_of q) model.empty_pool other)
 
   pub freed-here : (at : ℕ × ℕ) (n : ℕ) → k ≡ n → pool_of q ≡ pool_free (pool_of p) at → pools_of (set xs k q) ≡ set (pools_of xs) n (pool_free (pool_at (pools_of xs) n) at)
   freed-here at n e h =
@@ -118,14 +118,14 @@ module _ {I : Type 0} {V : I → Type 0} (meaning : (x : I) × V x → Disciplin
       ∙ (ap (set (pools_of xs) k) (h ∙ ap (λ o. pool_free o at) (sym pool-here))
       ∙ ap (λ m. set (pools_of xs) m (pool_free (pool_at (pools_of xs) m) at)) e)
 
-  pub has-here : (a n : ℕ) → k ≡ n → HasBlock (cells_at (pools_of xs) n) a → HasBlock (pool_of p).layout.blocks a
+  pub has-here : (a n : ℕ) → k ≡ n → HasBlock (class_blocks (pools_of xs) n) a → HasBlock (pool_of p).layout.blocks a
   has-here a n e has =
-      subst (λ (o : model.Pool ℕ). HasBlock o.layout.blocks a) pool-here (subst (λ (m : ℕ). HasBlock (cells_at (pools_of xs) m) a) (sym e) has)
+      subst (λ (o : model.Pool ℕ). HasBlock o.layout.blocks a) pool-here (subst (λ (m : ℕ). HasBlock (class_blocks (pools_of xs) m) a) (sym e) has)
 
   pub comes-here : (size : ℕ) (result : Result Addr RegionFault) → k ≡ class_of size → IfOk result (λ a. IsBlockPut 0 (class_bytes k) a.0 (pool_of p).layout.blocks (pool_of q).layout.blocks) → IfOk result (λ a. CellComes (λ _ _. Unit {0}) (pools_of xs) (class_of size) a.0 (pools_of (set xs k q)))
   comes-here size (Ok a) e h =
       let within : k < length (pools_of xs) = omega (arith, lt, length-map xs pool_of) in
-      let put : IsBlockPut 0 (class_bytes k) a.0 (cells_at (pools_of xs) k) (pool_of q).layout.blocks =
+      let put : IsBlockPut 0 (class_bytes k) a.0 (class_blocks (pools_of xs) k) (pool_of q).layout.blocks =
       subst (λ (o : model.Pool ℕ). IsBlockPut 0 (class_bytes k) a.0 o.layout.blocks (pool_of q).layout.blocks) (sym pool-here) h in
       subst (λ (ps : List (model.Pool ℕ)). CellComes (λ _ _. Unit {0}) (pools_of xs) (class_of size) a.0 ps) (sym pools-set)
       (subst (λ n. CellComes (λ _ _. Unit {0}) (pools_of xs) n a.0 (set (pools_of xs) k (pool_of q))) e (comes (pools_of xs) k (pool_of q) within 0 (class_bytes k) a.0 put))

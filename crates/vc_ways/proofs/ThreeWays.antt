@@ -6,7 +6,7 @@ use Rattle.vc_seg.specs.Answer.{IsPut, IsRefusal}
 use Rattle.vc_seg.specs.declared.fault.RegionFault.{RegionFault}
 use Rattle.vc_seg.specs.declared.fault.RegionFault.TheVariants as code
 use Rattle.vc_ways.specs.LastWay.{LastWay, drop_dead}
-use Rattle.vc_ways.specs.Live.{Live}
+use Rattle.vc_ways.specs.Live.{LivePlaces}
 use Rattle.vc_ways.specs.Regions.{Regions, Stopped, Took, Tried, is_refused, three_ways}
 use Rattle.vc_ways.specs.RegionsParts.{IsStop}
 use Rattle.vc_ways.specs.declared.way.Way.{Way}
@@ -37,7 +37,7 @@ module _ (size : ℕ) where
   no-pool (Refused other) last pool a r l why h e f = absurd h
 
   module _ (best : Bool → Outcome (Put (Layout ℕ))) (last : Bool → Outcome (ℕ × LastWay)) (pool : Bool → Outcome ((ℕ × ℕ) × List (Pool ℕ))) where
-    abbrev call : Option Way → Tried (Live × Regions)
+    abbrev call : Option Way → Tried (LivePlaces × Regions)
     call refused = three_ways size (best (is_refused refused way.Best)) (last (is_refused refused way.Last)) (pool (is_refused refused way.Pool))
 
     pub stop-best : (why : RegionFault) → IsRefusal best why → IsStop call way.Best why

@@ -25,10 +25,10 @@ abbrev pub terms_in : List Holding → List Terms
 terms_in holdings = map (λ h. h.disc.terms) holdings
 
 -- the blocks of a class
-abbrev pub cells_at : List (model.Pool ℕ) → ℕ → List (Block ℕ)
-cells_at pools class = (pool_at pools class).layout.blocks
+abbrev pub class_blocks : List (model.Pool ℕ) → ℕ → List (Block ℕ)
+class_blocks pools class = (pool_at pools class).layout.blocks
 
 -- a cell of a class is taken at an address, apart from each other one that stays, and those are taken still
 pub record CellComes (Stays : ℕ → ℕ → Type 0) (old : List (model.Pool ℕ)) (class a : ℕ) (new : List (model.Pool ℕ)) : Type 0 where
-  pub there : HasBlock (cells_at new class) a
-  pub others : (n b : ℕ) → HasBlock (cells_at old n) b → Stays n b → HasBlock (cells_at new n) b × (n ≡ class → b ≢ a)
+  pub there : HasBlock (class_blocks new class) a
+  pub others : (n b : ℕ) → HasBlock (class_blocks old n) b → Stays n b → HasBlock (class_blocks new n) b × (n ≡ class → b ≢ a)

@@ -11,7 +11,7 @@ use Rattle.vc_ways.specs.declared.each.Each.{Each}
 use Rattle.vc_ways.specs.declared.way.Way.{Way}
 use Rattle.vc_ways.specs.declared.way.Way.TheVariants as way
 use Rattle.vc_ways.specs.LastWay.{LastWay, drop_dead, last_dead, last_put, last_sized, new_last}
-use Rattle.vc_ways.specs.Live.{Live}
+use Rattle.vc_ways.specs.Live.{LivePlaces}
 use Rattle.vc_ways.specs.PoolWay.{cell_free, cell_put, cell_sized, new_pools}
 
 -- the terms of the disciplines: of the best region, of the last region, and of each class
@@ -31,8 +31,8 @@ abbrev pub new_regions : Regions
 new_regions = record { best = empty_layout; last = new_last; pools = new_pools }
 
 -- the sizes of the segments of each way, added up
-abbrev pub extents : Regions → Each
-extents r =
+abbrev pub extent_sums : Regions → Each
+extent_sums r =
     record {
       best = segment_bytes r.best;
       last = segment_bytes r.last.region;
@@ -57,17 +57,17 @@ is_refused (Some way.Pool) way.Pool = true
 is_refused refused way = false
 
 -- a block of a size has these places; dead blocks at the end of the last region are freed
-abbrev pub took : ℕ → Put (Layout ℕ) → ℕ × LastWay → (ℕ × ℕ) × List (Pool ℕ) → Tried (Live × Regions)
+abbrev pub took : ℕ → Put (Layout ℕ) → ℕ × LastWay → (ℕ × ℕ) × List (Pool ℕ) → Tried (LivePlaces × Regions)
 took size best last pool =
     Took (record { size = size; best = best.at; last = last.0; cell = pool.0 }, record { best = best.region; last = drop_dead last.1; pools = pool.1 })
 
 -- the calls in the three ways, for a block of a size
-abbrev pub three_ways : ℕ → Outcome (Put (Layout ℕ)) → Outcome (ℕ × LastWay) → Outcome ((ℕ × ℕ) × List (Pool ℕ)) → Tried (Live × Regions)
+abbrev pub three_ways : ℕ → Outcome (Put (Layout ℕ)) → Outcome (ℕ × LastWay) → Outcome ((ℕ × ℕ) × List (Pool ℕ)) → Tried (LivePlaces × Regions)
 three_ways size best last pool =
     in_way way.Best best (λ b. in_way way.Last last (λ l. in_way way.Pool pool (took size b l)))
 
 -- a block of a size is put; in which way a segment is refused, if in any, is the one free choice
-abbrev pub put_block : WayTerms → Regions → ℕ → Option Way → Tried (Live × Regions)
+abbrev pub put_block : WayTerms → Regions → ℕ → Option Way → Tried (LivePlaces × Regions)
 put_block terms r size refused =
     three_ways size
     (best_alloc terms.best r.best 0 size 32 (is_refused refused way.Best))
@@ -75,7 +75,7 @@ put_block terms r size refused =
     (cell_put terms.pools r.pools size (is_refused refused way.Pool))
 
 -- a block gets another size, and may move
-abbrev pub size_block : WayTerms → Regions → Live → ℕ → Option Way → Tried (Live × Regions)
+abbrev pub size_block : WayTerms → Regions → LivePlaces → ℕ → Option Way → Tried (LivePlaces × Regions)
 size_block terms r live size refused =
     three_ways size
     (best_resize terms.best r.best live.best size true (is_refused refused way.Best))
@@ -83,8 +83,8 @@ size_block terms r live size refused =
     (cell_sized terms.pools r.pools live.size live.cell size (is_refused refused way.Pool))
 
 -- a block is freed; in the last region it is dead
-abbrev pub free_block : Regions → Live → Regions
-free_block r live =
+abbrev pub free_in_each : Regions → LivePlaces → Regions
+free_in_each r live =
     record {
       best = without_block_at r.best live.best;
       last = drop_dead (last_dead r.last live.last);

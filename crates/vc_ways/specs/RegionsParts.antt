@@ -12,7 +12,7 @@ use Rattle.vc_seg.specs.declared.fault.RegionFault.TheVariants as code
 use Rattle.vc_ways.specs.Answer.{Holding}
 use Rattle.vc_ways.specs.LastParts.{IsPaired, holding_of, way_of}
 use Rattle.vc_ways.specs.Live as model
-use Rattle.vc_ways.specs.PoolParts.{cells_at, holdings, pools_of, terms_in}
+use Rattle.vc_ways.specs.PoolParts.{class_blocks, holdings, pools_of, terms_in}
 use Rattle.vc_ways.specs.PoolWay.{class_of}
 use Rattle.vc_ways.specs.Regions as ways
 use Rattle.vc_ways.specs.Regions.{Stopped, Took, Tried, WayTerms}
@@ -43,12 +43,12 @@ terms_of meaning r =
     }
 
 -- each block of the last region has a flag, and each class a pool
-pub record AreWhole {I : Type 0} {V : I → Type 0} (r : Regions I V) : Type 0 where
+pub record HasFlagsAndPools {I : Type 0} {V : I → Type 0} (r : Regions I V) : Type 0 where
   pub paired : IsPaired r.last
   pub classes : length r.pools.items ≡ 20
 
 -- a live block, in the words of the definitions
-abbrev pub live_of : Live → model.Live
+abbrev pub live_of : Live → model.LivePlaces
 live_of l = record { size = l.size; best = place_of l.best.0; last = l.last; cell = place_of l.cell.0 }
 
 -- a live block is in each way, and isn't dead
@@ -56,10 +56,10 @@ pub record IsLiveIn (r : ways.Regions) (l : Live) : Type 0 where
   pub size : IsSize l.size
   pub best : HasBlock r.best.blocks l.best.0
   pub last : slice_index_or r.last.dead l.last true ≡ false
-  pub cell : HasBlock (cells_at r.pools (class_of l.size)) l.cell.0
+  pub cell : HasBlock (class_blocks r.pools (class_of l.size)) l.cell.0
 
 -- no way has two live blocks at one place
-pub record AreApart (a b : Live) : Type 0 where
+pub record StandApart (a b : Live) : Type 0 where
   pub best : a.best.0 ≢ b.best.0
   pub last : a.last ≢ b.last
   pub cell : class_of a.size ≡ class_of b.size → a.cell.0 ≢ b.cell.0
@@ -67,7 +67,7 @@ pub record AreApart (a b : Live) : Type 0 where
 -- a block is live after a call, apart from each other one that stays, and those are live still
 pub record Comes (Stays : Live → Type 0) (old : ways.Regions) (l : Live) (new : ways.Regions) : Type 0 where
   pub there : IsLiveIn new l
-  pub others : (k : Live) → IsLiveIn old k → Stays k → IsLiveIn new k × AreApart k l
+  pub others : (k : Live) → IsLiveIn old k → Stays k → IsLiveIn new k × StandApart k l
 
 -- a way stops a command, by its fault; want of memory may come at any time
 abbrev pub IsStopped : {A : Type 0} → (Way → outcome.Fault → A) → (Option Way → A) → Way → RegionFault → Type 0
@@ -79,10 +79,10 @@ IsStopped stopped call way code.PoolSize = call None ≡ stopped way outcome.Poo
 IsStopped stopped call way code.NotLast = call None ≡ stopped way outcome.NotLast
 IsStopped stopped call way code.WrongMethod = call None ≡ stopped way outcome.WrongMethod
 
-abbrev pub IsStop : (Option Way → Tried (model.Live × ways.Regions)) → Way → RegionFault → Type 0
+abbrev pub IsStop : (Option Way → Tried (model.LivePlaces × ways.Regions)) → Way → RegionFault → Type 0
 IsStop call way why = IsStopped (λ way why. Stopped way why) call way why
 
 -- the answer of a call in all ways, and what they have after it
-abbrev pub Tries : (Option Way → Tried (model.Live × ways.Regions)) → Result Live Stop → ways.Regions → Type 0
-Tries call (Ok l) new = call None ≡ Took (live_of l, new)
-Tries call (Err stop) new = IsStop call stop.way stop.fault
+abbrev pub AnswersInAllWays : (Option Way → Tried (model.LivePlaces × ways.Regions)) → Result Live Stop → ways.Regions → Type 0
+AnswersInAllWays call (Ok l) new = call None ≡ Took (live_of l, new)
+AnswersInAllWays call (Err stop) new = IsStop call stop.way stop.fault

@@ -15,8 +15,8 @@ abbrev pub greater : Each → Each → Each
 greater a b = record { best = max a.best b.best; last = max a.last b.last; pool = max a.pool b.pool }
 
 -- what is beyond the live bytes
-abbrev pub beyond : Each → ℕ → Each
-beyond a live = record { best = a.best - live; last = a.last - live; pool = a.pool - live }
+abbrev pub beyond_live : Each → ℕ → Each
+beyond_live a live = record { best = a.best - live; last = a.last - live; pool = a.pool - live }
 
 -- after one more command, which left so many live bytes and these extents
 abbrev pub tallied : Tally → ℕ → Each → Tally
@@ -24,7 +24,7 @@ tallied t live extents =
     record {
       most = max t.most live;
       peak = greater t.peak extents;
-      waste = if nat_lt t.most live then beyond extents live else t.waste;
+      waste = if nat_lt t.most live then beyond_live extents live else t.waste;
     }
 
 -- the line of a way: its word, its peak and its waste

@@ -1,5 +1,5 @@
 ghost use Rattle.std.specs.Prelude.{◌≡◌, ◌+◌, ◌≤◌, All, length};
-ghost use Rattle.vc_ways.specs.Answer.{IsLent};
+ghost use Rattle.vc_ways.specs.Answer.{HasOwnSegmentsOut};
 ghost use Rattle.vc_ways.specs.PoolParts.{holdings};
 ghost use Rattle.vc_ways.specs.Settled.{AreBack, AreTaken, slots_on};
 
@@ -10,7 +10,7 @@ use vc_seg::Shelf;
 // Closes the pools, at most 20, the last one first, and gives their disciplines to the places from 3 on.
 pub(crate) fn close_pools(mut pools: Vec<Pool>, shelf: &mut Shelf)
     requires classes { length pools.items ≤ 20 }
-    requires lent { All IsLent (holdings state pools.items) }
+    requires lent { All HasOwnSegmentsOut (holdings state pools.items) }
     requires taken { AreTaken (length pools.items + 2) (slots_on state shelf.old) }
     ensures { AreBack 2 (holdings state pools.items) (slots_on state shelf.old)
         (slots_on state shelf.new) }
@@ -29,7 +29,7 @@ impl Regions {
     /// 1, that of the last one to 2, and those of the classes to 3 to 22.
     pub fn close(self, shelf: &mut Shelf)
         requires classes { length self.pools.items ≡ 20 }
-        requires lent { All IsLent (all_holdings state self) }
+        requires lent { All HasOwnSegmentsOut (all_holdings state self) }
         requires taken { AreTaken 22 (slots_on state shelf.old) }
         ensures { AreBack 0 (all_holdings state self) (slots_on state shelf.old)
             (slots_on state shelf.new) }

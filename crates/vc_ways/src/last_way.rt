@@ -2,7 +2,7 @@ ghost use Rattle.std.specs.Prelude.{◌≡◌, ◌<◌, ◌+◌, length, IsErrOf
 ghost use Rattle.vc_model.specs.Discipline.{Unserved};
 ghost use Rattle.vc_model.specs.Last.{last_need};
 ghost use Rattle.vc_seg.specs.OneBlock.{IsSize};
-ghost use Rattle.vc_ways.specs.Answer.{Gives, IsLent, Keeps};
+ghost use Rattle.vc_ways.specs.Answer.{GivesOutcome, HasOwnSegmentsOut, KeepsHolding};
 ghost use Rattle.vc_ways.specs.LastWay.{drop_dead, ends_dead, last_dead, last_put, last_sized, latest_sized, without_latest};
 
 use vc_last::Last;
@@ -24,14 +24,14 @@ impl LastWay {
     /// Puts a block of 1 to 16,777,216 bytes, and answers how many stand before it. The faults are those of the region's
     /// `alloc`; after one of them the way can only be closed.
     pub fn put(&mut self, size: u32) -> Result<usize, RegionFault>
-        requires lent { IsLent (holding_of state self.old) }
+        requires lent { HasOwnSegmentsOut (holding_of state self.old) }
         requires size { IsSize size }
         requires paired { IsPaired self.old }
-        ensures answer { Gives
+        ensures answer { GivesOutcome
             (last_put (holding_of state self.old).disc.terms (way_of self.old) size)
             (λ i. i) result (way_of self.new) }
         ensures paired { OnOk result (IsPaired self.new) }
-        ensures keeps { Keeps (is_ok result) (holding_of state self.old) (holding_of state self.new) }
+        ensures keeps { KeepsHolding (is_ok result) (holding_of state self.old) (holding_of state self.new) }
         ensures refused { IsErrOf result RegionFault.NoSegment
             → Unserved (holding_of state self.old).disc (holding_of state self.new).disc
             (last_need (holding_of state self.old).disc.terms size) }
@@ -48,15 +48,15 @@ impl LastWay {
 
     // Gives the latest block another size; it may move.
     fn resize_latest(&mut self, i: usize, size: u32) -> Result<usize, RegionFault>
-        requires lent { IsLent (holding_of state self.old) }
+        requires lent { HasOwnSegmentsOut (holding_of state self.old) }
         requires size { IsSize size }
         requires paired { IsPaired self.old }
         requires latest { i + 1 ≡ length self.old.dead.items }
-        ensures answer { Gives
+        ensures answer { GivesOutcome
             (latest_sized (holding_of state self.old).disc.terms (way_of self.old) i size)
             (λ i. i) result (way_of self.new) }
         ensures paired { OnOk result (IsPaired self.new) }
-        ensures keeps { Keeps (is_ok result) (holding_of state self.old) (holding_of state self.new) }
+        ensures keeps { KeepsHolding (is_ok result) (holding_of state self.old) (holding_of state self.new) }
         ensures refused { IsErrOf result RegionFault.NoSegment
             → Unserved (holding_of state self.old).disc (holding_of state self.new).disc
             (last_need (holding_of state self.old).disc.terms size) }
@@ -72,15 +72,15 @@ impl LastWay {
     /// latest block stays if it can, and moves else. Of another one a block of that size is put, and it is dead. The
     /// faults are as of `put`.
     pub fn resize(&mut self, i: usize, size: u32) -> Result<usize, RegionFault>
-        requires lent { IsLent (holding_of state self.old) }
+        requires lent { HasOwnSegmentsOut (holding_of state self.old) }
         requires size { IsSize size }
         requires paired { IsPaired self.old }
         requires block { i < length self.old.dead.items }
-        ensures answer { Gives
+        ensures answer { GivesOutcome
             (last_sized (holding_of state self.old).disc.terms (way_of self.old) i size)
             (λ i. i) result (way_of self.new) }
         ensures paired { OnOk result (IsPaired self.new) }
-        ensures keeps { Keeps (is_ok result) (holding_of state self.old) (holding_of state self.new) }
+        ensures keeps { KeepsHolding (is_ok result) (holding_of state self.old) (holding_of state self.new) }
         ensures refused { IsErrOf result RegionFault.NoSegment
             → Unserved (holding_of state self.old).disc (holding_of state self.new).disc
             (last_need (holding_of state self.old).disc.terms size) }
@@ -98,7 +98,7 @@ impl LastWay {
         requires paired { IsPaired self.old }
         ensures way { way_of self.new ≡ last_dead (way_of self.old) i }
         ensures paired { IsPaired self.new }
-        ensures keeps { Keeps true (holding_of state self.old) (holding_of state self.new) }
+        ensures keeps { KeepsHolding true (holding_of state self.old) (holding_of state self.new) }
     {
         self.dead[i] = true;
     }
@@ -117,7 +117,7 @@ impl LastWay {
         requires some { 0 < length self.old.dead.items }
         ensures way { way_of self.new ≡ without_latest (way_of self.old) }
         ensures paired { IsPaired self.new }
-        ensures keeps { Keeps true (holding_of state self.old) (holding_of state self.new) }
+        ensures keeps { KeepsHolding true (holding_of state self.old) (holding_of state self.new) }
         ensures segments { segments_in self.new.region ≡ segments_in self.old.region }
     {
         let _ = self.dead.pop();
@@ -130,7 +130,7 @@ impl LastWay {
         requires paired { IsPaired self.old }
         ensures way { way_of self.new ≡ drop_dead (way_of self.old) }
         ensures paired { IsPaired self.new }
-        ensures keeps { Keeps true (holding_of state self.old) (holding_of state self.new) }
+        ensures keeps { KeepsHolding true (holding_of state self.old) (holding_of state self.new) }
         ensures segments { segments_in self.new.region ≡ segments_in self.old.region }
     {
         while self.ends_dead() {

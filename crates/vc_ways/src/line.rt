@@ -1,9 +1,9 @@
 ghost use Rattle.std.specs.Prelude.{◌≡◌, IfErr, OnOk, is_ok};
-ghost use Rattle.vc_ways.specs.Answer.{AreKept};
+ghost use Rattle.vc_ways.specs.Answer.{KeepsHoldings};
 ghost use Rattle.vc_ways.specs.Asking.{IsUnserved, line_size};
 ghost use Rattle.vc_ways.specs.LineParts.{LineEnds};
 ghost use Rattle.vc_ways.specs.RegionsParts.{all_holdings, regions_of, terms_of};
-ghost use Rattle.vc_ways.specs.TraceParts.{CanClose, Stands, state_of};
+ghost use Rattle.vc_ways.specs.TraceParts.{CanClose, StandsSoFar, trace_state};
 
 use crate::trace::out_of_memory;
 use crate::{Stop, Trace};
@@ -30,11 +30,11 @@ impl Trace {
         number: u32,
         line: &[u8],
     ) -> Result<Option<Wrong>, Stop>
-        requires stands { Stands state self.old }
-        ensures answer { LineEnds (terms_of state self.old.regions) (state_of self.old) number line.now
-            result (state_of self.new) }
-        ensures stands { OnOk result (Stands state self.new) }
-        ensures keeps { AreKept (is_ok result) (all_holdings state self.old.regions)
+        requires stands { StandsSoFar state self.old }
+        ensures answer { LineEnds (terms_of state self.old.regions) (trace_state self.old) number line.now
+            result (trace_state self.new) }
+        ensures stands { OnOk result (StandsSoFar state self.new) }
+        ensures keeps { KeepsHoldings (is_ok result) (all_holdings state self.old.regions)
             (all_holdings state self.new.regions) }
         ensures refused { IfErr result (λ stop. IsUnserved (terms_of state self.old.regions)
             (regions_of self.old.regions) (line_size number line.now) stop

@@ -4,7 +4,7 @@ ghost use Rattle.vc_model.specs.Pool.{empty_pool};
 ghost use Rattle.vc_last.specs.Parts as last;
 ghost use Rattle.vc_best.specs.Parts as best;
 ghost use Rattle.vc_pool.specs.Parts.{pool_of};
-ghost use Rattle.vc_ways.specs.Answer.{IsLent};
+ghost use Rattle.vc_ways.specs.Answer.{HasOwnSegmentsOut};
 ghost use Rattle.vc_ways.specs.LastParts.{last_holding};
 ghost use Rattle.vc_ways.specs.Lends.{HasAllBack, HasLent, HasOpened, Lends, OpensMore};
 ghost use Rattle.vc_ways.specs.PoolParts.{holding_in, holdings, pools_of};
@@ -86,7 +86,7 @@ fn open_pools(alloc: Global, shelf: &mut Shelf) -> Result<Vec<Pool>, OutOfMemory
     ensures lends { OpensMore (λ pools. holdings state pools.items) 2 result
         (slots_on state shelf.old) (slots_on state shelf.new) }
     ensures opened { IfOk result (λ pools. pools_of pools.items ≡ replicate 20 empty_pool) }
-    ensures lent { IfOk result (λ pools. All IsLent (holdings state pools.items)) }
+    ensures lent { IfOk result (λ pools. All HasOwnSegmentsOut (holdings state pools.items)) }
 {
     let mut pools = Vec::with_capacity(alloc, 20)?;
     while pools.len() < 20 {
@@ -103,7 +103,7 @@ fn open_pools(alloc: Global, shelf: &mut Shelf) -> Result<Vec<Pool>, OutOfMemory
 
 // Gives the discipline of a best region back to place 1.
 fn close_best(best: Best, shelf: &mut Shelf)
-    requires lent { IsLent (best_holding state best) }
+    requires lent { HasOwnSegmentsOut (best_holding state best) }
     requires taken { HasLent 1 (slots_on state shelf.old) }
     ensures { (old : List (Option Discipline)) → Lends (best_holding state best ∷ []) old (slots_on state shelf.old)
         → HasAllBack old (slots_on state shelf.new) }
@@ -119,7 +119,7 @@ impl Regions {
         ensures lends { OpensMore (all_holdings state) 0 result
             (slots_on state shelf.old) (slots_on state shelf.new) }
         ensures none { IfOk result (λ r. regions_of r ≡ new_regions) }
-        ensures lent { IfOk result (λ r. All IsLent (all_holdings state r)) }
+        ensures lent { IfOk result (λ r. All HasOwnSegmentsOut (all_holdings state r)) }
     {
         let best = match open_best(alloc, shelf) {
             Ok(best) => best,

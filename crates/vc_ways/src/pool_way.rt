@@ -1,9 +1,9 @@
 ghost use Rattle.std.specs.Prelude.{◌≡◌, ◌≢◌, ℕ, IfOk, IsErrOf, OnOk, ◌<◌, ◌≤◌, All, is_ok, length, true};
 ghost use Rattle.vc_base.specs.Prelude.{place_of, HasBlock};
 ghost use Rattle.vc_seg.specs.OneBlock.{IsSize};
-ghost use Rattle.vc_ways.specs.Answer.{AreKept, Gives, IsLent};
+ghost use Rattle.vc_ways.specs.Answer.{GivesOutcome, HasOwnSegmentsOut, KeepsHoldings};
 ghost use Rattle.vc_ways.specs.Asking.{Refuses, asking_cell};
-ghost use Rattle.vc_ways.specs.PoolParts.{CellComes, cells_at, holdings, pools_of, terms_in};
+ghost use Rattle.vc_ways.specs.PoolParts.{CellComes, class_blocks, holdings, pools_of, terms_in};
 ghost use Rattle.vc_ways.specs.PoolWay.{cell_free, cell_put, cell_sized, class_of};
 
 use vc_base::Addr;
@@ -36,17 +36,17 @@ pub(crate) fn class_of(size: u32) -> usize
 pub(crate) fn put_cell(pools: &mut Vec<Pool>, size: u32) -> Result<Addr, RegionFault>
     requires size { IsSize size }
     requires classes { length pools.old.items ≡ 20 }
-    requires lent { All IsLent (holdings state pools.old.items) }
-    ensures answer { Gives
+    requires lent { All HasOwnSegmentsOut (holdings state pools.old.items) }
+    ensures answer { GivesOutcome
         (cell_put (terms_in (holdings state pools.old.items)) (pools_of pools.old.items) size)
         (λ a. place_of a.0) result (pools_of pools.new.items) }
-    ensures keeps { AreKept (is_ok result) (holdings state pools.old.items) (holdings state pools.new.items) }
+    ensures keeps { KeepsHoldings (is_ok result) (holdings state pools.old.items) (holdings state pools.new.items) }
     ensures refused { IsErrOf result RegionFault.NoSegment → Refuses
         (asking_cell (terms_in (holdings state pools.old.items)) (pools_of pools.old.items) size)
         (holdings state pools.old.items) (holdings state pools.new.items) }
     ensures classes { length pools.new.items ≡ 20 }
     ensures others { (class : ℕ) → class ≢ class_of size
-        → cells_at (pools_of pools.new.items) class ≡ cells_at (pools_of pools.old.items) class }
+        → class_blocks (pools_of pools.new.items) class ≡ class_blocks (pools_of pools.old.items) class }
     ensures comes { IfOk result (λ a. CellComes (λ _ _. Unit {0}) (pools_of pools.old.items)
         (class_of size) a.0 (pools_of pools.new.items)) }
 {
@@ -59,14 +59,14 @@ pub(crate) fn put_cell(pools: &mut Vec<Pool>, size: u32) -> Result<Addr, RegionF
 pub(crate) fn free_cell(pools: &mut Vec<Pool>, size: u32, at: Addr)
     requires size { IsSize size }
     requires classes { length pools.old.items ≡ 20 }
-    requires block { HasBlock (cells_at (pools_of pools.old.items) (class_of size)) at.0 }
+    requires block { HasBlock (class_blocks (pools_of pools.old.items) (class_of size)) at.0 }
     ensures pools { pools_of pools.new.items
         ≡ cell_free (pools_of pools.old.items) size (place_of at.0) }
-    ensures keeps { AreKept true (holdings state pools.old.items) (holdings state pools.new.items) }
+    ensures keeps { KeepsHoldings true (holdings state pools.old.items) (holdings state pools.new.items) }
     ensures classes { length pools.new.items ≡ 20 }
-    ensures others { (class a : ℕ) → HasBlock (cells_at (pools_of pools.old.items) class) a
+    ensures others { (class a : ℕ) → HasBlock (class_blocks (pools_of pools.old.items) class) a
         → (class ≡ class_of size → a ≢ at.0)
-        → HasBlock (cells_at (pools_of pools.new.items) class) a }
+        → HasBlock (class_blocks (pools_of pools.new.items) class) a }
 {
     let class = class_of(size);
     pools[class].free(at);
@@ -83,13 +83,13 @@ pub(crate) fn resize_cell(
     requires old { IsSize old }
     requires size { IsSize size }
     requires classes { length pools.old.items ≡ 20 }
-    requires lent { All IsLent (holdings state pools.old.items) }
-    requires block { HasBlock (cells_at (pools_of pools.old.items) (class_of old)) at.0 }
-    ensures answer { Gives
+    requires lent { All HasOwnSegmentsOut (holdings state pools.old.items) }
+    requires block { HasBlock (class_blocks (pools_of pools.old.items) (class_of old)) at.0 }
+    ensures answer { GivesOutcome
         (cell_sized (terms_in (holdings state pools.old.items)) (pools_of pools.old.items) old
         (place_of at.0) size)
         (λ a. place_of a.0) result (pools_of pools.new.items) }
-    ensures keeps { AreKept (is_ok result) (holdings state pools.old.items) (holdings state pools.new.items) }
+    ensures keeps { KeepsHoldings (is_ok result) (holdings state pools.old.items) (holdings state pools.new.items) }
     ensures refused { IsErrOf result RegionFault.NoSegment → Refuses
         (asking_cell (terms_in (holdings state pools.old.items)) (pools_of pools.old.items) size)
         (holdings state pools.old.items) (holdings state pools.new.items) }

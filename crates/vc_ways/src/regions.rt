@@ -1,8 +1,8 @@
 ghost use Rattle.std.specs.Prelude.{◌≡◌, All, IfErr, IfOk, OnOk, is_ok, true};
 ghost use Rattle.vc_seg.specs.OneBlock.{IsSize};
-ghost use Rattle.vc_ways.specs.Answer.{AreKept, IsLent};
+ghost use Rattle.vc_ways.specs.Answer.{HasOwnSegmentsOut, KeepsHoldings};
 ghost use Rattle.vc_ways.specs.Asking.{IsUnserved};
-ghost use Rattle.vc_ways.specs.Regions.{free_block, put_block, size_block};
+ghost use Rattle.vc_ways.specs.Regions.{free_in_each, put_block, size_block};
 
 use crate::pool_way::{free_cell, put_cell, resize_cell};
 use crate::{LastWay, Live, Way};
@@ -35,18 +35,18 @@ pub struct Stop {
 }
 
 impl Regions {
-    ghost use Rattle.vc_ways.specs.RegionsParts.{AreApart, AreWhole, Comes, IsLiveIn, Tries, all_holdings, live_of, regions_of, terms_of};
+    ghost use Rattle.vc_ways.specs.RegionsParts.{AnswersInAllWays, Comes, HasFlagsAndPools, IsLiveIn, StandApart, all_holdings, live_of, regions_of, terms_of};
 
     /// Puts a block of 1 to 16,777,216 bytes in each way, in the order best, last, pools. After a stop the regions can
     /// only be closed.
     pub fn put(&mut self, size: u32) -> Result<Live, Stop>
         requires size { IsSize size }
-        requires whole { AreWhole self.old }
-        requires lent { All IsLent (all_holdings state self.old) }
-        ensures answer { Tries (put_block (terms_of state self.old) (regions_of self.old) size)
+        requires whole { HasFlagsAndPools self.old }
+        requires lent { All HasOwnSegmentsOut (all_holdings state self.old) }
+        ensures answer { AnswersInAllWays (put_block (terms_of state self.old) (regions_of self.old) size)
             result (regions_of self.new) }
-        ensures whole { OnOk result (AreWhole self.new) }
-        ensures keeps { AreKept (is_ok result) (all_holdings state self.old) (all_holdings state self.new) }
+        ensures whole { OnOk result (HasFlagsAndPools self.new) }
+        ensures keeps { KeepsHoldings (is_ok result) (all_holdings state self.old) (all_holdings state self.new) }
         ensures refused { IfErr result (λ stop. IsUnserved (terms_of state self.old)
             (regions_of self.old) size stop (all_holdings state self.old) (all_holdings state self.new)) }
         ensures comes { IfOk result (λ l. Comes (λ _. Unit {0}) (regions_of self.old) l
@@ -87,17 +87,17 @@ impl Regions {
     /// After a stop the regions can only be closed.
     pub fn resize(&mut self, live: &Live, size: u32) -> Result<Live, Stop>
         requires size { IsSize size }
-        requires whole { AreWhole self.old }
-        requires lent { All IsLent (all_holdings state self.old) }
+        requires whole { HasFlagsAndPools self.old }
+        requires lent { All HasOwnSegmentsOut (all_holdings state self.old) }
         requires live { IsLiveIn (regions_of self.old) live.now }
-        ensures answer { Tries
+        ensures answer { AnswersInAllWays
             (size_block (terms_of state self.old) (regions_of self.old) (live_of live.now) size)
             result (regions_of self.new) }
-        ensures whole { OnOk result (AreWhole self.new) }
-        ensures keeps { AreKept (is_ok result) (all_holdings state self.old) (all_holdings state self.new) }
+        ensures whole { OnOk result (HasFlagsAndPools self.new) }
+        ensures keeps { KeepsHoldings (is_ok result) (all_holdings state self.old) (all_holdings state self.new) }
         ensures refused { IfErr result (λ stop. IsUnserved (terms_of state self.old)
             (regions_of self.old) size stop (all_holdings state self.old) (all_holdings state self.new)) }
-        ensures comes { IfOk result (λ l. Comes (λ k. AreApart k live.now) (regions_of self.old) l
+        ensures comes { IfOk result (λ l. Comes (λ k. StandApart k live.now) (regions_of self.old) l
             (regions_of self.new)) }
     {
         let mut steps: Steps<Uncounted> = Steps::new(self.best.alloc);
@@ -133,12 +133,12 @@ impl Regions {
 
     /// Frees a live block in each way.
     pub fn free(&mut self, live: &Live)
-        requires whole { AreWhole self.old }
+        requires whole { HasFlagsAndPools self.old }
         requires live { IsLiveIn (regions_of self.old) live.now }
-        ensures regions { regions_of self.new ≡ free_block (regions_of self.old) (live_of live.now) }
-        ensures whole { AreWhole self.new }
-        ensures keeps { AreKept true (all_holdings state self.old) (all_holdings state self.new) }
-        ensures others { (k : Live) → IsLiveIn (regions_of self.old) k → AreApart k live.now
+        ensures regions { regions_of self.new ≡ free_in_each (regions_of self.old) (live_of live.now) }
+        ensures whole { HasFlagsAndPools self.new }
+        ensures keeps { KeepsHoldings true (all_holdings state self.old) (all_holdings state self.new) }
+        ensures others { (k : Live) → IsLiveIn (regions_of self.old) k → StandApart k live.now
             → IsLiveIn (regions_of self.new) k }
     {
         let mut steps: Steps<Uncounted> = Steps::new(self.best.alloc);

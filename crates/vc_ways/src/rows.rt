@@ -1,41 +1,41 @@
 ghost use Rattle.std.specs.Prelude.{◌≡◌, ◌++◌, [], ◌∷◌, Some, codes, false, map, true};
 ghost use Rattle.vc_ways.specs.PoolWay.{class_bytes, class_of};
-ghost use Rattle.vc_ways.specs.Rows.{after, alloc, free, last_places, live_after, resize, told_of};
+ghost use Rattle.vc_ways.specs.Rows.{after, alloc, free, last_places, live_after, resize, told_of_input};
 
 /// Traces and their reports.
 pub fn reports()
     // A block of 3,000 bytes goes where one was freed in the best region, but not in the last one, where a live block
     // stands behind it. The waste is that of the first of two commands with 4,000 live bytes.
-    ensures freed_gap { told_of
+    ensures freed_gap { told_of_input
         (codes "alloc t a 3000\nalloc t b 1000\nfree t a\nalloc t c 3000\n")
         ≡ codes "live 4000\nbest peak 4096 waste 96\nlast peak 8192 waste 96\n"
         ++ codes "pool peak 12288 waste 8288\n" }
     // Blocks of three classes, of which one changes its class.
-    ensures three_classes { told_of
+    ensures three_classes { told_of_input
         (codes "alloc t a 100\nalloc t b 200\nfree t a\nalloc t c 90\nresize t b 300 move\n"
         ++ codes "free t b\nfree t c\n")
         ≡ codes "live 390\nbest peak 4096 waste 3706\nlast peak 4096 waste 3706\n"
         ++ codes "pool peak 12288 waste 11898\n" }
     // Comments, blank lines and sites belong to a trace.
-    ensures site { told_of (codes "# one block\n\nalloc t a 4064 @main\n")
+    ensures site { told_of_input (codes "# one block\n\nalloc t a 4064 @main\n")
         ≡ codes "live 4064\nbest peak 8192 waste 4128\nlast peak 8192 waste 4128\n"
         ++ codes "pool peak 8192 waste 4128\n" }
     // Without a command.
-    ensures none { told_of [] ≡ codes "live 0\nbest peak 0 waste 0\nlast peak 0 waste 0\npool peak 0 waste 0\n" }
+    ensures none { told_of_input [] ≡ codes "live 0\nbest peak 0 waste 0\nlast peak 0 waste 0\npool peak 0 waste 0\n" }
 {}
 
 /// Lines that are outside of a trace, and one that is no command.
 pub fn outside()
-    ensures region { told_of (codes "alloc t a 10\nfree u a\n") ≡ codes "outside at 2" }
-    ensures command { told_of (codes "open t best 1\n") ≡ codes "outside at 1" }
-    ensures fixed { told_of (codes "alloc t a 10\nresize t a 20 fixed\n") ≡ codes "outside at 2" }
-    ensures nothing { told_of (codes "alloc t a 0\n") ≡ codes "outside at 1" }
-    ensures greatest { told_of (codes "alloc t a 16777217\n") ≡ codes "outside at 1" }
-    ensures exists { told_of (codes "alloc t a 10\nalloc t a 10\n") ≡ codes "outside at 2" }
-    ensures not_resized { told_of (codes "alloc t a 10\nresize t b 10 move\n")
+    ensures region { told_of_input (codes "alloc t a 10\nfree u a\n") ≡ codes "outside at 2" }
+    ensures command { told_of_input (codes "open t best 1\n") ≡ codes "outside at 1" }
+    ensures fixed { told_of_input (codes "alloc t a 10\nresize t a 20 fixed\n") ≡ codes "outside at 2" }
+    ensures nothing { told_of_input (codes "alloc t a 0\n") ≡ codes "outside at 1" }
+    ensures greatest { told_of_input (codes "alloc t a 16777217\n") ≡ codes "outside at 1" }
+    ensures exists { told_of_input (codes "alloc t a 10\nalloc t a 10\n") ≡ codes "outside at 2" }
+    ensures not_resized { told_of_input (codes "alloc t a 10\nresize t b 10 move\n")
         ≡ codes "outside at 2" }
-    ensures freed { told_of (codes "alloc t a 10\nfree t a\nfree t a\n") ≡ codes "outside at 3" }
-    ensures bad { told_of (codes "alloc t a 10\nfrob\nfree u a\n") ≡ codes "bad line 2" }
+    ensures freed { told_of_input (codes "alloc t a 10\nfree t a\nfree t a\n") ≡ codes "outside at 3" }
+    ensures bad { told_of_input (codes "alloc t a 10\nfrob\nfree u a\n") ≡ codes "bad line 2" }
 {}
 
 /// A block goes into the least class that holds it.

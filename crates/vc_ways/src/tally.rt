@@ -1,5 +1,5 @@
 ghost use Rattle.std.specs.Prelude.{◌≡◌};
-ghost use Rattle.vc_ways.specs.Tally.{beyond, greater, new_tally, none, tallied};
+ghost use Rattle.vc_ways.specs.Tally.{beyond_live, greater, new_tally, none, tallied};
 
 use crate::Each;
 
@@ -27,7 +27,7 @@ pub(crate) fn none() -> Each
 
 // What is beyond the live bytes.
 fn beyond(a: Each, live: u64) -> Each
-    ensures { result ≡ beyond a live }
+    ensures { result ≡ beyond_live a live }
 {
     Each {
         best: a.best.saturating_sub(live),

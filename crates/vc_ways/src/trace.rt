@@ -1,14 +1,14 @@
 ghost use Rattle.std.specs.Prelude.{◌≡◌, ◌<◌, All, None, IfErr, IfOk, OnOk, bytes_eq, false, if◌then◌else◌, is_ok, length, true};
 ghost use Rattle.std.specs.HashMap.{get};
 ghost use Rattle.vc_seg.specs.OneBlock.{IsSize};
-ghost use Rattle.vc_ways.specs.Answer.{AreKept, IsLent};
+ghost use Rattle.vc_ways.specs.Answer.{HasOwnSegmentsOut, KeepsHoldings};
 ghost use Rattle.vc_ways.specs.Asking.{IsUnserved, size_asked};
 ghost use Rattle.vc_ways.specs.RegionsParts.{all_holdings, regions_of, terms_of};
 ghost use Rattle.vc_ways.specs.Regions.{new_regions, put_block};
 ghost use Rattle.vc_ways.specs.Settled.{AreBack, AreTaken, slots_on};
-ghost use Rattle.vc_ways.specs.Step.{Goes, Outside, free_found, goes_with, is_new, is_region, is_size, size_found, start, step};
+ghost use Rattle.vc_ways.specs.Step.{Goes, Outside, free_found, goes_with, is_its_region, is_new, is_size, size_found, start, trace_step};
 ghost use Rattle.vc_ways.specs.Table.{find_live};
-ghost use Rattle.vc_ways.specs.TraceParts.{CanClose, Ends, IsPlaced, Stands, state_of};
+ghost use Rattle.vc_ways.specs.TraceParts.{AnswersCommand, CanClose, IsBlockPlaced, StandsSoFar, trace_state};
 
 use crate::pool_way::class_of;
 use crate::tally::none;
@@ -60,9 +60,9 @@ impl Trace {
     /// Of no command, over regions without a block.
     pub fn new(alloc: Global, regions: Regions) -> Trace
         requires none { regions_of regions ≡ new_regions }
-        requires lent { All IsLent (all_holdings state regions) }
-        ensures state { state_of result ≡ start }
-        ensures stands { Stands state result }
+        requires lent { All HasOwnSegmentsOut (all_holdings state regions) }
+        ensures state { trace_state result ≡ start }
+        ensures stands { StandsSoFar state result }
         ensures regions { result.regions ≡ regions }
     {
         Trace {
@@ -77,7 +77,7 @@ impl Trace {
 
     // Whether that is the region of the trace.
     fn is_region(&self, r: &Name) -> bool
-        ensures { result ≡ is_region self.now.region r.now }
+        ensures { result ≡ is_its_region self.now.region r.now }
     {
         match &self.region {
             None => true,
@@ -97,7 +97,7 @@ impl Trace {
 
     // Whether a block of that name can be put.
     fn is_new(&self, x: &Name) -> bool
-        ensures { result ≡ is_new (state_of self.now).table x.now }
+        ensures { result ≡ is_new (trace_state self.now).table x.now }
     {
         match self.found(x) {
             None => self.blocks.len() < LIVE_LIMIT,
@@ -120,7 +120,7 @@ impl Trace {
         requires class { class < 20 }
         ensures regions { self.new.regions ≡ self.old.regions }
         ensures placed { OnOk result
-            (IsPlaced self.old self.new r.now x.now live gone class first) }
+            (IsBlockPlaced self.old self.new r.now x.now live gone class first) }
         ensures memory { IfErr result (λ stop. stop.fault ≡ RegionFault.OutOfMemory) }
     {
         let extents = match self.regions.add(class, first, self.extents) {
@@ -144,14 +144,14 @@ impl Trace {
 
     // Puts a block under a name that has none.
     fn put(&mut self, r: &Name, x: &Name, size: u32) -> Result<bool, Stop>
-        requires stands { Stands state self.old }
+        requires stands { StandsSoFar state self.old }
         requires size { IsSize size }
-        requires new { is_new (state_of self.old).table x.now ≡ true }
-        ensures answer { Ends (λ refused. goes_with (state_of self.old) r.now x.now
+        requires new { is_new (trace_state self.old).table x.now ≡ true }
+        ensures answer { AnswersCommand (λ refused. goes_with (trace_state self.old) r.now x.now
             (put_block (terms_of state self.old.regions) (regions_of self.old.regions) size refused))
-            result (state_of self.new) }
-        ensures stands { OnOk result (Stands state self.new) }
-        ensures keeps { AreKept (is_ok result) (all_holdings state self.old.regions)
+            result (trace_state self.new) }
+        ensures stands { OnOk result (StandsSoFar state self.new) }
+        ensures keeps { KeepsHoldings (is_ok result) (all_holdings state self.old.regions)
             (all_holdings state self.new.regions) }
         ensures refused { IfErr result (λ stop. IsUnserved (terms_of state self.old.regions)
             (regions_of self.old.regions) size stop
@@ -170,14 +170,14 @@ impl Trace {
 
     // Gives the block of a name another size, where it has one.
     fn resize(&mut self, r: &Name, x: &Name, size: u32) -> Result<bool, Stop>
-        requires stands { Stands state self.old }
+        requires stands { StandsSoFar state self.old }
         requires size { IsSize size }
-        ensures answer { Ends (λ refused. size_found (terms_of state self.old.regions)
-            (state_of self.old) r.now x.now size refused
-            (find_live x.now (state_of self.old).table))
-            result (state_of self.new) }
-        ensures stands { OnOk result (Stands state self.new) }
-        ensures keeps { AreKept (is_ok result) (all_holdings state self.old.regions)
+        ensures answer { AnswersCommand (λ refused. size_found (terms_of state self.old.regions)
+            (trace_state self.old) r.now x.now size refused
+            (find_live x.now (trace_state self.old).table))
+            result (trace_state self.new) }
+        ensures stands { OnOk result (StandsSoFar state self.new) }
+        ensures keeps { KeepsHoldings (is_ok result) (all_holdings state self.old.regions)
             (all_holdings state self.new.regions) }
         ensures refused { IfErr result (λ stop. IsUnserved (terms_of state self.old.regions)
             (regions_of self.old.regions) size stop
@@ -200,13 +200,13 @@ impl Trace {
 
     // Frees the block of a name, and answers whether it has one.
     fn free(&mut self, r: &Name, x: &Name) -> bool
-        requires stands { Stands state self.old }
-        ensures answer { free_found (state_of self.old) r.now x.now
-            (find_live x.now (state_of self.old).table)
-            ≡ (if result then Goes (state_of self.new) else Outside) }
-        ensures same { result ≡ false → state_of self.new ≡ state_of self.old }
-        ensures stands { Stands state self.new }
-        ensures keeps { AreKept true (all_holdings state self.old.regions)
+        requires stands { StandsSoFar state self.old }
+        ensures answer { free_found (trace_state self.old) r.now x.now
+            (find_live x.now (trace_state self.old).table)
+            ≡ (if result then Goes (trace_state self.new) else Outside) }
+        ensures same { result ≡ false → trace_state self.new ≡ trace_state self.old }
+        ensures stands { StandsSoFar state self.new }
+        ensures keeps { KeepsHoldings true (all_holdings state self.old.regions)
             (all_holdings state self.new.regions) }
     {
         let live = match self.found(x) {
@@ -226,11 +226,11 @@ impl Trace {
     /// where there are fewer than 1,000,000, and else names a live one. The ways run in the order best, last, pools, and
     /// the first that can't stops it. After a stop the trace can only be closed.
     pub fn run(&mut self, command: &Command) -> Result<bool, Stop>
-        requires stands { Stands state self.old }
-        ensures answer { Ends (step (terms_of state self.old.regions) (state_of self.old) command.now)
-            result (state_of self.new) }
-        ensures stands { OnOk result (Stands state self.new) }
-        ensures keeps { AreKept (is_ok result) (all_holdings state self.old.regions)
+        requires stands { StandsSoFar state self.old }
+        ensures answer { AnswersCommand (trace_step (terms_of state self.old.regions) (trace_state self.old) command.now)
+            result (trace_state self.new) }
+        ensures stands { OnOk result (StandsSoFar state self.new) }
+        ensures keeps { KeepsHoldings (is_ok result) (all_holdings state self.old.regions)
             (all_holdings state self.new.regions) }
         ensures refused { IfErr result (λ stop. IsUnserved (terms_of state self.old.regions)
             (regions_of self.old.regions) (size_asked command.now) stop

@@ -4,7 +4,7 @@
 
 ghost use Rattle.std.specs.Prelude.{◌≡◌};
 ghost use Rattle.std.specs.Process.{exit_status};
-ghost use Rattle.vc_compare.specs.Status.{number};
+ghost use Rattle.vc_compare.specs.Status.{compare_status_number};
 
 use std::process::ExitCode;
 use vc_base::{StdSink, StdSource};
@@ -14,7 +14,7 @@ use vc_seg::{BoxedDisc, HeapDisc, SegDisc, Shelf};
 
 // What the program ends with: the number of the status.
 fn exit(status: CompareStatus) -> ExitCode
-    ensures { exit_status result ≡ number status }
+    ensures { exit_status result ≡ compare_status_number status }
 {
     ExitCode::from(status.number())
 }

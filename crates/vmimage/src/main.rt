@@ -7,7 +7,7 @@ mod file;
 ghost use Rattle.std.specs.Prelude.{◌≡◌, map, vec_len};
 ghost use Rattle.std.specs.Process.{exit_status};
 ghost use Rattle.vc_image_run.specs.Tool.Making.{Makes, MakesOver};
-ghost use Rattle.vc_image_run.specs.Tool.Status.{number};
+ghost use Rattle.vc_image_run.specs.Tool.Status.{image_status_number};
 ghost use Rattle.vc_session.specs.Streams.{streams};
 ghost use Rattle.vc_steps.specs.Homes.{slots_on};
 ghost use Rattle.vc_steps.specs.Moment.{moment_at_rest};
@@ -23,7 +23,7 @@ use vc_seg::{BoxedDisc, HeapDisc, SegDisc, Shelf};
 
 // What the program ends with: the number of the status.
 fn exit(status: ImageStatus) -> ExitCode
-    ensures { exit_status result ≡ number status }
+    ensures { exit_status result ≡ image_status_number status }
 {
     ExitCode::from(status.number())
 }

@@ -11,11 +11,11 @@ use Rattle.vc_base.specs.declared.dict_method.DictMethod.TheVariants.{DtOset}
 use Rattle.vc_model.specs.Count.{next_count}
 use Rattle.vc_dtdisc.specs.Rules.{Rules}
 use Rattle.vc_store.specs.Answers.{is_there}
-use Rattle.vc_store.specs.Reading.{AfterPut, Contents, found, has_match, is_object, put_by, without_key}
+use Rattle.vc_store.specs.Reading.{AfterPut, Contents, found, has_same_key, is_object, put_by_method, without_key}
 use Rattle.vc_store.specs.declared.put.Put.{Put}
 use Rattle.vc_store.specs.declared.put.Put.TheVariants as put
-use Rattle.words.specs.Counting.{Counts, count_each, count_found, count_of, count_one, put_in_set, tally, tally_rules}
-use Rattle.words.specs.Text.{as_words, is_between, words_of}
+use Rattle.words.specs.Counting.{Counts, count_each, count_found, count_one, counted_word, put_in_set, stored_count, tally_rules}
+use Rattle.words.specs.Text.{as_words, is_space, words_in}
 
 -- more words behind some
 each-by : (t : Bool) (words more : List (List ℕ)) (o last : List (List ℕ)) → (count_each words o ≡ Some last → count_each (words ++ more) o ≡ count_each more last)
@@ -82,12 +82,12 @@ counts-along (Ok put.OutOfMemory) words words' first old new e c = tt
 counts-along (Err why) words words' first old new e c = tt
 
 -- an object has eight bytes more than its word
-pub tally-length : (n : ℕ) (word : List ℕ) → length (tally n word) ≡ 8 + length word
+pub tally-length : (n : ℕ) (word : List ℕ) → length (counted_word n word) ≡ 8 + length word
 tally-length n word = length-append (to_be_bytes w64 n) word
 
-fits-false : (n : ℕ) (word : List ℕ) → is_object (tally n word) ≡ true → nat_lt 1016 (length word) ≡ false
+fits-false : (n : ℕ) (word : List ℕ) → is_object (counted_word n word) ≡ true → nat_lt 1016 (length word) ≡ false
 fits-false n word e =
-    let most = leb-true _ _ (and_parts (nat_le 1 (length (tally n word))) (nat_le (length (tally n word)) 1024) e).1 in
+    let most = leb-true _ _ (and_parts (nat_le 1 (length (counted_word n word))) (nat_le (length (counted_word n word)) 1024) e).1 in
     le-ltb 1016 (length word) (omega (arith, most, tally-length n word))
 
 over : (m : ℕ) → 8 ≤ m → (nat_le 1 m && nat_le m 1024) ≡ false → 1024 < m
@@ -98,9 +98,9 @@ over m least e = by (nat_le 1 m) (nat_le m 1024) refl refl e
     by true false first last e = leb-false m 1024 last
     by false u first last e = let none = leb-false 1 m first in absurd (omega (arith, none, least))
 
-fits-true : (n : ℕ) (word : List ℕ) → is_object (tally n word) ≡ false → nat_lt 1016 (length word) ≡ true
+fits-true : (n : ℕ) (word : List ℕ) → is_object (counted_word n word) ≡ false → nat_lt 1016 (length word) ≡ true
 fits-true n word e =
-    let most = over (length (tally n word)) (omega (arith, tally-length n word)) e in
+    let most = over (length (counted_word n word)) (omega (arith, tally-length n word)) e in
     lt-ltb 1016 (length word) (omega (arith, most, tally-length n word))
 
 -- what is put into an ordered set
@@ -108,18 +108,18 @@ put-by : (t u : Bool) (a b : List (List ℕ)) → u ≡ t → cond u a b ≡ con
 put-by t u a b e = ap (λ v. cond v a b) e
 
 module _ (object : List ℕ) (mid : Contents) (objects : List (List ℕ)) (ordered : mid.method ≡ DtOset) where
-  match-is : (t : Bool) → has_match tally_rules object mid ≡ t → is_some (found tally_rules (tally_rules.key object) mid.objects) ≡ t
+  match-is : (t : Bool) → has_same_key tally_rules object mid ≡ t → is_some (found tally_rules (tally_rules.key object) mid.objects) ≡ t
   match-is t e =
       sym (ap (λ m. is_set m && is_some (found tally_rules (tally_rules.key object) mid.objects)) ordered) ∙ e
 
-  set-new : has_match tally_rules object mid ≡ false → objects ≡ put_by mid.method tally_rules mid.place object mid.objects → put_in_set object mid.objects ≡ objects
+  set-new : has_same_key tally_rules object mid ≡ false → objects ≡ put_by_method mid.method tally_rules mid.place object mid.objects → put_in_set object mid.objects ≡ objects
   set-new none e =
-      put-by false (is_some (found tally_rules (tally_rules.key object) mid.objects)) mid.objects (put_by DtOset tally_rules None object mid.objects) (match-is false none)
-      ∙ sym (e ∙ ap (λ m. put_by m tally_rules mid.place object mid.objects) ordered)
+      put-by false (is_some (found tally_rules (tally_rules.key object) mid.objects)) mid.objects (put_by_method DtOset tally_rules None object mid.objects) (match-is false none)
+      ∙ sym (e ∙ ap (λ m. put_by_method m tally_rules mid.place object mid.objects) ordered)
 
-  set-old : has_match tally_rules object mid ≡ true → objects ≡ mid.objects → put_in_set object mid.objects ≡ objects
+  set-old : has_same_key tally_rules object mid ≡ true → objects ≡ mid.objects → put_in_set object mid.objects ≡ objects
   set-old some e =
-      put-by true (is_some (found tally_rules (tally_rules.key object) mid.objects)) mid.objects (put_by DtOset tally_rules None object mid.objects) (match-is true some)
+      put-by true (is_some (found tally_rules (tally_rules.key object) mid.objects)) mid.objects (put_by_method DtOset tally_rules None object mid.objects) (match-is true some)
       ∙ sym e
 
 one-counted : (t : Bool) (o p : List (List ℕ)) → t ≡ false → o ≡ p → cond t None (Some o) ≡ Some p
@@ -131,27 +131,27 @@ one-long true o is = refl
 one-long false o is = absurd (true≢false (sym is))
 
 module _ (n : ℕ) (word : List ℕ) (old mid new : Contents) (ordered : mid.method ≡ DtOset) (count : n ≡ count_found (found tally_rules word old.objects)) (lacks : mid.objects ≡ without_key tally_rules word old.objects) where
-  one-is : count_one word old.objects ≡ put_in_set (tally (next_count n) word) mid.objects
-  one-is = ap₂ (λ m o. put_in_set (tally (next_count m) word) o) (sym count) (sym lacks)
+  one-is : count_one word old.objects ≡ put_in_set (counted_word (next_count n) word) mid.objects
+  one-is = ap₂ (λ m o. put_in_set (counted_word (next_count m) word) o) (sym count) (sym lacks)
 
-  tallied : (answer : Put) → AfterPut answer tally_rules (tally (next_count n) word) mid new.objects → Counts (Ok answer) (word ∷ []) old new
+  tallied : (answer : Put) → AfterPut answer tally_rules (counted_word (next_count n) word) mid new.objects → Counts (Ok answer) (word ∷ []) old new
   tallied put.New after =
       one-counted (nat_lt 1016 (length word)) (count_one word old.objects) new.objects (fits-false (next_count n) word after.0)
-      (one-is ∙ set-new (tally (next_count n) word) mid new.objects ordered after.1 after.2)
+      (one-is ∙ set-new (counted_word (next_count n) word) mid new.objects ordered after.1 after.2)
   tallied put.Old after =
       one-counted (nat_lt 1016 (length word)) (count_one word old.objects) new.objects (fits-false (next_count n) word after.0)
-      (one-is ∙ set-old (tally (next_count n) word) mid new.objects ordered after.1 after.2)
+      (one-is ∙ set-old (counted_word (next_count n) word) mid new.objects ordered after.1 after.2)
   tallied put.WrongSize after = one-long (nat_lt 1016 (length word)) (count_one word old.objects) (fits-true (next_count n) word after.0)
   tallied put.NoSegment after = tt
   tallied put.OutOfMemory after = tt
 
 -- a word that is counted once more
 pub counts-one : (answer : Put) (r r' : Rules) (n : ℕ) (word object : List ℕ) (old mid new : Contents) → r ≡ tally_rules → r' ≡ tally_rules → mid.method ≡ DtOset
-    → n ≡ count_found (found r word old.objects) → mid.objects ≡ without_key r word old.objects → object ≡ tally (next_count n) word
+    → n ≡ count_found (found r word old.objects) → mid.objects ≡ without_key r word old.objects → object ≡ counted_word (next_count n) word
     → AfterPut answer r' object mid new.objects → Counts (Ok answer) (word ∷ []) old new
 counts-one answer r r' n word object old mid new is is' ordered count lacks same after =
     tallied n word old mid new ordered (count ∙ ap (λ q. count_found (found q word old.objects)) is) (lacks ∙ ap (λ q. without_key q word old.objects) is) answer
-    (subst (λ q. AfterPut answer q (tally (next_count n) word) mid new.objects) is' (subst (λ o. AfterPut answer r' o mid new.objects) same after))
+    (subst (λ q. AfterPut answer q (counted_word (next_count n) word) mid new.objects) is' (subst (λ o. AfterPut answer r' o mid new.objects) same after))
 
 -- where the word has a byte
 pub counts-part : (answer : Put) (part : List ℕ) (old new : Contents) → (length part == 0) ≡ false → Counts (Ok answer) (part ∷ []) old new → Counts (Ok answer) (as_words (part ∷ [])) old new
@@ -159,7 +159,7 @@ counts-part answer [] old new some c = absurd (true≢false some)
 counts-part answer (byte ∷ part) old new some c =
     subst (λ (t : Bool). Counts (Ok answer) (cond t ((byte ∷ part) ∷ []) []) old new) (sym (lt-ltb 0 (length (byte ∷ part)) (omega arith))) c
 
-pub count-then : (t : Bool) (bytes : List ℕ) (o : Option (List ℕ)) (n : ℕ) → t ≡ true → cond t (Some bytes) None ≡ o → n ≡ count_of bytes → n ≡ count_found o
+pub count-then : (t : Bool) (bytes : List ℕ) (o : Option (List ℕ)) (n : ℕ) → t ≡ true → cond t (Some bytes) None ≡ o → n ≡ stored_count bytes → n ≡ count_found o
 count-then true bytes o n is e c = c ∙ ap count_found e
 count-then false bytes o n is e c = absurd (true≢false (sym is))
 
@@ -168,25 +168,25 @@ count-else true bytes o n is e c = absurd (true≢false is)
 count-else false bytes o n is e c = c ∙ ap count_found e
 
 -- a part ends at a byte between words
-pub split-here : (text : List ℕ) (start i : ℕ) → start ≤ i → i < length text → All (λ byte. is_between byte ≡ false) (slice_range text start i) → is_between (get_or text i 0) ≡ true
-    → words_of (drop start text) ≡ as_words (slice_range text start i ∷ slice_split is_between (drop (i + 1) text))
+pub split-here : (text : List ℕ) (start i : ℕ) → start ≤ i → i < length text → All (λ byte. is_space byte ≡ false) (slice_range text start i) → is_space (get_or text i 0) ≡ true
+    → words_in (drop start text) ≡ as_words (slice_range text start i ∷ slice_split is_space (drop (i + 1) text))
 split-here text start i begun lt part ends =
     ap as_words
-    (ap (slice_split is_between) (drop_split text start i begun ∙ ap (λ ys. slice_range text start i ++ ys) (drop-cons text i 0 lt ∙ ap (λ k. get_or text i 0 ∷ drop k text) (sym (add-one i))))
-    ∙ slice_split_at is_between (slice_range text start i) (get_or text i 0) (drop (i + 1) text) part ends)
+    (ap (slice_split is_space) (drop_split text start i begun ∙ ap (λ ys. slice_range text start i ++ ys) (drop-cons text i 0 lt ∙ ap (λ k. get_or text i 0 ∷ drop k text) (sym (add-one i))))
+    ∙ slice_split_at is_space (slice_range text start i) (get_or text i 0) (drop (i + 1) text) part ends)
 
 -- and the last one with the text
-pub split-last : (text : List ℕ) (start : ℕ) → All (λ byte. is_between byte ≡ false) (slice_range text start (length text)) → words_of (drop start text) ≡ as_words (slice_range text start (length text) ∷ [])
+pub split-last : (text : List ℕ) (start : ℕ) → All (λ byte. is_space byte ≡ false) (slice_range text start (length text)) → words_in (drop start text) ≡ as_words (slice_range text start (length text) ∷ [])
 split-last text start part =
     ap as_words
-    (slice_split_none is_between (drop start text) (subst (All (λ byte. is_between byte ≡ false)) (take_rest text start) part)
+    (slice_split_none is_space (drop start text) (subst (All (λ byte. is_space byte ≡ false)) (take_rest text start) part)
     ∙ ap (λ word. word ∷ []) (sym (take_rest text start)))
 
 -- a part with one more byte, and one that begins
-pub part-more : (text : List ℕ) (start i : ℕ) → start ≤ i → i < length text → All (λ byte. is_between byte ≡ false) (slice_range text start i) → is_between (get_or text i 0) ≡ false
-    → All (λ byte. is_between byte ≡ false) (slice_range text start (i + 1))
+pub part-more : (text : List ℕ) (start i : ℕ) → start ≤ i → i < length text → All (λ byte. is_space byte ≡ false) (slice_range text start i) → is_space (get_or text i 0) ≡ false
+    → All (λ byte. is_space byte ≡ false) (slice_range text start (i + 1))
 part-more text start i begun lt part here =
-    subst (All (λ byte. is_between byte ≡ false)) (sym more) (All-push (λ byte. is_between byte ≡ false) (slice_range text start i) (get_or text i 0) part here)
+    subst (All (λ byte. is_space byte ≡ false)) (sym more) (All-push (λ byte. is_space byte ≡ false) (slice_range text start i) (get_or text i 0) part here)
   where
     more : slice_range text start (i + 1) ≡ slice_range text start i ++ get_or text i 0 ∷ []
     more =
@@ -197,7 +197,7 @@ part-more text start i begun lt part here =
         ∙ (take-suc (drop start text) (i - start) 0 within
         ∙ ap (λ byte. take (i - start) (drop start text) ++ byte ∷ []) (get_or-drop start text (i - start) 0 ∙ ap (λ n. get_or text n 0) at))
 
-pub part-none : (text : List ℕ) (i : ℕ) → All (λ byte. is_between byte ≡ false) (slice_range text i i)
+pub part-none : (text : List ℕ) (i : ℕ) → All (λ byte. is_space byte ≡ false) (slice_range text i i)
 part-none text i = λ k d lt.
     let lt' : k < length (take (i - i) (drop i text)) = lt in
     absurd (omega (arith, lt', length-take (i - i) (drop i text)))

@@ -3,8 +3,8 @@ use Rattle.vc_base.proofs.Common.{◌≡◌, ℕ, ◌+◌, ◌-◌, ◌<◌, ◌
 use Rattle.std.proofs.Math.Seq.{take-suc}
 use Rattle.std.proofs.lemmas.Grind.{flat_map-append}
 use Rattle.std.proofs.lemmas.Option.{get_or_from_slice_get, slice_get_cases, slice_get_within}
-use Rattle.vc_store.specs.Reading.{first_place, next_place, object_at}
-use Rattle.words.specs.Counting.{line}
+use Rattle.vc_store.specs.Reading.{first_place, next_place, object_at_index}
+use Rattle.words.specs.Counting.{count_line}
 
 -- how many objects stand before the current one, or are there where none is, and how many stand from it on
 abbrev pub done_of : ℕ → Option ℕ → ℕ
@@ -17,9 +17,9 @@ left_of count (Some place) = count - place
 
 -- the lines of those before it
 abbrev pub lines_before : Option ℕ → List (List ℕ) → List ℕ
-lines_before place objects = flat_map line (take (done_of (length objects) place) objects)
+lines_before place objects = flat_map count_line (take (done_of (length objects) place) objects)
 
-first-by : (t : Bool) (n : ℕ) (objects : List (List ℕ)) → t ≡ false → flat_map line (take (done_of n (if t then None else Some 0)) objects) ≡ []
+first-by : (t : Bool) (n : ℕ) (objects : List (List ℕ)) → t ≡ false → flat_map count_line (take (done_of n (if t then None else Some 0)) objects) ≡ []
 first-by true n objects e = absurd (true≢false e)
 first-by false n objects e = refl
 
@@ -43,25 +43,25 @@ next-left count place lt = by (nat_lt (place + 1) count) refl
     by true e = omega (arith, lt)
     by false e = omega (arith, lt)
 
-pub lines-next : (place : Option ℕ) (objects : List (List ℕ)) (object : List ℕ) → Some object ≡ object_at place objects
-    → lines_before (next_place (length objects) place) objects ≡ lines_before place objects ++ line object
+pub lines-next : (place : Option ℕ) (objects : List (List ℕ)) (object : List ℕ) → Some object ≡ object_at_index place objects
+    → lines_before (next_place (length objects) place) objects ≡ lines_before place objects ++ count_line object
 lines-next None objects object e = absurd (none-some object (sym e))
 lines-next (Some place) objects object e =
     let here : slice_get objects place ≡ Some object = sym e in
     let lt : place < length objects = slice_get_within objects place object here in
     let is : get_or objects place object ≡ object = get_or_from_slice_get objects place object object here in
-    ap (λ n. flat_map line (take n objects)) (next-done (length objects) place lt ∙ add-one place)
-    ∙ (ap (flat_map line) (take-suc objects place object lt ∙ ap (λ o. take place objects ++ o ∷ []) is)
-    ∙ (flat_map-append line (take place objects) (object ∷ []) ∙ ap (λ xs. flat_map line (take place objects) ++ xs) (append-nil (line object))))
+    ap (λ n. flat_map count_line (take n objects)) (next-done (length objects) place lt ∙ add-one place)
+    ∙ (ap (flat_map count_line) (take-suc objects place object lt ∙ ap (λ o. take place objects ++ o ∷ []) is)
+    ∙ (flat_map-append count_line (take place objects) (object ∷ []) ∙ ap (λ xs. flat_map count_line (take place objects) ++ xs) (append-nil (count_line object))))
 
-pub left-next : (place : Option ℕ) (objects : List (List ℕ)) (object : List ℕ) → Some object ≡ object_at place objects → left_of (length objects) (next_place (length objects) place) < left_of (length objects) place
+pub left-next : (place : Option ℕ) (objects : List (List ℕ)) (object : List ℕ) → Some object ≡ object_at_index place objects → left_of (length objects) (next_place (length objects) place) < left_of (length objects) place
 left-next None objects object e = absurd (none-some object (sym e))
 left-next (Some place) objects object e =
     next-left (length objects) place (slice_get_within objects place object (sym e))
 
-pub lines-last : (place : Option ℕ) (objects : List (List ℕ)) → None ≡ object_at place objects → lines_before place objects ≡ flat_map line objects
-lines-last None objects e = ap (flat_map line) (take_all (length objects) objects (omega arith))
+pub lines-last : (place : Option ℕ) (objects : List (List ℕ)) → None ≡ object_at_index place objects → lines_before place objects ≡ flat_map count_line objects
+lines-last None objects e = ap (flat_map count_line) (take_all (length objects) objects (omega arith))
 lines-last (Some place) objects e =
-    ap (flat_map line)
+    ap (flat_map count_line)
     (take_all place objects
     (⊎_elim (λ there. absurd (none-some there.0 (e ∙ there.2))) (λ past. past.0) (slice_get_cases objects place).1))

@@ -5,8 +5,8 @@ use Rattle.std.proofs.lemmas.Map.Text.{is_eq-slice_cmp}
 use Rattle.vc_base.specs.declared.dict_method.DictMethod.TheVariants.{DtOset}
 use Rattle.vc_dtdisc.specs.ShapeLaws.{equal_lists}
 use Rattle.vc_dtdisc.specs.Shapes.{by_bytes}
-use Rattle.vc_store.specs.Reading.{found, put_by, without_key}
-use Rattle.words.specs.Counting.{count_found, count_of, put_in_set, tally_rules, word_of}
+use Rattle.vc_store.specs.Reading.{found, put_by_method, without_key}
+use Rattle.words.specs.Counting.{count_found, put_in_set, stored_count, tally_rules, word_of}
 
 -- the word of an object, and how often a set has counted a word
 abbrev pub key_of : List ℕ → List ℕ
@@ -16,11 +16,11 @@ abbrev pub told : List ℕ → List (List ℕ) → ℕ
 told word objects = count_found (found tally_rules word objects)
 
 abbrev put_one : List ℕ → List (List ℕ) → List (List ℕ)
-put_one object objects = put_by DtOset tally_rules None object objects
+put_one object objects = put_by_method DtOset tally_rules None object objects
 
 -- an object is of a word that was counted; each stands before all that are behind it
 abbrev pub IsRow : List ℕ → Type 0
-IsRow object = (word_of object ≡ key_of object) × (0 < count_of object)
+IsRow object = (word_of object ≡ key_of object) × (0 < stored_count object)
 
 abbrev pub Above : List ℕ → List (List ℕ) → Type 0
 Above word [] = Unit {0}
@@ -117,7 +117,7 @@ rows-placed t w (o ∷ os) row is r = by (rows-placed t w os row is r.2) (by_byt
         (row, (lt, above-trans (key_of t) (key_of o) os lt r.1), r)
 
 -- what it tells of its word, and of others
-pub told-own : (t w : List ℕ) (os : List (List ℕ)) → key_of t ≡ w → told w (placed t w os) ≡ count_of t
+pub told-own : (t w : List ℕ) (os : List (List ℕ)) → key_of t ≡ w → told w (placed t w os) ≡ stored_count t
 told-own t w [] is =
     ap (λ c. count_found (cond (is_eq c) (Some t) None)) (ap (λ k. by_bytes k w) is ∙ tied_itself nat_list_cmp_total w)
 told-own t w (o ∷ os) is = by (told-own t w os is) (by_bytes (key_of o) w) refl
@@ -125,7 +125,7 @@ told-own t w (o ∷ os) is = by (told-own t w os is) (by_bytes (key_of o) w) ref
     tied : by_bytes (key_of t) w ≡ Equal
     tied = ap (λ k. by_bytes k w) is ∙ tied_itself nat_list_cmp_total w
 
-    by : told w (placed t w os) ≡ count_of t → (c : Ordering) → by_bytes (key_of o) w ≡ c → told w (choose c t o os (placed t w os)) ≡ count_of t
+    by : told w (placed t w os) ≡ stored_count t → (c : Ordering) → by_bytes (key_of o) w ≡ c → told w (choose c t o os (placed t w os)) ≡ stored_count t
     by rest Less e =
         ap (λ c. count_found (cond (is_eq c) (Some o) (found tally_rules w (placed t w os)))) e ∙ rest
     by rest Equal e = ap (λ c. count_found (cond (is_eq c) (Some t) (found tally_rules w os))) tied

@@ -1,8 +1,8 @@
 ghost use Rattle.std.specs.Prelude.{◌≡◌, ◌<◌, ◌^◌, [], ◌∷◌, ◌++◌, flat_map, length, OnOk};
 ghost use Rattle.vc_store.specs.Collections.{contents};
-ghost use Rattle.words.specs.Counting.{Counts, count_of, line};
+ghost use Rattle.words.specs.Counting.{Counts, count_line, stored_count};
 ghost use Rattle.words.specs.Sets.{IsWordSet, StaysWordSet};
-ghost use Rattle.words.specs.Text.{as_words, words_of};
+ghost use Rattle.words.specs.Text.{as_words, words_in};
 
 use itoa::Buffer;
 use std::alloc::Global;
@@ -16,7 +16,7 @@ pub(crate) type WordSet = Collection<BuiltIn>;
 
 // How often the word of an object was counted.
 fn count_of(object: &[u8]) -> u64
-    ensures { result ≡ count_of object.now }
+    ensures { result ≡ stored_count object.now }
 {
     match object.first_chunk::<8>() {
         Some(bytes) => u64::from_be_bytes(*bytes),
@@ -44,7 +44,7 @@ fn count_word(set: &mut WordSet, object: &mut Vec<u8>, word: &[u8]) -> Result<Pu
 // Counts the words of a text, up to the first that is refused.
 pub(crate) fn count_words(alloc: Global, set: &mut WordSet, text: &[u8]) -> Result<Put, OutOfMemory>
     requires { IsWordSet state set.old }
-    ensures counts { Counts result (words_of text.now) (contents set.old) (contents set.new) }
+    ensures counts { Counts result (words_in text.now) (contents set.old) (contents set.new) }
     ensures most { length text.now < 2 ^ 63 }
     ensures stays { StaysWordSet state set.old set.new }
 {
@@ -64,7 +64,7 @@ pub(crate) fn count_words(alloc: Global, set: &mut WordSet, text: &[u8]) -> Resu
 
 // Puts the line of an object: how often its word was counted, and the word.
 fn put_line(lines: &mut Vec<u8>, object: &[u8]) -> Result<(), OutOfMemory>
-    ensures { OnOk result (lines.new.items ≡ lines.old.items ++ line object.now) }
+    ensures { OnOk result (lines.new.items ≡ lines.old.items ++ count_line object.now) }
 {
     lines.extend_from_slice(Buffer::new().format(count_of(object)).as_bytes())?;
     lines.extend_from_slice(b" ")?;
@@ -77,7 +77,7 @@ fn put_line(lines: &mut Vec<u8>, object: &[u8]) -> Result<(), OutOfMemory>
 pub(crate) fn put_lines(set: &mut WordSet, lines: &mut Vec<u8>) -> Result<(), OutOfMemory>
     requires { IsWordSet state set.old }
     ensures put { OnOk result (lines.new.items
-        ≡ lines.old.items ++ flat_map line (contents set.old).objects) }
+        ≡ lines.old.items ++ flat_map count_line (contents set.old).objects) }
     ensures stays { StaysWordSet state set.old set.new }
 {
     set.first();

@@ -3,7 +3,7 @@ ghost use Rattle.std.proofs.Common.{refl};
 ghost use Rattle.vc_dtdisc.specs.Shapes.{order_of};
 ghost use Rattle.vc_dtdisc.specs.declared.shape.Shape.TheVariants.{Fold};
 ghost use Rattle.vc_paths.specs.Layers.{bytes_there};
-ghost use Rattle.vc_algebra_tests.specs.Toy.{bytes_in, layer_in, toy_layers};
+ghost use Rattle.vc_algebra_tests.specs.Toy.{toy_bytes, toy_layer, toy_layers};
 ghost use Rattle.vc_algebra_tests.specs.ToyLaws.{are-layers, same-twice};
 
 use std::cmp::Ordering;
@@ -19,7 +19,7 @@ pub(crate) struct Toy;
 
 // The bytes of a dictionary, in walk order: fruit by a letter each, where the plum is a q.
 fn bytes_of(d: u32) -> &'static [u8]
-    ensures bytes { result.now ≡ bytes_in d }
+    ensures bytes { result.now ≡ toy_bytes d }
     ensures few { length result.now ≤ 3 }
 {
     match d {
@@ -35,8 +35,8 @@ fn bytes_of(d: u32) -> &'static [u8]
 
 // The object there.
 fn object_at(d: u32, at: Addr) -> &'static [u8]
-    requires { IsSome (bytes_there at.0 (layer_in d).objects) }
-    ensures { bytes_there at.0 (layer_in d).objects ≡ Some result.now }
+    requires { IsSome (bytes_there at.0 (toy_layer d).objects) }
+    ensures { bytes_there at.0 (toy_layer d).objects ≡ Some result.now }
 {
     let bytes = bytes_of(d);
     let i = at.0 as usize - 1;

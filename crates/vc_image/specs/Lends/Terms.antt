@@ -17,10 +17,10 @@ abbrev pub has_too_many : Terms → List (ℕ × ℕ) → Bool
 has_too_many terms pairs = nat_lt 1 (length pairs) && terms.grows
 
 -- that one is told, or else that there are too many for a discipline that grows
-abbrev pub told_of : Option ℕ → Bool → Option ImageLendFault
-told_of (Some number) many = Some (Round number)
-told_of None true = Some Grows
-told_of None false = None
+abbrev pub lend_fault : Option ℕ → Bool → Option ImageLendFault
+lend_fault (Some number) many = Some (Round number)
+lend_fault None true = Some Grows
+lend_fault None false = None
 
 abbrev pub terms_fault : Terms → List (ℕ × ℕ) → Option ImageLendFault
-terms_fault terms pairs = told_of (first_uneven terms.round pairs) (has_too_many terms pairs)
+terms_fault terms pairs = lend_fault (first_uneven terms.round pairs) (has_too_many terms pairs)

@@ -14,10 +14,10 @@ use Rattle.vc_objects.specs.Parts.{IsWhole}
 use Rattle.vc_region.specs.OfBest.{best_in}
 use Rattle.vc_region.specs.declared.region.Region.{Region}
 use Rattle.vc_region.specs.declared.region.Region.TheVariants.{Best as OfBest, Pool, Last, Debug, Profile}
-use Rattle.vc_image_check.specs.Bytes.Contents.{contents_of}
+use Rattle.vc_image_check.specs.Bytes.Contents.{contents_of_image}
 use Rattle.vc_image_check.specs.Dicts.Alone.{AreAlone}
-use Rattle.vc_image.specs.Load.{AreApart, IsWholeAmong, own_by}
-use Rattle.vc_image.specs.Save.{row_of}
+use Rattle.vc_image.specs.Load.{AllShareNone, IsWholeAmong, own_by}
+use Rattle.vc_image.specs.Save.{dict_row}
 
 -- a dictionary is whole over some blocks by the rules of its kind, and no two objects of a set match
 pub record IsSavable (kinds : List Rules) (blocks : Blocks) (dict : Dict) : Type 0 where
@@ -32,7 +32,7 @@ pub record IsSavable (kinds : List Rules) (blocks : Blocks) (dict : Dict) : Type
 pub record AreSavable (kinds : List Rules) (blocks : Blocks) (dicts : List Dict) : Type 0 where
   pub few : length dicts ≤ 256
   pub each : AllByRecursion (IsSavable kinds blocks) dicts
-  pub apart : AreApart blocks dicts
+  pub apart : AllShareNone blocks dicts
   pub taken : (a : ℕ) → IsSome (blocks a) → contains (flat_map (own_by blocks) dicts) a ≡ true
 
 -- over the unlabelled blocks of a best region
@@ -63,8 +63,8 @@ IsWholeBy kinds blocks dict = (rules : Rules) → at_number kinds dict.kind ≡ 
 
 -- a best region has the segments of an image, and dictionaries have its numbers and are whole over the region
 pub record AreOfImage {I : Type 0} {V : I → Type 0} (kinds : List Rules) (image : List ℕ) (region : Region I V) (dicts : List Dict) : Type 0 where
-  pub segments : option_map (λ (b : Best I V). b.extents.segs.items) (best_in region) ≡ Some (contents_of image).segs
-  pub rows : map row_of dicts ≡ (contents_of image).rows
+  pub segments : option_map (λ (b : Best I V). b.extents.segs.items) (best_in region) ≡ Some (contents_of_image image).segs
+  pub rows : map dict_row dicts ≡ (contents_of_image image).rows
   pub numbers : AllByRecursion (λ d. d.kind < 2 ^ 32) dicts
   pub whole : IfSome (best_in region) (λ (b : Best I V). AllByRecursion (IsWholeBy kinds (cells_in b)) dicts)
 

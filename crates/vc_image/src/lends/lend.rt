@@ -3,7 +3,7 @@ ghost use Rattle.vc_base.specs.Prelude.{HasOut, IsSegmentSize, Lent, LentNothing
 ghost use Rattle.vc_model.specs.Discipline.{Kept};
 ghost use Rattle.vc_seg.specs.Segment.{pair_of};
 ghost use Rattle.vc_extent.specs.Tiles.{IsTiled};
-ghost use Rattle.vc_image_check.specs.Bytes.Contents.{contents_of};
+ghost use Rattle.vc_image_check.specs.Bytes.Contents.{contents_of_image};
 ghost use Rattle.vc_image_check.specs.Bytes.Header.{IsHeader};
 ghost use Rattle.vc_image.specs.Lends.Lends.{AreLent, IsLendFault};
 ghost use Rattle.vc_image.specs.Lends.Terms.{first_uneven};
@@ -63,16 +63,16 @@ pub fn lend_image(
     disc: &mut Box<dyn SegDisc>,
 ) -> Result<Extents, ImageLendFault>
     requires head { IsHeader image.now }
-    requires tiled { All (λ s. IsTiled s.bytes) (contents_of image.now).segs }
-    requires even { first_uneven (state disc.old).terms.round (map pair_of (contents_of image.now).segs)
+    requires tiled { All (λ s. IsTiled s.bytes) (contents_of_image image.now).segs }
+    requires even { first_uneven (state disc.old).terms.round (map pair_of (contents_of_image image.now).segs)
         ≡ None }
 
-    ensures segments { IfOk result (λ e. e.segs.items ≡ (contents_of image.now).segs) }
+    ensures segments { IfOk result (λ e. e.segs.items ≡ (contents_of_image image.now).segs) }
     ensures lent { OnOk result (AreLent (state disc.old) (state disc.new)
-        (map pair_of (contents_of image.now).segs)) }
+        (map pair_of (contents_of_image image.now).segs)) }
 
     ensures fault { IfErr result (IsLendFault (state disc.old) (state disc.new)
-        (map pair_of (contents_of image.now).segs)) }
+        (map pair_of (contents_of_image image.now).segs)) }
     ensures out { OnErr result ((state disc.new).out ≡ (state disc.old).out) }
     ensures kept { Kept (state disc.old) (state disc.new) }
 {

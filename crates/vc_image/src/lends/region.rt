@@ -1,7 +1,7 @@
 ghost use Rattle.std.specs.Prelude.{◌≡◌, None, IfErr, IfOk, map};
 ghost use Rattle.vc_model.specs.Discipline.{Kept};
 ghost use Rattle.vc_seg.specs.Segment.{pair_of};
-ghost use Rattle.vc_image_check.specs.Bytes.Contents.{contents_of};
+ghost use Rattle.vc_image_check.specs.Bytes.Contents.{contents_of_image};
 ghost use Rattle.vc_image_check.specs.Parts.Front.{IsSoundFront};
 ghost use Rattle.vc_image.specs.Lends.Lends.{AreLent};
 ghost use Rattle.vc_image.specs.Lends.Regions.{IsLoadFault};
@@ -29,15 +29,15 @@ pub fn region_of_image(
 ) -> Result<Best, (ImageLendFault, Box<dyn SegDisc>)>
     requires { IsSoundFront image.now }
 
-    ensures segments { IfOk result (λ b. b.extents.segs.items ≡ (contents_of image.now).segs) }
-    ensures root { IfOk result (λ b. b.root.0 ≡ (contents_of image.now).root) }
+    ensures segments { IfOk result (λ b. b.extents.segs.items ≡ (contents_of_image image.now).segs) }
+    ensures root { IfOk result (λ b. b.root.0 ≡ (contents_of_image image.now).root) }
     ensures lent { IfOk result (λ b. AreLent (state disc) (state b.disc)
-        (map pair_of (contents_of image.now).segs)) }
+        (map pair_of (contents_of_image image.now).segs)) }
     ensures allowed { IfOk result (λ _. terms_fault (state disc).terms
-        (map pair_of (contents_of image.now).segs) ≡ None) }
+        (map pair_of (contents_of_image image.now).segs) ≡ None) }
 
     ensures fault { IfErr result (λ e. IsLoadFault (state disc) (state e.1)
-        (map pair_of (contents_of image.now).segs) e.0) }
+        (map pair_of (contents_of_image image.now).segs) e.0) }
     ensures out { IfErr result (λ e. (state e.1).out ≡ (state disc).out) }
     ensures kept { IfErr result (λ e. Kept (state disc) (state e.1)) }
 {

@@ -4,7 +4,7 @@ ghost use Rattle.vc_model.specs.Discipline.{Terms};
 ghost use Rattle.vc_dtdisc.specs.Rules.{AreLawful, Rules};
 ghost use Rattle.vc_image.specs.Load.{IsLoaded};
 ghost use Rattle.vc_image.specs.Save.{image_in};
-ghost use Rattle.vc_image_check.specs.Dicts.Whole.{IsFirstUnsoundPart, IsSound};
+ghost use Rattle.vc_image_check.specs.Dicts.Whole.{IsFirstUnsoundPart, IsSoundImage};
 ghost use Rattle.vc_image_check.specs.declared.parts.part.Part.{Part};
 ghost use Rattle.vc_image.specs.Saved.Saved.{AreOfImage, AreSame, AreSavableIn};
 
@@ -16,7 +16,7 @@ use vc_region::Region;
 /// dictionaries with its numbers. This project's own.
 pub fn sound_can_be_saved(region: &Region, dicts: &[Dict])
     ensures { (kinds : List Rules) (image : List ℕ) → AllByRecursion AreLawful kinds
-        → IsSound kinds image → AreOfImage kinds image region.now dicts.now
+        → IsSoundImage kinds image → AreOfImage kinds image region.now dicts.now
         → AreSavableIn kinds region.now dicts.now }
 {}
 

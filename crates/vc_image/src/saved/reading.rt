@@ -1,8 +1,8 @@
 ghost use Rattle.std.specs.Prelude.{◌≡◌, IfSome, List};
 ghost use Rattle.vc_dtdisc.specs.Rules.{Rules};
 ghost use Rattle.vc_image.specs.Load.{dicts_of};
-ghost use Rattle.vc_image.specs.Save.{contents_in, image_in};
-ghost use Rattle.vc_image_check.specs.Bytes.Contents.{contents_of};
+ghost use Rattle.vc_image.specs.Save.{image_contents, image_in};
+ghost use Rattle.vc_image_check.specs.Bytes.Contents.{contents_of_image};
 ghost use Rattle.vc_image.specs.Saved.Saved.{AreReadableIn};
 ghost use Rattle.vc_region.specs.OfBest.{best_in};
 
@@ -15,7 +15,7 @@ use vc_region::Region;
 pub fn saved_is_read(region: &Region, dicts: &[Dict])
     ensures contents { (kinds : List Rules) → AreReadableIn kinds region.now dicts.now
         → IfSome (best_in region.now)
-        (λ b. contents_of (image_in region.now dicts.now) ≡ contents_in b dicts.now) }
+        (λ b. contents_of_image (image_in region.now dicts.now) ≡ image_contents b dicts.now) }
     ensures dicts { (kinds : List Rules) → AreReadableIn kinds region.now dicts.now
         → dicts_of (image_in region.now dicts.now) ≡ dicts.now }
 {}

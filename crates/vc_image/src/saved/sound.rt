@@ -1,8 +1,8 @@
 ghost use Rattle.std.specs.Prelude.{◌≡◌, IfSome, List};
 ghost use Rattle.vc_dtdisc.specs.Rules.{Rules};
-ghost use Rattle.vc_image.specs.Save.{contents_in, image_in};
-ghost use Rattle.vc_image_check.specs.Bytes.Contents.{contents_of};
-ghost use Rattle.vc_image_check.specs.Dicts.Whole.{IsSound};
+ghost use Rattle.vc_image.specs.Save.{image_contents, image_in};
+ghost use Rattle.vc_image_check.specs.Bytes.Contents.{contents_of_image};
+ghost use Rattle.vc_image_check.specs.Dicts.Whole.{IsSoundImage};
 ghost use Rattle.vc_image.specs.Saved.Saved.{AreSavableIn};
 ghost use Rattle.vc_region.specs.OfBest.{best_in};
 
@@ -15,8 +15,8 @@ use vc_region::Region;
 /// project's own.
 pub fn saved_is_sound(region: &Region, dicts: &[Dict])
     ensures sound { (kinds : List Rules) → AreSavableIn kinds region.now dicts.now
-        → IsSound kinds (image_in region.now dicts.now) }
+        → IsSoundImage kinds (image_in region.now dicts.now) }
     ensures again { (kinds : List Rules) → AreSavableIn kinds region.now dicts.now
         → IfSome (best_in region.now)
-        (λ b. contents_of (image_in region.now dicts.now) ≡ contents_in b dicts.now) }
+        (λ b. contents_of_image (image_in region.now dicts.now) ≡ image_contents b dicts.now) }
 {}

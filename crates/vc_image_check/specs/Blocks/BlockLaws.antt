@@ -14,12 +14,12 @@ use Rattle.vc_best.specs.Blocks.{block_of, layout_by}
 use Rattle.vc_best.specs.Cells.{cell_bytes, cells_of}
 use Rattle.vc_best.proofs.CellBytes.{cell-bytes}
 use Rattle.vc_best.proofs.Found.{busy-of, found-of}
-use Rattle.vc_image_check.specs.Bytes.Contents.{contents_of}
+use Rattle.vc_image_check.specs.Bytes.Contents.{contents_of_image}
 use Rattle.vc_image_check.specs.Bytes.Header.{AreBytes, IsHeader}
 use Rattle.vc_image_check.specs.Marks.Mark.{mark_at, mark_of}
 use Rattle.vc_image_check.specs.Gaps.Known.{IsKnown, known-segments, start_of}
 use Rattle.vc_image_check.proofs.Lying.{LiesIn, field-in, lies-in, part-in}
-use Rattle.vc_image_check.specs.Blocks.Blocks.{HasBlockMarks, blocks_of, is_cell}
+use Rattle.vc_image_check.specs.Blocks.Blocks.{HasBlockMarks, image_blocks, is_cell}
 
 -- what a function tells of so many numbers from one on
 listed : (ℕ → ℕ) → ℕ → ℕ → List ℕ
@@ -40,9 +40,9 @@ get-listed f (suc n) at (suc k) lt = get-listed f n (at + 1) k (omega (arith, lt
 abbrev index_by : List Bytes → List ℕ
 index_by segs = listed (λ n. index_from 0 n segs) 1024 0
 
-are-extents : (image : List ℕ) → IsHeader image → All (λ s. IsTiled s.bytes) (contents_of image).segs → AreExtents (contents_of image).segs (index_by (contents_of image).segs)
+are-extents : (image : List ℕ) → IsHeader image → All (λ s. IsTiled s.bytes) (contents_of_image image).segs → AreExtents (contents_of_image image).segs (index_by (contents_of_image image).segs)
 are-extents image head tiled =
-    let f : ℕ → ℕ = λ n. index_from 0 n (contents_of image).segs in
+    let f : ℕ → ℕ = λ n. index_from 0 n (contents_of_image image).segs in
     record {
       segments = known-segments image head;
       tiled = tiled;
@@ -96,16 +96,16 @@ pub record LiesAt (image places : List ℕ) (a : ℕ) : Type 0 where
   pub within : start_of places a + field_at (start_of places a - 12) image ≤ length image
   pub small : length image ≤ 68719476736
   pub most : field_at (start_of places a - 12) image ≤ 33554432
-  pub bytes : take (field_at (start_of places a - 12) image) (drop (start_of places a) image) ≡ bytes_at (blocks_of image) a
+  pub bytes : take (field_at (start_of places a - 12) image) (drop (start_of places a) image) ≡ bytes_at (image_blocks image) a
 
 lies-prop : (image places : List ℕ) (a : ℕ) → IsProp (LiesAt image places a)
 lies-prop image places a = hlevel (le_prop, bytes-set)
 
 -- what marks tell
 module _ (image : List ℕ) (rows : List (List ℕ)) (places : List ℕ) (a : ℕ) where
-  there : HasBlockMarks image rows places → is_cell (extent_of (tiling (contents_of image).segs) a) ≡ true → LiesAt image places a
+  there : HasBlockMarks image rows places → is_cell (extent_of (tiling (contents_of_image image).segs) a) ≡ true → LiesAt image places a
   there k cell =
-      let e : Extent = extent_of (tiling (contents_of image).segs) a in
+      let e : Extent = extent_of (tiling (contents_of_image image).segs) a in
       let l : LiesIn image places a e = lies-in image places k.head k.tiled k.parts a (cell-parts e cell).named in
       let at : ℕ = l.at in
       let p : ℕ = l.first in
@@ -128,17 +128,17 @@ module _ (image : List ℕ) (rows : List (List ℕ)) (places : List ℕ) (a : �
         most = omega (arith, end, most, room, size);
         bytes = ap (λ z. take z (drop (start_of places a) image)) size ∙ ap (λ z. take e.size (drop z image)) start
             ∙ sym (part-in image bs p (at + 16) e.size l.part (omega (arith, end, room))) ∙ sym body
-            ∙ sym (cell-there (contents_of image).segs (index_by (contents_of image).segs) a ∣ are-extents image k.head k.tiled ∣₁ cell);
+            ∙ sym (cell-there (contents_of_image image).segs (index_by (contents_of_image image).segs) a ∣ are-extents image k.head k.tiled ∣₁ cell);
       }
 
-  none : HasBlockMarks image rows places → is_cell (extent_of (tiling (contents_of image).segs) a) ≡ false → bytes_at (blocks_of image) a ≡ []
-  none k h = cell-none (contents_of image).segs (index_by (contents_of image).segs) a ∣ are-extents image k.head k.tiled ∣₁ h
+  none : HasBlockMarks image rows places → is_cell (extent_of (tiling (contents_of_image image).segs) a) ≡ false → bytes_at (image_blocks image) a ≡ []
+  none k h = cell-none (contents_of_image image).segs (index_by (contents_of_image image).segs) a ∣ are-extents image k.head k.tiled ∣₁ h
 
   pub marked-there : ∥ HasBlockMarks image rows places ∥₁ → 3 ≤ mark_at rows a → LiesAt image places a
   marked-there known h = ∥∥₁_elim known (lies-prop image places a) (λ k. there k (sym (k.marks a) ∙ lt-ltb 2 (mark_at rows a) h))
 
-  pub marked-none : ∥ HasBlockMarks image rows places ∥₁ → mark_at rows a < 3 → bytes_at (blocks_of image) a ≡ []
-  marked-none known h = ∥∥₁_elim known (bytes-set (bytes_at (blocks_of image) a) []) (λ k. none k (sym (k.marks a) ∙ le-ltb 2 (mark_at rows a) (omega (arith, h))))
+  pub marked-none : ∥ HasBlockMarks image rows places ∥₁ → mark_at rows a < 3 → bytes_at (image_blocks image) a ≡ []
+  marked-none known h = ∥∥₁_elim known (bytes-set (bytes_at (image_blocks image) a) []) (λ k. none k (sym (k.marks a) ∙ le-ltb 2 (mark_at rows a) (omega (arith, h))))
 
 -- a mark of 3 is that of an unlabelled block
 mark-cell : (e : Extent) → nat_lt 2 (mark_of e) ≡ is_cell e
@@ -161,7 +161,7 @@ pub from-marked : (image : List ℕ) (rows : List (List ℕ)) (places : List ℕ
 from-marked image rows places k = record {
   head = k.head;
   tiled = k.tiled;
-  marks = λ a. ap (nat_lt 2) (k.marked.marks a) ∙ mark-cell (extent_of (tiling (contents_of image).segs) a);
+  marks = λ a. ap (nat_lt 2) (k.marked.marks a) ∙ mark-cell (extent_of (tiling (contents_of_image image).segs) a);
   parts = k.marked.bytes;
 }
 
@@ -189,9 +189,9 @@ none-small : AreBytes []
 none-small i = omega arith
 
 -- each byte of a block is one
-pub bytes-small : (image : List ℕ) (rows : List (List ℕ)) (places : List ℕ) → ∥ HasBlockMarks image rows places ∥₁ → AreBytes image → (a i : ℕ) → get_or (bytes_at (blocks_of image) a) i 0 < 256
+pub bytes-small : (image : List ℕ) (rows : List (List ℕ)) (places : List ℕ) → ∥ HasBlockMarks image rows places ∥₁ → AreBytes image → (a i : ℕ) → get_or (bytes_at (image_blocks image) a) i 0 < 256
 bytes-small image rows places known small a i = ∥∥₁_elim known le_prop (λ k.
-    let e : Extent = extent_of (tiling (contents_of image).segs) a in
+    let e : Extent = extent_of (tiling (contents_of_image image).segs) a in
     ⊎_elim
     (λ (t : is_cell e ≡ true). subst AreBytes (there image rows places a k t).bytes (part-small (field_at (start_of places a - 12) image) (start_of places a) image small) i)
     (λ (t : is_cell e ≡ false). subst AreBytes (sym (none image rows places a k t)) none-small i)

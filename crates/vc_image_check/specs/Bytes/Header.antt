@@ -4,8 +4,8 @@ use Rattle.std.specs.List.{AllByRecursion}
 use Rattle.vc_seg.specs.Budget.{bytes_of}
 use Rattle.vc_seg.specs.Numbered.{AreNumbered}
 use Rattle.vc_seg.specs.Segment.{AreSegments}
-use Rattle.vc_image_check.specs.Bytes.Image.{Contents, Row, magic}
-use Rattle.vc_image_check.specs.Bytes.Contents.{body_in, dicts_in, pairs_in}
+use Rattle.vc_image_check.specs.Bytes.Image.{DictRow, ImageContents, magic}
+use Rattle.vc_image_check.specs.Bytes.Contents.{body_in, image_dict_count, pairs_in}
 
 -- numbers below 256
 abbrev pub AreBytes : List ℕ → Type 0
@@ -16,11 +16,11 @@ AreBytes bytes = (i : ℕ) → get_or bytes i 0 < 256
 pub record IsHeader (bytes : List ℕ) : Type 0 where
   pub letters : take 8 bytes ≡ magic
   pub segments : AreNumbered (pairs_in bytes)
-  pub dicts : dicts_in bytes ≤ 256
+  pub dicts : image_dict_count bytes ≤ 256
   pub size : length bytes ≡ body_in bytes + bytes_of (pairs_in bytes)
 
 -- each of the nine numbers takes four bytes at most
-pub record FitsRow (r : Row) : Type 0 where
+pub record FitsRow (r : DictRow) : Type 0 where
   pub method : r.method < 2 ^ 32
   pub kind : r.kind < 2 ^ 32
   pub count : r.count < 2 ^ 32
@@ -32,7 +32,7 @@ pub record FitsRow (r : Row) : Type 0 where
   pub root : r.root < 2 ^ 32
 
 -- segments of a region, at most 256 dictionaries, and numbers that fit
-pub record AreContents (c : Contents) : Type 0 where
+pub record AreContents (c : ImageContents) : Type 0 where
   pub segments : AreSegments c.segs
   pub root : c.root < 2 ^ 32
   pub few : length c.rows ≤ 256

@@ -1,13 +1,13 @@
 -- Contents and their images, as rows.
 use Rattle.std.specs.Prelude.{ℕ, List, [], ◌∷◌, ◌++◌, codes}
-use Rattle.vc_image_check.specs.Bytes.Image.{Contents}
+use Rattle.vc_image_check.specs.Bytes.Image.{ImageContents}
 
 -- a region with no segment
-abbrev pub no_contents : Contents
+abbrev pub no_contents : ImageContents
 no_contents = record { root = 0; segs = []; rows = [] }
 
 -- a short segment of number 3, and a set
-abbrev pub some_contents : Contents
+abbrev pub some_contents : ImageContents
 some_contents =
     record {
       root = 513;

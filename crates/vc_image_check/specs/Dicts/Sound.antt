@@ -11,7 +11,7 @@ use Rattle.vc_dtdisc.specs.Rules.{Rules}
 use Rattle.vc_dict.specs.declared.heads.Heads.{Heads}
 use Rattle.vc_dict.specs.Listed.{holders_by, holders_from}
 use Rattle.vc_dict.specs.Parts.{HasNoOtherHeads, form_by}
-use Rattle.vc_image_check.specs.Bytes.Image.{Row}
+use Rattle.vc_image_check.specs.Bytes.Image.{DictRow}
 use Rattle.vc_image_check.specs.Lists.Chained.{IsSoundChain}
 use Rattle.vc_image_check.specs.Lists.Sound.{IsSoundList}
 use Rattle.vc_image_check.specs.Lists.Tables.{IsSoundTable}
@@ -31,7 +31,7 @@ method_of n =
     else None))))))
 
 -- the heads among a dictionary's nine numbers
-abbrev pub heads_of : Row → Heads
+abbrev pub heads_of : DictRow → Heads
 heads_of r =
     record {
       first = record { 0 = r.first };
@@ -50,7 +50,7 @@ own_in method blocks count heads =
     holders_in method blocks count heads ++ (if has_table method then heads.table.0 ∷ [] else [])
 
 -- those of nine numbers; none where no method has the first
-abbrev pub own_of : Blocks → Row → List ℕ
+abbrev pub own_of : Blocks → DictRow → List ℕ
 own_of blocks r = unwrap_or (option_map (λ method. own_in method blocks r.count (heads_of r)) (method_of r.method)) []
 
 -- so many holders are a set or bag of that table, and in a set no two match
@@ -72,7 +72,7 @@ pub record IsSoundBy (method : DictMethod) (rules : Rules) (blocks : Blocks) (co
   pub within : contains (0 ∷ holders_in method blocks count heads) current ≡ true
 
 -- nine numbers are those of such a dictionary of a method and a kind that are there
-pub record IsSoundRow (kinds : List Rules) (blocks : Blocks) (r : Row) : Type 0 where
+pub record IsSoundRow (kinds : List Rules) (blocks : Blocks) (r : DictRow) : Type 0 where
   pub method : DictMethod
   pub rules : Rules
   pub numbered : method_of r.method ≡ Some method
@@ -80,6 +80,6 @@ pub record IsSoundRow (kinds : List Rules) (blocks : Blocks) (r : Row) : Type 0 
   pub by : IsSoundBy method rules blocks r.count r.current (heads_of r)
 
 -- and neither its table nor a holder of it was taken by another one
-pub record IsSoundDict (kinds : List Rules) (blocks : Blocks) (taken : List ℕ) (r : Row) : Type 0 where
+pub record IsSoundDict (kinds : List Rules) (blocks : Blocks) (taken : List ℕ) (r : DictRow) : Type 0 where
   pub row : IsSoundRow kinds blocks r
   pub apart : (a : ℕ) → contains (own_of blocks r) a ≡ true → contains taken a ≡ false

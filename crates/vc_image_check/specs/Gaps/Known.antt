@@ -12,7 +12,7 @@ use Rattle.vc_extent.proofs.Places.{named-there, there-first, there-last}
 use Rattle.vc_gaps.specs.ButLinks.{Tiling}
 use Rattle.vc_gaps.specs.GapLaws.{is_free-named}
 use Rattle.vc_gaps.specs.GapStore.{is_free}
-use Rattle.vc_image_check.specs.Bytes.Contents.{contents_of}
+use Rattle.vc_image_check.specs.Bytes.Contents.{contents_of_image}
 use Rattle.vc_image_check.specs.Bytes.Header.{IsHeader}
 use Rattle.vc_image_check.proofs.Segs.{are-segments, segs-are}
 use Rattle.vc_image_check.specs.Marks.Mark.{IsMarked}
@@ -20,7 +20,7 @@ use Rattle.vc_image_check.specs.Marks.Mark.{IsMarked}
 -- an image has a head, extents tile its segments, and these are their marks and places
 pub record IsKnown (image : List ℕ) (rows : List (List ℕ)) (places : List ℕ) : Type 0 where
   pub head : IsHeader image
-  pub tiled : All (λ s. IsTiled s.bytes) (contents_of image).segs
+  pub tiled : All (λ s. IsTiled s.bytes) (contents_of_image image).segs
   pub marked : IsMarked image rows places
 
 -- where an extent's links lie
@@ -31,13 +31,13 @@ start_of places a = slice_index places (a / 1048576) + 32 * (a % 1048576)
 abbrev pub AreFree : Tiling → List ℕ → Type 0
 AreFree t names = (a : ℕ) → contains names a ≡ true → is_free t a ≡ true
 
-pub known-segments : (image : List ℕ) → IsHeader image → AreSegments (contents_of image).segs
+pub known-segments : (image : List ℕ) → IsHeader image → AreSegments (contents_of_image image).segs
 known-segments image h = subst AreSegments (sym (segs-are image)) (are-segments image h)
 
 -- no free extent has the address 0, and each is below 2^30
 module _ (image : List ℕ) (rows : List (List ℕ)) (places : List ℕ) (known : ∥ IsKnown image rows places ∥₁) where
   abbrev segs : List Bytes
-  segs = (contents_of image).segs
+  segs = (contents_of_image image).segs
 
   there : (a : ℕ) → is_free (tiling segs) a ≡ true → IsThere (a / 1048576) segs
   there a h = named-there (a / 1048576) (a % 1048576 * 32) segs (is_free-named (tiling segs) a h)

@@ -5,7 +5,7 @@ use Rattle.vc_extent.specs.Extent.{Extent, extents}
 use Rattle.vc_extent.specs.Change.{extent_in}
 use Rattle.vc_extent.specs.Tiling.{IsThere, extent_of, tiling}
 use Rattle.vc_seg.specs.Memory.{bytes_of_number}
-use Rattle.vc_image_check.specs.Bytes.Contents.{contents_of}
+use Rattle.vc_image_check.specs.Bytes.Contents.{contents_of_image}
 
 -- 0 where there is no extent, 1 for a free one, 2 for a busy one with a label, 3 for one with none
 abbrev pub mark_of : Extent → ℕ
@@ -26,9 +26,9 @@ mark_at rows a = slice_index (slice_index_or rows (a / 1048576) []) (a % 1048576
 
 -- each address has the mark of its extent, and each segment's bytes begin at a place of the image
 pub record IsMarked (image : List ℕ) (rows : List (List ℕ)) (places : List ℕ) : Type 0 where
-  pub marks : (a : ℕ) → mark_at rows a ≡ mark_of (extent_of (tiling (contents_of image).segs) a)
-  pub bytes : (n : ℕ) → IsThere n (contents_of image).segs
-      → take (length (bytes_of_number n (contents_of image).segs)) (drop (slice_index places n) image) ≡ bytes_of_number n (contents_of image).segs
+  pub marks : (a : ℕ) → mark_at rows a ≡ mark_of (extent_of (tiling (contents_of_image image).segs) a)
+  pub bytes : (n : ℕ) → IsThere n (contents_of_image image).segs
+      → take (length (bytes_of_number n (contents_of_image image).segs)) (drop (slice_index places n) image) ≡ bytes_of_number n (contents_of_image image).segs
 
 -- a mark stands among those that a segment can have, or at some address
 pub record HasMarkIn (marks : List ℕ) (mark : ℕ) : Type 0 where

@@ -14,7 +14,7 @@ pub record IsSoundSegment (bytes : List ℕ) : Type 0 where
   pub sizes : All (λ e. e.size ≤ 16777264) (extents bytes)
 
 -- the four numbers from a place on are the head of an extent that can stand behind one of that span, which is free or not
-pub record CanStand (bytes : List ℕ) (before at : ℕ) (behind_free : Bool) : Type 0 where
+pub record CanFollow (bytes : List ℕ) (before at : ℕ) (behind_free : Bool) : Type 0 where
   pub boundary : field_at (at + 12) bytes ≡ before
   pub multiple : field_at at bytes % 32 ≡ 0
   pub least : 32 ≤ field_at at bytes

@@ -13,8 +13,8 @@ table_store left right up = record {
 pub table_none : (left right up : List ℕ) → (table_store left right up).has 0 ≡ false
 table_none left right up = refl
 
-below : (n : ℕ) → (nat_lt 0 n && nat_lt n 32) ≡ true → n < 2 ^ 32
-below n h = let a = ltb-true n 32 (and_parts (nat_lt 0 n) (nat_lt n 32) h).1 in omega (arith, a)
+table_number_fits : (n : ℕ) → (nat_lt 0 n && nat_lt n 32) ≡ true → n < 2 ^ 32
+table_number_fits n h = let a = ltb-true n 32 (and_parts (nat_lt 0 n) (nat_lt n 32) h).1 in omega (arith, a)
 
 pub table_fits : (left right up : List ℕ) (n : ℕ) → (table_store left right up).has n ≡ true → n < 2 ^ 32
-table_fits left right up n h = below n h
+table_fits left right up n h = table_number_fits n h

@@ -2,7 +2,7 @@ ghost use Rattle.std.specs.Prelude.{◌≡◌, ℕ, ◌+◌, ◌-◌, ◌*◌, �
 ghost use Rattle.std.specs.Int.{w64, from_le_bytes};
 ghost use Rattle.vc_base.specs.Cells.{HasBytes, bytes_at};
 ghost use Rattle.vc_seg.specs.Field.{field_at};
-ghost use Rattle.vc_image_check.specs.Blocks.Blocks.{HasBlockMarks, blocks_of};
+ghost use Rattle.vc_image_check.specs.Blocks.Blocks.{HasBlockMarks, image_blocks};
 ghost use Rattle.vc_image_check.specs.Bytes.Header.{AreBytes};
 ghost use Rattle.vc_image_check.specs.Marks.Mark.{lists, mark_at};
 
@@ -37,7 +37,7 @@ impl<'a> ImageBlocks<'a> {
 fn start<'a>(blocks: &ImageBlocks<'a>, a: u32) -> usize
     requires { 3 ≤ mark_at (lists blocks.now.marks.now.rows.items) a }
     ensures bytes { take (field_at (result - 12) blocks.now.image.now) (drop result blocks.now.image.now)
-        ≡ bytes_at (blocks_of blocks.now.image.now) a }
+        ≡ bytes_at (image_blocks blocks.now.image.now) a }
     ensures low { 12 ≤ result }
     ensures within { result + field_at (result - 12) blocks.now.image.now ≤ length blocks.now.image.now }
     ensures most { field_at (result - 12) blocks.now.image.now ≤ 33554432 }
@@ -48,7 +48,7 @@ fn start<'a>(blocks: &ImageBlocks<'a>, a: u32) -> usize
 
 // The bytes of the block at an address, none where there is none.
 fn bytes_of<'a>(blocks: &ImageBlocks<'a>, a: u32) -> &'a [u8]
-    ensures bytes { result.now ≡ bytes_at (blocks_of blocks.now.image.now) a }
+    ensures bytes { result.now ≡ bytes_at (image_blocks blocks.now.image.now) a }
     ensures most { length result.now ≤ 33554432 }
 {
     if blocks.marks.get(a) < 3 {
@@ -71,10 +71,10 @@ fn number(bytes: &[u8], at: usize) -> u64
 
 impl<'a> Holders for ImageBlocks<'a> {
     ghost use Rattle.vc_image_check.specs.Blocks.BlockLaws.{bytes-small};
-    ghost use Rattle.vc_image_check.specs.Blocks.Blocks.{blocks_of};
+    ghost use Rattle.vc_image_check.specs.Blocks.Blocks.{image_blocks};
     ghost use Rattle.vc_image_check.specs.Marks.Mark.{lists};
 
-    ghost blocks = { λ s. blocks_of s.image.now };
+    ghost blocks = { λ s. image_blocks s.image.now };
 
     fn size(&self, a: u32) -> u32 {
         bytes_of(self, a).len() as u32

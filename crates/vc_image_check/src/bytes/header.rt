@@ -2,7 +2,7 @@ ghost use Rattle.std.specs.Prelude.{◌≡◌, ◌↔◌, ℕ, ◌+◌, ◌*◌,
 ghost use Rattle.vc_seg.specs.Budget.{bytes_of};
 ghost use Rattle.vc_seg.specs.Field.{field_at};
 ghost use Rattle.vc_seg.specs.Numbered.{AreNumbered, IsRegionPair};
-ghost use Rattle.vc_image_check.specs.Bytes.Contents.{items_at, pair_at};
+ghost use Rattle.vc_image_check.specs.Bytes.Contents.{items_at, segment_pair_at};
 ghost use Rattle.vc_image_check.specs.Bytes.Header.{IsHeader};
 ghost use Rattle.vc_image_check.specs.Bytes.Image.{magic};
 
@@ -34,10 +34,10 @@ fn is_pair(number: u32, size: u32) -> bool
 fn all_bytes(image: &[u8], count: usize) -> Option<u64>
     requires within { 20 + 8 * count ≤ length image.now }
     requires few { count ≤ 1023 }
-    ensures some { IfSome result (λ n. AreNumbered (items_at pair_at 8 count 20 image.now)
-        × (n ≡ bytes_of (items_at pair_at 8 count 20 image.now))) }
+    ensures some { IfSome result (λ n. AreNumbered (items_at segment_pair_at 8 count 20 image.now)
+        × (n ≡ bytes_of (items_at segment_pair_at 8 count 20 image.now))) }
     ensures most { IfSome result (λ n. n ≤ 33554432 * count) }
-    ensures none { IfNone result (¬ AreNumbered (items_at pair_at 8 count 20 image.now)) }
+    ensures none { IfNone result (¬ AreNumbered (items_at segment_pair_at 8 count 20 image.now)) }
 {
     let mut marks = [false; 1024];
     let mut total = 0u64;

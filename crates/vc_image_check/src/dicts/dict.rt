@@ -1,10 +1,10 @@
 ghost use Rattle.std.specs.Prelude.{◌≡◌, ◌↔◌, ◌+◌, ◌++◌, ◌∷◌, ◌≤◌, ℕ, List, IfNone, IfOk, IfSome, IsTrue, length, map};
 ghost use Rattle.vc_base.specs.Holders.{AreDistinct, contains};
-ghost use Rattle.vc_image_check.specs.Blocks.Blocks.{HasBlockMarks, blocks_of};
-ghost use Rattle.vc_image_check.specs.Bytes.Contents.{row_at};
+ghost use Rattle.vc_image_check.specs.Blocks.Blocks.{HasBlockMarks, image_blocks};
+ghost use Rattle.vc_image_check.specs.Bytes.Contents.{dict_row_at};
 ghost use Rattle.vc_image_check.specs.Marks.Mark.{lists};
 ghost use Rattle.vc_image_check.specs.Dicts.Sound.{IsSoundBy, IsSoundDict, IsSoundRow, own_in, own_of};
-ghost use Rattle.vc_image_check.specs.Dicts.Taken.{AreTaken};
+ghost use Rattle.vc_image_check.specs.Dicts.Taken.{AreMarkedTaken};
 
 use crate::blocks::ImageBlocks;
 use crate::bytes::word;
@@ -74,10 +74,10 @@ fn sound_row<D: DictDisc, L>(
     requires within { at + 36 ≤ length image.now }
     requires known { HasBlockMarks image.now (lists marks.now.rows.items) marks.now.places.items }
     ensures some { IfOk result (λ o. IfSome o (λ v.
-        IsSoundRow (map D.rules kinds.now.items) (blocks_of image.now) (row_at at image.now)
-        × (v.items ≡ own_of (blocks_of image.now) (row_at at image.now)))) }
+        IsSoundRow (map D.rules kinds.now.items) (image_blocks image.now) (dict_row_at at image.now)
+        × (v.items ≡ own_of (image_blocks image.now) (dict_row_at at image.now)))) }
     ensures none { IfOk result (λ o. IfNone o
-        (¬ IsSoundRow (map D.rules kinds.now.items) (blocks_of image.now) (row_at at image.now))) }
+        (¬ IsSoundRow (map D.rules kinds.now.items) (image_blocks image.now) (dict_row_at at image.now))) }
 {
     let method = match method_of(word(image, at)) {
         Some(method) => method,
@@ -109,13 +109,13 @@ pub(crate) fn is_sound_dict<D: DictDisc, L>(
 ) -> Result<bool, OutOfMemory>
     requires within { at + 36 ≤ length image.now }
     requires known { HasBlockMarks image.now (lists marks.old.rows.items) marks.old.places.items }
-    ensures sound { IfOk result (λ b. (taken : List ℕ) → AreTaken (lists marks.old.rows.items) taken
-        → (IsTrue b ↔ IsSoundDict (map D.rules kinds.now.items) (blocks_of image.now) taken
-        (row_at at image.now))) }
+    ensures sound { IfOk result (λ b. (taken : List ℕ) → AreMarkedTaken (lists marks.old.rows.items) taken
+        → (IsTrue b ↔ IsSoundDict (map D.rules kinds.now.items) (image_blocks image.now) taken
+        (dict_row_at at image.now))) }
     ensures taken { IfOk result (λ b. IsTrue b → (taken : List ℕ)
-        → AreTaken (lists marks.old.rows.items) taken
-        → AreTaken (lists marks.new.rows.items)
-        (taken ++ own_of (blocks_of image.now) (row_at at image.now))) }
+        → AreMarkedTaken (lists marks.old.rows.items) taken
+        → AreMarkedTaken (lists marks.new.rows.items)
+        (taken ++ own_of (image_blocks image.now) (dict_row_at at image.now))) }
     ensures known { IfOk result (λ b.
         HasBlockMarks image.now (lists marks.new.rows.items) marks.new.places.items) }
 {

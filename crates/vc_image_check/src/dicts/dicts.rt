@@ -1,9 +1,9 @@
 ghost use Rattle.std.specs.Prelude.{◌≡◌, [], IfNone, IfOk, IfSome, map};
-ghost use Rattle.vc_image_check.specs.Blocks.Blocks.{HasBlockMarks, blocks_of};
-ghost use Rattle.vc_image_check.specs.Bytes.Contents.{rows_in};
+ghost use Rattle.vc_image_check.specs.Blocks.Blocks.{HasBlockMarks, image_blocks};
+ghost use Rattle.vc_image_check.specs.Bytes.Contents.{rows_of_image};
 ghost use Rattle.vc_image_check.specs.Bytes.Header.{IsHeader};
 ghost use Rattle.vc_image_check.specs.Marks.Mark.{lists};
-ghost use Rattle.vc_image_check.specs.Dicts.Taken.{AreTaken, IsFirstUnsoundDict, taken_by};
+ghost use Rattle.vc_image_check.specs.Dicts.Taken.{AreMarkedTaken, IsFirstUnsoundDict, taken_by};
 ghost use Rattle.vc_image_check.specs.Dicts.Whole.{AreSoundDicts};
 
 use crate::bytes::word;
@@ -24,12 +24,12 @@ pub(crate) fn unsound_dict<D: DictDisc, L>(
 ) -> Result<Option<u32>, OutOfMemory>
     requires head { IsHeader image.now }
     requires known { HasBlockMarks image.now (lists marks.old.rows.items) marks.old.places.items }
-    requires free { AreTaken (lists marks.old.rows.items) [] }
+    requires free { AreMarkedTaken (lists marks.old.rows.items) [] }
     ensures some { IfOk result (λ o. IfSome o (λ n.
-        IsFirstUnsoundDict (map D.rules kinds.now.items) (blocks_of image.now) (rows_in image.now) n)) }
+        IsFirstUnsoundDict (map D.rules kinds.now.items) (image_blocks image.now) (rows_of_image image.now) n)) }
     ensures none { IfOk result (λ o. IfNone o (AreSoundDicts (map D.rules kinds.now.items) image.now)) }
     ensures taken { IfOk result (λ o. IfNone o
-        (AreTaken (lists marks.new.rows.items) (taken_by (blocks_of image.now) (rows_in image.now)))) }
+        (AreMarkedTaken (lists marks.new.rows.items) (taken_by (image_blocks image.now) (rows_of_image image.now)))) }
     ensures known { IfOk result (λ o.
         HasBlockMarks image.now (lists marks.new.rows.items) marks.new.places.items) }
 {

@@ -1,6 +1,6 @@
 ghost use Rattle.std.specs.Prelude.{◌≡◌, ◌+◌, ◌≤◌, Some, None, IfNone, IfSome, length, map};
 ghost use Rattle.vc_model.specs.Numbered.{at_number};
-ghost use Rattle.vc_image_check.specs.Bytes.Contents.{row_at};
+ghost use Rattle.vc_image_check.specs.Bytes.Contents.{dict_row_at};
 ghost use Rattle.vc_image_check.specs.Dicts.Sound.{heads_of, method_of};
 
 use crate::bytes::word;
@@ -39,7 +39,7 @@ pub(crate) fn kind_of<D: DictDisc>(kinds: &Vec<D>, n: u32) -> Option<&D>
 /// The heads among a dictionary's nine numbers, which lie in an image from a place on. This project's own.
 pub fn heads_of(image: &[u8], at: usize) -> Heads
     requires { at + 36 ≤ length image.now }
-    ensures { result ≡ heads_of (row_at at image.now) }
+    ensures { result ≡ heads_of (dict_row_at at image.now) }
 {
     Heads {
         first: Addr(word(image, at + 16)),

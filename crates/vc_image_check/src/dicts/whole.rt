@@ -1,10 +1,10 @@
 ghost use Rattle.std.specs.Prelude.{◌≡◌, ◌↔◌, IfNone, IfOk, IfSome, IsTrue, map};
-ghost use Rattle.vc_image_check.specs.Blocks.Blocks.{HasBlockMarks, blocks_of};
-ghost use Rattle.vc_image_check.specs.Bytes.Contents.{rows_in};
+ghost use Rattle.vc_image_check.specs.Blocks.Blocks.{HasBlockMarks, image_blocks};
+ghost use Rattle.vc_image_check.specs.Bytes.Contents.{rows_of_image};
 ghost use Rattle.vc_image_check.specs.Marks.Mark.{lists};
 ghost use Rattle.vc_image_check.specs.Parts.Front.{IsSoundFront};
-ghost use Rattle.vc_image_check.specs.Dicts.Taken.{AreTaken, IsFirstUnsoundDict, taken_by};
-ghost use Rattle.vc_image_check.specs.Dicts.Whole.{AreSoundDicts, HasNoRest, IsFirstUnsoundPart, IsSound};
+ghost use Rattle.vc_image_check.specs.Dicts.Taken.{AreMarkedTaken, IsFirstUnsoundDict, taken_by};
+ghost use Rattle.vc_image_check.specs.Dicts.Whole.{AreSoundDicts, HasNoRest, IsFirstUnsoundPart, IsSoundImage};
 
 use crate::dicts::dicts::unsound_dict;
 use crate::marks::Marks;
@@ -19,7 +19,7 @@ struct Compares;
 // Whether an unlabelled block is left that no dictionary took.
 fn has_rest(image: &[u8], marks: &Marks) -> bool
     requires known { HasBlockMarks image.now (lists marks.now.rows.items) marks.now.places.items }
-    requires taken { AreTaken (lists marks.now.rows.items) (taken_by (blocks_of image.now) (rows_in image.now)) }
+    requires taken { AreMarkedTaken (lists marks.now.rows.items) (taken_by (image_blocks image.now) (rows_of_image image.now)) }
     ensures { IsTrue result ↔ (¬ HasNoRest image.now) }
 {
     marks.has(3)
@@ -32,7 +32,7 @@ fn unsound_back<D: DictDisc>(
     kinds: &Vec<D>,
 ) -> Result<Option<Part>, OutOfMemory>
     requires { IsSoundFront image.now }
-    ensures none { IfOk result (λ o. IfNone o (IsSound (map D.rules kinds.now.items) image.now)) }
+    ensures none { IfOk result (λ o. IfNone o (IsSoundImage (map D.rules kinds.now.items) image.now)) }
     ensures some { IfOk result (λ o. IfSome o (λ part.
         IsFirstUnsoundPart (map D.rules kinds.now.items) image.now part)) }
 {
@@ -60,7 +60,7 @@ pub fn unsound_part<D: DictDisc>(
     image: &[u8],
     kinds: &Vec<D>,
 ) -> Result<Option<Part>, OutOfMemory>
-    ensures none { IfOk result (λ o. IfNone o (IsSound (map D.rules kinds.now.items) image.now)) }
+    ensures none { IfOk result (λ o. IfNone o (IsSoundImage (map D.rules kinds.now.items) image.now)) }
     ensures some { IfOk result (λ o. IfSome o (λ part.
         IsFirstUnsoundPart (map D.rules kinds.now.items) image.now part)) }
 {

@@ -1,7 +1,7 @@
 ghost use Rattle.std.specs.Prelude.{◌≡◌, ℕ, ◌+◌, ◌≤◌, true, length};
 ghost use Rattle.vc_extent.specs.Tiling.{extent_of, tiling};
 ghost use Rattle.vc_gaps.specs.GapStore.{is_free};
-ghost use Rattle.vc_image_check.specs.Bytes.Contents.{contents_of};
+ghost use Rattle.vc_image_check.specs.Bytes.Contents.{contents_of_image};
 ghost use Rattle.vc_image_check.specs.Gaps.Known.{IsKnown, start_of};
 ghost use Rattle.vc_image_check.specs.Marks.Mark.{lists};
 
@@ -22,7 +22,7 @@ pub(crate) struct FreeExtents<'a> {
 impl<'a> FreeExtents<'a> {
     // Where the links of a free extent begin.
     fn start(&self, a: u32) -> usize
-        requires { is_free (tiling (contents_of self.now.image.now).segs) a ≡ true }
+        requires { is_free (tiling (contents_of_image self.now.image.now).segs) a ≡ true }
         ensures value { result ≡ start_of self.now.marks.now.places.items a }
         ensures low { 16 ≤ result }
         ensures within { result + 16 ≤ length self.now.image.now }
@@ -32,8 +32,8 @@ impl<'a> FreeExtents<'a> {
 
     // The span of a free extent.
     pub(crate) fn span(&self, a: u32) -> u32
-        requires { is_free (tiling (contents_of self.now.image.now).segs) a ≡ true }
-        ensures value { result ≡ (extent_of (tiling (contents_of self.now.image.now).segs) a).span }
+        requires { is_free (tiling (contents_of_image self.now.image.now).segs) a ≡ true }
+        ensures value { result ≡ (extent_of (tiling (contents_of_image self.now.image.now).segs) a).span }
         ensures most { result ≤ 33554432 }
     {
         word(self.image, self.start(a) - 16)
@@ -44,11 +44,11 @@ impl<'a> Links for FreeExtents<'a> {
     ghost use Rattle.std.specs.Prelude.{ℕ};
     ghost use Rattle.vc_extent.specs.Tiling.{tiling};
     ghost use Rattle.vc_gaps.specs.GapStore.{gap_store};
-    ghost use Rattle.vc_image_check.specs.Bytes.Contents.{contents_of};
+    ghost use Rattle.vc_image_check.specs.Bytes.Contents.{contents_of_image};
     ghost use Rattle.vc_image_check.specs.Gaps.Known.{known_fits, known_none};
     ghost use Rattle.vc_image_check.specs.Marks.Mark.{lists};
 
-    ghost store = { λ s. gap_store (tiling (contents_of s.image.now).segs) };
+    ghost store = { λ s. gap_store (tiling (contents_of_image s.image.now).segs) };
 
     fn left(&self, n: u32) -> u32 {
         word(self.image, self.start(n))

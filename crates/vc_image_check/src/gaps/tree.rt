@@ -4,7 +4,7 @@ ghost use Rattle.vc_extent.specs.Tiling.{tiling};
 ghost use Rattle.vc_gaps.specs.GapStore.{gap_store, is_free, key_of};
 ghost use Rattle.vc_gaps.specs.GapTree.{AscendFrom, HasGapTree, HasGaps};
 ghost use Rattle.vc_splay.specs.Stands.{IsTree};
-ghost use Rattle.vc_image_check.specs.Bytes.Contents.{contents_of};
+ghost use Rattle.vc_image_check.specs.Bytes.Contents.{contents_of_image};
 ghost use Rattle.vc_image_check.specs.Gaps.Known.{AreFree, IsKnown};
 ghost use Rattle.vc_image_check.specs.Marks.Mark.{lists, mark_at};
 
@@ -17,8 +17,8 @@ use vc_base::OutOfMemory;
 
 // Whether free extents stand in order, by span and then by address.
 fn ascend(nodes: &FreeExtents, names: &[u32]) -> bool
-    requires { AreFree (tiling (contents_of nodes.now.image.now).segs) names.now }
-    ensures { IsTrue result ↔ AscendFrom (key_of (tiling (contents_of nodes.now.image.now).segs)) 0 names.now }
+    requires { AreFree (tiling (contents_of_image nodes.now.image.now).segs) names.now }
+    ensures { IsTrue result ↔ AscendFrom (key_of (tiling (contents_of_image nodes.now.image.now).segs)) 0 names.now }
 {
     let mut low = 0u64;
     for name in names {
@@ -35,9 +35,9 @@ fn ascend(nodes: &FreeExtents, names: &[u32]) -> bool
 fn names_of(alloc: Global, image: &[u8], marks: &Marks) -> Result<Option<Vec<u32>>, OutOfMemory>
     requires { IsKnown image.now (lists marks.now.rows.items) marks.now.places.items }
     ensures some { IfOk result (λ o. IfSome o (λ names.
-        HasGapTree (tiling (contents_of image.now).segs) (contents_of image.now).root names.items)) }
+        HasGapTree (tiling (contents_of_image image.now).segs) (contents_of_image image.now).root names.items)) }
     ensures none { IfOk result (λ o. IfNone o ((xs : List ℕ)
-        → ¬ HasGapTree (tiling (contents_of image.now).segs) (contents_of image.now).root xs)) }
+        → ¬ HasGapTree (tiling (contents_of_image image.now).segs) (contents_of_image image.now).root xs)) }
 {
     let nodes = FreeExtents { image, marks };
     match in_order(alloc, &nodes, word(image, 12), 4_294_967_296)? {
@@ -81,7 +81,7 @@ fn take_out(marks: &mut Marks, names: &[u32])
 pub fn is_sound_tree(alloc: Global, image: &[u8], marks: &mut Marks) -> Result<bool, OutOfMemory>
     requires { IsKnown image.now (lists marks.old.rows.items) marks.old.places.items }
     ensures sound { IfOk result (λ b. IsTrue b
-        ↔ HasGaps (tiling (contents_of image.now).segs) (contents_of image.now).root []) }
+        ↔ HasGaps (tiling (contents_of_image image.now).segs) (contents_of_image image.now).root []) }
     ensures marks { IfOk result (λ b. IsTrue b → (a : ℕ) → mark_at (lists marks.new.rows.items) a
         ≡ (if mark_at (lists marks.old.rows.items) a == 1 then 0 else mark_at (lists marks.old.rows.items) a)) }
     ensures places { marks.new.places.items ≡ marks.old.places.items }

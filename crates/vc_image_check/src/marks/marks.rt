@@ -1,6 +1,6 @@
 ghost use Rattle.std.specs.Prelude.{◌≡◌, ◌≢◌, ℕ, ◌+◌, ◌≤◌, ◌==◌, if◌then◌else◌, [], All, IfOk, drop, length, replicate, take};
 ghost use Rattle.vc_extent.specs.Tiles.{IsTiled};
-ghost use Rattle.vc_image_check.specs.Bytes.Contents.{contents_of};
+ghost use Rattle.vc_image_check.specs.Bytes.Contents.{contents_of_image};
 ghost use Rattle.vc_image_check.specs.Bytes.Header.{IsHeader};
 ghost use Rattle.vc_image_check.specs.Marks.Mark.{IsMarked, lists, mark_at};
 
@@ -46,7 +46,7 @@ impl Marks {
     /// reads each head once.
     pub fn of(alloc: Global, image: &[u8]) -> Result<Marks, OutOfMemory>
         requires head { IsHeader image.now }
-        requires tiled { All (λ s. IsTiled s.bytes) (contents_of image.now).segs }
+        requires tiled { All (λ s. IsTiled s.bytes) (contents_of_image image.now).segs }
         ensures { IfOk result (λ m. IsMarked image.now (lists m.rows.items) m.places.items) }
     {
         let segments = word(image, 8) as usize;

@@ -1,6 +1,6 @@
 ghost use Rattle.std.specs.Prelude.{◌≡◌, ◌↔◌, ◌+◌, ◌≤◌, Bool, IsTrue, length};
 ghost use Rattle.vc_base.specs.Prelude.{IsSegmentSize};
-ghost use Rattle.vc_image_check.specs.Segments.Sound.{CanStand, IsSoundSegment};
+ghost use Rattle.vc_image_check.specs.Segments.Sound.{CanFollow, IsSoundSegment};
 
 use crate::bytes::word;
 use vc_seg::span_of;
@@ -9,7 +9,7 @@ use vc_seg::span_of;
 fn can_stand(bytes: &[u8], at: usize, before: u32, behind_free: bool) -> bool
     requires within { at + 16 ≤ length bytes.now }
     requires most { length bytes.now ≤ 33554432 }
-    ensures { IsTrue result ↔ CanStand bytes.now before at behind_free }
+    ensures { IsTrue result ↔ CanFollow bytes.now before at behind_free }
 {
     let span = word(bytes, at);
     let size = word(bytes, at + 4);

@@ -1,5 +1,5 @@
 ghost use Rattle.std.specs.Prelude.{◌≡◌, ◌+◌, ◌≤◌, IfNone, IfSome, drop, length, take};
-ghost use Rattle.vc_image_check.specs.Bytes.Contents.{contents_of};
+ghost use Rattle.vc_image_check.specs.Bytes.Contents.{contents_of_image};
 ghost use Rattle.vc_image_check.specs.Bytes.Header.{IsHeader};
 ghost use Rattle.vc_image_check.specs.Segments.Sound.{AreSoundSegments, IsFirstUnsoundSegment};
 
@@ -18,8 +18,8 @@ fn part(image: &[u8], at: usize, size: usize) -> &[u8]
 /// none where all are. The image has the head of one, as `is_header` tells. This project's own.
 pub fn unsound_segment(image: &[u8]) -> Option<u32>
     requires { IsHeader image.now }
-    ensures none { IfNone result (AreSoundSegments (contents_of image.now).segs) }
-    ensures some { IfSome result (λ n. IsFirstUnsoundSegment n (contents_of image.now).segs) }
+    ensures none { IfNone result (AreSoundSegments (contents_of_image image.now).segs) }
+    ensures some { IfSome result (λ n. IsFirstUnsoundSegment n (contents_of_image image.now).segs) }
 {
     let segments = word(image, 8) as usize;
     let mut at = 20 + 8 * segments + 36 * word(image, 16) as usize;

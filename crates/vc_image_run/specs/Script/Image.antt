@@ -5,7 +5,7 @@ use Rattle.vc_commands.specs.Home.{Home, Label}
 use Rattle.vc_dict.specs.declared.dict.Dict.{Dict}
 use Rattle.vc_image.specs.Load.{dicts_of}
 use Rattle.vc_image.specs.Save.{contents_by}
-use Rattle.vc_image_check.specs.Bytes.Contents.{contents_of}
+use Rattle.vc_image_check.specs.Bytes.Contents.{contents_of_image}
 use Rattle.vc_image_check.specs.Bytes.Image.{image_of}
 use Rattle.vc_image_check.specs.Parts.Front.{IsSoundFront}
 use Rattle.vc_image_run.specs.Session.State.{cells_of_segs, region_of_segs}
@@ -21,7 +21,7 @@ dicts_at region s = map (λ (h : DictHome). (h.kind, h.dict)) (filter (λ (h : D
 
 -- those of an image, over the cells of its segments
 abbrev pub dicts_told : List ℕ → List (ℕ × Dictionary)
-dicts_told image = map (λ (d : Dict). (d.kind, dictionary_of d (cells_of_segs (contents_of image).segs))) (dicts_of image)
+dicts_told image = map (λ (d : Dict). (d.kind, dictionary_of d (cells_of_segs (contents_of_image image).segs))) (dicts_of image)
 
 -- bytes are an image of the first region of a state with the dictionaries that lie in it
 pub record IsImageOf (s : State) (image : List ℕ) : Type 0 where
@@ -30,9 +30,9 @@ pub record IsImageOf (s : State) (image : List ℕ) : Type 0 where
   -- the head, each segment and the tree of free extents are sound
   pub front : IsSoundFront image
   -- it is the image of what it tells: of its root, its segments and its dictionaries
-  pub is : image ≡ image_of (contents_by (contents_of image).root (contents_of image).segs (dicts_of image))
+  pub is : image ≡ image_of (contents_by (contents_of_image image).root (contents_of_image image).segs (dicts_of image))
   -- its region is that of the state, with tags in place of the names
   pub name_of : ℕ → Label
-  pub blocks : region_with_labels name_of (region_of_segs (contents_of image).segs) ≡ home.region
+  pub blocks : region_with_labels name_of (region_of_segs (contents_of_image image).segs) ≡ home.region
   -- and so are its dictionaries
   pub dicts : dicts_told image ≡ dicts_at home.name s

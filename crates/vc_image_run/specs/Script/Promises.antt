@@ -2,7 +2,7 @@
 use Rattle.std.specs.Prelude.{◌≡◌, ℕ, ◌⊎◌, List, [], Option, Some, None, Result, Ok, Err, IfSome, IsSomeAnd, false, slice_get}
 use Rattle.vc_base.specs.Memory.{MemorySink}
 use Rattle.vc_dtdisc.specs.Rules.{Rules}
-use Rattle.vc_image_check.specs.Dicts.Whole.{IsFirstUnsoundPart, IsSound}
+use Rattle.vc_image_check.specs.Dicts.Whole.{IsFirstUnsoundPart, IsSoundImage}
 use Rattle.vc_image_run.specs.Script.Image.{IsImageOf}
 use Rattle.vc_image_run.specs.declared.script.fault.ScriptFault.{ScriptFault}
 use Rattle.vc_image_run.specs.declared.script.fault.ScriptFault.TheVariants.{Line, Read, Write, Memory, NoRegion, WrongMethod, Unsound}
@@ -20,18 +20,18 @@ use Rattle.vc_steps.specs.Moment.{Moment, over_sink}
 use Rattle.vc_steps.specs.State.{State}
 
 -- the fault of a run that was broken off
-abbrev pub fault_of : Stop → ScriptFault
-fault_of stop.Read = Read
-fault_of stop.Write = Write
-fault_of stop.Memory = Memory
+abbrev pub script_fault_of : Stop → ScriptFault
+script_fault_of stop.Read = Read
+script_fault_of stop.Write = Write
+script_fault_of stop.Memory = Memory
 
 -- what a run of a script without words promises, by its answer
-abbrev pub Runs : Result (Option (ℕ × LineFault)) Stop → Moment → Moment → Flows → Flows → Type 0
-Runs answer start last old new = RunsScript Dtrun no_words answer start last old new
+abbrev pub RunsWithoutWords : Result (Option (ℕ × LineFault)) Stop → Moment → Moment → Flows → Flows → Type 0
+RunsWithoutWords answer start last old new = RunsScript Dtrun no_words answer start last old new
 
 -- the script was run to its end, and that is true of the state that it leaves
 pub record RunsTo (holds : State → Type 0) (start last : Moment) (old new : Flows) : Type 0 where
-  pub runs : Runs (Ok None) start last old new
+  pub runs : RunsWithoutWords (Ok None) start last old new
   pub state : State
   pub leaves : IfSome old.left (λ input. LeavesReplay Dtrun no_words (over_sink start old.written) (over_sink (record last { state = state }) new.written) input None)
   pub is : holds state
@@ -44,14 +44,14 @@ module _ (kinds : List Rules) where
   -- a sound image of the first region with its dictionaries
   pub record IsSaved (s : State) (image : List ℕ) : Type 0 where
     pub image_of : IsImageOf s image
-    pub sound : IsSound kinds image
+    pub sound : IsSoundImage kinds image
 
   -- why no image is made
   abbrev pub FailsBy : ScriptFault → Moment → Moment → Flows → Flows → Type 0
-  FailsBy (Line n why) start last old new = Runs (Ok (Some (n, why))) start last old new
-  FailsBy Read start last old new = Runs (Err stop.Read) start last old new
-  FailsBy Write start last old new = Runs (Err stop.Write) start last old new
-  FailsBy Memory start last old new = Runs (Err stop.Memory) start last old new ⊎ Runs (Ok None) start last old new
+  FailsBy (Line n why) start last old new = RunsWithoutWords (Ok (Some (n, why))) start last old new
+  FailsBy Read start last old new = RunsWithoutWords (Err stop.Read) start last old new
+  FailsBy Write start last old new = RunsWithoutWords (Err stop.Write) start last old new
+  FailsBy Memory start last old new = RunsWithoutWords (Err stop.Memory) start last old new ⊎ RunsWithoutWords (Ok None) start last old new
   FailsBy NoRegion start last old new = RunsTo (λ s. s.homes ≡ []) start last old new
   FailsBy WrongMethod start last old new = RunsTo IsOtherFirst start last old new
   FailsBy (Unsound part) start last old new = RunsTo (λ s. (image : List ℕ) × (IsImageOf s image × IsFirstUnsoundPart kinds image part)) start last old new

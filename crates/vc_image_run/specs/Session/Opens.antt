@@ -10,8 +10,8 @@ use Rattle.vc_dict.specs.declared.dict.Dict.{Dict}
 use Rattle.vc_dtdisc.specs.Rules.{Rules}
 use Rattle.vc_image.specs.Load.{IsLoaded, IsNotLoaded, pairs_of}
 use Rattle.vc_image.specs.declared.fault.LoadFault.TheVariants.{OutOfMemory}
-use Rattle.vc_image_check.specs.Bytes.Contents.{contents_of}
-use Rattle.vc_image_check.specs.Dicts.Whole.{IsSound}
+use Rattle.vc_image_check.specs.Bytes.Contents.{contents_of_image}
+use Rattle.vc_image_check.specs.Dicts.Whole.{IsSoundImage}
 use Rattle.vc_image.specs.Lends.Terms.{terms_fault}
 use Rattle.vc_image_run.specs.Session.Copies.{copy_of}
 use Rattle.vc_image_run.specs.Session.Entries.{entries_from}
@@ -33,20 +33,20 @@ use Rattle.vc_steps.specs.declared.session.Session.{Session}
 
 -- whether the blocks of an image have tags of their own
 abbrev pub has_own_tags : List ℕ → Bool
-has_own_tags image = have_own_tags (blocks_of (region_of_segs (contents_of image).segs))
+has_own_tags image = have_own_tags (blocks_of (region_of_segs (contents_of_image image).segs))
 
 -- why no session is made over a discipline
 abbrev pub IsUnnamed : List Rules → List ℕ → Discipline → Discipline → OpenFault → Type 0
 IsUnnamed kinds image old new NoDiscipline = ⊥
 IsUnnamed kinds image old new (Load fault) = IsNotLoaded kinds image old new fault
-IsUnnamed kinds image old new Tags = IsSound kinds image × (has_own_tags image ≡ false)
+IsUnnamed kinds image old new Tags = IsSoundImage kinds image × (has_own_tags image ≡ false)
 
 module _ (kinds : List Rules) (place : ℕ) (image : List ℕ) (slots : List (Option Discipline)) where
   -- a state is that of an image over the discipline at a place of a shelf, and so are the accounts once all is closed
   pub record StandsForImage (state : State) (settled : List (Option Account)) : Type 0 where
     pub disc : Discipline
     pub here : at_number slots place ≡ Some (Some disc)
-    pub sound : IsSound kinds image
+    pub sound : IsSoundImage kinds image
     pub allowed : terms_fault disc.terms (pairs_of image) ≡ None
     pub tags : has_own_tags image ≡ true
     pub state_is : state ≡ image_state (state_of kinds slots [] []) place disc.terms image

@@ -6,7 +6,7 @@ use Rattle.vc_best.specs.Cells.{cells_of, zeroed_layout}
 use Rattle.vc_commands.specs.Tagged.{name_by_tag}
 use Rattle.vc_dict.specs.declared.dict.Dict.{Dict}
 use Rattle.vc_image.specs.Load.{dicts_of}
-use Rattle.vc_image_check.specs.Bytes.Contents.{contents_of}
+use Rattle.vc_image_check.specs.Bytes.Contents.{contents_of_image}
 use Rattle.vc_image_run.specs.Session.Names.{dict_name, region_name}
 use Rattle.vc_model.specs.Discipline.{Terms}
 use Rattle.vc_objects.specs.Parts.{dictionary_of}
@@ -41,4 +41,4 @@ state_with s place terms segs dicts =
 
 -- once the region of an image is, with its dictionaries
 abbrev pub image_state : State → ℕ → Terms → List ℕ → State
-image_state s place terms image = state_with s place terms (contents_of image).segs (dicts_of image)
+image_state s place terms image = state_with s place terms (contents_of_image image).segs (dicts_of image)

@@ -25,20 +25,20 @@ abbrev pub items_of : List (Block ℕ) → List (Label × Place × ℕ)
 items_of blocks = map (λ b. item_of (relabel_block label_of b)) (by_address blocks)
 
 -- the objects of a dictionary in order, as `walk` tells them
-abbrev pub objects_of : Blocks → Dict → Reply
-objects_of cells dict = Objects (map bytes_of (dictionary_of dict cells).objects)
+abbrev pub walked_objects : Blocks → Dict → Reply
+walked_objects cells dict = Objects (map bytes_of (dictionary_of dict cells).objects)
 
 -- the numbers of a region, its segments by number, its blocks by address, and the objects of each dictionary
 abbrev pub replies_of : Layout ℕ → List Dict → List Reply
 replies_of r dicts =
     Stats (layout_stat r) ∷ SegmentList (by_number r.segments) ∷ BlockList (items_of r.blocks)
-    ∷ map (objects_of (cells_of r.blocks)) dicts
+    ∷ map (walked_objects (cells_of r.blocks)) dicts
 
 -- their lines
-abbrev pub text_of : Layout ℕ → List Dict → List ℕ
-text_of r dicts = text (replies_of r dicts)
+abbrev pub image_text : Layout ℕ → List Dict → List ℕ
+image_text r dicts = text (replies_of r dicts)
 
 -- a dictionary is whole over some blocks by the rules of some kind
-pub record IsWholeIn (cells : Blocks) (dict : Dict) : Type 0 where
+pub record IsWholeInCells (cells : Blocks) (dict : Dict) : Type 0 where
   pub rules : Rules
   pub whole : IsWhole rules dict cells

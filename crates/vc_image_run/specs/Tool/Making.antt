@@ -7,7 +7,7 @@ use Rattle.vc_image_run.specs.Script.Over.{Remakes}
 use Rattle.vc_image_run.specs.Script.Promises.{FailsBy, Saves}
 use Rattle.vc_image_run.specs.declared.script.over_fault.OverFault.{OverFault}
 use Rattle.vc_image_run.specs.declared.script.fault.ScriptFault.{ScriptFault}
-use Rattle.vc_image_run.specs.Tool.Told.{fault_line, over_fault, script_status, status_of}
+use Rattle.vc_image_run.specs.Tool.Told.{fault_line, over_fault, script_status, status_of_image_fault}
 use Rattle.vc_image_run.specs.declared.tool.fault.ImageFault.TheVariants as fault
 use Rattle.vc_image_run.specs.declared.tool.status.ImageStatus.{ImageStatus}
 use Rattle.vc_session.specs.Streams.{Flows, Streams}
@@ -36,7 +36,7 @@ module _ {D : Type 0} (rules : D → Rules) (gone : D → Gone) (place : ℕ) (i
   pub record TellsOver (status : ImageStatus) (slots' : List (Option Discipline)) (kinds' : List D) (old new : Streams) : Type 0 where
     pub why : OverFault
     pub cause : Remakes rules gone place image slots kinds (Err why) slots' kinds' (flows_of old) (flows_of new)
-    pub status_is : status ≡ status_of (over_fault why)
+    pub status_is : status ≡ status_of_image_fault (over_fault why)
     pub told : Tried old.errors new.errors old.told new.told (fault_line (over_fault why))
 
   -- by what is answered

@@ -4,8 +4,8 @@ use Rattle.vc_image_run.specs.declared.tool.task.ImageTask.{ImageTask}
 use Rattle.vc_image_run.specs.declared.tool.task.ImageTask.TheVariants.{Check, Show, Save, Run}
 
 -- the task of a name
-abbrev pub named : List ℕ → Option ImageTask
-named name =
+abbrev pub task_named : List ℕ → Option ImageTask
+task_named name =
     if bytes_eq name (codes "check") then Some Check
     else (if bytes_eq name (codes "show") then Some Show
     else (if bytes_eq name (codes "save") then Some Save
@@ -14,5 +14,5 @@ named name =
 
 -- that of two words, the second of which names a file
 abbrev pub task_of : List (List ℕ) → Option ImageTask
-task_of (name ∷ file ∷ []) = named name
+task_of (name ∷ file ∷ []) = task_named name
 task_of words = None

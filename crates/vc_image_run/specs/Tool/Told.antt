@@ -17,8 +17,8 @@ use Rattle.vc_image_run.specs.declared.tool.status.ImageStatus.{ImageStatus}
 use Rattle.vc_image_run.specs.declared.tool.status.ImageStatus.TheVariants.{Unsound, Usage, Read, Write, Memory, NotLent, Script, NoImage}
 
 -- the line that err gets: the program's name, and what happened
-abbrev pub message : List ℕ → List ℕ
-message text = codes "vmimage: " ++ text ++ codes "\n"
+abbrev pub vmimage_line : List ℕ → List ℕ
+vmimage_line text = codes "vmimage: " ++ text ++ codes "\n"
 
 -- a part of an image
 abbrev pub part_text : Part → List ℕ
@@ -29,15 +29,15 @@ part_text (Dictionary number) = codes "dictionary " ++ decimal number
 part_text Rest = codes "rest"
 
 -- what is wrong with the segment of a number
-abbrev pub segment_text : ℕ → List ℕ → List ℕ
-segment_text number why = codes "segment " ++ decimal number ++ why
+abbrev pub bad_segment_text : ℕ → List ℕ → List ℕ
+bad_segment_text number why = codes "segment " ++ decimal number ++ why
 
 -- why an image isn't loaded
 abbrev pub load_text : LoadFault → List ℕ
 load_text (load.Bad part) = codes "unsound: " ++ part_text part
-load_text (load.Round number) = segment_text number (codes ": wrong size")
+load_text (load.Round number) = bad_segment_text number (codes ": wrong size")
 load_text load.Grows = codes "too many segments"
-load_text (load.NoSegment number) = segment_text number (codes ": no segment")
+load_text (load.NoSegment number) = bad_segment_text number (codes ": no segment")
 load_text load.OutOfMemory = codes "out of memory"
 
 -- why no image is made of what a script leaves
@@ -57,14 +57,14 @@ open_text (unopened.Load why) = load_text why
 open_text unopened.Tags = codes "wrong tags"
 
 -- what is wrong
-abbrev pub fault_text : ImageFault → List ℕ
-fault_text fault.Usage = codes "bad arguments"
-fault_text fault.Read = codes "read failed"
-fault_text fault.Write = codes "write failed"
-fault_text fault.Memory = codes "out of memory"
-fault_text (fault.Load why) = load_text why
-fault_text (fault.Script why) = script_text why
-fault_text (fault.Open why) = open_text why
+abbrev pub image_fault_text : ImageFault → List ℕ
+image_fault_text fault.Usage = codes "bad arguments"
+image_fault_text fault.Read = codes "read failed"
+image_fault_text fault.Write = codes "write failed"
+image_fault_text fault.Memory = codes "out of memory"
+image_fault_text (fault.Load why) = load_text why
+image_fault_text (fault.Script why) = script_text why
+image_fault_text (fault.Open why) = open_text why
 
 -- what keeps a script from being run over an image, or from an image of what it leaves
 abbrev pub over_fault : OverFault → ImageFault
@@ -73,7 +73,7 @@ over_fault (over.Script why) = fault.Script why
 
 -- the line of a fault
 abbrev pub fault_line : ImageFault → List ℕ
-fault_line why = message (fault_text why)
+fault_line why = vmimage_line (image_fault_text why)
 
 -- the status of an image that isn't loaded
 abbrev pub load_status : LoadFault → ImageStatus
@@ -100,11 +100,11 @@ open_status (unopened.Load why) = load_status why
 open_status unopened.Tags = NotLent
 
 -- the status of a fault
-abbrev pub status_of : ImageFault → ImageStatus
-status_of fault.Usage = Usage
-status_of fault.Read = Read
-status_of fault.Write = Write
-status_of fault.Memory = Memory
-status_of (fault.Load why) = load_status why
-status_of (fault.Script why) = script_status why
-status_of (fault.Open why) = open_status why
+abbrev pub status_of_image_fault : ImageFault → ImageStatus
+status_of_image_fault fault.Usage = Usage
+status_of_image_fault fault.Read = Read
+status_of_image_fault fault.Write = Write
+status_of_image_fault fault.Memory = Memory
+status_of_image_fault (fault.Load why) = load_status why
+status_of_image_fault (fault.Script why) = script_status why
+status_of_image_fault (fault.Open why) = open_status why

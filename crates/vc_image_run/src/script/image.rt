@@ -1,6 +1,6 @@
 ghost use Rattle.std.specs.Prelude.{◌≡◌, ◌≤◌, IfErr, IfOk, IsSome, length, map};
 ghost use Rattle.vc_image.specs.Save.{image_in};
-ghost use Rattle.vc_image_check.specs.Dicts.Whole.{IsSound};
+ghost use Rattle.vc_image_check.specs.Dicts.Whole.{IsSoundImage};
 ghost use Rattle.vc_image_run.specs.Script.Found.{IsFirstImage, IsUnsaved, WhyNone};
 ghost use Rattle.vc_region.specs.OfBest.{best_in};
 
@@ -26,7 +26,7 @@ fn judged<D: DictDisc>(
     kinds: &Vec<D>,
 ) -> Result<MemSink, ScriptFault>
     ensures same { IfOk result (λ judged. judged ≡ image) }
-    ensures sound { IfOk result (λ judged. IsSound (map D.rules kinds.now.items) image.written) }
+    ensures sound { IfOk result (λ judged. IsSoundImage (map D.rules kinds.now.items) image.written) }
     ensures err { IfErr result (IsUnsaved (map D.rules kinds.now.items) image.written) }
 {
     match unsound_part(alloc, image.bytes(), kinds) {
@@ -46,7 +46,7 @@ fn image_of_region<D: DictDisc>(
     requires best { IsSome (best_in region.now) }
     requires few { length dicts.now ≤ 256 }
     ensures image { IfOk result (λ image. image.written ≡ image_in region.now dicts.now) }
-    ensures sound { IfOk result (λ image. IsSound (map D.rules kinds.now.items) image.written) }
+    ensures sound { IfOk result (λ image. IsSoundImage (map D.rules kinds.now.items) image.written) }
     ensures err { IfErr result (IsUnsaved (map D.rules kinds.now.items)
         (image_in region.now dicts.now)) }
 {
@@ -66,7 +66,7 @@ pub(crate) fn image_of_session<D: DictDisc>(
 ) -> Result<MemSink, ScriptFault>
     requires few { length session.now.dicts.entries ≤ 256 }
     ensures image { IfOk result (λ image. IsFirstImage session.now image.written) }
-    ensures sound { IfOk result (λ image. IsSound (map D.rules kinds.now.items) image.written) }
+    ensures sound { IfOk result (λ image. IsSoundImage (map D.rules kinds.now.items) image.written) }
     ensures err { IfErr result (WhyNone (map D.rules kinds.now.items) session.now) }
 {
     match session.homes.get_index(0) {

@@ -2,7 +2,7 @@ ghost use Rattle.std.specs.Prelude.{◌≡◌, IfOk};
 ghost use Rattle.std.specs.List.{AllByRecursion};
 ghost use Rattle.vc_best.specs.Cells.{cells_in};
 ghost use Rattle.vc_best.specs.Parts.{layout_of};
-ghost use Rattle.vc_image_run.specs.Text.Text.{IsWholeIn, text_of};
+ghost use Rattle.vc_image_run.specs.Text.Text.{IsWholeInCells, image_text};
 
 use crate::text::blocks::blocks;
 use crate::text::objects::put_dicts;
@@ -17,8 +17,8 @@ use vc_script::{Reply, put_reply};
 /// each. A block with a tag has this number in place of a name, since the names of a script are no part of a region.
 /// Refused for want of memory alone. This project's own.
 pub fn text_of(alloc: Global, best: &Best, dicts: &[Dict]) -> Result<Vec<u8>, OutOfMemory>
-    requires { AllByRecursion (IsWholeIn (cells_in best.now)) dicts.now }
-    ensures { IfOk result (λ text. text.items ≡ text_of (layout_of best.now) dicts.now) }
+    requires { AllByRecursion (IsWholeInCells (cells_in best.now)) dicts.now }
+    ensures { IfOk result (λ text. text.items ≡ image_text (layout_of best.now) dicts.now) }
 {
     let mut text = Vec::new(alloc);
     put_reply(&mut text, &Reply::Stats(best.stat()))?;

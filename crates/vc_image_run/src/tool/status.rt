@@ -32,11 +32,11 @@ pub enum ImageStatus {
 }
 
 impl ImageStatus {
-    ghost use Rattle.vc_image_run.specs.Tool.Status.{number};
+    ghost use Rattle.vc_image_run.specs.Tool.Status.{image_status_number};
 
     /// The number that a program ends with, from 0 to 8.
     pub fn number(self) -> u8
-        ensures { result ≡ number self }
+        ensures { result ≡ image_status_number self }
     {
         match self {
             ImageStatus::Done => 0,

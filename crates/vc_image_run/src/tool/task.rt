@@ -1,5 +1,5 @@
 ghost use Rattle.std.specs.Prelude.{◌≡◌, OnSome, length, map, string_bytes};
-ghost use Rattle.vc_image_run.specs.Tool.Task.{named, task_of};
+ghost use Rattle.vc_image_run.specs.Tool.Task.{task_named, task_of};
 
 /// What is done with an image. This project's own.
 #[derive(Clone, Copy, Debug, PartialEq, Eq)]
@@ -16,7 +16,7 @@ pub enum ImageTask {
 
 // The task of that name.
 fn named(name: &str) -> Option<ImageTask>
-    ensures { result ≡ named name.now }
+    ensures { result ≡ task_named name.now }
 {
     if name == "check" {
         return Some(ImageTask::Check);

@@ -1,7 +1,7 @@
 ghost use Rattle.std.specs.Prelude.{◌≡◌, ◌≤◌, ◌++◌, OnErr, OnOk, codes, decimal, length};
 ghost use Rattle.arrayvec.specs.ArrayString.{array_string_len};
 ghost use Rattle.vc_image_run.specs.declared.script.fault.ScriptFault.TheVariants.{Line as LineWrong};
-ghost use Rattle.vc_image_run.specs.Tool.Told.{fault_line, fault_text, load_status, load_text, open_status, open_text, part_text, script_status, script_text, segment_text, status_of};
+ghost use Rattle.vc_image_run.specs.Tool.Told.{bad_segment_text, fault_line, image_fault_text, load_status, load_text, open_status, open_text, part_text, script_status, script_text, status_of_image_fault};
 ghost use Rattle.vc_base.specs.Told.{Broke, Told, Tried};
 
 use crate::script::ScriptFault;
@@ -50,7 +50,7 @@ fn put_part(line: &mut Line, part: Part)
 fn put_segment(line: &mut Line, number: u32, why: &str)
     requires line { array_string_len line.old ≤ 9 }
     requires why { length why.now ≤ 12 }
-    ensures bytes { line.new.bytes ≡ line.old.bytes ++ segment_text number why.now }
+    ensures bytes { line.new.bytes ≡ line.old.bytes ++ bad_segment_text number why.now }
     ensures short { array_string_len line.new ≤ 92 }
 {
     put_numbered(line, "segment ", number);
@@ -121,7 +121,7 @@ fn put_open_fault(line: &mut Line, fault: OpenFault)
 // Puts what is wrong.
 fn put_fault(line: &mut Line, fault: ImageFault)
     requires { array_string_len line.old ≤ 9 }
-    ensures bytes { line.new.bytes ≡ line.old.bytes ++ fault_text fault }
+    ensures bytes { line.new.bytes ≡ line.old.bytes ++ image_fault_text fault }
     ensures short { array_string_len line.new ≤ 92 }
 {
     match fault {
@@ -186,7 +186,7 @@ fn open_status(fault: OpenFault) -> ImageStatus
 
 // The status of a fault.
 fn status_of(fault: ImageFault) -> ImageStatus
-    ensures { result ≡ status_of fault }
+    ensures { result ≡ status_of_image_fault fault }
 {
     match fault {
         ImageFault::Usage => ImageStatus::Usage,
@@ -202,7 +202,7 @@ fn status_of(fault: ImageFault) -> ImageStatus
 /// Tells what is wrong, in one line to `err`, and answers the status of that, whatever becomes of the line: all of it
 /// is written, or a front of it where a write failed.
 pub fn tell<E: Sink>(err: &mut E, fault: ImageFault) -> ImageStatus
-    ensures status { result ≡ status_of fault }
+    ensures status { result ≡ status_of_image_fault fault }
     ensures told { Tried (E.failures err.old) (E.failures err.new)
         (E.written err.old) (E.written err.new) (fault_line fault) }
     ensures never_falls { E.failures err.old ≤ E.failures err.new }

@@ -1,8 +1,8 @@
 ghost use Rattle.std.specs.Prelude.{◌≡◌, IfErr, IfOk, IfSome, map};
 ghost use Rattle.vc_best.specs.Parts.{layout_of};
-ghost use Rattle.vc_image_check.specs.Dicts.Whole.{IsSound};
-ghost use Rattle.vc_image_run.specs.Text.Text.{text_of};
-ghost use Rattle.vc_image_run.specs.Tool.Promises.{Checks, IsJudged, IsNotShown, Puts, Shows};
+ghost use Rattle.vc_image_check.specs.Dicts.Whole.{IsSoundImage};
+ghost use Rattle.vc_image_run.specs.Text.Text.{image_text};
+ghost use Rattle.vc_image_run.specs.Tool.Promises.{Checks, IsJudged, IsNotShown, PutsText, ShowsSoundImage};
 ghost use Rattle.vc_image_run.specs.Tool.Shown.{AreShowable, shown_of};
 ghost use Rattle.vc_image_run.specs.Tool.Streams.{NoneFalls, sinks};
 ghost use Rattle.vc_image_run.specs.declared.tool.fault.ImageFault.TheVariants.{Memory};
@@ -20,7 +20,7 @@ use vc_seg::{BoxedDisc, SegDisc};
 
 // Writes what was asked for, and ends with a status.
 fn put<O: Sink, E: Sink>(text: &[u8], out: &mut O, err: &mut E) -> ImageStatus
-    ensures puts { Puts text.now result
+    ensures puts { PutsText text.now result
         (sinks O.written O.failures E.written E.failures out.old err.old)
         (sinks O.written O.failures E.written E.failures out.new err.new) }
     ensures counts { NoneFalls
@@ -48,7 +48,7 @@ fn judged<D: DictDisc>(alloc: Global, kinds: &Vec<D>, image: &[u8]) -> Result<()
 fn text_in(alloc: Global, loaded: &Loaded) -> Result<Vec<u8>, ImageFault>
     requires { AreShowable loaded.now.region loaded.now.dicts }
     ensures text { IfSome (best_in loaded.now.region) (λ best. IfOk result (λ text.
-        text.items ≡ text_of (layout_of best) loaded.now.dicts)) }
+        text.items ≡ image_text (layout_of best) loaded.now.dicts)) }
     ensures err { IfErr result (λ why. why ≡ Memory) }
 {
     match loaded.region.as_best() {
@@ -67,7 +67,7 @@ fn shown<D: DictDisc>(
     image: &[u8],
     disc: Box<dyn SegDisc>,
 ) -> Result<Vec<u8>, ImageFault>
-    ensures sound { IfOk result (λ text. IsSound (map D.rules kinds.now.items) image.now) }
+    ensures sound { IfOk result (λ text. IsSoundImage (map D.rules kinds.now.items) image.now) }
     ensures text { IfOk result (λ text. text.items ≡ shown_of image.now) }
     ensures err { IfErr result (IsNotShown (map D.rules kinds.now.items) image.now (state disc)) }
 {
@@ -111,7 +111,7 @@ pub fn show<D: DictDisc, O: Sink, E: Sink>(
     out: &mut O,
     err: &mut E,
 ) -> ImageStatus
-    ensures shows { Shows (map D.rules kinds.now.items) image.now (state disc) result
+    ensures shows { ShowsSoundImage (map D.rules kinds.now.items) image.now (state disc) result
         (sinks O.written O.failures E.written E.failures out.old err.old)
         (sinks O.written O.failures E.written E.failures out.new err.new) }
     ensures counts { NoneFalls

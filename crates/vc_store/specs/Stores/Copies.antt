@@ -3,7 +3,7 @@ use Rattle.std.specs.Prelude.{ℕ, ◌+◌, ◌<◌, ◌≤◌, ◌^◌, List, [
 use Rattle.std.specs.List.{AllByRecursion}
 use Rattle.vc_dict.specs.Parts.{dict_by, heads_in}
 use Rattle.vc_dict.specs.declared.dict.Dict.{Dict}
-use Rattle.vc_image.specs.Save.{contents_in}
+use Rattle.vc_image.specs.Save.{image_contents}
 use Rattle.vc_image_check.specs.Bytes.Image.{image_of}
 use Rattle.vc_store.specs.Stores.Stores.{best_of, dicts_of}
 use Rattle.vc_store.specs.declared.stores.store.Store.{Store}
@@ -34,4 +34,4 @@ module _ {D : Type 0} {I : Type 0} {V : I → Type 0} where
 
   -- its image
   abbrev pub image_of_store : Store D I V → List ℕ
-  image_of_store s = image_of (contents_in (best_of s) (copies_of s))
+  image_of_store s = image_of (image_contents (best_of s) (copies_of s))

@@ -19,7 +19,7 @@ use Rattle.vc_objects.specs.Objects.{own_blocks}
 use Rattle.vc_objects.specs.Parts.{IsWhole, dictionary_of}
 use Rattle.vc_store.specs.Contents.{contents_in}
 use Rattle.vc_store.specs.Reading.{Contents}
-use Rattle.vc_store.specs.Tries.{IsTried, Tries}
+use Rattle.vc_store.specs.Tries.{IsTried, TriesToPut}
 use Rattle.vc_store.specs.declared.put.Put.{Put}
 use Rattle.vc_store.specs.declared.stores.store.Store.{Store}
 
@@ -149,7 +149,7 @@ module _ {D : Type 0} {I : Type 0} {V : I → Type 0} where
       → Store D I V → Store D I V → Type 0
   TriesAt meaning rules_by answer n object old new =
       (d d' : Dict) → dict_at old n ≡ Some d → dict_at new n ≡ Some d'
-      → IsTried answer (Tries meaning answer (rules_at rules_by old n) object old.best d new.best d')
+      → IsTried answer (TriesToPut meaning answer (rules_at rules_by old n) object old.best d new.best d')
 
 -- the kinds at the end: each with its rules, and told of each object that its dictionary had
 pub record AreTold {D : Type 0} {I : Type 0} {V : I → Type 0} (rules_by : D → Rules)

@@ -5,7 +5,7 @@ use vc_seg::{BoxedDisc, SegDisc};
 
 impl<D: DictDisc + Drop> Store<D> {
     ghost use Rattle.std.specs.Prelude.{◌≡◌, is_some, length};
-    ghost use Rattle.vc_store.specs.Reading.{first_place, last_place, next_place, previous_place, with_place};
+    ghost use Rattle.vc_store.specs.Reading.{first_place, last_index, next_place, previous_place, with_place};
     ghost use Rattle.vc_store.specs.Stores.Stores.{HasDict, IsOpen, OthersStay, StaysOpen, contents, disc_of, kinds_of, numbers_of};
 
     /// Makes the first object of a dictionary current, and answers whether there is one.
@@ -31,7 +31,7 @@ impl<D: DictDisc + Drop> Store<D> {
         requires open { IsOpen D.rules self.old (disc_of self.old state) }
         requires there { HasDict self.old n }
         ensures moved { contents self.new n ≡ with_place
-            (last_place (length (contents self.old n).objects)) (contents self.old n) }
+            (last_index (length (contents self.old n).objects)) (contents self.old n) }
         ensures there { result ≡ is_some (contents self.new n).place }
         ensures kinds { kinds_of self.new ≡ kinds_of self.old }
         ensures numbers { numbers_of self.new ≡ numbers_of self.old }

@@ -1,7 +1,7 @@
 ghost use Rattle.std.specs.Prelude.{◌≡◌, ◌↔◌, ◌+◌, ℕ, IfOk, IsTrue, None, length, slice_get};
 ghost use Rattle.std.specs.List.{AllByRecursion};
 ghost use Rattle.vc_store.specs.Stores.Loads.{HaveOwnKinds, with_kind};
-ghost use Rattle.vc_store.specs.Stores.Places.{CanStand};
+ghost use Rattle.vc_store.specs.Stores.Places.{CanStandAgain};
 ghost use Rattle.vc_store.specs.Stores.Stores.{joined};
 
 use crate::stores::copies::copy;
@@ -25,7 +25,7 @@ pub(crate) fn empty_places(alloc: Global, count: usize) -> Result<Vec<Option<Dic
 // Puts each dictionary to the place before its kind's number, from the last one on, as long as that place is empty, and
 // answers whether each one's was.
 pub(crate) fn place(dicts: &[Dict], places: &mut Vec<Option<Dict>>) -> bool
-    requires fit { AllByRecursion (CanStand (length places.old.items)) dicts.now }
+    requires fit { AllByRecursion (CanStandAgain (length places.old.items)) dicts.now }
     requires empty { (n : ℕ) → joined (slice_get places.old.items n) ≡ None }
     ensures own { IsTrue result ↔ HaveOwnKinds dicts.now }
     ensures placed { IsTrue result → (n : ℕ) → joined (slice_get places.new.items n) ≡ with_kind (n + 1) dicts.now }

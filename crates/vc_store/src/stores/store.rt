@@ -28,7 +28,7 @@ impl<D: DictDisc + Drop> Store<D> {
     ghost use Rattle.vc_objects.specs.Leaves.{told_each, told_if};
     ghost use Rattle.vc_objects.specs.Promises.{opening_in};
     ghost use Rattle.vc_dtdisc.specs.Objects.{has_key};
-    ghost use Rattle.vc_store.specs.Reading.{AfterPut, LacksKey, Sought, current, found, is_from, place_after, with_place};
+    ghost use Rattle.vc_store.specs.Reading.{AfterPut, LosesKey, Sought, current, found, is_sought_from, place_after, with_place};
     ghost use Rattle.vc_store.specs.Stores.Stores.{AllStay, AreTold, Ends, HasDict, HasRoom, IsOpen, OthersStay, StaysOpen, TriesAt, best_of, contents, dict_at, dicts_of, disc_of, gone_at, kind_at, kinds_of, lender, lent_to, numbers_of, rules_at, shown};
 
     /// A store of no dictionaries in a best region, which is the store's from then on. The region's segments are the last that
@@ -156,7 +156,7 @@ impl<D: DictDisc + Drop> Store<D> {
     pub fn at_least(&mut self, n: usize, key: &[u8]) -> bool
         requires open { IsOpen D.rules self.old (disc_of self.old state) }
         requires there { HasDict self.old n }
-        ensures sought { Sought (is_from (contents self.old n).method
+        ensures sought { Sought (is_sought_from (contents self.old n).method
             (rules_at D.rules self.old n) key.now) result
             (contents self.old n) (contents self.new n) }
         ensures kinds { kinds_of self.new ≡ kinds_of self.old }
@@ -195,7 +195,7 @@ impl<D: DictDisc + Drop> Store<D> {
         requires there { HasDict self.old n }
         ensures found { IfOk result (λ gone. (if gone then Some out.new.items else None)
             ≡ found (rules_at D.rules self.old n) key.now (contents self.old n).objects) }
-        ensures lacks { OnOk result (LacksKey (rules_at D.rules self.old n) key.now
+        ensures lacks { OnOk result (LosesKey (rules_at D.rules self.old n) key.now
             (contents self.old n) (contents self.new n)) }
         ensures told { IfOk result (λ gone. gone_at D.gone self.new n
             ≡ told_if gone (Some out.new.items) (gone_at D.gone self.old n)) }

@@ -1,7 +1,7 @@
 use Rattle.vc_base.proofs.Common.{◌≡◌, ◌++◌, Some, length, codes, ap, ◌∙◌}
 use Rattle.vc_store.specs.Collections.{contents}
-use Rattle.vc_store.specs.Reading.{Contents, current, first_place, object_at, without_key}
-use Rattle.cache.specs.Asking.{key_rules, line}
+use Rattle.vc_store.specs.Reading.{Contents, current, first_place, object_at_index, without_key}
+use Rattle.cache.specs.Asking.{key_line, key_rules}
 use Rattle.cache.proofs.Keys.{first-is}
 use Rattle.cache.proofs.table.drop_oldest.Goals as goal
 
@@ -14,7 +14,7 @@ returns-clause-drops g c =
     let key : c.as_slice.result.now ≡ c.in-Some.key.now = c.as_slice.ensures.value ∙ bytes in
     let told : c.as_slice-3.result.now ≡ c.in-Some.key.now = c.as_slice-3.ensures.value ∙ bytes in
     let firsts : (contents c.first.new.self).objects ≡ old = ap (λ (d : Contents). d.objects) c.first.ensures.moved in
-    let shown : Some c.in-Some.key.now ≡ object_at (first_place (length old)) old =
+    let shown : Some c.in-Some.key.now ≡ object_at_index (first_place (length old)) old =
     c.in-Some.ensures ∙ ap current c.first.ensures.moved in
     let gone : new ≡ without_key key_rules c.in-Some.key.now old =
     c.in_ok-remove.ensures.lacks.objects
@@ -23,5 +23,5 @@ returns-clause-drops g c =
     ∙ ap (without_key key_rules c.in-Some.key.now) firsts)) in (
       c.in-Some.key.now,
       first-is c.in-Some.key.now old new shown gone,
-      c.in_ok-put_line.ensures ∙ ap (λ k. c.args.lines.now.items ++ line (codes "gone ") k) told,
+      c.in_ok-put_line.ensures ∙ ap (λ k. c.args.lines.now.items ++ key_line (codes "gone ") k) told,
     )

@@ -5,9 +5,9 @@ use Rattle.vc_paths.specs.Path.{visible_of}
 use Rattle.vc_paths.specs.Visible.{Seen}
 use Rattle.vc_paths.proofs.StayLemmas.{same-over}
 use Rattle.vc_algebra.specs.Algebra.{meet}
-use Rattle.vc_algebra.specs.ToCome.{to_come}
+use Rattle.vc_algebra.specs.ToCome.{seen_to_come}
 use Rattle.vc_algebra.proofs.LoopLemmas.{merge-ends, merge-less, merge-shows}
-use Rattle.ranges.specs.Showing.{lines_of}
+use Rattle.ranges.specs.Showing.{object_lines}
 use Rattle.ranges.proofs.Lines.{line-put, lines-end}
 use Rattle.ranges.proofs.show.put_meet.Given.{Over}
 use Rattle.ranges.proofs.show.put_meet.Goals as goal
@@ -27,7 +27,7 @@ loop-place-init g c =
     record {
       merge = begins.merge;
       unchanged = c.in_ok-meet.ensures.unchanged;
-      left = ap (λ ys. c.args.lines.now.items ++ lines_of ys) (begins.whole ∙ ap all c.in_ok-meet.ensures.unchanged.layers.layers);
+      left = ap (λ ys. c.args.lines.now.items ++ object_lines ys) (begins.whole ∙ ap all c.in_ok-meet.ensures.unchanged.layers.layers);
     }
 
 pub loop-place-smaller : goal.loop-place-smaller
@@ -41,13 +41,13 @@ loop-place-preserved g c =
       merge = c.next.ensures.merge;
       unchanged = over g c.args.layers.now c.loop-place.layers c.next.new.layers c.loop-place.invariant.unchanged c.next.ensures.unchanged;
       left =
-          ap (λ done. done ++ lines_of (to_come (g.Y.Layers.layered c.next.new.layers) links c.next.new.self)) c.in_ok-put_line.ensures
-          ∙ line-put c.loop-place.lines.items c.object.result.now (to_come (g.Y.Layers.layered c.loop-place.layers) links c.loop-place.meet) (to_come (g.Y.Layers.layered c.next.new.layers) links c.next.new.self) shows
+          ap (λ done. done ++ object_lines (seen_to_come (g.Y.Layers.layered c.next.new.layers) links c.next.new.self)) c.in_ok-put_line.ensures
+          ∙ line-put c.loop-place.lines.items c.object.result.now (seen_to_come (g.Y.Layers.layered c.loop-place.layers) links c.loop-place.meet) (seen_to_come (g.Y.Layers.layered c.next.new.layers) links c.next.new.self) shows
           ∙ c.loop-place.invariant.left;
     }
 
 pub returns-clause-lines : goal.returns-clause-lines
 returns-clause-lines g c =
     let links = c.args.paths.now in
-    lines-end c.loop-place.lines.items (to_come (g.Y.Layers.layered c.loop-place.layers) links c.loop-place.meet) (merge-ends links c.loop-place.meet c.next.new.self (rw c.in_default.is at c.next.ensures.next))
+    lines-end c.loop-place.lines.items (seen_to_come (g.Y.Layers.layered c.loop-place.layers) links c.loop-place.meet) (merge-ends links c.loop-place.meet c.next.new.self (rw c.in_default.is at c.next.ensures.next))
     ∙ c.loop-place.invariant.left

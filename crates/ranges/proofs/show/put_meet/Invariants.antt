@@ -2,8 +2,8 @@ use Rattle.vc_base.proofs.Common.{◌≡◌, ◌++◌, length}
 use Rattle.vc_paths.specs.Unchanged.{Unchanged}
 use Rattle.vc_paths.specs.Path.{visible_of}
 use Rattle.vc_algebra.specs.Algebra.{meet}
-use Rattle.vc_algebra.specs.ToCome.{IsMerge, to_come}
-use Rattle.ranges.specs.Showing.{lines_of}
+use Rattle.vc_algebra.specs.ToCome.{IsMerge, seen_to_come}
+use Rattle.ranges.specs.Showing.{object_lines}
 use Rattle.ranges.proofs.show.put_meet.Given as goal
 
 -- the lines so far and those of what is still to come are all
@@ -13,9 +13,9 @@ invariant-loop-place g l =
     record {
       merge : IsMerge (g.Y.Layers.layered l.layers) l.paths l.meet;
       unchanged : Unchanged g.Y.Layers l.fn.layers l.layers;
-      left : l.lines.items ++ lines_of (to_come (g.Y.Layers.layered l.layers) l.paths l.meet)
-          ≡ l.fn.lines.items ++ lines_of (meet (all.layer l.d).rules (visible_of all l.paths l.d) (visible_of all l.paths l.e));
+      left : l.lines.items ++ object_lines (seen_to_come (g.Y.Layers.layered l.layers) l.paths l.meet)
+          ≡ l.fn.lines.items ++ object_lines (meet (all.layer l.d).rules (visible_of all l.paths l.d) (visible_of all l.paths l.e));
     }
 
 abbrev pub decreases-loop-place : goal.decreases-loop-place
-decreases-loop-place g l = length (to_come (g.Y.Layers.layered l.layers) l.paths l.meet)
+decreases-loop-place g l = length (seen_to_come (g.Y.Layers.layered l.layers) l.paths l.meet)

@@ -6,7 +6,7 @@ use Rattle.vc_paths.proofs.StayLemmas.{same-over}
 use Rattle.vc_algebra.specs.Algebra.{range}
 use Rattle.vc_algebra.specs.ToCome.{from_place}
 use Rattle.vc_algebra.proofs.LoopLemmas.{bytes-before, next-before, path-before, range-begins, range-ends, range-goes_on, range-less, range-shows, visible-before}
-use Rattle.ranges.specs.Showing.{lines_of}
+use Rattle.ranges.specs.Showing.{object_lines}
 use Rattle.ranges.proofs.Lines.{line-put, lines-end}
 use Rattle.ranges.proofs.show.put_range.Given.{Over}
 use Rattle.ranges.proofs.show.put_range.Goals as goal
@@ -59,7 +59,7 @@ loop-next-preserved g c =
         drop 1 ys,
         range-goes_on all links c.args.d (Some c.args.low.now) (Some c.args.high.now) laws path c.in-Some.place c.range_next-next.result ys (visible-before links c.args.d (numbers_of c.in-Some.place) first.layers (rw c.in-Some.is at inv.at.seen))
             (next-before links c.args.d c.in-Some.place (Some c.args.high.now) c.range_next-next.result first.layers c.range_next-next.ensures.found) is,
-        ap (λ done. done ++ lines_of (drop 1 ys)) c.in_ok-put_line.ensures ∙ line-put c.loop-next.lines.items c.object.result.now ys (drop 1 ys) shows ∙ inv.left.2,
+        ap (λ done. done ++ object_lines (drop 1 ys)) c.in_ok-put_line.ensures ∙ line-put c.loop-next.lines.items c.object.result.now ys (drop 1 ys) shows ∙ inv.left.2,
       );
     }
 

@@ -6,7 +6,7 @@ use Rattle.vc_algebra.specs.Algebra.{range}
 use Rattle.vc_algebra.specs.Runs.{IsRangeAt}
 use Rattle.vc_algebra.specs.ToCome.{from_place}
 use Rattle.vc_algebra.proofs.LoopLemmas.{RangeLeft}
-use Rattle.ranges.specs.Showing.{lines_of}
+use Rattle.ranges.specs.Showing.{object_lines}
 use Rattle.ranges.proofs.show.put_range.Given as goal
 
 -- the lines so far and those of what is left are all
@@ -17,7 +17,7 @@ invariant-loop-next g l =
       at : IsRangeAt (g.Y.Layers.layered l.layers) l.paths l.d l.next;
       unchanged : Unchanged g.Y.Layers l.fn.layers l.layers;
       left : (ys : List (Seen ℕ)) × RangeLeft all l.paths l.d (Some l.high) l.next ys
-          × (l.lines.items ++ lines_of ys ≡ l.fn.lines.items ++ lines_of (range (all.layer l.d).rules (Some l.low) (Some l.high) (visible_of all l.paths l.d)));
+          × (l.lines.items ++ object_lines ys ≡ l.fn.lines.items ++ object_lines (range (all.layer l.d).rules (Some l.low) (Some l.high) (visible_of all l.paths l.d)));
     }
 
 abbrev pub decreases-loop-next : goal.decreases-loop-next

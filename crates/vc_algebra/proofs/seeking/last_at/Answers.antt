@@ -4,8 +4,8 @@ use Rattle.vc_region.specs.Cells.{cells_in}
 use Rattle.vc_dict.specs.Listed.{holders_of}
 use Rattle.vc_dict.specs.Stands.{Stands}
 use Rattle.vc_paths.specs.Layers.{Layer, bytes_there}
-use Rattle.vc_algebra.specs.RegionLaws.{dict-at, layer-is, layer_over}
-use Rattle.vc_algebra.specs.Sides.{holder_like, last_place}
+use Rattle.vc_algebra.specs.RegionLaws.{dict-at, layer-is, layer_over_cells}
+use Rattle.vc_algebra.specs.Sides.{holder_like, last_place_like}
 use Rattle.vc_algebra.proofs.AtHolders.{last-stands}
 use Rattle.vc_algebra.proofs.LookLemmas.{by-rules, left}
 use Rattle.vc_algebra.proofs.ToldLemmas.{no-other, within}
@@ -47,12 +47,12 @@ returns-clause-found g c = λ bytes h.
     let cells = best.cells_in c.in-Best.best in
     let layer = layer-is kinds b c.args.dicts.now c.args.d v c.dict_mut-dict.ensures.dict is in
     let stands : Stands rules v cells (holders_of v cells) = subst (λ z. Stands rules v z (holders_of v z)) (ap cells_in c.in-Best.is) (by-rules kinds b v rules c.kind_of-kind.ensures is) in
-    let there : bytes_there at (layer_over is.rules v b).objects ≡ Some bytes = subst (λ (l : Layer). bytes_there at l.objects ≡ Some bytes) layer h in
+    let there : bytes_there at (layer_over_cells is.rules v b).objects ≡ Some bytes = subst (λ (l : Layer). bytes_there at l.objects ≡ Some bytes) layer h in
     (c.last_like.ensures.found (holders_of v cells) stands).last
     ∙ ap (λ q. holder_like q cells at (holders_of v cells)) (same_Some rules is.rules (sym c.kind_of-kind.ensures ∙ is.kind))
     ∙ ap (λ z. holder_like is.rules z at (holders_of v z)) (sym (ap cells_in c.in-Best.is))
-    ∙ sym (last-stands b at (layer_over is.rules v b) bytes (holders_of v b) refl there)
-    ∙ ap (λ (l : Layer). last_place l bytes) (sym layer)
+    ∙ sym (last-stands b at (layer_over_cells is.rules v b) bytes (holders_of v b) refl there)
+    ∙ ap (λ (l : Layer). last_place_like l bytes) (sym layer)
 
 pub returns-clause-leaves : goal.returns-clause-leaves
 returns-clause-leaves g c =

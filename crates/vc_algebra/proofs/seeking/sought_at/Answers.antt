@@ -5,7 +5,7 @@ use Rattle.vc_dtdisc.specs.Rules.{Rules}
 use Rattle.vc_dict.specs.Listed.{holders_of}
 use Rattle.vc_dict.specs.Stands.{Stands}
 use Rattle.vc_paths.specs.Layers.{Layer}
-use Rattle.vc_algebra.specs.RegionLaws.{dict-at, layer-is, layer_over}
+use Rattle.vc_algebra.specs.RegionLaws.{dict-at, layer-is, layer_over_cells}
 use Rattle.vc_algebra.specs.Sides.{CanAsk, holder_to, place_to}
 use Rattle.vc_algebra.proofs.AtHolders.{place-stands}
 use Rattle.vc_algebra.proofs.LookLemmas.{by-rules, left}
@@ -54,7 +54,7 @@ returns-clause-found g c =
     c.sought.ensures.found (holders_of v cells) stands
     ∙ ap (λ q. holder_to c.args.side q cells key (holders_of v cells)) (same_Some rules is.rules (sym c.kind_of-kind.ensures ∙ is.kind))
     ∙ ap (λ z. holder_to c.args.side is.rules z key (holders_of v z)) (sym (ap cells_in c.in-Best.is))
-    ∙ sym (place-stands b c.args.side (layer_over is.rules v b) key (holders_of v b) refl)
+    ∙ sym (place-stands b c.args.side (layer_over_cells is.rules v b) key (holders_of v b) refl)
     ∙ ap (λ (l : Layer). place_to c.args.side l key) (sym (layer-is kinds b c.args.dicts.now c.args.d v c.dict_mut-dict.ensures.dict is))
 
 pub returns-clause-leaves : goal.returns-clause-leaves

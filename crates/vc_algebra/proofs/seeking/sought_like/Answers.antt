@@ -2,7 +2,7 @@ use Rattle.vc_base.proofs.Common.{◌≡◌, ◌≤◌, Some, map, take, length,
 use Rattle.vc_best.specs.Cells as best
 use Rattle.vc_region.specs.Cells.{cells_in}
 use Rattle.vc_dtdisc.specs.Rules.{Rules}
-use Rattle.vc_algebra.specs.InRegion.{layers_in}
+use Rattle.vc_algebra.specs.InRegion.{layers_of_region}
 use Rattle.vc_algebra.specs.RegionLaws.{found-there}
 use Rattle.vc_algebra.specs.Sides.{place_to}
 use Rattle.vc_algebra.proofs.ToldLemmas.{bytes-told, has-body, kind-known, kind-there, kind-told, object-within}
@@ -49,7 +49,7 @@ returns-clause-found g c = λ bytes h.
     let ds = c.args.dicts.now in
     let has = c.requires.there in
     let f = found-there kinds b ds c.args.other.0 has.dicts has.there in
-    let its = layers_in kinds b ds c.args.d in
+    let its = layers_of_region kinds b ds c.args.d in
     let kind = kind-told kinds b ds c.args.d c.requires.dict.dicts c.dict_of.result.now c.dict_of.ensures in
     let rules = same_Some (g.D.DictDisc.rules c.kind_of-kind.result.now) its.rules
     (sym c.kind_of-kind.ensures ∙ ap (at_number kinds) kind ∙ kind-there kinds b ds c.args.d c.requires.dict.dicts c.requires.dict.there) in

@@ -1,6 +1,6 @@
 use Rattle.vc_base.proofs.Common.{length}
 use Rattle.vc_paths.specs.Unchanged.{Unchanged}
-use Rattle.vc_algebra.specs.ToCome.{IsMerge, to_come}
+use Rattle.vc_algebra.specs.ToCome.{IsMerge, seen_to_come}
 use Rattle.vc_algebra_tests.proofs.shown.made.Given as goal
 
 abbrev pub invariant-loop-place : goal.invariant-loop-place
@@ -11,4 +11,4 @@ invariant-loop-place g l = record {
 
 -- each answer leaves less to come
 abbrev pub decreases-loop-place : goal.decreases-loop-place
-decreases-loop-place g l = length (to_come (g.Y.Layers.layered l.layers) l.paths l.merge)
+decreases-loop-place g l = length (seen_to_come (g.Y.Layers.layered l.layers) l.paths l.merge)

@@ -1,12 +1,12 @@
 use Rattle.vc_base.proofs.Common.{Ok, Err, IfSome, subst, arith, true}
-use Rattle.vc_compare.specs.Reading.{Gives}
-use Rattle.vc_ways.specs.Answer.{AreKept}
+use Rattle.vc_compare.specs.Reading.{GivesNextLine}
+use Rattle.vc_ways.specs.Answer.{KeepsHoldings}
 use Rattle.vc_ways.specs.Asking.{AreRefused, Refuses}
 use Rattle.vc_ways.specs.Regions.{WayTerms}
 use Rattle.vc_ways.specs.RegionsParts.{all_holdings, terms_of}
-use Rattle.vc_ways.specs.TraceParts.{state_of}
+use Rattle.vc_ways.specs.TraceParts.{trace_state}
 use Rattle.vc_ways.proofs.PoolSteps.{kept-any, kept-same, kept-then}
-use Rattle.vc_compare.specs.Ending.{RunsLine}
+use Rattle.vc_compare.specs.Ending.{RunsTraceLine}
 use Rattle.vc_compare.proofs.Running.{if_both, so_far-last, so_far-line, so_far-start, so_far-stops, so_far-stops_last}
 use Rattle.vc_compare.proofs.Stopping.{runs-as}
 use Rattle.vc_compare.proofs.TermsOn.{regions-terms}
@@ -19,7 +19,7 @@ loop-next-init g c = record {
   can = c.requires.can;
   keeps = kept-same _ (all_holdings (meaning g) c.args.trace.now.regions);
   keeps_any = kept-same _ (all_holdings (meaning g) c.args.trace.now.regions);
-  so_far = so_far-start (terms_of (meaning g) c.args.trace.now.regions) (state_of c.args.trace.now) c.args.reader.now (g.S.Source.left c.args.source.now);
+  so_far = so_far-start (terms_of (meaning g) c.args.trace.now.regions) (trace_state c.args.trace.now) c.args.reader.now (g.S.Source.left c.args.source.now);
   never_falls = omega arith;
 }
 
@@ -29,15 +29,15 @@ loop-next-preserved g c =
     let start = c.args.trace.now.regions in
     let mid = all_holdings (meaning g) c.loop-next.trace.regions in
     let last = all_holdings (meaning g) c.run_line.new.trace.regions in
-    let gives = subst (λ k. IfSome (g.S.Source.left c.loop-next.source) (λ input. Gives (Ok k) c.loop-next.reader c.next.new.self input (g.S.Source.left c.next.new.source))) c.in-Line.is c.in-Ok.ensures.gives in
-    let runs = subst (λ (t : WayTerms). RunsLine t (state_of c.loop-next.trace) (λ a. Refuses a mid last) c.next.new.self.cutter.count c.next.new.self.cutter.line (Ok tt) (state_of c.run_line.new.trace)) (regions-terms (meaning g) _ start c.loop-next.trace.regions inv.keeps) c.in-Ok-run_line.ensures.runs in
-    let keeps : AreKept true (all_holdings (meaning g) start) last = kept-then _ (all_holdings (meaning g) start) mid last inv.keeps c.in-Ok-run_line.ensures.keeps in
+    let gives = subst (λ k. IfSome (g.S.Source.left c.loop-next.source) (λ input. GivesNextLine (Ok k) c.loop-next.reader c.next.new.self input (g.S.Source.left c.next.new.source))) c.in-Line.is c.in-Ok.ensures.gives in
+    let runs = subst (λ (t : WayTerms). RunsTraceLine t (trace_state c.loop-next.trace) (λ a. Refuses a mid last) c.next.new.self.cutter.count c.next.new.self.cutter.line (Ok tt) (trace_state c.run_line.new.trace)) (regions-terms (meaning g) _ start c.loop-next.trace.regions inv.keeps) c.in-Ok-run_line.ensures.runs in
+    let keeps : KeepsHoldings true (all_holdings (meaning g) start) last = kept-then _ (all_holdings (meaning g) start) mid last inv.keeps c.in-Ok-run_line.ensures.keeps in
     record {
       stands = c.in-Ok-run_line.ensures.stands;
       can = (c.in-Ok.ensures.line c.in-Line.is).can;
       keeps = keeps;
       keeps_any = kept-any _ (all_holdings (meaning g) start) last keeps;
-      so_far = if_both (g.S.Source.left c.args.source.now) _ _ (λ input so. so_far-line (λ a. Refuses a mid last) so c.next.new.self (g.S.Source.left c.next.new.source) (state_of c.run_line.new.trace) gives runs) inv.so_far;
+      so_far = if_both (g.S.Source.left c.args.source.now) _ _ (λ input so. so_far-line (λ a. Refuses a mid last) so c.next.new.self (g.S.Source.left c.next.new.source) (trace_state c.run_line.new.trace) gives runs) inv.so_far;
       never_falls = omega (arith, inv.never_falls, c.next.ensures.never_falls);
     }
 
@@ -48,10 +48,10 @@ returns-in-Err-run_line-clause-ends g c =
     let first = all_holdings (meaning g) start in
     let mid = all_holdings (meaning g) c.loop-next.trace.regions in
     let last = all_holdings (meaning g) c.run_line.new.trace.regions in
-    let gives = subst (λ k. IfSome (g.S.Source.left c.loop-next.source) (λ input. Gives (Ok k) c.loop-next.reader c.next.new.self input (g.S.Source.left c.next.new.source))) c.in-Line.is c.in-Ok.ensures.gives in
-    let runs = subst (λ (t : WayTerms). RunsLine t (state_of c.loop-next.trace) (λ a. Refuses a mid last) c.next.new.self.cutter.count c.next.new.self.cutter.line (Err c.in-Err-run_line.ending) (state_of c.run_line.new.trace)) (regions-terms (meaning g) _ start c.loop-next.trace.regions inv.keeps) c.in-Err-run_line.ensures.runs in
-    let all = runs-as (λ a. Refuses a mid last) (AreRefused first last) (λ a refuses. record { before = mid; kept = inv.keeps; refuses = refuses }) (terms_of (meaning g) start) (state_of c.loop-next.trace) c.next.new.self.cutter.count c.next.new.self.cutter.line (Err c.in-Err-run_line.ending) (state_of c.run_line.new.trace) runs in
-    if_both (g.S.Source.left c.args.source.now) _ _ (λ input so. so_far-stops (AreRefused first last) so c.in-Err-run_line.ending c.next.new.self (g.S.Source.left c.next.new.source) (state_of c.run_line.new.trace) gives all) inv.so_far
+    let gives = subst (λ k. IfSome (g.S.Source.left c.loop-next.source) (λ input. GivesNextLine (Ok k) c.loop-next.reader c.next.new.self input (g.S.Source.left c.next.new.source))) c.in-Line.is c.in-Ok.ensures.gives in
+    let runs = subst (λ (t : WayTerms). RunsTraceLine t (trace_state c.loop-next.trace) (λ a. Refuses a mid last) c.next.new.self.cutter.count c.next.new.self.cutter.line (Err c.in-Err-run_line.ending) (trace_state c.run_line.new.trace)) (regions-terms (meaning g) _ start c.loop-next.trace.regions inv.keeps) c.in-Err-run_line.ensures.runs in
+    let all = runs-as (λ a. Refuses a mid last) (AreRefused first last) (λ a refuses. record { before = mid; kept = inv.keeps; refuses = refuses }) (terms_of (meaning g) start) (trace_state c.loop-next.trace) c.next.new.self.cutter.count c.next.new.self.cutter.line (Err c.in-Err-run_line.ending) (trace_state c.run_line.new.trace) runs in
+    if_both (g.S.Source.left c.args.source.now) _ _ (λ input so. so_far-stops (AreRefused first last) so c.in-Err-run_line.ending c.next.new.self (g.S.Source.left c.next.new.source) (trace_state c.run_line.new.trace) gives all) inv.so_far
 
 pub returns-in-Err-run_line-clause-keeps : goal.returns-in-Err-run_line-clause-keeps
 returns-in-Err-run_line-clause-keeps g c = kept-then _ (all_holdings (meaning g) c.args.trace.now.regions) (all_holdings (meaning g) c.loop-next.trace.regions) (all_holdings (meaning g) c.run_line.new.trace.regions) c.loop-next.invariant.keeps c.in-Err-run_line.ensures.keeps
@@ -62,9 +62,9 @@ returns-in-Ok-run_line-2-clause-ends g c =
     let start = c.args.trace.now.regions in
     let mid = all_holdings (meaning g) c.loop-next.trace.regions in
     let last = all_holdings (meaning g) c.run_line-in-Last.new.trace.regions in
-    let gives = subst (λ k. IfSome (g.S.Source.left c.loop-next.source) (λ input. Gives (Ok k) c.loop-next.reader c.next.new.self input (g.S.Source.left c.next.new.source))) c.in-Last.is c.in-Ok.ensures.gives in
-    let runs = subst (λ (t : WayTerms). RunsLine t (state_of c.loop-next.trace) (λ a. Refuses a mid last) c.next.new.self.cutter.count c.next.new.self.cutter.line (Ok tt) (state_of c.run_line-in-Last.new.trace)) (regions-terms (meaning g) _ start c.loop-next.trace.regions inv.keeps) c.in-Ok-run_line-2.ensures.runs in
-    if_both (g.S.Source.left c.args.source.now) _ _ (λ input so. so_far-last (λ a. Refuses a mid last) so c.next.new.self (g.S.Source.left c.next.new.source) (state_of c.run_line-in-Last.new.trace) gives runs) inv.so_far
+    let gives = subst (λ k. IfSome (g.S.Source.left c.loop-next.source) (λ input. GivesNextLine (Ok k) c.loop-next.reader c.next.new.self input (g.S.Source.left c.next.new.source))) c.in-Last.is c.in-Ok.ensures.gives in
+    let runs = subst (λ (t : WayTerms). RunsTraceLine t (trace_state c.loop-next.trace) (λ a. Refuses a mid last) c.next.new.self.cutter.count c.next.new.self.cutter.line (Ok tt) (trace_state c.run_line-in-Last.new.trace)) (regions-terms (meaning g) _ start c.loop-next.trace.regions inv.keeps) c.in-Ok-run_line-2.ensures.runs in
+    if_both (g.S.Source.left c.args.source.now) _ _ (λ input so. so_far-last (λ a. Refuses a mid last) so c.next.new.self (g.S.Source.left c.next.new.source) (trace_state c.run_line-in-Last.new.trace) gives runs) inv.so_far
 
 pub returns-in-Ok-run_line-2-clause-keeps : goal.returns-in-Ok-run_line-2-clause-keeps
 returns-in-Ok-run_line-2-clause-keeps g c = kept-any _ (all_holdings (meaning g) c.args.trace.now.regions) (all_holdings (meaning g) c.run_line-in-Last.new.trace.regions) (kept-then _ (all_holdings (meaning g) c.args.trace.now.regions) (all_holdings (meaning g) c.loop-next.trace.regions) (all_holdings (meaning g) c.run_line-in-Last.new.trace.regions) c.loop-next.invariant.keeps c.in-Ok-run_line-2.ensures.keeps)
@@ -76,10 +76,10 @@ returns-in-Err-run_line-2-clause-ends g c =
     let first = all_holdings (meaning g) start in
     let mid = all_holdings (meaning g) c.loop-next.trace.regions in
     let last = all_holdings (meaning g) c.run_line-in-Last.new.trace.regions in
-    let gives = subst (λ k. IfSome (g.S.Source.left c.loop-next.source) (λ input. Gives (Ok k) c.loop-next.reader c.next.new.self input (g.S.Source.left c.next.new.source))) c.in-Last.is c.in-Ok.ensures.gives in
-    let runs = subst (λ (t : WayTerms). RunsLine t (state_of c.loop-next.trace) (λ a. Refuses a mid last) c.next.new.self.cutter.count c.next.new.self.cutter.line (Err c.in-Err-run_line-2.ending) (state_of c.run_line-in-Last.new.trace)) (regions-terms (meaning g) _ start c.loop-next.trace.regions inv.keeps) c.in-Err-run_line-2.ensures.runs in
-    let all = runs-as (λ a. Refuses a mid last) (AreRefused first last) (λ a refuses. record { before = mid; kept = inv.keeps; refuses = refuses }) (terms_of (meaning g) start) (state_of c.loop-next.trace) c.next.new.self.cutter.count c.next.new.self.cutter.line (Err c.in-Err-run_line-2.ending) (state_of c.run_line-in-Last.new.trace) runs in
-    if_both (g.S.Source.left c.args.source.now) _ _ (λ input so. so_far-stops_last (AreRefused first last) so c.in-Err-run_line-2.ending c.next.new.self (g.S.Source.left c.next.new.source) (state_of c.run_line-in-Last.new.trace) gives all) inv.so_far
+    let gives = subst (λ k. IfSome (g.S.Source.left c.loop-next.source) (λ input. GivesNextLine (Ok k) c.loop-next.reader c.next.new.self input (g.S.Source.left c.next.new.source))) c.in-Last.is c.in-Ok.ensures.gives in
+    let runs = subst (λ (t : WayTerms). RunsTraceLine t (trace_state c.loop-next.trace) (λ a. Refuses a mid last) c.next.new.self.cutter.count c.next.new.self.cutter.line (Err c.in-Err-run_line-2.ending) (trace_state c.run_line-in-Last.new.trace)) (regions-terms (meaning g) _ start c.loop-next.trace.regions inv.keeps) c.in-Err-run_line-2.ensures.runs in
+    let all = runs-as (λ a. Refuses a mid last) (AreRefused first last) (λ a refuses. record { before = mid; kept = inv.keeps; refuses = refuses }) (terms_of (meaning g) start) (trace_state c.loop-next.trace) c.next.new.self.cutter.count c.next.new.self.cutter.line (Err c.in-Err-run_line-2.ending) (trace_state c.run_line-in-Last.new.trace) runs in
+    if_both (g.S.Source.left c.args.source.now) _ _ (λ input so. so_far-stops_last (AreRefused first last) so c.in-Err-run_line-2.ending c.next.new.self (g.S.Source.left c.next.new.source) (trace_state c.run_line-in-Last.new.trace) gives all) inv.so_far
 
 pub returns-in-Err-run_line-2-clause-keeps : goal.returns-in-Err-run_line-2-clause-keeps
 returns-in-Err-run_line-2-clause-keeps g c = kept-then _ (all_holdings (meaning g) c.args.trace.now.regions) (all_holdings (meaning g) c.loop-next.trace.regions) (all_holdings (meaning g) c.run_line-in-Last.new.trace.regions) c.loop-next.invariant.keeps c.in-Err-run_line-2.ensures.keeps

@@ -1,9 +1,9 @@
 use Rattle.vc_base.proofs.Common.{◌-◌, ◌≤◌, IfSome, Discipline, false, true}
-use Rattle.vc_compare.specs.Reading.{CanRead, to_come}
+use Rattle.vc_compare.specs.Reading.{CanRead, lines_to_come}
 use Rattle.vc_script.specs.Judged.{last_number}
-use Rattle.vc_ways.specs.Answer.{AreKept}
+use Rattle.vc_ways.specs.Answer.{KeepsHoldings}
 use Rattle.vc_ways.specs.RegionsParts.{all_holdings, terms_of}
-use Rattle.vc_ways.specs.TraceParts.{Stands, state_of}
+use Rattle.vc_ways.specs.TraceParts.{StandsSoFar, trace_state}
 use Rattle.vc_compare.proofs.Running.{SoFar}
 use Rattle.vc_compare.proofs.run.run_lines.Given as goal
 
@@ -14,11 +14,11 @@ meaning g p = (g.dyn-1.0.entry p.0).1.state p.1
 abbrev pub invariant-loop-next : goal.invariant-loop-next
 invariant-loop-next g l =
     record {
-      stands : Stands (meaning g) l.trace;
+      stands : StandsSoFar (meaning g) l.trace;
       can : CanRead l.reader;
-      keeps : AreKept true (all_holdings (meaning g) l.fn.trace.regions) (all_holdings (meaning g) l.trace.regions);
-      keeps_any : AreKept false (all_holdings (meaning g) l.fn.trace.regions) (all_holdings (meaning g) l.trace.regions);
-      so_far : IfSome (g.S.Source.left l.fn.source) (λ input. SoFar (terms_of (meaning g) l.fn.trace.regions) (state_of l.fn.trace) (to_come l.fn.reader input) l.reader (g.S.Source.left l.source) (state_of l.trace));
+      keeps : KeepsHoldings true (all_holdings (meaning g) l.fn.trace.regions) (all_holdings (meaning g) l.trace.regions);
+      keeps_any : KeepsHoldings false (all_holdings (meaning g) l.fn.trace.regions) (all_holdings (meaning g) l.trace.regions);
+      so_far : IfSome (g.S.Source.left l.fn.source) (λ input. SoFar (terms_of (meaning g) l.fn.trace.regions) (trace_state l.fn.trace) (lines_to_come l.fn.reader input) l.reader (g.S.Source.left l.source) (trace_state l.trace));
       never_falls : g.S.Source.failures l.fn.source ≤ g.S.Source.failures l.source;
     }
 

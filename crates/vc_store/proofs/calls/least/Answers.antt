@@ -7,7 +7,7 @@ use Rattle.vc_best.specs.Cells.{cells_in}
 use Rattle.vc_objects.specs.Parts.{dictionary_in, object_of}
 use Rattle.vc_objects.proofs.Looking.{Looks-became}
 use Rattle.vc_objects.proofs.Mapped.{address-mapped}
-use Rattle.vc_store.specs.Reading.{is_from}
+use Rattle.vc_store.specs.Reading.{is_sought_from}
 use Rattle.vc_store.proofs.Shown.{from-none, from-ordered}
 use Rattle.vc_store.proofs.calls.least.Goals as goal
 
@@ -18,8 +18,8 @@ returns-then-is_ordered-clause-found g c =
     let xs = holders_of c.args.dict.now b in
     (c.at_least.ensures.found xs c.requires.whole.stands).first
     ∙ (sym (from-ordered c.args.dict.now.method rules c.args.key.now (object_at b) xs (sym c.if-is_ordered.ensures))
-    ∙ sym (ap (option_map address_of) (find-map (object_of b) (λ o. is_from c.args.dict.now.method rules c.args.key.now o.bytes) xs)
-    ∙ address-mapped b (find (λ at. is_from c.args.dict.now.method rules c.args.key.now (object_at b at)) xs)))
+    ∙ sym (ap (option_map address_of) (find-map (object_of b) (λ o. is_sought_from c.args.dict.now.method rules c.args.key.now o.bytes) xs)
+    ∙ address-mapped b (find (λ at. is_sought_from c.args.dict.now.method rules c.args.key.now (object_at b at)) xs)))
 
 pub returns-then-is_ordered-clause-looks : goal.returns-then-is_ordered-clause-looks
 returns-then-is_ordered-clause-looks g c =

@@ -2,7 +2,7 @@ use Rattle.vc_base.proofs.Common.{length}
 use Rattle.vc_dict.specs.Listed.{holders_of}
 use Rattle.vc_best.specs.Cells.{cells_in}
 use Rattle.vc_store.specs.Contents.{contents_in}
-use Rattle.vc_store.specs.Reading.{last_place}
+use Rattle.vc_store.specs.Reading.{last_index}
 use Rattle.vc_store.proofs.Cursor.{last-moved, last-none, last-there}
 use Rattle.vc_store.proofs.Moving.{can-look, moved-none, moved-to}
 use Rattle.vc_store.proofs.moves.to_last.Goals as goal
@@ -19,7 +19,7 @@ returns-in-Some g c =
     let whole = c.requires.whole.whole in
     let at = c.in-Some.at in
     let told = c.in-Some.ensures rules xs whole.stands in
-    record { moves = moved-to c.args.best.now d c.requires.whole at (last_place (length (contents_in d c.args.best.now).objects)) (last-there rules d b whole at told) (last-moved rules d b whole at told) }
+    record { moves = moved-to c.args.best.now d c.requires.whole at (last_index (length (contents_in d c.args.best.now).objects)) (last-there rules d b whole at told) (last-moved rules d b whole at told) }
 
 pub returns-in-None : goal.returns-in-None
 returns-in-None g c =
@@ -29,4 +29,4 @@ returns-in-None g c =
     let rules = c.requires.whole.rules in
     let whole = c.requires.whole.whole in
     let told = c.in-None.ensures rules xs whole.stands in
-    record { moves = moved-none c.args.best.now d c.requires.whole (last_place (length (contents_in d c.args.best.now).objects)) (last-none rules d b whole told) }
+    record { moves = moved-none c.args.best.now d c.requires.whole (last_index (length (contents_in d c.args.best.now).objects)) (last-none rules d b whole told) }

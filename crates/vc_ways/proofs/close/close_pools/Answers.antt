@@ -1,7 +1,7 @@
 use Rattle.vc_base.proofs.Common.{◌≡◌, ℕ, suc, ◌+◌, ◌-◌, List, [], ◌∷◌, ◌++◌, All, Option, Some, length, map, set, sym, ap, ◌∙◌, subst, arith, append-nil, append_assoc, length-append, Discipline}
 use Rattle.vc_seg.specs.Boxed.{disc_in_box}
 use Rattle.vc_seg.specs.Shelf.{place_at}
-use Rattle.vc_ways.specs.Answer.{IsLent}
+use Rattle.vc_ways.specs.Answer.{HasOwnSegmentsOut}
 use Rattle.vc_ways.specs.PoolParts.{holding_in}
 use Rattle.vc_ways.specs.Settled.{slots_on, with_discs}
 use Rattle.vc_ways.proofs.Slots.{all-mid, none-back, one-back, still-taken}
@@ -18,7 +18,7 @@ close-disc-requires g c =
     let left = c.pop.new.self.items in
     let pool = c.in-Some.pool in
     let all : c.args.pools.items ≡ left ++ pool ∷ inv.0 = inv.1 ∙ (ap (λ xs. xs ++ inv.0) c.in-Some.ensures.items ∙ append_assoc left (pool ∷ []) inv.0) in
-    all-mid IsLent (holding_in (meaning g)) left pool inv.0 (subst (λ xs. All IsLent (map (holding_in (meaning g)) xs)) all c.requires.lent)
+    all-mid HasOwnSegmentsOut (holding_in (meaning g)) left pool inv.0 (subst (λ xs. All HasOwnSegmentsOut (map (holding_in (meaning g)) xs)) all c.requires.lent)
 
 pub give_back-requires : goal.give_back-requires
 give_back-requires g c =

@@ -1,7 +1,7 @@
 use Rattle.vc_base.proofs.Common.{Discipline, ◌<◌, ℕ, List, HasBlock, length, length-map, ap, sym, subst, arith}
 use Rattle.vc_model.specs.Pool.{Pool}
 use Rattle.vc_pool.specs.Parts.{pool_of}
-use Rattle.vc_ways.specs.PoolParts.{cells_at, holding_in, pools_of}
+use Rattle.vc_ways.specs.PoolParts.{class_blocks, holding_in, pools_of}
 use Rattle.vc_ways.specs.PoolWay.{class_of}
 use Rattle.vc_ways.proofs.Cells.{freed-others}
 use Rattle.vc_ways.proofs.PoolSteps.{keeps-equal}
@@ -31,4 +31,4 @@ returns-clause-others g c =
     let xs = c.args.pools.now.items in
     let few : class_of c.args.size < length (pools_of xs) = omega (arith, c.class_of-class.ensures.few, c.class_of-class.ensures.value, c.requires.classes, length-map xs pool_of) in
     let freed = freed-here (meaning g) xs c.class_of-class.result c.index_mut.result.now c.free.new.self (omega (arith, c.class_of-class.ensures.few, c.requires.classes)) c.index_mut.ensures.value _ _ c.class_of-class.ensures.value c.free.ensures.pool in
-    subst (λ (ps : List (Pool ℕ)). HasBlock (cells_at ps class) a) (sym freed) (freed-others (pools_of xs) (class_of c.args.size) c.args.at.0 few class a has other)
+    subst (λ (ps : List (Pool ℕ)). HasBlock (class_blocks ps class) a) (sym freed) (freed-others (pools_of xs) (class_of c.args.size) c.args.at.0 few class a has other)

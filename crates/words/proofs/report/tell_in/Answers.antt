@@ -2,14 +2,14 @@ use Rattle.vc_base.proofs.Common.{Ok, sym, subst}
 use Rattle.vc_store.specs.Collections.{contents}
 use Rattle.vc_store.specs.declared.put.Put.{Put}
 use Rattle.words.specs.Counting.{Counts}
-use Rattle.words.specs.Text.{words_of}
+use Rattle.words.specs.Text.{words_in}
 use Rattle.words.proofs.Once.{long-each, reported-in}
 use Rattle.words.proofs.report.tell_in.Goals as goal
 
 pub returns-in-Ok-WrongSize-clause-too_long : goal.returns-in-Ok-WrongSize-clause-too_long
 returns-in-Ok-WrongSize-clause-too_long g c _ =
-    long-each (words_of c.args.text.now) (contents c.args.set.now).objects
-    (subst (λ (put : Put). Counts (Ok put) (words_of c.args.text.now) (contents c.args.set.now) (contents c.count_words.new.set)) c.in-Ok-WrongSize.field-0-is
+    long-each (words_in c.args.text.now) (contents c.args.set.now).objects
+    (subst (λ (put : Put). Counts (Ok put) (words_in c.args.text.now) (contents c.args.set.now) (contents c.count_words.new.set)) c.in-Ok-WrongSize.field-0-is
     c.in-Ok-WrongSize.ensures.counts)
 
 pub returns-in-Ok-put_lines-clause-ok : goal.returns-in-Ok-put_lines-clause-ok

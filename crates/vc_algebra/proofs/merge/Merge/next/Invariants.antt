@@ -1,6 +1,6 @@
 use Rattle.vc_base.proofs.Common.{◌≡◌, ◌+◌, length}
 use Rattle.vc_paths.specs.Layers.{Same}
-use Rattle.vc_algebra.specs.ToCome.{IsMerge, IsOfSame, left_of, right_of, to_come}
+use Rattle.vc_algebra.specs.ToCome.{IsMerge, IsOfSame, left_of, right_of, seen_to_come}
 use Rattle.vc_algebra.proofs.merge.Merge.next.Given as goal
 
 abbrev pub invariant-loop-turn : goal.invariant-loop-turn
@@ -9,7 +9,7 @@ invariant-loop-turn g l = record {
   stays : g.Y.Layers.Stays l.initial.layers l.layers;
   merge : IsMerge (g.Y.Layers.layered l.layers) l.paths l.self;
   same : IsOfSame l.initial.self l.self;
-  rest : to_come (g.Y.Layers.layered l.layers) l.paths l.self ≡ to_come (g.Y.Layers.layered l.initial.layers) l.paths l.initial.self;
+  rest : seen_to_come (g.Y.Layers.layered l.layers) l.paths l.self ≡ seen_to_come (g.Y.Layers.layered l.initial.layers) l.paths l.initial.self;
 }
 
 abbrev pub decreases-loop-turn : goal.decreases-loop-turn

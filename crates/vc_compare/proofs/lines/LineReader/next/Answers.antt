@@ -1,5 +1,5 @@
 use Rattle.vc_base.proofs.Common.{◌+◌, ◌∙◌, subst, ap, refl, arith, inl, inr}
-use Rattle.vc_compare.specs.Reading.{Cuts, is_line}
+use Rattle.vc_compare.specs.Reading.{CutsLine, is_line}
 use Rattle.vc_compare.proofs.ToCome.{leaves-start, told-bad, told-end, told-line, told-more, told-ready}
 use Rattle.vc_compare.proofs.lines.LineReader.next.Goals as goal
 
@@ -45,7 +45,7 @@ loop-self-smaller g c =
 pub loop-self-preserved : goal.loop-self-preserved
 loop-self-preserved g c =
     let used = c.cut.ensures.more c.in-More.is in
-    let cuts = subst (λ k. Cuts k c.ready.new.self c.cut.new.self) c.in-More.is c.cut.ensures.cuts in
+    let cuts = subst (λ k. CutsLine k c.ready.new.self c.cut.new.self) c.in-More.is c.cut.ensures.cuts in
     let readied = told-ready c.args.self.now (g.S.Source.left c.args.source.now) _ c.loop-self.self c.ready.new.self (g.S.Source.left c.loop-self.source) (g.S.Source.left c.ready.new.source) c.ready.ensures.cutter c.in-Ok-true.ensures.readies c.loop-self.invariant.leaves in
     record {
       can = used.can;
@@ -56,7 +56,7 @@ loop-self-preserved g c =
 
 pub returns-in-Bad-clause-gives : goal.returns-in-Bad-clause-gives
 returns-in-Bad-clause-gives g c =
-    let cuts = subst (λ k. Cuts k c.ready.new.self c.cut.new.self) c.in-Bad.is c.cut.ensures.cuts in
+    let cuts = subst (λ k. CutsLine k c.ready.new.self c.cut.new.self) c.in-Bad.is c.cut.ensures.cuts in
     let readied = told-ready c.args.self.now (g.S.Source.left c.args.source.now) _ c.loop-self.self c.ready.new.self (g.S.Source.left c.loop-self.source) (g.S.Source.left c.ready.new.source) c.ready.ensures.cutter c.in-Ok-true.ensures.readies c.loop-self.invariant.leaves in
     told-bad c.args.self.now (g.S.Source.left c.args.source.now) c.in-Bad.fault c.ready.new.self c.cut.new.self (g.S.Source.left c.ready.new.source) cuts readied
 
@@ -65,7 +65,7 @@ returns-in-Bad-clause-never_falls g c = omega (arith, c.loop-self.invariant.neve
 
 pub returns-in-Whole-clause-gives : goal.returns-in-Whole-clause-gives
 returns-in-Whole-clause-gives g c =
-    let cuts = subst (λ k. Cuts k c.ready.new.self c.cut.new.self) c.in-Whole.is c.cut.ensures.cuts in
+    let cuts = subst (λ k. CutsLine k c.ready.new.self c.cut.new.self) c.in-Whole.is c.cut.ensures.cuts in
     let readied = told-ready c.args.self.now (g.S.Source.left c.args.source.now) _ c.loop-self.self c.ready.new.self (g.S.Source.left c.loop-self.source) (g.S.Source.left c.ready.new.source) c.ready.ensures.cutter c.in-Ok-true.ensures.readies c.loop-self.invariant.leaves in
     told-line c.args.self.now (g.S.Source.left c.args.source.now) c.ready.new.self c.cut.new.self (g.S.Source.left c.ready.new.source) cuts readied
 

@@ -1,12 +1,12 @@
 use Rattle.vc_base.proofs.Common.{◌<◌, ◌∙◌, arith, rules}
-use Rattle.vc_image_check.specs.Bytes.Contents.{segments_in}
+use Rattle.vc_image_check.specs.Bytes.Contents.{image_segment_count}
 use Rattle.vc_image.proofs.Lending.{bytes-even, bytes-legal, bytes-within, first, last, lending-next, lent-all, lent-whole, refused-here, tiled, unused}
 use Rattle.vc_image.proofs.lends.lend.lend_image.Given.{Over}
 use Rattle.vc_image.proofs.lends.lend.lend_image.Goals as goal
 use Rattle.vc_image.proofs.lends.lend.lend_image.Goals.{After-word-size}
 
 -- there is one more segment
-below : (g : Over) (c : After-word-size g) → c.loop-i.i < segments_in c.args.image.now
+below : (g : Over) (c : After-word-size g) → c.loop-i.i < image_segment_count c.args.image.now
 below g c = let lt = c.loop-i-test.true in let e = c.word-segments.ensures in omega (arith, lt, e)
 
 pub slice_bounds-lend_copy-end : goal.slice_bounds-lend_copy-end

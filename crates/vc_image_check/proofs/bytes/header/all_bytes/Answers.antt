@@ -1,6 +1,6 @@
 use Rattle.vc_base.proofs.Common.{◌≡◌, ℕ, ◌+◌, ◌*◌, ◌<◌, List, length, get_or, true≢false, sym, ap, ◌∙◌, arith}
 use Rattle.vc_seg.specs.Field.{field_at}
-use Rattle.vc_image_check.specs.Bytes.Contents.{items_at, pair_at}
+use Rattle.vc_image_check.specs.Bytes.Contents.{items_at, segment_pair_at}
 use Rattle.vc_image_check.specs.Bytes.Image.{pair_bytes}
 use Rattle.vc_image_check.proofs.Pairs.{all-passed, items-get, not-legal, not-new, passed-next, passed-none}
 use Rattle.vc_image_check.proofs.Words.{length-items}
@@ -9,14 +9,14 @@ use Rattle.vc_image_check.proofs.bytes.header.all_bytes.Goals.{After-word-size}
 
 -- the pairs, how many there are, and the one at hand
 abbrev ps : (c : After-word-size) → List (ℕ × ℕ)
-ps c = items_at pair_at 8 c.args.count 20 c.args.image.now
+ps c = items_at segment_pair_at 8 c.args.count 20 c.args.image.now
 
 abbrev one : (c : After-word-size) → ℕ × ℕ
 one c = (c.word-number.result, c.word-size.result)
 
 below : (c : After-word-size) → c.loop-i.i < length (ps c)
 below c =
-    let long = length-items pair_at pair_bytes 8 c.args.count 20 c.args.image.now in
+    let long = length-items segment_pair_at pair_bytes 8 c.args.count 20 c.args.image.now in
     let lt = c.loop-i-test.true in
     omega (arith, long, lt)
 
@@ -26,10 +26,10 @@ here c =
     let place : 20 + 8 * c.loop-i.i + 4 ≡ 24 + 8 * c.loop-i.i = omega arith in
     let number : field_at (20 + 8 * c.loop-i.i) b ≡ c.word-number.result = sym c.word-number.ensures in
     let size : field_at (20 + 8 * c.loop-i.i + 4) b ≡ c.word-size.result = ap (λ z. field_at z b) place ∙ sym c.word-size.ensures in
-    items-get pair_at 8 b c.args.count 20 c.loop-i.i (one c) c.loop-i-test.true ∙ (λ i. (number i, size i))
+    items-get segment_pair_at 8 b c.args.count 20 c.loop-i.i (one c) c.loop-i-test.true ∙ (λ i. (number i, size i))
 
 pub loop-i-init : goal.loop-i-init
-loop-i-init c = passed-none (items_at pair_at 8 c.args.count 20 c.args.image.now)
+loop-i-init c = passed-none (items_at segment_pair_at 8 c.args.count 20 c.args.image.now)
 
 pub returns-then-not-is_pair-clause-none : goal.returns-then-not-is_pair-clause-none
 returns-then-not-is_pair-clause-none c =
@@ -48,8 +48,8 @@ loop-i-preserved c =
 
 pub returns-clause-some : goal.returns-clause-some
 returns-clause-some c =
-    let long = length-items pair_at pair_bytes 8 c.args.count 20 c.args.image.now in
+    let long = length-items segment_pair_at pair_bytes 8 c.args.count 20 c.args.image.now in
     let end = c.loop-i-test.false in
     let most = c.loop-i.auto.i-end in
     let few = c.requires.few in
-    all-passed (items_at pair_at 8 c.args.count 20 c.args.image.now) c.loop-i.i c.loop-i.marks c.loop-i.total c.loop-i.invariant (omega (arith, long, end, most)) (omega (arith, end, most, few))
+    all-passed (items_at segment_pair_at 8 c.args.count 20 c.args.image.now) c.loop-i.i c.loop-i.marks c.loop-i.total c.loop-i.invariant (omega (arith, long, end, most)) (omega (arith, end, most, few))

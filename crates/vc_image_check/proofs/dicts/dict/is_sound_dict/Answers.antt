@@ -1,7 +1,7 @@
 use Rattle.vc_base.proofs.Common.{◌≡◌, true, if◌then◌else◌, map, AreDistinct, contains, sym, ap, ◌∙◌, subst}
-use Rattle.vc_image_check.specs.Bytes.Contents.{row_at}
+use Rattle.vc_image_check.specs.Bytes.Contents.{dict_row_at}
 use Rattle.vc_image_check.specs.Marks.Mark.{lists, mark_at}
-use Rattle.vc_image_check.specs.Blocks.Blocks.{blocks_of}
+use Rattle.vc_image_check.specs.Blocks.Blocks.{image_blocks}
 use Rattle.vc_image_check.specs.Dicts.Sound.{IsSoundRow, own_of}
 use Rattle.vc_image_check.proofs.Once.{free-sound, more-taken, row-there, sound-free}
 use Rattle.vc_image_check.proofs.dicts.dict.is_sound_dict.Goals as goal
@@ -9,16 +9,16 @@ use Rattle.vc_image_check.proofs.dicts.dict.is_sound_dict.Goals as goal
 pub take_blocks-requires : goal.take_blocks-requires
 take_blocks-requires g c =
     let kinds = map g.D.DictDisc.rules c.args.kinds.now.items in
-    let b = blocks_of c.args.image.now in
-    let r = row_at c.args.at c.args.image.now in
+    let b = image_blocks c.args.image.now in
+    let r = dict_row_at c.args.at c.args.image.now in
     let told : IsSoundRow kinds b r × (c.in-Some.own.items ≡ own_of b r) = rw c.in-Some.is at c.in_ok-own.ensures.some in
     subst AreDistinct (sym (c.deref.ensures.value ∙ told.1)) (row-there kinds b r told.0).distinct
 
 pub returns-in-Some-clause-sound : goal.returns-in-Some-clause-sound
 returns-in-Some-clause-sound g c = λ taken are.
     let kinds = map g.D.DictDisc.rules c.args.kinds.now.items in
-    let b = blocks_of c.args.image.now in
-    let r = row_at c.args.at c.args.image.now in
+    let b = image_blocks c.args.image.now in
+    let r = dict_row_at c.args.at c.args.image.now in
     let rows = lists c.args.marks.now.rows.items in
     let told : IsSoundRow kinds b r × (c.in-Some.own.items ≡ own_of b r) = rw c.in-Some.is at c.in_ok-own.ensures.some in
     let list : c.deref.result.now ≡ own_of b r = c.deref.ensures.value ∙ told.1 in (
@@ -31,8 +31,8 @@ returns-in-Some-clause-sound g c = λ taken are.
 pub returns-in-Some-clause-taken : goal.returns-in-Some-clause-taken
 returns-in-Some-clause-taken g c = λ yes taken are.
     let kinds = map g.D.DictDisc.rules c.args.kinds.now.items in
-    let b = blocks_of c.args.image.now in
-    let r = row_at c.args.at c.args.image.now in
+    let b = image_blocks c.args.image.now in
+    let r = dict_row_at c.args.at c.args.image.now in
     let rows = lists c.args.marks.now.rows.items in
     let told : IsSoundRow kinds b r × (c.in-Some.own.items ≡ own_of b r) = rw c.in-Some.is at c.in_ok-own.ensures.some in
     let list : c.deref.result.now ≡ own_of b r = c.deref.ensures.value ∙ told.1 in

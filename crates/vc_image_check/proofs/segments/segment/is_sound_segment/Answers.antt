@@ -1,6 +1,6 @@
 use Rattle.vc_base.proofs.Common.{◌≡◌, ◌+◌, ◌-◌, eqb, length, true≢false, sym, refl, ◌∙◌, subst, arith}
 use Rattle.vc_seg.specs.Field.{field_at}
-use Rattle.vc_image_check.specs.Segments.Sound.{CanStand}
+use Rattle.vc_image_check.specs.Segments.Sound.{CanFollow}
 use Rattle.vc_image_check.proofs.SegmentWalks.{Rest, rest-from, rest-sound, rest-to, sound-rest}
 use Rattle.vc_image_check.proofs.segments.segment.is_sound_segment.Goals as goal
 
@@ -38,7 +38,7 @@ loop-at-preserved c =
     let b = c.args.bytes.now in
     let w = c.loop-at.invariant in
     let at = c.loop-at.at in
-    let can : CanStand b c.loop-at.before at c.loop-at.free = c.can_stand.ensures.0 c.if-not-can_stand.false in
+    let can : CanFollow b c.loop-at.before at c.loop-at.free = c.can_stand.ensures.0 c.if-not-can_stand.false in
     let span : c.word-before.result ≡ field_at at b = c.word-before.ensures in
     let size : c.word-free.result ≡ field_at (at + 4) b = c.word-free.ensures in
     let least = can.least in

@@ -1,6 +1,6 @@
 use Rattle.vc_base.proofs.Common.{◌≡◌, ◌++◌, [], ◌∷◌, All-cons, List, Option, length, refl, ap, arith, Discipline}
 use Rattle.vc_seg.specs.Boxed.{disc_in_box}
-use Rattle.vc_ways.specs.Answer.{Holding, IsLent}
+use Rattle.vc_ways.specs.Answer.{HasOwnSegmentsOut, Holding}
 use Rattle.vc_ways.specs.LastParts.{last_holding}
 use Rattle.vc_ways.specs.Lends.{Lends, Opens}
 use Rattle.vc_ways.specs.PoolParts.{holdings}
@@ -72,8 +72,8 @@ pub returns-in-Ok-open_pools-clause-lent : goal.returns-in-Ok-open_pools-clause-
 returns-in-Ok-open_pools-clause-lent g c =
     let second : Holding = last_holding (meaning g) c.in-Ok-open_last.last in
     let pools : List Holding = holdings (meaning g) c.in-Ok-open_pools.pools.items in
-    All-cons IsLent (best_holding (meaning g) c.in-Ok.best) (second ∷ pools) (lent-none (best_holding (meaning g) c.in-Ok.best) (ap (λ r. r.segments) c.in-Ok.ensures.opened))
-    (All-cons IsLent second pools (lent-none (last_holding (meaning g) c.in-Ok-open_last.last) (ap (λ r. r.segments) c.in-Ok-open_last.ensures.opened)) c.in-Ok-open_pools.ensures.lent)
+    All-cons HasOwnSegmentsOut (best_holding (meaning g) c.in-Ok.best) (second ∷ pools) (lent-none (best_holding (meaning g) c.in-Ok.best) (ap (λ r. r.segments) c.in-Ok.ensures.opened))
+    (All-cons HasOwnSegmentsOut second pools (lent-none (last_holding (meaning g) c.in-Ok-open_last.last) (ap (λ r. r.segments) c.in-Ok-open_last.ensures.opened)) c.in-Ok-open_pools.ensures.lent)
 
 pub returns-in-Err-open_pools-clause-lends : goal.returns-in-Err-open_pools-clause-lends
 returns-in-Err-open_pools-clause-lends g c = λ old. by old

@@ -2,7 +2,7 @@ use Rattle.vc_base.proofs.Common.{◌∙◌, Some, bytes_eq, option_map, refl, s
 use Rattle.std.proofs.lemmas.Map.Made.{lookup-map_values}
 use Rattle.vc_ways.specs.RegionsParts.{all_holdings, live_of}
 use Rattle.vc_ways.specs.Step.{free_found}
-use Rattle.vc_ways.specs.TraceParts.{state_of}
+use Rattle.vc_ways.specs.TraceParts.{trace_state}
 use Rattle.vc_ways.specs.declared.trace.Trace.{Trace}
 use Rattle.vc_ways.proofs.PoolSteps.{kept-same}
 use Rattle.vc_ways.proofs.TraceStands.{left-goes, left-stands}
@@ -14,7 +14,7 @@ meaning g p = (g.dyn-1.0.entry p.0).1.state p.1
 
 pub returns-in-None-clause-answer : goal.returns-in-None-clause-answer
 returns-in-None-clause-answer g c =
-    ap (free_found (state_of c.args.self.now) c.args.r.now c.args.x.now) (lookup-map_values live_of (bytes_eq c.args.x.now) c.args.self.now.blocks.entries ∙ ap (option_map live_of) (sym c.in-None.ensures))
+    ap (free_found (trace_state c.args.self.now) c.args.r.now c.args.x.now) (lookup-map_values live_of (bytes_eq c.args.x.now) c.args.self.now.blocks.entries ∙ ap (option_map live_of) (sym c.in-None.ensures))
 
 pub returns-in-None-clause-keeps : goal.returns-in-None-clause-keeps
 returns-in-None-clause-keeps g c = kept-same _ (all_holdings (meaning g) c.args.self.now.regions)
@@ -26,7 +26,7 @@ pub returns-clause-answer : goal.returns-clause-answer
 returns-clause-answer g c =
     let t = c.args.self.now in
     let new : Trace _ _ = record { region = Some c.args.r.now; blocks = c.swap_remove.new.self; regions = c.free.new.self; extents = t.extents; live = c.saturating_sub-self.result; tally = c.with-self.result } in
-    ap (free_found (state_of t) c.args.r.now c.args.x.now) (lookup-map_values live_of (bytes_eq c.args.x.now) t.blocks.entries ∙ ap (option_map live_of) (sym c.in-Some.ensures))
+    ap (free_found (trace_state t) c.args.r.now c.args.x.now) (lookup-map_values live_of (bytes_eq c.args.x.now) t.blocks.entries ∙ ap (option_map live_of) (sym c.in-Some.ensures))
     ∙ left-goes (meaning g) t new c.free.new.self c.requires.stands refl c.args.r.now c.args.x.now c.in-Some.live (sym c.in-Some.ensures) c.free.ensures.regions refl c.swap_remove.ensures.entries c.saturating_sub-self.ensures refl c.with-self.ensures
 
 pub returns-clause-stands : goal.returns-clause-stands

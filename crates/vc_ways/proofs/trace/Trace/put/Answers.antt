@@ -1,9 +1,9 @@
 use Rattle.vc_base.proofs.Common.{◌∙◌, None, length-map, refl, sym, ap, subst, Discipline, false, true}
 use Rattle.vc_pool.specs.Parts.{pool_of}
-use Rattle.vc_ways.specs.Answer.{AreKept}
+use Rattle.vc_ways.specs.Answer.{KeepsHoldings}
 use Rattle.vc_ways.specs.RegionsParts.{all_holdings, live_of, regions_of, terms_of}
 use Rattle.vc_ways.specs.Step.{goes_with}
-use Rattle.vc_ways.specs.TraceParts.{state_of}
+use Rattle.vc_ways.specs.TraceParts.{trace_state}
 use Rattle.vc_ways.specs.declared.regions.Regions.{Regions}
 use Rattle.vc_ways.proofs.Extents.{put-extents}
 use Rattle.vc_ways.proofs.PoolLists.{class-few}
@@ -20,7 +20,7 @@ returns-in-Ok-place-clause-answer g c =
     let t = c.args.self.now in
     let many = length-map t.regions.pools.items pool_of ∙ c.requires.stands.whole.classes in
     let grew = put-extents (terms_of (meaning g) t.regions) (regions_of t.regions) many c.args.size (class-few c.args.size c.requires.size.most) (live_of c.in-Ok.live, regions_of c.put.new.self) c.in-Ok.ensures.answer in
-    ap (goes_with (state_of t) c.args.r.now c.args.x.now) c.in-Ok.ensures.answer
+    ap (goes_with (trace_state t) c.args.r.now c.args.x.now) c.in-Ok.ensures.answer
     ∙ placed-goes (meaning g) t c.place.new.self c.put.new.self c.requires.stands c.in-Ok-place.ensures.regions c.args.r.now c.args.x.now c.in-Ok.live 0 c.args.size c.class_of-class.result c.newest-first.result None c.in-Ok-place.ensures.placed (new-none t.blocks.entries c.args.x.now c.requires.new) refl c.class_of-class.ensures.value c.newest-first.ensures grew
 
 pub returns-in-Ok-place-clause-stands : goal.returns-in-Ok-place-clause-stands
@@ -33,8 +33,8 @@ returns-in-Ok-place-clause-stands g c =
 
 pub returns-in-Ok-place-clause-keeps : goal.returns-in-Ok-place-clause-keeps
 returns-in-Ok-place-clause-keeps g c =
-    subst (λ (m : Regions _ _). AreKept true (all_holdings (meaning g) c.args.self.now.regions) (all_holdings (meaning g) m)) (sym c.in-Ok-place.ensures.regions) c.in-Ok.ensures.keeps
+    subst (λ (m : Regions _ _). KeepsHoldings true (all_holdings (meaning g) c.args.self.now.regions) (all_holdings (meaning g) m)) (sym c.in-Ok-place.ensures.regions) c.in-Ok.ensures.keeps
 
 pub returns-in-Err-place-clause-keeps : goal.returns-in-Err-place-clause-keeps
 returns-in-Err-place-clause-keeps g c =
-    subst (λ (m : Regions _ _). AreKept false (all_holdings (meaning g) c.args.self.now.regions) (all_holdings (meaning g) m)) (sym c.in-Err-place.ensures.regions) (kept-any false (all_holdings (meaning g) c.args.self.now.regions) (all_holdings (meaning g) c.put.new.self) c.in-Ok.ensures.keeps)
+    subst (λ (m : Regions _ _). KeepsHoldings false (all_holdings (meaning g) c.args.self.now.regions) (all_holdings (meaning g) m)) (sym c.in-Err-place.ensures.regions) (kept-any false (all_holdings (meaning g) c.args.self.now.regions) (all_holdings (meaning g) c.put.new.self) c.in-Ok.ensures.keeps)

@@ -1,11 +1,11 @@
 use Rattle.vc_base.proofs.Common.{◌∙◌, None, Some, bytes_eq, length-map, option_map, refl, sym, ap, subst, Discipline, false, true}
 use Rattle.std.proofs.lemmas.Map.Made.{lookup-map_values}
 use Rattle.vc_pool.specs.Parts.{pool_of}
-use Rattle.vc_ways.specs.Answer.{AreKept}
+use Rattle.vc_ways.specs.Answer.{KeepsHoldings}
 use Rattle.vc_ways.specs.Regions.{size_block}
-use Rattle.vc_ways.specs.RegionsParts.{AreApart, IsStopped, all_holdings, live_of, regions_of, terms_of}
+use Rattle.vc_ways.specs.RegionsParts.{IsStopped, StandApart, all_holdings, live_of, regions_of, terms_of}
 use Rattle.vc_ways.specs.Step.{Stops, goes_with, size_found}
-use Rattle.vc_ways.specs.TraceParts.{state_of}
+use Rattle.vc_ways.specs.TraceParts.{trace_state}
 use Rattle.vc_ways.specs.declared.regions.Regions.{Regions}
 use Rattle.vc_ways.proofs.Extents.{size-extents}
 use Rattle.vc_ways.proofs.PoolLists.{class-few}
@@ -21,7 +21,7 @@ meaning g p = (g.dyn-1.0.entry p.0).1.state p.1
 pub returns-in-None-clause-answer : goal.returns-in-None-clause-answer
 returns-in-None-clause-answer g c =
     let t = c.args.self.now in
-    ap (size_found (terms_of (meaning g) t.regions) (state_of t) c.args.r.now c.args.x.now c.args.size None) (lookup-map_values live_of (bytes_eq c.args.x.now) t.blocks.entries ∙ ap (option_map live_of) (sym c.in-None.ensures))
+    ap (size_found (terms_of (meaning g) t.regions) (trace_state t) c.args.r.now c.args.x.now c.args.size None) (lookup-map_values live_of (bytes_eq c.args.x.now) t.blocks.entries ∙ ap (option_map live_of) (sym c.in-None.ensures))
 
 pub returns-in-None-clause-keeps : goal.returns-in-None-clause-keeps
 returns-in-None-clause-keeps g c = kept-same _ (all_holdings (meaning g) c.args.self.now.regions)
@@ -36,8 +36,8 @@ returns-in-Ok-place-clause-answer g c =
     let many = length-map t.regions.pools.items pool_of ∙ c.requires.stands.whole.classes in
     let few = class-few old.size (c.requires.stands.live c.args.x.now old (sym c.in-Some.ensures)).size.most in
     let grew = size-extents (terms_of (meaning g) t.regions) (regions_of t.regions) many c.args.size (class-few c.args.size c.requires.size.most) (live_of c.in-Ok.live, regions_of c.resize.new.self) (live_of old) few c.in-Ok.ensures.answer in
-    ap (size_found (terms_of (meaning g) t.regions) (state_of t) c.args.r.now c.args.x.now c.args.size None) (lookup-map_values live_of (bytes_eq c.args.x.now) t.blocks.entries ∙ ap (option_map live_of) (sym c.in-Some.ensures))
-    ∙ (ap (goes_with (state_of t) c.args.r.now c.args.x.now) c.in-Ok.ensures.answer
+    ap (size_found (terms_of (meaning g) t.regions) (trace_state t) c.args.r.now c.args.x.now c.args.size None) (lookup-map_values live_of (bytes_eq c.args.x.now) t.blocks.entries ∙ ap (option_map live_of) (sym c.in-Some.ensures))
+    ∙ (ap (goes_with (trace_state t) c.args.r.now c.args.x.now) c.in-Ok.ensures.answer
     ∙ placed-goes (meaning g) t c.place.new.self c.resize.new.self c.requires.stands c.in-Ok-place.ensures.regions c.args.r.now c.args.x.now c.in-Ok.live old.size c.args.size c.class_of-class.result c.newest-first.result (Some old) c.in-Ok-place.ensures.placed (sym c.in-Some.ensures) refl c.class_of-class.ensures.value c.newest-first.ensures grew)
 
 pub returns-in-Ok-place-clause-stands : goal.returns-in-Ok-place-clause-stands
@@ -48,19 +48,19 @@ returns-in-Ok-place-clause-stands g c =
     let few = class-few old.size (c.requires.stands.live c.args.x.now old (sym c.in-Some.ensures)).size.most in
     let grew = size-extents (terms_of (meaning g) t.regions) (regions_of t.regions) many c.args.size (class-few c.args.size c.requires.size.most) (live_of c.in-Ok.live, regions_of c.resize.new.self) (live_of old) few c.in-Ok.ensures.answer in
     placed-stands (meaning g) t c.place.new.self c.resize.new.self c.requires.stands c.in-Ok-place.ensures.regions c.args.r.now c.args.x.now c.in-Ok.live old.size c.args.size c.class_of-class.result c.newest-first.result (Some old) c.in-Ok-place.ensures.placed (sym c.in-Some.ensures) refl c.class_of-class.ensures.value c.newest-first.ensures grew
-    (λ k. AreApart k old) c.in-Ok.ensures.whole c.in-Ok.ensures.keeps c.in-Ok.ensures.comes (λ q k other is. c.requires.stands.apart q c.args.x.now k old (λ e. other (sym e)) is (sym c.in-Some.ensures))
+    (λ k. StandApart k old) c.in-Ok.ensures.whole c.in-Ok.ensures.keeps c.in-Ok.ensures.comes (λ q k other is. c.requires.stands.apart q c.args.x.now k old (λ e. other (sym e)) is (sym c.in-Some.ensures))
 
 pub returns-in-Ok-place-clause-keeps : goal.returns-in-Ok-place-clause-keeps
 returns-in-Ok-place-clause-keeps g c =
-    subst (λ (m : Regions _ _). AreKept true (all_holdings (meaning g) c.args.self.now.regions) (all_holdings (meaning g) m)) (sym c.in-Ok-place.ensures.regions) c.in-Ok.ensures.keeps
+    subst (λ (m : Regions _ _). KeepsHoldings true (all_holdings (meaning g) c.args.self.now.regions) (all_holdings (meaning g) m)) (sym c.in-Ok-place.ensures.regions) c.in-Ok.ensures.keeps
 
 pub returns-in-Err-place-clause-keeps : goal.returns-in-Err-place-clause-keeps
 returns-in-Err-place-clause-keeps g c =
-    subst (λ (m : Regions _ _). AreKept false (all_holdings (meaning g) c.args.self.now.regions) (all_holdings (meaning g) m)) (sym c.in-Err-place.ensures.regions) (kept-any false (all_holdings (meaning g) c.args.self.now.regions) (all_holdings (meaning g) c.resize.new.self) c.in-Ok.ensures.keeps)
+    subst (λ (m : Regions _ _). KeepsHoldings false (all_holdings (meaning g) c.args.self.now.regions) (all_holdings (meaning g) m)) (sym c.in-Err-place.ensures.regions) (kept-any false (all_holdings (meaning g) c.args.self.now.regions) (all_holdings (meaning g) c.resize.new.self) c.in-Ok.ensures.keeps)
 
 pub returns-in-Err-clause-answer : goal.returns-in-Err-clause-answer
 returns-in-Err-clause-answer g c =
     let t = c.args.self.now in
     let found = lookup-map_values live_of (bytes_eq c.args.x.now) t.blocks.entries ∙ ap (option_map live_of) (sym c.in-Some.ensures) in
-    subst (λ o. IsStopped (λ w f. Stops w f) (λ refused. size_found (terms_of (meaning g) t.regions) (state_of t) c.args.r.now c.args.x.now c.args.size refused o) c.in-Err.stop.way c.in-Err.stop.fault) (sym found)
-    (goes-stopped (state_of t) c.args.r.now c.args.x.now (size_block (terms_of (meaning g) t.regions) (regions_of t.regions) (live_of c.in-Some.old) c.args.size) c.in-Err.stop.way c.in-Err.stop.fault c.in-Err.ensures.answer)
+    subst (λ o. IsStopped (λ w f. Stops w f) (λ refused. size_found (terms_of (meaning g) t.regions) (trace_state t) c.args.r.now c.args.x.now c.args.size refused o) c.in-Err.stop.way c.in-Err.stop.fault) (sym found)
+    (goes-stopped (trace_state t) c.args.r.now c.args.x.now (size_block (terms_of (meaning g) t.regions) (regions_of t.regions) (live_of c.in-Some.old) c.args.size) c.in-Err.stop.way c.in-Err.stop.fault c.in-Err.ensures.answer)

@@ -1,7 +1,7 @@
 use Rattle.vc_base.proofs.Common.{Discipline, true}
-use Rattle.vc_ways.specs.Answer.{AreKept}
+use Rattle.vc_ways.specs.Answer.{KeepsHoldings}
 use Rattle.vc_ways.specs.RegionsParts.{all_holdings, terms_of}
-use Rattle.vc_ways.specs.TraceParts.{state_of}
+use Rattle.vc_ways.specs.TraceParts.{trace_state}
 use Rattle.vc_ways.proofs.OtherCommands.{others-outside}
 use Rattle.vc_ways.proofs.PoolSteps.{kept-same}
 use Rattle.vc_ways.proofs.TraceStands.{closes}
@@ -29,9 +29,9 @@ returns-else-is_region-3-clause-keeps g c = kept-same _ (all_holdings (meaning g
 pub returns-in_default : goal.returns-in_default
 returns-in_default g c =
     let t = c.args.self.now in
-    let same : AreKept true (all_holdings (meaning g) t.regions) (all_holdings (meaning g) t.regions) = kept-same _ (all_holdings (meaning g) t.regions) in
+    let same : KeepsHoldings true (all_holdings (meaning g) t.regions) (all_holdings (meaning g) t.regions) = kept-same _ (all_holdings (meaning g) t.regions) in
     record {
-      answer = others-outside (terms_of (meaning g) t.regions) (state_of t) c.args.command.now c.in_default.not-Alloc c.in_default.not-Resize c.in_default.not-Free;
+      answer = others-outside (terms_of (meaning g) t.regions) (trace_state t) c.args.command.now c.in_default.not-Alloc c.in_default.not-Resize c.in_default.not-Free;
       stands = c.requires.stands;
       keeps = same;
       refused = tt;

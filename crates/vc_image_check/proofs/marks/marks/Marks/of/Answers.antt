@@ -1,7 +1,7 @@
 use Rattle.vc_base.proofs.Common.{◌≡◌, ℕ, ◌+◌, ◌*◌, ◌<◌, length, take, drop, sym, refl, ap, ◌∙◌, subst, arith, length-replicate}
 use Rattle.vc_extent.specs.Tiles.{IsTiled}
 use Rattle.vc_seg.specs.Segment.{Bytes}
-use Rattle.vc_image_check.specs.Bytes.Contents.{pair_at, segments_in}
+use Rattle.vc_image_check.specs.Bytes.Contents.{image_segment_count, segment_pair_at}
 use Rattle.vc_image_check.proofs.Segs.{legal, segment, segment-is, segs-count, segs-each, size-is, there, within}
 use Rattle.vc_image_check.specs.Marks.Mark.{AreMarks, lists}
 use Rattle.vc_image_check.proofs.Filling.{filled-end, filled-next, filled-start, lists-set, row-items}
@@ -9,10 +9,10 @@ use Rattle.vc_image_check.proofs.marks.marks.Marks.of.Goals as goal
 use Rattle.vc_image_check.proofs.marks.marks.Marks.of.Goals.{After-word-size}
 
 -- there is one more segment, and its bytes lie in the image
-below : (c : After-word-size) → c.loop-i.i < segments_in c.args.image.now
+below : (c : After-word-size) → c.loop-i.i < image_segment_count c.args.image.now
 below c = let lt = c.loop-i-test.true in let e = c.word-segments.ensures in omega (arith, lt, e)
 
-size : (c : After-word-size) → c.word-size.result ≡ (pair_at (20 + 8 * c.loop-i.i) c.args.image.now).1
+size : (c : After-word-size) → c.word-size.result ≡ (segment_pair_at (20 + 8 * c.loop-i.i) c.args.image.now).1
 size c = size-is c.word-size.result c.loop-i.i c.args.image.now c.word-size.ensures
 
 least : (c : After-word-size) → c.word-number.result < 1024
@@ -41,7 +41,7 @@ marks_of-requires c =
     let b = c.args.image.now in
     let p = c.loop-i.invariant.place in
     let is = segment-is b c.requires.head c.loop-i.i c.loop-i.at p (below h) in
-    let e : c.part.result.now ≡ take (pair_at (20 + 8 * c.loop-i.i) b).1 (drop c.loop-i.at b) = c.part.ensures ∙ ap (λ k. take k (drop c.loop-i.at b)) (size h) in
+    let e : c.part.result.now ≡ take (segment_pair_at (20 + 8 * c.loop-i.i) b).1 (drop c.loop-i.at b) = c.part.ensures ∙ ap (λ k. take k (drop c.loop-i.at b)) (size h) in
     subst IsTiled (ap (λ (s : Bytes). s.bytes) is ∙ sym e)
     (segs-each (λ s. IsTiled s.bytes) b c.requires.tiled c.loop-i.i (segment b c.requires.head c.loop-i.i c.loop-i.at p (below h)) (there b c.requires.head c.loop-i.i c.loop-i.at p (below h)))
 

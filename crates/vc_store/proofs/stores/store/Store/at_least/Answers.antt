@@ -1,5 +1,5 @@
 use Rattle.vc_base.proofs.Common.{ap, ◌∙◌, Discipline}
-use Rattle.vc_store.specs.Reading.{Contents, Sought, is_from}
+use Rattle.vc_store.specs.Reading.{Contents, Sought, is_sought_from}
 use Rattle.vc_store.specs.Stores.Stores.{dicts_of}
 use Rattle.vc_store.proofs.Changed.{Call, moved, others-there, same-numbers, stays-there}
 use Rattle.vc_store.proofs.Here.{below-there, call-kept, read-there, whole-here, with_dict}
@@ -24,7 +24,7 @@ called g c =
     c.seek_from.new.best c.seek_from.new.dict c.seek_from.ensures.leaves
 
 pub returns-clause-sought : goal.returns-clause-sought
-returns-clause-sought g c = moved (called g c) (λ r x y. Sought (is_from x.method r c.args.key.now) c.seek_from.result x y) c.seek_from.ensures.sought
+returns-clause-sought g c = moved (called g c) (λ r x y. Sought (is_sought_from x.method r c.args.key.now) c.seek_from.result x y) c.seek_from.ensures.sought
 
 pub returns-clause-others : goal.returns-clause-others
 returns-clause-others g c = others-there (called g c)

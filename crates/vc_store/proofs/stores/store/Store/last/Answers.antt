@@ -1,6 +1,6 @@
 use Rattle.vc_base.proofs.Common.{ℕ, Option, length, Discipline}
 use Rattle.vc_store.specs.Contents.{contents_in}
-use Rattle.vc_store.specs.Reading.{Contents, last_place}
+use Rattle.vc_store.specs.Reading.{Contents, last_index}
 use Rattle.vc_store.proofs.Here.{numbers-moved, others-moved, place-moved, stays-moved, there-moved, whole-by}
 use Rattle.vc_store.proofs.stores.store.Store.last.Given.{Over}
 use Rattle.vc_store.proofs.stores.store.Store.last.Goals as goal
@@ -11,7 +11,7 @@ meaning g p = (goal.SegDisc-dyn g p).state p.1
 
 -- where it goes
 abbrev place : Contents → Option ℕ
-place x = last_place (length x.objects)
+place x = last_index (length x.objects)
 
 pub to_last-requires : goal.to_last-requires
 to_last-requires g c = record { whole = whole-by (meaning g) g.D.DictDisc.rules c.args.self.now c.args.n c.requires.open c.requires.there c.index_mut.result.now c.in-Some.dict c.index_mut.ensures.value c.in-Some.is }

@@ -5,7 +5,7 @@ use Rattle.vc_best.specs.Cells.{cells_in}
 use Rattle.vc_region.specs.declared.region.Region.TheVariants.{Best as OfBest}
 use Rattle.vc_image.specs.Load.{IsLoaded}
 use Rattle.vc_store.specs.Stores.Loads.{HaveOwnKinds}
-use Rattle.vc_store.specs.Stores.Places.{CanStand}
+use Rattle.vc_store.specs.Stores.Places.{CanStandAgain}
 use Rattle.vc_store.proofs.Loaded.{can-stand-each, each-whole, has-out, holds, out-back, shared}
 use Rattle.vc_store.proofs.stores.store.Store.load.Given.{Over}
 use Rattle.vc_store.proofs.stores.store.Store.load.Goals as goal
@@ -26,7 +26,7 @@ place-requires-clause-fit g c =
     let b = c.in-Ok-loaded.best in
     let each = each-whole (meaning g) (by g c.args.kinds.items) old c.args.image.now (OfBest c.in-Ok-loaded.best) ds is c.in-Ok-loaded.ensures.lent b refl in
     let count : length c.in-Ok.places.items ≡ length c.args.kinds.items = c.in-Ok.ensures.count ∙ (c.len.ensures ∙ c.args.kinds.ok.0) in
-    subst (λ (n : ℕ). AllByRecursion (CanStand n) ds) (sym count) (can-stand-each g.D.DictDisc.rules c.args.kinds.items (cells_in b) ds each)
+    subst (λ (n : ℕ). AllByRecursion (CanStandAgain n) ds) (sym count) (can-stand-each g.D.DictDisc.rules c.args.kinds.items (cells_in b) ds each)
 
 pub close-requires : goal.close-requires
 close-requires g c =

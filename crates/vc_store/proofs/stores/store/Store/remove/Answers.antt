@@ -1,6 +1,6 @@
 use Rattle.vc_base.proofs.Common.{◌≡◌, Some, None, IfOk, OnErr, OnOk, if◌then◌else◌, ◌∙◌, Discipline}
 use Rattle.vc_objects.specs.Leaves.{told_if}
-use Rattle.vc_store.specs.Reading.{LacksKey, found}
+use Rattle.vc_store.specs.Reading.{LosesKey, found}
 use Rattle.vc_store.proofs.Shown.{contents-still}
 use Rattle.vc_store.specs.Stores.Stores.{contents, dicts_of}
 use Rattle.vc_store.proofs.Changed.{Call, moved, others-there, same-numbers, stays-there, told-at}
@@ -32,7 +32,7 @@ returns-clause-found g c =
 
 pub returns-clause-lacks : goal.returns-clause-lacks
 returns-clause-lacks g c =
-    moved (called g c) (λ r x y. OnOk c.take.result (LacksKey r c.args.key.now x y)) c.take.ensures.lacks
+    moved (called g c) (λ r x y. OnOk c.take.result (LosesKey r c.args.key.now x y)) c.take.ensures.lacks
 
 pub returns-clause-told : goal.returns-clause-told
 returns-clause-told g c =
