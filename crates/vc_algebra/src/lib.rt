@@ -22,3 +22,5 @@ pub use op::Op;
 pub use ordered::Ordered;
 pub use ranges::{range_first, range_next};
 pub use region_layers::RegionLayers;
+pub use seeking::{copied, sought};
+pub use side::Side;

@@ -14,8 +14,8 @@ use vc_dict::{Dict, Dicts};
 use vc_dtdisc::DictDisc;
 use vc_region::Region;
 
-// The holder of a dictionary that is sought by a key.
-fn sought<C: Cells, D: DictDisc, L>(
+/// The holder of a dictionary that is sought by a key; all but what has the key is sought in an ordered one alone. This project's own.
+pub fn sought<C: Cells, D: DictDisc, L>(
     dict: &mut Dict,
     cells: &mut C,
     kind: &D,
@@ -69,8 +69,8 @@ pub(crate) fn sought_at<D: DictDisc, L>(
     sought(dict, best, kind, side, key, steps)
 }
 
-// Copies an object, and answers how many bytes it has.
-fn copied(object: &[u8], out: &mut [u8; 1024]) -> usize
+/// Copies an object of up to 1,024 bytes, and answers how many it has. This project's own.
+pub fn copied(object: &[u8], out: &mut [u8; 1024]) -> usize
     requires { length object.now ≤ 1024 }
     ensures copy { take result out.new ≡ object.now }
     ensures within { result ≤ 1024 }

@@ -1,12 +1,12 @@
-// What is sought in a dictionary by a key, by how it stands to the key.
+/// What is sought in a dictionary by a key, by how it stands to the key. This project's own.
 #[derive(Clone, Copy)]
-pub(crate) enum Side {
-    // The last that is less.
+pub enum Side {
+    /// The last that is less.
     Below,
-    // The first that has it.
+    /// The first that has it.
     Level,
-    // The first that isn't less.
+    /// The first that isn't less.
     AtLeast,
-    // The first that is greater.
+    /// The first that is greater.
     Above,
 }

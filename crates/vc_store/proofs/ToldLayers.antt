@@ -20,65 +20,14 @@ use Rattle.vc_objects.proofs.Owning.{each-object}
 use Rattle.vc_paths.proofs.EndLemmas.{filter-same}
 use Rattle.vc_paths.proofs.StackedLemmas.{find-filter}
 use Rattle.vc_paths.specs.Layers.{Layer, bytes_there, place_before, place_behind, place_in, place_last_like, place_less, place_with}
-use Rattle.vc_algebra.proofs.AtHolders.{before-place, behind-place, bytes-here, first-place, holder-here, last-place}
+use Rattle.vc_algebra.proofs.AtHolders.{before-place, behind-place, bytes-here, first-place, holder-here, last-place, place-stands}
 use Rattle.vc_store.specs.Stores.Alike.{HasLayer, layers_of}
 use Rattle.vc_store.specs.Stores.AlikeLaws.{objects-there, whole-there}
-use Rattle.vc_store.specs.Stores.Sides.{holder_to, place_to}
+use Rattle.vc_algebra.specs.Sides.{holder_to, place_to}
 use Rattle.vc_store.specs.Stores.Stores.{dict_at, dicts_of, kinds_of, rules_at}
-use Rattle.vc_store.specs.declared.stores.side.Side.{Side}
-use Rattle.vc_store.specs.declared.stores.side.Side.TheVariants.{Above, AtLeast, Below, Level}
+use Rattle.vc_algebra.specs.declared.side.Side.{Side}
 use Rattle.vc_store.specs.declared.stores.store.Store.{Store}
 use Rattle.vc_store.proofs.Here.{below-there, rules-here}
-
--- what isn't less, and what is less by either side of it
-ge-not-lt : (o : Ordering) → not (is_lt o) ≡ is_ge o
-ge-not-lt Less = refl
-ge-not-lt Equal = refl
-ge-not-lt Greater = refl
-
-lt-gt : (o : Ordering) → is_gt (ordering_reverse o) ≡ is_lt o
-lt-gt Less = refl
-lt-gt Equal = refl
-lt-gt Greater = refl
-
-pub place-less : (layer : Layer) (bytes : List ℕ) → AreLawful layer.rules → place_to Below layer (layer.rules.key bytes) ≡ place_less layer.rules bytes layer.objects
-place-less layer bytes lawful =
-    let key = layer.rules.key in
-    let compare = layer.rules.compare in
-    ap (λ os. place_in (last_of os)) (filter-same (λ o. is_lt (compare (key o.bytes) (key bytes))) (λ o. is_gt (compare (key bytes) (key o.bytes))) layer.objects
-    (λ o. sym (ap is_gt (lawful.order.antisymm (key bytes) (key o.bytes)) ∙ lt-gt (compare (key o.bytes) (key bytes)))))
-
-module _ (b : Blocks) where
-  -- the first and the last object that pass a test
-  first-passing : (test : Object → Bool) (xs : List ℕ) → place_in (first_of (filter test (map (object_of b) xs))) ≡ find (λ x. test (object_of b x)) xs
-  first-passing test xs =
-      ap (λ os. place_in (first_of os)) (filter-map (object_of b) test xs)
-      ∙ ap place_in (first_of-map (object_of b) (filter (λ x. test (object_of b x)) xs))
-      ∙ address-mapped b (first_of (filter (λ x. test (object_of b x)) xs))
-      ∙ sym (find-filter (λ x. test (object_of b x)) xs)
-
-  last-passing : (test : Object → Bool) (xs : List ℕ) → place_in (last_of (filter test (map (object_of b) xs))) ≡ last_of (filter (λ x. test (object_of b x)) xs)
-  last-passing test xs =
-      ap (λ os. place_in (last_of os)) (filter-map (object_of b) test xs)
-      ∙ ap place_in (last_of-map (object_of b) (filter (λ x. test (object_of b x)) xs))
-      ∙ address-mapped b (last_of (filter (λ x. test (object_of b x)) xs))
-
-  -- what is sought by a key
-  place-stands : (side : Side) (l : Layer) (key xs : List ℕ) → l.objects ≡ map (object_of b) xs → place_to side l key ≡ holder_to side l.rules b key xs
-  place-stands Below l key xs objects =
-      let test = λ (o : Object). is_lt (l.rules.compare (l.rules.key o.bytes) key) in
-      ap (λ os. place_in (last_of (filter test os))) objects ∙ last-passing test xs
-  place-stands Level l key xs objects =
-      ap (place_with l.rules key) objects
-      ∙ ap place_in (first_with-map (object_of b) bytes_of l.rules key xs) ∙ address-mapped b (find_key l.rules b key xs)
-  place-stands AtLeast l key xs objects =
-      let stands = λ (o : Object). l.rules.compare (l.rules.key o.bytes) key in
-      ap (λ os. place_in (first_of os)) (filter_agree (λ o. not (is_lt (stands o))) (λ o. is_ge (stands o)) (λ o. ge-not-lt (stands o)) l.objects)
-      ∙ ap (λ os. place_in (first_of (filter (λ o. is_ge (stands o)) os))) objects
-      ∙ first-passing (λ o. is_ge (stands o)) xs
-  place-stands Above l key xs objects =
-      let test = λ (o : Object). is_gt (l.rules.compare (l.rules.key o.bytes) key) in
-      ap (λ os. place_in (first_of (filter test os))) objects ∙ first-passing test xs
 
 module _ {D : Type 0} {I : Type 0} {V : I → Type 0} (rules_by : D → Rules) (s : Store D I V) (like d : ℕ) (has : HasLayer rules_by s like d) where
   -- the kind that is read has the rules of the layers

@@ -1,7 +1,6 @@
 pub mod Stores
 pub mod Alike
 pub mod AlikeLaws
-pub mod Sides
 pub mod Copies
 pub mod Loads
 pub mod Places

@@ -8,8 +8,6 @@ mod law;
 mod loading;
 mod placing;
 mod saving;
-mod seeking;
-mod side;
 mod store;
 
 pub use alike::Alike;

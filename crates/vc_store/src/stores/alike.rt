@@ -4,10 +4,8 @@ ghost use Rattle.vc_store.specs.Stores.Alike.{Keeps, layered_of};
 ghost use Rattle.vc_store.specs.Stores.AlikeLaws.{are-layers, keeps-after, keeps-same};
 
 use crate::stores::Store;
-use crate::stores::seeking::{copied, sought};
-use crate::stores::side::Side;
 use std::cmp::Ordering;
-use vc_algebra::Ordered;
+use vc_algebra::{Ordered, Side, copied, sought};
 use vc_base::{Addr, Cells, DictMethod, Steps};
 use vc_dict::{Dict, Layers, Paths};
 use vc_dtdisc::DictDisc;
@@ -31,7 +29,7 @@ impl<D: DictDisc + Drop> Alike<D> {
     ghost use Rattle.vc_base.specs.Prelude.{number_of};
     ghost use Rattle.vc_paths.specs.Layers.{bytes_there};
     ghost use Rattle.vc_paths.specs.Path.{IsPath};
-    ghost use Rattle.vc_store.specs.Stores.Sides.{CanAsk, CanCompare, place_to};
+    ghost use Rattle.vc_algebra.specs.Sides.{CanAsk, CanCompare, place_to};
     ghost use Rattle.vc_store.specs.Stores.Alike.{AreAlike, HasLayer, Keeps, ShowsKept, StaysKept, is_of, layered_of, layers_of};
     ghost use Rattle.vc_store.specs.Stores.Stores.{HasDict, IsOpen, dict_at, disc_of, rules_at};
 

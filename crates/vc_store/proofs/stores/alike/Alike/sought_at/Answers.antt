@@ -2,7 +2,7 @@ use Rattle.vc_base.proofs.Common.{◌≡◌, Some, refl, sym, ◌∙◌, subst}
 use Rattle.vc_dict.specs.Listed.{holders_of}
 use Rattle.vc_best.specs.Cells.{cells_in}
 use Rattle.vc_store.specs.Stores.AlikeLaws.{method-there}
-use Rattle.vc_store.specs.Stores.Sides.{CanAsk}
+use Rattle.vc_algebra.specs.Sides.{CanAsk}
 use Rattle.vc_store.specs.Stores.Stores.{dict_at, dicts_of}
 use Rattle.vc_store.proofs.Here.{below-there, read-there}
 use Rattle.vc_store.proofs.Looked.{look-keeps}

@@ -2,7 +2,7 @@ use Rattle.vc_base.proofs.Common.{◌≡◌, ◌≤◌, Some, take, length, sym,
 use Rattle.vc_dtdisc.specs.Rules.{Rules}
 use Rattle.vc_store.specs.Stores.Alike.{layers_of}
 use Rattle.vc_store.specs.Stores.AlikeLaws.{there-is}
-use Rattle.vc_store.specs.Stores.Sides.{place_to}
+use Rattle.vc_algebra.specs.Sides.{place_to}
 use Rattle.vc_store.specs.Stores.Stores.{dict_at, rules_at}
 use Rattle.vc_store.proofs.ToldLayers.{bytes-told, object-within}
 use Rattle.vc_store.proofs.stores.alike.Alike.sought_like.Goals as goal

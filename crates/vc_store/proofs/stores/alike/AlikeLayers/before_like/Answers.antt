@@ -2,7 +2,7 @@ use Rattle.vc_base.proofs.Common.{◌∙◌}
 use Rattle.vc_store.specs.Stores.Alike.{layers_of}
 use Rattle.vc_store.specs.Stores.AlikeLaws.{are-layers}
 use Rattle.vc_store.proofs.Looked.{layers-same}
-use Rattle.vc_store.proofs.ToldLayers.{place-less}
+use Rattle.vc_algebra.proofs.ToldLemmas.{place-less}
 use Rattle.vc_store.proofs.stores.alike.AlikeLayers.before_like.Goals as goal
 
 pub sought_like-requires : goal.sought_like-requires
