@@ -13,7 +13,7 @@ use Rattle.vc_objects.specs.Parts.{object_of}
 use Rattle.vc_objects.proofs.Mapped.{address-mapped, first-mapped}
 use Rattle.vc_paths.proofs.StackedLemmas.{find-filter}
 use Rattle.vc_paths.specs.Layers.{Layer, bytes_there, place_before, place_behind, place_in, place_with, stands_at}
-use Rattle.vc_algebra.specs.Sides.{holder_like, holder_to, last_place_like, place_to}
+use Rattle.vc_algebra.specs.Sides.{holder_like, last_place_like, sought_holder, sought_place}
 use Rattle.vc_algebra.specs.declared.side.Side.{Side}
 use Rattle.vc_algebra.specs.declared.side.Side.TheVariants.{Above, AtLeast, Below, Level}
 
@@ -62,7 +62,7 @@ module _ (b : Blocks) where
       ∙ address-mapped b (last_of (filter (λ x. test (object_of b x)) xs))
 
   -- what is sought by a key
-  pub place-stands : (side : Side) (l : Layer) (key xs : List ℕ) → l.objects ≡ map (object_of b) xs → place_to side l key ≡ holder_to side l.rules b key xs
+  pub place-stands : (side : Side) (l : Layer) (key xs : List ℕ) → l.objects ≡ map (object_of b) xs → sought_place side l key ≡ sought_holder side l.rules b key xs
   place-stands Below l key xs objects = last-passing l (λ o. is_lt (l.rules.compare (l.rules.key o.bytes) key)) xs objects
   place-stands Level l key xs objects =
       ap (place_with l.rules key) objects

@@ -19,7 +19,7 @@ use Rattle.vc_region.specs.declared.region.Region as code
 use Rattle.vc_region.specs.declared.region.Region.TheVariants.{Best, Pool, Last, Debug, Profile}
 use Rattle.vc_algebra.specs.InRegion.{AreDictsIn, IsDictIn, LeavesDictsIn, held, layer_held, layered_in, layers_of_region}
 use Rattle.vc_algebra.specs.RegionLaws.{dict-at, found-there, layer-is, layer_over_cells}
-use Rattle.vc_algebra.specs.Sides.{place_to}
+use Rattle.vc_algebra.specs.Sides.{sought_place}
 use Rattle.vc_algebra.specs.declared.side.Side.TheVariants.{Below}
 use Rattle.vc_algebra.proofs.AtHolders.{before-place, behind-place, bytes-here, first-place, holder-here, last-place}
 
@@ -113,7 +113,7 @@ lt-gt Less = refl
 lt-gt Equal = refl
 lt-gt Greater = refl
 
-pub place-less : (layer : Layer) (bytes : List ℕ) → AreLawful layer.rules → place_to Below layer (layer.rules.key bytes) ≡ place_less layer.rules bytes layer.objects
+pub place-less : (layer : Layer) (bytes : List ℕ) → AreLawful layer.rules → sought_place Below layer (layer.rules.key bytes) ≡ place_less layer.rules bytes layer.objects
 place-less layer bytes lawful =
     let key = layer.rules.key in
     let compare = layer.rules.compare in

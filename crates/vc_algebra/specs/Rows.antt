@@ -8,6 +8,7 @@ use Rattle.vc_paths.specs.Rows.{apple, by_whole, fruit, objects_at, pear}
 use Rattle.vc_paths.specs.Visible.{Seen}
 use Rattle.vc_algebra.specs.Algebra.{by_op, range}
 use Rattle.vc_algebra.specs.declared.op.Op.{Op}
+use Rattle.vc_objects.specs.Rows.{by_fold}
 
 -- names
 abbrev pub banana : List ℕ
@@ -36,10 +37,6 @@ left_letters = objects_at 0 1 (letter 65 ∷ letter 97 ∷ letter 98 ∷ [])
 
 abbrev pub right_letters : List (Seen ℕ)
 right_letters = objects_at 1 1 (letter 97 ∷ letter 67 ∷ [])
-
--- keys that are the same in small and in capital letters
-abbrev pub by_fold : Rules
-by_fold = rules_of Fold
 
 -- where what an operation makes of them stands: the numbers of dictionaries, and places
 abbrev pub fruit_by : Op → List (ℕ × ℕ)

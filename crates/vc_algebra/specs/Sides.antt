@@ -23,18 +23,18 @@ CanAsk AtLeast method = is_ordered method ≡ true
 CanAsk Above method = is_ordered method ≡ true
 
 -- of some holders the one that is sought
-abbrev pub holder_to : Side → Rules → Blocks → List ℕ → List ℕ → Option ℕ
-holder_to Below rules b key holders = last_of (filter (λ at. is_lt (rules.compare (rules.key (object_at b at)) key)) holders)
-holder_to Level rules b key holders = find_key rules b key holders
-holder_to AtLeast rules b key holders = find (λ at. is_ge (rules.compare (rules.key (object_at b at)) key)) holders
-holder_to Above rules b key holders = find (λ at. is_gt (rules.compare (rules.key (object_at b at)) key)) holders
+abbrev pub sought_holder : Side → Rules → Blocks → List ℕ → List ℕ → Option ℕ
+sought_holder Below rules b key holders = last_of (filter (λ at. is_lt (rules.compare (rules.key (object_at b at)) key)) holders)
+sought_holder Level rules b key holders = find_key rules b key holders
+sought_holder AtLeast rules b key holders = find (λ at. is_ge (rules.compare (rules.key (object_at b at)) key)) holders
+sought_holder Above rules b key holders = find (λ at. is_gt (rules.compare (rules.key (object_at b at)) key)) holders
 
 -- the place of the object of a layer that is
-abbrev pub place_to : Side → Layer → List ℕ → Option ℕ
-place_to Below layer key = place_in (last_of (filter (λ o. is_lt (layer.rules.compare (layer.rules.key o.bytes) key)) layer.objects))
-place_to Level layer key = place_with layer.rules key layer.objects
-place_to AtLeast layer key = place_at_least layer.rules key layer.objects
-place_to Above layer key = place_in (first_of (filter (λ o. is_gt (layer.rules.compare (layer.rules.key o.bytes) key)) layer.objects))
+abbrev pub sought_place : Side → Layer → List ℕ → Option ℕ
+sought_place Below layer key = place_in (last_of (filter (λ o. is_lt (layer.rules.compare (layer.rules.key o.bytes) key)) layer.objects))
+sought_place Level layer key = place_with layer.rules key layer.objects
+sought_place AtLeast layer key = place_at_least layer.rules key layer.objects
+sought_place Above layer key = place_in (first_of (filter (λ o. is_gt (layer.rules.compare (layer.rules.key o.bytes) key)) layer.objects))
 
 -- of some holders the last whose object matches that of one, and the place of the last object of a layer that matches one
 abbrev pub holder_like : Rules → Blocks → ℕ → List ℕ → Option ℕ
@@ -44,7 +44,7 @@ abbrev pub last_place_like : Layer → List ℕ → Option ℕ
 last_place_like layer bytes = place_last_like layer.rules bytes layer.objects
 
 -- a dictionary is asked so for what stands to the object at a place of another one
-pub record CanCompare (all : Layered) (d : ℕ) (side : Side) (other : ℕ × Addr) : Type 0 where
+pub record CanSeekBeside (all : Layered) (d : ℕ) (side : Side) (other : ℕ × Addr) : Type 0 where
   pub dict : all.Has d
   pub there : all.Has other.0
   pub asked : CanAsk side (all.layer d).method

@@ -5,7 +5,7 @@ ghost use Rattle.vc_dict.specs.Stands.{Became, IsDict, Stands};
 ghost use Rattle.vc_paths.specs.Layers.{bytes_there};
 ghost use Rattle.vc_region.specs.Cells.{cells_in};
 ghost use Rattle.vc_algebra.specs.InRegion.{HasDictInRegion, LeavesDictsIn, layered_in, layers_of_region};
-ghost use Rattle.vc_algebra.specs.Sides.{CanAsk, CanCompare, holder_to, last_place_like, place_to};
+ghost use Rattle.vc_algebra.specs.Sides.{CanAsk, CanSeekBeside, last_place_like, sought_holder, sought_place};
 
 use crate::places::{best_of, dict_of, kind_of};
 use crate::side::Side;
@@ -28,7 +28,7 @@ pub fn sought<C: Cells, D: DictDisc, L>(
     ensures found { (holders : List ℕ)
         → Stands (D.rules kind.now) dict.old (C.blocks cells.old) holders
         → option_map number_of result
-        ≡ holder_to side (D.rules kind.now) (C.blocks cells.old) key.now holders }
+        ≡ sought_holder side (D.rules kind.now) (C.blocks cells.old) key.now holders }
     ensures dict { (holders : List ℕ)
         → Stands (D.rules kind.now) dict.old (C.blocks cells.old) holders
         → Became (D.rules kind.now) holders dict.old (C.blocks cells.old) dict.new
@@ -56,7 +56,7 @@ pub(crate) fn sought_at<D: DictDisc, L>(
     requires dict { HasDictInRegion (map D.rules kinds.now.items) region.old dicts.old d }
     requires side { CanAsk side
         (layers_of_region (map D.rules kinds.now.items) (cells_in region.old) dicts.old d).method }
-    ensures found { option_map number_of result ≡ place_to side
+    ensures found { option_map number_of result ≡ sought_place side
         (layers_of_region (map D.rules kinds.now.items) (cells_in region.old) dicts.old d) key.now }
     ensures leaves { LeavesDictsIn (map D.rules kinds.now.items) region.old region.new
         dicts.old dicts.new }
@@ -89,11 +89,11 @@ pub(crate) fn sought_like<D: DictDisc, L>(
     other: (u32, Addr),
     steps: &mut Steps<L>,
 ) -> Option<Addr>
-    requires { CanCompare (layered_in (map D.rules kinds.now.items) region.old dicts.old) d side other }
+    requires { CanSeekBeside (layered_in (map D.rules kinds.now.items) region.old dicts.old) d side other }
     ensures found { (bytes : List ℕ)
         → bytes_there other.1.0 (layers_of_region (map D.rules kinds.now.items) (cells_in region.old)
         dicts.old other.0).objects ≡ Some bytes
-        → option_map number_of result ≡ place_to side
+        → option_map number_of result ≡ sought_place side
         (layers_of_region (map D.rules kinds.now.items) (cells_in region.old) dicts.old d)
         ((layers_of_region (map D.rules kinds.now.items) (cells_in region.old) dicts.old d).rules.key bytes) }
     ensures leaves { LeavesDictsIn (map D.rules kinds.now.items) region.old region.new

@@ -37,18 +37,6 @@ abbrev pub answer_to_fault : RegionFault → Answer
 answer_to_fault fault.OutOfMemory = OutOfMemory
 answer_to_fault other = NoSegment
 
--- the method of a number: a set, a bag, an ordered set, an ordered bag, a list, a stack, a queue
-abbrev pub method_of : ℕ → Option DictMethod
-method_of n =
-    if n == 0 then Some DtSet
-    else (if n == 1 then Some DtBag
-    else (if n == 2 then Some DtOset
-    else (if n == 3 then Some DtObag
-    else (if n == 4 then Some DtList
-    else (if n == 5 then Some DtStack
-    else (if n == 6 then Some DtQueue
-    else None))))))
-
 -- the shape of a kind's number, from 1 on
 abbrev pub shape_of : ℕ → Option Shape
 shape_of n = if n == 0 then None else slice_get shapes (n - 1)

@@ -1,6 +1,7 @@
 ghost use Rattle.std.specs.Prelude.{◌≡◌, length};
 ghost use Rattle.vc_store.specs.Stores.Stores.{Ends, HasDict, IsOpen, StaysOpen, contents, disc_of};
-ghost use Rattle.vc_checked.specs.Answers.{method_of, shape_of};
+ghost use Rattle.vc_image_check.specs.Dicts.Sound.{numbered_method};
+ghost use Rattle.vc_checked.specs.Answers.{shape_of};
 ghost use Rattle.vc_checked.specs.Checked.{Beside, Empties, Opens, rules_by};
 ghost use Rattle.vc_checked.specs.declared.answer.Answer.TheVariants.{Done, NoDict};
 
@@ -14,7 +15,7 @@ use vc_store::Store;
 /// The method of a number: 0 for a set, 1 for a bag, 2 for an ordered set, 3 for an ordered bag, 4 for a list, 5 for a stack and
 /// 6 for a queue; none from 7 on.
 pub fn method_of(number: u32) -> Option<DictMethod>
-    ensures { result ≡ method_of number }
+    ensures { result ≡ numbered_method number }
 {
     match number {
         0 => Some(DictMethod::DtSet),
@@ -50,7 +51,7 @@ pub fn shape_of(number: u32) -> Option<Shape>
 /// its table; then nothing changes, and no number is told.
 pub fn open_dict(store: &mut Store<BuiltIn>, method: u32, kind: u32, number: &mut usize) -> Answer
     requires { IsOpen rules_by store.old (disc_of store.old state) }
-    ensures opens { Opens state (method_of method) (shape_of kind) number.old number.new
+    ensures opens { Opens state (numbered_method method) (shape_of kind) number.old number.new
         store.old store.new result }
     ensures stays { StaysOpen state rules_by store.old store.new }
 {

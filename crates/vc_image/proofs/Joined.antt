@@ -24,7 +24,7 @@ use Rattle.vc_image_check.specs.Bytes.Header.{FitsRow}
 use Rattle.vc_image_check.specs.Bytes.Image.{DictRow, ImageContents, image_of}
 use Rattle.vc_image_check.proofs.Writing.{read-again}
 use Rattle.vc_image_check.specs.Blocks.Blocks.{image_blocks, is_cell}
-use Rattle.vc_image_check.specs.Dicts.Sound.{IsSoundDict, IsSoundRow, method_of, own_in, own_of}
+use Rattle.vc_image_check.specs.Dicts.Sound.{IsSoundDict, IsSoundRow, numbered_method, own_in, own_of}
 use Rattle.vc_image_check.specs.Dicts.Taken.{AreSoundBefore, taken_by}
 use Rattle.vc_image_check.specs.Dicts.Whole.{IsSoundImage}
 use Rattle.vc_image_check.proofs.Told.{own-told}
@@ -37,7 +37,7 @@ use Rattle.vc_image.proofs.Numbers.{row-fits}
 use Rattle.vc_image.proofs.Standing.{dict-back, whole-sound}
 
 -- the number of a method is that of this one
-pub numbered : (m : DictMethod) → method_of (method_number m) ≡ Some m
+pub numbered : (m : DictMethod) → numbered_method (method_number m) ≡ Some m
 numbered DtSet = refl
 numbered DtBag = refl
 numbered DtOset = refl

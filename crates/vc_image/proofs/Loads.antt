@@ -19,7 +19,7 @@ use Rattle.vc_region.specs.declared.region.Region.TheVariants.{Best as OfBest}
 use Rattle.vc_image_check.specs.Bytes.Contents.{contents_of_image, rows_of_image}
 use Rattle.vc_image_check.specs.Bytes.Image.{DictRow}
 use Rattle.vc_image_check.specs.Blocks.Blocks.{image_blocks}
-use Rattle.vc_image_check.specs.Dicts.Sound.{IsSoundDict, IsSoundRow, heads_of, method_of, own_in, own_of}
+use Rattle.vc_image_check.specs.Dicts.Sound.{IsSoundDict, IsSoundRow, heads_of, numbered_method, own_in, own_of}
 use Rattle.vc_image_check.specs.Dicts.Taken.{AreSoundBefore, taken_by}
 use Rattle.vc_image_check.specs.Dicts.Whole.{IsSoundImage}
 use Rattle.vc_image_check.proofs.Told.{own-told}
@@ -56,7 +56,7 @@ apart-made b (r ∷ rows) h = (
 )
 
 -- what is made of numbers whose first is that of a method
-pub made-by : (r : DictRow) (m : DictMethod) → method_of r.method ≡ Some m → dict_of_row r ≡ dict_by m r.kind r.count (record { 0 = r.current }) (heads_of r)
+pub made-by : (r : DictRow) (m : DictMethod) → numbered_method r.method ≡ Some m → dict_of_row r ≡ dict_by m r.kind r.count (record { 0 = r.current }) (heads_of r)
 made-by r m e = ap (λ (o : Option DictMethod). dict_by (unwrap_or o DtList) r.kind r.count (record { 0 = r.current }) (heads_of r)) e
 
 module _ (kinds : List Rules) (b : Blocks) where

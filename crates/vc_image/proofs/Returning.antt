@@ -20,7 +20,7 @@ use Rattle.vc_image_check.specs.Bytes.Contents.{contents_of_image, rows_of_image
 use Rattle.vc_image_check.specs.Bytes.Image.{DictRow, ImageContents, image_of}
 use Rattle.vc_image_check.specs.Blocks.Blocks.{image_blocks}
 use Rattle.vc_image_check.specs.Segments.Sound.{IsSoundSegment}
-use Rattle.vc_image_check.specs.Dicts.Sound.{IsSoundRow, heads_of, method_of}
+use Rattle.vc_image_check.specs.Dicts.Sound.{IsSoundRow, heads_of, numbered_method}
 use Rattle.vc_image_check.specs.Dicts.Whole.{IsFirstUnsoundPart, IsSoundImage}
 use Rattle.vc_image_check.proofs.Told.{heads-back}
 use Rattle.vc_image_check.specs.declared.parts.part.Part.{Part}
@@ -76,7 +76,7 @@ found-by n k m x rest number h more = by (n == k) refl
         sym (ap method_number (same_Some x m q)) ∙ number ∙ sym (eqb-true n k t)
     by false t = let q : rest ≡ Some m = rw t at h in more q
 
-number-back : (n : ℕ) (m : DictMethod) → method_of n ≡ Some m → method_number m ≡ n
+number-back : (n : ℕ) (m : DictMethod) → numbered_method n ≡ Some m → method_number m ≡ n
 number-back n m h =
     found-by n 0 m DtSet _ refl h (λ h. found-by n 1 m DtBag _ refl h (λ h. found-by n 2 m DtOset _ refl h (λ h. found-by n 3 m DtObag _ refl h
     (λ h. found-by n 4 m DtList _ refl h (λ h. found-by n 5 m DtStack _ refl h (λ h. found-by n 6 m DtQueue None refl h (λ h. absurd (none-not m h))))))))

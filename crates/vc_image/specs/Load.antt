@@ -18,7 +18,7 @@ use Rattle.vc_region.specs.declared.region.Region.{Region}
 use Rattle.vc_region.specs.declared.region.Region.TheVariants.{Best as OfBest}
 use Rattle.vc_image_check.specs.Bytes.Contents.{contents_of_image, rows_of_image}
 use Rattle.vc_image_check.specs.Bytes.Image.{DictRow}
-use Rattle.vc_image_check.specs.Dicts.Sound.{heads_of, method_of}
+use Rattle.vc_image_check.specs.Dicts.Sound.{heads_of, numbered_method}
 use Rattle.vc_image_check.specs.Dicts.Whole.{IsFirstUnsoundPart, IsSoundImage}
 use Rattle.vc_image.specs.Lends.Regions.{IsLoadFault}
 use Rattle.vc_image.specs.Lends.Terms.{terms_fault}
@@ -33,7 +33,7 @@ pairs_of image = map pair_of (contents_of_image image).segs
 
 -- the dictionary of nine numbers; a list's, where no method has the first
 abbrev pub dict_of_row : DictRow → Dict
-dict_of_row r = dict_by (unwrap_or (method_of r.method) DtList) r.kind r.count (record { 0 = r.current }) (heads_of r)
+dict_of_row r = dict_by (unwrap_or (numbered_method r.method) DtList) r.kind r.count (record { 0 = r.current }) (heads_of r)
 
 -- those of an image
 abbrev pub dicts_of : List ℕ → List Dict

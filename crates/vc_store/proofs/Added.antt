@@ -14,7 +14,8 @@ use Rattle.vc_objects.proofs.Leaving.{keeps-out}
 use Rattle.vc_store.specs.Contents.{contents_in, contents_of}
 use Rattle.vc_store.specs.Reading.{Contents}
 use Rattle.vc_store.proofs.Shown.{grown-same}
-use Rattle.vc_store.specs.Stores.Stores.{AllStay, AreApart, HasDict, IsOpen, OthersStay, StaysOpen, contents_or, dict_at, dicts_of, disc_of, joined, kind_at, kinds_of, lent_to, numbers_of, rules_at, rules_or, shown}
+use Rattle.vc_algebra.specs.InRegion.{ShareNoBlock, rules_or}
+use Rattle.vc_store.specs.Stores.Stores.{AllStay, HasDict, IsOpen, OthersStay, StaysOpen, contents_or, dict_at, dicts_of, disc_of, joined, kind_at, kinds_of, lent_to, numbers_of, rules_at, shown}
 use Rattle.vc_store.specs.declared.stores.store.Store.{Store}
 use Rattle.vc_store.proofs.Changed.{Changes, others-stay, rules-same, still-open}
 use Rattle.vc_store.proofs.Here.{below-there}
@@ -45,7 +46,7 @@ module _ {D : Type 0} {I : Type 0} {V : I → Type 0} (meaning : (x : I) × V x 
           subst (λ r. IsWhole r d (cells_in s'.best)) (sym (same-rules n))
           (subst (λ b. IsWhole (rules_at rules_by s n) d b) (sym cells) (is.whole n d (sym (same-dict n) ∙ at)));
       apart = λ m n d e ne at at'.
-          subst (λ b. AreApart b d e) (sym cells) (is.apart m n d e ne (sym (same-dict m) ∙ at) (sym (same-dict n) ∙ at'));
+          subst (λ b. ShareNoBlock b d e) (sym cells) (is.apart m n d e ne (sym (same-dict m) ∙ at) (sym (same-dict n) ∙ at'));
       lent = keeps-out (disc_of s meaning) (disc_of s' meaning) (lent_to s) (lent_to s') lends is.lent;
     };
     there = λ n h. ap is_some (same-dict n) ∙ h;

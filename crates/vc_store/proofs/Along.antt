@@ -8,7 +8,8 @@ use Rattle.vc_paths.specs.Path.{IsAlike}
 use Rattle.vc_algebra.specs.RegionLaws.{at-below}
 use Rattle.vc_store.specs.Stores.Alike.{HasLayer, HaveRules, is_by, is_of, layered_of, layers_of}
 use Rattle.vc_store.specs.Stores.AlikeLaws.{below-there, method-there, there-is}
-use Rattle.vc_store.specs.Stores.Stores.{HasDict, dict_at, dicts_of, kind_at, kinds_of, rules_at, rules_or}
+use Rattle.vc_algebra.specs.InRegion.{rules_or}
+use Rattle.vc_store.specs.Stores.Stores.{HasDict, dict_at, dicts_of, kind_at, kinds_of, rules_at}
 use Rattle.vc_store.specs.declared.stores.store.Store.{Store}
 
 module _ {D : Type 0} {I : Type 0} {V : I → Type 0} (rules_by : D → Rules) (s : Store D I V) (like : ℕ) (is : HasLayer rules_by s like like) (all : HaveRules rules_by s (rules_at rules_by s like)) where

@@ -6,7 +6,8 @@ use Rattle.vc_paths.specs.Layers.{Layered}
 use Rattle.vc_paths.specs.Ordered.{IsStanding, StandsInLike}
 use Rattle.vc_store.specs.Stores.Alike.{AreAlike, HasLayer, HaveRules, Keeps}
 use Rattle.vc_store.specs.Stores.AlikeLaws.{kind-there}
-use Rattle.vc_store.specs.Stores.Stores.{AllStay, HasDict, IsOpen, OthersStay, kind_at, kinds_of, numbers_of, rules_at, rules_or}
+use Rattle.vc_algebra.specs.InRegion.{rules_or}
+use Rattle.vc_store.specs.Stores.Stores.{AllStay, HasDict, IsOpen, OthersStay, kind_at, kinds_of, numbers_of, rules_at}
 use Rattle.vc_store.specs.declared.stores.store.Store.{Store}
 use Rattle.vc_store.proofs.Looked.{layers-same, rules-kept}
 use Rattle.vc_model.specs.Discipline.{Discipline}

@@ -14,7 +14,8 @@ use Rattle.vc_store.specs.Reading.{Contents}
 use Rattle.vc_store.specs.Tries.{IsTried, TriesToPut}
 use Rattle.vc_store.specs.declared.put.Put.{Put}
 use Rattle.vc_store.specs.Stores.Alike.{held_at}
-use Rattle.vc_store.specs.Stores.Stores.{AreApart, HasDict, IsOpen, OthersStay, StaysOpen, TriesAt, contents, contents_or, dict_at, dicts_of, disc_of, gone_at, gone_or, joined, kind_at, kinds_of, numbers_of, rules_at, rules_or}
+use Rattle.vc_algebra.specs.InRegion.{ShareNoBlock, rules_or}
+use Rattle.vc_store.specs.Stores.Stores.{HasDict, IsOpen, OthersStay, StaysOpen, TriesAt, contents, contents_or, dict_at, dicts_of, disc_of, gone_at, gone_or, joined, kind_at, kinds_of, numbers_of, rules_at}
 use Rattle.vc_store.specs.declared.stores.store.Store.{Store}
 use Rattle.vc_store.proofs.Kept.{Kept, apart-new, other-kept}
 use Rattle.vc_store.proofs.Numbers.{joined-there, length-put, set-other}
@@ -73,19 +74,19 @@ module _ {D : Type 0} {I : Type 0} {V : I → Type 0} (rules_by : D → Rules) (
         each m ne (Some e) at = ap (λ x. Some x) (kept m e ne at).same
 
     -- an address that another one has is none of this one's
-    apart-from : (m : ℕ) (d e : Dict) → m ≢ n → dict_at s' m ≡ Some e → dict_at s' n ≡ Some d → AreApart cells' e d
+    apart-from : (m : ℕ) (d e : Dict) → m ≢ n → dict_at s' m ≡ Some e → dict_at s' n ≡ Some d → ShareNoBlock cells' e d
     apart-from m d e ne at here a w =
         ap (λ xs. contains xs a) (c.own d here)
         ∙ away m e ne (before m e ne at) a (ap (λ x. contains (own_blocks x) a) (sym (kept m e ne (before m e ne at)).same) ∙ w)
 
-    apart-both : (m k : ℕ) (d e : Dict) → m ≢ k → m ≢ n → k ≢ n → dict_at s' m ≡ Some d → dict_at s' k ≡ Some e → AreApart cells' d e
+    apart-both : (m k : ℕ) (d e : Dict) → m ≢ k → m ≢ n → k ≢ n → dict_at s' m ≡ Some d → dict_at s' k ≡ Some e → ShareNoBlock cells' d e
     apart-both m k d e apart ne ne' at at' a w =
         let was = before m d ne at in
         let was' = before k e ne' at' in
         ap (λ x. contains (own_blocks x) a) (kept k e ne' was').same
         ∙ is.apart m k d e apart was was' a (ap (λ x. contains (own_blocks x) a) (sym (kept m d ne was).same) ∙ w)
 
-    turned : (d e : Dict) → AreApart cells' e d → AreApart cells' d e
+    turned : (d e : Dict) → ShareNoBlock cells' e d → ShareNoBlock cells' d e
     turned d e apart a w =
         false_from_ne_true (contains (own_blocks (dictionary_of e cells')) a) (λ t. true≢false (sym w ∙ apart a t))
 
@@ -95,12 +96,12 @@ module _ {D : Type 0} {I : Type 0} {V : I → Type 0} (rules_by : D → Rules) (
       | inr apart ↦ subst (λ r. IsWhole r d cells') (sym (rules-same m apart.1)) (kept m d apart.1 (before m d apart.1 at)).whole
     ]
 
-    apart-at : (m k : ℕ) (d e : Dict) → m ≢ k → dict_at s' m ≡ Some d → dict_at s' k ≡ Some e → AreApart cells' d e
-    apart-at m k d e apart at at' = elim (eqb_tells m n) as (λ _. AreApart cells' d e) [
+    apart-at : (m k : ℕ) (d e : Dict) → m ≢ k → dict_at s' m ≡ Some d → dict_at s' k ≡ Some e → ShareNoBlock cells' d e
+    apart-at m k d e apart at at' = elim (eqb_tells m n) as (λ _. ShareNoBlock cells' d e) [
       | inl here ↦
           let other : k ≢ n = λ e. apart (here.1 ∙ sym e) in
           turned d e (apart-from k d e other at' (subst (λ j. dict_at s' j ≡ Some d) here.1 at))
-      | inr there ↦ elim (eqb_tells k n) as (λ _. AreApart cells' d e) [
+      | inr there ↦ elim (eqb_tells k n) as (λ _. ShareNoBlock cells' d e) [
         | inl here ↦ apart-from m e d there.1 at (subst (λ j. dict_at s' j ≡ Some e) here.1 at')
         | inr both ↦ apart-both m k d e apart there.1 both.1 at at'
       ]

@@ -13,7 +13,8 @@ use Rattle.vc_objects.specs.Remove.{bytes_of}
 use Rattle.vc_objects.proofs.Leaving.{keeps-out, keeps-same, keeps-trans}
 use Rattle.vc_store.specs.Contents.{contents_in}
 use Rattle.vc_store.proofs.Shown.{took-behind}
-use Rattle.vc_store.specs.Stores.Stores.{AreTold, Ends, IsOpen, contents, contents_or, dict_at, dicts_of, disc_of, gone_at, gone_or, joined, kind_at, kinds_of, lent_to, numbers_of, rules_at, rules_or, shown}
+use Rattle.vc_algebra.specs.InRegion.{rules_or}
+use Rattle.vc_store.specs.Stores.Stores.{AreTold, Ends, IsOpen, contents, contents_or, dict_at, dicts_of, disc_of, gone_at, gone_or, joined, kind_at, kinds_of, lent_to, numbers_of, rules_at, shown}
 use Rattle.vc_store.specs.declared.stores.store.Store.{Store}
 use Rattle.vc_store.proofs.Added.{all-still, stays-still}
 use Rattle.vc_store.proofs.Changed.{Changes, others-stay, still-open}

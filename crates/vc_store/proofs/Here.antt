@@ -19,7 +19,8 @@ use Rattle.vc_store.specs.Contents.{contents_in, current_place}
 use Rattle.vc_store.specs.Reading.{Contents, current, object_at_index, with_place}
 use Rattle.vc_store.proofs.Shown.{current-there, pointed-shown, within-rest}
 pub use Rattle.vc_store.specs.Stores.AlikeLaws.{below-there}
-use Rattle.vc_store.specs.Stores.Stores.{HasDict, IsOpen, OthersStay, StaysOpen, contents, contents_or, dict_at, dicts_of, disc_of, joined, kind_at, kinds_of, lent_to, numbers_of, rules_at, rules_or}
+use Rattle.vc_algebra.specs.InRegion.{rules_or}
+use Rattle.vc_store.specs.Stores.Stores.{HasDict, IsOpen, OthersStay, StaysOpen, contents, contents_or, dict_at, dicts_of, disc_of, joined, kind_at, kinds_of, lent_to, numbers_of, rules_at}
 use Rattle.vc_store.specs.declared.stores.store.Store.{Store}
 use Rattle.vc_store.specs.Moves.{IsWholeBySome, Moves}
 use Rattle.vc_store.proofs.Changed.{Call, moved, others-there, same-numbers, stays-there}

@@ -27,7 +27,8 @@ use Rattle.vc_image.proofs.Loads.{apart-turned}
 use Rattle.vc_store.specs.Stores.Copies.{of_kind}
 use Rattle.vc_store.specs.Stores.Loads.{HaveOwnKinds, HoldsImage, IsShared, shown_of_image, with_kind}
 use Rattle.vc_store.specs.Stores.Places.{CanStandAgain}
-use Rattle.vc_store.specs.Stores.Stores.{AreApart, IsOpen, dict_at, disc_of, kinds_of, numbers_of, rules_or, shown}
+use Rattle.vc_algebra.specs.InRegion.{ShareNoBlock, rules_or}
+use Rattle.vc_store.specs.Stores.Stores.{IsOpen, dict_at, disc_of, kinds_of, numbers_of, shown}
 use Rattle.vc_store.specs.declared.stores.store.Store.{Store}
 use Rattle.vc_store.proofs.Placed.{kind-of, of-each}
 
@@ -72,24 +73,24 @@ module _ {D : Type 0} (rules_by : D → Rules) (kinds : List D) (cells : Blocks)
       subst (λ (o : Option Rules). IsWhole (rules_or o) d cells) (sym found) w.whole
 
 -- those of two kinds are apart
-pub apart-kinds : (cells : Blocks) (j k : ℕ) (ds : List Dict) (d e : Dict) → j ≢ k → load.AllShareNone cells ds → with_kind j ds ≡ Some d → with_kind k ds ≡ Some e → AreApart cells d e
+pub apart-kinds : (cells : Blocks) (j k : ℕ) (ds : List Dict) (d e : Dict) → j ≢ k → load.AllShareNone cells ds → with_kind j ds ≡ Some d → with_kind k ds ≡ Some e → ShareNoBlock cells d e
 apart-kinds cells j k [] d e ne apart hd he = absurd (none-some d hd)
-apart-kinds cells j k (x ∷ xs) d e ne apart hd he = elim (eqb_tells x.kind j) as (λ _. AreApart cells d e) [
+apart-kinds cells j k (x ∷ xs) d e ne apart hd he = elim (eqb_tells x.kind j) as (λ _. ShareNoBlock cells d e) [
   | inl mine ↦
       let first : Some x ≡ Some d = rw mine.0 at hd in
-      elim (eqb_tells x.kind k) as (λ _. AreApart cells d e) [
+      elim (eqb_tells x.kind k) as (λ _. ShareNoBlock cells d e) [
         | inl other ↦ absurd (ne (sym mine.1 ∙ other.1))
         | inr away ↦
             let rest : with_kind k xs ≡ Some e = rw away.0 at he in
-            subst (λ (z : Dict). AreApart cells z e) (same_Some x d first) (of-each (ShareNone cells x) k xs e apart.0 rest)
+            subst (λ (z : Dict). ShareNoBlock cells z e) (same_Some x d first) (of-each (ShareNone cells x) k xs e apart.0 rest)
       ]
   | inr aside ↦
       let rest : with_kind j xs ≡ Some d = rw aside.0 at hd in
-      elim (eqb_tells x.kind k) as (λ _. AreApart cells d e) [
+      elim (eqb_tells x.kind k) as (λ _. ShareNoBlock cells d e) [
         | inl other ↦
             let first : Some x ≡ Some e = rw other.0 at he in
             let there = of-each (ShareNone cells x) j xs d apart.0 rest in
-            subst (λ (z : Dict). AreApart cells d z) (same_Some x e first)
+            subst (λ (z : Dict). ShareNoBlock cells d z) (same_Some x e first)
             (λ a w. apart-turned (contains (load.own_by cells x) a) (contains (load.own_by cells d) a) (there a) w)
         | inr away ↦
             let more : with_kind k xs ≡ Some e = rw away.0 at he in

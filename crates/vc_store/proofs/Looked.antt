@@ -14,7 +14,8 @@ use Rattle.vc_objects.proofs.Looking.{Looks-became}
 use Rattle.vc_paths.specs.Layers.{Same}
 use Rattle.vc_store.specs.Contents.{contents_in, contents_of}
 use Rattle.vc_store.specs.Stores.Alike.{HasLayer, Keeps, dictionary_or, held_at, layered_of}
-use Rattle.vc_store.specs.Stores.Stores.{AllStay, HasDict, IsOpen, StaysOpen, contents_or, dict_at, dicts_of, disc_of, kinds_of, lent_to, numbers_of, rules_at, rules_or, shown}
+use Rattle.vc_algebra.specs.InRegion.{rules_or}
+use Rattle.vc_store.specs.Stores.Stores.{AllStay, HasDict, IsOpen, StaysOpen, contents_or, dict_at, dicts_of, disc_of, kinds_of, lent_to, numbers_of, rules_at, shown}
 use Rattle.vc_store.specs.declared.stores.store.Store.{Store}
 use Rattle.vc_store.proofs.Changed.{Call, by-number, others-held, same-numbers, stays-there, there-now}
 use Rattle.vc_store.proofs.Here.{below-there, call-kept, read-there, whole-here, with_dict}

@@ -23,7 +23,7 @@ use Rattle.vc_paths.specs.Layers.{Layer, bytes_there, place_before, place_behind
 use Rattle.vc_algebra.proofs.AtHolders.{before-place, behind-place, bytes-here, first-place, holder-here, last-place, place-stands}
 use Rattle.vc_store.specs.Stores.Alike.{HasLayer, layers_of}
 use Rattle.vc_store.specs.Stores.AlikeLaws.{objects-there, whole-there}
-use Rattle.vc_algebra.specs.Sides.{holder_to, place_to}
+use Rattle.vc_algebra.specs.Sides.{sought_holder, sought_place}
 use Rattle.vc_store.specs.Stores.Stores.{dict_at, dicts_of, kinds_of, rules_at}
 use Rattle.vc_algebra.specs.declared.side.Side.{Side}
 use Rattle.vc_store.specs.declared.stores.store.Store.{Store}
@@ -70,10 +70,10 @@ module _ {D : Type 0} {I : Type 0} {V : I → Type 0} (rules_by : D → Rules) (
       pub is-dict : IsDict r e b
       is-dict = record { holders = xs; stands = stands-by }
 
-      pub sought-told : (side : Side) (key : List ℕ) (o : Option ℕ) → ((ys : List ℕ) → Stands r e b ys → o ≡ holder_to side r b key ys) → o ≡ place_to side layer key
+      pub sought-told : (side : Side) (key : List ℕ) (o : Option ℕ) → ((ys : List ℕ) → Stands r e b ys → o ≡ sought_holder side r b key ys) → o ≡ sought_place side layer key
       sought-told side key o gives =
           gives xs stands-by
-          ∙ ap (λ z. holder_to side z b key xs) same
+          ∙ ap (λ z. sought_holder side z b key xs) same
           ∙ sym (place-stands b side layer key xs objects)
 
     module _ (a : ℕ) (there : IsSome (bytes_there a layer.objects)) where

@@ -19,8 +19,8 @@ use Rattle.vc_image_check.specs.Orders.Sound.{IsSoundOrder}
 use Rattle.vc_image_check.specs.Dicts.Alone.{AreAlone}
 
 -- the method of a number, in order from 0 on
-abbrev pub method_of : ℕ → Option DictMethod
-method_of n =
+abbrev pub numbered_method : ℕ → Option DictMethod
+numbered_method n =
     if n == 0 then Some DtSet
     else (if n == 1 then Some DtBag
     else (if n == 2 then Some DtOset
@@ -51,7 +51,7 @@ own_in method blocks count heads =
 
 -- those of nine numbers; none where no method has the first
 abbrev pub own_of : Blocks → DictRow → List ℕ
-own_of blocks r = unwrap_or (option_map (λ method. own_in method blocks r.count (heads_of r)) (method_of r.method)) []
+own_of blocks r = unwrap_or (option_map (λ method. own_in method blocks r.count (heads_of r)) (numbered_method r.method)) []
 
 -- so many holders are a set or bag of that table, and in a set no two match
 pub record IsSoundHash (rules : Rules) (blocks : Blocks) (alone : Bool) (count : ℕ) (heads : Heads) : Type 0 where
@@ -75,7 +75,7 @@ pub record IsSoundBy (method : DictMethod) (rules : Rules) (blocks : Blocks) (co
 pub record IsSoundRow (kinds : List Rules) (blocks : Blocks) (r : DictRow) : Type 0 where
   pub method : DictMethod
   pub rules : Rules
-  pub numbered : method_of r.method ≡ Some method
+  pub numbered : numbered_method r.method ≡ Some method
   pub kind : at_number kinds r.kind ≡ Some rules
   pub by : IsSoundBy method rules blocks r.count r.current (heads_of r)
 

@@ -1,7 +1,7 @@
 ghost use Rattle.std.specs.Prelude.{◌≡◌, ◌+◌, ◌≤◌, Some, None, IfNone, IfSome, length, map};
 ghost use Rattle.vc_model.specs.Numbered.{at_number};
 ghost use Rattle.vc_image_check.specs.Bytes.Contents.{dict_row_at};
-ghost use Rattle.vc_image_check.specs.Dicts.Sound.{heads_of, method_of};
+ghost use Rattle.vc_image_check.specs.Dicts.Sound.{heads_of, numbered_method};
 
 use crate::bytes::word;
 use vc_base::{Addr, DictMethod};
@@ -10,7 +10,7 @@ use vc_dtdisc::DictDisc;
 
 /// The method of a number, from 0 on, in the order of `DictMethod`; none from 7 on. This project's own.
 pub fn method_of(n: u32) -> Option<DictMethod>
-    ensures { result ≡ method_of n }
+    ensures { result ≡ numbered_method n }
 {
     match n {
         0 => Some(DictMethod::DtSet),

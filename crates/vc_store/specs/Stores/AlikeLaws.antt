@@ -18,7 +18,8 @@ use Rattle.vc_objects.proofs.Mapped.{addresses-mapped}
 use Rattle.vc_paths.specs.Layers.{AreLayers}
 use Rattle.vc_algebra.specs.RegionLaws.{at-below}
 use Rattle.vc_store.specs.Stores.Alike.{HasLayer, Keeps, dictionary_or, layered_of, layers_of}
-use Rattle.vc_store.specs.Stores.Stores.{HasDict, dict_at, dicts_of, joined, kind_at, kinds_of, rules_at, rules_or}
+use Rattle.vc_algebra.specs.InRegion.{rules_or}
+use Rattle.vc_store.specs.Stores.Stores.{HasDict, dict_at, dicts_of, joined, kind_at, kinds_of, rules_at}
 use Rattle.vc_store.specs.declared.stores.store.Store.{Store}
 
 -- what is there, where something is

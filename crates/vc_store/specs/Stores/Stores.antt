@@ -22,6 +22,7 @@ use Rattle.vc_store.specs.Reading.{Contents}
 use Rattle.vc_store.specs.Tries.{IsTried, TriesToPut}
 use Rattle.vc_store.specs.declared.put.Put.{Put}
 use Rattle.vc_store.specs.declared.stores.store.Store.{Store}
+use Rattle.vc_algebra.specs.InRegion.{ShareNoBlock, rules_or}
 
 -- what there is, where there is something
 abbrev pub joined : {A : Type 0} → Option (Option A) → Option A
@@ -33,19 +34,9 @@ abbrev pub contents_or : Option Contents → Contents
 contents_or None = record { method = DtList; objects = []; place = None }
 contents_or (Some shown) = shown
 
-abbrev pub rules_or : Option Rules → Rules
-rules_or None = rules_of Whole
-rules_or (Some rules) = rules
-
 abbrev pub gone_or : Option Gone → Gone
 gone_or None = record { objects = 0; bytes = 0 }
 gone_or (Some gone) = gone
-
--- two dictionaries have no block in common
-abbrev pub AreApart : Blocks → Dict → Dict → Type 0
-AreApart cells d e =
-    (a : ℕ) → contains (own_blocks (dictionary_of d cells)) a ≡ true
-    → contains (own_blocks (dictionary_of e cells)) a ≡ false
 
 module _ {D : Type 0} {I : Type 0} {V : I → Type 0} where
   -- its region, its dictionaries by number, none where one was shut, and their kinds
@@ -108,7 +99,7 @@ module _ {D : Type 0} {I : Type 0} {V : I → Type 0} where
     pub whole : (n : ℕ) (d : Dict) → dict_at s n ≡ Some d
         → IsWhole (rules_at rules_by s n) d (cells_in s.best)
     pub apart : (m n : ℕ) (d e : Dict) → m ≢ n → dict_at s m ≡ Some d → dict_at s n ≡ Some e
-        → AreApart (cells_in s.best) d e
+        → ShareNoBlock (cells_in s.best) d e
     pub lent : HasOut disc (segments_in s.best)
 
   -- a call, or several, leave it open, and each dictionary a dictionary by the same rules and the same method; and all that its discipline had out besides its segments is out, by the same terms

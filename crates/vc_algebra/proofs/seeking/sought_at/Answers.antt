@@ -6,7 +6,7 @@ use Rattle.vc_dict.specs.Listed.{holders_of}
 use Rattle.vc_dict.specs.Stands.{Stands}
 use Rattle.vc_paths.specs.Layers.{Layer}
 use Rattle.vc_algebra.specs.RegionLaws.{dict-at, layer-is, layer_over_cells}
-use Rattle.vc_algebra.specs.Sides.{CanAsk, holder_to, place_to}
+use Rattle.vc_algebra.specs.Sides.{CanAsk, sought_holder, sought_place}
 use Rattle.vc_algebra.proofs.AtHolders.{place-stands}
 use Rattle.vc_algebra.proofs.LookLemmas.{by-rules, left}
 use Rattle.vc_algebra.proofs.ToldLemmas.{method-told, no-other}
@@ -52,10 +52,10 @@ returns-clause-found g c =
     let cells = best.cells_in c.in-Best.best in
     let stands : Stands rules v cells (holders_of v cells) = subst (λ z. Stands rules v z (holders_of v z)) (ap cells_in c.in-Best.is) (by-rules kinds b v rules c.kind_of-kind.ensures is) in
     c.sought.ensures.found (holders_of v cells) stands
-    ∙ ap (λ q. holder_to c.args.side q cells key (holders_of v cells)) (same_Some rules is.rules (sym c.kind_of-kind.ensures ∙ is.kind))
-    ∙ ap (λ z. holder_to c.args.side is.rules z key (holders_of v z)) (sym (ap cells_in c.in-Best.is))
+    ∙ ap (λ q. sought_holder c.args.side q cells key (holders_of v cells)) (same_Some rules is.rules (sym c.kind_of-kind.ensures ∙ is.kind))
+    ∙ ap (λ z. sought_holder c.args.side is.rules z key (holders_of v z)) (sym (ap cells_in c.in-Best.is))
     ∙ sym (place-stands b c.args.side (layer_over_cells is.rules v b) key (holders_of v b) refl)
-    ∙ ap (λ (l : Layer). place_to c.args.side l key) (sym (layer-is kinds b c.args.dicts.now c.args.d v c.dict_mut-dict.ensures.dict is))
+    ∙ ap (λ (l : Layer). sought_place c.args.side l key) (sym (layer-is kinds b c.args.dicts.now c.args.d v c.dict_mut-dict.ensures.dict is))
 
 pub returns-clause-leaves : goal.returns-clause-leaves
 returns-clause-leaves g c =

@@ -4,7 +4,7 @@ use Rattle.vc_region.specs.Cells.{cells_in}
 use Rattle.vc_dtdisc.specs.Rules.{Rules}
 use Rattle.vc_algebra.specs.InRegion.{layers_of_region}
 use Rattle.vc_algebra.specs.RegionLaws.{found-there}
-use Rattle.vc_algebra.specs.Sides.{place_to}
+use Rattle.vc_algebra.specs.Sides.{sought_place}
 use Rattle.vc_algebra.proofs.ToldLemmas.{bytes-told, has-body, kind-known, kind-there, kind-told, object-within}
 use Rattle.vc_algebra.proofs.seeking.sought_like.Goals as goal
 
@@ -57,4 +57,4 @@ returns-clause-found g c = λ bytes h.
     ∙ ap (λ z. Some z) (sym c.body.ensures) in
     let object = c.copied-length.ensures.copy ∙ same_Some c.body.result.now bytes (sym told ∙ h) in
     let key : c.key.result.now ≡ its.rules.key bytes = c.key.ensures ∙ ap (λ (r : Rules). r.key (take c.copied-length.result c.copied-length.new.out)) rules ∙ ap its.rules.key object in
-    c.sought_at.ensures.found ∙ ap (place_to c.args.side its) key
+    c.sought_at.ensures.found ∙ ap (sought_place c.args.side its) key

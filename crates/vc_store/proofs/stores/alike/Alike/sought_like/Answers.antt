@@ -2,7 +2,7 @@ use Rattle.vc_base.proofs.Common.{◌≡◌, ◌≤◌, Some, take, length, sym,
 use Rattle.vc_dtdisc.specs.Rules.{Rules}
 use Rattle.vc_store.specs.Stores.Alike.{layers_of}
 use Rattle.vc_store.specs.Stores.AlikeLaws.{there-is}
-use Rattle.vc_algebra.specs.Sides.{place_to}
+use Rattle.vc_algebra.specs.Sides.{sought_place}
 use Rattle.vc_store.specs.Stores.Stores.{dict_at, rules_at}
 use Rattle.vc_store.proofs.ToldLayers.{bytes-told, object-within}
 use Rattle.vc_store.proofs.stores.alike.Alike.sought_like.Goals as goal
@@ -24,4 +24,4 @@ returns-clause-found g c = λ bytes h.
     c.key-key.ensures
     ∙ ap (λ (r : Rules). r.key (take c.copied-length.result c.copied-length.new.out)) c.kind_of.ensures
     ∙ ap (rules_at g.D.DictDisc.rules s.store s.like).key object in
-    c.sought_at.ensures.found ∙ ap (place_to c.args.side its) key
+    c.sought_at.ensures.found ∙ ap (sought_place c.args.side its) key
