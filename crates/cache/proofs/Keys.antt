@@ -140,10 +140,6 @@ pub drops-false : (t : Bool) (old new : List (List ℕ)) (before after : List �
 drops-false true old new before after e d = absurd (true≢false e)
 drops-false false old new before after e d = d
 
-pub none-from : {A : Type 0} (o : Option A) → is_some o ≡ false → o ≡ None
-none-from None e = refl
-none-from (Some x) e = absurd (true≢false e)
-
 -- a key that was asked for
 asked-hit : (t : Bool) (a b : KeyTable) → t ≡ true → cond t a b ≡ a
 asked-hit true a b e = refl

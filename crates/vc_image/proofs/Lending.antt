@@ -15,7 +15,8 @@ use Rattle.vc_image_check.proofs.Pairs.{items-get}
 use Rattle.vc_image_check.proofs.Segs.{legal, long, new-number, next-place, segment, segment-is, segs-are, segs-count, segs-each, segs-more, segs_in, size-is, there, within}
 use Rattle.vc_image.specs.Lends.Lends.{AreLent, IsRefused}
 use Rattle.vc_image.specs.Lends.Terms.{first_uneven, is_uneven}
-use Rattle.vc_image.proofs.Uneven.{pairs-many, pairs-of}
+use Rattle.vc_image_check.proofs.Each.{many}
+use Rattle.vc_image.proofs.Uneven.{pairs-of}
 
 -- a round that divides all sizes
 all-even : (round : ℕ) (ps : List (ℕ × ℕ)) → find (is_uneven round) ps ≡ None → (k : ℕ) (d : ℕ × ℕ) → k < length ps → (get_or ps k d).1 % round ≡ 0
@@ -73,7 +74,7 @@ module _ (b : List ℕ) (h : IsHeader b) (i at : ℕ) (segs : List Bytes) (old a
     pub bytes-even : first_uneven old.terms.round (map pair_of (contents_of_image b).segs) ≡ None → length bytes % asked.terms.round ≡ 0
     bytes-even even =
         let none = option_map-None (λ (p : ℕ × ℕ). p.0) (find (is_uneven old.terms.round) (pairs_in b)) (sym (ap (first_uneven old.terms.round) (pairs-of b h)) ∙ even) in
-        let m = pairs-many b in
+        let m = many b in
         let zeros = all-even old.terms.round (pairs_in b) none i pair (omega (arith, lt, m)) in
         let same : (get_or (pairs_in b) i pair).1 ≡ length bytes = ap (λ (p : ℕ × ℕ). p.1) (items-get segment_pair_at 8 b (image_segment_count b) 20 i pair lt) ∙ sym bytes-long in
         ap₂ (λ n r. n % r) (sym same) (ap (λ t. t.round) l.lent.kept.terms) ∙ zeros
@@ -128,7 +129,7 @@ module _ (b : List ℕ) (h : IsHeader b) (i at : ℕ) (segs : List Bytes) (old a
       pub refused-here : (refused new : Discipline) → Unserved asked refused (length bytes) → TookBack refused new (map pair_of segs) [] → (segs ≡ [] → new ≡ refused) → IsRefused old new (map pair_of (contents_of_image b).segs) number
       refused-here refused new refusal back same =
           let ps = map pair_of (contents_of_image b).segs in
-          let m = pairs-many b in
+          let m = many b in
           let own : get_or (pairs_in b) i pair ≡ pair = items-get segment_pair_at 8 b (image_segment_count b) 20 i pair lt in
           let few = ap (λ x. take i (map pair_of x)) (segs-are b) ∙ take-pairs i (segs_in b) in
           record {
@@ -151,7 +152,7 @@ module _ (b : List ℕ) (h : IsHeader b) (i at : ℕ) (segs : List Bytes) (old a
               let none : segs ≡ [] = l.filled ∙ ap (λ k. take k (segs_in b)) (sym e) in
               subst (λ d. Unserved old d pair.1) (sym (same none)) (subst (λ d. Unserved d refused pair.1) (l.none (sym e)) (subst (Unserved asked refused) bytes-long refusal))
           by (suc k) e only =
-              let m = pairs-many b in
+              let m = many b in
               let top : slice_get (map pair_of (contents_of_image b).segs) 0 ≡ Some (get_or (pairs_in b) 0 pair) = ap (λ x. slice_get x 0) (pairs-of b h) ∙ slice_get-get_or (pairs_in b) 0 pair (omega (arith, lt, m)) in
               let named : (get_or (pairs_in b) 0 pair).0 ≡ number = same_Some (get_or (pairs_in b) 0 pair).0 number (sym (ap (option_map (λ (p : ℕ × ℕ). p.0)) top) ∙ only) in
               let own : (get_or (pairs_in b) i pair).0 ≡ number = ap (λ (p : ℕ × ℕ). p.0) (items-get segment_pair_at 8 b (image_segment_count b) 20 i pair lt) ∙ sym n in

@@ -14,14 +14,11 @@ use Rattle.vc_best.proofs.Counting.{blocks-count}
 use Rattle.vc_best.proofs.Gaps.{All-flat_map}
 use Rattle.vc_best.proofs.Tilings.{All-busy_in}
 use Rattle.vc_seg.proofs.Tallies.{tally_of-count}
-unfoldable use Rattle.vc_image_check.specs.Bytes.Contents.{contents_of}
+unfoldable use Rattle.vc_image_check.specs.Bytes.Contents.{contents_of_image}
 use Rattle.vc_image_check.specs.Segments.Sound.{AreSoundSegments, IsSoundSegment}
 use Rattle.vc_image_check.specs.Parts.Front.{IsSoundFront}
 use Rattle.vc_image.specs.Lends.Regions.{busy_count}
-
-pub root-is : (b : List ℕ) → (contents_of b).root ≡ field_at 12 b
-unfolding contents_of
-root-is b = refl
+use Rattle.vc_image_check.proofs.Lying.{root-is}
 
 all-merged : (segs : List Bytes) → AreSoundSegments segs → IsMerged (tiling segs)
 all-merged segs h =
@@ -39,13 +36,13 @@ all-most segs h =
     (λ s g. All-busy_in P s.number (extents s.bytes) (All-weaker (λ (e : Extent). e.size ≤ 16777264) (λ e. 0 < e.size → e.size ≤ 16777264) (λ e most some. most) (extents s.bytes) g.sizes))
     segs h)))
 
-pub whole-front : (b : List ℕ) (segs : List Bytes) (root : ℕ) → IsSoundFront b → segs ≡ (contents_of b).segs → root ≡ field_at 12 b → AreWhole segs root
+pub whole-front : (b : List ℕ) (segs : List Bytes) (root : ℕ) → IsSoundFront b → segs ≡ (contents_of_image b).segs → root ≡ field_at 12 b → AreWhole segs root
 whole-front b segs root h s r =
     subst (λ xs. AreWhole xs root) (sym s)
-    (subst (AreWhole (contents_of b).segs) (root-is b ∙ sym r)
+    (subst (AreWhole (contents_of_image b).segs) (root-is b ∙ sym r)
     (record {
-      kept = record { merged = all-merged (contents_of b).segs h.segments; gaps = h.tree };
-      sizes = all-most (contents_of b).segs h.segments;
+      kept = record { merged = all-merged (contents_of_image b).segs h.segments; gaps = h.tree };
+      sizes = all-most (contents_of_image b).segs h.segments;
     }))
 
 -- the blocks of a region are the extents that have one

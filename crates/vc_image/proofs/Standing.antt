@@ -21,6 +21,7 @@ use Rattle.vc_image_check.specs.Orders.Sound.{ArePlain}
 use Rattle.vc_image_check.specs.Dicts.Alone.{AreAlone}
 use Rattle.vc_image_check.specs.Dicts.Sound.{AreSoundHolders, IsSoundBy, holders_in}
 use Rattle.vc_image.proofs.Rising.{ascending-of}
+use Rattle.vc_dthash.proofs.MarkLemmas.{all-of}
 
 -- heads of a method's form have 0 where it has no use for them
 others-of : (method : DictMethod) (f : Form) → IsForm method f → HasNoOtherHeads method (heads_at f)
@@ -61,9 +62,6 @@ each-in : (P : ℕ → Type 0) (xs : List ℕ) → ((a : ℕ) → contains xs a 
 each-in P [] f = tt
 each-in P (x ∷ xs) f = (f x (within-head x xs), each-in P xs (λ a w. f a (within-tail x xs a w)))
 
-all-in : (P : ℕ → Type 0) (xs : List ℕ) → ((a : ℕ) → contains xs a ≡ true → P a) → All P xs
-all-in P xs f = All-from_recursion P xs (each-in P xs f)
-
 both-in : (b : Blocks) (xs : List ℕ) → AllByRecursion (IsPlain b) xs → AllByRecursion (λ a. length (bytes_at b a) ≤ 1056) xs → ArePlain b xs
 both-in b [] p q = tt
 both-in b (x ∷ xs) p q = (record { plain = p.0; most = q.0 }, both-in b xs p.1 q.1)
@@ -83,9 +81,9 @@ module _ (rules : Rules) (lawful : AreLawful rules) (b : Blocks) (method : DictM
           table = record { some = table t; allowed = is.slots_allowed; size = is.size; enough = λ lt. let few = is.enough lt in omega (arith, few, e) };
           chain = record {
             links = h.links;
-            sizes = all-in (λ a. length (bytes_at b a) ≤ 1056) xs small;
-            apart = all-in (λ a. a ≢ hash.table.0) xs (λ a w. differs xs a hash.table.0 w is.apart);
-            hashes = all-in (IsHashed rules b) xs h.hashes;
+            sizes = all-of (λ a. length (bytes_at b a) ≤ 1056) xs small;
+            apart = all-of (λ a. a ≢ hash.table.0) xs (λ a w. differs xs a hash.table.0 w is.apart);
+            hashes = all-of (IsHashed rules b) xs h.hashes;
             chains = h.chains (table t);
           };
           lone = lone;
@@ -111,7 +109,7 @@ module _ (rules : Rules) (lawful : AreLawful rules) (b : Blocks) (method : DictM
       record {
         hash = λ t. absurd (true≢false (sym t ∙ plain.0));
         order = λ o. absurd (true≢false (sym o ∙ plain.1));
-        list = λ _ _. record { stands = h; sizes = all-in (λ a. length (bytes_at b a) ≤ 1056) (holders_by (Links list) b count) small };
+        list = λ _ _. record { stands = h; sizes = all-of (λ a. length (bytes_at b a) ≤ 1056) (holders_by (Links list) b count) small };
       }
 
 pub whole-sound : (rules : Rules) (d : Dict) (b : Blocks) → AreLawful rules → IsWhole rules d b → (is_set d.method ≡ true → AreAlone rules b (holders_of d b)) → IsSoundBy d.method rules b d.count d.current.0 (heads_in d)

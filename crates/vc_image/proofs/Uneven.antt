@@ -9,9 +9,7 @@ use Rattle.vc_image_check.proofs.Pairs.{items-get}
 use Rattle.vc_image_check.proofs.Segs.{pairs-are, segs-are, size-is}
 use Rattle.vc_image_check.proofs.Words.{length-items}
 use Rattle.vc_image.specs.Lends.Terms.{first_uneven, is_uneven}
-
-pub pairs-many : (b : List ℕ) → length (pairs_in b) ≡ image_segment_count b
-pairs-many b = length-items segment_pair_at pair_bytes 8 (image_segment_count b) 20 b
+use Rattle.vc_image_check.proofs.Each.{many}
 
 pub pairs-of : (b : List ℕ) → IsHeader b → map pair_of (contents_of_image b).segs ≡ pairs_in b
 pairs-of b h = ap (map pair_of) (segs-are b) ∙ pairs-are b h
@@ -19,7 +17,7 @@ pairs-of b h = ap (map pair_of) (segs-are b) ∙ pairs-are b h
 -- the segment at hand, and those behind it
 next-pair : (b : List ℕ) (i : ℕ) → i < image_segment_count b → drop i (pairs_in b) ≡ segment_pair_at (20 + 8 * i) b ∷ drop (i + 1) (pairs_in b)
 next-pair b i lt =
-    let m = pairs-many b in
+    let m = many b in
     let p = segment_pair_at (20 + 8 * i) b in
     drop_more (pairs_in b) i p (omega (arith, lt, m)) ∙ ap (λ (q : ℕ × ℕ). q ∷ drop (i + 1) (pairs_in b)) (items-get segment_pair_at 8 b (image_segment_count b) 20 i p lt)
 
@@ -43,10 +41,10 @@ module _ (b : List ℕ) (round i : ℕ) (lt : i < image_segment_count b) (so_far
 
 pub even-all : (b : List ℕ) (round i : ℕ) → IsHeader b → image_segment_count b ≤ i → find (is_uneven round) (pairs_in b) ≡ find (is_uneven round) (drop i (pairs_in b)) → None ≡ first_uneven round (map pair_of (contents_of_image b).segs)
 even-all b round i h le so_far =
-    let m = pairs-many b in
+    let m = many b in
     let none : drop i (pairs_in b) ≡ [] = drop_all i (pairs_in b) (omega (arith, le, m)) in
     sym (ap (first_uneven round) (pairs-of b h) ∙ ap (option_map (λ (p : ℕ × ℕ). p.0)) (so_far ∙ ap (find (is_uneven round)) none))
 
 -- how many segments there are
 pub segments-many : (b : List ℕ) → IsHeader b → length (map pair_of (contents_of_image b).segs) ≡ image_segment_count b
-segments-many b h = ap length (pairs-of b h) ∙ pairs-many b
+segments-many b h = ap length (pairs-of b h) ∙ many b

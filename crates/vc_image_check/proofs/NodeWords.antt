@@ -20,9 +20,6 @@ pub link-small : (k : ℕ) (bytes : List ℕ) → is_link k bytes ≡ true → w
 unfolding is_link
 link-small k bytes h = ltb-true (word k bytes) 4294967296 (and_parts (nat_lt (word k bytes) 4294967296) (bytes_eq (word_bytes k bytes) (to_le_bytes w64 (word k bytes))) h).0
 
-pub node-small : (blocks : Blocks) (a k : ℕ) → k < 3 → is_node blocks a ≡ true → word_at blocks a k < 2 ^ 32
-node-small blocks a k lt h = link-small k (bytes_at blocks a) ((node-is blocks a h).links k lt)
-
 and-true : (x : Bool) → x ≡ (x && true)
 and-true true = refl
 and-true false = refl

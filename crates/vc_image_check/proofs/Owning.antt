@@ -26,6 +26,7 @@ use Rattle.vc_image_check.specs.Lists.Chained.{IsSoundChain}
 use Rattle.vc_image_check.specs.Orders.Sound.{ArePlain, IsSoundOrder}
 use Rattle.vc_image_check.specs.Dicts.Alone.{AreHung}
 use Rattle.vc_image_check.specs.Dicts.Sound.{AreSoundHolders, holders_in, own_in}
+use Rattle.vc_dthash.proofs.HashLemmas.{IsSlots-some}
 
 -- what none of some numbers fails
 none-less : (p q : ℕ → Bool) → ((y : ℕ) → q y ≡ true → p y ≡ true) → (ys : List ℕ) → list_any p ys ≡ false → list_any q ys ≡ false
@@ -128,12 +129,6 @@ pub length-from : (b : Blocks) (n at : ℕ) → length (holders_from b n at) ≡
 length-from b zero at = refl
 length-from b (suc n) at = ap suc (length-from b n (word_at b at 1))
 
-pub some-slots : (slots : ℕ) → IsSlots slots → 1 ≤ slots
-some-slots slots h =
-    let value = h.value in
-    let some : 2 ^ 0 ≤ 2 ^ h.doublings = pow_mono {i = 0} {j = h.doublings} (omega arith) in
-    omega (arith, value, some)
-
 pub each-of : (P : ℕ → Type 0) (xs : List ℕ) → AllByRecursion P xs → (a : ℕ) → contains xs a ≡ true → P a
 each-of P [] h a w = absurd (true≢false (sym w))
 each-of P (x ∷ xs) h a w =
@@ -176,7 +171,7 @@ own-there method rules b count heads h = by (has_table method) refl
     by true t =
         let s = h.hash t in
         let size = s.table.size in
-        let some = some-slots heads.slots s.table.allowed in
+        let some = IsSlots-some heads.slots s.table.allowed in
         subst (AreThere b) (sym (own-tabled method b count heads t)) (there-more b (holders_in method b count heads) heads.table.0 (omega (arith, size, some))
         (ap (λ z. contains z heads.table.0) (hash-holders method b count heads t)
         ∙ not-within heads.table.0 (holders_from b count heads.first.0) (recursion_from_All (λ a. a ≢ heads.table.0) (holders_from b count heads.first.0) s.chain.apart)) plain)

@@ -21,7 +21,8 @@ use Rattle.vc_image_check.specs.Lists.Sound.{IsSoundList}
 use Rattle.vc_image_check.specs.Orders.Sound.{ArePlain, IsSoundOrder}
 use Rattle.vc_image_check.proofs.NodeWords.{has-bytes}
 use Rattle.vc_image_check.specs.Dicts.Sound.{AreSoundHolders, IsSoundBy, IsSoundHash, holders_in}
-use Rattle.vc_image_check.proofs.Owning.{each-of, length-from, not-within, own-holders, order-names, order-stands, some-slots}
+use Rattle.vc_dthash.proofs.HashLemmas.{IsSlots-some}
+use Rattle.vc_image_check.proofs.Owning.{each-of, length-from, not-within, own-holders, order-names, order-stands}
 
 abbrev Most : Blocks → ℕ → Type 0
 Most b a = length (bytes_at b a) ≤ 1056
@@ -50,7 +51,7 @@ module _ (rules : Rules) (b : Blocks) (method : DictMethod) (count : ℕ) (heads
   of-hash : (alone : Bool) → has_table method ≡ true → IsSoundHash rules b alone count heads → OfForm rules method b count hash-form
   of-hash alone t h =
       let long : length from-first ≡ count = length-from b count heads.first.0 in
-      let some = some-slots heads.slots h.table.allowed in
+      let some = IsSlots-some heads.slots h.table.allowed in
       let size = h.table.size in
       record {
         form = t;

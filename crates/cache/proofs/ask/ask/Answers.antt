@@ -3,7 +3,8 @@ use Rattle.vc_dtdisc.specs.Shapes.{rules_of}
 use Rattle.vc_store.specs.Collections.{contents}
 use Rattle.vc_store.specs.Reading.{found}
 use Rattle.cache.specs.Asking.{key_rules}
-use Rattle.cache.proofs.Keys.{asks-hit, asks-new, none-from}
+use Rattle.vc_base.proofs.Options.{none_of}
+use Rattle.cache.proofs.Keys.{asks-hit, asks-new}
 use Rattle.cache.proofs.ask.ask.Goals as goal
 
 pub admit-requires-clause-new : goal.admit-requires-clause-new
@@ -12,7 +13,7 @@ admit-requires-clause-new g c =
     let set = c.args.set.now in
     let keys = (contents set).objects in
     let missed : is_some (found (rules_of set.kind.shape) key keys) ≡ false = sym c.find.ensures.sought.there ∙ c.if-find.false in
-    none-from (found key_rules key (contents c.args.queue.now).objects)
+    none_of (found key_rules key (contents c.args.queue.now).objects)
     (ap (λ ks. is_some (found key_rules key ks)) (sym c.requires.same)
     ∙ (ap (λ r. is_some (found r key keys)) (sym c.requires.set.rules) ∙ missed))
 
@@ -36,7 +37,7 @@ returns-clause-asks g c =
     let old = (contents c.args.queue.now).objects in
     let missed : is_some (found (rules_of set.kind.shape) key keys) ≡ false = sym c.find.ensures.sought.there ∙ c.if-find.false in
     asks-new c.in_ok-put.put key old (contents c.admit.new.queue).objects c.args.lines.now.items c.admit.new.lines.items c.put_line-2.new.lines.items
-    (none-from (found key_rules key old)
+    (none_of (found key_rules key old)
     (ap (λ ks. is_some (found key_rules key ks)) (sym c.requires.same)
     ∙ (ap (λ r. is_some (found r key keys)) (sym c.requires.set.rules) ∙ missed)))
     (sym c.if-not-is_there.ensures) c.in_ok-put.ensures.admits c.in_ok-put_line-2.ensures

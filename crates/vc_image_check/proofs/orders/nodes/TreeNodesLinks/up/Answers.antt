@@ -1,5 +1,6 @@
 use Rattle.vc_base.proofs.Common.{◌+◌, ◌*◌, arith}
-use Rattle.vc_image_check.proofs.NodeWords.{node-bytes, node-small}
+use Rattle.vc_dtord.proofs.WrittenLemmas.{node-link_fits}
+use Rattle.vc_image_check.proofs.NodeWords.{node-bytes}
 use Rattle.vc_image_check.proofs.orders.nodes.TreeNodesLinks.up.Goals as goal
 
 pub word-requires : goal.word-requires
@@ -7,6 +8,6 @@ word-requires g c = node-bytes (g.N.Holders.blocks c.args.self.now.holders.now) 
 
 pub overflow_cast-result : goal.overflow_cast-result
 overflow_cast-result g c =
-    let small = node-small (g.N.Holders.blocks c.args.self.now.holders.now) c.args.n 2 (omega arith) c.requires in
+    let small = node-link_fits (g.N.Holders.blocks c.args.self.now.holders.now) c.args.n 2 (omega arith) c.requires in
     let is = c.word.ensures in
     omega (arith, small, is)
