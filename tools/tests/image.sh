@@ -1,4 +1,4 @@
-# vmimage on an image of a few dictionaries, and on the same with damages.
+# vmimage on an image of a few dictionaries, on the same with damages, and on the images of tools/tests/images.
 # shellcheck shell=sh disable=SC2154
 image=$programs/vmimage
 fruit=$here/../examples/fruit.image
@@ -94,3 +94,122 @@ check "vmimage run: a script that is refused leaves the older image" \
     "new plum
 vmimage: line 2: unknown command
 status 7 run.image"
+
+# The images of tools/tests/images: what each is, the part that is told, or the file in which it stands, and its bytes, as told to
+# printf.
+awk '
+    function number(text, rise, at) {
+        if (text !~ /^@/) return text + 0
+        at = index(text, ":")
+        return substr(text, 2, at - 2) * 1048576 + (substr(text, at + 1) + rise) / 32
+    }
+    function byte(at, value) {
+        if (!(at in was)) was[at] = bytes[at]
+        bytes[at] = value
+    }
+    function put(text, rise, at, value, i) {
+        match(text, /[=:]/)
+        at = substr(text, 1, RSTART - 1) + rise
+        if (substr(text, RSTART, 1) == ":") {
+            byte(at, substr(text, RSTART + 1) + 0)
+            return
+        }
+        value = number(substr(text, RSTART + 1), rise)
+        for (i = 0; i < 4; i++) {
+            byte(at + i, value % 256)
+            value = int(value / 256)
+        }
+    }
+    function row(what, told, i, text) {
+        for (i = 0; i < size; i++) text = text sprintf("\\%03o", bytes[i])
+        print what "|" told "|" text
+        for (i in was) bytes[i] = was[i]
+        split("", was)
+    }
+    /^image / { name = substr($0, 7); begun = 1; next }
+    !begun || /^#/ || NF == 0 { next }
+    $1 == "bytes" {
+        size = $2
+        for (i = 0; i < size; i++) bytes[i] = 0
+        split("86 67 73 77 65 71 69 49", letters, " ")
+        for (i = 1; i <= 8; i++) bytes[i - 1] = letters[i]
+        next
+    }
+    $1 == "is" { for (i = 2; i <= NF; i++) put($i, 0); split("", was); next }
+    $1 == "each" {
+        for (n = 0; n < $2; n++) for (i = 4; i <= NF; i++) put($i, n * $3)
+        split("", was)
+        next
+    }
+    {
+        told = ""
+        changes = ""
+        for (i = 1; i <= NF; i++) {
+            if ($i ~ /^[0-9]+[=:]/) {
+                put($i, 0)
+                changes = changes " " $i
+            } else told = told (told == "" ? "" : " ") $i
+        }
+        row(name (changes == "" ? "" : ", with" changes), told)
+    }' "$here/tests/images" > images.rows
+while IFS='|' read -r what told bytes; do
+    case $told in
+        'file '*)
+            # shellcheck disable=SC2059
+            printf "$bytes" > "${told#file }.image"
+            continue
+            ;;
+        sound) due='sound, status 0' ;;
+        *) due="vmimage: unsound: $told, status 1" ;;
+    esac
+    # shellcheck disable=SC2059
+    printf "$bytes" > table.image
+    "$image" check table.image > image.out 2>&1
+    status=$?
+    read -r said < image.out
+    check "vmimage check: $what: $told" same "$said, status $status" "$due"
+done < images.rows
+
+# What some of them hold.
+check "vmimage show: blocks without a label, and objects of a byte" same "$("$image" show three.image)" \
+    "busy 5 free 0 sbusy 260 sfree 0 mbusy 128 mfree 0 segs 1 extent 448
+segments 1 1:448
+blocks 5 *@1:32+33 *@1:96+33 *@1:160+33 *@1:224+33 *@1:288+128
+2 x %00
+1 a
+1 b"
+check "vmimage show: a block by its tag" same "$("$image" show labelled.image)" \
+    "busy 1 free 0 sbusy 40 sfree 0 mbusy 40 mfree 0 segs 1 extent 96
+segments 1 3:96
+blocks 1 7@3:32+40"
+check "vmimage show: a file without a name" same "$("$image" show '' 2>&1; echo "status $?")" "vmimage: read failed
+status 3"
+
+# unopened WHY FILE LINE STATUS: no script is run over that image.
+unopened() {
+    cp "$2.image" older.image
+    check "vmimage run: $1" \
+        same "$(echo count d1 | "$image" run "$2.image" 2>&1; echo "status $? $(cmp "$2.image" older.image && ls "$2".image*)")" \
+        "vmimage: $3
+status $4 $2.image"
+}
+unopened 'a segment of another size than the discipline lends' three 'segment 1: wrong size' 6
+unopened 'a part that is unsound is told before that' treeless 'unsound: tree' 1
+unopened 'a tag that is too great' great 'wrong tags' 6
+unopened 'two blocks with one tag' twice 'wrong tags' 6
+
+# saves WHAT FILE SCRIPT: the image of what the script leaves is that one, byte for byte.
+saves() {
+    # shellcheck disable=SC2059
+    check "vmimage save: $1" same "$(printf "$3" | "$image" save saved.image > image.out 2>&1; echo $?; cmp saved.image "$2.image")" 0
+}
+printf 'VCIMAGE1\0\0\0\0\0\0\0\0\0\0\0\0' > nothing.image
+saves 'a region in which nothing lies' nothing 'open r best 1\n'
+saves 'a block' block 'open r best 1\nalloc r a 1\n'
+saves 'a set, a queue and an ordered bag' left \
+    'open r best 1\ndict s set r 1\ninsert s a\ndict q queue r 1\ninsert q p\ndict o obag r 3\ninsert o b\n'
+saves 'the first region that is left open, and no dictionary of another one' nothing \
+    'open q best 2\nopen r best 1\nclose q\nopen q best 2\ndict d list q 1\ninsert d x\n'
+cp "$fruit" run.image
+check "vmimage run: a script without a line leaves the image as it was" \
+    same "$("$image" run run.image < /dev/null 2>&1; echo $?; cmp run.image "$fruit")" 0
