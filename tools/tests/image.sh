@@ -206,6 +206,7 @@ saves() {
 printf 'VCIMAGE1\0\0\0\0\0\0\0\0\0\0\0\0' > nothing.image
 saves 'a region in which nothing lies' nothing 'open r best 1\n'
 saves 'a block' block 'open r best 1\nalloc r a 1\n'
+saves 'a block, and behind it a segment that is refused' block 'open r best 13\nalloc r a 1\nalloc r b 2000000\n'
 saves 'a set, a queue and an ordered bag' left \
     'open r best 1\ndict s set r 1\ninsert s a\ndict q queue r 1\ninsert q p\ndict o obag r 3\ninsert o b\n'
 saves 'the first region that is left open, and no dictionary of another one' nothing \

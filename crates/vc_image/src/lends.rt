@@ -10,8 +10,3 @@ pub use fault::ImageLendFault;
 pub use lend::lend_image;
 pub use region::region_of_image;
 pub use terms::terms_fault;
-
-#[cfg(test)]
-mod noted;
-#[cfg(test)]
-mod tests;

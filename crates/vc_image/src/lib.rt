@@ -1,20 +1,14 @@
 //! Images of a best region with its dictionaries: saved to a sink, and loaded over a discipline. This project's own.
 #![tactic(auto)]
 
-#[cfg(test)]
-mod block_rows;
 mod dicts;
 mod fault;
 mod head;
 mod lends;
 mod loading;
-#[cfg(test)]
-mod round_trips;
 mod saved;
 mod saving;
 mod segments;
-#[cfg(test)]
-mod tests;
 
 pub use fault::{LoadFault, SaveFault};
 pub use lends::ImageLendFault;

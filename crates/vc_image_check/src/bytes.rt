@@ -5,6 +5,3 @@ mod laws;
 
 pub use header::{is_header, word};
 pub use laws::{image_rows, read_of_written, written_of_read};
-
-#[cfg(test)]
-mod tests;

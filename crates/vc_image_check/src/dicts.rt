@@ -13,8 +13,3 @@ mod whole;
 pub use laws::sound_is_whole;
 pub use numbers::{heads_of, method_of};
 pub use whole::unsound_part;
-
-#[cfg(test)]
-mod large;
-#[cfg(test)]
-mod tests;

@@ -12,6 +12,6 @@ mod parts;
 mod segments;
 mod walks;
 
-pub use bytes::{image_rows, is_header, read_of_written, word, written_of_read};
+pub use bytes::{image_rows, read_of_written, word, written_of_read};
 pub use dicts::{heads_of, method_of, sound_is_whole, unsound_part};
-pub use parts::{Part, unsound_front};
+pub use parts::Part;

@@ -5,6 +5,3 @@ mod part;
 
 pub use front::unsound_front;
 pub use part::Part;
-
-#[cfg(test)]
-mod tests;

@@ -5,6 +5,3 @@ mod segments;
 
 pub use segment::is_sound_segment;
 pub use segments::unsound_segment;
-
-#[cfg(test)]
-mod tests;

@@ -5,6 +5,3 @@ mod walk;
 
 pub use known::Known;
 pub use walk::in_order;
-
-#[cfg(test)]
-mod tests;

@@ -11,6 +11,3 @@ pub use fault::ScriptFault;
 pub use over::image_over_image;
 pub use over_fault::OverFault;
 pub use running::image_of_script;
-
-#[cfg(test)]
-mod tests;

@@ -14,8 +14,3 @@ pub use status::ImageStatus;
 pub use task::{ImageTask, task_of};
 pub use told::tell;
 pub use tool::{check, show};
-
-#[cfg(test)]
-mod images;
-#[cfg(test)]
-mod tests;
