@@ -1,11 +1,9 @@
 -- Dictionaries of a region that get objects: what one is asked for, and what it leaves of them all.
-use Rattle.vc_base.proofs.Common.{◌≡◌, ◌≢◌, ℕ, Bool, true, false, ◌&&◌, ◌++◌, List, [], ◌∷◌, map, set, length, zero, suc, nat_lt, ◌==◌, ◌<◌, slice_get, option_map, Some, None, Option, IfNone, IfSome, IsSome, is_some, not, Result, Ok, Err, sym, refl, ap, ◌∙◌, subst, inl, inr, none-some, same_Some, slice_get-map, map-append, true≢false, eqb_tells, eq-eqb, eqb-true, and_parts, and_from, ltb-true, lt-ltb, list_all, AllByRecursion, Blocks, contains, some_address, at_number, has_table, is_set, method_number, Discipline, HasOut, Layout, Terms}
+use Rattle.vc_base.proofs.Common.{◌≡◌, ◌≢◌, ℕ, Bool, true, false, ◌&&◌, ◌++◌, List, [], ◌∷◌, map, set, length, zero, suc, nat_lt, ◌==◌, slice_get, option_map, Some, None, Option, IfNone, IfSome, IsSome, is_some, not, Result, Ok, Err, sym, refl, ap, ◌∙◌, subst, inl, inr, none-some, same_Some, slice_get-map, map-append, true≢false, eqb_tells, eq-eqb, eqb-true, and_parts, and_from, ltb-true, lt-ltb, list_all, AllByRecursion, Blocks, contains, some_address, at_number, has_table, method_number, Discipline, HasOut}
 use Rattle.vc_base.specs.declared.fault.OutOfMemory.{OutOfMemory}
 use Rattle.vc_base.proofs.Members.{within-head, within-tail}
 use Rattle.vc_base.proofs.Methods.{same-method}
-use Rattle.vc_base.proofs.Options.{is_some-map}
 use Rattle.vc_base.specs.declared.dict_method.DictMethod.{DictMethod}
-use Rattle.vc_dtdisc.specs.Objects.{bytes_of, first_with}
 use Rattle.vc_dtdisc.specs.Rules.{IsObject, Rules}
 use Rattle.vc_dict.specs.Listed.{holders_of}
 use Rattle.vc_dict.specs.Stands.{Stands, slots_in, table_in}
@@ -15,12 +13,12 @@ use Rattle.vc_dtdisc.specs.Shapes.{rules_of}
 use Rattle.vc_dtdisc.specs.declared.shape.Shape.TheVariants.{Whole}
 use Rattle.std.specs.Option.{option_transpose}
 use Rattle.vc_objects.specs.Leaves.{LeavesRest, Looks}
-use Rattle.vc_objects.specs.Insert.{empty_dictionary, grow, insert}
+use Rattle.vc_objects.specs.Insert.{empty_dictionary}
 use Rattle.vc_objects.specs.Promises.{CanAsk, Inserts}
 use Rattle.vc_objects.specs.Objects.{Dictionary, own_blocks}
-use Rattle.vc_objects.specs.Parts.{IsWhole, dictionary_in, dictionary_of, object_of, table_of}
+use Rattle.vc_objects.specs.Parts.{IsWhole, dictionary_in, dictionary_of, table_of}
 use Rattle.vc_objects.specs.declared.fate.Fate.{Fate}
-use Rattle.vc_objects.proofs.Leaving.{keeps-out, leaves-trans}
+use Rattle.vc_objects.proofs.Leaving.{keeps-out}
 use Rattle.vc_objects.proofs.Looking.{dictionary-same, dictionary-told}
 use Rattle.vc_objects.proofs.Mapped.{addresses-mapped}
 use Rattle.vc_paths.specs.Layers.{Layer, Same}

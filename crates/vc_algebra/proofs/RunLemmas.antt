@@ -1,5 +1,5 @@
 -- What calls one after another list, where each answers the first of what is left.
-use Rattle.vc_base.proofs.Common.{◌≡◌, ℕ, ◌<◌, Bool, true, false, not, ◌&&◌, List, [], ◌∷◌, map, length, take, drop, IfSome, Some, None, Option, option_map, sym, refl, ap, ◌∙◌, subst, inl, inr, true≢false, cases_Bool, arith, same_Some, AllByRecursion, list_any, IsTotalOrder}
+use Rattle.vc_base.proofs.Common.{◌≡◌, ℕ, ◌<◌, Bool, true, false, not, ◌&&◌, List, [], ◌∷◌, map, length, take, drop, IfSome, Some, None, Option, sym, refl, ap, ◌∙◌, subst, inl, inr, true≢false, cases_Bool, arith, same_Some, AllByRecursion, list_any, IsTotalOrder}
 use Rattle.vc_base.specs.declared.addr.Addr.{Addr}
 use Rattle.vc_base.proofs.Quantifiers.{all-weaken}
 use Rattle.vc_dtdisc.specs.Finding.{behind_last, first_of}
@@ -16,7 +16,6 @@ use Rattle.vc_algebra.specs.Runs.{AreListed, AreMergeNexts, AreRangeNexts, HaveO
 use Rattle.vc_algebra.specs.ToCome.{Begins, from_place, from_there, seen_to_come}
 use Rattle.vc_algebra.specs.declared.merge.Merge.{Merge}
 use Rattle.vc_algebra.specs.declared.op.Op.{Op}
-use Rattle.vc_algebra.proofs.ComeLemmas.{seen-first}
 use Rattle.vc_algebra.proofs.MergeLemmas.{filter-by}
 use Rattle.vc_algebra.proofs.OwnLemmas.{at-place, first-in, from-behind, from-first, from-past, visible-own}
 use Rattle.vc_algebra.proofs.RangeLemmas.{from_up, no-range, none-place, over_up, visible_sorted}

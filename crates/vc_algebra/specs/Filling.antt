@@ -1,13 +1,13 @@
 -- Dictionaries of a region that get objects.
-use Rattle.std.specs.Prelude.{◌≡◌, ℕ, Bool, true, false, List, Option, Some, None, IsSome, is_some, Result, Ok, Err, map, slice_get, slice_set, nat_lt, ◌==◌, ◌&&◌}
+use Rattle.std.specs.Prelude.{◌≡◌, ℕ, Bool, true, false, List, Option, Some, None, IsSome, Result, Ok, Err, map, slice_get, slice_set, nat_lt, ◌==◌, ◌&&◌}
 use Rattle.std.specs.List.{AllByRecursion}
 use Rattle.vc_model.specs.Discipline.{Discipline, HasOut, Terms}
 use Rattle.vc_model.specs.Layout.{Layout}
 use Rattle.vc_model.specs.Numbered.{at_number}
 use Rattle.vc_base.specs.declared.fault.OutOfMemory.{OutOfMemory}
 use Rattle.vc_base.specs.Holders.{contains}
-use Rattle.vc_base.specs.Methods.{has_table, is_set, method_number}
-use Rattle.vc_dtdisc.specs.Objects.{address_of, bytes_of, first_with}
+use Rattle.vc_base.specs.Methods.{has_table, method_number}
+use Rattle.vc_dtdisc.specs.Objects.{address_of}
 use Rattle.vc_dtdisc.specs.Rules.{Rules}
 use Rattle.vc_dict.specs.declared.dict.Dict.{Dict}
 use Rattle.vc_objects.specs.Insert.{grow, insert}

@@ -1,8 +1,5 @@
 -- Worked lists for the rows of ranges and operations: objects by their names, at places from 1 on.
 use Rattle.std.specs.Prelude.{ℕ, List, [], ◌∷◌, map, Option}
-use Rattle.vc_dtdisc.specs.Rules.{Rules}
-use Rattle.vc_dtdisc.specs.Shapes.{rules_of}
-use Rattle.vc_dtdisc.specs.declared.shape.Shape.TheVariants.{Fold}
 use Rattle.vc_paths.specs.Path.{place_of}
 use Rattle.vc_paths.specs.Rows.{apple, by_whole, fruit, objects_at, pear}
 use Rattle.vc_paths.specs.Visible.{Seen}

@@ -1,5 +1,5 @@
 -- What is sought in a dictionary by a key, by how it stands to the key.
-use Rattle.std.specs.Prelude.{◌≡◌, ℕ, true, not, List, Option, find, IsSome}
+use Rattle.std.specs.Prelude.{◌≡◌, ℕ, true, List, Option, find, IsSome}
 use Rattle.std.specs.List.{filter}
 use Rattle.std.specs.Ordering.{is_ge, is_gt, is_lt}
 use Rattle.vc_base.specs.declared.addr.Addr.{Addr}

@@ -1,7 +1,5 @@
 -- The numbers of answers, methods and kinds.
-use Rattle.std.specs.Prelude.{ℕ, ◌-◌, Option, Some, None, ◌==◌, if◌then◌else◌, slice_get}
-use Rattle.vc_base.specs.declared.dict_method.DictMethod.{DictMethod}
-use Rattle.vc_base.specs.declared.dict_method.DictMethod.TheVariants.{DtSet, DtBag, DtOset, DtObag, DtList, DtStack, DtQueue}
+use Rattle.std.specs.Prelude.{ℕ, ◌-◌, Option, None, ◌==◌, if◌then◌else◌, slice_get}
 use Rattle.vc_dtdisc.specs.declared.shape.Shape.{Shape}
 use Rattle.vc_main.specs.Places.{shapes}
 use Rattle.vc_seg.specs.declared.fault.RegionFault.{RegionFault}

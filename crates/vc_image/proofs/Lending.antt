@@ -1,5 +1,5 @@
 -- An image's segments, lent one by one.
-use Rattle.vc_base.proofs.Common.{◌≡◌, ◌≢◌, ℕ, zero, suc, ◌+◌, ◌-◌, ◌*◌, ◌%◌, ◌<◌, ◌≤◌, true, false, eqb, List, [], ◌∷◌, ◌++◌, All, length, map, get_or, take, drop, find, None, Some, option_map, slice_get, sym, refl, ap, ap₂, ◌∙◌, subst, inl, inr, ⊎_elim, true≢false, arith, append_assoc, eqb-true, ne_eqb, cases_Bool, map-append, take_all, same_Some, Rose, Lent, TookBack, Unserved, IsSegmentSize}
+use Rattle.vc_base.proofs.Common.{◌≡◌, ◌≢◌, ℕ, zero, suc, ◌+◌, ◌-◌, ◌*◌, ◌%◌, ◌<◌, ◌≤◌, true, false, eqb, List, [], ◌∷◌, ◌++◌, All, length, map, get_or, take, drop, find, None, Some, option_map, slice_get, sym, refl, ap, ap₂, ◌∙◌, subst, ⊎_elim, true≢false, arith, append_assoc, eqb-true, ne_eqb, cases_Bool, map-append, take_all, same_Some, Lent, TookBack, Unserved, IsSegmentSize}
 use Rattle.std.proofs.lemmas.Option.{slice_get-get_or}
 use Rattle.vc_base.proofs.Options.{option_map-None}
 use Rattle.vc_model.specs.Discipline.{Discipline}

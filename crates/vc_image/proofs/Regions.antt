@@ -1,5 +1,5 @@
 -- What a best region asks of an image's segments.
-use Rattle.vc_base.proofs.Common.{◌≡◌, ℕ, ◌<◌, ◌≤◌, true, false, List, All, length, filter, sym, refl, ◌∙◌, subst, All-map, All-weaker, length-map, Block}
+use Rattle.vc_base.proofs.Common.{◌≡◌, ℕ, ◌<◌, ◌≤◌, true, false, List, All, length, filter, sym, ◌∙◌, subst, All-map, All-weaker, length-map, Block}
 use Rattle.vc_seg.specs.Field.{field_at}
 use Rattle.vc_seg.specs.Segment.{Bytes}
 use Rattle.vc_seg.proofs.InOrder.{All-in_order}

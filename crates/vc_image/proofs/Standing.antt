@@ -1,6 +1,6 @@
 -- The numbers of a whole dictionary are sound.
-use Rattle.vc_base.proofs.Common.{◌≡◌, ◌≢◌, ℕ, ◌≤◌, true, List, [], ◌∷◌, All, length, AreDistinct, contains, sym, refl, ap, ◌∙◌, subst, arith, true≢false, length-drop, AllByRecursion}
-use Rattle.std.proofs.lemmas.List.Elements.{All-from_recursion, recursion_from_All}
+use Rattle.vc_base.proofs.Common.{◌≡◌, ◌≢◌, ℕ, ◌≤◌, true, List, [], ◌∷◌, length, AreDistinct, contains, sym, refl, ap, ◌∙◌, subst, arith, true≢false, length-drop, AllByRecursion}
+use Rattle.std.proofs.lemmas.List.Elements.{recursion_from_All}
 use Rattle.vc_base.specs.declared.dict_method.DictMethod.{DictMethod}
 use Rattle.vc_base.specs.Cells.{Blocks, bytes_at}
 use Rattle.vc_base.specs.Methods.{has_table, is_set}

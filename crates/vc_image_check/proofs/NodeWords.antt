@@ -2,7 +2,7 @@
 use Rattle.vc_base.proofs.Common.{◌≡◌, ℕ, ◌+◌, ◌*◌, ◌^◌, ◌<◌, ◌≤◌, Bool, true, false, ◌&&◌, List, [], Option, Some, None, IsSome, nat_lt, length, get_or, take, drop, sym, refl, ap, ◌∙◌, arith, inl, inr, cases_lt, ltb-true, lt-ltb, and_parts, bytes_eq, bytes_eq-Decides, length-take-le, length-take, length-drop, get_or-take, get_or-drop, from_le_bytes, to_le_bytes, w64, unwrap_or}
 use Rattle.std.proofs.lemmas.List.{get_or_past}
 use Rattle.std.proofs.lemmas.Nat.{le_bytes_8}
-use Rattle.vc_base.specs.Cells.{Blocks, HasBytes, bytes_at, word, word_at}
+use Rattle.vc_base.specs.Cells.{Blocks, HasBytes, bytes_at, word}
 use Rattle.vc_dtord.specs.NodeLaws.{node-is, node-none}
 use Rattle.vc_dtord.specs.Nodes.{is_link, is_node, is_node_of, word_bytes}
 

@@ -1,5 +1,5 @@
 -- The blocks of a sound dictionary: each is there, and none stands twice.
-use Rattle.vc_base.proofs.Common.{◌≡◌, ◌≢◌, ℕ, zero, suc, ◌≤◌, ◌^◌, if◌then◌else◌, Bool, true, false, List, [], ◌∷◌, ◌++◌, All, Ordering, Less, Equal, Greater, length, AreDistinct, contains, list_any, sym, refl, ap, ◌∙◌, subst, arith, ⊎_elim, true≢false, pow_mono}
+use Rattle.vc_base.proofs.Common.{◌≡◌, ◌≢◌, ℕ, zero, suc, ◌≤◌, if◌then◌else◌, Bool, true, false, List, [], ◌∷◌, ◌++◌, All, Ordering, Less, Equal, Greater, length, AreDistinct, contains, list_any, sym, refl, ap, ◌∙◌, subst, arith, ⊎_elim, true≢false}
 use Rattle.std.specs.List.{AllByRecursion}
 use Rattle.std.specs.Ordering.{is_gt}
 use Rattle.std.proofs.lemmas.List.{append-nil}

@@ -1,5 +1,5 @@
 -- Which dictionaries of a store a path may have, as it is tested number by number.
-use Rattle.vc_base.proofs.Common.{◌≡◌, ℕ, ◌<◌, Bool, true, false, List, [], ◌∷◌, Option, Some, None, IsSome, option_map, list_all, refl, sym, ap, ◌∙◌, subst, true≢false, ◌==◌, ◌&&◌, and_from, and_parts, eq-eqb, AllByRecursion, method_number}
+use Rattle.vc_base.proofs.Common.{◌≡◌, ℕ, ◌<◌, Bool, true, List, [], ◌∷◌, Option, Some, None, IsSome, option_map, list_all, refl, sym, ap, ◌∙◌, subst, and_from, and_parts, eq-eqb, AllByRecursion, method_number}
 use Rattle.vc_base.proofs.Methods.{same-method}
 use Rattle.vc_base.specs.declared.dict_method.DictMethod.{DictMethod}
 use Rattle.vc_dtdisc.specs.Rules.{Rules}
@@ -9,7 +9,7 @@ use Rattle.vc_algebra.specs.RegionLaws.{at-below}
 use Rattle.vc_store.specs.Stores.Alike.{HasLayer, HaveRules, is_by, is_of, layered_of, layers_of}
 use Rattle.vc_store.specs.Stores.AlikeLaws.{below-there, method-there, there-is}
 use Rattle.vc_algebra.specs.InRegion.{rules_or}
-use Rattle.vc_store.specs.Stores.Stores.{HasDict, dict_at, dicts_of, kind_at, kinds_of, rules_at}
+use Rattle.vc_store.specs.Stores.Stores.{HasDict, dict_at, dicts_of, kinds_of, rules_at}
 use Rattle.vc_store.specs.declared.stores.store.Store.{Store}
 
 module _ {D : Type 0} {I : Type 0} {V : I → Type 0} (rules_by : D → Rules) (s : Store D I V) (like : ℕ) (is : HasLayer rules_by s like like) (all : HaveRules rules_by s (rules_at rules_by s like)) where

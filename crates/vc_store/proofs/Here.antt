@@ -1,5 +1,5 @@
 -- The dictionary and the kind that stand at a number of a store.
-use Rattle.vc_base.proofs.Common.{◌≡◌, ◌<◌, ℕ, suc, zero, List, [], ◌∷◌, Option, Some, None, IsSome, option_map, length, slice_get, get_or, refl, sym, ap, ◌∙◌, subst, arith, Bool, true, false, is_some, length-map, ◌==◌, if◌then◌else◌, Blocks, HasBytes, contains, Discipline}
+use Rattle.vc_base.proofs.Common.{◌≡◌, ◌<◌, ℕ, List, Option, Some, None, option_map, length, slice_get, get_or, refl, sym, ap, ◌∙◌, subst, Bool, true, false, is_some, length-map, ◌==◌, if◌then◌else◌, Blocks, HasBytes, contains, Discipline}
 use Rattle.std.proofs.lemmas.Option.{slice_get-get_or, slice_get_read}
 use Rattle.std.specs.Vec.{with_item}
 use Rattle.vc_dtdisc.specs.Rules.{Rules}

@@ -1,5 +1,5 @@
 -- A store whose dictionaries are those of an image.
-use Rattle.vc_base.proofs.Common.{◌≡◌, ◌≢◌, ℕ, zero, suc, ◌+◌, ◌-◌, ◌<◌, ◌≤◌, Bool, true, false, ◌==◌, if◌then◌else◌, List, [], ◌∷◌, ◌++◌, map, length, slice_get, Option, Some, None, option_map, refl, sym, ap, ◌∙◌, subst, inl, inr, arith, append-nil, contains, eqb_tells, nat_tests, length-map, none-some, same_Some, slice_get-map, AllByRecursion, Blocks, Discipline, HasOut, Terms, TookBack, at_number}
+use Rattle.vc_base.proofs.Common.{◌≡◌, ◌≢◌, ℕ, zero, suc, ◌+◌, ◌-◌, ◌≤◌, List, [], ◌∷◌, ◌++◌, map, length, slice_get, Option, Some, None, option_map, refl, sym, ap, ◌∙◌, subst, inl, inr, arith, append-nil, contains, eqb_tells, nat_tests, length-map, none-some, same_Some, slice_get-map, AllByRecursion, Blocks, Discipline, HasOut, TookBack, at_number}
 use Rattle.std.proofs.lemmas.Option.{slice_get_within}
 use Rattle.vc_model.proofs.Keeping.{Kept-trans}
 use Rattle.vc_model.specs.Discipline.{Kept}
@@ -22,9 +22,8 @@ use Rattle.vc_image_check.specs.Bytes.Contents as read
 use Rattle.vc_image_check.specs.Blocks.Blocks.{image_blocks}
 use Rattle.vc_image.specs.Lends.Lends.{AreLent}
 use Rattle.vc_image.specs.Load as load
-use Rattle.vc_image.specs.Load.{IsLoaded, IsWholeAmong, ShareNone, dicts_of, pairs_of}
+use Rattle.vc_image.specs.Load.{IsLoaded, IsWholeAmong, ShareNone, pairs_of}
 use Rattle.vc_image.proofs.Loads.{apart-turned}
-use Rattle.vc_store.specs.Stores.Copies.{of_kind}
 use Rattle.vc_store.specs.Stores.Loads.{HaveOwnKinds, HoldsImage, IsShared, shown_of_image, with_kind}
 use Rattle.vc_store.specs.Stores.Places.{CanStandAgain}
 use Rattle.vc_algebra.specs.InRegion.{ShareNoBlock, rules_or}

@@ -12,7 +12,7 @@ use Rattle.vc_objects.specs.Parts.{dictionary_in}
 use Rattle.vc_objects.proofs.Leaving.{keeps-same}
 use Rattle.vc_objects.proofs.Looking.{Looks-became}
 use Rattle.vc_paths.specs.Layers.{Same}
-use Rattle.vc_store.specs.Contents.{contents_in, contents_of}
+use Rattle.vc_store.specs.Contents.{contents_of}
 use Rattle.vc_store.specs.Stores.Alike.{HasLayer, Keeps, dictionary_or, held_at, layered_of}
 use Rattle.vc_algebra.specs.InRegion.{rules_or}
 use Rattle.vc_store.specs.Stores.Stores.{AllStay, HasDict, IsOpen, StaysOpen, contents_or, dict_at, dicts_of, disc_of, kinds_of, lent_to, numbers_of, rules_at, shown}

@@ -1,5 +1,5 @@
 -- Dictionaries that stand at the places before their kinds' numbers.
-use Rattle.vc_base.proofs.Common.{◌≡◌, ◌≢◌, ℕ, zero, suc, ◌+◌, ◌-◌, ◌<◌, ◌≤◌, Bool, true, false, ◌==◌, if◌then◌else◌, List, [], ◌∷◌, length, drop, get_or, set, slice_get, Option, Some, None, is_some, refl, sym, ap, ◌∙◌, subst, inl, inr, arith, add-one, drop_all, eqb_tells, none-some, same_Some, true≢false, AllByRecursion}
+use Rattle.vc_base.proofs.Common.{◌≡◌, ◌≢◌, ℕ, zero, suc, ◌+◌, ◌-◌, ◌<◌, ◌≤◌, true, false, List, [], ◌∷◌, length, drop, get_or, set, slice_get, Option, Some, None, is_some, refl, sym, ap, ◌∙◌, subst, inl, inr, arith, add-one, drop_all, eqb_tells, none-some, same_Some, true≢false, AllByRecursion}
 use Rattle.std.proofs.lemmas.Option.{slice_get-get_or}
 use Rattle.vc_base.proofs.Lists.{slice_get-set}
 use Rattle.vc_dict.specs.declared.dict.Dict.{Dict}

@@ -1,5 +1,5 @@
 -- What an image of a store's region and of its dictionaries shows.
-use Rattle.vc_base.proofs.Common.{◌≡◌, ◌≢◌, ℕ, zero, suc, ◌+◌, ◌/◌, ◌<◌, ◌≤◌, ◌^◌, List, [], ◌∷◌, ◌++◌, map, length, slice_get, Option, Some, None, IsSome, option_map, refl, sym, ap, ap₂, ◌∙◌, subst, arith, length-map, none-some, AllByRecursion, Blocks, Discipline, find_block, place_of}
+use Rattle.vc_base.proofs.Common.{◌≡◌, ℕ, zero, suc, ◌+◌, ◌/◌, ◌<◌, ◌≤◌, ◌^◌, List, [], ◌∷◌, map, length, slice_get, Option, Some, None, IsSome, option_map, refl, sym, ap, ap₂, ◌∙◌, subst, arith, length-map, AllByRecursion, Blocks, Discipline, find_block, place_of}
 use Rattle.vc_seg.specs.Segment.{Bytes}
 use Rattle.vc_extent.specs.Tiling.{IsBusy, tiling}
 use Rattle.vc_extent.proofs.Places.{named-there, there-last}
@@ -9,10 +9,8 @@ use Rattle.vc_dict.specs.Listed.{holders_of}
 use Rattle.vc_dict.proofs.HeadLemmas.{dict-again}
 use Rattle.vc_best.specs.Blocks.{layout_by}
 use Rattle.vc_best.specs.Cells.{cells_in, cells_of}
-use Rattle.vc_best.specs.declared.best.Best.{Best}
 use Rattle.vc_objects.specs.Parts.{IsWhole, dictionary_of}
 use Rattle.vc_store.specs.Contents.{contents_of}
-use Rattle.vc_store.specs.Reading.{Contents}
 use Rattle.vc_image_check.specs.Bytes.Contents as bytes
 use Rattle.vc_image_check.specs.Bytes.Header.{FitsRow}
 use Rattle.vc_image_check.specs.Bytes.Image as image

@@ -1,5 +1,5 @@
 -- What a dictionary shows of what a call does to it.
-use Rattle.vc_base.proofs.Common.{◌≡◌, ℕ, ◌*◌, suc, Bool, true, false, List, [], ◌∷◌, ◌++◌, map, length, take, drop, if◌then◌else◌, ◌==◌, Some, None, Option, option_map, Result, Ok, Err, IfOk, OnErr, sym, refl, ap, ◌∙◌, subst, ⊎_elim, inl, inr, true≢false, none-some, same_Some, arith, eqb_tells, map-append, find, cond, is_some, nat_le, ◌&&◌, common_steps, is_set, Blocks, HasBytes, IsAddress, AreDistinct, contains, some_address, append-nil, HasOut, Discipline, Layout, Terms, Done, Outcome, Put, Refused}
+use Rattle.vc_base.proofs.Common.{◌≡◌, ℕ, ◌*◌, suc, Bool, true, false, List, [], ◌∷◌, ◌++◌, map, length, take, drop, if◌then◌else◌, ◌==◌, Some, None, Option, option_map, Result, Ok, Err, IfOk, OnErr, sym, refl, ap, ◌∙◌, subst, ⊎_elim, inl, inr, true≢false, none-some, same_Some, arith, eqb_tells, map-append, find, cond, is_some, nat_le, ◌&&◌, common_steps, Blocks, HasBytes, IsAddress, AreDistinct, contains, some_address, append-nil, HasOut, Discipline, Layout, Terms, Done, Outcome, Put, Refused}
 use Rattle.vc_base.specs.declared.fault.OutOfMemory.{OutOfMemory}
 use Rattle.std.specs.Ordering.{is_ge}
 use Rattle.vc_base.specs.Methods.{is_ordered}
@@ -22,13 +22,11 @@ use Rattle.vc_dtdisc.specs.Finds.{object_at}
 use Rattle.vc_dict.specs.Listed.{holders_of}
 use Rattle.vc_dict.specs.declared.dict.Dict.{Dict}
 use Rattle.vc_dict.proofs.OwnLemmas.{holder-address, holder-there, holders-distinct}
-use Rattle.vc_best.specs.Cells.{cells_in, rest_in}
-use Rattle.vc_best.specs.Parts.{disc_in}
+use Rattle.vc_best.specs.Cells.{cells_in}
 use Rattle.vc_best.specs.declared.best.Best.{Best}
 use Rattle.vc_objects.specs.Leaves.{GivesInserted, HasGrown, IsHalted, KeepsDisc, LeavesRest, Looks, no_holder, no_table}
-use Rattle.vc_objects.specs.Objects.{Dictionary, holder_size, own_blocks}
+use Rattle.vc_objects.specs.Objects.{Dictionary, holder_size}
 use Rattle.vc_objects.specs.Parts.{IsWhole, dictionary_in, dictionary_of, object_of}
-use Rattle.vc_objects.proofs.Leaving.{leaves-trans}
 use Rattle.vc_objects.proofs.Mapped.{addresses-mapped}
 use Rattle.vc_objects.specs.Remove.{bytes_of, remove, remove_found}
 use Rattle.vc_objects.specs.declared.fate.Fate.{Fate}
@@ -37,7 +35,7 @@ use Rattle.vc_store.specs.declared.put.Put.{Put as Answer}
 use Rattle.vc_store.specs.Contents.{before_address, contents_in, contents_of, current_place, with_holder_current}
 use Rattle.vc_store.specs.Reading as reading
 use Rattle.vc_store.specs.Reading.{AfterPut, Sought, current, found, has_same_key, is_object, is_sought_from, put_before_place, put_by_method, with_place, without_key}
-use Rattle.vc_store.specs.Tries.{TriesBy, TriesToPut, told_as}
+use Rattle.vc_store.specs.Tries.{TriesBy, told_as}
 use Rattle.vc_store.proofs.Places.{object-placed, place, place-told}
 
 -- where an object stands before another one in a list of them

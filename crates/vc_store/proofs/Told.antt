@@ -1,5 +1,5 @@
 -- What a dictionary shows once an object was put into it, or an object of a set matched it.
-use Rattle.vc_base.proofs.Common.{◌≡◌, ℕ, Bool, true, false, not, ◌&&◌, List, Some, None, IfNone, IfSome, Ok, Err, Option, Result, is_some, is_set, sym, refl, ap, ◌∙◌, subst, true≢false, Discipline}
+use Rattle.vc_base.proofs.Common.{◌≡◌, ℕ, true, false, not, ◌&&◌, List, Some, None, IfNone, IfSome, Ok, Err, Option, Result, is_some, is_set, refl, ap, ◌∙◌, Discipline}
 use Rattle.vc_base.specs.declared.fault.OutOfMemory.{OutOfMemory}
 use Rattle.vc_base.proofs.Options.{is_some-map}
 use Rattle.vc_dtdisc.specs.Objects as objects
@@ -18,7 +18,7 @@ use Rattle.vc_objects.specs.declared.fate.Fate.TheVariants.{Stored, NoTable, NoH
 use Rattle.vc_objects.specs.Puts.Puts.{is_matched}
 use Rattle.vc_objects.proofs.PutLemmas.{matched-told}
 use Rattle.vc_store.specs.Contents.{contents_in, contents_of}
-use Rattle.vc_store.specs.Reading.{AfterPut, Contents, has_same_key, is_object, place_after}
+use Rattle.vc_store.specs.Reading.{AfterPut, has_same_key, is_object, place_after}
 use Rattle.vc_store.specs.Tries.{IsTried, TriesToPut, told_as, told_put}
 use Rattle.vc_store.specs.declared.put.Put.{Put}
 use Rattle.vc_store.specs.declared.put.Put.TheVariants as put

@@ -1,13 +1,9 @@
 -- What a dictionary's own calls tell, as what is told of the layer of its number.
-use Rattle.vc_base.proofs.Common.{◌≡◌, ℕ, ◌≤◌, Bool, true, List, map, length, get_or, IsSome, is_some, Some, None, Option, find, filter, filter_agree, not, refl, sym, ap, ◌∙◌, subst, arith, same_Some, Blocks, HasBytes, contains, first_in, last_in, next_in, previous_in, is_gt, is_ge, Ordering, Less, Equal, Greater, ordering_reverse}
-use Rattle.std.specs.Ordering.{is_lt}
-use Rattle.vc_base.proofs.Lists.{filter-map}
+use Rattle.vc_base.proofs.Common.{◌≡◌, ℕ, ◌≤◌, true, List, map, length, get_or, IsSome, Some, None, Option, filter, sym, ap, ◌∙◌, subst, arith, same_Some, Blocks, HasBytes, contains, first_in, last_in, next_in, previous_in}
 use Rattle.vc_dtdisc.specs.Finding.{first_of, last_of}
-use Rattle.vc_dtdisc.specs.Finds.{find_key, object_at}
-use Rattle.vc_dtdisc.specs.Objects.{Object, bytes_of, is_match}
-use Rattle.vc_dtdisc.specs.Rules.{AreLawful, IsObject, Rules}
-use Rattle.vc_dtdisc.proofs.FindingLemmas.{first_of-map, last_of-map}
-use Rattle.vc_dtdisc.proofs.ObjectsLemmas.{first_with-map}
+use Rattle.vc_dtdisc.specs.Finds.{object_at}
+use Rattle.vc_dtdisc.specs.Objects.{is_match}
+use Rattle.vc_dtdisc.specs.Rules.{IsObject, Rules}
 use Rattle.vc_dtord.specs.Seeking.{matches}
 use Rattle.vc_dict.specs.Listed.{holders_of}
 use Rattle.vc_dict.specs.Stands.{IsDict, IsIn, IsKept, IsMember, Stands}
@@ -15,11 +11,8 @@ use Rattle.vc_dict.specs.declared.dict.Dict.{Dict}
 use Rattle.vc_dict.proofs.OwnLemmas.{holder-there, holders-distinct}
 use Rattle.vc_best.specs.Cells.{cells_in}
 use Rattle.vc_objects.specs.Parts.{IsWhole, object_of}
-use Rattle.vc_objects.proofs.Mapped.{address-mapped}
 use Rattle.vc_objects.proofs.Owning.{each-object}
-use Rattle.vc_paths.proofs.EndLemmas.{filter-same}
-use Rattle.vc_paths.proofs.StackedLemmas.{find-filter}
-use Rattle.vc_paths.specs.Layers.{Layer, bytes_there, place_before, place_behind, place_in, place_last_like, place_less, place_with}
+use Rattle.vc_paths.specs.Layers.{Layer, bytes_there, place_before, place_behind, place_in, place_last_like}
 use Rattle.vc_algebra.proofs.AtHolders.{before-place, behind-place, bytes-here, first-place, holder-here, last-place, place-stands}
 use Rattle.vc_store.specs.Stores.Alike.{HasLayer, layers_of}
 use Rattle.vc_store.specs.Stores.AlikeLaws.{objects-there, whole-there}

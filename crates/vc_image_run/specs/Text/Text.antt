@@ -1,5 +1,5 @@
 -- What the commands that look at a best region and its dictionaries print of them.
-use Rattle.std.specs.Prelude.{ℕ, List, [], ◌∷◌, Option, Some, None, decimal, map, ◌==◌, if◌then◌else◌}
+use Rattle.std.specs.Prelude.{ℕ, List, ◌∷◌, Some, None, decimal, map, ◌==◌, if◌then◌else◌}
 use Rattle.vc_model.specs.Layout.{Block, Layout, relabel_block}
 use Rattle.vc_model.specs.Walk.{by_address, by_number}
 use Rattle.vc_base.specs.Cells.{Blocks}

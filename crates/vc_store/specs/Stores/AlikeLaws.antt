@@ -1,7 +1,6 @@
 -- The dictionaries of a store that have the rules of one of them keep the laws of layers, and what stays over one call after another.
 use Rattle.std.proofs.Common.{◌≡◌, ℕ, zero, suc, ◌<◌, true, List, [], ◌∷◌, Option, Some, None, IsSome, option_map, length, map, refl, sym, ap, ◌∙◌, subst, true≢false, arith}
 use Rattle.std.specs.Prelude.{slice_get}
-use Rattle.vc_base.specs.Cells.{Blocks}
 use Rattle.vc_base.specs.Holders.{AreDistinct}
 use Rattle.vc_base.specs.Methods.{is_ordered}
 use Rattle.vc_dtdisc.specs.Objects.{IsSorted, Object, bytes_of}
@@ -19,7 +18,7 @@ use Rattle.vc_paths.specs.Layers.{AreLayers}
 use Rattle.vc_algebra.specs.RegionLaws.{at-below}
 use Rattle.vc_store.specs.Stores.Alike.{HasLayer, Keeps, dictionary_or, layered_of, layers_of}
 use Rattle.vc_algebra.specs.InRegion.{rules_or}
-use Rattle.vc_store.specs.Stores.Stores.{HasDict, dict_at, dicts_of, joined, kind_at, kinds_of, rules_at}
+use Rattle.vc_store.specs.Stores.Stores.{dict_at, dicts_of, joined, kind_at, kinds_of, rules_at}
 use Rattle.vc_store.specs.declared.stores.store.Store.{Store}
 
 -- what is there, where something is

@@ -1,7 +1,6 @@
 -- Which store is loaded from an image, and why none is.
 use Rattle.std.specs.Prelude.{◌≡◌, ℕ, ◌+◌, List, [], ◌∷◌, Option, None, Some, map, option_map, ◌==◌, if◌then◌else◌}
 use Rattle.vc_model.specs.Discipline.{Discipline, TookBack}
-use Rattle.vc_seg.specs.Segment.{Bytes}
 use Rattle.vc_dtdisc.specs.Rules.{Rules}
 use Rattle.vc_dict.specs.declared.dict.Dict.{Dict}
 use Rattle.vc_objects.specs.Parts.{dictionary_of}

@@ -1,22 +1,17 @@
 -- What a store shows of its dictionaries, each by its number, and what holds of it from its opening to its close.
-use Rattle.std.specs.Prelude.{◌≡◌, ◌≢◌, ℕ, ◌<◌, List, [], true, false, Option, Some, None, IsSome, length, option_map, slice_get}
+use Rattle.std.specs.Prelude.{◌≡◌, ◌≢◌, ℕ, ◌<◌, List, [], Option, Some, None, IsSome, length, option_map, slice_get}
 use Rattle.std.specs.Vec.{vec_capacity}
 use Rattle.std.specs.declared.alloc.Global.{Global}
 use Rattle.std.specs.declared.dyn_box.DynBox.{DynBox}
 use Rattle.vc_model.specs.Discipline.{Discipline, HasOut}
-use Rattle.vc_base.specs.Cells.{Blocks}
-use Rattle.vc_base.specs.Holders.{contains}
 use Rattle.vc_base.specs.declared.dict_method.DictMethod.TheVariants.{DtList}
 use Rattle.vc_dtdisc.specs.Rules.{Gone, Rules}
-use Rattle.vc_dtdisc.specs.Shapes.{rules_of}
-use Rattle.vc_dtdisc.specs.declared.shape.Shape.TheVariants.{Whole}
 use Rattle.vc_dict.specs.declared.dict.Dict.{Dict}
 use Rattle.vc_best.specs.Cells.{cells_in}
 use Rattle.vc_best.specs.Parts.{disc_in, segments_in}
 use Rattle.vc_best.specs.declared.best.Best.{Best}
 use Rattle.vc_objects.specs.Leaves.{KeepsDisc, told_each}
-use Rattle.vc_objects.specs.Objects.{own_blocks}
-use Rattle.vc_objects.specs.Parts.{IsWhole, dictionary_of}
+use Rattle.vc_objects.specs.Parts.{IsWhole}
 use Rattle.vc_store.specs.Contents.{contents_in}
 use Rattle.vc_store.specs.Reading.{Contents}
 use Rattle.vc_store.specs.Tries.{IsTried, TriesToPut}

@@ -1,4 +1,4 @@
-use Rattle.vc_base.proofs.Common.{◌≡◌, true, map, is_some, Some, List, sym, refl, ap, ◌∙◌, subst, same_Some, contains}
+use Rattle.vc_base.proofs.Common.{◌≡◌, map, is_some, Some, sym, refl, ap, ◌∙◌, subst, same_Some}
 use Rattle.vc_best.specs.Cells as best
 use Rattle.vc_region.specs.Cells.{cells_in}
 use Rattle.vc_dict.specs.Listed.{holders_of}

@@ -1,7 +1,6 @@
-use Rattle.vc_base.proofs.Common.{◌≡◌, ℕ, map, is_some, Some, List, sym, refl, ap, ◌∙◌, subst, same_Some, Blocks, at_number}
+use Rattle.vc_base.proofs.Common.{map, is_some, sym, refl, ap, ◌∙◌, subst, same_Some}
 use Rattle.vc_best.specs.Cells as best
 use Rattle.vc_region.specs.Cells.{cells_in}
-use Rattle.vc_dtdisc.specs.Rules.{Rules}
 use Rattle.vc_dict.specs.Listed.{holders_of}
 use Rattle.vc_dict.specs.Stands.{Stands}
 use Rattle.vc_paths.specs.Layers.{Layer}

@@ -4,7 +4,7 @@ use Rattle.vc_best.specs.Parts.{blocks_in, layout_of}
 use Rattle.vc_script.specs.declared.reply.Reply.TheVariants.{BlockList}
 use Rattle.vc_commands.proofs.Listing.{blocks-all, none-above}
 use Rattle.vc_image_run.specs.Text.Text.{items_of}
-use Rattle.vc_image_run.proofs.Items.{NextItem, item, items_above, next-item}
+use Rattle.vc_image_run.proofs.Items.{item, items_above, next-item}
 use Rattle.vc_image_run.proofs.text.blocks.blocks.Goals as goal
 
 pub loop-block-smaller : goal.loop-block-smaller

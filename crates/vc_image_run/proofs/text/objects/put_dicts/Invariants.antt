@@ -1,4 +1,4 @@
-use Rattle.vc_base.proofs.Common.{◌≡◌, ◌++◌, map, take, flat_map}
+use Rattle.vc_base.proofs.Common.{◌≡◌, ◌++◌, take, flat_map}
 use Rattle.vc_best.specs.Cells.{cells_in}
 use Rattle.vc_script.specs.Print.{line_of}
 use Rattle.vc_image_run.specs.Text.Text.{walked_objects}

@@ -1,13 +1,12 @@
-use Rattle.vc_base.proofs.Common.{◌≡◌, Some, refl, sym, ◌∙◌, subst}
+use Rattle.vc_base.proofs.Common.{Some, ◌∙◌, subst}
 use Rattle.vc_dict.specs.Listed.{holders_of}
 use Rattle.vc_best.specs.Cells.{cells_in}
 use Rattle.vc_store.specs.Stores.AlikeLaws.{method-there}
 use Rattle.vc_algebra.specs.Sides.{CanAsk}
-use Rattle.vc_store.specs.Stores.Stores.{dict_at, dicts_of}
+use Rattle.vc_store.specs.Stores.Stores.{dicts_of}
 use Rattle.vc_store.proofs.Here.{below-there, read-there}
 use Rattle.vc_store.proofs.Looked.{look-keeps}
 use Rattle.vc_store.proofs.ToldLayers.{is-dict, kind-told, sought-told, stands-by}
-use Rattle.vc_store.proofs.stores.alike.Alike.sought_at.Given.{Over}
 use Rattle.vc_store.proofs.stores.alike.Alike.sought_at.Goals as goal
 
 pub sought-requires-clause-dict : goal.sought-requires-clause-dict

@@ -1,4 +1,4 @@
-use Rattle.vc_base.proofs.Common.{◌≡◌, ◌≤◌, Some, take, length, sym, ap, ◌∙◌, subst, same_Some}
+use Rattle.vc_base.proofs.Common.{◌≡◌, ◌≤◌, take, length, sym, ap, ◌∙◌, subst, same_Some}
 use Rattle.vc_dtdisc.specs.Rules.{Rules}
 use Rattle.vc_store.specs.Stores.Alike.{layers_of}
 use Rattle.vc_store.specs.Stores.AlikeLaws.{there-is}

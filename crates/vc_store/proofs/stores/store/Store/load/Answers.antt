@@ -1,10 +1,9 @@
-use Rattle.vc_base.proofs.Common.{◌≡◌, ℕ, ◌+◌, List, length, map, refl, sym, ◌∙◌, subst, true≢false, AllByRecursion, Discipline}
+use Rattle.vc_base.proofs.Common.{◌≡◌, ℕ, List, length, map, refl, sym, ◌∙◌, subst, true≢false, AllByRecursion, Discipline}
 use Rattle.vc_dtdisc.specs.Rules.{Rules}
 use Rattle.vc_dict.specs.declared.dict.Dict.{Dict}
 use Rattle.vc_best.specs.Cells.{cells_in}
 use Rattle.vc_region.specs.declared.region.Region.TheVariants.{Best as OfBest}
 use Rattle.vc_image.specs.Load.{IsLoaded}
-use Rattle.vc_store.specs.Stores.Loads.{HaveOwnKinds}
 use Rattle.vc_store.specs.Stores.Places.{CanStandAgain}
 use Rattle.vc_store.proofs.Loaded.{can-stand-each, each-whole, has-out, holds, out-back, shared}
 use Rattle.vc_store.proofs.stores.store.Store.load.Given.{Over}
