@@ -1,5 +1,5 @@
 -- The tags and the names of live blocks agree as a block is put, or taken out.
-use Rattle.vc_base.proofs.Common.{◌≡◌, ℕ, zero, suc, ◌+◌, ◌-◌, ◌≤◌, true, cond, ◌≢◌, ◌⊎◌, List, [], ◌∷◌, length, is_some, IfSome, IfNone, IfOk, OnOk, OnErr, IsSome, IsOk, slice_index_or, Some, None, Ok, Err, count_by, Option, Result, bytes_eq, sym, refl, ap, ◌∙◌, subst, inl, inr, arith, cases_Bool, cases_eq, false_from_ne_true, false≢true, none-some, same_Some, bytes_eq-Decides}
+use Rattle.vc_base.proofs.Common.{◌≡◌, ℕ, zero, suc, ◌+◌, ◌-◌, ◌≤◌, true, cond, ◌≢◌, ◌⊎◌, List, [], ◌∷◌, length, is_some, IfSome, IfNone, IfOk, OnOk, OnErr, IsSome, IsOk, slice_index_or, Some, None, Ok, Err, count_by, Option, Result, bytes_eq, sym, refl, ap, ◌∙◌, inl, inr, arith, cases_Bool, cases_eq, false_from_ne_true, false≢true, none-some, same_Some, bytes_eq-Decides}
 use Rattle.vc_base.specs.declared.addr.Addr.{Addr}
 use Rattle.vc_commands.proofs.Lists.{count-cons}
 use Rattle.std.specs.HashMap as names
@@ -188,19 +188,6 @@ others-stay old new x tag named None some none other first differs = absurd (non
 others-stay old new x tag named (Some a) some none other first differs =
     let same : some.0 ≡ tag = same_Some some.0 tag (sym some.1.was_named ∙ named) in
     some.1.other_tags other first (λ e. differs (e ∙ same))
-
--- frees at one line, one after another
-pub frees-trans : (a b c : Labels) (line : ℕ) → FreesNames a b line → FreesNames b c line → FreesNames a c line
-frees-trans a b c line f g = λ x. both x (f x) (g x)
-  where
-    both : (x : List ℕ) → (known_of b x ≡ known_of a x) ⊎ (IsSome (tag_of a x) × (known_of b x ≡ Some (Freed line))) → (known_of c x ≡ known_of b x) ⊎ (IsSome (tag_of b x) × (known_of c x ≡ Some (Freed line))) → (known_of c x ≡ known_of a x) ⊎ (IsSome (tag_of a x) × (known_of c x ≡ Some (Freed line)))
-    both x (inl p) (inl q) = inl (q ∙ p)
-    both x (inl p) (inr q) = inr (subst (λ o. IsSome (tag_in o)) p q.0, q.1)
-    both x (inr p) (inl q) = inr (p.0, q ∙ p.1)
-    both x (inr p) (inr q) = absurd (false≢true (subst (λ o. IsSome (tag_in o)) p.1 q.0))
-
-pub frees-none : (a : Labels) (line : ℕ) → FreesNames a a line
-frees-none a line = λ x. inl refl
 
 -- a block that has another address keeps its name and its tag
 pub agree-moved : (old new : Labels) (tag : ℕ) (label : Label) → AreLabels old → tag_of old label.name ≡ Some tag → MovesLabel old new tag label → new.tags ≡ old.tags → AreLabels new

@@ -17,8 +17,8 @@ use Rattle.vc_commands.specs.declared.region.labels.Labels.{Labels}
 use Rattle.vc_commands.proofs.Agreeing.{count-none}
 use Rattle.vc_commands.proofs.Listing.{FromSome, from_some}
 use Rattle.vc_commands.proofs.Lists.{count-cons}
-use Rattle.vc_commands.proofs.Names.{has-label-any, name-here, name-none, named_by}
-use Rattle.vc_commands.proofs.OwnTags.{all-among, any-among, any-none, found-among, le-from, no-other, own-apart, own-both, some-tag, zero-or}
+use Rattle.vc_commands.proofs.Names.{has-label-any, name-here, name-none, named_by, zero-or}
+use Rattle.vc_commands.proofs.OwnTags.{all-among, any-among, any-none, found-among, le-from, no-other, own-apart, own-both, some-tag}
 
 -- tags have texts of their own
 pub texts-apart : (s t : ℕ) → s < 2 ^ 64 → t < 2 ^ 64 → text_by_tag s ≡ text_by_tag t → s ≡ t

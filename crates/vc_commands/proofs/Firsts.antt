@@ -1,5 +1,5 @@
 -- The first item that passes a test.
-use Rattle.vc_base.proofs.Common.{◌≡◌, ℕ, zero, suc, ◌+◌, ◌<◌, Bool, true, false, cond, ◌||◌, List, [], ◌∷◌, map, length, get_or, take, set, slice_get, Some, None, find, sym, refl, ap, ◌∙◌, add-one, arith, or_parts, any_passes_from_place, none-some, same_Some, list_any}
+use Rattle.vc_base.proofs.Common.{◌≡◌, ℕ, zero, suc, Bool, true, false, cond, List, [], ◌∷◌, map, take, set, slice_get, Some, None, find, sym, refl, ap, ◌∙◌, or_parts, none-some, same_Some, list_any}
 use Rattle.std.proofs.lemmas.List.{take-map}
 use Rattle.vc_base.proofs.Quantifiers.{any-map}
 use Rattle.vc_base.proofs.Lists.{slice_get-set}
@@ -10,17 +10,6 @@ pub record IsFirst {A : Type 0} (test : A → Bool) (xs : List A) (i : ℕ) : Ty
   pub at : slice_get xs i ≡ Some item
   pub passes : test item ≡ true
   pub before : list_any test (take i xs) ≡ false
-
-any-take_suc : {A B : Type 0} (test : B → Bool) (f : A → B) (xs : List A) (i : ℕ) (x : A) → i < length xs → x ≡ get_or xs i x → list_any test (take i (map f xs)) ≡ false → test (f x) ≡ false → list_any test (take (suc i) (map f xs)) ≡ false
-any-take_suc test f [] i x within at none fails = absurd (omega arith)
-any-take_suc test f (y ∷ ys) zero x within at none fails = ap (λ (z : _). test (f z) || false) (sym at) ∙ ap (λ b. b || false) fails
-any-take_suc test f (y ∷ ys) (suc i) x within at none fails =
-    let parts = or_parts (test (f y)) (list_any test (take i (map f ys))) none in
-    ap (λ b. b || list_any test (take (suc i) (map f ys))) parts.0 ∙ any-take_suc test f ys i x (omega arith) at parts.1 fails
-
--- one more item that fails
-pub any-take_more : {A B : Type 0} (test : B → Bool) (f : A → B) (xs : List A) (i : ℕ) (x : A) → i < length xs → x ≡ get_or xs i x → list_any test (take i (map f xs)) ≡ false → test (f x) ≡ false → list_any test (take (i + 1) (map f xs)) ≡ false
-any-take_more test f xs i x within at none fails = rw add-one (any-take_suc test f xs i x within at none fails)
 
 find-at : {A : Type 0} (test : A → Bool) (xs : List A) (i : ℕ) (x : A) → slice_get xs i ≡ Some x → test x ≡ true → list_any test (take i xs) ≡ false → find test xs ≡ Some x
 find-at test [] i x at passes none = absurd (none-some x at)
@@ -57,13 +46,6 @@ first-unmap test f xs i first =
       passes = ap test p.2 ∙ first.passes;
       before = sym (any-map f test (take i xs)) ∙ (ap (list_any test) (sym (take-map f i xs)) ∙ first.before);
     }
-
-pub none-unmap : {A B : Type 0} (test : B → Bool) (f : A → B) (xs : List A) → list_any test (map f xs) ≡ false → list_any (λ x. test (f x)) xs ≡ false
-none-unmap test f xs none = sym (any-map f test xs) ∙ none
-
--- where a first item is, some item passes
-pub any-first : {A : Type 0} (test : A → Bool) (xs : List A) (i : ℕ) → IsFirst test xs i → list_any test xs ≡ true
-any-first test xs i f = any_passes_from_place test xs i f.item f.at f.passes
 
 take-set : {A : Type 0} (xs : List A) (i : ℕ) (y : A) → take i (set xs i y) ≡ take i xs
 take-set [] zero y = refl

@@ -2,6 +2,7 @@
 use Rattle.vc_base.proofs.Common.{◌≡◌, ℕ, ◌-◌, ◌<◌, ◌≤◌, List, [], ◌∷◌, map, length, get_or, Some, None, filter, Option, option_map, find, sym, refl, ap, ◌∙◌, arith, none-some, same_Some, place_of, Block, address_of, relabel_block, HaveOwnNumbers, HaveOwnPlaces, find_block, block_at, by_address, holds_byte, next_block, next_segment}
 use Rattle.vc_region.specs.Region.{Region, blocks_of, region_with_labels}
 use Rattle.vc_model.specs.Walk.{by_number}
+use Rattle.vc_audit.proofs.DebugChecks.{above as blocks_above}
 use Rattle.vc_model.proofs.Pairs.{all-recursion}
 use Rattle.vc_model.proofs.Places.{among-above, among-find, found-there, place-of}
 use Rattle.vc_model.proofs.Relabel.{block_at-relabel, by_address-relabel}
@@ -74,10 +75,6 @@ segments-end after ss numbers e = sorting.none-above number after ss (sorting.di
 
 pub segments-all : (ss : List (ℕ × ℕ)) → HaveOwnNumbers ss → segments_above 0 ss ≡ by_number ss
 segments-all ss numbers = sorting.all-passed number ss (all-recursion (λ s. 1 ≤ number s) ss numbers.first)
-
--- blocks by address
-abbrev pub blocks_above : ℕ → List (Block ℕ) → List (Block ℕ)
-blocks_above after bs = filter (sorting.is_above address_of after) (by_address bs)
 
 pub blocks-next : (after : ℕ) (bs : List (Block ℕ)) (b : Block ℕ) (a : ℕ) → HaveOwnPlaces bs → next_block after bs ≡ Some b → address_of b ≡ a → blocks_above after bs ≡ b ∷ blocks_above a bs
 blocks-next after bs b a places e is =

@@ -1,5 +1,5 @@
 -- The names of a region stay in step with its blocks as one is put, moves or goes.
-use Rattle.vc_base.proofs.Common.{◌≡◌, ℕ, zero, suc, ◌+◌, ◌≤◌, true, false, cond, ◌||◌, ◌≢◌, ◌⊎◌, List, [], ◌∷◌, is_some, nat_lt, Some, None, bytes_eq, sym, refl, ap, ◌∙◌, subst, inl, inr, ⊎_elim, arith, nat_tests, cases_Bool, cases_eq, none-some, same_Some, AllByRecursion, list_any, address, place_of, zeros, Block, address_of, without_block, HaveOwnPlaces, find_block}
+use Rattle.vc_base.proofs.Common.{◌≡◌, ℕ, zero, suc, ◌+◌, ◌≤◌, true, false, cond, ◌||◌, ◌≢◌, ◌⊎◌, List, [], ◌∷◌, is_some, nat_lt, Some, None, bytes_eq, sym, refl, ap, ◌∙◌, subst, ⊎_elim, arith, nat_tests, cases_Bool, cases_eq, none-some, same_Some, AllByRecursion, list_any, address, place_of, zeros, Block, address_of, without_block, HaveOwnPlaces, find_block}
 use Rattle.vc_region.specs.Region.{Region, blocks_of, keeps_freed, region_with_labels}
 use Rattle.vc_base.proofs.Texts.{same_bytes}
 use Rattle.vc_region.proofs.Relabel.{relabelled-alike}
@@ -12,11 +12,7 @@ use Rattle.vc_commands.specs.Held.{IsLive, AreLabelsOf, tag_count}
 use Rattle.vc_commands.proofs.FoundBlocks.{TheBlock}
 use Rattle.vc_audit.proofs.ProfileLists.{all-join, all-without, others-apart}
 use Rattle.vc_commands.proofs.Lists.{any-alike, any-split, count-split}
-use Rattle.vc_commands.proofs.Names.{has-label-any, name-alike, name-here, name-none, named_by, other_bytes}
-
-zero-or : (n : ℕ) → (n ≡ 0) ⊎ (1 ≤ n)
-zero-or zero = inl refl
-zero-or (suc n) = inr (omega arith)
+use Rattle.vc_commands.proofs.Names.{has-label-any, name-alike, name-here, name-none, named_by, other_bytes, zero-or}
 
 -- the tag is that of no block, or of the one that is looked at alone
 abbrev pub Stays : Labels → Labels → Block ℕ → Type 0

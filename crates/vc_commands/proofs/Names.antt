@@ -57,8 +57,8 @@ live-same old new [] same all = tt
 live-same old new (b ∷ bs) same all =
     ((λ first. let l = all.0 first in record { label = l.label; here = same.by_tag b.label ∙ l.here; at = l.at; place = l.place }), live-same old new bs same all.1)
 
-pub isnamed-same : (r : Region ℕ) (old new : Labels) → SameLabels old new → AreLabels new → AreLabelsOf r old → AreLabelsOf r new
-isnamed-same r old new same agree n =
+pub labels_of-same : (r : Region ℕ) (old new : Labels) → SameLabels old new → AreLabels new → AreLabelsOf r old → AreLabelsOf r new
+labels_of-same r old new same agree n =
     record {
       agree = agree;
       count = n.count ∙ sym same.count;
@@ -67,6 +67,10 @@ isnamed-same r old new same agree n =
       places = n.places;
       none = λ keeps. same.kept ∙ n.none keeps;
     }
+
+pub zero-or : (n : ℕ) → (n ≡ 0) ⊎ (1 ≤ n)
+zero-or zero = inl refl
+zero-or (suc n) = inr (omega arith)
 
 -- as many blocks have a name as have a tag
 count-named : (labels : Labels) (bs : List (Block ℕ)) → AllByRecursion (λ b. 1 ≤ b.label → IsLive labels b) bs → count_by (λ (b : Block home.Label). is_some b.label) (map (relabel_block (name_of_tag labels)) bs) ≡ tag_count bs
@@ -84,10 +88,6 @@ count-named labels (b ∷ bs) all =
     ∙ (ap (λ v. cond v 1 0 + count_by (λ (c : Block home.Label). is_some c.label) (map (relabel_block (name_of_tag labels)) bs)) test
     ∙ (ap (λ n. cond (nat_lt 0 b.label) 1 0 + n) (count-named labels bs all.1)
     ∙ sym (count-cons (λ (c : Block ℕ). nat_lt 0 c.label) b bs)))
-  where
-    zero-or : (n : ℕ) → (n ≡ 0) ⊎ (1 ≤ n)
-    zero-or zero = inl refl
-    zero-or (suc n) = inr (omega arith)
 
 pub label-count : (r : Region ℕ) (labels : Labels) → AreLabelsOf r labels → label_count (region_with_labels (name_of_tag labels) r) ≡ tag_count (blocks_of r)
 label-count r labels names = ap (count_by (λ (c : Block home.Label). is_some c.label)) (blocks-relabelled (name_of_tag labels) r) ∙ count-named labels (blocks_of r) names.live

@@ -1,5 +1,5 @@
 -- Blocks whose tags are their own, and a walk over them that puts the place of each at its tag.
-use Rattle.vc_base.proofs.Common.{◌≡◌, ℕ, zero, suc, ◌≤◌, Bool, true, false, cond, not, ◌&&◌, ◌||◌, ltb, ◌≢◌, ◌⊎◌, List, [], ◌∷◌, length, AllPairs, is_some, nat_lt, nat_le, ◌==◌, Some, None, Option, option_map, filter, find, sym, refl, ap, ◌∙◌, subst, inl, inr, ⊎_elim, arith, nat_tests, eq-eqb, eqb-true, and_from, and_parts, or_right, cases_Bool, cases_eq, false≢true, none-some, same_Some, AllByRecursion, list_any, place_of, Block, address_of, HaveOwnPlaces, find_block, by_address, next_block}
+use Rattle.vc_base.proofs.Common.{◌≡◌, ℕ, ◌≤◌, Bool, true, false, cond, not, ◌&&◌, ◌||◌, ltb, ◌≢◌, ◌⊎◌, List, [], ◌∷◌, length, AllPairs, is_some, nat_lt, nat_le, ◌==◌, Some, None, Option, option_map, filter, find, sym, refl, ap, ◌∙◌, subst, inl, inr, ⊎_elim, arith, nat_tests, eq-eqb, eqb-true, and_from, and_parts, or_right, cases_Bool, cases_eq, false≢true, none-some, same_Some, AllByRecursion, list_any, place_of, Block, address_of, HaveOwnPlaces, find_block, by_address, next_block}
 use Rattle.vc_base.specs.declared.addr.Addr.{Addr}
 use Rattle.vc_model.specs.Order.{put_by, sorted_by}
 use Rattle.vc_model.proofs.Pairs.{AllPairs-head, AllPairs-tail, all-recursion}
@@ -7,12 +7,11 @@ use Rattle.vc_model.proofs.Places.{Among, among-above, among-all, among-find, fo
 use Rattle.vc_model.proofs.Sorting.{is_above}
 use Rattle.vc_commands.specs.Blocks.{label_limit}
 use Rattle.vc_commands.specs.Tagged.{ArePlaces, PutsPlace, has_tag, have_own_tags, is_own_tag, is_vacant, place_of_tag}
-use Rattle.vc_commands.proofs.Listing.{FromSome, blocks-next, blocks_above, from_some}
+use Rattle.vc_commands.proofs.Listing.{FromSome, blocks-next, from_some}
 use Rattle.vc_commands.proofs.Lists.{Passes, found-any}
-
-pub zero-or : (n : ℕ) → (n ≡ 0) ⊎ (1 ≤ n)
-zero-or zero = inl refl
-zero-or (suc n) = inr (omega arith)
+use Rattle.vc_commands.proofs.Names.{zero-or}
+use Rattle.vc_commands.proofs.Touching.{le-within}
+use Rattle.vc_audit.proofs.DebugChecks.{above as blocks_above}
 
 -- what holds of each item, and a test that one passes, or none does
 module _ {A : Type 0} where
@@ -81,9 +80,6 @@ module _ {A : Type 0} where
 pub le-from : (a b : ℕ) → nat_le a b ≡ true → a ≤ b
 le-from a b e = grind (arith, nat_tests, e)
 
-le-test : (a b : ℕ) → a ≤ b → nat_le a b ≡ true
-le-test a b e = grind (arith, nat_tests, e)
-
 not-from : (v : Bool) → not v ≡ true → v ≡ false
 not-from true e = absurd (false≢true e)
 not-from false e = refl
@@ -151,7 +147,7 @@ own-all places (b ∷ bs) pairs has =
     (λ first.
     let here = has b (inl refl) first in
     or_right (b.label == 0) fits
-    (and_from (nat_le b.label label_limit) (not (list_any (has_tag b.label) bs)) (le-test b.label label_limit here.most)
+    (and_from (nat_le b.label label_limit) (not (list_any (has_tag b.label) bs)) (le-within b.label label_limit here.most)
     (ap not (any-none (has_tag b.label) bs (λ c m.
     ⊎_elim
     (λ t.
@@ -304,7 +300,7 @@ module _ (bs : List (Block ℕ)) (after a tag : ℕ) (n : NextTagged bs after a 
       twice : have_own_tags bs ≡ true → 1 ≤ tag → (o : Option Addr) → place_of_tag places tag ≡ o → ⊥
       twice own first None e =
           let most = subst (λ k. k ≤ label_limit) n.label (own-most bs n.it own n.among (subst (λ k. 1 ≤ k) (sym n.label) first)) in
-          false≢true (sym taken ∙ or_right (tag == 0) (nat_le tag label_limit && not (is_some (place_of_tag places tag))) (and_from (nat_le tag label_limit) (not (is_some (place_of_tag places tag))) (le-test tag label_limit most) (ap (λ p. not (is_some p)) e)))
+          false≢true (sym taken ∙ or_right (tag == 0) (nat_le tag label_limit && not (is_some (place_of_tag places tag))) (and_from (nat_le tag label_limit) (not (is_some (place_of_tag places tag))) (le-within tag label_limit most) (ap (λ p. not (is_some p)) e)))
       twice own first (Some at) e =
           let s = w.from tag at first e in
           let same : n.it ≡ s.block = own-apart bs n.it s.block own n.among s.among (subst (λ k. 1 ≤ k) (sym n.label) first) (n.label ∙ sym s.label) in

@@ -23,7 +23,7 @@ use Rattle.vc_commands.specs.RegionRun.{ChangesRegion, RunsHome, held_of, region
 use Rattle.vc_commands.specs.declared.region.home.HomeEntry.{HomeEntry}
 use Rattle.vc_commands.specs.declared.region.labels.Labels.{Labels}
 use Rattle.vc_commands.proofs.Answers.{both-same, change-same, gives-unchanged, if_ok-all, none-no_segment, put-served}
-use Rattle.vc_commands.proofs.Names.{isnamed-same, relabelled-same}
+use Rattle.vc_commands.proofs.Names.{labels_of-same, relabelled-same}
 use Rattle.vc_commands.proofs.PutBlocks.{IsOther, Putting, change-put, err-put, put_new-refused, refused-other, step-put, unserved-put}
 use Rattle.vc_commands.proofs.Seen.{SeenPut, seen-asks}
 
@@ -49,7 +49,7 @@ module _ {I : Type 0} {V : I → Type 0} (meaning : (x : I) × V x → Disciplin
   pub reserved-change : AreLabels new → AreLabelsOf (rest_in entry.region) old → HasOut (disc_in meaning entry.region) (segments_of (rest_in entry.region)) → ChangesRegion meaning entry old entry new
   reserved-change agree names lent = λ r.
       let h = held_of meaning r entry old in
-      change-same h new lent (isnamed-same h.region old new same agree names)
+      change-same h new lent (labels_of-same h.region old new same agree names)
 
 -- it is put, or a fault is told: the call on a home and the call on the region, the labels with room for the name and those after, and what is answered
 pub record IsPlaced {I : Type 0} {V : I → Type 0} {E : Type 0} (meaning : (x : I) × V x → Discipline) (entry : HomeEntry I V) (labels : Labels) (is : Open I V) (x : List ℕ) (words : Home → Option Refusal)

@@ -24,7 +24,7 @@ use Rattle.vc_commands.specs.declared.region.labels.Label.{Label}
 use Rattle.vc_commands.specs.declared.region.labels.Labels.{Labels}
 use Rattle.vc_commands.proofs.Answers.{IsAn, NotNoSegment, Told, asks-kept, asks-out, asks-unserved, both-same, changed-by, fault-no_segment, fault-told, get_ok}
 use Rattle.vc_commands.proofs.Moving.{name-new, named-put, region-more}
-use Rattle.vc_commands.proofs.Names.{isnamed-same, label-count, relabelled-same}
+use Rattle.vc_commands.proofs.Names.{labels_of-same, label-count, relabelled-same}
 
 -- why a block is not put, by the refusal of its words and whether there is room
 abbrev pub words_or : Option Refusal → Bool → Option Refusal
@@ -101,7 +101,7 @@ pub record Putting (h : Held) (x : List ℕ) (legal : Option Refusal) : Type 0 w
 -- the region and the labels after the call
 module _ (h : Held) (x : List ℕ) (legal : Option Refusal) (p : Putting h x legal) (region : Region ℕ) (new : Labels) where
   mid-names : AreLabelsOf h.region p.mid
-  mid-names = isnamed-same h.region h.labels p.mid p.same p.agree p.names
+  mid-names = labels_of-same h.region h.labels p.mid p.same p.agree p.names
 
   with-new : name_with p.mid p.tag x p.tag ≡ Some x
   with-new = ap (λ b. cond b (Some x) (name_of_tag p.mid p.tag)) (eq-eqb p.tag p.tag refl)

@@ -1,5 +1,5 @@
 -- What running a command promises, from what its own function does.
-use Rattle.vc_base.proofs.Common.{◌≡◌, ℕ, Bool, true, false, List, length, IfOk, OnErr, None, Ok, Err, Option, Result, sym, refl, ◌∙◌, subst, inl, false≢true, is_list, Discipline, NoneRefused, Layout}
+use Rattle.vc_base.proofs.Common.{◌≡◌, ℕ, Bool, true, false, List, length, IfOk, OnErr, None, Ok, Err, Option, Result, sym, refl, ◌∙◌, subst, false≢true, is_list, Discipline, NoneRefused, Layout}
 use Rattle.vc_model.proofs.Keeping.{NoneRefused-equal}
 use Rattle.vc_base.specs.declared.dict_method.DictMethod.{DictMethod}
 use Rattle.vc_base.specs.declared.dict_method.DictMethod.TheVariants.{DtSet, DtBag, DtOset, DtObag, DtList, DtStack, DtQueue}
@@ -19,7 +19,7 @@ use Rattle.vc_script.specs.declared.refusal.Refusal.TheVariants.{NoDictionary, N
 use Rattle.vc_script.specs.declared.reply.Reply.{Reply}
 use Rattle.vc_script.specs.declared.reply.Reply.TheVariants.{Refused}
 use Rattle.vc_commands.specs.DictCommands.{append_in, asks, in_dict}
-use Rattle.vc_commands.specs.DictRun.{AskedFor, GivesDict, IsSpent, IsSpentBy, LacksFor}
+use Rattle.vc_commands.specs.DictRun.{AskedFor, GivesDict, LacksFor}
 use Rattle.vc_commands.specs.Seat.{Seat, seat_with_refusal}
 
 -- a reply that needs nothing lacks nothing
@@ -57,12 +57,6 @@ pub spent-told : {E : Type 0} {I : Type 0} {V : I → Type 0} (result : Result R
     → OnErr result ((gone' ≡ gone) × IsStill r d r' d') → OnErr result ((gone' ≡ gone) × ((rest_in r' ≡ rest_in r) × (dictionary_in d' r' ≡ dictionary_in d r)))
 spent-told (Ok reply) r r' d d' gone gone' h = tt
 spent-told (Err why) r r' d d' gone gone' h = (h.0, (h.1.region, h.1.dict))
-
--- where a command puts no object in a set or bag nothing is spent, and else nothing or the table
-pub spent-by : (s : Seat ℕ) (command : Command) (r : Layout ℕ) (d : Dictionary) → IsSpentBy s command r d → IsSpent s r d
-spent-by s (Insert name bytes) r d h = h
-spent-by s (Attach name bytes) r d h = h
-spent-by s command r d h = inl h
 
 -- a list wants no table
 no-table : (method : DictMethod) (slots count more : ℕ) → is_list method ≡ true → wanted_by method slots count more ≡ None

@@ -1,5 +1,5 @@
 -- What one call after another does to a dictionary and its region.
-use Rattle.vc_base.proofs.Common.{◌≡◌, ℕ, Bool, true, false, List, [], IfOk, if◌then◌else◌, Some, None, Ok, Option, Result, sym, refl, ap, ◌∙◌, subst, contains, Discipline, Terms, Layout, Fault, Outcome}
+use Rattle.vc_base.proofs.Common.{◌≡◌, ℕ, Bool, true, false, List, [], IfOk, if◌then◌else◌, Some, None, Ok, Option, Result, sym, refl, ap, ◌∙◌, subst, contains, Discipline, Terms, Layout, Outcome}
 use Rattle.vc_base.specs.declared.dict_method.DictMethod.{DictMethod}
 use Rattle.vc_model.specs.Outcome as model
 use Rattle.vc_dtdisc.specs.Rules.{Gone, Rules}
@@ -7,7 +7,7 @@ use Rattle.vc_dict.specs.declared.dict.Dict.{Dict}
 use Rattle.vc_best.specs.Cells.{cells_in, rest_in}
 use Rattle.vc_best.specs.Parts.{disc_in, segments_in}
 use Rattle.vc_best.specs.declared.best.Best.{Best}
-use Rattle.vc_objects.specs.Insert.{insert, slots_wanted, want_of}
+use Rattle.vc_objects.specs.Insert.{insert, slots_wanted}
 use Rattle.vc_objects.specs.Leaves.{AskedForObject, GivesInserted, GivesRemoved, GivesTurned, LeavesRest, Looks, no_holder, no_table, told_each, told_if}
 use Rattle.vc_objects.specs.Objects.{Dictionary, option_list, own_blocks}
 use Rattle.vc_objects.specs.Parts.{dictionary_in}
@@ -20,7 +20,7 @@ use Rattle.vc_objects.specs.declared.fate.Want.TheVariants as want
 use Rattle.vc_script.specs.Needs.{Need, NoNeed, need_shown}
 use Rattle.vc_script.specs.declared.reply.Reply.{Reply}
 use Rattle.vc_script.specs.declared.reply.Reply.TheVariants.{MethodIs, Refused}
-use Rattle.vc_commands.specs.DictCommands.{fate_reply, gone_reply, is_object, put_object, remove_in, removed_as, table_refusal, turned_as}
+use Rattle.vc_commands.specs.DictCommands.{fate_reply, gone_reply, is_object, put_object, remove_in, removed_as, turned_as}
 use Rattle.vc_commands.specs.DictRun.{AskedFor, Gives, GivesDict, LacksFor, RunsDict, seat_in}
 use Rattle.vc_commands.specs.Seat.{DictChanged, Seat}
 
@@ -90,11 +90,6 @@ pub turn-told : (s : Seat ℕ) (name : List ℕ) (method : DictMethod) (o : Outc
     → GivesTurned o r d gone gone' → GivesDict (turned_as s name method o) r d (MethodIs name method) gone gone'
 turn-told s name method (model.Done t) r d gone gone' h = record { region = h.0; dict = h.1; reply = refl; told = h.2 }
 turn-told s name method (model.Refused why) r d gone gone' h = absurd h
-
--- what was not turned, too
-pub turn-refused : (s : Seat ℕ) (name : List ℕ) (method : DictMethod) (o : Outcome (Turned ℕ)) (fault : Fault) (r : Layout ℕ) (d : Dictionary) (gone gone' : Gone)
-    → o ≡ model.Refused fault → r ≡ s.region → d ≡ s.dict → gone' ≡ gone → GivesDict (turned_as s name method o) r d (Refused (table_refusal (want_of fault))) gone gone'
-turn-refused s name method o fault r d gone gone' is e f h = rw is (record { region = sym e; dict = sym f; reply = refl; told = h })
 
 -- what was taken out is told by its reply
 told-listed : (tells : Bool) (o : Option (List ℕ)) (gone : Gone) → told_if tells o gone ≡ told_each (if tells then option_list o else []) gone

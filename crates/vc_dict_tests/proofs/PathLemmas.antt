@@ -1,9 +1,8 @@
 -- The view paths of the toy's dictionaries, and places that are seen through them.
-use Rattle.vc_base.proofs.Common.{◌≡◌, ℕ, zero, suc, ◌<◌, Bool, true, false, cond, not, ◌&&◌, List, [], ◌∷◌, IfOk, IfErr, ◌==◌, Some, None, Ok, Err, Option, Result, sym, refl, ap, ◌∙◌, subst, inl, inr, true≢false, Decides-eqb, eqb_tells, and_parts, cases_Bool, or_left, or_right, none-some, same_Some, AllByRecursion, list_any, method_number}
+use Rattle.vc_base.proofs.Common.{◌≡◌, ℕ, zero, suc, ◌<◌, Bool, true, false, cond, not, ◌&&◌, List, [], ◌∷◌, IfOk, IfErr, ◌==◌, Some, None, Ok, Err, Option, Result, sym, refl, ap, ◌∙◌, subst, inl, inr, Decides-eqb, eqb_tells, and_parts, cases_Bool, or_left, or_right, none-some, same_Some, AllByRecursion, list_any, method_number}
 use Rattle.std.specs.Result.{result_err}
 use Rattle.vc_base.specs.declared.addr.Addr.{Addr}
 use Rattle.vc_base.specs.declared.dict_method.DictMethod.{DictMethod}
-use Rattle.vc_base.specs.declared.dict_method.DictMethod.TheVariants.{DtSet, DtBag, DtOset, DtObag, DtList, DtStack, DtQueue}
 use Rattle.vc_base.proofs.Methods.{same-method}
 use Rattle.vc_dtdisc.specs.Finding.{behind_last, first_of}
 use Rattle.vc_paths.specs.declared.fault.ViewFault.{ViewFault}

@@ -1,11 +1,11 @@
 -- A dictionary of some of the three holders, after each call.
-use Rattle.vc_base.proofs.Common.{◌≡◌, ℕ, ◌+◌, ◌≤◌, Bool, true, false, not, ◌≢◌, List, [], ◌∷◌, length, is_some, if◌then◌else◌, IsSome, ◌==◌, Some, None, Option, is_eq, sym, refl, ap, ◌∙◌, subst, inl, inr, true≢false, arith, eq-eqb, eqb_tells, Blocks, IsHolder, bytes_at, contains, first_in, last_in, next_in, previous_in, method_number}
+use Rattle.vc_base.proofs.Common.{◌≡◌, ℕ, ◌+◌, ◌≤◌, Bool, true, false, not, ◌≢◌, List, [], ◌∷◌, is_some, if◌then◌else◌, ◌==◌, Some, None, Option, sym, refl, ap, ◌∙◌, subst, inl, inr, true≢false, arith, eq-eqb, eqb_tells, Blocks, contains, first_in, last_in, next_in, previous_in, method_number}
 use Rattle.vc_base.specs.declared.dict_method.DictMethod.{DictMethod}
 use Rattle.vc_base.specs.Holders.{last_of}
-use Rattle.vc_base.proofs.Members.{apart-cons, within-head, within-tail, within-last}
+use Rattle.vc_base.proofs.Members.{apart-cons, within-tail, within-last}
 use Rattle.vc_base.proofs.Methods.{same-method}
 use Rattle.vc_dict.proofs.WeedLemmas.{key_same}
-use Rattle.vc_dtdisc.specs.Finds.{find_key, has_key, object_at}
+use Rattle.vc_dtdisc.specs.Finds.{find_key, object_at}
 use Rattle.vc_dtdisc.specs.Rules.{Rules}
 use Rattle.vc_dtlist.specs.TableWrites.{KeepsTables}
 use Rattle.vc_dtlist.proofs.HolderLemmas.{apart-without}
@@ -14,44 +14,21 @@ use Rattle.vc_dict.specs.declared.dict.Dict.{Dict}
 use Rattle.vc_dict.specs.declared.dict.Dropped.{Dropped}
 use Rattle.vc_dict.specs.Changes.{current_without, order_by_link, order_without}
 use Rattle.vc_dict.specs.Orders.{kept_by, ordered_by}
-use Rattle.vc_dict.specs.Stands.{Adopted, Became, IsDict, IsKept, Stands, table_in}
+use Rattle.vc_dict.specs.Stands.{Adopted, Became, Stands, table_in}
 use Rattle.vc_dict.specs.Turned.{Remethoded, Unchanged}
 use Rattle.vc_dict.proofs.CurrentLemmas.{apart-linked, current-removed, within-linked}
 use Rattle.vc_dict.proofs.OwnLemmas.{table-apart}
 use Rattle.vc_dict.proofs.TurnedLemmas.{within_kept_by, within_ordered}
-use Rattle.vc_dict_tests.specs.Five.{AreGiven, AreSized, five}
+use Rattle.vc_dict_tests.specs.Five.{AreSized}
 use Rattle.vc_dict_tests.specs.Ready.{IsReadyFor}
 
--- the blocks have their sizes at first, and after each call
-by_one : (P : ℕ → Type 0) (a n : ℕ) → (a ≢ n → P a) → P n → P a
-by_one P a n other at = elim (eqb_tells a n) as (λ _. P a) [
-  | inl same ↦ subst P (sym same.1) at
-  | inr apart ↦ other apart.1
-]
-
-pub sized-given : (x y z v w : List ℕ) → AreGiven x y z v w → AreSized (five x y z v w)
-sized-given x y z v w g =
-    let b = five x y z v w in
-    record {
-      holders = λ a l m.
-          by_one (λ k. IsHolder b k) a 1 (λ one. by_one (λ k. IsHolder b k) a 2 (λ two. by_one (λ k. IsHolder b k) a 3 (λ three. absurd (omega arith))
-          (record { there = refl; enough = omega (arith, g.third) })) (record { there = refl; enough = omega (arith, g.second) })) (record { there = refl; enough = omega (arith, g.first) });
-      there = λ a l m. by_one (λ k. IsSome (b k)) a 4 (λ four. by_one (λ k. IsSome (b k)) a 5 (λ five. absurd (omega arith)) refl) refl;
-      sizes = λ a l m. by_one (λ k. length (bytes_at b k) ≡ 128) a 4 (λ four. by_one (λ k. length (bytes_at b k) ≡ 128) a 5 (λ five. absurd (omega arith)) g.fifth) g.fourth;
-    }
-
+-- the blocks have their sizes after each call
 pub sized-kept : (tables holders : List ℕ) (b b' : Blocks) → KeepsTables tables holders b b' → AreSized b → AreSized b'
 sized-kept tables holders b b' k s = record {
   holders = λ a l m. let h = s.holders a l m in record { there = k.there a ∙ h.there; enough = rw (k.sizes a) h.enough };
   there = λ a l m. k.there a ∙ s.there a l m;
   sizes = λ a l m. k.sizes a ∙ s.sizes a l m;
 }
-
-pub dict-ready : (rules : Rules) (d : Dict) (b : Blocks) (n : ℕ) → IsReadyFor rules d b n → IsDict rules d b
-dict-ready rules d b n r = record { holders = r.holders; stands = r.stands }
-
-pub kept-ready : (rules : Rules) (d : Dict) (b : Blocks) (n : ℕ) → IsReadyFor rules d b n → IsKept d b
-kept-ready rules d b n r = record { rules = rules; is = dict-ready rules d b n r }
 
 -- a found holder changes nothing of it
 unfoldable pub ready-found : (rules : Rules) (d d' : Dict) (b b' : Blocks) (n : ℕ) (r : IsReadyFor rules d b n) → Became rules r.holders d b d' b' r.holders d.current.0 → IsReadyFor rules d' b' n

@@ -1,5 +1,4 @@
 -- A kind whose keys all have one hash.
-use Rattle.std.specs.Prelude.{ℕ, List}
 use Rattle.std.proofs.Common.{refl}
 use Rattle.vc_dtdisc.specs.Rules.{AreLawful, Rules}
 use Rattle.vc_dtdisc.specs.Shapes.{BuiltInKind, rules_of}

@@ -4,7 +4,8 @@ use Rattle.vc_model.proofs.Places.{among-above, found-there, place-of}
 use Rattle.vc_script.specs.declared.place.Place.{Place}
 use Rattle.vc_commands.specs.Home.{Label}
 use Rattle.vc_commands.specs.Whole.{item_of}
-use Rattle.vc_commands.proofs.Listing.{FromSome, blocks-next, blocks_above, from_some}
+use Rattle.vc_audit.proofs.DebugChecks.{above as blocks_above}
+use Rattle.vc_commands.proofs.Listing.{FromSome, blocks-next, from_some}
 use Rattle.vc_image_run.specs.Text.Text.{label_of}
 
 abbrev pub item : Block ℕ → Label × Place × ℕ

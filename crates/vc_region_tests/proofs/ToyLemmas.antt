@@ -1,5 +1,5 @@
 -- A link that is written in the store of four, and the trees in it.
-use Rattle.vc_base.proofs.Common.{◌≡◌, ℕ, true, false, cond, List, [], ◌∷◌, slice_index, slice_set, sym, refl, ap, ◌∙◌, subst, get_or-set_other, contains, without}
+use Rattle.vc_base.proofs.Common.{◌≡◌, ℕ, true, false, cond, List, [], ◌∷◌, slice_index, slice_set, sym, refl, ap, ◌∙◌, subst, get_or-set_other, contains}
 use Rattle.vc_splay.specs.Store.{Store, with_kid, with_parent}
 use Rattle.vc_splay.specs.Guide.{CanFind, CanLink, Rises, order_with_name}
 use Rattle.vc_splay.specs.Stands.{HasTree, IsIn, IsWithin, TreeAfter}
@@ -40,9 +40,6 @@ can_link rows root at key c = record {
   apart = ap (λ z. contains z at) c.holds.list ∙ c.apart;
 }
 
-pub holds_after : (old new : Rows) (root result : ℕ) (touched xs : List ℕ) → TreeAfter (of old) (of new) touched result xs → new.key ≡ old.key → old.key ≡ keys → Holds new result xs
-holds_after old new root result touched xs a same k = record { tree = a.tree; is_tree = a.is_tree; list = a.list; keys_are = same ∙ k }
-
 pub has_tree : (rows : Rows) (root : ℕ) (xs : List ℕ) → Holds rows root xs → HasTree (of rows) root
 has_tree rows root xs h = record { tree = h.tree; is_tree = h.is_tree }
 
@@ -56,7 +53,7 @@ is_within rows root at xs h k = record { root = root; is_in = is_in rows root at
 pub holds_none : (rows : Rows) → rows.key ≡ keys → Holds rows 0 []
 holds_none rows k = record { tree = Leaf; is_tree = record { top = refl; stands = tt; distinct = tt }; list = refl; keys_are = k }
 
--- after a link, after a find or a splay, and after an unlink
+-- after a link, and after a find or a splay
 pub holds_put : (old new : Rows) (root at key result : ℕ) (xs : List ℕ) (h : Holds old root xs) → TreeAfter (of old) (of new) (at ∷ names h.tree) result (order_with_name (key_side old.key key) at (names h.tree)) → new.key ≡ old.key → Holds new result (order_with_name (key_side keys key) at xs)
 holds_put old new root at key result xs h a same = record {
   tree = a.tree;
@@ -67,6 +64,3 @@ holds_put old new root at key result xs h a same = record {
 
 pub holds_same : (old new : Rows) (root result : ℕ) (xs : List ℕ) (h : Holds old root xs) → TreeAfter (of old) (of new) (names h.tree) result (names h.tree) → new.key ≡ old.key → Holds new result xs
 holds_same old new root result xs h a same = record { tree = a.tree; is_tree = a.is_tree; list = a.list ∙ h.list; keys_are = same ∙ h.keys_are }
-
-pub holds_cut : (old new : Rows) (root at result : ℕ) (xs : List ℕ) (h : Holds old root xs) → TreeAfter (of old) (of new) (names h.tree) result (without at (names h.tree)) → new.key ≡ old.key → Holds new result (without at xs)
-holds_cut old new root at result xs h a same = record { tree = a.tree; is_tree = a.is_tree; list = a.list ∙ ap (without at) h.list; keys_are = same ∙ h.keys_are }

@@ -19,10 +19,9 @@ use Rattle.vc_script.specs.declared.reply.Reply.TheVariants.{Stats}
 use Rattle.vc_script.specs.declared.tool.Tool.{Tool}
 use Rattle.vc_script.specs.Judged.{judged_lines}
 use Rattle.vc_script.specs.Lines.{ended_lines}
-use Rattle.vc_script.specs.Print.{line_of, printed}
+use Rattle.vc_script.specs.Print.{printed}
 use Rattle.vc_script.specs.Proper.{IsName}
 use Rattle.vc_script.proofs.Newlines.{OneLine, line-printed, line-both, line-decimal, line-name}
-use Rattle.vc_seg.specs.declared.stat.Stat.{Stat}
 use Rattle.vc_steps.specs.Homes.{held_all}
 use Rattle.vc_steps.specs.Moment.{Moment, moment_at_end, over_sink}
 use Rattle.vc_session.specs.Engine.{RunsLines, RunsScriptOn}
@@ -168,34 +167,6 @@ take-push : {A : Type 0} (xs : List A) (i : ℕ) (x : A) → slice_get xs i ≡ 
 take-push [] i x at = absurd cc
 take-push (y ∷ ys) zero x at = ap (λ z. z ∷ []) cc
 take-push (y ∷ ys) (suc i) x at = ap (λ zs. y ∷ zs) (take-push ys i x at)
-
-six : (old l1 d1 l2 d2 l3 d3 l4 d4 l5 d5 l6 d6 end : List ℕ) → ((((((old ++ (l1 ++ d1)) ++ ((end ++ l2) ++ d2)) ++ ((end ++ l3) ++ d3)) ++ ((end ++ l4) ++ d4)) ++ (l5 ++ d5)) ++ ((end ++ l6) ++ d6)) ++ end ≡ old ++ (((l1 ++ d1) ++ end) ++ (((l2 ++ d2) ++ end) ++ (((l3 ++ d3) ++ end) ++ (((((l4 ++ d4) ++ l5) ++ d5) ++ end) ++ (((l6 ++ d6) ++ end) ++ [])))))
-six old l1 d1 l2 d2 l3 d3 l4 d4 l5 d5 l6 d6 end = simp (append_assoc, append-nil)
-
-pub summary-put : (quiet : Bool) (lines : ℕ) (c : Counts) (old : List ℕ) → quiet ≡ true → ((((((old ++ (codes "lines " ++ decimal lines)) ++ (codes "\ndone " ++ decimal c.done)) ++ (codes "\nrefused " ++ decimal c.refused)) ++ (codes "\nlent " ++ decimal c.segments)) ++ (codes " " ++ decimal c.bytes)) ++ (codes "\npeak " ++ decimal c.peak)) ++ 10 ∷ [] ≡ old ++ lines_text (summary_by quiet lines c)
-summary-put false lines c old quiet = absurd (false≢true quiet)
-summary-put true lines c old quiet =
-    six old (codes "lines ") (decimal lines) (codes "done ") (decimal c.done) (codes "refused ") (decimal c.refused) (codes "lent ") (decimal c.segments) (codes " ") (decimal c.bytes) (codes "peak ") (decimal c.peak) (10 ∷ [])
-
-pub summary-none : (quiet : Bool) (lines : ℕ) (c : Counts) (old : List ℕ) → quiet ≡ false → old ≡ old ++ lines_text (summary_by quiet lines c)
-summary-none false lines c old plain = sym (append-nil old)
-summary-none true lines c old plain = absurd (false≢true (sym plain))
-
-four : (old word name text : List ℕ) → (((old ++ word) ++ name) ++ 32 ∷ []) ++ (text ++ 10 ∷ []) ≡ old ++ ((((word ++ name) ++ 32 ∷ []) ++ text) ++ 10 ∷ [])
-four old word name text = simp append_assoc
-
-pub stat-put : (name : List ℕ) (stat : Stat) (old : List ℕ) → (((old ++ codes "stat ") ++ name) ++ 32 ∷ []) ++ line_of (Stats stat) ≡ old ++ (numbers_text name stat ++ 10 ∷ [])
-stat-put name stat old = four old (codes "stat ") name (printed (Stats stat))
-
-pub stats-none : (asked : Bool) (homes : List Home) (old : List ℕ) → asked ≡ false → old ≡ old ++ lines_text (stats_by asked homes)
-stats-none false homes old none = sym (append-nil old)
-stats-none true homes old none = absurd (false≢true (sym none))
-
--- the lines of a tail, put in two parts
-pub tail-put : (old : List ℕ) (first second : List (List ℕ)) → (old ++ lines_text first) ++ lines_text second ≡ old ++ lines_text (first ++ second)
-tail-put old first second =
-    append_assoc old (lines_text first) (lines_text second)
-    ∙ ap (λ xs. old ++ xs) (sym (flat_map-append (λ (line : List ℕ). line ++ 10 ∷ []) first second))
 
 -- a line for each region so far, and one more
 pub stats-push : {I : Type 0} {V : I → Type 0} (es : List (List ℕ × HomeEntry I V)) (i : ℕ) (e : List ℕ × HomeEntry I V) (old so_far new : List ℕ) → slice_get es i ≡ Some e → so_far ≡ old ++ lines_text (map entry_text (take i es)) → new ≡ so_far ++ (entry_text e ++ 10 ∷ []) → new ≡ old ++ lines_text (map entry_text (take (i + 1) es))

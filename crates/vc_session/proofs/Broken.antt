@@ -1,5 +1,5 @@
 -- What was written of the script of a source where a run of it was broken off.
-use Rattle.vc_base.proofs.Common.{◌≡◌, ℕ, ◌≤◌, Bool, List, [], ◌++◌, length, take, drop, IfSome, Some, None, Ok, Err, Option, sym, refl, ap, ◌∙◌, subst, inl, inr, append-nil, arith, take-append-drop, Rose}
+use Rattle.vc_base.proofs.Common.{◌≡◌, ℕ, Bool, List, [], ◌++◌, length, take, drop, IfSome, Some, None, Ok, Err, Option, sym, refl, ap, ◌∙◌, subst, append-nil, arith, take-append-drop}
 use Rattle.vc_counts.specs.declared.counts.Counts.{Counts}
 use Rattle.vc_script.specs.declared.line_fault.LineFault.{LineFault}
 use Rattle.vc_script.specs.declared.tool.Tool.{Tool}
@@ -23,11 +23,6 @@ use Rattle.vc_session.proofs.Cuts.{BeginsWithReplies, cut-none, cut-part, cut-sa
 use Rattle.vc_session.proofs.HowFar.{not_ahead-end, told-front}
 use Rattle.vc_session.proofs.ScriptLines.{script-lines}
 use Rattle.vc_session.proofs.SoFar.{if_some}
-
--- a count that rose later rose from before
-pub rose-from : (a b c : ℕ) → a ≤ b → Rose b c → Rose a c
-rose-from a b c least (inl more) = inl (omega (arith, least, more))
-rose-from a b c least (inr last) = inr last
 
 -- a run is broken off for one reason
 pub memory-read : (stop : Stop) → stop ≡ Memory → stop ≡ Read → ⊥

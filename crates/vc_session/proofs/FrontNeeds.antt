@@ -1,5 +1,5 @@
 -- The needs that a front of what is written of replies shows, at every line.
-use Rattle.vc_base.proofs.Common.{◌≡◌, ℕ, ◌^◌, ◌<◌, Bool, true, false, cond, eqb, List, [], ◌∷◌, ◌++◌, map, sym, refl, ap, ◌∙◌, subst, inl, inr, append_assoc, append-nil, arith, eq-eqb, eqb_tells, nat_tests, flat_map, AllByRecursion}
+use Rattle.vc_base.proofs.Common.{◌≡◌, ℕ, ◌^◌, ◌<◌, false, cond, eqb, List, [], ◌∷◌, ◌++◌, map, sym, refl, ap, ◌∙◌, subst, inl, inr, append_assoc, append-nil, arith, eq-eqb, eqb_tells, nat_tests, flat_map, AllByRecursion}
 use Rattle.vc_base.proofs.Quantifiers.{all-both, all-unmap}
 use Rattle.vc_script.specs.declared.reply.Reply.{Reply}
 use Rattle.vc_script.specs.ProperReply.{IsProperReply}

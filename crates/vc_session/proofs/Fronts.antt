@@ -2,7 +2,7 @@
 use Rattle.vc_base.proofs.Common.{◌≡◌, ℕ, ◌<◌, ◌≤◌, ◌⊎◌, Bool, true, false, cond, eqb, List, [], ◌∷◌, ◌++◌, length, decimal, sym, refl, ap, ap₂, ◌∙◌, subst, inl, inr, append_assoc, arith, length-append, and_from, and_parts, not-true, or_parts, list_any-append, bytes_eq, AllByRecursion, list_all}
 use Rattle.vc_script.specs.declared.reply.Reply.{Reply}
 use Rattle.vc_script.specs.ProperReply.{IsProperReply}
-use Rattle.vc_script.specs.Print.{line_of, printed}
+use Rattle.vc_script.specs.Print.{printed}
 use Rattle.vc_script.specs.Lines.{ended_after, ended_lines}
 use Rattle.vc_script.specs.Needs.{Need, NoNeed, need_shown}
 use Rattle.vc_script.proofs.Newlines.{OneLine, line-printed, stays}

@@ -20,7 +20,8 @@ use Rattle.vc_session.specs.declared.style.Style.TheVariants.{Quiet}
 use Rattle.vc_session.specs.Text.{is_quiet, lines_text, tail_lines, text_of}
 use Rattle.vc_words.specs.declared.words.Words.{Words}
 use Rattle.vc_session.proofs.Behind.{tail-unnumbered, text-says}
-use Rattle.vc_session.proofs.Broken.{memory-read, memory-write, rose-from, text-begins, write-read}
+use Rattle.vc_model.proofs.Keeping.{Rose-earlier}
+use Rattle.vc_session.proofs.Broken.{memory-read, memory-write, text-begins, write-read}
 use Rattle.vc_session.proofs.Cuts.{BeginsWithReplies, cut-none, cut-part, cut-same, cut-tail, far-front, far-of, far-on}
 use Rattle.vc_session.proofs.GeneratedRun.{generated-most, quiet-generated}
 use Rattle.vc_session.proofs.HowFar.{text-front, told-front}
@@ -118,7 +119,7 @@ module _ (tool : Tool) (w : Words) (n : ℕ) (is : w.generate ≡ Some n) (most 
               (subst (λ k. IsCutText (style_by (is_quiet w) false) (text_of w false k) (over_sink start told) (over_sink last told'') (on_lines 1 commands)) ran.count
               (subst (λ on. IsCutText (style_by (is_quiet w) on) (text_of w on all) (over_sink start told) (over_sink last told'') (on_lines 1 commands)) off cut)));
           read = write-read stop write;
-          write = λ other. rose-from failures failures' failures'' r.writes rose;
+          write = λ other. Rose-earlier failures failures' failures'' r.writes rose;
           writes = omega (arith, r.writes, never);
         }
 

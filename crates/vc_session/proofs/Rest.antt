@@ -1,5 +1,5 @@
 -- A run from a session in which nothing is open to the session's end.
-use Rattle.vc_base.proofs.Common.{◌≡◌, ℕ, Bool, false, List, [], ◌∷◌, map, length, IfSome, IfOk, IfErr, OnErr, Some, None, Ok, Err, Option, Result, sym, refl, ap, ◌∙◌, subst, AllByRecursion, Discipline}
+use Rattle.vc_base.proofs.Common.{◌≡◌, ℕ, Bool, false, List, [], ◌∷◌, map, length, IfSome, IfOk, IfErr, OnErr, None, Ok, Err, Option, Result, sym, refl, ap, ◌∙◌, subst, AllByRecursion, Discipline}
 use Rattle.vc_dtdisc.specs.Rules.{Gone, Rules}
 use Rattle.vc_seg.specs.declared.shelf.Shelf.{Shelf}
 use Rattle.vc_script.specs.declared.command.Command.{Command}
@@ -27,7 +27,7 @@ use Rattle.vc_session.specs.declared.status.Status.{Status}
 use Rattle.vc_session.specs.Streams.{Flows, Streams}
 use Rattle.vc_session.specs.QuietText.{style_by}
 use Rattle.vc_session.specs.declared.style.Style.{Style}
-use Rattle.vc_session.proofs.SoFar.{some-all}
+use Rattle.vc_session.proofs.SoFar.{if_some, some-all}
 use Rattle.vc_session.specs.Text.{good_lines, is_quiet, text_of}
 use Rattle.vc_words.specs.declared.words.Words.{Words}
 use Rattle.vc_session.specs.declared.engine.Stop.{Stop}
@@ -75,10 +75,6 @@ module _ {before now after : Moment} (rests : Rests now after) where
   pub cut-rest : {style : Style} {said : Ran → List ℕ} {commands : List (ℕ × Command)} → IsCutText style said before now commands → IsCutText style said before after commands
   cut-rest c = cut-same after rests.written rests.accounts c
 
-some-each : (o : Option (List ℕ)) (P Q : List ℕ → Type 0) → ((x : List ℕ) → P x → Q x) → IfSome o P → IfSome o Q
-some-each None P Q f p = tt
-some-each (Some x) P Q f p = f x p
-
 err-each : {T E : Type 0} (r : Result T E) (A : E → Type 0) (P Q : Type 0) → (P → Q) → IfErr r (λ e. A e → P) → IfErr r (λ e. A e → Q)
 err-each (Ok x) A P Q f p = tt
 err-each (Err e) A P Q f p = λ a. f (p a)
@@ -97,15 +93,15 @@ runs-rest tool w start before now after old new answer same rests off r =
     record {
       replay =
           ok-each answer (λ bad. IfSome old.left (λ input. IsReplay tool w (over_sink start old.written) (over_sink now new.written) input bad new.left)) (λ bad. IfSome old.left (λ input. IsReplay tool w (over_sink before old.written) (over_sink after new.written) input bad new.left))
-          (λ bad. some-each old.left (λ input. IsReplay tool w (over_sink start old.written) (over_sink now new.written) input bad new.left) (λ input. IsReplay tool w (over_sink before old.written) (over_sink after new.written) input bad new.left)
+          (λ bad. if_some old.left (λ input. IsReplay tool w (over_sink start old.written) (over_sink now new.written) input bad new.left) (λ input. IsReplay tool w (over_sink before old.written) (over_sink after new.written) input bad new.left)
           (λ input ran. subst (λ m. IsReplay tool w (over_sink m old.written) (over_sink after new.written) input bad new.left) same (replay-rest (rests new.written) ran))) r.replay;
       cut_short =
           err-each answer (λ stop. stop ≡ Read) (IfSome old.left (λ input. IsCutShort tool (is_quiet w) (over_sink start old.written) (over_sink now new.written) input new.left)) (IfSome old.left (λ input. IsCutShort tool (is_quiet w) (over_sink before old.written) (over_sink after new.written) input new.left))
-          (some-each old.left (λ input. IsCutShort tool (is_quiet w) (over_sink start old.written) (over_sink now new.written) input new.left) (λ input. IsCutShort tool (is_quiet w) (over_sink before old.written) (over_sink after new.written) input new.left)
+          (if_some old.left (λ input. IsCutShort tool (is_quiet w) (over_sink start old.written) (over_sink now new.written) input new.left) (λ input. IsCutShort tool (is_quiet w) (over_sink before old.written) (over_sink after new.written) input new.left)
           (λ input ran. subst (λ m. IsCutShort tool (is_quiet w) (over_sink m old.written) (over_sink after new.written) input new.left) same (cut_short-rest (rests new.written) ran))) r.cut_short;
       cut =
           on_err-each answer
-          (some-each old.left _ _ (λ input c. subst (λ m. IsCutText (style_by (is_quiet w) (is_second tool input)) (text_of w (is_second tool input) (good_lines (first_bad tool input) (length (judged_lines input)))) (over_sink m old.written) (over_sink after new.written) (script tool input)) same (cut-rest (rests new.written) c))) r.cut;
+          (if_some old.left _ _ (λ input c. subst (λ m. IsCutText (style_by (is_quiet w) (is_second tool input)) (text_of w (is_second tool input) (good_lines (first_bad tool input) (length (judged_lines input)))) (over_sink m old.written) (over_sink after new.written) (script tool input)) same (cut-rest (rests new.written) c))) r.cut;
       not_ahead = r.not_ahead;
       arms = some-all old.left _ (λ input one. off);
       read = r.read;

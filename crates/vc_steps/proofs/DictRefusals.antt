@@ -1,19 +1,12 @@
 -- Why no dictionary is opened, by four tests.
-use Rattle.vc_base.proofs.Common.{◌≡◌, ℕ, Bool, true, false, cond, not, List, length, nat_le, Some, None, Option, sym, refl, ap, ◌∙◌, list_any}
-use Rattle.vc_region.specs.Region.{OfBest, OfDebug, OfLast, OfPool, OfProfile, Region, region_with_labels, is_best}
+use Rattle.vc_base.proofs.Common.{◌≡◌, ℕ, Bool, true, false, cond, not, List, length, nat_le, Some, None, Option, sym, ap, ◌∙◌, list_any}
+use Rattle.vc_region.specs.Region.{is_best}
 use Rattle.vc_script.specs.declared.refusal.Refusal.{Refusal}
 use Rattle.vc_script.specs.declared.refusal.Refusal.TheVariants as why
 use Rattle.vc_steps.specs.Dicts.{dict_limit, dict_refused, is_kind}
 use Rattle.vc_views.specs.Views.{is_dict}
 use Rattle.vc_commands.specs.Home.{Home}
 use Rattle.vc_steps.specs.State.{State}
-
-pub best-relabelled : {L M : Type 0} (f : L → M) (r : Region L) → is_best (region_with_labels f r) ≡ is_best r
-best-relabelled f (OfBest layout) = refl
-best-relabelled f (OfPool pool) = refl
-best-relabelled f (OfLast layout) = refl
-best-relabelled f (OfDebug debug) = refl
-best-relabelled f (OfProfile profile) = refl
 
 abbrev chosen : Bool → Bool → Bool → Bool → Option Refusal
 chosen exists kind best full =

@@ -19,7 +19,8 @@ use Rattle.vc_steps.specs.Dicts.{dict_refused, is_kind}
 use Rattle.vc_steps.specs.Homes.{held_all}
 use Rattle.vc_steps.specs.State.{State}
 use Rattle.vc_steps.proofs.DictByName.{any-dict}
-use Rattle.vc_steps.proofs.DictRefusals.{best-relabelled, refused-by, refused-exists, refused-kind, refused-method}
+use Rattle.vc_steps.proofs.BestStays.{relabelled-best}
+use Rattle.vc_steps.proofs.DictRefusals.{refused-by, refused-exists, refused-kind, refused-method}
 use Rattle.vc_steps.proofs.DictsStay.{Entry}
 use Rattle.vc_steps.proofs.SessionEnd.{if_some-to}
 use Rattle.vc_steps.proofs.Helds.{held-read, some-at}
@@ -75,7 +76,7 @@ module _ {I : Type 0} {V : I → Type 0} (meaning : (x : I) × V x → Disciplin
 
     module _ (kind : is_kind s a.kind ≡ true) (v : HomeEntry I V) (value : slice_get (values_of homes) a.j ≡ Some v) where
       best : (t : Bool) → is_best (rest_in v.region) ≡ t → is_best (home_of (region v)).region ≡ t
-      best t is = best-relabelled (name_of_tag labels_at.0) (rest_in v.region) ∙ is
+      best t is = relabelled-best (name_of_tag labels_at.0) (rest_in v.region) ∙ is
 
       pub why-method : is_best (rest_in v.region) ≡ false → IsWhy (Some why.WrongMethod)
       why-method is = is-why (Some why.WrongMethod) v value (refused-method s (home_of (region v)) a.name a.kind (exists false new) kind (best false is))

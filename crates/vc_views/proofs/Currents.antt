@@ -15,10 +15,9 @@ use Rattle.vc_paths.specs.Visible.{Seen}
 use Rattle.vc_paths.proofs.SightLemmas.{IsThere, all-found, all-last, visible-there}
 use Rattle.vc_commands.specs.Looking.{found_by_command, is_askable, look_found, own_place}
 use Rattle.vc_commands.specs.declared.dict.entry.DictEntry.{DictEntry}
-use Rattle.vc_commands.specs.declared.region.home.HomeEntry.{HomeEntry}
 use Rattle.vc_script.specs.declared.command.Command.{Command}
 use Rattle.vc_script.specs.declared.command.Command.TheVariants.{Search, MatchKey, First, Last, Next, Prev}
-use Rattle.vc_views.specs.Dicts.{AreDictsOver, DictRegion, DictSeen, IsDictOver, dict_seen, has_number, layer_of, layer_seen, layered_by, number_at, number_in, number_or, region_seen, with_current, with_current_at}
+use Rattle.vc_views.specs.Dicts.{AreDictsOver, DictRegion, DictSeen, IsDictOver, dict_seen, has_number, layer_of, layer_seen, layered_by, number_at, number_in, number_or, with_current, with_current_at}
 use Rattle.vc_views.specs.LayerLaws.{Entry, layer-is}
 use Rattle.vc_views.proofs.AtHolders.{holder-here}
 use Rattle.vc_views.proofs.Firsts.{value-set}

@@ -1,5 +1,5 @@
 -- Tests over lists, and what is found in a list that changes at one index.
-use Rattle.vc_base.proofs.Common.{◌≡◌, ℕ, zero, suc, Bool, true, false, cond, ◌||◌, List, [], ◌∷◌, ◌++◌, map, slice_get, slice_set, Some, None, Option, option_map, remove, find, sym, refl, ap, ◌∙◌, ap₂, ⊎_elim, true≢false, cases_Bool, or_left, or_parts, or_right, none-some, same_Some, AllByRecursion, list_any}
+use Rattle.vc_base.proofs.Common.{◌≡◌, ℕ, zero, suc, Bool, true, false, cond, ◌||◌, List, [], ◌∷◌, ◌++◌, map, slice_get, slice_set, Some, None, remove, find, sym, refl, ap, ◌∙◌, ap₂, ⊎_elim, true≢false, cases_Bool, or_parts, none-some, same_Some, AllByRecursion, list_any}
 use Rattle.vc_views.proofs.NamedEntries.{Stands}
 
 -- two tests are equal where each follows from the other

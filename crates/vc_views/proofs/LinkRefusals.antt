@@ -1,13 +1,12 @@
 -- Why a dictionary can't view another one: by names and by numbers alike.
 use Rattle.vc_base.proofs.Common.{◌≡◌, ℕ, suc, ◌<◌, Bool, true, false, not, ◌&&◌, List, [], ◌∷◌, map, length, if◌then◌else◌, nat_lt, ◌==◌, slice_get, Some, None, Option, option_map, bytes_eq, sym, refl, ap, ◌∙◌, ap₂, ⊎_elim, true≢false, arith, Decides-eqb, and_parts, cases_Bool, any_passes_from_place, none-some, same_Some, bytes_eq-Decides, IsDistinct, list_any, keys_of, contains, method_number}
-use Rattle.vc_base.specs.declared.dict_method.DictMethod.{DictMethod}
 use Rattle.vc_base.proofs.Quantifiers.{any-map}
 use Rattle.vc_base.proofs.Methods.{same-method}
 use Rattle.vc_objects.specs.Objects.{Dictionary}
 use Rattle.vc_paths.specs.declared.fault.ViewFault.{ViewFault}
 use Rattle.vc_paths.specs.declared.fault.ViewFault.TheVariants.{Cycle, Differs, TooDeep}
 use Rattle.vc_paths.specs.Layers.{Layered}
-use Rattle.vc_paths.specs.Links.{ArePaths, Links, are_too_long, below, is_too_long, links_with, numbers, onward, path, path_limit, path_of}
+use Rattle.vc_paths.specs.Links.{ArePaths, Links, are_too_long, below, is_too_long, links_with, numbers, path, path_limit, path_of}
 use Rattle.vc_paths.specs.View.{are_alike, view_fault}
 use Rattle.vc_paths.proofs.NewLinkLemmas.{none-any, some-any, none-short}
 use Rattle.vc_script.specs.declared.refusal.Refusal.TheVariants.{ViewCycle, ViewDiffers, ViewTooDeep}

@@ -1,5 +1,5 @@
 -- What a look through a path promises, by its answer.
-use Rattle.vc_base.proofs.Common.{◌≡◌, ℕ, List, map, IfOk, OnOk, ◌==◌, Ok, Err, Option, Result, option_map, sym, refl, ap, ◌∙◌, subst, number_of}
+use Rattle.vc_base.proofs.Common.{◌≡◌, ℕ, List, map, IfOk, OnOk, ◌==◌, Ok, Err, Option, Result, option_map, refl, ap, ◌∙◌, subst, number_of}
 use Rattle.vc_base.specs.declared.addr.Addr.{Addr}
 use Rattle.vc_dtdisc.specs.Rules.{Rules}
 use Rattle.vc_paths.specs.Layers.{Layered}
@@ -10,7 +10,7 @@ use Rattle.vc_commands.specs.Looking.{look_found, look_reply, own_place}
 use Rattle.vc_commands.specs.declared.region.home.HomeEntry.{HomeEntry}
 use Rattle.vc_script.specs.declared.command.Command.{Command}
 use Rattle.vc_script.specs.declared.reply.Reply.{Reply}
-use Rattle.vc_views.specs.Dicts.{AreDictsOver, dict_seen, home_rest, region_seen}
+use Rattle.vc_views.specs.Dicts.{AreDictsOver, region_seen}
 use Rattle.vc_views.specs.LayerLaws.{Entry}
 use Rattle.vc_views.specs.Leaves.{KeepsDicts}
 use Rattle.vc_views.specs.Promises.{IsLook, LeavesDicts, LooksThrough}

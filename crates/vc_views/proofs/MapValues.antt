@@ -1,5 +1,5 @@
 -- What the values of a map give, one by one.
-use Rattle.vc_base.proofs.Common.{◌≡◌, List, [], ◌∷◌, sym, subst, AlwaysYields, TakesFirst}
+use Rattle.vc_base.proofs.Common.{List, [], ◌∷◌, sym, subst, AlwaysYields, TakesFirst}
 use Rattle.std.specs.Map.Iter.{deref}
 use Rattle.vc_base.proofs.Lists.{head-same, tail-same}
 

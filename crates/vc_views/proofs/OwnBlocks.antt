@@ -1,5 +1,5 @@
 -- A dictionary whose own blocks stay, whatever becomes of the other cells.
-use Rattle.vc_base.proofs.Common.{◌≡◌, ℕ, Bool, true, false, ◌||◌, ◌≢◌, List, [], ◌∷◌, map, IsSome, ◌==◌, unwrap_or, sym, refl, ap, ◌∙◌, subst, inl, inr, arith, or-true, eqb_tells, AllByRecursion, Blocks, IsAddress, body_of, contains}
+use Rattle.vc_base.proofs.Common.{◌≡◌, ℕ, true, ◌≢◌, List, [], ◌∷◌, map, IsSome, unwrap_or, sym, ap, ◌∙◌, subst, inl, inr, arith, eqb_tells, AllByRecursion, Blocks, IsAddress, body_of, contains}
 use Rattle.vc_base.proofs.Members.{within-tail}
 use Rattle.vc_dtdisc.specs.Finds.{object_at}
 use Rattle.vc_dtdisc.specs.Rules.{IsObject, Rules}

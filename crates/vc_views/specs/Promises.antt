@@ -3,14 +3,11 @@ use Rattle.std.specs.Prelude.{◌≡◌, ℕ, ◌<◌, List, Option, Result, IfE
 use Rattle.vc_base.specs.Address.{number_of}
 use Rattle.vc_base.specs.Cells.{Blocks}
 use Rattle.vc_base.specs.declared.addr.Addr.{Addr}
-use Rattle.vc_dict.specs.Listed.{holders_of}
-use Rattle.vc_dict.specs.declared.dict.Dict.{Dict}
-use Rattle.vc_dtdisc.specs.Finds.{find_key}
 use Rattle.vc_dtdisc.specs.Rules.{Rules}
 use Rattle.vc_commands.specs.Looking.{is_look}
 use Rattle.vc_commands.specs.declared.dict.entry.DictEntry.{DictEntry}
 use Rattle.vc_commands.specs.declared.region.home.HomeEntry.{HomeEntry}
-use Rattle.vc_paths.specs.Layers.{Layer, Layered, place_with}
+use Rattle.vc_paths.specs.Layers.{Layered}
 use Rattle.vc_paths.specs.Links.{Links}
 use Rattle.vc_paths.specs.Path.{IsPath}
 use Rattle.vc_script.specs.declared.command.Command.{Command}

@@ -1,10 +1,9 @@
 -- Four dictionaries of a session as layers, and what calls leave of them.
-use Rattle.vc_base.proofs.Common.{◌≡◌, ℕ, ◌+◌, ◌<◌, List, [], IsSome, slice_get, Some, None, Option, option_map, sym, refl, ap, ◌∙◌, subst, inl, inr, arith, eqb_tells, none-some, same_Some, values_of, number_of}
+use Rattle.vc_base.proofs.Common.{◌≡◌, ℕ, ◌+◌, List, [], IsSome, slice_get, Some, None, Option, option_map, sym, refl, ap, ◌∙◌, subst, inl, inr, arith, eqb_tells, none-some, same_Some, values_of, number_of}
 use Rattle.vc_base.specs.declared.addr.Addr.{Addr}
 use Rattle.vc_dtdisc.specs.Finding.{first_of}
-use Rattle.vc_dtdisc.specs.Objects.{Object}
 use Rattle.vc_dtdisc.specs.Rules.{Rules}
-use Rattle.vc_paths.specs.Layers.{AreLayers, Layer, Layered, Same, bytes_there, place_behind, place_in}
+use Rattle.vc_paths.specs.Layers.{AreLayers, Layered, Same, bytes_there, place_behind, place_in}
 use Rattle.vc_paths.specs.Links.{Links}
 use Rattle.vc_paths.specs.Path.{IsPath}
 use Rattle.vc_paths.specs.Shown.{IsPlaceIn}

@@ -1,7 +1,6 @@
-use Rattle.vc_base.proofs.Common.{◌≡◌, ℕ, suc, ◌+◌, ◌<◌, ◌≤◌, length, None, ap, ◌∙◌, ⊎_elim, arith, cases_lt}
-use Rattle.std.proofs.lemmas.Option.{slice_get_past}
+use Rattle.vc_base.proofs.Common.{◌≡◌, ℕ, suc, ◌+◌, ◌<◌, length, None, ap, ◌∙◌, ⊎_elim, arith, cases_lt}
 use Rattle.vc_paths.proofs.NewLinkLemmas.{below-past}
-use Rattle.vc_paths.specs.Links.{Links, below, link_at, links_with}
+use Rattle.vc_paths.specs.Links.{Links, below, links_with}
 use Rattle.vc_views.proofs.LinkChanges.{ended-more}
 use Rattle.vc_views.proofs.numbers.end_views.Goals as goal
 

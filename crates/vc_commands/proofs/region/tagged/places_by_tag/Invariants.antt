@@ -3,7 +3,7 @@ use Rattle.vc_best.specs.Parts.{blocks_in}
 use Rattle.vc_region.specs.Cells.{rest_in}
 use Rattle.vc_region.specs.Region.{blocks_of}
 use Rattle.vc_region.specs.declared.region.Region.TheVariants.{Best as OfBest}
-use Rattle.vc_commands.proofs.Listing.{blocks_above}
+use Rattle.vc_audit.proofs.DebugChecks.{above as blocks_above}
 use Rattle.vc_commands.proofs.OwnTags.{Walked}
 use Rattle.vc_commands.proofs.region.tagged.places_by_tag.Given as goal
 

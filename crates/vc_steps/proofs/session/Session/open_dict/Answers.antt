@@ -21,7 +21,7 @@ use Rattle.vc_commands.proofs.Agreeing.{from_ok}
 use Rattle.vc_steps.proofs.Cells.{at_number-from_one}
 use Rattle.vc_steps.proofs.DictByName.{any-dict}
 use Rattle.vc_steps.proofs.DictOpens.{OpensIn, open-none, open-refused}
-use Rattle.vc_steps.proofs.DictRefusals.{best-relabelled}
+use Rattle.vc_steps.proofs.BestStays.{relabelled-best}
 use Rattle.vc_steps.proofs.DictRegion.{best_at}
 use Rattle.vc_steps.proofs.DictWhy.{IsAllowed, few-within, kind-within, lacks-early, refused-early, refused-none, settles-early}
 use Rattle.vc_steps.proofs.SessionEnd.{if_some-at}
@@ -134,7 +134,7 @@ unreachable-requires g c =
     let at = goal.at.unreachable-requires g c in
     let x = place g at.After-index_mut in
     let best = (may g at.After-dict_refused x c.in_default-dict_refused.is).best in
-    no-other c.index_mut.result.now.region (sym (best-relabelled (name_of_tag x.l) (rest_in c.index_mut.result.now.region)) ∙ best) c.in_default-region.not-Best
+    no-other c.index_mut.result.now.region (sym (relabelled-best (name_of_tag x.l) (rest_in c.index_mut.result.now.region)) ∙ best) c.in_default-region.not-Best
 
 pub overflow_sub-kind : goal.overflow_sub-kind
 overflow_sub-kind g c = (range g (goal.at.overflow_sub-kind g c).After-dict_refused c.in_default-dict_refused.is).0

@@ -4,7 +4,8 @@ use Rattle.vc_region.specs.Parts.{region_of}
 use Rattle.vc_region.specs.Region.{blocks_of}
 use Rattle.vc_script.specs.declared.reply.Reply.TheVariants.{BlockList}
 use Rattle.vc_commands.specs.Home.{reply_alone}
-use Rattle.vc_commands.proofs.Listing.{blocks-all, blocks_above, fewer-above, items_of, list-items, next-told, next_in, none-above, places_in}
+use Rattle.vc_audit.proofs.DebugChecks.{above as blocks_above}
+use Rattle.vc_commands.proofs.Listing.{blocks-all, fewer-above, items_of, list-items, next-told, next_in, none-above, places_in}
 use Rattle.vc_commands.specs.Held.{home_of}
 use Rattle.vc_commands.specs.RegionRun.{held_of}
 use Rattle.vc_region.proofs.RestFound.{rest-label, rest-size}

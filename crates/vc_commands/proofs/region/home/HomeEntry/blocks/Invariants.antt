@@ -2,7 +2,8 @@ use Rattle.vc_base.proofs.Common.{◌≡◌, ◌⊎◌, ◌++◌, length, HasBlo
 use Rattle.vc_region.specs.Cells.{rest_in}
 use Rattle.vc_region.specs.Parts.{blocks_in}
 use Rattle.vc_region.specs.Region.{blocks_of}
-use Rattle.vc_commands.proofs.Listing.{blocks_above, items_of}
+use Rattle.vc_audit.proofs.DebugChecks.{above as blocks_above}
+use Rattle.vc_commands.proofs.Listing.{items_of}
 use Rattle.vc_commands.proofs.region.home.HomeEntry.blocks.Given as goal
 
 -- the blocks so far, and those behind the last of them
