@@ -11,8 +11,8 @@ use Rattle.vc_extent.specs.Tiles.{IsTiled}
 use Rattle.vc_extent.specs.Tiling.{IsThere}
 use Rattle.vc_image_check.specs.Bytes.Contents.{body_in, contents_of_image, image_segment_count, pairs_in, segment_pair_at}
 use Rattle.vc_image_check.specs.Bytes.Header.{IsHeader}
-use Rattle.vc_image_check.proofs.Pairs.{items-get}
-use Rattle.vc_image_check.proofs.Segs.{legal, long, new-number, next-place, segment, segment-is, segs-are, segs-count, segs-each, segs-more, segs_in, size-is, there, within}
+use Rattle.vc_image_check.specs.Laws.Pairs.{items-get}
+use Rattle.vc_image_check.specs.Laws.Segs.{legal, long, new-number, next-place, segment, segment-is, segs-are, segs-count, segs-each, segs-more, segs_in, size-is, there, within}
 use Rattle.vc_image.specs.Lends.Lends.{AreLent, IsRefused}
 use Rattle.vc_image.specs.Lends.Terms.{first_uneven, is_uneven}
 use Rattle.vc_image_check.proofs.Each.{many}

@@ -18,7 +18,7 @@ unfoldable use Rattle.vc_image_check.specs.Bytes.Contents.{contents_of_image}
 use Rattle.vc_image_check.specs.Segments.Sound.{AreSoundSegments, IsSoundSegment}
 use Rattle.vc_image_check.specs.Parts.Front.{IsSoundFront}
 use Rattle.vc_image.specs.Lends.Regions.{busy_count}
-use Rattle.vc_image_check.proofs.Lying.{root-is}
+use Rattle.vc_image_check.specs.Laws.Lying.{root-is}
 
 all-merged : (segs : List Bytes) → AreSoundSegments segs → IsMerged (tiling segs)
 all-merged segs h =

@@ -4,8 +4,8 @@ use Rattle.vc_seg.specs.Field.{field_at}
 use Rattle.vc_seg.specs.Segment.{pair_of}
 use Rattle.vc_image_check.specs.Bytes.Contents.{contents_of_image, image_segment_count, pairs_in, segment_pair_at}
 use Rattle.vc_image_check.specs.Bytes.Header.{IsHeader}
-use Rattle.vc_image_check.proofs.Pairs.{items-get}
-use Rattle.vc_image_check.proofs.Segs.{pairs-are, segs-are, size-is}
+use Rattle.vc_image_check.specs.Laws.Pairs.{items-get}
+use Rattle.vc_image_check.specs.Laws.Segs.{pairs-are, segs-are, size-is}
 use Rattle.vc_image.specs.Lends.Terms.{first_uneven, is_uneven}
 use Rattle.vc_image_check.proofs.Each.{many}
 

@@ -10,9 +10,9 @@ use Rattle.vc_seg.specs.Segment.{Bytes}
 use Rattle.vc_image_check.specs.Bytes.Contents.{body_in, contents_of_image, image_segment_count, pairs_in, segment_pair_at, segs_from}
 use Rattle.vc_image_check.specs.Bytes.Header.{IsHeader}
 use Rattle.vc_image_check.specs.Bytes.Image.{pair_bytes}
-use Rattle.vc_image_check.proofs.Pairs.{items-get}
-use Rattle.vc_image_check.proofs.Reading.{segs-length}
-use Rattle.vc_image_check.proofs.Words.{length-items}
+use Rattle.vc_image_check.specs.Laws.Pairs.{items-get}
+use Rattle.vc_image_check.specs.Laws.Reading.{segs-length}
+use Rattle.vc_image_check.specs.Laws.Words.{length-items}
 use Rattle.vc_image_check.specs.Segments.Sound.{AreSoundSegments, IsFirstUnsoundSegment, IsSoundSegment}
 
 abbrev Sound : Bytes → Type 0

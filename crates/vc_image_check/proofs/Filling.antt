@@ -8,7 +8,7 @@ use Rattle.vc_extent.specs.Extent.{extents}
 use Rattle.vc_extent.specs.Tiling.{IsThere, extents_of, tiling}
 use Rattle.vc_image_check.specs.Bytes.Contents.{body_in, contents_of_image, image_segment_count, pairs_in, segment_pair_at}
 use Rattle.vc_image_check.specs.Bytes.Header.{IsHeader}
-use Rattle.vc_image_check.proofs.Segs.{legal, long, new-number, next-place, segment_by, segs-are, segs-more, segs_in}
+use Rattle.vc_image_check.specs.Laws.Segs.{legal, long, new-number, next-place, segment_by, segs-are, segs-more, segs_in}
 use Rattle.vc_image_check.specs.Marks.Mark.{AreMarks, HasMark, HasMarkIn, IsMarked, lists, mark_at, mark_of}
 
 -- one more segment under another number, or under that number, which none before it has

@@ -1,15 +1,10 @@
-pub mod Words
-pub mod Reading
 pub mod Writing
-pub mod Pairs
-pub mod Segs
 mod Apart
 pub mod Pending
 pub mod Marking
 pub mod Filling
 pub mod SegmentWalks
 pub mod Each
-pub mod Lying
 pub mod Sorted
 pub mod Linking
 pub mod Knotting

@@ -8,7 +8,7 @@ use Rattle.vc_dtdisc.specs.Rules.{Rules}
 use Rattle.vc_image_check.specs.Bytes.Image.{DictRow}
 use Rattle.vc_image_check.specs.Marks.Mark.{mark_at}
 use Rattle.vc_image_check.specs.Blocks.Blocks.{HasBlockMarks, image_blocks}
-use Rattle.vc_image_check.specs.Blocks.BlockLaws.{marked-none}
+use Rattle.vc_image_check.specs.Laws.BlockLaws.{marked-none}
 use Rattle.vc_image_check.specs.Dicts.Sound.{IsSoundDict, IsSoundRow, heads_of, own_in, own_of}
 use Rattle.vc_image_check.specs.Dicts.Taken.{AreMarkedTaken}
 use Rattle.vc_image_check.proofs.Owning.{AreThere, own-there}

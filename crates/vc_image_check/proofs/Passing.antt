@@ -8,8 +8,8 @@ use Rattle.vc_base.specs.Cells.{Blocks}
 use Rattle.vc_dtdisc.specs.Rules.{Rules}
 use Rattle.vc_image_check.specs.Bytes.Contents.{dict_row_at, image_dict_count, image_segment_count, rows_of_image}
 use Rattle.vc_image_check.specs.Bytes.Image.{DictRow, row_bytes}
-use Rattle.vc_image_check.proofs.Pairs.{items-get}
-use Rattle.vc_image_check.proofs.Words.{length-items}
+use Rattle.vc_image_check.specs.Laws.Pairs.{items-get}
+use Rattle.vc_image_check.specs.Laws.Words.{length-items}
 use Rattle.vc_image_check.specs.Dicts.Sound.{IsSoundDict, own_of}
 use Rattle.vc_image_check.specs.Dicts.Taken.{AreMarkedTaken, AreSoundBefore, IsFirstUnsoundDict, taken_by}
 

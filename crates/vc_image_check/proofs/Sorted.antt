@@ -12,7 +12,7 @@ use Rattle.vc_gaps.specs.GapTree.{AscendFrom, HasGapTree, HasGaps}
 use Rattle.vc_gaps.proofs.GapTrees.{tree-free}
 use Rattle.vc_image_check.specs.Walks.Spelled.{IsSpelled}
 use Rattle.vc_image_check.specs.Marks.Mark.{HasMark, mark_at, mark_of}
-use Rattle.vc_image_check.proofs.Lying.{mark-free}
+use Rattle.vc_image_check.specs.Laws.Lying.{mark-free}
 
 -- the whole ascends exactly where what is left does
 pub record Ascending (key : ℕ → ℕ) (xs : List ℕ) (i low : ℕ) : Type 0 where

@@ -11,7 +11,7 @@ use Rattle.vc_seg.proofs.Backs.{AreNumbered-segments}
 use Rattle.vc_image_check.specs.Bytes.Contents.{body_in, contents_of_image, dict_row_at, image_dict_count, image_segment_count, items_at, pairs_in, rows_of_image, segment_pair_at, segs_from}
 use Rattle.vc_image_check.specs.Bytes.Header.{AreContents, FitsRow, IsHeader}
 use Rattle.vc_image_check.specs.Bytes.Image.{DictRow, ImageContents, counts, image_of, magic, number_bytes, pair_bytes, row_bytes}
-use Rattle.vc_image_check.proofs.Words.{field-again, items-again, length-numbers}
+use Rattle.vc_image_check.specs.Laws.Words.{field-again, items-again, length-numbers}
 
 -- a pair's two numbers fit
 record FitsPair (p : ℕ × ℕ) : Type 0 where

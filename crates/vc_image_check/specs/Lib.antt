@@ -8,3 +8,4 @@ pub mod Lists
 pub mod Orders
 pub mod Blocks
 pub mod Dicts
+pub mod Laws

@@ -14,7 +14,7 @@ use Rattle.vc_gaps.specs.GapLaws.{is_free-named}
 use Rattle.vc_gaps.specs.GapStore.{is_free}
 use Rattle.vc_image_check.specs.Bytes.Contents.{contents_of_image}
 use Rattle.vc_image_check.specs.Bytes.Header.{IsHeader}
-use Rattle.vc_image_check.proofs.Segs.{are-segments, segs-are}
+use Rattle.vc_image_check.specs.Laws.Segs.{are-segments, segs-are}
 use Rattle.vc_image_check.specs.Marks.Mark.{IsMarked}
 
 -- an image has a head, extents tile its segments, and these are their marks and places

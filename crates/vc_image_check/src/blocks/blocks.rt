@@ -70,7 +70,7 @@ fn number(bytes: &[u8], at: usize) -> u64
 }
 
 impl<'a> Holders for ImageBlocks<'a> {
-    ghost use Rattle.vc_image_check.specs.Blocks.BlockLaws.{bytes-small};
+    ghost use Rattle.vc_image_check.specs.Laws.BlockLaws.{bytes-small};
     ghost use Rattle.vc_image_check.specs.Blocks.Blocks.{image_blocks};
     ghost use Rattle.vc_image_check.specs.Marks.Mark.{lists};
 

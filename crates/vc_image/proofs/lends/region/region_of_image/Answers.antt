@@ -3,7 +3,7 @@ use Rattle.vc_seg.specs.Segment.{Bytes}
 use Rattle.vc_best.specs.Counts.{all_extents}
 use Rattle.vc_extent.specs.Tiling.{tiling}
 use Rattle.vc_image.specs.Lends.Regions.{busy_count}
-use Rattle.vc_image_check.proofs.Lying.{root-is}
+use Rattle.vc_image_check.specs.Laws.Lying.{root-is}
 use Rattle.vc_image.proofs.Regions.{blocks-busy, whole-front}
 use Rattle.vc_image.proofs.lends.region.region_of_image.Goals as goal
 

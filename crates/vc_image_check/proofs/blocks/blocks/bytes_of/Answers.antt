@@ -1,7 +1,7 @@
 use Rattle.vc_base.proofs.Common.{◌≡◌, ◌+◌, ◌-◌, take, drop, sym, ap, ◌∙◌, arith, length-take}
 use Rattle.vc_seg.specs.Field.{field_at}
 use Rattle.vc_image_check.specs.Marks.Mark.{lists}
-use Rattle.vc_image_check.specs.Blocks.BlockLaws.{marked-none}
+use Rattle.vc_image_check.specs.Laws.BlockLaws.{marked-none}
 use Rattle.vc_image_check.proofs.blocks.blocks.bytes_of.Goals as goal
 
 pub returns-then-get-lt3-clause-bytes : goal.returns-then-get-lt3-clause-bytes

@@ -2,7 +2,7 @@ use Rattle.vc_base.proofs.Common.{◌≡◌, ℕ, List, ◌+◌, ◌-◌, ◌*�
 use Rattle.vc_seg.specs.Field.{field_at}
 use Rattle.vc_image_check.specs.Marks.Mark.{lists}
 use Rattle.vc_image_check.specs.Gaps.Known.{start_of}
-use Rattle.vc_image_check.specs.Blocks.BlockLaws.{marked-there}
+use Rattle.vc_image_check.specs.Laws.BlockLaws.{marked-there}
 use Rattle.vc_image_check.proofs.blocks.blocks.start.Goals as goal
 
 pub index-requires : goal.index-requires

@@ -1,7 +1,7 @@
 use Rattle.vc_base.proofs.Common.{◌≡◌, nat_lt, if◌then◌else◌, sym, ap, ◌∙◌, subst, inl, inr, eqb_tells}
 use Rattle.vc_image_check.specs.Marks.Mark.{lists, mark_at}
 use Rattle.vc_image_check.specs.Blocks.Blocks.{HasBlockMarks}
-use Rattle.vc_image_check.specs.Blocks.BlockLaws.{other-marks}
+use Rattle.vc_image_check.specs.Laws.BlockLaws.{other-marks}
 use Rattle.vc_image_check.proofs.blocks.taking.take_block.Goals as goal
 
 pub returns-clause-blocks : goal.returns-clause-blocks

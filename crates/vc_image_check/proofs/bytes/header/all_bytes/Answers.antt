@@ -2,8 +2,8 @@ use Rattle.vc_base.proofs.Common.{◌≡◌, ℕ, ◌+◌, ◌*◌, ◌<◌, Lis
 use Rattle.vc_seg.specs.Field.{field_at}
 use Rattle.vc_image_check.specs.Bytes.Contents.{items_at, segment_pair_at}
 use Rattle.vc_image_check.specs.Bytes.Image.{pair_bytes}
-use Rattle.vc_image_check.proofs.Pairs.{all-passed, items-get, not-legal, not-new, passed-next, passed-none}
-use Rattle.vc_image_check.proofs.Words.{length-items}
+use Rattle.vc_image_check.specs.Laws.Pairs.{all-passed, items-get, not-legal, not-new, passed-next, passed-none}
+use Rattle.vc_image_check.specs.Laws.Words.{length-items}
 use Rattle.vc_image_check.proofs.bytes.header.all_bytes.Goals as goal
 use Rattle.vc_image_check.proofs.bytes.header.all_bytes.Goals.{After-word-size}
 

@@ -1,5 +1,5 @@
 use Rattle.vc_image_check.specs.Bytes.Contents.{items_at, segment_pair_at}
-use Rattle.vc_image_check.proofs.Pairs.{Passed}
+use Rattle.vc_image_check.specs.Laws.Pairs.{Passed}
 use Rattle.vc_image_check.proofs.bytes.header.all_bytes.Given as goal
 
 abbrev pub invariant-loop-i : goal.invariant-loop-i

@@ -1,7 +1,7 @@
 use Rattle.vc_base.proofs.Common.{true≢false, sym, arith}
 use Rattle.vc_image_check.specs.Bytes.Contents.{image_segment_count, segment_pair_at}
 use Rattle.vc_image_check.specs.Bytes.Image.{pair_bytes}
-use Rattle.vc_image_check.proofs.Words.{length-items}
+use Rattle.vc_image_check.specs.Laws.Words.{length-items}
 use Rattle.vc_image_check.proofs.bytes.header.is_header.Goals as goal
 
 pub returns-then-segments-gt1023 : goal.returns-then-segments-gt1023

@@ -1,4 +1,4 @@
-use Rattle.vc_image_check.proofs.Reading.{written-back}
+use Rattle.vc_image_check.specs.Laws.Reading.{written-back}
 use Rattle.vc_image_check.proofs.bytes.laws.written_of_read.Goals as goal
 
 pub returns : goal.returns

@@ -7,7 +7,7 @@ use Rattle.vc_image_check.specs.Bytes.Contents.{contents_of_image}
 use Rattle.vc_image_check.specs.Walks.Spelled.{IsSpelled}
 use Rattle.vc_image_check.specs.Marks.Mark.{lists}
 use Rattle.vc_image_check.specs.Gaps.Known.{known_fits, known_none}
-use Rattle.vc_image_check.proofs.Lying.{root-is}
+use Rattle.vc_image_check.specs.Laws.Lying.{root-is}
 use Rattle.vc_image_check.proofs.Sorted.{spelled-free, spelled-tree, tree-few, tree-same, tree-spelled}
 use Rattle.vc_image_check.proofs.gaps.tree.names_of.Goals as goal
 

@@ -1,7 +1,7 @@
 use Rattle.vc_base.proofs.Common.{◌≡◌, ℕ, List, ◌+◌, ◌*◌, ◌/◌, ◌%◌, ◌≤◌, length, get_or, get_or_default, ap, ◌∙◌, arith, le_prop, ∥∥₁_elim}
 use Rattle.vc_image_check.specs.Marks.Mark.{lists}
 use Rattle.vc_image_check.specs.Gaps.Known.{start_of}
-use Rattle.vc_image_check.proofs.Lying.{lies}
+use Rattle.vc_image_check.specs.Laws.Lying.{lies}
 use Rattle.vc_image_check.proofs.gaps.free_extents.FreeExtents.start.Goals as goal
 
 pub index-requires : goal.index-requires

@@ -3,7 +3,7 @@ use Rattle.std.specs.Coded.{Coded-set, coded_bool}
 use Rattle.vc_extent.specs.Tiling.{extent_of, tiling}
 use Rattle.vc_gaps.specs.GapStore.{is_free}
 use Rattle.vc_image_check.specs.Bytes.Contents.{contents_of_image}
-use Rattle.vc_image_check.proofs.Lying.{mark-free}
+use Rattle.vc_image_check.specs.Laws.Lying.{mark-free}
 use Rattle.vc_image_check.proofs.gaps.free_extents.FreeExtentsKnown.has.Goals as goal
 
 pub returns : goal.returns

@@ -3,7 +3,7 @@ use Rattle.vc_seg.specs.Field.{field_at}
 use Rattle.vc_extent.specs.Tiling.{extent_of, tiling}
 use Rattle.vc_image_check.specs.Bytes.Contents.{contents_of_image}
 use Rattle.vc_image_check.specs.Marks.Mark.{lists}
-use Rattle.vc_image_check.proofs.Lying.{lies}
+use Rattle.vc_image_check.specs.Laws.Lying.{lies}
 use Rattle.vc_image_check.proofs.gaps.free_extents.FreeExtentsLinks.right.Goals as goal
 
 pub returns : goal.returns

@@ -2,7 +2,7 @@ use Rattle.vc_base.proofs.Common.{◌≡◌, ℕ, ◌+◌, ◌*◌, ◌<◌, len
 use Rattle.vc_extent.specs.Tiles.{IsTiled}
 use Rattle.vc_seg.specs.Segment.{Bytes}
 use Rattle.vc_image_check.specs.Bytes.Contents.{image_segment_count, segment_pair_at}
-use Rattle.vc_image_check.proofs.Segs.{legal, segment, segment-is, segs-count, segs-each, size-is, there, within}
+use Rattle.vc_image_check.specs.Laws.Segs.{legal, segment, segment-is, segs-count, segs-each, size-is, there, within}
 use Rattle.vc_image_check.specs.Marks.Mark.{AreMarks, lists}
 use Rattle.vc_image_check.proofs.Filling.{filled-end, filled-next, filled-start, lists-set, row-items}
 use Rattle.vc_image_check.proofs.marks.marks.Marks.of.Goals as goal

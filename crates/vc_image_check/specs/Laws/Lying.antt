@@ -1,5 +1,6 @@
 -- Where an extent lies in the bytes of an image.
-use Rattle.vc_base.proofs.Common.{◌≡◌, ℕ, ◌+◌, ◌-◌, ◌*◌, ◌/◌, ◌%◌, ◌<◌, ◌≤◌, min, true, nat_lt, ◌==◌, ◌&&◌, List, [], ◌∷◌, All, length, get_or, take, drop, sym, refl, ap, ◌∙◌, subst, arith, inl, inr, true≢false, eq-eqb, ne_eqb, cases_eq, cases_lt, lt-ltb, le-ltb, All-head, All-tail, length-take, length-drop, drop-take, drop-drop, take-take, from_le_bytes, w32}
+use Rattle.std.specs.Prelude.{◌≡◌, ℕ, ◌+◌, ◌-◌, ◌*◌, ◌/◌, ◌%◌, ◌<◌, ◌≤◌, min, true, nat_lt, ◌==◌, ◌&&◌, List, [], ◌∷◌, All, length, get_or, take, drop, refl}
+use Rattle.vc_base.proofs.Common.{sym, ap, ◌∙◌, subst, arith, inl, inr, true≢false, eq-eqb, ne_eqb, cases_eq, cases_lt, lt-ltb, le-ltb, All-head, All-tail, length-take, length-drop, drop-take, drop-drop, take-take, from_le_bytes, w32}
 use Rattle.std.proofs.lemmas.List.Sums.{sum_by-cons}
 use Rattle.vc_seg.specs.Budget.{bytes_of}
 use Rattle.vc_seg.specs.Field.{field_at}
@@ -16,7 +17,7 @@ use Rattle.vc_gaps.specs.GapLaws.{is_free-named, is_free-size}
 use Rattle.vc_gaps.specs.GapStore.{is_free}
 use Rattle.vc_image_check.specs.Bytes.Contents.{contents_of_image, image_segment_count, pairs_in}
 use Rattle.vc_image_check.specs.Bytes.Header.{IsHeader}
-use Rattle.vc_image_check.proofs.Segs.{segs-count, segs-many}
+use Rattle.vc_image_check.specs.Laws.Segs.{segs-count, segs-many}
 use Rattle.vc_image_check.specs.Marks.Mark.{mark_of}
 use Rattle.vc_image_check.specs.Gaps.Known.{IsKnown, known-segments, start_of}
 

@@ -1,5 +1,6 @@
 -- Numbers of four bytes, and items of several of them, read and written.
-use Rattle.vc_base.proofs.Common.{◌≡◌, ℕ, zero, suc, ◌+◌, ◌*◌, ◌<◌, ◌≤◌, ◌^◌, List, [], ◌∷◌, ◌++◌, length, get_or, take, drop, flat_map, sym, refl, ap, ap₂, ◌∙◌, inl, inr, arith, append_assoc, length-append, length-drop, length-take, length-take-le, get_or-drop, get_or-take, drop-drop, take-add, take_at, drop_at, from_le_bytes, w32, cases_lt}
+use Rattle.std.specs.Prelude.{◌≡◌, ℕ, zero, suc, ◌+◌, ◌*◌, ◌<◌, ◌≤◌, ◌^◌, List, [], ◌∷◌, ◌++◌, length, get_or, take, drop, flat_map, refl}
+use Rattle.vc_base.proofs.Common.{sym, ap, ap₂, ◌∙◌, inl, inr, arith, append_assoc, length-append, length-drop, length-take, length-take-le, get_or-drop, get_or-take, drop-drop, take-add, take_at, drop_at, from_le_bytes, w32, cases_lt}
 use Rattle.std.proofs.Common.{mul-suc}
 use Rattle.std.proofs.lemmas.List.{get_or_past}
 use Rattle.std.proofs.lemmas.Nat.{from_le_bytes-to_le_bytes_4, le_bytes_4}

@@ -1,5 +1,6 @@
 -- Bytes with the head of an image are the image of what is read of them.
-use Rattle.vc_base.proofs.Common.{◌≡◌, ℕ, ◌+◌, ◌*◌, ◌≤◌, List, [], ◌∷◌, ◌++◌, length, map, take, drop, flat_map, sym, refl, ap, ap₂, ◌∙◌, arith, length-drop, take-add, take_all, length-take-le}
+use Rattle.std.specs.Prelude.{◌≡◌, ℕ, ◌+◌, ◌*◌, ◌≤◌, List, [], ◌∷◌, ◌++◌, length, map, take, drop, flat_map, refl}
+use Rattle.vc_base.proofs.Common.{sym, ap, ap₂, ◌∙◌, arith, length-drop, take-add, take_all, length-take-le}
 use Rattle.std.proofs.lemmas.List.Sums.{sum_by-cons}
 use Rattle.vc_seg.specs.Budget.{bytes_of}
 use Rattle.vc_seg.specs.Field.{field_at}
@@ -7,7 +8,7 @@ use Rattle.vc_seg.specs.Segment.{Bytes, pair_of}
 use Rattle.vc_image_check.specs.Bytes.Contents.{body_in, contents_of_image, dict_row_at, image_dict_count, image_segment_count, items_at, pairs_in, rows_of_image, segment_pair_at, segs_from}
 use Rattle.vc_image_check.specs.Bytes.Header.{AreBytes, IsHeader}
 use Rattle.vc_image_check.specs.Bytes.Image.{image_of, magic, number_bytes, pair_bytes, row_bytes}
-use Rattle.vc_image_check.proofs.Words.{items-back, length-items, number-back, parts}
+use Rattle.vc_image_check.specs.Laws.Words.{items-back, length-items, number-back, parts}
 
 -- the numbers of a pair and of a dictionary
 pub numbers-back : (b : List ℕ) → AreBytes b → (k at : ℕ) → at + 4 * k ≤ length b → flat_map number_bytes (items_at field_at 4 k at b) ≡ take (4 * k) (drop at b)

@@ -1,5 +1,6 @@
 -- The segments of an image, one by one.
-use Rattle.vc_base.proofs.Common.{◌≡◌, ◌≢◌, ℕ, zero, suc, ◌+◌, ◌*◌, ◌<◌, ◌≤◌, List, [], ◌∷◌, ◌++◌, All, length, map, get_or, take, drop, sym, refl, ap, ap₂, ◌∙◌, subst, arith, length-drop, length-take-le, get_or-map, get_or_default, get_or-take}
+use Rattle.std.specs.Prelude.{◌≡◌, ◌≢◌, ℕ, zero, suc, ◌+◌, ◌*◌, ◌<◌, ◌≤◌, List, [], ◌∷◌, ◌++◌, All, length, map, get_or, take, drop, refl}
+use Rattle.vc_base.proofs.Common.{sym, ap, ap₂, ◌∙◌, subst, arith, length-drop, length-take-le, get_or-map, get_or_default, get_or-take}
 use Rattle.std.proofs.lemmas.Grind.{take_at_read}
 use Rattle.std.proofs.lemmas.List.Sums.{sum_by-append, sum_by-cons, sum_by-take-drop}
 use Rattle.vc_seg.specs.Budget.{bytes_of}
@@ -9,9 +10,9 @@ use Rattle.vc_seg.specs.Segment.{AreSegments, Bytes, pair_of}
 use Rattle.vc_image_check.specs.Bytes.Contents.{body_in, contents_of_image, image_segment_count, pairs_in, segment_pair_at, segs_from}
 use Rattle.vc_image_check.specs.Bytes.Header.{IsHeader}
 use Rattle.vc_image_check.specs.Bytes.Image.{pair_bytes}
-use Rattle.vc_image_check.proofs.Pairs.{items-get}
-use Rattle.vc_image_check.proofs.Reading.{segs-length, segs-pairs}
-use Rattle.vc_image_check.proofs.Words.{length-items}
+use Rattle.vc_image_check.specs.Laws.Pairs.{items-get}
+use Rattle.vc_image_check.specs.Laws.Reading.{segs-length, segs-pairs}
+use Rattle.vc_image_check.specs.Laws.Words.{length-items}
 
 -- the segments of an image
 abbrev pub segs_in : List ℕ → List Bytes

@@ -18,7 +18,7 @@ use Rattle.vc_image_check.specs.Bytes.Contents.{contents_of_image}
 use Rattle.vc_image_check.specs.Bytes.Header.{AreBytes, IsHeader}
 use Rattle.vc_image_check.specs.Marks.Mark.{mark_at, mark_of}
 use Rattle.vc_image_check.specs.Gaps.Known.{IsKnown, known-segments, start_of}
-use Rattle.vc_image_check.proofs.Lying.{LiesIn, field-in, lies-in, part-in}
+use Rattle.vc_image_check.specs.Laws.Lying.{LiesIn, field-in, lies-in, part-in}
 use Rattle.vc_image_check.specs.Blocks.Blocks.{HasBlockMarks, image_blocks, is_cell}
 
 -- what a function tells of so many numbers from one on

@@ -1,5 +1,6 @@
 -- The numbers and sizes of segments, gone over one by one.
-use Rattle.vc_base.proofs.Common.{◌≡◌, ℕ, zero, suc, ◌+◌, ◌*◌, ◌<◌, ◌≤◌, Bool, true, false, ◌||◌, ◌==◌, List, [], ◌∷◌, ◌++◌, All, AllPairs, length, get_or, set, take, ◌≢◌, sym, refl, ap, ◌∙◌, subst, inl, inr, true≢false, arith, eq-eqb, eqb-true, ne_eqb, cases_eq, All-push, all_pairs_push, length-take-le, length-set, get_or-set_same, get_or-set_other, get_or-take, get_or_default, list_any, list_any_at, take_all, replicate, All-nil, length-replicate}
+use Rattle.std.specs.Prelude.{◌≡◌, ℕ, zero, suc, ◌+◌, ◌*◌, ◌<◌, ◌≤◌, Bool, true, false, ◌||◌, ◌==◌, List, [], ◌∷◌, ◌++◌, All, AllPairs, length, get_or, set, take, ◌≢◌, refl, replicate}
+use Rattle.vc_base.proofs.Common.{sym, ap, ◌∙◌, subst, inl, inr, true≢false, arith, eq-eqb, eqb-true, ne_eqb, cases_eq, All-push, all_pairs_push, length-take-le, length-set, get_or-set_same, get_or-set_other, get_or-take, get_or_default, list_any, list_any_at, take_all, All-nil, length-replicate}
 use Rattle.std.proofs.Common.{mul-suc}
 use Rattle.std.proofs.lemmas.List.{get_or-replicate}
 use Rattle.std.proofs.lemmas.List.Folds.{Any-from_list_any, list_any-append}
