@@ -10,7 +10,7 @@ use Rattle.vc_commands.specs.Home as home
 use Rattle.vc_commands.specs.Home.{Home, refusal_alone}
 use Rattle.vc_commands.specs.FreedNames.{with_line}
 use Rattle.vc_commands.specs.Held.{HasName, Held, home_of}
-use Rattle.vc_commands.specs.Blocks.{free_found, free_named, change_by_free, kept_freed}
+use Rattle.vc_commands.specs.Blocks.{free_block_found, free_named, change_by_free, kept_freed}
 use Rattle.vc_commands.specs.Labels.{SameLabels, WithoutLabel, kept_of, label_at, name_of_tag, tag_of}
 use Rattle.vc_seg.specs.Answer.{IsRefusal}
 use Rattle.vc_seg.specs.declared.fault.RegionFault.{RegionFault}
@@ -35,7 +35,7 @@ module _ (h : Held) {x : List ℕ} {addr : Addr} (has : HasName h.region h.label
   free-named : free_named (home_of h) x line ≡ change_by_free (home_of h) x (kept_freed (home_of h) x line) (watch_at h.region (place_of addr.0)) (relabel_freed (name_of_tag h.labels) (region_free h.region (place_of addr.0)))
   free-named =
       let p = place_of addr.0 in
-      on_block-there h x has.tag addr.0 b (free_found k x line)
+      on_block-there h x has.tag addr.0 b (free_block_found k x line)
       ∙ (ap (λ q. change_by_free k x (kept_freed k x line) (watch_at k.region q) (region_free k.region q)) (sym b.place)
       ∙ (ap (λ w. change_by_free k x (kept_freed k x line) w (region_free k.region p)) (watch-relabelled f h.region p)
       ∙ ap (change_by_free k x (kept_freed k x line) (watch_at h.region p)) (free-relabelled f h.region p)))

@@ -14,7 +14,7 @@ use Rattle.vc_script.specs.Needs.{Need}
 use Rattle.vc_commands.specs.FreedNames.{FreedNames, freed_line, without_name}
 use Rattle.vc_commands.specs.Home.{Changed, Home, Label, refusal_alone}
 use Rattle.vc_commands.specs.Audit.{check_in, is_poke, poke_block, poke_byte, poke_in, profile_in, watch_block, watch_in}
-use Rattle.vc_commands.specs.Blocks.{free_found, free_named, change_by_free, has_label, has_label_room, is_align, is_block, is_size, kept_freed, no_block, align_refused, put_unless_refused, put_in, put_new, site_or_hyphen, size_refused, read_found, read_named, resize_found, resize_named, size_named, with_named, write_found, write_named}
+use Rattle.vc_commands.specs.Blocks.{free_block_found, free_named, change_by_free, has_label, has_label_room, is_align, is_block, is_size, kept_freed, no_block, align_refused, put_unless_refused, put_in, put_new, site_or_hyphen, size_refused, read_block_found, read_named, resize_block_found, resize_named, size_of_named, with_named, write_block_found, write_named}
 use Rattle.vc_commands.specs.RegionCommands.{in_region, is_for_block}
 use Rattle.vc_commands.specs.Whole.{addr_in, addr_reply, segment_in, segment_reply}
 
@@ -49,15 +49,15 @@ plain-none (Some line) = tt
 
 pub granted-write : (h : Home) (x : List ℕ) (off : ℕ) (bytes : List ℕ) → IsGranted (write_named h x off bytes).reply
 granted-write h x off bytes =
-    holds-block IsGranted h x (find (is_block x) (blocks_of h.region)) (write_found h x off bytes) granted-none
+    holds-block IsGranted h x (find (is_block x) (blocks_of h.region)) (write_block_found h x off bytes) granted-none
     (λ b. holds-if IsGranted (nat_le (off + length bytes) b.size) _ (refusal_alone h why.Range) tt tt)
 
 pub granted-read : (h : Home) (x : List ℕ) (off len : ℕ) → IsGranted (read_named h x off len).reply
 granted-read h x off len =
-    holds-block IsGranted h x (find (is_block x) (blocks_of h.region)) (read_found h x off len) granted-none
+    holds-block IsGranted h x (find (is_block x) (blocks_of h.region)) (read_block_found h x off len) granted-none
     (λ b. holds-if IsGranted ((nat_le 1 len && nat_le len 4096) && nat_le (off + len) b.size) _ (refusal_alone h why.Range) tt tt)
 
-pub granted-size : (h : Home) (x : List ℕ) → IsGranted (size_named h x).reply
+pub granted-size : (h : Home) (x : List ℕ) → IsGranted (size_of_named h x).reply
 granted-size h x = holds-block IsGranted h x (find (is_block x) (blocks_of h.region)) _ granted-none (λ b. tt)
 
 granted-freed : (h : Home) (x : List ℕ) (kept : FreedNames) (watch : Option ℕ) (o : Outcome (Region Label)) → (o ≡ Refused model.NoSegment → ⊥) → IsGranted (change_by_free h x kept watch o).reply
@@ -71,7 +71,7 @@ granted-freed h x kept watch (Refused model.WrongMethod) none = tt
 
 pub granted-free : (h : Home) (x : List ℕ) (line : ℕ) → IsGranted (free_named h x line).reply
 granted-free h x line =
-    holds-block IsGranted h x (find (is_block x) (blocks_of h.region)) (free_found h x line) granted-none
+    holds-block IsGranted h x (find (is_block x) (blocks_of h.region)) (free_block_found h x line) granted-none
     (λ b. granted-freed h x (kept_freed h x line) (watch_at h.region (b.seg, b.off)) (region_free h.region (b.seg, b.off)) (free-granted h.region (b.seg, b.off)))
 
 granted-addr_reply : (o : Option (Block Label × ℕ)) → IsGranted (addr_reply o)
@@ -135,7 +135,7 @@ plain-new h x words o plain =
 
 plain-resize : (h : Home) (x : List ℕ) (size : ℕ) (may_move refused : Bool) → IsPlain (resize_named h x size may_move refused).reply
 plain-resize h x size may_move refused =
-    holds-block IsPlain h x (find (is_block x) (blocks_of h.region)) (resize_found h x size may_move refused) plain-none
+    holds-block IsPlain h x (find (is_block x) (blocks_of h.region)) (resize_block_found h x size may_move refused) plain-none
     (λ b. holds-if IsPlain (is_size size) _ (refusal_alone h why.Size) (plain-put h x h.kept (watch_at h.region (b.seg, b.off)) (region_resize h.terms h.region (b.seg, b.off) size may_move refused)) tt)
 
 plain-refusal : (w : Refusal) → IsGranted (reply.Refused w) → IsPlain (reply.Refused w)
@@ -155,7 +155,7 @@ plain-region h line (Resize r x size may_move) need = plain-resize h x size may_
 plain-region h line (Free r x) need = plain-granted (free_named h x line).reply (granted-free h x line)
 plain-region h line (WriteBlock r x off bytes) need = plain-granted (write_named h x off bytes).reply (granted-write h x off bytes)
 plain-region h line (ReadBlock r x off len) need = plain-granted (read_named h x off len).reply (granted-read h x off len)
-plain-region h line (SizeOf r x) need = plain-granted (size_named h x).reply (granted-size h x)
+plain-region h line (SizeOf r x) need = plain-granted (size_of_named h x).reply (granted-size h x)
 plain-region h line (AddrOf r at) need = plain-granted (addr_in h at).reply (granted-addr h at)
 plain-region h line (SegmentOf r at) need = plain-granted (segment_in h at).reply (granted-segment h at)
 plain-region h line (Poke r x off byte) need = plain-granted (poke_in h x off byte).reply (granted-poke h x off byte)

@@ -15,7 +15,7 @@ use Rattle.vc_script.specs.declared.refusal.Refusal.TheVariants as why
 use Rattle.vc_script.specs.declared.reply.Reply.{Reply}
 use Rattle.vc_commands.specs.Home.{Changed, Home, refusal_alone}
 use Rattle.vc_commands.specs.Held.{HasName, Held, AreLabelsOf, home_of}
-use Rattle.vc_commands.specs.Blocks.{at_place, is_size, put_in, resize_found, resize_named}
+use Rattle.vc_commands.specs.Blocks.{at_place, is_size, put_in, resize_block_found, resize_named}
 use Rattle.vc_commands.specs.Labels.{AreLabels, MovesLabel, kept_of, name_of_tag}
 use Rattle.vc_commands.specs.FreedNames.{FreedNames}
 use Rattle.vc_commands.specs.RegionRun.{GivesRegion}
@@ -61,13 +61,13 @@ module _ (h : Held) {x : List ℕ} {addr : Addr} (has : HasName h.region h.label
   -- a size that no script can have
   pub resize-size : (u : Bool) → is_size size ≡ false → resize_named (home_of h) x size may_move u ≡ refusal_alone (home_of h) why.Size
   resize-size u sized =
-      on_block-there h x has.tag addr.0 b (resize_found k x size may_move u)
+      on_block-there h x has.tag addr.0 b (resize_block_found k x size may_move u)
       ∙ ap (λ v. cond v (put_in k x k.kept (watch_at k.region (b.block.seg, b.block.off)) (region_resize k.terms k.region (b.block.seg, b.block.off) size may_move u)) (refusal_alone k why.Size)) sized
 
   module _ (sized : is_size size ≡ true) where
     resize-named : (u : Bool) → resize_named (home_of h) x size may_move u ≡ put_in (home_of h) x (kept_of h.labels) (watch_at h.region (place_of addr.0)) (outcome_as (region_with_labels (name_of_tag h.labels)) (call u))
     resize-named u =
-        on_block-there h x has.tag addr.0 b (resize_found k x size may_move u)
+        on_block-there h x has.tag addr.0 b (resize_block_found k x size may_move u)
         ∙ (ap (λ v. cond v (put_in k x k.kept (watch_at k.region (b.block.seg, b.block.off)) (region_resize k.terms k.region (b.block.seg, b.block.off) size may_move u)) (refusal_alone k why.Size)) sized
         ∙ (ap (λ p. put_in k x k.kept (watch_at k.region p) (region_resize k.terms k.region p size may_move u)) (sym b.place)
         ∙ (ap (λ w. put_in k x k.kept w (region_resize k.terms k.region (place_of addr.0) size may_move u)) (watch-relabelled (name_of_tag h.labels) h.region (place_of addr.0))

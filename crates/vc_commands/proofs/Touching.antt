@@ -9,7 +9,7 @@ use Rattle.vc_script.specs.declared.reply.Reply.TheVariants.{Written, Hex, Size}
 use Rattle.vc_commands.specs.Home as home
 use Rattle.vc_commands.specs.Home.{Home, changed_to, reply_alone, refusal_alone}
 use Rattle.vc_commands.specs.Held.{HasName, Held, AreLabelsOf, home_of}
-use Rattle.vc_commands.specs.Blocks.{read_found, read_named, size_named, write_found, write_named}
+use Rattle.vc_commands.specs.Blocks.{read_block_found, read_named, size_of_named, write_block_found, write_named}
 use Rattle.vc_commands.specs.Labels.{MovesLabel, kept_of, name_of_tag}
 use Rattle.vc_commands.specs.RegionRun.{GivesRegion}
 use Rattle.vc_commands.proofs.FoundBlocks.{TheBlock, label_of, on_block-there, the_block}
@@ -61,7 +61,7 @@ module _ (h : Held) {x : List ℕ} {addr : Addr} (has : HasName h.region h.label
   pub range-told : (off len : ℕ) → off + len ≤ b.block.size → IfSome (find_block (place_of addr.0) (blocks_of h.region)) (λ c. off + len ≤ c.size)
   range-told off len within = subst (λ o. IfSome o (λ (c : Block ℕ). off + len ≤ c.size)) (sym b.found) within
 
-  pub gives-size : (size : ℕ) → b.block.size ≡ size → GivesRegion (size_named (home_of h) x) ((home_of h).region, kept_of h.labels) (Size x size)
+  pub gives-size : (size : ℕ) → b.block.size ≡ size → GivesRegion (size_of_named (home_of h) x) ((home_of h).region, kept_of h.labels) (Size x size)
   gives-size size is =
       subst (λ c. GivesRegion c ((home_of h).region, kept_of h.labels) (Size x size)) (sym (on_block-there h x has.tag addr.0 b (λ c. reply_alone (home_of h) (Size x c.size))))
       (record { region_after = refl; kept_after = refl; replied = ap (λ n. Size x n) is })
@@ -69,25 +69,25 @@ module _ (h : Held) {x : List ℕ} {addr : Addr} (has : HasName h.region h.label
   pub gives-read : (off len : ℕ) (bytes : List ℕ) → ((nat_le 1 len && nat_le len 4096) && nat_le (off + len) b.block.size) ≡ true → take len (drop off b.block.bytes) ≡ bytes → GivesRegion (read_named (home_of h) x off len) ((home_of h).region, kept_of h.labels) (Hex x bytes)
   gives-read off len bytes passes is =
       let eq : read_named k x off len ≡ reply_alone k (Hex x (take len (drop off b.block.bytes))) =
-      on_block-there h x has.tag addr.0 b (read_found k x off len)
+      on_block-there h x has.tag addr.0 b (read_block_found k x off len)
       ∙ ap (λ v. cond v (reply_alone k (Hex x (take len (drop off b.block.bytes)))) (refusal_alone k why.Range)) passes in
       subst (λ c. GivesRegion c (k.region, kept_of h.labels) (Hex x bytes)) (sym eq) (record { region_after = refl; kept_after = refl; replied = ap (λ n. Hex x n) is })
 
   pub read-range : (off len : ℕ) → ((nat_le 1 len && nat_le len 4096) && nat_le (off + len) b.block.size) ≡ false → read_named (home_of h) x off len ≡ refusal_alone (home_of h) why.Range
   read-range off len fails =
-      on_block-there h x has.tag addr.0 b (read_found k x off len)
+      on_block-there h x has.tag addr.0 b (read_block_found k x off len)
       ∙ ap (λ v. cond v (reply_alone k (Hex x (take len (drop off b.block.bytes)))) (refusal_alone k why.Range)) fails
 
   module _ (off : ℕ) (bytes : List ℕ) where
     pub write-range : nat_le (off + length bytes) b.block.size ≡ false → write_named (home_of h) x off bytes ≡ refusal_alone (home_of h) why.Range
     write-range fails =
-        on_block-there h x has.tag addr.0 b (write_found k x off bytes)
+        on_block-there h x has.tag addr.0 b (write_block_found k x off bytes)
         ∙ ap (λ v. cond v (changed_to k (region_write k.region (b.block.seg, b.block.off) off bytes) (Written x (length bytes) (watch_at k.region (b.block.seg, b.block.off)))) (refusal_alone k why.Range)) fails
 
     pub gives-written : (region : Region ℕ) → nat_le (off + length bytes) b.block.size ≡ true → region ≡ region_write h.region (place_of addr.0) off bytes → (watch : Option ℕ) → watch ≡ watch_at h.region (place_of addr.0) → GivesRegion (write_named (home_of h) x off bytes) (region_with_labels (name_of_tag h.labels) region, kept_of h.labels) (Written x (length bytes) watch)
     gives-written region passes is watch watched =
         let eq : write_named k x off bytes ≡ changed_to k (region_with_labels f region) (Written x (length bytes) watch) =
-        on_block-there h x has.tag addr.0 b (write_found k x off bytes)
+        on_block-there h x has.tag addr.0 b (write_block_found k x off bytes)
         ∙ (ap (λ v. cond v (changed_to k (region_write k.region (b.block.seg, b.block.off) off bytes) (Written x (length bytes) (watch_at k.region (b.block.seg, b.block.off)))) (refusal_alone k why.Range)) passes
         ∙ (ap (λ p. changed_to k (region_write k.region p off bytes) (Written x (length bytes) (watch_at k.region p))) (sym b.place)
         ∙ (ap (λ w. changed_to k (region_write k.region (place_of addr.0) off bytes) (Written x (length bytes) w)) (watch-relabelled f h.region (place_of addr.0) ∙ sym watched)

@@ -129,16 +129,16 @@ abbrev pub change_by_free : Home → List ℕ → FreedNames → Option ℕ → 
 change_by_free h x kept watch (Done region) = record { region = region; kept = kept; reply = Freed x watch; granted = None }
 change_by_free h x kept watch (Refused fault) = refusal_alone h (script_refusal fault)
 
-abbrev pub free_found : Home → List ℕ → ℕ → Block Label → Changed
-free_found h x line b =
+abbrev pub free_block_found : Home → List ℕ → ℕ → Block Label → Changed
+free_block_found h x line b =
     change_by_free h x (kept_freed h x line) (watch_at h.region (b.seg, b.off)) (region_free h.region (b.seg, b.off))
 
 -- a block is freed at a line
 abbrev pub free_named : Home → List ℕ → ℕ → Changed
-free_named h x line = on_block h x (free_found h x line)
+free_named h x line = on_block h x (free_block_found h x line)
 
-abbrev pub resize_found : Home → List ℕ → ℕ → Bool → Bool → Block Label → Changed
-resize_found h x size may_move not_lent b =
+abbrev pub resize_block_found : Home → List ℕ → ℕ → Bool → Bool → Block Label → Changed
+resize_block_found h x size may_move not_lent b =
     if is_size size
     then put_in h x h.kept (watch_at h.region (b.seg, b.off))
     (region_resize h.terms h.region (b.seg, b.off) size may_move not_lent)
@@ -146,10 +146,10 @@ resize_found h x size may_move not_lent b =
 
 -- a block gets another size, where it is or where it moves to
 abbrev pub resize_named : Home → List ℕ → ℕ → Bool → Bool → Changed
-resize_named h x size may_move not_lent = on_block h x (resize_found h x size may_move not_lent)
+resize_named h x size may_move not_lent = on_block h x (resize_block_found h x size may_move not_lent)
 
-abbrev pub write_found : Home → List ℕ → ℕ → List ℕ → Block Label → Changed
-write_found h x off bytes b =
+abbrev pub write_block_found : Home → List ℕ → ℕ → List ℕ → Block Label → Changed
+write_block_found h x off bytes b =
     if nat_le (off + length bytes) b.size
     then changed_to h (region_write h.region (b.seg, b.off) off bytes)
     (Written x (length bytes) (watch_at h.region (b.seg, b.off)))
@@ -157,17 +157,17 @@ write_found h x off bytes b =
 
 -- bytes are written into a block, from an offset on
 abbrev pub write_named : Home → List ℕ → ℕ → List ℕ → Changed
-write_named h x off bytes = on_block h x (write_found h x off bytes)
+write_named h x off bytes = on_block h x (write_block_found h x off bytes)
 
-abbrev pub read_found : Home → List ℕ → ℕ → ℕ → Block Label → Changed
-read_found h x off len b =
+abbrev pub read_block_found : Home → List ℕ → ℕ → ℕ → Block Label → Changed
+read_block_found h x off len b =
     if (nat_le 1 len && nat_le len 4096) && nat_le (off + len) b.size
     then reply_alone h (Hex x (take len (drop off b.bytes)))
     else refusal_alone h why.Range
 
 -- 1 to 4,096 bytes of a block, from an offset on
 abbrev pub read_named : Home → List ℕ → ℕ → ℕ → Changed
-read_named h x off len = on_block h x (read_found h x off len)
+read_named h x off len = on_block h x (read_block_found h x off len)
 
-abbrev pub size_named : Home → List ℕ → Changed
-size_named h x = on_block h x (λ b. reply_alone h (Size x b.size))
+abbrev pub size_of_named : Home → List ℕ → Changed
+size_of_named h x = on_block h x (λ b. reply_alone h (Size x b.size))

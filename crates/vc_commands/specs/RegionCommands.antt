@@ -5,7 +5,7 @@ use Rattle.vc_script.specs.declared.command.Command.TheVariants.{ClearRegion, Co
 use Rattle.vc_script.specs.declared.refusal.Refusal.TheVariants as why
 use Rattle.vc_script.specs.Needs.{Need, NoNeed, ForBlock, ForTable, ForObject}
 use Rattle.vc_commands.specs.Home.{Changed, Home, refusal_alone}
-use Rattle.vc_commands.specs.Blocks.{align_in, alloc_in, free_named, read_named, resize_named, size_named, write_named}
+use Rattle.vc_commands.specs.Blocks.{align_in, alloc_in, free_named, read_named, resize_named, size_of_named, write_named}
 use Rattle.vc_commands.specs.Audit.{check_in, poke_in, profile_in, watch_in}
 use Rattle.vc_commands.specs.Whole.{addr_in, clear_in, compact_in, list_blocks, list_segments, segment_in, stat_in}
 
@@ -26,7 +26,7 @@ in_region h line (Resize r x size may_move) need = resize_named h x size may_mov
 in_region h line (Free r x) need = free_named h x line
 in_region h line (WriteBlock r x off bytes) need = write_named h x off bytes
 in_region h line (ReadBlock r x off len) need = read_named h x off len
-in_region h line (SizeOf r x) need = size_named h x
+in_region h line (SizeOf r x) need = size_of_named h x
 in_region h line (AddrOf r at) need = addr_in h at
 in_region h line (SegmentOf r at) need = segment_in h at
 in_region h line (StatOf r) need = stat_in h

@@ -9,7 +9,7 @@ use Rattle.vc_script.specs.declared.refusal.Refusal.{Refusal}
 use Rattle.vc_script.specs.declared.refusal.Refusal.TheVariants as why
 use Rattle.vc_script.specs.Needs.{Need}
 use Rattle.vc_commands.specs.Audit.{is_poke, poke_block, poke_byte, poke_in, watch_block, watch_in}
-use Rattle.vc_commands.specs.Blocks.{align_refused, free_found, free_named, change_by_free, has_label, has_label_room, is_block, is_size, kept_freed, put_unless_refused, put_in, put_new, read_found, read_named, resize_found, resize_named, site_or_hyphen, size_refused, with_named, write_found, write_named}
+use Rattle.vc_commands.specs.Blocks.{align_refused, free_block_found, free_named, change_by_free, has_label, has_label_room, is_block, is_size, kept_freed, put_unless_refused, put_in, put_new, read_block_found, read_named, resize_block_found, resize_named, site_or_hyphen, size_refused, with_named, write_block_found, write_named}
 use Rattle.vc_commands.specs.Home.{Changed, Home, Label, refusal_alone}
 use Rattle.vc_commands.specs.FreedNames.{FreedNames, without_name}
 use Rattle.vc_commands.specs.RegionCommands.{in_region, is_for_block}
@@ -49,26 +49,26 @@ freed-changes h x kept watch (Refused fault) e = same h
 
 resize-changes : (h : Home) (x : List ℕ) (size : ℕ) (may_move refused : Bool) → Changes h (resize_named h x size may_move refused)
 resize-changes h x size may_move refused =
-    on-named h x (find (is_block x) (blocks_of h.region)) (resize_found h x size may_move refused)
+    on-named h x (find (is_block x) (blocks_of h.region)) (resize_block_found h x size may_move refused)
     (λ b. either (Changes h) (is_size size) _ (refusal_alone h why.Size)
     (put-changes h x h.kept (watch_at h.region (b.seg, b.off)) (region_resize h.terms h.region (b.seg, b.off) size may_move refused) (resize-puts h.terms h.region (b.seg, b.off) size may_move refused))
     (same h))
 
 free-changes : (h : Home) (x : List ℕ) (line : ℕ) → Changes h (free_named h x line)
 free-changes h x line =
-    on-named h x (find (is_block x) (blocks_of h.region)) (free_found h x line)
+    on-named h x (find (is_block x) (blocks_of h.region)) (free_block_found h x line)
     (λ b. freed-changes h x (kept_freed h x line) (watch_at h.region (b.seg, b.off)) (region_free h.region (b.seg, b.off)) (free-leaves h.region (b.seg, b.off)))
 
 write-changes : (h : Home) (x : List ℕ) (off : ℕ) (bytes : List ℕ) → Changes h (write_named h x off bytes)
 write-changes h x off bytes =
-    on-named h x (find (is_block x) (blocks_of h.region)) (write_found h x off bytes)
+    on-named h x (find (is_block x) (blocks_of h.region)) (write_block_found h x off bytes)
     (λ b. either (Changes h) (nat_le (off + length bytes) b.size) _ (refusal_alone h why.Range)
     (lends-same (segments_of h.region) (segments_of (region_write h.region (b.seg, b.off) off bytes)) (written-segments h.region (b.seg, b.off) off bytes))
     (same h))
 
 read-changes : (h : Home) (x : List ℕ) (off len : ℕ) → Changes h (read_named h x off len)
 read-changes h x off len =
-    on-named h x (find (is_block x) (blocks_of h.region)) (read_found h x off len)
+    on-named h x (find (is_block x) (blocks_of h.region)) (read_block_found h x off len)
     (λ b. either (Changes h) ((nat_le 1 len && nat_le len 4096) && nat_le (off + len) b.size) _ (refusal_alone h why.Range) (same h) (same h))
 
 poked-changes : (h : Home) (x : List ℕ) (off : ℤ) (byte : ℕ) (b : Block Label) → Changes h (poke_byte h x off byte b)

@@ -8,7 +8,7 @@ use Rattle.vc_script.specs.declared.refusal.Refusal.{Refusal}
 use Rattle.vc_script.specs.declared.refusal.Refusal.TheVariants as why
 use Rattle.vc_script.specs.Needs.{Need}
 use Rattle.vc_commands.specs.Audit.{is_poke, poke_block, poke_byte, poke_in, watch_block, watch_in}
-use Rattle.vc_commands.specs.Blocks.{align_refused, free_found, free_named, change_by_free, has_label, has_label_room, is_block, is_name_of, is_size, kept_freed, put_unless_refused, put_in, put_new, read_found, resize_found, resize_named, site_or_hyphen, size_refused, with_named, write_found, write_named}
+use Rattle.vc_commands.specs.Blocks.{align_refused, free_block_found, free_named, change_by_free, has_label, has_label_room, is_block, is_name_of, is_size, kept_freed, put_unless_refused, put_in, put_new, read_block_found, resize_block_found, resize_named, site_or_hyphen, size_refused, with_named, write_block_found, write_named}
 use Rattle.vc_commands.specs.Home.{Changed, Home, Label, refusal_alone}
 use Rattle.vc_commands.specs.FreedNames.{FreedNames, without_name}
 use Rattle.vc_commands.specs.RegionCommands.{in_region, is_for_block}
@@ -49,7 +49,7 @@ module _ (mine : Label → Bool) (h : Home) where
 
   write-leaves : (x : List ℕ) (off : ℕ) (bytes : List ℕ) → Leaves mine h (write_named h x off bytes)
   write-leaves x off bytes =
-      on-named x (find (is_block x) (blocks_of h.region)) (write_found h x off bytes)
+      on-named x (find (is_block x) (blocks_of h.region)) (write_block_found h x off bytes)
       (λ b at. either (Leaves mine h) (nat_le (off + length bytes) b.size) _ (refusal_alone h why.Range) (write-left mine (b.seg, b.off) h.region off bytes) refl)
 
   poke-leaves : (x : List ℕ) (off : ℤ) (byte : ℕ) → Leaves mine h (poke_in h x off byte)
@@ -67,7 +67,7 @@ module _ (mine : Label → Bool) (h : Home) where
 module _ (h : Home) (proper : IsProper h) (x : List ℕ) where
   resize-leaves : (size : ℕ) (may_move refused : Bool) → Leaves (is_name_of x) h (resize_named h x size may_move refused)
   resize-leaves size may_move refused =
-      on-named (is_name_of x) h x (find (is_block x) (blocks_of h.region)) (resize_found h x size may_move refused)
+      on-named (is_name_of x) h x (find (is_block x) (blocks_of h.region)) (resize_block_found h x size may_move refused)
       (λ b at.
       either (Leaves (is_name_of x) h) (is_size size) _ (refusal_alone h why.Size)
       (put-leaves (is_name_of x) h x h.kept (watch_at h.region (b.seg, b.off)) (region_resize h.terms h.region (b.seg, b.off) size may_move refused)
@@ -76,7 +76,7 @@ module _ (h : Home) (proper : IsProper h) (x : List ℕ) where
 
   free-leaves : (line : ℕ) → Leaves (is_name_of x) h (free_named h x line)
   free-leaves line =
-      on-named (is_name_of x) h x (find (is_block x) (blocks_of h.region)) (free_found h x line)
+      on-named (is_name_of x) h x (find (is_block x) (blocks_of h.region)) (free_block_found h x line)
       (λ b at.
       freed-leaves (is_name_of x) h x (kept_freed h x line) (watch_at h.region (b.seg, b.off)) (region_free h.region (b.seg, b.off))
       (free-left (is_name_of x) (b.seg, b.off) h.region (found-behind (is_name_of x) (is_block x) h.region b at) (proper.own x b at)))
@@ -116,7 +116,7 @@ command-reaches h proper line (WriteBlock r x off bytes) need proper' =
     no-size h (in_region h line (WriteBlock r x off bytes) need).region (write-leaves no_label h x off bytes)
 command-reaches h proper line (ReadBlock r x off len) need proper' =
     no-size h (in_region h line (ReadBlock r x off len) need).region
-    (on-named no_label h x (find (is_block x) (blocks_of h.region)) (read_found h x off len)
+    (on-named no_label h x (find (is_block x) (blocks_of h.region)) (read_block_found h x off len)
     (λ b at. either (Leaves no_label h) ((nat_le 1 len && nat_le len 4096) && nat_le (off + len) b.size) _ (refusal_alone h why.Range) refl refl))
 command-reaches h proper line (SizeOf r x) need proper' =
     no-size h (in_region h line (SizeOf r x) need).region (on-named no_label h x (find (is_block x) (blocks_of h.region)) _ (λ b at. refl))

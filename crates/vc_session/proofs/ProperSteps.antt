@@ -25,7 +25,7 @@ use Rattle.vc_steps.specs.State.{State, Stepped, step_with_change, close_home, s
 use Rattle.vc_views.specs.Views.{DictHome, dict_named, is_dict, is_linked_in, is_viewed_in, seen_through}
 use Rattle.vc_commands.specs.Looking.{is_look}
 use Rattle.vc_steps.proofs.ViewReplies.{look-any, some-map, view-any}
-use Rattle.vc_commands.specs.Blocks.{change_by_free, free_found, has_label, has_label_room, is_align, is_block, is_size, kept_freed, no_block, align_refused, put_unless_refused, site_or_hyphen, size_refused, put_in, put_new, read_found, resize_found, with_named, write_found}
+use Rattle.vc_commands.specs.Blocks.{change_by_free, free_block_found, has_label, has_label_room, is_align, is_block, is_size, kept_freed, no_block, align_refused, put_unless_refused, site_or_hyphen, size_refused, put_in, put_new, read_block_found, resize_block_found, with_named, write_block_found}
 use Rattle.vc_commands.specs.Whole.{addr_reply, item_of, kept_cleared, segment_reply, with_label, with_labels}
 use Rattle.vc_commands.specs.FreedNames.{FreedNames, by_name, freed_line, with_line, without_name}
 use Rattle.vc_steps.specs.Step.{cleared_or, region_of_command, region_step, shelf_step, step, step_of, step_on}
@@ -163,9 +163,9 @@ proper-aligned : (aligned legal : Bool) → IfSome (let o : Option Refusal = con
 proper-aligned true legal = proper-sized legal
 proper-aligned false legal = tt
 
-proper-free_found : (h : Home) (x : List ℕ) (kept : FreedNames) (watch : Option ℕ) (o : Outcome (Region Label)) → IsName x → IsProperHome h → AreProperNames kept → IsProperFreed o → IsProperChange (change_by_free h x kept watch o)
-proper-free_found h x kept watch (Done r) name all names there = (name, there.0, names, there.1)
-proper-free_found h x kept watch (Refused fault) name all names there = (tt, all.0, all.1, all.2)
+proper-free_block_found : (h : Home) (x : List ℕ) (kept : FreedNames) (watch : Option ℕ) (o : Outcome (Region Label)) → IsName x → IsProperHome h → AreProperNames kept → IsProperFreed o → IsProperChange (change_by_free h x kept watch o)
+proper-free_block_found h x kept watch (Done r) name all names there = (name, there.0, names, there.1)
+proper-free_block_found h x kept watch (Refused fault) name all names there = (tt, all.0, all.1, all.2)
 
 proper-kept_freed : (h : Home) (x : List ℕ) (line : ℕ) → IsName x → AreProperNames h.kept → AreProperNames (kept_freed h x line)
 proper-kept_freed h x line name all = names-cond (keeps_freed h.region) (with_line x line h.kept) h.kept (proper-with x line h.kept name all) all
@@ -178,20 +178,20 @@ proper-with_named : (h : Home) (x : List ℕ) (o : Option (Block Label)) (act : 
 proper-with_named h x None act all each = (proper-none (freed_line x h.kept), all.0, all.1, all.2)
 proper-with_named h x (Some b) act all each = each b
 
-proper-resize_found : (h : Home) (x : List ℕ) (size : ℕ) (may_move not_lent : Bool) (b : Block Label) → IsName x → IsProperHome h → IsProperChange (resize_found h x size may_move not_lent b)
-proper-resize_found h x size may_move not_lent b name all =
+proper-resize_block_found : (h : Home) (x : List ℕ) (size : ℕ) (may_move not_lent : Bool) (b : Block Label) → IsName x → IsProperHome h → IsProperChange (resize_block_found h x size may_move not_lent b)
+proper-resize_block_found h x size may_move not_lent b name all =
     let o = region_resize h.terms h.region (b.seg, b.off) size may_move not_lent in
     let watch = watch_at h.region (b.seg, b.off) in
     change-cond (is_size size) (put_in h x h.kept watch o) (refusal_alone h why.Size)
     (proper-put h x h.kept watch o name all all.1 (proper-resize h.terms h.region (b.seg, b.off) size may_move not_lent all.0 all.2)) (tt, all.0, all.1, all.2)
 
-proper-write_found : (h : Home) (x : List ℕ) (off : ℕ) (bytes : List ℕ) (b : Block Label) → IsName x → IsProperHome h → IsProperChange (write_found h x off bytes b)
-proper-write_found h x off bytes b name all =
+proper-write_block_found : (h : Home) (x : List ℕ) (off : ℕ) (bytes : List ℕ) (b : Block Label) → IsName x → IsProperHome h → IsProperChange (write_block_found h x off bytes b)
+proper-write_block_found h x off bytes b name all =
     change-cond (nat_le (off + length bytes) b.size) (changed_to h (region_write h.region (b.seg, b.off) off bytes) (Written x (length bytes) (watch_at h.region (b.seg, b.off)))) (refusal_alone h why.Range)
     (name, sym (write-relabelled name_or_none h.region (b.seg, b.off) off bytes) ∙ ap (λ q. region_write q (b.seg, b.off) off bytes) all.0, all.1, write-sites h.region (b.seg, b.off) off bytes all.2) (tt, all.0, all.1, all.2)
 
-proper-read_found : (h : Home) (x : List ℕ) (off len : ℕ) (b : Block Label) → IsName x → IsProperHome h → IsProperChange (read_found h x off len b)
-proper-read_found h x off len b name all =
+proper-read_block_found : (h : Home) (x : List ℕ) (off len : ℕ) (b : Block Label) → IsName x → IsProperHome h → IsProperChange (read_block_found h x off len b)
+proper-read_block_found h x off len b name all =
     change-cond ((nat_le 1 len && nat_le len 4096) && nat_le (off + len) b.size) (reply_alone h (Hex x (take len (drop off b.bytes)))) (refusal_alone h why.Range) (name, all.0, all.1, all.2) (tt, all.0, all.1, all.2)
 
 -- the blocks of a proper region are labelled by names
@@ -264,13 +264,13 @@ proper-in_region h line (Alloc r x size site) need proper all =
 proper-in_region h line (Align r x size align) need proper all =
     proper-put_new h x (align_refused h.region size align) (region_align h.terms h.region (Some x) (45 ∷ []) size align (is_for_block need)) proper.1 all (proper-aligned (aligns h.region) (is_size size && is_align align)) (proper-align h.terms h.region x (45 ∷ []) size align (is_for_block need) proper.1 all.0 refl all.2)
 proper-in_region h line (Resize r x size may_move) need proper all =
-    proper-with_named h x (find (is_block x) (blocks_of h.region)) (resize_found h x size may_move (is_for_block need)) all (λ b. proper-resize_found h x size may_move (is_for_block need) b proper.1 all)
+    proper-with_named h x (find (is_block x) (blocks_of h.region)) (resize_block_found h x size may_move (is_for_block need)) all (λ b. proper-resize_block_found h x size may_move (is_for_block need) b proper.1 all)
 proper-in_region h line (Free r x) need proper all =
-    proper-with_named h x (find (is_block x) (blocks_of h.region)) (free_found h x line) all (λ b. proper-free_found h x (kept_freed h x line) (watch_at h.region (b.seg, b.off)) (region_free h.region (b.seg, b.off)) proper.1 all (proper-kept_freed h x line proper.1 all.1) (proper-free h.region (b.seg, b.off) all.0 all.2))
+    proper-with_named h x (find (is_block x) (blocks_of h.region)) (free_block_found h x line) all (λ b. proper-free_block_found h x (kept_freed h x line) (watch_at h.region (b.seg, b.off)) (region_free h.region (b.seg, b.off)) proper.1 all (proper-kept_freed h x line proper.1 all.1) (proper-free h.region (b.seg, b.off) all.0 all.2))
 proper-in_region h line (WriteBlock r x off bytes) need proper all =
-    proper-with_named h x (find (is_block x) (blocks_of h.region)) (write_found h x off bytes) all (λ b. proper-write_found h x off bytes b proper.1 all)
+    proper-with_named h x (find (is_block x) (blocks_of h.region)) (write_block_found h x off bytes) all (λ b. proper-write_block_found h x off bytes b proper.1 all)
 proper-in_region h line (ReadBlock r x off len) need proper all =
-    proper-with_named h x (find (is_block x) (blocks_of h.region)) (read_found h x off len) all (λ b. proper-read_found h x off len b proper.1 all)
+    proper-with_named h x (find (is_block x) (blocks_of h.region)) (read_block_found h x off len) all (λ b. proper-read_block_found h x off len b proper.1 all)
 proper-in_region h line (SizeOf r x) need proper all =
     proper-with_named h x (find (is_block x) (blocks_of h.region)) (λ b. reply_alone h (Size x b.size)) all (λ b. (proper.1, all.0, all.1, all.2))
 proper-in_region h line (AddrOf r at) need proper all = (

@@ -9,7 +9,7 @@ use Rattle.vc_script.specs.declared.command.Command.TheVariants.{ClearRegion, Co
 use Rattle.vc_script.specs.declared.refusal.Refusal.{Refusal}
 use Rattle.vc_script.specs.declared.refusal.Refusal.TheVariants as why
 use Rattle.vc_commands.specs.Audit.{is_poke, poke_block, poke_byte, watch_block}
-use Rattle.vc_commands.specs.Blocks.{align_refused, free_found, change_by_free, has_label, has_label_room, is_block, is_size, kept_freed, put_unless_refused, put_in, put_new, read_found, resize_found, site_or_hyphen, size_refused, with_named, write_found}
+use Rattle.vc_commands.specs.Blocks.{align_refused, free_block_found, change_by_free, has_label, has_label_room, is_block, is_size, kept_freed, put_unless_refused, put_in, put_new, read_block_found, resize_block_found, site_or_hyphen, size_refused, with_named, write_block_found}
 use Rattle.vc_commands.specs.FreedNames.{FreedNames, without_name}
 use Rattle.vc_commands.specs.Home.{Changed, Home, Label, refusal_alone}
 use Rattle.vc_commands.specs.RegionCommands.{in_region, is_for_block}
@@ -150,19 +150,19 @@ module _ (h : Home) where
   region-best line (Align r x size align) need =
       as-new same h x (align_refused h.region size align) (region_align h.terms h.region (Some x) (45 ∷ []) size align (is_for_block need)) refl (align-best h.terms h.region (Some x) (45 ∷ []) size align (is_for_block need))
   region-best line (Resize r x size may_move) need =
-      in-block x (resize_found h x size may_move (is_for_block need))
+      in-block x (resize_block_found h x size may_move (is_for_block need))
       (λ b.
       as-if same (is_size size) _ (refusal_alone h why.Size)
       (as-put same h x h.kept (watch_at h.region (b.seg, b.off)) (region_resize h.terms h.region (b.seg, b.off) size may_move (is_for_block need)) refl (resize-best h.terms h.region (b.seg, b.off) size may_move (is_for_block need)))
       refl)
   region-best line (Free r x) need =
-      in-block x (free_found h x line)
+      in-block x (free_block_found h x line)
       (λ b. as-freed h x (kept_freed h x line) (watch_at h.region (b.seg, b.off)) (region_free h.region (b.seg, b.off)) (free-best h.region (b.seg, b.off)))
   region-best line (WriteBlock r x off bytes) need =
-      in-block x (write_found h x off bytes)
+      in-block x (write_block_found h x off bytes)
       (λ b. as-if same (nat_le (off + length bytes) b.size) _ (refusal_alone h why.Range) (write-best h.region (b.seg, b.off) off bytes) refl)
   region-best line (ReadBlock r x off len) need =
-      in-block x (read_found h x off len)
+      in-block x (read_block_found h x off len)
       (λ b. as-if same ((nat_le 1 len && nat_le len 4096) && nat_le (off + len) b.size) _ (refusal_alone h why.Range) refl refl)
   region-best line (SizeOf r x) need = in-block x _ (λ b. refl)
   region-best line (AddrOf r at) need = refl

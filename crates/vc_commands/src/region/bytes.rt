@@ -4,7 +4,7 @@ ghost use Rattle.vc_region.specs.Cells.{rest_in};
 ghost use Rattle.vc_region.specs.Parts.{disc_in};
 ghost use Rattle.vc_region.specs.Region.{segments_of};
 ghost use Rattle.vc_commands.specs.Held.{AreLabelsOf};
-ghost use Rattle.vc_commands.specs.Blocks.{read_named, size_named, write_named};
+ghost use Rattle.vc_commands.specs.Blocks.{read_named, size_of_named, write_named};
 
 use crate::region::blocks::no_block;
 use crate::region::home::{HomeEntry, find_block};
@@ -76,7 +76,7 @@ impl HomeEntry {
     pub(crate) fn size(&self, labels: &Labels, name: &Name) -> Reply
         requires names { AreLabelsOf (rest_in self.now.region) labels.now }
         ensures { RunsRegion state
-            (λ h. size_named h name.now)
+            (λ h. size_of_named h name.now)
             self.now labels.now (region_with self.now labels.now) result }
     {
         match find_block(&self.region, labels, name) {

@@ -7,7 +7,7 @@ use Rattle.vc_region.specs.Cells.{cells_in, region_cells, rest_in}
 use Rattle.vc_region.specs.Parts.{disc_in, region_of}
 use Rattle.vc_region.proofs.Sound.{own_places}
 use Rattle.vc_commands.specs.Held.{AreLabelsOf, home_of}
-use Rattle.vc_commands.specs.Blocks.{free_found, kept_freed}
+use Rattle.vc_commands.specs.Blocks.{free_block_found, kept_freed}
 use Rattle.vc_commands.specs.RegionRun.{held_of}
 use Rattle.vc_commands.proofs.Answers.{change-same, changed-alike, err-all, if_ok-all}
 use Rattle.vc_commands.proofs.FoundBlocks.{gives-none, label_of, the_block}
@@ -29,7 +29,7 @@ pub returns-in_default : goal.returns-in_default
 returns-in_default g c =
     record {
       runs = runs-granted _ _ _ _ _ _ _ None (λ h need. granted-free h c.args.name.now c.args.line)
-          (λ r. gives-none (held_of (meaning g) r c.args.self.now c.args.labels.now) c.args.name.now (λ k. free_found k c.args.name.now c.args.line) c.no_block.result c.requires.names c.in_default.ensures.none c.no_block.ensures.value)
+          (λ r. gives-none (held_of (meaning g) r c.args.self.now c.args.labels.now) c.args.name.now (λ k. free_block_found k c.args.name.now c.args.line) c.no_block.result c.requires.names c.in_default.ensures.none c.no_block.ensures.value)
           tt (NoneRefused-same _);
       change = λ r. change-same (held_of (meaning g) r c.args.self.now c.args.labels.now) c.args.labels.now c.requires.lent c.requires.names;
     }

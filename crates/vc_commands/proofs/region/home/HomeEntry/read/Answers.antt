@@ -2,7 +2,7 @@ use Rattle.vc_base.proofs.Common.{◌+◌, ◌≤◌, ◌&&◌, nat_le, Some, sy
 use Rattle.vc_region.specs.Parts.{region_of}
 use Rattle.vc_script.specs.declared.refusal.Refusal.TheVariants as why
 use Rattle.vc_commands.specs.Held.{home_of}
-use Rattle.vc_commands.specs.Blocks.{read_found, read_named}
+use Rattle.vc_commands.specs.Blocks.{read_block_found, read_named}
 use Rattle.vc_commands.specs.RegionRun.{held_of}
 use Rattle.vc_commands.proofs.Answers.{gives-unchanged}
 use Rattle.vc_commands.proofs.FoundBlocks.{gives-none}
@@ -18,7 +18,7 @@ meaning g p = (g.dyn-1.0.entry p.0).1.state p.1
 
 pub returns-in-None : goal.returns-in-None
 returns-in-None g c = λ r.
-    gives-none (held_of (meaning g) r c.args.self.now c.args.labels.now) c.args.name.now (λ k. read_found k c.args.name.now c.args.off c.args.len) c.no_block.result c.requires.names c.in-None.ensures.none c.no_block.ensures.value
+    gives-none (held_of (meaning g) r c.args.self.now c.args.labels.now) c.args.name.now (λ k. read_block_found k c.args.name.now c.args.off c.args.len) c.no_block.result c.requires.names c.in-None.ensures.none c.no_block.ensures.value
 
 pub returns-then-len-eq0 : goal.returns-then-len-eq0
 returns-then-len-eq0 g c = λ r.

@@ -7,7 +7,7 @@ use Rattle.vc_script.specs.declared.refusal.Refusal.TheVariants as why
 use Rattle.vc_commands.specs.Answered.{answered}
 use Rattle.vc_commands.proofs.Seen.{seen-out}
 use Rattle.vc_commands.specs.Held.{AreLabelsOf, home_of}
-use Rattle.vc_commands.specs.Blocks.{resize_found, resize_named}
+use Rattle.vc_commands.specs.Blocks.{resize_block_found, resize_named}
 use Rattle.vc_script.specs.Needs.{need_shown}
 use Rattle.vc_script.specs.declared.reply.Reply.TheVariants.{At, Refused}
 use Rattle.vc_commands.specs.RegionCommands.{is_for_block}
@@ -27,7 +27,7 @@ pub returns-in_default : goal.returns-in_default
 returns-in_default g c =
     record {
       runs = record {
-        step = λ r. gives-none (held_of (meaning g) r c.args.self.now c.args.labels.now) c.args.name.now (λ k. resize_found k c.args.name.now c.args.size c.args.may_move (is_for_block (need_shown (Refused c.no_block.result)))) c.no_block.result c.requires.names c.in_default.ensures.none c.no_block.ensures.value;
+        step = λ r. gives-none (held_of (meaning g) r c.args.self.now c.args.labels.now) c.args.name.now (λ k. resize_block_found k c.args.name.now c.args.size c.args.may_move (is_for_block (need_shown (Refused c.no_block.result)))) c.no_block.result c.requires.names c.in_default.ensures.none c.no_block.ensures.value;
         err = tt;
         unserved = λ e. absurd (none-no_segment c.no_block.result c.no_block.ensures.granted e);
         served = λ _. NoneRefused-same _;

@@ -6,7 +6,7 @@ use Rattle.vc_region.specs.Cells.{cells_in, region_cells, rest_in, rest_of}
 use Rattle.vc_region.specs.Parts.{disc_in, region_of}
 use Rattle.vc_script.specs.declared.refusal.Refusal.TheVariants as why
 use Rattle.vc_commands.specs.Held.{Held, home_of}
-use Rattle.vc_commands.specs.Blocks.{write_found, write_named}
+use Rattle.vc_commands.specs.Blocks.{write_block_found, write_named}
 use Rattle.vc_commands.specs.RegionRun.{held_of}
 use Rattle.vc_commands.proofs.Answers.{NotNoSegment, changed-alike, gives-unchanged}
 use Rattle.vc_commands.proofs.FoundBlocks.{gives-none, the_block}
@@ -22,7 +22,7 @@ meaning g p = (g.dyn-1.0.entry p.0).1.state p.1
 
 pub returns-in-None-clause-step : goal.returns-in-None-clause-step
 returns-in-None-clause-step g c = λ r.
-    gives-none (held_of (meaning g) r c.args.self.now c.args.labels.now) c.args.name.now (λ k. write_found k c.args.name.now c.args.off c.args.bytes.now) c.no_block.result c.requires.names c.in-None.ensures.none c.no_block.ensures.value
+    gives-none (held_of (meaning g) r c.args.self.now c.args.labels.now) c.args.name.now (λ k. write_block_found k c.args.name.now c.args.off c.args.bytes.now) c.no_block.result c.requires.names c.in-None.ensures.none c.no_block.ensures.value
 
 pub returns-then-off-bytes-clause-step : goal.returns-then-off-bytes-clause-step
 returns-then-off-bytes-clause-step g c = λ r.
