@@ -54,7 +54,7 @@ module _ (b : Blocks) where
       ∙ address-mapped b (first_of (filter (λ x. test (object_of b x)) xs))
       ∙ sym (find-filter (λ x. test (object_of b x)) xs)
 
-  last-passing : (l : Layer) (test : Object → Bool) (xs : List ℕ) → l.objects ≡ map (object_of b) xs → place_in (last_of (filter test l.objects)) ≡ last_of (filter (λ x. test (object_of b x)) xs)
+  pub last-passing : (l : Layer) (test : Object → Bool) (xs : List ℕ) → l.objects ≡ map (object_of b) xs → place_in (last_of (filter test l.objects)) ≡ last_of (filter (λ x. test (object_of b x)) xs)
   last-passing l test xs objects =
       ap (λ os. place_in (last_of (filter test os))) objects
       ∙ ap (λ os. place_in (last_of os)) (filter-map (object_of b) test xs)

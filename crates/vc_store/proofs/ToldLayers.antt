@@ -13,7 +13,7 @@ use Rattle.vc_best.specs.Cells.{cells_in}
 use Rattle.vc_objects.specs.Parts.{IsWhole, object_of}
 use Rattle.vc_objects.proofs.Owning.{each-object}
 use Rattle.vc_paths.specs.Layers.{Layer, bytes_there, place_before, place_behind, place_in, place_last_like}
-use Rattle.vc_algebra.proofs.AtHolders.{before-place, behind-place, bytes-here, first-place, holder-here, last-place, place-stands}
+use Rattle.vc_algebra.proofs.AtHolders.{before-place, behind-place, bytes-here, first-place, holder-here, last-passing, last-place, place-stands}
 use Rattle.vc_store.specs.Stores.Alike.{HasLayer, layers_of}
 use Rattle.vc_store.specs.Stores.AlikeLaws.{objects-there, whole-there}
 use Rattle.vc_algebra.specs.Sides.{sought_holder, sought_place}
@@ -103,5 +103,4 @@ module _ {D : Type 0} {I : Type 0} {V : I → Type 0} (rules_by : D → Rules) (
             gives xs (stands-by r same)
             ∙ ap (λ z. last_of (filter (matches z b a) xs)) same
             ∙ ap (λ z. last_of (filter (λ x. is_match rules z (object_at b x)) xs)) one
-            ∙ sym (last-passing b (λ o. is_match rules bytes o.bytes) xs)
-            ∙ ap (place_last_like rules bytes) (sym objects)
+            ∙ sym (last-passing b layer (λ o. is_match rules bytes o.bytes) xs objects)
