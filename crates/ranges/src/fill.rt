@@ -1,5 +1,5 @@
 ghost use Rattle.std.specs.Prelude.{◌≡◌, ◌+◌, ◌<◌, ◌≤◌, IfOk, length, map};
-ghost use Rattle.vc_algebra.specs.Filling.{CanFillRegion};
+ghost use Rattle.vc_algebra.specs.Filling.{CanFillIn};
 
 use crate::fault::Fault;
 use vc_algebra::RegionLayers;
@@ -15,10 +15,10 @@ fn put_word<D: DictDisc, L>(
     word: &[u8],
     steps: &mut Steps<L>,
 ) -> Result<(), Fault>
-    requires fill { CanFillRegion state (map D.rules sets.old.kinds.items)
+    requires fill { CanFillIn state (map D.rules sets.old.kinds.items)
         sets.old.region sets.old.dicts }
     requires there { d < length sets.old.dicts }
-    ensures fill { CanFillRegion state (map D.rules sets.new.kinds.items)
+    ensures fill { CanFillIn state (map D.rules sets.new.kinds.items)
         sets.new.region sets.new.dicts }
     ensures count { length sets.new.dicts ≡ length sets.old.dicts }
     ensures kinds { sets.new.kinds ≡ sets.old.kinds }
@@ -46,11 +46,11 @@ fn put_part<D: DictDisc, L>(
 ) -> Result<usize, Fault>
     requires begun { start ≤ i }
     requires within { i < length line.now }
-    requires fill { CanFillRegion state (map D.rules sets.old.kinds.items)
+    requires fill { CanFillIn state (map D.rules sets.old.kinds.items)
         sets.old.region sets.old.dicts }
     requires there { d < length sets.old.dicts }
     ensures begun { IfOk result (λ next. next ≤ i + 1) }
-    ensures fill { CanFillRegion state (map D.rules sets.new.kinds.items)
+    ensures fill { CanFillIn state (map D.rules sets.new.kinds.items)
         sets.new.region sets.new.dicts }
     ensures count { length sets.new.dicts ≡ length sets.old.dicts }
     ensures kinds { sets.new.kinds ≡ sets.old.kinds }
@@ -70,10 +70,10 @@ pub(crate) fn put_words<D: DictDisc, L>(
     line: &[u8],
     steps: &mut Steps<L>,
 ) -> Result<(), Fault>
-    requires fill { CanFillRegion state (map D.rules sets.old.kinds.items)
+    requires fill { CanFillIn state (map D.rules sets.old.kinds.items)
         sets.old.region sets.old.dicts }
     requires there { d < length sets.old.dicts }
-    ensures fill { CanFillRegion state (map D.rules sets.new.kinds.items)
+    ensures fill { CanFillIn state (map D.rules sets.new.kinds.items)
         sets.new.region sets.new.dicts }
     ensures count { length sets.new.dicts ≡ length sets.old.dicts }
     ensures kinds { sets.new.kinds ≡ sets.old.kinds }

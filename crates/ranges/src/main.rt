@@ -12,7 +12,7 @@ mod show;
 ghost use Rattle.std.specs.Prelude.{◌≡◌, ◌≤◌, [], length, map};
 ghost use Rattle.vc_base.specs.Prelude.{HasOut};
 ghost use Rattle.vc_best.specs.Parts.{disc_in, segments_in};
-ghost use Rattle.vc_algebra.specs.Filling.{CanFillRegion};
+ghost use Rattle.vc_algebra.specs.Filling.{CanFillIn};
 
 use fault::Fault;
 use fill::put_words;
@@ -65,7 +65,7 @@ fn shown<D: DictDisc>(
     low: &[u8],
     high: &[u8],
 ) -> Result<Vec<u8>, Fault>
-    requires fill { CanFillRegion state (map D.rules sets.old.kinds.items)
+    requires fill { CanFillIn state (map D.rules sets.old.kinds.items)
         sets.old.region sets.old.dicts }
     requires none { sets.old.dicts ≡ [] }
     requires kind { length sets.old.kinds.items ≡ 1 }

@@ -33,7 +33,7 @@ use Rattle.vc_region.specs.Region as model
 use Rattle.vc_region.specs.declared.region.Region as code
 use Rattle.vc_region.specs.declared.region.Region.TheVariants.{Best}
 use Rattle.vc_seg.specs.Boxed.{disc_in_box}
-use Rattle.vc_algebra.specs.Filling.{CanFillRegion, FillsDict, IsPutOrMatched, IsReadyToFill, is_like}
+use Rattle.vc_algebra.specs.Filling.{CanFillIn, FillsDict, IsPutOrMatched, IsReadyToFill, is_like}
 use Rattle.vc_objects.specs.Puts.Puts.{is_matched}
 use Rattle.vc_objects.proofs.PutLemmas.{matched-told}
 use Rattle.vc_algebra.specs.InRegion.{AreDictsIn, HasDictInRegion, HeldDict, IsDictIn, KeepsDictsIn, ShareNoBlock, held, layered_in, layers_of_region}
@@ -107,7 +107,7 @@ module _ {I : Type 0} {V : I → Type 0} (meaning : (x : I) × V x → Disciplin
 
 -- one of a best region's dictionaries
 module _ {I : Type 0} {V : I → Type 0} (meaning : (x : I) × V x → Discipline) (kinds : List Rules) (b : best.Best I V) (ds : List Dict) (i : ℕ) (d : Dict) (rules : Rules)
-    (at : slice_get ds i ≡ Some d) (can : CanFillRegion meaning kinds (Best b) ds) (kind : at_number kinds d.kind ≡ Some rules) where
+    (at : slice_get ds i ≡ Some d) (can : CanFillIn meaning kinds (Best b) ds) (kind : at_number kinds d.kind ≡ Some rules) where
   abbrev cells : Blocks
   cells = best_cells.cells_in b
 
@@ -136,7 +136,7 @@ module _ {I : Type 0} {V : I → Type 0} (meaning : (x : I) × V x → Disciplin
       fresh = leaves.rest.fresh;
     })
 
-    pub can-filled : CanFillRegion meaning kinds (Best c) (set ds i d')
+    pub can-filled : CanFillIn meaning kinds (Best c) (set ds i d')
     can-filled = record {
       best = refl;
       dicts = all.dicts;
@@ -189,7 +189,7 @@ module _ (kinds : List Rules) (b : Blocks) (d : Dict) (stands : (rules : Rules) 
 -- so in a region
 pub can-opened : {I : Type 0} {V : I → Type 0} (meaning : (x : I) × V x → Discipline) (kinds : List Rules) (r : code.Region I V) (ds : List Dict) (d : Dict) (method : DictMethod)
     → ((rules : Rules) → Stands rules d (cells_in r) []) → d.current.0 ≡ 0 → (table_in d).0 ≡ 0 → d.method ≡ method → has_table method ≡ false → IsSome (at_number kinds d.kind)
-    → CanFillRegion meaning kinds r ds → CanFillRegion meaning kinds r (ds ++ d ∷ [])
+    → CanFillIn meaning kinds r ds → CanFillIn meaning kinds r (ds ++ d ∷ [])
 can-opened meaning kinds r ds d method stands current table same none some can =
     let rules = some-rules (at_number kinds d.kind) some in
     let b = cells_in r in
@@ -228,7 +228,7 @@ segments-rest (model.OfLast layout) = refl
 segments-rest (model.OfDebug debug) = refl
 segments-rest (model.OfProfile profile) = refl
 
-pub can-kept : {I : Type 0} {V : I → Type 0} (meaning : (x : I) × V x → Discipline) (kinds : List Rules) {r r' : code.Region I V} {ds ds' : List Dict} → KeepsDictsIn r r' ds ds' → AreDictsIn kinds (cells_in r') ds' → CanFillRegion meaning kinds r ds → CanFillRegion meaning kinds r' ds'
+pub can-kept : {I : Type 0} {V : I → Type 0} (meaning : (x : I) × V x → Discipline) (kinds : List Rules) {r r' : code.Region I V} {ds ds' : List Dict} → KeepsDictsIn r r' ds ds' → AreDictsIn kinds (cells_in r') ds' → CanFillIn meaning kinds r ds → CanFillIn meaning kinds r' ds'
 can-kept meaning kinds {r} {r'} {ds} {ds'} keeps dicts can = record {
   best = ap is_best keeps.region.region ∙ can.best;
   dicts = dicts;
@@ -238,9 +238,9 @@ can-kept meaning kinds {r} {r'} {ds} {ds'} keeps dicts can = record {
 }
 
 -- so behind calls on layers
-pub can-after : {I : Type 0} {V : I → Type 0} (meaning : (x : I) × V x → Discipline) {kinds kinds' : List Rules} {r r' : code.Region I V} {ds ds' : List Dict} (d : ℕ) → Same (layered_in kinds r ds) (layered_in kinds' r' ds') → KeepsDictsIn r r' ds ds' → kinds' ≡ kinds → HasDictInRegion kinds r ds d → CanFillRegion meaning kinds r ds → CanFillRegion meaning kinds' r' ds'
+pub can-after : {I : Type 0} {V : I → Type 0} (meaning : (x : I) × V x → Discipline) {kinds kinds' : List Rules} {r r' : code.Region I V} {ds ds' : List Dict} (d : ℕ) → Same (layered_in kinds r ds) (layered_in kinds' r' ds') → KeepsDictsIn r r' ds ds' → kinds' ≡ kinds → HasDictInRegion kinds r ds d → CanFillIn meaning kinds r ds → CanFillIn meaning kinds' r' ds'
 can-after meaning {kinds} {kinds'} {r} {r'} {ds} {ds'} d same keeps e has can =
-    can-kept meaning kinds' keeps (same.has d has).dicts (subst (λ k. CanFillRegion meaning k r ds) (sym e) can)
+    can-kept meaning kinds' keeps (same.has d has).dicts (subst (λ k. CanFillIn meaning k r ds) (sym e) can)
 
 -- a path, number by number
 module _ {I : Type 0} {V : I → Type 0} (kinds : List Rules) (r : code.Region I V) (ds : List Dict) (best : is_best (rest_in r) ≡ true) (dicts : AreDictsIn kinds (cells_in r) ds) (d : ℕ) where
@@ -277,6 +277,6 @@ module _ {I : Type 0} {V : I → Type 0} (kinds : List Rules) (r : code.Region I
   all-like (e ∷ es) h = and_from (test e) (list_all test es) (alike-like e h.0) (all-like es h.1)
 
 -- a region of which no dictionary is known
-pub can-begin : {I : Type 0} {V : I → Type 0} (meaning : (x : I) × V x → Discipline) (kinds : List Rules) (b : best.Best I V) (ds : List Dict) → ds ≡ [] → HasOut (best_parts.disc_in meaning b) (best_parts.segments_in b) → CanFillRegion meaning kinds (Best b) ds
+pub can-begin : {I : Type 0} {V : I → Type 0} (meaning : (x : I) × V x → Discipline) (kinds : List Rules) (b : best.Best I V) (ds : List Dict) → ds ≡ [] → HasOut (best_parts.disc_in meaning b) (best_parts.segments_in b) → CanFillIn meaning kinds (Best b) ds
 can-begin meaning kinds b ds none lent =
-    subst (CanFillRegion meaning kinds (Best b)) (sym none) (record { best = refl; dicts = tt; settled = tt; lent = lent })
+    subst (CanFillIn meaning kinds (Best b)) (sym none) (record { best = refl; dicts = tt; settled = tt; lent = lent })

@@ -33,7 +33,7 @@ helds r ds = map (held (cells_in r)) ds
 
 -- the dictionaries of a best region may get objects: they lie there, each is settled, and the region's segments are the last
 -- that its discipline lent
-pub record CanFillRegion {I : Type 0} {V : I → Type 0} (meaning : (x : I) × V x → Discipline) (kinds : List Rules) (r : Region I V) (ds : List Dict) : Type 0 where
+pub record CanFillIn {I : Type 0} {V : I → Type 0} (meaning : (x : I) × V x → Discipline) (kinds : List Rules) (r : Region I V) (ds : List Dict) : Type 0 where
   pub best : is_best (rest_in r) ≡ true
   pub dicts : AreDictsIn kinds (cells_in r) ds
   pub settled : AllByRecursion (λ h. IsReadyToFill h.dict) (helds r ds)

@@ -44,7 +44,7 @@ abbrev pub last_place_like : Layer → List ℕ → Option ℕ
 last_place_like layer bytes = place_last_like layer.rules bytes layer.objects
 
 -- a dictionary is asked so for what stands to the object at a place of another one
-pub record CanSeekBeside (all : Layered) (d : ℕ) (side : Side) (other : ℕ × Addr) : Type 0 where
+pub record CanSeekBy (all : Layered) (d : ℕ) (side : Side) (other : ℕ × Addr) : Type 0 where
   pub dict : all.Has d
   pub there : all.Has other.0
   pub asked : CanAsk side (all.layer d).method

@@ -39,13 +39,13 @@ impl<D: DictDisc> RegionLayers<D> {
     ghost use Rattle.vc_paths.specs.Links.{numbers};
     ghost use Rattle.vc_paths.specs.Path.{IsPath};
     ghost use Rattle.vc_region.specs.Cells.{cells_in};
-    ghost use Rattle.vc_algebra.specs.Filling.{CanFillRegion, FillsDict, helds, is_like};
+    ghost use Rattle.vc_algebra.specs.Filling.{CanFillIn, FillsDict, helds, is_like};
     ghost use Rattle.vc_algebra.specs.InRegion.{layered_in, layers_of_region};
 
     /// Adds a dictionary with no object, by a method other than a set's or a bag's and by the kind of a number, from 1 on, and
     /// answers its number; there are at most 256. Refused for want of memory alone: then nothing changes.
     pub fn open(&mut self, method: DictMethod, kind: u32) -> Result<u32, OutOfMemory>
-        requires fill { CanFillRegion state (map D.rules self.old.kinds.items)
+        requires fill { CanFillIn state (map D.rules self.old.kinds.items)
             self.old.region self.old.dicts }
         requires room { length self.old.dicts < numbers }
         requires method { has_table method ≡ false }
@@ -57,7 +57,7 @@ impl<D: DictDisc> RegionLayers<D> {
         ensures err { OnErr result (self.new.dicts ≡ self.old.dicts) }
         ensures region { self.new.region ≡ self.old.region }
         ensures kinds { self.new.kinds ≡ self.old.kinds }
-        ensures fill { CanFillRegion state (map D.rules self.new.kinds.items)
+        ensures fill { CanFillIn state (map D.rules self.new.kinds.items)
             self.new.region self.new.dicts }
     {
         let number = self.dicts.as_slice().len() as u32;
@@ -76,7 +76,7 @@ impl<D: DictDisc> RegionLayers<D> {
         object: &[u8],
         steps: &mut Steps<L>,
     ) -> Result<Option<Fate>, OutOfMemory>
-        requires fill { CanFillRegion state (map D.rules self.old.kinds.items)
+        requires fill { CanFillIn state (map D.rules self.old.kinds.items)
             self.old.region self.old.dicts }
         requires there { d < length self.old.dicts }
         requires object { IsObject object.now }
@@ -84,7 +84,7 @@ impl<D: DictDisc> RegionLayers<D> {
             self.old.region self.new.region self.old.dicts self.new.dicts }
         ensures count { length self.new.dicts ≡ length self.old.dicts }
         ensures kinds { self.new.kinds ≡ self.old.kinds }
-        ensures fill { CanFillRegion state (map D.rules self.new.kinds.items)
+        ensures fill { CanFillIn state (map D.rules self.new.kinds.items)
             self.new.region self.new.dicts }
     {
         let Region::Best(best) = &mut self.region else {
@@ -115,7 +115,7 @@ impl<D: DictDisc> RegionLayers<D> {
     /// Whether `d` is the number of a dictionary from 0 to 255 and each number on its path is one of the same method and kind,
     /// as ranges and operations ask.
     pub fn has_path(&self, paths: &Paths, d: u32) -> bool
-        requires { CanFillRegion state (map D.rules self.now.kinds.items) self.now.region self.now.dicts }
+        requires { CanFillIn state (map D.rules self.now.kinds.items) self.now.region self.now.dicts }
         ensures { IsTrue result ↔ IsPath (layered_in (map D.rules self.now.kinds.items)
             self.now.region self.now.dicts) paths.now d }
     {

@@ -5,7 +5,7 @@ ghost use Rattle.vc_dict.specs.Stands.{Became, IsDict, Stands};
 ghost use Rattle.vc_paths.specs.Layers.{bytes_there};
 ghost use Rattle.vc_region.specs.Cells.{cells_in};
 ghost use Rattle.vc_algebra.specs.InRegion.{HasDictInRegion, LeavesDictsIn, layered_in, layers_of_region};
-ghost use Rattle.vc_algebra.specs.Sides.{CanAsk, CanSeekBeside, last_place_like, sought_holder, sought_place};
+ghost use Rattle.vc_algebra.specs.Sides.{CanAsk, CanSeekBy, last_place_like, sought_holder, sought_place};
 
 use crate::places::{best_of, dict_of, kind_of};
 use crate::side::Side;
@@ -89,7 +89,7 @@ pub(crate) fn sought_like<D: DictDisc, L>(
     other: (u32, Addr),
     steps: &mut Steps<L>,
 ) -> Option<Addr>
-    requires { CanSeekBeside (layered_in (map D.rules kinds.now.items) region.old dicts.old) d side other }
+    requires { CanSeekBy (layered_in (map D.rules kinds.now.items) region.old dicts.old) d side other }
     ensures found { (bytes : List ℕ)
         → bytes_there other.1.0 (layers_of_region (map D.rules kinds.now.items) (cells_in region.old)
         dicts.old other.0).objects ≡ Some bytes

@@ -9,7 +9,7 @@ use Rattle.vc_region.specs.Parts.{disc_in}
 use Rattle.vc_region.specs.declared.region.Region.{Region}
 use Rattle.vc_image.specs.Lends.Lends.{AreLent}
 use Rattle.vc_image.specs.Load.{AllShareNone, IsLoaded, IsWholeAmong, pairs_of}
-use Rattle.vc_algebra.specs.Filling.{CanFillRegion, IsReadyToFill}
+use Rattle.vc_algebra.specs.Filling.{CanFillIn, IsReadyToFill}
 use Rattle.vc_algebra.specs.InRegion.{AreDictsIn, held}
 use Rattle.vc_algebra.proofs.FillLemmas.{whole-settled}
 
@@ -33,12 +33,12 @@ module _ (kinds : List Rules) (cells : Blocks) where
 
 -- the region has the image's segments, which are the last that were lent
 pub loaded-fills : {I : Type 0} {V : I → Type 0} (meaning : (x : I) × V x → Discipline) (kinds : List Rules) (terms : Terms) (image : List ℕ) (old : Discipline) (r : Region I V) (ds : List Dict)
-    → IsLoaded kinds terms image r ds → AreLent old (disc_in meaning r) (pairs_of image) → CanFillRegion meaning kinds r ds
+    → IsLoaded kinds terms image r ds → AreLent old (disc_in meaning r) (pairs_of image) → CanFillIn meaning kinds r ds
 loaded-fills meaning kinds terms image old r ds is lent =
     let b = is.best in
     let out = subst (λ q. AreLent old (disc_in meaning q) (pairs_of image)) is.of_best lent in
     let segments = segments-by b.extents.segs.items ∙ ap (map pair_of) is.segments in
-    subst (λ q. CanFillRegion meaning kinds q ds) (sym is.of_best) (record {
+    subst (λ q. CanFillIn meaning kinds q ds) (sym is.of_best) (record {
       best = refl;
       dicts = dicts-in kinds (cells_in b) ds is.each is.apart;
       settled = settled-in kinds (cells_in b) ds is.each;

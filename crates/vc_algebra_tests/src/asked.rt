@@ -1,5 +1,5 @@
 ghost use Rattle.std.specs.Prelude.{◌≡◌, map};
-ghost use Rattle.vc_algebra.specs.Filling.{CanFillRegion};
+ghost use Rattle.vc_algebra.specs.Filling.{CanFillIn};
 
 use crate::filled::{Row, filled, has_path, kinds, viewed};
 use crate::loaded::loaded;
@@ -37,9 +37,9 @@ pub(crate) fn asked<D: DictDisc>(
     layers: &mut RegionLayers<D>,
     ask: Ask,
 ) -> Result<Vec<u8>, Stop>
-    requires { CanFillRegion state (map D.rules layers.old.kinds.items)
+    requires { CanFillIn state (map D.rules layers.old.kinds.items)
         layers.old.region layers.old.dicts }
-    ensures { CanFillRegion state (map D.rules layers.new.kinds.items)
+    ensures { CanFillIn state (map D.rules layers.new.kinds.items)
         layers.new.region layers.new.dicts }
 {
     match ask {
@@ -62,7 +62,7 @@ fn are_answered<D: DictDisc>(
     layers: &mut RegionLayers<D>,
     case: &Case,
 ) -> Result<(), Fail>
-    requires { CanFillRegion state (map D.rules layers.old.kinds.items)
+    requires { CanFillIn state (map D.rules layers.old.kinds.items)
         layers.old.region layers.old.dicts }
 {
     let paths = viewed(rt, alloc, layers, case.views)?;

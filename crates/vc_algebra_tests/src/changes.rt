@@ -1,7 +1,7 @@
 ghost use Rattle.std.specs.Prelude.{IsTrue, map};
 ghost use Rattle.vc_paths.specs.Path.{IsPath};
 ghost use Rattle.vc_paths.specs.Unchanged.{Unchanged};
-ghost use Rattle.vc_algebra.specs.Filling.{CanFillRegion};
+ghost use Rattle.vc_algebra.specs.Filling.{CanFillIn};
 ghost use Rattle.vc_algebra.specs.InRegion.{layered_in};
 ghost use Rattle.vc_algebra.specs.ToCome.{IsMerge};
 
@@ -62,9 +62,9 @@ fn started<D: DictDisc>(
     of: (Op, u32, u32),
     steps: &mut Steps<Compares>,
 ) -> Result<Merge, AlgebraFault>
-    requires { CanFillRegion state (map D.rules layers.old.kinds.items)
+    requires { CanFillIn state (map D.rules layers.old.kinds.items)
         layers.old.region layers.old.dicts }
-    ensures { CanFillRegion state (map D.rules layers.new.kinds.items)
+    ensures { CanFillIn state (map D.rules layers.new.kinds.items)
         layers.new.region layers.new.dicts }
 {
     has_path(rt, paths, layers, of.1);
@@ -79,7 +79,7 @@ fn goes_on_there<D: DictDisc>(
     merge: &Merge,
     steps: &mut Steps<Compares>,
 ) -> bool
-    requires fill { CanFillRegion state (map D.rules layers.old.kinds.items)
+    requires fill { CanFillIn state (map D.rules layers.old.kinds.items)
         layers.old.region layers.old.dicts }
     requires first { IsPath (layered_in (map D.rules layers.old.kinds.items)
         layers.old.region layers.old.dicts) paths.now merge.now.d }
@@ -87,7 +87,7 @@ fn goes_on_there<D: DictDisc>(
         layers.old.region layers.old.dicts) paths.now merge.now.e }
     ensures may { IsTrue result → IsMerge (layered_in (map D.rules layers.new.kinds.items)
         layers.new.region layers.new.dicts) paths.now merge.now }
-    ensures fill { CanFillRegion state (map D.rules layers.new.kinds.items)
+    ensures fill { CanFillIn state (map D.rules layers.new.kinds.items)
         layers.new.region layers.new.dicts }
 {
     goes_on(paths, layers, merge, steps)
@@ -100,11 +100,11 @@ fn may_go_on<D: DictDisc>(
     merge: &Merge,
     steps: &mut Steps<Compares>,
 ) -> bool
-    requires { CanFillRegion state (map D.rules layers.old.kinds.items)
+    requires { CanFillIn state (map D.rules layers.old.kinds.items)
         layers.old.region layers.old.dicts }
     ensures may { IsTrue result → IsMerge (layered_in (map D.rules layers.new.kinds.items)
         layers.new.region layers.new.dicts) paths.now merge.now }
-    ensures fill { CanFillRegion state (map D.rules layers.new.kinds.items)
+    ensures fill { CanFillIn state (map D.rules layers.new.kinds.items)
         layers.new.region layers.new.dicts }
 {
     if !layers.has_path(paths, merge.d) || !layers.has_path(paths, merge.e) {
@@ -139,11 +139,11 @@ fn answer_there<D: DictDisc>(
     merge: &mut Merge,
     steps: &mut Steps<Compares>,
 ) -> Result<Vec<u8>, Stop>
-    requires fill { CanFillRegion state (map D.rules layers.old.kinds.items)
+    requires fill { CanFillIn state (map D.rules layers.old.kinds.items)
         layers.old.region layers.old.dicts }
     requires merge { IsMerge (layered_in (map D.rules layers.old.kinds.items)
         layers.old.region layers.old.dicts) paths.now merge.old }
-    ensures { CanFillRegion state (map D.rules layers.new.kinds.items)
+    ensures { CanFillIn state (map D.rules layers.new.kinds.items)
         layers.new.region layers.new.dicts }
 {
     answer(alloc, paths, layers, merge, steps)
@@ -159,9 +159,9 @@ fn is_next<D: DictDisc>(
     want: &'static str,
     steps: &mut Steps<Compares>,
 ) -> Result<(), Fail>
-    requires { CanFillRegion state (map D.rules layers.old.kinds.items)
+    requires { CanFillIn state (map D.rules layers.old.kinds.items)
         layers.old.region layers.old.dicts }
-    ensures { CanFillRegion state (map D.rules layers.new.kinds.items)
+    ensures { CanFillIn state (map D.rules layers.new.kinds.items)
         layers.new.region layers.new.dicts }
 {
     let may = may_go_on(paths, layers, merge, steps);
@@ -179,9 +179,9 @@ fn done<D: DictDisc>(
     act: Act,
     steps: &mut Steps<Compares>,
 ) -> Result<(), Fail>
-    requires { CanFillRegion state (map D.rules layers.old.kinds.items)
+    requires { CanFillIn state (map D.rules layers.old.kinds.items)
         layers.old.region layers.old.dicts }
-    ensures { CanFillRegion state (map D.rules layers.new.kinds.items)
+    ensures { CanFillIn state (map D.rules layers.new.kinds.items)
         layers.new.region layers.new.dicts }
 {
     match act {
@@ -207,7 +207,7 @@ fn told<D: DictDisc>(
     layers: &mut RegionLayers<D>,
     story: &Story,
 ) -> Result<(), Fail>
-    requires { CanFillRegion state (map D.rules layers.old.kinds.items)
+    requires { CanFillIn state (map D.rules layers.old.kinds.items)
         layers.old.region layers.old.dicts }
 {
     let mut steps: Steps<Compares> = Steps::new(alloc);

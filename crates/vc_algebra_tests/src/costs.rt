@@ -1,5 +1,5 @@
 ghost use Rattle.std.specs.Prelude.{map};
-ghost use Rattle.vc_algebra.specs.Filling.{CanFillRegion};
+ghost use Rattle.vc_algebra.specs.Filling.{CanFillIn};
 
 use crate::asked::{Ask, asked};
 use crate::counted::{Counted, no_compares};
@@ -36,9 +36,9 @@ fn put_multiples<D: DictDisc>(
     of: u32,
     steps: &mut Steps<Compares>,
 ) -> Result<(), Fail>
-    requires { CanFillRegion state (map D.rules layers.old.kinds.items)
+    requires { CanFillIn state (map D.rules layers.old.kinds.items)
         layers.old.region layers.old.dicts }
-    ensures { CanFillRegion state (map D.rules layers.new.kinds.items)
+    ensures { CanFillIn state (map D.rules layers.new.kinds.items)
         layers.new.region layers.new.dicts }
 {
     let d = put_dict(rt, layers, DictMethod::DtOset, 1)?;
@@ -56,9 +56,9 @@ fn put_sets<D: DictDisc>(
     n: u32,
     steps: &mut Steps<Compares>,
 ) -> Result<(), Fail>
-    requires { CanFillRegion state (map D.rules layers.old.kinds.items)
+    requires { CanFillIn state (map D.rules layers.old.kinds.items)
         layers.old.region layers.old.dicts }
-    ensures { CanFillRegion state (map D.rules layers.new.kinds.items)
+    ensures { CanFillIn state (map D.rules layers.new.kinds.items)
         layers.new.region layers.new.dicts }
 {
     for of in [1, 2, 3, 2, 5, 7] {
@@ -75,7 +75,7 @@ fn is_cheap<D: DictDisc>(
     compares: &Cell<u32>,
     costs: &[Cost],
 ) -> Result<(), Fail>
-    requires { CanFillRegion state (map D.rules layers.old.kinds.items)
+    requires { CanFillIn state (map D.rules layers.old.kinds.items)
         layers.old.region layers.old.dicts }
 {
     let paths = viewed(rt, alloc, layers, &[(0, 1), (1, 2), (3, 4), (4, 5)])?;

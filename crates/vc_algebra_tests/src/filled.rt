@@ -2,7 +2,7 @@ ghost use Rattle.std.specs.Prelude.{◌≡◌, ◌<◌, IfOk, IsTrue, length, ma
 ghost use Rattle.vc_base.specs.Prelude.{HasOut};
 ghost use Rattle.vc_best.specs.Parts.{disc_in, segments_in};
 ghost use Rattle.vc_paths.specs.Path.{IsPath};
-ghost use Rattle.vc_algebra.specs.Filling.{CanFillRegion};
+ghost use Rattle.vc_algebra.specs.Filling.{CanFillIn};
 ghost use Rattle.vc_algebra.specs.InRegion.{layered_in};
 
 use crate::shown::Compares;
@@ -33,7 +33,7 @@ pub(crate) fn kinds(alloc: Global) -> Result<Vec<BuiltIn>, Fail> {
 // Over a region with no segment.
 fn over<D: DictDisc>(alloc: Global, best: Best, kinds: Vec<D>) -> RegionLayers<D>
     requires { HasOut (disc_in state best) (segments_in best) }
-    ensures { CanFillRegion state (map D.rules result.kinds.items) result.region result.dicts }
+    ensures { CanFillIn state (map D.rules result.kinds.items) result.region result.dicts }
 {
     RegionLayers {
         region: Region::Best(best),
@@ -47,7 +47,7 @@ pub(crate) fn empty<D: DictDisc + Drop>(
     alloc: Global,
     kinds: Vec<D>,
 ) -> Result<RegionLayers<D>, Fail>
-    ensures { IfOk result (λ l. CanFillRegion state (map D.rules l.kinds.items) l.region l.dicts) }
+    ensures { IfOk result (λ l. CanFillIn state (map D.rules l.kinds.items) l.region l.dicts) }
 {
     let disc = Box::new(alloc, HeapDisc::new(4096))?;
     match Best::open(alloc, disc) {
@@ -64,9 +64,9 @@ pub(crate) fn put_object<D: DictDisc>(
     object: &[u8],
     steps: &mut Steps<Compares>,
 ) -> Result<(), Fail>
-    requires { CanFillRegion state (map D.rules layers.old.kinds.items)
+    requires { CanFillIn state (map D.rules layers.old.kinds.items)
         layers.old.region layers.old.dicts }
-    ensures fill { CanFillRegion state (map D.rules layers.new.kinds.items)
+    ensures fill { CanFillIn state (map D.rules layers.new.kinds.items)
         layers.new.region layers.new.dicts }
     ensures kinds { layers.new.kinds ≡ layers.old.kinds }
 {
@@ -85,9 +85,9 @@ fn put_row<D: DictDisc>(
     row: &Row,
     steps: &mut Steps<Compares>,
 ) -> Result<(), Fail>
-    requires { CanFillRegion state (map D.rules layers.old.kinds.items)
+    requires { CanFillIn state (map D.rules layers.old.kinds.items)
         layers.old.region layers.old.dicts }
-    ensures { CanFillRegion state (map D.rules layers.new.kinds.items)
+    ensures { CanFillIn state (map D.rules layers.new.kinds.items)
         layers.new.region layers.new.dicts }
 {
     let d = put_dict(rt, layers, row.0, row.1)?;
@@ -106,9 +106,9 @@ pub(crate) fn put_dict<D: DictDisc>(
     method: DictMethod,
     kind: u32,
 ) -> Result<u32, Fail>
-    requires { CanFillRegion state (map D.rules layers.old.kinds.items)
+    requires { CanFillIn state (map D.rules layers.old.kinds.items)
         layers.old.region layers.old.dicts }
-    ensures { CanFillRegion state (map D.rules layers.new.kinds.items)
+    ensures { CanFillIn state (map D.rules layers.new.kinds.items)
         layers.new.region layers.new.dicts }
 {
     assert!(rt; layers.dicts.as_slice().len() < 256);
@@ -125,7 +125,7 @@ pub(crate) fn filled<D: DictDisc + Drop>(
     kinds: Vec<D>,
     rows: &[Row],
 ) -> Result<RegionLayers<D>, Fail>
-    ensures { IfOk result (λ l. CanFillRegion state (map D.rules l.kinds.items) l.region l.dicts) }
+    ensures { IfOk result (λ l. CanFillIn state (map D.rules l.kinds.items) l.region l.dicts) }
 {
     let mut steps: Steps<Compares> = Steps::new(alloc);
     let mut layers = empty(alloc, kinds)?;
@@ -142,7 +142,7 @@ pub(crate) fn has_path<D: DictDisc>(
     layers: &RegionLayers<D>,
     d: u32,
 )
-    requires { CanFillRegion state (map D.rules layers.now.kinds.items)
+    requires { CanFillIn state (map D.rules layers.now.kinds.items)
         layers.now.region layers.now.dicts }
     ensures { IsPath (layered_in (map D.rules layers.now.kinds.items)
         layers.now.region layers.now.dicts) paths.now d }
@@ -158,7 +158,7 @@ pub(crate) fn view<D: DictDisc>(
     d: u32,
     e: u32,
 ) -> Result<(), Fail>
-    requires { CanFillRegion state (map D.rules layers.now.kinds.items)
+    requires { CanFillIn state (map D.rules layers.now.kinds.items)
         layers.now.region layers.now.dicts }
 {
     has_path(rt, paths, layers, d);
@@ -174,7 +174,7 @@ pub(crate) fn viewed<D: DictDisc>(
     layers: &RegionLayers<D>,
     views: &[(u32, u32)],
 ) -> Result<Paths, Fail>
-    requires { CanFillRegion state (map D.rules layers.now.kinds.items)
+    requires { CanFillIn state (map D.rules layers.now.kinds.items)
         layers.now.region layers.now.dicts }
 {
     let mut paths = Paths::new(alloc)?;

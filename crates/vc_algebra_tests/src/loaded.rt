@@ -1,5 +1,5 @@
 ghost use Rattle.std.specs.Prelude.{IfOk, map};
-ghost use Rattle.vc_algebra.specs.Filling.{CanFillRegion};
+ghost use Rattle.vc_algebra.specs.Filling.{CanFillIn};
 
 use std::alloc::Global;
 use std::process::Abort;
@@ -16,7 +16,7 @@ fn of_image<D: DictDisc + Drop>(
     image: &[u8],
     kinds: Vec<D>,
 ) -> Result<RegionLayers<D>, Fail>
-    ensures { IfOk result (λ l. CanFillRegion state (map D.rules l.kinds.items) l.region l.dicts) }
+    ensures { IfOk result (λ l. CanFillIn state (map D.rules l.kinds.items) l.region l.dicts) }
 {
     let disc = Box::new(alloc, HeapDisc::new(64))?;
     match load(alloc, image, &kinds, disc) {
@@ -35,7 +35,7 @@ pub(crate) fn loaded<D: DictDisc + Drop>(
     alloc: Global,
     layers: RegionLayers<D>,
 ) -> Result<RegionLayers<D>, Fail>
-    ensures { IfOk result (λ l. CanFillRegion state (map D.rules l.kinds.items) l.region l.dicts) }
+    ensures { IfOk result (λ l. CanFillIn state (map D.rules l.kinds.items) l.region l.dicts) }
 {
     assert!(rt; layers.region.as_best().is_some());
     assert!(rt; layers.dicts.as_slice().len() <= 256);

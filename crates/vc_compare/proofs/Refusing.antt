@@ -3,7 +3,7 @@ use Rattle.vc_base.proofs.Common.{◌≡◌, ℕ, zero, suc, ◌<◌, List, [], 
 use Rattle.vc_model.specs.Count.{last_count}
 use Rattle.vc_model.proofs.Keeping.{NoneRefused-back, rose-within, told-within, twice-within}
 use Rattle.vc_model.specs.Discipline.{TookBack, Unserved}
-use Rattle.vc_ways.specs.Answer.{Holding, KeepsHolding, KeepsHoldings}
+use Rattle.vc_ways.specs.Answer.{Holding, KeepsWay, KeepsWays}
 use Rattle.vc_ways.specs.Asking.{AreRefused, Asking, RefusesBehind}
 use Rattle.vc_ways.specs.Lends.{Opens, unused}
 use Rattle.vc_ways.specs.Settled.{AreSettled, with_discs}
@@ -13,7 +13,7 @@ abbrev Slots : Type 0
 Slots = List (Option Discipline)
 
 -- it was held, refused, and comes back
-has-refused : (entry exit : Discipline) (h : Holding) (answered : Holding) (segments : List (ℕ × ℕ)) (bytes : ℕ) → KeepsHolding true (unused entry) h → h.segments ≡ segments → Unserved h.disc answered.disc bytes → TookBack answered.disc exit answered.segments [] → HasRefused entry exit segments bytes
+has-refused : (entry exit : Discipline) (h : Holding) (answered : Holding) (segments : List (ℕ × ℕ)) (bytes : ℕ) → KeepsWay true (unused entry) h → h.segments ≡ segments → Unserved h.disc answered.disc bytes → TookBack answered.disc exit answered.segments [] → HasRefused entry exit segments bytes
 has-refused entry exit h answered segments bytes held same refuses took =
     record {
       asked = h.disc;
@@ -35,7 +35,7 @@ record RefusedBehind (n : ℕ) (segments : List (ℕ × ℕ)) (bytes : ℕ) (old
   pub stands : slice_get new n ≡ Some (Some exit)
   pub refused : HasRefused entry exit segments bytes
 
-refused-back : (n : ℕ) (segments : List (ℕ × ℕ)) (bytes : ℕ) (hs ms ls : List Holding) (ds : List Discipline) (old new : Slots) → Opens hs old new → KeepsHoldings true hs ms → RefusesBehind n segments bytes ms ls → AreSettled ls ds → RefusedBehind n segments bytes old (map Some ds ++ drop (length ds) new)
+refused-back : (n : ℕ) (segments : List (ℕ × ℕ)) (bytes : ℕ) (hs ms ls : List Holding) (ds : List Discipline) (old new : Slots) → Opens hs old new → KeepsWays true hs ms → RefusesBehind n segments bytes ms ls → AreSettled ls ds → RefusedBehind n segments bytes old (map Some ds ++ drop (length ds) new)
 refused-back zero segments bytes [] [] ls ds old new o k r t = absurd r
 refused-back (suc n) segments bytes [] [] ls ds old new o k r t = absurd r
 refused-back n segments bytes [] (m ∷ ms) ls ds old new o k r t = absurd k
@@ -53,7 +53,7 @@ refused-back zero segments bytes (h ∷ hs) (m ∷ ms) (l ∷ ls) (d ∷ ds) (So
       exit = d;
       stood = refl;
       stands = refl;
-      refused = has-refused x d m l segments bytes (subst (λ (g : Holding). KeepsHolding true g m) o.0 k.0) r.0 r.1 t.0;
+      refused = has-refused x d m l segments bytes (subst (λ (g : Holding). KeepsWay true g m) o.0 k.0) r.0 r.1 t.0;
     }
 refused-back (suc n) segments bytes (h ∷ hs) (m ∷ ms) (l ∷ ls) (d ∷ ds) (Some x ∷ old) (None ∷ new) o k r t =
     let rest = refused-back n segments bytes hs ms ls ds old new o.1 k.1 r t.1 in

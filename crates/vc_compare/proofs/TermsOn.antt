@@ -1,6 +1,6 @@
 -- The terms of disciplines that are lent, and that are kept.
 use Rattle.vc_base.proofs.Common.{◌≡◌, List, [], ◌∷◌, Bool, Option, Some, None, map, length, take, refl, ap, ap₂, ◌∙◌, Discipline, length-map}
-use Rattle.vc_ways.specs.Answer.{Holding, KeepsHoldings}
+use Rattle.vc_ways.specs.Answer.{Holding, KeepsWays}
 use Rattle.vc_ways.specs.Lends.{Lends}
 use Rattle.vc_ways.specs.PoolParts.{holding_in, holdings, terms_in}
 use Rattle.vc_ways.specs.RegionsParts.{all_holdings, terms_of}
@@ -10,7 +10,7 @@ use Rattle.vc_compare.specs.Terms.{place_terms, terms_on}
 abbrev Slots : Type 0
 Slots = List (Option Discipline)
 
-kept-terms : (went : Bool) (hs gs : List Holding) → KeepsHoldings went hs gs → terms_in gs ≡ terms_in hs
+kept-terms : (went : Bool) (hs gs : List Holding) → KeepsWays went hs gs → terms_in gs ≡ terms_in hs
 kept-terms went [] [] kept = refl
 kept-terms went [] (g ∷ gs) kept = absurd kept
 kept-terms went (h ∷ hs) [] kept = absurd kept
@@ -26,7 +26,7 @@ lent-terms (h ∷ hs) (Some d ∷ old) (None ∷ new) lends = ap₂ (λ t ts. t 
 
 module _ {I : Type 0} {V : I → Type 0} (meaning : (x : I) × V x → Discipline) where
   -- the terms of all ways stay
-  pub regions-terms : (went : Bool) (old new : Regions I V) → KeepsHoldings went (all_holdings meaning old) (all_holdings meaning new) → terms_of meaning new ≡ terms_of meaning old
+  pub regions-terms : (went : Bool) (old new : Regions I V) → KeepsWays went (all_holdings meaning old) (all_holdings meaning new) → terms_of meaning new ≡ terms_of meaning old
   regions-terms went old new kept =
       let first = kept.0.kept.terms in
       let second = kept.1.0.kept.terms in

@@ -14,7 +14,7 @@ use Rattle.vc_compare.specs.Ending.{EndsAs}
 use Rattle.vc_compare.specs.Refusal.{CountStays, NoneRose, RefusesAsked}
 use Rattle.vc_compare.specs.Streams.{Sinks}
 use Rattle.vc_compare.specs.Terms.{terms_on}
-use Rattle.vc_compare.specs.Told.{bad_line_text, vmcompare_line}
+use Rattle.vc_compare.specs.Told.{bad_line_text, error_line}
 use Rattle.vc_base.specs.Told.{Broke, Told, Tried}
 use Rattle.vc_ways.specs.Compare.{BadLine, Compared, Finished, OutsideAt, StoppedAt, compare_input}
 use Rattle.vc_ways.specs.Lends.{HasAllBack}
@@ -29,8 +29,8 @@ Tries old new line = Tried old.errors new.errors old.told new.told line
 -- by the status the report of a trace was written, or a front of it, or nothing for want of memory
 abbrev pub Finishes : Tally → CompareStatus → Sinks → Sinks → Type 0
 Finishes tally Ok old new = Told old.written new.written (report tally) × (new.told ≡ old.told)
-Finishes tally Write old new = Broke old.writes new.writes old.written new.written (report tally) × Tries old new (vmcompare_line (codes "write failed"))
-Finishes tally Memory old new = (new.written ≡ old.written) × Tries old new (vmcompare_line (codes "out of memory"))
+Finishes tally Write old new = Broke old.writes new.writes old.written new.written (report tally) × Tries old new (error_line (codes "write failed"))
+Finishes tally Memory old new = (new.written ≡ old.written) × Tries old new (error_line (codes "out of memory"))
 Finishes tally other old new = ⊥
 
 -- the status of a line that can't be run
@@ -49,13 +49,13 @@ IsFaultTold n fault status old new = (status ≡ status_of_trace_fault fault) ×
 abbrev pub TellsEnd : Ending → CompareStatus → Sinks → Sinks → Type 0
 TellsEnd (ending.Finished tally) status old new = Finishes tally status old new
 TellsEnd (ending.Faulty n fault) status old new = (new.written ≡ old.written) × IsFaultTold n fault status old new
-TellsEnd ending.Read status old new = (status ≡ Read) × ((new.written ≡ old.written) × Tries old new (vmcompare_line (codes "read failed")))
-TellsEnd ending.Memory status old new = (status ≡ Memory) × ((new.written ≡ old.written) × Tries old new (vmcompare_line (codes "out of memory")))
+TellsEnd ending.Read status old new = (status ≡ Read) × ((new.written ≡ old.written) × Tries old new (error_line (codes "read failed")))
+TellsEnd ending.Memory status old new = (status ≡ Memory) × ((new.written ≡ old.written) × Tries old new (error_line (codes "out of memory")))
 
 -- words are refused
 abbrev pub RefusesWords : CompareStatus → Sinks → Sinks → Type 0
-RefusesWords Usage old new = Told old.told new.told (vmcompare_line (codes "bad arguments"))
-RefusesWords Write old new = Broke old.errors new.errors old.told new.told (vmcompare_line (codes "bad arguments"))
+RefusesWords Usage old new = Told old.told new.told (error_line (codes "bad arguments"))
+RefusesWords Write old new = Broke old.errors new.errors old.told new.told (error_line (codes "bad arguments"))
 RefusesWords other old new = ⊥
 
 -- what a source has left, and how often a read failed

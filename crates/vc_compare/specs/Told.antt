@@ -5,8 +5,8 @@ use Rattle.vc_compare.specs.declared.ending.Fault.{Fault}
 use Rattle.vc_compare.specs.declared.ending.Fault.TheVariants.{Bad, Outside, NoSegment, TooMany}
 
 -- the line that err gets: the program's name, and what happened
-abbrev pub vmcompare_line : List ℕ → List ℕ
-vmcompare_line text = codes "vmcompare" ++ codes ": " ++ text ++ codes "\n"
+abbrev pub error_line : List ℕ → List ℕ
+error_line text = codes "vmcompare" ++ codes ": " ++ text ++ codes "\n"
 
 -- what keeps a line from being run
 abbrev pub trace_fault_text : Fault → List ℕ
@@ -17,4 +17,4 @@ trace_fault_text (TooMany way) = codes "too many segments"
 
 -- the line that err gets for a line that isn't run
 abbrev pub bad_line_text : ℕ → Fault → List ℕ
-bad_line_text n fault = vmcompare_line (codes "line " ++ decimal n ++ codes ": " ++ trace_fault_text fault)
+bad_line_text n fault = error_line (codes "line " ++ decimal n ++ codes ": " ++ trace_fault_text fault)

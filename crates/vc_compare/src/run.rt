@@ -5,7 +5,7 @@ ghost use Rattle.vc_compare.specs.Terms.{terms_on};
 ghost use Rattle.vc_compare.specs.Reading.{CanRead, lines_to_come};
 ghost use Rattle.vc_model.specs.Count.{Rose};
 ghost use Rattle.vc_script.specs.Judged.{judged_lines};
-ghost use Rattle.vc_ways.specs.Answer.{KeepsHoldings};
+ghost use Rattle.vc_ways.specs.Answer.{KeepsWays};
 ghost use Rattle.vc_ways.specs.Asking.{AreRefused, Refuses};
 ghost use Rattle.vc_ways.specs.Lends.{HasAllBack};
 ghost use Rattle.vc_ways.specs.RegionsParts.{all_holdings, terms_of};
@@ -51,7 +51,7 @@ fn run_line(alloc: Global, trace: &mut Trace, reader: &LineReader) -> Result<(),
         (λ asked. Refuses asked (all_holdings state trace.old.regions) (all_holdings state trace.new.regions))
         reader.now.cutter.count reader.now.cutter.line result (trace_state trace.new) }
     ensures stands { OnOk result (StandsSoFar state trace.new) }
-    ensures keeps { KeepsHoldings (is_ok result) (all_holdings state trace.old.regions)
+    ensures keeps { KeepsWays (is_ok result) (all_holdings state trace.old.regions)
         (all_holdings state trace.new.regions) }
     ensures closes { CanClose state trace.new }
 {
@@ -75,7 +75,7 @@ fn run_lines<S: Source>(
         (trace_state trace.old)
         (AreRefused (all_holdings state trace.old.regions) (all_holdings state trace.new.regions))
         (lines_to_come reader.old input) result (S.left source.new)) }
-    ensures keeps { KeepsHoldings false (all_holdings state trace.old.regions)
+    ensures keeps { KeepsWays false (all_holdings state trace.old.regions)
         (all_holdings state trace.new.regions) }
     ensures closes { CanClose state trace.new }
     ensures cause { result ≡ Ending.Read → Rose (S.failures source.old) (S.failures source.new) }

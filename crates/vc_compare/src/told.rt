@@ -1,5 +1,5 @@
 ghost use Rattle.std.specs.Prelude.{◌≡◌, ◌≤◌, OnErr, OnOk, length};
-ghost use Rattle.vc_compare.specs.Told.{bad_line_text, trace_fault_text, vmcompare_line};
+ghost use Rattle.vc_compare.specs.Told.{bad_line_text, error_line, trace_fault_text};
 ghost use Rattle.vc_base.specs.Told.{Broke, Told};
 
 use crate::ending::Fault;
@@ -26,9 +26,9 @@ fn fault_text(fault: Fault) -> &'static str
 // Writes what happened, in one line behind the tool's name.
 pub(crate) fn tell<E: Sink>(err: &mut E, text: &str) -> Result<(), WriteFailed>
     requires { length text.now ≤ 80 }
-    ensures told { OnOk result (Told (E.written err.old) (E.written err.new) (vmcompare_line text.now)) }
+    ensures told { OnOk result (Told (E.written err.old) (E.written err.new) (error_line text.now)) }
     ensures broke { OnErr result (Broke (E.failures err.old) (E.failures err.new)
-        (E.written err.old) (E.written err.new) (vmcompare_line text.now)) }
+        (E.written err.old) (E.written err.new) (error_line text.now)) }
     ensures never_falls { E.failures err.old ≤ E.failures err.new }
 {
     let mut line = ArrayString::<LINE_BYTES>::new();

@@ -8,17 +8,17 @@ use Rattle.vc_model.specs.Outcome.{Outcome, Put}
 use Rattle.vc_seg.specs.Answer.{Answers, Asks, IsPut}
 use Rattle.vc_seg.specs.declared.fault.RegionFault.{RegionFault}
 use Rattle.vc_seg.specs.declared.fault.RegionFault.TheVariants as code
-use Rattle.vc_ways.specs.Answer.{KeepsHolding}
+use Rattle.vc_ways.specs.Answer.{KeepsWay}
 use Rattle.vc_ways.proofs.Grown.{Grown, OnDone}
 
-served-keeps : (went : Bool) (old new : Discipline) (s t : List (ℕ × ℕ)) (size : ℕ) → (t ≡ [] → s ≡ []) → Served old new s t size → KeepsHolding went (record { disc = old; segments = s }) (record { disc = new; segments = t })
+served-keeps : (went : Bool) (old new : Discipline) (s t : List (ℕ × ℕ)) (size : ℕ) → (t ≡ [] → s ≡ []) → Served old new s t size → KeepsWay went (record { disc = old; segments = s }) (record { disc = new; segments = t })
 served-keeps went old new s t size none h = record { kept = h.kept; out = h.out; none = none; same = λ yes e. h.same (e ∙ sym (none e)) }
 
-same-keeps : (old new : Discipline) (s t : List (ℕ × ℕ)) (size : ℕ) → t ≡ s → Served old new s t size → KeepsHolding false (record { disc = old; segments = s }) (record { disc = new; segments = t })
+same-keeps : (old new : Discipline) (s t : List (ℕ × ℕ)) (size : ℕ) → t ≡ s → Served old new s t size → KeepsWay false (record { disc = old; segments = s }) (record { disc = new; segments = t })
 same-keeps old new s t size same h = served-keeps false old new s t size (λ e. sym same ∙ e) h
 
 -- nothing went out
-nothing-keeps : (old new : Discipline) (s t : List (ℕ × ℕ)) → t ≡ s → Kept old new → new.out ≡ old.out → KeepsHolding false (record { disc = old; segments = s }) (record { disc = new; segments = t })
+nothing-keeps : (old new : Discipline) (s t : List (ℕ × ℕ)) → t ≡ s → Kept old new → new.out ≡ old.out → KeepsWay false (record { disc = old; segments = s }) (record { disc = new; segments = t })
 nothing-keeps old new s t same kept out =
     record {
       kept = kept;
@@ -33,7 +33,7 @@ module _ {R : Type 0} (segments : R → List (ℕ × ℕ)) where
   put-none (Refused why) a r q h grown e = absurd h
 
   -- a call that may ask for a segment, and takes none away
-  pub asked-keeps : (call : Bool → Outcome (Put R)) (result : Result Addr RegionFault) (r q : R) (old new : Discipline) (size : ℕ) → Answers call result r q → OnDone (λ (p : Put R). Grown (segments r) (segments p.region)) (call false) → Asks result old new (segments r) (segments q) size → KeepsHolding (is_ok result) (record { disc = old; segments = segments r }) (record { disc = new; segments = segments q })
+  pub asked-keeps : (call : Bool → Outcome (Put R)) (result : Result Addr RegionFault) (r q : R) (old new : Discipline) (size : ℕ) → Answers call result r q → OnDone (λ (p : Put R). Grown (segments r) (segments p.region)) (call false) → Asks result old new (segments r) (segments q) size → KeepsWay (is_ok result) (record { disc = old; segments = segments r }) (record { disc = new; segments = segments q })
   asked-keeps call (Ok a) r q old new size h grown k = served-keeps true old new _ _ size (put-none (call false) a.0 r q h grown) k
   asked-keeps call (Err code.TooManySegments) r q old new size h grown k = same-keeps old new _ _ size (ap segments h.1) k
   asked-keeps call (Err code.NoSegment) r q old new size h grown k = nothing-keeps old new _ _ (ap segments h.1) k.kept k.out

@@ -1,12 +1,12 @@
 -- Live blocks by name, as commands put, move and free them.
 use Rattle.vc_base.proofs.Common.{◌≡◌, ◌≢◌, ℕ, List, [], ◌∷◌, Bool, true, false, cond, Option, Some, None, bytes_eq, bytes_eq-Decides, sym, ap, ◌∙◌, subst, ⊎_elim, cases_Bool, All, All-cons, All-head, All-nil, All-tail, false≢true, none-some, same_Some}
-use Rattle.vc_ways.specs.Answer.{HasOwnSegmentsOut, Holding, KeepsHoldings}
+use Rattle.vc_ways.specs.Answer.{HasOwnSegmentsOut, Holding, KeepsWays}
 use Rattle.vc_ways.specs.Regions.{Regions}
 use Rattle.vc_ways.specs.RegionsParts.{Comes, IsLiveIn, StandApart}
 use Rattle.vc_ways.specs.declared.live.Live.{Live}
 
 -- what is lent stays so
-pub kept-lent : (went : Bool) (olds news : List Holding) → All HasOwnSegmentsOut olds → KeepsHoldings went olds news → All HasOwnSegmentsOut news
+pub kept-lent : (went : Bool) (olds news : List Holding) → All HasOwnSegmentsOut olds → KeepsWays went olds news → All HasOwnSegmentsOut news
 kept-lent went [] [] all kept = All-nil HasOwnSegmentsOut
 kept-lent went [] (b ∷ bs) all kept = absurd kept
 kept-lent went (a ∷ rest) [] all kept = absurd kept

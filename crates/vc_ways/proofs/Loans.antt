@@ -3,7 +3,7 @@ use Rattle.vc_base.proofs.Common.{◌≡◌, ◌≢◌, ℕ, zero, suc, ◌+◌,
 use Rattle.vc_model.specs.Discipline.{Discipline, TookBack}
 use Rattle.vc_model.proofs.Keeping.{Kept-same, Kept-trans}
 use Rattle.vc_seg.specs.Shelf.{slot_at, standing}
-use Rattle.vc_ways.specs.Answer.{Holding, KeepsHolding, KeepsHoldings}
+use Rattle.vc_ways.specs.Answer.{Holding, KeepsWay, KeepsWays}
 use Rattle.vc_ways.specs.Lends.{HasAllBack, HasLent, IsBack, Lends, Opens, unused}
 use Rattle.vc_ways.specs.Settled.{AreSettled, AreTaken, with_discs}
 use Rattle.vc_ways.proofs.PoolSteps.{keeps-both, keeps-same}
@@ -21,7 +21,7 @@ all-back-same (None ∷ xs) = (tt, all-back-same xs)
 all-back-same (Some d ∷ xs) = (back-same d, all-back-same xs)
 
 -- it comes back
-settled-back : (d e : Discipline) (h : Holding) → KeepsHolding false (unused d) h → TookBack h.disc e h.segments [] → IsBack d e
+settled-back : (d e : Discipline) (h : Holding) → KeepsWay false (unused d) h → TookBack h.disc e h.segments [] → IsBack d e
 settled-back d e h held took =
     record {
       kept = Kept-trans d h.disc e held.kept took.kept;
@@ -50,7 +50,7 @@ opens-lends (h ∷ hs) (None ∷ old) new opens = absurd opens
 opens-lends (h ∷ hs) (Some x ∷ old) [] opens = absurd opens
 opens-lends (h ∷ hs) (Some x ∷ old) (Some y ∷ new) opens = absurd opens
 opens-lends (h ∷ hs) (Some x ∷ old) (None ∷ new) opens =
-    (subst (KeepsHolding false (unused x)) (sym opens.0) (keeps-same (unused x)), opens-lends hs old new opens.1)
+    (subst (KeepsWay false (unused x)) (sym opens.0) (keeps-same (unused x)), opens-lends hs old new opens.1)
 
 -- and comes back
 pub give-one : (hs : List Holding) (h : Holding) (old new : Slots) (e : Discipline) → Lends (hs ++ h ∷ []) old new → TookBack h.disc e h.segments [] → Lends hs old (set new (length hs) (Some e))
@@ -83,7 +83,7 @@ pub has-taken : (most : ℕ) (new : Slots) → HasLent most new → AreTaken mos
 has-taken most new h = are-taken h.1.0 h.0 new most h.1.1.0 h.1.1.1
 
 -- what is held goes on
-pub lends-kept : (hs gs : List Holding) (old new : Slots) → KeepsHoldings false hs gs → Lends hs old new → Lends gs old new
+pub lends-kept : (hs gs : List Holding) (old new : Slots) → KeepsWays false hs gs → Lends hs old new → Lends gs old new
 lends-kept [] [] old new kept lends = lends
 lends-kept [] (g ∷ gs) old new kept lends = absurd kept
 lends-kept (h ∷ hs) [] old new kept lends = absurd kept

@@ -13,7 +13,7 @@ use Rattle.vc_pool.specs.declared.pool.Pool.{Pool}
 use Rattle.vc_seg.specs.Answer.{Answers, IsPut, IsRefusal}
 use Rattle.vc_seg.specs.OneBlock.{IsBlockPut, IsSize}
 use Rattle.vc_seg.specs.declared.fault.RegionFault.{RegionFault}
-use Rattle.vc_ways.specs.Answer.{GivesOutcome, HasOwnSegmentsOut, Holding, KeepsHolding, KeepsHoldings}
+use Rattle.vc_ways.specs.Answer.{GivesOutcome, HasOwnSegmentsOut, Holding, KeepsWay, KeepsWays}
 use Rattle.vc_ways.specs.PoolParts.{CellComes, class_blocks, holding_in, holdings, pools_of, terms_in}
 use Rattle.vc_ways.proofs.Cells.{comes}
 use Rattle.vc_ways.proofs.LatestBlock.{refused-as}
@@ -88,8 +88,8 @@ module _ {I : Type 0} {V : I → Type 0} (meaning : (x : I) × V x → Disciplin
       let within : k < length (map f xs) = omega (arith, lt, length-map xs f) in
       subst HasOwnSegmentsOut (get_or-map f xs k p (f p) lt ∙ ap f (sym is)) (all k (f p) within)
 
-  pub kept-here : {went : Bool} → KeepsHolding went (holding_in meaning p) (holding_in meaning q) → KeepsHoldings went (holdings meaning xs) (holdings meaning (set xs k q))
-  kept-here {went} h = kept-set _ (holding_in meaning) xs k q p lt (subst (λ (o : Pool I V). KeepsHolding went (holding_in meaning o) (holding_in meaning q)) is h)
+  pub kept-here : {went : Bool} → KeepsWay went (holding_in meaning p) (holding_in meaning q) → KeepsWays went (holdings meaning xs) (holdings meaning (set xs k q))
+  kept-here {went} h = kept-set _ (holding_in meaning) xs k q p lt (subst (λ (o : Pool I V). KeepsWay went (holding_in meaning o) (holding_in meaning q)) is h)
 
   pub terms-here : terms_at (terms_in (holdings meaning xs)) k ≡ (disc_in meaning p).terms
   terms-here =

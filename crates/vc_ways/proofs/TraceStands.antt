@@ -5,7 +5,7 @@ use Rattle.std.specs.Prelude.{is_none}
 use Rattle.std.proofs.lemmas.Map.Made.{lookup-map_values}
 use Rattle.indexmap.specs.IndexMap.{swap_remove_entry}
 use Rattle.vc_pool.specs.Parts.{pool_of}
-use Rattle.vc_ways.specs.Answer.{HasOwnSegmentsOut, Holding, KeepsHoldings}
+use Rattle.vc_ways.specs.Answer.{HasOwnSegmentsOut, Holding, KeepsWays}
 use Rattle.vc_ways.specs.Extents.{newest_of, with_extents}
 use Rattle.vc_ways.specs.PoolParts.{holding_in}
 use Rattle.vc_ways.specs.PoolWay.{class_of}
@@ -48,7 +48,7 @@ module _ {I : Type 0} {V : I → Type 0} (meaning : (x : I) × V x → Disciplin
         goes-placed t.region t.blocks.entries t'.blocks.entries (regions_of t.regions) (regions_of mid) t.tally t'.tally r t'.live t'.extents new-bytes new-extents placed.tally x l placed.entries
         ∙ ap₂ (λ (name : Option (List ℕ)) (m : Regions I V). Goes (record { region = name; table = live_table t'.blocks.entries; regions = regions_of m; tally = t'.tally })) (sym placed.region) (sym same)
 
-    pub placed-stands : (Stays : Live → Type 0) → HasFlagsAndPools mid → KeepsHoldings true (all_holdings meaning t.regions) (all_holdings meaning mid) → Comes Stays (regions_of t.regions) l (regions_of mid) → ((q : List ℕ) (k : Live) → x ≢ q → get bytes_eq t.blocks q ≡ Some k → Stays k) → StandsSoFar meaning t'
+    pub placed-stands : (Stays : Live → Type 0) → HasFlagsAndPools mid → KeepsWays true (all_holdings meaning t.regions) (all_holdings meaning mid) → Comes Stays (regions_of t.regions) l (regions_of mid) → ((q : List ℕ) (k : Live) → x ≢ q → get bytes_eq t.blocks q ≡ Some k → Stays k) → StandsSoFar meaning t'
     placed-stands Stays whole kept comes stays =
         let blocks : List ℕ → Option Live = λ q. get bytes_eq t.blocks q in
         let blocks' : List ℕ → Option Live = λ q. get bytes_eq t'.blocks q in
@@ -77,7 +77,7 @@ module _ {I : Type 0} {V : I → Type 0} (meaning : (x : I) × V x → Disciplin
         ∙ (goes-left t.region t.blocks.entries t'.blocks.entries (regions_of t.regions) (regions_of mid) t.tally t'.tally r t'.live t'.extents left-live left-extents told x entries
         ∙ ap₂ (λ (name : Option (List ℕ)) (m : Regions I V). Goes (record { region = name; table = live_table t'.blocks.entries; regions = regions_of m; tally = t'.tally })) (sym region) (sym same))
 
-    pub left-stands : HasFlagsAndPools mid → KeepsHoldings true (all_holdings meaning t.regions) (all_holdings meaning mid) → ((k : Live) → IsLiveIn (regions_of t.regions) k → StandApart k l → IsLiveIn (regions_of mid) k) → ((q : List ℕ) → get bytes_eq t'.blocks q ≡ cond (bytes_eq x q) None (get bytes_eq t.blocks q)) → StandsSoFar meaning t'
+    pub left-stands : HasFlagsAndPools mid → KeepsWays true (all_holdings meaning t.regions) (all_holdings meaning mid) → ((k : Live) → IsLiveIn (regions_of t.regions) k → StandApart k l → IsLiveIn (regions_of mid) k) → ((q : List ℕ) → get bytes_eq t'.blocks q ≡ cond (bytes_eq x q) None (get bytes_eq t.blocks q)) → StandsSoFar meaning t'
     left-stands whole kept others updates =
         let blocks : List ℕ → Option Live = λ q. get bytes_eq t.blocks q in
         let blocks' : List ℕ → Option Live = λ q. get bytes_eq t'.blocks q in
@@ -92,14 +92,14 @@ module _ {I : Type 0} {V : I → Type 0} (meaning : (x : I) × V x → Disciplin
           extents = left-extents ∙ ap (λ (m : Regions I V). extent_sums (regions_of m)) (sym same);
         }
 
-kept-long : (went : Bool) (xs ys : List Holding) → KeepsHoldings went xs ys → length ys ≡ length xs
+kept-long : (went : Bool) (xs ys : List Holding) → KeepsWays went xs ys → length ys ≡ length xs
 kept-long went [] [] kept = refl
 kept-long went [] (y ∷ ys) kept = absurd kept
 kept-long went (x ∷ xs) [] kept = absurd kept
 kept-long went (x ∷ xs) (y ∷ ys) kept = ap suc (kept-long went xs ys kept.1)
 
 -- whatever a command answers, the trace can be closed
-pub closes : {I : Type 0} {V : I → Type 0} {went : Bool} (meaning : (x : I) × V x → Discipline) (t t' : Trace I V) → StandsSoFar meaning t → KeepsHoldings went (all_holdings meaning t.regions) (all_holdings meaning t'.regions) → CanClose meaning t'
+pub closes : {I : Type 0} {V : I → Type 0} {went : Bool} (meaning : (x : I) × V x → Discipline) (t t' : Trace I V) → StandsSoFar meaning t → KeepsWays went (all_holdings meaning t.regions) (all_holdings meaning t'.regions) → CanClose meaning t'
 closes meaning t t' stands kept =
     let olds = t.regions.pools.items in
     let news = t'.regions.pools.items in

@@ -20,14 +20,14 @@ abbrev pub HasOwnSegmentsOut : Holding → Type 0
 HasOwnSegmentsOut h = HasOut h.disc h.segments
 
 -- its terms are the same, its faults have not fallen, and what is out besides the region's segments is out. Where the region has no segment it had none, and where the call went the discipline is the same then
-pub record KeepsHolding (went : Bool) (old new : Holding) : Type 0 where
+pub record KeepsWay (went : Bool) (old new : Holding) : Type 0 where
   pub kept : Kept old.disc new.disc
   pub out : (rest : List (ℕ × ℕ)) → old.disc.out ≡ rest ++ old.segments → new.disc.out ≡ rest ++ new.segments
   pub none : new.segments ≡ [] → old.segments ≡ []
   pub same : went ≡ true → new.segments ≡ [] → new.disc ≡ old.disc
 
 -- of each of these
-abbrev pub KeepsHoldings : Bool → List Holding → List Holding → Type 0
-KeepsHoldings went [] [] = Unit {0}
-KeepsHoldings went (a ∷ rest) (b ∷ others) = KeepsHolding went a b × KeepsHoldings went rest others
-KeepsHoldings went olds news = ⊥
+abbrev pub KeepsWays : Bool → List Holding → List Holding → Type 0
+KeepsWays went [] [] = Unit {0}
+KeepsWays went (a ∷ rest) (b ∷ others) = KeepsWay went a b × KeepsWays went rest others
+KeepsWays went olds news = ⊥

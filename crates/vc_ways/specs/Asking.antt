@@ -11,7 +11,7 @@ use Rattle.vc_script.specs.declared.command.Command.TheVariants.{Alloc, Resize}
 use Rattle.vc_script.specs.declared.line_answer.LineAnswer.{LineAnswer}
 use Rattle.vc_script.specs.declared.line_answer.LineAnswer.TheVariants.{Is}
 use Rattle.vc_script.specs.declared.tool.Tool.TheVariants.{Vmreplay}
-use Rattle.vc_ways.specs.Answer.{Holding, KeepsHoldings}
+use Rattle.vc_ways.specs.Answer.{Holding, KeepsWays}
 use Rattle.vc_ways.specs.PoolWay.{class_bytes, class_of, pool_at, terms_at}
 use Rattle.vc_ways.specs.Regions.{Regions, WayTerms}
 use Rattle.vc_ways.specs.declared.regions.Stop.{Stop}
@@ -74,5 +74,5 @@ line_size n line = answered_size (answer Vmreplay (n == 1) line)
 -- from what was held to what is held, the one that was asked refused last; all calls before went
 pub record AreRefused (old new : List Holding) (a : Asking) : Type 0 where
   pub before : List Holding
-  pub kept : KeepsHoldings true old before
+  pub kept : KeepsWays true old before
   pub refuses : Refuses a before new

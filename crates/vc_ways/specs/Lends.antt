@@ -2,7 +2,7 @@
 use Rattle.std.specs.Prelude.{◌≡◌, ℕ, List, [], ◌∷◌, ◌++◌, Option, Some, None, false, Result, Ok, Err, length}
 use Rattle.vc_base.specs.declared.fault.OutOfMemory.{OutOfMemory}
 use Rattle.vc_model.specs.Discipline.{Discipline, Kept}
-use Rattle.vc_ways.specs.Answer.{Holding, KeepsHolding}
+use Rattle.vc_ways.specs.Answer.{Holding, KeepsWay}
 
 -- a discipline, without a segment of it
 abbrev pub unused : Discipline → Holding
@@ -34,7 +34,7 @@ Opens hs old new = ⊥
 -- the disciplines of the first places are lent, and held with segments of theirs; each other place has its own
 abbrev pub Lends : List Holding → List (Option Discipline) → List (Option Discipline) → Type 0
 Lends [] old new = HasAllBack old new
-Lends (h ∷ hs) (Some d ∷ old) (None ∷ new) = KeepsHolding false (unused d) h × Lends hs old new
+Lends (h ∷ hs) (Some d ∷ old) (None ∷ new) = KeepsWay false (unused d) h × Lends hs old new
 Lends hs old new = ⊥
 
 -- the disciplines of so many places are lent

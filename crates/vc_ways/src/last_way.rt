@@ -2,7 +2,7 @@ ghost use Rattle.std.specs.Prelude.{◌≡◌, ◌<◌, ◌+◌, length, IsErrOf
 ghost use Rattle.vc_model.specs.Discipline.{Unserved};
 ghost use Rattle.vc_model.specs.Last.{last_need};
 ghost use Rattle.vc_seg.specs.OneBlock.{IsSize};
-ghost use Rattle.vc_ways.specs.Answer.{GivesOutcome, HasOwnSegmentsOut, KeepsHolding};
+ghost use Rattle.vc_ways.specs.Answer.{GivesOutcome, HasOwnSegmentsOut, KeepsWay};
 ghost use Rattle.vc_ways.specs.LastWay.{drop_dead, ends_dead, last_dead, last_put, last_sized, latest_sized, without_latest};
 
 use vc_last::Last;
@@ -31,7 +31,7 @@ impl LastWay {
             (last_put (holding_of state self.old).disc.terms (way_of self.old) size)
             (λ i. i) result (way_of self.new) }
         ensures paired { OnOk result (IsPaired self.new) }
-        ensures keeps { KeepsHolding (is_ok result) (holding_of state self.old) (holding_of state self.new) }
+        ensures keeps { KeepsWay (is_ok result) (holding_of state self.old) (holding_of state self.new) }
         ensures refused { IsErrOf result RegionFault.NoSegment
             → Unserved (holding_of state self.old).disc (holding_of state self.new).disc
             (last_need (holding_of state self.old).disc.terms size) }
@@ -56,7 +56,7 @@ impl LastWay {
             (latest_sized (holding_of state self.old).disc.terms (way_of self.old) i size)
             (λ i. i) result (way_of self.new) }
         ensures paired { OnOk result (IsPaired self.new) }
-        ensures keeps { KeepsHolding (is_ok result) (holding_of state self.old) (holding_of state self.new) }
+        ensures keeps { KeepsWay (is_ok result) (holding_of state self.old) (holding_of state self.new) }
         ensures refused { IsErrOf result RegionFault.NoSegment
             → Unserved (holding_of state self.old).disc (holding_of state self.new).disc
             (last_need (holding_of state self.old).disc.terms size) }
@@ -80,7 +80,7 @@ impl LastWay {
             (last_sized (holding_of state self.old).disc.terms (way_of self.old) i size)
             (λ i. i) result (way_of self.new) }
         ensures paired { OnOk result (IsPaired self.new) }
-        ensures keeps { KeepsHolding (is_ok result) (holding_of state self.old) (holding_of state self.new) }
+        ensures keeps { KeepsWay (is_ok result) (holding_of state self.old) (holding_of state self.new) }
         ensures refused { IsErrOf result RegionFault.NoSegment
             → Unserved (holding_of state self.old).disc (holding_of state self.new).disc
             (last_need (holding_of state self.old).disc.terms size) }
@@ -98,7 +98,7 @@ impl LastWay {
         requires paired { IsPaired self.old }
         ensures way { way_of self.new ≡ last_dead (way_of self.old) i }
         ensures paired { IsPaired self.new }
-        ensures keeps { KeepsHolding true (holding_of state self.old) (holding_of state self.new) }
+        ensures keeps { KeepsWay true (holding_of state self.old) (holding_of state self.new) }
     {
         self.dead[i] = true;
     }
@@ -117,7 +117,7 @@ impl LastWay {
         requires some { 0 < length self.old.dead.items }
         ensures way { way_of self.new ≡ without_latest (way_of self.old) }
         ensures paired { IsPaired self.new }
-        ensures keeps { KeepsHolding true (holding_of state self.old) (holding_of state self.new) }
+        ensures keeps { KeepsWay true (holding_of state self.old) (holding_of state self.new) }
         ensures segments { segments_in self.new.region ≡ segments_in self.old.region }
     {
         let _ = self.dead.pop();
@@ -130,7 +130,7 @@ impl LastWay {
         requires paired { IsPaired self.old }
         ensures way { way_of self.new ≡ drop_dead (way_of self.old) }
         ensures paired { IsPaired self.new }
-        ensures keeps { KeepsHolding true (holding_of state self.old) (holding_of state self.new) }
+        ensures keeps { KeepsWay true (holding_of state self.old) (holding_of state self.new) }
         ensures segments { segments_in self.new.region ≡ segments_in self.old.region }
     {
         while self.ends_dead() {

@@ -1,5 +1,5 @@
 ghost use Rattle.std.specs.Prelude.{◌≡◌, IfErr, OnOk, is_ok};
-ghost use Rattle.vc_ways.specs.Answer.{KeepsHoldings};
+ghost use Rattle.vc_ways.specs.Answer.{KeepsWays};
 ghost use Rattle.vc_ways.specs.Asking.{IsUnserved, line_size};
 ghost use Rattle.vc_ways.specs.LineParts.{LineEnds};
 ghost use Rattle.vc_ways.specs.RegionsParts.{all_holdings, regions_of, terms_of};
@@ -34,7 +34,7 @@ impl Trace {
         ensures answer { LineEnds (terms_of state self.old.regions) (trace_state self.old) number line.now
             result (trace_state self.new) }
         ensures stands { OnOk result (StandsSoFar state self.new) }
-        ensures keeps { KeepsHoldings (is_ok result) (all_holdings state self.old.regions)
+        ensures keeps { KeepsWays (is_ok result) (all_holdings state self.old.regions)
             (all_holdings state self.new.regions) }
         ensures refused { IfErr result (λ stop. IsUnserved (terms_of state self.old.regions)
             (regions_of self.old.regions) (line_size number line.now) stop

@@ -1,7 +1,7 @@
 ghost use Rattle.std.specs.Prelude.{◌≡◌, ◌≢◌, ℕ, IfOk, IsErrOf, OnOk, ◌<◌, ◌≤◌, All, is_ok, length, true};
 ghost use Rattle.vc_base.specs.Prelude.{place_of, HasBlock};
 ghost use Rattle.vc_seg.specs.OneBlock.{IsSize};
-ghost use Rattle.vc_ways.specs.Answer.{GivesOutcome, HasOwnSegmentsOut, KeepsHoldings};
+ghost use Rattle.vc_ways.specs.Answer.{GivesOutcome, HasOwnSegmentsOut, KeepsWays};
 ghost use Rattle.vc_ways.specs.Asking.{Refuses, asking_cell};
 ghost use Rattle.vc_ways.specs.PoolParts.{CellComes, class_blocks, holdings, pools_of, terms_in};
 ghost use Rattle.vc_ways.specs.PoolWay.{cell_free, cell_put, cell_sized, class_of};
@@ -40,7 +40,7 @@ pub(crate) fn put_cell(pools: &mut Vec<Pool>, size: u32) -> Result<Addr, RegionF
     ensures answer { GivesOutcome
         (cell_put (terms_in (holdings state pools.old.items)) (pools_of pools.old.items) size)
         (λ a. place_of a.0) result (pools_of pools.new.items) }
-    ensures keeps { KeepsHoldings (is_ok result) (holdings state pools.old.items) (holdings state pools.new.items) }
+    ensures keeps { KeepsWays (is_ok result) (holdings state pools.old.items) (holdings state pools.new.items) }
     ensures refused { IsErrOf result RegionFault.NoSegment → Refuses
         (asking_cell (terms_in (holdings state pools.old.items)) (pools_of pools.old.items) size)
         (holdings state pools.old.items) (holdings state pools.new.items) }
@@ -62,7 +62,7 @@ pub(crate) fn free_cell(pools: &mut Vec<Pool>, size: u32, at: Addr)
     requires block { HasBlock (class_blocks (pools_of pools.old.items) (class_of size)) at.0 }
     ensures pools { pools_of pools.new.items
         ≡ cell_free (pools_of pools.old.items) size (place_of at.0) }
-    ensures keeps { KeepsHoldings true (holdings state pools.old.items) (holdings state pools.new.items) }
+    ensures keeps { KeepsWays true (holdings state pools.old.items) (holdings state pools.new.items) }
     ensures classes { length pools.new.items ≡ 20 }
     ensures others { (class a : ℕ) → HasBlock (class_blocks (pools_of pools.old.items) class) a
         → (class ≡ class_of size → a ≢ at.0)
@@ -89,7 +89,7 @@ pub(crate) fn resize_cell(
         (cell_sized (terms_in (holdings state pools.old.items)) (pools_of pools.old.items) old
         (place_of at.0) size)
         (λ a. place_of a.0) result (pools_of pools.new.items) }
-    ensures keeps { KeepsHoldings (is_ok result) (holdings state pools.old.items) (holdings state pools.new.items) }
+    ensures keeps { KeepsWays (is_ok result) (holdings state pools.old.items) (holdings state pools.new.items) }
     ensures refused { IsErrOf result RegionFault.NoSegment → Refuses
         (asking_cell (terms_in (holdings state pools.old.items)) (pools_of pools.old.items) size)
         (holdings state pools.old.items) (holdings state pools.new.items) }

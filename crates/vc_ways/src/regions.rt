@@ -1,6 +1,6 @@
 ghost use Rattle.std.specs.Prelude.{◌≡◌, All, IfErr, IfOk, OnOk, is_ok, true};
 ghost use Rattle.vc_seg.specs.OneBlock.{IsSize};
-ghost use Rattle.vc_ways.specs.Answer.{HasOwnSegmentsOut, KeepsHoldings};
+ghost use Rattle.vc_ways.specs.Answer.{HasOwnSegmentsOut, KeepsWays};
 ghost use Rattle.vc_ways.specs.Asking.{IsUnserved};
 ghost use Rattle.vc_ways.specs.Regions.{free_in_each, put_block, size_block};
 
@@ -46,7 +46,7 @@ impl Regions {
         ensures answer { AnswersInAllWays (put_block (terms_of state self.old) (regions_of self.old) size)
             result (regions_of self.new) }
         ensures whole { OnOk result (HasFlagsAndPools self.new) }
-        ensures keeps { KeepsHoldings (is_ok result) (all_holdings state self.old) (all_holdings state self.new) }
+        ensures keeps { KeepsWays (is_ok result) (all_holdings state self.old) (all_holdings state self.new) }
         ensures refused { IfErr result (λ stop. IsUnserved (terms_of state self.old)
             (regions_of self.old) size stop (all_holdings state self.old) (all_holdings state self.new)) }
         ensures comes { IfOk result (λ l. Comes (λ _. Unit {0}) (regions_of self.old) l
@@ -94,7 +94,7 @@ impl Regions {
             (size_block (terms_of state self.old) (regions_of self.old) (live_of live.now) size)
             result (regions_of self.new) }
         ensures whole { OnOk result (HasFlagsAndPools self.new) }
-        ensures keeps { KeepsHoldings (is_ok result) (all_holdings state self.old) (all_holdings state self.new) }
+        ensures keeps { KeepsWays (is_ok result) (all_holdings state self.old) (all_holdings state self.new) }
         ensures refused { IfErr result (λ stop. IsUnserved (terms_of state self.old)
             (regions_of self.old) size stop (all_holdings state self.old) (all_holdings state self.new)) }
         ensures comes { IfOk result (λ l. Comes (λ k. StandApart k live.now) (regions_of self.old) l
@@ -137,7 +137,7 @@ impl Regions {
         requires live { IsLiveIn (regions_of self.old) live.now }
         ensures regions { regions_of self.new ≡ free_in_each (regions_of self.old) (live_of live.now) }
         ensures whole { HasFlagsAndPools self.new }
-        ensures keeps { KeepsHoldings true (all_holdings state self.old) (all_holdings state self.new) }
+        ensures keeps { KeepsWays true (all_holdings state self.old) (all_holdings state self.new) }
         ensures others { (k : Live) → IsLiveIn (regions_of self.old) k → StandApart k live.now
             → IsLiveIn (regions_of self.new) k }
     {

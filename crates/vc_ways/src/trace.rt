@@ -1,7 +1,7 @@
 ghost use Rattle.std.specs.Prelude.{◌≡◌, ◌<◌, All, None, IfErr, IfOk, OnOk, bytes_eq, false, if◌then◌else◌, is_ok, length, true};
 ghost use Rattle.std.specs.HashMap.{get};
 ghost use Rattle.vc_seg.specs.OneBlock.{IsSize};
-ghost use Rattle.vc_ways.specs.Answer.{HasOwnSegmentsOut, KeepsHoldings};
+ghost use Rattle.vc_ways.specs.Answer.{HasOwnSegmentsOut, KeepsWays};
 ghost use Rattle.vc_ways.specs.Asking.{IsUnserved, size_asked};
 ghost use Rattle.vc_ways.specs.RegionsParts.{all_holdings, regions_of, terms_of};
 ghost use Rattle.vc_ways.specs.Regions.{new_regions, put_block};
@@ -151,7 +151,7 @@ impl Trace {
             (put_block (terms_of state self.old.regions) (regions_of self.old.regions) size refused))
             result (trace_state self.new) }
         ensures stands { OnOk result (StandsSoFar state self.new) }
-        ensures keeps { KeepsHoldings (is_ok result) (all_holdings state self.old.regions)
+        ensures keeps { KeepsWays (is_ok result) (all_holdings state self.old.regions)
             (all_holdings state self.new.regions) }
         ensures refused { IfErr result (λ stop. IsUnserved (terms_of state self.old.regions)
             (regions_of self.old.regions) size stop
@@ -177,7 +177,7 @@ impl Trace {
             (find_live x.now (trace_state self.old).table))
             result (trace_state self.new) }
         ensures stands { OnOk result (StandsSoFar state self.new) }
-        ensures keeps { KeepsHoldings (is_ok result) (all_holdings state self.old.regions)
+        ensures keeps { KeepsWays (is_ok result) (all_holdings state self.old.regions)
             (all_holdings state self.new.regions) }
         ensures refused { IfErr result (λ stop. IsUnserved (terms_of state self.old.regions)
             (regions_of self.old.regions) size stop
@@ -206,7 +206,7 @@ impl Trace {
             ≡ (if result then Goes (trace_state self.new) else Outside) }
         ensures same { result ≡ false → trace_state self.new ≡ trace_state self.old }
         ensures stands { StandsSoFar state self.new }
-        ensures keeps { KeepsHoldings true (all_holdings state self.old.regions)
+        ensures keeps { KeepsWays true (all_holdings state self.old.regions)
             (all_holdings state self.new.regions) }
     {
         let live = match self.found(x) {
@@ -230,7 +230,7 @@ impl Trace {
         ensures answer { AnswersCommand (trace_step (terms_of state self.old.regions) (trace_state self.old) command.now)
             result (trace_state self.new) }
         ensures stands { OnOk result (StandsSoFar state self.new) }
-        ensures keeps { KeepsHoldings (is_ok result) (all_holdings state self.old.regions)
+        ensures keeps { KeepsWays (is_ok result) (all_holdings state self.old.regions)
             (all_holdings state self.new.regions) }
         ensures refused { IfErr result (λ stop. IsUnserved (terms_of state self.old.regions)
             (regions_of self.old.regions) (size_asked command.now) stop

@@ -29,7 +29,7 @@ impl<D: DictDisc + Drop> Alike<D> {
     ghost use Rattle.vc_base.specs.Prelude.{number_of};
     ghost use Rattle.vc_paths.specs.Layers.{bytes_there};
     ghost use Rattle.vc_paths.specs.Path.{IsPath};
-    ghost use Rattle.vc_algebra.specs.Sides.{CanAsk, CanSeekBeside, sought_place};
+    ghost use Rattle.vc_algebra.specs.Sides.{CanAsk, CanSeekBy, sought_place};
     ghost use Rattle.vc_store.specs.Stores.Alike.{AreAlike, HasLayer, Keeps, ShowsKept, StaysKept, is_of, layered_of, layers_of};
     ghost use Rattle.vc_store.specs.Stores.Stores.{HasDict, IsOpen, dict_at, disc_of, rules_at};
 
@@ -138,7 +138,7 @@ impl<D: DictDisc + Drop> Alike<D> {
         other: (u32, Addr),
         steps: &mut Steps<L>,
     ) -> Option<Addr>
-        requires { CanSeekBeside (layered_of D.rules self.old.store self.old.like) d side other }
+        requires { CanSeekBy (layered_of D.rules self.old.store self.old.like) d side other }
         ensures found { (bytes : List ℕ)
             → bytes_there other.1.0 (layers_of D.rules self.old.store self.old.like other.0).objects ≡ Some bytes
             → option_map number_of result ≡ sought_place side

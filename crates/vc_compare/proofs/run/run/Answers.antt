@@ -2,7 +2,7 @@ use Rattle.vc_base.proofs.Common.{◌≡◌, ◌∙◌, List, [], Option, length
 use Rattle.vc_pool.specs.Parts.{pool_of}
 use Rattle.vc_script.specs.Judged.{judged_lines}
 use Rattle.vc_script.specs.Pieces.{FoundLines}
-use Rattle.vc_ways.specs.Answer.{KeepsHoldings}
+use Rattle.vc_ways.specs.Answer.{KeepsWays}
 use Rattle.vc_compare.specs.Reading.{lines_to_come}
 use Rattle.vc_ways.specs.Asking.{AreRefused, Asking}
 use Rattle.vc_ways.specs.Lends.{HasAllBack}
@@ -49,7 +49,7 @@ returns-clause-keeps g c =
     let r = c.in-Ok-open.regions in
     let opened = c.in-Ok-open.ensures.lends before [] refl refl in
     let last = c.run_lines-ending.new.trace.regions in
-    let kept = subst (λ q. KeepsHoldings false (all_holdings (meaning g) q) (all_holdings (meaning g) last)) c.new-trace.ensures.regions c.run_lines-ending.ensures.keeps in
+    let kept = subst (λ q. KeepsWays false (all_holdings (meaning g) q) (all_holdings (meaning g) last)) c.new-trace.ensures.regions c.run_lines-ending.ensures.keeps in
     let lends = lends-kept (all_holdings (meaning g) r) (all_holdings (meaning g) last) before mid kept (opens-lends (all_holdings (meaning g) r) before mid opened) in
     subst (HasAllBack before) (sym c.close.ensures.slots) (lends-settled [] (all_holdings (meaning g) last) c.close.ensures.discs before mid lends c.close.ensures.settled)
 

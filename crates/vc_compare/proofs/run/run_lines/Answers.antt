@@ -1,6 +1,6 @@
 use Rattle.vc_base.proofs.Common.{Ok, Err, IfSome, subst, arith, true}
 use Rattle.vc_compare.specs.Reading.{GivesNextLine}
-use Rattle.vc_ways.specs.Answer.{KeepsHoldings}
+use Rattle.vc_ways.specs.Answer.{KeepsWays}
 use Rattle.vc_ways.specs.Asking.{AreRefused, Refuses}
 use Rattle.vc_ways.specs.Regions.{WayTerms}
 use Rattle.vc_ways.specs.RegionsParts.{all_holdings, terms_of}
@@ -31,7 +31,7 @@ loop-next-preserved g c =
     let last = all_holdings (meaning g) c.run_line.new.trace.regions in
     let gives = subst (λ k. IfSome (g.S.Source.left c.loop-next.source) (λ input. GivesNextLine (Ok k) c.loop-next.reader c.next.new.self input (g.S.Source.left c.next.new.source))) c.in-Line.is c.in-Ok.ensures.gives in
     let runs = subst (λ (t : WayTerms). RunsTraceLine t (trace_state c.loop-next.trace) (λ a. Refuses a mid last) c.next.new.self.cutter.count c.next.new.self.cutter.line (Ok tt) (trace_state c.run_line.new.trace)) (regions-terms (meaning g) _ start c.loop-next.trace.regions inv.keeps) c.in-Ok-run_line.ensures.runs in
-    let keeps : KeepsHoldings true (all_holdings (meaning g) start) last = kept-then _ (all_holdings (meaning g) start) mid last inv.keeps c.in-Ok-run_line.ensures.keeps in
+    let keeps : KeepsWays true (all_holdings (meaning g) start) last = kept-then _ (all_holdings (meaning g) start) mid last inv.keeps c.in-Ok-run_line.ensures.keeps in
     record {
       stands = c.in-Ok-run_line.ensures.stands;
       can = (c.in-Ok.ensures.line c.in-Line.is).can;

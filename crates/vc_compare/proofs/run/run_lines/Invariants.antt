@@ -1,7 +1,7 @@
 use Rattle.vc_base.proofs.Common.{◌-◌, ◌≤◌, IfSome, Discipline, false, true}
 use Rattle.vc_compare.specs.Reading.{CanRead, lines_to_come}
 use Rattle.vc_script.specs.Judged.{last_number}
-use Rattle.vc_ways.specs.Answer.{KeepsHoldings}
+use Rattle.vc_ways.specs.Answer.{KeepsWays}
 use Rattle.vc_ways.specs.RegionsParts.{all_holdings, terms_of}
 use Rattle.vc_ways.specs.TraceParts.{StandsSoFar, trace_state}
 use Rattle.vc_compare.proofs.Running.{SoFar}
@@ -16,8 +16,8 @@ invariant-loop-next g l =
     record {
       stands : StandsSoFar (meaning g) l.trace;
       can : CanRead l.reader;
-      keeps : KeepsHoldings true (all_holdings (meaning g) l.fn.trace.regions) (all_holdings (meaning g) l.trace.regions);
-      keeps_any : KeepsHoldings false (all_holdings (meaning g) l.fn.trace.regions) (all_holdings (meaning g) l.trace.regions);
+      keeps : KeepsWays true (all_holdings (meaning g) l.fn.trace.regions) (all_holdings (meaning g) l.trace.regions);
+      keeps_any : KeepsWays false (all_holdings (meaning g) l.fn.trace.regions) (all_holdings (meaning g) l.trace.regions);
       so_far : IfSome (g.S.Source.left l.fn.source) (λ input. SoFar (terms_of (meaning g) l.fn.trace.regions) (trace_state l.fn.trace) (lines_to_come l.fn.reader input) l.reader (g.S.Source.left l.source) (trace_state l.trace));
       never_falls : g.S.Source.failures l.fn.source ≤ g.S.Source.failures l.source;
     }

@@ -1,7 +1,7 @@
 use Rattle.vc_base.proofs.Common.{map, set, is_some, sym, ap, subst, Discipline}
 use Rattle.vc_region.specs.Cells.{cells_in}
 use Rattle.vc_region.specs.declared.region.Region.TheVariants.{Best}
-use Rattle.vc_algebra.specs.Filling.{CanFillRegion, FillsDict}
+use Rattle.vc_algebra.specs.Filling.{CanFillIn, FillsDict}
 use Rattle.vc_algebra.specs.RegionLaws.{dict-at}
 use Rattle.vc_algebra.proofs.FillLemmas.{can-ask, can-filled, fills}
 use Rattle.vc_algebra.proofs.ToldLemmas.{no-other}
@@ -28,7 +28,7 @@ put-requires-clause-ask g c =
     let s = c.args.self.now in
     let kinds = map g.D.DictDisc.rules s.kinds.items in
     can-ask (meaning g) kinds c.in-Best.best s.dicts c.args.d c.dict_mut-dict.result.now (g.D.DictDisc.rules c.kind_of-kind.result.now) c.dict_mut-dict.ensures.dict
-    (subst (λ r. CanFillRegion (meaning g) kinds r s.dicts) c.in-Best.is c.requires.fill) c.kind_of-kind.ensures
+    (subst (λ r. CanFillIn (meaning g) kinds r s.dicts) c.in-Best.is c.requires.fill) c.kind_of-kind.ensures
 
 pub returns-clause-fills : goal.returns-clause-fills
 returns-clause-fills g c =
@@ -38,11 +38,11 @@ returns-clause-fills g c =
     let b = c.in-Best.best in
     subst (λ r. FillsDict (meaning g) kinds c.put.result c.args.d c.args.object.now r (Best c.put.new.best) s.dicts (set s.dicts c.args.d c.put.new.dict)) (sym c.in-Best.is)
     (fills (meaning g) kinds b s.dicts c.args.d v (g.D.DictDisc.rules c.kind_of-kind.result.now) c.dict_mut-dict.ensures.dict
-    (subst (λ r. CanFillRegion (meaning g) kinds r s.dicts) c.in-Best.is c.requires.fill) c.kind_of-kind.ensures c.put.new.best c.put.new.dict c.put.ensures.leaves c.put.result c.args.object.now c.put.ensures.put)
+    (subst (λ r. CanFillIn (meaning g) kinds r s.dicts) c.in-Best.is c.requires.fill) c.kind_of-kind.ensures c.put.new.best c.put.new.dict c.put.ensures.leaves c.put.result c.args.object.now c.put.ensures.put)
 
 pub returns-clause-fill : goal.returns-clause-fill
 returns-clause-fill g c =
     let s = c.args.self.now in
     let kinds = map g.D.DictDisc.rules s.kinds.items in
     can-filled (meaning g) kinds c.in-Best.best s.dicts c.args.d c.dict_mut-dict.result.now (g.D.DictDisc.rules c.kind_of-kind.result.now) c.dict_mut-dict.ensures.dict
-    (subst (λ r. CanFillRegion (meaning g) kinds r s.dicts) c.in-Best.is c.requires.fill) c.kind_of-kind.ensures c.put.new.best c.put.new.dict c.put.ensures.leaves
+    (subst (λ r. CanFillIn (meaning g) kinds r s.dicts) c.in-Best.is c.requires.fill) c.kind_of-kind.ensures c.put.new.best c.put.new.dict c.put.ensures.leaves

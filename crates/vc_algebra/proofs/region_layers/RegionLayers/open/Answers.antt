@@ -1,6 +1,6 @@
 use Rattle.vc_base.proofs.Common.{IsSome, map, sym, ap, ◌∙◌, subst, at_number, Discipline}
 use Rattle.vc_region.specs.Cells.{cells_in}
-use Rattle.vc_algebra.specs.Filling.{CanFillRegion}
+use Rattle.vc_algebra.specs.Filling.{CanFillIn}
 use Rattle.vc_algebra.specs.InRegion.{held}
 use Rattle.vc_algebra.proofs.FillLemmas.{can-opened, helds-opened}
 use Rattle.vc_algebra.proofs.region_layers.RegionLayers.open.Given.{Over}
@@ -15,7 +15,7 @@ returns-in-Ok-clause-fill g c =
     let s = c.args.self.now in
     let kinds = map g.D.DictDisc.rules s.kinds.items in
     let d = c.new.result in
-    subst (λ ds. CanFillRegion (meaning g) kinds s.region ds) (sym c.in-Ok.ensures.ok)
+    subst (λ ds. CanFillIn (meaning g) kinds s.region ds) (sym c.in-Ok.ensures.ok)
     (can-opened (meaning g) kinds s.region s.dicts d c.args.method (λ rules. c.new.ensures.dict rules (cells_in s.region)) c.new.ensures.current c.new.ensures.table c.new.ensures.method c.requires.method (subst (λ k. IsSome (at_number kinds k)) (sym c.new.ensures.kind) c.requires.kind) c.requires.fill)
 
 pub returns-in-Ok-clause-ok : goal.returns-in-Ok-clause-ok

@@ -1,6 +1,6 @@
 use Rattle.vc_base.proofs.Common.{◌≡◌, length, true, Discipline}
 use Rattle.vc_last.specs.Parts.{segments_in}
-use Rattle.vc_ways.specs.Answer.{KeepsHolding}
+use Rattle.vc_ways.specs.Answer.{KeepsWay}
 use Rattle.vc_ways.specs.LastWay.{drop_dead}
 use Rattle.vc_ways.specs.LastParts.{IsPaired, holding_of, way_of}
 use Rattle.vc_ways.proofs.last_way.LastWay.drop_dead.Given as goal
@@ -14,7 +14,7 @@ invariant-loop-self g l =
     record {
       way : drop_dead (way_of l.self) ≡ drop_dead (way_of l.initial.self);
       paired : IsPaired l.self;
-      keeps : KeepsHolding true (holding_of (meaning g) l.initial.self) (holding_of (meaning g) l.self);
+      keeps : KeepsWay true (holding_of (meaning g) l.initial.self) (holding_of (meaning g) l.self);
       segments : segments_in l.self.region ≡ segments_in l.initial.self.region;
     }
 

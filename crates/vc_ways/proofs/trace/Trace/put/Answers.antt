@@ -1,6 +1,6 @@
 use Rattle.vc_base.proofs.Common.{◌∙◌, None, length-map, refl, sym, ap, subst, Discipline, false, true}
 use Rattle.vc_pool.specs.Parts.{pool_of}
-use Rattle.vc_ways.specs.Answer.{KeepsHoldings}
+use Rattle.vc_ways.specs.Answer.{KeepsWays}
 use Rattle.vc_ways.specs.RegionsParts.{all_holdings, live_of, regions_of, terms_of}
 use Rattle.vc_ways.specs.Step.{goes_with}
 use Rattle.vc_ways.specs.TraceParts.{trace_state}
@@ -33,8 +33,8 @@ returns-in-Ok-place-clause-stands g c =
 
 pub returns-in-Ok-place-clause-keeps : goal.returns-in-Ok-place-clause-keeps
 returns-in-Ok-place-clause-keeps g c =
-    subst (λ (m : Regions _ _). KeepsHoldings true (all_holdings (meaning g) c.args.self.now.regions) (all_holdings (meaning g) m)) (sym c.in-Ok-place.ensures.regions) c.in-Ok.ensures.keeps
+    subst (λ (m : Regions _ _). KeepsWays true (all_holdings (meaning g) c.args.self.now.regions) (all_holdings (meaning g) m)) (sym c.in-Ok-place.ensures.regions) c.in-Ok.ensures.keeps
 
 pub returns-in-Err-place-clause-keeps : goal.returns-in-Err-place-clause-keeps
 returns-in-Err-place-clause-keeps g c =
-    subst (λ (m : Regions _ _). KeepsHoldings false (all_holdings (meaning g) c.args.self.now.regions) (all_holdings (meaning g) m)) (sym c.in-Err-place.ensures.regions) (kept-any false (all_holdings (meaning g) c.args.self.now.regions) (all_holdings (meaning g) c.put.new.self) c.in-Ok.ensures.keeps)
+    subst (λ (m : Regions _ _). KeepsWays false (all_holdings (meaning g) c.args.self.now.regions) (all_holdings (meaning g) m)) (sym c.in-Err-place.ensures.regions) (kept-any false (all_holdings (meaning g) c.args.self.now.regions) (all_holdings (meaning g) c.put.new.self) c.in-Ok.ensures.keeps)

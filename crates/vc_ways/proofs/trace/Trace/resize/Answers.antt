@@ -1,7 +1,7 @@
 use Rattle.vc_base.proofs.Common.{◌∙◌, None, Some, bytes_eq, length-map, option_map, refl, sym, ap, subst, Discipline, false, true}
 use Rattle.std.proofs.lemmas.Map.Made.{lookup-map_values}
 use Rattle.vc_pool.specs.Parts.{pool_of}
-use Rattle.vc_ways.specs.Answer.{KeepsHoldings}
+use Rattle.vc_ways.specs.Answer.{KeepsWays}
 use Rattle.vc_ways.specs.Regions.{size_block}
 use Rattle.vc_ways.specs.RegionsParts.{IsStopped, StandApart, all_holdings, live_of, regions_of, terms_of}
 use Rattle.vc_ways.specs.Step.{Stops, goes_with, size_found}
@@ -52,11 +52,11 @@ returns-in-Ok-place-clause-stands g c =
 
 pub returns-in-Ok-place-clause-keeps : goal.returns-in-Ok-place-clause-keeps
 returns-in-Ok-place-clause-keeps g c =
-    subst (λ (m : Regions _ _). KeepsHoldings true (all_holdings (meaning g) c.args.self.now.regions) (all_holdings (meaning g) m)) (sym c.in-Ok-place.ensures.regions) c.in-Ok.ensures.keeps
+    subst (λ (m : Regions _ _). KeepsWays true (all_holdings (meaning g) c.args.self.now.regions) (all_holdings (meaning g) m)) (sym c.in-Ok-place.ensures.regions) c.in-Ok.ensures.keeps
 
 pub returns-in-Err-place-clause-keeps : goal.returns-in-Err-place-clause-keeps
 returns-in-Err-place-clause-keeps g c =
-    subst (λ (m : Regions _ _). KeepsHoldings false (all_holdings (meaning g) c.args.self.now.regions) (all_holdings (meaning g) m)) (sym c.in-Err-place.ensures.regions) (kept-any false (all_holdings (meaning g) c.args.self.now.regions) (all_holdings (meaning g) c.resize.new.self) c.in-Ok.ensures.keeps)
+    subst (λ (m : Regions _ _). KeepsWays false (all_holdings (meaning g) c.args.self.now.regions) (all_holdings (meaning g) m)) (sym c.in-Err-place.ensures.regions) (kept-any false (all_holdings (meaning g) c.args.self.now.regions) (all_holdings (meaning g) c.resize.new.self) c.in-Ok.ensures.keeps)
 
 pub returns-in-Err-clause-answer : goal.returns-in-Err-clause-answer
 returns-in-Err-clause-answer g c =

@@ -1,5 +1,5 @@
 use Rattle.vc_base.proofs.Common.{Discipline, true}
-use Rattle.vc_ways.specs.Answer.{KeepsHoldings}
+use Rattle.vc_ways.specs.Answer.{KeepsWays}
 use Rattle.vc_ways.specs.RegionsParts.{all_holdings, terms_of}
 use Rattle.vc_ways.specs.TraceParts.{trace_state}
 use Rattle.vc_ways.proofs.OtherCommands.{others-outside}
@@ -29,7 +29,7 @@ returns-else-is_region-3-clause-keeps g c = kept-same _ (all_holdings (meaning g
 pub returns-in_default : goal.returns-in_default
 returns-in_default g c =
     let t = c.args.self.now in
-    let same : KeepsHoldings true (all_holdings (meaning g) t.regions) (all_holdings (meaning g) t.regions) = kept-same _ (all_holdings (meaning g) t.regions) in
+    let same : KeepsWays true (all_holdings (meaning g) t.regions) (all_holdings (meaning g) t.regions) = kept-same _ (all_holdings (meaning g) t.regions) in
     record {
       answer = others-outside (terms_of (meaning g) t.regions) (trace_state t) c.args.command.now c.in_default.not-Alloc c.in_default.not-Resize c.in_default.not-Free;
       stands = c.requires.stands;
