@@ -1,4 +1,4 @@
-use crate::images::{THREE, T, W, X, Y, made};
+use crate::images::{T, THREE, W, X, Y, made};
 use std::alloc::Global;
 use std::process::Abort;
 use std::test::Fail;

@@ -48,7 +48,16 @@ fn broken(rt: HostRuntime) -> Result<(), Fail> {
     // The third write fails.
     let disc = Box::new(alloc, HeapDisc::new(32))?;
     let text = b"busy 5 free 0 sbusy 260 sfree 0 ";
-    ends(&rt, alloc, THREE, Some(disc), 3, ImageStatus::Write, text, fault)
+    ends(
+        &rt,
+        alloc,
+        THREE,
+        Some(disc),
+        3,
+        ImageStatus::Write,
+        text,
+        fault,
+    )
 }
 
 #[test]
@@ -56,24 +65,54 @@ fn not_lent(rt: HostRuntime) -> Result<(), Fail> {
     let alloc = rt.alloc();
     let many = b"vmimage: too many segments\n";
     let disc = Box::new(alloc, SbrkDisc::new(32, 1000))?;
-    ends(&rt, alloc, TWO, Some(disc), 0, ImageStatus::NotLent, b"", many)?;
+    ends(
+        &rt,
+        alloc,
+        TWO,
+        Some(disc),
+        0,
+        ImageStatus::NotLent,
+        b"",
+        many,
+    )?;
     let refused = b"vmimage: segment 2: no segment\n";
     let disc = Box::new(alloc, FuseDisc::new(32, vec![in alloc; 2]?))?;
-    ends(&rt, alloc, TWO, Some(disc), 0, ImageStatus::NotLent, b"", refused)
+    ends(
+        &rt,
+        alloc,
+        TWO,
+        Some(disc),
+        0,
+        ImageStatus::NotLent,
+        b"",
+        refused,
+    )
 }
 
 #[test]
 fn faults(rt: HostRuntime) -> Result<(), Fail> {
     let alloc = rt.alloc();
     for (fault, line, number) in [
-        (ImageFault::Memory, b"vmimage: out of memory\n".as_slice(), 5u8),
-        (ImageFault::Load(LoadFault::OutOfMemory), b"vmimage: out of memory\n", 5),
+        (
+            ImageFault::Memory,
+            b"vmimage: out of memory\n".as_slice(),
+            5u8,
+        ),
+        (
+            ImageFault::Load(LoadFault::OutOfMemory),
+            b"vmimage: out of memory\n",
+            5,
+        ),
         (
             ImageFault::Load(LoadFault::Bad(Part::Dictionary(u32::MAX))),
             b"vmimage: unsound: dictionary 4294967295\n",
             1,
         ),
-        (ImageFault::Open(OpenFault::NoDiscipline), b"vmimage: no discipline\n", 6),
+        (
+            ImageFault::Open(OpenFault::NoDiscipline),
+            b"vmimage: no discipline\n",
+            6,
+        ),
     ] {
         let mut err = sink(alloc, 0)?;
         assert_eq!(rt; tell(&mut err, fault).number(), number);
