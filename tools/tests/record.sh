@@ -135,6 +135,10 @@ in_the_way() {
     check "a killed program: the status is that of the signal" same "$?" 137
     "$record" out/x -- echo run 2> fault
     check "a missing folder of OUT is told, and the program isn't run" same "$? $(cat fault)" "2 record: no folder $dir/out"
+    ln -s none/here dangling
+    "$record" dangling -- echo run > made.out 2> fault
+    check "an OUT that can't be made is told, and the program isn't run" \
+        same "$? $(cat fault made.out)" "2 record: $dir/dangling can't be written"
     check "no word -- is told" same "$("$record" out.vm echo run 2> /dev/null; echo $?)" 2
     ln -s "$record" linked
     ./linked linked.vm -- true
