@@ -141,7 +141,7 @@ in_the_way() {
         same "$? $(cat fault made.out)" "2 record: $dir/dangling can't be written"
     check "no word -- is told" same "$("$record" out.vm echo run 2> /dev/null; echo $?)" 2
     ln -s "$record" linked
-    ./linked linked.vm -- true
+    ./linked linked.vm -- ./live 1 1
     check "through a symbolic link record finds its library" same "$? $(head -n 1 linked.vm)" "0 open r best 9"
 }
 
@@ -161,6 +161,24 @@ nothing() {
     else
         skipped "a program with a sanitiser: cc makes none here"
     fi
+    cc -O0 -fno-builtin -o mine -x c - << 'END'
+#include <stddef.h>
+static char bytes[4096];
+void *malloc(size_t size) { return size <= sizeof bytes ? bytes : NULL; }
+void free(void *p) { (void)p; }
+int main(void) { free(malloc(10)); return 3; }
+END
+    printf 'int main(void) { return 0; }\n' | cc -o idle -x c -
+    for name in mine:3 idle:0; do
+        "$record" empty.vm -- "./${name%:*}" 2> fault
+        check "a program without a call to record, ${name%:*}: it is told, with status 125" same "$? $(cat fault)" \
+            "125 record: no call of ./${name%:*} is in $dir/empty.vm (status ${name#*:}): it allocates nothing, or it has an allocator of its own"
+    done
+    "$record" -t empty.trace -- ./idle 2> fault
+    check "a program without a call to record: of a trace it is told too" same "$? $(grep -c '^record: no call of ./idle is in ' fault)" "125 1"
+    printf '#include <stdlib.h>\nint main(void) { free(malloc(20000000)); return 0; }\n' | cc -O0 -fno-builtin -o great -x c -
+    "$record" great.vm -- ./great 2> fault
+    check "a program all of whose blocks are too great for a script: its comments are a recording" same "$? $(cat fault)" "0 "
     "$record" missing.vm -- ./missing 2> fault
     check "a missing program has status 127 and the shell's line alone" same "$? $(wc -l < fault)" "127 1"
 }
