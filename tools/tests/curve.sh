@@ -27,8 +27,18 @@ for method in best pool last debug profile; do
     done
 done
 check "curve of dictionaries: the peak is that of the points" "$curve" -p "$programs/dtrun" "$here/../examples/set.dt" > drawn.svg
-curved /dev/null > bad.said
-check "curve of an empty script: it is told" same "$(cat bad.said)" "curve: the script opens no region"
+for words in '' '# no command\n' 'alloc r a 1\n'; do
+    printf %b "$words" > bad.vm
+    "$curve" -p "$program" bad.vm > drawn.svg 2> fault
+    check "curve of a script that opens no region, '$words': it is told" same "$? $(cat fault)" "1 curve: the script opens no region"
+done
+printf '\357\273\277open r best 1\nalloc r a 1\n' > marked.vm
+"$curve" -p "$program" marked.vm > drawn.svg 2> fault
+check "curve of a script with a byte order mark: it is told" \
+    same "$? $(cat fault)" "1 curve: the script begins with a byte order mark: tail -c +4 leaves its three bytes out"
+printf '\377\376o\000p\000' > marked.vm
+"$curve" -p "$program" marked.vm > drawn.svg 2> fault
+check "curve of a script in UTF-16: it is told" same "$? $(sed 's/:  *convert.*//' fault)" "1 curve: the script begins with the byte order mark of UTF-16"
 printf 'open r best 1\nalloc r a 1\nfrob\n' > bad.vm
 curved bad.vm > bad.said
 check "curve: a bad line is told by its own number" same "$(cat bad.said)" "curve: vmreplay: line 3: unknown command"
@@ -51,7 +61,7 @@ check "curve: those of another region are not told" \
 said "$here/../examples/trace.vm"
 check "curve: with none refused the status is 0" same "$status $(cat drawn.said) $(grep -c refused drawn.svg)" "0  0"
 said -r q refusals.vm
-check "curve of a region that is never opened" same "$status $(cat drawn.said)" "1 curve: no region q is ever open: the script opens none"
+check "curve of a region that is never opened" same "$status $(cat drawn.said)" "1 curve: no region q is ever open: the script opens r, s"
 printf 'open r best 19\nalloc r a 1\n' > bad.vm
 said bad.vm
 check "curve of a region whose open is refused" \

@@ -129,7 +129,17 @@ check "picture of a script with two regions: the one that is named" same "$statu
 said -n 1 two.vm
 check "picture of a script with two regions, up to the line before the second" same "$status $(told drawn.svg)" "0 0 0 0 0 0 0 0 0"
 said -r t two.vm
-check "picture of a region that is never opened" same "$status $(cat drawn.said)" "1 picture: no region t is open: the script opens none up to line 4"
+check "picture of a region that is never opened" same "$status $(cat drawn.said)" "1 picture: no region t is open: the script opens r, s up to line 4"
+for words in '' '# no command\n' 'alloc r a 1\n'; do
+    printf %b "$words" > bad.vm
+    said bad.vm
+    check "picture of what is no script and no replies, '$words': it is told" same "$status $(cat drawn.said)" \
+        "1 picture: no line opens a region, as in a script, and none is a reply of stat, segments or blocks"
+done
+printf '\357\273\277open r best 1\nalloc r a 1\n' > marked.vm
+said marked.vm
+check "picture of a script with a byte order mark: it is told" \
+    same "$status $(cat drawn.said)" "1 picture: marked.vm begins with a byte order mark: tail -c +4 leaves its three bytes out"
 printf 'open r best 1\nfrob\n' > bad.vm
 said bad.vm
 check "picture of a script with a bad line: it is told by its own number" \

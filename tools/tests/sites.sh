@@ -55,9 +55,13 @@ check "sites: of the greatest peak first" same "$(tr -d , < table | awk 'NR > 2 
 
 # What isn't there, and what was refused.
 table -r q table.vm
-check "sites: a region that is never opened" same "$status $(cat table.said)" "1 sites: no region q is ever open: the script opens none"
+check "sites: a region that is never opened" same "$status $(cat table.said)" "1 sites: no region q is ever open: the script opens r"
 table /dev/null
-check "sites: an empty script" same "$status $(cat table.said)" "2 sites: the script opens no region"
+check "sites: an empty script" same "$status $(cat table.said)" "1 sites: the script opens no region"
+printf '\357\273\277open r best 1\nalloc r a 1\n' > marked.vm
+table marked.vm
+check "sites: a script with a byte order mark" \
+    same "$status $(cat table.said)" "1 sites: the script begins with a byte order mark: tail -c +4 leaves its three bytes out"
 table table.none
 check "sites: no such script" same "$status $(cat table.said)" "2 sites: table.none can't be read"
 printf 'open r best 1\nfrob\n' > bad.vm
