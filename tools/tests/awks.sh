@@ -51,7 +51,7 @@ tell_all() {
     tell ways.nodes "$here/ways" -p "$compare" -n 7 "$here/../examples/nodes.trace"
     for script in sites bad long; do tell "check.$script" "$here/check" -p "$program" "awks/$script.vm"; done
     for form in mtrace ltrace; do tell "from.$form" "$here/from" "$form" "awks/$form.calls"; done
-    ! has cc || { compiled live && tell record.refused "$here/record" -p "$program" -d 19 live.vm -- ./live 1100 10; }
+    ! has cc || { compiled live && tell record.refused "$here/record" -p "$program" -d 16 live.vm -- ./live 1100 1000; }
 }
 compare=$programs/vmcompare
 tell_all here

@@ -42,7 +42,7 @@ lost check -p "$program" lost.vm
 lost check -p "$program" bad.vm
 for tool in picture curve sites; do lost "$tool" -p "$program" lost.vm; done
 lost ways -n 1 -p "$programs/vmcompare" "$here/../examples/array.trace"
-"$here/check" --hints | true 2> fault
+{ "$here/check" --hints 2> fault; } | true
 check "a reader that ends early: nothing is said" same "$(cat fault)" ""
 "$here/../bench/edits.sh" > edits.out 2>&1
 check "bench/edits.sh without a word tells its usage" same "$? $(head -c 6 edits.out)" "2 usage:"

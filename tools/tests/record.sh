@@ -139,7 +139,21 @@ in_the_way() {
     "$record" dangling -- echo run > made.out 2> fault
     check "an OUT that can't be made is told, and the program isn't run" \
         same "$? $(cat fault made.out)" "2 record: $dir/dangling can't be written"
-    check "no word -- is told" same "$("$record" out.vm echo run 2> /dev/null; echo $?)" 2
+    while IFS='|' read -r words says; do
+        # shellcheck disable=SC2086
+        "$record" $words > said.out 2> fault
+        check "wrong words, '$words': what is wrong stands in a line" \
+            same "$? $(cat said.out fault)" "2 record: $says; record --help prints the usage"
+    done << 'END'
+|no file OUT and no program are told
+out.vm|no -- stands between the file out.vm and a program
+out.vm echo run|no -- stands between the file out.vm and a program
+out.vm --|no program stands behind --
+-- echo run|no file OUT stands in front of --
+-z|no option -z
+-z out.vm -- echo run|no option -z
+-m|-m wants a word behind it
+END
     ln -s "$record" linked
     ./linked linked.vm -- ./live 1 1
     check "through a symbolic link record finds its library" same "$? $(head -n 1 linked.vm)" "0 open r best 9"
@@ -283,7 +297,11 @@ options() {
     check "options: that comment" same "$(grep -c ': a region of this method has no align$' options.vm)" 2
     check "options: a method that is none" same "$("$record" -m bset options.vm -- true 2> /dev/null; echo $?)" 2
     check "options: a region's name that is none" same "$("$record" -r 9 options.vm -- true 2> /dev/null; echo $?)" 2
-    check "options: a discipline that is none" same "$("$record" -d x options.vm -- true 2> /dev/null; echo $?)" 2
+    for discipline in x 0 19 99 9x 00000000099; do
+        "$record" -d "$discipline" options.vm -- echo run > options.out 2> fault
+        check "options: discipline $discipline is none, and the program isn't run" \
+            same "$? $(cat options.out fault)" "2 record: no discipline $discipline: it is a number from 1 to 18"
+    done
     words=$(awk 'BEGIN { for (i = 1; i <= 65; i++) printf " -w f%d", i }')
     # shellcheck disable=SC2086
     check "options: 65 functions to look through" same "$("$record" $words options.vm -- echo run 2> /dev/null; echo $?)" 2
@@ -339,9 +357,9 @@ refusals() {
     "$record" -p "$program" -2 -m last refused.vm -- ./fifo 2> fault
     check "of version 2, in a last region, by vmreplay: the same" \
         same "$? $(cat fault)" "0 record: $dir/refused.vm: 1 of 5 ${told% 5:} 6: not last"
-    "$record" -p "$program" -d 19 refused.vm -- ./fifo 2> fault
-    check "over no discipline: all commands are told" same "$? $(cat fault)" \
-        "0 record: $dir/refused.vm: 5 of 5 commands are refused when it is run, the first in line 1: no such discipline"
+    "$record" -p "$program" -d 16 refused.vm -- ./live 1100 1000 2> fault
+    check "over a discipline whose bytes end: what is refused is told" same "$? $(sed 's/: [0-9]* of .*in line [0-9,]*/:/' fault)" \
+        "0 record: $dir/refused.vm:: no segment"
     # Blocks of 60,000 bytes take a segment each, of which a region has 1,023.
     "$record" -p "$program" refused.vm -- ./live 1100 60000 2> fault
     check "1,100 blocks of 60,000 bytes: the refused are told without a word" same "$? $(sed 's/first in.*:/first:/' fault)" \
