@@ -13,6 +13,8 @@ awk 'BEGIN {
 }' > awks/many.vm
 printf 'open r best 1\nalloc r \303\274\t4k\377\n' > awks/bad.vm
 printf '# %5000s\n' x > awks/long.vm
+printf '\357\273\277open r best 1\n' > awks/marked.vm
+printf '# no command\n' > awks/plain.vm
 printf '%s\n' '= Start' '@ ./prog:(main+0x1d)[0x11b1] + 0x55c790c7b4a0 0x64' '@ ./prog:[0x1203] < 0x55c790c7b4a0' \
     '@ ./prog:[0x1203] > 0x7fffffffffff 0x1388' '@ ./prog:(a_function_with_a_name_of_more_than_32_bytes+0x1)[0x12d9] + 0xffffffffffffffff 0x1000001' \
     '@ ./prog:(a_function_with_a_name_of_more_than_32_bytes+0x1)[0x12d9] + 0xfffffffffffffffe 0xfffff' '@ ./prog:[0x1226] - 0x1' > awks/mtrace.calls
@@ -47,6 +49,11 @@ tell_all() {
     tell curve.bad "$here/curve" -p "$program" awks/bad.vm
     tell sites.sites "$here/sites" -p "$program" awks/sites.vm
     tell sites.many "$here/sites" -p "$program" -n 5 awks/many.vm
+    for tool in picture curve sites; do
+        tell "$tool.none" "$here/$tool" -p "$program" -r q awks/many.vm
+        tell "$tool.marked" "$here/$tool" -p "$program" awks/marked.vm
+        tell "$tool.plain" "$here/$tool" -p "$program" awks/plain.vm
+    done
     tell ways.array "$here/ways" -p "$compare" "$here/../examples/array.trace"
     tell ways.nodes "$here/ways" -p "$compare" -n 7 "$here/../examples/nodes.trace"
     for script in sites bad long; do tell "check.$script" "$here/check" -p "$program" "awks/$script.vm"; done
