@@ -148,7 +148,7 @@ for words in '' frob 'mtrace a b' '-m bset mtrace' '-r 9 mtrace' '-d x mtrace' '
 done
 if [ -c /dev/full ]; then
     "$from" ltrace from.some > /dev/full 2> from.said
-    check "a script that can't be written" same "$?" 2
+    check "a script that can't be written" same "$? $(grep -c "^from: the output can't be written\$" from.said) $(grep -c '^cat' from.said)" "2 1 0"
 else
     skipped "a script that can't be written: there is no /dev/full"
 fi
