@@ -10,7 +10,7 @@ runs=${1:-5}
 dir=$(mktemp -d)
 trap 'rm -rf "$dir"' EXIT
 cc -O2 -fno-builtin -o "$dir/calls" bench/calls.c -lpthread
-tools/record "$dir/script" -- true
+tools/record "$dir/script" -- sh -c :
 
 # run NAME COMMAND..: notes the seconds.
 run() {

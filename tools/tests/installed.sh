@@ -27,9 +27,9 @@ END
             check "installed: vmrecord records" diff "$here/tests/sizes.lines" sizes.lines
             "$at/bin/vmrecord" -m pool installed.vm -- ./live 5 100 2> fault
             check "installed: vmrecord finds vmreplay" same "$? $(cat fault)" "0 "
-            "$at/bin/vmrecord" -d 19 installed.vm -- ./live 5 100 2> fault
+            "$at/bin/vmrecord" -d 16 installed.vm -- ./live 1100 1000 2> fault
             check "installed: vmrecord tells what is refused" \
-                same "$(grep -c ': 6 of 6 commands are refused when it is run' fault)" 1
+                same "$(grep -c ': [0-9]* of 1,101 commands are refused when it is run' fault)" 1
         else
             skipped "installed: what vmrecord records: there is no cc"
         fi
