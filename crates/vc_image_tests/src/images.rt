@@ -15,18 +15,6 @@ pub(crate) const NONE: Image = Image {
     numbers: &[],
 };
 
-/// Of one free segment of 64 bytes, number 3.
-pub(crate) const ONE: Image = Image {
-    bytes: 92,
-    numbers: &[(8, 1), (12, 3_145_729), (20, 3), (24, 64), (44, 32)],
-};
-
-/// The same with a block of 16 bytes and a tag in place of the gap.
-pub(crate) const BLOCK: Image = Image {
-    bytes: 92,
-    numbers: &[(8, 1), (20, 3), (24, 64), (44, 32), (48, 16), (52, 1)],
-};
-
 /// Of two free segments, number 5 of 64 bytes and number 2 of 96, in this order of lending. The lesser gap is the root, and
 /// the other one stands right of it.
 pub(crate) const TWO: Image = Image {

@@ -1,12 +1,8 @@
-//! Tests of images where a stream or a discipline fails, or notes what it is asked: saved, loaded, shown, and run over.
+//! Tests of images where a stream or a discipline fails: saved, loaded, shown, and run over.
 #![tactic(auto)]
 
 #[cfg(test)]
 mod images;
-#[cfg(test)]
-mod loads;
-#[cfg(test)]
-mod noted;
 #[cfg(test)]
 mod runs;
 #[cfg(test)]
