@@ -31,7 +31,7 @@ tar --exclude=out -cf - crates crates.txt HANDLES | tar -xf - -C "$dir"
 cd "$dir"
 mkdir -p crates/compares/src
 # the holders of a test, and the kind of another that counts its compares
-cp crates/vc_cost/src/tests/many.rt crates/vc_views_tests/src/counted.rt crates/compares/src
+cp crates/vc_cost/src/tests/many.rt crates/vc_store_tests/src/counted.rt crates/compares/src
 echo "compares: vc_model vc_base vc_seg vc_dtdisc vc_splay vc_dtlist vc_dtord vc_extent vc_best vc_cost anyhow" >> crates.txt
 # a counter of steps, which is none at run time, counts there too
 sed -i -e 's/^    marker: PhantomData<L>,/&\n    pub made: u64,/' -e 's/^            marker: PhantomData,/&\n            made: 0,/' \

@@ -9,7 +9,7 @@ cc -shared -fPIC -O1 -o "$dir/fail.so" bench/fail_calls.c -ldl
 
 run() {
     FAIL_AT=$1 LD_PRELOAD="$dir/fail.so" REPORT="$dir/report" \
-        crates/vc_tests/out/vc_tests_tests lends::lend_once > "$dir/out" || { cat "$dir/out"; exit 1; }
+        crates/vc_tests/out/vc_tests_tests hostile::lends::lend_once > "$dir/out" || { cat "$dir/out"; exit 1; }
     read -r made held odd < "$dir/report"
 }
 

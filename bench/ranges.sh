@@ -35,7 +35,7 @@ operations() {
     cd "$dir"
     mkdir -p crates/operations/src
     # the kind of a test that counts its compares
-    cp crates/vc_views_tests/src/counted.rt crates/operations/src
+    cp crates/vc_store_tests/src/counted.rt crates/operations/src
     echo "operations: vc_model vc_base vc_seg vc_dtdisc vc_paths vc_dict vc_best vc_region vc_objects vc_algebra" >> crates.txt
     cat > crates/operations/src/main.rt <<'END'
 //! Counts the compares of a range and of three operations on two paths of three ordered sets each.
