@@ -1,4 +1,1 @@
-pub mod ReadyLemmas
-pub mod ListLemmas
-pub mod ToyLemmas
 pub mod PathLemmas

@@ -1,9 +1,15 @@
-//! Tests of dictionaries: over a memory of five blocks, view paths along them, and in a best region.
+//! Kinds and disciplines of tests, some of which note what is asked of them, and tests of puts into
+//! ordered dictionaries.
 #![tactic(auto)]
 
-pub mod cells;
 #[cfg(test)]
-mod objects;
-pub mod paths;
+mod large;
+mod one_hash;
+#[cfg(test)]
+mod puts;
+mod watched_disc;
+mod watched_kind;
 
-pub use cells::OneHash;
+pub use one_hash::OneHash;
+pub use watched_disc::{Lends, WatchedDisc, no_lends};
+pub use watched_kind::{Calls, WatchedKind, no_calls};

@@ -1,4 +1,1 @@
-pub mod ToyLemmas
-pub mod Stages
-pub mod Known
 pub mod Lents

@@ -2,13 +2,7 @@
 use Rattle.vc_model.specs.Discipline.{Discipline, HasOut}
 use Rattle.vc_best.specs.Parts.{disc_in, segments_in}
 use Rattle.vc_best.specs.declared.best.Best.{Best}
-use Rattle.vc_last.specs.Parts as last
-use Rattle.vc_last.specs.declared.last.Last.{Last}
 
 -- the segments of a best region are out
 abbrev pub IsLent : {I : Type 0} {V : I → Type 0} → ((x : I) × V x → Discipline) → Best I V → Type 0
 IsLent meaning b = HasOut (disc_in meaning b) (segments_in b)
-
--- those of a last region are
-abbrev pub IsLastLent : {I : Type 0} {V : I → Type 0} → ((x : I) × V x → Discipline) → Last I V → Type 0
-IsLastLent meaning l = HasOut (last.disc_in meaning l) (last.segments_in l)

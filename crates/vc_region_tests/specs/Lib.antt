@@ -1,5 +1,1 @@
-pub mod Toy
-pub mod Busy
-pub mod Two
 pub mod Lent
-pub mod PoolLent

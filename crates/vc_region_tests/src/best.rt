@@ -1,5 +1,3 @@
 mod calls;
 mod filled;
-mod growth;
 mod large;
-mod places;

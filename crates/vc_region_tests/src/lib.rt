@@ -1,17 +1,7 @@
-//! Tests of what regions stand on: segments that grow, splay trees, extents and gaps, and of best regions, pools and last
-//! regions.
+//! Tests of best regions whose allocations are counted, and of exceptions that disciplines make.
 #![tactic(auto)]
 
 #[cfg(test)]
 mod best;
 #[cfg(test)]
-mod extent;
-#[cfg(test)]
-mod gaps;
-#[cfg(test)]
-mod last_growth;
-#[cfg(test)]
-mod pool_growth;
-#[cfg(test)]
 mod seg;
-pub mod splay;

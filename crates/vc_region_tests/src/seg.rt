@@ -1,2 +1,1 @@
-mod growth;
 mod relief;

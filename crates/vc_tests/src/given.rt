@@ -1,150 +1,119 @@
-use itoa::Buffer;
+use crate::noted::{Answers, NotedDisc, NotedKind, NotedSink, NotedSource, Notes};
 use std::alloc::{AllocError, Global};
+use std::cell::{Cell, RefCell};
 use std::process::Abort;
-use vc_base::{MemSink, MemSource, Sink, Source};
-use vc_dtdisc::{BuiltIn, DictDisc, Shape};
-use vc_seg::{BudgetDisc, HeapDisc, SegDisc, Shelf};
+use std::rc::Rc;
+use vc_base::{MemSink, MemSource};
+use vc_dtdisc::{BuiltIn, Shape};
+use vc_script::Tool;
+use vc_seg::{SegDisc, Shelf};
 use vc_session::{Status, dtrun, replay};
 
-// What a script is given: it comes in pieces, some reads and writes fail, by their numbers from 1 on, and there's room
-// for so many bytes of replies.
+// What a tool is given: words with a blank between each two, and a script, which comes in pieces. The read of one number
+// fails, counted from 1, so does one write of replies and one of the line of what is wrong, and there is room for so many
+// bytes of replies. Each of four disciplines has that budget, and grows or doesn't.
 #[derive(Clone, Copy)]
 pub(crate) struct Given<'a> {
+    pub tool: Tool,
+    pub words: &'a str,
     pub script: &'a [u8],
     pub piece: usize,
-    pub reads: &'a [u64],
-    pub writes: &'a [u64],
-    pub err_writes: &'a [u64],
+    pub read: u64,
+    pub write: u64,
+    pub err_write: u64,
     pub room: usize,
+    pub budget: u64,
+    pub grows: bool,
+    pub answers: Answers,
 }
 
-// With no failing call, and ample room.
-pub(crate) fn ample(script: &[u8], piece: usize) -> Given {
+// A script for dtrun where nothing fails.
+pub(crate) fn ample(script: &[u8]) -> Given {
     Given {
+        tool: Tool::Dtrun,
+        words: "",
         script,
-        piece,
-        reads: &[],
-        writes: &[],
-        err_writes: &[],
-        room: 100_000,
+        piece: 4096,
+        read: 0,
+        write: 0,
+        err_write: 0,
+        room: 1_000_000,
+        budget: 1 << 40,
+        grows: false,
+        answers: Answers {
+            refused: &[],
+            without_memory: 0,
+            exceptions: 0,
+        },
     }
 }
 
-impl<'a> Given<'a> {
-    // The same where these reads fail.
-    pub fn failing_reads(self, reads: &'a [u64]) -> Given<'a> {
-        Given { reads, ..self }
-    }
-
-    // The same where these writes of replies fail.
-    pub fn failing_writes(self, writes: &'a [u64]) -> Given<'a> {
-        Given { writes, ..self }
-    }
-
-    // The same where these writes of the line of what is wrong fail.
-    pub fn failing_err_writes(self, err_writes: &'a [u64]) -> Given<'a> {
-        Given { err_writes, ..self }
-    }
-
-    // The same with room for so many bytes of replies.
-    pub fn with_room(self, room: usize) -> Given<'a> {
-        Given { room, ..self }
-    }
-}
-
-// What comes out.
-#[derive(Clone, Copy)]
-pub(crate) struct Expected<'a> {
-    pub status: Status,
-    pub out: &'a [u8],
-    pub err: &'a [u8],
-}
-
-pub(crate) fn ends<'a>(status: Status, out: &'a [u8], err: &'a [u8]) -> Expected<'a> {
-    Expected { status, out, err }
-}
-
-// All replies, and no line of what is wrong.
-pub(crate) fn fine(out: &[u8]) -> Expected {
-    ends(Status::Ok, out, b"")
-}
-
-// So many bytes of the beginning.
-pub(crate) fn front<'a>(rt: &impl Abort, bytes: &'a [u8], len: usize) -> &'a [u8] {
-    assert!(rt; len <= bytes.len());
-    &bytes[..len]
-}
-
-// Where a script is read from, and where its replies and the line of what is wrong go.
+// How it ends: what was written, what was noted, and how many compares were made.
 #[derive(Drop)]
-pub(crate) struct Streams {
-    pub source: MemSource,
-    pub out: MemSink,
-    pub err: MemSink,
+pub(crate) struct Ended {
+    pub status: Status,
+    pub out: Vec<u8>,
+    pub err: Vec<u8>,
+    pub notes: Vec<u8>,
+    pub compares: u32,
 }
 
-fn source(rt: &impl Abort, alloc: Global, given: Given) -> Result<MemSource, AllocError> {
-    assert!(rt; 1 <= given.piece);
-    Ok(MemSource::new(
-        given.script.to_vec(alloc)?,
-        given.piece,
-        given.reads.to_vec(alloc)?,
-    ))
-}
-
-fn sink(
-    rt: &impl Abort,
-    alloc: Global,
-    room: usize,
-    piece: usize,
-    fails: &[u64],
-) -> Result<MemSink, AllocError> {
-    assert!(rt; 1 <= piece);
-    match MemSink::new(alloc, room, piece, fails.to_vec(alloc)?) {
-        Ok(sink) => Ok(sink),
+// Puts a discipline behind the others.
+fn put(rt: &impl Abort, shelf: &mut Shelf, disc: Box<dyn SegDisc>) -> Result<(), AllocError> {
+    assert!(rt; shelf.len() < u32::MAX);
+    match shelf.put(disc) {
+        Ok(_) => Ok(()),
         Err(_) => Err(AllocError),
     }
 }
 
-pub(crate) fn open_streams(
+// The four disciplines.
+fn shelf_of(
     rt: &impl Abort,
     alloc: Global,
     given: Given,
-) -> Result<Streams, AllocError> {
-    Ok(Streams {
-        source: source(rt, alloc, given)?,
-        out: sink(rt, alloc, given.room, given.piece, given.writes)?,
-        err: sink(rt, alloc, 100, given.piece, given.err_writes)?,
-    })
+    notes: &Notes,
+) -> Result<Shelf, AllocError> {
+    let mut shelf = Shelf::new(alloc);
+    for place in 1..5 {
+        let disc = NotedDisc::new(
+            alloc,
+            given.budget,
+            given.grows,
+            place,
+            given.answers,
+            notes,
+        )?;
+        put(rt, &mut shelf, Box::new(alloc, disc)?)?;
+    }
+    Ok(shelf)
 }
 
-fn is_run(rt: &impl Abort, status: Status, out: &[u8], err: &[u8], expected: Expected) {
-    assert!(rt; status == expected.status);
-    assert!(rt; out == expected.out);
-    assert!(rt; err == expected.err);
-}
-
-// Runs a script of vmreplay behind these words of a command line, and looks at what comes out.
-pub(crate) fn run(
-    rt: &impl Abort,
+// Kinds 1 and 2, whose keys are an object's first byte, kind 3, which makes objects of two bytes, and kind 4, whose keys
+// are whole objects.
+fn kinds_of(
     alloc: Global,
-    words: &[String],
-    shelf: &mut Shelf,
-    given: Given,
-    expected: Expected,
-) -> Result<(), AllocError> {
-    let Streams {
-        mut source,
-        mut out,
-        mut err,
-    } = open_streams(rt, alloc, given)?;
-    let status = replay(alloc, words, shelf, &mut source, &mut out, &mut err);
-    is_run(rt, status, out.bytes(), err.bytes(), expected);
-    Ok(())
+    notes: &Notes,
+    compares: &Rc<Cell<u32>>,
+) -> Result<Vec<NotedKind>, AllocError> {
+    let mut kinds = Vec::new(alloc);
+    for (number, shape) in [
+        (1, Shape::Field { off: 0, size: 1 }),
+        (2, Shape::Field { off: 0, size: 1 }),
+        (3, Shape::Clip { n: 2 }),
+        (4, Shape::Whole),
+    ] {
+        kinds.push(NotedKind {
+            inner: BuiltIn::new(shape),
+            number,
+            compares: compares.clone()?,
+            notes: notes.clone()?,
+        })?;
+    }
+    Ok(kinds)
 }
 
-// The words of a line.
-pub(crate) fn words_of(alloc: Global, line: &str) -> Result<Vec<String>, AllocError> {
+fn words_of(alloc: Global, line: &str) -> Result<Vec<String>, AllocError> {
     let mut words = Vec::new(alloc);
     for word in line.split(' ') {
         if !word.is_empty() {
@@ -154,113 +123,95 @@ pub(crate) fn words_of(alloc: Global, line: &str) -> Result<Vec<String>, AllocEr
     Ok(words)
 }
 
-pub(crate) fn same_bytes(rt: &impl Abort, found: &[u8], expected: &[u8]) {
-    assert!(rt; found == expected);
+// The numbers of the calls that fail.
+fn failing(alloc: Global, number: u64) -> Result<Vec<u64>, AllocError> {
+    let mut fails = Vec::new(alloc);
+    fails.push(number)?;
+    Ok(fails)
 }
 
-// One kind of each shape.
-pub(crate) fn kinds(alloc: Global) -> Result<Vec<BuiltIn>, AllocError> {
-    let mut kinds = Vec::new(alloc);
-    for shape in [
-        Shape::Whole,
-        Shape::Text { off: 0 },
-        Shape::Fold,
-        Shape::Reverse,
-        Shape::Field { off: 0, size: 4 },
-        Shape::Clip { n: 8 },
-    ] {
-        kinds.push(BuiltIn::new(shape))?;
-    }
-    Ok(kinds)
-}
-
-// Runs a script over dictionaries of these kinds with no failing call, looks at the status and at the line of what is
-// wrong, and gives what was written.
-pub(crate) fn run_to<D: DictDisc>(
+fn sink(
     rt: &impl Abort,
     alloc: Global,
-    shelf: &mut Shelf,
-    kinds: &mut Vec<D>,
-    script: &[u8],
-    end: Status,
-    err: &[u8],
-) -> Result<Vec<u8>, AllocError> {
-    let mut streams = open_streams(rt, alloc, ample(script, 4096))?;
-    let words = Vec::new(alloc);
-    let status = dtrun(
-        alloc,
-        words.as_slice(),
-        shelf,
-        kinds,
-        &mut streams.source,
-        &mut streams.out,
-        &mut streams.err,
-    );
-    assert!(rt; status == end);
-    assert!(rt; streams.err.bytes() == err);
-    streams.out.bytes().to_vec(alloc)
+    room: usize,
+    given: Given,
+    fails: u64,
+    letter: &'static [u8],
+    notes: &Notes,
+) -> Result<NotedSink, AllocError> {
+    assert!(rt; 1 <= given.piece);
+    match MemSink::new(alloc, room, given.piece, failing(alloc, fails)?) {
+        Ok(inner) => Ok(NotedSink {
+            inner,
+            letter,
+            notes: notes.clone()?,
+        }),
+        Err(_) => Err(AllocError),
+    }
 }
 
-// The same of a script that is good.
-pub(crate) fn run_kinds<D: DictDisc>(
+// What was noted.
+fn text_of(alloc: Global, notes: &Notes) -> Result<Vec<u8>, AllocError> {
+    match notes.try_borrow() {
+        Ok(text) => text.as_slice().to_vec(alloc),
+        Err(_) => Ok(Vec::new(alloc)),
+    }
+}
+
+// Runs the tool.
+pub(crate) fn run(rt: &impl Abort, alloc: Global, given: Given) -> Result<Ended, AllocError> {
+    let notes = Rc::new(alloc, RefCell::new(Vec::new(alloc)))?;
+    let compares = Rc::new(alloc, Cell::new(0))?;
+    let mut shelf = shelf_of(rt, alloc, given, &notes)?;
+    let mut kinds = kinds_of(alloc, &notes, &compares)?;
+    let words = words_of(alloc, given.words)?;
+    assert!(rt; 1 <= given.piece);
+    let mut source = NotedSource {
+        inner: MemSource::new(
+            given.script.to_vec(alloc)?,
+            given.piece,
+            failing(alloc, given.read)?,
+        ),
+        notes: notes.clone()?,
+    };
+    let mut out = sink(rt, alloc, given.room, given, given.write, b"W", &notes)?;
+    let mut err = sink(rt, alloc, 100, given, given.err_write, b"E", &notes)?;
+    let words = words.as_slice();
+    let status = match given.tool {
+        Tool::Vmreplay => replay(alloc, words, &mut shelf, &mut source, &mut out, &mut err),
+        Tool::Dtrun => dtrun(
+            alloc,
+            words,
+            &mut shelf,
+            &mut kinds,
+            &mut source,
+            &mut out,
+            &mut err,
+        ),
+    };
+    Ok(Ended {
+        status,
+        out: out.inner.bytes().to_vec(alloc)?,
+        err: err.inner.bytes().to_vec(alloc)?,
+        notes: text_of(alloc, &notes)?,
+        compares: compares.get(),
+    })
+}
+
+// Runs the tool, and looks at what comes of it.
+pub(crate) fn is_run(
     rt: &impl Abort,
     alloc: Global,
-    shelf: &mut Shelf,
-    kinds: &mut Vec<D>,
-    script: &[u8],
-) -> Result<Vec<u8>, AllocError> {
-    run_to(rt, alloc, shelf, kinds, script, Status::Ok, b"")
-}
-
-pub(crate) fn put(rt: &impl Abort, shelf: &mut Shelf, disc: Box<dyn SegDisc>) {
-    assert!(rt; shelf.len() < u32::MAX);
-    assert!(rt; shelf.put(disc).is_ok());
-}
-
-// One discipline that refuses nothing.
-pub(crate) fn heap(rt: &impl Abort, alloc: Global) -> Result<Shelf, AllocError> {
-    let mut shelf = Shelf::new(alloc);
-    put(rt, &mut shelf, Box::new(alloc, HeapDisc::new(4096))?);
-    Ok(shelf)
-}
-
-// So many disciplines of one budget.
-pub(crate) fn budgets(
-    rt: &impl Abort,
-    alloc: Global,
-    count: u32,
-    budget: u64,
-) -> Result<Shelf, AllocError> {
-    let mut shelf = Shelf::new(alloc);
-    for _ in 0..count {
-        let disc = Box::new(alloc, BudgetDisc::new(4096, budget))?;
-        put(rt, &mut shelf, disc);
-    }
-    Ok(shelf)
-}
-
-// A script and the replies to it, as they are put together.
-#[derive(Drop)]
-pub(crate) struct Talk {
-    pub script: Vec<u8>,
-    pub out: Vec<u8>,
-}
-
-impl Talk {
-    pub fn new(alloc: Global) -> Talk {
-        Talk {
-            script: Vec::new(alloc),
-            out: Vec::new(alloc),
-        }
-    }
-
-    // More of both.
-    pub fn say(&mut self, script: &[u8], out: &[u8]) -> Result<(), AllocError> {
-        self.script.extend_from_slice(script)?;
-        self.out.extend_from_slice(out)
-    }
-}
-
-pub(crate) fn put_number(text: &mut Vec<u8>, number: u32) -> Result<(), AllocError> {
-    text.extend_from_slice(Buffer::new().format(number).as_bytes())
+    given: Given,
+    status: Status,
+    written: [&[u8]; 3],
+) -> Result<(), AllocError> {
+    let ended = run(rt, alloc, given)?;
+    let [out, err, notes] = written;
+    let script = given.script;
+    assert_eq!(rt; ended.status, status, "{script:?}");
+    assert_eq!(rt; ended.out.as_slice(), out, "{script:?}");
+    assert_eq!(rt; ended.err.as_slice(), err, "{script:?}");
+    assert_eq!(rt; ended.notes.as_slice(), notes, "{script:?}");
+    Ok(())
 }

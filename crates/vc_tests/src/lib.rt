@@ -1,40 +1,21 @@
-//! Public calls of the libraries, and scripts through the top calls over streams that fail, disciplines that refuse by number
-//! and kinds that are watched, over memory.
+//! Scripts through the top calls over memory: what is asked of the disciplines, the kinds and the streams that are handed in,
+//! in order, also where one call of these after another fails; how many compares a script makes; and calls that no program
+//! makes.
 #![tactic(auto)]
 
 #[cfg(test)]
-mod ahead;
-#[cfg(test)]
-mod armed;
+mod asks;
 #[cfg(test)]
 mod calls;
 #[cfg(test)]
-mod commands;
-#[cfg(test)]
 mod compares;
-#[cfg(test)]
-mod exceptions;
-#[cfg(test)]
-mod first_words;
-#[cfg(test)]
-mod fuses;
 #[cfg(test)]
 mod given;
 #[cfg(test)]
-mod lends;
+mod hostile;
 #[cfg(test)]
-mod order;
-#[cfg(test)]
-mod quiet;
-#[cfg(test)]
-mod refusals;
-#[cfg(test)]
-mod retried;
+mod noted;
 #[cfg(test)]
 mod streams;
 #[cfg(test)]
-mod tables;
-#[cfg(test)]
 mod told;
-#[cfg(test)]
-mod watched;

@@ -1,193 +1,375 @@
-use crate::given::{Expected, Given, Talk, ample, ends, fine, front, heap, run, words_of};
+use crate::given::{Given, ample, is_run, run};
 use std::alloc::{AllocError, Global};
 use std::process::Abort;
 use std::test::Fail;
+use vc_script::Tool;
 use vc_session::Status;
 
-const ROW: &[u8] = b"open r best 1\nalloc r a 100\n";
+// A script of vmreplay, its last line so many times, that comes in pieces, and is written in such; the read, the write of
+// replies and that of the line of what is wrong that fail; and how it ends, with the reply to the last line so many times.
+struct Row {
+    script: &'static [u8],
+    line: (&'static [u8], u32),
+    piece: usize,
+    fails: [u64; 3],
+    status: Status,
+    out: &'static [u8],
+    reply: (&'static [u8], u32),
+    err: &'static [u8],
+    notes: &'static [u8],
+}
 
-const REPLIES: &[u8] = b"r open\na 1:32\n";
+const NONE: (&[u8], u32) = (b"", 0);
 
-const BAD: &[u8] = b"open r best 1\nfrob\n";
+const ONE: &[u8] = b"open r best 1\nalloc r a 100\n";
 
-const BAD_LINE: &[u8] = b"vmreplay: line 2: unknown command\n";
-
-const WRITE_FAILED: &[u8] = b"vmreplay: write failed\n";
+const BAD: &[u8] = b"open r best 1\nfrobnicate it\nalloc r a 100\n";
 
 const READ_FAILED: &[u8] = b"vmreplay: read failed\n";
 
-// A script with this end, over a discipline to which every segment is given back: the next script is lent the first
-// again.
-fn is_run(
-    rt: &impl Abort,
+const WRITE_FAILED: &[u8] = b"vmreplay: write failed\n";
+
+const BAD_LINE: &[u8] = b"vmreplay: line 2: unknown command\n";
+
+const ROWS: &[Row] = &[
+    // Each line is a piece: its reply is written before the next read, and there is no read behind the end.
+    Row {
+        script: ONE,
+        line: NONE,
+        piece: 14,
+        fails: [0, 0, 0],
+        status: Status::Ok,
+        out: b"r open\na 1:32\n",
+        reply: NONE,
+        err: b"",
+        notes: b"RuWRlWR<111u",
+    },
+    Row {
+        script: ONE,
+        line: NONE,
+        piece: 14,
+        fails: [4, 0, 0],
+        status: Status::Ok,
+        out: b"r open\na 1:32\n",
+        reply: NONE,
+        err: b"",
+        notes: b"RuWRlWR<111u",
+    },
+    // Nothing is written for a line that asks for nothing.
+    Row {
+        script: b"# no reply it\nopen r best 1\nalloc r a 100\n",
+        line: NONE,
+        piece: 14,
+        fails: [0, 0, 0],
+        status: Status::Ok,
+        out: b"r open\na 1:32\n",
+        reply: NONE,
+        err: b"",
+        notes: b"RRuWRlWR<111u",
+    },
+    Row {
+        script: b"# no reply\n\n",
+        line: NONE,
+        piece: 4,
+        fails: [0, 1, 0],
+        status: Status::Ok,
+        out: b"",
+        reply: NONE,
+        err: b"",
+        notes: b"RRRR",
+    },
+    // A read that fails isn't made again: every later one would not fail.
+    Row {
+        script: ONE,
+        line: NONE,
+        piece: 14,
+        fails: [1, 0, 0],
+        status: Status::Read,
+        out: b"",
+        reply: NONE,
+        err: READ_FAILED,
+        notes: b"REE",
+    },
+    Row {
+        script: ONE,
+        line: NONE,
+        piece: 14,
+        fails: [2, 0, 0],
+        status: Status::Read,
+        out: b"r open\n",
+        reply: NONE,
+        err: READ_FAILED,
+        notes: b"RuWRuEE",
+    },
+    Row {
+        script: ONE,
+        line: NONE,
+        piece: 14,
+        fails: [3, 0, 0],
+        status: Status::Read,
+        out: b"r open\na 1:32\n",
+        reply: NONE,
+        err: READ_FAILED,
+        notes: b"RuWRlWR<111uEE",
+    },
+    // The last line isn't whole.
+    Row {
+        script: b"open r best 1\nalloc r a",
+        line: NONE,
+        piece: 4096,
+        fails: [2, 0, 0],
+        status: Status::Read,
+        out: b"r open\n",
+        reply: NONE,
+        err: READ_FAILED,
+        notes: b"RuWRuE",
+    },
+    // Nor is a write, and nothing is read behind it.
+    Row {
+        script: ONE,
+        line: NONE,
+        piece: 14,
+        fails: [0, 1, 0],
+        status: Status::Write,
+        out: b"",
+        reply: NONE,
+        err: WRITE_FAILED,
+        notes: b"RuWuEE",
+    },
+    Row {
+        script: ONE,
+        line: NONE,
+        piece: 14,
+        fails: [0, 2, 0],
+        status: Status::Write,
+        out: b"r open\n",
+        reply: NONE,
+        err: WRITE_FAILED,
+        notes: b"RuWRlW<111uEE",
+    },
+    Row {
+        script: ONE,
+        line: NONE,
+        piece: 5,
+        fails: [0, 2, 0],
+        status: Status::Write,
+        out: b"r ope",
+        reply: NONE,
+        err: WRITE_FAILED,
+        notes: b"RRRuWWuEEEEE",
+    },
+    // What was gathered is written before the line of a bad line, which is one write where it is taken whole.
+    Row {
+        script: BAD,
+        line: NONE,
+        piece: 14,
+        fails: [0, 0, 0],
+        status: Status::Script,
+        out: b"r open\n",
+        reply: NONE,
+        err: BAD_LINE,
+        notes: b"RuWRuEEE",
+    },
+    Row {
+        script: BAD,
+        line: NONE,
+        piece: 4096,
+        fails: [0, 0, 2],
+        status: Status::Script,
+        out: b"r open\n",
+        reply: NONE,
+        err: BAD_LINE,
+        notes: b"RuWuE",
+    },
+    Row {
+        script: BAD,
+        line: NONE,
+        piece: 4096,
+        fails: [0, 1, 0],
+        status: Status::Write,
+        out: b"",
+        reply: NONE,
+        err: WRITE_FAILED,
+        notes: b"RuWuE",
+    },
+    Row {
+        script: BAD,
+        line: NONE,
+        piece: 4096,
+        fails: [0, 0, 1],
+        status: Status::Write,
+        out: b"r open\n",
+        reply: NONE,
+        err: b"",
+        notes: b"RuWuE",
+    },
+    Row {
+        script: BAD,
+        line: NONE,
+        piece: 5,
+        fails: [0, 0, 2],
+        status: Status::Write,
+        out: b"r open\n",
+        reply: NONE,
+        err: b"vmrep",
+        notes: b"RRRuWWRRRuEE",
+    },
+    // The line of another fault isn't written again.
+    Row {
+        script: ONE,
+        line: NONE,
+        piece: 4096,
+        fails: [1, 0, 1],
+        status: Status::Read,
+        out: b"",
+        reply: NONE,
+        err: b"",
+        notes: b"RE",
+    },
+    Row {
+        script: ONE,
+        line: NONE,
+        piece: 4096,
+        fails: [0, 1, 1],
+        status: Status::Write,
+        out: b"",
+        reply: NONE,
+        err: b"",
+        notes: b"RulW<111uE",
+    },
+    // The first read gives 454 lines and two bytes, and the second the rest. The replies to each are one write.
+    Row {
+        script: b"open r best 1\nalloc r a 1\n",
+        line: (b"size r a\n", 500),
+        piece: 4096,
+        fails: [0, 0, 0],
+        status: Status::Ok,
+        out: b"r open\na 1:32\n",
+        reply: (b"a 1\n", 500),
+        err: b"",
+        notes: b"RulWRWR<111u",
+    },
+    Row {
+        script: b"open r best 1\nalloc r a 1\n",
+        line: (b"size r a\n", 500),
+        piece: 4096,
+        fails: [0, 3, 0],
+        status: Status::Ok,
+        out: b"r open\na 1:32\n",
+        reply: (b"a 1\n", 500),
+        err: b"",
+        notes: b"RulWRWR<111u",
+    },
+    Row {
+        script: b"open r best 1\nalloc r a 1\n",
+        line: (b"size r a\n", 500),
+        piece: 4096,
+        fails: [0, 1, 0],
+        status: Status::Write,
+        out: b"",
+        reply: NONE,
+        err: WRITE_FAILED,
+        notes: b"RulW<111uE",
+    },
+    Row {
+        script: b"open r best 1\nalloc r a 1\n",
+        line: (b"size r a\n", 500),
+        piece: 4096,
+        fails: [0, 2, 0],
+        status: Status::Write,
+        out: b"r open\na 1:32\n",
+        reply: (b"a 1\n", 452),
+        err: WRITE_FAILED,
+        notes: b"RulWRW<111uE",
+    },
+    // So are 7,200 bytes to what one read gives.
+    Row {
+        script: b"open r best 1\nalloc r a 1\n",
+        line: (b"stat r\n", 100),
+        piece: 10000,
+        fails: [0, 2, 0],
+        status: Status::Ok,
+        out: b"r open\na 1:32\n",
+        reply: (
+            b"busy 1 free 1 sbusy 1 sfree 4032 mbusy 1 mfree 4032 segs 1 extent 4096\n",
+            100,
+        ),
+        err: b"",
+        notes: b"RulWR<111u",
+    },
+    // A line of 4,097 bytes is too long, and a read that fails before no byte shows it.
+    Row {
+        script: b"",
+        line: (b"a", 5000),
+        piece: 1024,
+        fails: [4, 0, 0],
+        status: Status::Read,
+        out: b"",
+        reply: NONE,
+        err: READ_FAILED,
+        notes: b"RRRRE",
+    },
+    Row {
+        script: b"",
+        line: (b"a", 5000),
+        piece: 1024,
+        fails: [5, 0, 0],
+        status: Status::Read,
+        out: b"",
+        reply: NONE,
+        err: READ_FAILED,
+        notes: b"RRRRRE",
+    },
+    Row {
+        script: b"",
+        line: (b"a", 5000),
+        piece: 1024,
+        fails: [6, 0, 0],
+        status: Status::Script,
+        out: b"",
+        reply: NONE,
+        err: b"vmreplay: line 1: line too long\n",
+        notes: b"RRRRRE",
+    },
+];
+
+fn repeated(
     alloc: Global,
-    given: Given,
-    expected: Expected,
-) -> Result<(), AllocError> {
-    let mut shelf = heap(rt, alloc)?;
-    run(rt, alloc, &[], &mut shelf, given, expected)?;
-    run(rt, alloc, &[], &mut shelf, ample(ROW, 4096), fine(REPLIES))
-}
-
-// No failed call is tried again, and no write is empty. The first write fails, and every later one would not; the
-// second one fails; and what was gathered is written before the line of a bad line.
-#[test]
-fn writes(rt: HostRuntime) -> Result<(), Fail> {
-    for (script, piece, fails, out) in [
-        (ROW, 4096, 1, b"".as_slice()),
-        (ROW, 5, 2, b"r ope"),
-        (BAD, 4096, 1, b""),
-    ] {
-        let fails = [fails];
-        let given = ample(script, piece).failing_writes(&fails);
-        let expected = ends(Status::Write, out, WRITE_FAILED);
-        is_run(&rt, rt.alloc(), given, expected)?;
+    text: &[u8],
+    (line, times): (&[u8], u32),
+) -> Result<Vec<u8>, AllocError> {
+    let mut all = text.to_vec(alloc)?;
+    for _line in 0..times {
+        all.extend_from_slice(line)?;
     }
-    Ok(())
+    Ok(all)
 }
 
-// That of the line of a bad line fails; it is one write, behind which a second would fail.
+fn is_streamed(rt: &impl Abort, alloc: Global, row: &Row) -> Result<(), AllocError> {
+    let script = repeated(alloc, row.script, row.line)?;
+    let out = repeated(alloc, row.out, row.reply)?;
+    let [read, write, err_write] = row.fails;
+    let given = Given {
+        tool: Tool::Vmreplay,
+        piece: row.piece,
+        read,
+        write,
+        err_write,
+        ..ample(script.as_slice())
+    };
+    is_run(
+        rt,
+        alloc,
+        given,
+        row.status,
+        [out.as_slice(), row.err, row.notes],
+    )
+}
+
 #[test]
-fn writes_of_a_bad_line(rt: HostRuntime) -> Result<(), Fail> {
-    for (piece, fails, status, err) in [
-        (4096, 1, Status::Write, b"".as_slice()),
-        (5, 2, Status::Write, b"vmrep"),
-        (4096, 2, Status::Script, BAD_LINE),
-    ] {
-        let fails = [fails];
-        let given = ample(BAD, piece).failing_err_writes(&fails);
-        let expected = ends(status, b"r open\n", err);
-        is_run(&rt, rt.alloc(), given, expected)?;
-    }
-    Ok(())
-}
-
-// That of the line of another fault.
-#[test]
-fn writes_of_a_fault(rt: HostRuntime) -> Result<(), Fail> {
-    let given = ample(ROW, 4096).failing_err_writes(&[1]);
-    for (given, status) in [
-        (given.failing_reads(&[1]), Status::Read),
-        (given.failing_writes(&[1]), Status::Write),
-    ] {
-        is_run(&rt, rt.alloc(), given, ends(status, b"", b""))?;
-    }
-    Ok(())
-}
-
-// The first read fails, and every later one would not; and the last line isn't whole.
-#[test]
-fn reads(rt: HostRuntime) -> Result<(), Fail> {
-    for (script, fails, out) in [
-        (ROW, 1, b"".as_slice()),
-        (b"open r best 1\nalloc r a", 2, b"r open\n"),
-    ] {
-        let fails = [fails];
-        let given = ample(script, 4096).failing_reads(&fails);
-        let expected = ends(Status::Read, out, READ_FAILED);
-        is_run(&rt, rt.alloc(), given, expected)?;
-    }
-    Ok(())
-}
-
-// There is room for the text, and for no byte more; and nothing is written for lines that ask for nothing.
-#[test]
-fn just_room(rt: HostRuntime) -> Result<(), Fail> {
-    for (script, piece, room, expected) in [
-        (ROW, 4096, 14, fine(REPLIES)),
-        (b"# no reply\n\n", 4, 0, fine(b"")),
-        (BAD, 4096, 7, ends(Status::Script, b"r open\n", BAD_LINE)),
-    ] {
-        let given = ample(script, piece).with_room(room);
-        is_run(&rt, rt.alloc(), given, expected)?;
-    }
-    Ok(())
-}
-
-// 2,000 lines in 4,096 bytes, 1,739 of them empty, whose replies have 1,050 bytes, and 44 other lines, whose replies
-// have 176.
-fn many_lines(talk: &mut Talk, blank: &[u8]) -> Result<(), AllocError> {
-    talk.say(b"open r best 1\nalloc r a 1\n", REPLIES)?;
-    talk.say(blank, b"")?;
-    for _ in 0..303 {
-        talk.say(b"size r a\n", b"a 1\n")?;
-    }
-    Ok(())
-}
-
-// The first read gives the 2,000 lines, and the second the other 44. The replies to each are one write: the first may
-// fail, or the second, and there is no third. Of room there is as much as one byte less than the replies to what was
-// read, as much as them, and one byte more.
-#[test]
-fn gathered(rt: HostRuntime) -> Result<(), Fail> {
-    let alloc = rt.alloc();
-    let blank = Vec::from_elem(alloc, b'\n', 1739)?;
-    let mut talk = Talk::new(alloc);
-    many_lines(&mut talk, blank.as_slice())?;
-    let mut shelf = heap(&rt, alloc)?;
-    for (writes, room, status, len, err) in [
-        ([1].as_slice(), 10_000, Status::Write, 0, WRITE_FAILED),
-        (&[2], 10_000, Status::Write, 1050, WRITE_FAILED),
-        (&[], 1049, Status::Write, 1049, WRITE_FAILED),
-        (&[], 1050, Status::Write, 1050, WRITE_FAILED),
-        (&[], 1051, Status::Write, 1051, WRITE_FAILED),
-        (&[], 1225, Status::Write, 1225, WRITE_FAILED),
-        (&[], 1226, Status::Ok, 1226, b""),
-        (&[3], 1227, Status::Ok, 1226, b""),
-    ] {
-        let given = ample(talk.script.as_slice(), 4096)
-            .failing_writes(writes)
-            .with_room(room);
-        let expected = ends(status, front(&rt, talk.out.as_slice(), len), err);
-        run(&rt, alloc, &[], &mut shelf, given, expected)?;
-    }
-    Ok(())
-}
-
-// Three replies to what one read gives, together of 6,149 bytes.
-fn long_replies(alloc: Global) -> Result<Talk, AllocError> {
-    let zeros = Vec::from_elem(alloc, b'0', 2048)?;
-    let mut talk = Talk::new(alloc);
-    talk.say(b"open r best 1\nalloc r a 1024\n", REPLIES)?;
-    for _ in 0..3 {
-        talk.say(b"read r a 0 1024\n", b"a ")?;
-        talk.say(b"", zeros.as_slice())?;
-        talk.say(b"", b"\n")?;
-    }
-    Ok(talk)
-}
-
-// They are one write, behind which a second would fail.
-#[test]
-fn one_write(rt: HostRuntime) -> Result<(), Fail> {
-    let alloc = rt.alloc();
-    let talk = long_replies(alloc)?;
-    let mut shelf = heap(&rt, alloc)?;
-    let given = ample(talk.script.as_slice(), 10_000).failing_writes(&[2]);
-    let expected = fine(talk.out.as_slice());
-    run(&rt, alloc, &[], &mut shelf, given, expected)?;
-    Ok(())
-}
-
-const TOO_LONG: &[u8] = b"vmreplay: line 1: line too long\n";
-
-// A line of 4,097 bytes is too long, and a read that fails before no byte shows it.
-#[test]
-fn long_lines(rt: HostRuntime) -> Result<(), Fail> {
-    let alloc = rt.alloc();
-    let mut shelf = heap(&rt, alloc)?;
-    let script = Vec::from_elem(alloc, b'a', 5000)?;
-    for (fails, status, err) in [
-        (1024, Status::Read, READ_FAILED),
-        (1025, Status::Read, READ_FAILED),
-        (1026, Status::Script, TOO_LONG),
-    ] {
-        let fails = [fails];
-        let given = ample(script.as_slice(), 4)
-            .failing_reads(&fails)
-            .with_room(0);
-        let expected = ends(status, b"", err);
-        run(&rt, alloc, &[], &mut shelf, given, expected)?;
+fn streams(rt: HostRuntime) -> Result<(), Fail> {
+    for row in ROWS {
+        is_streamed(&rt, rt.alloc(), row)?;
     }
     Ok(())
 }
@@ -195,22 +377,48 @@ fn long_lines(rt: HostRuntime) -> Result<(), Fail> {
 // Words behind the program's name are bad, also where that can't be written, which is tried in one write.
 #[test]
 fn words(rt: HostRuntime) -> Result<(), Fail> {
-    let alloc = rt.alloc();
-    let words = words_of(alloc, "--frob")?;
-    let mut shelf = heap(&rt, alloc)?;
-    for (err_writes, status, number, err) in [
-        (
-            [2].as_slice(),
-            Status::Usage,
-            2,
-            b"vmreplay: bad arguments\n".as_slice(),
-        ),
-        (&[1], Status::Write, 4, b""),
+    for (err_write, status, err) in [
+        (2, Status::Usage, b"vmreplay: bad arguments\n".as_slice()),
+        (1, Status::Write, b""),
     ] {
-        assert_eq!(rt; status.number(), number);
-        let given = ample(ROW, 4096).failing_err_writes(err_writes);
-        let expected = ends(status, b"", err);
-        run(&rt, alloc, words.as_slice(), &mut shelf, given, expected)?;
+        let given = Given {
+            tool: Tool::Vmreplay,
+            words: "--frob",
+            err_write,
+            ..ample(ONE)
+        };
+        is_run(&rt, rt.alloc(), given, status, [b"", err, b"E"])?;
+    }
+    Ok(())
+}
+
+// Generated commands of which each is refused a segment. Of the lines of that two writes are the first to come to 4,096
+// bytes, the others are a third one, and what is counted a fourth one.
+#[test]
+fn generated(rt: HostRuntime) -> Result<(), Fail> {
+    let given = Given {
+        tool: Tool::Vmreplay,
+        words: "--gen 1000 --seed 42",
+        budget: 0,
+        ..ample(b"")
+    };
+    let given = Given {
+        piece: 20_000,
+        ..given
+    };
+    let all = run(&rt, rt.alloc(), given)?;
+    assert!(rt; all.out.len() == 12_122);
+    for (write, status, len) in [
+        (1, Status::Write, 0),
+        (2, Status::Write, 4106),
+        (3, Status::Write, 8210),
+        (4, Status::Write, 12_075),
+        (5, Status::Ok, 12_122),
+    ] {
+        let ended = run(&rt, rt.alloc(), Given { write, ..given })?;
+        assert!(rt; ended.status == status);
+        assert!(rt; ended.out.len() == len);
+        assert!(rt; all.out.starts_with(ended.out.as_slice()));
     }
     Ok(())
 }

@@ -1,5 +1,5 @@
 ghost use Rattle.std.specs.Prelude.{IfSome};
-ghost use Rattle.vc_base.specs.Prelude.{HasOut, IsAlign};
+ghost use Rattle.vc_base.specs.Prelude.{HasOut};
 ghost use Rattle.vc_best.specs.Parts.{segments_in};
 ghost use Rattle.vc_region_tests.specs.Lent.{IsLent};
 ghost use Rattle.vc_seg.specs.OneBlock.{IsGuardedSize};
@@ -26,21 +26,13 @@ pub fn opened(rt: &impl Abort, alloc: Global, disc: Box<dyn SegDisc>) -> Option<
     }
 }
 
-// A block of that size, in bytes, at that alignment, which must begin at that offset of the segment of that number.
-pub fn take(
-    rt: &impl Abort,
-    best: &mut Best,
-    steps: &mut Steps<Counted>,
-    size: u32,
-    align: u32,
-    at: (u32, u32),
-)
+// A block of that size, in bytes, which must begin at that offset of the segment of that number.
+pub fn take(rt: &impl Abort, best: &mut Best, steps: &mut Steps<Counted>, size: u32, at: (u32, u32))
     requires size { IsGuardedSize size }
-    requires align { IsAlign align }
     requires lent { IsLent state best.old }
     ensures { IsLent state best.new }
 {
-    match best.alloc(size, align, 0, steps) {
+    match best.alloc(size, 32, 0, steps) {
         Ok(a) => assert_eq!(rt; (a.seg(), a.off()), at),
         Err(_) => assert!(rt; false),
     }
@@ -90,13 +82,13 @@ pub fn with_gaps(rt: &impl Abort, best: &mut Best, steps: &mut Steps<Counted>)
     requires { IsLent state best.old }
     ensures { IsLent state best.new }
 {
-    take(rt, best, steps, 16, 32, (1, 32));
-    take(rt, best, steps, 100, 32, (1, 64));
-    take(rt, best, steps, 16, 32, (1, 192));
-    take(rt, best, steps, 240, 32, (1, 224));
-    take(rt, best, steps, 16, 32, (1, 480));
-    take(rt, best, steps, 500, 32, (1, 512));
-    take(rt, best, steps, 16, 32, (1, 1056));
+    take(rt, best, steps, 16, (1, 32));
+    take(rt, best, steps, 100, (1, 64));
+    take(rt, best, steps, 16, (1, 192));
+    take(rt, best, steps, 240, (1, 224));
+    take(rt, best, steps, 16, (1, 480));
+    take(rt, best, steps, 500, (1, 512));
+    take(rt, best, steps, 16, (1, 1056));
     free(rt, best, steps, (1, 64));
     free(rt, best, steps, (1, 224));
     free(rt, best, steps, (1, 512));

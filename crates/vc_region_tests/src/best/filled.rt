@@ -11,15 +11,15 @@ use vc_seg::{BoxedDisc, HeapDisc, SegDisc};
 fn fill(rt: &impl Abort, best: &mut Best, steps: &mut Steps<Counted>)
     requires { IsLent state best.old }
 {
-    take(rt, best, steps, 112, 32, (1, 64));
+    take(rt, best, steps, 112, (1, 64));
     resize(rt, best, steps, (1, 192), 272);
     resize(rt, best, steps, (1, 192), 16);
-    take(rt, best, steps, 200, 32, (1, 224));
-    take(rt, best, steps, 600, 32, (1, 1088));
+    take(rt, best, steps, 200, (1, 224));
+    take(rt, best, steps, 600, (1, 1088));
     free(rt, best, steps, (1, 192));
     resize(rt, best, steps, (1, 64), 144);
     free(rt, best, steps, (1, 64));
-    take(rt, best, steps, 144, 32, (1, 64));
+    take(rt, best, steps, 144, (1, 64));
     free(rt, best, steps, (1, 480));
 }
 

@@ -1,5 +1,0 @@
-use Rattle.vc_base.proofs.Common.{take_rest}
-use Rattle.vc_dict_tests.proofs.cells.five.behind.Goals as goal
-
-pub returns : goal.returns
-returns c = take_rest c.args.bytes.now 32

@@ -1,2 +1,0 @@
-mod large;
-mod puts;

@@ -1,4 +1,0 @@
-mod exceptions;
-mod given;
-mod rows;
-mod watched;

@@ -1,4 +1,0 @@
-mod borders;
-mod calls;
-mod heads;
-mod two;

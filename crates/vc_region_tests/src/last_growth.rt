@@ -1,4 +1,0 @@
-mod calls;
-mod edge;
-mod moves;
-mod rows;

@@ -1,6 +1,0 @@
-use Rattle.vc_store.specs.Stores.Stores.{IsOpen, disc_of}
-use Rattle.vc_checked.specs.Checked.{rules_by}
-use Rattle.vc_store_tests.proofs.checked.opens.Given as goal
-
-abbrev pub invariant-loop-method : goal.invariant-loop-method
-invariant-loop-method g l = IsOpen rules_by l.store (disc_of l.store (λ z. (goal.SegDisc-dyn g z).state z.1))

@@ -1,0 +1,2 @@
+mod lends;
+mod places;
