@@ -1,5 +1,5 @@
 -- What the calls leave of a store.
-use Rattle.std.specs.Prelude.{◌≡◌, ℕ, ◌+◌, ◌⊎◌, List, [], true, Option, Some, None}
+use Rattle.std.specs.Prelude.{◌≡◌, ℕ, ◌+◌, ◌⊎◌, List, true, Option, Some, None}
 use Rattle.vc_model.specs.Discipline.{Discipline}
 use Rattle.vc_base.specs.declared.dict_method.DictMethod.{DictMethod}
 use Rattle.vc_dtdisc.specs.Objects.{has_key}
@@ -10,9 +10,9 @@ use Rattle.vc_objects.specs.Leaves.{told_each, told_if}
 use Rattle.vc_objects.specs.Promises.{opening_in}
 use Rattle.vc_seg.specs.Answer.{IsRefusal}
 use Rattle.vc_seg.specs.declared.fault.RegionFault.{RegionFault}
-use Rattle.vc_store.specs.Reading.{AfterPut, Contents, LosesKey, found, place_after}
+use Rattle.vc_store.specs.Reading.{AfterPut, Contents, LosesKey, found, no_objects, place_after}
 use Rattle.vc_store.specs.declared.put.Put.{Put}
-use Rattle.vc_store.specs.Stores.Stores.{AllStay, OthersStay, StaysOpen, TriesAt, best_of, contents, gone_at, kind_at, numbers_of, rules_at, shown}
+use Rattle.vc_store.specs.Stores.Stores.{AllStay, OthersStay, TriesAt, best_of, contents, gone_at, kind_at, numbers_of, rules_at, shown}
 use Rattle.vc_store.specs.declared.stores.store.Store.{Store}
 use Rattle.vc_checked.specs.Answers.{answer_of_put, answer_to_fault}
 use Rattle.vc_checked.specs.Shown.{Room, SeeksFirst}
@@ -21,16 +21,10 @@ use Rattle.vc_checked.specs.declared.answer.Answer.TheVariants.{Done, OutOfMemor
 
 module _ {D : Type 0} {I : Type 0} {V : I → Type 0} (meaning : (x : I) × V x → Discipline)
     (rules_by : D → Rules) where
-  -- a call that changes no more than what one dictionary shows, and what its kind was told of
-  pub record Beside (n : ℕ) (old new : Store D I V) : Type 0 where
-    pub numbers : numbers_of new ≡ numbers_of old
-    pub others : OthersStay old new n
-    pub stays : StaysOpen meaning rules_by old new
-
   -- all objects went, and their kind was told of each
   pub record Empties (gone_by : D → Gone) (n : ℕ) (old new : Store D I V) (answer : Answer) : Type 0 where
     pub answered : answer ≡ Done
-    pub empty : contents new n ≡ record { method = (contents old n).method; objects = []; place = None }
+    pub empty : contents new n ≡ no_objects (contents old n).method
     pub told : gone_at gone_by new n ≡ told_each (contents old n).objects (gone_at gone_by old n)
 
   -- an object was put, or wasn't
@@ -74,7 +68,7 @@ module _ {I : Type 0} {V : I → Type 0} (meaning : (x : I) × V x → Disciplin
     pub answered : answer ≡ Done
     pub next : number ≡ numbers_of old
     pub numbers : numbers_of new ≡ numbers_of old + 1
-    pub empty : shown new number ≡ Some (record { method = method; objects = []; place = None })
+    pub empty : shown new number ≡ Some (no_objects method)
     pub kind : IsNewKind shape (kind_at new number)
     pub others : OthersStay old new number
 

@@ -1,8 +1,8 @@
 ghost use Rattle.std.specs.Prelude.{◌≡◌, length};
-ghost use Rattle.vc_store.specs.Stores.Stores.{Ends, HasDict, IsOpen, StaysOpen, contents, disc_of};
+ghost use Rattle.vc_store.specs.Stores.Stores.{ChangesOne, Ends, HasDict, IsOpen, StaysOpen, contents, disc_of};
 ghost use Rattle.vc_image_check.specs.Dicts.Sound.{numbered_method};
 ghost use Rattle.vc_checked.specs.Answers.{shape_of};
-ghost use Rattle.vc_checked.specs.Checked.{Beside, Empties, Opens, rules_by};
+ghost use Rattle.vc_checked.specs.Checked.{Empties, Opens, rules_by};
 ghost use Rattle.vc_checked.specs.declared.answer.Answer.TheVariants.{Done, NoDict};
 
 use crate::Answer;
@@ -93,7 +93,7 @@ pub fn empty_dict<D: DictDisc + Drop>(store: &mut Store<D>, n: usize) -> Answer
     ensures none { ¬ HasDict store.old n → (store.new ≡ store.old) × (result ≡ NoDict) }
     ensures empties { HasDict store.old n
         → Empties state D.rules D.gone n store.old store.new result }
-    ensures beside { Beside state D.rules n store.old store.new }
+    ensures changes { ChangesOne state D.rules n store.old store.new }
 {
     if !store.has(n) {
         return Answer::NoDict;

@@ -1,8 +1,8 @@
 ghost use Rattle.std.specs.Prelude.{◌≡◌};
 ghost use Rattle.vc_dtdisc.specs.Objects.{has_key};
 ghost use Rattle.vc_store.specs.Reading.{is_sought_from};
-ghost use Rattle.vc_store.specs.Stores.Stores.{HasDict, IsOpen, contents, disc_of, gone_at, kinds_of, rules_at};
-ghost use Rattle.vc_checked.specs.Checked.{Beside, Deletes, Inserts, TakesByKey};
+ghost use Rattle.vc_store.specs.Stores.Stores.{ChangesObjects, ChangesOne, HasDict, HasOpenDict, IsOpen, contents, disc_of, gone_at, rules_at};
+ghost use Rattle.vc_checked.specs.Checked.{Deletes, Inserts, TakesByKey};
 ghost use Rattle.vc_checked.specs.Shown.{SeeksFirst, ShowsNothing, room};
 ghost use Rattle.vc_checked.specs.declared.answer.Answer.TheVariants.{NoDict};
 
@@ -22,8 +22,7 @@ pub fn insert<D: DictDisc + Drop>(store: &mut Store<D>, n: usize, object: &[u8])
     ensures none { ¬ HasDict store.old n → (store.new ≡ store.old) × (result ≡ NoDict) }
     ensures inserts { HasDict store.old n
         → Inserts state D.rules n object.now store.old store.new result }
-    ensures kinds { kinds_of store.new ≡ kinds_of store.old }
-    ensures beside { Beside state D.rules n store.old store.new }
+    ensures changes { ChangesObjects state D.rules n store.old store.new }
 {
     if !store.has(n) {
         return Answer::NoDict;
@@ -46,8 +45,7 @@ pub fn search<D: DictDisc + Drop>(
     ensures seeks { HasDict store.old n
         → SeeksFirst (has_key (rules_at D.rules store.old n) key.now) (contents store.old n)
         (contents store.new n) (room out.old out.new needed.new) result }
-    ensures kinds { kinds_of store.new ≡ kinds_of store.old }
-    ensures beside { Beside state D.rules n store.old store.new }
+    ensures changes { ChangesObjects state D.rules n store.old store.new }
 {
     *needed = 0;
     if !store.has(n) {
@@ -75,8 +73,7 @@ pub fn at_least<D: DictDisc + Drop>(
     ensures seeks { HasDict store.old n → SeeksFirst
         (is_sought_from (contents store.old n).method (rules_at D.rules store.old n) key.now)
         (contents store.old n) (contents store.new n) (room out.old out.new needed.new) result }
-    ensures kinds { kinds_of store.new ≡ kinds_of store.old }
-    ensures beside { Beside state D.rules n store.old store.new }
+    ensures changes { ChangesObjects state D.rules n store.old store.new }
 {
     *needed = 0;
     if !store.has(n) {
@@ -90,12 +87,11 @@ pub fn at_least<D: DictDisc + Drop>(
 
 // Takes the first object of a dictionary out that has a key: `Done`, or `OutOfMemory`, with nothing changed.
 fn take<D: DictDisc + Drop>(alloc: Global, store: &mut Store<D>, n: usize, key: &[u8]) -> Answer
-    requires open { IsOpen D.rules store.old (disc_of store.old state) }
-    requires there { HasDict store.old n }
+    requires dict { HasOpenDict state D.rules store.old n }
     ensures takes { TakesByKey (rules_at D.rules store.old n) key.now result
         (contents store.old n) (contents store.new n)
         (gone_at D.gone store.old n) (gone_at D.gone store.new n) }
-    ensures beside { Beside state D.rules n store.old store.new }
+    ensures changes { ChangesOne state D.rules n store.old store.new }
 {
     let mut taken = Vec::new(alloc);
     match store.remove(n, key, &mut taken) {
@@ -122,7 +118,7 @@ pub fn delete<D: DictDisc + Drop>(
         (contents store.old n) (contents store.new n)
         (gone_at D.gone store.old n) (gone_at D.gone store.new n)
         (room out.old out.new needed.new) result }
-    ensures beside { Beside state D.rules n store.old store.new }
+    ensures changes { ChangesOne state D.rules n store.old store.new }
 {
     if !store.has(n) {
         *needed = 0;

@@ -1,7 +1,6 @@
 ghost use Rattle.std.specs.Prelude.{◌≡◌};
 ghost use Rattle.vc_store.specs.Reading.{current, with_place};
-ghost use Rattle.vc_store.specs.Stores.Stores.{HasDict, IsOpen, contents, disc_of, kinds_of};
-ghost use Rattle.vc_checked.specs.Checked.{Beside};
+ghost use Rattle.vc_store.specs.Stores.Stores.{ChangesObjects, HasDict, HasOpenDict, IsOpen, contents, disc_of};
 ghost use Rattle.vc_checked.specs.Shown.{ShowsIfThere, ShowsNothing, place_by, room};
 ghost use Rattle.vc_checked.specs.declared.answer.Answer.TheVariants.{NoDict};
 
@@ -26,12 +25,10 @@ pub enum Move {
 
 // Makes another object of a dictionary current, or none.
 fn step<D: DictDisc + Drop>(store: &mut Store<D>, n: usize, to: Move)
-    requires open { IsOpen D.rules store.old (disc_of store.old state) }
-    requires there { HasDict store.old n }
+    requires dict { HasOpenDict state D.rules store.old n }
     ensures moved { contents store.new n
         ≡ with_place (place_by to (contents store.old n)) (contents store.old n) }
-    ensures kinds { kinds_of store.new ≡ kinds_of store.old }
-    ensures beside { Beside state D.rules n store.old store.new }
+    ensures changes { ChangesObjects state D.rules n store.old store.new }
 {
     let _ = match to {
         Move::First => store.first(n),
@@ -58,8 +55,7 @@ pub fn go<D: DictDisc + Drop>(
         ≡ with_place (place_by to (contents store.old n)) (contents store.old n) }
     ensures shown { HasDict store.old n
         → ShowsIfThere (current (contents store.new n)) (room out.old out.new needed.new) result }
-    ensures kinds { kinds_of store.new ≡ kinds_of store.old }
-    ensures beside { Beside state D.rules n store.old store.new }
+    ensures changes { ChangesObjects state D.rules n store.old store.new }
 {
     if !store.has(n) {
         *needed = 0;

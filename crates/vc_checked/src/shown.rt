@@ -1,6 +1,6 @@
 ghost use Rattle.std.specs.Prelude.{◌≡◌};
 ghost use Rattle.vc_store.specs.Reading.{current};
-ghost use Rattle.vc_store.specs.Stores.Stores.{HasDict, IsOpen, contents, disc_of};
+ghost use Rattle.vc_store.specs.Stores.Stores.{HasOpenDict, contents};
 ghost use Rattle.vc_checked.specs.Shown.{IsShown, ShowsIfThere, room};
 
 use crate::Answer;
@@ -28,8 +28,7 @@ pub(crate) fn show<D: DictDisc + Drop>(
     out: &mut [u8],
     needed: &mut usize,
 ) -> Answer
-    requires open { IsOpen D.rules store.now (disc_of store.now state) }
-    requires there { HasDict store.now n }
+    requires dict { HasOpenDict state D.rules store.now n }
     ensures { ShowsIfThere (current (contents store.now n)) (room out.old out.new needed.new) result }
 {
     match store.current(n) {

@@ -12,12 +12,4 @@ pub use status::CompareStatus;
 pub use tool::compare;
 
 #[cfg(test)]
-mod armed;
-#[cfg(test)]
-mod failing;
-#[cfg(test)]
-mod given;
-#[cfg(test)]
-mod many;
-#[cfg(test)]
-mod rows;
+mod refused;

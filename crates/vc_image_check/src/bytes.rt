@@ -3,5 +3,5 @@
 mod header;
 mod laws;
 
-pub use header::{is_header, word};
+pub use header::{is_header, part, word};
 pub use laws::{image_rows, read_of_written, written_of_read};

@@ -25,14 +25,14 @@ use Rattle.vc_script.specs.Words.{is_name, is_name_byte}
 use Rattle.vc_script.specs.declared.tool.Tool.TheVariants.{Dtrun}
 use Rattle.vc_seg.specs.declared.shelf.Shelf.{Shelf}
 use Rattle.vc_session.proofs.HowFar.{first-arms}
-use Rattle.vc_session.specs.Arming.{IsVersionOne, Keeps, RunsArming}
+use Rattle.vc_session.proofs.SessionLasts.{lent-ended}
+use Rattle.vc_session.specs.Arming.{IsVersionOne, KeepsLent, RunsArming}
 use Rattle.vc_session.specs.ProperState.{IsProperOver, IsProperState, name_or_none}
 use Rattle.vc_session.specs.Streams.{Flows}
-use Rattle.vc_steps.proofs.SettledShelf.{keeps-trans}
-use Rattle.vc_steps.specs.Account.{KeepsAccounts, SameAsked}
+use Rattle.vc_steps.specs.Account.{ArmsNone}
 use Rattle.vc_steps.specs.Homes.{accounts_on, settled_over, slots_on, state_on, state_over}
 use Rattle.vc_steps.specs.Moment.{Moment, moment, moment_at_end, moment_at_rest}
-use Rattle.vc_steps.specs.Told.{ended_told, gone_in, rules_in, tell}
+use Rattle.vc_steps.specs.Told.{KeepRules, ended_told, gone_in, rules_in, tell}
 use Rattle.vc_steps.specs.State.{State}
 use Rattle.vc_steps.specs.declared.session.Session.{Session}
 
@@ -105,13 +105,7 @@ module _ {I : Type 0} {V : I → Type 0} {D : Type 0} {meaning : (x : I) × V x 
     remakes-over (Ok image) is = record { start = start; begins = begins-with gone; ran_to = subst (λ r. Saves (map rules kinds) r start at_rest old new) is saves-over }
     remakes-over (Err why) is = record { start = start; begins = begins-with gone; ran_to = subst (λ r. Saves (map rules kinds) r start at_rest old new) is saves-over }
 
-    pub keeps-over : Keeps (IsVersionOne None Dtrun old.left) (moment_at_rest meaning rules gone shelf kinds) at_rest
-    keeps-over = record {
-      accounts =
-          keeps-trans (accounts_on meaning shelf) (settled_over meaning shelf' session) (accounts_on meaning after) o.is.keeps
-          (subst (KeepsAccounts (settled_over meaning shelf' session)) (sym ends) ran.lasts.lasts.accounts);
-      asked = λ first.
-          subst (SameAsked (settled_over meaning shelf' session)) (sym ends)
-          (ran.lasts.lasts.asked (first-arms Dtrun old.left ended (saves-arms (map rules kinds') start (moment_at_end ended) old new answer ran.runs) first))
-          ∙ o.is.asked;
-    }
+    pub keeps-over : ArmsNone (slots_on meaning shelf) (slots_on meaning shelf') → KeepRules rules kinds' last → ArmsNone (slots_on meaning shelf'') (slots_on meaning after) → KeepsLent meaning rules gone (IsVersionOne None Dtrun old.left) shelf kinds after last
+    keeps-over arms same unarmed =
+        lent-ended meaning rules gone shelf shelf' session kinds o.is.keeps o.is.asked arms ran.lasts
+        (first-arms Dtrun old.left ended (saves-arms (map rules kinds') start (moment_at_end ended) old new answer ran.runs)) ends same unarmed

@@ -6,12 +6,12 @@ use Rattle.vc_script.specs.declared.command.Command.{Command}
 use Rattle.vc_script.specs.declared.line_fault.LineFault.{LineFault}
 use Rattle.vc_script.specs.declared.tool.Tool.{Tool}
 use Rattle.vc_commands.specs.Held.{Held, home_of}
-use Rattle.vc_steps.specs.Account.{Settles, accounts, settled_accounts, state_of}
+use Rattle.vc_steps.specs.Account.{ArmsNone, KeepsAccounts, SameAsked, Settles, accounts, settled_accounts, state_of}
 use Rattle.vc_paths.specs.Links.{no_links}
 use Rattle.vc_views.specs.Numbers.{views_by}
 use Rattle.vc_steps.proofs.NewSession.{new-stands, none-held}
 use Rattle.vc_steps.specs.DictHomes.{dicts_in}
-use Rattle.vc_steps.specs.Homes.{held_in_session, slots_on}
+use Rattle.vc_steps.specs.Homes.{accounts_on, held_in_session, settled_over, slots_on}
 use Rattle.vc_steps.specs.Moment.{Moment, moment, over_sink, moment_at_rest_by, moment_at_rest}
 use Rattle.vc_session.specs.ProperState.{IsProperHome, IsProperOver}
 use Rattle.vc_session.specs.Replay.{IsCutShort, IsGenerated, IsReplay, IsRunOf, run_by}
@@ -32,7 +32,10 @@ use Rattle.vc_session.specs.Text.{good_lines, is_quiet, text_of}
 use Rattle.vc_words.specs.declared.words.Words.{Words}
 use Rattle.vc_session.specs.declared.engine.Stop.{Stop}
 use Rattle.vc_session.specs.declared.engine.Stop.TheVariants.{Read}
-use Rattle.vc_steps.specs.Told.{gone_in, rules_in}
+use Rattle.vc_steps.specs.Told.{KeepRules, gone_in, rules_in}
+use Rattle.vc_steps.proofs.SettledShelf.{keeps-same}
+use Rattle.vc_session.specs.Arming.{KeepsLent, LastsArming}
+use Rattle.vc_session.proofs.SessionLasts.{lent-ended}
 use Rattle.vc_commands.specs.declared.dict.entry.DictEntry.{DictEntry}
 use Rattle.vc_steps.specs.declared.session.Session.{Session}
 
@@ -135,6 +138,13 @@ module _ {I : Type 0} {V : I → Type 0} {D : Type 0} (meaning : (x : I) × V x 
   new-moment off =
       ap (λ hs. moment_of hs session.dicts.entries) no_held
       ∙ (ap (λ es. moment_of [] es) none.2 ∙ ap (λ on. let m : Moment = record (moment_of [] []) { armed = on } in m) off)
+
+  -- once it was run and ended, what was lent is kept
+  pub new-ended : {first : Type 0} {run after : Shelf I V} {session' : Session D I V} {kinds' last : List D} → session.is_armed ≡ false → LastsArming meaning rules shelf session kinds run session' kinds' → (first → session'.is_armed ≡ false)
+      → accounts_on meaning after ≡ settled_over meaning run session' → KeepRules rules kinds' last → ArmsNone (slots_on meaning run) (slots_on meaning after) → KeepsLent meaning rules gone first shelf kinds after last
+  new-ended off h unarmed ends same arms =
+      let begins : settled_over meaning shelf session ≡ accounts_on meaning shelf = ap (λ (m : Moment). m.accounts) (new-moment off) in
+      lent-ended meaning rules gone shelf shelf session kinds (subst (KeepsAccounts (accounts_on meaning shelf)) (sym begins) (keeps-same (accounts_on meaning shelf))) (subst (SameAsked (accounts_on meaning shelf)) (sym begins) refl) (λ n d at on. at) h unarmed ends same arms
 
 map-none : {A B : Type 0} (f : A → B) (xs ys : List A) → map f xs ≡ map f ys → ys ≡ [] → xs ≡ []
 map-none f [] ys same none = refl

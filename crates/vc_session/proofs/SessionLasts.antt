@@ -1,15 +1,16 @@
 -- What lasts of a session, from one time to the next.
 use Rattle.vc_base.proofs.Common.{◌≡◌, List, Bool, true, false, refl, sym, ◌∙◌, subst, false≢true, Discipline}
-use Rattle.vc_dtdisc.specs.Rules.{Rules}
+use Rattle.vc_dtdisc.specs.Rules.{Gone, Rules}
 use Rattle.vc_seg.specs.declared.shelf.Shelf.{Shelf}
 use Rattle.vc_steps.specs.declared.session.Session.{Session}
-use Rattle.vc_steps.specs.Account.{KeepsAccounts, SameAsked}
+use Rattle.vc_steps.specs.Account.{ArmsNone, KeepsAccounts, SameAsked}
 use Rattle.vc_steps.specs.Arms.{ArmsAll}
-use Rattle.vc_steps.specs.Homes.{IsSessionOver, settled_over}
+use Rattle.vc_steps.specs.Homes.{IsSessionOver, accounts_on, settled_over, slots_on}
 use Rattle.vc_steps.specs.Steps.{Lasts}
+use Rattle.vc_steps.specs.Told.{KeepRules}
 use Rattle.vc_steps.proofs.ArmedRegions.{arms-settled, arms-stands}
 use Rattle.vc_steps.proofs.SettledShelf.{keeps-same, keeps-trans}
-use Rattle.vc_session.specs.Arming.{LastsArming}
+use Rattle.vc_session.specs.Arming.{KeepsLent, LastsArming}
 
 pub lasts-same : {I : Type 0} {V : I → Type 0} {D : Type 0} {meaning : (x : I) × V x → Discipline} {rules : D → Rules} {shelf : Shelf I V} {session : Session D I V} {kinds : List D} → IsSessionOver meaning rules shelf session kinds → Lasts meaning rules shelf session kinds shelf session kinds
 lasts-same {meaning = meaning} {shelf = shelf} {session = session} stands =
@@ -68,3 +69,26 @@ module _ {I : Type 0} {V : I → Type 0} {D : Type 0} {meaning : (x : I) × V x 
         };
         armed = λ armed. absurd (false≢true (sym unarmed ∙ armed));
       }
+
+-- where nothing was run all is kept
+pub lent-same : {I : Type 0} {V : I → Type 0} {D : Type 0} {meaning : (x : I) × V x → Discipline} {rules : D → Rules} {gone : D → Gone} {first : Type 0} {shelf : Shelf I V} {kinds : List D} → KeepsLent meaning rules gone first shelf kinds shelf kinds
+lent-same {meaning = meaning} {shelf = shelf} =
+    record { disciplines = record { accounts = keeps-same (accounts_on meaning shelf); asked = λ is. refl }; keeps_rules = refl; arms_none = λ n d at on. at }
+
+-- and so it is where a session was made over what was lent, run and ended
+module _ {I : Type 0} {V : I → Type 0} {D : Type 0} (meaning : (x : I) × V x → Discipline) (rules : D → Rules) (gone : D → Gone) (shelf begun : Shelf I V) (session : Session D I V) (kinds : List D)
+    (kept : KeepsAccounts (accounts_on meaning shelf) (settled_over meaning begun session))
+    (asked : SameAsked (accounts_on meaning shelf) (settled_over meaning begun session))
+    (arms : ArmsNone (slots_on meaning shelf) (slots_on meaning begun)) where
+  pub lent-ended : {first : Type 0} {run after : Shelf I V} {session' : Session D I V} {kinds' last : List D} → LastsArming meaning rules begun session kinds run session' kinds' → (first → session'.is_armed ≡ false)
+      → accounts_on meaning after ≡ settled_over meaning run session' → KeepRules rules kinds' last → ArmsNone (slots_on meaning run) (slots_on meaning after) → KeepsLent meaning rules gone first shelf kinds after last
+  lent-ended {run = run} {session' = session'} h off ends same unarmed = record {
+    disciplines = record {
+      accounts =
+          subst (KeepsAccounts (accounts_on meaning shelf)) (sym ends)
+          (keeps-trans (accounts_on meaning shelf) (settled_over meaning begun session) (settled_over meaning run session') kept h.lasts.accounts);
+      asked = λ is. subst (SameAsked (accounts_on meaning shelf)) (sym ends) (h.lasts.asked (off is) ∙ asked);
+    };
+    keeps_rules = same ∙ h.lasts.keeps_rules;
+    arms_none = λ n d at on. arms n d (h.lasts.arms_none n d (unarmed n d at on) on) on;
+  }

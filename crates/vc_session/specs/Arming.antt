@@ -5,9 +5,11 @@ use Rattle.vc_model.specs.Discipline.{Discipline}
 use Rattle.vc_script.specs.declared.tool.Tool.{Tool}
 use Rattle.vc_seg.specs.declared.shelf.Shelf.{Shelf}
 use Rattle.vc_session.specs.Run.{version_of}
-use Rattle.vc_steps.specs.Account.{KeepsAccounts, SameAsked}
-use Rattle.vc_steps.specs.Moment.{Moment, moment}
+use Rattle.vc_steps.specs.Account.{ArmsNone, KeepsAccounts, SameAsked}
+use Rattle.vc_steps.specs.Homes.{slots_on}
+use Rattle.vc_steps.specs.Moment.{Moment, moment, moment_at_rest}
 use Rattle.vc_steps.specs.Steps.{Lasts}
+use Rattle.vc_steps.specs.Told.{KeepRules}
 use Rattle.vc_steps.specs.declared.session.Session.{Session}
 use Rattle.vc_words.specs.declared.words.Words.{Words}
 
@@ -40,3 +42,11 @@ pub record Keeps (first : Type 0) (before after : Moment) : Type 0 where
   pub accounts : KeepsAccounts before.accounts after.accounts
   -- and where version 1 was run, none was asked for an exception
   pub asked : first → SameAsked before.accounts after.accounts
+
+-- what is kept of a shelf and kinds, whatever came of the run over them
+pub record KeepsLent {I : Type 0} {V : I → Type 0} {D : Type 0} (meaning : (x : I) × V x → Discipline) (rules : D → Rules) (gone : D → Gone) (first : Type 0) (shelf : Shelf I V) (kinds : List D) (shelf' : Shelf I V) (kinds' : List D) : Type 0 where
+  pub disciplines : Keeps first (moment_at_rest meaning rules gone shelf kinds) (moment_at_rest meaning rules gone shelf' kinds')
+  -- the kinds have the rules that they had
+  pub keeps_rules : KeepRules rules kinds kinds'
+  -- of the disciplines that stand on the shelf none is armed but those that were
+  pub arms_none : ArmsNone (slots_on meaning shelf) (slots_on meaning shelf')

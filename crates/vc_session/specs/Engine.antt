@@ -20,6 +20,7 @@ use Rattle.vc_session.specs.Run.{is_second, script}
 use Rattle.vc_session.specs.SoFar.{ArmsBy, AtEnd}
 use Rattle.vc_session.specs.Streams.{Flows}
 use Rattle.vc_session.specs.Text.{is_quiet}
+use Rattle.vc_session.specs.declared.scratch.Scratch.{Scratch}
 use Rattle.vc_session.specs.declared.engine.Stop.{Stop}
 use Rattle.vc_session.specs.declared.engine.Stop.TheVariants.{Read, Write}
 use Rattle.vc_steps.specs.Account.{Settles}
@@ -27,6 +28,10 @@ use Rattle.vc_steps.specs.Moment.{Moment, moment_at_end, over_sink}
 use Rattle.vc_steps.specs.Step.{step}
 use Rattle.vc_steps.specs.Steps.{Steps, StepsBy}
 use Rattle.vc_words.specs.declared.words.Words.{Words}
+
+-- a moment at which what is gathered of the replies stands for what their sink tells
+abbrev pub gathered : Moment → Scratch → Moment
+gathered m scratch = over_sink m (Some scratch.replies.items)
 
 -- nothing was run
 pub record IsIdle (now next : Moment) (before counts : Counts) : Type 0 where

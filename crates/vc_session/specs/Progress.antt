@@ -15,7 +15,7 @@ use Rattle.vc_session.specs.Run.{Ran, lines_of, nothing_ran, run_from}
 use Rattle.vc_session.specs.QuietText.{style_by}
 use Rattle.vc_session.specs.Text.{replies_text, counts_of}
 use Rattle.vc_steps.specs.Account.{Settles}
-use Rattle.vc_steps.specs.Homes.{state_over}
+use Rattle.vc_steps.specs.Homes.{IsSessionOver, state_over}
 use Rattle.vc_steps.specs.Moment.{Moment}
 use Rattle.vc_steps.specs.State.{State}
 use Rattle.vc_steps.specs.Told.{rules_in, tell}
@@ -39,6 +39,11 @@ pub record Progress (quiet : Bool) (start now : Moment) (counts : Counts) (text 
 -- a quiet run can count a command on any line behind that number
 abbrev pub CanCountOn : Bool → Counts → State → ℕ → Type 0
 CanCountOn quiet counts s count = IsTrue quiet → (line : ℕ) → count < line → CanCount counts (live_bytes s) line
+
+-- a session that stands over a shelf and kinds can run the command of the line of that number, and a quiet run can count it
+pub record CanRunLine {I : Type 0} {V : I → Type 0} {D : Type 0} (quiet : Bool) (meaning : (x : I) × V x → Discipline) (rules : D → Rules) (shelf : Shelf I V) (session : Session D I V) (kinds : List D) (counts : Counts) (line : ℕ) : Type 0 where
+  pub stands : IsSessionOver meaning rules shelf session kinds
+  pub can_count : IsTrue quiet → CanCount counts (live_bytes (state_over meaning (rules_in rules kinds) shelf session)) line
 
 -- a session that stands over a shelf and kinds can begin a run with these counts: of no command
 pub record CanBegin {I : Type 0} {V : I → Type 0} {D : Type 0} (quiet : Bool) (meaning : (x : I) × V x → Discipline) (rules : D → Rules) (shelf : Shelf I V) (session : Session D I V) (kinds : List D) (counts : Counts) : Type 0 where

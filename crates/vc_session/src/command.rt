@@ -1,14 +1,10 @@
-ghost use Rattle.std.specs.Prelude.{◌≡◌, Some, IsTrue, OnErr};
+ghost use Rattle.std.specs.Prelude.{◌≡◌, Some, OnErr, true};
 ghost use Rattle.vc_commands.specs.Answered.{answered};
-ghost use Rattle.vc_counts.specs.CanCount.{CanCount};
 ghost use Rattle.vc_counts.specs.Counting.{CountsStep};
-ghost use Rattle.vc_counts.specs.Counts.{live_bytes};
 ghost use Rattle.vc_session.specs.Engine.{IsStep, RunsLine};
-ghost use Rattle.vc_session.specs.Progress.{CountsOn};
-ghost use Rattle.vc_steps.specs.Homes.{IsSessionOver, state_over};
+ghost use Rattle.vc_session.specs.Progress.{CanRunLine, CountsOn};
 ghost use Rattle.vc_steps.specs.Moment.{over_sink};
 ghost use Rattle.vc_steps.specs.Steps.{RunsOver};
-ghost use Rattle.vc_steps.specs.Told.{rules_in};
 
 use crate::gather::gather;
 use crate::style::style_by;
@@ -30,9 +26,7 @@ fn run_counted<D: DictDisc>(
     counts: &mut Counts,
     reply: &mut Reply,
 ) -> Result<(), OutOfMemory>
-    requires session { IsSessionOver state D.rules shelf.old session.old kinds.old.items }
-    requires counts { CanCount counts.old (live_bytes
-        (state_over state (rules_in D.rules kinds.old.items) shelf.old session.old)) n }
+    requires { CanRunLine true state D.rules shelf.old session.old kinds.old.items counts.old n }
     ensures { RunsOver state D.rules D.gone shelf.old session.old kinds.old.items
         shelf.new session.new kinds.new.items
         (λ now next. CountsStep (answered result reply.new) now next n command.now
@@ -53,9 +47,7 @@ fn run_command<D: DictDisc>(
     counts: &mut Counts,
     reply: &mut Reply,
 ) -> Result<(), OutOfMemory>
-    requires session { IsSessionOver state D.rules shelf.old session.old kinds.old.items }
-    requires counts { IsTrue quiet → CanCount counts.old (live_bytes
-        (state_over state (rules_in D.rules kinds.old.items) shelf.old session.old)) n }
+    requires { CanRunLine quiet state D.rules shelf.old session.old kinds.old.items counts.old n }
     ensures { RunsOver state D.rules D.gone shelf.old session.old kinds.old.items
         shelf.new session.new kinds.new.items
         (λ now next. RunsLine quiet (answered result reply.new) now next
@@ -81,9 +73,7 @@ pub(crate) fn run_answer<D: DictDisc>(
     reply: &mut Reply,
     replies: &mut Vec<u8>,
 ) -> Result<(), OutOfMemory>
-    requires session { IsSessionOver state D.rules shelf.old session.old kinds.old.items }
-    requires counts { IsTrue quiet → CanCount counts.old (live_bytes
-        (state_over state (rules_in D.rules kinds.old.items) shelf.old session.old)) n }
+    requires { CanRunLine quiet state D.rules shelf.old session.old kinds.old.items counts.old n }
     ensures runs { RunsOver state D.rules D.gone shelf.old session.old kinds.old.items
         shelf.new session.new kinds.new.items
         (λ now next. CountsOn quiet result counts.new next n (λ _. IsStep quiet

@@ -1,14 +1,11 @@
-ghost use Rattle.std.specs.Prelude.{◌≡◌, ◌==◌, [], None, Ok, Some, IsTrue, OnErr, false};
-ghost use Rattle.vc_counts.specs.CanCount.{CanCount};
-ghost use Rattle.vc_counts.specs.Counts.{live_bytes};
+ghost use Rattle.std.specs.Prelude.{◌≡◌, ◌==◌, [], None, Ok, OnErr, false};
 ghost use Rattle.vc_script.specs.Answer.{answer};
 ghost use Rattle.vc_script.specs.Cutting.{new_cutting};
-ghost use Rattle.vc_session.specs.Engine.{LineRan, RunsLines};
-ghost use Rattle.vc_session.specs.Progress.{CanBegin, CountsOn};
+ghost use Rattle.vc_session.specs.Engine.{LineRan, RunsLines, gathered};
+ghost use Rattle.vc_session.specs.Progress.{CanBegin, CanRunLine, CountsOn};
 ghost use Rattle.vc_session.specs.SoFar.{CanGoOn, RunsLast, RunsPiece};
 ghost use Rattle.vc_session.specs.Streams.{flows};
 ghost use Rattle.vc_steps.specs.Homes.{IsSessionOver, state_over};
-ghost use Rattle.vc_steps.specs.Moment.{over_sink};
 ghost use Rattle.vc_session.specs.Arming.{RunsArming};
 ghost use Rattle.vc_steps.specs.Told.{rules_in};
 
@@ -78,14 +75,13 @@ fn run_line<D: DictDisc>(
     line: &[u8],
     scratch: &mut Scratch,
 ) -> Result<Option<LineFault>, OutOfMemory>
-    requires session { IsSessionOver state D.rules shelf.old session.old kinds.old.items }
+    requires can_run { CanRunLine quiet state D.rules shelf.old session.old kinds.old.items
+        scratch.old.counts n }
     requires unarmed { n ≡ 1 → session.old.is_armed ≡ false }
-    requires counts { IsTrue quiet → CanCount scratch.old.counts (live_bytes
-        (state_over state (rules_in D.rules kinds.old.items) shelf.old session.old)) n }
     ensures runs { RunsArming state D.rules D.gone shelf.old session.old kinds.old.items
         shelf.new session.new kinds.new.items
         (λ now next. CountsOn quiet result scratch.new.counts next n (LineRan quiet
-        (over_sink now (Some scratch.old.replies.items)) (over_sink next (Some scratch.new.replies.items))
+        (gathered now scratch.old) (gathered next scratch.new)
         scratch.old.counts scratch.new.counts n (answer tool (n == 1) line.now))) }
     ensures same { OnErr result (scratch.new.replies.items ≡ scratch.old.replies.items) }
     ensures armed { OnErr result (session.new.is_armed ≡ session.old.is_armed) }
@@ -138,7 +134,7 @@ fn run_piece<D: DictDisc>(
     ensures runs { RunsArming state D.rules D.gone shelf.old session.old kinds.old.items
         shelf.new session.new kinds.new.items
         (λ now next. RunsPiece tool quiet result
-        (over_sink now (Some scratch.old.replies.items)) (over_sink next (Some scratch.new.replies.items))
+        (gathered now scratch.old) (gathered next scratch.new)
         scratch.old.counts scratch.new.counts scratch.new.replies.items cutter.old cutter.new piece.now) }
     ensures unarmed { result ≡ Ok None → cutter.new.count ≡ 0 → session.new.is_armed ≡ false }
 {
@@ -191,7 +187,7 @@ fn run_last<D: DictDisc>(
     ensures { RunsArming state D.rules D.gone shelf.old session.old kinds.old.items
         shelf.new session.new kinds.new.items
         (λ now next. RunsLast tool quiet result
-        (over_sink now (Some scratch.old.replies.items)) (over_sink next (Some scratch.new.replies.items))
+        (gathered now scratch.old) (gathered next scratch.new)
         scratch.old.counts scratch.new.counts scratch.new.replies.items cutter.old cutter.new.count) }
 {
     match cutter.end() {

@@ -1,21 +1,19 @@
 ghost use Rattle.std.specs.Prelude.{◌≡◌, ℕ, ◌<◌, ◌≤◌, ◌^◌, List, [], ◌++◌, Some, false, true, IfOk, IfSome, OnErr, OnOk, length, take};
 ghost use Rattle.std.specs.List.{AllByRecursion};
 ghost use Rattle.vc_base.specs.Prelude.{Rose};
-ghost use Rattle.vc_counts.specs.CanCount.{CanCount};
 ghost use Rattle.vc_counts.specs.Counts.{live_bytes};
 ghost use Rattle.vc_generate.specs.Generated.{commands_of_seed};
 ghost use Rattle.vc_script.specs.Proper.{IsProperCommand};
-ghost use Rattle.vc_session.specs.Arming.{Keeps};
+ghost use Rattle.vc_session.specs.Arming.{KeepsLent};
 ghost use Rattle.vc_session.specs.Engine.{IsStep, RunsGenerated};
 ghost use Rattle.vc_session.specs.Generating.{RunsCommands};
-ghost use Rattle.vc_session.specs.Progress.{CanBegin, CountsOn};
+ghost use Rattle.vc_session.specs.Progress.{CanBegin, CanRunLine, CountsOn};
 ghost use Rattle.vc_session.specs.ProperState.{IsProperOver};
 ghost use Rattle.vc_base.specs.Told.{Told};
-ghost use Rattle.vc_steps.specs.Account.{ArmsNone};
-ghost use Rattle.vc_steps.specs.Homes.{IsSessionOver, slots_on, state_over};
+ghost use Rattle.vc_steps.specs.Homes.{state_over};
 ghost use Rattle.vc_steps.specs.Moment.{moment_at_end, over_sink, moment_at_rest};
 ghost use Rattle.vc_steps.specs.Steps.{RunsOver};
-ghost use Rattle.vc_steps.specs.Told.{KeepRules, rules_in};
+ghost use Rattle.vc_steps.specs.Told.{rules_in};
 
 use crate::asked::Asked;
 use crate::command::run_answer;
@@ -86,9 +84,7 @@ fn run_made<D: DictDisc>(
     room: &mut Vec<u8>,
     gathered: &mut Vec<u8>,
 ) -> Result<(), OutOfMemory>
-    requires session { IsSessionOver state D.rules shelf.old session.old kinds.old.items }
-    requires counts { CanCount counts.old (live_bytes
-        (state_over state (rules_in D.rules kinds.old.items) shelf.old session.old)) line }
+    requires { CanRunLine true state D.rules shelf.old session.old kinds.old.items counts.old line }
     ensures { RunsOver state D.rules D.gone shelf.old session.old kinds.old.items
         shelf.new session.new kinds.new.items
         (λ now next. CountsOn true result counts.new next line (λ _. IsStep true
@@ -198,11 +194,8 @@ pub(crate) fn run_generated<D: DictDisc, O: Sink>(
         (moment_at_rest state D.rules D.gone shelf.old kinds.old.items)
         (moment_at_rest state D.rules D.gone shelf.new kinds.new.items)
         (O.written out.old) (O.written out.new) (O.failures out.old) (O.failures out.new)) }
-    ensures keeps { Keeps (Unit {0})
-        (moment_at_rest state D.rules D.gone shelf.old kinds.old.items)
-        (moment_at_rest state D.rules D.gone shelf.new kinds.new.items) }
-    ensures rules { KeepRules D.rules kinds.old.items kinds.new.items }
-    ensures unarmed { ArmsNone (slots_on state shelf.old) (slots_on state shelf.new) }
+    ensures keeps { KeepsLent state D.rules D.gone (Unit {0})
+        shelf.old kinds.old.items shelf.new kinds.new.items }
 {
     let Some(n) = asked.words.generate else {
         return Ok(());

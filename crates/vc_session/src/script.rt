@@ -1,15 +1,14 @@
 ghost use Rattle.std.specs.Prelude.{◌≡◌, [], None, Some, IsTrue, false, length};
 ghost use Rattle.vc_counts.specs.Counts.{live_bytes};
 ghost use Rattle.vc_script.specs.Cutting.{new_cutting};
-ghost use Rattle.vc_session.specs.Arming.{IsVersionOne, Keeps, RunsArming};
+ghost use Rattle.vc_session.specs.Arming.{IsVersionOne, KeepsLent, RunsArming};
 ghost use Rattle.vc_session.specs.Engine.{RunsScriptOn, RunsScript};
 ghost use Rattle.vc_session.specs.ProperState.{IsProperOver};
 ghost use Rattle.vc_session.specs.Streams.{flows};
 ghost use Rattle.vc_session.specs.Text.{good_lines, is_quiet};
-ghost use Rattle.vc_steps.specs.Account.{ArmsNone};
-ghost use Rattle.vc_steps.specs.Homes.{slots_on, state_over};
+ghost use Rattle.vc_steps.specs.Homes.{state_over};
 ghost use Rattle.vc_steps.specs.Moment.{moment_at_rest};
-ghost use Rattle.vc_steps.specs.Told.{KeepRules, rules_in};
+ghost use Rattle.vc_steps.specs.Told.{rules_in};
 
 use crate::engine::{Stop, run_lines};
 use crate::scratch::Scratch;
@@ -96,12 +95,8 @@ pub(crate) fn run_source<D: DictDisc, S: Source, O: Sink>(
         (moment_at_rest state D.rules D.gone shelf.new kinds.new.items)
         (flows S.left S.failures O.written O.failures source.old out.old)
         (flows S.left S.failures O.written O.failures source.new out.new) }
-    ensures keeps { Keeps
-        (IsVersionOne None tool (S.left source.old))
-        (moment_at_rest state D.rules D.gone shelf.old kinds.old.items)
-        (moment_at_rest state D.rules D.gone shelf.new kinds.new.items) }
-    ensures rules { KeepRules D.rules kinds.old.items kinds.new.items }
-    ensures unarmed { ArmsNone (slots_on state shelf.old) (slots_on state shelf.new) }
+    ensures keeps { KeepsLent state D.rules D.gone (IsVersionOne None tool (S.left source.old))
+        shelf.old kinds.old.items shelf.new kinds.new.items }
 {
     let mut cutter = LineCutter::new(alloc)?;
     let mut session = Session::<D>::over(alloc, tool, IndexMap::new(alloc))?;

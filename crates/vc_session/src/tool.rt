@@ -1,13 +1,12 @@
 ghost use Rattle.std.specs.Prelude.{◌≡◌, [], Some, IsSome, map, string_bytes};
 ghost use Rattle.vc_script.specs.declared.tool.Tool.TheVariants.{Dtrun, Vmreplay};
-ghost use Rattle.vc_session.specs.Arming.{IsVersionOne, Keeps};
+ghost use Rattle.vc_session.specs.Arming.{IsVersionOne, KeepsLent};
 ghost use Rattle.vc_session.specs.Engine.{RunsAsked};
 ghost use Rattle.vc_session.specs.Promises.{Promises, borrowed};
 ghost use Rattle.vc_session.specs.Streams.{flows, streams};
 ghost use Rattle.vc_steps.specs.Account.{ArmsNone};
 ghost use Rattle.vc_steps.specs.Homes.{slots_on};
 ghost use Rattle.vc_steps.specs.Moment.{moment_at_rest_by, moment_at_rest};
-ghost use Rattle.vc_steps.specs.Told.{KeepRules};
 ghost use Rattle.vc_words.specs.Words.{words_of};
 
 use crate::Status;
@@ -39,12 +38,9 @@ fn run_asked<D: DictDisc, S: Source, O: Sink>(
         (flows S.left S.failures O.written O.failures source.old out.old)
         (flows S.left S.failures O.written O.failures source.new out.new) }
     ensures generated { IsSome asked.now.words.generate → source.new ≡ source.old }
-    ensures keeps { Keeps
+    ensures keeps { KeepsLent state D.rules D.gone
         (IsVersionOne asked.now.words.generate tool (S.left source.old))
-        (moment_at_rest state D.rules D.gone shelf.old kinds.old.items)
-        (moment_at_rest state D.rules D.gone shelf.new kinds.new.items) }
-    ensures rules { KeepRules D.rules kinds.old.items kinds.new.items }
-    ensures unarmed { ArmsNone (slots_on state shelf.old) (slots_on state shelf.new) }
+        shelf.old kinds.old.items shelf.new kinds.new.items }
 {
     match asked.words.generate {
         None => run_source(alloc, tool, &asked.words, shelf, kinds, source, out),

@@ -116,9 +116,11 @@ dicts-armed on kinds hs es dicts =
 
 -- a session whose disciplines were armed, or unarmed, stands where it stood, and means the same
 module _ {I : Type 0} {V : I → Type 0} {D : Type 0} {meaning : (x : I) × V x → Discipline} {on : Bool} {session session' : Session D I V} (arms : ArmsAll meaning on session session') where
+  abbrev hs : List Held
+  hs = held_in_session meaning session
+
   pub arms-stands : (rules : D → Rules) (shelf : Shelf I V) (kinds : List D) → IsSessionOver meaning rules shelf session kinds → IsSessionOver meaning rules shelf session' kinds
   arms-stands rules shelf kinds stands =
-      let hs = held_in_session meaning session in
       record {
         regions = record {
           named = ap (λ s. length s.labels.items) arms.rest ∙ (stands.regions.named ∙ sym arms.count);
@@ -136,7 +138,6 @@ module _ {I : Type 0} {V : I → Type 0} {D : Type 0} {meaning : (x : I) × V x 
 
   pub arms-state : (kinds : List Rules) (shelf : Shelf I V) → state_over meaning kinds shelf session' ≡ state_over meaning kinds shelf session
   arms-state kinds shelf =
-      let hs = held_in_session meaning session in
       let vs = views_by session.paths session.dicts.entries in
       ap (λ s. state_of kinds (slots_on meaning shelf) (held_in_session meaning session') (dicts_in (held_in_session meaning session') (views_by s.paths s.dicts.entries) s.dicts.entries)) arms.rest
       ∙ (ap (λ gs. state_of kinds (slots_on meaning shelf) gs (dicts_in gs vs session.dicts.entries)) arms.held

@@ -1,7 +1,6 @@
 -- The dictionary of a name, among those of a session.
 use Rattle.vc_base.proofs.Common.{◌≡◌, ℕ, zero, suc, ◌<◌, true, false, cond, ◌||◌, List, [], ◌∷◌, map, length, get_or, take, set, is_some, slice_get, Some, None, position, bytes_eq, sym, refl, ap, ◌∙◌, subst, ⊎_elim, arith, cases_Bool, or_parts, position-Some, none-some, same_Some, list_any, keys_of, lookup, values_of}
 use Rattle.vc_base.proofs.Texts.{bytes_eq-swapped, same_bytes}
-use Rattle.indexmap.specs.IndexMap.{set_value_at}
 use Rattle.vc_objects.specs.Objects.{Dictionary}
 use Rattle.vc_commands.specs.Held.{Held}
 use Rattle.vc_steps.specs.DictHomes.{dict_home, dicts_in}
@@ -9,6 +8,7 @@ use Rattle.vc_steps.specs.Dicts.{with_dict}
 use Rattle.vc_views.specs.Views.{dict_named, is_dict, DictHome}
 use Rattle.vc_steps.proofs.DictsStay.{Entry, Vs}
 use Rattle.vc_commands.proofs.Firsts.{IsFirst, find-first, find-none, first-unmap}
+use Rattle.vc_views.proofs.Firsts.{first-key}
 
 dict-set_at : (d : List ℕ) (dict : Dictionary) (ks : List DictHome) (i : ℕ) (k : DictHome) → slice_get ks i ≡ Some k → is_dict d k ≡ true → list_any (is_dict d) (take i ks) ≡ false → with_dict d dict ks ≡ set ks i (record k { dict = dict })
 dict-set_at d dict [] i k at passes none = absurd (none-some k at)
@@ -21,36 +21,11 @@ dict-set_at d dict (l ∷ ks) (suc i) k at passes none =
     ap (λ b. cond b ((record l { dict = dict }) ∷ ks) (l ∷ with_dict d dict ks)) parts.0
     ∙ ap (λ zs. l ∷ zs) (dict-set_at d dict ks i k at passes parts.1)
 
--- another value at a place of a map
-pub value-set : {A : Type 0} (es : List (List ℕ × A)) (i : ℕ) (k : List ℕ) (x y : A) → slice_get es i ≡ Some (k, x) → set_value_at es i y ≡ set es i (k, y)
-value-set [] i k x y at = absurd (none-some (k, x) at)
-value-set (e ∷ es) zero k x y at = ap (λ n. (n, y) ∷ es) (ap (λ (p : _ × _). p.0) (same_Some e (k, x) at))
-value-set (e ∷ es) (suc i) k x y at = ap (λ zs. e ∷ zs) (value-set es i k x y at)
-
-key-get : (xs : List (List ℕ)) (k : ℕ) → k < length xs → slice_get xs k ≡ Some (get_or xs k [])
-key-get [] k lt = absurd (omega (arith, lt))
-key-get (x ∷ xs) zero lt = refl
-key-get (x ∷ xs) (suc k) lt = key-get xs k (omega (arith, lt))
-
--- the key at the place of a name
-pub key-at : {A : Type 0} (es : List (List ℕ × A)) (d : List ℕ) (i : ℕ) → position (bytes_eq d) (keys_of es) ≡ Some i → slice_get (keys_of es) i ≡ Some d
-key-at es d i at =
-    let p = position-Some (bytes_eq d) (keys_of es) i [] at in
-    key-get (keys_of es) i p.0 ∙ ap (λ n. Some n) (sym (same_bytes d (get_or (keys_of es) i []) p.1))
-
 -- what stands at a place, by its key and its value
 pub pair-read : {A : Type 0} (es : List (List ℕ × A)) (i : ℕ) (k : List ℕ) (x : A) → slice_get (keys_of es) i ≡ Some k → slice_get (values_of es) i ≡ Some x → slice_get es i ≡ Some (k, x)
 pair-read [] i k x key value = absurd (none-some k key)
 pair-read (e ∷ es) zero k x key value = ap (λ n. Some (n, e.1)) (same_Some e.0 k key) ∙ ap (λ y. Some (k, y)) (same_Some e.1 x value)
 pair-read (e ∷ es) (suc i) k x key value = pair-read es i k x key value
-
-none-of : (r : List ℕ) (xs : List (List ℕ)) (i : ℕ) → ((k : ℕ) → k < i → bytes_eq r (get_or xs k []) ≡ false) → list_any (λ n. bytes_eq n r) (take i xs) ≡ false
-none-of r [] zero none = refl
-none-of r [] (suc i) none = refl
-none-of r (x ∷ xs) zero none = refl
-none-of r (x ∷ xs) (suc i) none =
-    ap (λ b. b || list_any (λ n. bytes_eq n r) (take i xs)) (bytes_eq-swapped x r ∙ none 0 (omega arith))
-    ∙ none-of r xs i (λ k lt. none (suc k) (omega (arith, lt)))
 
 module _ (hs : List Held) (vs : Vs) where
   names-dicts : (es : List Entry) → keys_of es ≡ map (λ (k : DictHome). k.name) (dicts_in hs vs es)
@@ -75,15 +50,8 @@ module _ (hs : List Held) (vs : Vs) where
   -- the first key is that of the first dictionary of the name
   pub first-dict : (es : List Entry) (d : List ℕ) (i : ℕ) → position (bytes_eq d) (keys_of es) ≡ Some i → IsFirst (is_dict d) (dicts_in hs vs es) i
   first-dict es d i at =
-      let p = position-Some (bytes_eq d) (keys_of es) i [] at in
-      let first : IsFirst (λ n. bytes_eq n d) (keys_of es) i = record {
-        item = get_or (keys_of es) i [];
-        at = key-get (keys_of es) i p.0;
-        passes = bytes_eq-swapped (get_or (keys_of es) i []) d ∙ p.1;
-        before = none-of d (keys_of es) i p.2;
-      } in
       first-unmap (λ n. bytes_eq n d) (λ (k : DictHome). k.name) (dicts_in hs vs es) i
-      (subst (λ ns. IsFirst (λ n. bytes_eq n d) ns i) (names-dicts es) first)
+      (subst (λ ns. IsFirst (λ n. bytes_eq n d) ns i) (names-dicts es) (first-key (keys_of es) d i at))
 
   pub home-at : (es : List Entry) (i : ℕ) (e : Entry) → slice_get es i ≡ Some e → slice_get (dicts_in hs vs es) i ≡ Some (dict_home hs vs e)
   home-at [] i e at = absurd (none-some e at)

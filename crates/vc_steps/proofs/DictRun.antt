@@ -41,7 +41,7 @@ use Rattle.vc_steps.proofs.DictMethod.{method-ran}
 use Rattle.vc_steps.proofs.Cells.{at_number_some, set_same}
 use Rattle.vc_steps.proofs.RegionChange.{session-change, settles-none}
 use Rattle.vc_steps.proofs.DictChange.{Touches}
-use Rattle.vc_steps.proofs.DictByName.{value-set}
+use Rattle.vc_views.proofs.Firsts.{value-set}
 use Rattle.vc_steps.proofs.DictRegion.{best_entry, region-change, touches}
 use Rattle.vc_steps.proofs.DictReplies.{IsOther, other-dict}
 use Rattle.vc_steps.proofs.DictStep.{cut-after, dicts-after, lacks-after, settles-after, step-after}
@@ -165,7 +165,7 @@ module _ {I : Type 0} {V : I → Type 0} {meaning : (x : I) × V x → Disciplin
     held-is = helds-set meaning x.region (best_entry place after)
 
     es-is : es' ≡ set es i n
-    es-is = value-set es i name entry lain x.there
+    es-is = value-set es i (name, entry) lain x.there
 
     carry : (P : List Rules → List Held → List Entry → Type 0) → P kinds (set hs x.j g) (set es i n) → P kinds' hs' es'
     carry P p = subst (λ y. P y hs' es') (sym ran.same_kinds) (subst (λ y. P kinds y es') (sym held-is) (subst (P kinds (set hs x.j g)) (sym es-is) p))

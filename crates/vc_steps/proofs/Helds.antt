@@ -9,6 +9,7 @@ use Rattle.vc_commands.specs.Held.{home_of}
 use Rattle.vc_commands.specs.RegionRun.{held_of}
 use Rattle.vc_steps.specs.Homes.{held_all}
 use Rattle.vc_commands.proofs.Firsts.{IsFirst, first-unmap}
+use Rattle.vc_views.proofs.Firsts.{first-key}
 
 -- what stands at an index of a list
 pub slice-or : {A : Type 0} (xs : List A) (i : ℕ) (x : A) → i < length xs → x ≡ get_or xs i x → slice_get xs i ≡ Some x
@@ -47,37 +48,11 @@ module _ {I : Type 0} {V : I → Type 0} (meaning : (x : I) × V x → Disciplin
   names-homes (e ∷ es) [] same = absurd (omega (arith, same))
   names-homes (e ∷ es) (l ∷ ls) same = ap (λ ns. e.0 ∷ ns) (names-homes es ls (omega (arith, same)))
 
-  none-before : (r : List ℕ) (xs : List (List ℕ)) (i : ℕ) → ((k : ℕ) → k < i → bytes_eq r (get_or xs k []) ≡ false) → list_any (λ n. bytes_eq n r) (take i xs) ≡ false
-  none-before r [] zero none = refl
-  none-before r [] (suc i) none = refl
-  none-before r (x ∷ xs) zero none = refl
-  none-before r (x ∷ xs) (suc i) none =
-      ap (λ b. b || list_any (λ n. bytes_eq n r) (take i xs)) (bytes_eq-swapped x r ∙ none 0 (omega arith))
-      ∙ none-before r xs i (λ k lt. none (suc k) (omega (arith, lt)))
-
-  slice_get_at : (xs : List (List ℕ)) (k : ℕ) → k < length xs → slice_get xs k ≡ Some (get_or xs k [])
-  slice_get_at [] k lt = absurd (omega (arith, lt))
-  slice_get_at (x ∷ xs) zero lt = refl
-  slice_get_at (x ∷ xs) (suc k) lt = slice_get_at xs k (omega (arith, lt))
-
   -- the first region of a name is the first home of it
   pub first-named : (homes : Homes) (labels : List Labels) (r : List ℕ) (i : ℕ) → length labels ≡ length homes → position (bytes_eq r) (keys_of homes) ≡ Some i → IsFirst (is_home r) (map home_of (held_all meaning homes labels)) i
   first-named homes labels r i same at =
-      let p = position-Some (bytes_eq r) (keys_of homes) i [] at in
-      let first : IsFirst (λ n. bytes_eq n r) (keys_of homes) i = record {
-        item = get_or (keys_of homes) i [];
-        at = slice_get_at (keys_of homes) i p.0;
-        passes = bytes_eq-swapped (get_or (keys_of homes) i []) r ∙ p.1;
-        before = none-before r (keys_of homes) i p.2;
-      } in
       first-unmap (λ n. bytes_eq n r) (λ (k : Home). k.name) (map home_of (held_all meaning homes labels)) i
-      (subst (λ ns. IsFirst (λ n. bytes_eq n r) ns i) (names-homes homes labels same) first)
-
-  -- the name at the place of a name
-  pub name-at : (homes : Homes) (r : List ℕ) (i : ℕ) → position (bytes_eq r) (keys_of homes) ≡ Some i → slice_get (keys_of homes) i ≡ Some r
-  name-at homes r i at =
-      let p = position-Some (bytes_eq r) (keys_of homes) i [] at in
-      slice_get_at (keys_of homes) i p.0 ∙ ap (λ n. Some n) (sym (same_bytes r (get_or (keys_of homes) i []) p.1))
+      (subst (λ ns. IsFirst (λ n. bytes_eq n r) ns i) (names-homes homes labels same) (first-key (keys_of homes) r i at))
 
   -- what a region at a place stands for
   pub held-entry : (homes : Homes) (labels : List Labels) (i : ℕ) (e : List ℕ × HomeEntry I V) (l : Labels) → slice_get homes i ≡ Some e → slice_get labels i ≡ Some l → slice_get (held_all meaning homes labels) i ≡ Some (held_of meaning e.0 e.1 l)

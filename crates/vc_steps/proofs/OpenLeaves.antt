@@ -120,6 +120,9 @@ module _ (armed : Bool) (slots : Slots) (hs : List Held) (name : List ℕ) (n : 
   segments : segments_of region ≡ []
   segments = ap (λ r. segments_of r) is ∙ opened-segments m
 
+  low : 1 ≤ n
+  low = (at_number_some slots n (Some d) at).0
+
   there : slice_get slots (n - 1) ≡ Some (Some d)
   there = (at_number_some slots n (Some d) at).1
 
@@ -136,7 +139,6 @@ module _ (armed : Bool) (slots : Slots) (hs : List Held) (name : List ℕ) (n : 
 
   pub session-open : IsSession armed (set slots (n - 1) None) (hs ++ fresh name n d region cells labels ∷ [])
   session-open =
-      let low = (at_number_some slots n (Some d) at).0 in
       session-push armed slots (n - 1) (Some d) hs (fresh name n d region cells labels) there session (away-session armed slots n d hs at session)
       (record {
         place = at_number-from_one (set slots (n - 1) None) n low ∙ slice_get-set slots (n - 1) (Some d) None there;
@@ -147,7 +149,6 @@ module _ (armed : Bool) (slots : Slots) (hs : List Held) (name : List ℕ) (n : 
 
   pub settled-open : settled_accounts (accounts (set slots (n - 1) None)) (hs ++ fresh name n d region cells labels ∷ []) ≡ settled_accounts (accounts slots) hs
   settled-open =
-      let low = (at_number_some slots n (Some d) at).0 in
       let off : Off (n - 1) hs = off-apart n hs low (away-session armed slots n d hs at session) (apart-session armed slots hs session) in
       let all : take (length d.out - length (segments_of region)) d.out ≡ d.out =
       front-out d.out (segments_of region) d.out (sym (append-nil d.out) ∙ ap (λ s. d.out ++ s) (sym segments)) in

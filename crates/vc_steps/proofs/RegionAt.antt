@@ -7,10 +7,11 @@ use Rattle.vc_commands.specs.RegionRun.{held_of}
 use Rattle.vc_commands.specs.declared.region.home.HomeEntry.{HomeEntry}
 use Rattle.vc_commands.specs.declared.region.labels.Labels.{Labels}
 use Rattle.vc_commands.proofs.Firsts.{IsFirst, find-first}
+use Rattle.vc_views.proofs.Firsts.{key-at}
 use Rattle.vc_steps.specs.Homes.{held_all}
 use Rattle.vc_steps.specs.State.{home_named}
 use Rattle.vc_steps.proofs.Cells.{set_same}
-use Rattle.vc_steps.proofs.Helds.{first-named, held-read, held-set, length-set, name-at, slice-or}
+use Rattle.vc_steps.proofs.Helds.{first-named, held-read, held-set, length-set, slice-or}
 use Rattle.vc_steps.proofs.HomePlaces.{home-at, labels-at}
 
 -- it stands there, with the names of its blocks
@@ -47,7 +48,7 @@ module _ {I : Type 0} {V : I → Type 0} (meaning : (x : I) × V x → Disciplin
   region_at = held_of meaning r v x.l
 
   pub region-stands : slice_get (held_all meaning homes labels) j ≡ Some region_at
-  region-stands = held-read meaning homes labels j r v x.l (name-at meaning homes r j x.index) x.value x.own
+  region-stands = held-read meaning homes labels j r v x.l (key-at (keys_of homes) r j x.index) x.value x.own
 
   pub region-first : IsFirst (is_home r) (map home_of (held_all meaning homes labels)) j
   region-first = first-named meaning homes labels r j x.named x.index
@@ -63,7 +64,7 @@ module _ {I : Type 0} {V : I → Type 0} (meaning : (x : I) × V x → Disciplin
   -- with another one at its place
   module _ (entry : HomeEntry I V) (names : Labels) where
     pub helds-put : held_all meaning (set_value_at homes j entry) (set labels j names) ≡ set (held_all meaning homes labels) j (held_of meaning r entry names)
-    helds-put = held-set meaning homes labels j r entry names x.named (name-at meaning homes r j x.index)
+    helds-put = held-set meaning homes labels j r entry names x.named (key-at (keys_of homes) r j x.index)
 
     pub named-put : length (set labels j names) ≡ length (set_value_at homes j entry)
     named-put = length-set meaning homes labels j entry names x.named

@@ -1,5 +1,5 @@
 -- What a change of one region's lists does to the state, and to the settled shelf.
-use Rattle.vc_base.proofs.Common.{◌≡◌, ℕ, ◌-◌, Bool, true, false, cond, ◌≢◌, List, [], ◌∷◌, map, set, ◌==◌, slice_get, Some, None, count_by, option_map, bytes_eq, sym, refl, ap, ◌∙◌, subst, arith, nat_tests, map-set, none-some, same_Some, slice_get-map, Blocks, Rose, Terms, at_number, ◌⊎◌}
+use Rattle.vc_base.proofs.Common.{◌≡◌, ℕ, ◌-◌, ◌≤◌, Bool, true, false, cond, ◌≢◌, List, [], ◌∷◌, map, set, ◌==◌, slice_get, Some, None, count_by, option_map, bytes_eq, sym, refl, ap, ◌∙◌, subst, arith, nat_tests, map-set, none-some, same_Some, slice_get-map, Blocks, Rose, Terms, at_number, ◌⊎◌}
 use Rattle.vc_model.specs.Discipline.{Exceptions, Excused}
 use Rattle.vc_model.proofs.Keeping.{unless-unarmed}
 use Rattle.vc_script.specs.declared.command.Command.{Command}
@@ -96,6 +96,13 @@ module _ (armed : Bool) (slots : Slots) (hs : List Held) (i : ℕ) (h g : Held) 
   held : IsHeldFrom armed slots h
   held = held-at armed slots hs i h at session
 
+  -- nothing is told of its place
+  found : (1 ≤ h.place) × (slice_get slots (h.place - 1) ≡ Some None)
+  found = at_number_some slots h.place None held.place
+
+  there : slice_get (accounts slots) (h.place - 1) ≡ Some None
+  there = slice_get-map (option_map account) slots (h.place - 1) ∙ ap (option_map (option_map account)) found.1
+
   pub session-change : IsSession armed slots (set hs i g)
   session-change =
       session-set armed slots hs i h g at change.place
@@ -103,8 +110,6 @@ module _ (armed : Bool) (slots : Slots) (hs : List Held) (i : ℕ) (h g : Held) 
 
   pub settles-change : (n : ℕ) (refusals : List ℕ) → CountsFaults armed n h.disc.faults g.disc.faults → OnlyAt h.place n refusals → Settles armed (settled_accounts (accounts slots) hs) (settled_accounts (accounts slots) (set hs i g)) refusals
   settles-change n refusals rose only =
-      let found = at_number_some slots h.place None held.place in
-      let there : slice_get (accounts slots) (h.place - 1) ≡ Some None = slice_get-map (option_map account) slots (h.place - 1) ∙ ap (option_map (option_map account)) found.1 in
       let has : at_number (settled_accounts (accounts slots) hs) h.place ≡ Some (Some (account_after h)) =
       at_number-from_one (settled_accounts (accounts slots) hs) h.place found.0 ∙ settled-at (accounts slots) hs i h None at there (apart-session armed slots hs session) in
       let same : without_faults (account_after g) ≡ without_faults (account_after h) =
@@ -136,8 +141,6 @@ module _ (armed : Bool) (slots : Slots) (hs : List Held) (i : ℕ) (h g : Held) 
   pub settled-same : g.disc.faults ≡ h.disc.faults → g.disc.exceptions ≡ h.disc.exceptions → settled_accounts (accounts slots) (set hs i g) ≡ settled_accounts (accounts slots) hs
   settled-same faults exceptions =
       let apart = apart-session armed slots hs session in
-      let found = at_number_some slots h.place None held.place in
-      let there : slice_get (accounts slots) (h.place - 1) ≡ Some None = slice_get-map (option_map account) slots (h.place - 1) ∙ ap (option_map (option_map account)) found.1 in
       let same : account_after g ≡ account_after h =
       ap (λ o. let a : Account = record { out = o; terms = g.disc.terms; faults = g.disc.faults; asked = asked_of g.disc } in a) change.out
       ∙ (ap (λ r. let a : Account = record { out = (account_after h).out; terms = r; faults = g.disc.faults; asked = asked_of g.disc } in a) change.kept.terms
@@ -154,17 +157,18 @@ module _ (armed : Bool) (slots : Slots) (hs : List Held) (i : ℕ) (h g : Held) 
       ∙ (ap (λ p. let k : Home = record { name = g.name; place = p; terms = h.disc.terms; region = (home_of g).region; kept = (home_of g).kept } in k) (sym change.place)
       ∙ ap (λ r. let k : Home = record { name = g.name; place = g.place; terms = r; region = (home_of g).region; kept = (home_of g).kept } in k) (sym change.kept.terms))
 
+  first-item : (r : List ℕ) (first : IsFirst (is_home r) (map home_of hs) i) → first.item ≡ home_of h
+  first-item r first = same_Some first.item (home_of h) (sym first.at ∙ (slice_get-map home_of hs i ∙ ap (option_map home_of) at))
+
   pub homes-change : (r : List ℕ) → IsFirst (is_home r) (map home_of hs) i → with_region r (home_of g).region (home_of g).kept (map home_of hs) ≡ map home_of (set hs i g)
   homes-change r first =
-      let item : first.item ≡ home_of h = same_Some first.item (home_of h) (sym first.at ∙ (slice_get-map home_of hs i ∙ ap (option_map home_of) at)) in
       with_region-first r (home_of g).region (home_of g).kept (map home_of hs) i first
-      ∙ (ap (λ (k : Home). set (map home_of hs) i (record k { region = (home_of g).region; kept = (home_of g).kept })) item
+      ∙ (ap (λ (k : Home). set (map home_of hs) i (record k { region = (home_of g).region; kept = (home_of g).kept })) (first-item r first)
       ∙ (ap (set (map home_of hs) i) same_home ∙ sym (map-set home_of hs i g)))
 
   pub found-change : (r : List ℕ) → IsFirst (is_home r) (map home_of hs) i → home_named r (map home_of hs) ≡ Some (home_of h)
   found-change r first =
-      let item : first.item ≡ home_of h = same_Some first.item (home_of h) (sym first.at ∙ (slice_get-map home_of hs i ∙ ap (option_map home_of) at)) in
-      find-first (is_home r) (map home_of hs) i first ∙ ap (λ k. Some k) item
+      find-first (is_home r) (map home_of hs) i first ∙ ap (λ k. Some k) (first-item r first)
 
   pub step-change : (kinds : List Rules) (ds : List DictHome) (gone : List Gone) (r : List ℕ) (line : ℕ) (command : Command) (reply : Reply) → IsFirst (is_home r) (map home_of hs) i → ((x : List ℕ) → command ≡ ClearRegion x → is_home_busy (state_of kinds slots hs ds) r ≡ false) → GivesRegion (in_region (home_of h) line command (need_shown reply)) ((home_of g).region, (home_of g).kept) reply → GivesStep (step_of (state_of kinds slots hs ds) line command (need_shown reply) (Some r)) gone reply (state_of kinds slots (set hs i g) ds) gone
   step-change kinds ds gone r line command reply first free gives =

@@ -19,7 +19,8 @@ use Rattle.vc_steps.specs.Told.{gone_in, rules_in}
 use Rattle.vc_steps.specs.declared.session.Session.{Session}
 use Rattle.vc_steps.proofs.DictChange.{dict-at}
 use Rattle.vc_steps.proofs.DictEnd.{home-held}
-use Rattle.vc_steps.proofs.DictByName.{first-dict, key-at, pair-read}
+use Rattle.vc_steps.proofs.DictByName.{first-dict, pair-read}
+use Rattle.vc_views.proofs.Firsts.{key-at}
 use Rattle.vc_steps.proofs.DictsStay.{Entry, Vs}
 use Rattle.vc_steps.proofs.Helds.{any-named}
 use Rattle.vc_steps.proofs.Sessions.{Slots}
@@ -79,7 +80,7 @@ entry_at d = (d.name, d.v)
 
 -- it stands there
 pub stands-at : (es : List Entry) (d : DictAt es) → slice_get es d.i ≡ Some (entry_at d)
-stands-at es d = pair-read es d.i d.name d.v (key-at es d.name d.i d.index) d.value
+stands-at es d = pair-read es d.i d.name d.v (key-at (keys_of es) d.name d.i d.index) d.value
 
 module _ {I : Type 0} {V : I → Type 0} {meaning : (x : I) × V x → Discipline} (here : SessionHere meaning) where
   -- its regions, what each of its dictionaries views, and its state

@@ -2,8 +2,7 @@ ghost use Rattle.std.specs.Prelude.{◌≡◌, Some, IfSome, true, false, slice_
 ghost use Rattle.vc_commands.specs.Answered.{answered};
 ghost use Rattle.vc_script.specs.Target.{target_of};
 ghost use Rattle.vc_script.specs.declared.target.Target.TheVariants.{Dict};
-ghost use Rattle.vc_steps.specs.DictHomes.{dict_index};
-ghost use Rattle.vc_steps.specs.DictRuns.{RunsOn};
+ghost use Rattle.vc_steps.specs.DictRuns.{HasDictAt, RunsOn};
 ghost use Rattle.vc_steps.specs.Dicts.{dict_of, dict_step, runs_alone};
 ghost use Rattle.vc_views.specs.Numbers.{is_barred};
 ghost use Rattle.vc_steps.specs.Homes.{IsSessionOver};
@@ -75,9 +74,8 @@ impl<D: DictDisc> Session<D> {
         command: &Command,
         reply: &mut Reply,
     ) -> Result<(), OutOfMemory>
-        requires session { IsSessionOver state D.rules shelf.now self.old kinds.old.items }
+        requires at { HasDictAt state D.rules shelf.now self.old kinds.old.items name.now i }
         requires name { dict_of command.now ≡ Some name.now }
-        requires index { dict_index name.now self.old.dicts.entries ≡ Some i }
         requires alone { runs_alone command.now ≡ true }
         requires free { IfSome (slice_get self.old.dicts.entries i)
             (λ e. is_barred self.old.paths e.1.number command.now ≡ false) }

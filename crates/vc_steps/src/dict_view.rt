@@ -5,10 +5,9 @@ ghost use Rattle.vc_script.specs.Needs.{need_shown};
 ghost use Rattle.vc_script.specs.Target.{target_of};
 ghost use Rattle.vc_script.specs.declared.command.Command.TheVariants.{View};
 ghost use Rattle.vc_script.specs.declared.target.Target.TheVariants.{Dict};
-ghost use Rattle.vc_steps.specs.DictHomes.{dict_index};
-ghost use Rattle.vc_steps.specs.DictRuns.{RunsOn};
+ghost use Rattle.vc_steps.specs.DictRuns.{HasDictAt, RunsOn};
 ghost use Rattle.vc_steps.specs.Dicts.{dict_of, dict_step};
-ghost use Rattle.vc_steps.specs.Homes.{IsSessionOver, state_over};
+ghost use Rattle.vc_steps.specs.Homes.{state_over};
 ghost use Rattle.vc_steps.specs.Moment.{moment};
 ghost use Rattle.vc_steps.specs.Steps.{KeepsSpent, Steps};
 ghost use Rattle.vc_steps.specs.Told.{rules_in};
@@ -30,8 +29,7 @@ impl<D: DictDisc> Session<D> {
         i: usize,
         viewed: &Option<Name>,
     ) -> Reply
-        requires session { IsSessionOver state D.rules shelf.now self.old kinds.now.items }
-        requires index { dict_index name.now self.old.dicts.entries ≡ Some i }
+        requires at { HasDictAt state D.rules shelf.now self.old kinds.now.items name.now i }
         ensures steps { Steps
             (moment state D.rules D.gone shelf.now self.old kinds.now.items)
             (moment state D.rules D.gone shelf.now self.new kinds.now.items)
@@ -76,9 +74,8 @@ impl<D: DictDisc> Session<D> {
         command: &Command,
         reply: &mut Reply,
     )
-        requires session { IsSessionOver state D.rules shelf.now self.old kinds.now.items }
+        requires at { HasDictAt state D.rules shelf.now self.old kinds.now.items name.now i }
         requires command { target_of command.now ≡ Dict name.now Work.View }
-        requires index { dict_index name.now self.old.dicts.entries ≡ Some i }
         ensures steps { Steps
             (moment state D.rules D.gone shelf.now self.old kinds.now.items)
             (moment state D.rules D.gone shelf.now self.new kinds.now.items)
@@ -104,9 +101,8 @@ impl<D: DictDisc> Session<D> {
         command: &Command,
         reply: &mut Reply,
     ) -> Result<(), OutOfMemory>
-        requires session { IsSessionOver state D.rules shelf.now self.old kinds.now.items }
+        requires at { HasDictAt state D.rules shelf.now self.old kinds.now.items name.now i }
         requires name { dict_of command.now ≡ Some name.now }
-        requires index { dict_index name.now self.old.dicts.entries ≡ Some i }
         requires look { is_look command.now ≡ true }
         ensures { RunsOn state D.rules D.gone shelf.now self.old kinds.now.items
             self.new kinds.now.items name.now command.now (answered result reply.new) }

@@ -12,7 +12,7 @@ use Rattle.vc_objects.specs.Parts.{IsWhole, dictionary_in, dictionary_of}
 use Rattle.vc_objects.specs.Promises.{Opens}
 use Rattle.vc_objects.proofs.Leaving.{keeps-out}
 use Rattle.vc_store.specs.Contents.{contents_in, contents_of}
-use Rattle.vc_store.specs.Reading.{Contents}
+use Rattle.vc_store.specs.Reading.{no_objects}
 use Rattle.vc_store.proofs.Shown.{grown-same}
 use Rattle.vc_algebra.specs.InRegion.{ShareNoBlock, rules_or}
 use Rattle.vc_store.specs.Stores.Stores.{AllStay, HasDict, IsOpen, OthersStay, StaysOpen, contents_or, dict_at, dicts_of, disc_of, joined, kind_at, kinds_of, lent_to, numbers_of, rules_at, shown}
@@ -54,10 +54,6 @@ module _ {D : Type 0} {I : Type 0} {V : I → Type 0} (meaning : (x : I) × V x 
     methods = λ n _. ap (λ o. (contents_or o).method) (same-shown n);
     lends = lends;
   }
-
--- what a dictionary of no objects shows
-abbrev pub empty_by : DictMethod → Contents
-empty_by method = record { method = method; objects = []; place = None }
 
 -- one comes behind the others
 module _ {D : Type 0} {I : Type 0} {V : I → Type 0} (meaning : (x : I) × V x → Discipline) (rules_by : D → Rules) (s s' : Store D I V) (d : Dict) (k : D) (method : DictMethod) (is : IsOpen rules_by s (disc_of s meaning))
@@ -118,7 +114,7 @@ module _ {D : Type 0} {I : Type 0} {V : I → Type 0} (meaning : (x : I) × V x 
     lends = opens.leaves.disc;
   }
 
-  pub empty-added : shown s' n ≡ Some (empty_by method)
+  pub empty-added : shown s' n ≡ Some (no_objects method)
   empty-added =
       ap (option_map (λ e. contents_in e s'.best)) there-last
       ∙ ap (λ x. Some (contents_of x))

@@ -15,7 +15,7 @@ use Rattle.vc_store.specs.Tries.{IsTried, TriesToPut}
 use Rattle.vc_store.specs.declared.put.Put.{Put}
 use Rattle.vc_store.specs.Stores.Alike.{held_at}
 use Rattle.vc_algebra.specs.InRegion.{ShareNoBlock, rules_or}
-use Rattle.vc_store.specs.Stores.Stores.{HasDict, IsOpen, OthersStay, StaysOpen, TriesAt, contents, contents_or, dict_at, dicts_of, disc_of, gone_at, gone_or, joined, kind_at, kinds_of, numbers_of, rules_at}
+use Rattle.vc_store.specs.Stores.Stores.{ChangesObjects, ChangesOne, HasDict, IsOpen, OthersStay, StaysOpen, TriesAt, contents, contents_or, dict_at, dicts_of, disc_of, gone_at, gone_or, joined, kind_at, kinds_of, numbers_of, rules_at}
 use Rattle.vc_store.specs.declared.stores.store.Store.{Store}
 use Rattle.vc_store.proofs.Kept.{Kept, apart-new, other-kept}
 use Rattle.vc_store.proofs.Numbers.{joined-there, length-put, set-other}
@@ -193,6 +193,12 @@ module _ {D : Type 0} {I : Type 0} {V : I → Type 0} {meaning : (x : I) × V x 
     lends = c.leaves.rest.disc;
   }
 
+  pub changes-one : d'.method ≡ d.method → ChangesOne meaning rules_by n s s'
+  changes-one method = record { numbers = same-numbers; others = others-there; stays = stays-there method }
+
+  pub changes-objects : kinds_of s' ≡ kinds_of s → d'.method ≡ d.method → ChangesObjects meaning rules_by n s s'
+  changes-objects kinds method = record { kinds = kinds; beside = changes-one method }
+
   -- what is said of the dictionary by its kind's rules is said of its number
   pub moved : (P : Rules → Contents → Contents → Type 0) → P (rules_by k) (contents_in d s.best) (contents_in d' s'.best) → P (rules_at rules_by s n) (contents s n) (contents s' n)
   moved P h =
@@ -211,3 +217,9 @@ module _ {D : Type 0} {I : Type 0} {V : I → Type 0} {meaning : (x : I) × V x 
   told-at gone_by P h =
       subst (λ x. P x (gone_at gone_by s' n)) (sym (ap (λ o. gone_or (option_map gone_by o)) c.kind))
       (subst (λ x. P (gone_by k) x) (sym (ap (λ o. gone_or (option_map gone_by o)) kind-now)) h)
+
+  -- both at once
+  pub all-moved : (gone_by : D → Gone) (P : Rules → Contents → Contents → Gone → Gone → Type 0) → P (rules_by k) (contents_in d s.best) (contents_in d' s'.best) (gone_by k) (gone_by k')
+      → P (rules_at rules_by s n) (contents s n) (contents s' n) (gone_at gone_by s n) (gone_at gone_by s' n)
+  all-moved gone_by P h =
+      moved (λ r x y. P r x y (gone_at gone_by s n) (gone_at gone_by s' n)) (told-at gone_by (P (rules_by k) (contents_in d s.best) (contents_in d' s'.best)) h)

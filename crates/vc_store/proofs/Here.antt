@@ -1,5 +1,5 @@
 -- The dictionary and the kind that stand at a number of a store.
-use Rattle.vc_base.proofs.Common.{◌≡◌, ◌<◌, ℕ, List, Option, Some, None, option_map, length, slice_get, get_or, refl, sym, ap, ◌∙◌, subst, Bool, true, false, is_some, length-map, ◌==◌, if◌then◌else◌, Blocks, HasBytes, contains, Discipline}
+use Rattle.vc_base.proofs.Common.{◌≡◌, ◌<◌, ℕ, List, Option, Some, None, option_map, length, slice_get, get_or, refl, sym, ap, ◌∙◌, subst, Bool, true, false, length-map, ◌==◌, if◌then◌else◌, Blocks, HasBytes, contains, Discipline}
 use Rattle.std.proofs.lemmas.Option.{slice_get-get_or, slice_get_read}
 use Rattle.std.specs.Vec.{with_item}
 use Rattle.vc_dtdisc.specs.Rules.{Rules}
@@ -16,19 +16,22 @@ use Rattle.vc_objects.proofs.Leaving.{keeps-same, leaves-still}
 use Rattle.vc_objects.proofs.Remains.{counts-objects}
 use Rattle.vc_objects.specs.Remove.{bytes_of}
 use Rattle.vc_store.specs.Contents.{contents_in, current_place}
-use Rattle.vc_store.specs.Reading.{Contents, current, object_at_index, with_place}
+use Rattle.vc_store.specs.Reading.{Contents, GoesTo, current, object_at_index}
 use Rattle.vc_store.proofs.Shown.{current-there, pointed-shown, within-rest}
 pub use Rattle.vc_store.specs.Stores.AlikeLaws.{below-there}
 use Rattle.vc_algebra.specs.InRegion.{rules_or}
-use Rattle.vc_store.specs.Stores.Stores.{HasDict, IsOpen, OthersStay, StaysOpen, contents, contents_or, dict_at, dicts_of, disc_of, joined, kind_at, kinds_of, lent_to, numbers_of, rules_at}
+use Rattle.vc_store.specs.Stores.Stores.{ChangesObjects, HasDict, HasOpenDict, IsOpen, contents, contents_or, dict_at, dicts_of, disc_of, joined, kind_at, kinds_of, lent_to, numbers_of, rules_at}
 use Rattle.vc_store.specs.declared.stores.store.Store.{Store}
 use Rattle.vc_store.specs.Moves.{IsWholeBySome, Moves}
-use Rattle.vc_store.proofs.Changed.{Call, moved, others-there, same-numbers, stays-there}
+use Rattle.vc_store.proofs.Changed.{Call, changes-objects, moved}
 use Rattle.vc_store.proofs.Numbers.{at-below, set-itself}
 
 -- what is read there
 pub read-there : {A : Type 0} (xs : List (Option A)) (n : ℕ) (o : Option A) → n < length xs → o ≡ get_or xs n o → joined (slice_get xs n) ≡ o
 read-there xs n o below e = ap joined (slice_get-get_or xs n o below) ∙ sym e
+
+pub found-there : {D : Type 0} {I : Type 0} {V : I → Type 0} (s : Store D I V) (n : ℕ) (o : Option Dict) (d : Dict) → HasDict s n → o ≡ get_or (dicts_of s) n o → o ≡ Some d → dict_at s n ≡ Some d
+found-there s n o d there read found = read-there (dicts_of s) n o (below-there (dicts_of s) n there) read ∙ found
 
 module _ {D : Type 0} {I : Type 0} {V : I → Type 0} (rules_by : D → Rules) (s : Store D I V) (n : ℕ) {disc : Discipline} (is : IsOpen rules_by s disc) (below : n < numbers_of s) (k : D) (kind : k ≡ get_or (kinds_of s) n k) where
   pub kind-here : kind_at s n ≡ Some k
@@ -49,62 +52,70 @@ with_both s n best d k =
     record { best = best; dicts = with_item s.dicts n (Some d); kinds = with_item s.kinds n k }
 
 -- a call on the dictionary of a number, whose kind stays, or changes by the same rules
-module _ {D : Type 0} {I : Type 0} {V : I → Type 0} (meaning : (x : I) × V x → Discipline) (rules_by : D → Rules) (s : Store D I V) (n : ℕ) (is : IsOpen rules_by s (disc_of s meaning)) (there : HasDict s n)
-    (o : Option Dict) (d : Dict) (k : D) (read : o ≡ get_or (dicts_of s) n o) (found : o ≡ Some d) (kind : k ≡ get_or (kinds_of s) n k) (b : Best I V) (d' : Dict) (leaves : LeavesRest meaning (rules_by k) s.best d b d') where
+module _ {D : Type 0} {I : Type 0} {V : I → Type 0} (meaning : (x : I) × V x → Discipline) (rules_by : D → Rules) (s : Store D I V) (n : ℕ) (has : HasOpenDict meaning rules_by s n)
+    (o : Option Dict) (d : Dict) (k : D) (read : o ≡ get_or (dicts_of s) n o) (found : o ≡ Some d) (kind : k ≡ get_or (kinds_of s) n k) where
   below : n < numbers_of s
-  below = below-there (dicts_of s) n there
+  below = below-there (dicts_of s) n has.there
 
   at : dict_at s n ≡ Some d
-  at = read-there (dicts_of s) n o below read ∙ found
+  at = found-there s n o d has.there read found
 
   here : kind_at s n ≡ Some k
-  here = kind-here rules_by s n is below k kind
+  here = kind-here rules_by s n has.is_open below k kind
 
-  pub call-kept : Call meaning rules_by s (with_dict s n b d') n d d' k k
-  call-kept = record {
-    is = is;
-    at = at;
-    kind = here;
-    dicts = refl;
-    kinds = sym (set-itself (kinds_of s) n k here);
-    rules = refl;
-    leaves = leaves;
-  }
+  pub whole-read : IsWhole (rules_by k) d (cells_in s.best)
+  whole-read = whole-here rules_by s n has.is_open below k kind d at
 
-  pub call-changed : (k' : D) → rules_by k' ≡ rules_by k → Call meaning rules_by s (with_both s n b d' k') n d d' k k'
-  call-changed k' rules = record {
-    is = is;
-    at = at;
-    kind = here;
-    dicts = refl;
-    kinds = refl;
-    rules = rules;
-    leaves = leaves;
-  }
+  module _ (b : Best I V) (d' : Dict) (leaves : LeavesRest meaning (rules_by k) s.best d b d') where
+    pub call-kept : Call meaning rules_by s (with_dict s n b d') n d d' k k
+    call-kept = record {
+      is = has.is_open;
+      at = at;
+      kind = here;
+      dicts = refl;
+      kinds = sym (set-itself (kinds_of s) n k here);
+      rules = refl;
+      leaves = leaves;
+    }
 
--- what the dictionary shows, and its current object
-module _ {D : Type 0} {I : Type 0} {V : I → Type 0} (rules_by : D → Rules) (s : Store D I V) (n : ℕ) {disc : Discipline} (is : IsOpen rules_by s disc) (d : Dict) (at : dict_at s n ≡ Some d) where
+    pub call-changed : (k' : D) → rules_by k' ≡ rules_by k → Call meaning rules_by s (with_both s n b d' k') n d d' k k'
+    call-changed k' rules = record {
+      is = has.is_open;
+      at = at;
+      kind = here;
+      dicts = refl;
+      kinds = refl;
+      rules = rules;
+      leaves = leaves;
+    }
+
+-- what the dictionary that is read shows, and its current object
+module _ {D : Type 0} {I : Type 0} {V : I → Type 0} (meaning : (x : I) × V x → Discipline) (rules_by : D → Rules) (s : Store D I V) (n : ℕ) (has : HasOpenDict meaning rules_by s n)
+    (o : Option Dict) (d : Dict) (read : o ≡ get_or (dicts_of s) n o) (found : o ≡ Some d) where
   abbrev cells : Blocks
   cells = cells_in s.best
 
-  pub shown-here : contents s n ≡ contents_in d s.best
-  shown-here = ap (λ o. contents_or (option_map (λ e. contents_in e s.best) o)) at
+  whole-at : IsWhole (rules_at rules_by s n) d cells
+  whole-at = has.is_open.whole n d (found-there s n o d has.there read found)
+
+  shown-at : contents s n ≡ contents_in d s.best
+  shown-at = ap (λ p. contents_or (option_map (λ e. contents_in e s.best) p)) (found-there s n o d has.there read found)
 
   pub current-none : (d.current.0 == 0) ≡ true → None ≡ current (contents s n)
   current-none none =
       sym (ap (λ t. object_at_index (current_place (if t then None else Some d.current.0) (dictionary_of d cells).objects) (bytes_of (dictionary_of d cells).objects)) none)
-      ∙ sym (ap current shown-here)
+      ∙ sym (ap current shown-at)
 
   module _ (some : (d.current.0 == 0) ≡ false) where
     within : contains (holders_of d cells) d.current.0 ≡ true
-    within = within-rest d.current.0 (holders_of d cells) some (is.whole n d at).current
+    within = within-rest d.current.0 (holders_of d cells) some whole-at.current
 
     pub current-block : HasBytes cells d.current.0 32
-    current-block = current-there (rules_at rules_by s n) d cells (is.whole n d at) within
+    current-block = current-there (rules_at rules_by s n) d cells whole-at within
 
     pub current-some : Some (dtdisc.object_at cells d.current.0) ≡ current (contents s n)
     current-some =
-        sym (pointed-shown (rules_at rules_by s n) d cells d.current (is.whole n d at) within) ∙ sym (ap current shown-here)
+        sym (pointed-shown (rules_at rules_by s n) d cells d.current whole-at within) ∙ sym (ap current shown-at)
 
 -- what is told of it by its heads
 module _ {D : Type 0} {I : Type 0} {V : I → Type 0} (s : Store D I V) (n : ℕ) (d : Dict) (at : dict_at s n ≡ Some d) where
@@ -120,27 +131,24 @@ module _ {D : Type 0} {I : Type 0} {V : I → Type 0} (s : Store D I V) (n : ℕ
       ∙ (sym (length-map (dictionary_of d (cells_in s.best)).objects objects.bytes_of) ∙ ap (λ o. length (show o).objects) (sym at))
 
 -- a call that makes another object current
-module _ {D : Type 0} {I : Type 0} {V : I → Type 0} (meaning : (x : I) × V x → Discipline) (rules_by : D → Rules) (s : Store D I V) (n : ℕ) (is : IsOpen rules_by s (disc_of s meaning)) (there : HasDict s n)
+module _ {D : Type 0} {I : Type 0} {V : I → Type 0} (meaning : (x : I) × V x → Discipline) (rules_by : D → Rules) (s : Store D I V) (n : ℕ) (has : HasOpenDict meaning rules_by s n)
     (o : Option Dict) (d : Dict) (read : o ≡ get_or (dicts_of s) n o) (found : o ≡ Some d) where
-  inside : n < numbers_of s
-  inside = below-there (dicts_of s) n there
-
   at-read : dict_at s n ≡ Some d
-  at-read = read-there (dicts_of s) n o inside read ∙ found
+  at-read = found-there s n o d has.there read found
 
   pub whole-by : IsWholeBySome d (cells_in s.best)
-  whole-by = record { rules = rules_at rules_by s n; whole = is.whole n d at-read }
+  whole-by = record { rules = rules_at rules_by s n; whole = has.is_open.whole n d at-read }
 
-  module _ (place : Option ℕ) (answer : Bool) (d' : Dict) (m : Moves place answer s.best d d') where
+  module _ (place : Contents → Option ℕ) (answer : Bool) (d' : Dict) (m : Moves (place (contents_in d s.best)) answer s.best d d') where
     its_kind : (k : D) × (kind_at s n ≡ Some k)
-    its_kind = at-below (kinds_of s) n (subst (λ c. n < c) (sym is.kinds) inside)
+    its_kind = at-below (kinds_of s) n (subst (λ c. n < c) (sym has.is_open.kinds) (below-there (dicts_of s) n has.there))
 
     by-kind : rules_at rules_by s n ≡ rules_by its_kind.0
     by-kind = ap (λ k. rules_or (option_map rules_by k)) its_kind.1
 
     leaves : LeavesRest meaning (rules_by its_kind.0) s.best d s.best d'
     leaves = record {
-      whole = subst (λ r. IsWhole r d' (cells_in s.best)) by-kind (m.whole (rules_at rules_by s n) (is.whole n d at-read));
+      whole = subst (λ r. IsWhole r d' (cells_in s.best)) by-kind (m.whole (rules_at rules_by s n) (has.is_open.whole n d at-read));
       kind = m.kind;
       rest =
           leaves-still meaning s.best s.best (own_blocks (dictionary_in d s.best)) (own_blocks (dictionary_in d' s.best)) (keeps-same (disc_of s meaning) (disc_of s meaning) (lent_to s) (lent_to s) refl refl) refl refl m.own;
@@ -148,7 +156,7 @@ module _ {D : Type 0} {I : Type 0} {V : I → Type 0} (meaning : (x : I) × V x 
 
     call-moved : Call meaning rules_by s (with_dict s n s.best d') n d d' its_kind.0 its_kind.0
     call-moved = record {
-      is = is;
+      is = has.is_open;
       at = at-read;
       kind = its_kind.1;
       dicts = refl;
@@ -157,23 +165,9 @@ module _ {D : Type 0} {I : Type 0} {V : I → Type 0} (meaning : (x : I) × V x 
       leaves = leaves;
     }
 
-    pub others-moved : OthersStay s (with_dict s n s.best d') n
-    others-moved = others-there call-moved
+    -- told by what is shown at its number
+    pub goes-there : GoesTo (place (contents s n)) answer (contents s n) (contents (with_dict s n s.best d') n)
+    goes-there = moved call-moved (λ r x y. GoesTo (place x) answer x y) m.goes
 
-    pub stays-moved : StaysOpen meaning rules_by s (with_dict s n s.best d')
-    stays-moved = stays-there call-moved (ap (λ (x : Contents). x.method) m.moved)
-
-    pub contents-moved : contents (with_dict s n s.best d') n ≡ with_place place (contents s n)
-    contents-moved = moved call-moved (λ r x y. y ≡ with_place place x) m.moved
-
-    pub there-moved : answer ≡ is_some (contents (with_dict s n s.best d') n).place
-    there-moved = m.there ∙ ap (λ (x : Contents). is_some x.place) (sym contents-moved)
-
-    pub numbers-moved : numbers_of (with_dict s n s.best d') ≡ numbers_of s
-    numbers-moved = same-numbers call-moved
-
-  -- told by what is shown at its number
-  pub place-moved : (place : Contents → Option ℕ) (answer : Bool) (d' : Dict) → Moves (place (contents_in d s.best)) answer s.best d d' → contents (with_dict s n s.best d') n ≡ with_place (place (contents s n)) (contents s n)
-  place-moved place answer d' m =
-      contents-moved (place (contents_in d s.best)) answer d' m
-      ∙ ap (λ x. with_place (place x) (contents s n)) (sym (ap (λ o. contents_or (option_map (λ e. contents_in e s.best) o)) at-read))
+    pub changes-moved : ChangesObjects meaning rules_by n s (with_dict s n s.best d')
+    changes-moved = changes-objects call-moved refl (ap (λ (x : Contents). x.method) m.goes.moved)

@@ -18,7 +18,7 @@ use Rattle.vc_algebra.specs.InRegion.{rules_or}
 use Rattle.vc_store.specs.Stores.Stores.{AllStay, HasDict, IsOpen, StaysOpen, contents_or, dict_at, dicts_of, disc_of, kinds_of, lent_to, numbers_of, rules_at, shown}
 use Rattle.vc_store.specs.declared.stores.store.Store.{Store}
 use Rattle.vc_store.proofs.Changed.{Call, by-number, others-held, same-numbers, stays-there, there-now}
-use Rattle.vc_store.proofs.Here.{below-there, call-kept, read-there, whole-here, with_dict}
+use Rattle.vc_store.proofs.Here.{below-there, call-kept, found-there, whole-here, with_dict}
 use Rattle.std.proofs.Math.Path.{fun_ext}
 
 module _ {D : Type 0} {I : Type 0} {V : I → Type 0} (rules_by : D → Rules) (s : Store D I V) (like n : ℕ) (has : HasLayer rules_by s like n)
@@ -28,7 +28,7 @@ module _ {D : Type 0} {I : Type 0} {V : I → Type 0} (rules_by : D → Rules) (
   below = below-there (dicts_of s) n has.there
 
   at : dict_at s n ≡ Some d
-  at = read-there (dicts_of s) n o below read ∙ found
+  at = found-there s n o d has.there read found
 
   abbrev after : Store D I V
   after = with_dict s n b d'
@@ -41,7 +41,7 @@ module _ {D : Type 0} {I : Type 0} {V : I → Type 0} (rules_by : D → Rules) (
   looks disc is = Looks-became (over disc) (rules_by k) s.best b d d' (whole-here rules_by s n is below k kind d at) t stays
 
   call : (disc : Discipline) → IsOpen rules_by s disc → Call (over disc) rules_by s after n d d' k k
-  call disc is = call-kept (over disc) rules_by s n is has.there o d k read found kind b d' (looks disc is).leaves
+  call disc is = call-kept (over disc) rules_by s n (record { is_open = is; there = has.there }) o d k read found kind b d' (looks disc is).leaves
 
   pub look-keeps : Keeps rules_by s after
   look-keeps =

@@ -348,13 +348,6 @@ object-is object e =
     let most : nat_le (length object) 1024 ≡ true = parts.1 in
     record { least = grind (arith, common_steps, least); most = grind (arith, common_steps, most) }
 
--- where a call changed nothing, what a dictionary shows stays
-pub contents-still : {I : Type 0} {V : I → Type 0} {A E : Type 0} (result : Result A E) (before after : Best I V) (old new : Dict) (P : Type 0)
-    → OnErr result ((new ≡ old) × P × (cells_in after ≡ cells_in before)) → OnErr result ((contents_in new after ≡ contents_in old before) × P)
-contents-still (Ok x) before after old new P h = tt
-contents-still (Err e) before after old new P h =
-    (ap (λ (d : Dict). contents_of (dictionary_of d (cells_in after))) h.0 ∙ ap (λ (b : Blocks). contents_of (dictionary_of old b)) h.2, h.1)
-
 -- a current object is one of the objects, and stands in a holder
 pub within-rest : (at : ℕ) (xs : List ℕ) → (at == 0) ≡ false → contains (0 ∷ xs) at ≡ true → contains xs at ≡ true
 within-rest at xs some w = elim (eqb_tells 0 at) as (λ _. contains xs at ≡ true) [

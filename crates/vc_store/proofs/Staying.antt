@@ -1,13 +1,12 @@
 -- Calls that keep a collection open, one after another.
-use Rattle.vc_base.proofs.Common.{◌≡◌, ℕ, Bool, Option, is_some, refl, sym, ap, ◌∙◌}
+use Rattle.vc_base.proofs.Common.{ℕ, Bool, Option, refl, ap, ◌∙◌}
 use Rattle.vc_model.specs.Discipline.{Discipline}
 use Rattle.vc_dtdisc.specs.Rules.{Rules}
 use Rattle.vc_dict.specs.declared.dict.Dict.{Dict}
-use Rattle.vc_store.specs.Contents.{contents_in}
 use Rattle.vc_store.specs.Moves.{Moves}
 use Rattle.vc_store.specs.Reading.{Contents}
 use Rattle.vc_objects.proofs.Leaving.{keeps-same, keeps-trans}
-use Rattle.vc_store.specs.Collections.{IsOpen, StaysOpen, disc_of, kind_of, lent_to}
+use Rattle.vc_store.specs.Collections.{IsOpen, KeepsKind, StaysOpen, disc_of, kind_of, lent_to}
 use Rattle.vc_store.specs.declared.collection.Collection.{Collection}
 
 module _ {D : Type 0} {I : Type 0} {V : I → Type 0} (meaning : (x : I) × V x → Discipline) (rules_by : D → Rules) where
@@ -29,14 +28,14 @@ module _ {D : Type 0} {I : Type 0} {V : I → Type 0} (meaning : (x : I) × V x 
   }
 
   -- where another object is made current, or none
-  pub stays-moved : (c : Collection D I V) (d : Dict) (place : Option ℕ) (answer : Bool) → Moves place answer c.best c.dict d → IsOpen (rules_by c.kind) c (disc_of c meaning)
-      → StaysOpen meaning rules_by c (record { best = c.best; dict = d; kind = c.kind })
-  stays-moved c d place answer m is = record {
-    is_open = record { whole = m.whole (rules_by c.kind) is.whole; lent = is.lent };
-    rules = refl;
-    method = ap (λ (x : Contents). x.method) m.moved;
-    lends = keeps-same (disc_of c meaning) (disc_of c meaning) (lent_to c) (lent_to c) refl refl;
+  pub keeps-moved : (c : Collection D I V) (d : Dict) (place : Option ℕ) (answer : Bool) → Moves place answer c.best c.dict d → IsOpen (rules_by c.kind) c (disc_of c meaning)
+      → KeepsKind meaning rules_by c (record { best = c.best; dict = d; kind = c.kind })
+  keeps-moved c d place answer m is = record {
+    kind = refl;
+    stays = record {
+      is_open = record { whole = m.whole (rules_by c.kind) is.whole; lent = is.lent };
+      rules = refl;
+      method = ap (λ (x : Contents). x.method) m.goes.moved;
+      lends = keeps-same (disc_of c meaning) (disc_of c meaning) (lent_to c) (lent_to c) refl refl;
+    };
   }
-
-  pub there-moved : (c : Collection D I V) (d : Dict) (place : Option ℕ) (answer : Bool) → Moves place answer c.best c.dict d → answer ≡ is_some (contents_in d c.best).place
-  there-moved c d place answer m = m.there ∙ ap (λ (x : Contents). is_some x.place) (sym m.moved)

@@ -50,3 +50,8 @@ module _ {D : Type 0} {I : Type 0} {V : I → Type 0} where
     pub rules : rules_by (kind_of new) ≡ rules_by (kind_of old)
     pub method : (contents new).method ≡ (contents old).method
     pub lends : KeepsDisc (disc_of old meaning) (disc_of new meaning) (lent_to old) (lent_to new)
+
+  -- so with its kind, which is told of nothing
+  pub record KeepsKind (meaning : (x : I) × V x → Discipline) (rules_by : D → Rules) (old new : Collection D I V) : Type 0 where
+    pub kind : kind_of new ≡ kind_of old
+    pub stays : StaysOpen meaning rules_by old new

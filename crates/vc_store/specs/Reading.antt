@@ -1,5 +1,5 @@
 -- What a reader of the contracts needs first: what a dictionary shows, and how its objects change.
-use Rattle.std.specs.Prelude.{◌≡◌, ℕ, suc, ◌+◌, ◌-◌, Bool, true, false, List, [], ◌∷◌, ◌++◌, Option, Some, None, is_some, unwrap_or, length, take, drop, nat_le, nat_lt, slice_get, ◌==◌, ◌&&◌, if◌then◌else◌}
+use Rattle.std.specs.Prelude.{◌≡◌, ℕ, suc, ◌+◌, ◌-◌, Bool, true, false, List, [], ◌∷◌, ◌++◌, Option, Some, None, Result, IfOk, OnErr, OnOk, is_some, unwrap_or, length, take, drop, nat_le, nat_lt, slice_get, ◌==◌, ◌&&◌, if◌then◌else◌}
 use Rattle.vc_base.specs.declared.dict_method.DictMethod.{DictMethod}
 use Rattle.vc_base.specs.declared.dict_method.DictMethod.TheVariants.{DtSet, DtBag, DtOset, DtObag, DtList, DtStack, DtQueue}
 use Rattle.std.specs.List.{find}
@@ -7,7 +7,8 @@ use Rattle.std.specs.Ordering.{is_ge}
 use Rattle.vc_base.specs.Methods.{is_ordered, is_set}
 use Rattle.vc_dtdisc.specs.Finding.{without_first}
 use Rattle.vc_dtdisc.specs.Objects.{first_with, has_key, is_greater, placed_among}
-use Rattle.vc_dtdisc.specs.Rules.{Rules}
+use Rattle.vc_dtdisc.specs.Rules.{Gone, Rules}
+use Rattle.vc_objects.specs.Leaves.{told_if}
 use Rattle.vc_store.specs.declared.put.Put.{Put}
 use Rattle.vc_store.specs.declared.put.Put.TheVariants as put
 
@@ -16,6 +17,10 @@ pub record Contents : Type 0 where
   pub method : DictMethod
   pub objects : List (List ℕ)
   pub place : Option ℕ
+
+-- that of a method, with no object
+abbrev pub no_objects : DictMethod → Contents
+no_objects method = record { method = method; objects = []; place = None }
 
 -- the object at a place, and the current one
 abbrev pub object_at_index : Option ℕ → List (List ℕ) → Option (List ℕ)
@@ -43,6 +48,11 @@ previous_place (Some place) = if place == 0 then None else Some (place - 1)
 -- with another one current
 abbrev pub with_place : Option ℕ → Contents → Contents
 with_place place d = record { method = d.method; objects = d.objects; place = place }
+
+-- the object at a place is current now, none where there is no place, and all else stays; whether there is one is answered
+pub record GoesTo (place : Option ℕ) (answer : Bool) (old new : Contents) : Type 0 where
+  pub moved : new ≡ with_place place old
+  pub there : answer ≡ is_some place
 
 -- an object has 1 to 1,024 bytes
 abbrev pub is_object : List ℕ → Bool
@@ -131,3 +141,14 @@ place_without gone left (Some place) =
 pub record LosesKey (rules : Rules) (key : List ℕ) (old new : Contents) : Type 0 where
   pub objects : new.objects ≡ without_key rules key old.objects
   pub place : new.place ≡ place_without (found_place rules key old.objects) (length new.objects) old.place
+
+-- the first object that has a key is taken out where one has it, which is answered, or there is no memory for its bytes
+pub record Removes {E : Type 0} (rules : Rules) (key : List ℕ) (result : Result Bool E) (out : List ℕ) (old new : Contents) (told told' : Gone) : Type 0 where
+  -- its bytes come
+  pub bytes : IfOk result (λ gone. (if gone then Some out else None) ≡ found rules key old.objects)
+  pub lacks : OnOk result (LosesKey rules key old new)
+  -- its kind is told of it
+  pub tells : OnOk result (told' ≡ told_if true (found rules key old.objects) told)
+  -- without memory nothing changes, and no byte comes
+  pub same : OnErr result ((new ≡ old) × (told' ≡ told))
+  pub emptied : OnErr result (out ≡ [])

@@ -1,14 +1,14 @@
-ghost use Rattle.std.specs.Prelude.{◌≡◌, [], Some, None, false, is_some, option_map, IfOk, OnErr, OnOk, if◌then◌else◌};
+ghost use Rattle.std.specs.Prelude.{◌≡◌, false, is_some, option_map, OnErr};
 ghost use Rattle.std.specs.List.{find};
 ghost use Rattle.vc_base.specs.Prelude.{number_of};
 ghost use Rattle.vc_dtdisc.specs.Objects.{address_of, has_key};
 ghost use Rattle.vc_best.specs.Cells.{cells_in};
 ghost use Rattle.vc_best.specs.Parts.{disc_in};
-ghost use Rattle.vc_objects.specs.Leaves.{Looks, LeavesRest, told_if};
+ghost use Rattle.vc_objects.specs.Leaves.{Looks, LeavesRest};
 ghost use Rattle.vc_objects.specs.Parts.{IsWhole, dictionary_in};
 ghost use Rattle.vc_objects.specs.Promises.{CanAsk};
 ghost use Rattle.vc_store.specs.Contents.{contents_in, with_holder_current};
-ghost use Rattle.vc_store.specs.Reading.{AfterPut, LosesKey, Sought, found, is_object, is_sought_from, place_after};
+ghost use Rattle.vc_store.specs.Reading.{AfterPut, Removes, Sought, is_object, is_sought_from, place_after};
 ghost use Rattle.vc_store.specs.Tries.{IsTried, TriesToPut, told_put};
 
 use crate::put::Put;
@@ -129,16 +129,11 @@ pub fn take<D: DictDisc>(
 ) -> Result<bool, OutOfMemory>
     requires whole { IsWhole (D.rules kind.old) dict.old (cells_in best.old) }
 
-    ensures found { IfOk result (λ gone. (if gone then Some out.new.items else None)
-        ≡ found (D.rules kind.old) key.now (contents_in dict.old best.old).objects) }
-    ensures lacks { OnOk result (LosesKey (D.rules kind.old) key.now (contents_in dict.old best.old)
-        (contents_in dict.new best.new)) }
-    ensures gone { IfOk result (λ gone. D.gone kind.new
-        ≡ told_if gone (Some out.new.items) (D.gone kind.old)) }
+    ensures removes { Removes (D.rules kind.old) key.now result out.new.items
+        (contents_in dict.old best.old) (contents_in dict.new best.new)
+        (D.gone kind.old) (D.gone kind.new) }
     ensures method { dict.new.method ≡ dict.old.method }
-    ensures err { OnErr result ((dict.new ≡ dict.old) × (D.gone kind.new ≡ D.gone kind.old)
-        × (cells_in best.new ≡ cells_in best.old)) }
-    ensures emptied { OnErr result (out.new.items ≡ []) }
+    ensures err { OnErr result ((dict.new ≡ dict.old) × (cells_in best.new ≡ cells_in best.old)) }
     ensures rules { D.rules kind.new ≡ D.rules kind.old }
     ensures leaves { LeavesRest state (D.rules kind.old) best.old dict.old best.new dict.new }
 {

@@ -19,18 +19,18 @@ pub struct Collection<D: DictDisc + Drop> {
 }
 
 impl<D: DictDisc + Drop> Collection<D> {
-    ghost use Rattle.std.specs.Prelude.{◌≡◌, [], Some, None, true, false, is_some, IfOk, IfErr, OnErr, OnOk, length, option_map, if◌then◌else◌};
+    ghost use Rattle.std.specs.Prelude.{◌≡◌, [], IfOk, IfErr, length, option_map};
     ghost use Rattle.vc_model.specs.Discipline.{TookBack};
     ghost use Rattle.vc_seg.specs.Answer.{IsRefusal};
     ghost use Rattle.vc_seg.specs.Stat.{layout_stat};
     ghost use Rattle.vc_base.specs.Prelude.{HasOut};
     ghost use Rattle.vc_dtdisc.specs.Objects.{has_key};
     ghost use Rattle.vc_best.specs.Parts.{disc_in, layout_of, segments_in};
-    ghost use Rattle.vc_objects.specs.Leaves.{KeepsDisc, told_each, told_if};
+    ghost use Rattle.vc_objects.specs.Leaves.{KeepsDisc, told_each};
     ghost use Rattle.vc_objects.specs.Promises.{StaysAll, opening_in};
-    ghost use Rattle.vc_store.specs.Reading.{AfterPut, LosesKey, Sought, current, first_place, found, is_sought_from, last_index, next_place, place_after, previous_place, with_place};
+    ghost use Rattle.vc_store.specs.Reading.{AfterPut, GoesTo, Removes, Sought, current, first_place, is_sought_from, last_index, next_place, no_objects, place_after, previous_place};
     ghost use Rattle.vc_store.specs.Tries.{IsTried, TriesToPut};
-    ghost use Rattle.vc_store.specs.Collections.{IsOpen, StaysOpen, best_of, contents, dict_of, disc_of, kind_of, lender, lent_to};
+    ghost use Rattle.vc_store.specs.Collections.{IsOpen, KeepsKind, StaysOpen, best_of, contents, dict_of, disc_of, kind_of, lender, lent_to};
 
     /// A collection of no objects by a method, of a kind, in a best region, which is the collection's from then on. The
     /// region's segments are the last that its discipline lent, as they are where it has none yet. A set or bag takes a
@@ -41,8 +41,7 @@ impl<D: DictDisc + Drop> Collection<D> {
         kind: D,
     ) -> Result<Collection<D>, (RegionFault, Best)>
         requires lent { HasOut (disc_in state best) (segments_in best) }
-        ensures empty { IfOk result (λ c. contents c
-            ≡ record { method = method; objects = []; place = None }) }
+        ensures empty { IfOk result (λ c. contents c ≡ no_objects method) }
         ensures kind { IfOk result (λ c. kind_of c ≡ kind) }
         ensures open { IfOk result (λ c. IsOpen (D.rules (kind_of c)) c (disc_of c state)) }
         ensures lends { IfOk result (λ c. KeepsDisc (disc_in state best) (disc_of c state)
@@ -65,8 +64,7 @@ impl<D: DictDisc + Drop> Collection<D> {
             (contents self.old) (contents self.new).objects }
         ensures place { (contents self.new).place ≡ place_after result
             (D.rules (kind_of self.old)) object.now (contents self.old) }
-        ensures kind { kind_of self.new ≡ kind_of self.old }
-        ensures stays { StaysOpen state D.rules self.old self.new }
+        ensures keeps { KeepsKind state D.rules self.old self.new }
 
         // The region's rules say when an object is refused for want of room.
         ensures tried { IsTried result (TriesToPut state result (D.rules (kind_of self.old)) object.now
@@ -80,8 +78,7 @@ impl<D: DictDisc + Drop> Collection<D> {
         requires open { IsOpen (D.rules (kind_of self.old)) self.old (disc_of self.old state) }
         ensures sought { Sought (has_key (D.rules (kind_of self.old)) key.now) result
             (contents self.old) (contents self.new) }
-        ensures kind { kind_of self.new ≡ kind_of self.old }
-        ensures stays { StaysOpen state D.rules self.old self.new }
+        ensures keeps { KeepsKind state D.rules self.old self.new }
     {
         seek(&mut self.best, &mut self.dict, &self.kind, key)
     }
@@ -92,8 +89,7 @@ impl<D: DictDisc + Drop> Collection<D> {
         requires open { IsOpen (D.rules (kind_of self.old)) self.old (disc_of self.old state) }
         ensures sought { Sought (is_sought_from (contents self.old).method
             (D.rules (kind_of self.old)) key.now) result (contents self.old) (contents self.new) }
-        ensures kind { kind_of self.new ≡ kind_of self.old }
-        ensures stays { StaysOpen state D.rules self.old self.new }
+        ensures keeps { KeepsKind state D.rules self.old self.new }
     {
         seek_from(&mut self.best, &mut self.dict, &self.kind, key)
     }
@@ -101,11 +97,9 @@ impl<D: DictDisc + Drop> Collection<D> {
     /// Makes the first object current, and answers whether there is one.
     pub fn first(&mut self) -> bool
         requires open { IsOpen (D.rules (kind_of self.old)) self.old (disc_of self.old state) }
-        ensures moved { contents self.new ≡ with_place
-            (first_place (length (contents self.old).objects)) (contents self.old) }
-        ensures there { result ≡ is_some (contents self.new).place }
-        ensures kind { kind_of self.new ≡ kind_of self.old }
-        ensures stays { StaysOpen state D.rules self.old self.new }
+        ensures goes { GoesTo (first_place (length (contents self.old).objects)) result
+            (contents self.old) (contents self.new) }
+        ensures keeps { KeepsKind state D.rules self.old self.new }
     {
         to_first(&self.best, &mut self.dict)
     }
@@ -113,11 +107,9 @@ impl<D: DictDisc + Drop> Collection<D> {
     /// Makes the last object current, and answers whether there is one.
     pub fn last(&mut self) -> bool
         requires open { IsOpen (D.rules (kind_of self.old)) self.old (disc_of self.old state) }
-        ensures moved { contents self.new ≡ with_place
-            (last_index (length (contents self.old).objects)) (contents self.old) }
-        ensures there { result ≡ is_some (contents self.new).place }
-        ensures kind { kind_of self.new ≡ kind_of self.old }
-        ensures stays { StaysOpen state D.rules self.old self.new }
+        ensures goes { GoesTo (last_index (length (contents self.old).objects)) result
+            (contents self.old) (contents self.new) }
+        ensures keeps { KeepsKind state D.rules self.old self.new }
     {
         to_last(&self.best, &mut self.dict)
     }
@@ -126,12 +118,10 @@ impl<D: DictDisc + Drop> Collection<D> {
     /// is current.
     pub fn next(&mut self) -> bool
         requires open { IsOpen (D.rules (kind_of self.old)) self.old (disc_of self.old state) }
-        ensures moved { contents self.new ≡ with_place
-            (next_place (length (contents self.old).objects) (contents self.old).place)
-            (contents self.old) }
-        ensures there { result ≡ is_some (contents self.new).place }
-        ensures kind { kind_of self.new ≡ kind_of self.old }
-        ensures stays { StaysOpen state D.rules self.old self.new }
+        ensures goes { GoesTo
+            (next_place (length (contents self.old).objects) (contents self.old).place) result
+            (contents self.old) (contents self.new) }
+        ensures keeps { KeepsKind state D.rules self.old self.new }
     {
         to_next(&self.best, &mut self.dict)
     }
@@ -140,11 +130,9 @@ impl<D: DictDisc + Drop> Collection<D> {
     /// is current.
     pub fn prev(&mut self) -> bool
         requires open { IsOpen (D.rules (kind_of self.old)) self.old (disc_of self.old state) }
-        ensures moved { contents self.new
-            ≡ with_place (previous_place (contents self.old).place) (contents self.old) }
-        ensures there { result ≡ is_some (contents self.new).place }
-        ensures kind { kind_of self.new ≡ kind_of self.old }
-        ensures stays { StaysOpen state D.rules self.old self.new }
+        ensures goes { GoesTo (previous_place (contents self.old).place) result
+            (contents self.old) (contents self.new) }
+        ensures keeps { KeepsKind state D.rules self.old self.new }
     {
         to_prev(&self.best, &mut self.dict)
     }
@@ -167,15 +155,9 @@ impl<D: DictDisc + Drop> Collection<D> {
     /// one stays. With no memory for them nothing changes but `out`, which is empty then.
     pub fn remove(&mut self, key: &[u8], out: &mut Vec<u8>) -> Result<bool, OutOfMemory>
         requires open { IsOpen (D.rules (kind_of self.old)) self.old (disc_of self.old state) }
-        ensures found { IfOk result (λ gone. (if gone then Some out.new.items else None)
-            ≡ found (D.rules (kind_of self.old)) key.now (contents self.old).objects) }
-        ensures lacks { OnOk result (LosesKey (D.rules (kind_of self.old)) key.now
-            (contents self.old) (contents self.new)) }
-        ensures told { IfOk result (λ gone. D.gone (kind_of self.new)
-            ≡ told_if gone (Some out.new.items) (D.gone (kind_of self.old))) }
-        ensures err { OnErr result ((contents self.new ≡ contents self.old)
-            × (D.gone (kind_of self.new) ≡ D.gone (kind_of self.old))) }
-        ensures emptied { OnErr result (out.new.items ≡ []) }
+        ensures removes { Removes (D.rules (kind_of self.old)) key.now result out.new.items
+            (contents self.old) (contents self.new)
+            (D.gone (kind_of self.old)) (D.gone (kind_of self.new)) }
         ensures stays { StaysOpen state D.rules self.old self.new }
     {
         take(&mut self.best, &mut self.dict, &mut self.kind, key, out)
@@ -185,8 +167,7 @@ impl<D: DictDisc + Drop> Collection<D> {
     pub fn empty(&mut self) -> u32
         requires open { IsOpen (D.rules (kind_of self.old)) self.old (disc_of self.old state) }
         ensures count { result ≡ length (contents self.old).objects }
-        ensures empty { contents self.new
-            ≡ record { method = (contents self.old).method; objects = []; place = None } }
+        ensures empty { contents self.new ≡ no_objects (contents self.old).method }
         ensures told { D.gone (kind_of self.new)
             ≡ told_each (contents self.old).objects (D.gone (kind_of self.old)) }
         ensures stays { StaysOpen state D.rules self.old self.new }

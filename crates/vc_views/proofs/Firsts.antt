@@ -3,7 +3,7 @@ use Rattle.vc_base.proofs.Common.{◌≡◌, ℕ, zero, suc, ◌<◌, Bool, true
 use Rattle.std.proofs.lemmas.Option.{slice_get-get_or}
 use Rattle.indexmap.specs.IndexMap.{set_value_at}
 use Rattle.vc_base.proofs.Lists.{find-map}
-use Rattle.vc_base.proofs.Texts.{bytes_eq-swapped}
+use Rattle.vc_base.proofs.Texts.{bytes_eq-swapped, same_bytes}
 use Rattle.vc_base.proofs.Quantifiers.{any-agree}
 use Rattle.vc_best.specs.declared.best.Best as best
 use Rattle.vc_region.specs.Cells.{cells_in, rest_in}
@@ -33,6 +33,22 @@ first-at test (x ∷ xs) i at =
       passes = p.1;
       before = none-before test (x ∷ xs) i x p.2 p.0;
     }
+
+-- the first of some names that is a name, and the name at its place
+pub first-key : (names : List (List ℕ)) (r : List ℕ) (i : ℕ) → position (bytes_eq r) names ≡ Some i → IsFirst (λ n. bytes_eq n r) names i
+first-key names r i at =
+    let f = first-at (bytes_eq r) names i at in
+    record {
+      item = f.item;
+      at = f.at;
+      passes = bytes_eq-swapped f.item r ∙ f.passes;
+      before = any-agree (λ n. bytes_eq n r) (λ n. bytes_eq r n) (take i names) (λ n. bytes_eq-swapped n r) ∙ f.before;
+    }
+
+pub key-at : (names : List (List ℕ)) (r : List ℕ) (i : ℕ) → position (bytes_eq r) names ≡ Some i → slice_get names i ≡ Some r
+key-at names r i at =
+    let f = first-key names r i at in
+    f.at ∙ ap (λ n. Some n) (same_bytes f.item r f.passes)
 
 -- where one from a place on passes, that place has an item
 pub drop-find : {A : Type 0} (test : A → Bool) (xs : List A) (i : ℕ) → IsSome (find test (drop i xs)) → (x : A) × (slice_get xs i ≡ Some x) × (find test (drop i xs) ≡ cond (test x) (Some x) (find test (drop (suc i) xs)))
@@ -86,14 +102,7 @@ module _ {I : Type 0} {V : I → Type 0} where
   region-looked es r h v is at = same_Some (part_seen h) (part_of v) (sym (ap (option_map part_seen) is) ∙ named-looked es r ∙ ap (option_map part_of) at)
 
   pub named-first : (es : List (List ℕ × HomeEntry I V)) (r : List ℕ) (j : ℕ) → position (bytes_eq r) (keys_of es) ≡ Some j → IsFirst (λ (e : List ℕ × HomeEntry I V). bytes_eq e.0 r) es j
-  named-first es r j at =
-      let f = first-unmap (bytes_eq r) (λ (e : List ℕ × HomeEntry I V). e.0) es j (first-at (bytes_eq r) (keys_of es) j at) in
-      record {
-        item = f.item;
-        at = f.at;
-        passes = bytes_eq-swapped f.item.0 r ∙ f.passes;
-        before = any-agree (λ e. bytes_eq e.0 r) (λ e. bytes_eq r e.0) (take j es) (λ e. bytes_eq-swapped e.0 r) ∙ f.before;
-      }
+  named-first es r j at = first-unmap (λ n. bytes_eq n r) (λ (e : List ℕ × HomeEntry I V). e.0) es j (first-key (keys_of es) r j at)
 
 -- a region that is a best one is no other
 pub no-other : {I : Type 0} {V : I → Type 0} (r : code.Region I V) → is_best (rest_in r) ≡ true → ((b : best.Best I V) → r ≡ Best b → ⊥) → ⊥

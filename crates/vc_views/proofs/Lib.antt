@@ -1,4 +1,5 @@
 pub mod AtHolders
+pub mod AtIndex
 pub mod Currents
 pub mod Firsts
 pub mod FreeNumbers

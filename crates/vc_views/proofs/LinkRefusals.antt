@@ -17,7 +17,7 @@ use Rattle.vc_views.proofs.LinkChanges.{linked-set}
 use Rattle.vc_views.proofs.LinkLemmas.{number-within, view-some}
 use Rattle.vc_views.proofs.LinkLists.{same-test, stands-any}
 use Rattle.vc_views.proofs.NamedEntries.{Entry, by-number, find-stands, same-named}
-use Rattle.vc_views.proofs.NumbersToNames.{AreLayersIn, all-at, home, homes, path-each, path_to-each}
+use Rattle.vc_views.proofs.NumbersToNames.{AreLayersIn, IsLayerIn, all-at, home, homes, path-each, path_to-each}
 
 length-each : {A B C : Type 0} (f : A → C) (g : B → C) (xs : List A) (ys : List B) → map f xs ≡ map g ys → length xs ≡ length ys
 length-each f g xs ys same = sym (counted f xs) ∙ ap length same ∙ counted g ys
@@ -86,10 +86,14 @@ module _ (over : Entry → Dictionary) (all : Layered) (links : Links) (entries 
   e_found : entry_numbered (number_in e) entries ≡ Some e
   e_found = by-number entries j e are.numbered.distinct there
 
+  first : IsLayerIn over all (number_in d) d
+  first = layers (number_in d) d d_found
+
+  second : IsLayerIn over all (number_in e) e
+  second = layers (number_in e) e e_found
+
   like-named : are_like (home over links entries d) (home over links entries e) ≡ are_alike all (number_in d) (number_in e)
   like-named =
-      let first = layers (number_in d) d d_found in
-      let second = layers (number_in e) e e_found in
       ap₂ (λ a b. a && b)
       (ap₂ (λ m n. method_number m == method_number n) (first.over_method ∙ sym first.method) (second.over_method ∙ sym second.method))
       (ap₂ (λ k l. k == l) (sym first.kind) (sym second.kind))
@@ -111,8 +115,6 @@ module _ (over : Entry → Dictionary) (all : Layered) (links : Links) (entries 
   -- dictionaries that are alike may be linked
   linked-alike : are_alike all (number_in d) (number_in e) ≡ true → IsViewLink entries (number_in d) (number_in e)
   linked-alike alike =
-      let first = layers (number_in d) d d_found in
-      let second = layers (number_in e) e e_found in
       let parts = and_parts (method_number (all.layer (number_in d)).method == method_number (all.layer (number_in e)).method) ((all.layer (number_in d)).kind == (all.layer (number_in e)).kind) alike in
       record {
         upper = d;

@@ -1,5 +1,5 @@
 -- The dictionary of a number over the cells of its region, as the layer of that number.
-use Rattle.vc_base.proofs.Common.{◌≡◌, ℕ, ◌≤◌, true, List, [], map, length, is_some, IsSome, Some, None, Option, option_map, find, sym, refl, ap, ◌∙◌, subst, arith, none-some, same_Some, Blocks, HasBytes, contains, first_in, last_in, next_in, previous_in, at_number, is_gt, Ordering, Less, Equal, Greater, ordering_reverse}
+use Rattle.vc_base.proofs.Common.{◌≡◌, ℕ, ◌≤◌, true, List, [], map, length, is_some, IsSome, Some, None, Option, option_map, find, sym, refl, ap, ◌∙◌, subst, arith, none-some, same_Some, Blocks, HasBytes, contains, first_in, last_in, next_in, previous_in, slice_get, slice_get-map, at_number, is_gt, Ordering, Less, Equal, Greater, ordering_reverse}
 use Rattle.std.specs.Ordering.{is_lt}
 use Rattle.vc_base.proofs.Options.{is_some-map}
 use Rattle.vc_dtdisc.specs.Finding.{first_of, last_of}
@@ -15,9 +15,9 @@ use Rattle.vc_paths.proofs.EndLemmas.{filter-same}
 use Rattle.vc_commands.specs.declared.dict.entry.DictEntry.{DictEntry}
 use Rattle.vc_commands.specs.declared.region.home.HomeEntry.{HomeEntry}
 use Rattle.vc_views.specs.Dicts.{DictRegion, HasLayer, IsDictOver, cells_held, dict_seen, entry_numbered, has_number, layer_seen, layered_by, region_named, region_seen}
-use Rattle.vc_views.specs.LayerLaws.{Entry, dict-found, found-there, layer-found, layer-is, layer_over, seen-found}
+use Rattle.vc_views.specs.LayerLaws.{Entry, Found, dict-found, found-there, layer-found, layer-is, layer_over, seen-found}
 use Rattle.vc_views.specs.Leaves.{IsBestNamed}
-use Rattle.vc_views.specs.Promises.{LeavesDicts, layered_over}
+use Rattle.vc_views.specs.Promises.{LeavesDicts, layer_at, layered_over}
 use Rattle.vc_views.specs.Sides.{place_like}
 use Rattle.vc_views.proofs.AtHolders.{before-place, behind-place, bytes-here, first-place, holder-here, last-place}
 
@@ -52,6 +52,13 @@ module _ (kinds : List Rules) (regions : List DictRegion) (es : List Entry) (d :
 
   pub kind-told : v.dict.kind ≡ layer.kind
   kind-told = sym (ap (λ (l : Layer). l.kind) layer-here)
+
+  -- its kind is there, and the layer has its rules
+  pub kind-there : IsSome (at_number kinds v.dict.kind)
+  kind-there = ap is_some here-at.is.kind
+
+  pub rules-told : (rules : Rules) → at_number kinds v.dict.kind ≡ Some rules → rules ≡ layer.rules
+  rules-told rules kind = same_Some rules here-at.is.rules (sym kind ∙ here-at.is.kind) ∙ sym (ap (λ (l : Layer). l.rules) layer-here)
 
   module _ (b : Blocks) (same : b ≡ cells_held (region_named regions v.home)) where
     abbrev xs : List ℕ
@@ -101,26 +108,23 @@ module _ (kinds : List Rules) (regions : List DictRegion) (es : List Entry) (d :
   abbrev its_layer : Layer
   its_layer = (layered_by kinds regions es).layer d
 
-  -- its kind is there
-  pub kind-there : at_number kinds its_layer.kind ≡ Some its_layer.rules
-  kind-there =
-      let f = found-there kinds regions d es has in
-      ap (λ (l : Layer). at_number kinds l.kind) f.layer ∙ f.is.kind ∙ ap (λ (l : Layer). Some l.rules) (sym f.layer)
+  abbrev its_found : Found kinds regions d es
+  its_found = found-there kinds regions d es has
 
+  -- the kind of the layer is there
   pub kind-known : (k : ℕ) → k ≡ its_layer.kind → IsSome (at_number kinds k)
-  kind-known k same = ap (λ z. is_some (at_number kinds z)) same ∙ ap is_some kind-there
+  kind-known k same = ap (λ z. is_some (at_number kinds z)) (same ∙ ap (λ (l : Layer). l.kind) its_found.layer) ∙ ap is_some its_found.is.kind
 
   -- each of its objects has at most 1,024 bytes
   pub object-within : (a : ℕ) (bytes : List ℕ) → bytes_there a its_layer.objects ≡ Some bytes → length bytes ≤ 1024
   object-within a bytes at =
-      let f = found-there kinds regions d es has in
-      let b = f.is.home.cells in
-      let xs = holders_of f.entry.1.dict b in
-      let objects = ap (λ (l : Layer). l.objects) f.layer in
+      let b = its_found.is.home.cells in
+      let xs = holders_of its_found.entry.1.dict b in
+      let objects = ap (λ (l : Layer). l.objects) its_found.layer in
       let some : IsSome (bytes_there a (map (object_of b) xs)) = subst (λ os. IsSome (bytes_there a os)) objects (ap is_some at) in
       let within = holder-here b a xs some in
       let same : object_at b a ≡ bytes = same_Some (object_at b a) bytes (sym (bytes-here b a xs within) ∙ ap (bytes_there a) (sym objects) ∙ at) in
-      subst (λ z. length z ≤ 1024) same (each-object IsObject b xs f.is.whole.objects a within).most
+      subst (λ z. length z ≤ 1024) same (each-object IsObject b xs its_found.is.whole.objects a within).most
 
 -- a number that is in use stays in use where what is seen stays
 pub still-there : (old new : List DictRegion) (es es' : List Entry) (d : ℕ) → map (dict_seen new) es' ≡ map (dict_seen old) es → IsSome (entry_numbered d es) → IsSome (entry_numbered d es')
@@ -135,6 +139,11 @@ same-left {kinds = kinds} {homes = homes} {homes' = homes'} {es = es} {es' = es'
   has = λ d has. record { dicts = leaves.dicts; there = still-there (map region_seen homes) (map region_seen homes') es es' d leaves.keeps.seen has.there };
   layers = ap (λ ss. λ d. layer_seen kinds (find (has_number d) ss)) leaves.keeps.seen;
 }
+
+-- the layer of the index of a number's dictionary is that of the number
+pub layer-indexed : {I : Type 0} {V : I → Type 0} (kinds : List Rules) (homes : List (List ℕ × HomeEntry I V)) (es : List Entry) (d i : ℕ) → slice_get es i ≡ entry_numbered d es → layer_at kinds homes es i ≡ (layered_over kinds homes es).layer d
+layer-indexed kinds homes es d i same =
+    ap (layer_seen kinds) (slice_get-map (dict_seen (map region_seen homes)) es i ∙ ap (option_map (dict_seen (map region_seen homes))) same ∙ sym (seen-found kinds (map region_seen homes) d es))
 
 -- what is less than an object, by either side of it
 lt-gt : (o : Ordering) → is_gt (ordering_reverse o) ≡ is_lt o

@@ -1,4 +1,4 @@
-ghost use Rattle.std.specs.Prelude.{◌≡◌, ◌<◌, ◌≤◌, ℕ, List, Some, IsSome, length, map, slice_get, take, true};
+ghost use Rattle.std.specs.Prelude.{◌≡◌, ◌<◌, ◌≤◌, ℕ, List, Some, IsSome, length, map, take, true};
 ghost use Rattle.std.specs.Option.{option_map};
 ghost use Rattle.vc_base.specs.Prelude.{contains, number_of};
 ghost use Rattle.vc_dict.specs.Listed.{holders_of};
@@ -6,11 +6,10 @@ ghost use Rattle.vc_dict.specs.Stands.{Became, IsDict, Stands};
 ghost use Rattle.vc_dtdisc.specs.Rules.{Rules};
 ghost use Rattle.vc_objects.specs.Parts.{IsWhole};
 ghost use Rattle.vc_paths.specs.Layers.{bytes_there};
-ghost use Rattle.vc_views.specs.Dicts.{AreDictsOver, home_rest, layer_of, region_seen};
+ghost use Rattle.vc_views.specs.Dicts.{AreDictsOver, home_rest, region_seen};
 ghost use Rattle.vc_views.specs.Leaves.{IsBestNamed, LooksAt};
-ghost use Rattle.vc_views.specs.Promises.{LeavesDicts, cells_under, layered_over};
+ghost use Rattle.vc_views.specs.Promises.{LeavesDicts, cells_under, layer_at, layered_over};
 ghost use Rattle.vc_views.specs.Sides.{CanCompare, CanStand, holder_like, holder_to, last_match_place, place_like, place_to};
-ghost use Rattle.vc_commands.specs.declared.dict.entry.DictEntry.{DictEntry as Entry};
 
 use crate::near::index_near;
 use crate::places::{best_of, entry_of, index_of, kind_of};
@@ -64,11 +63,11 @@ fn sought_in<D: DictDisc, L>(
 ) -> Option<Addr>
     requires region { IsBestNamed (map region_seen homes.old.entries) name.now }
     requires whole { IsWhole (D.rules kind.now) dict.old
-        (cells_under (map region_seen homes.old.entries) name.now) }
+        (cells_under homes.old.entries name.now) }
     requires side { CanStand side dict.old.method }
     ensures found { option_map number_of result ≡ holder_to side (D.rules kind.now)
-        (cells_under (map region_seen homes.old.entries) name.now) key.now
-        (holders_of dict.old (cells_under (map region_seen homes.old.entries) name.now)) }
+        (cells_under homes.old.entries name.now) key.now
+        (holders_of dict.old (cells_under homes.old.entries name.now)) }
     ensures looks { LooksAt (D.rules kind.now) name.now (map region_seen homes.old.entries) dict.old
         (map region_seen homes.new.entries) dict.new }
     ensures rest { map home_rest homes.new.entries ≡ map home_rest homes.old.entries }
@@ -96,11 +95,10 @@ pub(crate) fn sought_at<D: DictDisc, L>(
     requires dicts { AreDictsOver (map D.rules kinds.now.items)
         (map region_seen homes.old.entries) dicts.old.entries }
     requires index { i < length dicts.old.entries }
-    requires side { (e : List ℕ × Entry) → slice_get dicts.old.entries i ≡ Some e
-        → CanStand side e.1.dict.method }
-    ensures found { (e : List ℕ × Entry) → slice_get dicts.old.entries i ≡ Some e
-        → option_map number_of result ≡ place_to side (layer_of (map D.rules kinds.now.items)
-        (map region_seen homes.old.entries) e) key.now }
+    requires side { CanStand side (layer_at (map D.rules kinds.now.items) homes.old.entries
+        dicts.old.entries i).method }
+    ensures found { option_map number_of result ≡ place_to side
+        (layer_at (map D.rules kinds.now.items) homes.old.entries dicts.old.entries i) key.now }
     ensures leaves { LeavesDicts (map D.rules kinds.now.items)
         homes.old.entries homes.new.entries dicts.old.entries dicts.new.entries }
 {
@@ -178,12 +176,12 @@ fn last_in<D: DictDisc, L>(
 ) -> Addr
     requires region { IsBestNamed (map region_seen homes.old.entries) name.now }
     requires whole { IsWhole (D.rules kind.now) dict.old
-        (cells_under (map region_seen homes.old.entries) name.now) }
+        (cells_under homes.old.entries name.now) }
     requires within { contains (holders_of dict.old
-        (cells_under (map region_seen homes.old.entries) name.now)) at.0 ≡ true }
+        (cells_under homes.old.entries name.now)) at.0 ≡ true }
     ensures found { Some result.0 ≡ holder_like (D.rules kind.now)
-        (cells_under (map region_seen homes.old.entries) name.now) at.0
-        (holders_of dict.old (cells_under (map region_seen homes.old.entries) name.now)) }
+        (cells_under homes.old.entries name.now) at.0
+        (holders_of dict.old (cells_under homes.old.entries name.now)) }
     ensures looks { LooksAt (D.rules kind.now) name.now (map region_seen homes.old.entries) dict.old
         (map region_seen homes.new.entries) dict.new }
     ensures rest { map home_rest homes.new.entries ≡ map home_rest homes.old.entries }
@@ -210,14 +208,13 @@ pub(crate) fn last_at<D: DictDisc, L>(
     requires dicts { AreDictsOver (map D.rules kinds.now.items)
         (map region_seen homes.old.entries) dicts.old.entries }
     requires index { i < length dicts.old.entries }
-    requires place { (e : List ℕ × Entry) → slice_get dicts.old.entries i ≡ Some e
-        → IsSome (bytes_there at.0 (layer_of (map D.rules kinds.now.items)
-        (map region_seen homes.old.entries) e).objects) }
-    ensures found { (e : List ℕ × Entry) (bytes : List ℕ) → slice_get dicts.old.entries i ≡ Some e
-        → bytes_there at.0 (layer_of (map D.rules kinds.now.items)
-        (map region_seen homes.old.entries) e).objects ≡ Some bytes
-        → Some result.0 ≡ last_match_place (layer_of (map D.rules kinds.now.items)
-        (map region_seen homes.old.entries) e) bytes }
+    requires place { IsSome (bytes_there at.0 (layer_at (map D.rules kinds.now.items)
+        homes.old.entries dicts.old.entries i).objects) }
+    ensures found { (bytes : List ℕ)
+        → bytes_there at.0 (layer_at (map D.rules kinds.now.items) homes.old.entries
+        dicts.old.entries i).objects ≡ Some bytes
+        → Some result.0 ≡ last_match_place (layer_at (map D.rules kinds.now.items)
+        homes.old.entries dicts.old.entries i) bytes }
     ensures leaves { LeavesDicts (map D.rules kinds.now.items)
         homes.old.entries homes.new.entries dicts.old.entries dicts.new.entries }
 {

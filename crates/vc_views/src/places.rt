@@ -48,8 +48,7 @@ pub(crate) fn kind_of<'a, D: DictDisc>(kinds: &'a Vec<D>, k: u32) -> &'a D
 /// first.
 pub fn best_of<'a>(homes: &'a IndexMap<Name, HomeEntry>, name: &Name, near: usize) -> &'a Best
     requires { IsBestNamed (map region_seen homes.now.entries) name.now }
-    ensures { cells_in result.now
-        ≡ cells_under (map region_seen homes.now.entries) name.now }
+    ensures { cells_in result.now ≡ cells_under homes.now.entries name.now }
 {
     let Some(j) = index_near(homes, name, near) else {
         unreachable!()

@@ -82,21 +82,22 @@ module _ {I : Type 0} {V : I → Type 0} (meaning : (x : I) × V x → Disciplin
   pub pools-set : pools_of (set xs k q) ≡ set (pools_of xs) k (pool_of q)
   pools-set = map-set pool_of xs k q
 
+  within : k < length (holdings meaning xs)
+  within = omega (arith, lt, length-map xs (holding_in meaning))
+
+  holding-here : get_or (holdings meaning xs) k (holding_in meaning p) ≡ holding_in meaning p
+  holding-here = get_or-map (holding_in meaning) xs k p (holding_in meaning p) lt ∙ ap (holding_in meaning) (sym is)
+
   pub lent-here : All HasOwnSegmentsOut (holdings meaning xs) → HasOwnSegmentsOut (holding_in meaning p)
-  lent-here all =
-      let f : Pool I V → Holding = holding_in meaning in
-      let within : k < length (map f xs) = omega (arith, lt, length-map xs f) in
-      subst HasOwnSegmentsOut (get_or-map f xs k p (f p) lt ∙ ap f (sym is)) (all k (f p) within)
+  lent-here all = subst HasOwnSegmentsOut holding-here (all k (holding_in meaning p) within)
 
   pub kept-here : {went : Bool} → KeepsWay went (holding_in meaning p) (holding_in meaning q) → KeepsWays went (holdings meaning xs) (holdings meaning (set xs k q))
   kept-here {went} h = kept-set _ (holding_in meaning) xs k q p lt (subst (λ (o : Pool I V). KeepsWay went (holding_in meaning o) (holding_in meaning q)) is h)
 
   pub terms-here : terms_at (terms_in (holdings meaning xs)) k ≡ (disc_in meaning p).terms
   terms-here =
-      let f : Pool I V → Holding = holding_in meaning in
       let t : Holding → Terms = λ h. h.disc.terms in
-      let within : k < length (map f xs) = omega (arith, lt, length-map xs f) in
-      get_or-map t (map f xs) k (f p) (record { round = 32; grows = false }) within ∙ ap t (get_or-map f xs k p (f p) lt ∙ ap f (sym is))
+      get_or-map t (holdings meaning xs) k (holding_in meaning p) (record { round = 32; grows = false }) within ∙ ap t holding-here
 
   pub answer-here : (size : ℕ) (result : Result Addr RegionFault) → k ≡ class_of size → Answers (pool_alloc (disc_in meaning p).terms (pool_of p) 0 (class_bytes k)) result (pool_of p) (pool_of q) → GivesOutcome (cell_put (terms_in (holdings meaning xs)) (pools_of xs) size) (λ (a : Addr). place_of a.0) result (pools_of (set xs k q))
   answer-here size result e h =

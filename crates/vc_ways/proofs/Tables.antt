@@ -50,16 +50,10 @@ module _ {K X : Type 0} (f : X → ℕ) where
   pub insert-sum : (eq : K → K → Bool) (es : List (K × X)) (k : K) (v : X) → sum_by of (insert_entry eq es k v) + unwrap_or (option_map f (lookup (eq k) es)) 0 ≡ sum_by of es + f v
   insert-sum eq [] k v = omega arith
   insert-sum eq (e ∷ es) k v =
-      let rest = insert-sum eq es k v in
+      let old = sum_by-cons of e es in
       ⊎_elim
-      (λ (t : eq k e.0 ≡ true).
-      let new = sum_by-cons of (e.0, v) es in
-      let old = sum_by-cons of e es in
-      rw t (omega (arith, new, old)))
-      (λ (t : eq k e.0 ≡ false).
-      let new = sum_by-cons of e (insert_entry eq es k v) in
-      let old = sum_by-cons of e es in
-      rw t (omega (arith, rest, new, old)))
+      (λ (t : eq k e.0 ≡ true). rw t (omega (arith, sum_by-cons of (e.0, v) es, old)))
+      (λ (t : eq k e.0 ≡ false). rw t (omega (arith, insert-sum eq es k v, sum_by-cons of e (insert_entry eq es k v), old)))
       (cases_Bool (eq k e.0))
 
   -- where the first entry is whose key passes

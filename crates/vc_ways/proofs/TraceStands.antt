@@ -28,6 +28,13 @@ module _ {I : Type 0} {V : I → Type 0} (meaning : (x : I) × V x → Disciplin
   abbrev over : Trace I V
   over = record { region = t.region; blocks = t.blocks; regions = mid; extents = t.extents; live = t.live; tally = t.tally }
 
+  -- the live blocks, before and after it
+  abbrev blocks : List ℕ → Option Live
+  blocks q = get bytes_eq t.blocks q
+
+  abbrev blocks' : List ℕ → Option Live
+  blocks' q = get bytes_eq t'.blocks q
+
   -- a block came, or has another size
   module _ (r x : List ℕ) (l : Live) (gone size class : ℕ) (first : Newests) (o : Option Live) (placed : IsBlockPlaced over t' r x l gone class first) (found : get bytes_eq t.blocks x ≡ o) (gone-is : gone ≡ unwrap_or (option_map (λ (k : Live). k.size) o) 0) (class-is : class ≡ class_of size) (first-is : first ≡ newest_of (regions_of t.regions) class) (grew : extent_sums (regions_of mid) ≡ with_extents (regions_of mid) (class_of size) (newest_of (regions_of t.regions) (class_of size)) (extent_sums (regions_of t.regions))) where
     new-bytes : t'.live ≡ sum_of_sizes (live_table t'.blocks.entries)
@@ -50,8 +57,6 @@ module _ {I : Type 0} {V : I → Type 0} (meaning : (x : I) × V x → Disciplin
 
     pub placed-stands : (Stays : Live → Type 0) → HasFlagsAndPools mid → KeepsWays true (all_holdings meaning t.regions) (all_holdings meaning mid) → Comes Stays (regions_of t.regions) l (regions_of mid) → ((q : List ℕ) (k : Live) → x ≢ q → get bytes_eq t.blocks q ≡ Some k → Stays k) → StandsSoFar meaning t'
     placed-stands Stays whole kept comes stays =
-        let blocks : List ℕ → Option Live = λ q. get bytes_eq t.blocks q in
-        let blocks' : List ℕ → Option Live = λ q. get bytes_eq t'.blocks q in
         record {
           whole = subst (λ (m : Regions I V). HasFlagsAndPools m) (sym same) whole;
           lent = subst (λ (m : Regions I V). All HasOwnSegmentsOut (all_holdings meaning m)) (sym same) (kept-lent _ (all_holdings meaning t.regions) (all_holdings meaning mid) stands.lent kept);
@@ -79,8 +84,6 @@ module _ {I : Type 0} {V : I → Type 0} (meaning : (x : I) × V x → Disciplin
 
     pub left-stands : HasFlagsAndPools mid → KeepsWays true (all_holdings meaning t.regions) (all_holdings meaning mid) → ((k : Live) → IsLiveIn (regions_of t.regions) k → StandApart k l → IsLiveIn (regions_of mid) k) → ((q : List ℕ) → get bytes_eq t'.blocks q ≡ cond (bytes_eq x q) None (get bytes_eq t.blocks q)) → StandsSoFar meaning t'
     left-stands whole kept others updates =
-        let blocks : List ℕ → Option Live = λ q. get bytes_eq t.blocks q in
-        let blocks' : List ℕ → Option Live = λ q. get bytes_eq t'.blocks q in
         record {
           whole = subst (λ (m : Regions I V). HasFlagsAndPools m) (sym same) whole;
           lent = subst (λ (m : Regions I V). All HasOwnSegmentsOut (all_holdings meaning m)) (sym same) (kept-lent _ (all_holdings meaning t.regions) (all_holdings meaning mid) stands.lent kept);

@@ -31,10 +31,12 @@ goes-stopped s r x call way code.WrongMethod h = ap (goes_with s r x) h
 pub memory-stops : (call : Option Way → End) (way : Way) (why : RegionFault) → why ≡ code.OutOfMemory → IsStopped (λ w f. Stops w f) call way why
 memory-stops call way why e = subst (IsStopped (λ w f. Stops w f) call way) (sym e) tt
 
+abbrev counted : model.LivePlaces → ℕ
+counted k = k.size
+
 -- the bytes of a table whose name has another block, or none
 pub placed-bytes : (blocks blocks' : List (List ℕ × Live)) (x : List ℕ) (l : Live) (o : Option Live) (gone : ℕ) → blocks' ≡ insert_entry bytes_eq blocks x l → lookup (bytes_eq x) blocks ≡ o → gone ≡ unwrap_or (option_map (λ (k : Live). k.size) o) 0 → sum_of_sizes (live_table blocks') ≡ sum_of_sizes (live_table blocks) + l.size - gone
 placed-bytes blocks blocks' x l o gone is found size =
-    let counted : model.LivePlaces → ℕ = λ k. k.size in
     let all = insert-sum counted bytes_eq (live_table blocks) x (live_of l) in
     let was : lookup (bytes_eq x) (live_table blocks) ≡ option_map live_of o = lookup-map_values live_of (bytes_eq x) blocks ∙ ap (option_map live_of) found in
     let less : unwrap_or (option_map counted (lookup (bytes_eq x) (live_table blocks))) 0 ≡ gone = ap (λ p. unwrap_or (option_map counted p) 0) was ∙ (counts o ∙ sym size) in
@@ -47,7 +49,6 @@ placed-bytes blocks blocks' x l o gone is found size =
 
 pub left-bytes : (blocks blocks' : List (List ℕ × Live)) (x : List ℕ) (l : Live) → blocks' ≡ swap_remove_entry (bytes_eq x) blocks → lookup (bytes_eq x) blocks ≡ Some l → sum_of_sizes (live_table blocks') ≡ sum_of_sizes (live_table blocks) - l.size
 left-bytes blocks blocks' x l is found =
-    let counted : model.LivePlaces → ℕ = λ k. k.size in
     let was : lookup (bytes_eq x) (live_table blocks) ≡ Some (live_of l) = lookup-map_values live_of (bytes_eq x) blocks ∙ ap (option_map live_of) found in
     let all = remove-sum counted (bytes_eq x) (live_table blocks) (live_of l) was in
     let new : sum_of_sizes (live_table blocks') ≡ sum_of_sizes (swap_remove_entry (bytes_eq x) (live_table blocks)) = ap sum_of_sizes (ap live_table is ∙ remove-map live_of (bytes_eq x) blocks) in

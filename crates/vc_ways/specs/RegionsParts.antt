@@ -1,5 +1,5 @@
 -- What the regions of the three ways stand for, and what their calls answer.
-use Rattle.std.specs.Prelude.{◌≡◌, ◌≢◌, List, ◌∷◌, Option, Some, None, Result, Ok, Err, false, length, slice_index_or, true}
+use Rattle.std.specs.Prelude.{◌≡◌, ◌≢◌, ℕ, All, IfErr, List, ◌∷◌, OnOk, Option, Some, None, Result, Ok, Err, false, is_ok, length, slice_index_or, true}
 use Rattle.vc_model.specs.Addr.{place_of}
 use Rattle.vc_model.specs.Discipline.{Discipline}
 use Rattle.vc_model.specs.Outcome as outcome
@@ -9,10 +9,11 @@ use Rattle.vc_best.specs.declared.best.Best.{Best}
 use Rattle.vc_seg.specs.OneBlock.{IsSize}
 use Rattle.vc_seg.specs.declared.fault.RegionFault.{RegionFault}
 use Rattle.vc_seg.specs.declared.fault.RegionFault.TheVariants as code
-use Rattle.vc_ways.specs.Answer.{Holding}
+use Rattle.vc_ways.specs.Answer.{HasOwnSegmentsOut, Holding, KeepsWays}
+use Rattle.vc_ways.specs.Asking.{IsUnserved}
 use Rattle.vc_ways.specs.LastParts.{IsPaired, holding_of, way_of}
 use Rattle.vc_ways.specs.Live as model
-use Rattle.vc_ways.specs.PoolParts.{class_blocks, holdings, pools_of, terms_in}
+use Rattle.vc_ways.specs.PoolParts.{HasCell, holdings, pools_of, terms_in}
 use Rattle.vc_ways.specs.PoolWay.{class_of}
 use Rattle.vc_ways.specs.Regions as ways
 use Rattle.vc_ways.specs.Regions.{Stopped, Took, Tried, WayTerms}
@@ -56,7 +57,7 @@ pub record IsLiveIn (r : ways.Regions) (l : Live) : Type 0 where
   pub size : IsSize l.size
   pub best : HasBlock r.best.blocks l.best.0
   pub last : slice_index_or r.last.dead l.last true ≡ false
-  pub cell : HasBlock (class_blocks r.pools (class_of l.size)) l.cell.0
+  pub cell : HasCell r.pools l.size l.cell.0
 
 -- no way has two live blocks at one place
 pub record StandApart (a b : Live) : Type 0 where
@@ -86,3 +87,15 @@ IsStop call way why = IsStopped (λ way why. Stopped way why) call way why
 abbrev pub AnswersInAllWays : (Option Way → Tried (model.LivePlaces × ways.Regions)) → Result Live Stop → ways.Regions → Type 0
 AnswersInAllWays call (Ok l) new = call None ≡ Took (live_of l, new)
 AnswersInAllWays call (Err stop) new = IsStop call stop.way stop.fault
+
+-- the regions may ask for a block of a size in each way
+pub record CanAskWays {I : Type 0} {V : I → Type 0} (meaning : (x : I) × V x → Discipline) (r : Regions I V) (size : ℕ) : Type 0 where
+  pub fits : IsSize size
+  pub whole : HasFlagsAndPools r
+  pub lent : All HasOwnSegmentsOut (all_holdings meaning r)
+
+-- what they leave when the ways asked: if all went, they are whole; the disciplines are kept, and where a stop tells of a refused segment, that of its way refused it
+pub record LeavesWays {I : Type 0} {V : I → Type 0} (meaning : (x : I) × V x → Discipline) (old : Regions I V) (size : ℕ) (result : Result Live Stop) (new : Regions I V) : Type 0 where
+  pub whole : OnOk result (HasFlagsAndPools new)
+  pub keeps : KeepsWays (is_ok result) (all_holdings meaning old) (all_holdings meaning new)
+  pub refused : IfErr result (λ stop. IsUnserved (terms_of meaning old) (regions_of old) size stop (all_holdings meaning old) (all_holdings meaning new))

@@ -1,13 +1,14 @@
 -- What a trace that is run stands for, and what running a command answers.
-use Rattle.std.specs.Prelude.{◌≡◌, ◌≢◌, ℕ, ◌+◌, ◌-◌, List, All, Bool, Option, Some, None, Result, Ok, Err, bytes_eq, false, length, map, true}
+use Rattle.std.specs.Prelude.{◌≡◌, ◌≢◌, ℕ, ◌+◌, ◌-◌, List, All, Bool, IfErr, OnOk, Option, Some, None, Result, Ok, Err, bytes_eq, false, is_ok, length, map, true}
 use Rattle.std.specs.HashMap.{Updates, get}
 use Rattle.indexmap.specs.IndexMap.{insert_entry}
 use Rattle.vc_model.specs.Discipline.{Discipline}
-use Rattle.vc_ways.specs.Answer.{HasOwnSegmentsOut}
+use Rattle.vc_ways.specs.Answer.{HasOwnSegmentsOut, KeepsWays}
+use Rattle.vc_ways.specs.Asking.{IsUnserved}
 use Rattle.vc_ways.specs.Extents.{with_extents}
 use Rattle.vc_ways.specs.Live as model
 use Rattle.vc_ways.specs.Regions.{extent_sums}
-use Rattle.vc_ways.specs.RegionsParts.{HasFlagsAndPools, IsLiveIn, IsStopped, StandApart, all_holdings, live_of, regions_of}
+use Rattle.vc_ways.specs.RegionsParts.{HasFlagsAndPools, IsLiveIn, IsStopped, StandApart, all_holdings, live_of, regions_of, terms_of}
 use Rattle.vc_ways.specs.Step.{End, Goes, Outside, Stops, TraceState}
 use Rattle.vc_ways.specs.Table.{LiveTable, sum_of_sizes}
 use Rattle.vc_ways.specs.Tally.{tallied}
@@ -41,6 +42,12 @@ pub record StandsSoFar {I : Type 0} {V : I → Type 0} (meaning : (x : I) × V x
 pub record CanClose {I : Type 0} {V : I → Type 0} (meaning : (x : I) × V x → Discipline) (t : Trace I V) : Type 0 where
   pub classes : length t.regions.pools.items ≡ 20
   pub lent : All HasOwnSegmentsOut (all_holdings meaning t.regions)
+
+-- what a command that asks for a block of a size leaves: if it went, the trace stands; the disciplines are kept, and where a stop tells of a refused segment, that of its way refused it
+pub record LeavesTrace {A : Type 0} {I : Type 0} {V : I → Type 0} (meaning : (x : I) × V x → Discipline) (old : Trace I V) (size : ℕ) (result : Result A Stop) (new : Trace I V) : Type 0 where
+  pub stands : OnOk result (StandsSoFar meaning new)
+  pub keeps : KeepsWays (is_ok result) (all_holdings meaning old.regions) (all_holdings meaning new.regions)
+  pub refused : IfErr result (λ stop. IsUnserved (terms_of meaning old.regions) (regions_of old.regions) size stop (all_holdings meaning old.regions) (all_holdings meaning new.regions))
 
 -- a name has a block, in place of one of so many bytes; before it came these were the newest segments, of the pools in that of its class
 pub record IsBlockPlaced {I : Type 0} {V : I → Type 0} (old new : Trace I V) (r x : List ℕ) (block : Live) (gone class : ℕ) (first : Newests) : Type 0 where

@@ -1,8 +1,5 @@
-ghost use Rattle.std.specs.Prelude.{◌≡◌, ◌<◌, ◌+◌, length, IsErrOf, OnOk, is_ok, true};
-ghost use Rattle.vc_model.specs.Discipline.{Unserved};
-ghost use Rattle.vc_model.specs.Last.{last_need};
-ghost use Rattle.vc_seg.specs.OneBlock.{IsSize};
-ghost use Rattle.vc_ways.specs.Answer.{GivesOutcome, HasOwnSegmentsOut, KeepsWay};
+ghost use Rattle.std.specs.Prelude.{◌≡◌, ◌<◌, ◌+◌, length, true};
+ghost use Rattle.vc_ways.specs.Answer.{GivesOutcome, KeepsWay};
 ghost use Rattle.vc_ways.specs.LastWay.{drop_dead, ends_dead, last_dead, last_put, last_sized, latest_sized, without_latest};
 
 use vc_last::Last;
@@ -19,22 +16,16 @@ pub struct LastWay {
 
 impl LastWay {
     ghost use Rattle.vc_last.specs.Parts.{segments_in};
-    ghost use Rattle.vc_ways.specs.LastParts.{IsPaired, holding_of, way_of};
+    ghost use Rattle.vc_ways.specs.LastParts.{CanAskLast, IsPaired, LeavesLast, holding_of, way_of};
 
     /// Puts a block of 1 to 16,777,216 bytes, and answers how many stand before it. The faults are those of the region's
     /// `alloc`; after one of them the way can only be closed.
     pub fn put(&mut self, size: u32) -> Result<usize, RegionFault>
-        requires lent { HasOwnSegmentsOut (holding_of state self.old) }
-        requires size { IsSize size }
-        requires paired { IsPaired self.old }
+        requires can { CanAskLast state self.old size }
         ensures answer { GivesOutcome
             (last_put (holding_of state self.old).disc.terms (way_of self.old) size)
             (λ i. i) result (way_of self.new) }
-        ensures paired { OnOk result (IsPaired self.new) }
-        ensures keeps { KeepsWay (is_ok result) (holding_of state self.old) (holding_of state self.new) }
-        ensures refused { IsErrOf result RegionFault.NoSegment
-            → Unserved (holding_of state self.old).disc (holding_of state self.new).disc
-            (last_need (holding_of state self.old).disc.terms size) }
+        ensures leaves { LeavesLast state self.old size result self.new }
     {
         let i = self.dead.len();
         match self.region.alloc(size, 0) {
@@ -48,18 +39,12 @@ impl LastWay {
 
     // Gives the latest block another size; it may move.
     fn resize_latest(&mut self, i: usize, size: u32) -> Result<usize, RegionFault>
-        requires lent { HasOwnSegmentsOut (holding_of state self.old) }
-        requires size { IsSize size }
-        requires paired { IsPaired self.old }
+        requires can { CanAskLast state self.old size }
         requires latest { i + 1 ≡ length self.old.dead.items }
         ensures answer { GivesOutcome
             (latest_sized (holding_of state self.old).disc.terms (way_of self.old) i size)
             (λ i. i) result (way_of self.new) }
-        ensures paired { OnOk result (IsPaired self.new) }
-        ensures keeps { KeepsWay (is_ok result) (holding_of state self.old) (holding_of state self.new) }
-        ensures refused { IsErrOf result RegionFault.NoSegment
-            → Unserved (holding_of state self.old).disc (holding_of state self.new).disc
-            (last_need (holding_of state self.old).disc.terms size) }
+        ensures leaves { LeavesLast state self.old size result self.new }
     {
         let at = self.region.latest;
         match self.region.resize(at, size, true) {
@@ -72,18 +57,12 @@ impl LastWay {
     /// latest block stays if it can, and moves else. Of another one a block of that size is put, and it is dead. The
     /// faults are as of `put`.
     pub fn resize(&mut self, i: usize, size: u32) -> Result<usize, RegionFault>
-        requires lent { HasOwnSegmentsOut (holding_of state self.old) }
-        requires size { IsSize size }
-        requires paired { IsPaired self.old }
+        requires can { CanAskLast state self.old size }
         requires block { i < length self.old.dead.items }
         ensures answer { GivesOutcome
             (last_sized (holding_of state self.old).disc.terms (way_of self.old) i size)
             (λ i. i) result (way_of self.new) }
-        ensures paired { OnOk result (IsPaired self.new) }
-        ensures keeps { KeepsWay (is_ok result) (holding_of state self.old) (holding_of state self.new) }
-        ensures refused { IsErrOf result RegionFault.NoSegment
-            → Unserved (holding_of state self.old).disc (holding_of state self.new).disc
-            (last_need (holding_of state self.old).disc.terms size) }
+        ensures leaves { LeavesLast state self.old size result self.new }
     {
         if i + 1 == self.dead.len() {
             return self.resize_latest(i, size);

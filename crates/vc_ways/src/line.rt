@@ -1,9 +1,8 @@
-ghost use Rattle.std.specs.Prelude.{◌≡◌, IfErr, OnOk, is_ok};
-ghost use Rattle.vc_ways.specs.Answer.{KeepsWays};
-ghost use Rattle.vc_ways.specs.Asking.{IsUnserved, line_size};
+ghost use Rattle.std.specs.Prelude.{◌≡◌};
+ghost use Rattle.vc_ways.specs.Asking.{line_size};
 ghost use Rattle.vc_ways.specs.LineParts.{LineEnds};
-ghost use Rattle.vc_ways.specs.RegionsParts.{all_holdings, regions_of, terms_of};
-ghost use Rattle.vc_ways.specs.TraceParts.{CanClose, StandsSoFar, trace_state};
+ghost use Rattle.vc_ways.specs.RegionsParts.{terms_of};
+ghost use Rattle.vc_ways.specs.TraceParts.{CanClose, LeavesTrace, StandsSoFar, trace_state};
 
 use crate::trace::out_of_memory;
 use crate::{Stop, Trace};
@@ -33,12 +32,7 @@ impl Trace {
         requires stands { StandsSoFar state self.old }
         ensures answer { LineEnds (terms_of state self.old.regions) (trace_state self.old) number line.now
             result (trace_state self.new) }
-        ensures stands { OnOk result (StandsSoFar state self.new) }
-        ensures keeps { KeepsWays (is_ok result) (all_holdings state self.old.regions)
-            (all_holdings state self.new.regions) }
-        ensures refused { IfErr result (λ stop. IsUnserved (terms_of state self.old.regions)
-            (regions_of self.old.regions) (line_size number line.now) stop
-            (all_holdings state self.old.regions) (all_holdings state self.new.regions)) }
+        ensures leaves { LeavesTrace state self.old (line_size number line.now) result self.new }
         ensures closes { CanClose state self.new }
     {
         let read = read_line(alloc, Tool::Vmreplay, number == 1, line);

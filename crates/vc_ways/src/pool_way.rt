@@ -1,9 +1,8 @@
-ghost use Rattle.std.specs.Prelude.{◌≡◌, ◌≢◌, ℕ, IfOk, IsErrOf, OnOk, ◌<◌, ◌≤◌, All, is_ok, length, true};
+ghost use Rattle.std.specs.Prelude.{◌≡◌, ◌≢◌, ℕ, IfOk, ◌<◌, ◌≤◌, length, true};
 ghost use Rattle.vc_base.specs.Prelude.{place_of, HasBlock};
 ghost use Rattle.vc_seg.specs.OneBlock.{IsSize};
-ghost use Rattle.vc_ways.specs.Answer.{GivesOutcome, HasOwnSegmentsOut, KeepsWays};
-ghost use Rattle.vc_ways.specs.Asking.{Refuses, asking_cell};
-ghost use Rattle.vc_ways.specs.PoolParts.{CellComes, class_blocks, holdings, pools_of, terms_in};
+ghost use Rattle.vc_ways.specs.Answer.{GivesOutcome, KeepsWays};
+ghost use Rattle.vc_ways.specs.PoolParts.{CanAskPools, CellComes, HasCell, LeavesPools, class_blocks, holdings, pools_of, terms_in};
 ghost use Rattle.vc_ways.specs.PoolWay.{cell_free, cell_put, cell_sized, class_of};
 
 use vc_base::Addr;
@@ -34,17 +33,11 @@ pub(crate) fn class_of(size: u32) -> usize
 
 // Puts a block into a cell of its class. The faults are those of the pool's `alloc`.
 pub(crate) fn put_cell(pools: &mut Vec<Pool>, size: u32) -> Result<Addr, RegionFault>
-    requires size { IsSize size }
-    requires classes { length pools.old.items ≡ 20 }
-    requires lent { All HasOwnSegmentsOut (holdings state pools.old.items) }
+    requires can { CanAskPools state pools.old.items size }
     ensures answer { GivesOutcome
         (cell_put (terms_in (holdings state pools.old.items)) (pools_of pools.old.items) size)
         (λ a. place_of a.0) result (pools_of pools.new.items) }
-    ensures keeps { KeepsWays (is_ok result) (holdings state pools.old.items) (holdings state pools.new.items) }
-    ensures refused { IsErrOf result RegionFault.NoSegment → Refuses
-        (asking_cell (terms_in (holdings state pools.old.items)) (pools_of pools.old.items) size)
-        (holdings state pools.old.items) (holdings state pools.new.items) }
-    ensures classes { length pools.new.items ≡ 20 }
+    ensures leaves { LeavesPools state pools.old.items size result pools.new.items }
     ensures others { (class : ℕ) → class ≢ class_of size
         → class_blocks (pools_of pools.new.items) class ≡ class_blocks (pools_of pools.old.items) class }
     ensures comes { IfOk result (λ a. CellComes (λ _ _. Unit {0}) (pools_of pools.old.items)
@@ -59,7 +52,7 @@ pub(crate) fn put_cell(pools: &mut Vec<Pool>, size: u32) -> Result<Addr, RegionF
 pub(crate) fn free_cell(pools: &mut Vec<Pool>, size: u32, at: Addr)
     requires size { IsSize size }
     requires classes { length pools.old.items ≡ 20 }
-    requires block { HasBlock (class_blocks (pools_of pools.old.items) (class_of size)) at.0 }
+    requires block { HasCell (pools_of pools.old.items) size at.0 }
     ensures pools { pools_of pools.new.items
         ≡ cell_free (pools_of pools.old.items) size (place_of at.0) }
     ensures keeps { KeepsWays true (holdings state pools.old.items) (holdings state pools.new.items) }
@@ -80,20 +73,14 @@ pub(crate) fn resize_cell(
     at: Addr,
     size: u32,
 ) -> Result<Addr, RegionFault>
+    requires can { CanAskPools state pools.old.items size }
     requires old { IsSize old }
-    requires size { IsSize size }
-    requires classes { length pools.old.items ≡ 20 }
-    requires lent { All HasOwnSegmentsOut (holdings state pools.old.items) }
-    requires block { HasBlock (class_blocks (pools_of pools.old.items) (class_of old)) at.0 }
+    requires block { HasCell (pools_of pools.old.items) old at.0 }
     ensures answer { GivesOutcome
         (cell_sized (terms_in (holdings state pools.old.items)) (pools_of pools.old.items) old
         (place_of at.0) size)
         (λ a. place_of a.0) result (pools_of pools.new.items) }
-    ensures keeps { KeepsWays (is_ok result) (holdings state pools.old.items) (holdings state pools.new.items) }
-    ensures refused { IsErrOf result RegionFault.NoSegment → Refuses
-        (asking_cell (terms_in (holdings state pools.old.items)) (pools_of pools.old.items) size)
-        (holdings state pools.old.items) (holdings state pools.new.items) }
-    ensures classes { length pools.new.items ≡ 20 }
+    ensures leaves { LeavesPools state pools.old.items size result pools.new.items }
     ensures comes { IfOk result (λ to. CellComes
         (λ class a. class ≡ class_of old → a ≢ at.0) (pools_of pools.old.items)
         (class_of size) to.0 (pools_of pools.new.items)) }

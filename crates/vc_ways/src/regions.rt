@@ -1,7 +1,5 @@
-ghost use Rattle.std.specs.Prelude.{◌≡◌, All, IfErr, IfOk, OnOk, is_ok, true};
-ghost use Rattle.vc_seg.specs.OneBlock.{IsSize};
-ghost use Rattle.vc_ways.specs.Answer.{HasOwnSegmentsOut, KeepsWays};
-ghost use Rattle.vc_ways.specs.Asking.{IsUnserved};
+ghost use Rattle.std.specs.Prelude.{◌≡◌, IfOk, true};
+ghost use Rattle.vc_ways.specs.Answer.{KeepsWays};
 ghost use Rattle.vc_ways.specs.Regions.{free_in_each, put_block, size_block};
 
 use crate::pool_way::{free_cell, put_cell, resize_cell};
@@ -35,20 +33,15 @@ pub struct Stop {
 }
 
 impl Regions {
-    ghost use Rattle.vc_ways.specs.RegionsParts.{AnswersInAllWays, Comes, HasFlagsAndPools, IsLiveIn, StandApart, all_holdings, live_of, regions_of, terms_of};
+    ghost use Rattle.vc_ways.specs.RegionsParts.{AnswersInAllWays, CanAskWays, Comes, HasFlagsAndPools, IsLiveIn, LeavesWays, StandApart, all_holdings, live_of, regions_of, terms_of};
 
     /// Puts a block of 1 to 16,777,216 bytes in each way, in the order best, last, pools. After a stop the regions can
     /// only be closed.
     pub fn put(&mut self, size: u32) -> Result<Live, Stop>
-        requires size { IsSize size }
-        requires whole { HasFlagsAndPools self.old }
-        requires lent { All HasOwnSegmentsOut (all_holdings state self.old) }
+        requires can { CanAskWays state self.old size }
         ensures answer { AnswersInAllWays (put_block (terms_of state self.old) (regions_of self.old) size)
             result (regions_of self.new) }
-        ensures whole { OnOk result (HasFlagsAndPools self.new) }
-        ensures keeps { KeepsWays (is_ok result) (all_holdings state self.old) (all_holdings state self.new) }
-        ensures refused { IfErr result (λ stop. IsUnserved (terms_of state self.old)
-            (regions_of self.old) size stop (all_holdings state self.old) (all_holdings state self.new)) }
+        ensures leaves { LeavesWays state self.old size result self.new }
         ensures comes { IfOk result (λ l. Comes (λ _. Unit {0}) (regions_of self.old) l
             (regions_of self.new)) }
     {
@@ -86,17 +79,12 @@ impl Regions {
     /// Gives a live block another size, 1 to 16,777,216 bytes, in each way, in the order best, last, pools; it may move.
     /// After a stop the regions can only be closed.
     pub fn resize(&mut self, live: &Live, size: u32) -> Result<Live, Stop>
-        requires size { IsSize size }
-        requires whole { HasFlagsAndPools self.old }
-        requires lent { All HasOwnSegmentsOut (all_holdings state self.old) }
+        requires can { CanAskWays state self.old size }
         requires live { IsLiveIn (regions_of self.old) live.now }
         ensures answer { AnswersInAllWays
             (size_block (terms_of state self.old) (regions_of self.old) (live_of live.now) size)
             result (regions_of self.new) }
-        ensures whole { OnOk result (HasFlagsAndPools self.new) }
-        ensures keeps { KeepsWays (is_ok result) (all_holdings state self.old) (all_holdings state self.new) }
-        ensures refused { IfErr result (λ stop. IsUnserved (terms_of state self.old)
-            (regions_of self.old) size stop (all_holdings state self.old) (all_holdings state self.new)) }
+        ensures leaves { LeavesWays state self.old size result self.new }
         ensures comes { IfOk result (λ l. Comes (λ k. StandApart k live.now) (regions_of self.old) l
             (regions_of self.new)) }
     {

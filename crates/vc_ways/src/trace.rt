@@ -1,14 +1,14 @@
-ghost use Rattle.std.specs.Prelude.{◌≡◌, ◌<◌, All, None, IfErr, IfOk, OnOk, bytes_eq, false, if◌then◌else◌, is_ok, length, true};
+ghost use Rattle.std.specs.Prelude.{◌≡◌, ◌<◌, All, None, IfErr, IfOk, OnOk, bytes_eq, false, if◌then◌else◌, length, true};
 ghost use Rattle.std.specs.HashMap.{get};
 ghost use Rattle.vc_seg.specs.OneBlock.{IsSize};
 ghost use Rattle.vc_ways.specs.Answer.{HasOwnSegmentsOut, KeepsWays};
-ghost use Rattle.vc_ways.specs.Asking.{IsUnserved, size_asked};
+ghost use Rattle.vc_ways.specs.Asking.{size_asked};
 ghost use Rattle.vc_ways.specs.RegionsParts.{all_holdings, regions_of, terms_of};
 ghost use Rattle.vc_ways.specs.Regions.{new_regions, put_block};
 ghost use Rattle.vc_ways.specs.Settled.{AreBack, AreTaken, slots_on};
 ghost use Rattle.vc_ways.specs.Step.{Goes, Outside, free_found, goes_with, is_its_region, is_new, is_size, size_found, start, trace_step};
 ghost use Rattle.vc_ways.specs.Table.{find_live};
-ghost use Rattle.vc_ways.specs.TraceParts.{AnswersCommand, CanClose, IsBlockPlaced, StandsSoFar, trace_state};
+ghost use Rattle.vc_ways.specs.TraceParts.{AnswersCommand, CanClose, IsBlockPlaced, LeavesTrace, StandsSoFar, trace_state};
 
 use crate::pool_way::class_of;
 use crate::tally::none;
@@ -150,12 +150,7 @@ impl Trace {
         ensures answer { AnswersCommand (λ refused. goes_with (trace_state self.old) r.now x.now
             (put_block (terms_of state self.old.regions) (regions_of self.old.regions) size refused))
             result (trace_state self.new) }
-        ensures stands { OnOk result (StandsSoFar state self.new) }
-        ensures keeps { KeepsWays (is_ok result) (all_holdings state self.old.regions)
-            (all_holdings state self.new.regions) }
-        ensures refused { IfErr result (λ stop. IsUnserved (terms_of state self.old.regions)
-            (regions_of self.old.regions) size stop
-            (all_holdings state self.old.regions) (all_holdings state self.new.regions)) }
+        ensures leaves { LeavesTrace state self.old size result self.new }
     {
         let class = class_of(size);
         let first = self.regions.newest(class);
@@ -176,12 +171,7 @@ impl Trace {
             (trace_state self.old) r.now x.now size refused
             (find_live x.now (trace_state self.old).table))
             result (trace_state self.new) }
-        ensures stands { OnOk result (StandsSoFar state self.new) }
-        ensures keeps { KeepsWays (is_ok result) (all_holdings state self.old.regions)
-            (all_holdings state self.new.regions) }
-        ensures refused { IfErr result (λ stop. IsUnserved (terms_of state self.old.regions)
-            (regions_of self.old.regions) size stop
-            (all_holdings state self.old.regions) (all_holdings state self.new.regions)) }
+        ensures leaves { LeavesTrace state self.old size result self.new }
     {
         let old = match self.found(x) {
             None => return Ok(false),
@@ -229,12 +219,7 @@ impl Trace {
         requires stands { StandsSoFar state self.old }
         ensures answer { AnswersCommand (trace_step (terms_of state self.old.regions) (trace_state self.old) command.now)
             result (trace_state self.new) }
-        ensures stands { OnOk result (StandsSoFar state self.new) }
-        ensures keeps { KeepsWays (is_ok result) (all_holdings state self.old.regions)
-            (all_holdings state self.new.regions) }
-        ensures refused { IfErr result (λ stop. IsUnserved (terms_of state self.old.regions)
-            (regions_of self.old.regions) (size_asked command.now) stop
-            (all_holdings state self.old.regions) (all_holdings state self.new.regions)) }
+        ensures leaves { LeavesTrace state self.old (size_asked command.now) result self.new }
         ensures closes { CanClose state self.new }
     {
         match command {

@@ -9,7 +9,8 @@ use Rattle.vc_best.specs.Blocks.{layout_by}
 use Rattle.vc_best.specs.Cells.{cells_of}
 use Rattle.vc_image_check.specs.Bytes.Contents.{contents_of_image}
 use Rattle.vc_image_check.specs.Bytes.Header.{IsHeader}
-use Rattle.vc_image_check.specs.Marks.Mark.{mark_at}
+use Rattle.vc_image_check.specs.Marks.Mark.{lists, mark_at}
+use Rattle.vc_image_check.specs.declared.marks.marks.Marks.{Marks}
 
 -- the unlabelled blocks of an image's segments, by their addresses
 abbrev pub image_blocks : List ℕ → Blocks
@@ -27,3 +28,6 @@ pub record HasBlockMarks (image : List ℕ) (rows : List (List ℕ)) (places : L
   pub marks : (a : ℕ) → nat_lt 2 (mark_at rows a) ≡ is_cell (extent_of (tiling (contents_of_image image).segs) a)
   pub parts : (n : ℕ) → IsThere n (contents_of_image image).segs
       → take (length (bytes_of_number n (contents_of_image image).segs)) (drop (slice_index places n) image) ≡ bytes_of_number n (contents_of_image image).segs
+
+abbrev pub AreBlockMarks : List ℕ → Marks → Type 0
+AreBlockMarks image marks = HasBlockMarks image (lists marks.rows.items) marks.places.items

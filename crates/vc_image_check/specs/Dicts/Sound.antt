@@ -2,15 +2,17 @@
 use Rattle.std.specs.Prelude.{◌≡◌, ℕ, ◌++◌, Bool, List, [], ◌∷◌, Option, Some, None, true, false, unwrap_or, ◌==◌, if◌then◌else◌}
 use Rattle.std.specs.Option.{option_map}
 use Rattle.vc_model.specs.Numbered.{at_number}
+use Rattle.vc_base.specs.declared.addr.Addr.{Addr}
 use Rattle.vc_base.specs.declared.dict_method.DictMethod.{DictMethod}
 use Rattle.vc_base.specs.declared.dict_method.DictMethod.TheVariants.{DtSet, DtBag, DtOset, DtObag, DtList, DtStack, DtQueue}
 use Rattle.vc_base.specs.Cells.{Blocks}
 use Rattle.vc_base.specs.Holders.{contains}
 use Rattle.vc_base.specs.Methods.{has_table, is_ordered, is_set}
 use Rattle.vc_dtdisc.specs.Rules.{Rules}
+use Rattle.vc_dict.specs.declared.dict.Dict.{Dict}
 use Rattle.vc_dict.specs.declared.heads.Heads.{Heads}
 use Rattle.vc_dict.specs.Listed.{holders_by, holders_from}
-use Rattle.vc_dict.specs.Parts.{HasNoOtherHeads, form_by}
+use Rattle.vc_dict.specs.Parts.{HasNoOtherHeads, dict_by, form_by}
 use Rattle.vc_image_check.specs.Bytes.Image.{DictRow}
 use Rattle.vc_image_check.specs.Lists.Chained.{IsSoundChain}
 use Rattle.vc_image_check.specs.Lists.Sound.{IsSoundList}
@@ -70,6 +72,20 @@ pub record IsSoundBy (method : DictMethod) (rules : Rules) (blocks : Blocks) (co
   pub others : HasNoOtherHeads method heads
   pub holders : AreSoundHolders method rules blocks count heads
   pub within : contains (0 ∷ holders_in method blocks count heads) current ≡ true
+
+-- the numbers of such a dictionary, over some blocks by the rules of its kind
+pub record SoundNumbers : Type 0 where
+  pub rules : Rules
+  pub blocks : Blocks
+  pub method : DictMethod
+  pub count : ℕ
+  pub current : Addr
+  pub heads : Heads
+  pub sound : IsSoundBy method rules blocks count current.0 heads
+
+-- the dictionary that they make, where its kind has that number
+abbrev pub numbered_dict : SoundNumbers → ℕ → Dict
+numbered_dict n kind = dict_by n.method kind n.count n.current n.heads
 
 -- nine numbers are those of such a dictionary of a method and a kind that are there
 pub record IsSoundRow (kinds : List Rules) (blocks : Blocks) (r : DictRow) : Type 0 where

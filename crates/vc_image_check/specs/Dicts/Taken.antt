@@ -5,12 +5,16 @@ use Rattle.vc_base.specs.Cells.{Blocks}
 use Rattle.vc_base.specs.Holders.{contains}
 use Rattle.vc_dtdisc.specs.Rules.{Rules}
 use Rattle.vc_image_check.specs.Bytes.Image.{DictRow}
-use Rattle.vc_image_check.specs.Marks.Mark.{mark_at}
+use Rattle.vc_image_check.specs.Marks.Mark.{lists, mark_at}
+use Rattle.vc_image_check.specs.declared.marks.marks.Marks.{Marks}
 use Rattle.vc_image_check.specs.Dicts.Sound.{IsSoundDict, own_of}
 
 -- of the marks from 3 on, 4 stands at the blocks that were taken, and 3 at the others
 abbrev pub AreMarkedTaken : List (List ℕ) → List ℕ → Type 0
 AreMarkedTaken rows taken = (a : ℕ) → 3 ≤ mark_at rows a → mark_at rows a ≡ (if contains taken a then 4 else 3)
+
+abbrev pub HaveTaken : Marks → List ℕ → Type 0
+HaveTaken marks taken = AreMarkedTaken (lists marks.rows.items) taken
 
 -- the blocks that dictionaries have together
 abbrev pub taken_by : Blocks → List DictRow → List ℕ

@@ -1,5 +1,5 @@
 -- Marks of an image's extents, and where free extents lie.
-use Rattle.std.specs.Prelude.{◌≡◌, ℕ, ◌+◌, ◌*◌, ◌/◌, ◌%◌, ◌<◌, ◌≤◌, ◌^◌, List, All, true, false, slice_index}
+use Rattle.std.specs.Prelude.{◌≡◌, ℕ, ◌*◌, ◌/◌, ◌%◌, ◌<◌, ◌≤◌, ◌^◌, List, All, true, false}
 use Rattle.std.proofs.Math.Bridge.{le_prop}
 use Rattle.std.proofs.Math.Logic.{∥∥₁_elim}
 use Rattle.std.proofs.Common.{arith, ⊎_elim, sym, subst}
@@ -15,7 +15,8 @@ use Rattle.vc_gaps.specs.GapStore.{is_free}
 use Rattle.vc_image_check.specs.Bytes.Contents.{contents_of_image}
 use Rattle.vc_image_check.specs.Bytes.Header.{IsHeader}
 use Rattle.vc_image_check.specs.Laws.Segs.{are-segments, segs-are}
-use Rattle.vc_image_check.specs.Marks.Mark.{IsMarked}
+use Rattle.vc_image_check.specs.Marks.Mark.{IsMarked, lists}
+use Rattle.vc_image_check.specs.declared.marks.marks.Marks.{Marks}
 
 -- an image has a head, extents tile its segments, and these are their marks and places
 pub record IsKnown (image : List ℕ) (rows : List (List ℕ)) (places : List ℕ) : Type 0 where
@@ -23,9 +24,8 @@ pub record IsKnown (image : List ℕ) (rows : List (List ℕ)) (places : List �
   pub tiled : All (λ s. IsTiled s.bytes) (contents_of_image image).segs
   pub marked : IsMarked image rows places
 
--- where an extent's links lie
-abbrev pub start_of : List ℕ → ℕ → ℕ
-start_of places a = slice_index places (a / 1048576) + 32 * (a % 1048576)
+abbrev pub AreExtentMarks : List ℕ → Marks → Type 0
+AreExtentMarks image marks = IsKnown image (lists marks.rows.items) marks.places.items
 
 -- each of these names a free extent
 abbrev pub AreFree : Tiling → List ℕ → Type 0

@@ -16,8 +16,8 @@ use Rattle.vc_best.proofs.CellBytes.{cell-bytes}
 use Rattle.vc_best.proofs.Found.{busy-of, found-of}
 use Rattle.vc_image_check.specs.Bytes.Contents.{contents_of_image}
 use Rattle.vc_image_check.specs.Bytes.Header.{AreBytes, IsHeader}
-use Rattle.vc_image_check.specs.Marks.Mark.{mark_at, mark_of}
-use Rattle.vc_image_check.specs.Gaps.Known.{IsKnown, known-segments, start_of}
+use Rattle.vc_image_check.specs.Marks.Mark.{mark_at, mark_of, start_of}
+use Rattle.vc_image_check.specs.Gaps.Known.{IsKnown, known-segments}
 use Rattle.vc_image_check.specs.Laws.Lying.{LiesIn, field-in, lies-in, part-in}
 use Rattle.vc_image_check.specs.Blocks.Blocks.{HasBlockMarks, image_blocks, is_cell}
 

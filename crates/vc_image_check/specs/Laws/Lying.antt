@@ -1,6 +1,6 @@
 -- Where an extent lies in the bytes of an image.
 use Rattle.std.specs.Prelude.{◌≡◌, ℕ, ◌+◌, ◌-◌, ◌*◌, ◌/◌, ◌%◌, ◌<◌, ◌≤◌, min, true, nat_lt, ◌==◌, ◌&&◌, List, [], ◌∷◌, All, length, get_or, take, drop, refl}
-use Rattle.vc_base.proofs.Common.{sym, ap, ◌∙◌, subst, arith, inl, inr, true≢false, eq-eqb, ne_eqb, cases_eq, cases_lt, lt-ltb, le-ltb, All-head, All-tail, length-take, length-drop, drop-take, drop-drop, take-take, from_le_bytes, w32}
+use Rattle.vc_base.proofs.Common.{sym, ap, ◌∙◌, subst, arith, inl, inr, true≢false, eq-eqb, ne_eqb, cases_eq, cases_lt, lt-ltb, le-ltb, All-head, All-tail, length-take, length-drop, drop-take, drop-drop, take-take, from_le_bytes, w32, ℕ_set, le_prop, ∥∥₁_elim}
 use Rattle.std.proofs.lemmas.List.Sums.{sum_by-cons}
 use Rattle.vc_seg.specs.Budget.{bytes_of}
 use Rattle.vc_seg.specs.Field.{field_at}
@@ -18,8 +18,8 @@ use Rattle.vc_gaps.specs.GapStore.{is_free}
 use Rattle.vc_image_check.specs.Bytes.Contents.{contents_of_image, image_segment_count, pairs_in}
 use Rattle.vc_image_check.specs.Bytes.Header.{IsHeader}
 use Rattle.vc_image_check.specs.Laws.Segs.{segs-count, segs-many}
-use Rattle.vc_image_check.specs.Marks.Mark.{mark_of}
-use Rattle.vc_image_check.specs.Gaps.Known.{IsKnown, known-segments, start_of}
+use Rattle.vc_image_check.specs.Marks.Mark.{mark_of, start_of}
+use Rattle.vc_image_check.specs.Gaps.Known.{IsKnown, known-segments}
 
 -- the bytes of a segment by its number
 extents-bytes : (n : ℕ) (ss : List Bytes) → IsThere n ss → extents_of n (tiling ss) ≡ extents (bytes_of_number n ss)
@@ -136,8 +136,11 @@ pub record Lies (image places : List ℕ) (a : ℕ) (e : Extent) : Type 0 where
   pub second : field_at (start_of places a + 4) image ≡ e.links.second
   pub third : field_at (start_of places a + 8) image ≡ e.links.third
 
-pub lies : (image : List ℕ) (rows : List (List ℕ)) (places : List ℕ) (k : IsKnown image rows places) (a : ℕ) → is_free (tiling (contents_of_image image).segs) a ≡ true → Lies image places a (extent_of (tiling (contents_of_image image).segs) a)
-lies image rows places k a free =
+lies-prop : (image places : List ℕ) (a : ℕ) (e : Extent) → IsProp (Lies image places a e)
+lies-prop image places a e = hlevel (le_prop, ℕ_set)
+
+there : (image : List ℕ) (rows : List (List ℕ)) (places : List ℕ) (k : IsKnown image rows places) (a : ℕ) → is_free (tiling (contents_of_image image).segs) a ≡ true → Lies image places a (extent_of (tiling (contents_of_image image).segs) a)
+there image rows places k a free =
     let segs : List Bytes = (contents_of_image image).segs in
     let e : Extent = extent_of (tiling segs) a in
     let l : LiesIn image places a e = lies-in image places k.head k.tiled k.marked.bytes a (is_free-named (tiling segs) a free) in
@@ -167,6 +170,10 @@ lies image rows places k a free =
       second = ap (λ z. field_at z image) s4 ∙ sym (field (at + 16 + 4) (omega (arith, end, least))) ∙ sym (ap (λ (l : Links). l.second) links);
       third = ap (λ z. field_at z image) s8 ∙ sym (field (at + 16 + 8) (omega (arith, end, least))) ∙ sym (ap (λ (l : Links). l.third) links);
     }
+
+pub lies : (image : List ℕ) (rows : List (List ℕ)) (places : List ℕ) → ∥ IsKnown image rows places ∥₁ → (a : ℕ) → is_free (tiling (contents_of_image image).segs) a ≡ true → Lies image places a (extent_of (tiling (contents_of_image image).segs) a)
+lies image rows places known a free =
+    ∥∥₁_elim known (lies-prop image places a (extent_of (tiling (contents_of_image image).segs) a)) (λ k. there image rows places k a free)
 
 -- the mark of a free extent is 1
 pub mark-free : (e : Extent) → (mark_of e == 1) ≡ (nat_lt 0 e.span && (e.size == 0))

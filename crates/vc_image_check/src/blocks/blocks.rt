@@ -2,9 +2,9 @@ ghost use Rattle.std.specs.Prelude.{◌≡◌, ℕ, ◌+◌, ◌-◌, ◌*◌, �
 ghost use Rattle.std.specs.Int.{w64, from_le_bytes};
 ghost use Rattle.vc_base.specs.Cells.{HasBytes, bytes_at};
 ghost use Rattle.vc_seg.specs.Field.{field_at};
-ghost use Rattle.vc_image_check.specs.Blocks.Blocks.{HasBlockMarks, image_blocks};
+ghost use Rattle.vc_image_check.specs.Blocks.Blocks.{AreBlockMarks, image_blocks};
 ghost use Rattle.vc_image_check.specs.Bytes.Header.{AreBytes};
-ghost use Rattle.vc_image_check.specs.Marks.Mark.{lists, mark_at};
+ghost use Rattle.vc_image_check.specs.Marks.Mark.{mark_in};
 
 use crate::bytes::word;
 use crate::lists::Holders;
@@ -18,7 +18,7 @@ pub struct ImageBlocks<'a> {
     /// Its marks.
     pub marks: &'a Marks,
     /// The image has a head, extents tile its segments, and marks from 3 on are those of its unlabelled blocks.
-    pub ghost known: { ∥ HasBlockMarks image.now (lists marks.now.rows.items) marks.now.places.items ∥₁ },
+    pub ghost known: { ∥ AreBlockMarks image.now marks.now ∥₁ },
     /// Each byte of the image is one.
     pub ghost small: { AreBytes image.now },
 }
@@ -26,7 +26,7 @@ pub struct ImageBlocks<'a> {
 impl<'a> ImageBlocks<'a> {
     /// The unlabelled blocks of an image of which the head and the segments are sound, by marks of them.
     pub fn new(image: &'a [u8], marks: &'a Marks) -> ImageBlocks<'a>
-        requires { HasBlockMarks image.now (lists marks.now.rows.items) marks.now.places.items }
+        requires { AreBlockMarks image.now marks.now }
         ensures { result.image.now ≡ image.now }
     {
         ImageBlocks { image, marks }
@@ -35,7 +35,7 @@ impl<'a> ImageBlocks<'a> {
 
 // Where the block at an address begins.
 fn start<'a>(blocks: &ImageBlocks<'a>, a: u32) -> usize
-    requires { 3 ≤ mark_at (lists blocks.now.marks.now.rows.items) a }
+    requires { 3 ≤ mark_in blocks.now.marks.now a }
     ensures bytes { take (field_at (result - 12) blocks.now.image.now) (drop result blocks.now.image.now)
         ≡ bytes_at (image_blocks blocks.now.image.now) a }
     ensures low { 12 ≤ result }
@@ -43,7 +43,7 @@ fn start<'a>(blocks: &ImageBlocks<'a>, a: u32) -> usize
     ensures most { field_at (result - 12) blocks.now.image.now ≤ 33554432 }
     ensures all { length blocks.now.image.now ≤ 68719476736 }
 {
-    blocks.marks.places[(a / 1_048_576) as usize] + 32 * (a % 1_048_576) as usize
+    blocks.marks.start(a)
 }
 
 // The bytes of the block at an address, none where there is none.

@@ -1,4 +1,4 @@
-ghost use Rattle.std.specs.Prelude.{◌≡◌, ◌↔◌, ℕ, ◌+◌, ◌*◌, ◌<◌, ◌≤◌, Bool, IfSome, IfNone, IsTrue, length, take};
+ghost use Rattle.std.specs.Prelude.{◌≡◌, ◌↔◌, ℕ, ◌+◌, ◌*◌, ◌<◌, ◌≤◌, Bool, IfSome, IfNone, IsTrue, drop, length, take};
 ghost use Rattle.vc_seg.specs.Budget.{bytes_of};
 ghost use Rattle.vc_seg.specs.Field.{field_at};
 ghost use Rattle.vc_seg.specs.Numbered.{AreNumbered, IsRegionPair};
@@ -13,6 +13,14 @@ pub fn word(image: &[u8], at: usize) -> u32
 {
     let bytes = &image[at..at + 4];
     u32::from_le_bytes([bytes[0], bytes[1], bytes[2], bytes[3]])
+}
+
+/// So many bytes from a place on. They lie in the image.
+pub fn part(image: &[u8], at: usize, size: usize) -> &[u8]
+    requires { at + size ≤ length image.now }
+    ensures { result.now ≡ take size (drop at image.now) }
+{
+    &image[at..at + size]
 }
 
 // Whether the eight letters stand at the front.

@@ -1,10 +1,9 @@
 ghost use Rattle.std.specs.Prelude.{◌≡◌, ◌↔◌, ◌+◌, ◌++◌, ◌∷◌, ◌≤◌, ℕ, List, IfNone, IfOk, IfSome, IsTrue, length, map};
 ghost use Rattle.vc_base.specs.Holders.{AreDistinct, contains};
-ghost use Rattle.vc_image_check.specs.Blocks.Blocks.{HasBlockMarks, image_blocks};
+ghost use Rattle.vc_image_check.specs.Blocks.Blocks.{AreBlockMarks, image_blocks};
 ghost use Rattle.vc_image_check.specs.Bytes.Contents.{dict_row_at};
-ghost use Rattle.vc_image_check.specs.Marks.Mark.{lists};
 ghost use Rattle.vc_image_check.specs.Dicts.Sound.{IsSoundBy, IsSoundDict, IsSoundRow, own_in, own_of};
-ghost use Rattle.vc_image_check.specs.Dicts.Taken.{AreMarkedTaken};
+ghost use Rattle.vc_image_check.specs.Dicts.Taken.{HaveTaken};
 
 use crate::blocks::ImageBlocks;
 use crate::bytes::word;
@@ -72,7 +71,7 @@ fn sound_row<D: DictDisc, L>(
     steps: &mut Steps<L>,
 ) -> Result<Option<Vec<u32>>, OutOfMemory>
     requires within { at + 36 ≤ length image.now }
-    requires known { HasBlockMarks image.now (lists marks.now.rows.items) marks.now.places.items }
+    requires known { AreBlockMarks image.now marks.now }
     ensures some { IfOk result (λ o. IfSome o (λ v.
         IsSoundRow (map D.rules kinds.now.items) (image_blocks image.now) (dict_row_at at image.now)
         × (v.items ≡ own_of (image_blocks image.now) (dict_row_at at image.now)))) }
@@ -108,16 +107,13 @@ pub(crate) fn is_sound_dict<D: DictDisc, L>(
     steps: &mut Steps<L>,
 ) -> Result<bool, OutOfMemory>
     requires within { at + 36 ≤ length image.now }
-    requires known { HasBlockMarks image.now (lists marks.old.rows.items) marks.old.places.items }
-    ensures sound { IfOk result (λ b. (taken : List ℕ) → AreMarkedTaken (lists marks.old.rows.items) taken
+    requires known { AreBlockMarks image.now marks.old }
+    ensures sound { IfOk result (λ b. (taken : List ℕ) → HaveTaken marks.old taken
         → (IsTrue b ↔ IsSoundDict (map D.rules kinds.now.items) (image_blocks image.now) taken
         (dict_row_at at image.now))) }
-    ensures taken { IfOk result (λ b. IsTrue b → (taken : List ℕ)
-        → AreMarkedTaken (lists marks.old.rows.items) taken
-        → AreMarkedTaken (lists marks.new.rows.items)
-        (taken ++ own_of (image_blocks image.now) (dict_row_at at image.now))) }
-    ensures known { IfOk result (λ b.
-        HasBlockMarks image.now (lists marks.new.rows.items) marks.new.places.items) }
+    ensures taken { IfOk result (λ b. IsTrue b → (taken : List ℕ) → HaveTaken marks.old taken
+        → HaveTaken marks.new (taken ++ own_of (image_blocks image.now) (dict_row_at at image.now))) }
+    ensures known { IfOk result (λ b. AreBlockMarks image.now marks.new) }
 {
     match sound_row(alloc, image, kinds, at, marks, steps)? {
         Some(own) => Ok(take_blocks(marks, &own)),

@@ -1,9 +1,7 @@
 ghost use Rattle.std.specs.Prelude.{◌≡◌, [], IfNone, IfOk, IfSome, map};
-ghost use Rattle.vc_image_check.specs.Blocks.Blocks.{HasBlockMarks, image_blocks};
+ghost use Rattle.vc_image_check.specs.Blocks.Blocks.{AreBlockMarks, image_blocks};
 ghost use Rattle.vc_image_check.specs.Bytes.Contents.{rows_of_image};
-ghost use Rattle.vc_image_check.specs.Bytes.Header.{IsHeader};
-ghost use Rattle.vc_image_check.specs.Marks.Mark.{lists};
-ghost use Rattle.vc_image_check.specs.Dicts.Taken.{AreMarkedTaken, IsFirstUnsoundDict, taken_by};
+ghost use Rattle.vc_image_check.specs.Dicts.Taken.{HaveTaken, IsFirstUnsoundDict, taken_by};
 ghost use Rattle.vc_image_check.specs.Dicts.Whole.{AreSoundDicts};
 
 use crate::bytes::word;
@@ -22,16 +20,14 @@ pub(crate) fn unsound_dict<D: DictDisc, L>(
     marks: &mut Marks,
     steps: &mut Steps<L>,
 ) -> Result<Option<u32>, OutOfMemory>
-    requires head { IsHeader image.now }
-    requires known { HasBlockMarks image.now (lists marks.old.rows.items) marks.old.places.items }
-    requires free { AreMarkedTaken (lists marks.old.rows.items) [] }
+    requires known { AreBlockMarks image.now marks.old }
+    requires free { HaveTaken marks.old [] }
     ensures some { IfOk result (λ o. IfSome o (λ n.
         IsFirstUnsoundDict (map D.rules kinds.now.items) (image_blocks image.now) (rows_of_image image.now) n)) }
     ensures none { IfOk result (λ o. IfNone o (AreSoundDicts (map D.rules kinds.now.items) image.now)) }
     ensures taken { IfOk result (λ o. IfNone o
-        (AreMarkedTaken (lists marks.new.rows.items) (taken_by (image_blocks image.now) (rows_of_image image.now)))) }
-    ensures known { IfOk result (λ o.
-        HasBlockMarks image.now (lists marks.new.rows.items) marks.new.places.items) }
+        (HaveTaken marks.new (taken_by (image_blocks image.now) (rows_of_image image.now)))) }
+    ensures known { IfOk result (λ o. AreBlockMarks image.now marks.new) }
 {
     let first = 20 + 8 * word(image, 8) as usize;
     let dicts = word(image, 16);

@@ -1,9 +1,8 @@
 ghost use Rattle.std.specs.Prelude.{◌≡◌, ◌↔◌, IfNone, IfOk, IfSome, IsTrue, map};
-ghost use Rattle.vc_image_check.specs.Blocks.Blocks.{HasBlockMarks, image_blocks};
+ghost use Rattle.vc_image_check.specs.Blocks.Blocks.{AreBlockMarks, image_blocks};
 ghost use Rattle.vc_image_check.specs.Bytes.Contents.{rows_of_image};
-ghost use Rattle.vc_image_check.specs.Marks.Mark.{lists};
 ghost use Rattle.vc_image_check.specs.Parts.Front.{IsSoundFront};
-ghost use Rattle.vc_image_check.specs.Dicts.Taken.{AreMarkedTaken, IsFirstUnsoundDict, taken_by};
+ghost use Rattle.vc_image_check.specs.Dicts.Taken.{HaveTaken, taken_by};
 ghost use Rattle.vc_image_check.specs.Dicts.Whole.{AreSoundDicts, HasNoRest, IsFirstUnsoundPart, IsSoundImage};
 
 use crate::dicts::dicts::unsound_dict;
@@ -18,8 +17,8 @@ struct Compares;
 
 // Whether an unlabelled block is left that no dictionary took.
 fn has_rest(image: &[u8], marks: &Marks) -> bool
-    requires known { HasBlockMarks image.now (lists marks.now.rows.items) marks.now.places.items }
-    requires taken { AreMarkedTaken (lists marks.now.rows.items) (taken_by (image_blocks image.now) (rows_of_image image.now)) }
+    requires known { AreBlockMarks image.now marks.now }
+    requires taken { HaveTaken marks.now (taken_by (image_blocks image.now) (rows_of_image image.now)) }
     ensures { IsTrue result ↔ (¬ HasNoRest image.now) }
 {
     marks.has(3)

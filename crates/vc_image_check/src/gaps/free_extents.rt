@@ -2,8 +2,8 @@ ghost use Rattle.std.specs.Prelude.{◌≡◌, ℕ, ◌+◌, ◌≤◌, true, le
 ghost use Rattle.vc_extent.specs.Tiling.{extent_of, tiling};
 ghost use Rattle.vc_gaps.specs.GapStore.{is_free};
 ghost use Rattle.vc_image_check.specs.Bytes.Contents.{contents_of_image};
-ghost use Rattle.vc_image_check.specs.Gaps.Known.{IsKnown, start_of};
-ghost use Rattle.vc_image_check.specs.Marks.Mark.{lists};
+ghost use Rattle.vc_image_check.specs.Gaps.Known.{AreExtentMarks};
+ghost use Rattle.vc_image_check.specs.Marks.Mark.{start_of};
 
 use crate::bytes::word;
 use crate::marks::Marks;
@@ -16,7 +16,7 @@ pub(crate) struct FreeExtents<'a> {
     pub(crate) image: &'a [u8],
     pub(crate) marks: &'a Marks,
     // The image has a head, extents tile its segments, and these are their marks.
-    pub(crate) ghost known: { ∥ IsKnown image.now (lists marks.now.rows.items) marks.now.places.items ∥₁ },
+    pub(crate) ghost known: { ∥ AreExtentMarks image.now marks.now ∥₁ },
 }
 
 impl<'a> FreeExtents<'a> {
@@ -27,7 +27,7 @@ impl<'a> FreeExtents<'a> {
         ensures low { 16 ≤ result }
         ensures within { result + 16 ≤ length self.now.image.now }
     {
-        self.marks.places[(a / 1_048_576) as usize] + 32 * (a % 1_048_576) as usize
+        self.marks.start(a)
     }
 
     // The span of a free extent.

@@ -5,8 +5,8 @@ ghost use Rattle.vc_gaps.specs.GapStore.{gap_store, is_free, key_of};
 ghost use Rattle.vc_gaps.specs.GapTree.{AscendFrom, HasGapTree, HasGaps};
 ghost use Rattle.vc_splay.specs.Stands.{IsTree};
 ghost use Rattle.vc_image_check.specs.Bytes.Contents.{contents_of_image};
-ghost use Rattle.vc_image_check.specs.Gaps.Known.{AreFree, IsKnown};
-ghost use Rattle.vc_image_check.specs.Marks.Mark.{lists, mark_at};
+ghost use Rattle.vc_image_check.specs.Gaps.Known.{AreExtentMarks, AreFree};
+ghost use Rattle.vc_image_check.specs.Marks.Mark.{ChangesMarks, mark_in};
 
 use crate::bytes::word;
 use crate::gaps::free_extents::FreeExtents;
@@ -33,7 +33,7 @@ fn ascend(nodes: &FreeExtents, names: &[u32]) -> bool
 
 // The names of the tree of free extents at the image's root, where there is one.
 fn names_of(alloc: Global, image: &[u8], marks: &Marks) -> Result<Option<Vec<u32>>, OutOfMemory>
-    requires { IsKnown image.now (lists marks.now.rows.items) marks.now.places.items }
+    requires { AreExtentMarks image.now marks.now }
     ensures some { IfOk result (λ o. IfSome o (λ names.
         HasGapTree (tiling (contents_of_image image.now).segs) (contents_of_image image.now).root names.items)) }
     ensures none { IfOk result (λ o. IfNone o ((xs : List ℕ)
@@ -54,9 +54,7 @@ fn names_of(alloc: Global, image: &[u8], marks: &Marks) -> Result<Option<Vec<u32
 
 // Takes the mark of an address away, where it has one.
 fn take_one(marks: &mut Marks, name: u32)
-    ensures marks { (a : ℕ) → mark_at (lists marks.new.rows.items) a
-        ≡ (if a == name then 0 else mark_at (lists marks.old.rows.items) a) }
-    ensures places { marks.new.places.items ≡ marks.old.places.items }
+    ensures { ChangesMarks marks.old marks.new (λ a. if a == name then 0 else mark_in marks.old a) }
 {
     if marks.get(name) == 0 {
         return;
@@ -66,9 +64,7 @@ fn take_one(marks: &mut Marks, name: u32)
 
 // Takes the marks of these addresses away.
 fn take_out(marks: &mut Marks, names: &[u32])
-    ensures marks { (a : ℕ) → mark_at (lists marks.new.rows.items) a
-        ≡ (if contains names.now a then 0 else mark_at (lists marks.old.rows.items) a) }
-    ensures places { marks.new.places.items ≡ marks.old.places.items }
+    ensures { ChangesMarks marks.old marks.new (λ a. if contains names.now a then 0 else mark_in marks.old a) }
 {
     for name in names {
         take_one(marks, *name);
@@ -79,11 +75,11 @@ fn take_out(marks: &mut Marks, names: &[u32])
 /// parent is right; whatever the links are, no node is met twice. Where it is sound, the free extents have no marks
 /// afterwards. This project's own.
 pub fn is_sound_tree(alloc: Global, image: &[u8], marks: &mut Marks) -> Result<bool, OutOfMemory>
-    requires { IsKnown image.now (lists marks.old.rows.items) marks.old.places.items }
+    requires { AreExtentMarks image.now marks.old }
     ensures sound { IfOk result (λ b. IsTrue b
         ↔ HasGaps (tiling (contents_of_image image.now).segs) (contents_of_image image.now).root []) }
-    ensures marks { IfOk result (λ b. IsTrue b → (a : ℕ) → mark_at (lists marks.new.rows.items) a
-        ≡ (if mark_at (lists marks.old.rows.items) a == 1 then 0 else mark_at (lists marks.old.rows.items) a)) }
+    ensures marks { IfOk result (λ b. IsTrue b → (a : ℕ) → mark_in marks.new a
+        ≡ (if mark_in marks.old a == 1 then 0 else mark_in marks.old a)) }
     ensures places { marks.new.places.items ≡ marks.old.places.items }
 {
     match names_of(alloc, image, marks)? {

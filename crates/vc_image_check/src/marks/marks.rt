@@ -1,11 +1,10 @@
-ghost use Rattle.std.specs.Prelude.{◌≡◌, ◌≢◌, ℕ, ◌+◌, ◌≤◌, ◌==◌, if◌then◌else◌, [], All, IfOk, drop, length, replicate, take};
+ghost use Rattle.std.specs.Prelude.{◌≡◌, ◌≢◌, ◌+◌, ◌/◌, ◌≤◌, ◌==◌, if◌then◌else◌, All, IfOk, length};
 ghost use Rattle.vc_extent.specs.Tiles.{IsTiled};
 ghost use Rattle.vc_image_check.specs.Bytes.Contents.{contents_of_image};
 ghost use Rattle.vc_image_check.specs.Bytes.Header.{IsHeader};
-ghost use Rattle.vc_image_check.specs.Marks.Mark.{IsMarked, lists, mark_at};
 
-use crate::bytes::word;
-use crate::marks::row::marks_of;
+use crate::bytes::{part, word};
+use crate::marks::row::{marks_of, no_rows};
 use std::alloc::Global;
 use vc_base::OutOfMemory;
 
@@ -21,26 +20,9 @@ pub struct Marks {
     pub ghost all: { length places.items ≡ 1024 },
 }
 
-// For each number no marks.
-fn no_rows(alloc: Global) -> Result<Vec<Vec<u8>>, OutOfMemory>
-    ensures { IfOk result (λ rows. lists rows.items ≡ replicate 1024 []) }
-{
-    let mut rows = Vec::with_capacity(alloc, 1024)?;
-    for _ in 0..1024usize {
-        rows.push(Vec::new(alloc))?;
-    }
-    Ok(rows)
-}
-
-// So many bytes from a place on.
-fn part(image: &[u8], at: usize, size: usize) -> &[u8]
-    requires { at + size ≤ length image.now }
-    ensures { result.now ≡ take size (drop at image.now) }
-{
-    &image[at..at + size]
-}
-
 impl Marks {
+    ghost use Rattle.vc_image_check.specs.Marks.Mark.{ChangesMarks, IsMarked, lists, mark_in, start_of};
+
     /// The marks of an image's extents: 1 where a free one is named, 2 a busy one with a label, 3 a busy one with none, and 0
     /// where none is. The image has a head, and extents tile its segments. It takes a byte for each 32 bytes of these, and
     /// reads each head once.
@@ -65,7 +47,7 @@ impl Marks {
 
     /// The mark of an address, 0 where no segment has it.
     pub fn get(&self, a: u32) -> u8
-        ensures { result ≡ mark_at (lists self.now.rows.items) a }
+        ensures { result ≡ mark_in self.now a }
     {
         let number = (a / 1_048_576) as usize;
         if number >= 1024 {
@@ -79,12 +61,19 @@ impl Marks {
         row[k]
     }
 
+    /// Where the bytes that an address names begin in the image. A segment can have that number, and an image that place.
+    pub fn start(&self, a: u32) -> usize
+        requires number { a / 1048576 ≤ 1023 }
+        requires most { start_of self.now.places.items a ≤ 68719476736 }
+        ensures { result ≡ start_of self.now.places.items a }
+    {
+        self.places[(a / 1_048_576) as usize] + 32 * (a % 1_048_576) as usize
+    }
+
     /// Gives an address that has a mark another one.
     pub fn set(&mut self, a: u32, mark: u8)
-        requires { mark_at (lists self.old.rows.items) a ≢ 0 }
-        ensures marks { (b : ℕ) → mark_at (lists self.new.rows.items) b
-            ≡ (if b == a then mark else mark_at (lists self.old.rows.items) b) }
-        ensures places { self.new.places.items ≡ self.old.places.items }
+        requires { mark_in self.old a ≢ 0 }
+        ensures { ChangesMarks self.old self.new (λ b. if b == a then mark else mark_in self.old b) }
     {
         let row = &mut self.rows[(a / 1_048_576) as usize];
         row[(a % 1_048_576) as usize] = mark;

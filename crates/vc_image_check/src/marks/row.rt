@@ -1,6 +1,6 @@
-ghost use Rattle.std.specs.Prelude.{◌≡◌, ◌+◌, ◌≤◌, ◌==◌, if◌then◌else◌, IfOk, length};
+ghost use Rattle.std.specs.Prelude.{◌≡◌, ◌+◌, ◌≤◌, ◌==◌, if◌then◌else◌, [], IfOk, length, replicate};
 ghost use Rattle.vc_extent.specs.Tiles.{IsTiled};
-ghost use Rattle.vc_image_check.specs.Marks.Mark.{AreMarks};
+ghost use Rattle.vc_image_check.specs.Marks.Mark.{AreMarks, lists};
 
 use crate::bytes::word;
 use std::alloc::Global;
@@ -17,6 +17,17 @@ fn mark_by(size: u32, tag: u32) -> u8
     } else {
         2
     }
+}
+
+// For each number no marks.
+pub(crate) fn no_rows(alloc: Global) -> Result<Vec<Vec<u8>>, OutOfMemory>
+    ensures { IfOk result (λ rows. lists rows.items ≡ replicate 1024 []) }
+{
+    let mut rows = Vec::with_capacity(alloc, 1024)?;
+    for _ in 0..1024usize {
+        rows.push(Vec::new(alloc))?;
+    }
+    Ok(rows)
 }
 
 // The marks of a segment, in one walk over its heads.

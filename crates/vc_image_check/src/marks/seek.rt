@@ -1,5 +1,5 @@
 ghost use Rattle.std.specs.Prelude.{◌≡◌, ◌≢◌, ℕ, ◌≤◌, true, false};
-ghost use Rattle.vc_image_check.specs.Marks.Mark.{HasMark, HasMarkIn, lists, mark_at};
+ghost use Rattle.vc_image_check.specs.Marks.Mark.{HasMark, HasMarkIn, lists, mark_in};
 
 use crate::marks::Marks;
 
@@ -25,7 +25,7 @@ impl Marks {
     pub fn has(&self, mark: u8) -> bool
         requires { 1 ≤ mark }
         ensures some { result ≡ true → HasMark (lists self.now.rows.items) mark }
-        ensures none { result ≡ false → (a : ℕ) → mark_at (lists self.now.rows.items) a ≢ mark }
+        ensures none { result ≡ false → (a : ℕ) → mark_in self.now a ≢ mark }
     {
         for n in 0..self.rows.len() {
             if has_in(&self.rows[n], mark) {

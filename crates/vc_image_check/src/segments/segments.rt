@@ -1,18 +1,10 @@
-ghost use Rattle.std.specs.Prelude.{◌≡◌, ◌+◌, ◌≤◌, IfNone, IfSome, drop, length, take};
+ghost use Rattle.std.specs.Prelude.{IfNone, IfSome};
 ghost use Rattle.vc_image_check.specs.Bytes.Contents.{contents_of_image};
 ghost use Rattle.vc_image_check.specs.Bytes.Header.{IsHeader};
 ghost use Rattle.vc_image_check.specs.Segments.Sound.{AreSoundSegments, IsFirstUnsoundSegment};
 
-use crate::bytes::word;
+use crate::bytes::{part, word};
 use crate::segments::segment::is_sound_segment;
-
-// So many bytes from a place on.
-fn part(image: &[u8], at: usize, size: usize) -> &[u8]
-    requires { at + size ≤ length image.now }
-    ensures { result.now ≡ take size (drop at image.now) }
-{
-    &image[at..at + size]
-}
 
 /// The number of the first segment of an image, in order of lending, whose bytes aren't sound as `is_sound_segment` says;
 /// none where all are. The image has the head of one, as `is_header` tells. This project's own.

@@ -2,13 +2,10 @@ ghost use Rattle.std.specs.Prelude.{◌≡◌, None, false, map};
 ghost use Rattle.vc_image_run.specs.Script.Promises.{Saves};
 ghost use Rattle.vc_script.specs.Cutting.{new_cutting};
 ghost use Rattle.vc_script.specs.declared.tool.Tool.TheVariants.{Dtrun};
-ghost use Rattle.vc_session.specs.Arming.{IsVersionOne, Keeps, RunsArming};
+ghost use Rattle.vc_session.specs.Arming.{IsVersionOne, KeepsLent, RunsArming};
 ghost use Rattle.vc_session.specs.ProperState.{IsProperOver};
 ghost use Rattle.vc_session.specs.Streams.{flows};
-ghost use Rattle.vc_steps.specs.Account.{ArmsNone};
-ghost use Rattle.vc_steps.specs.Homes.{slots_on};
 ghost use Rattle.vc_steps.specs.Moment.{moment_at_end, moment_at_rest};
-ghost use Rattle.vc_steps.specs.Told.{KeepRules};
 
 use crate::script::ScriptFault;
 use crate::script::image::image_of_session;
@@ -87,12 +84,8 @@ pub fn image_of_script<D: DictDisc, S: Source, O: Sink>(
         (moment_at_rest state D.rules D.gone shelf.new kinds.new.items)
         (flows S.left S.failures O.written O.failures source.old out.old)
         (flows S.left S.failures O.written O.failures source.new out.new) }
-    ensures keeps { Keeps
-        (IsVersionOne None Dtrun (S.left source.old))
-        (moment_at_rest state D.rules D.gone shelf.old kinds.old.items)
-        (moment_at_rest state D.rules D.gone shelf.new kinds.new.items) }
-    ensures rules { KeepRules D.rules kinds.old.items kinds.new.items }
-    ensures unarmed { ArmsNone (slots_on state shelf.old) (slots_on state shelf.new) }
+    ensures keeps { KeepsLent state D.rules D.gone (IsVersionOne None Dtrun (S.left source.old))
+        shelf.old kinds.old.items shelf.new kinds.new.items }
 {
     let Ok(mut cutter) = LineCutter::new(alloc) else {
         return Err(ScriptFault::Memory);

@@ -73,9 +73,14 @@ fn load_named<D: DictDisc>(
     }
 }
 
-// Opens an image. The prover takes a call of another crate that has no condition as one that may make a discipline, but where
-// its caller has one; so this stands between.
-fn open_image<D: DictDisc>(
+/// A session in which the region of an image is open, over the discipline at a place of a shelf, with its dictionaries. The
+/// region has the name `r`, the dictionaries `d1`, `d2` and so on in the image's order, and a block with a label `b` and its
+/// tag. None of them views another one. `NoDiscipline` comes exactly where none stands at the place; a fault of `load` comes
+/// as `vc_image`'s `load` tells it; `Tags` exactly where two blocks have one tag or one is above 1,000,000. With each
+/// of them the discipline stands at its place again. The discipline isn't armed. This project's own.
+// The prover takes a call of another crate that has no condition as one that may make a discipline, but where its caller
+// has one; so this has one.
+pub fn session_of_image<D: DictDisc>(
     alloc: Global,
     image: &[u8],
     place: u32,
@@ -122,29 +127,4 @@ fn open_image<D: DictDisc>(
             Err(why)
         }
     }
-}
-
-/// A session in which the region of an image is open, over the discipline at a place of a shelf, with its dictionaries. The
-/// region has the name `r`, the dictionaries `d1`, `d2` and so on in the image's order, and a block with a label `b` and its
-/// tag. None of them views another one. `NoDiscipline` comes exactly where none stands at the place; a fault of `load` comes
-/// as `vc_image`'s `load` tells it; `Tags` exactly where two blocks have one tag or one is above 1,000,000. With each
-/// of them the discipline stands at its place again. The discipline isn't armed. This project's own.
-pub fn session_of_image<D: DictDisc>(
-    alloc: Global,
-    image: &[u8],
-    place: u32,
-    shelf: &mut Shelf,
-    kinds: &Vec<D>,
-) -> Result<Session<D>, OpenFault>
-    ensures opens { IfOk result (OpensImage state D.rules place image.now shelf.old kinds.now.items
-        shelf.new) }
-    ensures fault { IfErr result (IsNotOpened (map D.rules kinds.now.items) place image.now
-        (slots_on state shelf.old) (slots_on state shelf.new)) }
-    ensures accounts { OnErr result (KeepsAccounts (accounts_on state shelf.old)
-        (accounts_on state shelf.new)) }
-    ensures asked { OnErr result (SameAsked (accounts_on state shelf.old)
-        (accounts_on state shelf.new)) }
-    ensures unarmed { ArmsNone (slots_on state shelf.old) (slots_on state shelf.new) }
-{
-    open_image(alloc, image, place, shelf, kinds)
 }

@@ -1,49 +1,20 @@
-ghost use Rattle.std.specs.Prelude.{◌≡◌, ◌≤◌, None, OnOk, map, vec_len};
-ghost use Rattle.vc_image_run.specs.Script.Over.{Remakes};
-ghost use Rattle.vc_image_run.specs.Script.Promises.{Saves};
+ghost use Rattle.std.specs.Prelude.{◌≡◌, ◌≤◌, None, OnOk, map};
 ghost use Rattle.vc_image_run.specs.Tool.Making.{Makes, MakesOver};
 ghost use Rattle.vc_image_run.specs.Tool.Streams.{sinks};
 ghost use Rattle.vc_image_run.specs.Tool.Told.{over_fault};
 ghost use Rattle.vc_script.specs.declared.tool.Tool.TheVariants.{Dtrun};
-ghost use Rattle.vc_session.specs.Arming.{IsVersionOne, Keeps};
-ghost use Rattle.vc_session.specs.Streams.{flows, streams};
-ghost use Rattle.vc_steps.specs.Account.{ArmsNone};
+ghost use Rattle.vc_session.specs.Arming.{IsVersionOne, KeepsLent};
+ghost use Rattle.vc_session.specs.Streams.{streams};
 ghost use Rattle.vc_steps.specs.Homes.{slots_on};
 ghost use Rattle.vc_steps.specs.Moment.{moment_at_rest};
-ghost use Rattle.vc_steps.specs.Told.{KeepRules};
 
-use crate::script::{OverFault, ScriptFault, image_of_script, image_over_image};
+use crate::script::{OverFault, image_of_script, image_over_image};
 use crate::tool::told::tell;
 use crate::tool::{ImageFault, ImageStatus};
 use std::alloc::Global;
 use vc_base::{MemSink, Sink, Source};
 use vc_dtdisc::DictDisc;
 use vc_seg::{BoxedDisc, SegDisc, Shelf};
-
-// The prover takes a call of another crate that has no condition as one that may make a discipline, but where its caller
-// has one; so this stands between.
-fn run<D: DictDisc, S: Source, O: Sink>(
-    alloc: Global,
-    shelf: &mut Shelf,
-    kinds: &mut Vec<D>,
-    source: &mut S,
-    out: &mut O,
-) -> Result<MemSink, ScriptFault>
-    requires { 0 ≤ vec_len shelf.old.slots }
-    ensures saves { Saves (map D.rules kinds.old.items) result
-        (moment_at_rest state D.rules D.gone shelf.old kinds.old.items)
-        (moment_at_rest state D.rules D.gone shelf.new kinds.new.items)
-        (flows S.left S.failures O.written O.failures source.old out.old)
-        (flows S.left S.failures O.written O.failures source.new out.new) }
-    ensures keeps { Keeps
-        (IsVersionOne None Dtrun (S.left source.old))
-        (moment_at_rest state D.rules D.gone shelf.old kinds.old.items)
-        (moment_at_rest state D.rules D.gone shelf.new kinds.new.items) }
-    ensures rules { KeepRules D.rules kinds.old.items kinds.new.items }
-    ensures unarmed { ArmsNone (slots_on state shelf.old) (slots_on state shelf.new) }
-{
-    image_of_script(alloc, shelf, kinds, source, out)
-}
 
 /// Runs the script that a source gives, as dtrun does without words, writes the replies to `out`, and answers the image of
 /// the first region that the script leaves open with the dictionaries that lie in it; it is sound for these kinds. Where
@@ -65,43 +36,14 @@ pub fn make<D: DictDisc, S: Source, O: Sink, E: Sink>(
         (streams S.left S.failures O.written O.failures E.written E.failures
         source.new out.new err.new) }
     ensures quiet { OnOk result (err.new ≡ err.old) }
-    ensures keeps { Keeps
-        (IsVersionOne None Dtrun (S.left source.old))
-        (moment_at_rest state D.rules D.gone shelf.old kinds.old.items)
-        (moment_at_rest state D.rules D.gone shelf.new kinds.new.items) }
-    ensures rules { KeepRules D.rules kinds.old.items kinds.new.items }
-    ensures unarmed { ArmsNone (slots_on state shelf.old) (slots_on state shelf.new) }
+    ensures keeps { KeepsLent state D.rules D.gone (IsVersionOne None Dtrun (S.left source.old))
+        shelf.old kinds.old.items shelf.new kinds.new.items }
     ensures never_falls { E.failures err.old ≤ E.failures err.new }
 {
-    match run(alloc, shelf, kinds, source, out) {
+    match image_of_script(alloc, shelf, kinds, source, out) {
         Ok(image) => Ok(image),
         Err(why) => Err(tell(err, ImageFault::Script(why))),
     }
-}
-
-// The same of a script over an image.
-fn run_over<D: DictDisc, S: Source, O: Sink>(
-    alloc: Global,
-    image: &[u8],
-    place: u32,
-    shelf: &mut Shelf,
-    kinds: &mut Vec<D>,
-    source: &mut S,
-    out: &mut O,
-) -> Result<MemSink, OverFault>
-    requires { 0 ≤ vec_len shelf.old.slots }
-    ensures remakes { Remakes D.rules D.gone place image.now (slots_on state shelf.old) kinds.old.items result
-        (slots_on state shelf.new) kinds.new.items
-        (flows S.left S.failures O.written O.failures source.old out.old)
-        (flows S.left S.failures O.written O.failures source.new out.new) }
-    ensures keeps { Keeps
-        (IsVersionOne None Dtrun (S.left source.old))
-        (moment_at_rest state D.rules D.gone shelf.old kinds.old.items)
-        (moment_at_rest state D.rules D.gone shelf.new kinds.new.items) }
-    ensures rules { KeepRules D.rules kinds.old.items kinds.new.items }
-    ensures unarmed { ArmsNone (slots_on state shelf.old) (slots_on state shelf.new) }
-{
-    image_over_image(alloc, image, place, shelf, kinds, source, out)
 }
 
 fn over_fault(why: OverFault) -> ImageFault
@@ -135,15 +77,11 @@ pub fn remake<D: DictDisc, S: Source, O: Sink, E: Sink>(
         (streams S.left S.failures O.written O.failures E.written E.failures
         source.new out.new err.new) }
     ensures quiet { OnOk result (err.new ≡ err.old) }
-    ensures keeps { Keeps
-        (IsVersionOne None Dtrun (S.left source.old))
-        (moment_at_rest state D.rules D.gone shelf.old kinds.old.items)
-        (moment_at_rest state D.rules D.gone shelf.new kinds.new.items) }
-    ensures rules { KeepRules D.rules kinds.old.items kinds.new.items }
-    ensures unarmed { ArmsNone (slots_on state shelf.old) (slots_on state shelf.new) }
+    ensures keeps { KeepsLent state D.rules D.gone (IsVersionOne None Dtrun (S.left source.old))
+        shelf.old kinds.old.items shelf.new kinds.new.items }
     ensures never_falls { E.failures err.old ≤ E.failures err.new }
 {
-    match run_over(alloc, image, place, shelf, kinds, source, out) {
+    match image_over_image(alloc, image, place, shelf, kinds, source, out) {
         Ok(image) => Ok(image),
         Err(why) => Err(tell(err, over_fault(why))),
     }

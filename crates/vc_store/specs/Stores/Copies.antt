@@ -1,5 +1,5 @@
 -- What an image tells of the dictionaries of a store, and which it can tell.
-use Rattle.std.specs.Prelude.{ℕ, ◌+◌, ◌<◌, ◌≤◌, ◌^◌, List, [], ◌∷◌, ◌++◌, Option, Some, None, length}
+use Rattle.std.specs.Prelude.{◌≡◌, ℕ, ◌+◌, ◌<◌, ◌≤◌, ◌^◌, List, [], ◌∷◌, ◌++◌, Option, Some, None, IfSome, length, take}
 use Rattle.std.specs.List.{AllByRecursion}
 use Rattle.vc_dict.specs.Parts.{dict_by, heads_in}
 use Rattle.vc_dict.specs.declared.dict.Dict.{Dict}
@@ -26,6 +26,10 @@ copies_from n (dict ∷ dicts) = copy_at n dict ++ copies_from (n + 1) dicts
 pub record AreFew (copies : List Dict) : Type 0 where
   pub count : length copies ≤ 256
   pub kinds : AllByRecursion (λ d. d.kind < 2 ^ 32) copies
+
+-- a front of a text stands behind what was written before, where that is told
+abbrev pub IsFrontWritten : List ℕ → Option (List ℕ) → Option (List ℕ) → Type 0
+IsFrontWritten text before after = IfSome before (λ w. (k : ℕ) × (after ≡ Some (w ++ take k text)))
 
 module _ {D : Type 0} {I : Type 0} {V : I → Type 0} where
   -- of a store's, in order of number

@@ -1,5 +1,5 @@
 -- What a store shows of its dictionaries, each by its number, and what holds of it from its opening to its close.
-use Rattle.std.specs.Prelude.{◌≡◌, ◌≢◌, ℕ, ◌<◌, List, [], Option, Some, None, IsSome, length, option_map, slice_get}
+use Rattle.std.specs.Prelude.{◌≡◌, ◌≢◌, ℕ, ◌<◌, List, Option, Some, None, IsSome, length, option_map, slice_get}
 use Rattle.std.specs.Vec.{vec_capacity}
 use Rattle.std.specs.declared.alloc.Global.{Global}
 use Rattle.std.specs.declared.dyn_box.DynBox.{DynBox}
@@ -13,7 +13,7 @@ use Rattle.vc_best.specs.declared.best.Best.{Best}
 use Rattle.vc_objects.specs.Leaves.{KeepsDisc, told_each}
 use Rattle.vc_objects.specs.Parts.{IsWhole}
 use Rattle.vc_store.specs.Contents.{contents_in}
-use Rattle.vc_store.specs.Reading.{Contents}
+use Rattle.vc_store.specs.Reading.{Contents, no_objects}
 use Rattle.vc_store.specs.Tries.{IsTried, TriesToPut}
 use Rattle.vc_store.specs.declared.put.Put.{Put}
 use Rattle.vc_store.specs.declared.stores.store.Store.{Store}
@@ -26,7 +26,7 @@ joined (Some found) = found
 
 -- what a dictionary shows, its kind's rules, and what its kind was told of; for no dictionary an empty list of whole keys
 abbrev pub contents_or : Option Contents → Contents
-contents_or None = record { method = DtList; objects = []; place = None }
+contents_or None = no_objects DtList
 contents_or (Some shown) = shown
 
 abbrev pub gone_or : Option Gone → Gone
@@ -97,6 +97,12 @@ module _ {D : Type 0} {I : Type 0} {V : I → Type 0} where
         → ShareNoBlock (cells_in s.best) d e
     pub lent : HasOut disc (segments_in s.best)
 
+  -- it is open over its own discipline, and a number is that of one of its dictionaries
+  pub record HasOpenDict (meaning : (x : I) × V x → Discipline) (rules_by : D → Rules)
+      (s : Store D I V) (n : ℕ) : Type 0 where
+    pub is_open : IsOpen rules_by s (disc_of s meaning)
+    pub there : HasDict s n
+
   -- a call, or several, leave it open, and each dictionary a dictionary by the same rules and the same method; and all that its discipline had out besides its segments is out, by the same terms
   pub record StaysOpen (meaning : (x : I) × V x → Discipline) (rules_by : D → Rules)
       (old new : Store D I V) : Type 0 where
@@ -111,7 +117,21 @@ module _ {D : Type 0} {I : Type 0} {V : I → Type 0} where
     pub shown : (m : ℕ) → m ≢ n → shown new m ≡ shown old m
     pub kinds : (m : ℕ) → m ≢ n → kind_at new m ≡ kind_at old m
 
-  -- every dictionary stays, and no number is handed out
+  -- a call changes at most what the dictionary of a number shows, and what its kind was told of
+  pub record ChangesOne (meaning : (x : I) × V x → Discipline) (rules_by : D → Rules)
+      (n : ℕ) (old new : Store D I V) : Type 0 where
+    -- no number is handed out
+    pub numbers : numbers_of new ≡ numbers_of old
+    pub others : OthersStay old new n
+    pub stays : StaysOpen meaning rules_by old new
+
+  -- at most what it shows: the kinds stay, and are told of nothing
+  pub record ChangesObjects (meaning : (x : I) × V x → Discipline) (rules_by : D → Rules)
+      (n : ℕ) (old new : Store D I V) : Type 0 where
+    pub kinds : kinds_of new ≡ kinds_of old
+    pub beside : ChangesOne meaning rules_by n old new
+
+  -- every dictionary stays, and no number is handed out, as where a call is refused
   pub record AllStay (old new : Store D I V) : Type 0 where
     pub shown : (m : ℕ) → shown new m ≡ shown old m
     pub kinds : kinds_of new ≡ kinds_of old

@@ -5,9 +5,9 @@ use vc_dtdisc::DictDisc;
 use vc_image::{SaveFault, save_best};
 
 impl<D: DictDisc + Drop> Store<D> {
-    ghost use Rattle.std.specs.Prelude.{◌≡◌, ℕ, ◌≤◌, ◌++◌, ◌↔◌, Some, IfOk, IfSome, IsErrOf, OnOk, length, take};
+    ghost use Rattle.std.specs.Prelude.{◌≡◌, ◌≤◌, ◌++◌, ◌↔◌, Some, IfOk, IfSome, IsErrOf, OnOk, length};
     ghost use Rattle.vc_model.specs.Count.{Rose};
-    ghost use Rattle.vc_store.specs.Stores.Copies.{AreFew, copies_of, image_of_store};
+    ghost use Rattle.vc_store.specs.Stores.Copies.{AreFew, IsFrontWritten, copies_of, image_of_store};
     ghost use Rattle.vc_store.specs.declared.stores.fault.StoreSaveFault.TheVariants.{OutOfMemory as NoMemory, TooMany as Many, WriteFailed as NoWrite};
 
     /// Writes the image of its region with its dictionaries in order of number, and answers how many bytes it has. In the
@@ -19,8 +19,8 @@ impl<D: DictDisc + Drop> Store<D> {
         ensures ok { OnOk result (IfSome (O.written out.old) (λ w.
             O.written out.new ≡ Some (w ++ image_of_store self.now))) }
         ensures length { IfOk result (λ n. n ≡ length (image_of_store self.now)) }
-        ensures front { IfSome (O.written out.old) (λ w. (k : ℕ)
-            × (O.written out.new ≡ Some (w ++ take k (image_of_store self.now)))) }
+        ensures front { IsFrontWritten (image_of_store self.now)
+            (O.written out.old) (O.written out.new) }
         ensures many { IsErrOf result Many ↔ ¬ AreFew (copies_of self.now) }
         ensures cause { IsErrOf result NoWrite → Rose (O.failures out.old) (O.failures out.new) }
         ensures untouched { IsErrOf result Many → O.written out.new ≡ O.written out.old }

@@ -19,17 +19,17 @@ pub struct Store<D: DictDisc + Drop> {
 }
 
 impl<D: DictDisc + Drop> Store<D> {
-    ghost use Rattle.std.specs.Prelude.{◌≡◌, ◌≢◌, ◌+◌, ◌<◌, [], ◌∷◌, ◌++◌, Some, None, true, false, is_some, IfOk, IfErr, IsTrue, OnErr, OnOk, ◌↔◌, length, option_map, if◌then◌else◌};
+    ghost use Rattle.std.specs.Prelude.{◌≡◌, ◌+◌, ◌<◌, [], ◌∷◌, ◌++◌, Some, IfOk, IfErr, IsTrue, OnErr, OnOk, ◌↔◌, length, option_map};
     ghost use Rattle.vc_model.specs.Discipline.{TookBack};
     ghost use Rattle.vc_seg.specs.Answer.{IsRefusal};
     ghost use Rattle.vc_seg.specs.Stat.{layout_stat};
     ghost use Rattle.vc_base.specs.Prelude.{HasOut};
     ghost use Rattle.vc_best.specs.Parts.{disc_in, layout_of, segments_in};
-    ghost use Rattle.vc_objects.specs.Leaves.{told_each, told_if};
+    ghost use Rattle.vc_objects.specs.Leaves.{told_each};
     ghost use Rattle.vc_objects.specs.Promises.{opening_in};
     ghost use Rattle.vc_dtdisc.specs.Objects.{has_key};
-    ghost use Rattle.vc_store.specs.Reading.{AfterPut, LosesKey, Sought, current, found, is_sought_from, place_after, with_place};
-    ghost use Rattle.vc_store.specs.Stores.Stores.{AllStay, AreTold, Ends, HasDict, HasRoom, IsOpen, OthersStay, StaysOpen, TriesAt, best_of, contents, dict_at, dicts_of, disc_of, gone_at, kind_at, kinds_of, lender, lent_to, numbers_of, rules_at, shown};
+    ghost use Rattle.vc_store.specs.Reading.{AfterPut, Removes, Sought, current, is_sought_from, no_objects, place_after};
+    ghost use Rattle.vc_store.specs.Stores.Stores.{AllStay, AreTold, ChangesObjects, ChangesOne, Ends, HasDict, HasOpenDict, HasRoom, IsOpen, OthersStay, StaysOpen, TriesAt, best_of, contents, dict_at, dicts_of, disc_of, gone_at, kind_at, kinds_of, lender, lent_to, numbers_of, rules_at, shown};
 
     /// A store of no dictionaries in a best region, which is the store's from then on. The region's segments are the last that
     /// its discipline lent, as they are where it has none yet. Takes no memory.
@@ -54,8 +54,7 @@ impl<D: DictDisc + Drop> Store<D> {
         requires open { IsOpen D.rules self.old (disc_of self.old state) }
         ensures number { IfOk result (λ n. n ≡ numbers_of self.old) }
         ensures numbers { OnOk result (numbers_of self.new ≡ numbers_of self.old + 1) }
-        ensures empty { IfOk result (λ n. shown self.new n
-            ≡ Some (record { method = method; objects = []; place = None })) }
+        ensures empty { IfOk result (λ n. shown self.new n ≡ Some (no_objects method)) }
         ensures kind { IfOk result (λ n. kind_at self.new n ≡ Some kind) }
         ensures others { IfOk result (λ n. OthersStay self.old self.new n) }
         ensures refused { IfErr result (λ e. IsRefusal (opening_in state (best_of self.old) method)
@@ -114,16 +113,12 @@ impl<D: DictDisc + Drop> Store<D> {
     /// Puts an object into a dictionary where its method puts it, and makes it current. A set keeps the object that it has of
     /// the same key. Where the object is not new, no object changes, and the current one stays.
     pub fn insert(&mut self, n: usize, object: &[u8]) -> Put
-        requires open { IsOpen D.rules self.old (disc_of self.old state) }
-        requires there { HasDict self.old n }
+        requires dict { HasOpenDict state D.rules self.old n }
         ensures objects { AfterPut result (rules_at D.rules self.old n) object.now
             (contents self.old n) (contents self.new n).objects }
         ensures place { (contents self.new n).place ≡ place_after result
             (rules_at D.rules self.old n) object.now (contents self.old n) }
-        ensures kinds { kinds_of self.new ≡ kinds_of self.old }
-        ensures numbers { numbers_of self.new ≡ numbers_of self.old }
-        ensures others { OthersStay self.old self.new n }
-        ensures stays { StaysOpen state D.rules self.old self.new }
+        ensures changes { ChangesObjects state D.rules n self.old self.new }
 
         // The region's rules say when an object is refused for want of room.
         ensures tried { TriesAt state D.rules result n object.now self.old self.new }
@@ -136,14 +131,10 @@ impl<D: DictDisc + Drop> Store<D> {
 
     /// Makes the first object current that has a key, and answers whether there is one. Where there is none, nothing changes.
     pub fn find(&mut self, n: usize, key: &[u8]) -> bool
-        requires open { IsOpen D.rules self.old (disc_of self.old state) }
-        requires there { HasDict self.old n }
+        requires dict { HasOpenDict state D.rules self.old n }
         ensures sought { Sought (has_key (rules_at D.rules self.old n) key.now) result
             (contents self.old n) (contents self.new n) }
-        ensures kinds { kinds_of self.new ≡ kinds_of self.old }
-        ensures numbers { numbers_of self.new ≡ numbers_of self.old }
-        ensures others { OthersStay self.old self.new n }
-        ensures stays { StaysOpen state D.rules self.old self.new }
+        ensures changes { ChangesObjects state D.rules n self.old self.new }
     {
         let Some(dict) = &mut self.dicts[n] else {
             unreachable!()
@@ -154,15 +145,11 @@ impl<D: DictDisc + Drop> Store<D> {
     /// Makes the first object current whose key isn't less than that one, and answers whether there is one. Where there is none,
     /// nothing changes; and there is one in an ordered set or bag alone.
     pub fn at_least(&mut self, n: usize, key: &[u8]) -> bool
-        requires open { IsOpen D.rules self.old (disc_of self.old state) }
-        requires there { HasDict self.old n }
+        requires dict { HasOpenDict state D.rules self.old n }
         ensures sought { Sought (is_sought_from (contents self.old n).method
             (rules_at D.rules self.old n) key.now) result
             (contents self.old n) (contents self.new n) }
-        ensures kinds { kinds_of self.new ≡ kinds_of self.old }
-        ensures numbers { numbers_of self.new ≡ numbers_of self.old }
-        ensures others { OthersStay self.old self.new n }
-        ensures stays { StaysOpen state D.rules self.old self.new }
+        ensures changes { ChangesObjects state D.rules n self.old self.new }
     {
         let Some(dict) = &mut self.dicts[n] else {
             unreachable!()
@@ -172,8 +159,7 @@ impl<D: DictDisc + Drop> Store<D> {
 
     /// The current object of a dictionary, or none.
     pub fn current(&self, n: usize) -> Option<&[u8]>
-        requires open { IsOpen D.rules self.now (disc_of self.now state) }
-        requires there { HasDict self.now n }
+        requires dict { HasOpenDict state D.rules self.now n }
         ensures { option_map (λ object. object.now) result ≡ current (contents self.now n) }
     {
         let Some(dict) = &self.dicts[n] else {
@@ -191,20 +177,11 @@ impl<D: DictDisc + Drop> Store<D> {
     /// place of what that holds, and the dictionary's kind is told of it. Where it was current, the one behind it is then, or
     /// none; else the current one stays. With no memory for them nothing changes but `out`, which is empty then.
     pub fn remove(&mut self, n: usize, key: &[u8], out: &mut Vec<u8>) -> Result<bool, OutOfMemory>
-        requires open { IsOpen D.rules self.old (disc_of self.old state) }
-        requires there { HasDict self.old n }
-        ensures found { IfOk result (λ gone. (if gone then Some out.new.items else None)
-            ≡ found (rules_at D.rules self.old n) key.now (contents self.old n).objects) }
-        ensures lacks { OnOk result (LosesKey (rules_at D.rules self.old n) key.now
-            (contents self.old n) (contents self.new n)) }
-        ensures told { IfOk result (λ gone. gone_at D.gone self.new n
-            ≡ told_if gone (Some out.new.items) (gone_at D.gone self.old n)) }
-        ensures err { OnErr result ((contents self.new n ≡ contents self.old n)
-            × (gone_at D.gone self.new n ≡ gone_at D.gone self.old n)) }
-        ensures emptied { OnErr result (out.new.items ≡ []) }
-        ensures numbers { numbers_of self.new ≡ numbers_of self.old }
-        ensures others { OthersStay self.old self.new n }
-        ensures stays { StaysOpen state D.rules self.old self.new }
+        requires dict { HasOpenDict state D.rules self.old n }
+        ensures removes { Removes (rules_at D.rules self.old n) key.now result out.new.items
+            (contents self.old n) (contents self.new n)
+            (gone_at D.gone self.old n) (gone_at D.gone self.new n) }
+        ensures changes { ChangesOne state D.rules n self.old self.new }
     {
         let Some(dict) = &mut self.dicts[n] else {
             unreachable!()
@@ -214,16 +191,12 @@ impl<D: DictDisc + Drop> Store<D> {
 
     /// Takes all objects of a dictionary out in walk order, tells its kind of each, and answers how many they were.
     pub fn empty(&mut self, n: usize) -> u32
-        requires open { IsOpen D.rules self.old (disc_of self.old state) }
-        requires there { HasDict self.old n }
+        requires dict { HasOpenDict state D.rules self.old n }
         ensures count { result ≡ length (contents self.old n).objects }
-        ensures empty { contents self.new n
-            ≡ record { method = (contents self.old n).method; objects = []; place = None } }
+        ensures empty { contents self.new n ≡ no_objects (contents self.old n).method }
         ensures told { gone_at D.gone self.new n
             ≡ told_each (contents self.old n).objects (gone_at D.gone self.old n) }
-        ensures numbers { numbers_of self.new ≡ numbers_of self.old }
-        ensures others { OthersStay self.old self.new n }
-        ensures stays { StaysOpen state D.rules self.old self.new }
+        ensures changes { ChangesOne state D.rules n self.old self.new }
     {
         let Some(dict) = &mut self.dicts[n] else {
             unreachable!()
@@ -233,8 +206,7 @@ impl<D: DictDisc + Drop> Store<D> {
 
     /// How many objects a dictionary has.
     pub fn count(&self, n: usize) -> u64
-        requires open { IsOpen D.rules self.now (disc_of self.now state) }
-        requires there { HasDict self.now n }
+        requires dict { HasOpenDict state D.rules self.now n }
         ensures { result ≡ length (contents self.now n).objects }
     {
         let Some(dict) = &self.dicts[n] else {
@@ -257,8 +229,7 @@ impl<D: DictDisc + Drop> Store<D> {
     /// Ends a dictionary: tells its kind of each object in walk order, and frees its blocks. Its number is that of none from
     /// then on, and its kind comes back when the store is closed.
     pub fn shut(&mut self, n: usize)
-        requires open { IsOpen D.rules self.old (disc_of self.old state) }
-        requires there { HasDict self.old n }
+        requires dict { HasOpenDict state D.rules self.old n }
         ensures { Ends state D.rules D.gone n self.old self.new }
     {
         self.end(n);

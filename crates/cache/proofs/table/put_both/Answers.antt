@@ -32,8 +32,8 @@ returns-clause-puts g c =
     let queued = puts-in DtQueue c.insert-queued.result _ key (contents c.args.queue.now) (contents c.insert-queued.new.self).objects c.requires.table.queue.rules c.requires.table.queue.by_method refl c.requires.new c.insert-queued.ensures.objects in
     let last = puts-there c.insert-queued.result key old (contents c.insert-queued.new.self).objects (sym c.if-not-is_there.ensures) queued in
     are-not c.insert-put.result key old (contents c.remove.new.self).objects (sym c.if-is_there.ensures)
-    (c.in_ok-remove.ensures.lacks.objects
-    ∙ (ap (λ r. without_key r key (contents c.insert-queued.new.self).objects) (c.insert-queued.ensures.stays.rules ∙ c.requires.table.queue.rules)
+    (c.in_ok-remove.ensures.removes.lacks.objects
+    ∙ (ap (λ r. without_key r key (contents c.insert-queued.new.self).objects) (c.insert-queued.ensures.keeps.stays.rules ∙ c.requires.table.queue.rules)
     ∙ (ap (without_key key_rules key) last ∙ last-gone key old c.requires.new)))
 
 pub returns-clause-same : goal.returns-clause-same
@@ -46,6 +46,6 @@ returns-clause-same g c =
     let put = puts-in DtSet c.insert-put.result _ key (contents c.args.set.now) (contents c.insert-put.new.self).objects c.requires.table.set.rules c.requires.table.set.by_method refl (ap (found key_rules key) same ∙ c.requires.new) c.insert-put.ensures.objects in
     puts-not c.insert-put.result key (contents c.args.set.now).objects (contents c.insert-put.new.self).objects (sym c.if-is_there.ensures) put
     ∙ (same
-    ∙ sym (c.in_ok-remove.ensures.lacks.objects
-    ∙ (ap (λ r. without_key r key (contents c.insert-queued.new.self).objects) (c.insert-queued.ensures.stays.rules ∙ c.requires.table.queue.rules)
+    ∙ sym (c.in_ok-remove.ensures.removes.lacks.objects
+    ∙ (ap (λ r. without_key r key (contents c.insert-queued.new.self).objects) (c.insert-queued.ensures.keeps.stays.rules ∙ c.requires.table.queue.rules)
     ∙ (ap (without_key key_rules key) last ∙ last-gone key old c.requires.new))))

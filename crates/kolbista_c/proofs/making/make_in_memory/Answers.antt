@@ -40,7 +40,7 @@ returns-clause-ok g c =
         makes = subst (λ (z : List Rules × Streams). Makes z.0 c.make-image.result start last z.1 streams)
             (λ i. (c.in_ok-kinds.ensures i, record { left = Some c.args.script.now; reads = 0; written = Some (c.in_ok-written.ensures.written.0 i); writes = c.in_ok-written.ensures.written.1 i; told = Some (c.in_ok-written.ensures.told.0 i); errors = c.in_ok-written.ensures.told.1 i }))
             c.make-image.ensures.makes;
-        keeps = c.make-image.ensures.keeps;
+        keeps = c.make-image.ensures.keeps.disciplines;
       };
       wrote = refl;
       said = refl;

@@ -39,7 +39,7 @@ returns-clause-ok g c =
         makes = subst (λ (z : Streams). MakesOver kind_rules kind_gone 1 c.args.image.now slots c.in_ok-kinds.kinds.items c.remake-remade.result after c.remake-remade.new.kinds.items z streams)
             (λ i. record { left = Some c.args.script.now; reads = 0; written = Some (c.in_ok-written.ensures.written.0 i); writes = c.in_ok-written.ensures.written.1 i; told = Some (c.in_ok-written.ensures.told.0 i); errors = c.in_ok-written.ensures.told.1 i })
             c.remake-remade.ensures.makes;
-        keeps = c.remake-remade.ensures.keeps;
+        keeps = c.remake-remade.ensures.keeps.disciplines;
       };
       wrote = refl;
       said = refl;

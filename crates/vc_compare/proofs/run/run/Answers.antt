@@ -30,17 +30,13 @@ returns-in_default-clause-keeps g c = all-back-same (slots_on (meaning g) c.args
 
 pub returns-in-Err-clause-keeps : goal.returns-in-Err-clause-keeps
 returns-in-Err-clause-keeps g c =
-    let before = slots_on (meaning g) c.args.shelf.now in
-    c.in-Err.ensures.lends before [] refl refl
+    c.in-Err.ensures.lends (slots_on (meaning g) c.args.shelf.now) [] refl refl
 
 pub close-requires-clause-taken : goal.close-requires-clause-taken
 close-requires-clause-taken g c =
-    let before = slots_on (meaning g) c.args.shelf.now in
-    let r = c.in-Ok-open.regions in
-    let pools : length (map pool_of r.pools.items) ≡ 20 = ap (λ (x : ways.Regions). length x.pools) c.in-Ok-open.ensures.none in
-    let many : length (all_holdings (meaning g) r) ≡ 22 = omega (arith, pools, length-map r.pools.items pool_of, length-map r.pools.items (holding_in (meaning g))) in
-    let mid = slots_on (meaning g) c.open.new.shelf in
-    are-taken (all_holdings (meaning g) r) before mid 22 many (opens-lends (all_holdings (meaning g) r) before mid (c.in-Ok-open.ensures.lends before [] refl refl))
+    let pools : length (map pool_of c.in-Ok-open.regions.pools.items) ≡ 20 = ap (λ (x : ways.Regions). length x.pools) c.in-Ok-open.ensures.none in
+    let many : length (all_holdings (meaning g) c.in-Ok-open.regions) ≡ 22 = omega (arith, pools, length-map c.in-Ok-open.regions.pools.items pool_of, length-map c.in-Ok-open.regions.pools.items (holding_in (meaning g))) in
+    are-taken (all_holdings (meaning g) c.in-Ok-open.regions) (slots_on (meaning g) c.args.shelf.now) (slots_on (meaning g) c.open.new.shelf) 22 many (opens-lends (all_holdings (meaning g) c.in-Ok-open.regions) (slots_on (meaning g) c.args.shelf.now) (slots_on (meaning g) c.open.new.shelf) (c.in-Ok-open.ensures.lends (slots_on (meaning g) c.args.shelf.now) [] refl refl))
 
 pub returns-clause-keeps : goal.returns-clause-keeps
 returns-clause-keeps g c =

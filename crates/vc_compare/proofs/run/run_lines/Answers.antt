@@ -25,61 +25,53 @@ loop-next-init g c = record {
 
 pub loop-next-preserved : goal.loop-next-preserved
 loop-next-preserved g c =
-    let inv = c.loop-next.invariant in
-    let start = c.args.trace.now.regions in
     let mid = all_holdings (meaning g) c.loop-next.trace.regions in
     let last = all_holdings (meaning g) c.run_line.new.trace.regions in
     let gives = subst (λ k. IfSome (g.S.Source.left c.loop-next.source) (λ input. GivesNextLine (Ok k) c.loop-next.reader c.next.new.self input (g.S.Source.left c.next.new.source))) c.in-Line.is c.in-Ok.ensures.gives in
-    let runs = subst (λ (t : WayTerms). RunsTraceLine t (trace_state c.loop-next.trace) (λ a. Refuses a mid last) c.next.new.self.cutter.count c.next.new.self.cutter.line (Ok tt) (trace_state c.run_line.new.trace)) (regions-terms (meaning g) _ start c.loop-next.trace.regions inv.keeps) c.in-Ok-run_line.ensures.runs in
-    let keeps : KeepsWays true (all_holdings (meaning g) start) last = kept-then _ (all_holdings (meaning g) start) mid last inv.keeps c.in-Ok-run_line.ensures.keeps in
+    let runs = subst (λ (t : WayTerms). RunsTraceLine t (trace_state c.loop-next.trace) (λ a. Refuses a mid last) c.next.new.self.cutter.count c.next.new.self.cutter.line (Ok tt) (trace_state c.run_line.new.trace)) (regions-terms (meaning g) _ c.args.trace.now.regions c.loop-next.trace.regions c.loop-next.invariant.keeps) c.in-Ok-run_line.ensures.runs in
+    let keeps : KeepsWays true (all_holdings (meaning g) c.args.trace.now.regions) last = kept-then _ (all_holdings (meaning g) c.args.trace.now.regions) mid last c.loop-next.invariant.keeps c.in-Ok-run_line.ensures.keeps in
     record {
       stands = c.in-Ok-run_line.ensures.stands;
       can = (c.in-Ok.ensures.line c.in-Line.is).can;
       keeps = keeps;
-      keeps_any = kept-any _ (all_holdings (meaning g) start) last keeps;
-      so_far = if_both (g.S.Source.left c.args.source.now) _ _ (λ input so. so_far-line (λ a. Refuses a mid last) so c.next.new.self (g.S.Source.left c.next.new.source) (trace_state c.run_line.new.trace) gives runs) inv.so_far;
-      never_falls = omega (arith, inv.never_falls, c.next.ensures.never_falls);
+      keeps_any = kept-any _ (all_holdings (meaning g) c.args.trace.now.regions) last keeps;
+      so_far = if_both (g.S.Source.left c.args.source.now) _ _ (λ input so. so_far-line (λ a. Refuses a mid last) so c.next.new.self (g.S.Source.left c.next.new.source) (trace_state c.run_line.new.trace) gives runs) c.loop-next.invariant.so_far;
+      never_falls = omega (arith, c.loop-next.invariant.never_falls, c.next.ensures.never_falls);
     }
 
 pub returns-in-Err-run_line-clause-ends : goal.returns-in-Err-run_line-clause-ends
 returns-in-Err-run_line-clause-ends g c =
-    let inv = c.loop-next.invariant in
-    let start = c.args.trace.now.regions in
-    let first = all_holdings (meaning g) start in
+    let first = all_holdings (meaning g) c.args.trace.now.regions in
     let mid = all_holdings (meaning g) c.loop-next.trace.regions in
     let last = all_holdings (meaning g) c.run_line.new.trace.regions in
     let gives = subst (λ k. IfSome (g.S.Source.left c.loop-next.source) (λ input. GivesNextLine (Ok k) c.loop-next.reader c.next.new.self input (g.S.Source.left c.next.new.source))) c.in-Line.is c.in-Ok.ensures.gives in
-    let runs = subst (λ (t : WayTerms). RunsTraceLine t (trace_state c.loop-next.trace) (λ a. Refuses a mid last) c.next.new.self.cutter.count c.next.new.self.cutter.line (Err c.in-Err-run_line.ending) (trace_state c.run_line.new.trace)) (regions-terms (meaning g) _ start c.loop-next.trace.regions inv.keeps) c.in-Err-run_line.ensures.runs in
-    let all = runs-as (λ a. Refuses a mid last) (AreRefused first last) (λ a refuses. record { before = mid; kept = inv.keeps; refuses = refuses }) (terms_of (meaning g) start) (trace_state c.loop-next.trace) c.next.new.self.cutter.count c.next.new.self.cutter.line (Err c.in-Err-run_line.ending) (trace_state c.run_line.new.trace) runs in
-    if_both (g.S.Source.left c.args.source.now) _ _ (λ input so. so_far-stops (AreRefused first last) so c.in-Err-run_line.ending c.next.new.self (g.S.Source.left c.next.new.source) (trace_state c.run_line.new.trace) gives all) inv.so_far
+    let runs = subst (λ (t : WayTerms). RunsTraceLine t (trace_state c.loop-next.trace) (λ a. Refuses a mid last) c.next.new.self.cutter.count c.next.new.self.cutter.line (Err c.in-Err-run_line.ending) (trace_state c.run_line.new.trace)) (regions-terms (meaning g) _ c.args.trace.now.regions c.loop-next.trace.regions c.loop-next.invariant.keeps) c.in-Err-run_line.ensures.runs in
+    let all = runs-as (λ a. Refuses a mid last) (AreRefused first last) (λ a refuses. record { before = mid; kept = c.loop-next.invariant.keeps; refuses = refuses }) (terms_of (meaning g) c.args.trace.now.regions) (trace_state c.loop-next.trace) c.next.new.self.cutter.count c.next.new.self.cutter.line (Err c.in-Err-run_line.ending) (trace_state c.run_line.new.trace) runs in
+    if_both (g.S.Source.left c.args.source.now) _ _ (λ input so. so_far-stops (AreRefused first last) so c.in-Err-run_line.ending c.next.new.self (g.S.Source.left c.next.new.source) (trace_state c.run_line.new.trace) gives all) c.loop-next.invariant.so_far
 
 pub returns-in-Err-run_line-clause-keeps : goal.returns-in-Err-run_line-clause-keeps
 returns-in-Err-run_line-clause-keeps g c = kept-then _ (all_holdings (meaning g) c.args.trace.now.regions) (all_holdings (meaning g) c.loop-next.trace.regions) (all_holdings (meaning g) c.run_line.new.trace.regions) c.loop-next.invariant.keeps c.in-Err-run_line.ensures.keeps
 
 pub returns-in-Ok-run_line-2-clause-ends : goal.returns-in-Ok-run_line-2-clause-ends
 returns-in-Ok-run_line-2-clause-ends g c =
-    let inv = c.loop-next.invariant in
-    let start = c.args.trace.now.regions in
     let mid = all_holdings (meaning g) c.loop-next.trace.regions in
     let last = all_holdings (meaning g) c.run_line-in-Last.new.trace.regions in
     let gives = subst (λ k. IfSome (g.S.Source.left c.loop-next.source) (λ input. GivesNextLine (Ok k) c.loop-next.reader c.next.new.self input (g.S.Source.left c.next.new.source))) c.in-Last.is c.in-Ok.ensures.gives in
-    let runs = subst (λ (t : WayTerms). RunsTraceLine t (trace_state c.loop-next.trace) (λ a. Refuses a mid last) c.next.new.self.cutter.count c.next.new.self.cutter.line (Ok tt) (trace_state c.run_line-in-Last.new.trace)) (regions-terms (meaning g) _ start c.loop-next.trace.regions inv.keeps) c.in-Ok-run_line-2.ensures.runs in
-    if_both (g.S.Source.left c.args.source.now) _ _ (λ input so. so_far-last (λ a. Refuses a mid last) so c.next.new.self (g.S.Source.left c.next.new.source) (trace_state c.run_line-in-Last.new.trace) gives runs) inv.so_far
+    let runs = subst (λ (t : WayTerms). RunsTraceLine t (trace_state c.loop-next.trace) (λ a. Refuses a mid last) c.next.new.self.cutter.count c.next.new.self.cutter.line (Ok tt) (trace_state c.run_line-in-Last.new.trace)) (regions-terms (meaning g) _ c.args.trace.now.regions c.loop-next.trace.regions c.loop-next.invariant.keeps) c.in-Ok-run_line-2.ensures.runs in
+    if_both (g.S.Source.left c.args.source.now) _ _ (λ input so. so_far-last (λ a. Refuses a mid last) so c.next.new.self (g.S.Source.left c.next.new.source) (trace_state c.run_line-in-Last.new.trace) gives runs) c.loop-next.invariant.so_far
 
 pub returns-in-Ok-run_line-2-clause-keeps : goal.returns-in-Ok-run_line-2-clause-keeps
 returns-in-Ok-run_line-2-clause-keeps g c = kept-any _ (all_holdings (meaning g) c.args.trace.now.regions) (all_holdings (meaning g) c.run_line-in-Last.new.trace.regions) (kept-then _ (all_holdings (meaning g) c.args.trace.now.regions) (all_holdings (meaning g) c.loop-next.trace.regions) (all_holdings (meaning g) c.run_line-in-Last.new.trace.regions) c.loop-next.invariant.keeps c.in-Ok-run_line-2.ensures.keeps)
 
 pub returns-in-Err-run_line-2-clause-ends : goal.returns-in-Err-run_line-2-clause-ends
 returns-in-Err-run_line-2-clause-ends g c =
-    let inv = c.loop-next.invariant in
-    let start = c.args.trace.now.regions in
-    let first = all_holdings (meaning g) start in
+    let first = all_holdings (meaning g) c.args.trace.now.regions in
     let mid = all_holdings (meaning g) c.loop-next.trace.regions in
     let last = all_holdings (meaning g) c.run_line-in-Last.new.trace.regions in
     let gives = subst (λ k. IfSome (g.S.Source.left c.loop-next.source) (λ input. GivesNextLine (Ok k) c.loop-next.reader c.next.new.self input (g.S.Source.left c.next.new.source))) c.in-Last.is c.in-Ok.ensures.gives in
-    let runs = subst (λ (t : WayTerms). RunsTraceLine t (trace_state c.loop-next.trace) (λ a. Refuses a mid last) c.next.new.self.cutter.count c.next.new.self.cutter.line (Err c.in-Err-run_line-2.ending) (trace_state c.run_line-in-Last.new.trace)) (regions-terms (meaning g) _ start c.loop-next.trace.regions inv.keeps) c.in-Err-run_line-2.ensures.runs in
-    let all = runs-as (λ a. Refuses a mid last) (AreRefused first last) (λ a refuses. record { before = mid; kept = inv.keeps; refuses = refuses }) (terms_of (meaning g) start) (trace_state c.loop-next.trace) c.next.new.self.cutter.count c.next.new.self.cutter.line (Err c.in-Err-run_line-2.ending) (trace_state c.run_line-in-Last.new.trace) runs in
-    if_both (g.S.Source.left c.args.source.now) _ _ (λ input so. so_far-stops_last (AreRefused first last) so c.in-Err-run_line-2.ending c.next.new.self (g.S.Source.left c.next.new.source) (trace_state c.run_line-in-Last.new.trace) gives all) inv.so_far
+    let runs = subst (λ (t : WayTerms). RunsTraceLine t (trace_state c.loop-next.trace) (λ a. Refuses a mid last) c.next.new.self.cutter.count c.next.new.self.cutter.line (Err c.in-Err-run_line-2.ending) (trace_state c.run_line-in-Last.new.trace)) (regions-terms (meaning g) _ c.args.trace.now.regions c.loop-next.trace.regions c.loop-next.invariant.keeps) c.in-Err-run_line-2.ensures.runs in
+    let all = runs-as (λ a. Refuses a mid last) (AreRefused first last) (λ a refuses. record { before = mid; kept = c.loop-next.invariant.keeps; refuses = refuses }) (terms_of (meaning g) c.args.trace.now.regions) (trace_state c.loop-next.trace) c.next.new.self.cutter.count c.next.new.self.cutter.line (Err c.in-Err-run_line-2.ending) (trace_state c.run_line-in-Last.new.trace) runs in
+    if_both (g.S.Source.left c.args.source.now) _ _ (λ input so. so_far-stops_last (AreRefused first last) so c.in-Err-run_line-2.ending c.next.new.self (g.S.Source.left c.next.new.source) (trace_state c.run_line-in-Last.new.trace) gives all) c.loop-next.invariant.so_far
 
 pub returns-in-Err-run_line-2-clause-keeps : goal.returns-in-Err-run_line-2-clause-keeps
 returns-in-Err-run_line-2-clause-keeps g c = kept-then _ (all_holdings (meaning g) c.args.trace.now.regions) (all_holdings (meaning g) c.loop-next.trace.regions) (all_holdings (meaning g) c.run_line-in-Last.new.trace.regions) c.loop-next.invariant.keeps c.in-Err-run_line-2.ensures.keeps

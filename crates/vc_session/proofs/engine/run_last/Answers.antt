@@ -11,10 +11,13 @@ run_line-requires-clause-unarmed g c =
     let follows = end-count c.args.cutter.now c.end.new.self c.end.result c.end.ensures.state c.end.ensures.cut c.in-Whole.is in
     λ first. c.requires.goes_on.unarmed (omega (arith, first, c.number.ensures.value, follows))
 
-pub run_line-requires-clause-counts : goal.run_line-requires-clause-counts
-run_line-requires-clause-counts g c =
+pub run_line-requires-clause-can_run : goal.run_line-requires-clause-can_run
+run_line-requires-clause-can_run g c =
     let follows = end-count c.args.cutter.now c.end.new.self c.end.result c.end.ensures.state c.end.ensures.cut c.in-Whole.is in
-    λ is_quiet. c.requires.goes_on.can_count is_quiet c.number.result (omega (arith, c.number.ensures.value, follows))
+    record {
+      stands = c.requires.session;
+      can_count = λ is_quiet. c.requires.goes_on.can_count is_quiet c.number.result (omega (arith, c.number.ensures.value, follows));
+    }
 
 pub returns-in-Some : goal.returns-in-Some
 returns-in-Some g c =

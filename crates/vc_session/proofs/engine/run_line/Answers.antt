@@ -17,18 +17,18 @@ abbrev meaning : (g : given.Over) → (x : g.dyn-1.0.I) × (g.dyn-1.0.entry x).0
 meaning g p = (g.dyn-1.0.entry p.0).1.state p.1
 
 pub returns-in-Err : goal.returns-in-Err
-returns-in-Err g c = record { runs = record { lasts = arming-same c.requires.session; runs = search rules }; same = refl; armed = refl }
+returns-in-Err g c = record { runs = record { lasts = arming-same c.requires.can_run.stands; runs = search rules }; same = refl; armed = refl }
 
 pub returns-in-Blank : goal.returns-in-Blank
 returns-in-Blank g c =
     record {
       runs = record {
-        lasts = arming-same c.requires.session;
+        lasts = arming-same c.requires.can_run.stands;
         runs = record {
           ran =
               rw (sym (rw c.in-Ok.is at c.read_into.ensures.value) ∙ c.in-Blank.is)
               (refl, record { state = refl; told = refl; settles = settles-same _; armed = refl; gone = refl; same_counts = refl });
-          can = can-on _ _ _ _ c.requires.counts;
+          can = can-on _ _ _ _ c.requires.can_run.can_count;
         };
       };
       same = tt;
@@ -39,12 +39,12 @@ pub returns-in-Bad : goal.returns-in-Bad
 returns-in-Bad g c =
     record {
       runs = record {
-        lasts = arming-same c.requires.session;
+        lasts = arming-same c.requires.can_run.stands;
         runs = record {
           ran =
               rw (sym (rw c.in-Ok.is at c.read_into.ensures.value) ∙ c.in-Bad.is)
               (refl, record { state = refl; told = refl; settles = settles-same _; armed = refl; gone = refl; same_counts = refl });
-          can = can-on _ _ _ _ c.requires.counts;
+          can = can-on _ _ _ _ c.requires.can_run.can_count;
         };
       };
       same = tt;
@@ -77,7 +77,7 @@ returns-in-Version-clause-runs g c =
     let unarmed = c.requires.unarmed first in
     let state : state_over M kinds shelf c.set_version.new.self ≡ state_over M kinds shelf c.args.session.now = arms-state c.set_version.ensures kinds shelf in
     record {
-      lasts = arming-told c.set_version.new.self on c.set_version.ensures unarmed c.requires.session;
+      lasts = arming-told c.set_version.new.self on c.set_version.ensures unarmed c.requires.can_run.stands;
       runs = record {
         ran =
             rw (sym (rw c.in-Ok.is at c.read_into.ensures.value) ∙ c.in-Version.is) (
@@ -92,6 +92,6 @@ returns-in-Version-clause-runs g c =
                 same_counts = refl;
               },
             );
-        can = subst (λ busy. IsTrue c.args.quiet → (line : ℕ) → c.args.n < line → CanCount c.args.scratch.now.counts busy line) (ap live_bytes (sym state)) (can-on _ _ _ _ c.requires.counts);
+        can = subst (λ busy. IsTrue c.args.quiet → (line : ℕ) → c.args.n < line → CanCount c.args.scratch.now.counts busy line) (ap live_bytes (sym state)) (can-on _ _ _ _ c.requires.can_run.can_count);
       };
     }

@@ -16,8 +16,12 @@ loop-command-init g c = record {
   writes = omega arith;
 }
 
-pub run_made-requires-clause-counts : goal.run_made-requires-clause-counts
-run_made-requires-clause-counts g c = c.loop-command.invariant.can refl (c.loop-command.line + 1) (omega arith)
+pub run_made-requires : goal.run_made-requires
+run_made-requires g c =
+    record {
+      stands = c.loop-command.invariant.lasts.stands;
+      can_count = λ is. c.loop-command.invariant.can is (c.loop-command.line + 1) (omega arith);
+    }
 
 pub loop-command-preserved : goal.loop-command-preserved
 loop-command-preserved g c =

@@ -1,13 +1,13 @@
-use Rattle.vc_base.proofs.Common.{◌≡◌, sym, refl, ◌∙◌, subst, arith, Discipline, rules}
-use Rattle.vc_steps.specs.Account.{KeepsAccounts, SameAsked}
-use Rattle.vc_steps.specs.Moment.{Moment, moment_at_end, moment, moment_at_rest}
+use Rattle.vc_base.proofs.Common.{◌≡◌, refl, ◌∙◌, arith, Discipline, rules}
+use Rattle.vc_steps.specs.Moment.{moment_at_end, moment, moment_at_rest}
 use Rattle.vc_steps.proofs.SettledShelf.{keeps-same}
 use Rattle.vc_session.proofs.GeneratedCuts.{cuts-generated}
 use Rattle.vc_session.proofs.QuietCounts.{busy-none}
+use Rattle.vc_session.proofs.SessionLasts.{arming-of, lent-same}
 use Rattle.vc_session.proofs.SoFar.{on_err}
 use Rattle.vc_steps.specs.Told.{rules_in}
 use Rattle.vc_session.proofs.GeneratedRun.{asked-most, generated-rests, if_some}
-use Rattle.vc_session.proofs.Rest.{new-moment, new-session}
+use Rattle.vc_session.proofs.Rest.{new-ended, new-moment, new-session}
 use Rattle.vc_session.proofs.generated.run_generated.Given as given
 use Rattle.vc_session.proofs.generated.run_generated.Goals as goal
 
@@ -39,16 +39,9 @@ returns g c =
           if_some _ c.args.asked.now.words.generate c.in-Some.n c.in-Some.is
           (generated-rests c.args.tool c.args.asked.now.words c.in-Some.n start before (moment_at_end last) after _ _ _ _ c.run_all-ended.result same
           (λ written. record { written = refl; accounts = c.end.ensures.shelf; gone = c.end.ensures.gone }) c.run_all-ended.ensures.runs);
-      keeps = record {
-        accounts =
-            subst (λ a. KeepsAccounts before.accounts a) (sym c.end.ensures.shelf)
-            (subst (λ (m : Moment). KeepsAccounts m.accounts last.accounts) same c.run_all-ended.ensures.lasts.accounts);
-        asked = λ first.
-            subst (λ a. SameAsked before.accounts a) (sym c.end.ensures.shelf)
-            (subst (λ (m : Moment). SameAsked m.accounts last.accounts) same (c.run_all-ended.ensures.lasts.asked c.in_ok-session.ensures.unarmed));
-      };
-      rules = c.end.ensures.rules ∙ c.run_all-ended.ensures.lasts.keeps_rules;
-      unarmed = λ n d at on. c.run_all-ended.ensures.lasts.arms_none n d (c.end.ensures.unarmed n d at on) on;
+      keeps =
+          new-ended M rules gone c.args.shelf.now c.in_ok-session.session c.args.kinds.now.items c.in_ok-session.ensures.none c.in_ok-session.ensures.unarmed (arming-of c.run_all-ended.ensures.lasts)
+          (λ first. c.run_all-ended.ensures.lasts.armed ∙ c.in_ok-session.ensures.unarmed) c.end.ensures.shelf c.end.ensures.rules c.end.ensures.unarmed;
     }
 
 pub returns-in_err-session-clause-runs : goal.returns-in_err-session-clause-runs
@@ -61,3 +54,6 @@ returns-in_err-session-clause-runs g c =
       write = search rules;
       writes = omega arith;
     })
+
+pub returns-in_err-session-clause-keeps : goal.returns-in_err-session-clause-keeps
+returns-in_err-session-clause-keeps g c = lent-same

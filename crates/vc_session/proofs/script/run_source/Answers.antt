@@ -1,13 +1,13 @@
-use Rattle.vc_base.proofs.Common.{◌≡◌, sym, refl, ◌∙◌, subst, Discipline, rules}
-use Rattle.vc_steps.specs.Account.{KeepsAccounts, SameAsked}
-use Rattle.vc_steps.specs.Moment.{Moment, moment_at_end, moment, moment_at_rest}
+use Rattle.vc_base.proofs.Common.{◌≡◌, refl, Discipline, rules}
+use Rattle.vc_steps.specs.Moment.{moment_at_end, moment, moment_at_rest}
 use Rattle.vc_steps.proofs.SettledShelf.{keeps-same}
 use Rattle.vc_session.proofs.Broken.{cuts-source}
 use Rattle.vc_session.proofs.HowFar.{first-arms, unarmed-arms}
 use Rattle.vc_session.proofs.QuietCounts.{busy-none}
+use Rattle.vc_session.proofs.SessionLasts.{lent-same}
 use Rattle.vc_session.proofs.SoFar.{on_err}
 use Rattle.vc_steps.specs.Told.{rules_in}
-use Rattle.vc_session.proofs.Rest.{new-moment, new-session, runs-rest}
+use Rattle.vc_session.proofs.Rest.{new-ended, new-moment, new-session, runs-rest}
 use Rattle.vc_session.proofs.script.run_source.Given as given
 use Rattle.vc_session.proofs.script.run_source.Goals as goal
 
@@ -35,16 +35,9 @@ returns g c =
       runs =
           runs-rest c.args.tool c.args.words.now start before (moment_at_end last) after _ _ c.run_script-ended.result same
           (λ written. record { written = refl; accounts = c.end.ensures.shelf; gone = c.end.ensures.gone }) refl c.run_script-ended.ensures.runs.script;
-      keeps = record {
-        accounts =
-            subst (λ a. KeepsAccounts before.accounts a) (sym c.end.ensures.shelf)
-            (subst (λ (m : Moment). KeepsAccounts m.accounts last.accounts) same c.run_script-ended.ensures.lasts.lasts.accounts);
-        asked = λ first.
-            subst (λ a. SameAsked before.accounts a) (sym c.end.ensures.shelf)
-            (subst (λ (m : Moment). SameAsked m.accounts last.accounts) same (c.run_script-ended.ensures.lasts.lasts.asked (first-arms _ _ last c.run_script-ended.ensures.runs.script.arms first)));
-      };
-      rules = c.end.ensures.rules ∙ c.run_script-ended.ensures.lasts.lasts.keeps_rules;
-      unarmed = λ n d at on. c.run_script-ended.ensures.lasts.lasts.arms_none n d (c.end.ensures.unarmed n d at on) on;
+      keeps =
+          new-ended M rules gone c.args.shelf.now c.in_ok-session.session c.args.kinds.now.items c.in_ok-session.ensures.none c.in_ok-session.ensures.unarmed c.run_script-ended.ensures.lasts
+          (first-arms c.args.tool (g.S.Source.left c.args.source.now) last c.run_script-ended.ensures.runs.script.arms) c.end.ensures.shelf c.end.ensures.rules c.end.ensures.unarmed;
     }
 
 pub returns-in_err-cutter-clause-runs : goal.returns-in_err-cutter-clause-runs
@@ -61,6 +54,9 @@ returns-in_err-cutter-clause-runs g c =
       writes = search rules;
     }
 
+pub returns-in_err-cutter-clause-keeps : goal.returns-in_err-cutter-clause-keeps
+returns-in_err-cutter-clause-keeps g c = lent-same
+
 pub returns-in_err-session-clause-runs : goal.returns-in_err-session-clause-runs
 returns-in_err-session-clause-runs g c =
     record {
@@ -74,3 +70,6 @@ returns-in_err-session-clause-runs g c =
       reads = search rules;
       writes = search rules;
     }
+
+pub returns-in_err-session-clause-keeps : goal.returns-in_err-session-clause-keeps
+returns-in_err-session-clause-keeps g c = lent-same

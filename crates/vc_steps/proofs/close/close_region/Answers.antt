@@ -26,7 +26,6 @@ returns-clause-here g c =
 pub returns-clause-elsewhere : goal.returns-clause-elsewhere
 returns-clause-elsewhere g c = λ p other.
     let slots = slots_on (meaning g) c.args.shelf.now in
-    let disc = meaning g (c.close-disc.result.0.vtable, c.close-disc.result.0.value) in
     ap (λ s. at_number s p) c.give_back.ensures.filled
     ∙ elsewhere slots c.args.home.place _ (taken-at slots c.args.home.place c.requires.taken) p other
 

@@ -1,33 +1,11 @@
-use Rattle.vc_base.proofs.Common.{length, sym}
-use Rattle.vc_dict.specs.Listed.{holders_of}
-use Rattle.vc_best.specs.Cells.{cells_in}
-use Rattle.vc_store.specs.Contents.{contents_in}
-use Rattle.vc_store.specs.Reading.{first_place}
-use Rattle.vc_store.proofs.Cursor.{first-none, first-some}
-use Rattle.vc_store.proofs.Places.{within-first}
-use Rattle.vc_store.proofs.Moving.{can-look, moved-none, moved-to}
+use Rattle.vc_store.proofs.Moving.{can-look, no-first, to-first}
 use Rattle.vc_store.proofs.moves.to_first.Goals as goal
 
 pub first-requires : goal.first-requires
 first-requires g c = can-look c.args.best.now c.args.dict.now c.requires.whole
 
 pub returns-in-Some : goal.returns-in-Some
-returns-in-Some g c =
-    let d = c.args.dict.now in
-    let b = cells_in c.args.best.now in
-    let xs = holders_of d b in
-    let rules = c.requires.whole.rules in
-    let whole = c.requires.whole.whole in
-    let at = c.in-Some.at in
-    let told = c.in-Some.ensures rules xs whole.stands in
-    record { moves = moved-to c.args.best.now d c.requires.whole at (first_place (length (contents_in d c.args.best.now).objects)) (within-first xs at.0 (sym told)) (first-some rules d b whole at told) }
+returns-in-Some g c = record { moves = to-first c.args.best.now c.args.dict.now c.requires.whole c.in-Some.at (c.in-Some.ensures _ _ c.requires.whole.whole.stands) }
 
 pub returns-in-None : goal.returns-in-None
-returns-in-None g c =
-    let d = c.args.dict.now in
-    let b = cells_in c.args.best.now in
-    let xs = holders_of d b in
-    let rules = c.requires.whole.rules in
-    let whole = c.requires.whole.whole in
-    let told = c.in-None.ensures rules xs whole.stands in
-    record { moves = moved-none c.args.best.now d c.requires.whole (first_place (length (contents_in d c.args.best.now).objects)) (first-none rules d b whole told) }
+returns-in-None g c = record { moves = no-first c.args.best.now c.args.dict.now c.requires.whole (c.in-None.ensures _ _ c.requires.whole.whole.stands) }

@@ -2,10 +2,20 @@ use Rattle.vc_base.proofs.Common.{◌≡◌, true, sym, ap, ◌∙◌, subst, co
 use Rattle.vc_dict.specs.Listed.{holders_of}
 use Rattle.vc_best.specs.Cells.{cells_in}
 use Rattle.vc_objects.specs.Parts.{IsWhole}
+use Rattle.vc_views.specs.Promises.{cells_under}
 use Rattle.vc_views.specs.Sides.{holder_like}
 use Rattle.vc_views.proofs.Firsts.{no-other, no-region, region-looked}
 use Rattle.vc_views.proofs.LookLeaves.{held-is, looked, rest-kept}
+use Rattle.vc_views.proofs.finding.last_in.Given.{Over}
 use Rattle.vc_views.proofs.finding.last_in.Goals as goal
+use Rattle.vc_views.proofs.finding.last_in.Goals.{In-Best}
+
+-- the cells of the region of the name, and the dictionary is whole over them
+held : (g : Over) (c : In-Best g) → cells_under c.args.homes.now.entries c.args.name.now ≡ cells_in c.in-Best.best
+held g c = held-is c.args.homes.now.entries c.args.name.now c.in-Some.j c.index_mut.result.now c.in-Best.best (sym c.in-Some.ensures.index) c.index_mut.ensures.value c.in-Best.is
+
+whole : (g : Over) (c : In-Best g) → IsWhole (g.D.DictDisc.rules c.args.kind.now) c.args.dict.now (cells_in c.in-Best.best)
+whole g c = subst (IsWhole (g.D.DictDisc.rules c.args.kind.now) c.args.dict.now) (held g c) c.requires.whole
 
 pub unreachable-requires : goal.unreachable-requires
 unreachable-requires g c = no-region c.args.homes.now.entries c.args.name.now c.requires.region.home c.requires.region.found c.in_default.ensures.found
@@ -17,30 +27,25 @@ unreachable-requires-in_default-region g c =
 
 pub last_like-requires : goal.last_like-requires
 last_like-requires g c =
-    let held = held-is c.args.homes.now.entries c.args.name.now c.in-Some.j c.index_mut.result.now c.in-Best.best (sym c.in-Some.ensures.index) c.index_mut.ensures.value c.in-Best.is in
-    let whole = subst (IsWhole (g.D.DictDisc.rules c.args.kind.now) c.args.dict.now) held c.requires.whole in
+    let at = (goal.at.last_like-requires g c).In-Best in
     record {
       holders = holders_of c.args.dict.now (cells_in c.in-Best.best);
-      stands = whole.stands;
-      within = subst (λ b. contains (holders_of c.args.dict.now b) c.args.at.0 ≡ true) held c.requires.within;
+      stands = (whole g at).stands;
+      within = subst (λ b. contains (holders_of c.args.dict.now b) c.args.at.0 ≡ true) (held g at) c.requires.within;
     }
 
 pub returns-clause-found : goal.returns-clause-found
 returns-clause-found g c =
-    let rules = g.D.DictDisc.rules c.args.kind.now in
-    let held = held-is c.args.homes.now.entries c.args.name.now c.in-Some.j c.index_mut.result.now c.in-Best.best (sym c.in-Some.ensures.index) c.index_mut.ensures.value c.in-Best.is in
-    let whole = subst (IsWhole rules c.args.dict.now) held c.requires.whole in
-    (c.last_like.ensures.found (holders_of c.args.dict.now (cells_in c.in-Best.best)) whole.stands).last
-    ∙ ap (λ b. holder_like rules b c.args.at.0 (holders_of c.args.dict.now b)) (sym held)
+    let at = (goal.at.returns-clause-found g c).In-Best in
+    (c.last_like.ensures.found (holders_of c.args.dict.now (cells_in c.in-Best.best)) (whole g at).stands).last
+    ∙ ap (λ b. holder_like (g.D.DictDisc.rules c.args.kind.now) b c.args.at.0 (holders_of c.args.dict.now b)) (sym (held g at))
 
 pub returns-clause-looks : goal.returns-clause-looks
 returns-clause-looks g c =
-    let rules = g.D.DictDisc.rules c.args.kind.now in
-    let held = held-is c.args.homes.now.entries c.args.name.now c.in-Some.j c.index_mut.result.now c.in-Best.best (sym c.in-Some.ensures.index) c.index_mut.ensures.value c.in-Best.is in
-    let whole = subst (IsWhole rules c.args.dict.now) held c.requires.whole in
+    let at = (goal.at.returns-clause-looks g c).In-Best in
     looked c.args.homes.now.entries c.args.name.now c.in-Some.j c.index_mut.result.now c.in-Best.best (sym c.in-Some.ensures.index) c.index_mut.ensures.value c.in-Best.is
-    c.last_like.new.cells c.last_like.ensures.rest rules c.args.dict.now c.last_like.new.self whole
-    (c.last_like.ensures.dict (holders_of c.args.dict.now (cells_in c.in-Best.best)) whole.stands)
+    c.last_like.new.cells c.last_like.ensures.rest (g.D.DictDisc.rules c.args.kind.now) c.args.dict.now c.last_like.new.self (whole g at)
+    (c.last_like.ensures.dict (holders_of c.args.dict.now (cells_in c.in-Best.best)) (whole g at).stands)
 
 pub returns-clause-rest : goal.returns-clause-rest
 returns-clause-rest g c =

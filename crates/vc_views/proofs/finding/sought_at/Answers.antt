@@ -1,80 +1,30 @@
-use Rattle.vc_base.proofs.Common.{map, is_some, sym, refl, ap, ◌∙◌, subst, same_Some}
-use Rattle.vc_dict.specs.Listed.{holders_of}
-use Rattle.vc_objects.specs.Parts.{IsWhole}
-use Rattle.vc_paths.specs.Layers.{Layer}
-use Rattle.vc_views.specs.Dicts.{AreDictsOver, cells_held, dict_seen, layer_of, region_named, region_seen}
-use Rattle.vc_views.specs.LayerLaws.{layer-is, layer_over}
-use Rattle.vc_views.specs.Sides.{holder_to, place_to}
-use Rattle.vc_views.proofs.AtHolders.{place-stands}
-use Rattle.vc_views.proofs.Firsts.{value-set}
-use Rattle.vc_views.proofs.LookLeaves.{dict-at, dicts-looked, pair-at, seen-looked}
+use Rattle.vc_base.proofs.Common.{map, is_some, ap, ◌∙◌, subst}
+use Rattle.vc_views.specs.Sides.{CanStand}
+use Rattle.vc_views.proofs.AtIndex.{AtIndex, at-index, home-there, leaves-held, method-there, place-held, whole-held}
+use Rattle.vc_views.proofs.finding.sought_at.Given.{Over}
 use Rattle.vc_views.proofs.finding.sought_at.Goals as goal
+use Rattle.vc_views.proofs.finding.sought_at.Goals.{After-index_mut-entry}
+
+-- the dictionary at the index
+own : (g : Over) (c : After-index_mut-entry g) → AtIndex (map g.D.DictDisc.rules c.args.kinds.now.items) c.args.homes.now.entries c.args.dicts.now.entries c.args.i c.index_mut-entry.result.now
+own g c = at-index (map g.D.DictDisc.rules c.args.kinds.now.items) c.args.homes.now.entries c.args.dicts.now.entries c.args.i c.index_mut-entry.result.now c.index_mut-entry.ensures.value c.requires.dicts
 
 pub kind_of-kind-requires : goal.kind_of-kind-requires
-kind_of-kind-requires g c =
-    let es = c.args.dicts.now.entries in
-    let p = pair-at es c.args.i c.index_mut-entry.result.now c.index_mut-entry.ensures.value in
-    let is = dict-at (map g.D.DictDisc.rules c.args.kinds.now.items) (map region_seen c.args.homes.now.entries) es c.args.i (p.0, c.index_mut-entry.result.now) p.1 c.requires.dicts in
-    ap is_some is.kind
+kind_of-kind-requires g c = ap is_some (own g (goal.at.kind_of-kind-requires g c).After-index_mut-entry).is.kind
 
 pub sought_in-requires-clause-region : goal.sought_in-requires-clause-region
-sought_in-requires-clause-region g c =
-    let es = c.args.dicts.now.entries in
-    let p = pair-at es c.args.i c.index_mut-entry.result.now c.index_mut-entry.ensures.value in
-    let is = dict-at (map g.D.DictDisc.rules c.args.kinds.now.items) (map region_seen c.args.homes.now.entries) es c.args.i (p.0, c.index_mut-entry.result.now) p.1 c.requires.dicts in
-    record { home = is.home; found = is.found; best = is.best }
+sought_in-requires-clause-region g c = home-there (own g (goal.at.sought_in-requires-clause-region g c).After-index_mut-entry)
 
 pub sought_in-requires-clause-whole : goal.sought_in-requires-clause-whole
-sought_in-requires-clause-whole g c =
-    let es = c.args.dicts.now.entries in
-    let v = c.index_mut-entry.result.now in
-    let p = pair-at es c.args.i v c.index_mut-entry.ensures.value in
-    let regions = map region_seen c.args.homes.now.entries in
-    let is = dict-at (map g.D.DictDisc.rules c.args.kinds.now.items) regions es c.args.i (p.0, v) p.1 c.requires.dicts in
-    subst (λ rules. IsWhole rules v.dict (cells_held (region_named regions v.home))) (same_Some is.rules (g.D.DictDisc.rules c.kind_of-kind.result.now) (sym is.kind ∙ c.kind_of-kind.ensures))
-    (subst (λ b. IsWhole is.rules v.dict b) (sym (ap cells_held is.found)) is.whole)
+sought_in-requires-clause-whole g c = whole-held (own g (goal.at.sought_in-requires-clause-whole g c).After-index_mut-entry) (g.D.DictDisc.rules c.kind_of-kind.result.now) c.kind_of-kind.ensures
 
 pub sought_in-requires-clause-side : goal.sought_in-requires-clause-side
-sought_in-requires-clause-side g c =
-    let p = pair-at c.args.dicts.now.entries c.args.i c.index_mut-entry.result.now c.index_mut-entry.ensures.value in
-    c.requires.side (p.0, c.index_mut-entry.result.now) p.1
+sought_in-requires-clause-side g c = subst (CanStand c.args.side) (method-there (own g (goal.at.sought_in-requires-clause-side g c).After-index_mut-entry)) c.requires.side
 
 pub returns-clause-found : goal.returns-clause-found
-returns-clause-found g c = λ e at.
-    let es = c.args.dicts.now.entries in
-    let kinds = map g.D.DictDisc.rules c.args.kinds.now.items in
-    let regions = map region_seen c.args.homes.now.entries in
-    let v = c.index_mut-entry.result.now in
-    let p = pair-at es c.args.i v c.index_mut-entry.ensures.value in
-    let is = dict-at kinds regions es c.args.i (p.0, v) p.1 c.requires.dicts in
-    let key = c.args.key.now in
-    let held = cells_held (region_named regions v.home) in
-    let rules = same_Some (g.D.DictDisc.rules c.kind_of-kind.result.now) is.rules (sym c.kind_of-kind.ensures ∙ is.kind) in
-    c.sought_in.ensures.found
-    ∙ ap (λ q. holder_to c.args.side q held key (holders_of v.dict held)) rules
-    ∙ ap (λ b. holder_to c.args.side is.rules b key (holders_of v.dict b)) (ap cells_held is.found)
-    ∙ sym (place-stands is.home.cells c.args.side (layer_over is.rules v is.home.cells) key (holders_of v.dict is.home.cells) refl)
-    ∙ ap (λ (l : Layer). place_to c.args.side l key) (sym (layer-is kinds regions (p.0, v) is))
-    ∙ ap (λ x. place_to c.args.side (layer_of kinds regions x) key) (same_Some (p.0, v) e (sym p.1 ∙ at))
+returns-clause-found g c = c.sought_in.ensures.found ∙ place-held (own g (goal.at.returns-clause-found g c).After-index_mut-entry) (g.D.DictDisc.rules c.kind_of-kind.result.now) c.kind_of-kind.ensures c.args.side c.args.key.now
 
 pub returns-clause-leaves : goal.returns-clause-leaves
 returns-clause-leaves g c =
-    let es = c.args.dicts.now.entries in
-    let kinds = map g.D.DictDisc.rules c.args.kinds.now.items in
-    let old = map region_seen c.args.homes.now.entries in
-    let new = map region_seen c.sought_in.new.homes.entries in
-    let v = c.index_mut-entry.result.now in
-    let p = pair-at es c.args.i v c.index_mut-entry.ensures.value in
-    let dict = c.sought_in.new.dict in
-    let set = value-set es c.args.i (p.0, v) (record { home = v.home; number = v.number; dict = dict }) p.1 in
-    record {
-      dicts =
-          subst (AreDictsOver kinds new) (sym set)
-          (dicts-looked kinds old new es c.args.i p.0 v p.1 c.requires.dicts (g.D.DictDisc.rules c.kind_of-kind.result.now) c.kind_of-kind.ensures dict c.sought_in.ensures.looks);
-      keeps = record {
-        rules = refl;
-        rest = c.sought_in.ensures.rest;
-        seen = ap (map (dict_seen new)) set
-            ∙ seen-looked kinds old new es c.args.i p.0 v p.1 c.requires.dicts (g.D.DictDisc.rules c.kind_of-kind.result.now) c.kind_of-kind.ensures dict c.sought_in.ensures.looks;
-      };
-    }
+    leaves-held (own g (goal.at.returns-clause-leaves g c).After-index_mut-entry) (g.D.DictDisc.rules c.kind_of-kind.result.now) c.kind_of-kind.ensures c.sought_in.new.homes.entries c.sought_in.new.dict
+    c.requires.dicts c.sought_in.ensures.looks c.sought_in.ensures.rest

@@ -34,17 +34,15 @@ replied g c =
 pub returns-in_default : goal.returns-in_default
 returns-in_default g c =
     let regions = map region_seen c.args.homes.now.entries in
-    let es = c.args.dicts.now.entries in
-    let all = layered_by (map g.D.DictDisc.rules c.args.kinds.now.items) regions es in
-    let seen = map (dict_seen regions) es in
-    let leaves = c.look_through.ensures.leaves in
+    let all = layered_by (map g.D.DictDisc.rules c.args.kinds.now.items) regions c.args.dicts.now.entries in
+    let seen = map (dict_seen regions) c.args.dicts.now.entries in
     record {
       reply = replied g (goal.at.returns-in_default g c).In_ok-place;
-      homes = leaves.keeps.rest;
-      dicts = leaves.dicts;
-      ok = leaves.keeps.seen ∙ sym (current-none c.args.i seen)
+      homes = c.look_through.ensures.leaves.keeps.rest;
+      dicts = c.look_through.ensures.leaves.dicts;
+      ok = c.look_through.ensures.leaves.keeps.seen ∙ sym (current-none c.args.i seen)
           ∙ ap (λ p. with_current_at c.args.i p seen) (sym (ap (option_map number_of) c.in_default.is) ∙ c.in_ok-place.ensures.look.place)
-          ∙ ap (λ d. with_current_at c.args.i (place_through all c.args.paths.now d c.args.command.now) seen) (sym (number-is es c.args.i c.index.result.now c.index.ensures));
+          ∙ ap (λ d. with_current_at c.args.i (place_through all c.args.paths.now d c.args.command.now) seen) (sym (number-is c.args.dicts.now.entries c.args.i c.index.result.now c.index.ensures));
       err = tt;
     }
 

@@ -1,7 +1,7 @@
-use Rattle.vc_base.proofs.Common.{◌≡◌, map, sym, ap, ◌∙◌, rules, same_Some, at_number}
-use Rattle.vc_views.specs.Dicts.{layered_by, region_seen}
+use Rattle.vc_base.proofs.Common.{◌≡◌, map, rules}
+use Rattle.vc_views.specs.Dicts.{region_seen}
 use Rattle.vc_views.specs.Promises.{layered_over}
-use Rattle.vc_views.proofs.NumberLayers.{kind-known, kind-there, kind-told}
+use Rattle.vc_views.proofs.NumberLayers.{kind-there, rules-told}
 use Rattle.vc_views.proofs.LookAnswers.{is-look, leaves-same}
 use Rattle.vc_views.proofs.looking.look_through.Given.{Over}
 use Rattle.vc_views.proofs.looking.look_through.Goals as goal
@@ -9,21 +9,13 @@ use Rattle.vc_views.proofs.looking.look_through.Goals.{After-kind_of-kind}
 
 pub kind_of-kind-requires : goal.kind_of-kind-requires
 kind_of-kind-requires g c =
-    let kinds = map g.D.DictDisc.rules c.args.kinds.now.items in
-    let regions = map region_seen c.args.homes.now.entries in
-    let es = c.args.dicts.now.entries in
-    let has = c.requires.path.alike.0.there in
-    kind-known kinds regions es c.args.d has c.entry_of.result.now.dict.kind (kind-told kinds regions es c.args.d has c.entry_of.result.now c.entry_of.ensures)
+    kind-there (map g.D.DictDisc.rules c.args.kinds.now.items) (map region_seen c.args.homes.now.entries) c.args.dicts.now.entries c.args.d c.requires.path.alike.0.there c.entry_of.result.now c.entry_of.ensures
 
 -- the rules of the kind are those of the layer
 rules-are : (g : Over) (c : After-kind_of-kind g) → g.D.DictDisc.rules c.kind_of-kind.result.now ≡ ((layered_over (map g.D.DictDisc.rules c.args.kinds.now.items) c.args.homes.now.entries c.args.dicts.now.entries).layer c.args.d).rules
 rules-are g c =
-    let kinds = map g.D.DictDisc.rules c.args.kinds.now.items in
-    let regions = map region_seen c.args.homes.now.entries in
-    let es = c.args.dicts.now.entries in
-    let has = c.requires.path.alike.0.there in
-    same_Some (g.D.DictDisc.rules c.kind_of-kind.result.now) ((layered_by kinds regions es).layer c.args.d).rules
-    (sym c.kind_of-kind.ensures ∙ ap (at_number kinds) (kind-told kinds regions es c.args.d has c.entry_of.result.now c.entry_of.ensures) ∙ kind-there kinds regions es c.args.d has)
+    rules-told (map g.D.DictDisc.rules c.args.kinds.now.items) (map region_seen c.args.homes.now.entries) c.args.dicts.now.entries c.args.d c.requires.path.alike.0.there c.entry_of.result.now c.entry_of.ensures
+    (g.D.DictDisc.rules c.kind_of-kind.result.now) c.kind_of-kind.ensures
 
 pub look-requires-clause-rules : goal.look-requires-clause-rules
 look-requires-clause-rules g c = rules-are g (goal.at.look-requires-clause-rules g c).After-kind_of-kind

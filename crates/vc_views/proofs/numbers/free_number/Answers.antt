@@ -16,16 +16,12 @@ loop-number-preserved c = more c.args.dicts.now.entries c.loop-number.number c.l
 
 pub loop-number-smaller : goal.loop-number-smaller
 loop-number-smaller c =
-    let n = c.loop-number.number in
-    let es = c.args.dicts.now.entries in
-    let last = within es (n + 1) (more es n c.loop-number.invariant (sym c.loop-number-test.ensures)) in
+    let last = within c.args.dicts.now.entries (c.loop-number.number + 1) (more c.args.dicts.now.entries c.loop-number.number c.loop-number.invariant (sym c.loop-number-test.ensures)) in
     omega (arith, last)
 
 pub overflow_add-number : goal.overflow_add-number
 overflow_add-number c =
-    let n = c.loop-number.number in
-    let es = c.args.dicts.now.entries in
-    let last = within es n c.loop-number.invariant in
+    let last = within c.args.dicts.now.entries c.loop-number.number c.loop-number.invariant in
     let few = c.requires.few in
     omega (arith, last, few)
 

@@ -37,17 +37,14 @@ close_pools-requires-clause-lent g c = empty-lent (meaning g) c.loop-alloc.pools
 
 pub close_pools-requires-clause-taken : goal.close_pools-requires-clause-taken
 close_pools-requires-clause-taken g c =
-    let pools = c.loop-alloc.pools.items in
-    pools-taken (meaning g) pools (slots_on (meaning g) c.args.shelf.now) (slots_on (meaning g) c.open_pool.new.shelf) c.requires
-    (λ old hs two lends. c.in-Err.ensures.lends old (hs ++ holdings (meaning g) pools) (omega (arith, lent-size (meaning g) hs pools two, c.len-in-loop-alloc.ensures)) (c.loop-alloc.invariant.lends old hs two lends))
+    pools-taken (meaning g) c.loop-alloc.pools.items (slots_on (meaning g) c.args.shelf.now) (slots_on (meaning g) c.open_pool.new.shelf) c.requires
+    (λ old hs two lends. c.in-Err.ensures.lends old (hs ++ holdings (meaning g) c.loop-alloc.pools.items) (omega (arith, lent-size (meaning g) hs c.loop-alloc.pools.items two, c.len-in-loop-alloc.ensures)) (c.loop-alloc.invariant.lends old hs two lends))
 
 pub returns-in-Err-clause-lends : goal.returns-in-Err-clause-lends
 returns-in-Err-clause-lends g c = λ old hs two lends.
-    let pools = c.loop-alloc.pools.items in
-    let mid = slots_on (meaning g) c.open_pool.new.shelf in
-    let more = c.in-Err.ensures.lends old (hs ++ holdings (meaning g) pools) (omega (arith, lent-size (meaning g) hs pools two, c.len-in-loop-alloc.ensures)) (c.loop-alloc.invariant.lends old hs two lends) in
-    subst (Lends hs old) (sym (c.close_pools.ensures.slots ∙ ap (λ n. with_discs n c.close_pools.ensures.discs mid) (sym two)))
-    (lends-settled hs (holdings (meaning g) pools) c.close_pools.ensures.discs old mid more c.close_pools.ensures.settled)
+    let more = c.in-Err.ensures.lends old (hs ++ holdings (meaning g) c.loop-alloc.pools.items) (omega (arith, lent-size (meaning g) hs c.loop-alloc.pools.items two, c.len-in-loop-alloc.ensures)) (c.loop-alloc.invariant.lends old hs two lends) in
+    subst (Lends hs old) (sym (c.close_pools.ensures.slots ∙ ap (λ n. with_discs n c.close_pools.ensures.discs (slots_on (meaning g) c.open_pool.new.shelf)) (sym two)))
+    (lends-settled hs (holdings (meaning g) c.loop-alloc.pools.items) c.close_pools.ensures.discs old (slots_on (meaning g) c.open_pool.new.shelf) more c.close_pools.ensures.settled)
 
 pub returns-clause-opened : goal.returns-clause-opened
 returns-clause-opened g c =

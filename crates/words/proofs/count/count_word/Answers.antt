@@ -25,14 +25,14 @@ returns-in_err-extend_from_slice-2-clause-stays g c =
 pub returns-clause-stays : goal.returns-clause-stays
 returns-clause-stays g c =
     set-on _ c.args.set.now c.remove.new.self c.insert.new.self
-    (set-stays _ c.args.set.now c.remove.new.self c.requires c.remove.ensures.stays) c.insert.ensures.stays
+    (set-stays _ c.args.set.now c.remove.new.self c.requires c.remove.ensures.stays) c.insert.ensures.keeps.stays
 
 pub returns-clause-counts : goal.returns-clause-counts
 returns-clause-counts g c =
     let old = c.args.set.now in
     let mid = c.remove.new.self in
     let word = c.args.word.now in
-    let found_is = c.in_ok-counted.ensures.found in
+    let found_is = c.in_ok-counted.ensures.removes.bytes in
     let count : c.if-counted.count ≡ count_found (found (rules_of old.kind.shape) word (contents old).objects) =
     elim c.if-counted.branch [
       | then-counted w ↦ count-then c.in_ok-counted.counted c.remove.new.out.items _ c.if-counted.count w.if-counted.true found_is (w.count-is ∙ (w.count_of-count.ensures ∙ ap stored_count w.deref.ensures.value))
@@ -47,4 +47,4 @@ returns-clause-counts g c =
     counts-part c.insert.result word (contents old) (contents c.insert.new.self) (sym c.if-is_empty.ensures)
     (counts-one c.insert.result (rules_of old.kind.shape) (rules_of mid.kind.shape) c.if-counted.count word c.deref-2.result.now (contents old) (contents mid) (contents c.insert.new.self)
     c.requires.rules (c.remove.ensures.stays.rules ∙ c.requires.rules) (c.remove.ensures.stays.method ∙ c.requires.method)
-    count c.in_ok-counted.ensures.lacks.objects object c.insert.ensures.objects)
+    count c.in_ok-counted.ensures.removes.lacks.objects object c.insert.ensures.objects)

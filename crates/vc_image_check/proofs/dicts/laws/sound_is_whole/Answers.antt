@@ -4,8 +4,8 @@ use Rattle.vc_image_check.proofs.dicts.laws.sound_is_whole.Goals as goal
 
 pub returns : goal.returns
 returns c = record {
-  whole = sound-whole;
-  heads = λ rules b method kind count current heads h. heads-back method count heads h.others;
-  own = λ rules b method kind count current heads h a. own-told method rules b kind count current heads h.holders a;
-  alone = λ rules b method count current heads lawful set h. set-alone method rules b count heads lawful set h.holders;
+  whole = λ n kind. sound-whole n.rules n.blocks n.method kind n.count n.current n.heads n.sound;
+  heads = λ n kind. heads-back n.method n.count n.heads n.sound.others;
+  own = λ n kind a. own-told n.method n.rules n.blocks kind n.count n.current n.heads n.sound.holders a;
+  alone = λ n lawful set. set-alone n.method n.rules n.blocks n.count n.heads lawful set n.sound.holders;
 }

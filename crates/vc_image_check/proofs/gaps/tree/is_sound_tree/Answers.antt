@@ -6,34 +6,28 @@ use Rattle.vc_image_check.specs.Marks.Mark.{lists}
 use Rattle.vc_image_check.specs.Gaps.Known.{known_none}
 use Rattle.vc_image_check.proofs.Sorted.{TakenOut, exact-where, marks-left}
 use Rattle.vc_image_check.proofs.gaps.tree.is_sound_tree.Goals as goal
+use Rattle.vc_image_check.proofs.gaps.tree.is_sound_tree.Goals.{After-take_out}
+
+-- the names are those of the tree at the root, and their marks were taken out
+tree : (c : After-take_out) → HasGapTree (tiling (contents_of_image c.args.image.now).segs) (contents_of_image c.args.image.now).root c.in-Some.names.items
+tree c = rw c.in-Some.is at c.in_ok-names.ensures.some
+
+taken : (c : After-take_out) → TakenOut (lists c.args.marks.now.rows.items) (lists c.take_out.new.marks.rows.items) c.in-Some.names.items
+taken c = subst (TakenOut (lists c.args.marks.now.rows.items) (lists c.take_out.new.marks.rows.items)) c.deref.ensures.value c.take_out.ensures.marks
 
 pub returns-in-Some-clause-sound : goal.returns-in-Some-clause-sound
 returns-in-Some-clause-sound c =
-    let b = c.args.image.now in
-    let t = tiling (contents_of_image b).segs in
-    let old = lists c.args.marks.now.rows.items in
-    let new = lists c.take_out.new.marks.rows.items in
-    let tree : HasGapTree t (contents_of_image b).root c.in-Some.names.items = rw c.in-Some.is at c.in_ok-names.ensures.some in
-    let taken : TakenOut old new c.in-Some.names.items = subst (TakenOut old new) c.deref.ensures.value c.take_out.ensures.marks in
-    let none = known_none b old c.args.marks.now.places.items ∣ c.requires ∣₁ in
-    let sound = exact-where t (contents_of_image b).root old new c.in-Some.names.items c.requires.marked.marks tree taken none c.has.result c.has.ensures.some c.has.ensures.none in
-    sound
+    let h = (goal.at.returns-in-Some-clause-sound c).After-take_out in
+    exact-where _ _ _ _ _ c.requires.marked.marks (tree h) (taken h) (known_none _ _ _ ∣ c.requires ∣₁) c.has.result c.has.ensures.some c.has.ensures.none
 
 pub returns-in-Some-clause-marks : goal.returns-in-Some-clause-marks
 returns-in-Some-clause-marks c = λ yes.
-    let b = c.args.image.now in
-    let t = tiling (contents_of_image b).segs in
-    let old = lists c.args.marks.now.rows.items in
-    let new = lists c.take_out.new.marks.rows.items in
-    let tree : HasGapTree t (contents_of_image b).root c.in-Some.names.items = rw c.in-Some.is at c.in_ok-names.ensures.some in
-    let taken : TakenOut old new c.in-Some.names.items = subst (TakenOut old new) c.deref.ensures.value c.take_out.ensures.marks in
-    let none = known_none b old c.args.marks.now.places.items ∣ c.requires ∣₁ in
-    let sound = exact-where t (contents_of_image b).root old new c.in-Some.names.items c.requires.marked.marks tree taken none c.has.result c.has.ensures.some c.has.ensures.none in
-    marks-left t (contents_of_image b).root old new c.in-Some.names.items c.requires.marked.marks tree taken none (sound.0 yes)
+    let h = (goal.at.returns-in-Some-clause-marks c).After-take_out in
+    let none = known_none _ _ _ ∣ c.requires ∣₁ in
+    marks-left _ _ _ _ _ c.requires.marked.marks (tree h) (taken h) none
+    ((exact-where _ _ _ _ _ c.requires.marked.marks (tree h) (taken h) none c.has.result c.has.ensures.some c.has.ensures.none).0 yes)
 
 pub returns-in-None-clause-sound : goal.returns-in-None-clause-sound
 returns-in-None-clause-sound c =
-    let b = c.args.image.now in
-    let t = tiling (contents_of_image b).segs in
-    let never : (xs : List ℕ) → HasGapTree t (contents_of_image b).root xs → ⊥ = rw c.in-None.is at c.in_ok-names.ensures.none in
+    let never : (xs : List ℕ) → HasGapTree (tiling (contents_of_image c.args.image.now).segs) (contents_of_image c.args.image.now).root xs → ⊥ = rw c.in-None.is at c.in_ok-names.ensures.none in
     (λ yes. absurd (true≢false (sym yes)), λ g. absurd (never g.names g.tree))

@@ -1,5 +1,5 @@
 use Rattle.vc_base.proofs.Common.{◌≡◌, if◌then◌else◌, get_or, contains, refl, ◌∙◌, subst, arith, get_or_default, take_all}
-use Rattle.vc_image_check.specs.Marks.Mark.{lists, mark_at}
+use Rattle.vc_image_check.specs.Marks.Mark.{lists, mark_in}
 use Rattle.vc_image_check.proofs.Sorted.{taken-set}
 use Rattle.vc_image_check.proofs.gaps.tree.take_out.Goals as goal
 
@@ -16,8 +16,10 @@ loop-name-preserved c =
       places = c.take_one.ensures.places ∙ c.loop-name.invariant.places;
     }
 
-pub returns-clause-marks : goal.returns-clause-marks
-returns-clause-marks c = λ a.
-    let xs = c.args.names.now in
-    subst (λ z. mark_at (lists c.loop-name.marks.rows.items) a ≡ (if contains z a then 0 else mark_at (lists c.args.marks.now.rows.items) a))
-    (take_all c.loop-name.name-index xs (let end = c.loop-name-test.false in omega (arith, end))) (c.loop-name.invariant.marks a)
+pub returns : goal.returns
+returns c = record {
+  marks = λ a.
+      subst (λ z. mark_in c.loop-name.marks a ≡ (if contains z a then 0 else mark_in c.args.marks.now a))
+      (take_all c.loop-name.name-index c.args.names.now (omega (arith, c.loop-name-test.false))) (c.loop-name.invariant.marks a);
+  places = c.loop-name.invariant.places;
+}

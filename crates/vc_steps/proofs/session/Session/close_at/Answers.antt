@@ -18,12 +18,9 @@ meaning g p = (g.dyn-1.0.entry p.0).1.state p.1
 
 pub close_region-requires : goal.close_region-requires
 close_region-requires g c =
-    let M = meaning g in
-    let labels = c.args.self.now.labels.items in
-    let own = slice-or labels c.args.i c.remove.result (omega (arith, c.requires.session.named, c.requires.within)) c.remove.ensures.value in
-    let h = held_of M c.in-Some.field-0-0 c.in-Some.home c.remove.result in
-    let at = held-entry M c.args.self.now.homes.entries labels c.args.i (c.in-Some.field-0-0, c.in-Some.home) c.remove.result (sym c.in-Some.ensures.entry) own in
-    let held = held-at c.args.self.now.is_armed (slots_on M c.args.shelf.now) (held_in_session M c.args.self.now) c.args.i h at c.requires.session.held in
+    let own = slice-or c.args.self.now.labels.items c.args.i c.remove.result (omega (arith, c.requires.session.named, c.requires.within)) c.remove.ensures.value in
+    let at = held-entry (meaning g) c.args.self.now.homes.entries c.args.self.now.labels.items c.args.i (c.in-Some.field-0-0, c.in-Some.home) c.remove.result (sym c.in-Some.ensures.entry) own in
+    let held = held-at c.args.self.now.is_armed (slots_on (meaning g) c.args.shelf.now) (held_in_session (meaning g) c.args.self.now) c.args.i (held_of (meaning g) c.in-Some.field-0-0 c.in-Some.home c.remove.result) at c.requires.session.held in
     record { taken = ap standing held.place; lent = held.lent }
 
 pub returns : goal.returns

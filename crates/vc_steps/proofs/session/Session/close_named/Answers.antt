@@ -28,26 +28,18 @@ region g c = found_at c.args.self.now.homes.entries c.args.self.now.labels.items
 
 pub returns-in-None-clause-step : goal.returns-in-None-clause-step
 returns-in-None-clause-step g c = λ kinds dicts.
-    let M = meaning g in
-    let session = c.args.self.now in
-    let s = state_over M kinds c.args.shelf.now session in
-    let r = c.args.name.now in
-    ap (close_home s r) (find-none (is_home r) s.homes (any-named M session.homes.entries session.labels.items r c.requires.named ∙ sym c.in-None.ensures.found))
+    let s = state_over (meaning g) kinds c.args.shelf.now c.args.self.now in
+    ap (close_home s c.args.name.now) (find-none (is_home c.args.name.now) s.homes (any-named (meaning g) c.args.self.now.homes.entries c.args.self.now.labels.items c.args.name.now c.requires.named ∙ sym c.in-None.ensures.found))
 
 pub returns-then-is_busy-clause-step : goal.returns-then-is_busy-clause-step
 returns-then-is_busy-clause-step g c = λ kinds dicts.
-    let M = meaning g in
-    let session = c.args.self.now in
-    let es = session.dicts.entries in
     let x = (region g (goal.at.returns-then-is_busy-clause-step g c).In-Some).1 in
-    close-busy (state_over M kinds c.args.shelf.now session) c.args.name.now c.in-Some.i (region-first M x) (busy-lies (held_in_session M session) (views_by session.paths es) es c.args.name.now ∙ sym c.if-is_busy.ensures)
+    close-busy (state_over (meaning g) kinds c.args.shelf.now c.args.self.now) c.args.name.now c.in-Some.i (region-first (meaning g) x) (busy-lies (held_in_session (meaning g) c.args.self.now) (views_by c.args.self.now.paths c.args.self.now.dicts.entries) c.args.self.now.dicts.entries c.args.name.now ∙ sym c.if-is_busy.ensures)
 
 pub close_at-requires-clause-free : goal.close_at-requires-clause-free
 close_at-requires-clause-free g c =
-    let M = meaning g in
-    let session = c.args.self.now in
     let x = (region g (goal.at.close_at-requires-clause-free g c).In-Some).1 in
-    if_some-to (λ (k : Held). lies_in k.name session.dicts.entries ≡ false) (slice_get (held_in_session M session) c.in-Some.i) (region_at M x) (region-stands M x) (sym c.if-is_busy.ensures)
+    if_some-to (λ (k : Held). lies_in k.name c.args.self.now.dicts.entries ≡ false) (slice_get (held_in_session (meaning g) c.args.self.now) c.in-Some.i) (region_at (meaning g) x) (region-stands (meaning g) x) (sym c.if-is_busy.ensures)
 
 pub returns-else-is_busy-clause-step : goal.returns-else-is_busy-clause-step
 returns-else-is_busy-clause-step g c = λ kinds dicts.

@@ -16,20 +16,19 @@ meaning g p = (g.dyn-1.0.entry p.0).1.state p.1
 
 -- the session
 abbrev here : (g : given.Over) (c : After-show_names g) → SessionHere (meaning g)
-here g c = session_here (meaning g) g.D.DictDisc.rules g.D.DictDisc.gone c.args.shelf.now c.args.self.now c.args.kinds.now.items c.requires.session
+here g c = session_here (meaning g) g.D.DictDisc.rules g.D.DictDisc.gone c.args.shelf.now c.args.self.now c.args.kinds.now.items c.requires.at.stands
 
 pub look_at-requires : goal.look_at-requires
 look_at-requires g c =
     let all = here g (goal.at.look_at-requires g c).After-show_names in
-    let name = c.args.name.now in
-    let entry = entry-named all.es name c.args.i c.requires.index in
+    let entry = entry-named all.es c.args.name.now c.args.i c.requires.at.index in
     record {
       dicts = are-over (meaning g) all.kinds all.homes all.labels all.es all.named all.dicts;
       numbers = all.are.numbered;
-      index = slice_get_within all.es c.args.i (name, entry.0) entry.1;
+      index = slice_get_within all.es c.args.i (c.args.name.now, entry.0) entry.1;
       path =
-          subst (IsPath (layered_over all.kinds all.homes all.es) all.links) (sym (number-named all.es name c.args.i c.requires.index))
-          (path-here (meaning g) all.kinds all.homes all.labels all.es all.named all.dicts all.links all.are c.args.i (name, entry.0) entry.1);
+          subst (IsPath (layered_over all.kinds all.homes all.es) all.links) (sym (number-named all.es c.args.name.now c.args.i c.requires.at.index))
+          (path-here (meaning g) all.kinds all.homes all.labels all.es all.named all.dicts all.links all.are c.args.i (c.args.name.now, entry.0) entry.1);
       look = c.requires.look;
     }
 
@@ -37,15 +36,14 @@ pub returns : goal.returns
 returns g c =
     let all = here g (goal.at.returns g c).After-show_names in
     let looked = c.look_at.ensures in
-    let name = c.args.name.now in
     record {
-      steps = steps-looked all looked c.show_names.ensures name c.requires.index c.requires.look;
+      steps = steps-looked all looked c.show_names.ensures c.args.name.now c.requires.at.index c.requires.look;
       stays = record {
         lasts = record {
           stands = record {
             regions = record { named = named-looked all looked; held = session-looked all looked };
             dicts = dicts-looked all looked;
-            views = linked-looked all looked c.show_names.ensures name c.requires.index c.requires.look;
+            views = linked-looked all looked c.show_names.ensures c.args.name.now c.requires.at.index c.requires.look;
           };
           keeps_rules = refl;
           armed = refl;

@@ -22,7 +22,7 @@ use Rattle.vc_steps.proofs.Cells.{at_number-from_one}
 use Rattle.vc_steps.proofs.DictByName.{any-dict}
 use Rattle.vc_steps.proofs.DictOpens.{OpensIn, open-none, open-refused}
 use Rattle.vc_steps.proofs.BestStays.{relabelled-best}
-use Rattle.vc_steps.proofs.DictRegion.{best_at}
+use Rattle.vc_steps.proofs.DictRegion.{best_at, best_entry}
 use Rattle.vc_steps.proofs.DictWhy.{IsAllowed, few-within, kind-within, lacks-early, refused-early, refused-none, settles-early}
 use Rattle.vc_steps.proofs.SessionEnd.{if_some-at}
 use Rattle.vc_commands.proofs.Firsts.{find-none}
@@ -34,7 +34,7 @@ use Rattle.vc_steps.proofs.SettledShelf.{keeps-same, keeps-settles, settles-same
 use Rattle.vc_steps.proofs.Steps.{asked-steps, halts-same, halts-steps, keeps-steps}
 use Rattle.vc_steps.proofs.session.Session.open_dict.Given as given
 use Rattle.vc_steps.proofs.session.Session.open_dict.Goals as goal
-use Rattle.vc_steps.proofs.session.Session.open_dict.Goals.{After-dict_refused, After-index_mut}
+use Rattle.vc_steps.proofs.session.Session.open_dict.Goals.{After-dict_refused, After-index_mut, In-Best}
 
 abbrev meaning : (g : given.Over) → (x : g.dyn-1.0.I) × (g.dyn-1.0.entry x).0.Denot → Discipline
 meaning g p = (g.dyn-1.0.entry p.0).1.state p.1
@@ -73,15 +73,31 @@ abbrev place : (g : given.Over) (c : After-index_mut g) → RegionAt c.args.self
 place g c =
     stored_at c.args.self.now.homes.entries c.args.self.now.labels.items c.args.region c.in-Some.j c.requires.session.regions.named (sym c.get_index_of.ensures.index ∙ c.in-Some.is) c.index_mut.result.now c.index_mut.ensures.value
 
+-- and as a best one
+abbrev in_best : (g : given.Over) (c : In-Best g) → OpensIn (meaning g) (best_entry c.index_mut.result.now.place c.in-Best.best)
+in_best g c =
+    let session = c.args.self.now in
+    record {
+      here = session_here (meaning g) g.D.DictDisc.rules g.D.DictDisc.gone c.args.shelf.now session c.args.kinds.now.items c.requires.session;
+      r = c.args.region;
+      j = c.in-Some.j;
+      region =
+          best_at
+          (stored_at session.homes.entries session.labels.items c.args.region c.in-Some.j c.requires.session.regions.named (sym c.get_index_of.ensures.index ∙ c.in-Some.is) c.index_mut.result.now c.index_mut.ensures.value)
+          c.in-Best.best c.in-Best.is;
+      d = c.args.name;
+      method = c.args.method;
+      k = c.args.kind;
+    }
+
 pub returns-in_default-clause-steps : goal.returns-in_default-clause-steps
 returns-in_default-clause-steps g c =
-    let M = meaning g in
     let session = c.args.self.now in
-    let s = state_over M (rules_in g.D.DictDisc.rules c.args.kinds.now.items) c.args.shelf.now session in
+    let s = state_over (meaning g) (rules_in g.D.DictDisc.rules c.args.kinds.now.items) c.args.shelf.now session in
     record {
       gives =
           open-none s (gone_in g.D.DictDisc.gone c.args.kinds.now.items) c.args.name c.args.region c.args.method c.args.kind NoNeed
-          (find-none (is_home c.args.region) s.homes (any-named M session.homes.entries session.labels.items c.args.region c.requires.session.regions.named ∙ (sym c.get_index_of.ensures.found ∙ ap is_some c.in_default.is)));
+          (find-none (is_home c.args.region) s.homes (any-named (meaning g) session.homes.entries session.labels.items c.args.region c.requires.session.regions.named ∙ (sym c.get_index_of.ensures.found ∙ ap is_some c.in_default.is)));
       settles = settles-same _;
       armed = refl;
       lacks = tt;
@@ -109,15 +125,14 @@ returns-in_err-reserve g c =
     let kinds = rules_in g.D.DictDisc.rules c.args.kinds.now.items in
     let slots = slots_on M c.args.shelf.now in
     let helds = held_in_session M c.args.self.now in
-    let kept = c.reserve.ensures.entries in
     record {
-      steps = halts-steps c.from_residual.result _ _ _ _ (search rules) (halts-same _ _ _ (ap (λ x. state_of kinds slots helds (dicts_in helds (views_by c.args.self.now.paths x) x)) kept) refl refl refl);
+      steps = halts-steps c.from_residual.result _ _ _ _ (search rules) (halts-same _ _ _ (ap (λ x. state_of kinds slots helds (dicts_in helds (views_by c.args.self.now.paths x) x)) c.reserve.ensures.entries) refl refl refl);
       stays = record {
         lasts = record {
           stands = record {
             regions = record { named = c.requires.session.regions.named; held = c.requires.session.regions.held };
-            dicts = subst (AreDicts kinds helds) (sym kept) c.requires.session.dicts;
-            views = subst (AreLinked c.args.self.now.paths) (sym kept) c.requires.session.views;
+            dicts = subst (AreDicts kinds helds) (sym c.reserve.ensures.entries) c.requires.session.dicts;
+            views = subst (AreLinked c.args.self.now.paths) (sym c.reserve.ensures.entries) c.requires.session.views;
           };
           keeps_rules = refl;
           armed = refl;
@@ -150,36 +165,32 @@ free_number-number-requires g c =
     let all = here g a in
     let many = length-map all.es (dict_home (helds all) (views all)) in
     let few = few-within (length all.es) (ap (nat_le dict_limit) (sym many) ∙ (may g a (found g a).1 c.in_default-dict_refused.is).few) in
-    let kept = ap length c.reserve.ensures.entries in
-    omega (arith, few, kept)
+    omega (arith, few, ap length c.reserve.ensures.entries)
 
 pub open-requires : goal.open-requires
 open-requires g c =
     let at = goal.at.open-requires g c in
-    let best = c.in-Best.best in
-    let x = opens g at.After-dict_refused (best_at (place g at.After-index_mut) best c.in-Best.is) in
-    record { lent = lent-by c.index_mut.result.now.place best x (sym (why g at.After-dict_refused x.region) ∙ c.in_default-dict_refused.is) }
+    let x = in_best g at.In-Best in
+    record { lent = lent-by c.index_mut.result.now.place c.in-Best.best x (sym (why g at.After-dict_refused x.region) ∙ c.in_default-dict_refused.is) }
 
 pub returns-in-Err : goal.returns-in-Err
 returns-in-Err g c =
     let at = goal.at.returns-in-Err g c in
-    let best = c.in-Best.best in
-    let x = opens g at.After-dict_refused (best_at (place g at.After-index_mut) best c.in-Best.is) in
+    let x = in_best g at.In-Best in
     let allowed = sym (why g at.After-dict_refused x.region) ∙ c.in_default-dict_refused.is in
     let shelf = c.index_mut.result.now.place in
     let after = c.open.new.best in
     let stays = c.in-Err.ensures.err.1 in
     let new = c.reserve.new.self.entries in
-    let kept = c.reserve.ensures.entries in
-    let steps = steps-unopened shelf best x allowed after stays new kept c.in-Err.fault c.table_refused.result c.table_refused.ensures c.in-Err.ensures.asked c.in-Err.ensures.err.0 in
+    let steps = steps-unopened shelf c.in-Best.best x allowed after stays new c.reserve.ensures.entries c.in-Err.fault c.table_refused.result c.table_refused.ensures c.in-Err.ensures.asked c.in-Err.ensures.err.0 in
     record {
       steps = steps;
       stays = record {
         lasts = record {
           stands = record {
-            regions = record { named = named-opened shelf best x allowed after [] stays.leaves; held = session-opened shelf best x allowed after [] stays.leaves };
-            dicts = dicts-unopened shelf best x allowed after stays new kept;
-            views = linked-unopened shelf best x allowed after stays new kept;
+            regions = record { named = named-opened shelf c.in-Best.best x allowed after [] stays.leaves; held = session-opened shelf c.in-Best.best x allowed after [] stays.leaves };
+            dicts = dicts-unopened shelf c.in-Best.best x allowed after stays new c.reserve.ensures.entries;
+            views = linked-unopened shelf c.in-Best.best x allowed after stays new c.reserve.ensures.entries;
           };
           keeps_rules = refl;
           armed = refl;
@@ -194,8 +205,7 @@ returns-in-Err g c =
 pub returns-in-Ok : goal.returns-in-Ok
 returns-in-Ok g c =
     let at = goal.at.returns-in-Ok g c in
-    let best = c.in-Best.best in
-    let x = opens g at.After-dict_refused (best_at (place g at.After-index_mut) best c.in-Best.is) in
+    let x = in_best g at.In-Best in
     let allowed = sym (why g at.After-dict_refused x.region) ∙ c.in_default-dict_refused.is in
     let shelf = c.index_mut.result.now.place in
     let after = c.open.new.best in
@@ -207,13 +217,12 @@ returns-in-Ok g c =
     let within = range g at.After-dict_refused c.in_default-dict_refused.is in
     let kind = c.index.result.now in
     let its_kind : slice_get items (k - 1) ≡ Some kind = slice-or items (k - 1) kind (omega (arith, within.0, within.1)) c.index.ensures in
-    let kept = c.reserve.ensures.entries in
     let n = c.free_number-number.result in
     let lain : DictEntry = record { home = c.args.region; number = n; dict = dict } in
     let absent : is_some (lookup (bytes_eq d) x.here.es) ≡ false = sym (any-dict (helds x.here) (views x.here) x.here.es d) ∙ (may g at.After-dict_refused x.region c.in_default-dict_refused.is).new in
     let put = from_ok c.insert.result (c.insert.ensures.succeeds (omega (arith, c.in_ok-reserve.ensures.ok))) c.insert.ensures.entries in
-    let free = none_of (lookup (bytes_eq d) c.reserve.new.self.entries) (ap (λ es. is_some (lookup (bytes_eq d) es)) kept ∙ absent) in
-    let o : DictOpened shelf best x allowed = record {
+    let free = none_of (lookup (bytes_eq d) c.reserve.new.self.entries) (ap (λ es. is_some (lookup (bytes_eq d) es)) c.reserve.ensures.entries ∙ absent) in
+    let o : DictOpened shelf c.in-Best.best x allowed = record {
       rules = item kind;
       by = at_number-from_one (rules_in item items) k within.0 ∙ (slice_get-map item items (k - 1) ∙ ap (option_map item) its_kind);
       dict = dict;
@@ -221,20 +230,20 @@ returns-in-Ok g c =
       opens = c.in-Ok.ensures.ok;
       asked = c.in-Ok.ensures.asked.faults;
       n = n;
-      free = ap (entry_numbered n) (sym kept) ∙ c.free_number-number.ensures.free;
+      free = ap (entry_numbered n) (sym c.reserve.ensures.entries) ∙ c.free_number-number.ensures.free;
       below = c.free_number-number.ensures.below;
       es' = c.insert.new.self.entries;
-      last = put ∙ (insert_entry-new bytes_eq c.reserve.new.self d lain free ∙ ap (λ es. es ++ (d, lain) ∷ []) kept);
+      last = put ∙ (insert_entry-new bytes_eq c.reserve.new.self d lain free ∙ ap (λ es. es ++ (d, lain) ∷ []) c.reserve.ensures.entries);
     } in
-    let steps = steps-opened shelf best x allowed o in
+    let steps = steps-opened shelf c.in-Best.best x allowed o in
     record {
       steps = steps;
       stays = record {
         lasts = record {
           stands = record {
-            regions = record { named = named-opened shelf best x allowed after _ c.in-Ok.ensures.ok.leaves; held = session-opened shelf best x allowed after _ c.in-Ok.ensures.ok.leaves };
-            dicts = dicts-new shelf best x allowed o;
-            views = linked-new shelf best x allowed o;
+            regions = record { named = named-opened shelf c.in-Best.best x allowed after _ c.in-Ok.ensures.ok.leaves; held = session-opened shelf c.in-Best.best x allowed after _ c.in-Ok.ensures.ok.leaves };
+            dicts = dicts-new shelf c.in-Best.best x allowed o;
+            views = linked-new shelf c.in-Best.best x allowed o;
           };
           keeps_rules = refl;
           armed = refl;

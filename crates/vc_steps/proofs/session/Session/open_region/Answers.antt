@@ -30,28 +30,24 @@ meaning g p = (g.dyn-1.0.entry p.0).1.state p.1
 
 pub returns-then-contains_key-clause-steps : goal.returns-then-contains_key-clause-steps
 returns-then-contains_key-clause-steps g c = λ kinds gone dicts.
-    let M = meaning g in
-    let session = c.args.self.now in
     let is =
-    open_step-named (state_over M kinds c.args.shelf.now session) c.args.name c.args.method c.args.n
-    (any-named M session.homes.entries session.labels.items c.args.name c.requires.named ∙ sym c.if-contains_key.ensures) in
+    open_step-named (state_over (meaning g) kinds c.args.shelf.now c.args.self.now) c.args.name c.args.method c.args.n
+    (any-named (meaning g) c.args.self.now.homes.entries c.args.self.now.labels.items c.args.name c.requires.named ∙ sym c.if-contains_key.ensures) in
     steps-quiet _ _ _ _ (Refused RegionExists) is refl refl refl tt
 
 pub returns-in_default-clause-steps : goal.returns-in_default-clause-steps
 returns-in_default-clause-steps g c = λ kinds gone dicts.
-    let M = meaning g in
-    let session = c.args.self.now in
-    let slots = slots_on M c.args.shelf.now in
-    let helds = held_in_session M session in
-    let es = session.dicts.entries in
-    let vs = views_by session.paths es in
-    let same : slots_on M c.take.new.self ≡ slots = ap (slots_of (disc_in_box M)) c.in_default.ensures.none in
+    let slots = slots_on (meaning g) c.args.shelf.now in
+    let helds = held_in_session (meaning g) c.args.self.now in
+    let es = c.args.self.now.dicts.entries in
+    let vs = views_by c.args.self.now.paths es in
+    let same : slots_on (meaning g) c.take.new.self ≡ slots = ap (slots_of (disc_in_box (meaning g))) c.in_default.ensures.none in
     let why : c.not_here.result ≡ not_here (place_at slots c.args.n) = c.not_here.ensures ∙ ap not_here (c.place.ensures ∙ ap (λ s. place_at s c.args.n) same) in
     let is =
-    open_step-not_here kinds slots helds (dicts_in helds vs es) c.args.name c.args.method c.args.n (any-named M session.homes.entries session.labels.items c.args.name c.requires.named ∙ sym c.if-contains_key.ensures) (λ e. false≢true (c.in_default.ensures.here.1 e))
-    ∙ (ap (λ w. step_with_reply (state_over M kinds c.args.shelf.now session) (Refused w)) (sym why)
-    ∙ ap (λ s. step_with_reply s (Refused c.not_here.result)) (sym (state-lists M same c.reserve.ensures.entries c.reserve-2.ensures.items kinds vs es))) in
-    steps-quiet _ _ _ _ (Refused c.not_here.result) is refl (settled-lists M same c.reserve.ensures.entries c.reserve-2.ensures.items) refl
+    open_step-not_here kinds slots helds (dicts_in helds vs es) c.args.name c.args.method c.args.n (any-named (meaning g) c.args.self.now.homes.entries c.args.self.now.labels.items c.args.name c.requires.named ∙ sym c.if-contains_key.ensures) (λ e. false≢true (c.in_default.ensures.here.1 e))
+    ∙ (ap (λ w. step_with_reply (state_over (meaning g) kinds c.args.shelf.now c.args.self.now) (Refused w)) (sym why)
+    ∙ ap (λ s. step_with_reply s (Refused c.not_here.result)) (sym (state-lists (meaning g) same c.reserve.ensures.entries c.reserve-2.ensures.items kinds vs es))) in
+    steps-quiet _ _ _ _ (Refused c.not_here.result) is refl (settled-lists (meaning g) same c.reserve.ensures.entries c.reserve-2.ensures.items) refl
     (open-granted _ _ c.args.name c.args.method c.args.n (Refused c.not_here.result) is)
 
 pub returns-in_err-reserve-clause-regions : goal.returns-in_err-reserve-clause-regions
@@ -70,38 +66,35 @@ returns-in_default-clause-unarmed g c = arms-same _ _ (ap (slots_of (disc_in_box
 
 pub returns-in-Ok : goal.returns-in-Ok
 returns-in-Ok g c =
-    let M = meaning g in
-    let session = c.args.self.now in
-    let es = session.dicts.entries in
-    let entries = session.homes.entries in
+    let entries = c.args.self.now.homes.entries in
     let absent : is_some (lookup (bytes_eq c.args.name) entries) ≡ false = sym c.if-contains_key.ensures in
     let home : HomeEntry _ _ = record { place = c.args.n; region = c.in-Ok.region } in
     let put = from_ok c.insert.result (c.insert.ensures.succeeds (omega (arith, c.in_ok-reserve.ensures.ok))) c.insert.ensures.entries in
     let gone = none_of (lookup (bytes_eq c.args.name) c.reserve.new.self.entries) (ap (λ es. is_some (lookup (bytes_eq c.args.name) es)) c.reserve.ensures.entries ∙ absent) in
-    let newest : IsNewest M session.is_armed (slots_on M c.args.shelf.now) (slots_on M c.take.new.self) entries c.insert.new.self.entries session.labels.items c.push_reserved.new.self.items c.args.name c.args.method home c.new.result = record {
+    let newest : IsNewest (meaning g) c.args.self.now.is_armed (slots_on (meaning g) c.args.shelf.now) (slots_on (meaning g) c.take.new.self) entries c.insert.new.self.entries c.args.self.now.labels.items c.push_reserved.new.self.items c.args.name c.args.method home c.new.result = record {
       named = c.requires.named;
       session = c.requires.held;
       absent = absent;
       last = put ∙ (insert_entry-new bytes_eq c.reserve.new.self c.args.name home gone ∙ ap (λ es. es ++ (c.args.name, home) ∷ []) c.reserve.ensures.entries);
       more = c.push_reserved.ensures.items ∙ ap (λ ls. ls ++ c.new.result ∷ []) c.reserve-2.ensures.items;
       newly = c.in-Ok.ensures.ok.0;
-      was = disc_in_box M c.in-Some.disc;
+      was = disc_in_box (meaning g) c.in-Some.disc;
       taken = c.in-Some.ensures.taken;
       armed = c.in-Ok.ensures.ok.1 ∙ c.arm.ensures;
       emptied = c.in-Some.ensures.emptied;
       none = record { agree = c.new.ensures.agree; names = c.new.ensures.no_names; count = c.new.ensures.count; kept = c.new.ensures.kept };
     } in
     record {
-      steps = λ kinds gone dicts. steps-quiet _ _ _ _ (Opened c.args.name) (newest-step newest kinds (views_by session.paths es) es dicts) refl (newest-settled newest) refl tt;
+      steps = λ kinds gone dicts. steps-quiet _ _ _ _ (Opened c.args.name) (newest-step newest kinds (views_by c.args.self.now.paths c.args.self.now.dicts.entries) c.args.self.now.dicts.entries dicts) refl (newest-settled newest) refl tt;
       regions = record {
         regions = record { named = newest-named newest; held = newest-session newest };
-        dicts = λ kinds dicts. newest-dicts newest kinds es dicts;
+        dicts = λ kinds dicts. newest-dicts newest kinds c.args.self.now.dicts.entries dicts;
         views = λ are. are;
         spent = refl;
         armed = refl;
       };
       settled = newest-settled newest;
-      unarmed = subst (ArmsNone (slots_on M c.args.shelf.now)) (sym c.in-Some.ensures.emptied) (arms-taken (slots_on M c.args.shelf.now) c.args.n c.in-Some.ensures.taken);
+      unarmed = subst (ArmsNone (slots_on (meaning g) c.args.shelf.now)) (sym c.in-Some.ensures.emptied) (arms-taken (slots_on (meaning g) c.args.shelf.now) c.args.n c.in-Some.ensures.taken);
     }
 
 pub returns-in-Err : goal.returns-in-Err

@@ -24,10 +24,10 @@ meaning g p = (g.dyn-1.0.entry p.0).1.state p.1
 
 -- the session, and the dictionary of the name
 abbrev here : (g : given.Over) (c : After-index-entry g) → SessionHere (meaning g)
-here g c = session_here (meaning g) g.D.DictDisc.rules g.D.DictDisc.gone c.args.shelf.now c.args.self.now c.args.kinds.now.items c.requires.session
+here g c = session_here (meaning g) g.D.DictDisc.rules g.D.DictDisc.gone c.args.shelf.now c.args.self.now c.args.kinds.now.items c.requires.at.stands
 
 abbrev own : (g : given.Over) (c : After-index-entry g) → DictAt c.args.self.now.dicts.entries
-own g c = record { name = c.args.name.now; i = c.args.i; v = c.index-entry.result.now; index = c.requires.index; value = c.index-entry.ensures }
+own g c = record { name = c.args.name.now; i = c.args.i; v = c.index-entry.result.now; index = c.requires.at.index; value = c.index-entry.ensures }
 
 -- its kind is one of those that there are
 kind-range : (g : given.Over) (c : After-index-entry g) → (1 ≤ c.index-entry.result.now.dict.kind) × (c.index-entry.result.now.dict.kind - 1 < length c.args.kinds.now.items)
@@ -43,13 +43,13 @@ same g c = same_Some c.index-entry.result.now c.index_mut-2.result.now (sym c.in
 abbrev lies : (g : given.Over) (c : After-index_mut-3 g) → DictIn (meaning g) (best_entry c.index_mut.result.now.place c.in-Best.best)
 lies g c =
     let session = c.args.self.now in
-    let region = stored_at session.homes.entries session.labels.items c.index_mut-2.result.now.home c.in-Some.j c.requires.session.regions.named
+    let region = stored_at session.homes.entries session.labels.items c.index_mut-2.result.now.home c.in-Some.j c.requires.at.stands.regions.named
     (subst (λ (e : DictEntry). position (bytes_eq e.home) (keys_of session.homes.entries) ≡ Some c.in-Some.j) (same g c) (sym c.in-Some.ensures.index)) c.index_mut.result.now c.index_mut.ensures.value in
     record {
-      here = session_here (meaning g) g.D.DictDisc.rules g.D.DictDisc.gone c.args.shelf.now session c.args.kinds.now.items c.requires.session;
+      here = session_here (meaning g) g.D.DictDisc.rules g.D.DictDisc.gone c.args.shelf.now session c.args.kinds.now.items c.requires.at.stands;
       i = c.args.i;
       e = (c.args.name.now, c.index_mut-2.result.now);
-      there = stands-at session.dicts.entries (record { name = c.args.name.now; i = c.args.i; v = c.index_mut-2.result.now; index = c.requires.index; value = c.index_mut-2.ensures.value });
+      there = stands-at session.dicts.entries (record { name = c.args.name.now; i = c.args.i; v = c.index_mut-2.result.now; index = c.requires.at.index; value = c.index_mut-2.ensures.value });
       j = c.in-Some.j;
       region = best_at region c.in-Best.best c.in-Best.is;
     }
@@ -57,12 +57,10 @@ lies g c =
 -- its kind stands at its number
 its-kind : (g : given.Over) (c : After-index_mut-3 g) → (1 ≤ c.index_mut-2.result.now.dict.kind) × (slice_get c.args.kinds.now.items (c.index_mut-2.result.now.dict.kind - 1) ≡ Some c.index_mut-3.result.now)
 its-kind g c =
-    let items = c.args.kinds.now.items in
-    let one = c.index_mut-3.result.now in
     let is = its (lies g c) in
-    let range = kind-within g.D.DictDisc.rules items c.index_mut-2.result.now.dict.kind is.rules is.kind in
-    let within = subst (λ (e : DictEntry). e.dict.kind - 1 < length items) (sym (same g c)) range.1 in
-    (range.0, subst (λ (e : DictEntry). slice_get items (e.dict.kind - 1) ≡ Some one) (same g c) (slice-or items (c.index-entry.result.now.dict.kind - 1) one within c.index_mut-3.ensures.value))
+    let range = kind-within g.D.DictDisc.rules c.args.kinds.now.items c.index_mut-2.result.now.dict.kind is.rules is.kind in
+    let within = subst (λ (e : DictEntry). e.dict.kind - 1 < length c.args.kinds.now.items) (sym (same g c)) range.1 in
+    (range.0, subst (λ (e : DictEntry). slice_get c.args.kinds.now.items (e.dict.kind - 1) ≡ Some c.index_mut-3.result.now) (same g c) (slice-or c.args.kinds.now.items (c.index-entry.result.now.dict.kind - 1) c.index_mut-3.result.now within c.index_mut-3.ensures.value))
 
 pub unreachable-requires : goal.unreachable-requires
 unreachable-requires g c =
@@ -73,7 +71,7 @@ pub unreachable-requires-in_default-region : goal.unreachable-requires-in_defaul
 unreachable-requires-in_default-region g c =
     let at = (goal.at.unreachable-requires-in_default-region g c).After-index-entry in
     let v = c.index_mut.result.now in
-    let region = stored_at c.args.self.now.homes.entries c.args.self.now.labels.items c.index-entry.result.now.home c.in-Some.j c.requires.session.regions.named (sym c.in-Some.ensures.index) v c.index_mut.ensures.value in
+    let region = stored_at c.args.self.now.homes.entries c.args.self.now.labels.items c.index-entry.result.now.home c.in-Some.j c.requires.at.stands.regions.named (sym c.in-Some.ensures.index) v c.index_mut.ensures.value in
     no-other v.region (best-there {meaning = meaning g} {v = v} (record { here = here g at; i = c.args.i; e = entry_at (own g at); there = stands-at c.args.self.now.dicts.entries (own g at); j = c.in-Some.j; region = region })) c.in_default-region.not-Best
 
 pub overflow_sub-k : goal.overflow_sub-k
@@ -86,15 +84,11 @@ index_mut-requires-3 g c =
 pub run-requires : goal.run-requires
 run-requires g c =
     let at = (goal.at.run-requires g c).After-index_mut-3 in
-    let kind = its-kind g at in
-    let one = c.index_mut-3.result.now in
-    let at_rules = kind-at g.D.DictDisc.rules c.args.kinds.now.items c.index_mut-2.result.now.dict.kind one kind.0 kind.1 in
-    let x = lies g at in
-    let place = c.index_mut.result.now.place in
+    let at_rules = kind-at g.D.DictDisc.rules c.args.kinds.now.items c.index_mut-2.result.now.dict.kind c.index_mut-3.result.now (its-kind g at).0 (its-kind g at).1 in
     record {
       ask = record {
-        whole = whole-by place c.in-Best.best x c.requires.index (g.D.DictDisc.rules one) at_rules;
-        lent = lent-by place c.in-Best.best x c.requires.index;
+        whole = whole-by c.index_mut.result.now.place c.in-Best.best (lies g at) c.requires.at.index (g.D.DictDisc.rules c.index_mut-3.result.now) at_rules;
+        lent = lent-by c.index_mut.result.now.place c.in-Best.best (lies g at) c.requires.at.index;
       };
     }
 
@@ -102,7 +96,7 @@ pub returns : goal.returns
 returns g c =
     let at = (goal.at.returns g c).After-index_mut-3 in
     let x = lies g at in
-    let index = c.requires.index in
+    let index = c.requires.at.index in
     let place = c.index_mut.result.now.place in
     let best = c.in-Best.best in
     let rules = g.D.DictDisc.rules in

@@ -28,25 +28,21 @@ meaning g p = (g.dyn-1.0.entry p.0).1.state p.1
 -- the region of the name
 abbrev region : (g : given.Over) (c : After-index_mut-2 g) → RegionAt c.args.self.now.homes.entries c.args.self.now.labels.items c.args.name.now c.in-Some.i c.index_mut.result.now
 region g c =
-    let session = c.args.self.now in
     let index = sym c.in-Some.ensures.index in
     record {
       named = c.requires.regions.named;
       index = index;
       value = c.index_mut.ensures.value;
       l = c.index_mut-2.result.now;
-      own = label-read session.homes.entries session.labels.items c.args.name.now c.in-Some.i c.requires.regions.named index c.index_mut-2.result.now c.index_mut-2.ensures.value;
+      own = label-read c.args.self.now.homes.entries c.args.self.now.labels.items c.args.name.now c.in-Some.i c.requires.regions.named index c.index_mut-2.result.now c.index_mut-2.ensures.value;
     }
 
 pub returns-in_default-clause-steps : goal.returns-in_default-clause-steps
 returns-in_default-clause-steps g c = λ kinds gone dicts.
-    let M = meaning g in
-    let session = c.args.self.now in
-    let r = c.args.name.now in
     record {
       gives =
-          step-none (state_over M kinds c.args.shelf.now session) gone c.args.line c.args.command.now r
-          (find-none (is_home r) (map home_of (held_in_session M session)) (any-named M session.homes.entries session.labels.items r c.requires.regions.named ∙ sym c.in_default.ensures.found));
+          step-none (state_over (meaning g) kinds c.args.shelf.now c.args.self.now) gone c.args.line c.args.command.now c.args.name.now
+          (find-none (is_home c.args.name.now) (map home_of (held_in_session (meaning g) c.args.self.now)) (any-named (meaning g) c.args.self.now.homes.entries c.args.self.now.labels.items c.args.name.now c.requires.regions.named ∙ sym c.in_default.ensures.found));
       settles = settles-same _;
       armed = refl;
       lacks = tt;
@@ -54,19 +50,15 @@ returns-in_default-clause-steps g c = λ kinds gone dicts.
 
 pub returns-then-clears_busy-clause-steps : goal.returns-then-clears_busy-clause-steps
 returns-then-clears_busy-clause-steps g c = λ kinds gone dicts.
-    let M = meaning g in
-    let session = c.args.self.now in
-    let helds = held_in_session M session in
-    let es = session.dicts.entries in
-    let r = c.args.name.now in
-    let command = c.args.command.now in
-    let first = first-named M session.homes.entries session.labels.items r c.in-Some.i c.requires.regions.named (sym c.in-Some.ensures.index) in
-    let both = and_parts (is_clear command) (lies_in r es) (sym c.if-clears_busy.ensures) in
-    let is = clear-is command both.0 in
+    let helds = held_in_session (meaning g) c.args.self.now in
+    let es = c.args.self.now.dicts.entries in
+    let first = first-named (meaning g) c.args.self.now.homes.entries c.args.self.now.labels.items c.args.name.now c.in-Some.i c.requires.regions.named (sym c.in-Some.ensures.index) in
+    let both = and_parts (is_clear c.args.command.now) (lies_in c.args.name.now es) (sym c.if-clears_busy.ensures) in
+    let is = clear-is c.args.command.now both.0 in
     record {
       gives =
-          step-busy (state_over M kinds c.args.shelf.now session) gone c.args.line command r is.0 first.item
-          (find-first (is_home r) (map home_of helds) c.in-Some.i first) is.1 (busy-lies helds (views_by session.paths es) es r ∙ both.1);
+          step-busy (state_over (meaning g) kinds c.args.shelf.now c.args.self.now) gone c.args.line c.args.command.now c.args.name.now is.0 first.item
+          (find-first (is_home c.args.name.now) (map home_of helds) c.in-Some.i first) is.1 (busy-lies helds (views_by c.args.self.now.paths es) es c.args.name.now ∙ both.1);
       settles = settles-same _;
       armed = refl;
       lacks = tt;
@@ -74,9 +66,8 @@ returns-then-clears_busy-clause-steps g c = λ kinds gone dicts.
 
 pub run-requires : goal.run-requires
 run-requires g c =
-    let M = meaning g in
     let x = region g (goal.at.run-requires g c).After-index_mut-2 in
-    let held = held-at c.args.self.now.is_armed (slots_on M c.args.shelf.now) (held_in_session M c.args.self.now) c.in-Some.i (region_at M x) (region-stands M x) c.requires.regions.held in
+    let held = held-at c.args.self.now.is_armed (slots_on (meaning g) c.args.shelf.now) (held_in_session (meaning g) c.args.self.now) c.in-Some.i (region_at (meaning g) x) (region-stands (meaning g) x) c.requires.regions.held in
     record { names = held.names; lent = held.lent }
 
 pub returns : goal.returns

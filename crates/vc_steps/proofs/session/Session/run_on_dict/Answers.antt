@@ -39,16 +39,12 @@ own g c = record { name = c.args.name.now; i = c.in-Some.i; v = c.index.result.n
 
 pub returns-in_default-clause-steps : goal.returns-in_default-clause-steps
 returns-in_default-clause-steps g c =
-    let M = meaning g in
-    let session = c.args.self.now in
-    let es = session.dicts.entries in
-    let s = state_over M (rules_in g.D.DictDisc.rules c.args.kinds.now.items) c.args.shelf.now session in
+    let s = state_over (meaning g) (rules_in g.D.DictDisc.rules c.args.kinds.now.items) c.args.shelf.now c.args.self.now in
     let name = c.args.name.now in
-    let command = c.args.command.now in
     record {
       gives =
-          gives-same (dict_step s name command NoNeed) (gone_in g.D.DictDisc.gone c.args.kinds.now.items) (Refused NoDictionary) s
-          (ap (on_found s (dict_command s command NoNeed)) (dict-none (held_in_session M session) (views_by session.paths es) es name (sym c.in_default.ensures.found)));
+          gives-same (dict_step s name c.args.command.now NoNeed) (gone_in g.D.DictDisc.gone c.args.kinds.now.items) (Refused NoDictionary) s
+          (ap (on_found s (dict_command s c.args.command.now NoNeed)) (dict-none (held_in_session (meaning g) c.args.self.now) (views_by c.args.self.now.paths c.args.self.now.dicts.entries) c.args.self.now.dicts.entries name (sym c.in_default.ensures.found)));
       settles = settles-same _;
       armed = refl;
       lacks = tt;
@@ -57,8 +53,7 @@ returns-in_default-clause-steps g c =
 pub is_barred-requires : goal.is_barred-requires
 is_barred-requires g c =
     let a = (goal.at.is_barred-requires g c).After-index in
-    let es = c.args.self.now.dicts.entries in
-    all-at (λ (e : Entry). e.1.number < numbers) es c.in-Some.i (entry_at (own g a)) c.requires.session.views.numbered.below (stands-at es (own g a))
+    all-at (λ (e : Entry). e.1.number < numbers) c.args.self.now.dicts.entries c.in-Some.i (entry_at (own g a)) c.requires.session.views.numbered.below (stands-at c.args.self.now.dicts.entries (own g a))
 
 pub returns-then-is_barred-clause-steps : goal.returns-then-is_barred-clause-steps
 returns-then-is_barred-clause-steps g c =
@@ -68,12 +63,11 @@ returns-then-is_barred-clause-steps g c =
     let there = stands-at all.es d in
     let is = whole_at all d in
     let s = state_here all in
-    let command = c.args.command.now in
     record {
       gives =
-          gives-same (dict_step s d.name command NoNeed) all.gone (Refused Viewed) s
-          (step-dict all.kinds all.slots (helds all) all.es (views all) d.i (entry_at d) there (first-at all d) all.dicts command NoNeed
-          ∙ barred-refused all.kinds all.slots (helds all) all.links all.es c.show_names.ensures all.are d.i (entry_at d) there command NoNeed (home_of is.home) is.rules
+          gives-same (dict_step s d.name c.args.command.now NoNeed) all.gone (Refused Viewed) s
+          (step-dict all.kinds all.slots (helds all) all.es (views all) d.i (entry_at d) there (first-at all d) all.dicts c.args.command.now NoNeed
+          ∙ barred-refused all.kinds all.slots (helds all) all.links all.es c.show_names.ensures all.are d.i (entry_at d) there c.args.command.now NoNeed (home_of is.home) is.rules
           (ap (bars_at all.links d.v.number) c.requires.command ∙ sym c.if-is_barred.ensures));
       settles = settles-same _;
       armed = refl;
@@ -83,10 +77,8 @@ returns-then-is_barred-clause-steps g c =
 pub shut_at-requires-clause-unviewed : goal.shut_at-requires-clause-unviewed
 shut_at-requires-clause-unviewed g c =
     let d = own g (goal.at.shut_at-requires-clause-unviewed g c).After-index in
-    let links = c.args.self.now.paths in
-    let es = c.args.self.now.dicts.entries in
-    if_some-to (λ (e : Entry). is_viewed links e.1.number ≡ false) (slice_get es d.i) (entry_at d) (stands-at es d)
-    (ap (bars links d.v.number) (sym c.in-End.is) ∙ sym c.if-is_barred.ensures)
+    if_some-to (λ (e : Entry). is_viewed c.args.self.now.paths e.1.number ≡ false) (slice_get c.args.self.now.dicts.entries d.i) (entry_at d) (stands-at c.args.self.now.dicts.entries d)
+    (ap (bars c.args.self.now.paths d.v.number) (sym c.in-End.is) ∙ sym c.if-is_barred.ensures)
 
 pub returns-in-End-clause-steps : goal.returns-in-End-clause-steps
 returns-in-End-clause-steps g c =
@@ -117,10 +109,8 @@ run_at-requires-clause-alone g c =
 pub run_at-requires-clause-free : goal.run_at-requires-clause-free
 run_at-requires-clause-free g c =
     let d = own g (goal.at.run_at-requires-clause-free g c).After-index in
-    let es = c.args.self.now.dicts.entries in
-    let links = c.args.self.now.paths in
-    if_some-to (λ (e : Entry). is_barred links e.1.number c.args.command.now ≡ false) (slice_get es d.i) (entry_at d) (stands-at es d)
-    (ap (bars_at links d.v.number) c.requires.command ∙ sym c.if-is_barred.ensures)
+    if_some-to (λ (e : Entry). is_barred c.args.self.now.paths e.1.number c.args.command.now ≡ false) (slice_get c.args.self.now.dicts.entries d.i) (entry_at d) (stands-at c.args.self.now.dicts.entries d)
+    (ap (bars_at c.args.self.now.paths d.v.number) c.requires.command ∙ sym c.if-is_barred.ensures)
 
 pub look_at-requires-clause-name : goal.look_at-requires-clause-name
 look_at-requires-clause-name g c = named g (goal.at.look_at-requires-clause-name g c).After-index

@@ -23,14 +23,11 @@ loop-i-preserved g c =
 
 pub returns : goal.returns
 returns g c =
-    let M = meaning g in
-    let on : Bool = c.args.version == 2 in
-    let session = c.args.self.now in
-    let few = helds-few M on session.homes.entries session.labels.items in
+    let few = helds-few (meaning g) (c.args.version == 2) c.args.self.now.homes.entries c.args.self.now.labels.items in
     record {
       held =
           c.loop-i.invariant.held
-          ∙ armed-last c.loop-i.i on (held_in_session M session) (omega (arith, few, c.loop-i-test.false, c.loop-i.auto.i-end, c.len-i-end.ensures.len));
+          ∙ armed-last c.loop-i.i (c.args.version == 2) (held_in_session (meaning g) c.args.self.now) (omega (arith, few, c.loop-i-test.false, c.loop-i.auto.i-end, c.len-i-end.ensures.len));
       count = c.loop-i.invariant.count;
       rest = c.loop-i.invariant.rest;
     }

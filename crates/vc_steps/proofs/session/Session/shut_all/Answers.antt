@@ -56,14 +56,12 @@ shut_at-requires-clause-unviewed g c =
 
 pub returns : goal.returns
 returns g c =
-    let M = meaning g in
     let is = c.loop-self.invariant in
-    let vs = views_by c.loop-self.self.paths c.loop-self.self.dicts.entries in
     let left = nothing-left c.loop-self.self.dicts.entries (c.loop-self-test.ensures.0 refl) in
     let each : DictHome → _ = λ d. told_of d.kind (bytes_of d.dict.objects) in
     record {
       none = left;
-      told = sym (ap (λ es. tell (flat_map each (dicts_in (held_in_session M c.loop-self.self) vs es)) (gone_in g.D.DictDisc.gone c.loop-self.kinds.items)) left) ∙ is.gone;
+      told = sym (ap (λ es. tell (flat_map each (dicts_in (held_in_session (meaning g) c.loop-self.self) (views_by c.loop-self.self.paths c.loop-self.self.dicts.entries) es)) (gone_in g.D.DictDisc.gone c.loop-self.kinds.items)) left) ∙ is.gone;
       stands = is.session;
       keeps_rules = is.rules;
       settled = is.settled;

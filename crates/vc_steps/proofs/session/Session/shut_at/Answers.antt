@@ -65,12 +65,10 @@ lies g c =
 -- its kind stands at its number
 its-kind : (g : given.Over) (c : After-index_mut-2 g) → (1 ≤ c.in-Some.entry.dict.kind) × (slice_get c.args.kinds.now.items (c.in-Some.entry.dict.kind - 1) ≡ Some c.index_mut-2.result.now)
 its-kind g c =
-    let items = c.args.kinds.now.items in
-    let n = c.in-Some.entry.dict.kind in
-    let all = session_here (meaning g) g.D.DictDisc.rules g.D.DictDisc.gone c.args.shelf.now c.args.self.now items c.requires.session in
+    let all = session_here (meaning g) g.D.DictDisc.rules g.D.DictDisc.gone c.args.shelf.now c.args.self.now c.args.kinds.now.items c.requires.session in
     let is = whole_in all c.args.i (c.in-Some.field-0-0, c.in-Some.entry) (sym c.in-Some.ensures.entry) in
-    let range = kind-within g.D.DictDisc.rules items n is.rules is.kind in
-    (range.0, slice-or items (n - 1) c.index_mut-2.result.now range.1 c.index_mut-2.ensures.value)
+    let range = kind-within g.D.DictDisc.rules c.args.kinds.now.items c.in-Some.entry.dict.kind is.rules is.kind in
+    (range.0, slice-or c.args.kinds.now.items (c.in-Some.entry.dict.kind - 1) c.index_mut-2.result.now range.1 c.index_mut-2.ensures.value)
 
 pub unreachable-requires-in_default-get_index_of : goal.unreachable-requires-in_default-get_index_of
 unreachable-requires-in_default-get_index_of g c =
@@ -93,10 +91,8 @@ pub shut-requires : goal.shut-requires
 shut-requires g c =
     let at = goal.at.shut-requires g c in
     let x = in_best (lies g at.After-index_mut) c.in-Best.best c.in-Best.is in
-    let kind = c.index_mut-2.result.now in
-    let there = its-kind g at.After-index_mut-2 in
-    let by = kind-at g.D.DictDisc.rules c.args.kinds.now.items c.in-Some.entry.dict.kind kind there.0 there.1 in
-    record { whole = subst (λ q. IsWhole q c.in-Some.entry.dict (cells_in c.in-Best.best)) (same_Some (its x).rules (g.D.DictDisc.rules kind) (sym (its x).kind ∙ by)) (whole-there x) }
+    let by = kind-at g.D.DictDisc.rules c.args.kinds.now.items c.in-Some.entry.dict.kind c.index_mut-2.result.now (its-kind g at.After-index_mut-2).0 (its-kind g at.After-index_mut-2).1 in
+    record { whole = subst (λ q. IsWhole q c.in-Some.entry.dict (cells_in c.in-Best.best)) (same_Some (its x).rules (g.D.DictDisc.rules c.index_mut-2.result.now) (sym (its x).kind ∙ by)) (whole-there x) }
 
 pub returns : goal.returns
 returns g c =

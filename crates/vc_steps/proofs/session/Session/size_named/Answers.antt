@@ -17,21 +17,19 @@ meaning g p = (g.dyn-1.0.entry p.0).1.state p.1
 -- the region of the name
 abbrev region : (g : given.Over) (c : After-index-in-Some g) → RegionAt c.args.self.now.homes.entries c.args.self.now.labels.items c.args.region.now c.in-Some.i c.index.result.now
 region g c =
-    let session = c.args.self.now in
     let index = sym c.in-Some.ensures.index in
     record {
       named = c.requires.labels;
       index = index;
       value = c.index.ensures;
       l = c.index-in-Some.result.now;
-      own = label-read session.homes.entries session.labels.items c.args.region.now c.in-Some.i c.requires.labels index c.index-in-Some.result.now c.index-in-Some.ensures;
+      own = label-read c.args.self.now.homes.entries c.args.self.now.labels.items c.args.region.now c.in-Some.i c.requires.labels index c.index-in-Some.result.now c.index-in-Some.ensures;
     }
 
 pub size_named-requires : goal.size_named-requires
 size_named-requires g c =
-    let M = meaning g in
     let x = region g (goal.at.size_named-requires g c).After-index-in-Some in
-    record { names = all-at (λ h. AreLabelsOf h.region h.labels) (held_in_session M c.args.self.now) c.in-Some.i (region_at M x) c.requires.names (region-stands M x) }
+    record { names = all-at (λ h. AreLabelsOf h.region h.labels) (held_in_session (meaning g) c.args.self.now) c.in-Some.i (region_at (meaning g) x) c.requires.names (region-stands (meaning g) x) }
 
 pub returns-in-Some : goal.returns-in-Some
 returns-in-Some g c =
@@ -40,5 +38,4 @@ returns-in-Some g c =
 
 pub returns-in-None : goal.returns-in-None
 returns-in-None g c =
-    let M = meaning g in
-    sym (ap (size_in_home c.args.block.now) (find-none (is_home c.args.region.now) (map home_of (held_in_session M c.args.self.now)) (any-named M c.args.self.now.homes.entries c.args.self.now.labels.items c.args.region.now c.requires.labels ∙ sym c.in-None.ensures.found)))
+    sym (ap (size_in_home c.args.block.now) (find-none (is_home c.args.region.now) (map home_of (held_in_session (meaning g) c.args.self.now)) (any-named (meaning g) c.args.self.now.homes.entries c.args.self.now.labels.items c.args.region.now c.requires.labels ∙ sym c.in-None.ensures.found)))

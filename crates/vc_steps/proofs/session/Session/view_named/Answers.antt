@@ -17,14 +17,14 @@ meaning g p = (g.dyn-1.0.entry p.0).1.state p.1
 -- the session
 abbrev here : (g : given.Over) (c : After-index g) → ViewsHere (meaning g)
 here g c = record {
-  here = session_here (meaning g) g.D.DictDisc.rules g.D.DictDisc.gone c.args.shelf.now c.args.self.now c.args.kinds.now.items c.requires.session;
+  here = session_here (meaning g) g.D.DictDisc.rules g.D.DictDisc.gone c.args.shelf.now c.args.self.now c.args.kinds.now.items c.requires.at.stands;
   paths = c.show_invariant.ensures;
   names = c.show_names.ensures;
 }
 
 -- the dictionary of the name, and the other one
 abbrev own : (g : given.Over) (c : After-index g) → DictAt c.args.self.now.dicts.entries
-own g c = record { name = c.args.name.now; i = c.args.i; v = c.index.result.now; index = c.requires.index; value = c.index.ensures }
+own g c = record { name = c.args.name.now; i = c.args.i; v = c.index.result.now; index = c.requires.at.index; value = c.index.ensures }
 
 abbrev other : (g : given.Over) (c : After-index-2 g) → DictAt c.args.self.now.dicts.entries
 other g c = record {
@@ -59,8 +59,8 @@ returns-in_default-clause-stays g c =
     record {
       lasts = record {
         stands = record {
-          regions = record { named = c.requires.session.regions.named; held = c.requires.session.regions.held };
-          dicts = c.requires.session.dicts;
+          regions = record { named = c.requires.at.stands.regions.named; held = c.requires.at.stands.regions.held };
+          dicts = c.requires.at.stands.dicts;
           views = subst (λ ls. AreLinked ls c.args.self.now.dicts.entries) (sym c.end.ensures) (links-ended (meaning g) (here g i) (own g i));
         };
         keeps_rules = refl;
@@ -101,12 +101,9 @@ returns-in-Ok-clause-steps g c =
 pub returns-in-Ok-clause-stays : goal.returns-in-Ok-clause-stays
 returns-in-Ok-clause-stays g c =
     let at = goal.at.returns-in-Ok-clause-stays g c in
-    let new = c.view_at.new in
-    let same = same-homes g at.After-view_at in
-    let same' = same-dicts g at.After-view_at in
     let linked =
-    links-set (meaning g) (here g at.After-index) (own g at.After-index) (other g at.After-index-2) new.homes.entries new.dicts.entries new.paths same same' (sym c.in-Ok.ensures.fault) c.in-Ok.ensures.ok in
-    let stands = stands-viewed (meaning g) (here g at.After-index) (own g at.After-index) (other g at.After-index-2) new.homes.entries new.dicts.entries new.paths same same' linked in
+    links-set (meaning g) (here g at.After-index) (own g at.After-index) (other g at.After-index-2) c.view_at.new.homes.entries c.view_at.new.dicts.entries c.view_at.new.paths (same-homes g at.After-view_at) (same-dicts g at.After-view_at) (sym c.in-Ok.ensures.fault) c.in-Ok.ensures.ok in
+    let stands = stands-viewed (meaning g) (here g at.After-index) (own g at.After-index) (other g at.After-index-2) c.view_at.new.homes.entries c.view_at.new.dicts.entries c.view_at.new.paths (same-homes g at.After-view_at) (same-dicts g at.After-view_at) linked in
     record {
       lasts = record {
         stands = record {
@@ -136,11 +133,8 @@ returns-in-Err-clause-steps g c =
 pub returns-in-Err-clause-stays : goal.returns-in-Err-clause-stays
 returns-in-Err-clause-stays g c =
     let at = goal.at.returns-in-Err-clause-stays g c in
-    let new = c.view_at.new in
-    let same = same-homes g at.After-view_at in
-    let same' = same-dicts g at.After-view_at in
-    let linked = links-refused (meaning g) (here g at.After-index) (own g at.After-index) (other g at.After-index-2) new.homes.entries new.dicts.entries new.paths same same' c.in-Err.ensures.err in
-    let stands = stands-viewed (meaning g) (here g at.After-index) (own g at.After-index) (other g at.After-index-2) new.homes.entries new.dicts.entries new.paths same same' linked in
+    let linked = links-refused (meaning g) (here g at.After-index) (own g at.After-index) (other g at.After-index-2) c.view_at.new.homes.entries c.view_at.new.dicts.entries c.view_at.new.paths (same-homes g at.After-view_at) (same-dicts g at.After-view_at) c.in-Err.ensures.err in
+    let stands = stands-viewed (meaning g) (here g at.After-index) (own g at.After-index) (other g at.After-index-2) c.view_at.new.homes.entries c.view_at.new.dicts.entries c.view_at.new.paths (same-homes g at.After-view_at) (same-dicts g at.After-view_at) linked in
     record {
       lasts = record {
         stands = record {

@@ -6,13 +6,16 @@ use Rattle.vc_store.proofs.collection.Collection.at_least.Goals as goal
 pub seek_from-requires : goal.seek_from-requires
 seek_from-requires g c = record { whole = c.requires.open.whole }
 
-pub returns-clause-stays : goal.returns-clause-stays
-returns-clause-stays g c = record {
-  is_open = record {
-    whole = c.seek_from.ensures.leaves.whole;
-    lent = keeps-out _ _ _ _ c.seek_from.ensures.leaves.rest.disc c.requires.open.lent;
+pub returns-clause-keeps : goal.returns-clause-keeps
+returns-clause-keeps g c = record {
+  kind = refl;
+  stays = record {
+    is_open = record {
+      whole = c.seek_from.ensures.leaves.whole;
+      lent = keeps-out _ _ _ _ c.seek_from.ensures.leaves.rest.disc c.requires.open.lent;
+    };
+    rules = refl;
+    method = ap (λ (d : Contents). d.method) c.seek_from.ensures.sought.same;
+    lends = c.seek_from.ensures.leaves.rest.disc;
   };
-  rules = refl;
-  method = ap (λ (d : Contents). d.method) c.seek_from.ensures.sought.same;
-  lends = c.seek_from.ensures.leaves.rest.disc;
 }

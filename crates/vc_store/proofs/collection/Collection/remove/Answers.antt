@@ -2,7 +2,6 @@ use Rattle.vc_base.proofs.Common.{sym, subst}
 use Rattle.vc_best.specs.Cells.{cells_in}
 use Rattle.vc_objects.specs.Parts.{IsWhole}
 use Rattle.vc_objects.proofs.Leaving.{keeps-out}
-use Rattle.vc_store.proofs.Shown.{contents-still}
 use Rattle.vc_store.proofs.collection.Collection.remove.Goals as goal
 
 pub take-requires : goal.take-requires
@@ -18,7 +17,3 @@ returns-clause-stays g c = record {
   method = c.take.ensures.method;
   lends = c.take.ensures.leaves.rest.disc;
 }
-
-pub returns-clause-err : goal.returns-clause-err
-returns-clause-err g c =
-    contents-still c.take.result c.args.self.now.best c.take.new.best c.args.self.now.dict c.take.new.dict _ c.take.ensures.err

@@ -1,11 +1,12 @@
-use Rattle.vc_base.proofs.Common.{suc, ◌-◌, List, ◌∷◌, Option, Some, set, refl, ap, ◌∙◌, arith, Discipline}
+use Rattle.vc_base.proofs.Common.{◌≡◌, suc, ◌-◌, List, ◌∷◌, Option, Some, set, refl, ap, ◌∙◌, arith, Discipline}
 use Rattle.vc_seg.specs.Boxed.{disc_in_box}
 use Rattle.vc_seg.specs.Shelf.{place_at}
 use Rattle.vc_ways.specs.RegionsParts.{best_holding}
-use Rattle.vc_ways.specs.Settled.{slots_on}
+use Rattle.vc_ways.specs.Settled.{slots_on, with_discs}
 use Rattle.vc_ways.proofs.Slots.{one-back, still-taken}
 use Rattle.vc_ways.proofs.regions.Regions.close.Given as given
 use Rattle.vc_ways.proofs.regions.Regions.close.Goals as goal
+use Rattle.vc_ways.proofs.regions.Regions.close.Goals.{After-give_back}
 
 abbrev meaning : (g : given.Over) → (x : g.dyn-1.0.I) × (g.dyn-1.0.entry x).0.Denot → Discipline
 meaning g p = (g.dyn-1.0.entry p.0).1.state p.1
@@ -27,35 +28,30 @@ close-first-requires g c = c.requires.lent 0 (best_holding (meaning g) c.args.se
 
 pub give_back-requires : goal.give_back-requires
 give_back-requires g c =
-    let slots : List (Option Discipline) = slots_on (meaning g) c.args.shelf.now in
     ap (λ (xs : List (Option Discipline)). place_at xs 2) c.close_pools.ensures.slots
-    ∙ still-taken slots 22 c.requires.taken 2 1 refl (omega arith) c.close_pools.ensures.discs
+    ∙ still-taken (slots_on (meaning g) c.args.shelf.now) 22 c.requires.taken 2 1 refl (omega arith) c.close_pools.ensures.discs
+
+-- the disciplines behind the first place are back
+behind : (g : given.Over) (c : After-give_back g) → slots_on (meaning g) c.give_back.new.self ≡ with_discs 1 (disc_in_box (meaning g) c.close-second.result.0 ∷ c.close_pools.ensures.discs) (slots_on (meaning g) c.args.shelf.now)
+behind g c =
+    c.give_back.ensures.filled
+    ∙ (ap (λ (xs : List (Option Discipline)). set xs (2 - 1) (Some (disc_in_box (meaning g) c.close-second.result.0))) c.close_pools.ensures.slots
+    ∙ one-back (slots_on (meaning g) c.args.shelf.now) 22 c.requires.taken 2 1 refl (omega arith) c.close_pools.ensures.discs (disc_in_box (meaning g) c.close-second.result.0))
 
 pub give_back-requires-2 : goal.give_back-requires-2
 give_back-requires-2 g c =
-    let slots : List (Option Discipline) = slots_on (meaning g) c.args.shelf.now in
-    let ds : List Discipline = c.close_pools.ensures.discs in
-    let second : Discipline = disc_in_box (meaning g) c.close-second.result.0 in
-    ap (λ (xs : List (Option Discipline)). place_at xs 1)
-    (c.give_back.ensures.filled
-    ∙ (ap (λ (xs : List (Option Discipline)). set xs (2 - 1) (Some second)) c.close_pools.ensures.slots
-    ∙ one-back slots 22 c.requires.taken 2 1 refl (omega arith) ds second))
-    ∙ still-taken slots 22 c.requires.taken 1 0 refl (omega arith) (second ∷ ds)
+    ap (λ (xs : List (Option Discipline)). place_at xs 1) (behind g (goal.at.give_back-requires-2 g c).After-give_back)
+    ∙ still-taken (slots_on (meaning g) c.args.shelf.now) 22 c.requires.taken 1 0 refl (omega arith) (disc_in_box (meaning g) c.close-second.result.0 ∷ c.close_pools.ensures.discs)
 
 pub returns : goal.returns
 returns g c =
-    let slots : List (Option Discipline) = slots_on (meaning g) c.args.shelf.now in
-    let ds : List Discipline = c.close_pools.ensures.discs in
-    let second : Discipline = disc_in_box (meaning g) c.close-second.result.0 in
+    let ds : List Discipline = disc_in_box (meaning g) c.close-second.result.0 ∷ c.close_pools.ensures.discs in
     let first : Discipline = disc_in_box (meaning g) c.close-first.result.0 in
     record {
-      discs = first ∷ second ∷ ds;
+      discs = first ∷ ds;
       settled = (c.close-first.ensures.disc, (c.close-second.ensures.disc, c.close_pools.ensures.settled));
       slots =
           c.give_back-2.ensures.filled
-          ∙ (ap (λ (xs : List (Option Discipline)). set xs (1 - 1) (Some first))
-          (c.give_back.ensures.filled
-          ∙ (ap (λ (xs : List (Option Discipline)). set xs (2 - 1) (Some second)) c.close_pools.ensures.slots
-          ∙ one-back slots 22 c.requires.taken 2 1 refl (omega arith) ds second))
-          ∙ one-back slots 22 c.requires.taken 1 0 refl (omega arith) (second ∷ ds) first);
+          ∙ (ap (λ (xs : List (Option Discipline)). set xs (1 - 1) (Some first)) (behind g (goal.at.returns g c).After-give_back)
+          ∙ one-back (slots_on (meaning g) c.args.shelf.now) 22 c.requires.taken 1 0 refl (omega arith) ds first);
     }

@@ -1,4 +1,4 @@
-use Rattle.vc_base.proofs.Common.{◌∙◌, ℕ, suc, ◌∷◌, Discipline, Ok, Err, ap, arith, get_or, refl, true}
+use Rattle.vc_base.proofs.Common.{rules, ◌∙◌, ℕ, suc, ◌∷◌, Discipline, Ok, Err, ap, arith, get_or, refl, true}
 use Rattle.vc_best.specs.Parts.{layout_of}
 use Rattle.vc_ways.specs.LastParts.{holding_of, way_of}
 use Rattle.vc_ways.specs.LastWay.{LastWay}
@@ -17,38 +17,45 @@ abbrev meaning : (g : given.Over) → (x : g.dyn-1.0.I) × (g.dyn-1.0.entry x).0
 meaning g p = (g.dyn-1.0.entry p.0).1.state p.1
 
 pub alloc-requires-clause-lent : goal.alloc-requires-clause-lent
-alloc-requires-clause-lent g c = c.requires.lent 0 (best_holding (meaning g) c.args.self.now.best) (omega arith)
+alloc-requires-clause-lent g c = c.requires.can.lent 0 (best_holding (meaning g) c.args.self.now.best) (omega arith)
 
-pub put-requires-clause-lent : goal.put-requires-clause-lent
-put-requires-clause-lent g c = c.requires.lent 1 (best_holding (meaning g) c.args.self.now.best) (omega arith)
+pub put-requires : goal.put-requires
+put-requires g c = record { can = record { fits = c.requires.can.fits; lent = c.requires.can.lent 1 (best_holding (meaning g) c.args.self.now.best) (omega arith); paired = c.requires.can.whole.paired } }
 
-pub put_cell-requires-clause-lent : goal.put_cell-requires-clause-lent
-put_cell-requires-clause-lent g c = λ i d lt. c.requires.lent (suc (suc i)) d (omega (arith, lt))
+pub put_cell-requires : goal.put_cell-requires
+put_cell-requires g c = record { can = record { fits = c.requires.can.fits; classes = c.requires.can.whole.classes; lent = λ i d lt. c.requires.can.lent (suc (suc i)) d (omega (arith, lt)) } }
 
-pub returns-in-Err-clause-keeps : goal.returns-in-Err-clause-keeps
-returns-in-Err-clause-keeps g c =
-    (put-keeps (meaning g) c.args.self.now.best c.alloc.new.self c.args.size (Err c.in-Err.fault) c.in-Err.ensures.disc c.in-Err.ensures.answer, kept-same _ (holding_of (meaning g) c.args.self.now.last ∷ holdings (meaning g) c.args.self.now.pools.items))
+pub returns-in-Err-clause-leaves : goal.returns-in-Err-clause-leaves
+returns-in-Err-clause-leaves g c =
+    record {
+      whole = tt;
+      keeps = (put-keeps (meaning g) c.args.self.now.best c.alloc.new.self c.args.size (Err c.in-Err.fault) c.in-Err.ensures.disc c.in-Err.ensures.answer, kept-same _ (holding_of (meaning g) c.args.self.now.last ∷ holdings (meaning g) c.args.self.now.pools.items));
+      refused = λ e. (refl, refused-unserved c.in-Err.fault _ _ _ _ _ c.in-Err.ensures.disc e);
+    }
 
-pub returns-in-Err-put-clause-keeps : goal.returns-in-Err-put-clause-keeps
-returns-in-Err-put-clause-keeps g c =
-    (keeps-any _ _ (put-keeps (meaning g) c.args.self.now.best c.alloc.new.self c.args.size (Ok c.in-Ok.best) c.in-Ok.ensures.disc c.in-Ok.ensures.answer), (c.in-Err-put.ensures.keeps, kept-same _ _))
+pub returns-in-Err-put-clause-leaves : goal.returns-in-Err-put-clause-leaves
+returns-in-Err-put-clause-leaves g c =
+    record {
+      whole = tt;
+      keeps = (keeps-any _ _ (put-keeps (meaning g) c.args.self.now.best c.alloc.new.self c.args.size (Ok c.in-Ok.best) c.in-Ok.ensures.disc c.in-Ok.ensures.answer), (c.in-Err-put.ensures.leaves.keeps, kept-same _ _));
+      refused = λ e. (refl, c.in-Err-put.ensures.leaves.refused (ap Err e));
+    }
 
-pub returns-in-Err-put_cell-clause-keeps : goal.returns-in-Err-put_cell-clause-keeps
-returns-in-Err-put_cell-clause-keeps g c =
-    (keeps-any _ _ (put-keeps (meaning g) c.args.self.now.best c.alloc.new.self c.args.size (Ok c.in-Ok.best) c.in-Ok.ensures.disc c.in-Ok.ensures.answer), (keeps-any _ _ c.in-Ok-put.ensures.keeps, c.in-Err-put_cell.ensures.keeps))
+pub returns-in-Err-put_cell-clause-leaves : goal.returns-in-Err-put_cell-clause-leaves
+returns-in-Err-put_cell-clause-leaves g c =
+    record {
+      whole = tt;
+      keeps = (keeps-any _ _ (put-keeps (meaning g) c.args.self.now.best c.alloc.new.self c.args.size (Ok c.in-Ok.best) c.in-Ok.ensures.disc c.in-Ok.ensures.answer), (keeps-any _ _ c.in-Ok-put.ensures.leaves.keeps, c.in-Err-put_cell.ensures.leaves.keeps));
+      refused = λ e. c.in-Err-put_cell.ensures.leaves.refused (ap Err e);
+    }
 
-pub returns-clause-keeps : goal.returns-clause-keeps
-returns-clause-keeps g c =
-    (put-keeps (meaning g) c.args.self.now.best c.alloc.new.self c.args.size (Ok c.in-Ok.best) c.in-Ok.ensures.disc c.in-Ok.ensures.answer, (keeps-then _ _ _ c.in-Ok-put.ensures.keeps c.drop_dead.ensures.keeps, c.in-Ok-put_cell.ensures.keeps))
-
-pub returns-in-Err-clause-refused : goal.returns-in-Err-clause-refused
-returns-in-Err-clause-refused g c = λ e. (refl, refused-unserved c.in-Err.fault _ _ _ _ _ c.in-Err.ensures.disc e)
-
-pub returns-in-Err-put-clause-refused : goal.returns-in-Err-put-clause-refused
-returns-in-Err-put-clause-refused g c = λ e. (refl, c.in-Err-put.ensures.refused (ap Err e))
-
-pub returns-in-Err-put_cell-clause-refused : goal.returns-in-Err-put_cell-clause-refused
-returns-in-Err-put_cell-clause-refused g c = λ e. c.in-Err-put_cell.ensures.refused (ap Err e)
+pub returns-clause-leaves : goal.returns-clause-leaves
+returns-clause-leaves g c =
+    record {
+      whole = search rules;
+      keeps = (put-keeps (meaning g) c.args.self.now.best c.alloc.new.self c.args.size (Ok c.in-Ok.best) c.in-Ok.ensures.disc c.in-Ok.ensures.answer, (keeps-then _ _ _ c.in-Ok-put.ensures.leaves.keeps c.drop_dead.ensures.keeps, c.in-Ok-put_cell.ensures.leaves.keeps));
+      refused = tt;
+    }
 
 pub returns-clause-comes : goal.returns-clause-comes
 returns-clause-comes g c =
@@ -65,7 +72,7 @@ returns-clause-comes g c =
     record {
       there =
           record {
-            size = c.requires.size;
+            size = c.requires.can.fits;
             best = put-has 0 size a old new c.in-Ok.ensures.put;
             last = ap (flag c.in-Ok-put.last) c.drop_dead.ensures.way ∙ drop-alive mid c.in-Ok-put.last (put-alive terms way size c.in-Ok-put.last mid put);
             cell = cells.there;

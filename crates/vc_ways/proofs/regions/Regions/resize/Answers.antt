@@ -1,4 +1,4 @@
-use Rattle.vc_base.proofs.Common.{◌∙◌, ℕ, suc, ◌∷◌, true, Discipline, Ok, Err, ap, arith, get_or, place_of, refl}
+use Rattle.vc_base.proofs.Common.{rules, ◌∙◌, ℕ, suc, ◌∷◌, true, Discipline, Ok, Err, ap, arith, get_or, place_of, refl}
 use Rattle.vc_best.specs.Parts.{layout_of}
 use Rattle.vc_ways.specs.LastParts.{holding_of, way_of}
 use Rattle.vc_ways.specs.LastWay.{LastWay}
@@ -18,38 +18,45 @@ abbrev meaning : (g : given.Over) → (x : g.dyn-1.0.I) × (g.dyn-1.0.entry x).0
 meaning g p = (g.dyn-1.0.entry p.0).1.state p.1
 
 pub resize-requires-clause-lent : goal.resize-requires-clause-lent
-resize-requires-clause-lent g c = c.requires.lent 0 (best_holding (meaning g) c.args.self.now.best) (omega arith)
+resize-requires-clause-lent g c = c.requires.can.lent 0 (best_holding (meaning g) c.args.self.now.best) (omega arith)
 
-pub resize-requires-2-clause-lent : goal.resize-requires-2-clause-lent
-resize-requires-2-clause-lent g c = c.requires.lent 1 (best_holding (meaning g) c.args.self.now.best) (omega arith)
+pub resize-requires-2-clause-can : goal.resize-requires-2-clause-can
+resize-requires-2-clause-can g c = record { fits = c.requires.can.fits; lent = c.requires.can.lent 1 (best_holding (meaning g) c.args.self.now.best) (omega arith); paired = c.requires.can.whole.paired }
 
-pub resize_cell-requires-clause-lent : goal.resize_cell-requires-clause-lent
-resize_cell-requires-clause-lent g c = λ i d lt. c.requires.lent (suc (suc i)) d (omega (arith, lt))
+pub resize_cell-requires-clause-can : goal.resize_cell-requires-clause-can
+resize_cell-requires-clause-can g c = record { fits = c.requires.can.fits; classes = c.requires.can.whole.classes; lent = λ i d lt. c.requires.can.lent (suc (suc i)) d (omega (arith, lt)) }
 
-pub returns-in-Err-clause-keeps : goal.returns-in-Err-clause-keeps
-returns-in-Err-clause-keeps g c =
-    (sized-keeps (meaning g) c.args.self.now.best c.resize.new.self c.args.size (Err c.in-Err.fault) c.in-Err.ensures.disc (place_of c.args.live.now.best.0) c.in-Err.ensures.answer, kept-same _ (holding_of (meaning g) c.args.self.now.last ∷ holdings (meaning g) c.args.self.now.pools.items))
+pub returns-in-Err-clause-leaves : goal.returns-in-Err-clause-leaves
+returns-in-Err-clause-leaves g c =
+    record {
+      whole = tt;
+      keeps = (sized-keeps (meaning g) c.args.self.now.best c.resize.new.self c.args.size (Err c.in-Err.fault) c.in-Err.ensures.disc (place_of c.args.live.now.best.0) c.in-Err.ensures.answer, kept-same _ (holding_of (meaning g) c.args.self.now.last ∷ holdings (meaning g) c.args.self.now.pools.items));
+      refused = λ e. (refl, refused-unserved c.in-Err.fault _ _ _ _ _ c.in-Err.ensures.disc e);
+    }
 
-pub returns-in-Err-resize-clause-keeps : goal.returns-in-Err-resize-clause-keeps
-returns-in-Err-resize-clause-keeps g c =
-    (keeps-any _ _ (sized-keeps (meaning g) c.args.self.now.best c.resize.new.self c.args.size (Ok c.in-Ok.best) c.in-Ok.ensures.disc (place_of c.args.live.now.best.0) c.in-Ok.ensures.answer), (c.in-Err-resize.ensures.keeps, kept-same _ _))
+pub returns-in-Err-resize-clause-leaves : goal.returns-in-Err-resize-clause-leaves
+returns-in-Err-resize-clause-leaves g c =
+    record {
+      whole = tt;
+      keeps = (keeps-any _ _ (sized-keeps (meaning g) c.args.self.now.best c.resize.new.self c.args.size (Ok c.in-Ok.best) c.in-Ok.ensures.disc (place_of c.args.live.now.best.0) c.in-Ok.ensures.answer), (c.in-Err-resize.ensures.leaves.keeps, kept-same _ _));
+      refused = λ e. (refl, c.in-Err-resize.ensures.leaves.refused (ap Err e));
+    }
 
-pub returns-in-Err-resize_cell-clause-keeps : goal.returns-in-Err-resize_cell-clause-keeps
-returns-in-Err-resize_cell-clause-keeps g c =
-    (keeps-any _ _ (sized-keeps (meaning g) c.args.self.now.best c.resize.new.self c.args.size (Ok c.in-Ok.best) c.in-Ok.ensures.disc (place_of c.args.live.now.best.0) c.in-Ok.ensures.answer), (keeps-any _ _ c.in-Ok-resize.ensures.keeps, c.in-Err-resize_cell.ensures.keeps))
+pub returns-in-Err-resize_cell-clause-leaves : goal.returns-in-Err-resize_cell-clause-leaves
+returns-in-Err-resize_cell-clause-leaves g c =
+    record {
+      whole = tt;
+      keeps = (keeps-any _ _ (sized-keeps (meaning g) c.args.self.now.best c.resize.new.self c.args.size (Ok c.in-Ok.best) c.in-Ok.ensures.disc (place_of c.args.live.now.best.0) c.in-Ok.ensures.answer), (keeps-any _ _ c.in-Ok-resize.ensures.leaves.keeps, c.in-Err-resize_cell.ensures.leaves.keeps));
+      refused = λ e. c.in-Err-resize_cell.ensures.leaves.refused (ap Err e);
+    }
 
-pub returns-clause-keeps : goal.returns-clause-keeps
-returns-clause-keeps g c =
-    (sized-keeps (meaning g) c.args.self.now.best c.resize.new.self c.args.size (Ok c.in-Ok.best) c.in-Ok.ensures.disc (place_of c.args.live.now.best.0) c.in-Ok.ensures.answer, (keeps-then _ _ _ c.in-Ok-resize.ensures.keeps c.drop_dead.ensures.keeps, c.in-Ok-resize_cell.ensures.keeps))
-
-pub returns-in-Err-clause-refused : goal.returns-in-Err-clause-refused
-returns-in-Err-clause-refused g c = λ e. (refl, refused-unserved c.in-Err.fault _ _ _ _ _ c.in-Err.ensures.disc e)
-
-pub returns-in-Err-resize-clause-refused : goal.returns-in-Err-resize-clause-refused
-returns-in-Err-resize-clause-refused g c = λ e. (refl, c.in-Err-resize.ensures.refused (ap Err e))
-
-pub returns-in-Err-resize_cell-clause-refused : goal.returns-in-Err-resize_cell-clause-refused
-returns-in-Err-resize_cell-clause-refused g c = λ e. c.in-Err-resize_cell.ensures.refused (ap Err e)
+pub returns-clause-leaves : goal.returns-clause-leaves
+returns-clause-leaves g c =
+    record {
+      whole = search rules;
+      keeps = (sized-keeps (meaning g) c.args.self.now.best c.resize.new.self c.args.size (Ok c.in-Ok.best) c.in-Ok.ensures.disc (place_of c.args.live.now.best.0) c.in-Ok.ensures.answer, (keeps-then _ _ _ c.in-Ok-resize.ensures.leaves.keeps c.drop_dead.ensures.keeps, c.in-Ok-resize_cell.ensures.leaves.keeps));
+      refused = tt;
+    }
 
 pub resize-requires-2-clause-block : goal.resize-requires-2-clause-block
 resize-requires-2-clause-block g c = alive-within (way_of c.args.self.now.last) c.args.live.now.last c.requires.live.last
@@ -68,7 +75,7 @@ returns-clause-comes g c =
     record {
       there =
           record {
-            size = c.requires.size;
+            size = c.requires.can.fits;
             best = kept-has a to old.blocks new.blocks (own old c.args.self.now.best.sound).exact c.requires.live.best c.in-Ok.ensures.kept;
             last = ap (flag c.in-Ok-resize.last) c.drop_dead.ensures.way ∙ drop-alive mid c.in-Ok-resize.last flags.0;
             cell = cells.there;

@@ -8,6 +8,7 @@ use Rattle.vc_ways.proofs.PoolSteps.{kept-same}
 use Rattle.vc_ways.proofs.TraceStands.{left-goes, left-stands}
 use Rattle.vc_ways.proofs.trace.Trace.free.Given as given
 use Rattle.vc_ways.proofs.trace.Trace.free.Goals as goal
+use Rattle.vc_ways.proofs.trace.Trace.free.Goals.{After-with-self}
 
 abbrev meaning : (g : given.Over) → (x : g.dyn-1.0.I) × (g.dyn-1.0.entry x).0.Denot → Discipline
 meaning g p = (g.dyn-1.0.entry p.0).1.state p.1
@@ -22,15 +23,15 @@ returns-in-None-clause-keeps g c = kept-same _ (all_holdings (meaning g) c.args.
 pub free-requires-clause-live : goal.free-requires-clause-live
 free-requires-clause-live g c = c.requires.stands.live c.args.x.now c.in-Some.live (sym c.in-Some.ensures)
 
+-- the trace without the block
+abbrev after : (g : given.Over) (c : After-with-self g) → Trace g.dyn-1.0.I (λ x. (g.dyn-1.0.entry x).0.Denot)
+after g c = record { region = Some c.args.r.now; blocks = c.swap_remove.new.self; regions = c.free.new.self; extents = c.args.self.now.extents; live = c.saturating_sub-self.result; tally = c.with-self.result }
+
 pub returns-clause-answer : goal.returns-clause-answer
 returns-clause-answer g c =
-    let t = c.args.self.now in
-    let new : Trace _ _ = record { region = Some c.args.r.now; blocks = c.swap_remove.new.self; regions = c.free.new.self; extents = t.extents; live = c.saturating_sub-self.result; tally = c.with-self.result } in
-    ap (free_found (trace_state t) c.args.r.now c.args.x.now) (lookup-map_values live_of (bytes_eq c.args.x.now) t.blocks.entries ∙ ap (option_map live_of) (sym c.in-Some.ensures))
-    ∙ left-goes (meaning g) t new c.free.new.self c.requires.stands refl c.args.r.now c.args.x.now c.in-Some.live (sym c.in-Some.ensures) c.free.ensures.regions refl c.swap_remove.ensures.entries c.saturating_sub-self.ensures refl c.with-self.ensures
+    ap (free_found (trace_state c.args.self.now) c.args.r.now c.args.x.now) (lookup-map_values live_of (bytes_eq c.args.x.now) c.args.self.now.blocks.entries ∙ ap (option_map live_of) (sym c.in-Some.ensures))
+    ∙ left-goes (meaning g) c.args.self.now (after g (goal.at.returns-clause-answer g c).After-with-self) c.free.new.self c.requires.stands refl c.args.r.now c.args.x.now c.in-Some.live (sym c.in-Some.ensures) c.free.ensures.regions refl c.swap_remove.ensures.entries c.saturating_sub-self.ensures refl c.with-self.ensures
 
 pub returns-clause-stands : goal.returns-clause-stands
 returns-clause-stands g c =
-    let t = c.args.self.now in
-    let new : Trace _ _ = record { region = Some c.args.r.now; blocks = c.swap_remove.new.self; regions = c.free.new.self; extents = t.extents; live = c.saturating_sub-self.result; tally = c.with-self.result } in
-    left-stands (meaning g) t new c.free.new.self c.requires.stands refl c.args.r.now c.args.x.now c.in-Some.live (sym c.in-Some.ensures) c.free.ensures.regions refl c.swap_remove.ensures.entries c.saturating_sub-self.ensures refl c.with-self.ensures c.free.ensures.whole c.free.ensures.keeps c.free.ensures.others c.swap_remove.ensures.updates.0
+    left-stands (meaning g) c.args.self.now (after g (goal.at.returns-clause-stands g c).After-with-self) c.free.new.self c.requires.stands refl c.args.r.now c.args.x.now c.in-Some.live (sym c.in-Some.ensures) c.free.ensures.regions refl c.swap_remove.ensures.entries c.saturating_sub-self.ensures refl c.with-self.ensures c.free.ensures.whole c.free.ensures.keeps c.free.ensures.others c.swap_remove.ensures.updates.0

@@ -8,13 +8,11 @@ use Rattle.vc_ways.proofs.trace.Trace.is_new.Goals as goal
 
 pub returns-in-None : goal.returns-in-None
 returns-in-None g c =
-    let es = c.args.self.now.blocks.entries in
-    let none = lookup-map_values live_of (bytes_eq c.args.x.now) es ∙ ap (option_map live_of) (sym c.in-None.ensures) in
-    let len = c.len.ensures.len ∙ sym (length-map es named_live) in
-    ap (λ n. nat_lt n 1000000) len ∙ sym (ap (λ (o : Option LivePlaces). is_none o && nat_lt (length (live_table es)) 1000000) none)
+    let none = lookup-map_values live_of (bytes_eq c.args.x.now) c.args.self.now.blocks.entries ∙ ap (option_map live_of) (sym c.in-None.ensures) in
+    let len = c.len.ensures.len ∙ sym (length-map c.args.self.now.blocks.entries named_live) in
+    ap (λ n. nat_lt n 1000000) len ∙ sym (ap (λ (o : Option LivePlaces). is_none o && nat_lt (length (live_table c.args.self.now.blocks.entries)) 1000000) none)
 
 pub returns-in-Some : goal.returns-in-Some
 returns-in-Some g c =
-    let es = c.args.self.now.blocks.entries in
-    let some = lookup-map_values live_of (bytes_eq c.args.x.now) es ∙ ap (option_map live_of) (sym c.in-Some.ensures) in
-    sym (ap (λ (o : Option LivePlaces). is_none o && nat_lt (length (live_table es)) 1000000) some)
+    let some = lookup-map_values live_of (bytes_eq c.args.x.now) c.args.self.now.blocks.entries ∙ ap (option_map live_of) (sym c.in-Some.ensures) in
+    sym (ap (λ (o : Option LivePlaces). is_none o && nat_lt (length (live_table c.args.self.now.blocks.entries)) 1000000) some)

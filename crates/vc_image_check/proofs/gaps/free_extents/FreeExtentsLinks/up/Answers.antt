@@ -1,14 +1,7 @@
-use Rattle.vc_base.proofs.Common.{◌+◌, ap, ◌∙◌, ℕ_set, ∥∥₁_elim}
+use Rattle.vc_base.proofs.Common.{◌+◌, ap, ◌∙◌}
 use Rattle.vc_seg.specs.Field.{field_at}
-use Rattle.vc_extent.specs.Tiling.{extent_of, tiling}
-use Rattle.vc_image_check.specs.Bytes.Contents.{contents_of_image}
-use Rattle.vc_image_check.specs.Marks.Mark.{lists}
 use Rattle.vc_image_check.specs.Laws.Lying.{lies}
 use Rattle.vc_image_check.proofs.gaps.free_extents.FreeExtentsLinks.up.Goals as goal
 
 pub returns : goal.returns
-returns c =
-    let b = c.args.self.now.image.now in
-    let t = tiling (contents_of_image b).segs in
-    c.word.ensures ∙ ap (λ z. field_at (z + 8) b) c.start.ensures.value
-    ∙ ∥∥₁_elim c.args.self.now.known (ℕ_set _ (extent_of t c.args.n).links.third) (λ k. (lies b (lists c.args.self.now.marks.now.rows.items) c.args.self.now.marks.now.places.items k c.args.n c.requires).third)
+returns c = c.word.ensures ∙ ap (λ z. field_at (z + 8) c.args.self.now.image.now) c.start.ensures.value ∙ (lies _ _ _ c.args.self.now.known c.args.n c.requires).third

@@ -1,4 +1,4 @@
-use Rattle.vc_base.proofs.Common.{◌≡◌, ℕ, ◌<◌, Bool, true, false, ◌&&◌, Some, list_all, sym, refl, ap, ◌∙◌, subst, true≢false, same_Some, arith}
+use Rattle.vc_base.proofs.Common.{◌≡◌, ℕ, ◌<◌, Bool, true, false, ◌&&◌, list_all, sym, refl, ap, ◌∙◌, subst, true≢false, same_Some, arith}
 use Rattle.vc_paths.specs.Links.{below, numbers, path}
 use Rattle.vc_paths.specs.Shown.{down}
 use Rattle.vc_paths.proofs.DownLemmas.{down-next, down-none, down-on}

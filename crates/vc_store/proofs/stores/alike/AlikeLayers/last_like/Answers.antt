@@ -1,4 +1,4 @@
-use Rattle.vc_base.proofs.Common.{Some, refl, ◌∙◌}
+use Rattle.vc_base.proofs.Common.{refl, ◌∙◌}
 use Rattle.vc_dict.specs.Listed.{holders_of}
 use Rattle.vc_best.specs.Cells.{cells_in}
 use Rattle.vc_store.specs.Stores.Alike.{Keeps}

@@ -5,8 +5,9 @@ use Rattle.vc_best.specs.Parts.{disc_in, segments_in}
 use Rattle.vc_objects.specs.Leaves.{KeepsDisc}
 use Rattle.vc_objects.specs.Promises.{Opens, opening_in}
 use Rattle.vc_objects.proofs.Leaving.{keeps-same}
+use Rattle.vc_store.specs.Reading.{no_objects}
 use Rattle.vc_store.specs.Stores.Stores.{OthersStay, disc_of, kind_at, lent_to, shown}
-use Rattle.vc_store.proofs.Added.{all-still, empty-added, empty_by, kind-last, number-more, others-added, stays-added, stays-still}
+use Rattle.vc_store.proofs.Added.{all-still, empty-added, kind-last, number-more, others-added, stays-added, stays-still}
 use Rattle.vc_store.proofs.stores.store.Store.dict.Given.{Over}
 use Rattle.vc_store.proofs.stores.store.Store.dict.Goals as goal
 
@@ -73,7 +74,7 @@ returns-in-Ok g c =
       number = number;
       numbers = number-more (meaning g) rules_by s s' d k c.args.method c.requires.open dicts kinds opens;
       empty =
-          subst (λ n. shown s' n ≡ Some (empty_by c.args.method)) (sym number)
+          subst (λ n. shown s' n ≡ Some (no_objects c.args.method)) (sym number)
           (empty-added (meaning g) rules_by s s' d k c.args.method c.requires.open dicts kinds opens);
       kind =
           subst (λ n. kind_at s' n ≡ Some k) (sym number) (kind-last (meaning g) rules_by s s' d k c.args.method c.requires.open dicts kinds opens);

@@ -4,10 +4,10 @@ use Rattle.vc_objects.specs.Leaves.{told_each}
 use Rattle.vc_objects.specs.Objects.{Dictionary}
 use Rattle.vc_objects.specs.Parts.{dictionary_in}
 use Rattle.vc_store.specs.Contents.{contents_of}
-use Rattle.vc_store.specs.Stores.Stores.{contents, dicts_of}
-use Rattle.vc_store.proofs.Added.{empty_by}
-use Rattle.vc_store.proofs.Changed.{Call, moved, others-there, same-numbers, stays-there, told-at}
-use Rattle.vc_store.proofs.Here.{below-there, call-changed, read-there, whole-here, with_both}
+use Rattle.vc_store.specs.Reading.{no_objects}
+use Rattle.vc_store.specs.Stores.Stores.{contents}
+use Rattle.vc_store.proofs.Changed.{Call, changes-one, moved, told-at}
+use Rattle.vc_store.proofs.Here.{call-changed, whole-read, with_both}
 use Rattle.vc_store.proofs.stores.store.Store.empty.Given.{Over}
 use Rattle.vc_store.proofs.stores.store.Store.empty.Goals as goal
 use Rattle.vc_store.proofs.stores.store.Store.empty.Goals.{After-self-3-1}
@@ -17,16 +17,12 @@ abbrev meaning : (g : Over) → (x : g.dyn-1.0.I) × (g.dyn-1.0.entry x).0.Denot
 meaning g p = (goal.SegDisc-dyn g p).state p.1
 
 pub empty-requires : goal.empty-requires
-empty-requires g c =
-    let s = c.args.self.now in
-    let below = below-there (dicts_of s) c.args.n c.requires.there in
-    let at = read-there (dicts_of s) c.args.n c.index_mut.result.now below c.index_mut.ensures.value ∙ c.in-Some.is in
-    record { whole = whole-here g.D.DictDisc.rules s c.args.n c.requires.open below c.index_mut-2.result.now c.index_mut-2.ensures.value c.in-Some.dict at }
+empty-requires g c = record { whole = whole-read (meaning g) g.D.DictDisc.rules c.args.self.now c.args.n c.requires.dict c.index_mut.result.now c.in-Some.dict c.index_mut-2.result.now c.index_mut.ensures.value c.in-Some.is c.index_mut-2.ensures.value }
 
 called : (g : Over) (c : After-self-3-1 g)
     → Call (meaning g) g.D.DictDisc.rules c.args.self.now (with_both c.args.self.now c.args.n c.empty.new.best c.empty.new.dict c.empty.new.kind) c.args.n c.in-Some.dict c.empty.new.dict c.index_mut-2.result.now c.empty.new.kind
 called g c =
-    call-changed (meaning g) g.D.DictDisc.rules c.args.self.now c.args.n c.requires.open c.requires.there c.index_mut.result.now c.in-Some.dict c.index_mut-2.result.now c.index_mut.ensures.value c.in-Some.is c.index_mut-2.ensures.value
+    call-changed (meaning g) g.D.DictDisc.rules c.args.self.now c.args.n c.requires.dict c.index_mut.result.now c.in-Some.dict c.index_mut-2.result.now c.index_mut.ensures.value c.in-Some.is c.index_mut-2.ensures.value
     c.empty.new.best c.empty.new.dict c.empty.ensures.empties.leaves c.empty.new.kind c.empty.ensures.empties.kind
 
 pub returns-clause-count : goal.returns-clause-count
@@ -34,18 +30,12 @@ returns-clause-count g c =
     moved (called g c) (λ r x y. c.empty.result ≡ length x.objects) (c.empty.ensures.count ∙ sym (length-map (dictionary_in c.in-Some.dict c.args.self.now.best).objects bytes_of))
 
 pub returns-clause-empty : goal.returns-clause-empty
-returns-clause-empty g c = moved (called g c) (λ r x y. y ≡ empty_by x.method) (ap contents_of c.empty.ensures.empties.dict)
+returns-clause-empty g c = moved (called g c) (λ r x y. y ≡ no_objects x.method) (ap contents_of c.empty.ensures.empties.dict)
 
 pub returns-clause-told : goal.returns-clause-told
 returns-clause-told g c =
     told-at (called g c) g.D.DictDisc.gone (λ x y. y ≡ told_each (contents c.args.self.now c.args.n).objects x)
     (moved (called g c) (λ r x y. g.D.DictDisc.gone c.empty.new.kind ≡ told_each x.objects (g.D.DictDisc.gone c.index_mut-2.result.now)) c.empty.ensures.empties.gone)
 
-pub returns-clause-numbers : goal.returns-clause-numbers
-returns-clause-numbers g c = same-numbers (called g c)
-
-pub returns-clause-others : goal.returns-clause-others
-returns-clause-others g c = others-there (called g c)
-
-pub returns-clause-stays : goal.returns-clause-stays
-returns-clause-stays g c = stays-there (called g c) (ap (λ (d : Dictionary). d.method) c.empty.ensures.empties.dict)
+pub returns-clause-changes : goal.returns-clause-changes
+returns-clause-changes g c = changes-one (called g c) (ap (λ (d : Dictionary). d.method) c.empty.ensures.empties.dict)

@@ -1,7 +1,6 @@
 use Rattle.vc_base.proofs.Common.{ℕ, Option, length, Discipline}
-use Rattle.vc_store.specs.Contents.{contents_in}
 use Rattle.vc_store.specs.Reading.{Contents, first_place}
-use Rattle.vc_store.proofs.Here.{numbers-moved, others-moved, place-moved, stays-moved, there-moved, whole-by}
+use Rattle.vc_store.proofs.Here.{changes-moved, goes-there, whole-by}
 use Rattle.vc_store.proofs.stores.store.Store.first.Given.{Over}
 use Rattle.vc_store.proofs.stores.store.Store.first.Goals as goal
 
@@ -14,24 +13,12 @@ abbrev place : Contents → Option ℕ
 place x = first_place (length x.objects)
 
 pub to_first-requires : goal.to_first-requires
-to_first-requires g c = record { whole = whole-by (meaning g) g.D.DictDisc.rules c.args.self.now c.args.n c.requires.open c.requires.there c.index_mut.result.now c.in-Some.dict c.index_mut.ensures.value c.in-Some.is }
+to_first-requires g c = record { whole = whole-by (meaning g) g.D.DictDisc.rules c.args.self.now c.args.n c.requires.dict c.index_mut.result.now c.in-Some.dict c.index_mut.ensures.value c.in-Some.is }
 
-pub returns-clause-moved : goal.returns-clause-moved
-returns-clause-moved g c =
-    place-moved (meaning g) g.D.DictDisc.rules c.args.self.now c.args.n c.requires.open c.requires.there c.index_mut.result.now c.in-Some.dict c.index_mut.ensures.value c.in-Some.is place c.to_first.result c.to_first.new.dict c.to_first.ensures.moves
+pub returns-clause-goes : goal.returns-clause-goes
+returns-clause-goes g c =
+    goes-there (meaning g) g.D.DictDisc.rules c.args.self.now c.args.n c.requires.dict c.index_mut.result.now c.in-Some.dict c.index_mut.ensures.value c.in-Some.is place c.to_first.result c.to_first.new.dict c.to_first.ensures.moves
 
-pub returns-clause-there : goal.returns-clause-there
-returns-clause-there g c =
-    there-moved (meaning g) g.D.DictDisc.rules c.args.self.now c.args.n c.requires.open c.requires.there c.index_mut.result.now c.in-Some.dict c.index_mut.ensures.value c.in-Some.is (place (contents_in c.in-Some.dict c.args.self.now.best)) c.to_first.result c.to_first.new.dict c.to_first.ensures.moves
-
-pub returns-clause-others : goal.returns-clause-others
-returns-clause-others g c =
-    others-moved (meaning g) g.D.DictDisc.rules c.args.self.now c.args.n c.requires.open c.requires.there c.index_mut.result.now c.in-Some.dict c.index_mut.ensures.value c.in-Some.is (place (contents_in c.in-Some.dict c.args.self.now.best)) c.to_first.result c.to_first.new.dict c.to_first.ensures.moves
-
-pub returns-clause-stays : goal.returns-clause-stays
-returns-clause-stays g c =
-    stays-moved (meaning g) g.D.DictDisc.rules c.args.self.now c.args.n c.requires.open c.requires.there c.index_mut.result.now c.in-Some.dict c.index_mut.ensures.value c.in-Some.is (place (contents_in c.in-Some.dict c.args.self.now.best)) c.to_first.result c.to_first.new.dict c.to_first.ensures.moves
-
-pub returns-clause-numbers : goal.returns-clause-numbers
-returns-clause-numbers g c =
-    numbers-moved (meaning g) g.D.DictDisc.rules c.args.self.now c.args.n c.requires.open c.requires.there c.index_mut.result.now c.in-Some.dict c.index_mut.ensures.value c.in-Some.is (place (contents_in c.in-Some.dict c.args.self.now.best)) c.to_first.result c.to_first.new.dict c.to_first.ensures.moves
+pub returns-clause-changes : goal.returns-clause-changes
+returns-clause-changes g c =
+    changes-moved (meaning g) g.D.DictDisc.rules c.args.self.now c.args.n c.requires.dict c.index_mut.result.now c.in-Some.dict c.index_mut.ensures.value c.in-Some.is place c.to_first.result c.to_first.new.dict c.to_first.ensures.moves

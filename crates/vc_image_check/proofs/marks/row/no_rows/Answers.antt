@@ -1,7 +1,7 @@
 use Rattle.vc_base.proofs.Common.{◌≡◌, [], List, ℕ, replicate, ap, ◌∙◌, arith}
 use Rattle.vc_image_check.specs.Marks.Mark.{lists}
 use Rattle.vc_image_check.proofs.Filling.{rows-push}
-use Rattle.vc_image_check.proofs.marks.marks.no_rows.Goals as goal
+use Rattle.vc_image_check.proofs.marks.row.no_rows.Goals as goal
 
 pub loop-init : goal.loop-init
 loop-init c = ap lists c.in_ok-rows.ensures.items
