@@ -130,5 +130,5 @@ check "check: a script of version 2" same "$status $(cat checked.out)" "3 $(cat 
 checked -p "$program" checked.none
 check "check: no such script" same "$status $(cat checked.said)" "2 check: checked.none can't be read"
 "$here/check" --hints > checked.hints
-sed -n '/^## What a message most likely means/,$p' "$here/../docs/script.md" | grep '^|' | tail -n +3 > hints.due
-check "check: its hints are those of the page of the script language" diff hints.due checked.hints
+sed -n '/^## What a message most likely means/,$p' "$here/../docs/messages.md" | grep '^|' | tail -n +3 > hints.due
+check "check: its hints are those of the page of messages" diff hints.due checked.hints

@@ -160,6 +160,20 @@ awk 'BEGIN { for (i = 1; i <= 1000000; i++) print "alloc t b" i " 1" }' > most.t
 check "vmcompare of blocks of one byte: too many segments come first" \
     same "$? $(cat fault many.got)" "7 vmcompare: line 129922: too many segments"
 
+# A device takes no byte of the line that tells of it.
+if [ -w /dev/full ]; then
+    echo frob | "$compare" > many.got 2> /dev/full
+    check "vmcompare of a bad line that can't be told: status 4" same "$? $(cat many.got)" "4 "
+    "$compare" --quiet < /dev/null > many.got 2> /dev/full
+    check "vmcompare with a word, which can't be told: status 4" same "$? $(cat many.got)" "4 "
+    "$compare" < many.trace > many.got 2> /dev/full
+    check "vmcompare of too many segments, which can't be told: status 4" same "$? $(cat many.got)" "4 "
+    "$compare" < . > many.got 2> /dev/full
+    check "vmcompare of a failed read that can't be told: status 3" same "$? $(cat many.got)" "3 "
+else
+    skipped "vmcompare of what can't be told: there is no /dev/full"
+fi
+
 # Drawings.
 ways=$here/ways
 drawn_ways() {
@@ -179,8 +193,23 @@ check "ways of a trace: four points" same "$status $(grep -c 'class="point"' dra
 drawn_ways /dev/null
 check "ways of no command" same "$status $(cat drawn.said) $(grep -c 'no byte is ever live; 0 lines' drawn.svg)" "0  1"
 drawn_ways many.trace
-check "ways of a trace that doesn't run to its end: it is told" same "$status $(cat drawn.said)" "1 ways: vmcompare: line 1024: too many segments"
+check "ways of a trace that fills a region: status 3, and it is told" same "$status $(cat drawn.said)" "3 ways: vmcompare: line 1024: too many segments"
+check "ways of a trace that fills a region: it is drawn up to there, and marked" \
+    same "$(grep -c 'class="full"' drawn.svg) $(sed -n 's/.*class="stops left"[^>]*>\([^<]*\)<.*/\1/p' drawn.svg) $(grep -c '1,023 lines, 60 points<' drawn.svg)" "1 it stops at line 1,024: too many segments 1"
+! has xmllint || check "ways of a trace that fills a region: well-formed" xmllint --noout drawn.svg
+printf 'alloc t a 100\nfree t b\n' > out.trace
+drawn_ways out.trace
+check "ways of a trace with a line that is out of it: nothing is drawn" same "$status $(cat drawn.said) $(wc -c < drawn.svg)" "1 ways: vmcompare: line 2: not in a trace 0"
+printf '%s\n' 'alloc t a 100' '# malloc of 20000000 bytes: a script has no such block' 'alloc t b 100' > left.trace
+drawn_ways left.trace
+check "ways of what a recording left out: it is told, and has a status of its own" \
+    same "$status $(cat drawn.said) $(grep -c '>1 block is in no command, at most 20,000,000 bytes at once<' drawn.svg)" "3 ways: 1 block is in no command, at most 20,000,000 bytes at once 1"
 drawn_ways -n 0 many.trace
 check "ways of no run" same "$status $(cat drawn.said)" "2 ways: the number of runs is from 1 to 1,000"
 drawn_ways missing.trace
 check "ways of a trace that isn't there" same "$status $(cat drawn.said)" "2 ways: missing.trace can't be read"
+"$here/ways" --csv -n 2 -p "$programs/vmcompare" "$here/../examples/array.trace" > drawn.csv 2> fault
+check "ways of a trace: lines of numbers" same "$? $(head -n 1 drawn.csv) $(wc -l < drawn.csv | tr -d ' ') $(tail -n 1 drawn.csv | cut -d , -f 3-)" \
+    "0 line,live,best,last,pool 3 $("$programs/vmcompare" < "$here/../examples/array.trace" | awk '$1 != "live" { printf "%s%s", comma, $3; comma = "," }')"
+"$here/ways" -n 3 -p "$programs/vmcompare" "$here/../examples/array.trace" > drawn.svg 2> fault
+check "ways of a trace: each line is named at its end" same "$(grep -c '<text class="axis" x="996"' drawn.svg)" 3

@@ -12,7 +12,7 @@ check "curve of the trace: the points" same "$(grep -c 'class="point"' drawn.svg
 check "curve of the trace: what stat tells behind line 34" grep -q '<title>behind line 34: 3,076 bytes live, extent 20,480, waste 17,404<' drawn.svg
 check "curve of the trace: the peak is marked" same "$(grep -c '<circle ' drawn.svg)" 1
 check "curve of the trace, a point each seven lines" curved -n 7 "$here/../examples/trace.vm"
-check "curve of the trace: the peak lies between two points" grep -q '>peak: 8,076 bytes live behind line 32; 40 lines, 6 points<' drawn.svg
+check "curve of the trace: a point lies at the peak" grep -q '>peak: 8,076 bytes live behind line 32; 40 lines, 7 points<' drawn.svg
 for method in best pool last debug profile; do
     for blocks in 1 1000; do
         awk -v method="$method" -v n="$blocks" 'BEGIN {
@@ -45,8 +45,10 @@ check "curve: a bad line is told by its own number" same "$(cat bad.said)" "curv
 
 # What was refused, and regions that are not there.
 said() {
-    "$curve" -p "$program" "$@" > drawn.svg 2> drawn.said
+    "$curve" -p "$program" "$@" > drawn.svg 2> drawn.all
     status=$?
+    # The peak is told wherever there is a drawing.
+    grep -v '^curve: peak: ' drawn.all > drawn.said
 }
 printf '%s\n' 'open r best 1' '# two are too great' 'alloc r a 100' 'alloc r b 16777217' 'alloc r c 16777217' 'free r b' 'open s best 2' \
     'alloc s a 7' 'alloc s a 7' > refusals.vm
@@ -60,6 +62,7 @@ check "curve: those of another region are not told" \
     same "$status $(cat drawn.said)" "3 curve: 1 of 3 commands on region s was refused, the first at line 9: block exists"
 said "$here/../examples/trace.vm"
 check "curve: with none refused the status is 0" same "$status $(cat drawn.said) $(grep -c refused drawn.svg)" "0  0"
+check "curve: the peak and its line are told" same "$(sed 's/curve: peak: [0-9,]* bytes live behind line [0-9,]*$/told/' drawn.all)" told
 said -r q refusals.vm
 check "curve of a region that is never opened" same "$status $(cat drawn.said)" "1 curve: no region q is ever open: the script opens r, s"
 printf 'open r best 19\nalloc r a 1\n' > bad.vm
@@ -100,10 +103,10 @@ check "curve of sites without any: it is told" \
 
 # Version 2.
 second
-"$curve" -p ./second -n 6 second.vm > drawn.svg 2> drawn.said
-check "curve of a script of version 2" same "$? $(cat drawn.said)" \
-    "3 curve: 2 of 4 commands on region r were refused, the first at line 5: size"
-check "curve of a script of version 2: its peak" grep -q '>peak: 100 bytes live behind line 4; 6 lines, 1 point<' drawn.svg
+"$curve" -p "$program" -n 6 second.vm > drawn.svg 2> drawn.said
+check "curve of a script of version 2" same "$? $(tr '\n' ';' < drawn.said)" \
+    "3 curve: 2 of 4 commands on region r were refused, the first at line 5: size;curve: peak: 100 bytes live behind line 4;"
+check "curve of a script of version 2: its peak" grep -q '>peak: 100 bytes live behind line 4; 6 lines, 2 points<' drawn.svg
 check "curve of a script of version 2: what stat tells" grep -q '<title>behind line 6: 100 bytes live, extent 4,096, waste 3,996<' drawn.svg
 said -n 1 second.vm
 check "curve of a script of version 2, a point each line" same "$status $(cat drawn.said) $(grep -c 'class="point"' drawn.svg)" \
@@ -155,3 +158,31 @@ check "curve of the first region alone" grep -q '>peak: 100 bytes live behind li
 { cat regions.vm; echo frob; } > bad.vm
 said -a -n 4 bad.vm
 check "curve of all regions: a bad line is told by its own number" same "$status $(cat drawn.said)" "1 curve: vmreplay: line 10: unknown command"
+
+# What a recording left out of the script.
+printf '%s\n' 'open r best 9' 'alloc r a 1000 @main' '# malloc of 100000000 bytes: a script has no such block' 'alloc r b 3000 @put' \
+    '# calloc of 20000000 bytes: a script has no such block' '# free of 100000000 bytes: a script has no such block' 'alloc r c 20 @main' \
+    '# malloc of 0 bytes: a script has no such block' > left.vm
+said left.vm
+check "curve of what a recording left out: it is told, and has a status of its own" \
+    same "$status $(cat drawn.said)" "3 curve: 2 blocks are in no command, at most 120,000,000 bytes at once"
+check "curve of what a recording left out: it is drawn over what is live" \
+    same "$(grep -c '<path class="missing" d="M110 [0-9]*L' drawn.svg) $(grep -c '>in no command, over what is live: at most 120,000,000 bytes, 20,000,000 at the end<' drawn.svg)" "1 1"
+check "curve of what a recording left out: no text crosses what is drawn" strips drawn.svg
+said -s left.vm
+check "curve of sites, of what a recording left out" same "$status $(grep -c 'class="missing"' drawn.svg)" "3 2"
+
+# The waste that counts is that at the peak; lines of numbers.
+printf '%s\n' 'open r best 1' 'alloc r a 4000' 'alloc r b 100' 'free r a' 'alloc r c 9000' 'free r b' 'free r c' > waste.vm
+said -n 7 waste.vm
+check "curve: the waste at the peak, at the end, and the greatest" grep -q \
+    '>waste, the extent without what is live: 11,380 bytes at the peak, 20,480 at the end; the greatest is 20,480, behind line 7<' drawn.svg
+"$curve" --csv -p "$program" -n 3 waste.vm > drawn.csv 2> fault
+check "curve: lines of numbers" same "$? $(tr '\n' ' ' < drawn.csv)" \
+    "0 line,live,extent,waste 3,4100,8192,4092 5,9100,20480,11380 6,9000,20480,11480 7,0,20480,20480 "
+printf '%s\n' 'open r best 1' 'alloc r a 100 @one' 'alloc r b 50 @two' 'free r a' > stacked.vm
+"$curve" --csv -s -n 2 -p "$program" stacked.vm > drawn.csv 2> fault
+check "curve of sites: lines of numbers" same "$? $(tr '\n' ' ' < drawn.csv)" "0 line,one,two,others 2,100,0,0 3,100,50,0 4,0,50,0 "
+printf '%s\n' 'open r best 1' 'alloc r a 100' 'alloc r b 1' 'frob' > bad.vm
+"$curve" -n 1 -p "$program" bad.vm > drawn.svg 2> fault
+check "curve with a point at each line: a bad line is told by its own number" same "$? $(cat fault)" "1 curve: vmreplay: line 4: unknown command"

@@ -12,7 +12,9 @@ bin/vmsites share/man/man1/vmsites.1
 bin/vmways share/man/man1/vmways.1
 bin/vmcheck share/man/man1/vmcheck.1
 bin/vmfrom share/man/man1/vmfrom.1
-share/doc/kolbista/script.md share/doc/kolbista/compare.md
+bin/vmshell share/man/man1/vmshell.1
+bin/vmpage share/man/man1/vmpage.1
+share/doc/kolbista/script.md share/doc/kolbista/compare.md share/doc/kolbista/messages.md
 share/man/man1/dtrun.1 share/man/man1/vmreplay.1 share/man/man1/vmcompare.1
 share/man/man1/vmcurve.1 share/man/man1/vmpicture.1 share/man/man1/vmrecord.1
 END
@@ -52,4 +54,18 @@ END
     fi
 else
     skipped "what is installed: there is no make"
+fi
+
+# What is packed: the files of these sources, from which the same can be packed again.
+if has make && has gzip; then
+    (cd "$here/.." && find . -name .git -prune -o -path ./bin -prune -o -path './crates/*/out' -prune -o -path './kolbista-*' -prune -o -name __pycache__ -prune -o -type f -print | tar -cf - -T -) |
+        (mkdir -p packed && cd packed && tar -xf -)
+    version=$(cat "$here/../VERSION")
+    check "make dist: a tarball with the version" same "$(make -s -C packed dist 2>&1)" "kolbista-$version.tar.gz"
+    tar -xzf "packed/kolbista-$version.tar.gz"
+    check "make dist: what it unpacks is what was packed" diff -r -x "kolbista-$version.tar.gz" packed "kolbista-$version"
+    check "make dist: from what is unpacked" same "$(make -s -C "kolbista-$version" dist 2>&1)" "kolbista-$version.tar.gz"
+    check "docs/CHANGES.md begins with the version" grep -q "^## $version$" "$here/../docs/CHANGES.md"
+else
+    skipped "what make dist packs: there is no make or no gzip"
 fi

@@ -10,6 +10,7 @@ for page in "$here"/../man/*.1; do
 done
 has mandoc || skipped "that the manual pages have no faults: there is no mandoc"
 tools="record picture curve sites ways check from"
+if has python3; then tools="$tools shell page"; else skipped "the usage of shell and page: there is no python3"; fi
 for tool in $tools; do
     "$here/$tool" --help > help.out 2> fault
     check "$tool --help is its usage" same "$? $(head -n 1 help.out | cut -d ' ' -f 1-2) $(cat fault)" "0 usage: $tool "
@@ -48,3 +49,11 @@ check "a reader that ends early: nothing is said" same "$(cat fault)" ""
 check "bench/edits.sh without a word tells its usage" same "$? $(head -c 6 edits.out)" "2 usage:"
 "$here/../bench/edits.sh" vc_model > edits.out 2>&1
 check "bench/edits.sh of a crate without edits says so" same "$? $(cat edits.out)" "2 bench/edits.sh: vc_model has no edits in bench/edits"
+
+# What the documents show of the source.
+if has python3; then
+    "$here/theorem" 2> fault
+    check "the definitions that the documents show are those of the source" same "$? $(cat fault)" "0 "
+else
+    skipped "that the definitions that the documents show are those of the source: there is no python3"
+fi

@@ -110,8 +110,23 @@ for script in "$here"/../examples/*.vm; do
     check "picture of the script $name: its numbers are those of stat" same "$(told drawn.svg)" "$(stat_of drawn.replies)"
 done
 said "$here/../examples/trace.vm"
-check "picture of a script whose region is closed: the line is told" \
-    same "$status $(cat drawn.said)" "1 picture: region heap is closed at line 40: -n 39 draws it as it was before"
+check "picture of a script whose last command closes its region: that is told" \
+    same "$status $(cat drawn.said)" "0 picture: line 40 closes region heap, which is drawn as it was before"
+cp drawn.svg before.svg
+said -n 39 "$here/../examples/trace.vm"
+check "picture of a script whose last command closes its region: it is drawn as it was before" cmp before.svg drawn.svg
+{ cat "$here/../examples/trace.vm"; echo 'open s best 2'; echo 'close s'; echo 'stat s'; } > closed.vm
+said closed.vm
+check "picture of a script whose region is closed before its end: the line is told" \
+    same "$status $(cat drawn.said)" "1 picture: region s is closed at line 42: -n 41 draws it as it was before"
+printf '%s\n' 'open r best 1' 'alloc r a 100' '# a comment' 'alloc r b 5000' 'free r a' 'alloc r c 10' 'clear r' 'alloc r d 1' > peak.vm
+said -n peak peak.vm
+check "picture at the peak: its line is told" same "$status $(cat drawn.said)" "0 picture: the most bytes are live behind line 4"
+cp drawn.svg before.svg
+said -n 4 peak.vm
+check "picture at the peak: that of its line" cmp before.svg drawn.svg
+said -n peak -r q peak.vm
+check "picture at the peak of a region without a block" same "$status $(cat drawn.said)" "1 picture: no block of q is ever live"
 said -n 34 "$here/../examples/trace.vm"
 check "picture of the trace up to line 34: the numbers that its stat tells there" \
     same "$status $(told drawn.svg)" "0 9 6 3076 17024 8160 4 20480 20480"

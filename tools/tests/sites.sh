@@ -93,8 +93,40 @@ check "sites: of one region" same "$(rows -r r regions.vm)" "one 0 0 100 100.0|t
 check "sites: of the other" same "$(rows -r s regions.vm)" "one 0 0 50 55.6|two 0 0 40 44.4|all 0 0 90 100.0|"
 check "sites: of the other, what was refused" same "$(cat table.said)" "sites: 1 of 5 commands on region s was refused, the first at line 9: no region"
 
+# What a recording left out of the script.
+printf '%s\n' 'open r best 9' 'alloc r a 1000 @main' '# malloc of 100000000 bytes: a script has no such block' \
+    '# calloc of 20000000 bytes: a script has no such block' '# free of 100000000 bytes: a script has no such block' 'alloc r c 20 @main' > left.vm
+check "sites of what a recording left out" same "$(rows left.vm) $(cat table.said)" \
+    "main 2 1020 1020 100.0|all 2 1020 1020 100.0| sites: 2 blocks are in no command, with 20,000,000 bytes at the end and at most 120,000,000 at once"
+check "sites of what a recording left out: a line of its own tells it" same "$(tail -n 1 table)" \
+    "2 blocks are in no command, with 20,000,000 bytes at the end and at most 120,000,000 at once"
+
 # Version 2.
 second
 "$sites" -p ./second second.vm > table 2> table.said
 check "sites of a script of version 2" same "$? $(sed -n 2p table | tr -s ' ') $(cat table.said)" \
     "3 main 1 100 100 100.0 % sites: 2 of 4 commands were refused, the first at line 5: size"
+
+# Lines of numbers, and two scripts side by side.
+table --csv table.vm
+check "sites: lines of numbers" same "$status $(tr '\n' ' ' < table)" "0 site,blocks,bytes,peak,at_peak read,0,0,2000,2000 main,1,1200,1500,1000 -,2,564,564,564 "
+printf '%s\n' 'open r best 9' 'alloc r a 1000 @main' 'alloc r b 500 @read' 'alloc r c 500' 'alloc r d 700 @new' 'free r a' > changed.vm
+cat > table.due << 'END'
+site                 before          after         change
+read                  2,000            500         -1,500
+new                       0            700           +700
+-                       564            500            -64
+main                  1,000          1,000              0
+all                   3,564          2,700           -864
+
+Bytes are those at the peak of each of the two.
+END
+table -d table.vm changed.vm
+check "sites of two scripts: status 0" same "$status $(cat table.said)" "0 "
+check "sites of two scripts: what each has, and the change" diff table.due table
+table -d -n 1 table.vm changed.vm
+check "sites of two scripts: the others in one row" same "$(sed -n 3p table | tr -s ' ')" "3 others 1,564 2,200 +636"
+table -d table.vm
+check "sites of two scripts, of which one is named: the usage" same "$status $(head -c 12 table.said)" "2 usage: sites"
+table -d table.vm /dev/null
+check "sites of two scripts, of which one is none" same "$status $(cat table.said)" "1 sites: the script opens no region"
